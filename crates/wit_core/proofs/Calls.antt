@@ -1,0 +1,338 @@
+-- Each call keeps the invariant of a verifier.
+use Rattle.std.proofs.Common.{◌≡◌, ℕ, suc, ◌+◌, ◌-◌, ◌<◌, ◌≤◌, ◌&&◌, Bool, true, false, not, cond, List, [], ◌∷◌, ◌++◌, Option, None, Some, Ok, Err, Result, IfOk, OnOk, OnErr, string_bytes, length, map, reverse, find, get_or, vec_len, refl, sym, ap, ap₂, ◌∙◌, subst, arith, rules, nat_le, is_some, length-append, zero-add}
+use Rattle.std.proofs.lemmas.List.{length-map}
+use Rattle.std.specs.List.{position, range_with_len, AllByRecursion}
+use Rattle.std.proofs.lemmas.List.Elements.{recursion_from_All}
+use Rattle.std.specs.Vec.{vec_capacity}
+use Rattle.std.proofs.lemmas.List.{get_or-map}
+use Rattle.std.proofs.lemmas.List.Sums.{sum_by-cons}
+use Rattle.std.proofs.lemmas.List.FromFn.{length-map-range_with_len}
+use Rattle.std.proofs.lemmas.Bool.{leb-false, true≢false}
+use Rattle.std.proofs.Math.Nat.{add_comm}
+use Rattle.std.specs.declared.alloc.AllocError.{AllocError}
+use Rattle.wit_model.specs.declared.faults.Fault.{Fault}
+use Rattle.wit_model.specs.declared.faults.Fault.TheVariants.{BadName, FilesFull}
+use Rattle.wit_model.specs.declared.locks.Instance.{Instance}
+use Rattle.wit_model.specs.declared.locks.LockNo.{LockNo}
+use Rattle.wit_model.specs.declared.locks.FileNo.{FileNo}
+use Rattle.wit_model.specs.declared.locks.Mode.{Mode}
+use Rattle.wit_model.specs.declared.calls.NewLock.{NewLock}
+use Rattle.wit_model.specs.declared.calls.Request.{Request}
+use Rattle.wit_model.specs.declared.calls.Call.{Call}
+use Rattle.wit_model.specs.declared.calls.Call.TheVariants.{Init, Check, Note, Unlock}
+use Rattle.wit_model.specs.declared.calls.Reply.{Reply}
+use Rattle.wit_model.specs.declared.calls.Reply.TheVariants.{Made, Recorded, Unlocked}
+use Rattle.wit_model.specs.declared.calls.Entry.{Entry}
+use Rattle.wit_model.specs.Sizes.{Sizes}
+use Rattle.wit_model.specs.Names.{is_file_name}
+use Rattle.wit_model.specs.Types.{is_spin}
+use Rattle.wit_model.specs.Locks.{locks_of, lock_at, is_spin_lock}
+use Rattle.wit_model.specs.History.{is_report, reports_of, pending, watch_of}
+use Rattle.wit_model.specs.declared.locks.Watch.TheVariants.{On}
+use Rattle.wit_model.specs.Files.{is_known_file, file_answer, files_after}
+use Rattle.wit_model.specs.State.{Start, Story, State, Known, Seat, state_of, known_of, seats_of, seat_of, owed, is_seat, seat_at, no_seat}
+use Rattle.wit_model.specs.Step.{answer_of, story_after, is_pending, held_by, chain_for, IsLegal}
+use Rattle.wit_model.specs.Verdict.{is_of}
+use Rattle.wit_model.proofs.Sane.{IsSane}
+use Rattle.wit_model.proofs.Accepted.{NoteAccepted, note_accepted, check_accepted, unlock_accepted, init_accepted}
+use Rattle.wit_model.proofs.Seats.{entry, get_or-seats_of}
+use Rattle.wit_model.proofs.Owed.{owed_to, owed_to-nil, owed-init, owed-check, owed-note, owed-unlock}
+use Rattle.wit_model.proofs.Legal.{sane_more, seat-within, pending-state, unlock-held}
+use Rattle.wit_model.proofs.TypedLocks.{spin_at}
+use Rattle.wit_model.proofs.NamedFiles.{legal-named}
+use Rattle.wit_model.proofs.Depth.{note-count}
+use Rattle.wit_model.proofs.Stands.{found-at}
+use Rattle.wit_core.specs.declared.verifier.Verifier.TheInside.{Inside}
+use Rattle.wit_core.specs.declared.books.Books.{Books}
+use Rattle.wit_core.specs.declared.seats.Seat as program
+use Rattle.wit_core.specs.declared.verdicts.Verdict.{Verdict}
+use Rattle.wit_core.specs.Verdicts.{reply_of}
+use Rattle.wit_core.specs.Knowledge.{learnt, with_lock}
+use Rattle.wit_core.specs.Rows.{seat_view, chain_in, changed_at, asked_in, noted_in, unlocked_in, CanRise, IsShallow, IsShallowAt}
+use Rattle.wit_core.specs.Books.{HasSums, IsFresh, AllHaveRoom, StaysSame, NamesFileIn, EntersInit, EntersCheck, EntersNote, EntersUnlock, state_in, spin_of, taken_by}
+use Rattle.wit_core.specs.Kept.{IsKept, start_in, history_in, story_in}
+use Rattle.wit_core.proofs.Steps.{same_state, state-init, state-check, state-note, state-unlock}
+use Rattle.wit_core.proofs.Keeping.{seat_in, Enters, kept_entered, kept_same, same_story}
+
+-- the reports once there is one more entry
+reports-entry : (e : Entry) (h : List Entry) → reports_of (e ∷ h) ≡ cond (is_report e.reply) 1 0 + reports_of h
+reports-entry e h = sum_by-cons (λ (x : Entry). cond (is_report x.reply) 1 0) e h
+
+reports-quiet : (e : Entry) (h : List Entry) → is_report e.reply ≡ false → reports_of (e ∷ h) ≡ reports_of h
+reports-quiet e h quiet = reports-entry e h ∙ (ap (λ b. cond b 1 0 + reports_of h) quiet ∙ zero-add (reports_of h))
+
+-- a lock's kind, by the books and by the history
+spin_same : (v : Inside) (l : ℕ) → IsKept v → spin_of v.books l ≡ is_spin_lock (locks_of (history_in v)) l
+spin_same v l k = ap (λ (s : State). is_spin (lock_at s.known.locks l).made.class) k.state ∙ spin_at (start_in v) (history_in v) l
+
+module _ (v : Inside) (t : ℕ) (call : Call) (reply : Reply) (k : IsKept v) (ok : answer_of (story_in v) t call ≡ Ok reply) where
+  sane_next : IsSane (entry t call reply ∷ history_in v)
+  sane_next = sane_more (start_in v) v.books.files.items (history_in v) (entry t call reply) k.legal ok
+
+  owed_now : v.books.owed ≡ owed_to v.books.limits.seats (history_in v)
+  owed_now = k.owed ∙ ap owed k.state
+
+-- a seat that asks for nothing
+idle_pending : (start : Start) (files : List (List ℕ)) (h : List Entry) (t : ℕ) → is_seat (state_of (story_after start files h)) t ≡ true
+    → is_pending (state_of (story_after start files h)) t ≡ false → pending t h ≡ None
+idle_pending start files h t seat idle = none_from (pending t h) (sym (ap (λ (o : Option Request). is_some o) (pending-state start files h t seat)) ∙ idle)
+  where
+    none_from : (o : Option Request) → is_some o ≡ false → o ≡ None
+    none_from None e = refl
+    none_from (Some q) e = absurd (true≢false e)
+
+-- the books after a note
+pub enters_note : (v : Inside) (t : ℕ) (l : LockNo) (q : Request) (new : Books) → IsKept v → answer_of (story_in v) t (Note l) ≡ Ok Recorded
+    → (seat_at (state_in v.books) t).pending ≡ Some q → EntersNote v.books t l q new → Enters v t (Note l) Recorded new
+enters_note v t l q new k ok asked e =
+    let start = start_in v in
+    let files = v.books.files.items in
+    let h = history_in v in
+    let sane = sane_next v t (Note l) Recorded k ok in
+    let within = seat_in v t (Note l) Recorded k ok in
+    let seat = (note_accepted (state_of (story_in v)) t l.0 Recorded ok).seat in
+    let wants : pending t h ≡ Some q = sym (pending-state start files h t seat) ∙ (ap (λ (s : State). (seat_at s t).pending) (sym k.state) ∙ asked) in
+    let G : State → Bool → State = λ s b. record s { seats = changed_at (t - 1) (noted_in b (taken_by l q)) s.seats; used = s.used + 1 } in
+    let state : state_in new ≡ state_of (story_after start files (entry t (Note l) Recorded ∷ h)) =
+    e.state ∙ (ap (λ s. G s (spin_of v.books l.0)) k.state ∙ (ap (G (state_of (story_in v))) (spin_same v l.0 k) ∙ sym (state-note start files h t l q sane within.0 within.1 wants))) in
+    let less = owed-note v.books.limits.seats t l q h sane within.0 within.1 wants in
+    let now = owed_now v t (Note l) Recorded k ok in
+    let sum = ap owed state in
+    let len = ap (λ (xs : List Entry). length xs) e.log ∙ length-append v.books.log.items (entry t (Note l) Recorded ∷ []) in
+    record {
+      state = state;
+      files = e.files;
+      room = e.room k.room;
+      owed = omega (arith, less, now, sum, e.owed);
+      reports = e.reports ∙ (k.reports ∙ sym (reports-quiet (entry t (Note l) Recorded) h refl));
+      log = e.log;
+      capacity = omega (arith, len, new.log.ok.0, v.books.log.ok.0, e.owed, e.capacity, k.capacity);
+    }
+
+-- the books after a release
+pub enters_unlock : (v : Inside) (t : ℕ) (l : LockNo) (m : Mode) (new : Books) → IsKept v → answer_of (story_in v) t (Unlock l m) ≡ Ok Unlocked
+    → EntersUnlock v.books t l m new → Enters v t (Unlock l m) Unlocked new
+enters_unlock v t l m new k ok e =
+    let start = start_in v in
+    let files = v.books.files.items in
+    let h = history_in v in
+    let sane = sane_next v t (Unlock l m) Unlocked k ok in
+    let within = seat_in v t (Unlock l m) Unlocked k ok in
+    let G : State → Bool → State = λ s b. record s { seats = changed_at (t - 1) (unlocked_in b l.0) s.seats; used = s.used + 1 } in
+    let state : state_in new ≡ state_of (story_after start files (entry t (Unlock l m) Unlocked ∷ h)) =
+    e.state ∙ (ap (λ s. G s (spin_of v.books l.0)) k.state ∙ (ap (G (state_of (story_in v))) (spin_same v l.0 k) ∙ sym (state-unlock start files h t l m sane within.0 within.1))) in
+    let held = unlock-held start files h t l.0 m Unlocked sane.1 (unlock_accepted (state_of (story_in v)) t l.0 m Unlocked ok) in
+    let less = owed-unlock v.books.limits.seats t l m Unlocked h sane within.0 within.1 held.0 in
+    let now = owed_now v t (Unlock l m) Unlocked k ok in
+    let sum = ap owed state in
+    let len = ap (λ (xs : List Entry). length xs) e.log ∙ length-append v.books.log.items (entry t (Unlock l m) Unlocked ∷ []) in
+    record {
+      state = state;
+      files = e.files;
+      room = e.room k.room;
+      owed = omega (arith, less, now, sum, e.owed);
+      reports = e.reports ∙ (k.reports ∙ sym (reports-quiet (entry t (Unlock l m) Unlocked) h refl));
+      log = e.log;
+      capacity = omega (arith, len, new.log.ok.0, v.books.log.ok.0, e.owed, e.capacity, k.capacity);
+    }
+
+-- the books after a check
+pub enters_check : (v : Inside) (t : ℕ) (q : Request) (verdict : Verdict) (new : Books) → IsKept v → answer_of (story_in v) t (Check q) ≡ Ok (reply_of verdict)
+    → EntersCheck v.books t q verdict new → Enters v t (Check q) (reply_of verdict) new
+enters_check v t q verdict new k ok e =
+    let start = start_in v in
+    let files = v.books.files.items in
+    let h = history_in v in
+    let sane = sane_next v t (Check q) (reply_of verdict) k ok in
+    let within = seat_in v t (Check q) (reply_of verdict) k ok in
+    let G : State → State = λ s. record s { known = learnt s.known verdict q.site; seats = changed_at (t - 1) (asked_in q) s.seats; used = s.used + 1 } in
+    let state : state_in new ≡ state_of (story_after start files (entry t (Check q) (reply_of verdict) ∷ h)) =
+    e.state ∙ (ap G k.state ∙ sym (state-check start files h t q verdict sane within.0 within.1)) in
+    let accepted = check_accepted (state_of (story_in v)) t q (reply_of verdict) ok in
+    let more = owed-check v.books.limits.seats t q (reply_of verdict) h sane within.0 within.1 (idle_pending start files h t accepted.seat accepted.idle) in
+    let now = owed_now v t (Check q) (reply_of verdict) k ok in
+    let sum = ap owed state in
+    record {
+      state = state;
+      files = e.files;
+      room = e.room k.room;
+      owed = omega (arith, more, now, sum, e.owed);
+      reports = e.reports ∙ (ap (λ n. n + cond (is_report (reply_of verdict)) 1 0) k.reports ∙ (add_comm _ _ ∙ sym (reports-entry (entry t (Check q) (reply_of verdict)) h)));
+      log = e.log;
+      capacity = e.capacity;
+    }
+
+-- the books after a lock was made
+pub enters_init : (v : Inside) (t : ℕ) (lock : NewLock) (number : LockNo) (new : Books) → IsKept v → answer_of (story_in v) t (Init lock) ≡ Ok (Made number)
+    → EntersInit v.books t number lock lock new → Enters v t (Init lock) (Made number) new
+enters_init v t lock number new k ok e =
+    let start = start_in v in
+    let files = v.books.files.items in
+    let h = history_in v in
+    let sane = sane_next v t (Init lock) (Made number) k ok in
+    let within = seat_in v t (Init lock) (Made number) k ok in
+    let G : State → State = λ s. record s { known = with_lock s.known lock; used = s.used + 1 } in
+    let state : state_in new ≡ state_of (story_after start files (entry t (Init lock) (Made number) ∷ h)) =
+    e.state ∙ (ap G k.state ∙ sym (state-init start files h t lock number sane within.0 within.1)) in
+    let same = owed-init v.books.limits.seats t lock (Made number) h sane within.0 within.1 in
+    let now = owed_now v t (Init lock) (Made number) k ok in
+    let sum = ap owed state in
+    record {
+      state = state;
+      files = e.files;
+      room = e.room k.room;
+      owed = omega (arith, same, now, sum, e.owed);
+      reports = e.reports ∙ (k.reports ∙ sym (reports-quiet (entry t (Init lock) (Made number)) h refl));
+      log = e.log;
+      capacity = e.capacity;
+    }
+
+-- a check or an init whose growth may be refused
+pub kept_check : (v : Inside) (t : ℕ) (q : Request) (verdict : Verdict) (r : Result Reply AllocError) (new : Books) → IsKept v
+    → answer_of (story_in v) t (Check q) ≡ Ok (reply_of verdict)
+    → IfOk r (λ reply. (reply ≡ reply_of verdict) × EntersCheck v.books t q verdict new) → OnErr r (StaysSame v.books new)
+    → IsKept (record v { books = new })
+kept_check v t q verdict (Ok reply) new k ok entered same = kept_entered v t (Check q) (reply_of verdict) new k ok (enters_check v t q verdict new k ok entered.1)
+kept_check v t q verdict (Err e) new k ok entered same = kept_same v new k same
+
+same_lock : (old : Books) (t : ℕ) (number : LockNo) (lock made logged : NewLock) (new : Books) → made ≡ lock → logged ≡ lock
+    → EntersInit old t number made logged new → EntersInit old t number lock lock new
+same_lock old t number lock made logged new m l e =
+    subst (λ x. EntersInit old t number lock x new) l (subst (λ x. EntersInit old t number x logged new) m e)
+
+pub kept_init : {X : Type 0} (v : Inside) (t : ℕ) (lock made logged : NewLock) (number : LockNo) (r : Result X AllocError) (new : Books) → IsKept v
+    → made ≡ lock → logged ≡ lock → answer_of (story_in v) t (Init lock) ≡ Ok (Made number)
+    → OnOk r (EntersInit v.books t number made logged new) → OnErr r (StaysSame v.books new)
+    → IsKept (record v { books = new })
+kept_init v t lock made logged number (Ok x) new k m l ok entered same =
+    kept_entered v t (Init lock) (Made number) new k ok (enters_init v t lock number new k ok (same_lock v.books t number lock made logged new m l entered))
+kept_init v t lock made logged number (Err e) new k m l ok entered same = kept_same v new k same
+
+-- what a note needs: room in the sum and in the log, and a count that can rise
+pub note_owed : (v : Inside) (t : ℕ) (l : LockNo) → IsKept v → answer_of (story_in v) t (Note l) ≡ Ok Recorded → (q : Request) → (seat_at (state_in v.books) t).pending ≡ Some q → 0 < v.books.owed
+note_owed v t l k ok q asked =
+    let seat = (note_accepted (state_of (story_in v)) t l.0 Recorded ok).seat in
+    let wants : pending t (history_in v) ≡ Some q =
+    sym (pending-state (start_in v) v.books.files.items (history_in v) t seat) ∙ (ap (λ (s : State). (seat_at s t).pending) (sym k.state) ∙ asked) in
+    let within = seat_in v t (Note l) Recorded k ok in
+    let less = owed-note v.books.limits.seats t l q (history_in v) (sane_next v t (Note l) Recorded k ok) within.0 within.1 wants in
+    let now = owed_now v t (Note l) Recorded k ok in
+    omega arith
+
+pub unlock_owed : (v : Inside) (t : ℕ) (l : LockNo) (m : Mode) → IsKept v → answer_of (story_in v) t (Unlock l m) ≡ Ok Unlocked → 0 < v.books.owed
+unlock_owed v t l m k ok =
+    let sane = sane_next v t (Unlock l m) Unlocked k ok in
+    let held = unlock-held (start_in v) v.books.files.items (history_in v) t l.0 m Unlocked sane.1 (unlock_accepted (state_of (story_in v)) t l.0 m Unlocked ok) in
+    let within = seat_in v t (Unlock l m) Unlocked k ok in
+    let less = owed-unlock v.books.limits.seats t l m Unlocked (history_in v) sane within.0 within.1 held.0 in
+    let now = owed_now v t (Unlock l m) Unlocked k ok in
+    omega arith
+
+-- while something is owed, the log has room
+pub log_room : (v : Inside) → IsKept v → 0 < v.books.owed → vec_len v.books.log < vec_capacity v.books.log
+log_room v k some = omega (arith, k.capacity)
+
+can_rise : (l : ℕ) (c : List Instance) → ((i : Instance) → find (is_of l) c ≡ Some i → i.count + 1 ≤ 65535) → IsShallow l c
+can_rise l c bound = go (position (is_of l) c) refl
+  where
+    go : (o : Option ℕ) → position (is_of l) c ≡ o → CanRise c o
+    go None e = tt
+    go (Some p) e = λ d. let few = bound (get_or c p d) (found-at l c p d e) in omega (arith, few)
+
+-- the chain of a lock's kind, by the books
+chain_books : (v : Inside) (t l : ℕ) (d : program.Seat) → IsKept v → 0 < t → t ≤ v.books.limits.seats
+    → chain_in (spin_of v.books l) (seat_view (get_or v.books.seats.items (t - 1) d)) ≡ chain_for (state_of (story_in v)) t l
+chain_books v t l d k some within =
+    let count : length v.books.seats.items ≡ v.books.limits.seats =
+    sym (length-map v.books.seats.items seat_view) ∙ (ap (λ (s : State). length s.seats) k.state ∙ length-map-range_with_len (seat_of (history_in v)) 1 v.books.limits.seats) in
+    ap (chain_in (spin_of v.books l)) (sym (get_or-map seat_view v.books.seats.items (t - 1) d no_seat (omega (arith, count))))
+    ∙ ap (λ (s : State). chain_for s t l) k.state
+
+pub note_shallow : (v : Inside) (t : ℕ) (l : LockNo) → IsKept v → answer_of (story_in v) t (Note l) ≡ Ok Recorded
+    → IsShallowAt (t - 1) (spin_of v.books l.0) l.0 v.books.seats.items
+note_shallow v t l k ok = λ d.
+    let within = seat_in v t (Note l) Recorded k ok in
+    let same = chain_books v t l.0 d k within.0 within.1 in
+    can_rise l.0 _ (λ i found. note-count (start_in v) v.books.files.items (history_in v) t l.0 Recorded i k.legal
+    (note_accepted (state_of (story_in v)) t l.0 Recorded ok) (ap (find (is_of l.0)) (sym same) ∙ found))
+
+-- a new verifier
+seats_alike : (seats : List program.Seat) (n : ℕ) → length seats ≡ n → AllByRecursion (λ s. seat_view s ≡ no_seat) seats → (a : ℕ)
+    → map seat_view seats ≡ map (seat_of []) (range_with_len a n)
+seats_alike [] n count all a = ap (λ m. map (seat_of []) (range_with_len a m)) count
+seats_alike (s ∷ seats) n count all a =
+    ap₂ (λ x xs. x ∷ xs) all.0 (seats_alike seats (length seats) refl all.1 (a + 1)) ∙ ap (λ m. map (seat_of []) (range_with_len a m)) count
+
+free_seats : (b : Books) (sizes : Sizes) → IsFresh sizes b → map seat_view b.seats.items ≡ seats_of sizes.seats []
+free_seats b sizes e = seats_alike b.seats.items sizes.seats e.count (recursion_from_All (λ s. seat_view s ≡ no_seat) b.seats.items e.seats) 1
+
+unlisted : (v : Inside) → v.lists.items ≡ [] → start_in v ≡ record { sizes = v.books.limits; lists = []; blessed = (start_in v).blessed }
+unlisted v none = ap (λ ls. record { sizes = v.books.limits; lists = map (λ list. map (λ p. (p.0, string_bytes p.1)) list.items) ls; blessed = (start_in v).blessed }) none
+
+pub kept_fresh : (v : Inside) (sizes : Sizes) → v.lists.items ≡ [] → IsFresh sizes v.books → IsKept v
+kept_fresh v sizes none e =
+    let h : history_in v ≡ [] = ap (λ (l : List Entry). reverse l) e.log in
+    let seen : story_in v ≡ record { start = record { sizes = v.books.limits; lists = []; blessed = (start_in v).blessed }; history = []; files = [] } =
+    same_story _ _ _ _ _ _ (unlisted v none) e.files h in
+    let state : state_in v.books ≡ state_of (record { start = record { sizes = v.books.limits; lists = []; blessed = (start_in v).blessed }; history = []; files = [] }) =
+    same_state v.books.limits _ _ _ _ _ _ _ _ (ap (λ (l : List (List ℕ)). length l) e.files) e.known
+    (free_seats v.books sizes e ∙ ap (λ (s : Sizes). seats_of s.seats []) (sym e.limits)) (ap (λ (l : List Entry). length l) e.log) in
+    let owes : owed (state_in v.books) ≡ 0 = ap owed state ∙ owed_to-nil v.books.limits.seats in
+    let len = ap (λ (l : List Entry). length l) e.log in
+    let files = ap (λ (l : List (List ℕ)). length l) e.files in
+    record {
+      unlisted = none;
+      legal = subst (λ (s : Story). IsLegal s.start s.files s.history) (sym seen) tt;
+      state = state ∙ ap state_of (sym seen);
+      room = e.room;
+      owed = e.owed ∙ sym owes;
+      reports = e.reports ∙ ap (λ (s : Story). reports_of s.history) (sym seen);
+      capacity = omega (arith, len, v.books.log.ok.0, e.owed);
+      files = omega (arith, files);
+    }
+
+-- the answer to a naming that is accepted, where no such file was named
+fresh_file : (name : List ℕ) (files : List (List ℕ)) (n : ℕ) → is_known_file name files ≡ false → file_answer name files ≡ Ok n → length files < 65535
+fresh_file name files n new ok =
+    let a = file_passed (not (is_file_name name)) BadName _ n ok in
+    let b = file_passed (not (is_known_file name files) && nat_le 65535 (length files)) FilesFull _ n a.1 in
+    let full : nat_le 65535 (length files) ≡ false = ap (λ k. not k && nat_le 65535 (length files)) (sym new) ∙ b.0 in
+    let lt = leb-false 65535 (length files) full in
+    omega (arith, lt)
+  where
+    file_passed : (b : Bool) (f : Fault) (rest : Result ℕ Fault) (m : ℕ) → cond b (Err f) rest ≡ Ok m → (b ≡ false) × (rest ≡ Ok m)
+    file_passed true f rest m e = (cc)
+    file_passed false f rest m e = (refl, e)
+
+-- the files stay legal and within their limit
+files_named : (start : Start) (h : List Entry) (old new : List (List ℕ)) (name : List ℕ) (r : Result FileNo Fault) → NamesFileIn old name r new
+    → IsLegal start old h → length old ≤ 65535 → IsLegal start new h × (length new ≤ 65535)
+files_named start h old new name (Err f) names legal few = subst (λ fs. IsLegal start fs h × (length fs ≤ 65535)) (sym names.1) (legal, few)
+files_named start h old new name (Ok n) names legal few = subst (λ fs. IsLegal start fs h × (length fs ≤ 65535)) (sym names.1) (go (is_known_file name old) refl)
+  where
+    go : (b : Bool) → is_known_file name old ≡ b → IsLegal start (cond b old (old ++ name ∷ [])) h × (length (cond b old (old ++ name ∷ [])) ≤ 65535)
+    go true e = (legal, few)
+    go false e =
+        let room = fresh_file name old n.0 e names.0 in
+        (legal-named start old name h legal, omega (arith, room, length-append old (name ∷ [])))
+
+-- naming a file keeps the invariant
+pub kept_file : (v : Inside) (name : List ℕ) (r : Result FileNo Fault) (new : Books) → IsKept v → NamesFileIn v.books.files.items name r new.files.items
+    → new ≡ record v.books { files = new.files } → IsKept (record v { books = new })
+kept_file v name r new k names others =
+    let both = files_named (start_in v) (history_in v) v.books.files.items new.files.items name r names k.legal k.files in
+    subst (λ (b : Books). IsKept (record v { books = b })) (sym others) (record {
+      unlisted = k.unlisted;
+      legal = both.0;
+      state = ap (λ (s : State). record s { files = length new.files.items }) k.state;
+      room = k.room;
+      owed = k.owed;
+      reports = k.reports;
+      capacity = k.capacity;
+      files = both.1;
+    })
+
+-- watching is on as long as no call turns it down
+pub watch_on : (h : List Entry) → On ≡ watch_of h
+watch_on [] = refl
+watch_on (e ∷ h) = watch_on h

@@ -1,0 +1,126 @@
+-- What the invariant of a verifier gives, and how each call keeps it.
+use Rattle.std.proofs.Common.{◌≡◌, ℕ, ◌+◌, ◌-◌, ◌<◌, ◌≤◌, Bool, true, List, [], ◌∷◌, ◌++◌, Ok, Err, Result, length, map, reverse, vec_len, refl, sym, ap, ◌∙◌, subst, arith}
+use Rattle.std.specs.Vec.{vec_capacity}
+use Rattle.std.proofs.lemmas.List.{length-reverse, reverse-append}
+use Rattle.std.proofs.lemmas.List.Sums.{count_by-le-length}
+use Rattle.wit_model.specs.declared.faults.Fault.{Fault}
+use Rattle.wit_model.specs.declared.calls.Call.{Call}
+use Rattle.wit_model.specs.declared.calls.Reply.{Reply}
+use Rattle.wit_model.specs.declared.calls.Entry.{Entry}
+use Rattle.wit_model.specs.Sizes.{Sizes}
+use Rattle.wit_model.specs.History.{is_report, reports_of}
+use Rattle.wit_model.specs.State.{Start, Story, State, state_of, owed, types_of, is_seat}
+use Rattle.wit_model.specs.Step.{answer_of, story_after, step, logged, IsLegal}
+use Rattle.wit_model.proofs.Seats.{entry}
+use Rattle.wit_model.proofs.Owed.{few_legal}
+use Rattle.wit_model.proofs.Types.{types_legal, locks_legal}
+use Rattle.wit_model.proofs.Legal.{seat-within, seat_accepted}
+use Rattle.wit_core.specs.declared.verifier.Verifier.TheInside.{Inside}
+use Rattle.wit_core.specs.declared.books.Books.{Books}
+use Rattle.wit_core.specs.Books.{HasSums, AllHaveRoom, StaysSame, state_in}
+use Rattle.wit_core.specs.Kept.{IsKept, start_in, history_in, story_in}
+
+-- the sums, and the limits that they keep
+pub sums : (v : Inside) → IsKept v → HasSums v.books
+sums v k =
+    let few = few_legal (start_in v) v.books.files.items (history_in v) k.legal in
+    let same = ap owed k.state in
+    let len = length-reverse v.books.log.items in
+    let locks = locks_legal (start_in v) v.books.files.items (history_in v) k.legal in
+    let locks_same = ap (λ (s : State). length s.known.locks) k.state in
+    let told = count_by-le-length (λ (e : Entry). is_report e.reply) (history_in v) in
+    record {
+      owed = k.owed;
+      fits = omega (arith, few, same, len, k.owed);
+      locks = omega (arith, locks, locks_same);
+      reports = omega (arith, told, len, k.reports);
+    }
+
+-- types are within their limit
+pub types_few : (v : Inside) → IsKept v → length v.books.known.types.items ≤ v.books.limits.types
+types_few v k =
+    let none : length (types_of (start_in v) []) ≤ v.books.limits.types = rw k.unlisted (omega arith) in
+    let few = types_legal (start_in v) v.books.files.items (history_in v) none k.legal in
+    let same = ap (λ (s : State). length s.known.types) k.state in
+    omega (arith, few, same)
+
+-- the answer over the books is the answer of the story
+pub answered : (v : Inside) (t : ℕ) (call : Call) (r : Result Reply Fault) → IsKept v → r ≡ step (state_in v.books) t call → answer_of (story_in v) t call ≡ r
+answered v t call r k e = sym (e ∙ ap (λ s. step s t call) k.state)
+
+-- an accepted call's seat is one of the books
+pub seat_in : (v : Inside) (t : ℕ) (call : Call) (r : Reply) → IsKept v → answer_of (story_in v) t call ≡ Ok r → (0 < t) × (t ≤ v.books.limits.seats)
+seat_in v t call r k ok = seat-within (start_in v) v.books.files.items (history_in v) t (seat_accepted (state_of (story_in v)) t call r ok)
+
+-- the history once the log has one more
+history_more : (old new : List Entry) (e : Entry) → new ≡ old ++ e ∷ [] → reverse new ≡ e ∷ reverse old
+history_more old new e same = ap reverse same ∙ reverse-append old (e ∷ [])
+
+-- the books after an accepted call
+pub record Enters (v : Inside) (t : ℕ) (call : Call) (reply : Reply) (new : Books) : Type 0 where
+  pub state : state_in new ≡ state_of (story_after (start_in v) v.books.files.items (entry t call reply ∷ history_in v))
+  pub files : new.files ≡ v.books.files
+  pub room : AllHaveRoom new
+  pub owed : new.owed ≡ owed (state_in new)
+  pub reports : new.reports ≡ reports_of (entry t call reply ∷ history_in v)
+  pub log : new.log.items ≡ v.books.log.items ++ entry t call reply ∷ []
+  pub capacity : vec_len new.log + new.owed ≤ vec_capacity new.log
+
+with_books : Inside → Books → Inside
+with_books v new = record v { books = new }
+
+limits_same : (v : Inside) (t : ℕ) (call : Call) (reply : Reply) (new : Books) → Enters v t call reply new → new.limits ≡ v.books.limits
+limits_same v t call reply new e = ap (λ (s : State). s.sizes) e.state
+
+start_same : (v : Inside) (new : Books) → new.limits ≡ v.books.limits → start_in (record v { books = new }) ≡ start_in v
+start_same v new e = ap (λ (sizes : Sizes). record (start_in v) { sizes = sizes }) e
+
+-- a story by its parts
+abbrev pub story : Start → List (List ℕ) → List Entry → Story
+story start files h = record { start = start; history = h; files = files }
+
+pub same_story : (s s' : Start) (f f' : List (List ℕ)) (h h' : List Entry) → s ≡ s' → f ≡ f' → h ≡ h' → story s f h ≡ story s' f' h'
+same_story s s' f f' h h' es ef eh = ap (λ x. story x f h) es ∙ (ap (λ x. story s' x h) ef ∙ ap (λ x. story s' f' x) eh)
+
+-- the verifier is seen as its story with the entry
+pub story_entered : (v : Inside) (t : ℕ) (call : Call) (reply : Reply) (new : Books) → Enters v t call reply new
+    → story_in (record v { books = new }) ≡ logged (story_in v) t call reply
+story_entered v t call reply new e =
+    same_story _ _ _ _ _ _ (start_same v new (limits_same v t call reply new e)) (ap (λ f. f.items) e.files)
+    (history_more v.books.log.items new.log.items (entry t call reply) e.log)
+
+-- and keeps its invariant
+pub kept_entered : (v : Inside) (t : ℕ) (call : Call) (reply : Reply) (new : Books) → IsKept v → answer_of (story_in v) t call ≡ Ok reply → Enters v t call reply new
+    → IsKept (record v { books = new })
+kept_entered v t call reply new k ok e =
+    let same = story_entered v t call reply new e in
+    record {
+      unlisted = k.unlisted;
+      legal = subst (λ (s : Story). IsLegal s.start s.files s.history) (sym same) (ok, k.legal);
+      state = e.state ∙ ap state_of (sym same);
+      room = e.room;
+      owed = e.owed;
+      reports = e.reports ∙ ap (λ (s : Story). reports_of s.history) (sym same);
+      capacity = e.capacity;
+      files = subst (λ f. length f.items ≤ 65535) (sym e.files) k.files;
+    }
+
+-- where nothing has changed
+pub story_same : (v : Inside) (new : Books) → StaysSame v.books new → story_in (record v { books = new }) ≡ story_in v
+story_same v new e =
+    same_story _ _ _ _ _ _ (start_same v new (ap (λ (s : State). s.sizes) e.state)) (ap (λ f. f.items) e.files) (ap reverse e.log)
+
+pub kept_same : (v : Inside) (new : Books) → IsKept v → StaysSame v.books new → IsKept (record v { books = new })
+kept_same v new k e =
+    let same = story_same v new e in
+    let len = ap (λ (l : List Entry). length l) e.log in
+    record {
+      unlisted = k.unlisted;
+      legal = subst (λ (s : Story). IsLegal s.start s.files s.history) (sym same) k.legal;
+      state = e.state ∙ (k.state ∙ ap state_of (sym same));
+      room = e.room k.room;
+      owed = e.owed ∙ (k.owed ∙ ap owed (sym e.state));
+      reports = e.reports ∙ (k.reports ∙ ap (λ (s : Story). reports_of s.history) (sym same));
+      capacity = omega (arith, len, new.log.ok.0, v.books.log.ok.0, e.owed, e.capacity, k.capacity);
+      files = subst (λ f. length f.items ≤ 65535) (sym e.files) k.files;
+    }

@@ -1,0 +1,5 @@
+pub mod Calls
+pub mod Ends
+pub mod Keeping
+pub mod SeatRows
+pub mod Steps

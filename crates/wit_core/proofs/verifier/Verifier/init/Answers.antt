@@ -1,0 +1,21 @@
+use Rattle.std.specs.Option.{option_copied}
+use Rattle.wit_core.specs.Books.{new_lock}
+use Rattle.wit_model.specs.declared.calls.Call.TheVariants.{Init}
+use Rattle.wit_core.proofs.Keeping.{sums, types_few, answered}
+use Rattle.wit_core.proofs.Calls.{kept_init}
+use Rattle.wit_core.proofs.verifier.Verifier.init.Goals as goal
+
+pub answer_init-requires : goal.answer_init-requires
+answer_init-requires c = sums c.self.inside c.self.invariant
+
+pub enter_init-requires-clause-sums : goal.enter_init-requires-clause-sums
+enter_init-requires-clause-sums c = sums c.self.inside c.self.invariant
+
+pub enter_init-requires-clause-types : goal.enter_init-requires-clause-types
+enter_init-requires-clause-types c = types_few c.self.inside c.self.invariant
+
+pub invariant_of-self : goal.invariant_of-self
+invariant_of-self c =
+    kept_init c.self.inside c.args.seat.0 _ c.in-Ok.made c.in-Ok-boxed_lock.logged c.in_ok-lock.lock _ c.enter_init.new.self c.self.invariant
+    c.in-Ok.ensures c.in-Ok-boxed_lock.ensures
+    (answered c.self.inside c.args.seat.0 (Init (new_lock c.args.name.now (option_copied c.args.type_name) c.args.class c.args.flags)) _ c.self.invariant c.in_ok-lock.ensures) c.enter_init.ensures.ok c.enter_init.ensures.err

@@ -1,0 +1,169 @@
+-- What a verifier keeps, as the rules speak of it.
+use Rattle.std.specs.Prelude.{ℕ, ◌+◌, ◌-◌, ◌<◌, ◌≤◌, ◌≡◌, ◌⊎◌, Bool, true, false, List, [], ◌∷◌, ◌++◌, set, vec_len, map, length, reverse, Option, None, Some, Result, Ok, Err, nat_lt, nat_le, not, ◌&&◌, if◌then◌else◌}
+use Rattle.std.specs.List.{All}
+use Rattle.std.specs.Vec.{vec_capacity}
+use Rattle.wit_model.specs.declared.faults.Fault.{Fault}
+use Rattle.wit_model.specs.declared.faults.Fault.TheVariants.{ClassMismatch, TypesFull, LocksFull, NotYet, LogFull, OutOfMemory}
+use Rattle.wit_model.specs.Types.{is_otherwise, is_enrolled, type_name_of, is_spin}
+use Rattle.wit_model.specs.Step.{is_not_yet}
+use Rattle.wit_model.specs.declared.locks.Class.{Class}
+use Rattle.wit_model.specs.declared.flags.LockFlags.{LockFlags}
+use Rattle.wit_model.specs.declared.locks.LockNo.{LockNo}
+use Rattle.wit_model.specs.declared.calls.NewLock.{NewLock}
+use Rattle.wit_model.specs.declared.calls.Reply.{Reply}
+use Rattle.wit_model.specs.declared.calls.Reply.TheVariants.{Made, Recorded, Unlocked}
+use Rattle.wit_model.specs.declared.locks.Mode.{Mode}
+use Rattle.wit_model.specs.declared.locks.Instance.{Instance}
+use Rattle.wit_model.specs.Locks.{lock_at}
+use Rattle.wit_model.specs.declared.calls.Request.{Request}
+use Rattle.wit_model.specs.declared.calls.Call.TheVariants.{Init, Check, Note, Unlock}
+use Rattle.wit_model.specs.declared.locks.FileNo.{FileNo}
+use Rattle.wit_model.specs.Sizes.{Sizes}
+use Rattle.wit_model.specs.History.{is_report}
+use Rattle.wit_model.specs.Files.{file_answer, files_after, IsNumbered}
+use Rattle.wit_model.specs.State.{State, owed, has_room, no_seat}
+use Rattle.wit_core.specs.declared.books.Books.{Books}
+use Rattle.wit_core.specs.declared.seats.Seat.{Seat}
+use Rattle.wit_core.specs.Knowledge.{known, nothing, learnt, with_lock}
+use Rattle.wit_core.specs.Rows.{seat_view, HasRoom, changed_at, asked_in, noted_in, unlocked_in}
+use Rattle.wit_core.specs.declared.verdicts.Verdict.{Verdict}
+use Rattle.wit_core.specs.Verdicts.{reply_of}
+
+abbrev pub state_in : Books → State
+state_in b = record {
+  sizes = b.limits;
+  files = length b.files.items;
+  known = known b.known;
+  seats = map seat_view b.seats.items;
+  used = length b.log.items;
+}
+
+-- the sum of what is owed is kept, and fits the log beside what it has; locks are within their limit
+pub record HasSums (b : Books) : Type 0 where
+  pub owed : b.owed ≡ owed (state_in b)
+  pub fits : length b.log.items + b.owed ≤ b.limits.log
+  pub locks : length b.known.locks.items ≤ b.limits.locks
+  pub reports : b.reports ≤ length b.log.items
+
+abbrev pub new_lock : List ℕ → Option (List ℕ) → Class → LockFlags → NewLock
+new_lock name type_name class flags = record { class = class; flags = flags; name = name; type_name = type_name }
+
+abbrev pub made_reply : Result LockNo Fault → Result Reply Fault
+made_reply (Ok l) = Ok (Made l)
+made_reply (Err f) = Err f
+
+-- why a type with this name can't be enrolled
+abbrev pub type_fault : State → List ℕ → Class → Option Fault
+type_fault s name class =
+    if is_otherwise name class s.known.types then Some ClassMismatch
+    else if not (is_enrolled name s.known.types) && nat_le s.sizes.types (length s.known.types) then Some TypesFull
+    else None
+
+-- the answer to `init` where the seat and the names are good
+abbrev pub lock_answer : State → NewLock → Result Reply Fault
+lock_answer s lock =
+    if is_otherwise (type_name_of lock) lock.class s.known.types then Err ClassMismatch
+    else if not (is_enrolled (type_name_of lock) s.known.types) && nat_le s.sizes.types (length s.known.types) then Err TypesFull
+    else if nat_le s.sizes.locks (length s.known.locks) then Err LocksFull
+    else if is_not_yet s lock then Err NotYet
+    else if not (has_room s 1) then Err LogFull
+    else Ok (Made (record { 0 = length s.known.locks + 1 }))
+
+-- an answer that is always the same where the call is accepted
+abbrev pub done_reply : {X : Type 0} → Reply → Result X Fault → Result Reply Fault
+done_reply reply (Ok x) = Ok reply
+done_reply reply (Err f) = Err f
+
+-- the index of a seat with this number, where there is one
+abbrev pub SeatIndex : List Seat → ℕ → Option ℕ → Type 0
+SeatIndex seats t None = (nat_lt 0 t && nat_le t (length seats)) ≡ false
+SeatIndex seats t (Some i) = ((nat_lt 0 t && nat_le t (length seats)) ≡ true) × (i ≡ t - 1) × (i < length seats)
+
+-- while a request is pending, its seat's chains have room for its note
+abbrev pub AllHaveRoom : Books → Type 0
+AllHaveRoom b = All HasRoom b.seats.items
+
+-- books with nothing in them
+pub record IsFresh (sizes : Sizes) (b : Books) : Type 0 where
+  pub limits : b.limits ≡ sizes
+  pub files : b.files.items ≡ []
+  pub known : known b.known ≡ nothing
+  pub count : length b.seats.items ≡ sizes.seats
+  pub seats : All (λ s. seat_view s ≡ no_seat) b.seats.items
+  pub room : AllHaveRoom b
+  pub owed : b.owed ≡ 0
+  pub reports : b.reports ≡ 0
+  pub log : b.log.items ≡ []
+
+-- nothing that the rules speak of has changed, and no room is lost
+pub record StaysSame (old new : Books) : Type 0 where
+  pub state : state_in new ≡ state_in old
+  pub files : new.files ≡ old.files
+  pub room : AllHaveRoom old → AllHaveRoom new
+  pub owed : new.owed ≡ old.owed
+  pub reports : new.reports ≡ old.reports
+  pub log : new.log.items ≡ old.log.items
+  pub capacity : vec_capacity old.log ≤ vec_capacity new.log
+
+-- the naming of a file, over the files
+abbrev pub NamesFileIn : List (List ℕ) → List ℕ → Result FileNo Fault → List (List ℕ) → Type 0
+NamesFileIn old name (Ok f) new = (file_answer name old ≡ Ok f.0) × (new ≡ files_after name old)
+NamesFileIn old name (Err fault) new = ((file_answer name old ≡ Err fault) ⊎ ((fault ≡ OutOfMemory) × IsNumbered (file_answer name old))) × (new ≡ old)
+
+-- a lock is entered
+pub record EntersInit (old : Books) (t : ℕ) (number : LockNo) (made logged : NewLock) (new : Books) : Type 0 where
+  pub state : state_in new ≡ record (state_in old) { known = with_lock (known old.known) made; used = length old.log.items + 1 }
+  pub files : new.files ≡ old.files
+  pub room : AllHaveRoom old → AllHaveRoom new
+  pub owed : new.owed ≡ old.owed
+  pub reports : new.reports ≡ old.reports
+  pub log : new.log.items ≡ old.log.items ++ record { seat = record { 0 = t }; call = Init logged; reply = Made number } ∷ []
+  pub capacity : vec_len new.log + new.owed ≤ vec_capacity new.log
+
+-- a check is entered
+pub record EntersCheck (old : Books) (t : ℕ) (q : Request) (v : Verdict) (new : Books) : Type 0 where
+  pub state : state_in new ≡ record (state_in old) {
+    known = learnt (known old.known) v q.site;
+    seats = changed_at (t - 1) (asked_in q) (state_in old).seats;
+    used = length old.log.items + 1;
+  }
+  pub files : new.files ≡ old.files
+  pub room : AllHaveRoom old → AllHaveRoom new
+  pub owed : new.owed ≡ old.owed + 2
+  pub reports : new.reports ≡ old.reports + (if is_report (reply_of v) then 1 else 0)
+  pub log : new.log.items ≡ old.log.items ++ record { seat = record { 0 = t }; call = Check q; reply = reply_of v } ∷ []
+  pub capacity : vec_len new.log + new.owed ≤ vec_capacity new.log
+
+-- whether a lock is of the spin kind
+abbrev pub spin_of : Books → ℕ → Bool
+spin_of b l = is_spin (lock_at b.known.locks.items l).made.class
+
+-- a new acquisition of a lock, as its request has it
+abbrev pub taken_by : LockNo → Request → Instance
+taken_by l q = record { lock = l; mode = q.mode; norelease = false; count = 0; site = q.site }
+
+-- a note is entered
+pub record EntersNote (old : Books) (t : ℕ) (l : LockNo) (q : Request) (new : Books) : Type 0 where
+  pub state : state_in new ≡ record (state_in old) {
+    seats = changed_at (t - 1) (noted_in (spin_of old l.0) (taken_by l q)) (state_in old).seats;
+    used = length old.log.items + 1;
+  }
+  pub files : new.files ≡ old.files
+  pub room : AllHaveRoom old → AllHaveRoom new
+  pub owed : new.owed + 1 ≡ old.owed
+  pub reports : new.reports ≡ old.reports
+  pub log : new.log.items ≡ old.log.items ++ record { seat = record { 0 = t }; call = Note l; reply = Recorded } ∷ []
+  pub capacity : vec_capacity new.log ≡ vec_capacity old.log
+
+-- a release is entered
+pub record EntersUnlock (old : Books) (t : ℕ) (l : LockNo) (m : Mode) (new : Books) : Type 0 where
+  pub state : state_in new ≡ record (state_in old) {
+    seats = changed_at (t - 1) (unlocked_in (spin_of old l.0) l.0) (state_in old).seats;
+    used = length old.log.items + 1;
+  }
+  pub files : new.files ≡ old.files
+  pub room : AllHaveRoom old → AllHaveRoom new
+  pub owed : new.owed + 1 ≡ old.owed
+  pub reports : new.reports ≡ old.reports
+  pub log : new.log.items ≡ old.log.items ++ record { seat = record { 0 = t }; call = Unlock l m; reply = Unlocked } ∷ []
+  pub capacity : vec_capacity new.log ≡ vec_capacity old.log

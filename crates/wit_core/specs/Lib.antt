@@ -1,0 +1,7 @@
+pub mod Books
+pub mod Fresh
+pub mod Kept
+pub mod Knowledge
+pub mod Pairs
+pub mod Rows
+pub mod Verdicts

@@ -1,0 +1,459 @@
+//! What a verifier keeps, and its answers, which change nothing.
+
+ghost use Rattle.std.specs.Prelude.{◌≡◌, ◌<◌, ◌≤◌, ◌+◌, ◌-◌, ◌==◌, true, length, vec_len, unwrap_or, IfOk, OnOk, OnErr};
+ghost use Rattle.std.specs.List.{list_any};
+ghost use Rattle.std.specs.Option.{option_copied};
+ghost use Rattle.wit_model.specs.declared.calls.Reply.TheVariants.{Recorded, Unlocked};
+ghost use Rattle.wit_model.specs.Types.{is_otherwise};
+ghost use Rattle.wit_model.specs.Locks.{is_made};
+ghost use Rattle.wit_model.specs.State.{has_room, seat_at};
+ghost use Rattle.wit_model.specs.Step.{step_init, step_check, step_note, step_unlock, is_not_yet, is_file, is_deepest, is_good_name, released};
+ghost use Rattle.wit_core.specs.Books.{new_lock, lock_answer, type_fault, SeatIndex, made_reply, done_reply};
+ghost use Rattle.wit_model.specs.Files.{file_number, is_known_file};
+ghost use Rattle.std.specs.Vec.{vec_capacity};
+ghost use Rattle.wit_core.specs.Rows.{HasSpaceAt, IsShallowAt, IsFreeAt};
+ghost use Rattle.wit_core.specs.Verdicts.{replied, reply_of};
+
+use crate::known::{Knowledge, class_of, held, is_enrolled, type_number};
+use crate::seats::{Seat, ask_at, make_room_at, note_at, unlock_at};
+use crate::verdicts::Verdict;
+use bitflags::Flags;
+use std::alloc::{AllocError, Global};
+use wit_model::{
+    Boxed, Call, Class, Entry, Fault, FileName, FileNo, Instance, Limits, Lock, LockFlags, LockNo,
+    LockType, Mode, Name, NewLock, Reply, Request, SeatNo,
+};
+
+/// What a verifier keeps.
+#[derive(Drop)]
+pub struct Books {
+    pub limits: Limits,
+    pub files: Vec<FileName>,
+    pub known: Knowledge,
+    pub seats: Vec<Seat>,
+    /// The log entries that the seats will still need.
+    pub owed: u32,
+    /// How many reports the log has.
+    pub reports: u32,
+    pub log: Vec<Entry>,
+}
+
+impl Books {
+    ghost use Rattle.wit_core.specs.Books.{HasSums, state_in};
+
+    /// The answer to `init`, want of memory aside.
+    pub fn answer_init(
+        &self,
+        seat: SeatNo,
+        name: &str,
+        type_name: Option<&str>,
+        class: Class,
+        flags: LockFlags,
+    ) -> Result<LockNo, Fault>
+        requires { HasSums self.now }
+        ensures { made_reply result ≡ step_init (state_in self.now) seat.0
+            (new_lock name.now (option_copied type_name.entry) class flags) }
+    {
+        let Some(place) = seat_index(&self.seats, seat) else {
+            return Err(Fault::UnknownSeat);
+        };
+        if self.seats[place].pending.is_some() {
+            return Err(Fault::Pending);
+        }
+        if !Name::accepts(name) || !is_good_name(type_name) {
+            return Err(Fault::BadName);
+        }
+        self.answer_lock(type_name_or(name, type_name), class, flags)
+    }
+
+    // The number of a new lock of the type with this name.
+    fn answer_lock(&self, type_name: &str, class: Class, flags: LockFlags) -> Result<LockNo, Fault>
+        requires { HasSums self.now }
+        ensures { made_reply result ≡ lock_answer (state_in self.now)
+            (new_lock type_name.now None class flags) }
+    {
+        if let Some(fault) = self.type_fault(type_name, class) {
+            return Err(fault);
+        }
+        let locks = self.known.locks.len();
+        if self.limits.locks() as usize <= locks {
+            return Err(Fault::LocksFull);
+        }
+        if self.is_not_yet(type_name, class, flags) {
+            return Err(Fault::NotYet);
+        }
+        if !self.has_room(1) {
+            return Err(Fault::LogFull);
+        }
+        Ok(LockNo(locks as u32 + 1))
+    }
+
+    // Why a type with this name can't be enrolled.
+    fn type_fault(&self, name: &str, class: Class) -> Option<Fault>
+        ensures { result ≡ type_fault (state_in self.now) name.now class }
+    {
+        let types = &self.known.types;
+        if is_otherwise(types, name, class) {
+            return Some(Fault::ClassMismatch);
+        }
+        if !is_enrolled(types, name) && self.limits.types() as usize <= types.len() {
+            return Some(Fault::TypesFull);
+        }
+        None
+    }
+
+    // What isn't built yet.
+    fn is_not_yet(&self, type_name: &str, class: Class, flags: LockFlags) -> bool
+        ensures { result ≡ is_not_yet (state_in self.now)
+            (new_lock type_name.now None class flags) }
+    {
+        !class.is(Class::SleepMutex)
+            || flags.contains(LockFlags::RECURSABLE)
+            || type_name == "Giant"
+            || has_type(&self.known.locks, type_number(&self.known.types, type_name))
+    }
+
+    /// The verdict of `check`.
+    pub fn answer_check(&self, seat: SeatNo, request: Request) -> Result<Verdict, Fault>
+        requires { HasSums self.now }
+        ensures { replied result ≡ step_check (state_in self.now) seat.0 request }
+    {
+        let Some(place) = seat_index(&self.seats, seat) else {
+            return Err(Fault::UnknownSeat);
+        };
+        if !is_made(&self.known.locks, request.lock) {
+            return Err(Fault::UnknownLock);
+        }
+        if !self.has_file(request.site.file) {
+            return Err(Fault::UnknownFile);
+        }
+        let class = class_of(&self.known.locks, request.lock);
+        if !request.mode.is_exclusive() && !class.is_shareable() {
+            return Err(Fault::ModeNotAllowed);
+        }
+        let row = &self.seats[place];
+        if row.pending.is_some() {
+            return Err(Fault::Pending);
+        }
+        let chain = row.chain(class.is_spin());
+        if is_deepest(held(chain, request.lock)) {
+            return Err(Fault::RecursionTooDeep);
+        }
+        let verdict = self.known.verdict(request, chain)?;
+        if !self.has_room(3) {
+            return Err(Fault::LogFull);
+        }
+        Ok(verdict)
+    }
+
+    /// The request that a `note` records.
+    pub fn answer_note(&self, seat: SeatNo, lock: LockNo) -> Result<Request, Fault>
+        ensures answer { done_reply Recorded result ≡ step_note (state_in self.now) seat.0 lock.0 }
+        ensures request { IfOk result (λ q. (seat_at (state_in self.now) seat.0).pending ≡ Some q) }
+    {
+        let Some(place) = seat_index(&self.seats, seat) else {
+            return Err(Fault::UnknownSeat);
+        };
+        if !is_made(&self.known.locks, lock) {
+            return Err(Fault::UnknownLock);
+        }
+        match self.seats[place].pending {
+            Some(request) if request.lock.0 == lock.0 => Ok(request),
+            _ => Err(Fault::NotRequested),
+        }
+    }
+
+    /// The answer to `unlock`.
+    pub fn answer_unlock(&self, seat: SeatNo, lock: LockNo, mode: Mode) -> Result<(), Fault>
+        ensures { done_reply Unlocked result ≡ step_unlock (state_in self.now) seat.0 lock.0 mode }
+    {
+        let Some(place) = seat_index(&self.seats, seat) else {
+            return Err(Fault::UnknownSeat);
+        };
+        if !is_made(&self.known.locks, lock) {
+            return Err(Fault::UnknownLock);
+        }
+        let row = &self.seats[place];
+        if row.pending.is_some() {
+            return Err(Fault::Pending);
+        }
+        let chain = row.chain(class_of(&self.known.locks, lock).is_spin());
+        match held(chain, lock) {
+            Some(held) => answer_release(held, mode),
+            None => Err(Fault::NotLocked),
+        }
+    }
+
+    // Whether a file was named under this number.
+    fn has_file(&self, file: FileNo) -> bool
+        ensures { result ≡ is_file (state_in self.now) file.0 }
+    {
+        0 < file.0 && file.0 as usize <= self.files.len()
+    }
+
+    // Whether the log has room for this many entries beside those that are owed.
+    fn has_room(&self, more: u32) -> bool
+        requires sums { HasSums self.now }
+        requires few { more < 10 }
+        ensures { result ≡ has_room (state_in self.now) more }
+    {
+        self.log.len() + self.owed as usize + more as usize <= self.limits.log() as usize
+    }
+}
+
+impl Books {
+    ghost use Rattle.wit_core.specs.Books.{HasSums, IsFresh, NamesFileIn, EntersInit, EntersCheck, EntersNote, EntersUnlock, StaysSame, spin_of};
+
+    /// Books with nothing in them.
+    ///
+    /// # Errors
+    /// Want of memory alone.
+    pub fn new(alloc: Global, limits: Limits) -> Result<Books, AllocError>
+        ensures { IfOk result (IsFresh limits) }
+    {
+        let mut seats = Vec::new(alloc);
+        for _seat in 0..limits.seats() {
+            seats.push(Seat::new(alloc))?;
+        }
+        Ok(Books {
+            limits,
+            files: Vec::new(alloc),
+            known: Knowledge::new(alloc),
+            seats,
+            owed: 0,
+            reports: 0,
+            log: Vec::new(alloc),
+        })
+    }
+
+    /// The number of a file: `Verifier::file`.
+    pub fn name_file(&mut self, alloc: Global, name: &str) -> Result<FileNo, Fault>
+        requires { length self.old.files.items ≤ 65535 }
+        ensures names { NamesFileIn self.old.files.items name.now result self.new.files.items }
+        ensures others { self.new ≡ record self.old { files = self.new.files } }
+    {
+        if !FileName::accepts(name) {
+            return Err(Fault::BadName);
+        }
+        let number = file_number(&self.files, name);
+        if !is_known_file(&self.files, name) {
+            if self.files.len() >= 65535 {
+                return Err(Fault::FilesFull);
+            }
+            let Ok(file) = FileName::new(alloc, name) else {
+                return Err(Fault::OutOfMemory);
+            };
+            if self.files.push(file).is_err() {
+                return Err(Fault::OutOfMemory);
+            }
+        }
+        Ok(FileNo(number as u16))
+    }
+
+    /// Enters a lock and its call.
+    ///
+    /// # Errors
+    /// Want of memory alone; nothing is entered then.
+    pub fn enter_init(
+        &mut self,
+        alloc: Global,
+        seat: SeatNo,
+        number: LockNo,
+        made: NewLock,
+        logged: Boxed<NewLock>,
+    ) -> Result<(), AllocError>
+        requires sums { HasSums self.old }
+        requires types { length self.old.known.types.items ≤ self.old.limits.types }
+        ensures ok { OnOk result (EntersInit self.old seat.0 number made logged self.new) }
+        ensures err { OnErr result (StaysSame self.old self.new) }
+    {
+        let most = self.limits.types();
+        prove!(most <= 1023);
+        self.log.reserve(self.owed as usize + 1)?;
+        self.known.add_lock(alloc, made)?;
+        self.log.push_reserved(Entry {
+            seat,
+            call: Call::Init(logged),
+            reply: Reply::Made(number),
+        });
+        Ok(())
+    }
+
+    /// Enters a check and its verdict, which gives the reply.
+    ///
+    /// # Errors
+    /// Want of memory alone; nothing is entered then.
+    pub fn enter_check(
+        &mut self,
+        alloc: Global,
+        seat: SeatNo,
+        request: Request,
+        verdict: Verdict,
+    ) -> Result<Reply, AllocError>
+        requires sums { HasSums self.old }
+        requires seat { (0 < seat.0) × (seat.0 ≤ length self.old.seats.items) }
+        ensures ok { IfOk result (λ reply. (reply ≡ reply_of verdict) × EntersCheck self.old seat.0 request verdict self.new) }
+        ensures err { OnErr result (StaysSame self.old self.new) }
+    {
+        let reply = verdict.reply(alloc)?;
+        let kept = verdict.reply(alloc)?;
+        let place = seat.0 as usize - 1;
+        self.log.reserve(self.owed as usize + 3)?;
+        make_room_at(&mut self.seats, place)?;
+        self.known.learn(verdict, request.site)?;
+        ask_at(&mut self.seats, place, request);
+        self.owed += 2;
+        if verdict.is_report() {
+            self.reports += 1;
+        }
+        self.log.push_reserved(Entry {
+            seat,
+            call: Call::Check(request),
+            reply: kept,
+        });
+        Ok(reply)
+    }
+
+    /// Enters the note of a lock's pending request. It takes no memory.
+    pub fn enter_note(&mut self, seat: SeatNo, lock: LockNo, request: Request)
+        requires sums { HasSums self.old }
+        requires seat { (0 < seat.0) × (seat.0 ≤ length self.old.seats.items) }
+        requires room { HasSpaceAt (seat.0 - 1) self.old.seats.items }
+        requires shallow { IsShallowAt (seat.0 - 1) (spin_of self.old lock.0) lock.0 self.old.seats.items }
+        requires log { vec_len self.old.log < vec_capacity self.old.log }
+        requires owed { 0 < self.old.owed }
+        ensures { EntersNote self.old seat.0 lock request self.new }
+    {
+        let spin = class_of(&self.known.locks, lock).is_spin();
+        let taken = Instance {
+            lock,
+            mode: request.mode,
+            norelease: false,
+            count: 0,
+            site: request.site,
+        };
+        note_at(&mut self.seats, seat.0 as usize - 1, spin, taken);
+        self.owed -= 1;
+        self.log.push_reserved(Entry {
+            seat,
+            call: Call::Note(lock),
+            reply: Reply::Recorded,
+        });
+    }
+
+    /// Enters a release. It takes no memory.
+    pub fn enter_unlock(&mut self, seat: SeatNo, lock: LockNo, mode: Mode)
+        requires sums { HasSums self.old }
+        requires seat { (0 < seat.0) × (seat.0 ≤ length self.old.seats.items) }
+        requires free { IsFreeAt (seat.0 - 1) self.old.seats.items }
+        requires log { vec_len self.old.log < vec_capacity self.old.log }
+        requires owed { 0 < self.old.owed }
+        ensures { EntersUnlock self.old seat.0 lock mode self.new }
+    {
+        let spin = class_of(&self.known.locks, lock).is_spin();
+        unlock_at(&mut self.seats, seat.0 as usize - 1, spin, lock);
+        self.owed -= 1;
+        self.log.push_reserved(Entry {
+            seat,
+            call: Call::Unlock(lock, mode),
+            reply: Reply::Unlocked,
+        });
+    }
+}
+
+fn answer_release(held: Instance, mode: Mode) -> Result<(), Fault>
+    ensures { done_reply Unlocked result ≡ released mode (Some held) }
+{
+    if held.mode.is_exclusive() && !mode.is_exclusive() {
+        return Err(Fault::SharedUnlock);
+    }
+    if !held.mode.is_exclusive() && mode.is_exclusive() {
+        return Err(Fault::ExclusiveUnlock);
+    }
+    if held.count == 0 && held.norelease {
+        return Err(Fault::ForbiddenUnlock);
+    }
+    Ok(())
+}
+
+// The index of a seat, by its number.
+pub fn seat_index(seats: &[Seat], seat: SeatNo) -> Option<usize>
+    ensures { SeatIndex seats.now seat.0 result }
+{
+    let place = (seat.0 as usize).checked_sub(1)?;
+    if place < seats.len() {
+        Some(place)
+    } else {
+        None
+    }
+}
+
+fn is_made(locks: &[Lock], lock: LockNo) -> bool
+    ensures { result ≡ is_made locks.now lock.0 }
+{
+    0 < lock.0 && lock.0 as usize <= locks.len()
+}
+
+fn is_deepest(held: Option<Instance>) -> bool
+    ensures { result ≡ is_deepest held }
+{
+    match held {
+        Some(held) => held.count == 65535,
+        None => false,
+    }
+}
+
+fn is_good_name(name: Option<&str>) -> bool
+    ensures { result ≡ is_good_name (option_copied name.entry) }
+{
+    match name {
+        Some(name) => Name::accepts(name),
+        None => true,
+    }
+}
+
+// The name under which a lock takes part in orders.
+pub fn type_name_or<'a>(name: &'a str, type_name: Option<&'a str>) -> &'a str
+    ensures { result.now ≡ unwrap_or (option_copied type_name.entry) name.now }
+{
+    match type_name {
+        Some(type_name) => type_name,
+        None => name,
+    }
+}
+
+// Whether a type has this name and another class.
+fn is_otherwise(types: &[LockType], name: &str, class: Class) -> bool
+    ensures { result ≡ is_otherwise name.now class types.now }
+{
+    types
+        .iter()
+        .any(|t| t.name.as_str() == name && !t.class.is(class))
+}
+
+// Whether a lock of the type with this number was made.
+fn has_type(locks: &[Lock], number: usize) -> bool
+    ensures { result ≡ list_any (λ lock. lock.type_no.0 == number) locks.now }
+{
+    locks.iter().any(|lock| lock.type_no.0 as usize == number)
+}
+
+fn is_known_file(files: &[FileName], name: &str) -> bool
+    ensures { result ≡ is_known_file name.now files.now }
+{
+    files.iter().any(|f| f.as_str() == name)
+}
+
+// The number of the file with this name, or the one that it would get.
+fn file_number(files: &[FileName], name: &str) -> usize
+    ensures value { result ≡ file_number name.now files.now }
+    ensures within { result ≤ length files.now + 1 }
+    ensures known { is_known_file name.now files.now ≡ true → result ≤ length files.now }
+{
+    for (place, file) in files.iter().enumerate() {
+        if file.as_str() == name {
+            return place + 1;
+        }
+    }
+    files.len() + 1
+}

@@ -1,0 +1,253 @@
+//! The verifier of lock orders.
+
+ghost use Rattle.std.specs.Prelude.{◌≡◌, [], reverse, IfOk, IfErr};
+ghost use Rattle.std.specs.Option.{option_copied};
+ghost use Rattle.wit_model.specs.State.{orders_of};
+ghost use Rattle.wit_model.specs.History.{reports_of, watch_of};
+ghost use Rattle.wit_model.specs.Files.{NamesFile};
+ghost use Rattle.wit_model.specs.Step.{Answers, AnswersOrFails};
+ghost use Rattle.wit_core.specs.Books.{new_lock, made_reply};
+ghost use Rattle.wit_model.specs.declared.calls.Call.TheVariants.{Init, Check, Note, Unlock};
+ghost use Rattle.wit_model.specs.declared.faults.Fault.TheVariants.{OutOfMemory};
+ghost use Rattle.wit_core.specs.Fresh.{fresh};
+
+use crate::books::Books;
+use std::alloc::{AllocError, Global};
+use std::marker::Model;
+use wit_model::{
+    Adoption, Boxed, Class, Entry, Fault, FileNo, Limits, LockFlags, LockNo, Mode, Name, NewLock,
+    OpFlags, Reply, Request, SeatNo, Site, Watch,
+};
+
+/// Why a verifier can't be made.
+#[derive(Clone, Copy, Debug, PartialEq, Eq)]
+pub struct StartError {
+    /// The static list that is refused, from 1; 0 for the blessed pairs and for want of memory outside the lists.
+    pub list: u64,
+    pub fault: Fault,
+}
+
+/// A verifier of lock orders, as witness(4) describes it: it is told of each acquisition and release, keeps
+/// what each seat holds, learns the orders in which types of locks are acquired, and reports a reversal of a
+/// known order, which is a possible deadlock.
+///
+/// Clauses see it as how it began, its history, and the files that were named to it. A refused call changes
+/// nothing of these.
+#[derive(Drop)]
+pub struct Verifier {
+    alloc: Global,
+    lists: Vec<Vec<(Class, String)>>,
+    blessed: Vec<(String, String)>,
+    books: Books,
+}
+
+impl Model for Verifier {
+    ghost use Rattle.wit_model.specs.State.{Story};
+
+    ghost Value = { Story };
+
+    ghost use Rattle.wit_core.specs.Kept.{story_in, IsKept};
+
+    ghost view = { story_in };
+
+    ghost invariant = { IsKept };
+}
+
+impl Verifier {
+    /// A verifier with these limits, static lists of types in order, and pairs of type names that may be taken
+    /// in either order. Watching is on, and its history is empty.
+    ///
+    /// # Errors
+    /// `OutOfMemory`, with list 0.
+    pub fn new(
+        alloc: Global,
+        limits: Limits,
+        lists: Vec<Vec<(Class, String)>>,
+        blessed: Vec<(String, String)>,
+    ) -> Result<Verifier, StartError>
+        requires lists { lists.items ≡ [] }
+        requires blessed { blessed.items ≡ [] }
+        ensures ok { IfOk result (λ v. v ≡ fresh limits) }
+        ensures err { IfErr result (λ e. e ≡ record { list = 0; fault = OutOfMemory }) }
+    {
+        let Ok(books) = Books::new(alloc, limits) else {
+            return Err(StartError {
+                list: 0,
+                fault: Fault::OutOfMemory,
+            });
+        };
+        Ok(Verifier {
+            alloc,
+            lists,
+            blessed,
+            books,
+        })
+    }
+
+    /// The number of a source file: a file that was named before keeps its number, a new one gets the next.
+    /// The history stays.
+    ///
+    /// # Errors
+    /// `BadName` where the text is no file name; `FilesFull` where it is new and 65,535 files have numbers;
+    /// `OutOfMemory`. The files are then as before.
+    pub fn file(&mut self, name: &str) -> Result<FileNo, Fault>
+        ensures { NamesFile self.old name.now result self.new }
+    {
+        self.books.name_file(self.alloc, name)
+    }
+
+    /// Makes a lock, as `lock_init` does: its number is the next one.
+    ///
+    /// # Errors
+    /// In this order: `UnknownSeat`; `Pending` where the seat has a request; `BadName` where a name isn't one;
+    /// `ClassMismatch` where its type is known with another class; `TypesFull` and `LocksFull` where no number
+    /// is left; `NotYet` for what isn't built yet; `LogFull`; `OutOfMemory`.
+    pub fn init(
+        &mut self,
+        seat: SeatNo,
+        name: &str,
+        type_name: Option<&str>,
+        class: Class,
+        flags: LockFlags,
+    ) -> Result<LockNo, Fault>
+        ensures { AnswersOrFails self.old seat.0
+            (Init (new_lock name.now (option_copied type_name.entry) class flags)) (made_reply result) self.new }
+    {
+        let lock = self.books.answer_init(seat, name, type_name, class, flags)?;
+        let Ok(made) = new_lock(self.alloc, name, type_name, class, flags) else {
+            return Err(Fault::OutOfMemory);
+        };
+        let Ok(logged) = boxed_lock(self.alloc, name, type_name, class, flags) else {
+            return Err(Fault::OutOfMemory);
+        };
+        match self.books.enter_init(self.alloc, seat, lock, made, logged) {
+            Ok(()) => Ok(lock),
+            Err(_) => Err(Fault::OutOfMemory),
+        }
+    }
+
+    /// Asks whether a lock may be acquired here: WITNESS's `checkorder`. Its request is then pending until it is
+    /// noted. The answer is `Pass`, `Adopted` where the order behind the last held lock was learnt, `Silent`
+    /// where the request breaks an order that was reported before, and `Reversal` where it breaks one that
+    /// wasn't.
+    ///
+    /// # Errors
+    /// In this order: `UnknownSeat`; `UnknownLock`; `UnknownFile`; `ModeNotAllowed` for a mutex asked for shared;
+    /// `Pending`; `RecursionTooDeep`; `SharedOfExclusive`, `ExclusiveOfShared` and `Recursed` for a lock that
+    /// the seat holds; `LogFull`; `OutOfMemory`.
+    pub fn check(
+        &mut self,
+        seat: SeatNo,
+        lock: LockNo,
+        mode: Mode,
+        ops: OpFlags,
+        site: Site,
+    ) -> Result<Reply, Fault>
+        ensures { AnswersOrFails self.old seat.0
+            (Check (record { lock = lock; site = site; mode = mode; ops = ops })) result self.new }
+    {
+        let request = Request {
+            lock,
+            site,
+            mode,
+            ops,
+        };
+        let verdict = self.books.answer_check(seat, request)?;
+        match self.books.enter_check(self.alloc, seat, request, verdict) {
+            Ok(reply) => Ok(reply),
+            Err(_) => Err(Fault::OutOfMemory),
+        }
+    }
+
+    /// Records that the lock asked for was acquired: WITNESS's `lock`. It takes no memory.
+    ///
+    /// # Errors
+    /// In this order: `UnknownSeat`; `UnknownLock`; `NotRequested` where the seat has no request for the lock.
+    pub fn note(&mut self, seat: SeatNo, lock: LockNo) -> Result<Reply, Fault>
+        ensures { Answers self.old seat.0 (Note lock) result self.new }
+    {
+        let request = self.books.answer_note(seat, lock)?;
+        self.books.enter_note(seat, lock, request);
+        Ok(Reply::Recorded)
+    }
+
+    /// Records that a lock held in this mode is released: WITNESS's `unlock`. It takes no memory.
+    ///
+    /// # Errors
+    /// In this order: `UnknownSeat`; `UnknownLock`; `Pending` where the seat has a request; `NotLocked`;
+    /// `SharedUnlock` and `ExclusiveUnlock` where the lock is held in the other mode; `ForbiddenUnlock` where it
+    /// must not be released.
+    pub fn unlock(&mut self, seat: SeatNo, lock: LockNo, mode: Mode) -> Result<Reply, Fault>
+        ensures { Answers self.old seat.0 (Unlock lock mode) result self.new }
+    {
+        self.books.answer_unlock(seat, lock, mode)?;
+        self.books.enter_unlock(seat, lock, mode);
+        Ok(Reply::Unlocked)
+    }
+
+    /// The log: each accepted call with its seat and reply, oldest first.
+    pub fn history(&self) -> &[Entry]
+        ensures log { reverse result.now ≡ self.now.history }
+    {
+        &self.books.log
+    }
+
+    /// How many reports the log has.
+    pub fn reports(&self) -> u32
+        ensures { result ≡ reports_of self.now.history }
+    {
+        self.books.reports
+    }
+
+    /// How much is watched.
+    pub fn watch(&self) -> Watch
+        ensures { result ≡ watch_of self.now.history }
+    {
+        Watch::On
+    }
+
+    /// The adopted orders with their origins, oldest first.
+    pub fn orders(&self) -> &[Adoption]
+        ensures { reverse result.now ≡ orders_of self.now.start self.now.history }
+    {
+        self.books.known.orders.adopted()
+    }
+}
+
+fn new_lock(
+    alloc: Global,
+    name: &str,
+    type_name: Option<&str>,
+    class: Class,
+    flags: LockFlags,
+) -> Result<NewLock, AllocError>
+    ensures { IfOk result (λ l. l ≡ new_lock name.now (option_copied type_name.entry) class flags) }
+{
+    let name = Name::new(alloc, name)?;
+    match type_name {
+        Some(type_name) => Ok(NewLock {
+            class,
+            flags,
+            name,
+            type_name: Some(Name::new(alloc, type_name)?),
+        }),
+        None => Ok(NewLock {
+            class,
+            flags,
+            name,
+            type_name: None,
+        }),
+    }
+}
+
+fn boxed_lock(
+    alloc: Global,
+    name: &str,
+    type_name: Option<&str>,
+    class: Class,
+    flags: LockFlags,
+) -> Result<Boxed<NewLock>, AllocError>
+    ensures { IfOk result (λ l. l ≡ new_lock name.now (option_copied type_name.entry) class flags) }
+{
+    Boxed::new(alloc, new_lock(alloc, name, type_name, class, flags)?)
+}

@@ -1,0 +1,39 @@
+-- Laws: what holds of every legal history.
+use Rattle.std.specs.Prelude.{ℕ, ◌≡◌, ◌↔◌, true, List, [], ◌∷◌, ◌++◌, Some, Ok}
+use Rattle.wit_model.specs.declared.calls.Adoption.{Adoption}
+use Rattle.wit_model.specs.declared.calls.Request.{Request}
+use Rattle.wit_model.specs.declared.calls.Call.TheVariants.{Check, Note}
+use Rattle.wit_model.specs.declared.calls.Reply.{Reply}
+use Rattle.wit_model.specs.declared.calls.Reply.TheVariants.{Recorded}
+use Rattle.wit_model.specs.declared.calls.Entry.{Entry}
+use Rattle.wit_model.specs.Orders.{Before, is_before, IsSound}
+use Rattle.wit_model.specs.History.{pending}
+use Rattle.wit_model.specs.State.{Start, Story, orders_of}
+use Rattle.wit_model.specs.Step.{answer_of, logged, IsLegal}
+
+-- no type is before itself after a legal history, where none was at its start
+abbrev pub OrdersStaySound : Type 0
+OrdersStaySound =
+    (start : Start) (files : List (List ℕ)) (h : List Entry)
+    → IsSound (orders_of start []) → IsLegal start files h → IsSound (orders_of start h)
+
+-- the test finds exactly the types between which a path leads
+abbrev pub TestFindsPaths : Type 0
+TestFindsPaths = (orders : List Adoption) (a b : ℕ) → (is_before orders a b ≡ true) ↔ Before orders a b
+
+-- a request that is pending can be noted
+abbrev pub PendingIsNoted : Type 0
+PendingIsNoted =
+    (s : Story) (t : ℕ) (q : Request)
+    → IsLegal s.start s.files s.history → pending t s.history ≡ Some q → answer_of s t (Note q.lock) ≡ Ok Recorded
+
+-- a request that passed its check can be noted next
+abbrev pub CheckedIsNoted : Type 0
+CheckedIsNoted =
+    (s : Story) (t : ℕ) (q : Request) (r : Reply)
+    → IsLegal s.start s.files s.history → answer_of s t (Check q) ≡ Ok r → answer_of (logged s t (Check q) r) t (Note q.lock) ≡ Ok Recorded
+
+-- a history stays legal where more files are named
+abbrev pub FilesMayGrow : Type 0
+FilesMayGrow =
+    (start : Start) (files : List (List ℕ)) (name : List ℕ) (h : List Entry) → IsLegal start files h → IsLegal start (files ++ name ∷ []) h

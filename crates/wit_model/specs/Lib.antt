@@ -1,0 +1,12 @@
+pub mod Faults
+pub mod Files
+pub mod History
+pub mod Laws
+pub mod Locks
+pub mod Names
+pub mod Orders
+pub mod Sizes
+pub mod State
+pub mod Step
+pub mod Types
+pub mod Verdict

@@ -1,0 +1,66 @@
+-- Lock types: "locks of the same type share one order" (witness(4)). A type is a name with a class, and its
+-- number is its place among the types enrolled so far, from 1.
+use Rattle.std.specs.Prelude.{ℕ, ◌+◌, Bool, true, false, not, ◌&&◌, ◌||◌, List, [], ◌∷◌, ◌++◌, Option, unwrap_or, if◌then◌else◌}
+use Rattle.std.specs.List.{list_any, position_or_len}
+use Rattle.std.specs.Str.{bytes_eq}
+use Rattle.wit_model.specs.declared.locks.Class.{Class}
+use Rattle.wit_model.specs.declared.locks.Class.TheVariants.{SleepMutex, SpinMutex, Rw, Sx}
+use Rattle.wit_model.specs.declared.calls.NewLock.{NewLock}
+use Rattle.wit_model.specs.declared.calls.Call.{Call}
+use Rattle.wit_model.specs.declared.calls.Call.TheVariants.{Init}
+use Rattle.wit_model.specs.declared.calls.Entry.{Entry}
+pub use Rattle.wit_model.specs.declared.locks.LockType.{LockType}
+
+abbrev pub is_same_class : Class → Class → Bool
+is_same_class SleepMutex SleepMutex = true
+is_same_class SpinMutex SpinMutex = true
+is_same_class Rw Rw = true
+is_same_class Sx Sx = true
+is_same_class _ _ = false
+
+-- whether the class is of the spin kind; all others are of the sleep kind (locking(9))
+abbrev pub is_spin : Class → Bool
+is_spin SpinMutex = true
+is_spin _ = false
+
+abbrev pub is_named : List ℕ → LockType → Bool
+is_named name t = bytes_eq t.name name
+
+-- whether a type has this name
+abbrev pub is_enrolled : List ℕ → List LockType → Bool
+is_enrolled name types = list_any (is_named name) types
+
+-- the number of the type with this name; of a new name, the number that it would get
+abbrev pub type_number : List ℕ → List LockType → ℕ
+type_number name types = position_or_len (is_named name) types + 1
+
+-- whether a type has this name and another class
+abbrev pub is_otherwise : List ℕ → Class → List LockType → Bool
+is_otherwise name class types = list_any (λ t. is_named name t && not (is_same_class t.class class)) types
+
+-- the types once this name is enrolled: a known name stays where it is
+abbrev pub enrolled : List ℕ → Class → List LockType → List LockType
+enrolled name class types = if is_enrolled name types then types else types ++ record { name = name; class = class } ∷ []
+
+-- the name under which a new lock takes part in orders: its type name, or its own where none was given
+abbrev pub type_name_of : NewLock → List ℕ
+type_name_of lock = unwrap_or lock.type_name lock.name
+
+-- the types once each of these is enrolled, in their order
+abbrev pub enrolled_all : List (Class × List ℕ) → List LockType → List LockType
+enrolled_all [] types = types
+enrolled_all (entry ∷ entries) types = enrolled_all entries (enrolled entry.1 entry.0 types)
+
+-- the types of static lists
+abbrev pub listed_types : List (List (Class × List ℕ)) → List LockType → List LockType
+listed_types [] types = types
+listed_types (list ∷ lists) types = listed_types lists (enrolled_all list types)
+
+abbrev pub types_after : Call → List LockType → List LockType
+types_after (Init lock) types = enrolled (type_name_of lock) lock.class types
+types_after _ types = types
+
+-- the types after a history (newest entry first) that began with these
+abbrev pub types_from : List LockType → List Entry → List LockType
+types_from types [] = types
+types_from types (e ∷ h) = types_after e.call (types_from types h)

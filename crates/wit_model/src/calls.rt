@@ -1,0 +1,121 @@
+//! The calls of a verifier, their replies, and the entries of its log.
+
+ghost use Rattle.std.specs.Prelude.{◌≡◌};
+ghost use Rattle.wit_model.specs.Types.{type_name_of};
+
+use crate::boxes::Boxed;
+use crate::flags::{LockFlags, OpFlags};
+use crate::locks::{Class, LockNo, Mode, Origin, SeatNo, Site, TypeNo};
+use crate::names::Name;
+
+/// What a new lock is to be: the arguments of `lock_init` in witness(4)'s interface.
+#[derive(Debug, Drop)]
+pub struct NewLock {
+    pub class: Class,
+    pub flags: LockFlags,
+    pub name: Name,
+    /// The name under which it takes part in orders; its own name where there is none.
+    pub type_name: Option<Name>,
+}
+
+impl NewLock {
+    /// The name under which it takes part in orders.
+    pub fn type_name(&self) -> &str
+        ensures { result.now ≡ type_name_of self.now }
+    {
+        match &self.type_name {
+            Some(name) => name.as_str(),
+            None => self.name.as_str(),
+        }
+    }
+}
+
+/// A request for a lock: the arguments of WITNESS's `checkorder`.
+#[derive(Clone, Copy, Debug, PartialEq, Eq, Hash)]
+pub struct Request {
+    pub lock: LockNo,
+    pub site: Site,
+    pub mode: Mode,
+    pub ops: OpFlags,
+}
+
+/// A call that the log keeps.
+#[derive(Debug, Drop)]
+pub enum Call {
+    /// A lock is made.
+    Init(Boxed<NewLock>),
+    /// A lock is about to be acquired.
+    Check(Request),
+    /// The lock asked for was acquired.
+    Note(LockNo),
+    /// A lock is released, as one held in this mode.
+    Unlock(LockNo, Mode),
+}
+
+/// Which rule a reversal breaks.
+#[derive(Clone, Copy, Debug, PartialEq, Eq, Hash)]
+pub enum Heading {
+    /// The requested type is before the held one.
+    Order,
+    /// A lock whose holder may sleep is asked for under one whose holder must not.
+    Sleepable,
+    /// Giant is asked for under a lock that isn't sleepable.
+    Giant,
+}
+
+/// A lock and a place in the watched program.
+#[derive(Clone, Copy, Debug, PartialEq, Eq, Hash)]
+pub struct LockAt {
+    pub lock: LockNo,
+    pub site: Site,
+}
+
+/// What a reversal is about.
+#[derive(Clone, Copy, Debug, PartialEq, Eq, Hash)]
+pub struct Conflict {
+    pub heading: Heading,
+    /// The held lock that breaks the rule: the newest one that does.
+    pub held: LockAt,
+    /// The newest held lock of the requested type among those older than `held`.
+    pub older: Option<LockAt>,
+    /// The requested lock.
+    pub asked: LockAt,
+}
+
+/// The answer of an accepted call.
+#[derive(Debug, Drop)]
+pub enum Reply {
+    /// The lock was made, with this number.
+    Made(LockNo),
+    /// Nothing to say.
+    Pass,
+    /// The order of these types was learnt.
+    Adopted(TypeNo, TypeNo),
+    /// The request breaks the order of these types, which was reported before.
+    Silent(TypeNo, TypeNo),
+    /// The request breaks an order: a possible deadlock.
+    Reversal(Boxed<Conflict>),
+    /// The acquisition is recorded.
+    Recorded,
+    /// The release is recorded.
+    Unlocked,
+}
+
+/// An entry of the log: an accepted call of a seat, and its reply.
+#[derive(Debug, Drop)]
+pub struct Entry {
+    pub seat: SeatNo,
+    pub call: Call,
+    pub reply: Reply,
+}
+
+// The log may hold 16,777,216 entries, and each acquisition writes three.
+const _: () = prove!(size_of::<Entry>() <= 48);
+
+/// A direct order between two types that was adopted.
+#[derive(Clone, Copy, Debug, PartialEq, Eq, Hash)]
+pub struct Adoption {
+    pub parent: TypeNo,
+    pub child: TypeNo,
+    pub origin: Origin,
+}

@@ -1,0 +1,23 @@
+//! What a lock order verifier speaks of: its types, and in `specs/` the definitions of its rules.
+#![tactic(auto)]
+
+mod boxes;
+mod calls;
+mod faults;
+mod flags;
+pub mod laws;
+mod lines;
+mod locks;
+mod names;
+mod sizes;
+
+pub use boxes::Boxed;
+pub use calls::{Adoption, Call, Conflict, Entry, Heading, LockAt, NewLock, Reply, Request};
+pub use faults::Fault;
+pub use flags::{LockFlags, OpFlags};
+pub use lines::{Cause, Line, View};
+pub use locks::{
+    Class, FileNo, Instance, Lock, LockNo, LockType, Mode, Origin, SeatNo, Site, TypeNo, Watch,
+};
+pub use names::{FileName, Name};
+pub use sizes::Limits;

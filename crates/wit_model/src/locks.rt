@@ -1,0 +1,144 @@
+//! Classes, modes, numbers, types and locks: the plain words of locking(9).
+
+ghost use Rattle.std.specs.Prelude.{◌≡◌};
+ghost use Rattle.wit_model.specs.Types.{is_spin, is_same_class};
+ghost use Rattle.wit_model.specs.Verdict.{is_exclusive};
+ghost use Rattle.wit_model.specs.Step.{is_shareable};
+
+use crate::calls::NewLock;
+use crate::names::Name;
+
+/// The class of a lock, as in locking(9). All classes but `SpinMutex` are of the sleep kind.
+#[derive(Clone, Copy, Debug, PartialEq, Eq, Hash)]
+pub enum Class {
+    /// A default mutex of mutex(9).
+    SleepMutex,
+    /// A spin mutex of mutex(9): its holder must not sleep.
+    SpinMutex,
+    /// A reader/writer lock of rwlock(9).
+    Rw,
+    /// A shared/exclusive lock of sx(9): its holder may sleep.
+    Sx,
+}
+
+impl Class {
+    /// Whether it is of the spin kind; every other class is of the sleep kind.
+    pub fn is_spin(self) -> bool
+        ensures { result ≡ is_spin self }
+    {
+        match self {
+            Class::SpinMutex => true,
+            _ => false,
+        }
+    }
+
+    /// Whether its locks may be held shared: mutexes never are.
+    pub fn is_shareable(self) -> bool
+        ensures { result ≡ is_shareable self }
+    {
+        match self {
+            Class::Rw | Class::Sx => true,
+            _ => false,
+        }
+    }
+
+    /// Whether it is this class.
+    pub fn is(self, other: Class) -> bool
+        ensures { result ≡ is_same_class self other }
+    {
+        self == other
+    }
+}
+
+/// How a lock is held or asked for.
+#[derive(Clone, Copy, Debug, PartialEq, Eq, Hash)]
+pub enum Mode {
+    /// With other readers.
+    Shared,
+    /// Alone.
+    Exclusive,
+}
+
+impl Mode {
+    /// Whether its holder is alone.
+    pub fn is_exclusive(self) -> bool
+        ensures { result ≡ is_exclusive self }
+    {
+        match self {
+            Mode::Exclusive => true,
+            Mode::Shared => false,
+        }
+    }
+}
+
+/// How much the verifier does: the sysctl `debug.witness.watch` of witness(4).
+#[derive(Clone, Copy, Debug, PartialEq, Eq, Hash)]
+pub enum Watch {
+    /// Nothing more, for good.
+    Off,
+    /// Held locks are kept, and no order is checked.
+    Quiet,
+    /// Everything.
+    On,
+}
+
+/// The number of a lock type, from 1 in order of enrolment.
+#[derive(Clone, Copy, Debug, PartialEq, Eq, Hash)]
+pub struct TypeNo(pub u16);
+
+/// The number of a lock, from 1 in order of `init`. A number is never used again.
+#[derive(Clone, Copy, Debug, PartialEq, Eq, Hash)]
+pub struct LockNo(pub u32);
+
+/// The number of a seat, which is a thread of the watched program, from 1.
+#[derive(Clone, Copy, Debug, PartialEq, Eq, Hash)]
+pub struct SeatNo(pub u16);
+
+/// The number of a source file, from 1 in order of first appearance.
+#[derive(Clone, Copy, Debug, PartialEq, Eq, Hash)]
+pub struct FileNo(pub u16);
+
+/// A place in the watched program.
+#[derive(Clone, Copy, Debug, PartialEq, Eq, Hash)]
+pub struct Site {
+    pub file: FileNo,
+    pub line: u32,
+}
+
+/// Where an order between two types comes from.
+#[derive(Clone, Copy, Debug, PartialEq, Eq, Hash)]
+pub enum Origin {
+    /// A static list.
+    Listed,
+    /// A call that defined it.
+    Defined,
+    /// The acquisition that taught it.
+    At(Site),
+}
+
+/// A held lock, as its seat's chain keeps it.
+#[derive(Clone, Copy, Debug, PartialEq, Eq, Hash)]
+pub struct Instance {
+    pub lock: LockNo,
+    pub mode: Mode,
+    /// Whether it must not be released: set by `norelease`.
+    pub norelease: bool,
+    /// How often it was acquired again: 0 for a lock acquired once.
+    pub count: u16,
+    /// The latest acquisition.
+    pub site: Site,
+}
+
+/// A lock type: locks of one type share one order, and have one class.
+#[derive(Debug, Drop)]
+pub struct LockType {
+    pub name: Name,
+    pub class: Class,
+}
+
+/// A lock that was made.
+#[derive(Debug, Drop)]
+pub struct Lock {
+    pub type_no: TypeNo,
+    pub made: NewLock,
+}

@@ -1,0 +1,101 @@
+//! How much a verifier holds.
+
+ghost use Rattle.std.specs.Prelude.{◌≡◌, ◌↔◌, ◌<◌, ◌≤◌, IsSome, IfSome, IsTrue};
+ghost use Rattle.wit_model.specs.Sizes.{AreWithin, sizes_of};
+
+use std::marker::Model;
+
+/// How many seats, types, locks, chunks and log entries a verifier has room for.
+#[derive(Clone, Copy, Debug)]
+pub struct Limits {
+    seats: u32,
+    types: u32,
+    locks: u32,
+    chunks: u32,
+    log: u32,
+}
+
+impl Model for Limits {
+    ghost use Rattle.wit_model.specs.Sizes.{Sizes, AreWithin, sizes_of};
+
+    ghost Value = { Sizes };
+
+    ghost view = { λ l. sizes_of l.seats l.types l.locks l.chunks l.log };
+
+    ghost invariant = { λ l. AreWithin (sizes_of l.seats l.types l.locks l.chunks l.log) };
+
+    ghost inverse = { λ s. record { seats = s.seats; types = s.types; locks = s.locks; chunks = s.chunks; log = s.log } };
+}
+
+impl Limits {
+    /// Limits with these numbers: `None` exactly where one is 0 or over its greatest value, which is
+    /// 256 seats, 1,023 types, 65,536 locks, 65,536 chunks and 16,777,216 log entries.
+    pub fn new(seats: u32, types: u32, locks: u32, chunks: u32, log: u32) -> Option<Limits>
+        ensures within { IsSome result ↔ AreWithin (sizes_of seats types locks chunks log) }
+        ensures value { IfSome result (λ l. l ≡ sizes_of seats types locks chunks log) }
+    {
+        let good = is_within(seats, 256)
+            && is_within(types, 1023)
+            && is_within(locks, 65536)
+            && is_within(chunks, 65536)
+            && is_within(log, 16777216);
+        if !good {
+            return None;
+        }
+        Some(Limits {
+            seats,
+            types,
+            locks,
+            chunks,
+            log,
+        })
+    }
+}
+
+impl Limits {
+    /// How many seats.
+    pub fn seats(&self) -> u32
+        ensures value { result ≡ self.now.seats }
+        ensures within { result ≤ 256 }
+    {
+        self.seats
+    }
+
+    /// How many lock types.
+    pub fn types(&self) -> u32
+        ensures value { result ≡ self.now.types }
+        ensures within { result ≤ 1023 }
+    {
+        self.types
+    }
+
+    /// How many locks, over the verifier's whole life.
+    pub fn locks(&self) -> u32
+        ensures value { result ≡ self.now.locks }
+        ensures within { result ≤ 65536 }
+    {
+        self.locks
+    }
+
+    /// How many chunks of held locks.
+    pub fn chunks(&self) -> u32
+        ensures value { result ≡ self.now.chunks }
+        ensures within { result ≤ 65536 }
+    {
+        self.chunks
+    }
+
+    /// How many entries of the log.
+    pub fn log(&self) -> u32
+        ensures value { result ≡ self.now.log }
+        ensures within { result ≤ 16777216 }
+    {
+        self.log
+    }
+}
+
+fn is_within(number: u32, most: u32) -> bool
+    ensures { IsTrue result ↔ ((0 < number) × (number ≤ most)) }
+{
+    0 < number && number <= most
+}
