@@ -75,6 +75,48 @@ impl Orders {
         self.adopted.push_reserved(order);
         Ok(())
     }
+
+    /// The path of adopted orders from one type to another among the first so many, which goes each time to
+    /// the least type that leads there: `None` where there is none.
+    ///
+    /// # Errors
+    /// Want of memory alone.
+    pub fn path(
+        &self,
+        alloc: Global,
+        types: usize,
+        from: TypeNo,
+        to: TypeNo,
+    ) -> Result<Option<Vec<TypeNo>>, AllocError> {
+        if !self.is_before(from, to) {
+            return Ok(None);
+        }
+        let mut path = Vec::new(alloc);
+        let mut at = from;
+        for _step in 0..types {
+            path.push(at)?;
+            if at.0 == to.0 {
+                return Ok(Some(path));
+            }
+            match self.next_type(types, at, to) {
+                Some(next) => at = next,
+                None => return Ok(Some(path)),
+            }
+        }
+        Ok(Some(path))
+    }
+
+    // The least of the first types to which a path from one type to another can go.
+    fn next_type(&self, types: usize, from: TypeNo, to: TypeNo) -> Option<TypeNo> {
+        for number in 1..=types.min(1023) {
+            let next = TypeNo(number as u16);
+            let leads = next.0 == to.0 || self.is_before(next, to);
+            if leads && self.is_direct(from, next) {
+                return Some(next);
+            }
+        }
+        None
+    }
 }
 
 fn is_adopted(adopted: &[Adoption], a: TypeNo, b: TypeNo) -> bool

@@ -1,8 +1,9 @@
 //! The verifier of lock orders.
 
-ghost use Rattle.std.specs.Prelude.{◌≡◌, [], reverse, IfOk, IfErr};
+ghost use Rattle.std.specs.Prelude.{◌≡◌, [], length, reverse, IfOk, IfErr};
 ghost use Rattle.std.specs.Option.{option_copied};
-ghost use Rattle.wit_model.specs.State.{orders_of};
+ghost use Rattle.wit_model.specs.State.{orders_of, types_of, typed_locks};
+ghost use Rattle.wit_core.specs.Numbered.{IsNumbered, NamesLock, TypesLock, NamesType, ClassesType, NamesFileNo};
 ghost use Rattle.wit_model.specs.History.{reports_of, watch_of};
 ghost use Rattle.wit_model.specs.Files.{NamesFile};
 ghost use Rattle.wit_model.specs.Step.{Answers, AnswersOrFails};
@@ -15,8 +16,8 @@ use crate::books::Books;
 use std::alloc::{AllocError, Global};
 use std::marker::Model;
 use wit_model::{
-    Adoption, Boxed, Class, Entry, Fault, FileNo, Limits, LockFlags, LockNo, Mode, Name, NewLock,
-    OpFlags, Reply, Request, SeatNo, Site, Watch,
+    Adoption, Boxed, Class, Entry, Fault, FileNo, Limits, Lock, LockFlags, LockNo, LockType, Mode,
+    Name, NewLock, OpFlags, Reply, Request, SeatNo, Site, TypeNo, Watch,
 };
 
 /// Why a verifier can't be made.
@@ -212,6 +213,84 @@ impl Verifier {
     {
         self.books.known.orders.adopted()
     }
+}
+
+/// What is known by number; `None` for a number that was never given.
+impl Verifier {
+    /// The name of a lock.
+    pub fn lock_name(&self, lock: LockNo) -> Option<&str>
+        ensures { NamesLock (typed_locks self.now.start self.now.history) lock.0 result }
+    {
+        let lock = known_lock(&self.books.known.locks, lock)?;
+        Some(lock.made.name.as_str())
+    }
+
+    /// The type of a lock.
+    pub fn type_of(&self, lock: LockNo) -> Option<TypeNo>
+        ensures { TypesLock (typed_locks self.now.start self.now.history) lock.0 result }
+    {
+        let lock = known_lock(&self.books.known.locks, lock)?;
+        Some(lock.type_no)
+    }
+
+    /// The name of a type.
+    pub fn type_name(&self, number: TypeNo) -> Option<&str>
+        ensures { NamesType (types_of self.now.start self.now.history) number.0 result }
+    {
+        let known = known_type(&self.books.known.types, number)?;
+        Some(known.name.as_str())
+    }
+
+    /// The class of a type.
+    pub fn class_of(&self, number: TypeNo) -> Option<Class>
+        ensures { ClassesType (types_of self.now.start self.now.history) number.0 result }
+    {
+        let known = known_type(&self.books.known.types, number)?;
+        Some(known.class)
+    }
+
+    /// The name of a file.
+    pub fn file_name(&self, file: FileNo) -> Option<&str>
+        ensures { NamesFileNo self.now.files file.0 result }
+    {
+        let place = (file.0 as usize).checked_sub(1)?;
+        let name = self.books.files.get(place)?;
+        Some(name.as_str())
+    }
+
+    /// How many types are known.
+    pub fn types(&self) -> usize
+        ensures { result ≡ length (types_of self.now.start self.now.history) }
+    {
+        self.books.known.types.len()
+    }
+
+    /// The path of adopted orders from one type to another that goes each time to the least type: `None` where
+    /// none leads there.
+    ///
+    /// # Errors
+    /// `OutOfMemory` alone.
+    pub fn path(&self, from: TypeNo, to: TypeNo) -> Result<Option<Vec<TypeNo>>, Fault> {
+        let types = self.books.known.types.len();
+        match self.books.known.orders.path(self.alloc, types, from, to) {
+            Ok(path) => Ok(path),
+            Err(_) => Err(Fault::OutOfMemory),
+        }
+    }
+}
+
+fn known_lock(locks: &[Lock], lock: LockNo) -> Option<&Lock>
+    ensures { IsNumbered locks.now lock.0 (option_copied result) }
+{
+    let place = (lock.0 as usize).checked_sub(1)?;
+    locks.get(place)
+}
+
+fn known_type(types: &[LockType], number: TypeNo) -> Option<&LockType>
+    ensures { IsNumbered types.now number.0 (option_copied result) }
+{
+    let place = (number.0 as usize).checked_sub(1)?;
+    types.get(place)
 }
 
 fn new_lock(

@@ -4,12 +4,14 @@ pub mod After
 pub mod Asked
 pub mod ChainEdits
 pub mod Chains
+pub mod Codecs
 pub mod Depth
 pub mod Effects
 pub mod Found
 pub mod Held
 pub mod HeldLocks
 pub mod Legal
+pub mod LineLaws
 pub mod Lists
 pub mod NamedFiles
 pub mod Owed
@@ -20,3 +22,4 @@ pub mod Sound
 pub mod Stands
 pub mod TypedLocks
 pub mod Types
+pub mod Words

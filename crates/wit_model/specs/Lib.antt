@@ -5,8 +5,13 @@ pub mod Laws
 pub mod Locks
 pub mod Names
 pub mod Orders
+pub mod Output
+pub mod Paths
+pub mod Reading
 pub mod Sizes
+pub mod Spelling
 pub mod State
 pub mod Step
+pub mod Texts
 pub mod Types
 pub mod Verdict

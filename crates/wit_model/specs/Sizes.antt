@@ -1,5 +1,5 @@
 -- How much a verifier holds.
-use Rattle.std.specs.Prelude.{ℕ, ◌<◌, ◌≤◌}
+use Rattle.std.specs.Prelude.{ℕ, ◌<◌, ◌≤◌, Bool, ◌&&◌, nat_lt, nat_le}
 
 -- seats, lock types, locks ever made, chunks of held locks, entries of the log
 pub record Sizes : Type 0 where
@@ -20,3 +20,10 @@ pub record AreWithin (s : Sizes) : Type 0 where
   pub locks : (0 < s.locks) × (s.locks ≤ 65536)
   pub chunks : (0 < s.chunks) × (s.chunks ≤ 65536)
   pub log : (0 < s.log) × (s.log ≤ 16777216)
+
+abbrev pub is_within : ℕ → ℕ → Bool
+is_within n most = nat_lt 0 n && nat_le n most
+
+-- the test for it
+abbrev pub are_within : Sizes → Bool
+are_within s = is_within s.seats 256 && (is_within s.types 1023 && (is_within s.locks 65536 && (is_within s.chunks 65536 && is_within s.log 16777216)))

@@ -1,5 +1,7 @@
 //! Laws of the rules: what holds of every legal history. Each function is a theorem, and does nothing.
 
+ghost use Rattle.wit_model.specs.Spelling.{IsOneSpelling};
+ghost use Rattle.wit_model.specs.Reading.{ReadsSpellings};
 ghost use Rattle.wit_model.specs.Laws.{
   OrdersStaySound,
   TestFindsPaths,
@@ -28,3 +30,15 @@ pub fn law_note_after_check()
 pub fn law_files_may_grow()
     ensures { FilesMayGrow }
 {}
+
+/// No two lines of a trace have one spelling.
+pub fn law_one_spelling()
+    ensures { IsOneSpelling }
+{
+}
+
+/// Reading finds the line that the bytes spell, where there is one, and none where there is none.
+pub fn law_reading_finds_spellings()
+    ensures { ReadsSpellings }
+{
+}

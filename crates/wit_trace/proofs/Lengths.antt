@@ -1,0 +1,84 @@
+-- A line that has a spelling has a short one.
+use Rattle.std.proofs.Common.{ℕ, suc, ◌*◌, ◌/◌, ◌%◌, ◌^◌, ◌<◌, ◌≤◌, Bool, true, false, cond, eqb, List, [], ◌∷◌, ◌++◌, length, Option, Some, None, arith, codes}
+use Rattle.std.specs.Prelude.{IsTrue, IfSome}
+use Rattle.std.specs.Fmt.{decimal}
+use Rattle.std.proofs.lemmas.Bool.{and_parts, leb-true}
+use Rattle.std.proofs.lemmas.Fmt.{length-decimal-le}
+use Rattle.std.proofs.lemmas.List.{length-append}
+use Rattle.wit_model.specs.declared.lines.Line.{Line}
+use Rattle.wit_model.specs.declared.lines.Line.TheVariants.{Header, Init, Check, Lock, Unlock}
+use Rattle.wit_model.specs.declared.locks.Class.{Class}
+use Rattle.wit_model.specs.declared.locks.Class.TheVariants.{SleepMutex, SpinMutex, Rw, Sx}
+use Rattle.wit_model.specs.declared.locks.Mode.{Mode}
+use Rattle.wit_model.specs.declared.locks.Mode.TheVariants.{Shared, Exclusive}
+use Rattle.wit_model.specs.Names.{is_name, is_file_name}
+use Rattle.wit_model.specs.Spelling.{class_text, mode_text, lock_letters, op_letters, chosen_letters, flags_text, site_text, quoted, joined, type_field, spelling, IsSpellable}
+
+-- a field that takes little of a line
+abbrev IsShort : List ℕ → Type 0
+IsShort field = length field ≤ 300
+
+abbrev AreShort : List (List ℕ) → Type 0
+AreShort [] = Unit {0}
+AreShort (field ∷ fields) = IsShort field × AreShort fields
+
+joined-le : (fields : List (List ℕ)) → AreShort fields → length (joined fields) ≤ 301 * length fields
+joined-le [] short = omega arith
+joined-le (field ∷ fields) short = let rest : length (joined fields) ≤ 301 * length fields = joined-le fields short.1 in omega (arith, length-append field (joined fields), short.0)
+
+line-le : (keyword : List ℕ) (fields : List (List ℕ)) → length keyword ≤ 13 → length fields ≤ 9 → AreShort fields → length (keyword ++ joined fields) ≤ 4096
+line-le keyword fields small few short = let rest : length (joined fields) ≤ 301 * length fields = joined-le fields short in omega (arith, length-append keyword (joined fields))
+
+number-short : (n : ℕ) → n < 2 ^ 32 → IsShort (decimal n)
+number-short n small = let e : length (decimal n) ≤ 10 = length-decimal-le 10 n (omega arith) (omega arith) (omega arith) in omega arith
+
+class-short : (class : Class) → IsShort (class_text class)
+class-short SleepMutex = omega arith
+class-short SpinMutex = omega arith
+class-short Rw = omega arith
+class-short Sx = omega arith
+
+mode-short : (mode : Mode) → IsShort (mode_text mode)
+mode-short Shared = omega arith
+mode-short Exclusive = omega arith
+
+either-le : (odd : Bool) (letter n : ℕ) (word : List ℕ) → length word ≤ n → length (cond odd (letter ∷ word) word) ≤ suc n
+either-le true letter n word h = omega arith
+either-le false letter n word h = omega arith
+
+chosen-le : (letters : List ℕ) (bits : ℕ) → length (chosen_letters letters bits) ≤ length letters
+chosen-le [] bits = omega arith
+chosen-le (letter ∷ letters) bits = either-le (eqb (bits % 2) 1) letter (length letters) (chosen_letters letters (bits / 2)) (chosen-le letters (bits / 2))
+
+flags-short : (letters : List ℕ) (bits : ℕ) → length letters ≤ 300 → IsShort (flags_text letters bits)
+flags-short letters bits few = either (eqb bits 0)
+  where
+    either : (none : Bool) → IsShort (cond none (codes "-") (chosen_letters letters bits))
+    either true = omega arith
+    either false = omega (arith, chosen-le letters bits)
+
+name-le : (name : List ℕ) → IsTrue (is_name name) → length name ≤ 63
+name-le name h = leb-true (length name) 63 (and_parts _ _ (and_parts _ _ h).0).1
+
+file-le : (file : List ℕ) → IsTrue (is_file_name file) → length file ≤ 255
+file-le file h = leb-true (length file) 255 (and_parts _ _ (and_parts _ _ h).0).1
+
+name-short : (name : List ℕ) → IsTrue (is_name name) → IsShort (quoted name)
+name-short name h = omega (arith, name-le name h, length-append name (34 ∷ []))
+
+site-short : (file : List ℕ) (line : ℕ) → IsTrue (is_file_name file) → line < 2 ^ 32 → IsShort (site_text file line)
+site-short file line h small =
+    let digits : length (decimal line) ≤ 10 = length-decimal-le 10 line (omega arith) (omega arith) (omega arith) in
+    omega (arith, file-le file h, length-append file (58 ∷ decimal line))
+
+init-le : (seat : ℕ) (class : Class) (flags : ℕ) (name : List ℕ) (type_name : Option (List ℕ)) → seat < 2 ^ 16 → IsTrue (is_name name) → IfSome type_name (λ t. IsTrue (is_name t))
+    → length (codes "init" ++ joined (decimal seat ∷ class_text class ∷ flags_text lock_letters flags ∷ quoted name ∷ type_field type_name)) ≤ 4096
+init-le seat class flags name None p q r = line-le (codes "init") (decimal seat ∷ class_text class ∷ flags_text lock_letters flags ∷ quoted name ∷ []) (omega arith) (omega arith) (number-short seat (omega arith), (class-short class, (flags-short lock_letters flags (omega arith), (name-short name q, tt))))
+init-le seat class flags name (Some t) p q r = line-le (codes "init") (decimal seat ∷ class_text class ∷ flags_text lock_letters flags ∷ quoted name ∷ quoted t ∷ []) (omega arith) (omega arith) (number-short seat (omega arith), (class-short class, (flags-short lock_letters flags (omega arith), (name-short name q, (name-short t r, tt)))))
+
+pub spelling-le : (line : Line) → IsSpellable line → length (spelling line) ≤ 4096
+spelling-le (Header s t l c) (p0, p1, p2, p3) = line-le (codes "witness-trace") (codes "1" ∷ codes "seats" ∷ decimal s ∷ codes "types" ∷ decimal t ∷ codes "locks" ∷ decimal l ∷ codes "chunks" ∷ decimal c ∷ []) (omega arith) (omega arith) (omega arith, (omega arith, (number-short s p0, (omega arith, (number-short t p1, (omega arith, (number-short l p2, (omega arith, (number-short c p3, tt)))))))))
+spelling-le (Init seat lock) (p0, p1) = init-le seat.0 lock.class lock.flags.0 lock.name lock.type_name p0 p1.1 p1.2
+spelling-le (Check s l m o f n) (p0, p1, p2, p3, p4) = line-le (codes "check") (decimal s.0 ∷ decimal l.0 ∷ mode_text m ∷ flags_text op_letters o.0 ∷ site_text f n ∷ []) (omega arith) (omega arith) (number-short s.0 (omega arith), (number-short l.0 p1, (mode-short m, (flags-short op_letters o.0 (omega arith), (site-short f n p3 p4, tt)))))
+spelling-le (Lock s l) (p0, p1) = line-le (codes "lock") (decimal s.0 ∷ decimal l.0 ∷ []) (omega arith) (omega arith) (number-short s.0 (omega arith), (number-short l.0 p1, tt))
+spelling-le (Unlock s l m) (p0, p1) = line-le (codes "unlock") (decimal s.0 ∷ decimal l.0 ∷ mode_text m ∷ []) (omega arith) (omega arith) (number-short s.0 (omega arith), (number-short l.0 p1, (mode-short m, tt)))

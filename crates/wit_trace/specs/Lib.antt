@@ -1,0 +1,5 @@
+pub mod Lines
+pub mod Machine
+pub mod Status
+pub mod Stream
+pub mod Text

@@ -1,0 +1,15 @@
+-- The exit status of a replay.
+use Rattle.std.specs.Prelude.{ℕ, Bool, nat_lt, is_some, if◌then◌else◌, Result, Ok, Err}
+use Rattle.wit_model.specs.declared.lines.View.{View}
+use Rattle.wit_model.specs.declared.lines.View.TheVariants.{Reports}
+use Rattle.wit_trace.specs.declared.summary.Summary.{Summary}
+use Rattle.wit_trace.specs.declared.summary.ReplayError.{ReplayError}
+
+-- whether a view had something to report
+abbrev pub is_reported : View → Summary → Bool
+is_reported Reports s = nat_lt 0 s.reports
+
+-- 4 where the replay failed, 3 where a line was bad, 1 where something was reported, else 0
+abbrev pub exit_status : View → Result Summary ReplayError → ℕ
+exit_status view (Err e) = 4
+exit_status view (Ok s) = if is_some s.bad then 3 else (if is_reported view s then 1 else 0)

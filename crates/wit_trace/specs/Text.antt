@@ -1,0 +1,29 @@
+-- A byte list as lines.
+use Rattle.std.specs.Prelude.{◌≢◌, ℕ, List, [], ◌∷◌, All, count_by, ◌==◌, if◌then◌else◌}
+
+-- whole lines, without their line feeds, and the unfinished one behind them
+pub record Text : Type 0 where
+  pub lines : List (List ℕ)
+  pub tail : List ℕ
+
+-- these lines and this tail
+abbrev pub text : List (List ℕ) → List ℕ → Text
+text lines tail = record { lines = lines; tail = tail }
+
+-- the first line gets one more byte at its front
+abbrev pub with_byte : ℕ → List (List ℕ) → List ℕ → Text
+with_byte b [] tail = text [] (b ∷ tail)
+with_byte b (line ∷ lines) tail = text ((b ∷ line) ∷ lines) tail
+
+-- the bytes, parted behind each line feed
+abbrev pub text_of : List ℕ → Text
+text_of [] = text [] []
+text_of (b ∷ bytes) = if b == 10 then text ([] ∷ (text_of bytes).lines) (text_of bytes).tail else with_byte b (text_of bytes).lines (text_of bytes).tail
+
+-- no byte is a line feed
+abbrev pub HasNoFeed : List ℕ → Type 0
+HasNoFeed bytes = All (λ b. b ≢ 10) bytes
+
+-- how many bytes are line feeds
+abbrev pub feeds : List ℕ → ℕ
+feeds bytes = count_by (λ b. b == 10) bytes
