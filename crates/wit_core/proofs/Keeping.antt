@@ -9,12 +9,15 @@ use Rattle.wit_model.specs.declared.calls.Reply.{Reply}
 use Rattle.wit_model.specs.declared.calls.Entry.{Entry}
 use Rattle.wit_model.specs.Sizes.{Sizes}
 use Rattle.wit_model.specs.History.{is_report, reports_of}
-use Rattle.wit_model.specs.State.{Start, Story, State, state_of, owed, types_of, is_seat}
+use Rattle.wit_model.specs.State.{Start, Story, State, state_of, owed, types_of, orders_of, is_seat}
 use Rattle.wit_model.specs.Step.{answer_of, story_after, step, logged, IsLegal}
 use Rattle.wit_model.proofs.Seats.{entry}
 use Rattle.wit_model.proofs.Owed.{few_legal}
 use Rattle.wit_model.proofs.Types.{types_legal, locks_legal}
 use Rattle.wit_model.proofs.Legal.{seat-within, seat_accepted}
+use Rattle.wit_model.proofs.Sound.{sound_legal}
+use Rattle.wit_model.specs.Orders.{IsPath, IsSound}
+use Rattle.std.proofs.lemmas.Bool.{false≢true}
 use Rattle.wit_core.specs.declared.verifier.Verifier.TheInside.{Inside}
 use Rattle.wit_core.specs.declared.books.Books.{Books}
 use Rattle.wit_core.specs.Books.{HasSums, AllHaveRoom, StaysSame, state_in}
@@ -124,3 +127,14 @@ kept_same v new k e =
       capacity = omega (arith, len, new.log.ok.0, v.books.log.ok.0, e.owed, e.capacity, k.capacity);
       files = subst (λ f. length f.items ≤ 65535) (sym e.files) k.files;
     }
+
+-- no type is before itself
+pub sound_kept : (v : Inside) → IsKept v → IsSound (orders_of (start_in v) (history_in v))
+sound_kept v k = sound_legal (start_in v) v.books.files.items (history_in v) (rw k.unlisted none_sound) k.legal
+  where
+    none_sound : IsSound []
+    none_sound = λ a path. nothing_direct a a path.0 path.1
+      where
+        nothing_direct : (a b : ℕ) (way : List ℕ) → IsPath [] a way b → ⊥
+        nothing_direct a b [] p = false≢true p
+        nothing_direct a b (v ∷ way) p = false≢true p.0

@@ -9,3 +9,6 @@ mod verdicts;
 mod verifier;
 
 pub use verifier::{StartError, Verifier};
+
+#[cfg(test)]
+mod tests;

@@ -6,7 +6,8 @@ ghost use Rattle.wit_model.specs.State.{orders_of, types_of, typed_locks};
 ghost use Rattle.wit_core.specs.Numbered.{IsNumbered, NamesLock, TypesLock, NamesType, ClassesType, NamesFileNo};
 ghost use Rattle.wit_model.specs.History.{reports_of, watch_of};
 ghost use Rattle.wit_model.specs.Files.{NamesFile};
-ghost use Rattle.wit_model.specs.Step.{Answers, AnswersOrFails};
+ghost use Rattle.wit_model.specs.Orders.{IsSound};
+ghost use Rattle.wit_model.specs.Step.{Answers, AnswersOrFails, IsLegal};
 ghost use Rattle.wit_core.specs.Books.{new_lock, made_reply};
 ghost use Rattle.wit_model.specs.declared.calls.Call.TheVariants.{Init, Check, Note, Unlock};
 ghost use Rattle.wit_model.specs.declared.faults.Fault.TheVariants.{OutOfMemory};
@@ -186,9 +187,11 @@ impl Verifier {
         Ok(Reply::Unlocked)
     }
 
-    /// The log: each accepted call with its seat and reply, oldest first.
+    /// The log: each accepted call with its seat and reply, oldest first. Each reply is the answer of the rules
+    /// after the entries before it.
     pub fn history(&self) -> &[Entry]
         ensures log { reverse result.now ≡ self.now.history }
+        ensures legal { IsLegal self.now.start self.now.files self.now.history }
     {
         &self.books.log
     }
@@ -207,9 +210,10 @@ impl Verifier {
         Watch::On
     }
 
-    /// The adopted orders with their origins, oldest first.
+    /// The adopted orders with their origins, oldest first. By them no type is before itself.
     pub fn orders(&self) -> &[Adoption]
-        ensures { reverse result.now ≡ orders_of self.now.start self.now.history }
+        ensures orders { reverse result.now ≡ orders_of self.now.start self.now.history }
+        ensures sound { IsSound (orders_of self.now.start self.now.history) }
     {
         self.books.known.orders.adopted()
     }

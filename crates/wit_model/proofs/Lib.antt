@@ -16,6 +16,7 @@ pub mod Lists
 pub mod NamedFiles
 pub mod Owed
 pub mod Paths
+pub mod Repeats
 pub mod Sane
 pub mod Seats
 pub mod Sound

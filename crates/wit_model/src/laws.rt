@@ -34,11 +34,9 @@ pub fn law_files_may_grow()
 /// No two lines of a trace have one spelling.
 pub fn law_one_spelling()
     ensures { IsOneSpelling }
-{
-}
+{}
 
 /// Reading finds the line that the bytes spell, where there is one, and none where there is none.
 pub fn law_reading_finds_spellings()
     ensures { ReadsSpellings }
-{
-}
+{}

@@ -21,6 +21,8 @@ pub use status::{BAD_TRACE, FAILED, NOTHING_REPORTED, REPORTED, status_of};
 pub use summary::{ReplayError, Summary};
 
 #[cfg(test)]
+mod rows;
+#[cfg(test)]
 mod stream_tests;
 #[cfg(test)]
 mod tests;

@@ -1,0 +1,4 @@
+use Rattle.wit_core.proofs.verifier.Verifier.history.Goals as goal
+
+pub returns-clause-legal : goal.returns-clause-legal
+returns-clause-legal c = rw (← c.self.view_is) c.self.invariant.legal

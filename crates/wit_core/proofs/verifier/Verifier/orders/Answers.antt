@@ -1,0 +1,5 @@
+use Rattle.wit_core.proofs.Keeping.{sound_kept}
+use Rattle.wit_core.proofs.verifier.Verifier.orders.Goals as goal
+
+pub returns-clause-sound : goal.returns-clause-sound
+returns-clause-sound c = rw (← c.self.view_is) (sound_kept c.self.inside c.self.invariant)
