@@ -1,5 +1,5 @@
 -- Each call keeps the invariant of a verifier.
-use Rattle.std.proofs.Common.{◌≡◌, ℕ, suc, ◌+◌, ◌-◌, ◌<◌, ◌≤◌, ◌&&◌, Bool, true, false, not, cond, List, [], ◌∷◌, ◌++◌, Option, None, Some, Ok, Err, Result, IfOk, OnOk, OnErr, string_bytes, length, map, reverse, find, get_or, vec_len, refl, sym, ap, ap₂, ◌∙◌, subst, arith, rules, nat_le, is_some, length-append, zero-add}
+use Rattle.std.proofs.Common.{◌≡◌, ℕ, ◌+◌, ◌-◌, ◌<◌, ◌≤◌, ◌&&◌, Bool, true, false, not, cond, List, [], ◌∷◌, ◌++◌, Option, None, Some, Ok, Err, Result, IfOk, OnOk, OnErr, string_bytes, length, map, reverse, find, get_or, vec_len, refl, sym, ap, ap₂, ◌∙◌, subst, arith, nat_le, is_some, length-append, zero-add}
 use Rattle.std.proofs.lemmas.List.{length-map}
 use Rattle.std.specs.List.{position, range_with_len, AllByRecursion}
 use Rattle.std.proofs.lemmas.List.Elements.{recursion_from_All}
@@ -29,15 +29,15 @@ use Rattle.wit_model.specs.Types.{is_spin}
 use Rattle.wit_model.specs.Locks.{locks_of, lock_at, is_spin_lock}
 use Rattle.wit_model.specs.History.{is_report, reports_of, pending, watch_of}
 use Rattle.wit_model.specs.declared.locks.Watch.TheVariants.{On}
-use Rattle.wit_model.specs.Files.{is_known_file, file_answer, files_after}
-use Rattle.wit_model.specs.State.{Start, Story, State, Known, Seat, state_of, known_of, seats_of, seat_of, owed, is_seat, seat_at, no_seat}
-use Rattle.wit_model.specs.Step.{answer_of, story_after, is_pending, held_by, chain_for, IsLegal}
+use Rattle.wit_model.specs.Files.{is_known_file, file_answer}
+use Rattle.wit_model.specs.State.{Start, Story, State, state_of, seats_of, seat_of, owed, is_seat, seat_at, no_seat}
+use Rattle.wit_model.specs.Step.{answer_of, story_after, is_pending, chain_for, IsLegal}
 use Rattle.wit_model.specs.Verdict.{is_of}
 use Rattle.wit_model.proofs.Sane.{IsSane}
-use Rattle.wit_model.proofs.Accepted.{NoteAccepted, note_accepted, check_accepted, unlock_accepted, init_accepted}
-use Rattle.wit_model.proofs.Seats.{entry, get_or-seats_of}
+use Rattle.wit_model.proofs.Accepted.{note_accepted, check_accepted, unlock_accepted}
+use Rattle.wit_model.proofs.Seats.{entry}
 use Rattle.wit_model.proofs.Owed.{owed_to, owed_to-nil, owed-init, owed-check, owed-note, owed-unlock}
-use Rattle.wit_model.proofs.Legal.{sane_more, seat-within, pending-state, unlock-held}
+use Rattle.wit_model.proofs.Legal.{sane_more, pending-state, unlock-held}
 use Rattle.wit_model.proofs.TypedLocks.{spin_at}
 use Rattle.wit_model.proofs.NamedFiles.{legal-named}
 use Rattle.wit_model.proofs.Depth.{note-count}
@@ -49,7 +49,7 @@ use Rattle.wit_core.specs.declared.verdicts.Verdict.{Verdict}
 use Rattle.wit_core.specs.Verdicts.{reply_of}
 use Rattle.wit_core.specs.Knowledge.{learnt, with_lock}
 use Rattle.wit_core.specs.Rows.{seat_view, chain_in, changed_at, asked_in, noted_in, unlocked_in, CanRise, IsShallow, IsShallowAt}
-use Rattle.wit_core.specs.Books.{HasSums, IsFresh, AllHaveRoom, StaysSame, NamesFileIn, EntersInit, EntersCheck, EntersNote, EntersUnlock, state_in, spin_of, taken_by}
+use Rattle.wit_core.specs.Books.{IsFresh, StaysSame, NamesFileIn, EntersInit, EntersCheck, EntersNote, EntersUnlock, state_in, spin_of, taken_by}
 use Rattle.wit_core.specs.Kept.{IsKept, start_in, history_in, story_in}
 use Rattle.wit_core.proofs.Steps.{same_state, state-init, state-check, state-note, state-unlock}
 use Rattle.wit_core.proofs.Keeping.{seat_in, Enters, kept_entered, kept_same, same_story}

@@ -1,5 +1,5 @@
 -- What the invariant of a verifier gives, and how each call keeps it.
-use Rattle.std.proofs.Common.{◌≡◌, ℕ, ◌+◌, ◌-◌, ◌<◌, ◌≤◌, Bool, true, List, [], ◌∷◌, ◌++◌, Ok, Err, Result, length, map, reverse, vec_len, refl, sym, ap, ◌∙◌, subst, arith}
+use Rattle.std.proofs.Common.{◌≡◌, ℕ, ◌+◌, ◌<◌, ◌≤◌, List, [], ◌∷◌, ◌++◌, Ok, Result, length, reverse, vec_len, sym, ap, ◌∙◌, subst, arith}
 use Rattle.std.specs.Vec.{vec_capacity}
 use Rattle.std.proofs.lemmas.List.{length-reverse, reverse-append}
 use Rattle.std.proofs.lemmas.List.Sums.{count_by-le-length}
@@ -9,7 +9,7 @@ use Rattle.wit_model.specs.declared.calls.Reply.{Reply}
 use Rattle.wit_model.specs.declared.calls.Entry.{Entry}
 use Rattle.wit_model.specs.Sizes.{Sizes}
 use Rattle.wit_model.specs.History.{is_report, reports_of}
-use Rattle.wit_model.specs.State.{Start, Story, State, state_of, owed, types_of, orders_of, is_seat}
+use Rattle.wit_model.specs.State.{Start, Story, State, state_of, owed, types_of, orders_of}
 use Rattle.wit_model.specs.Step.{answer_of, story_after, step, logged, IsLegal}
 use Rattle.wit_model.proofs.Seats.{entry}
 use Rattle.wit_model.proofs.Owed.{few_legal}

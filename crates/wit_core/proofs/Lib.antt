@@ -3,3 +3,4 @@ pub mod Ends
 pub mod Keeping
 pub mod SeatRows
 pub mod Steps
+pub mod Ways

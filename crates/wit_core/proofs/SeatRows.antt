@@ -1,6 +1,6 @@
 -- Seats in a row, one of which is written.
 use Rattle.std.proofs.Common.{◌≡◌, ℕ, ◌<◌, List, length, map, set, get_or, sym, ap, ◌∙◌}
-use Rattle.std.proofs.lemmas.List.{map-set, get_or-map, get_or_default}
+use Rattle.std.proofs.lemmas.List.{map-set, get_or-map}
 use Rattle.std.proofs.Math.Seq.{map-set_same}
 use Rattle.wit_model.specs.State as model
 use Rattle.wit_core.specs.declared.seats.Seat.{Seat}

@@ -1,14 +1,12 @@
 -- The state after each accepted call.
-use Rattle.std.proofs.Common.{◌≡◌, ℕ, suc, ◌+◌, ◌-◌, ◌<◌, ◌≤◌, Bool, true, false, not, cond, List, [], ◌∷◌, ◌++◌, Option, None, Some, Ok, length, map, set, get_or, find, refl, sym, ap, ap₂, ◌∙◌, arith, append-nil, nat_lt}
+use Rattle.std.proofs.Common.{◌≡◌, ℕ, ◌+◌, ◌-◌, ◌<◌, ◌≤◌, Bool, true, false, not, cond, List, ◌∷◌, Option, None, Some, length, set, get_or, find, refl, sym, ap, ◌∙◌, arith, append-nil, nat_lt}
 use Rattle.std.specs.List.{position}
 use Rattle.std.proofs.lemmas.List.{set-get_or}
 use Rattle.std.proofs.lemmas.Bool.{ltb-true, ltb-false}
 use Rattle.wit_model.specs.declared.locks.Instance.{Instance}
 use Rattle.wit_model.specs.declared.locks.LockNo.{LockNo}
 use Rattle.wit_model.specs.declared.locks.Mode.{Mode}
-use Rattle.wit_model.specs.declared.calls.Call.{Call}
 use Rattle.wit_model.specs.declared.calls.Call.TheVariants.{Init, Check, Note, Unlock}
-use Rattle.wit_model.specs.declared.calls.Reply.{Reply}
 use Rattle.wit_model.specs.declared.calls.Reply.TheVariants.{Made, Recorded, Unlocked}
 use Rattle.wit_model.specs.declared.calls.NewLock.{NewLock}
 use Rattle.wit_model.specs.declared.calls.Request.{Request}
@@ -16,12 +14,11 @@ use Rattle.wit_model.specs.declared.calls.Entry.{Entry}
 use Rattle.wit_model.specs.declared.locks.Lock.{Lock}
 use Rattle.wit_model.specs.Locks.{locks_of, is_spin_lock}
 use Rattle.wit_model.specs.Sizes.{Sizes}
-use Rattle.wit_model.specs.History.{chain, pending, instance, held}
+use Rattle.wit_model.specs.History.{pending}
 use Rattle.wit_model.specs.State.{Start, State, Known, Seat, state_of, known_of, seat_of, seats_of, typed_locks, no_seat}
 use Rattle.wit_model.specs.Step.{story_after}
 use Rattle.wit_model.specs.Verdict.{is_of}
 use Rattle.wit_model.proofs.Sane.{IsSane}
-use Rattle.wit_model.proofs.HeldLocks.{taken}
 use Rattle.wit_model.proofs.After.{noted, unlocked}
 use Rattle.wit_model.proofs.Seats.{entry, seat_after, seat_after-init, seat_after-check, seat_after-note, seat_after-unlock, seats_of-entry, get_or-seats_of}
 use Rattle.wit_model.proofs.Stands.{stands, stands-chain, found-nowhere}

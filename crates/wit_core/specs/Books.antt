@@ -1,5 +1,5 @@
 -- What a verifier keeps, as the rules speak of it.
-use Rattle.std.specs.Prelude.{ℕ, ◌+◌, ◌-◌, ◌<◌, ◌≤◌, ◌≡◌, ◌⊎◌, Bool, true, false, List, [], ◌∷◌, ◌++◌, set, vec_len, map, length, reverse, Option, None, Some, Result, Ok, Err, nat_lt, nat_le, not, ◌&&◌, if◌then◌else◌}
+use Rattle.std.specs.Prelude.{ℕ, ◌+◌, ◌-◌, ◌<◌, ◌≤◌, ◌≡◌, ◌⊎◌, Bool, true, false, List, [], ◌∷◌, ◌++◌, vec_len, map, length, Option, None, Some, Result, Ok, Err, nat_lt, nat_le, not, ◌&&◌, if◌then◌else◌}
 use Rattle.std.specs.List.{All}
 use Rattle.std.specs.Vec.{vec_capacity}
 use Rattle.wit_model.specs.declared.faults.Fault.{Fault}

@@ -1,9 +1,7 @@
 -- A verifier as its callers see it, and what ties its fields to its history.
-use Rattle.std.specs.Prelude.{ℕ, ◌+◌, ◌≤◌, ◌≡◌, List, [], map, length, reverse, string_bytes, vec_len}
+use Rattle.std.specs.Prelude.{◌+◌, ◌≤◌, ◌≡◌, List, [], map, length, reverse, string_bytes, vec_len}
 use Rattle.std.specs.Vec.{vec_capacity}
 use Rattle.wit_model.specs.declared.calls.Entry.{Entry}
-use Rattle.wit_model.specs.declared.faults.Fault.TheVariants.{OutOfMemory}
-use Rattle.wit_model.specs.Sizes.{Sizes}
 use Rattle.wit_model.specs.State.{Start, Story, state_of, owed}
 use Rattle.wit_model.specs.History.{reports_of}
 use Rattle.wit_model.specs.Step.{IsLegal}

@@ -1,7 +1,9 @@
 -- What stands under a number, from 1.
-use Rattle.std.specs.Prelude.{ℕ, ◌-◌, ◌≡◌, Bool, false, ◌&&◌, nat_lt, nat_le, List, length, Option, None, Some}
+use Rattle.std.specs.Prelude.{ℕ, ◌-◌, ◌≡◌, Bool, false, ◌&&◌, nat_lt, nat_le, List, length, Option, None, Some, map}
 use Rattle.std.specs.List.{slice_get}
 use Rattle.std.specs.Borrow.{Bor}
+use Rattle.std.specs.Global.{Vec}
+use Rattle.std.specs.Option.{option_map}
 use Rattle.wit_model.specs.declared.locks.Class.{Class}
 use Rattle.wit_model.specs.declared.locks.Lock.{Lock}
 use Rattle.wit_model.specs.declared.locks.LockType.{LockType}
@@ -40,3 +42,10 @@ ClassesType types n (Some class) = (t : LockType) × (slice_get types (n - 1) �
 abbrev pub NamesFileNo : List (List ℕ) → ℕ → Option (Bor (List ℕ)) → Type 0
 NamesFileNo files n None = is_given files n ≡ false
 NamesFileNo files n (Some name) = slice_get files (n - 1) ≡ Some name.now
+
+abbrev pub type_numbers : List TypeNo → List ℕ
+type_numbers types = map (λ (t : TypeNo). t.0) types
+
+-- the numbers on a path, where there is one
+abbrev pub path_numbers : Option (Vec TypeNo) → Option (List ℕ)
+path_numbers p = option_map (λ (v : Vec TypeNo). type_numbers v.items) p

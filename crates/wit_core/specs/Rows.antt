@@ -1,5 +1,5 @@
 -- A seat of the program as the rules see it, and what an acquisition and a release leave of its chains.
-use Rattle.std.specs.Prelude.{ℕ, ◌+◌, ◌-◌, ◌<◌, ◌≡◌, Bool, true, false, not, ◌==◌, List, [], ◌∷◌, ◌++◌, Option, None, Some, map, filter, find, is_some, vec_len, nat_lt, length, get_or, set, if◌then◌else◌}
+use Rattle.std.specs.Prelude.{ℕ, ◌+◌, ◌-◌, ◌<◌, ◌≡◌, Bool, true, false, List, [], ◌∷◌, ◌++◌, Option, None, Some, is_some, vec_len, nat_lt, get_or, set, if◌then◌else◌}
 use Rattle.std.specs.List.{position, remove}
 use Rattle.wit_model.specs.declared.locks.Mode.TheVariants.{Exclusive}
 use Rattle.wit_model.specs.History.{no_site}

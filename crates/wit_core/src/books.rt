@@ -113,6 +113,16 @@ impl Books {
             || has_type(&self.known.locks, type_number(&self.known.types, type_name))
     }
 
+    /// How many types are known.
+    pub fn types(&self) -> u16
+        requires { length self.now.known.types.items ≤ self.now.limits.types }
+        ensures { result ≡ length self.now.known.types.items }
+    {
+        // The limit bounds their number.
+        let _limit = self.limits.types();
+        self.known.types.len() as u16
+    }
+
     /// The verdict of `check`.
     pub fn answer_check(&self, seat: SeatNo, request: Request) -> Result<Verdict, Fault>
         requires { HasSums self.now }

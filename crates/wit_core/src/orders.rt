@@ -1,7 +1,11 @@
 //! The adopted orders, and which types are before one another.
 
 ghost use Rattle.std.specs.Prelude.{◌≡◌, [], ◌∷◌, ◌==◌, ◌||◌, ℕ, OnOk, OnErr, IfOk, reverse};
+ghost use Rattle.wit_model.specs.declared.locks.TypeNo.{TypeNo};
 ghost use Rattle.wit_model.specs.Orders.{is_direct, is_before};
+ghost use Rattle.wit_model.specs.Paths.{leads, next_type, way, path};
+ghost use Rattle.std.specs.Option.{option_map};
+ghost use Rattle.wit_core.specs.Numbered.{type_numbers, path_numbers};
 ghost use Rattle.wit_core.specs.Pairs.{is_among, is_one_of, JoinsRow, IsClosedBy};
 
 use std::alloc::{AllocError, Global};
@@ -19,7 +23,9 @@ pub struct Orders {
 impl Model for Orders {
     ghost use Rattle.std.specs.Prelude.{List, reverse};
     ghost use Rattle.wit_model.specs.declared.calls.Adoption.{Adoption};
-    ghost use Rattle.wit_core.specs.Pairs.{IsClosure};
+    ghost use Rattle.std.specs.Option.{option_map};
+ghost use Rattle.wit_core.specs.Numbered.{type_numbers, path_numbers};
+ghost use Rattle.wit_core.specs.Pairs.{IsClosure};
 
     ghost Value = { List Adoption };
 
@@ -84,38 +90,62 @@ impl Orders {
     pub fn path(
         &self,
         alloc: Global,
-        types: usize,
+        types: u16,
         from: TypeNo,
         to: TypeNo,
-    ) -> Result<Option<Vec<TypeNo>>, AllocError> {
+    ) -> Result<Option<Vec<TypeNo>>, AllocError>
+        ensures { IfOk result (λ p. path_numbers p ≡ path self.now types from.0 to.0) }
+    {
         if !self.is_before(from, to) {
             return Ok(None);
         }
+        let path = self.way(alloc, types, from, to)?;
+        Ok(Some(path))
+    }
+
+    // From one type to another, each time to the least that leads there.
+    fn way(
+        &self,
+        alloc: Global,
+        types: u16,
+        from: TypeNo,
+        to: TypeNo,
+    ) -> Result<Vec<TypeNo>, AllocError>
+        ensures { IfOk result (λ v. type_numbers v.items ≡ way self.now types types from.0 to.0) }
+    {
         let mut path = Vec::new(alloc);
         let mut at = from;
         for _step in 0..types {
             path.push(at)?;
             if at.0 == to.0 {
-                return Ok(Some(path));
+                return Ok(path);
             }
             match self.next_type(types, at, to) {
                 Some(next) => at = next,
-                None => return Ok(Some(path)),
+                None => return Ok(path),
             }
         }
-        Ok(Some(path))
+        Ok(path)
     }
 
     // The least of the first types to which a path from one type to another can go.
-    fn next_type(&self, types: usize, from: TypeNo, to: TypeNo) -> Option<TypeNo> {
-        for number in 1..=types.min(1023) {
-            let next = TypeNo(number as u16);
-            let leads = next.0 == to.0 || self.is_before(next, to);
-            if leads && self.is_direct(from, next) {
+    fn next_type(&self, types: u16, from: TypeNo, to: TypeNo) -> Option<TypeNo>
+        ensures { option_map (λ (t : TypeNo). t.0) result ≡ next_type self.now types from.0 to.0 }
+    {
+        for number in 1..=types {
+            let next = TypeNo(number);
+            if self.leads(from, next, to) {
                 return Some(next);
             }
         }
         None
+    }
+
+    // Whether an adopted order goes to a type that is another or before it.
+    fn leads(&self, from: TypeNo, next: TypeNo, to: TypeNo) -> bool
+        ensures { result ≡ leads self.now from.0 to.0 next.0 }
+    {
+        self.is_direct(from, next) && (next.0 == to.0 || self.is_before(next, to))
     }
 }
 

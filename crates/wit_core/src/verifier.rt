@@ -3,7 +3,8 @@
 ghost use Rattle.std.specs.Prelude.{◌≡◌, [], length, reverse, IfOk, IfErr};
 ghost use Rattle.std.specs.Option.{option_copied};
 ghost use Rattle.wit_model.specs.State.{orders_of, types_of, typed_locks};
-ghost use Rattle.wit_core.specs.Numbered.{IsNumbered, NamesLock, TypesLock, NamesType, ClassesType, NamesFileNo};
+ghost use Rattle.wit_core.specs.Numbered.{IsNumbered, NamesLock, TypesLock, NamesType, ClassesType, NamesFileNo, path_numbers};
+ghost use Rattle.wit_model.specs.Paths.{path};
 ghost use Rattle.wit_model.specs.History.{reports_of, watch_of};
 ghost use Rattle.wit_model.specs.Files.{NamesFile};
 ghost use Rattle.wit_model.specs.Orders.{IsSound};
@@ -274,8 +275,12 @@ impl Verifier {
     ///
     /// # Errors
     /// `OutOfMemory` alone.
-    pub fn path(&self, from: TypeNo, to: TypeNo) -> Result<Option<Vec<TypeNo>>, Fault> {
-        let types = self.books.known.types.len();
+    pub fn path(&self, from: TypeNo, to: TypeNo) -> Result<Option<Vec<TypeNo>>, Fault>
+        ensures ok { IfOk result (λ p. path_numbers p ≡ path (orders_of self.now.start self.now.history)
+            (length (types_of self.now.start self.now.history)) from.0 to.0) }
+        ensures err { IfErr result (λ e. e ≡ OutOfMemory) }
+    {
+        let types = self.books.types();
         match self.books.known.orders.path(self.alloc, types, from, to) {
             Ok(path) => Ok(path),
             Err(_) => Err(Fault::OutOfMemory),

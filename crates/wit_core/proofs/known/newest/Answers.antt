@@ -1,4 +1,4 @@
-use Rattle.std.proofs.Common.{◌≡◌, ◌∙◌}
+use Rattle.std.proofs.Common.{◌∙◌}
 use Rattle.wit_core.proofs.Ends.{slice_get-last}
 use Rattle.wit_core.proofs.known.newest.Goals as goal
 

@@ -1,9 +1,9 @@
-use Rattle.std.proofs.Common.{◌≡◌, ◌<◌, ◌+◌, ℕ, true, false, List, [], length, sym, ap, ◌∙◌, arith, get_or}
+use Rattle.std.proofs.Common.{◌+◌, ℕ, List, [], sym, ap, ◌∙◌, arith}
 use Rattle.std.specs.Str.{bytes_eq}
 use Rattle.std.proofs.lemmas.List.Sums.{position_or_len_is}
 use Rattle.wit_model.specs.declared.locks.LockType.{LockType}
 use Rattle.wit_model.specs.declared.locks.Class.TheVariants.{SleepMutex}
-use Rattle.wit_model.specs.Types.{is_named, type_number}
+use Rattle.wit_model.specs.Types.{is_named}
 use Rattle.wit_core.proofs.known.type_number.Goals as goal
 
 no_type : LockType

@@ -1,4 +1,4 @@
-use Rattle.std.proofs.Common.{◌≡◌, ◌==◌, ◌||◌, ◌&&◌, ℕ, take}
+use Rattle.std.proofs.Common.{take}
 use Rattle.wit_core.specs.Pairs.{JoinsRow}
 use Rattle.wit_core.proofs.orders.join_row.Given as goal
 

@@ -1,4 +1,4 @@
-use Rattle.std.proofs.Common.{◌≡◌, ◌==◌, ◌||◌, ◌&&◌, ℕ, take}
+use Rattle.std.proofs.Common.{◌≡◌, ◌||◌, ◌&&◌, ℕ, take}
 use Rattle.wit_core.specs.Pairs.{is_among, is_one_of}
 use Rattle.wit_core.proofs.orders.joined.Given as goal
 

@@ -1,4 +1,4 @@
-use Rattle.std.proofs.Common.{refl, arith}
+use Rattle.std.proofs.Common.{arith}
 use Rattle.wit_core.specs.Rows.{noted_in}
 use Rattle.wit_core.proofs.SeatRows.{map-set-changed}
 use Rattle.wit_core.proofs.seats.note_at.Goals as goal

@@ -1,4 +1,4 @@
-use Rattle.std.proofs.Common.{◌≡◌, false, List, Some, Ok, Result, reverse, find, sym, ◌∙◌, ap}
+use Rattle.std.proofs.Common.{◌≡◌, false, List, Some, Result, reverse, find, sym, ◌∙◌, ap}
 use Rattle.wit_model.specs.declared.locks.Instance.{Instance}
 use Rattle.wit_model.specs.declared.locks.Lock.{Lock}
 use Rattle.wit_model.specs.declared.locks.TypeNo.{TypeNo}
