@@ -24,8 +24,8 @@ impl Model for Orders {
     ghost use Rattle.std.specs.Prelude.{List, reverse};
     ghost use Rattle.wit_model.specs.declared.calls.Adoption.{Adoption};
     ghost use Rattle.std.specs.Option.{option_map};
-ghost use Rattle.wit_core.specs.Numbered.{type_numbers, path_numbers};
-ghost use Rattle.wit_core.specs.Pairs.{IsClosure};
+    ghost use Rattle.wit_core.specs.Numbered.{type_numbers, path_numbers};
+    ghost use Rattle.wit_core.specs.Pairs.{IsClosure};
 
     ghost Value = { List Adoption };
 

@@ -3,6 +3,8 @@ pub mod Found
 pub mod Lengths
 pub mod Numbers
 pub mod Places
+pub mod ReplayLemmas
+pub mod ReportLemmas
 pub mod StreamLemmas
 pub mod TextLemmas
 pub mod Texts

@@ -1,5 +1,6 @@
 pub mod Lines
 pub mod Machine
+pub mod Replays
 pub mod Status
 pub mod Stream
 pub mod Text

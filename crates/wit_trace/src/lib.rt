@@ -1,9 +1,11 @@
 //! Traces of a lock order verifier: their lines as bytes, and the replay of a stream of them.
 #![tactic(auto)]
 
+mod calls;
 mod errors;
 mod fields;
 mod machine;
+mod outcome;
 mod parse;
 mod ports;
 mod print;
@@ -20,6 +22,10 @@ pub use replaying::replay;
 pub use status::{BAD_TRACE, FAILED, NOTHING_REPORTED, REPORTED, status_of};
 pub use summary::{ReplayError, Summary};
 
+#[cfg(test)]
+mod ends;
+#[cfg(test)]
+mod fakes;
 #[cfg(test)]
 mod rows;
 #[cfg(test)]

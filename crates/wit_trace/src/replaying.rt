@@ -1,18 +1,23 @@
 //! The replay of a trace by the verifier.
 
-ghost use Rattle.std.specs.Prelude.{[], false, None};
+ghost use Rattle.std.specs.Prelude.{◌≡◌, ◌≤◌, length, false, refl, Some, None, IfOk, OnErr};
+ghost use Rattle.wit_model.specs.Output.{Unstarted, Reading, entered, outcome, bad_text, output_from, summed};
+ghost use Rattle.wit_trace.specs.Replays.{progress, total, Passes, IsWritten, Shows};
+ghost use Rattle.wit_trace.specs.Stream.{WritesOutput, WritesFront};
 
+use crate::calls::enter_line;
 use crate::errors::LineError;
 use crate::machine::{Machine, Step};
+use crate::outcome::Outcome;
 use crate::parse::parse_line;
 use crate::ports::Failures;
-use crate::reports::{bad_text, report_text};
+use crate::reports::bad_text;
 use crate::stream::run;
 use crate::summary::{ReplayError, Summary};
 use std::alloc::{AllocError, Global};
 use std::io::{BufRead, Write};
 use wit_core::Verifier;
-use wit_model::{Cause, Fault, Limits, Line, Reply, Site, View};
+use wit_model::{Cause, Limits, Line, View};
 
 /// The log's limit in a replay.
 const LOG: u32 = 16_777_216;
@@ -31,7 +36,12 @@ pub fn replay<R: BufRead, W: Write>(
     input: &mut R,
     output: &mut W,
     view: View,
-) -> Result<Summary, ReplayError> {
+) -> Result<Summary, ReplayError>
+    ensures ok { IfOk result (WritesOutput (Shows view)
+        (R.remaining input.old) (W.contents output.old) (W.contents output.new)) }
+    ensures err { OnErr result (WritesFront (Shows view)
+        (R.remaining input.old) (W.contents output.old) (W.contents output.new)) }
+{
     match view {
         View::Reports => {
             let mut machine = Replaying { verifier: None };
@@ -46,16 +56,12 @@ struct Replaying {
     verifier: Option<Verifier>,
 }
 
-/// What became of a line.
-enum Outcome {
-    /// Its report's text, which may be empty.
-    Told(String),
-    /// It is bad.
-    Bad(Cause),
-}
-
 impl Replaying {
-    fn read(&mut self, alloc: Global, bytes: &[u8]) -> Result<Outcome, AllocError> {
+    fn read(&mut self, alloc: Global, bytes: &[u8]) -> Result<Outcome, AllocError>
+        requires { length bytes.now ≤ 4096 }
+        ensures { IfOk result (Passes (outcome (progress self.old.verifier) bytes.now)
+            (progress self.old.verifier) (progress self.new.verifier)) }
+    {
         match parse_line(alloc, bytes) {
             Ok(line) => self.enter(alloc, line),
             Err(LineError::Bad(cause)) => Ok(Outcome::Bad(cause)),
@@ -63,7 +69,10 @@ impl Replaying {
         }
     }
 
-    fn enter(&mut self, alloc: Global, line: Line) -> Result<Outcome, AllocError> {
+    fn enter(&mut self, alloc: Global, line: Line) -> Result<Outcome, AllocError>
+        ensures { IfOk result (Passes (entered (progress self.old.verifier) line)
+            (progress self.old.verifier) (progress self.new.verifier)) }
+    {
         match &mut self.verifier {
             Some(verifier) => enter_line(alloc, verifier, line),
             None => self.start(alloc, line),
@@ -71,7 +80,10 @@ impl Replaying {
     }
 
     // The header comes first.
-    fn start(&mut self, alloc: Global, line: Line) -> Result<Outcome, AllocError> {
+    fn start(&mut self, alloc: Global, line: Line) -> Result<Outcome, AllocError>
+        requires { self.old.verifier ≡ None }
+        ensures { IfOk result (Passes (entered Unstarted line) Unstarted (progress self.new.verifier)) }
+    {
         let Line::Header {
             seats,
             types,
@@ -84,16 +96,17 @@ impl Replaying {
         let Some(limits) = Limits::new(seats, types, locks, chunks, LOG) else {
             return Ok(Outcome::Bad(Cause::Limit));
         };
-        match Verifier::new(alloc, limits, Vec::new(alloc), Vec::new(alloc)) {
-            Ok(verifier) => {
-                self.verifier = Some(verifier);
-                Ok(Outcome::Told(String::new(alloc)))
-            }
-            Err(_) => Err(AllocError),
-        }
+        let Ok(verifier) = Verifier::new(alloc, limits, Vec::new(alloc), Vec::new(alloc)) else {
+            return Err(AllocError);
+        };
+        self.verifier = Some(verifier);
+        Ok(Outcome::Told(Vec::new(alloc)))
     }
 
-    fn summary(&self, bad: Option<(u64, Cause)>) -> Summary {
+    fn summary(&self, bad: Option<(u64, Cause)>) -> Summary
+        ensures total { total result ≡ summed (progress self.now.verifier) bad }
+        ensures circle { result.circle ≡ false }
+    {
         match &self.verifier {
             Some(verifier) => Summary {
                 calls: verifier.history().len() as u64,
@@ -116,51 +129,22 @@ impl Replaying {
         alloc: Global,
         number: u64,
         cause: Cause,
-    ) -> Result<(Vec<u8>, Summary), AllocError> {
+    ) -> Result<(Vec<u8>, Summary), AllocError>
+        ensures text { IfOk result (λ r. r.0.items ≡ bad_text number cause) }
+        ensures total { IfOk result (λ r. total r.1 ≡ summed (progress self.now.verifier) (Some (number, cause))) }
+        ensures circle { IfOk result (λ r. r.1.circle ≡ false) }
+    {
         let text = bad_text(alloc, number, cause)?;
         Ok((text.into_bytes(), self.summary(Some((number, cause)))))
     }
 }
 
-// A line behind the header makes its call.
-fn enter_line(alloc: Global, verifier: &mut Verifier, line: Line) -> Result<Outcome, AllocError> {
-    let reply = match line {
-        Line::Header { .. } => return Ok(Outcome::Bad(Cause::Syntax)),
-        Line::Init { seat, lock } => {
-            let type_name = match &lock.type_name {
-                Some(name) => Some(name.as_str()),
-                None => None,
-            };
-            let made = verifier.init(seat, lock.name.as_str(), type_name, lock.class, lock.flags);
-            made.map(|number| Reply::Made(number))
-        }
-        Line::Check {
-            seat,
-            lock,
-            mode,
-            ops,
-            file,
-            line,
-        } => match verifier.file(file.as_str()) {
-            Ok(file) => verifier.check(seat, lock, mode, ops, Site { file, line }),
-            Err(fault) => Err(fault),
-        },
-        Line::Lock { seat, lock } => verifier.note(seat, lock),
-        Line::Unlock { seat, lock, mode } => verifier.unlock(seat, lock, mode),
-    };
-    match reply {
-        Ok(reply) => Ok(Outcome::Told(report_text(alloc, verifier, &reply)?)),
-        Err(Fault::OutOfMemory) => Err(AllocError),
-        Err(fault) => Ok(Outcome::Bad(Cause::Fault(fault))),
-    }
-}
-
 impl Machine for Replaying {
-    ghost allows = { λ m n lines tail text summary. Unit {0} };
+    ghost allows = { λ m n lines tail text summary. IsWritten (output_from (progress m.verifier) n lines tail) text summary };
 
     fn line(&mut self, alloc: Global, number: u64, bytes: &[u8]) -> Result<Step, AllocError> {
         match self.read(alloc, bytes)? {
-            Outcome::Told(text) => Ok(Step::Goes(text.into_bytes())),
+            Outcome::Told(text) => Ok(Step::Goes(text)),
             Outcome::Bad(cause) => {
                 let (text, summary) = self.ended(alloc, number, cause)?;
                 Ok(Step::Ends(text, summary))
@@ -185,5 +169,16 @@ impl Machine for Replaying {
         Ok((Vec::new(alloc), self.summary(None)))
     }
 
-    ghost answers = { λ m n lines tail. ([], (record { calls = 0; reports = 0; circle = false; bad = None }, tt)) };
+    ghost answers = { λ m n lines tail. (
+      (output_from (progress m.verifier) n lines tail).text,
+      (
+        record {
+          calls = (output_from (progress m.verifier) n lines tail).summed.calls;
+          reports = (output_from (progress m.verifier) n lines tail).summed.reports;
+          circle = false;
+          bad = (output_from (progress m.verifier) n lines tail).summed.bad;
+        },
+        record { text = refl; summed = refl; circle = refl },
+      ),
+    ) };
 }

@@ -6,7 +6,7 @@ use std::process::Abort;
 use std::test::Fail;
 use wit_model::View;
 
-const HEADER: &str = "witness-trace 1 seats 2 types 8 locks 16 chunks 4\n";
+pub const HEADER: &str = "witness-trace 1 seats 2 types 8 locks 16 chunks 4\n";
 
 /// Two mutexes that two seats take in the same order.
 const ROUND: &str = r#"check 1 1 x n f:1
@@ -24,7 +24,7 @@ unlock 2 1 x
 "#;
 
 /// Two mutexes that one seat takes in one order, and another seat asks for in the other.
-const BOTH_ORDERS: &str = r#"init 1 mtx - "a" "A"
+pub const BOTH_ORDERS: &str = r#"init 1 mtx - "a" "A"
 init 1 mtx - "b" "B"
 check 1 1 x n f:1
 lock 1 1
@@ -37,7 +37,7 @@ lock 2 2
 check 2 1 x n f:4
 "#;
 
-const BOTH_ORDERS_REPORT: &str = r#"lock order reversal:
+pub const BOTH_ORDERS_REPORT: &str = r#"lock order reversal:
  1st "b" (B, sleep mutex) @ f:3
  2nd "a" (A, sleep mutex) @ f:4
 established order:
@@ -54,7 +54,7 @@ check 2 1 x n f:6
 "#;
 
 /// Three mutexes whose order is learnt in two steps, and the last and the first in the other order.
-const THROUGH_A_PATH: &str = r#"init 1 mtx - "a" "A"
+pub const THROUGH_A_PATH: &str = r#"init 1 mtx - "a" "A"
 init 1 mtx - "b" "B"
 init 1 mtx - "c" "C"
 check 1 1 x n f:1
@@ -74,7 +74,7 @@ lock 2 3
 check 2 1 x n f:6
 "#;
 
-const THROUGH_A_PATH_REPORT: &str = r#"lock order reversal:
+pub const THROUGH_A_PATH_REPORT: &str = r#"lock order reversal:
  1st "c" (C, sleep mutex) @ f:5
  2nd "a" (A, sleep mutex) @ f:6
 established order:

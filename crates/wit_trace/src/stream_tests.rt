@@ -2,13 +2,13 @@
 
 ghost use Rattle.std.specs.Prelude.{[], None, false};
 
+use crate::fakes::{Drip, Funnel};
 use crate::machine::{Machine, Step};
 use crate::ports::Failures;
 use crate::stream::run;
 use crate::summary::{ReplayError, Summary};
 use std::alloc::{AllocError, Global};
-use std::io;
-use std::io::{BufRead, ErrorKind, Read, Write};
+use std::io::{BufRead, Write};
 use std::process::Abort;
 use std::test::Fail;
 use wit_model::Cause;
@@ -60,78 +60,6 @@ impl Machine for Echo {
     fn end(&mut self, alloc: Global, number: u64) -> Result<(Vec<u8>, Summary), AllocError> {
         let text = format!(in alloc; "line {number}: end\n")?;
         Ok((text.into_bytes(), self.summary(None)))
-    }
-}
-
-/// Shows a few bytes at each look, and fails at one.
-#[derive(Drop)]
-struct Drip<'a> {
-    rest: &'a [u8],
-    step: usize,
-    looks: usize,
-    fails_at: Option<usize>,
-}
-
-impl Read for Drip<'_> {
-    fn read(&mut self, _buf: &mut [u8]) -> io::Result<usize> {
-        Err(io::Error::from(ErrorKind::Unsupported))
-    }
-}
-
-impl BufRead for Drip<'_> {
-    fn fill_buf(&mut self) -> io::Result<&[u8]> {
-        self.looks = self.looks.saturating_add(1);
-        if self.fails_at == Some(self.looks) {
-            return Err(io::Error::from(ErrorKind::Interrupted));
-        }
-        Ok(&self.rest[..self.step.min(self.rest.len())])
-    }
-
-    fn consume(&mut self, amount: usize) {
-        self.rest = &self.rest[amount.min(self.rest.len())..];
-    }
-}
-
-/// Takes a few bytes at each write, and fails or takes none at one.
-#[derive(Drop)]
-struct Funnel {
-    bytes: Vec<u8>,
-    step: usize,
-    writes: usize,
-    fails_at: Option<usize>,
-    blocks_at: Option<usize>,
-}
-
-impl Funnel {
-    fn new(alloc: Global, step: usize) -> Funnel {
-        Funnel {
-            bytes: Vec::new(alloc),
-            step,
-            writes: 0,
-            fails_at: None,
-            blocks_at: None,
-        }
-    }
-}
-
-impl Write for Funnel {
-    fn write(&mut self, buf: &[u8]) -> io::Result<usize> {
-        self.writes = self.writes.saturating_add(1);
-        if self.fails_at == Some(self.writes) {
-            return Err(io::Error::from(ErrorKind::Interrupted));
-        }
-        if self.blocks_at == Some(self.writes) {
-            return Ok(0);
-        }
-        let len = self.step.min(buf.len());
-        if self.bytes.extend_from_slice(&buf[..len]).is_err() {
-            return Err(io::Error::from(ErrorKind::OutOfMemory));
-        }
-        Ok(len)
-    }
-
-    fn flush(&mut self) -> io::Result<()> {
-        Ok(())
     }
 }
 

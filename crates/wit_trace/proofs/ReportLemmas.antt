@@ -1,0 +1,223 @@
+-- What the texts of reports rest on: pieces written one behind another, what stands under a number, and the type
+-- of a lock.
+use Rattle.std.proofs.Common.{◌≡◌, ℕ, ◌+◌, ◌-◌, ◌<◌, ◌≤◌, Bool, true, false, not, ◌&&◌, ◌||◌, cond, List, [], ◌∷◌, ◌++◌, length, get_or, drop, Option, None, Some, Ok, find, unwrap_or, refl, ap, sym, ◌∙◌, subst, arith, append_assoc, length-append, ⊎_elim, codes}
+use Rattle.std.specs.List.{list_any, position_or_len, slice_get}
+use Rattle.std.specs.Option.{option_or}
+use Rattle.std.specs.Borrow.{Bor}
+use Rattle.std.proofs.lemmas.Bool.{false≢true, true≢false, or_parts, not-false, and_from, cases_lt, lt-ltb, le-leb}
+use Rattle.std.proofs.lemmas.Slice.Eq.{bytes_eq-Decides}
+use Rattle.std.proofs.lemmas.Option.{slice_get_within, get_or_from_slice_get, same_Some}
+use Rattle.std.proofs.lemmas.List.{get_or_append_left, at_drop_more}
+use Rattle.std.proofs.lemmas.List.Folds.{find-append, find_at}
+use Rattle.std.proofs.Math.Seq.{get_or-append_seam}
+use Rattle.wit_model.specs.declared.locks.Class.{Class}
+use Rattle.wit_model.specs.declared.locks.Class.TheVariants.{SleepMutex, SpinMutex, Rw, Sx}
+use Rattle.wit_model.specs.declared.locks.TypeNo.{TypeNo}
+use Rattle.wit_model.specs.declared.locks.LockType.{LockType}
+use Rattle.wit_model.specs.declared.locks.Lock.{Lock}
+use Rattle.wit_model.specs.declared.calls.NewLock.{NewLock}
+use Rattle.wit_model.specs.declared.calls.LockAt.{LockAt}
+use Rattle.wit_model.specs.declared.calls.Call.{Call}
+use Rattle.wit_model.specs.declared.calls.Call.TheVariants.{Init, Check, Note, Unlock}
+use Rattle.wit_model.specs.declared.calls.Reply.{Reply}
+use Rattle.wit_model.specs.declared.calls.Entry.{Entry}
+use Rattle.wit_model.specs.Types.{is_named, is_enrolled, is_otherwise, is_same_class, type_number, enrolled, type_name_of, types_after}
+use Rattle.wit_model.specs.Orders.{is_adoption_of}
+use Rattle.wit_model.specs.Locks.{made_among, unknown_lock, lock_at}
+use Rattle.wit_model.specs.State.{Start, Known, state_of, types_of, typed_locks}
+use Rattle.wit_model.specs.Step.{answer_of, story_after, IsLegal}
+use Rattle.wit_model.specs.Spelling.{quoted}
+use Rattle.wit_model.specs.Texts.{type_words, class_words, site_words, lock_line, origin_words, order_line, order_lines, established}
+use Rattle.wit_model.proofs.Seats.{entry}
+use Rattle.wit_model.proofs.Accepted.{init_accepted}
+use Rattle.wit_model.proofs.Types.{IsTyped, typed_made, typed-check, typed-note, typed-unlock, number-known}
+use Rattle.wit_core.specs.Numbered.{is_given, type_numbers, TypesLock, ClassesType, NamesType}
+
+-- pieces written one behind another make a line
+pub order-written : {t1 t2 t3 t4 t5 t6 t7 : List ℕ} (t : List ℕ) (k : Known) (files : List (List ℕ)) (a b : ℕ)
+    → t1 ≡ t ++ codes " " → t2 ≡ t1 ++ quoted (type_words k.types a) → t3 ≡ t2 ++ codes " -> " → t4 ≡ t3 ++ quoted (type_words k.types b) → t5 ≡ t4 ++ codes " @ "
+    → t6 ≡ t5 ++ origin_words files (find (is_adoption_of a b) k.orders) → t7 ≡ t6 ++ 10 ∷ [] → t7 ≡ t ++ order_line k files a b
+order-written t k files a b e1 e2 e3 e4 e5 e6 e7 =
+    behind7 t (codes " ") (quoted (type_words k.types a)) (codes " -> ") (quoted (type_words k.types b)) (codes " @ ")
+    (origin_words files (find (is_adoption_of a b) k.orders)) (10 ∷ []) e1 e2 e3 e4 e5 e6 e7
+  where
+    behind7 : {u1 u2 u3 u4 u5 u6 u7 : List ℕ} (u p1 p2 p3 p4 p5 p6 p7 : List ℕ) → u1 ≡ u ++ p1 → u2 ≡ u1 ++ p2 → u3 ≡ u2 ++ p3 → u4 ≡ u3 ++ p4 → u5 ≡ u4 ++ p5 → u6 ≡ u5 ++ p6 → u7 ≡ u6 ++ p7
+        → u7 ≡ u ++ (p1 ++ (p2 ++ (p3 ++ (p4 ++ (p5 ++ (p6 ++ p7))))))
+    behind7 u p1 p2 p3 p4 p5 p6 p7 f1 f2 f3 f4 f5 f6 f7 = simp (f7, f6, f5, f4, f3, f2, f1, append_assoc)
+
+pub lock-written : {t1 t2 t3 t4 t5 t6 t7 t8 t9 t10 t11 : List ℕ} (t : List ℕ) (locks : List Lock) (files : List (List ℕ)) (rank : List ℕ) (at : LockAt)
+    → t1 ≡ t ++ codes " " → t2 ≡ t1 ++ rank → t3 ≡ t2 ++ codes " " → t4 ≡ t3 ++ quoted (lock_at locks at.lock.0).made.name → t5 ≡ t4 ++ codes " ("
+    → t6 ≡ t5 ++ type_name_of (lock_at locks at.lock.0).made → t7 ≡ t6 ++ codes ", " → t8 ≡ t7 ++ class_words (lock_at locks at.lock.0).made.class → t9 ≡ t8 ++ codes ") @ "
+    → t10 ≡ t9 ++ site_words files at.site → t11 ≡ t10 ++ 10 ∷ [] → t11 ≡ t ++ lock_line locks files rank at
+lock-written t locks files rank at e1 e2 e3 e4 e5 e6 e7 e8 e9 e10 e11 =
+    behind11 t (codes " ") rank (codes " ") (quoted (lock_at locks at.lock.0).made.name) (codes " (") (type_name_of (lock_at locks at.lock.0).made) (codes ", ")
+    (class_words (lock_at locks at.lock.0).made.class) (codes ") @ ") (site_words files at.site) (10 ∷ []) e1 e2 e3 e4 e5 e6 e7 e8 e9 e10 e11
+  where
+    behind11 : {u1 u2 u3 u4 u5 u6 u7 u8 u9 u10 u11 : List ℕ} (u p1 p2 p3 p4 p5 p6 p7 p8 p9 p10 p11 : List ℕ) → u1 ≡ u ++ p1 → u2 ≡ u1 ++ p2 → u3 ≡ u2 ++ p3 → u4 ≡ u3 ++ p4 → u5 ≡ u4 ++ p5 → u6 ≡ u5 ++ p6
+        → u7 ≡ u6 ++ p7 → u8 ≡ u7 ++ p8 → u9 ≡ u8 ++ p9 → u10 ≡ u9 ++ p10 → u11 ≡ u10 ++ p11
+        → u11 ≡ u ++ (p1 ++ (p2 ++ (p3 ++ (p4 ++ (p5 ++ (p6 ++ (p7 ++ (p8 ++ (p9 ++ (p10 ++ p11))))))))))
+    behind11 u p1 p2 p3 p4 p5 p6 p7 p8 p9 p10 p11 f1 f2 f3 f4 f5 f6 f7 f8 f9 f10 f11 = simp (f11, f10, f9, f8, f7, f6, f5, f4, f3, f2, f1, append_assoc)
+
+-- a path's lines, once the first of them is written
+pub line-turn : (k : Known) (files : List (List ℕ)) (types : List TypeNo) (i : ℕ) (a b d : TypeNo) (t u : List ℕ)
+    → i < length types → b ≡ get_or types i d → u ≡ t ++ order_line k files a.0 b.0
+    → u ++ order_lines k files (b.0 ∷ type_numbers (drop (i + 1) types)) ≡ t ++ order_lines k files (a.0 ∷ type_numbers (drop i types))
+line-turn k files types i a b d t u lt here written =
+    ap (λ x. x ++ order_lines k files (b.0 ∷ type_numbers (drop (i + 1) types))) written
+    ∙ append_assoc t (order_line k files a.0 b.0) (order_lines k files (b.0 ∷ type_numbers (drop (i + 1) types)))
+    ∙ ap (λ (c : TypeNo). t ++ (order_line k files a.0 c.0 ++ order_lines k files (c.0 ∷ type_numbers (drop (i + 1) types)))) here
+    ∙ sym (at_drop_more (λ rest. t ++ order_lines k files (a.0 ∷ type_numbers rest)) types i d lt)
+
+pub established-written : {t1 t2 : List ℕ} (t : List ℕ) (k : Known) (files : List (List ℕ)) (way items : List TypeNo) (p : Option (List ℕ))
+    → Some (type_numbers items) ≡ p → t1 ≡ t ++ codes "established order:\n" → way ≡ items → t2 ≡ t1 ++ order_lines k files (type_numbers way)
+    → t2 ≡ t ++ established k files p
+established-written t k files way items p is e1 same e2 =
+    e2 ∙ ap (λ x. x ++ order_lines k files (type_numbers way)) e1
+    ∙ append_assoc t (codes "established order:\n") (order_lines k files (type_numbers way))
+    ∙ ap (λ w. t ++ established k files (Some (type_numbers w))) same
+    ∙ ap (λ o. t ++ established k files o) is
+
+-- the type of a lock's name has the lock's class
+HasType : List LockType → NewLock → Type 0
+HasType types lock = find (is_named (type_name_of lock)) types ≡ Some (record { name = type_name_of lock; class = lock.class })
+
+same_classes : (a b : Class) → is_same_class a b ≡ true → a ≡ b
+same_classes SleepMutex SleepMutex is = refl
+same_classes SpinMutex SpinMutex is = refl
+same_classes Rw Rw is = refl
+same_classes Sx Sx is = refl
+same_classes SleepMutex SpinMutex is = absurd (false≢true is)
+same_classes SleepMutex Rw is = absurd (false≢true is)
+same_classes SleepMutex Sx is = absurd (false≢true is)
+same_classes SpinMutex SleepMutex is = absurd (false≢true is)
+same_classes SpinMutex Rw is = absurd (false≢true is)
+same_classes SpinMutex Sx is = absurd (false≢true is)
+same_classes Rw SleepMutex is = absurd (false≢true is)
+same_classes Rw SpinMutex is = absurd (false≢true is)
+same_classes Rw Sx is = absurd (false≢true is)
+same_classes Sx SleepMutex is = absurd (false≢true is)
+same_classes Sx SpinMutex is = absurd (false≢true is)
+same_classes Sx Rw is = absurd (false≢true is)
+
+found-type : (name : List ℕ) (class : Class) (types : List LockType) → is_enrolled name types ≡ true → is_otherwise name class types ≡ false
+    → find (is_named name) types ≡ Some (record { name = name; class = class })
+found-type name class [] is other = absurd (false≢true is)
+found-type name class (t ∷ ts) is other = go (is_named name t) refl is other (λ some none. found-type name class ts some none)
+  where
+    own : List ℕ → Class → LockType
+    own n c = record { name = n; class = c }
+
+    go : (b : Bool) → is_named name t ≡ b → (b || is_enrolled name ts) ≡ true → ((b && not (is_same_class t.class class)) || is_otherwise name class ts) ≡ false
+        → (is_enrolled name ts ≡ true → is_otherwise name class ts ≡ false → find (is_named name) ts ≡ Some (record { name = name; class = class }))
+        → cond b (Some t) (find (is_named name) ts) ≡ Some (record { name = name; class = class })
+    go false e some none later = later some none
+    go true e some none later =
+        let same : t.class ≡ class = same_classes t.class class (not-false _ (or_parts _ _ none).0) in
+        let named : t.name ≡ name = (bytes_eq-Decides t.name name).0 e in
+        ap (λ n. Some (own n t.class)) named ∙ ap (λ c. Some (own name c)) same
+
+unfound : {X : Type 0} (p : X → Bool) (xs : List X) → list_any p xs ≡ false → find p xs ≡ None
+unfound p [] none = refl
+unfound p (x ∷ xs) none = let parts = or_parts (p x) (list_any p xs) none in rw parts.0 (unfound p xs parts.1)
+
+type-stays : (other : List ℕ) (class : Class) (types : List LockType) (lock : NewLock) → HasType types lock → HasType (enrolled other class types) lock
+unfolding HasType
+type-stays other class types lock has = go (is_enrolled other types)
+  where
+    go : (b : Bool) → find (is_named (type_name_of lock)) (cond b types (types ++ record { name = other; class = class } ∷ [])) ≡ Some (record { name = type_name_of lock; class = lock.class })
+    go true = has
+    go false = find-append (is_named (type_name_of lock)) types (record { name = other; class = class } ∷ [])
+        ∙ ap (λ o. option_or o (find (is_named (type_name_of lock)) (record { name = other; class = class } ∷ []))) has
+
+type-new : (types : List LockType) (lock : NewLock) → is_otherwise (type_name_of lock) lock.class types ≡ false → HasType (enrolled (type_name_of lock) lock.class types) lock
+unfolding HasType
+type-new types lock other = go (is_enrolled (type_name_of lock) types) refl
+  where
+    own : LockType
+    own = record { name = type_name_of lock; class = lock.class }
+
+    itself : is_named (type_name_of lock) own ≡ true
+    itself = (bytes_eq-Decides (type_name_of lock) (type_name_of lock)).1 refl
+
+    go : (b : Bool) → is_enrolled (type_name_of lock) types ≡ b → find (is_named (type_name_of lock)) (cond b types (types ++ own ∷ [])) ≡ Some own
+    go true is = found-type (type_name_of lock) lock.class types is other
+    go false is = find-append (is_named (type_name_of lock)) types (own ∷ [])
+        ∙ ap (λ o. option_or o (find (is_named (type_name_of lock)) (own ∷ []))) (unfound (is_named (type_name_of lock)) types is)
+        ∙ ap (λ b. cond b (Some own) None) itself
+
+HaveTypes : List LockType → List Lock → Type 0
+HaveTypes types locks = (i : ℕ) → i < length locks → HasType types (get_or locks i unknown_lock).made
+
+types_by : (start : Start) (files : List (List ℕ)) (h : List Entry) (t : ℕ) (c : Call) (r : Reply) → answer_of (story_after start files h) t c ≡ Ok r
+    → HaveTypes (types_of start h) (typed_locks start h) → HaveTypes (types_of start (entry t c r ∷ h)) (typed_locks start (entry t c r ∷ h))
+unfolding HaveTypes
+types_by start files h t (Init lock) r ok all = λ i lt.
+    ⊎_elim
+    (λ old. subst (λ (k : Lock). HasType (types_after (Init lock) (types_of start h)) k.made)
+    (sym (get_or_append_left (typed_locks start h) (made_among (types_of start h) (Init lock)) unknown_lock i old))
+    (type-stays (type_name_of lock) lock.class (types_of start h) (get_or (typed_locks start h) i unknown_lock).made (all i old)))
+    (λ past. subst (λ (k : Lock). HasType (types_after (Init lock) (types_of start h)) k.made)
+    (sym (let e : i ≡ length (typed_locks start h) = omega (arith, lt, past, length-append (typed_locks start h) (made_among (types_of start h) (Init lock))) in
+    ap (λ n. get_or (typed_locks start (entry t (Init lock) r ∷ h)) n unknown_lock) e
+    ∙ get_or-append_seam (typed_locks start h) (record { type_no = record { 0 = type_number (type_name_of lock) (types_of start h) }; made = lock }) [] unknown_lock))
+    (type-new (types_of start h) lock (init_accepted (state_of (story_after start files h)) t lock r ok).class))
+    (cases_lt i (length (typed_locks start h)))
+types_by start files h t (Check q) r ok all = subst (λ ls. (i : ℕ) → i < length ls → HasType (types_of start h) (get_or ls i unknown_lock).made) (sym (typed-check start h t q r)) all
+types_by start files h t (Note l) r ok all = subst (λ ls. (i : ℕ) → i < length ls → HasType (types_of start h) (get_or ls i unknown_lock).made) (sym (typed-note start h t l r)) all
+types_by start files h t (Unlock l m) r ok all = subst (λ ls. (i : ℕ) → i < length ls → HasType (types_of start h) (get_or ls i unknown_lock).made) (sym (typed-unlock start h t l m r)) all
+
+types_all : (start : Start) (files : List (List ℕ)) (h : List Entry) → IsLegal start files h → HaveTypes (types_of start h) (typed_locks start h)
+unfolding HaveTypes
+types_all start files [] legal = λ i lt. absurd (omega arith)
+types_all start files (x ∷ h) legal = types_by start files h x.seat.0 x.call x.reply legal.0 (types_all start files h legal.1)
+
+-- under its type's number, a lock that was made has its type name and its class
+record IsOfType (types : List LockType) (k : Lock) : Type 0 where
+  given : is_given types k.type_no.0 ≡ true
+  is : slice_get types (k.type_no.0 - 1) ≡ Some (record { name = type_name_of k.made; class = k.made.class })
+
+of_type : (start : Start) (files : List (List ℕ)) (h : List Entry) (l : ℕ) → IsLegal start files h → 0 < l → l ≤ length (typed_locks start h)
+    → IsOfType (types_of start h) (lock_at (typed_locks start h) l)
+unfolding HaveTypes HasType
+of_type start files h l legal some within =
+    let k = lock_at (typed_locks start h) l in
+    let typed : IsTyped (types_of start h) k = typed_made start h l some within in
+    let known = number-known (type_name_of k.made) (types_of start h) typed.known in
+    let place : k.type_no.0 - 1 ≡ position_or_len (is_named (type_name_of k.made)) (types_of start h) = omega (arith, typed.number) in
+    record {
+      given = and_from _ _ (lt-ltb 0 k.type_no.0 (omega (arith, typed.number, known.0))) (le-leb k.type_no.0 (length (types_of start h)) (omega (arith, typed.number, known.1)));
+      is = ap (λ i. slice_get (types_of start h) i) place ∙ sym (find_at (is_named (type_name_of k.made)) (types_of start h))
+          ∙ types_all start files h legal (l - 1) (omega arith);
+    }
+
+-- a lock that was found under a number, where 0 is read as 1, is of its type
+found_lock : (start : Start) (files : List (List ℕ)) (h : List Entry) (n m : ℕ) (number : TypeNo) → IsLegal start files h → 0 < m → m - 1 ≡ n - 1
+    → TypesLock (typed_locks start h) m (Some number) → (number ≡ (lock_at (typed_locks start h) n).type_no) × IsOfType (types_of start h) (lock_at (typed_locks start h) n)
+found_lock start files h n m number legal some same (lock, at, is) =
+    let within : m - 1 < length (typed_locks start h) = slice_get_within (typed_locks start h) (m - 1) lock at in
+    let here : lock_at (typed_locks start h) m ≡ lock_at (typed_locks start h) n = ap (λ i. get_or (typed_locks start h) i unknown_lock) same in
+    let own : lock_at (typed_locks start h) m ≡ lock = get_or_from_slice_get (typed_locks start h) (m - 1) lock unknown_lock at in (
+      is ∙ ap (λ (k : Lock). k.type_no) (sym own ∙ here),
+      subst (λ (k : Lock). IsOfType (types_of start h) k) here (of_type start files h m legal some (omega (arith, within))),
+    )
+
+-- so its type's class and name are its own
+pub class_as_made : (start : Start) (files : List (List ℕ)) (h : List Entry) (n m : ℕ) (number : TypeNo) (r : Option Class) → IsLegal start files h → 0 < m → m - 1 ≡ n - 1
+    → TypesLock (typed_locks start h) m (Some number) → ClassesType (types_of start h) number.0 r → unwrap_or r SleepMutex ≡ (lock_at (typed_locks start h) n).made.class
+class_as_made start files h n m number None legal some same found none =
+    let f = found_lock start files h n m number legal some same found in
+    absurd (true≢false (sym f.1.given ∙ sym (ap (λ (t : TypeNo). is_given (types_of start h) t.0) f.0) ∙ none))
+class_as_made start files h n m number (Some class) legal some same found (t, at, is) =
+    let f = found_lock start files h n m number legal some same found in
+    let type_is = same_Some _ _ (sym at ∙ ap (λ (t : TypeNo). slice_get (types_of start h) (t.0 - 1)) f.0 ∙ f.1.is) in
+    is ∙ ap (λ (t : LockType). t.class) type_is
+
+pub name_as_made : (start : Start) (files : List (List ℕ)) (h : List Entry) (n m : ℕ) (number : TypeNo) (r : Option (Bor (List ℕ))) (d : Bor (List ℕ)) → IsLegal start files h → 0 < m → m - 1 ≡ n - 1
+    → TypesLock (typed_locks start h) m (Some number) → NamesType (types_of start h) number.0 r → (unwrap_or r d).now ≡ type_name_of (lock_at (typed_locks start h) n).made
+name_as_made start files h n m number None d legal some same found none =
+    let f = found_lock start files h n m number legal some same found in
+    absurd (true≢false (sym f.1.given ∙ sym (ap (λ (t : TypeNo). is_given (types_of start h) t.0) f.0) ∙ none))
+name_as_made start files h n m number (Some name) d legal some same found (t, at, is) =
+    let f = found_lock start files h n m number legal some same found in
+    let type_is = same_Some _ _ (sym at ∙ ap (λ (t : TypeNo). slice_get (types_of start h) (t.0 - 1)) f.0 ∙ f.1.is) in
+    is ∙ ap (λ (t : LockType). t.name) type_is
