@@ -1,0 +1,102 @@
+-- What a table of names knows, as its callers see it, and its answers. Types and files have their places as numbers, from 1.
+use Rattle.std.specs.Prelude.{ℕ, ◌-◌, ◌<◌, ◌≤◌, ◌≡◌, ◌⊎◌, Bool, true, false, not, ◌&&◌, ◌||◌, List, [], ◌∷◌, ◌++◌, length, map, nat_le, slice_get, slice_set, slice_index, Some, Result, Ok, Err, if◌then◌else◌}
+use Rattle.std.specs.List.{list_any}
+use Rattle.std.specs.Str.{bytes_eq}
+use Rattle.wit_model.specs.declared.faults.Fault.{Fault}
+use Rattle.wit_model.specs.declared.faults.Fault.TheVariants.{BadName, ClassMismatch, TypesFull, FilesFull, OutOfMemory}
+use Rattle.wit_model.specs.declared.locks.Class.{Class}
+use Rattle.wit_model.specs.Names.{is_name, is_file_name}
+use Rattle.wit_model.specs.declared.locks.LockType.{LockType}
+use Rattle.wit_model.specs.Types.{is_enrolled, is_otherwise, type_number, enrolled}
+use Rattle.wit_model.specs.Files.{is_known_file, file_number, files_after, IsNumbered}
+
+-- the types, for each of them how many live locks it has, the source files, the pairs of names that were blessed, and how many
+-- types and files there may be
+pub record Names : Type 0 where
+  pub types : List LockType
+  pub live : List ℕ
+  pub files : List (List ℕ)
+  pub blessed : List (List ℕ × List ℕ)
+  pub most_types : ℕ
+  pub most_files : ℕ
+
+abbrev pub no_names : ℕ → ℕ → Names
+no_names types files = record { types = []; live = []; files = []; blessed = []; most_types = types; most_files = files }
+
+abbrev pub type_names : List LockType → List (List ℕ)
+type_names types = map (λ (t : LockType). t.name) types
+
+-- a number that was given: those of the list's places, from 1
+abbrev pub IsGiven : {X : Type 0} → List X → ℕ → Type 0
+IsGiven xs n = (0 < n) × (n ≤ length xs)
+
+-- the name of the type at this place
+abbrev pub HasNameAt : List LockType → ℕ → List ℕ → Type 0
+HasNameAt types i name = (t : LockType) × (slice_get types i ≡ Some t) × (name ≡ t.name)
+
+-- the class of the type at this place
+abbrev pub HasClassAt : List LockType → ℕ → Class → Type 0
+HasClassAt types i class = (t : LockType) × (slice_get types i ≡ Some t) × (class ≡ t.class)
+
+-- the name of the type with this number
+abbrev pub HasName : List LockType → ℕ → List ℕ → Type 0
+HasName types n name = HasNameAt types (n - 1) name
+
+-- the class of the type with this number
+abbrev pub HasClass : List LockType → ℕ → Class → Type 0
+HasClass types n class = HasClassAt types (n - 1) class
+
+-- the answer to an enrolment, want of memory aside: a known name of the same class gives its number also where no number is left
+abbrev pub enroll_answer : List ℕ → Class → ℕ → List LockType → Result ℕ Fault
+enroll_answer name class most types =
+    if not (is_name name) then Err BadName
+    else if is_otherwise name class types then Err ClassMismatch
+    else if not (is_enrolled name types) && nat_le most (length types) then Err TypesFull
+    else Ok (type_number name types)
+
+-- the answer to the naming of a file, want of memory aside: a known file gives its number also where no number is left
+abbrev pub filing_answer : List ℕ → ℕ → List (List ℕ) → Result ℕ Fault
+filing_answer name most files =
+    if not (is_file_name name) then Err BadName
+    else if not (is_known_file name files) && nat_le most (length files) then Err FilesFull
+    else Ok (file_number name files)
+
+-- a refusal: the answer's fault, or want of memory in place of a number
+abbrev pub IsRefusal : Result ℕ Fault → Fault → Type 0
+IsRefusal answer fault = (answer ≡ Err fault) ⊎ ((fault ≡ OutOfMemory) × IsNumbered answer)
+
+-- the counts of live locks once this name is enrolled: a new type has none
+abbrev pub live_after : List ℕ → List LockType → List ℕ → List ℕ
+live_after name types live = if is_enrolled name types then live else live ++ 0 ∷ []
+
+abbrev pub with_type : Names → List ℕ → Class → Names
+with_type n name class = record n { types = enrolled name class n.types; live = live_after name n.types n.live }
+
+abbrev pub with_file : Names → List ℕ → Names
+with_file n name = record n { files = files_after name n.files }
+
+-- how many live locks the type with this number has
+abbrev pub live_of : Names → ℕ → ℕ
+live_of n t = slice_index n.live (t - 1)
+
+abbrev pub with_live : Names → ℕ → ℕ → Names
+with_live n t count = record n { live = slice_set n.live (t - 1) count }
+
+-- whether the pair holds these two names, in either order
+abbrev pub is_pair : List ℕ → List ℕ → List ℕ × List ℕ → Bool
+is_pair a b p = (bytes_eq p.0 a && bytes_eq p.1 b) || (bytes_eq p.0 b && bytes_eq p.1 a)
+
+-- whether these two names were blessed, in either order
+abbrev pub is_blessed : List ℕ → List ℕ → List (List ℕ × List ℕ) → Bool
+is_blessed a b pairs = list_any (is_pair a b) pairs
+
+abbrev pub with_blessed : Names → List ℕ → List ℕ → Names
+with_blessed n a b = record n { blessed = n.blessed ++ (a, b) ∷ [] }
+
+abbrev pub are_names : List ℕ → List ℕ → Bool
+are_names a b = is_name a && is_name b
+
+-- a pair isn't blessed where one of the two is no name, or for want of memory
+abbrev pub IsBlessRefusal : List ℕ → List ℕ → Fault → Type 0
+IsBlessRefusal a b fault =
+    ((fault ≡ BadName) × (are_names a b ≡ false)) ⊎ ((fault ≡ OutOfMemory) × (are_names a b ≡ true))

@@ -1,0 +1,76 @@
+//! Source files by name, in order of first appearance.
+
+ghost use Rattle.std.specs.Prelude.{◌≡◌, ◌≤◌, ◌<◌, ◌+◌, ◌++◌, [], ◌∷◌, false, length, is_some, slice_get, IfSome, IfNone, IfOk, IfErr, OnOk, OnErr, Some, Ok};
+ghost use Rattle.wit_model.specs.Files.{is_known_file, file_number, files_after};
+ghost use Rattle.wit_model.specs.declared.faults.Fault.TheVariants.{OutOfMemory};
+ghost use Rattle.wit_table.specs.Known.{IsGiven, filing_answer, IsRefusal};
+ghost use Rattle.wit_table.specs.Rows.{texts};
+
+use indexmap::IndexSet;
+use std::alloc::{AllocError, Global};
+use wit_model::{Fault, FileName, FileNo};
+
+/// Enters a file where it is new, and gives its number: `Table::file`.
+///
+/// # Errors
+/// In this order: `BadName`, `FilesFull`, `OutOfMemory`; the files are then as before.
+pub fn file_in(
+    alloc: Global,
+    files: &mut IndexSet<String>,
+    most: u32,
+    name: &str,
+) -> Result<FileNo, Fault>
+    requires few { length (texts files.old.keys) ≤ most }
+    requires most { most ≤ 65535 }
+    ensures ok { IfOk result (λ f. filing_answer name.now most (texts files.old.keys) ≡ Ok f.0) }
+    ensures number { IfOk result (λ f. f.0 ≡ file_number name.now (texts files.old.keys)) }
+    ensures given { IfOk result (λ f. IsGiven (texts files.new.keys) f.0) }
+    ensures err { IfErr result (IsRefusal (filing_answer name.now most (texts files.old.keys))) }
+    ensures absent { IfErr result (λ e. e ≡ OutOfMemory → is_known_file name.now (texts files.old.keys) ≡ false) }
+    ensures files { OnOk result (texts files.new.keys ≡ files_after name.now (texts files.old.keys)) }
+    ensures unchanged { OnErr result (files.new.keys ≡ files.old.keys) }
+{
+    if !FileName::accepts(name) {
+        return Err(Fault::BadName);
+    }
+    if let Some(place) = place_of(files, name) {
+        return Ok(FileNo((place + 1) as u16));
+    }
+    let count = files.len();
+    if count >= most as usize {
+        return Err(Fault::FilesFull);
+    }
+    match add_file(alloc, files, name) {
+        Ok(()) => Ok(FileNo((count + 1) as u16)),
+        Err(_) => Err(Fault::OutOfMemory),
+    }
+}
+
+// The place of the file with this name.
+fn place_of(files: &IndexSet<String>, name: &str) -> Option<usize>
+    ensures number { IfSome result (λ i. i + 1 ≡ file_number name.now (texts files.now.keys)) }
+    ensures found { is_some result ≡ is_known_file name.now (texts files.now.keys) }
+    ensures within { IfSome result (λ i. i < length (texts files.now.keys)) }
+    ensures next { IfNone result (file_number name.now (texts files.now.keys) ≡ length (texts files.now.keys) + 1) }
+{
+    files.get_index_of(name)
+}
+
+// Adds a new file behind the others.
+fn add_file(alloc: Global, files: &mut IndexSet<String>, name: &str) -> Result<(), AllocError>
+    requires { is_known_file name.now (texts files.old.keys) ≡ false }
+    ensures ok { OnOk result (texts files.new.keys ≡ texts files.old.keys ++ name.now ∷ []) }
+    ensures err { OnErr result (files.new.keys ≡ files.old.keys) }
+{
+    let text = String::from_str(alloc, name)?;
+    files.insert(text)?;
+    Ok(())
+}
+
+/// The name of the file at this place.
+pub fn file_at(files: &IndexSet<String>, place: usize) -> &str
+    requires { place < length (texts files.now.keys) }
+    ensures { slice_get (texts files.now.keys) place ≡ Some result.now }
+{
+    files.get_index(place).unwrap().as_str()
+}
