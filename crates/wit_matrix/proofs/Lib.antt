@@ -1,0 +1,9 @@
+pub mod Bits
+pub mod Callers
+pub mod Edits
+pub mod Joins
+pub mod Leading
+pub mod Pairs
+pub mod Places
+pub mod Settled
+pub mod Ways

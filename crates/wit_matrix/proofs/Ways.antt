@@ -1,0 +1,73 @@
+-- The path by which an order is told, step by step.
+use Rattle.std.proofs.Common.{◌≡◌, ℕ, suc, zero, ◌+◌, ◌-◌, ◌<◌, ◌≤◌, Bool, true, false, cond, eqb, List, [], ◌∷◌, ◌++◌, find, Some, None, refl, ap, sym, ◌∙◌, subst, inl, inr, arith, append_assoc}
+use Rattle.std.specs.List.{range_with_len}
+use Rattle.std.proofs.lemmas.Bool.{cases_order}
+use Rattle.wit_model.specs.declared.locks.TypeNo.{TypeNo}
+use Rattle.wit_model.specs.declared.calls.Adoption.{Adoption}
+use Rattle.wit_model.specs.Paths.{next_type, way}
+use Rattle.wit_matrix.specs.Relation.{type_numbers}
+
+-- the first number that passes
+pub find_first : (test : ℕ → Bool) (s n k : ℕ) → s ≤ k → k < s + n → ((t : ℕ) → s ≤ t → t < k → test t ≡ false) → test k ≡ true → Some k ≡ find test (range_with_len s n)
+find_first test s zero k le lt before is = absurd (omega arith)
+find_first test s (suc n) k le lt before is =
+    elim (cases_order s k) [
+      | inl e ↦ subst (λ j. Some k ≡ cond (test j) (Some j) (find test (range_with_len (j + 1) n))) (sym e) (rw is refl)
+      | inr (inl less) ↦
+          let no : test s ≡ false = before s (omega arith) less in
+          rw no (find_first test (s + 1) n k (omega arith) (omega arith) (λ t st tk. before t (omega arith) tk) is)
+      | inr (inr more) ↦ absurd (omega arith)
+    ]
+
+pub find_none : (test : ℕ → Bool) (s n : ℕ) → ((t : ℕ) → s ≤ t → t < s + n → test t ≡ false) → None ≡ find test (range_with_len s n)
+find_none test s zero none = refl
+find_none test s (suc n) none =
+    let no : test s ≡ false = none s (omega arith) (omega arith) in
+    rw no (find_none test (s + 1) n (λ t st tn. none t (omega arith) (omega arith)))
+
+-- so far these types were gone by, and from here the way goes on for what is left
+pub record IsOnWay (os : List Adoption) (n a b steps : ℕ) (gone : List TypeNo) (at : ℕ) : Type 0 where
+  pub told : type_numbers gone ++ way os n (n - steps) at b ≡ way os n n a b
+
+pub way_starts : (os : List Adoption) (n a b : ℕ) → IsOnWay os n a b 0 [] a
+way_starts os n a b = record { told = let same : n - 0 ≡ n = omega arith in rw same refl }
+
+type_numbers-push : (gone : List TypeNo) (t : TypeNo) → type_numbers (gone ++ t ∷ []) ≡ type_numbers gone ++ t.0 ∷ []
+type_numbers-push [] t = refl
+type_numbers-push (g ∷ gone) t = ap (λ ns. g.0 ∷ ns) (type_numbers-push gone t)
+
+way_step : (os : List Adoption) (n a b steps : ℕ) (gone more : List TypeNo) (t : TypeNo) (rest : List ℕ) → IsOnWay os n a b steps gone t.0 → steps < n → more ≡ gone ++ t ∷ []
+    → way os n (suc (n - (steps + 1))) t.0 b ≡ t.0 ∷ rest → type_numbers more ++ rest ≡ way os n n a b
+way_step os n a b steps gone more t rest on lt is goes =
+    let left : n - steps ≡ suc (n - (steps + 1)) = omega arith in
+    ap (λ g. type_numbers g ++ rest) is
+    ∙ (ap (λ g. g ++ rest) (type_numbers-push gone t)
+    ∙ (append_assoc (type_numbers gone) (t.0 ∷ []) rest
+    ∙ (ap (λ w. type_numbers gone ++ w) (sym goes)
+    ∙ (ap (λ m. type_numbers gone ++ way os n m t.0 b) (sym left) ∙ on.told))))
+
+append-nil : (xs : List ℕ) → xs ++ [] ≡ xs
+append-nil [] = refl
+append-nil (x ∷ xs) = ap (λ ys. x ∷ ys) (append-nil xs)
+
+pub way_ends : (os : List Adoption) (n a b steps : ℕ) (gone more : List TypeNo) (t : TypeNo) → IsOnWay os n a b steps gone t.0 → steps < n → more ≡ gone ++ t ∷ []
+    → eqb t.0 b ≡ true → type_numbers more ≡ way os n n a b
+way_ends os n a b steps gone more t on lt is end =
+    sym (append-nil (type_numbers more)) ∙ way_step os n a b steps gone more t [] on lt is (rw end refl)
+
+pub way_lost : (os : List Adoption) (n a b steps : ℕ) (gone more : List TypeNo) (t : TypeNo) → IsOnWay os n a b steps gone t.0 → steps < n → more ≡ gone ++ t ∷ []
+    → eqb t.0 b ≡ false → next_type os n t.0 b ≡ None → type_numbers more ≡ way os n n a b
+way_lost os n a b steps gone more t on lt is goes none =
+    sym (append-nil (type_numbers more)) ∙ way_step os n a b steps gone more t [] on lt is (rw (goes, none) refl)
+
+pub way_on : (os : List Adoption) (n a b steps : ℕ) (gone more : List TypeNo) (t : TypeNo) (next : ℕ) → IsOnWay os n a b steps gone t.0 → steps < n → more ≡ gone ++ t ∷ []
+    → eqb t.0 b ≡ false → next_type os n t.0 b ≡ Some next → IsOnWay os n a b (steps + 1) more next
+way_on os n a b steps gone more t next on lt is goes some = record {
+  told = way_step os n a b steps gone more t (way os n (n - (steps + 1)) next b) on lt is (rw (goes, some) refl);
+}
+
+-- no step is left
+pub way_over : (os : List Adoption) (n a b steps : ℕ) (gone : List TypeNo) (at : ℕ) → n ≤ steps → IsOnWay os n a b steps gone at → type_numbers gone ≡ way os n n a b
+way_over os n a b steps gone at done on =
+    let none : n - steps ≡ 0 = omega arith in
+    sym (append-nil (type_numbers gone)) ∙ (ap (λ m. type_numbers gone ++ way os n m at b) (sym none) ∙ on.told)

@@ -1,0 +1,51 @@
+-- What a matrix says of its types: subr_witness.c keeps "for each lock type, its relation to every other".
+use Rattle.std.specs.Prelude.{ℕ, ◌≡◌, ◌≤◌, List, [], ◌∷◌, ◌++◌, Option, map}
+use Rattle.std.specs.Global.{Vec}
+use Rattle.std.specs.Option.{option_map}
+use Rattle.wit_model.specs.declared.locks.Origin.TheVariants.{Listed}
+use Rattle.wit_model.specs.declared.locks.TypeNo.{TypeNo}
+use Rattle.wit_model.specs.declared.calls.Adoption.{Adoption}
+use Rattle.wit_model.specs.Orders.{is_direct, IsPath, is_found, adopted_once, found_once}
+
+-- the number of types, the adopted orders, and the unordered pairs found in violation. Both lists stand for sets:
+-- they hold each member once, by rows, and nothing is said of where an order came from
+pub record Relation : Type 0 where
+  pub size : ℕ
+  pub orders : List Adoption
+  pub found : List (TypeNo × TypeNo)
+
+-- whether a number is one of n types
+pub record IsNumber (n t : ℕ) : Type 0 where
+  pub positive : 1 ≤ t
+  pub within : t ≤ n
+
+-- both hold the same direct orders
+abbrev pub HasSameOrders : List Adoption → List Adoption → Type 0
+HasSameOrders os ps = (a b : ℕ) → is_direct os a b ≡ is_direct ps a b
+
+-- both hold the same unordered pairs
+abbrev pub HasSameFound : List (TypeNo × TypeNo) → List (TypeNo × TypeNo) → Type 0
+HasSameFound fs gs = (a b : ℕ) → is_found fs a b ≡ is_found gs a b
+
+-- the order from p to c is adopted, and nothing else changes
+pub record Adopts (old : Relation) (p c : ℕ) (new : Relation) : Type 0 where
+  pub size : new.size ≡ old.size
+  pub orders : HasSameOrders new.orders (adopted_once p c Listed old.orders)
+  pub found : HasSameFound new.found old.found
+
+-- the unordered pair of a and b is found, and nothing else changes
+pub record Finds (old : Relation) (a b : TypeNo) (new : Relation) : Type 0 where
+  pub size : new.size ≡ old.size
+  pub orders : HasSameOrders new.orders old.orders
+  pub found : HasSameFound new.found (found_once a b old.found)
+
+abbrev pub type_numbers : List TypeNo → List ℕ
+type_numbers types = map (λ (t : TypeNo). t.0) types
+
+-- the numbers on a path, where there is one
+abbrev pub path_numbers : Option (Vec TypeNo) → Option (List ℕ)
+path_numbers p = option_map (λ (v : Vec TypeNo). type_numbers v.items) p
+
+-- the list starts with a and ends with b, and each step is an adopted order
+abbrev pub LeadsBy : List Adoption → ℕ → ℕ → List ℕ → Type 0
+LeadsBy os a b types = (between : List ℕ) × ((types ≡ a ∷ between ++ b ∷ []) × IsPath os a between b)

@@ -1,0 +1,11 @@
+//! How lock types stand to one another: for each two, whether one was adopted before the other, is
+//! before it by adopted orders, or was found with it in violation.
+#![tactic(auto)]
+
+mod cells;
+mod matrix;
+
+pub use matrix::Matrix;
+
+#[cfg(test)]
+mod tests;

@@ -1,0 +1,197 @@
+//! The relation matrix.
+
+ghost use Rattle.std.specs.Prelude.{◌≡◌, ◌↔◌, ◌≤◌, true, false, [], IsTrue, IfOk, IfErr, IfSome};
+ghost use Rattle.wit_model.specs.declared.locks.TypeNo.{TypeNo};
+ghost use Rattle.std.specs.Option.{option_map};
+ghost use Rattle.wit_model.specs.declared.faults.Fault.TheVariants.{OutOfMemory};
+ghost use Rattle.wit_model.specs.Orders.{Before, IsSound, is_before, is_direct, is_found, cell};
+ghost use Rattle.wit_model.specs.Paths.{leads, next_type, way, path};
+ghost use Rattle.wit_matrix.specs.Relation.{IsNumber, Adopts, Finds, type_numbers, path_numbers, LeadsBy};
+
+use crate::cells::{ANCESTOR, PARENT, REVERSAL, byte_at, has, link, mark};
+use std::alloc::{AllocError, Global};
+use std::marker::Model;
+use wit_model::{Fault, TypeNo};
+
+/// What is known of every two of up to 1,023 lock types, by their numbers from 1: which orders were
+/// adopted, which types are thereby before which, and which pairs were found in violation.
+#[derive(Drop)]
+pub struct Matrix {
+    alloc: Global,
+    size: u16,
+    cells: Vec<u8>,
+}
+
+impl Model for Matrix {
+    ghost use Rattle.wit_matrix.specs.Relation.{Relation};
+    ghost use Rattle.wit_matrix.specs.Bytes.{relation_in, IsKept};
+
+    ghost Value = { Relation };
+
+    ghost view = { λ m. relation_in m.size m.cells.items };
+
+    ghost invariant = { λ m. IsKept m.size m.cells.items };
+}
+
+impl Matrix {
+    /// No orders and no pairs, for this many types (1 to 1,023).
+    ///
+    /// # Errors
+    /// `OutOfMemory` alone.
+    pub fn new(alloc: Global, n: u16) -> Result<Matrix, Fault>
+        requires positive { 1 ≤ n }
+        requires within { n ≤ 1023 }
+        ensures ok { IfOk result (λ m. m ≡ record { size = n; orders = []; found = [] }) }
+        ensures err { IfErr result (λ e. e ≡ OutOfMemory) }
+    {
+        let Ok(cells) = vec![in alloc; 0; n as usize * n as usize] else {
+            return Err(Fault::OutOfMemory);
+        };
+        Ok(Matrix {
+            alloc,
+            size: n,
+            cells,
+        })
+    }
+
+    /// How many types. None is before itself.
+    pub fn size(&self) -> u16
+        ensures value { result ≡ self.now.size }
+        ensures positive { 1 ≤ result }
+        ensures within { result ≤ 1023 }
+        ensures sound { IsSound self.now.orders }
+    {
+        self.size
+    }
+
+    /// Whether a is before b: a path of adopted orders leads from a to b.
+    pub fn before(&self, a: TypeNo, b: TypeNo) -> bool
+        requires a { IsNumber self.now.size a.0 }
+        requires b { IsNumber self.now.size b.0 }
+        ensures value { result ≡ is_before self.now.orders a.0 b.0 }
+        ensures path { IsTrue result ↔ Before self.now.orders a.0 b.0 }
+    {
+        has(self.cell(a, b), ANCESTOR)
+    }
+
+    /// Whether the order from a to b was adopted.
+    pub fn direct(&self, a: TypeNo, b: TypeNo) -> bool
+        requires a { IsNumber self.now.size a.0 }
+        requires b { IsNumber self.now.size b.0 }
+        ensures { result ≡ is_direct self.now.orders a.0 b.0 }
+    {
+        has(self.cell(a, b), PARENT)
+    }
+
+    /// The relation of a to b, as the sum of 0x01 where the order from a to b was adopted, 0x02 where a is
+    /// before b, 0x04 where the order from b to a was adopted, 0x08 where b is before a, and 0x10 where the
+    /// pair was found in violation.
+    pub fn cell(&self, a: TypeNo, b: TypeNo) -> u8
+        requires a { IsNumber self.now.size a.0 }
+        requires b { IsNumber self.now.size b.0 }
+        ensures { result ≡ cell self.now.orders self.now.found a.0 b.0 }
+    {
+        byte_at(&self.cells, self.size, a, b)
+    }
+
+    /// Adopts an order between two types that differ and of which the child isn't before the parent. An
+    /// order that was adopted stays as it is.
+    pub fn adopt(&mut self, parent: TypeNo, child: TypeNo)
+        requires parent { IsNumber self.old.size parent.0 }
+        requires child { IsNumber self.old.size child.0 }
+        requires apart { parent.0 ≡ child.0 → ⊥ }
+        requires orderly { is_before self.old.orders child.0 parent.0 ≡ false }
+        ensures adopted { Adopts self.old parent.0 child.0 self.new }
+        ensures again { is_direct self.old.orders parent.0 child.0 ≡ true → self.new ≡ self.old }
+    {
+        if !self.direct(parent, child) {
+            link(&mut self.cells, self.size, parent, child);
+        }
+    }
+
+    /// Finds the unordered pair of a and b in violation; a type found doubled is paired with itself.
+    pub fn set_reversal(&mut self, a: TypeNo, b: TypeNo)
+        requires a { IsNumber self.old.size a.0 }
+        requires b { IsNumber self.old.size b.0 }
+        ensures { Finds self.old a b self.new }
+    {
+        mark(&mut self.cells, self.size, a, b);
+    }
+
+    /// Whether the unordered pair of a and b was found in violation.
+    pub fn reversed(&self, a: TypeNo, b: TypeNo) -> bool
+        requires a { IsNumber self.now.size a.0 }
+        requires b { IsNumber self.now.size b.0 }
+        ensures { result ≡ is_found self.now.found a.0 b.0 }
+    {
+        has(self.cell(a, b), REVERSAL)
+    }
+
+    /// The path of adopted orders from a to b that goes each time to the least type that is b or before it:
+    /// `None` exactly where a isn't before b.
+    ///
+    /// # Errors
+    /// `OutOfMemory` alone.
+    pub fn path(&self, a: TypeNo, b: TypeNo) -> Result<Option<Vec<TypeNo>>, Fault>
+        requires a { IsNumber self.now.size a.0 }
+        requires b { IsNumber self.now.size b.0 }
+        ensures ok { IfOk result (λ p. path_numbers p ≡ path self.now.orders self.now.size a.0 b.0) }
+        ensures leads { IfOk result (λ p. IfSome (path_numbers p) (LeadsBy self.now.orders a.0 b.0)) }
+        ensures err { IfErr result (λ e. e ≡ OutOfMemory) }
+    {
+        if !self.before(a, b) {
+            return Ok(None);
+        }
+        match self.way(self.alloc, a, b) {
+            Ok(way) => Ok(Some(way)),
+            Err(_) => Err(Fault::OutOfMemory),
+        }
+    }
+
+    // From one type to another, each time to the least that leads there.
+    fn way(&self, alloc: Global, from: TypeNo, to: TypeNo) -> Result<Vec<TypeNo>, AllocError>
+        requires from { IsNumber self.now.size from.0 }
+        requires to { IsNumber self.now.size to.0 }
+        ensures { IfOk result (λ v. type_numbers v.items ≡ way self.now.orders self.now.size self.now.size from.0 to.0) }
+    {
+        let mut way = Vec::new(alloc);
+        let mut at = from;
+        for _step in 0..self.size {
+            way.push(at)?;
+            if at.0 == to.0 {
+                return Ok(way);
+            }
+            match self.next_type(at, to) {
+                Some(next) => at = next,
+                None => return Ok(way),
+            }
+        }
+        Ok(way)
+    }
+
+    // The least type to which a path from one type to another can go.
+    fn next_type(&self, from: TypeNo, to: TypeNo) -> Option<TypeNo>
+        requires from { IsNumber self.now.size from.0 }
+        requires to { IsNumber self.now.size to.0 }
+        ensures value { option_map (λ (t : TypeNo). t.0) result ≡ next_type self.now.orders self.now.size from.0 to.0 }
+        ensures number { IfSome result (λ (t : TypeNo). IsNumber self.now.size t.0) }
+    {
+        for number in 1..=self.size {
+            let next = TypeNo(number);
+            if self.leads(from, next, to) {
+                return Some(next);
+            }
+        }
+        None
+    }
+
+    // Whether an adopted order goes to a type that is another or before it.
+    fn leads(&self, from: TypeNo, next: TypeNo, to: TypeNo) -> bool
+        requires from { IsNumber self.now.size from.0 }
+        requires next { IsNumber self.now.size next.0 }
+        requires to { IsNumber self.now.size to.0 }
+        ensures { result ≡ leads self.now.orders from.0 to.0 next.0 }
+    {
+        self.direct(from, next) && (next.0 == to.0 || self.before(next, to))
+    }
+}
