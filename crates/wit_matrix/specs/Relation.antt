@@ -1,4 +1,4 @@
--- What a matrix says of its types: subr_witness.c keeps "for each lock type, its relation to every other".
+-- What a matrix says of its types, as the relation matrix in the comments of subr_witness.c does: for each two, how one is related to the other.
 use Rattle.std.specs.Prelude.{ℕ, ◌≡◌, ◌≤◌, List, [], ◌∷◌, ◌++◌, Option, map}
 use Rattle.std.specs.Global.{Vec}
 use Rattle.std.specs.Option.{option_map}
