@@ -1,5 +1,5 @@
 -- Each call keeps the invariant of a verifier.
-use Rattle.std.proofs.Common.{◌≡◌, ℕ, ◌+◌, ◌-◌, ◌<◌, ◌≤◌, ◌&&◌, Bool, true, false, not, cond, List, [], ◌∷◌, ◌++◌, Option, None, Some, Ok, Err, Result, IfOk, OnOk, OnErr, string_bytes, length, map, reverse, find, get_or, vec_len, refl, sym, ap, ap₂, ◌∙◌, subst, arith, nat_le, is_some, length-append, zero-add}
+use Rattle.std.proofs.Common.{◌≡◌, ℕ, ◌+◌, ◌-◌, ◌<◌, ◌≤◌, ◌&&◌, Bool, true, false, not, cond, List, [], ◌∷◌, ◌++◌, Option, None, Some, Ok, Err, Result, IfOk, OnOk, OnErr, String, length, map, reverse, find, get_or, vec_len, refl, sym, ap, ap₂, ◌∙◌, subst, arith, nat_le, is_some, length-append, zero-add}
 use Rattle.std.proofs.lemmas.List.{length-map}
 use Rattle.std.specs.List.{position, range_with_len, AllByRecursion}
 use Rattle.std.proofs.lemmas.List.Elements.{recursion_from_All}
@@ -29,8 +29,9 @@ use Rattle.wit_model.specs.Types.{is_spin}
 use Rattle.wit_model.specs.Locks.{locks_of, lock_at, is_spin_lock}
 use Rattle.wit_model.specs.History.{is_report, reports_of, pending, watch_of}
 use Rattle.wit_model.specs.declared.locks.Watch.TheVariants.{On}
+use Rattle.wit_model.specs.Start.{start_fault}
 use Rattle.wit_model.specs.Files.{is_known_file, file_answer}
-use Rattle.wit_model.specs.State.{Start, Story, State, state_of, seats_of, seat_of, owed, is_seat, seat_at, no_seat}
+use Rattle.wit_model.specs.State.{Start, Story, State, Known, state_of, known_of, seats_of, seat_of, owed, is_seat, seat_at, no_seat}
 use Rattle.wit_model.specs.Step.{answer_of, story_after, is_pending, chain_for, IsLegal}
 use Rattle.wit_model.specs.Verdict.{is_of}
 use Rattle.wit_model.proofs.Sane.{IsSane}
@@ -47,7 +48,10 @@ use Rattle.wit_core.specs.declared.books.Books.{Books}
 use Rattle.wit_core.specs.declared.seats.Seat as program
 use Rattle.wit_core.specs.declared.verdicts.Verdict.{Verdict}
 use Rattle.wit_core.specs.Verdicts.{reply_of}
-use Rattle.wit_core.specs.Knowledge.{learnt, with_lock}
+use Rattle.std.specs.Global.{Global}
+use Rattle.wit_core.specs.Knowledge.{learnt, with_lock, nothing_but}
+use Rattle.wit_core.specs.Listed.{all_listed, pairs_of, with_lists}
+use Rattle.wit_core.specs.Fresh.{start_of, fresh}
 use Rattle.wit_core.specs.Rows.{seat_view, chain_in, changed_at, asked_in, noted_in, unlocked_in, CanRise, IsShallow, IsShallowAt}
 use Rattle.wit_core.specs.Books.{IsFresh, StaysSame, NamesFileIn, EntersInit, EntersCheck, EntersNote, EntersUnlock, state_in, spin_of, taken_by}
 use Rattle.wit_core.specs.Kept.{IsKept, start_in, history_in, story_in}
@@ -263,25 +267,21 @@ seats_alike [] n count all a = ap (λ m. map (seat_of []) (range_with_len a m)) 
 seats_alike (s ∷ seats) n count all a =
     ap₂ (λ x xs. x ∷ xs) all.0 (seats_alike seats (length seats) refl all.1 (a + 1)) ∙ ap (λ m. map (seat_of []) (range_with_len a m)) count
 
-free_seats : (b : Books) (sizes : Sizes) → IsFresh sizes b → map seat_view b.seats.items ≡ seats_of sizes.seats []
-free_seats b sizes e = seats_alike b.seats.items sizes.seats e.count (recursion_from_All (λ s. seat_view s ≡ no_seat) b.seats.items e.seats) 1
+free_seats : (b : Books) (sizes : Sizes) (k : Known) → IsFresh sizes k b → map seat_view b.seats.items ≡ seats_of sizes.seats []
+free_seats b sizes k e = seats_alike b.seats.items sizes.seats e.count (recursion_from_All (λ s. seat_view s ≡ no_seat) b.seats.items e.seats) 1
 
-unlisted : (v : Inside) → v.lists.items ≡ [] → start_in v ≡ record { sizes = v.books.limits; lists = []; blessed = (start_in v).blessed }
-unlisted v none = ap (λ ls. record { sizes = v.books.limits; lists = map (λ list. map (λ p. (p.0, string_bytes p.1)) list.items) ls; blessed = (start_in v).blessed }) none
-
-pub kept_fresh : (v : Inside) (sizes : Sizes) → v.lists.items ≡ [] → IsFresh sizes v.books → IsKept v
-kept_fresh v sizes none e =
+pub kept_fresh : (v : Inside) (sizes : Sizes) (k : Known) → start_fault (start_in v) ≡ None → k ≡ known_of (start_in v) [] → IsFresh sizes k v.books → IsKept v
+kept_fresh v sizes k started begun e =
     let h : history_in v ≡ [] = ap (λ (l : List Entry). reverse l) e.log in
-    let seen : story_in v ≡ record { start = record { sizes = v.books.limits; lists = []; blessed = (start_in v).blessed }; history = []; files = [] } =
-    same_story _ _ _ _ _ _ (unlisted v none) e.files h in
-    let state : state_in v.books ≡ state_of (record { start = record { sizes = v.books.limits; lists = []; blessed = (start_in v).blessed }; history = []; files = [] }) =
-    same_state v.books.limits _ _ _ _ _ _ _ _ (ap (λ (l : List (List ℕ)). length l) e.files) e.known
-    (free_seats v.books sizes e ∙ ap (λ (s : Sizes). seats_of s.seats []) (sym e.limits)) (ap (λ (l : List Entry). length l) e.log) in
+    let seen : story_in v ≡ record { start = start_in v; history = []; files = [] } = same_story _ _ _ _ _ _ refl e.files h in
+    let state : state_in v.books ≡ state_of (record { start = start_in v; history = []; files = [] }) =
+    same_state v.books.limits _ _ _ _ _ _ _ _ (ap (λ (l : List (List ℕ)). length l) e.files) (e.known ∙ begun)
+    (free_seats v.books sizes k e ∙ ap (λ (s : Sizes). seats_of s.seats []) (sym e.limits)) (ap (λ (l : List Entry). length l) e.log) in
     let owes : owed (state_in v.books) ≡ 0 = ap owed state ∙ owed_to-nil v.books.limits.seats in
     let len = ap (λ (l : List Entry). length l) e.log in
     let files = ap (λ (l : List (List ℕ)). length l) e.files in
     record {
-      unlisted = none;
+      started = started;
       legal = subst (λ (s : Story). IsLegal s.start s.files s.history) (sym seen) tt;
       state = state ∙ ap state_of (sym seen);
       room = e.room;
@@ -290,6 +290,20 @@ kept_fresh v sizes none e =
       capacity = omega (arith, len, v.books.log.ok.0, e.owed);
       files = omega (arith, files);
     }
+
+module _ (v : Inside) (sizes : Sizes) (blessed : List (String Global × String Global)) (k : Known) (e : IsFresh sizes k v.books)
+    (entered : k ≡ with_lists (nothing_but (pairs_of blessed)) (all_listed v.lists.items)) where
+  start_begun : start_in v ≡ start_of sizes v.lists.items blessed
+  start_begun =
+      ap₂ (λ (x : Sizes) (b : List (List ℕ × List ℕ)). record { sizes = x; lists = all_listed v.lists.items; blessed = b })
+      e.limits (ap (λ (x : Known). x.blessed) (e.known ∙ entered))
+
+  pub kept_begun : start_fault (start_of sizes v.lists.items blessed) ≡ None → IsKept v
+  kept_begun accepted =
+      kept_fresh v sizes k (subst (λ (s : Start). start_fault s ≡ None) (sym start_begun) accepted) (entered ∙ ap (λ (s : Start). known_of s []) (sym start_begun)) e
+
+  pub story_begun : story_in v ≡ fresh (start_of sizes v.lists.items blessed)
+  story_begun = same_story _ _ _ _ _ _ start_begun e.files (ap (λ (l : List Entry). reverse l) e.log)
 
 -- the answer to a naming that is accepted, where no such file was named
 fresh_file : (name : List ℕ) (files : List (List ℕ)) (n : ℕ) → is_known_file name files ≡ false → file_answer name files ≡ Ok n → length files < 65535
@@ -322,7 +336,7 @@ pub kept_file : (v : Inside) (name : List ℕ) (r : Result FileNo Fault) (new : 
 kept_file v name r new k names others =
     let both = files_named (start_in v) (history_in v) v.books.files.items new.files.items name r names k.legal k.files in
     subst (λ (b : Books). IsKept (record v { books = b })) (sym others) (record {
-      unlisted = k.unlisted;
+      started = k.started;
       legal = both.0;
       state = ap (λ (s : State). record s { files = length new.files.items }) k.state;
       room = k.room;

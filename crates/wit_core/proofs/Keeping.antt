@@ -1,5 +1,5 @@
 -- What the invariant of a verifier gives, and how each call keeps it.
-use Rattle.std.proofs.Common.{◌≡◌, ℕ, ◌+◌, ◌<◌, ◌≤◌, List, [], ◌∷◌, ◌++◌, Ok, Result, length, reverse, vec_len, sym, ap, ◌∙◌, subst, arith}
+use Rattle.std.proofs.Common.{◌≡◌, ℕ, ◌+◌, ◌<◌, ◌≤◌, List, [], ◌∷◌, ◌++◌, None, Ok, Result, length, reverse, vec_len, refl, sym, ap, ap₂, ◌∙◌, subst, arith}
 use Rattle.std.specs.Vec.{vec_capacity}
 use Rattle.std.proofs.lemmas.List.{length-reverse, reverse-append}
 use Rattle.std.proofs.lemmas.List.Sums.{count_by-le-length}
@@ -9,15 +9,16 @@ use Rattle.wit_model.specs.declared.calls.Reply.{Reply}
 use Rattle.wit_model.specs.declared.calls.Entry.{Entry}
 use Rattle.wit_model.specs.Sizes.{Sizes}
 use Rattle.wit_model.specs.History.{is_report, reports_of}
-use Rattle.wit_model.specs.State.{Start, Story, State, state_of, owed, types_of, orders_of}
+use Rattle.wit_model.specs.State.{Start, Story, State, state_of, owed, orders_of}
 use Rattle.wit_model.specs.Step.{answer_of, story_after, step, logged, IsLegal}
 use Rattle.wit_model.proofs.Seats.{entry}
 use Rattle.wit_model.proofs.Owed.{few_legal}
 use Rattle.wit_model.proofs.Types.{types_legal, locks_legal}
 use Rattle.wit_model.proofs.Legal.{seat-within, seat_accepted}
 use Rattle.wit_model.proofs.Sound.{sound_legal}
-use Rattle.wit_model.specs.Orders.{IsPath, IsSound}
-use Rattle.std.proofs.lemmas.Bool.{false≢true}
+use Rattle.wit_model.proofs.Started.{sound_started, types_started}
+use Rattle.wit_model.specs.Start.{start_fault}
+use Rattle.wit_model.specs.Orders.{IsSound}
 use Rattle.wit_core.specs.declared.verifier.Verifier.TheInside.{Inside}
 use Rattle.wit_core.specs.declared.books.Books.{Books}
 use Rattle.wit_core.specs.Books.{HasSums, AllHaveRoom, StaysSame, state_in}
@@ -42,8 +43,7 @@ sums v k =
 -- types are within their limit
 pub types_few : (v : Inside) → IsKept v → length v.books.known.types.items ≤ v.books.limits.types
 types_few v k =
-    let none : length (types_of (start_in v) []) ≤ v.books.limits.types = rw k.unlisted (omega arith) in
-    let few = types_legal (start_in v) v.books.files.items (history_in v) none k.legal in
+    let few = types_legal (start_in v) v.books.files.items (history_in v) (types_started (start_in v) k.started) k.legal in
     let same = ap (λ (s : State). length s.known.types) k.state in
     omega (arith, few, same)
 
@@ -72,11 +72,12 @@ pub record Enters (v : Inside) (t : ℕ) (call : Call) (reply : Reply) (new : Bo
 with_books : Inside → Books → Inside
 with_books v new = record v { books = new }
 
-limits_same : (v : Inside) (t : ℕ) (call : Call) (reply : Reply) (new : Books) → Enters v t call reply new → new.limits ≡ v.books.limits
-limits_same v t call reply new e = ap (λ (s : State). s.sizes) e.state
-
-start_same : (v : Inside) (new : Books) → new.limits ≡ v.books.limits → start_in (record v { books = new }) ≡ start_in v
-start_same v new e = ap (λ (sizes : Sizes). record (start_in v) { sizes = sizes }) e
+-- the state tells the start, but for the lists
+start_same : (v : Inside) (new : Books) (s : State) → state_in new ≡ s → s.sizes ≡ v.books.limits → s.known.blessed ≡ (start_in v).blessed
+    → start_in (record v { books = new }) ≡ start_in v
+start_same v new s e sizes blessed =
+    ap₂ (λ (x : Sizes) (b : List (List ℕ × List ℕ)). record (start_in v) { sizes = x; blessed = b })
+    (ap (λ (x : State). x.sizes) e ∙ sizes) (ap (λ (x : State). x.known.blessed) e ∙ blessed)
 
 -- a story by its parts
 abbrev pub story : Start → List (List ℕ) → List Entry → Story
@@ -89,7 +90,7 @@ same_story s s' f f' h h' es ef eh = ap (λ x. story x f h) es ∙ (ap (λ x. st
 pub story_entered : (v : Inside) (t : ℕ) (call : Call) (reply : Reply) (new : Books) → Enters v t call reply new
     → story_in (record v { books = new }) ≡ logged (story_in v) t call reply
 story_entered v t call reply new e =
-    same_story _ _ _ _ _ _ (start_same v new (limits_same v t call reply new e)) (ap (λ f. f.items) e.files)
+    same_story _ _ _ _ _ _ (start_same v new _ e.state refl refl) (ap (λ f. f.items) e.files)
     (history_more v.books.log.items new.log.items (entry t call reply) e.log)
 
 -- and keeps its invariant
@@ -98,7 +99,7 @@ pub kept_entered : (v : Inside) (t : ℕ) (call : Call) (reply : Reply) (new : B
 kept_entered v t call reply new k ok e =
     let same = story_entered v t call reply new e in
     record {
-      unlisted = k.unlisted;
+      started = subst (λ (s : Story). start_fault s.start ≡ None) (sym same) k.started;
       legal = subst (λ (s : Story). IsLegal s.start s.files s.history) (sym same) (ok, k.legal);
       state = e.state ∙ ap state_of (sym same);
       room = e.room;
@@ -111,14 +112,14 @@ kept_entered v t call reply new k ok e =
 -- where nothing has changed
 pub story_same : (v : Inside) (new : Books) → StaysSame v.books new → story_in (record v { books = new }) ≡ story_in v
 story_same v new e =
-    same_story _ _ _ _ _ _ (start_same v new (ap (λ (s : State). s.sizes) e.state)) (ap (λ f. f.items) e.files) (ap reverse e.log)
+    same_story _ _ _ _ _ _ (start_same v new _ e.state refl refl) (ap (λ f. f.items) e.files) (ap reverse e.log)
 
 pub kept_same : (v : Inside) (new : Books) → IsKept v → StaysSame v.books new → IsKept (record v { books = new })
 kept_same v new k e =
     let same = story_same v new e in
     let len = ap (λ (l : List Entry). length l) e.log in
     record {
-      unlisted = k.unlisted;
+      started = subst (λ (s : Story). start_fault s.start ≡ None) (sym same) k.started;
       legal = subst (λ (s : Story). IsLegal s.start s.files s.history) (sym same) k.legal;
       state = e.state ∙ (k.state ∙ ap state_of (sym same));
       room = e.room k.room;
@@ -130,11 +131,4 @@ kept_same v new k e =
 
 -- no type is before itself
 pub sound_kept : (v : Inside) → IsKept v → IsSound (orders_of (start_in v) (history_in v))
-sound_kept v k = sound_legal (start_in v) v.books.files.items (history_in v) (rw k.unlisted none_sound) k.legal
-  where
-    none_sound : IsSound []
-    none_sound = λ a path. nothing_direct a a path.0 path.1
-      where
-        nothing_direct : (a b : ℕ) (way : List ℕ) → IsPath [] a way b → ⊥
-        nothing_direct a b [] p = false≢true p
-        nothing_direct a b (v ∷ way) p = false≢true p.0
+sound_kept v k = sound_legal (start_in v) v.books.files.items (history_in v) (sound_started (start_in v) k.started) k.legal

@@ -1,6 +1,9 @@
 pub mod Calls
 pub mod Ends
+pub mod Entering
+pub mod Going
 pub mod Keeping
+pub mod Listing
 pub mod SeatRows
 pub mod Steps
 pub mod Ways

@@ -21,10 +21,10 @@ use Rattle.wit_model.specs.declared.locks.FileNo.{FileNo}
 use Rattle.wit_model.specs.Sizes.{Sizes}
 use Rattle.wit_model.specs.History.{is_report}
 use Rattle.wit_model.specs.Files.{file_answer, files_after, IsNumbered}
-use Rattle.wit_model.specs.State.{State, owed, has_room, no_seat}
+use Rattle.wit_model.specs.State.{State, Known, owed, has_room, no_seat}
 use Rattle.wit_core.specs.declared.books.Books.{Books}
 use Rattle.wit_core.specs.declared.seats.Seat.{Seat}
-use Rattle.wit_core.specs.Knowledge.{known, nothing, learnt, with_lock}
+use Rattle.wit_core.specs.Knowledge.{known, learnt, with_lock}
 use Rattle.wit_core.specs.Rows.{seat_view, HasRoom, changed_at, asked_in, noted_in, unlocked_in}
 use Rattle.wit_core.specs.declared.verdicts.Verdict.{Verdict}
 use Rattle.wit_core.specs.Verdicts.{reply_of}
@@ -83,11 +83,11 @@ SeatIndex seats t (Some i) = ((nat_lt 0 t && nat_le t (length seats)) ≡ true) 
 abbrev pub AllHaveRoom : Books → Type 0
 AllHaveRoom b = All HasRoom b.seats.items
 
--- books with nothing in them
-pub record IsFresh (sizes : Sizes) (b : Books) : Type 0 where
+-- books in which nothing has happened, with what is known from the start
+pub record IsFresh (sizes : Sizes) (k : Known) (b : Books) : Type 0 where
   pub limits : b.limits ≡ sizes
   pub files : b.files.items ≡ []
-  pub known : known b.known ≡ nothing
+  pub known : known b.known ≡ k
   pub count : length b.seats.items ≡ sizes.seats
   pub seats : All (λ s. seat_view s ≡ no_seat) b.seats.items
   pub room : AllHaveRoom b

@@ -1,5 +1,5 @@
 -- What the verifier knows, as the rules speak of it.
-use Rattle.std.specs.Prelude.{List, [], ◌∷◌, ◌++◌, reverse}
+use Rattle.std.specs.Prelude.{ℕ, List, [], ◌∷◌, ◌++◌, reverse}
 use Rattle.wit_model.specs.declared.locks.Site.{Site}
 use Rattle.wit_model.specs.declared.locks.Origin.TheVariants.{At}
 use Rattle.wit_model.specs.declared.calls.NewLock.{NewLock}
@@ -12,16 +12,24 @@ use Rattle.wit_model.specs.declared.locks.Lock.{Lock}
 use Rattle.wit_model.specs.declared.calls.Adoption.{Adoption}
 use Rattle.wit_model.specs.State.{Known}
 use Rattle.wit_core.specs.declared.known.Knowledge.{Knowledge}
+use Rattle.wit_core.specs.Listed.{pairs_of}
 
 abbrev pub known : Knowledge → Known
-known k = record { types = k.types.items; locks = k.locks.items; orders = k.orders; found = reverse k.found.items }
+known k = record {
+  types = k.types.items;
+  locks = k.locks.items;
+  orders = k.orders;
+  found = reverse k.found.items;
+  blessed = pairs_of k.blessed.items;
+}
 
 -- of locks and orders alone
 abbrev pub known_by : List Lock → List Adoption → Known
-known_by locks orders = record { types = []; locks = locks; orders = orders; found = [] }
+known_by locks orders = record { types = []; locks = locks; orders = orders; found = []; blessed = [] }
 
-abbrev pub nothing : Known
-nothing = record { types = []; locks = []; orders = []; found = [] }
+-- nothing but the pairs of type names that may be taken in either order
+abbrev pub nothing_but : List (List ℕ × List ℕ) → Known
+nothing_but blessed = record { types = []; locks = []; orders = []; found = []; blessed = blessed }
 
 -- what is known once a verdict was told, at this site
 abbrev pub learnt : Known → Verdict → Site → Known

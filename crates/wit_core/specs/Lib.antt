@@ -2,6 +2,7 @@ pub mod Books
 pub mod Fresh
 pub mod Kept
 pub mod Knowledge
+pub mod Listed
 pub mod Numbered
 pub mod Pairs
 pub mod Rows

@@ -1,20 +1,19 @@
 //! What a verifier keeps, and its answers, which change nothing.
 
 ghost use Rattle.std.specs.Prelude.{◌≡◌, ◌<◌, ◌≤◌, ◌+◌, ◌-◌, ◌==◌, true, length, vec_len, unwrap_or, IfOk, OnOk, OnErr};
-ghost use Rattle.std.specs.List.{list_any};
+ghost use Rattle.std.specs.List.{list_any, All};
 ghost use Rattle.std.specs.Option.{option_copied};
 ghost use Rattle.wit_model.specs.declared.calls.Reply.TheVariants.{Recorded, Unlocked};
-ghost use Rattle.wit_model.specs.Types.{is_otherwise};
 ghost use Rattle.wit_model.specs.Locks.{is_made};
-ghost use Rattle.wit_model.specs.State.{has_room, seat_at};
+ghost use Rattle.wit_model.specs.State.{has_room, no_seat, seat_at};
 ghost use Rattle.wit_model.specs.Step.{step_init, step_check, step_note, step_unlock, is_not_yet, is_file, is_deepest, is_good_name, released};
 ghost use Rattle.wit_core.specs.Books.{new_lock, lock_answer, type_fault, SeatIndex, made_reply, done_reply};
 ghost use Rattle.wit_model.specs.Files.{file_number, is_known_file};
 ghost use Rattle.std.specs.Vec.{vec_capacity};
-ghost use Rattle.wit_core.specs.Rows.{HasSpaceAt, IsShallowAt, IsFreeAt};
+ghost use Rattle.wit_core.specs.Rows.{seat_view, HasRoom, HasSpaceAt, IsShallowAt, IsFreeAt};
 ghost use Rattle.wit_core.specs.Verdicts.{replied, reply_of};
 
-use crate::known::{Knowledge, class_of, held, is_enrolled, type_number};
+use crate::known::{Knowledge, class_of, held, is_enrolled, is_otherwise, type_number};
 use crate::seats::{Seat, ask_at, make_room_at, note_at, unlock_at};
 use crate::verdicts::Verdict;
 use bitflags::Flags;
@@ -212,23 +211,21 @@ impl Books {
 }
 
 impl Books {
+    ghost use Rattle.wit_core.specs.Knowledge.{known};
     ghost use Rattle.wit_core.specs.Books.{HasSums, IsFresh, NamesFileIn, EntersInit, EntersCheck, EntersNote, EntersUnlock, StaysSame, spin_of};
 
-    /// Books with nothing in them.
+    /// Books in which nothing has happened, with what is known from the start.
     ///
     /// # Errors
     /// Want of memory alone.
-    pub fn new(alloc: Global, limits: Limits) -> Result<Books, AllocError>
-        ensures { IfOk result (IsFresh limits) }
+    pub fn new(alloc: Global, limits: Limits, from_start: Knowledge) -> Result<Books, AllocError>
+        ensures { IfOk result (IsFresh limits (known from_start)) }
     {
-        let mut seats = Vec::new(alloc);
-        for _seat in 0..limits.seats() {
-            seats.push(Seat::new(alloc))?;
-        }
+        let seats = free_seats(alloc, limits.seats())?;
         Ok(Books {
             limits,
             files: Vec::new(alloc),
-            known: Knowledge::new(alloc),
+            known: from_start,
             seats,
             owed: 0,
             reports: 0,
@@ -371,6 +368,19 @@ impl Books {
     }
 }
 
+// So many seats that hold nothing.
+fn free_seats(alloc: Global, count: u32) -> Result<Vec<Seat>, AllocError>
+    ensures count { IfOk result (λ v. length v.items ≡ count) }
+    ensures free { IfOk result (λ v. All (λ s. seat_view s ≡ no_seat) v.items) }
+    ensures room { IfOk result (λ v. All HasRoom v.items) }
+{
+    let mut seats = Vec::new(alloc);
+    for _seat in 0..count {
+        seats.push(Seat::new(alloc))?;
+    }
+    Ok(seats)
+}
+
 fn answer_release(held: Instance, mode: Mode) -> Result<(), Fault>
     ensures { done_reply Unlocked result ≡ released mode (Some held) }
 {
@@ -430,15 +440,6 @@ pub fn type_name_or<'a>(name: &'a str, type_name: Option<&'a str>) -> &'a str
         Some(type_name) => type_name,
         None => name,
     }
-}
-
-// Whether a type has this name and another class.
-fn is_otherwise(types: &[LockType], name: &str, class: Class) -> bool
-    ensures { result ≡ is_otherwise name.now class types.now }
-{
-    types
-        .iter()
-        .any(|t| t.name.as_str() == name && !t.class.is(class))
 }
 
 // Whether a lock of the type with this number was made.

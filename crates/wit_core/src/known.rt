@@ -1,12 +1,13 @@
 //! What is known of types, locks and orders, and the verdict over it.
 
 ghost use Rattle.std.specs.Prelude.{◌≡◌, ◌<◌, ◌≤◌, ◌+◌, [], reverse, find, length, OnOk, OnErr};
-ghost use Rattle.std.specs.List.{last_or, position_or_len};
+ghost use Rattle.std.specs.List.{list_any, last_or, position_or_len};
 ghost use Rattle.wit_model.specs.Locks.{lock_at};
 ghost use Rattle.wit_model.specs.Orders.{is_found, found_once};
-ghost use Rattle.wit_model.specs.Types.{is_enrolled, type_number};
-ghost use Rattle.wit_model.specs.Verdict.{violates, has_type_of, place_of, again, judged, ordered, verdict, is_of};
-ghost use Rattle.wit_core.specs.Knowledge.{known_by, nothing};
+ghost use Rattle.wit_model.specs.Types.{is_enrolled, is_otherwise, type_number, name_of};
+ghost use Rattle.wit_model.specs.Verdict.{violates, has_type_of, place_of, again, judged, ordered, verdict, is_of, is_blessed, is_named_pair};
+ghost use Rattle.wit_core.specs.Knowledge.{known_by, nothing_but};
+ghost use Rattle.wit_core.specs.Listed.{pairs_of};
 ghost use Rattle.wit_core.specs.Verdicts.{replied};
 
 use crate::orders::Orders;
@@ -25,20 +26,23 @@ pub struct Knowledge {
     pub locks: Vec<Lock>,
     pub orders: Orders,
     pub found: Vec<(TypeNo, TypeNo)>,
+    /// The pairs of type names that may be taken in either order.
+    pub blessed: Vec<(String, String)>,
 }
 
 impl Knowledge {
     ghost use Rattle.wit_core.specs.Knowledge.{known, learnt, with_lock};
 
-    /// Nothing is known.
-    pub fn new(alloc: Global) -> Knowledge
-        ensures { known result ≡ nothing }
+    /// Nothing is known but the blessed pairs.
+    pub fn new(alloc: Global, blessed: Vec<(String, String)>) -> Knowledge
+        ensures { known result ≡ nothing_but (pairs_of blessed.items) }
     {
         Knowledge {
             types: Vec::new(alloc),
             locks: Vec::new(alloc),
             orders: Orders::new(alloc),
             found: Vec::new(alloc),
+            blessed,
         }
     }
 
@@ -148,7 +152,8 @@ impl Knowledge {
     {
         let asked = type_of(&self.locks, request.lock);
         let broken = type_of(&self.locks, held.lock);
-        if is_found(&self.found, broken, asked) {
+        let known = is_found(&self.found, broken, asked);
+        if known || self.is_blessed(broken, asked) {
             return Verdict::Silent(broken, asked);
         }
         let older = &chain[..place_in(chain, held.lock)];
@@ -161,6 +166,43 @@ impl Knowledge {
                 site: request.site,
             },
         })
+    }
+
+    // Whether the types may be taken in either order.
+    fn is_blessed(&self, a: TypeNo, b: TypeNo) -> bool
+        ensures { result ≡ is_blessed (known self.now) a.0 b.0 }
+    {
+        is_blessed_pair(
+            &self.blessed,
+            name_of(&self.types, a),
+            name_of(&self.types, b),
+        )
+    }
+}
+
+// Whether two names are two others, in either order.
+fn is_pair(c: &str, d: &str, a: &str, b: &str) -> bool
+    ensures { result ≡ is_named_pair a.now b.now (c.now, d.now) }
+{
+    (c == a && d == b) || (c == b && d == a)
+}
+
+// Whether the unordered pair of these names is blessed.
+fn is_blessed_pair(blessed: &[(String, String)], a: &str, b: &str) -> bool
+    ensures { result ≡ list_any (is_named_pair a.now b.now) (pairs_of blessed.now) }
+{
+    blessed
+        .iter()
+        .any(|p| is_pair(p.0.as_str(), p.1.as_str(), a, b))
+}
+
+// The name of a type, by its number; empty for a number that was never given.
+fn name_of(types: &[LockType], number: TypeNo) -> &str
+    ensures { result.now ≡ name_of number.0 types.now }
+{
+    match types.get((number.0 as usize).saturating_sub(1)) {
+        Some(known) => known.name.as_str(),
+        None => "",
     }
 }
 
@@ -278,6 +320,15 @@ pub fn is_enrolled(types: &[LockType], name: &str) -> bool
     ensures { result ≡ is_enrolled name.now types.now }
 {
     types.iter().any(|t| t.name.as_str() == name)
+}
+
+// Whether a type has this name and another class.
+pub fn is_otherwise(types: &[LockType], name: &str, class: Class) -> bool
+    ensures { result ≡ is_otherwise name.now class types.now }
+{
+    types
+        .iter()
+        .any(|t| t.name.as_str() == name && !t.class.is(class))
 }
 
 // The number that the type with this name has, or would get.

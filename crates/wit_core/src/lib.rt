@@ -3,12 +3,14 @@
 
 mod books;
 mod known;
+mod lists;
 mod orders;
 mod seats;
 mod verdicts;
 mod verifier;
 
-pub use verifier::{StartError, Verifier};
+pub use lists::StartError;
+pub use verifier::Verifier;
 
 #[cfg(test)]
 mod tests;

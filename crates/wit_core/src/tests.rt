@@ -73,6 +73,54 @@ fn started(alloc: Global, log: u32) -> Result<Verifier, Fail> {
     Ok(verifier)
 }
 
+/// Static lists of types, as `mtx:A mtx:B; spin:S`; `None` for want of memory.
+fn lists_of(alloc: Global, text: &str) -> Option<Vec<Vec<(Class, String)>>> {
+    let mut lists = Vec::new(alloc);
+    for part in text.split(';') {
+        let mut list = Vec::new(alloc);
+        for entry in part.split_whitespace() {
+            let (class, name) = entry.split_once(':')?;
+            let name = String::from_str(alloc, name).ok()?;
+            list.push((class_of(class), name)).ok()?;
+        }
+        lists.push(list).ok()?;
+    }
+    Some(lists)
+}
+
+fn class_of(word: &str) -> Class {
+    match word {
+        "mtx" => Class::SleepMutex,
+        "spin" => Class::SpinMutex,
+        "rw" => Class::Rw,
+        _ => Class::Sx,
+    }
+}
+
+/// One pair of names; `None` for want of memory.
+fn pair_of(alloc: Global, a: &str, b: &str) -> Option<Vec<(String, String)>> {
+    let a = String::from_str(alloc, a).ok()?;
+    let b = String::from_str(alloc, b).ok()?;
+    let mut pairs = Vec::new(alloc);
+    pairs.push((a, b)).ok()?;
+    Some(pairs)
+}
+
+/// Why a start with these static lists is refused, where there may be this many types.
+fn refusal(alloc: Global, types: u32, lists: &str) -> Result<Option<StartError>, Fail> {
+    let limits = Limits::new(2, types, 16, 4, 64).ok_or("limits")?;
+    let lists = lists_of(alloc, lists).ok_or("lists")?;
+    Ok(Verifier::new(alloc, limits, lists, Vec::new(alloc)).err())
+}
+
+fn listed(parent: u16, child: u16) -> Adoption {
+    Adoption {
+        parent: TypeNo(parent),
+        child: TypeNo(child),
+        origin: Origin::Listed,
+    }
+}
+
 fn counts_of(verifier: &Verifier) -> Counts {
     Counts {
         history: verifier.history().len(),
@@ -278,4 +326,109 @@ fn want_of_memory(rt: HostRuntime) -> Result<(), Fail> {
     );
     assert_eq!(rt; (verifier.history().len(), verifier.reports()), (18, 1));
     Ok(())
+}
+
+#[test]
+fn static_lists(rt: HostRuntime) -> Result<(), Fail> {
+    let alloc = rt.alloc();
+    let lists = lists_of(alloc, "mtx:A mtx:B; mtx:B rw:C; mtx:A mtx:B; sx:D").ok_or("lists")?;
+    let mut verifier = Verifier::new(alloc, limits(64)?, lists, Vec::new(alloc))?;
+    assert_eq!(rt; (verifier.types(), verifier.history().len()), (4, 0));
+    assert_eq!(rt; verifier.type_name(TypeNo(3)), Some("C"));
+    assert_eq!(rt; verifier.class_of(TypeNo(4)), Some(Class::Sx));
+    let orders = [listed(1, 2), listed(2, 3)];
+    assert_eq!(rt; verifier.orders(), orders.as_slice());
+    verifier.file("f")?;
+    let steps = [
+        Step::Init("a", Some("A")),
+        Step::Init("b", Some("B")),
+        Step::Check(1, 2, 1),
+        Step::Note(1, 2),
+        Step::Check(1, 1, 2),
+    ];
+    let reply = play(&mut verifier, &steps)?;
+    assert_eq!(rt; conflict(&reply), reversal(place(2, 1), place(1, 2)));
+    assert_eq!(rt; verifier.orders(), orders.as_slice());
+    Ok(())
+}
+
+#[test]
+fn refused_starts(rt: HostRuntime) -> Result<(), Fail> {
+    let alloc = rt.alloc();
+    let refused = [
+        (8, "mtx:A mtx:B; mtx:B mtx:A", 2, Fault::WrongOrder),
+        (8, "mtx:A mtx:B mtx:A", 1, Fault::WrongOrder),
+        (
+            8,
+            "mtx:A mtx:B; mtx:B mtx:C; mtx:C mtx:A",
+            3,
+            Fault::WrongOrder,
+        ),
+        (8, "mtx:A mtx:B; mtx:B mtx:C mtx:A", 2, Fault::WrongOrder),
+        (8, "mtx:A spin:S", 1, Fault::KindMismatch),
+        (8, "mtx:A mtx:A", 1, Fault::SameType),
+        (8, "mtx:A mtx:B mtx:A mtx:A", 1, Fault::SameType),
+        (8, "mtx:A; rw:A", 2, Fault::ClassMismatch),
+        (8, "mtx:A mtx:B rw:A", 1, Fault::ClassMismatch),
+        (1, "mtx:A mtx:A rw:A", 1, Fault::ClassMismatch),
+        (1, "mtx:A mtx:B", 1, Fault::TypesFull),
+        (2, "mtx:A mtx:A spin:B sx:C", 1, Fault::TypesFull),
+        (8, "mtx:A; spin:S spin:S mtx:\"", 2, Fault::BadName),
+        (8, "mtx: mtx:A", 1, Fault::BadName),
+    ];
+    for (types, lists, list, fault) in refused {
+        let error = refusal(alloc, types, lists)?;
+        assert_eq!(rt; error, Some(StartError { list, fault }), "at {lists}");
+    }
+    for accepted in ["mtx:A mtx:B; mtx:A mtx:B", "mtx:A; mtx:A; spin:S", ""] {
+        assert_eq!(rt; refusal(alloc, 2, accepted)?, None, "at {accepted}");
+    }
+    let lists = lists_of(alloc, "mtx:A").ok_or("lists")?;
+    let pairs = pair_of(alloc, "A", "").ok_or("pairs")?;
+    let error = Verifier::new(alloc, limits(64)?, lists, pairs).err();
+    let (list, fault) = (0, Fault::BadName);
+    assert_eq!(rt; error, Some(StartError { list, fault }));
+    Ok(())
+}
+
+#[test]
+fn blessed_pairs(rt: HostRuntime) -> Result<(), Fail> {
+    let alloc = rt.alloc();
+    for (a, b) in [("A", "B"), ("B", "A")] {
+        let pairs = pair_of(alloc, a, b).ok_or("pairs")?;
+        let mut verifier = Verifier::new(alloc, limits(64)?, Vec::new(alloc), pairs)?;
+        verifier.file("f")?;
+        let reply = play(&mut verifier, &REVERSAL)?;
+        let silent = matches!(&reply, Reply::Silent(TypeNo(2), TypeNo(1)));
+        assert!(rt; silent, "{reply:?}");
+        assert_eq!(rt; verifier.orders(), [order(1, 2, 2)].as_slice());
+        assert_eq!(rt; verifier.reports(), 0);
+    }
+    Ok(())
+}
+
+// One growth is refused at most, so one of two starts is accepted.
+#[test]
+fn want_of_memory_at_the_start(rt: HostRuntime) -> Result<(), Fail> {
+    let alloc = rt.alloc();
+    for _start in 0..2 {
+        let Some(lists) = lists_of(alloc, "mtx:A mtx:B; mtx:B mtx:C") else {
+            continue;
+        };
+        let Some(pairs) = pair_of(alloc, "A", "C") else {
+            continue;
+        };
+        match Verifier::new(alloc, limits(64)?, lists, pairs) {
+            Ok(verifier) => {
+                let orders = [listed(1, 2), listed(2, 3)];
+                assert_eq!(rt; verifier.orders(), orders.as_slice());
+                return Ok(());
+            }
+            Err(error) => {
+                assert_eq!(rt; error.fault, Fault::OutOfMemory);
+                assert!(rt; error.list <= 2);
+            }
+        }
+    }
+    Err(Fail::from("both starts were refused"))
 }

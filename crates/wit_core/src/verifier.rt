@@ -1,6 +1,6 @@
 //! The verifier of lock orders.
 
-ghost use Rattle.std.specs.Prelude.{◌≡◌, [], length, reverse, IfOk, IfErr};
+ghost use Rattle.std.specs.Prelude.{◌≡◌, None, length, reverse, IfOk, IfErr};
 ghost use Rattle.std.specs.Option.{option_copied};
 ghost use Rattle.wit_model.specs.State.{orders_of, types_of, typed_locks};
 ghost use Rattle.wit_core.specs.Numbered.{IsNumbered, NamesLock, TypesLock, NamesType, ClassesType, NamesFileNo, path_numbers};
@@ -12,23 +12,18 @@ ghost use Rattle.wit_model.specs.Step.{Answers, AnswersOrFails, IsLegal};
 ghost use Rattle.wit_core.specs.Books.{new_lock, made_reply};
 ghost use Rattle.wit_model.specs.declared.calls.Call.TheVariants.{Init, Check, Note, Unlock};
 ghost use Rattle.wit_model.specs.declared.faults.Fault.TheVariants.{OutOfMemory};
-ghost use Rattle.wit_core.specs.Fresh.{fresh};
+ghost use Rattle.wit_core.specs.Fresh.{start_of, fresh};
+ghost use Rattle.wit_model.specs.Start.{start_fault, IsRefused};
 
 use crate::books::Books;
+use crate::known::Knowledge;
+use crate::lists::{StartError, has_bad_pair};
 use std::alloc::{AllocError, Global};
 use std::marker::Model;
 use wit_model::{
     Adoption, Boxed, Class, Entry, Fault, FileNo, Limits, Lock, LockFlags, LockNo, LockType, Mode,
     Name, NewLock, OpFlags, Reply, Request, SeatNo, Site, TypeNo, Watch,
 };
-
-/// Why a verifier can't be made.
-#[derive(Clone, Copy, Debug, PartialEq, Eq)]
-pub struct StartError {
-    /// The static list that is refused, from 1; 0 for the blessed pairs and for want of memory outside the lists.
-    pub list: u64,
-    pub fault: Fault,
-}
 
 /// A verifier of lock orders, as witness(4) describes it: it is told of each acquisition and release, keeps
 /// what each seat holds, learns the orders in which types of locks are acquired, and reports a reversal of a
@@ -40,7 +35,6 @@ pub struct StartError {
 pub struct Verifier {
     alloc: Global,
     lists: Vec<Vec<(Class, String)>>,
-    blessed: Vec<(String, String)>,
     books: Books,
 }
 
@@ -58,22 +52,35 @@ impl Model for Verifier {
 
 impl Verifier {
     /// A verifier with these limits, static lists of types in order, and pairs of type names that may be taken
-    /// in either order. Watching is on, and its history is empty.
+    /// in either order. The types of the lists get their numbers in the order of the lists, and the order of
+    /// each two neighbours is adopted with the origin `Listed`. Watching is on, and its history is empty.
     ///
     /// # Errors
-    /// `OutOfMemory`, with list 0.
+    /// The first list with a fault is named, where lists count from 1, with the first of these faults that is
+    /// anywhere in it: `BadName`; `ClassMismatch` where a name has another class, in this list or before;
+    /// `TypesFull` where it has more new names than there are numbers left; `KindMismatch` where it has both spin
+    /// locks and others; `SameType` where two neighbours have one name; `WrongOrder` where, of two neighbours,
+    /// the second is before the first, once those before them are adopted; `OutOfMemory`. Then, with 0 for the
+    /// list, `BadName` where a blessed name is no name, and `OutOfMemory`. Nothing is left of a refused start.
     pub fn new(
         alloc: Global,
         limits: Limits,
         lists: Vec<Vec<(Class, String)>>,
         blessed: Vec<(String, String)>,
     ) -> Result<Verifier, StartError>
-        requires lists { lists.items ≡ [] }
-        requires blessed { blessed.items ≡ [] }
-        ensures ok { IfOk result (λ v. v ≡ fresh limits) }
-        ensures err { IfErr result (λ e. e ≡ record { list = 0; fault = OutOfMemory }) }
+        ensures ok { IfOk result (λ v. (start_fault (start_of limits lists.items blessed.items) ≡ None)
+            × (v ≡ fresh (start_of limits lists.items blessed.items))) }
+        ensures err { IfErr result (λ e. IsRefused (start_of limits lists.items blessed.items) e.list e.fault) }
     {
-        let Ok(books) = Books::new(alloc, limits) else {
+        let mut known = Knowledge::new(alloc, blessed);
+        known.enter_lists(alloc, limits.types(), &lists)?;
+        if has_bad_pair(&known.blessed) {
+            return Err(StartError {
+                list: 0,
+                fault: Fault::BadName,
+            });
+        }
+        let Ok(books) = Books::new(alloc, limits, known) else {
             return Err(StartError {
                 list: 0,
                 fault: Fault::OutOfMemory,
@@ -82,7 +89,6 @@ impl Verifier {
         Ok(Verifier {
             alloc,
             lists,
-            blessed,
             books,
         })
     }
@@ -131,8 +137,8 @@ impl Verifier {
 
     /// Asks whether a lock may be acquired here: WITNESS's `checkorder`. Its request is then pending until it is
     /// noted. The answer is `Pass`, `Adopted` where the order behind the last held lock was learnt, `Silent`
-    /// where the request breaks an order that was reported before, and `Reversal` where it breaks one that
-    /// wasn't.
+    /// where the request breaks an order that was reported before or may be broken, and `Reversal` where it
+    /// breaks another.
     ///
     /// # Errors
     /// In this order: `UnknownSeat`; `UnknownLock`; `UnknownFile`; `ModeNotAllowed` for a mutex asked for shared;

@@ -21,6 +21,7 @@ pub mod Sane
 pub mod Seats
 pub mod Sound
 pub mod Stands
+pub mod Started
 pub mod TypedLocks
 pub mod Types
 pub mod Words

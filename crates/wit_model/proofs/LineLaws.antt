@@ -1,19 +1,22 @@
 -- The lines of a trace are printed and read alike.
-use Rattle.std.proofs.Common.{◌≡◌, ℕ, ◌^◌, ◌<◌, true, false, eqb, List, [], ◌∷◌, ◌++◌, Option, Some, None, refl, sym, ap, subst, ◌∙◌, append_assoc, arith, codes}
+use Rattle.std.proofs.Common.{◌≡◌, ℕ, ◌^◌, ◌<◌, true, false, eqb, List, [], ◌∷◌, ◌++◌, length, Option, Some, None, refl, sym, ap, subst, ◌∙◌, append_assoc, arith, codes}
 use Rattle.std.specs.Prelude.{IsTrue, IfSome}
 use Rattle.std.specs.Fmt.{decimal}
+use Rattle.std.specs.List.{list_all}
 use Rattle.std.specs.Str.{bytes_eq}
 use Rattle.std.proofs.lemmas.Bool.{and_parts, not-true, ne_eqb}
+use Rattle.std.proofs.lemmas.List.{length-append}
 use Rattle.std.proofs.lemmas.Option.{cond_some}
 use Rattle.std.proofs.lemmas.Slice.Eq.{bytes_eq-Decides}
 use Rattle.wit_model.specs.declared.lines.Line.{Line}
-use Rattle.wit_model.specs.declared.lines.Line.TheVariants.{Header, Init, Check, Lock, Unlock}
+use Rattle.wit_model.specs.declared.lines.Line.TheVariants.{Header, Order, Bless, Init, Check, Lock, Unlock}
 use Rattle.wit_model.specs.declared.locks.Class.{Class}
 use Rattle.wit_model.specs.declared.locks.Mode.{Mode}
 use Rattle.wit_model.specs.Names.{is_name, is_name_byte, is_file_name}
-use Rattle.wit_model.specs.Spelling.{class_text, mode_text, lock_letters, op_letters, flags_text, site_text, quoted, spelling, IsSpellable, Spells}
-use Rattle.wit_model.specs.Reading.{◌>>=◌, after, until, accepted, class_of, mode_of, flags_of, site_of, field_at, behind, quoted_at, optional, both, whole, count_at, seat_at, lock_at, header_of, init_of, check_of, note_of, unlock_of, read_as, kinds, line_of}
+use Rattle.wit_model.specs.Spelling.{class_text, mode_text, lock_letters, op_letters, flags_text, site_text, quoted, joined, list_fields, spelling, IsSpellable, Spells}
+use Rattle.wit_model.specs.Reading.{◌>>=◌, after, until, accepted, class_of, mode_of, flags_of, site_of, field_at, behind, quoted_at, optional, both, whole, one_or_more, count_at, seat_at, lock_at, type_at, list_of, header_of, order_of, bless_of, init_of, check_of, note_of, unlock_of, read_as, kinds, line_of}
 use Rattle.wit_model.proofs.Codecs.{IsCodec, IsLast, FitsIfAny, Lacks, Lacks-all, Ends, bind_some, some_is, chosen, until_end, until_whole, after_some, print_field, print_behind, print_both, print_optional, field_codec, behind_codec, both_codec, optional_codec, whole_again, made_takes}
+use Rattle.wit_model.proofs.Repeats.{print_each, AllFit, one_or_more_codec}
 use Rattle.wit_model.proofs.Words.{number_word, class_word, mode_word, flags_word, site_word}
 
 -- ---- names
@@ -103,6 +106,11 @@ kind_takes {A} {print} c make keyword spells rest line e =
 kind_again : {A : Type 0} {print : A → List ℕ → List ℕ} {read : List ℕ → Option (A × List ℕ)} {Fits : A → Type 0} {Rest : List ℕ → Type 0} → IsCodec print read Fits Rest → Rest [] → (make : A → Line) (x : A) → Fits x → (whole read (print x []) >>= λ x. Some (make x)) ≡ Some (make x)
 kind_again c ends make x fits = ap (λ o. o >>= λ x. Some (make x)) (whole_again c ends x fits)
 
+-- one value made of another
+made_at_once : {A B C : Type 0} (o : Option A) (f : A → B) (g : B → C) → (o >>= λ x. Some (g (f x))) ≡ ((o >>= λ x. Some (f x)) >>= λ y. Some (g y))
+made_at_once None f g = refl
+made_at_once (Some x) f g = refl
+
 -- a line is read by its first word
 keyword_again : (keyword fields : List ℕ) → Lacks 32 keyword → Ends 32 fields → line_of (keyword ++ fields) ≡ read_as kinds keyword fields
 unfolding line_of
@@ -120,6 +128,68 @@ header_codec = behind_codec (codes "1") (refl, tt) (both_codec (labelled (codes 
 header_takes : (rest : List ℕ) (line : Line) → header_of rest ≡ Some line → Spells (codes "witness-trace" ++ rest) line
 unfolding header_of
 header_takes = kind_takes header_codec header_make (codes "witness-trace") (λ x fits. (refl, (fits.0, fits.1.0, fits.1.1.0, fits.1.1.1)))
+
+type_codec_at : IsCodec (print_both (print_field class_text) (print_field quoted)) type_at (λ x. Unit {0} × IsTrue (is_name x.1)) (Ends 32)
+unfolding type_at
+type_codec_at = both_codec class_codec (quoted_codec (Ends 32))
+
+abbrev print_type : (Class × List ℕ) → List ℕ → List ℕ
+print_type = print_both (print_field class_text) (print_field quoted)
+
+abbrev FitsType : (Class × List ℕ) → Type 0
+FitsType x = Unit {0} × IsTrue (is_name x.1)
+
+-- each type takes some bytes of the line
+pub type-lt : (x : Class × List ℕ) (rest : List ℕ) → length rest < length (print_type x rest)
+type-lt x rest = omega (arith, length-append (class_text x.0) (32 ∷ (quoted x.1 ++ rest)), length-append (quoted x.1) rest)
+
+-- so what is left of a line gets shorter with each
+pub type_shorter : (bytes : List ℕ) (x : Class × List ℕ) (rest : List ℕ) → type_at bytes ≡ Some (x, rest) → length rest < length bytes
+type_shorter bytes x rest e = let t = type_codec_at.takes bytes x rest e in rw t.0 (type-lt x rest)
+
+order_codec : IsCodec (λ x rest. print_type x.0 (print_each print_type x.1 rest)) (one_or_more type_at) (λ x. FitsType x.0 × AllFit FitsType x.1) IsLast
+order_codec = one_or_more_codec type-lt type_codec_at
+
+list_printed : (list : List (Class × List ℕ)) → joined (list_fields list) ≡ print_each print_type list []
+list_printed [] = refl
+list_printed (x ∷ xs) = ap (print_type x) (list_printed xs)
+
+list_fits : (list : List (Class × List ℕ)) → AllFit FitsType list → IsTrue (list_all (λ (x : Class × List ℕ). is_name x.1) list)
+list_fits [] fits = refl
+list_fits (x ∷ xs) fits = rw (fits.0.1, list_fits xs fits.1) refl
+
+fits_list : (list : List (Class × List ℕ)) → IsTrue (list_all (λ (x : Class × List ℕ). is_name x.1) list) → AllFit FitsType list
+fits_list [] all = tt
+fits_list (x ∷ xs) all = let h = and_parts (is_name x.1) (list_all (λ (x : Class × List ℕ). is_name x.1) xs) all in ((tt, h.0), fits_list xs h.1)
+
+abbrev order_make : ((Class × List ℕ) × List (Class × List ℕ)) → Line
+order_make x = Order (x.0 ∷ x.1)
+
+order_spells : (x : Class × List ℕ) (xs : List (Class × List ℕ)) → FitsType x → AllFit FitsType xs → Spells (codes "order" ++ print_type x (print_each print_type xs [])) (Order (x ∷ xs))
+order_spells x xs fits others = (ap (λ (w : List ℕ). codes "order" ++ w) (sym (list_printed (x ∷ xs))), (omega arith, list_fits (x ∷ xs) (fits, others)))
+
+order_takes : (rest : List ℕ) (line : Line) → order_of rest ≡ Some line → Spells (codes "order" ++ rest) line
+unfolding order_of list_of
+order_takes rest line e = kind_takes order_codec order_make (codes "order") (λ x fits. order_spells x.0 x.1 fits.0 fits.1) rest line (made_at_once (whole (one_or_more type_at) rest) (λ x. x.0 ∷ x.1) Order ∙ e)
+
+order_again : (list : List (Class × List ℕ)) → 0 < length list → IsTrue (list_all (λ (x : Class × List ℕ). is_name x.1) list) → line_of (spelling (Order list)) ≡ Some (Order list)
+unfolding order_of list_of
+order_again [] some all = absurd (omega arith)
+order_again (x ∷ xs) some all =
+    keyword_again (codes "order") _ (refl, (refl, (refl, (refl, (refl, tt))))) refl
+    ∙ ap order_of (list_printed (x ∷ xs))
+    ∙ sym (made_at_once (whole (one_or_more type_at) (print_each print_type (x ∷ xs) [])) (λ x. x.0 ∷ x.1) Order)
+    ∙ kind_again order_codec refl order_make (x, xs) (fits_list (x ∷ xs) all)
+
+abbrev bless_make : (List ℕ × List ℕ) → Line
+bless_make x = Bless x.0 x.1
+
+bless_codec : IsCodec (print_both (print_field quoted) (print_field quoted)) (both quoted_at quoted_at) (λ x. IsTrue (is_name x.0) × IsTrue (is_name x.1)) (Ends 32)
+bless_codec = both_codec (quoted_codec (Ends 32)) (quoted_codec (Ends 32))
+
+bless_takes : (rest : List ℕ) (line : Line) → bless_of rest ≡ Some line → Spells (codes "bless" ++ rest) line
+unfolding bless_of
+bless_takes = kind_takes bless_codec bless_make (codes "bless") (λ x fits. (refl, (fits.0, fits.1)))
 
 abbrev init_make : (ℕ × (Class × (ℕ × (List ℕ × Option (List ℕ))))) → Line
 init_make x = Init (record { 0 = x.0 }) (record { class = x.1.0; flags = record { 0 = x.1.1.0 }; name = x.1.1.1.0; type_name = x.1.1.1.1 })
@@ -183,7 +253,7 @@ pub line_takes : (bytes : List ℕ) (line : Line) → line_of bytes ≡ Some lin
 unfolding line_of
 line_takes bytes line e =
     subst (λ (b : List ℕ). Spells b line) (sym (until_whole 32 bytes))
-    (read_as_takes kinds (check_takes, (note_takes, (unlock_takes, (init_takes, (header_takes, tt))))) (until 32 bytes).0 (until 32 bytes).1 line e)
+    (read_as_takes kinds (check_takes, (note_takes, (unlock_takes, (init_takes, (order_takes, (bless_takes, (header_takes, tt))))))) (until 32 bytes).0 (until 32 bytes).1 line e)
 
 init_again : (seat : ℕ) (class : Class) (flags : ℕ) (name : List ℕ) (type_name : Option (List ℕ)) → seat < 2 ^ 16 → flags < 4 → IsTrue (is_name name) → FitsIfAny (λ name. IsTrue (is_name name)) type_name
     → line_of (spelling (init_make (seat, (class, (flags, (name, type_name)))))) ≡ Some (init_make (seat, (class, (flags, (name, type_name)))))
@@ -197,8 +267,10 @@ fits_if_any (Some name) h = h
 
 -- what is spelled so is read
 pub line_again : (line : Line) → IsSpellable line → line_of (spelling line) ≡ Some line
-unfolding header_of init_of check_of note_of unlock_of
+unfolding header_of bless_of init_of check_of note_of unlock_of
 line_again (Header s t l c) (p0, p1, p2, p3) = keyword_again (codes "witness-trace") _ (refl, (refl, (refl, (refl, (refl, (refl, (refl, (refl, (refl, (refl, (refl, (refl, (refl, tt))))))))))))) refl ∙ kind_again header_codec tt header_make (s, (t, (l, c))) (p0, (p1, (p2, p3)))
+line_again (Order list) (p0, p1) = order_again list p0 p1
+line_again (Bless a b) (p0, p1) = keyword_again (codes "bless") _ (refl, (refl, (refl, (refl, (refl, tt))))) refl ∙ kind_again bless_codec tt bless_make (a, b) (p0, p1)
 line_again (Init seat lock) (p0, p1) = init_again seat.0 lock.class lock.flags.0 lock.name lock.type_name p0 p1.0 p1.1 (fits_if_any lock.type_name p1.2)
 line_again (Check s l m o f n) (p0, p1, p2, p3, p4) = keyword_again (codes "check") _ (refl, (refl, (refl, (refl, (refl, tt))))) refl ∙ kind_again check_codec tt check_make (s.0, (l.0, (m, (o.0, (f, n))))) (p0, (p1, (tt, (p2, (p3, p4)))))
 line_again (Lock s l) (p0, p1) = keyword_again (codes "lock") _ (refl, (refl, (refl, (refl, tt)))) refl ∙ kind_again note_codec tt note_make (s.0, l.0) (p0, p1)

@@ -1,18 +1,8 @@
 -- One or more of the same, up to the end of the line.
-use Rattle.std.proofs.Common.{◌≡◌, ℕ, zero, suc, ◌+◌, ◌<◌, ◌≤◌, Bool, true, false, cond, eqb, List, [], ◌∷◌, ◌++◌, length, Option, Some, None, refl, sym, ap, subst, ◌∙◌, arith, if◌then◌else◌, ◌==◌}
-use Rattle.std.proofs.lemmas.Bool.{ne_eqb, eqb-true, eqb-false}
-use Rattle.std.proofs.lemmas.List.{nil_from_length}
-use Rattle.wit_model.specs.Reading.{◌>>=◌}
+use Rattle.std.proofs.Common.{◌≡◌, ℕ, zero, suc, ◌<◌, ◌≤◌, eqb, List, [], ◌∷◌, length, Option, Some, None, refl, ap, subst, ◌∙◌, arith}
+use Rattle.std.proofs.lemmas.Bool.{ne_eqb}
+use Rattle.wit_model.specs.Reading.{◌>>=◌, repeated, one_or_more}
 use Rattle.wit_model.proofs.Codecs.{IsCodec, IsLast, Ends, bind_some, some_is, chosen}
-
--- as many as there are, and at most so many
-abbrev pub repeated : {A : Type 0} → (List ℕ → Option (A × List ℕ)) → ℕ → List ℕ → Option (List A × List ℕ)
-repeated read zero bytes = if length bytes == 0 then Some ([], bytes) else None
-repeated read (suc most) bytes = if length bytes == 0 then Some ([], bytes) else (read bytes >>= λ x. repeated read most x.1 >>= λ xs. Some (x.0 ∷ xs.0, xs.1))
-
--- one, and then as many as there are
-abbrev pub one_or_more : {A : Type 0} → (List ℕ → Option (A × List ℕ)) → List ℕ → Option ((A × List A) × List ℕ)
-one_or_more read bytes = read bytes >>= λ x. repeated read (length x.1) x.1 >>= λ xs. Some ((x.0, xs.0), xs.1)
 
 abbrev pub print_each : {A : Type 0} → (A → List ℕ → List ℕ) → List A → List ℕ → List ℕ
 print_each print [] rest = rest

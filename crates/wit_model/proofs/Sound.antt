@@ -1,5 +1,5 @@
 -- An order is learnt only where it turns none round: so no type is ever before itself.
-use Rattle.std.proofs.Common.{◌≡◌, ℕ, Bool, true, false, not, ◌&&◌, cond, List, [], ◌∷◌, ◌++◌, reverse, find, map, Option, Some, None, Result, Ok, refl, ap, sym, ◌∙◌, subst, arith}
+use Rattle.std.proofs.Common.{◌≡◌, ℕ, Bool, true, false, not, ◌&&◌, ◌||◌, cond, List, [], ◌∷◌, ◌++◌, reverse, find, map, Option, Some, None, Result, Ok, refl, ap, sym, ◌∙◌, subst, arith}
 use Rattle.std.specs.List.{list_all, last_or}
 use Rattle.std.proofs.lemmas.Bool.{and_parts, eq-eqb, true≢false}
 use Rattle.std.proofs.lemmas.List.{reverse-append}
@@ -18,7 +18,7 @@ use Rattle.wit_model.specs.Locks.{locks_of, has_flag, lock_at, is_spin_lock, is_
 use Rattle.wit_model.specs.Orders.{is_direct, is_before, is_found, IsSound}
 use Rattle.wit_model.specs.History.{is_held, held_of, chain, instance}
 use Rattle.wit_model.specs.State.{Start, Known, known_of, state_of, orders_of}
-use Rattle.wit_model.specs.Verdict.{is_exclusive, is_of, type_in, again, violates, conflict, judged, ordered, among, behind, verdict}
+use Rattle.wit_model.specs.Verdict.{is_exclusive, is_of, type_in, again, violates, is_blessed, conflict, judged, ordered, among, behind, verdict}
 use Rattle.wit_model.specs.Step.{chain_for, answer_of, story_after, IsLegal}
 use Rattle.wit_model.proofs.Paths.{sound_adopt}
 use Rattle.wit_model.proofs.Held.{made_sane, held_of-all}
@@ -76,7 +76,7 @@ judged_learnt k q c last None a b ok = go (has_flag q.ops.0 0x01) refl ok
         → (◌≡◌ {A = Option Instance} None None) × (has_flag q.ops.0 0x01 ≡ true) × (type_in k last.lock.0 ≡ a) × (type_in k q.lock.0 ≡ b)
     go true is same = (refl, is, (let e : type_in k last.lock.0 ≡ a = cc in e), (let e : type_in k q.lock.0 ≡ b = cc in e))
     go false is same = (cc)
-judged_learnt k q c last (Some i) a b ok = absurd (go (is_found k.found (type_in k i.lock.0).0 (type_in k q.lock.0).0) ok)
+judged_learnt k q c last (Some i) a b ok = absurd (go (is_found k.found (type_in k i.lock.0).0 (type_in k q.lock.0).0 || is_blessed k (type_in k i.lock.0).0 (type_in k q.lock.0).0) ok)
   where
     go : (f : Bool) → cond {A = Result Reply Fault} f (Ok (Silent (type_in k i.lock.0) (type_in k q.lock.0))) (Ok (Reversal (conflict k q c i))) ≡ Ok (Adopted a b) → ⊥
     go true same = (cc)

@@ -25,7 +25,7 @@ use Rattle.wit_model.proofs.Seats.{entry}
 use Rattle.wit_model.proofs.Accepted.{init_accepted}
 
 -- a place that is found stays in a longer list
-place-append : {X : Type 0} (p : X → Bool) (xs ys : List X) → list_any p xs ≡ true → position_or_len p (xs ++ ys) ≡ position_or_len p xs
+pub place-append : {X : Type 0} (p : X → Bool) (xs ys : List X) → list_any p xs ≡ true → position_or_len p (xs ++ ys) ≡ position_or_len p xs
 place-append p [] ys is = absurd (false≢true is)
 place-append p (x ∷ xs) ys is = go (p x) refl is (λ rest. place-append p xs ys rest)
   where
@@ -34,12 +34,12 @@ place-append p (x ∷ xs) ys is = go (p x) refl is (λ rest. place-append p xs y
     go true e some ih = rw e refl
     go false e some ih = rw e (ap (λ n. 1 + n) (ih some))
 
-place-past : {X : Type 0} (p : X → Bool) (xs : List X) → list_any p xs ≡ false → position_or_len p xs ≡ length xs
+pub place-past : {X : Type 0} (p : X → Bool) (xs : List X) → list_any p xs ≡ false → position_or_len p xs ≡ length xs
 place-past p [] none = refl
 place-past p (x ∷ xs) none =
     let parts = or_parts (p x) (list_any p xs) none in rw parts.0 (let e = place-past p xs parts.1 in omega (arith, e))
 
-place-within : {X : Type 0} (p : X → Bool) (xs : List X) → list_any p xs ≡ true → position_or_len p xs < length xs
+pub place-within : {X : Type 0} (p : X → Bool) (xs : List X) → list_any p xs ≡ true → position_or_len p xs < length xs
 place-within p [] is = absurd (false≢true is)
 place-within p (x ∷ xs) is = go (p x) refl is (λ rest. place-within p xs rest)
   where
@@ -47,7 +47,7 @@ place-within p (x ∷ xs) is = go (p x) refl is (λ rest. place-within p xs rest
     go true e some ih = rw e (omega arith)
     go false e some ih = rw e (let lt = ih some in omega (arith, lt))
 
-enrolled-stays : (name other : List ℕ) (class : Class) (types : List LockType) → is_enrolled name types ≡ true → is_enrolled name (enrolled other class types) ≡ true
+pub enrolled-stays : (name other : List ℕ) (class : Class) (types : List LockType) → is_enrolled name types ≡ true → is_enrolled name (enrolled other class types) ≡ true
 enrolled-stays name other class types is = go (is_enrolled other types)
   where
     go : (b : Bool) → is_enrolled name (cond b types (types ++ record { name = other; class = class } ∷ [])) ≡ true
@@ -55,7 +55,7 @@ enrolled-stays name other class types is = go (is_enrolled other types)
     go false = list_any-append (is_named name) types (record { name = other; class = class } ∷ [])
         ∙ or_left (is_enrolled name types) (is_enrolled name (record { name = other; class = class } ∷ [])) is
 
-number-enrolled : (name other : List ℕ) (class : Class) (types : List LockType) → is_enrolled name types ≡ true → type_number name (enrolled other class types) ≡ type_number name types
+pub number-enrolled : (name other : List ℕ) (class : Class) (types : List LockType) → is_enrolled name types ≡ true → type_number name (enrolled other class types) ≡ type_number name types
 number-enrolled name other class types is = go (is_enrolled other types)
   where
     go : (b : Bool) → type_number name (cond b types (types ++ record { name = other; class = class } ∷ [])) ≡ type_number name types

@@ -1,15 +1,14 @@
 -- What a seat holds after a history, by counting. A history is newest entry first: a cons is the next call.
 -- One definition, `act`, says what an entry does to the locks that its seat holds, and it alone knows the calls.
-use Rattle.std.specs.Prelude.{ℕ, ◌+◌, ◌-◌, Bool, true, false, not, ◌&&◌, ◌==◌, nat_lt, List, [], ◌∷◌, ◌++◌, Option, None, Some, map, filter, length, count_by, sum_by, if◌then◌else◌}
-use Rattle.std.specs.List.{range_with_len}
+use Rattle.std.specs.Prelude.{ℕ, ◌-◌, Bool, true, false, not, ◌&&◌, ◌==◌, nat_lt, List, [], ◌∷◌, ◌++◌, Option, None, Some, map, filter, length, count_by, if◌then◌else◌}
 use Rattle.wit_model.specs.declared.locks.Mode.{Mode}
-use Rattle.wit_model.specs.declared.locks.Mode.TheVariants.{Shared, Exclusive}
+use Rattle.wit_model.specs.declared.locks.Mode.TheVariants.{Exclusive}
 use Rattle.wit_model.specs.declared.locks.Watch.{Watch}
 use Rattle.wit_model.specs.declared.locks.Watch.TheVariants.{On}
 use Rattle.wit_model.specs.declared.locks.Site.{Site}
 use Rattle.wit_model.specs.declared.locks.Instance.{Instance}
 use Rattle.wit_model.specs.declared.calls.Call.{Call}
-use Rattle.wit_model.specs.declared.calls.Call.TheVariants.{Init, Check, Note, Unlock}
+use Rattle.wit_model.specs.declared.calls.Call.TheVariants.{Check, Note, Unlock}
 use Rattle.wit_model.specs.declared.calls.Reply.{Reply}
 use Rattle.wit_model.specs.declared.calls.Reply.TheVariants.{Recorded, Reversal}
 use Rattle.wit_model.specs.declared.calls.Request.{Request}
@@ -136,7 +135,7 @@ held t h = held_among t h h
 abbrev pub held_of : Bool → ℕ → List Entry → List ℕ
 held_of kind t h = filter (is_of_kind kind (locks_of h)) (held t h)
 
--- a seat's chain of one kind, oldest first: "the list of locks held" of subr_witness.c
+-- a seat's chain of one kind, oldest first, as the list of held locks of subr_witness.c
 abbrev pub chain : Bool → ℕ → List Entry → List Instance
 chain kind t h = map (instance t h) (held_of kind t h)
 

@@ -1,5 +1,5 @@
 -- Laws: what holds of every legal history.
-use Rattle.std.specs.Prelude.{ℕ, ◌≡◌, ◌↔◌, true, List, [], ◌∷◌, ◌++◌, Some, Ok}
+use Rattle.std.specs.Prelude.{ℕ, ◌≡◌, ◌↔◌, true, List, [], ◌∷◌, ◌++◌, None, Some, Ok}
 use Rattle.wit_model.specs.declared.calls.Adoption.{Adoption}
 use Rattle.wit_model.specs.declared.calls.Request.{Request}
 use Rattle.wit_model.specs.declared.calls.Call.TheVariants.{Check, Note}
@@ -9,13 +9,14 @@ use Rattle.wit_model.specs.declared.calls.Entry.{Entry}
 use Rattle.wit_model.specs.Orders.{Before, is_before, IsSound}
 use Rattle.wit_model.specs.History.{pending}
 use Rattle.wit_model.specs.State.{Start, Story, orders_of}
+use Rattle.wit_model.specs.Start.{start_fault}
 use Rattle.wit_model.specs.Step.{answer_of, logged, IsLegal}
 
--- no type is before itself after a legal history, where none was at its start
+-- no type is before itself after a legal history, where its start is accepted
 abbrev pub OrdersStaySound : Type 0
 OrdersStaySound =
     (start : Start) (files : List (List ℕ)) (h : List Entry)
-    → IsSound (orders_of start []) → IsLegal start files h → IsSound (orders_of start h)
+    → start_fault start ≡ None → IsLegal start files h → IsSound (orders_of start h)
 
 -- the test finds exactly the types between which a path leads
 abbrev pub TestFindsPaths : Type 0

@@ -10,6 +10,7 @@ pub mod Paths
 pub mod Reading
 pub mod Sizes
 pub mod Spelling
+pub mod Start
 pub mod State
 pub mod Step
 pub mod Texts

@@ -1,8 +1,7 @@
 -- The locks that were made. A lock's number is its place among them, from 1.
-use Rattle.std.specs.Prelude.{ℕ, ◌+◌, ◌-◌, ◌*◌, ◌/◌, ◌%◌, Bool, true, false, not, ◌&&◌, ◌==◌, List, [], ◌∷◌, ◌++◌, None, map, length, nat_lt, nat_le}
+use Rattle.std.specs.Prelude.{ℕ, ◌-◌, Bool, true, false, not, ◌&&◌, ◌==◌, List, [], ◌∷◌, ◌++◌, None, length, nat_lt, nat_le}
 use Rattle.std.specs.List.{slice_index_or}
 use Rattle.std.specs.Int.RustNames.{bit_and}
-use Rattle.wit_model.specs.declared.locks.Class.{Class}
 use Rattle.wit_model.specs.declared.locks.Class.TheVariants.{SleepMutex}
 pub use Rattle.wit_model.specs.declared.locks.Lock.{Lock}
 use Rattle.wit_model.specs.declared.calls.NewLock.{NewLock}

@@ -1,9 +1,9 @@
--- Orders between lock types: "WITNESS keeps a graph of the orders that locks were acquired in" (subr_witness.c).
+-- Orders between lock types: witness "keeps track of the order in which locks are acquired with respect to each other" (witness(4)).
 -- Lists of adoptions are newest first.
-use Rattle.std.specs.Prelude.{ℕ, ◌+◌, ◌≡◌, Bool, true, false, not, ◌&&◌, ◌||◌, ◌==◌, List, [], ◌∷◌, ◌++◌, length, if◌then◌else◌}
+use Rattle.std.specs.Prelude.{ℕ, ◌+◌, ◌≡◌, Bool, true, false, ◌&&◌, ◌||◌, ◌==◌, List, [], ◌∷◌, ◌++◌, if◌then◌else◌}
 use Rattle.std.specs.List.{list_any}
 use Rattle.wit_model.specs.declared.locks.Origin.{Origin}
-use Rattle.wit_model.specs.declared.locks.Origin.TheVariants.{Listed, Defined, At}
+use Rattle.wit_model.specs.declared.locks.Origin.TheVariants.{Listed, At}
 use Rattle.wit_model.specs.declared.locks.Class.{Class}
 use Rattle.wit_model.specs.declared.locks.TypeNo.{TypeNo}
 use Rattle.wit_model.specs.declared.calls.Adoption.{Adoption}
@@ -12,7 +12,7 @@ use Rattle.wit_model.specs.declared.calls.Call.TheVariants.{Check}
 use Rattle.wit_model.specs.declared.calls.Reply.{Reply}
 use Rattle.wit_model.specs.declared.calls.Reply.TheVariants.{Adopted}
 use Rattle.wit_model.specs.declared.calls.Entry.{Entry}
-use Rattle.wit_model.specs.Types.{LockType, type_number, listed_types}
+use Rattle.wit_model.specs.Types.{LockType, type_number, enrolled_all}
 
 abbrev pub is_adoption_of : ℕ → ℕ → Adoption → Bool
 is_adoption_of a b o = (o.parent.0 == a) && (o.child.0 == b)
@@ -75,10 +75,11 @@ listed_pairs types (a ∷ []) orders = orders
 listed_pairs types (a ∷ b ∷ list) orders =
     listed_pairs types (b ∷ list) (adopted_once (type_number a.1 types) (type_number b.1 types) Listed orders)
 
--- the orders of static lists
-abbrev pub listed_orders : List LockType → List (List (Class × List ℕ)) → List Adoption → List Adoption
-listed_orders types [] orders = orders
-listed_orders types (list ∷ lists) orders = listed_orders types lists (listed_pairs types list orders)
+-- the orders of static lists, each list entered behind those before it
+abbrev pub listed_orders : List (List (Class × List ℕ)) → List LockType → List Adoption → List Adoption
+listed_orders [] types orders = orders
+listed_orders (list ∷ lists) types orders =
+    listed_orders lists (enrolled_all list types) (listed_pairs (enrolled_all list types) list orders)
 
 abbrev pub adopted : Call → Reply → List Adoption
 adopted (Check q) (Adopted p c) = record { parent = p; child = c; origin = At q.site } ∷ []

@@ -1,11 +1,11 @@
 -- Reading a line of a trace from left to right.
-use Rattle.std.specs.Prelude.{◌≡◌, ◌↔◌, ℕ, ◌+◌, ◌*◌, ◌^◌, Bool, ◌&&◌, ◌||◌, not, List, [], ◌∷◌, length, take, drop, Option, Some, None, nat_lt, codes, ◌==◌, if◌then◌else◌, slice_index}
+use Rattle.std.specs.Prelude.{◌≡◌, ◌↔◌, ℕ, zero, suc, ◌+◌, ◌*◌, ◌^◌, Bool, ◌&&◌, ◌||◌, not, List, [], ◌∷◌, length, take, drop, Option, Some, None, nat_lt, codes, ◌==◌, if◌then◌else◌, slice_index}
 use Rattle.std.specs.List.{position_or_len, list_all}
 use Rattle.std.specs.Char.{is_ascii_digit}
 use Rattle.std.specs.Str.{bytes_eq}
 use Rattle.std.specs.Str.Parse.{digits_value}
 use Rattle.wit_model.specs.declared.lines.Line.{Line}
-use Rattle.wit_model.specs.declared.lines.Line.TheVariants.{Header, Init, Check, Lock, Unlock}
+use Rattle.wit_model.specs.declared.lines.Line.TheVariants.{Header, Order, Bless, Init, Check, Lock, Unlock}
 use Rattle.wit_model.specs.declared.locks.Class.{Class}
 use Rattle.wit_model.specs.declared.locks.Class.TheVariants.{SleepMutex, SpinMutex, Rw, Sx}
 use Rattle.wit_model.specs.declared.locks.Mode.{Mode}
@@ -108,6 +108,15 @@ quoted_at bytes = after 32 bytes >>= λ opened. after 34 opened >>= λ inside. a
 abbrev pub optional : {A : Type 0} → (List ℕ → Option (A × List ℕ)) → List ℕ → Option (Option A × List ℕ)
 optional read bytes = if length bytes == 0 then Some (None, bytes) else (read bytes >>= λ x. Some (Some x.0, x.1))
 
+-- as many as there are up to the end of the line, and at most so many
+abbrev pub repeated : {A : Type 0} → (List ℕ → Option (A × List ℕ)) → ℕ → List ℕ → Option (List A × List ℕ)
+repeated read zero bytes = if length bytes == 0 then Some ([], bytes) else None
+repeated read (suc most) bytes = if length bytes == 0 then Some ([], bytes) else (read bytes >>= λ x. repeated read most x.1 >>= λ xs. Some (x.0 ∷ xs.0, xs.1))
+
+-- one, and then as many as there are
+abbrev pub one_or_more : {A : Type 0} → (List ℕ → Option (A × List ℕ)) → List ℕ → Option ((A × List A) × List ℕ)
+one_or_more read bytes = read bytes >>= λ x. repeated read (length x.1) x.1 >>= λ xs. Some ((x.0, xs.0), xs.1)
+
 -- one field and those after it
 abbrev pub both : {A B : Type 0} → (List ℕ → Option (A × List ℕ)) → (List ℕ → Option (B × List ℕ)) → List ℕ → Option ((A × B) × List ℕ)
 both read others bytes = read bytes >>= λ a. others a.1 >>= λ b. Some ((a.0, b.0), b.1)
@@ -125,10 +134,24 @@ seat_at = field_at (number_of (2 ^ 16))
 unfoldable pub lock_at : List ℕ → Option (ℕ × List ℕ)
 lock_at = field_at (number_of (2 ^ 32))
 
+-- a type by its class and its name
+unfoldable pub type_at : List ℕ → Option ((Class × List ℕ) × List ℕ)
+type_at = both (field_at class_of) quoted_at
+
+-- one type or more
+unfoldable pub list_of : List ℕ → Option (List (Class × List ℕ))
+list_of bytes = whole (one_or_more type_at) bytes >>= λ x. Some (x.0 ∷ x.1)
+
 -- ---- lines: what stands behind the first word
 
 unfoldable pub header_of : List ℕ → Option Line
 header_of bytes = whole (behind (codes "1") (both (behind (codes "seats") count_at) (both (behind (codes "types") count_at) (both (behind (codes "locks") count_at) (behind (codes "chunks") count_at))))) bytes >>= λ x. Some (Header x.0 x.1.0 x.1.1.0 x.1.1.1)
+
+unfoldable pub order_of : List ℕ → Option Line
+order_of bytes = list_of bytes >>= λ list. Some (Order list)
+
+unfoldable pub bless_of : List ℕ → Option Line
+bless_of bytes = whole (both quoted_at quoted_at) bytes >>= λ x. Some (Bless x.0 x.1)
 
 unfoldable pub init_of : List ℕ → Option Line
 init_of bytes = whole (both seat_at (both (field_at class_of) (both (field_at (flags_of lock_letters)) (both quoted_at (optional quoted_at))))) bytes >>= λ x. Some (Init (record { 0 = x.0 }) (record { class = x.1.0; flags = record { 0 = x.1.1.0 }; name = x.1.1.1.0; type_name = x.1.1.1.1 }))
@@ -149,7 +172,7 @@ read_as (kind ∷ kinds) word rest = if bytes_eq word kind.0 then kind.1 rest el
 
 -- each first word, and how the rest is read
 abbrev pub kinds : List (List ℕ × (List ℕ → Option Line))
-kinds = (codes "check", check_of) ∷ (codes "lock", note_of) ∷ (codes "unlock", unlock_of) ∷ (codes "init", init_of) ∷ (codes "witness-trace", header_of) ∷ []
+kinds = (codes "check", check_of) ∷ (codes "lock", note_of) ∷ (codes "unlock", unlock_of) ∷ (codes "init", init_of) ∷ (codes "order", order_of) ∷ (codes "bless", bless_of) ∷ (codes "witness-trace", header_of) ∷ []
 
 -- a line
 unfoldable pub line_of : List ℕ → Option Line

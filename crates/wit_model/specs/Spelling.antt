@@ -1,8 +1,9 @@
 -- The one spelling of each line of a trace.
-use Rattle.std.specs.Prelude.{◌≡◌, ℕ, ◌%◌, ◌/◌, ◌^◌, ◌<◌, List, [], ◌∷◌, ◌++◌, Option, Some, None, IfSome, IsTrue, codes, ◌==◌, if◌then◌else◌}
+use Rattle.std.specs.Prelude.{◌≡◌, ℕ, ◌%◌, ◌/◌, ◌^◌, ◌<◌, List, [], ◌∷◌, ◌++◌, length, Option, Some, None, IfSome, IsTrue, codes, ◌==◌, if◌then◌else◌}
 use Rattle.std.specs.Fmt.{decimal}
+use Rattle.std.specs.List.{list_all}
 use Rattle.wit_model.specs.declared.lines.Line.{Line}
-use Rattle.wit_model.specs.declared.lines.Line.TheVariants.{Header, Init, Check, Lock, Unlock}
+use Rattle.wit_model.specs.declared.lines.Line.TheVariants.{Header, Order, Bless, Init, Check, Lock, Unlock}
 use Rattle.wit_model.specs.declared.calls.NewLock.{NewLock}
 use Rattle.wit_model.specs.declared.locks.Class.{Class}
 use Rattle.wit_model.specs.declared.locks.Class.TheVariants.{SleepMutex, SpinMutex, Rw, Sx}
@@ -60,9 +61,16 @@ type_field (Some name) = quoted name ∷ []
 abbrev pub lock_fields : NewLock → List (List ℕ)
 lock_fields lock = class_text lock.class ∷ flags_text lock_letters lock.flags.0 ∷ quoted lock.name ∷ type_field lock.type_name
 
+-- types, each by its class and its name
+abbrev pub list_fields : List (Class × List ℕ) → List (List ℕ)
+list_fields [] = []
+list_fields (entry ∷ entries) = class_text entry.0 ∷ quoted entry.1 ∷ list_fields entries
+
 -- a line, without the line feed that ends it
 abbrev pub spelling : Line → List ℕ
 spelling (Header seats types locks chunks) = codes "witness-trace" ++ joined (codes "1" ∷ codes "seats" ∷ decimal seats ∷ codes "types" ∷ decimal types ∷ codes "locks" ∷ decimal locks ∷ codes "chunks" ∷ decimal chunks ∷ [])
+spelling (Order list) = codes "order" ++ joined (list_fields list)
+spelling (Bless first second) = codes "bless" ++ joined (quoted first ∷ quoted second ∷ [])
 spelling (Init seat lock) = codes "init" ++ joined (decimal seat.0 ∷ lock_fields lock)
 spelling (Check seat lock mode ops file line) = codes "check" ++ joined (decimal seat.0 ∷ decimal lock.0 ∷ mode_text mode ∷ flags_text op_letters ops.0 ∷ site_text file line ∷ [])
 spelling (Lock seat lock) = codes "lock" ++ joined (decimal seat.0 ∷ decimal lock.0 ∷ [])
@@ -72,9 +80,15 @@ spelling (Unlock seat lock mode) = codes "unlock" ++ joined (decimal seat.0 ∷ 
 abbrev pub IsSpellableLock : NewLock → Type 0
 IsSpellableLock lock = (lock.flags.0 < 4) × IsTrue (is_name lock.name) × IfSome lock.type_name (λ name. IsTrue (is_name name))
 
+-- a list that can be written: one type or more, with true names
+abbrev pub IsSpellableList : List (Class × List ℕ) → Type 0
+IsSpellableList list = (0 < length list) × IsTrue (list_all (λ (entry : Class × List ℕ). is_name entry.1) list)
+
 -- a line that can be written: numbers within their types, known flags, true names
 abbrev pub IsSpellable : Line → Type 0
 IsSpellable (Header seats types locks chunks) = (seats < 2 ^ 32) × (types < 2 ^ 32) × (locks < 2 ^ 32) × (chunks < 2 ^ 32)
+IsSpellable (Order list) = IsSpellableList list
+IsSpellable (Bless first second) = IsTrue (is_name first) × IsTrue (is_name second)
 IsSpellable (Init seat lock) = (seat.0 < 2 ^ 16) × IsSpellableLock lock
 IsSpellable (Check seat lock mode ops file line) = (seat.0 < 2 ^ 16) × (lock.0 < 2 ^ 32) × (ops.0 < 8) × IsTrue (is_file_name file) × (line < 2 ^ 32)
 IsSpellable (Lock seat lock) = (seat.0 < 2 ^ 16) × (lock.0 < 2 ^ 32)

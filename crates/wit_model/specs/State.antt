@@ -1,13 +1,10 @@
 -- The state of a verifier: what its rules speak of, taken over its history.
-use Rattle.std.specs.Prelude.{ℕ, ◌+◌, ◌-◌, ◌*◌, Bool, true, false, ◌&&◌, ◌==◌, nat_lt, nat_le, List, [], ◌∷◌, ◌++◌, Option, None, Some, map, length, sum_by, cond}
+use Rattle.std.specs.Prelude.{ℕ, ◌+◌, ◌-◌, Bool, true, false, ◌&&◌, nat_lt, nat_le, List, [], ◌∷◌, ◌++◌, Option, None, Some, map, length, sum_by}
 use Rattle.std.specs.List.{range_with_len, slice_index_or}
 use Rattle.wit_model.specs.declared.locks.Class.{Class}
 use Rattle.wit_model.specs.declared.locks.TypeNo.{TypeNo}
 use Rattle.wit_model.specs.declared.locks.Instance.{Instance}
 use Rattle.wit_model.specs.declared.calls.Adoption.{Adoption}
-use Rattle.wit_model.specs.declared.calls.NewLock.{NewLock}
-use Rattle.wit_model.specs.declared.calls.LockAt.{LockAt}
-use Rattle.wit_model.specs.declared.calls.Conflict.{Conflict}
 use Rattle.wit_model.specs.declared.calls.Reply.{Reply}
 use Rattle.wit_model.specs.declared.calls.Reply.TheVariants.{Silent, Reversal}
 use Rattle.wit_model.specs.declared.calls.Request.{Request}
@@ -51,7 +48,7 @@ types_of start h = types_from (listed_types start.lists []) h
 
 -- the orders adopted, newest first: those of the lists, then those that the requests taught
 abbrev pub orders_of : Start → List Entry → List Adoption
-orders_of start h = orders_from (listed_orders (listed_types start.lists []) start.lists []) h
+orders_of start h = orders_from (listed_orders start.lists [] []) h
 
 -- the locks made, oldest first, each with its type's number at the time (numbers stay, since types only grow)
 abbrev pub typed_locks : Start → List Entry → List Lock
@@ -69,12 +66,13 @@ abbrev pub found_of : Start → List Entry → List (TypeNo × TypeNo)
 found_of start [] = []
 found_of start (e ∷ h) = found_after (typed_locks start h) e.reply (found_of start h)
 
--- what is known of types, locks and orders
+-- what is known of types, locks and orders, and the pairs of type names that may be taken in either order
 pub record Known : Type 0 where
   pub types : List LockType
   pub locks : List Lock
   pub orders : List Adoption
   pub found : List (TypeNo × TypeNo)
+  pub blessed : List (List ℕ × List ℕ)
 
 abbrev pub known_of : Start → List Entry → Known
 known_of start h = record {
@@ -82,6 +80,7 @@ known_of start h = record {
   locks = typed_locks start h;
   orders = orders_of start h;
   found = found_of start h;
+  blessed = start.blessed;
 }
 
 pub record State : Type 0 where

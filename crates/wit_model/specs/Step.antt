@@ -1,12 +1,12 @@
 -- What a verifier answers to a call, and which histories are legal. In each call the faults stand in the order in
 -- which they apply; want of memory is never among them.
-use Rattle.std.specs.Prelude.{ℕ, ◌+◌, ◌≡◌, ◌^◌, Bool, true, false, not, ◌&&◌, ◌||◌, ◌==◌, nat_lt, nat_le, List, [], ◌∷◌, Option, None, Some, Result, Ok, Err, find, reverse, length, codes, is_some, if◌then◌else◌, ◌⊎◌}
+use Rattle.std.specs.Prelude.{ℕ, ◌+◌, ◌≡◌, Bool, true, false, not, ◌&&◌, ◌||◌, ◌==◌, nat_lt, nat_le, List, [], ◌∷◌, Option, None, Some, Result, Ok, Err, find, length, codes, is_some, if◌then◌else◌, ◌⊎◌}
 use Rattle.std.specs.List.{list_any}
 use Rattle.std.specs.Str.{bytes_eq}
 use Rattle.wit_model.specs.declared.faults.Fault.{Fault}
 use Rattle.wit_model.specs.declared.faults.Fault.TheVariants.{UnknownSeat, UnknownLock, ClassMismatch, TypesFull, LocksFull, RecursionTooDeep, NotLocked, SharedUnlock, ExclusiveUnlock, ForbiddenUnlock, Pending, NotRequested, LogFull, OutOfMemory, BadName, ModeNotAllowed, UnknownFile, NotYet}
 use Rattle.wit_model.specs.declared.locks.Class.{Class}
-use Rattle.wit_model.specs.declared.locks.Class.TheVariants.{SleepMutex, SpinMutex, Rw, Sx}
+use Rattle.wit_model.specs.declared.locks.Class.TheVariants.{SleepMutex, Rw, Sx}
 use Rattle.wit_model.specs.declared.locks.Mode.{Mode}
 use Rattle.wit_model.specs.declared.locks.Instance.{Instance}
 use Rattle.wit_model.specs.declared.calls.NewLock.{NewLock}
@@ -14,13 +14,12 @@ use Rattle.wit_model.specs.declared.calls.Request.{Request}
 use Rattle.wit_model.specs.declared.calls.Call.{Call}
 use Rattle.wit_model.specs.declared.calls.Call.TheVariants.{Init, Check, Note, Unlock}
 use Rattle.wit_model.specs.declared.calls.Reply.{Reply}
-use Rattle.wit_model.specs.declared.calls.Reply.TheVariants.{Made, Pass, Adopted, Silent, Reversal, Recorded, Unlocked}
+use Rattle.wit_model.specs.declared.calls.Reply.TheVariants.{Made, Recorded, Unlocked}
 use Rattle.wit_model.specs.declared.calls.Entry.{Entry}
 use Rattle.wit_model.specs.Names.{is_name}
-use Rattle.wit_model.specs.Sizes.{Sizes}
 use Rattle.wit_model.specs.Types.{type_name_of, type_number, is_enrolled, is_otherwise, is_same_class, is_spin}
 use Rattle.wit_model.specs.Locks.{Lock, has_flag, lock_at, is_made}
-use Rattle.wit_model.specs.State.{Start, Story, State, Seat, state_of, seat_at, is_seat, has_room}
+use Rattle.wit_model.specs.State.{Start, Story, State, state_of, seat_at, is_seat, has_room}
 use Rattle.wit_model.specs.Verdict.{is_exclusive, is_of, verdict}
 
 -- the chain of the lock's kind

@@ -1,7 +1,8 @@
--- Lock types: "locks of the same type share one order" (witness(4)). A type is a name with a class, and its
--- number is its place among the types enrolled so far, from 1.
-use Rattle.std.specs.Prelude.{ℕ, ◌+◌, Bool, true, false, not, ◌&&◌, ◌||◌, List, [], ◌∷◌, ◌++◌, Option, unwrap_or, if◌then◌else◌}
-use Rattle.std.specs.List.{list_any, position_or_len}
+-- Lock types: the name that mtx_init is passed as type "is used by the witness code to classify a mutex when doing
+-- checks of lock ordering" (mutex(9)). A type is a name with a class, and its number is its place among the types
+-- enrolled so far, from 1.
+use Rattle.std.specs.Prelude.{ℕ, ◌+◌, ◌-◌, Bool, true, false, not, ◌&&◌, List, [], ◌∷◌, ◌++◌, unwrap_or, if◌then◌else◌}
+use Rattle.std.specs.List.{list_any, position_or_len, slice_index_or}
 use Rattle.std.specs.Str.{bytes_eq}
 use Rattle.wit_model.specs.declared.locks.Class.{Class}
 use Rattle.wit_model.specs.declared.locks.Class.TheVariants.{SleepMutex, SpinMutex, Rw, Sx}
@@ -37,6 +38,13 @@ type_number name types = position_or_len (is_named name) types + 1
 -- whether a type has this name and another class
 abbrev pub is_otherwise : List ℕ → Class → List LockType → Bool
 is_otherwise name class types = list_any (λ t. is_named name t && not (is_same_class t.class class)) types
+
+abbrev no_type : LockType
+no_type = record { name = []; class = SleepMutex }
+
+-- the name of the type with this number
+abbrev pub name_of : ℕ → List LockType → List ℕ
+name_of number types = (slice_index_or types (number - 1) no_type).name
 
 -- the types once this name is enrolled: a known name stays where it is
 abbrev pub enrolled : List ℕ → Class → List LockType → List LockType

@@ -1,7 +1,8 @@
 -- The verdict of a check: WITNESS compares the requested lock with the held ones (witness(4); the comments of
 -- witness_checkorder in subr_witness.c). The first rule that applies decides.
-use Rattle.std.specs.Prelude.{ℕ, Bool, true, false, not, ◌&&◌, ◌==◌, List, [], ◌∷◌, Option, None, Some, Result, Ok, Err, reverse, find, if◌then◌else◌}
-use Rattle.std.specs.List.{last_or, before_first}
+use Rattle.std.specs.Prelude.{ℕ, Bool, true, false, not, ◌&&◌, ◌||◌, ◌==◌, List, Option, None, Some, Result, Ok, Err, reverse, find, if◌then◌else◌}
+use Rattle.std.specs.List.{list_any, last_or, before_first}
+use Rattle.std.specs.Str.{bytes_eq}
 use Rattle.wit_model.specs.declared.faults.Fault.{Fault}
 use Rattle.wit_model.specs.declared.faults.Fault.TheVariants.{SharedOfExclusive, ExclusiveOfShared, Recursed}
 use Rattle.wit_model.specs.declared.locks.Mode.{Mode}
@@ -14,6 +15,7 @@ use Rattle.wit_model.specs.declared.calls.Conflict.{Conflict}
 use Rattle.wit_model.specs.declared.calls.Reply.{Reply}
 use Rattle.wit_model.specs.declared.calls.Reply.TheVariants.{Pass, Adopted, Silent, Reversal}
 use Rattle.wit_model.specs.declared.calls.Request.{Request}
+use Rattle.wit_model.specs.Types.{name_of}
 use Rattle.wit_model.specs.Locks.{has_flag, lock_at}
 use Rattle.wit_model.specs.Orders.{is_direct, is_before, is_found}
 use Rattle.wit_model.specs.State.{Known}
@@ -64,13 +66,20 @@ conflict k q chain i = record {
   asked = record { lock = q.lock; site = q.site };
 }
 
+abbrev pub is_named_pair : List ℕ → List ℕ → List ℕ × List ℕ → Bool
+is_named_pair a b p = (bytes_eq p.0 a && bytes_eq p.1 b) || (bytes_eq p.0 b && bytes_eq p.1 a)
+
+-- whether these types may be taken in either order: the "blessed" pairs of subr_witness.c
+abbrev pub is_blessed : Known → ℕ → ℕ → Bool
+is_blessed k a b = list_any (is_named_pair (name_of a k.types) (name_of b k.types)) k.blessed
+
 -- no held lock violates the order: it is learnt, where the request allows it (0x01). The newest held lock that does
--- is reported, once for a pair of types
+-- is reported, once for a pair of types, and never where the pair is blessed
 abbrev pub judged : Known → Request → List Instance → Instance → Option Instance → Result Reply Fault
 judged k q chain last None =
     if has_flag q.ops.0 0x01 then Ok (Adopted (type_in k last.lock.0) (type_in k q.lock.0)) else Ok Pass
 judged k q chain last (Some i) =
-    if is_found k.found (type_in k i.lock.0).0 (type_in k q.lock.0).0
+    if is_found k.found (type_in k i.lock.0).0 (type_in k q.lock.0).0 || is_blessed k (type_in k i.lock.0).0 (type_in k q.lock.0).0
     then Ok (Silent (type_in k i.lock.0) (type_in k q.lock.0))
     else Ok (Reversal (conflict k q chain i))
 

@@ -10,6 +10,7 @@ mod lines;
 mod locks;
 mod names;
 mod sizes;
+mod type_lists;
 
 pub use boxes::Boxed;
 pub use calls::{Adoption, Call, Conflict, Entry, Heading, LockAt, NewLock, Reply, Request};
@@ -21,3 +22,4 @@ pub use locks::{
 };
 pub use names::{FileName, Name};
 pub use sizes::Limits;
+pub use type_lists::TypeList;

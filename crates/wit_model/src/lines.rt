@@ -4,7 +4,8 @@ use crate::calls::NewLock;
 use crate::faults::Fault;
 use crate::flags::OpFlags;
 use crate::locks::{LockNo, Mode, SeatNo};
-use crate::names::FileName;
+use crate::names::{FileName, Name};
+use crate::type_lists::TypeList;
 
 /// A line of a trace.
 #[derive(Debug, Drop)]
@@ -15,6 +16,15 @@ pub enum Line {
         types: u32,
         locks: u32,
         chunks: u32,
+    },
+    /// `order`: types whose locks are taken in this order, one or more.
+    Order {
+        list: TypeList,
+    },
+    /// `bless`: two types whose locks may be taken in either order.
+    Bless {
+        first: Name,
+        second: Name,
     },
     /// `init`: a lock is made.
     Init {

@@ -1,6 +1,6 @@
 //! Names of locks, of their types and of source files.
 
-ghost use Rattle.std.specs.Prelude.{◌≡◌, IfOk};
+ghost use Rattle.std.specs.Prelude.{◌≡◌, IfOk, string_bytes};
 ghost use Rattle.std.specs.List.{list_all};
 ghost use Rattle.wit_model.specs.Names.{is_name, is_file_name, is_name_byte, is_file_byte};
 
@@ -42,6 +42,13 @@ impl Name {
         ensures { result.now ≡ self.now }
     {
         self.text.as_str()
+    }
+
+    /// Its text, for good.
+    pub fn into_string(self) -> String
+        ensures { string_bytes result ≡ self }
+    {
+        self.text
     }
 
     /// Whether a text is a name.

@@ -2,7 +2,7 @@ use Rattle.std.proofs.Common.{◌≡◌, ◌<◌, ℕ, length, get_or}
 use Rattle.wit_model.specs.State.{no_seat}
 use Rattle.wit_core.specs.declared.seats.Seat.{Seat}
 use Rattle.wit_core.specs.Rows.{seat_view, HasRoom}
-use Rattle.wit_core.proofs.books.Books.new.Given as goal
+use Rattle.wit_core.proofs.books.free_seats.Given as goal
 
 abbrev pub invariant-loop-seat : goal.invariant-loop-seat
 invariant-loop-seat l =

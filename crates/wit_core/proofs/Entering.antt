@@ -1,0 +1,158 @@
+-- Static lists, entered list by list.
+use Rattle.std.proofs.Common.{◌≡◌, ℕ, ◌+◌, ◌<◌, ◌≤◌, Bool, true, false, not, ◌&&◌, cond, List, [], ◌∷◌, length, drop, get_or, Option, Some, None, String, refl, ap, sym, ap₂, ◌∙◌, subst, arith, inl, inr, ◌⊎◌, ⊎_elim}
+use Rattle.std.specs.List.{list_any}
+use Rattle.std.specs.Option.{option_or}
+use Rattle.std.specs.Global.{Vec, Global}
+use Rattle.std.proofs.lemmas.List.{drop_more, length-map}
+use Rattle.wit_model.specs.declared.faults.Fault.{Fault}
+use Rattle.wit_model.specs.declared.faults.Fault.TheVariants.{BadName, OutOfMemory}
+use Rattle.wit_model.specs.declared.locks.Class.{Class}
+use Rattle.wit_model.specs.declared.locks.LockType.{LockType}
+use Rattle.wit_model.specs.declared.calls.Adoption.{Adoption}
+use Rattle.wit_model.specs.Types.{enrolled_all}
+use Rattle.wit_model.specs.Orders.{listed_pairs}
+use Rattle.wit_model.specs.Names.{is_name}
+use Rattle.wit_model.proofs.Started.{list_accepted}
+use Rattle.wit_model.specs.State.{Start, Known}
+use Rattle.wit_model.specs.Start.{numbered, list_fault, lists_fault, blessed_fault, start_fault, IsAcceptedTo, IsRefused}
+use Rattle.wit_model.specs.Sizes.{Sizes}
+use Rattle.wit_core.specs.Knowledge.{nothing_but}
+use Rattle.wit_core.specs.Fresh.{start_of}
+use Rattle.wit_core.specs.Listed.{listed, all_listed, pairs_of, with_list, with_lists, AreRefused}
+
+-- a fault of a list, and of none
+faulty : (most n : ℕ) (list : List (Class × List ℕ)) (lists : List (List (Class × List ℕ))) (types : List LockType) (orders : List Adoption) (fault : Fault)
+    → list_fault most types orders list ≡ Some fault → lists_fault most n (list ∷ lists) types orders ≡ Some (n, fault)
+faulty most n list lists types orders fault is =
+    ap (λ o. option_or (numbered n o) (lists_fault most (n + 1) lists (enrolled_all list types) (listed_pairs (enrolled_all list types) list orders))) is
+
+passed : (most n : ℕ) (list : List (Class × List ℕ)) (lists : List (List (Class × List ℕ))) (types : List LockType) (orders : List Adoption)
+    → list_fault most types orders list ≡ None
+    → lists_fault most n (list ∷ lists) types orders ≡ lists_fault most (n + 1) lists (enrolled_all list types) (listed_pairs (enrolled_all list types) list orders)
+passed most n list lists types orders is =
+    ap (λ o. option_or (numbered n o) (lists_fault most (n + 1) lists (enrolled_all list types) (listed_pairs (enrolled_all list types) list orders))) is
+
+-- the fault of later lists leaves the acceptance of the earlier ones
+later : (most n m : ℕ) (lists : List (List (Class × List ℕ))) (types : List LockType) (orders : List Adoption) → 0 < m → m < n
+    → IsAcceptedTo m (lists_fault most n lists types orders)
+later most n m [] types orders some lt = tt
+later most n m (list ∷ lists) types orders some lt =
+    go (list_fault most types orders list) refl
+    (later most (n + 1) m lists (enrolled_all list types) (listed_pairs (enrolled_all list types) list orders) some (omega (arith, lt)))
+  where
+    go : (o : Option Fault) → list_fault most types orders list ≡ o
+        → IsAcceptedTo m (lists_fault most (n + 1) lists (enrolled_all list types) (listed_pairs (enrolled_all list types) list orders))
+        → IsAcceptedTo m (lists_fault most n (list ∷ lists) types orders)
+    go None is rest = subst (IsAcceptedTo m) (sym (passed most n list lists types orders is)) rest
+    go (Some fault) is rest = subst (IsAcceptedTo m) (sym (faulty most n list lists types orders fault is)) (some, inl lt)
+
+module _ (lists : List (Vec (Class × String Global))) (most i : ℕ) (a : Vec (Class × String Global)) (items : List (Class × String Global)) (types : List LockType) (orders : List Adoption)
+    (lt : i < length lists) (is_a : a ≡ get_or lists i a) (is : items ≡ a.items) where
+  here : all_listed (drop i lists) ≡ listed items ∷ all_listed (drop (i + 1) lists)
+  here =
+      ap all_listed (drop_more lists i a lt ∙ ap (λ x. x ∷ drop (i + 1) lists) (sym is_a))
+      ∙ ap (λ (xs : List (Class × String Global)). listed xs ∷ all_listed (drop (i + 1) lists)) (sym is)
+
+  -- where the next list is accepted
+  pub entered-fault : (next_types : List LockType) (next_orders : List Adoption) (whole : Option (ℕ × Fault)) → lists_fault most (i + 1) (all_listed (drop i lists)) types orders ≡ whole
+      → list_fault most types orders (listed items) ≡ None
+      → next_types ≡ enrolled_all (listed items) types → next_orders ≡ listed_pairs (enrolled_all (listed items) types) (listed items) orders
+      → lists_fault most (i + 1 + 1) (all_listed (drop (i + 1) lists)) next_types next_orders ≡ whole
+  entered-fault next_types next_orders whole was none types_are orders_are =
+      ap₂ (λ ts os. lists_fault most (i + 1 + 1) (all_listed (drop (i + 1) lists)) ts os) types_are orders_are
+      ∙ (sym (passed most (i + 1) (listed items) (all_listed (drop (i + 1) lists)) types orders none)
+      ∙ (ap (λ ls. lists_fault most (i + 1) ls types orders) (sym here) ∙ was))
+
+  -- where it isn't
+  pub refused-list : (whole : Option (ℕ × Fault)) (number : ℕ) (fault : Fault) → number ≡ i + 1 → lists_fault most (i + 1) (all_listed (drop i lists)) types orders ≡ whole
+      → (list_fault most types orders (listed items) ≡ Some fault) ⊎ ((fault ≡ OutOfMemory) × (list_fault most types orders (listed items) ≡ None))
+      → AreRefused whole (all_listed lists) number fault
+  refused-list whole number fault e was why =
+      subst (λ n. AreRefused whole (all_listed lists) n fault) (sym e)
+      (⊎_elim
+      (λ some. inl (sym was ∙ (ap (λ ls. lists_fault most (i + 1) ls types orders) here
+      ∙ faulty most (i + 1) (listed items) (all_listed (drop (i + 1) lists)) types orders fault some)))
+      (λ out. inr (
+        out.0,
+        (
+          omega arith,
+          (
+            omega (arith, lt, length-map lists (λ (list : Vec (Class × String Global)). listed list.items)),
+            subst (IsAcceptedTo (i + 1)) (entered-fault _ _ whole was out.1 refl refl)
+                (later most (i + 1 + 1) (i + 1) (all_listed (drop (i + 1) lists)) _ _ (omega arith) (omega arith)),
+          ),
+        ),
+      ))
+      why)
+
+  pub known-step : (k next whole : Known) → next ≡ with_list k (listed items)
+      → with_lists k (all_listed (drop i lists)) ≡ whole → with_lists next (all_listed (drop (i + 1) lists)) ≡ whole
+  known-step k next whole next_is was =
+      ap (λ x. with_lists x (all_listed (drop (i + 1) lists))) next_is
+      ∙ (ap (λ ls. with_lists k ls) (sym here) ∙ was)
+
+-- a refusal of the lists refuses the start
+pub start-refused : (start : Start) (number : ℕ) (fault : Fault) → AreRefused (lists_fault start.sizes.types 1 start.lists [] []) start.lists number fault → IsRefused start number fault
+start-refused start number fault refused =
+    ⊎_elim
+    (λ is. inl (ap (λ o. option_or o (blessed_fault start.blessed)) is))
+    (λ out. inr (out.0, (out.1.1.0, go (lists_fault start.sizes.types 1 start.lists [] []) out.1.0 out.1.1.1)))
+    refused
+  where
+    blessed : (b : Bool) → 0 < number → IsAcceptedTo number (cond b (Some (0, BadName)) None)
+    blessed true some = (some, inr refl)
+    blessed false some = tt
+
+    go : (o : Option (ℕ × Fault)) → 0 < number → IsAcceptedTo number o → IsAcceptedTo number (option_or o (blessed_fault start.blessed))
+    go None some accepted = blessed _ some
+    go (Some e) some accepted = accepted
+
+-- an accepted list leaves the types within their limit
+pub list-few : (most : ℕ) (types : List LockType) (orders : List Adoption) (list : List (Class × List ℕ)) (bound : ℕ) → most ≤ bound → None ≡ list_fault most types orders list
+    → length (enrolled_all list types) ≤ bound
+list-few most types orders list bound le none = let good = list_accepted most types orders list (sym none) in omega (arith, good.few, le)
+
+-- an accepted start, or one whose blessed pairs aren't
+pub start-accepted : (start : Start) → lists_fault start.sizes.types 1 start.lists [] [] ≡ None
+    → list_any (λ (p : List ℕ × List ℕ). not (is_name p.0 && is_name p.1)) start.blessed ≡ false → start_fault start ≡ None
+start-accepted start lists good =
+    ap (λ o. option_or o (blessed_fault start.blessed)) lists ∙ ap (λ b. cond {A = Option (ℕ × Fault)} b (Some (0, BadName)) None) good
+
+pub start-misnamed : (start : Start) → lists_fault start.sizes.types 1 start.lists [] [] ≡ None
+    → list_any (λ (p : List ℕ × List ℕ). not (is_name p.0 && is_name p.1)) start.blessed ≡ true → IsRefused start 0 BadName
+start-misnamed start lists bad =
+    inl (ap (λ o. option_or o (blessed_fault start.blessed)) lists ∙ ap (λ b. cond {A = Option (ℕ × Fault)} b (Some (0, BadName)) None) bad)
+
+pub start-unmade : (start : Start) → start_fault start ≡ None → IsRefused start 0 OutOfMemory
+start-unmade start accepted = inr (refl, (omega arith, subst (IsAcceptedTo 0) (sym accepted) tt))
+
+-- what `new` finds once the lists are entered, and where they are refused
+module _ (sizes : Sizes) (most : ℕ) (lists passed_lists : List (Vec (Class × String Global))) (blessed : List (String Global × String Global)) (old : Known)
+    (most_is : most ≡ sizes.types) (lists_are : passed_lists ≡ lists) (old_is : old ≡ nothing_but (pairs_of blessed)) where
+  same-answer : lists_fault most 1 (all_listed passed_lists) old.types old.orders ≡ lists_fault sizes.types 1 (all_listed lists) [] []
+  same-answer =
+      ap (λ m. lists_fault m 1 (all_listed passed_lists) old.types old.orders) most_is
+      ∙ (ap (λ ls. lists_fault sizes.types 1 (all_listed ls) old.types old.orders) lists_are
+      ∙ ap (λ (k : Known). lists_fault sizes.types 1 (all_listed lists) k.types k.orders) old_is)
+
+  pub lists-accepted : lists_fault most 1 (all_listed passed_lists) old.types old.orders ≡ None → lists_fault sizes.types 1 (all_listed lists) [] [] ≡ None
+  lists-accepted none = sym same-answer ∙ none
+
+  pub lists-entered : (new : Known) → new ≡ with_lists old (all_listed passed_lists) → new ≡ with_lists (nothing_but (pairs_of blessed)) (all_listed lists)
+  lists-entered new is =
+      is ∙ (ap (λ ls. with_lists old (all_listed ls)) lists_are ∙ ap (λ k. with_lists k (all_listed lists)) old_is)
+
+  pub lists-refused : (number : ℕ) (fault : Fault) → AreRefused (lists_fault most 1 (all_listed passed_lists) old.types old.orders) (all_listed passed_lists) number fault
+      → IsRefused (start_of sizes lists blessed) number fault
+  lists-refused number fault refused =
+      start-refused (start_of sizes lists blessed) number fault
+      (subst (λ ls. AreRefused (lists_fault sizes.types 1 (all_listed lists) [] []) (all_listed ls) number fault) lists_are
+      (subst (λ o. AreRefused o (all_listed passed_lists) number fault) same-answer refused))
+
+  -- the blessed names, by what is known
+  pub blessed-names : (new : Known) (r : Bool) (passed_pairs pairs : List (String Global × String Global)) → new ≡ with_lists old (all_listed passed_lists)
+      → r ≡ list_any (λ (p : List ℕ × List ℕ). not (is_name p.0 && is_name p.1)) (pairs_of passed_pairs) → passed_pairs ≡ pairs → pairs_of pairs ≡ new.blessed
+      → list_any (λ (p : List ℕ × List ℕ). not (is_name p.0 && is_name p.1)) (pairs_of blessed) ≡ r
+  blessed-names new r passed_pairs pairs is e same kept =
+      sym (e ∙ ap (λ ps. list_any (λ (p : List ℕ × List ℕ). not (is_name p.0 && is_name p.1)) ps)
+      (ap pairs_of same ∙ (kept ∙ ap (λ (k : Known). k.blessed) (lists-entered new is))))

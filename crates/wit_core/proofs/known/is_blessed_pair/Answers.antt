@@ -1,0 +1,12 @@
+use Rattle.std.proofs.Common.{String, sym, ◌∙◌, rules, tests, string_bytes}
+use Rattle.std.specs.Global.{Global}
+use Rattle.std.proofs.lemmas.Iterator.{YieldsList-from_slice}
+use Rattle.std.proofs.lemmas.Iterator.Search.{any_from_yields_List}
+use Rattle.wit_model.specs.Verdict.{is_named_pair}
+use Rattle.wit_core.proofs.Listing.{any-map}
+use Rattle.wit_core.proofs.known.is_blessed_pair.Goals as goal
+
+pub returns : goal.returns
+returns c =
+    any_from_yields_List (λ (p : String Global × String Global). is_named_pair c.args.a.now c.args.b.now (string_bytes p.0, string_bytes p.1)) _ _ c.any.result c.any.ensures.ran (YieldsList-from_slice c.args.blessed.now cc) (λ x b q k. search (rules, tests))
+    ∙ sym (any-map _ _ c.args.blessed.now)

@@ -1,0 +1,8 @@
+use Rattle.std.proofs.Common.{◌≡◌, ◌≤◌, ◌+◌, length, take}
+use Rattle.wit_model.specs.Types.{enrolled_all}
+use Rattle.wit_core.specs.Listed.{listed}
+use Rattle.wit_core.proofs.lists.types_with.Given as goal
+
+abbrev pub invariant-loop-place : goal.invariant-loop-place
+invariant-loop-place l =
+    (l.count ≡ length (enrolled_all (listed (take l.place l.list)) l.types)) × (l.count ≤ length l.types + l.place)
