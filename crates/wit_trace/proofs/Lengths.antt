@@ -1,12 +1,12 @@
 -- A line that has a spelling has a short one.
-use Rattle.std.proofs.Common.{ℕ, suc, ◌*◌, ◌/◌, ◌%◌, ◌^◌, ◌<◌, ◌≤◌, Bool, true, false, cond, eqb, List, [], ◌∷◌, ◌++◌, length, Option, Some, None, arith, codes}
+use Rattle.std.proofs.Common.{◌≡◌, ℕ, suc, ◌*◌, ◌/◌, ◌%◌, ◌^◌, ◌<◌, ◌≤◌, Bool, true, false, cond, eqb, List, [], ◌∷◌, ◌++◌, length, Option, Some, None, refl, arith, codes}
 use Rattle.std.specs.Prelude.{IsTrue, IfSome}
 use Rattle.std.specs.Fmt.{decimal}
 use Rattle.std.proofs.lemmas.Bool.{and_parts, leb-true}
 use Rattle.std.proofs.lemmas.Fmt.{length-decimal-le}
 use Rattle.std.proofs.lemmas.List.{length-append}
 use Rattle.wit_model.specs.declared.lines.Line.{Line}
-use Rattle.wit_model.specs.declared.lines.Line.TheVariants.{Header, Init, Check, Lock, Unlock}
+use Rattle.wit_model.specs.declared.lines.Line.TheVariants.{Header, Order, Bless, Init, Check, Lock, Unlock}
 use Rattle.wit_model.specs.declared.locks.Class.{Class}
 use Rattle.wit_model.specs.declared.locks.Class.TheVariants.{SleepMutex, SpinMutex, Rw, Sx}
 use Rattle.wit_model.specs.declared.locks.Mode.{Mode}
@@ -76,9 +76,26 @@ init-le : (seat : ℕ) (class : Class) (flags : ℕ) (name : List ℕ) (type_nam
 init-le seat class flags name None p q r = line-le (codes "init") (decimal seat ∷ class_text class ∷ flags_text lock_letters flags ∷ quoted name ∷ []) (omega arith) (omega arith) (number-short seat (omega arith), (class-short class, (flags-short lock_letters flags (omega arith), (name-short name q, tt))))
 init-le seat class flags name (Some t) p q r = line-le (codes "init") (decimal seat ∷ class_text class ∷ flags_text lock_letters flags ∷ quoted name ∷ quoted t ∷ []) (omega arith) (omega arith) (number-short seat (omega arith), (class-short class, (flags-short lock_letters flags (omega arith), (name-short name q, (name-short t r, tt)))))
 
-pub spelling-le : (line : Line) → IsSpellable line → length (spelling line) ≤ 4096
+-- a line of few fields has a spelling of at most 4,096 bytes; a list may have more
+abbrev pub IsShortOrList : Line → Type 0
+IsShortOrList (Order list) = Unit {0}
+IsShortOrList line = length (spelling line) ≤ 4096
+
+spelling-le : (line : Line) → IsSpellable line → IsShortOrList line
 spelling-le (Header s t l c) (p0, p1, p2, p3) = line-le (codes "witness-trace") (codes "1" ∷ codes "seats" ∷ decimal s ∷ codes "types" ∷ decimal t ∷ codes "locks" ∷ decimal l ∷ codes "chunks" ∷ decimal c ∷ []) (omega arith) (omega arith) (omega arith, (omega arith, (number-short s p0, (omega arith, (number-short t p1, (omega arith, (number-short l p2, (omega arith, (number-short c p3, tt)))))))))
+spelling-le (Order list) spellable = tt
+spelling-le (Bless a b) (p0, p1) = line-le (codes "bless") (quoted a ∷ quoted b ∷ []) (omega arith) (omega arith) (name-short a p0, (name-short b p1, tt))
 spelling-le (Init seat lock) (p0, p1) = init-le seat.0 lock.class lock.flags.0 lock.name lock.type_name p0 p1.1 p1.2
 spelling-le (Check s l m o f n) (p0, p1, p2, p3, p4) = line-le (codes "check") (decimal s.0 ∷ decimal l.0 ∷ mode_text m ∷ flags_text op_letters o.0 ∷ site_text f n ∷ []) (omega arith) (omega arith) (number-short s.0 (omega arith), (number-short l.0 p1, (mode-short m, (flags-short op_letters o.0 (omega arith), (site-short f n p3 p4, tt)))))
 spelling-le (Lock s l) (p0, p1) = line-le (codes "lock") (decimal s.0 ∷ decimal l.0 ∷ []) (omega arith) (omega arith) (number-short s.0 (omega arith), (number-short l.0 p1, tt))
 spelling-le (Unlock s l m) (p0, p1) = line-le (codes "unlock") (decimal s.0 ∷ decimal l.0 ∷ mode_text m ∷ []) (omega arith) (omega arith) (number-short s.0 (omega arith), (number-short l.0 p1, (mode-short m, tt)))
+
+-- a line of another kind
+pub spelled-le : (line : Line) → IsSpellable line → ((list : List (Class × List ℕ)) → line ≡ Order list → ⊥) → length (spelling line) ≤ 4096
+spelled-le (Header s t l c) spellable other = spelling-le (Header s t l c) spellable
+spelled-le (Order list) spellable other = absurd (other list refl)
+spelled-le (Bless a b) spellable other = spelling-le (Bless a b) spellable
+spelled-le (Init seat lock) spellable other = spelling-le (Init seat lock) spellable
+spelled-le (Check s l m o f n) spellable other = spelling-le (Check s l m o f n) spellable
+spelled-le (Lock s l) spellable other = spelling-le (Lock s l) spellable
+spelled-le (Unlock s l m) spellable other = spelling-le (Unlock s l m) spellable

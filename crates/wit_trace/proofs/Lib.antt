@@ -1,6 +1,8 @@
 pub mod AnswerLemmas
 pub mod Found
 pub mod Lengths
+pub mod ListReading
+pub mod ListedTypes
 pub mod Numbers
 pub mod Places
 pub mod ReplayLemmas

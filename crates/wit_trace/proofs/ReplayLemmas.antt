@@ -1,6 +1,10 @@
 -- What becomes of a line, and what is written for it.
-use Rattle.std.proofs.Common.{◌≡◌, ℕ, ◌+◌, List, ◌∷◌, ◌++◌, Option, Some, Result, Ok, Err, IfOk, ap, ap₂, subst, ◌∙◌, false, ◌⊎◌, inl, inr}
+use Rattle.std.proofs.Common.{◌≡◌, ℕ, ◌+◌, ◌<◌, ◌≤◌, Bool, ◌||◌, cond, ltb, List, [], ◌∷◌, ◌++◌, length, take, length-take, arith, codes, Option, Some, None, Result, Ok, Err, IfOk, refl, sym, ap, ap₂, subst, ◌∙◌, false, ◌⊎◌, inl, inr}
 use Rattle.std.specs.Global.{Vec}
+use Rattle.std.specs.Io.{StartsWith}
+use Rattle.std.specs.Str.{bytes_eq}
+use Rattle.std.proofs.lemmas.Bool.{lt-ltb, le-ltb}
+use Rattle.std.proofs.lemmas.List.{take-take}
 use Rattle.wit_model.specs.declared.calls.Call.{Call}
 use Rattle.wit_model.specs.declared.calls.Call.TheVariants as call
 use Rattle.wit_model.specs.declared.calls.NewLock.{NewLock}
@@ -11,16 +15,21 @@ use Rattle.wit_model.specs.declared.faults.Fault.TheVariants.{OutOfMemory}
 use Rattle.wit_model.specs.declared.flags.OpFlags.{OpFlags}
 use Rattle.wit_model.specs.declared.lines.Line.TheVariants.{Check}
 use Rattle.wit_model.specs.declared.lines.Cause.{Cause}
+use Rattle.wit_model.specs.declared.lines.Cause.TheVariants as why
 use Rattle.wit_model.specs.declared.locks.FileNo.{FileNo}
 use Rattle.wit_model.specs.declared.locks.LockNo.{LockNo}
 use Rattle.wit_model.specs.declared.locks.Mode.{Mode}
 use Rattle.wit_model.specs.declared.locks.SeatNo.{SeatNo}
 use Rattle.wit_model.specs.Files.{NamesFile}
+use Rattle.wit_model.specs.Start.{start_fault}
 use Rattle.wit_model.specs.State.{Story}
 use Rattle.wit_model.specs.Step.{AnswersOrFails, IsAccepted, answer_of}
 use Rattle.wit_model.specs.Output as output
 use Rattle.wit_core.specs.Books.{new_lock, made_reply}
-use Rattle.wit_trace.specs.Replays.{Passes, Tells, IsWritten, total}
+use Rattle.wit_trace.specs.Machine.{BreaksAt, first_of}
+use Rattle.wit_trace.specs.Replays.{Passes, Tells, KeepsTotal, Reaches, IsWritten, progress, total}
+use Rattle.wit_trace.specs.declared.replaying.Replaying.{Replaying}
+use Rattle.wit_trace.specs.declared.replaying.Replaying.TheVariants.{Unstarted, Opening, Reading}
 use Rattle.wit_trace.specs.declared.outcome.Outcome.{Outcome}
 use Rattle.wit_trace.specs.declared.outcome.Outcome.TheVariants.{Told, Bad}
 use Rattle.wit_trace.specs.declared.summary.Summary.{Summary}
@@ -58,7 +67,7 @@ passes_from (output.Bad why) old mid new (Bad cause) same passes =
 passes_check : (old mid new : Story) (seat : SeatNo) (lock : LockNo) (mode : Mode) (ops : OpFlags) (name : List ℕ) (line : ℕ) (f : FileNo) (reply : Result Reply Fault) (o : Outcome)
     → NamesFile old name (Ok f) mid
     → AnswersOrFails mid seat.0 (call.Check (record { lock = lock; site = record { file = f; line = line }; mode = mode; ops = ops })) reply new → Tells new reply o
-    → Passes (output.entered (output.Reading old) (Check seat lock mode ops name line)) (output.Reading old) (output.Reading new) o
+    → Passes (output.calls old (Check seat lock mode ops name line)) (output.Reading old) (output.Reading new) o
 passes_check old mid new seat lock mode ops name line f reply o names answers tells =
     let q : Request = record { lock = lock; site = record { file = f; line = line }; mode = mode; ops = ops } in
     let made = passes_made mid new seat.0 (call.Check q) reply o answers tells in
@@ -68,7 +77,7 @@ passes_check old mid new seat lock mode ops name line f reply o names answers te
 pub line_checked : (old mid new : Story) (seat : SeatNo) (lock : LockNo) (mode : Mode) (ops : OpFlags) (name : List ℕ) (line : ℕ) (f : FileNo) (named : Result FileNo Fault) (reply : Result Reply Fault) {E : Type 0} (r : Result Outcome E)
     → named ≡ Ok f → NamesFile old name named mid
     → AnswersOrFails mid seat.0 (call.Check (record { lock = lock; site = record { file = f; line = line }; mode = mode; ops = ops })) reply new → IfOk r (Tells new reply)
-    → IfOk r (Passes (output.entered (output.Reading old) (Check seat lock mode ops name line)) (output.Reading old) (output.Reading new))
+    → IfOk r (Passes (output.calls old (Check seat lock mode ops name line)) (output.Reading old) (output.Reading new))
 line_checked old mid new seat lock mode ops name line f named reply (Err e) is names answers tells = tt
 line_checked old mid new seat lock mode ops name line f named reply (Ok o) is names answers tells =
     passes_check old mid new seat lock mode ops name line f reply o (subst (λ (n : Result FileNo Fault). NamesFile old name n mid) is names) answers tells
@@ -83,11 +92,11 @@ told_after (output.Goes to told) p q n text next more summary passes written = r
   circle = written.circle;
 }
 
-pub told : (p q : output.Progress) (n : ℕ) (line : List ℕ) (o : Outcome) (text : Vec ℕ) → Passes (output.outcome p line) p q o → o ≡ Told text
+pub told : (from p q : output.Progress) (n : ℕ) (line : List ℕ) (o : Outcome) (text : Vec ℕ) → output.reached from line ≡ Ok p → Passes (output.outcome p n line) p q o → o ≡ Told text
     → (lines : List (List ℕ)) (tail more : List ℕ) (summary : Summary) → IsWritten (output.output_from q (n + 1) lines tail) more summary
-    → IsWritten (output.output_from p n (line ∷ lines) tail) (text.items ++ more) summary
-told p q n line o text passes is lines tail more summary written =
-    told_after (output.outcome p line) p q n text _ more summary (subst (Passes (output.outcome p line) p q) is passes) written
+    → IsWritten (output.output_from from n (line ∷ lines) tail) (text.items ++ more) summary
+told from p q n line o text stands passes is lines tail more summary written =
+    rw stands (told_after (output.outcome p n line) p q n text _ more summary (subst (Passes (output.outcome p n line) p q) is passes) written)
 
 -- a bad line's text and summary, whatever follows it
 bad_after : (w : output.Outcome) (p q : output.Progress) (n : ℕ) (cause : Cause) (next : output.Progress → output.Written) (text : List ℕ) (summary : Summary) → Passes w p q (Bad cause)
@@ -99,8 +108,127 @@ bad_after (output.Bad why) p q n cause next text summary passes texts sums circl
   circle = circle;
 }
 
-pub bad : (p q : output.Progress) (n : ℕ) (line : List ℕ) (o : Outcome) (cause : Cause) (text : List ℕ) (summary : Summary) → Passes (output.outcome p line) p q o → o ≡ Bad cause
+pub bad : (from p q : output.Progress) (n : ℕ) (line : List ℕ) (o : Outcome) (cause : Cause) (text : List ℕ) (summary : Summary) → output.reached from line ≡ Ok p → Passes (output.outcome p n line) p q o → o ≡ Bad cause
     → text ≡ output.bad_text n cause → total summary ≡ output.summed q (Some (n, cause)) → summary.circle ≡ false
+    → (lines : List (List ℕ)) (tail : List ℕ) → IsWritten (output.output_from from n (line ∷ lines) tail) text summary
+bad from p q n line o cause text summary stands passes is texts sums circle lines tail =
+    rw stands (bad_after (output.outcome p n line) p q n cause _ text summary (subst (Passes (output.outcome p n line) p q) is passes) texts sums circle)
+
+-- the text and the summary at a list that is refused
+refused_at : (due : Result output.Progress output.BadLine) (p q : output.Progress) (line : output.BadLine) (next : output.Progress → output.Written) (text : List ℕ) (summary : Summary) → due ≡ Err line → KeepsTotal p q
+    → text ≡ output.bad_text line.0 line.1 → total summary ≡ output.summed q (Some line) → summary.circle ≡ false → IsWritten (output.output_at p due next) text summary
+refused_at due p q line next text summary is keeps texts sums circle = rw is (record { text = texts; summed = sums ∙ keeps (Some line); circle = circle })
+
+-- a list is refused at a line, whatever follows it
+pub refused : (p q : output.Progress) (n : ℕ) (line : List ℕ) (list : output.BadLine) (text : List ℕ) (summary : Summary) → output.reached p line ≡ Err list → KeepsTotal p q
+    → text ≡ output.bad_text list.0 list.1 → total summary ≡ output.summed q (Some list) → summary.circle ≡ false
     → (lines : List (List ℕ)) (tail : List ℕ) → IsWritten (output.output_from p n (line ∷ lines) tail) text summary
-bad p q n line o cause text summary passes is texts sums circle lines tail =
-    bad_after (output.outcome p line) p q n cause _ text summary (subst (Passes (output.outcome p line) p q) is passes) texts sums circle
+refused p q n line list text summary is keeps texts sums circle lines tail = refused_at (output.reached p line) p q list _ text summary is keeps texts sums circle
+
+-- or at the end of the input
+pub refused_at_end : (p q : output.Progress) (n : ℕ) (tail : List ℕ) (list : output.BadLine) (text : List ℕ) (summary : Summary) → output.reached p tail ≡ Err list → KeepsTotal p q
+    → text ≡ output.bad_text list.0 list.1 → total summary ≡ output.summed q (Some list) → summary.circle ≡ false
+    → IsWritten (output.output_from p n [] tail) text summary
+refused_at_end p q n tail list text summary is keeps texts sums circle = refused_at (output.reached p tail) p q list _ text summary is keeps texts sums circle
+
+-- the beginning of a long line decides whether it ends the prelude
+begins_prelude : (bytes line : List ℕ) → 4096 < length bytes → StartsWith line bytes → output.is_prelude line ≡ output.is_prelude bytes
+begins_prelude bytes line long starts =
+    ap (λ (w : List ℕ). bytes_eq w (codes "order ") || bytes_eq w (codes "bless ")) (sym (take-take 6 (length bytes) line (omega arith)) ∙ ap (take 6) starts)
+
+begins_reached : (p : output.Progress) (bytes line : List ℕ) → 4096 < length bytes → StartsWith line bytes → output.reached p line ≡ output.reached p bytes
+begins_reached output.Unstarted bytes line long starts = refl
+begins_reached (output.Opening o) bytes line long starts = ap (λ (t : Bool). cond t (Ok (output.Opening o)) (output.opened o (start_fault o.start))) (begins_prelude bytes line long starts)
+begins_reached (output.Reading s) bytes line long starts = refl
+
+first_reached : (p : output.Progress) (cause : Cause) (bytes : List ℕ) (lines : List (List ℕ)) (tail : List ℕ) → BreaksAt cause bytes lines tail → output.reached p (first_of lines tail) ≡ output.reached p bytes
+first_reached p why.Long bytes lines tail h = begins_reached p bytes (first_of lines tail) h.0 h.1
+first_reached p why.Cut bytes lines tail h = ap (λ (ls : List (List ℕ)). output.reached p (first_of ls tail)) h.2 ∙ ap (output.reached p) h.3
+first_reached p why.Syntax bytes lines tail h = elim h [ ]
+first_reached p why.Limit bytes lines tail h = elim h [ ]
+first_reached p (why.Fault fault) bytes lines tail h = elim h [ ]
+
+-- an unfinished line is bad
+ends_some : (p : output.Progress) (n : ℕ) (tail : List ℕ) (cause : Cause) → 0 < length tail → cond (ltb 4096 (length tail)) why.Long why.Cut ≡ cause → output.ends p n tail ≡ output.ends_bad p (n, cause)
+ends_some p n [] cause some is = absurd (omega arith)
+ends_some output.Unstarted n (b ∷ tail) cause some is = ap (λ (c : Cause). output.ends_bad output.Unstarted (n, c)) is
+ends_some (output.Opening o) n (b ∷ tail) cause some is = ap (λ (c : Cause). output.ends_bad (output.Opening o) (n, c)) is
+ends_some (output.Reading s) n (b ∷ tail) cause some is = ap (λ (c : Cause). output.ends_bad (output.Reading s) (n, c)) is
+
+starts-le : (bytes line : List ℕ) → StartsWith line bytes → length bytes ≤ length line
+starts-le bytes line starts = let e : length (take (length bytes) line) ≡ length bytes = ap length starts in omega (arith, length-take {A = ℕ})
+
+-- where a line breaks off, it is bad
+broken_output : (from p : output.Progress) (n : ℕ) (cause : Cause) (bytes : List ℕ) (lines : List (List ℕ)) (tail : List ℕ) → output.reached from bytes ≡ Ok p → BreaksAt cause bytes lines tail
+    → output.output_from from n lines tail ≡ output.ends_bad p (n, cause)
+broken_output from p n why.Long bytes [] tail stands h =
+    let long : 4096 < length tail = omega (arith, starts-le bytes tail h.1, h.0) in
+    ap (λ (due : Result output.Progress output.BadLine). output.output_at from due (λ q. output.ends q n tail)) (first_reached from why.Long bytes [] tail h ∙ stands)
+    ∙ ends_some p n tail why.Long (omega arith) (rw (lt-ltb 4096 (length tail) long) refl)
+broken_output from p n why.Long bytes (line ∷ lines) tail stands h =
+    let long : 4096 < length line = omega (arith, starts-le bytes line h.1, h.0) in
+    ap (λ (due : Result output.Progress output.BadLine). output.output_at from due (λ q. output.output_after q n (output.outcome q n line) (λ r. output.output_from r (n + 1) lines tail))) (first_reached from why.Long bytes (line ∷ lines) tail h ∙ stands)
+    ∙ rw (lt-ltb 4096 (length line) long) refl
+broken_output from p n why.Cut bytes lines tail stands h =
+    let same : length tail ≡ length bytes = ap length h.3 in
+    ap (λ (ls : List (List ℕ)). output.output_from from n ls tail) h.2
+    ∙ ap (λ (due : Result output.Progress output.BadLine). output.output_at from due (λ q. output.ends q n tail)) (ap (output.reached from) h.3 ∙ stands)
+    ∙ ends_some p n tail why.Cut (omega (arith, h.0)) (rw (le-ltb 4096 (length tail) (omega (arith, h.1))) refl)
+broken_output from p n why.Syntax bytes lines tail stands h = elim h [ ]
+broken_output from p n why.Limit bytes lines tail stands h = elim h [ ]
+broken_output from p n (why.Fault fault) bytes lines tail stands h = elim h [ ]
+
+-- the text and the summary at a line that breaks off
+pub broken : (from p : output.Progress) (n : ℕ) (cause : Cause) (bytes : List ℕ) (text : List ℕ) (summary : Summary) → output.reached from bytes ≡ Ok p
+    → text ≡ output.bad_text n cause → total summary ≡ output.summed p (Some (n, cause)) → summary.circle ≡ false
+    → (lines : List (List ℕ)) (tail : List ℕ) → BreaksAt cause bytes lines tail → IsWritten (output.output_from from n lines tail) text summary
+broken from p n cause bytes text summary stands texts sums circle lines tail h =
+    subst (λ w. IsWritten w text summary) (sym (broken_output from p n cause bytes lines tail stands h)) (record { text = texts; summed = sums; circle = circle })
+
+-- a list may be refused there
+pub refused_broken : (p q : output.Progress) (n : ℕ) (cause : Cause) (bytes : List ℕ) (list : output.BadLine) (text : List ℕ) (summary : Summary) → output.reached p bytes ≡ Err list → KeepsTotal p q
+    → text ≡ output.bad_text list.0 list.1 → total summary ≡ output.summed q (Some list) → summary.circle ≡ false
+    → (lines : List (List ℕ)) (tail : List ℕ) → BreaksAt cause bytes lines tail → IsWritten (output.output_from p n lines tail) text summary
+refused_broken p q n cause bytes list text summary is keeps texts sums circle lines tail h = at lines (first_reached p cause bytes lines tail h ∙ is)
+  where
+    at : (ls : List (List ℕ)) → output.reached p (first_of ls tail) ≡ Err list → IsWritten (output.output_from p n ls tail) text summary
+    at [] e = refused_at_end p q n tail list text summary e keeps texts sums circle
+    at (line ∷ ls) e = refused p q n line list text summary e keeps texts sums circle ls tail
+
+-- the end of the input before the header
+pub cut_at_end : (m : Replaying) (n : ℕ) (text : List ℕ) (summary : Summary) (from : output.Progress) → output.reached from [] ≡ Ok (progress m) → m ≡ Unstarted
+    → text ≡ output.bad_text n why.Cut → total summary ≡ output.summed (progress m) (Some (n, why.Cut)) → summary.circle ≡ false → IsWritten (output.output_from from n [] []) text summary
+cut_at_end m n text summary from stands is texts sums circle =
+    subst (λ w. IsWritten w text summary)
+    (sym (ap (λ (due : Result output.Progress output.BadLine). output.output_at from due (λ q. output.ends q n [])) (stands ∙ ap (λ (r : Replaying). Ok (progress r)) is)))
+    (record { text = texts; summed = sums ∙ ap (λ (r : Replaying). output.summed (progress r) (Some (n, why.Cut))) is; circle = circle })
+
+ends_on : (m : Replaying) (n : ℕ) → (m ≡ Unstarted → ⊥) → output.ends (progress m) n [] ≡ record { text = []; summed = output.summed (progress m) None }
+ends_on Unstarted n on = absurd (on refl)
+ends_on (Opening prelude) n on = refl
+ends_on (Reading story) n on = refl
+
+-- the end of the input behind it
+pub all_read : (m : Replaying) (n : ℕ) (text : List ℕ) (summary : Summary) (from : output.Progress) → output.reached from [] ≡ Ok (progress m) → (m ≡ Unstarted → ⊥)
+    → text ≡ [] → total summary ≡ output.summed (progress m) None → summary.circle ≡ false → IsWritten (output.output_from from n [] []) text summary
+all_read m n text summary from stands on texts sums circle =
+    subst (λ w. IsWritten w text summary)
+    (sym (ap (λ (due : Result output.Progress output.BadLine). output.output_at from due (λ q. output.ends q n [])) stands ∙ ends_on m n on))
+    (record { text = texts; summed = sums; circle = circle })
+
+-- what is answered at a line that breaks off
+pub broken_answer : {E : Type 0} (m r : Replaying) (n : ℕ) (cause : Cause) (bytes : List ℕ) (list : Option output.BadLine) (answer : Result (Vec ℕ × Summary) E) → Reaches (output.reached (progress m) bytes) (progress m) (progress r) list → list ≡ None
+    → IfOk answer (λ a. a.0.items ≡ output.bad_text n cause) → IfOk answer (λ a. total a.1 ≡ output.summed (progress r) (Some (n, cause))) → IfOk answer (λ a. a.1.circle ≡ false)
+    → IfOk answer (λ a. (lines : List (List ℕ)) (tail : List ℕ) → BreaksAt cause bytes lines tail → IsWritten (output.output_from (progress m) n lines tail) a.0.items a.1)
+broken_answer m r n cause bytes list (Err e) reaches none texts sums circle = tt
+broken_answer m r n cause bytes list (Ok a) reaches none texts sums circle =
+    broken (progress m) (progress r) n cause bytes a.0.items a.1 (subst (Reaches (output.reached (progress m) bytes) (progress m) (progress r)) none reaches) texts sums circle
+
+-- what is answered there where a list is refused
+pub refused_answer : {E : Type 0} (m r : Replaying) (n : ℕ) (cause : Cause) (bytes : List ℕ) (list : Option output.BadLine) (line : ℕ) (why : Cause) (answer : Result (Vec ℕ × Summary) E) → Reaches (output.reached (progress m) bytes) (progress m) (progress r) list → list ≡ Some (line, why)
+    → IfOk answer (λ a. a.0.items ≡ output.bad_text line why) → IfOk answer (λ a. total a.1 ≡ output.summed (progress r) (Some (line, why))) → IfOk answer (λ a. a.1.circle ≡ false)
+    → IfOk answer (λ a. (lines : List (List ℕ)) (tail : List ℕ) → BreaksAt cause bytes lines tail → IsWritten (output.output_from (progress m) n lines tail) a.0.items a.1)
+refused_answer m r n cause bytes list line why (Err e) reaches some texts sums circle = tt
+refused_answer m r n cause bytes list line why (Ok a) reaches some texts sums circle =
+    let h = subst (Reaches (output.reached (progress m) bytes) (progress m) (progress r)) some reaches in
+    refused_broken (progress m) (progress r) n cause bytes (line, why) a.0.items a.1 h.0 h.1 texts sums circle

@@ -9,15 +9,24 @@ use Rattle.wit_model.specs.declared.lines.View.{View}
 use Rattle.wit_model.specs.declared.lines.View.TheVariants.{Reports}
 use Rattle.wit_model.specs.State.{Story}
 use Rattle.wit_model.specs.Output as output
+use Rattle.wit_core.specs.Fresh.{start_of}
 use Rattle.wit_trace.specs.Text.{text_of}
+use Rattle.wit_trace.specs.declared.prelude.Prelude.{Prelude}
+use Rattle.wit_trace.specs.declared.replaying.Replaying.{Replaying}
+use Rattle.wit_trace.specs.declared.replaying.Replaying.TheVariants.{Unstarted, Opening, Reading}
 use Rattle.wit_trace.specs.declared.summary.Summary.{Summary}
 use Rattle.wit_trace.specs.declared.outcome.Outcome.{Outcome}
 use Rattle.wit_trace.specs.declared.outcome.Outcome.TheVariants.{Told, Bad}
 
--- how far a reading is, by its verifier
-abbrev pub progress : Option Story → output.Progress
-progress None = output.Unstarted
-progress (Some story) = output.Reading story
+-- what was read of a prelude
+abbrev pub prelude_of : Prelude → output.Prelude
+prelude_of p = record { start = start_of p.limits p.lists.items p.blessed.items; lines = p.lines.items }
+
+-- how far a reading is
+abbrev pub progress : Replaying → output.Progress
+progress Unstarted = output.Unstarted
+progress (Opening prelude) = output.Opening (prelude_of prelude)
+progress (Reading story) = output.Reading story
 
 abbrev pub total : Summary → output.Total
 total s = record { calls = s.calls; reports = s.reports; bad = s.bad }
@@ -42,6 +51,16 @@ Passes (output.Goes q text) old new (Told told) = (new ≡ q) × (told.items ≡
 Passes (output.Goes q text) old new (Bad cause) = ⊥
 Passes (output.Bad why) old new (Told told) = ⊥
 Passes (output.Bad why) old new (Bad cause) = (cause ≡ why) × KeepsTotal old new
+
+-- the verifier was made, or a list refused, as it should be
+abbrev pub Opens : Result output.Progress output.BadLine → Result Story (ℕ × Cause) → Type 0
+Opens due (Ok story) = due ≡ Ok (output.Reading story)
+Opens due (Err bad) = due ≡ Err bad
+
+-- the reading came to where it should stand, or to the refusal of a list, which changes nothing of what is summed up
+abbrev pub Reaches : Result output.Progress output.BadLine → output.Progress → output.Progress → Option (ℕ × Cause) → Type 0
+Reaches due old new None = due ≡ Ok new
+Reaches due old new (Some bad) = (due ≡ Err bad) × KeepsTotal old new
 
 -- what becomes of a line by the answer to its call, as things then stand
 abbrev pub Tells : Story → Result Reply Fault → Outcome → Type 0

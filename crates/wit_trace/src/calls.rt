@@ -3,7 +3,7 @@
 ghost use Rattle.std.specs.Prelude.{◌≡◌, IfOk};
 ghost use Rattle.std.specs.Option.{option_copied};
 ghost use Rattle.wit_model.specs.declared.calls.Call.TheVariants.{Init};
-ghost use Rattle.wit_model.specs.Output.{Reading, entered};
+ghost use Rattle.wit_model.specs.Output.{Reading, calls};
 ghost use Rattle.wit_model.specs.Step.{AnswersOrFails};
 ghost use Rattle.wit_trace.specs.Replays.{Passes, Refuses, Tells};
 
@@ -13,15 +13,17 @@ use std::alloc::{AllocError, Global};
 use wit_core::Verifier;
 use wit_model::{Cause, Fault, Line, NewLock, Reply, Request, SeatNo, Site};
 
-/// A line behind the header makes its call; one with a site enters its file first.
+/// A line behind the prelude makes its call; one with a site enters its file first.
 ///
 /// # Errors
 /// Want of memory alone. The call may have been made then.
 pub fn enter_line(alloc: Global, verifier: &mut Verifier, line: Line) -> Result<Outcome, AllocError>
-    ensures { IfOk result (Passes (entered (Reading verifier.old) line) (Reading verifier.old) (Reading verifier.new)) }
+    ensures { IfOk result (Passes (calls verifier.old line) (Reading verifier.old) (Reading verifier.new)) }
 {
     match line {
-        Line::Header { .. } => Ok(Outcome::Bad(Cause::Syntax)),
+        Line::Header { .. } | Line::Order { .. } | Line::Bless { .. } => Ok(Outcome::Bad(
+            Cause::Syntax,
+        )),
         Line::Init { seat, lock } => {
             let reply = make_lock(verifier, seat, &lock);
             outcome_of(alloc, verifier, reply)

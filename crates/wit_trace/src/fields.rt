@@ -5,13 +5,13 @@ ghost use Rattle.std.specs.Str.{IsAscii};
 ghost use Rattle.std.specs.List.{list_all};
 ghost use Rattle.std.specs.Char.{is_ascii_digit};
 ghost use Rattle.wit_model.specs.Names.{is_name, is_file_name};
-ghost use Rattle.wit_model.specs.Reading.{after, place_of, until, parted_at_last, is_numeral, number_of, class_of, mode_of, bits_of, flags_of, accepted, site_of, word_at, field_at, fixed_at, behind, quoted_at, optional, count_at, seat_at, lock_at};
+ghost use Rattle.wit_model.specs.Reading.{after, place_of, until, parted_at_last, is_numeral, number_of, class_of, mode_of, bits_of, flags_of, accepted, site_of, word_at, field_at, fixed_at, behind, quoted_at, optional, type_at, list_of, count_at, seat_at, lock_at};
 ghost use Rattle.wit_trace.specs.Lines.{Gives};
 
 use crate::errors::LineError;
 use std::alloc::Global;
 use std::str;
-use wit_model::{Class, FileName, LockNo, Mode, Name, SeatNo};
+use wit_model::{Class, FileName, LockNo, Mode, Name, SeatNo, TypeList};
 
 /// The bytes after the one that must stand first.
 fn skip(byte: u8, bytes: &[u8]) -> Result<&[u8], LineError>
@@ -253,6 +253,32 @@ pub fn name_if_any(alloc: Global, bytes: &[u8]) -> Result<(Option<Name>, &[u8]),
     }
     let (name, rest) = name(alloc, bytes)?;
     Ok((Some(name), rest))
+}
+
+/// A type by its class and its name.
+#[tactic(auto, unfolding(wit_model::specs::Reading::type_at))]
+fn listed_type(alloc: Global, bytes: &[u8]) -> Result<(Class, Name, &[u8]), LineError>
+    ensures { Gives (λ x. ((x.0, x.1), x.2.now)) result (type_at bytes.now) }
+{
+    let (class, rest) = class(bytes)?;
+    let (name, rest) = name(alloc, rest)?;
+    Ok((class, name, rest))
+}
+
+/// One type or more, up to the end of the line.
+#[tactic(auto, using(crate::proofs::ListReading::no_first, crate::proofs::ListReading::reads_first, crate::proofs::ListReading::reads_next, crate::proofs::ListReading::reads_none, crate::proofs::ListReading::reads_end, wit_model::proofs::LineLaws::type_shorter))]
+pub fn list(alloc: Global, bytes: &[u8]) -> Result<TypeList, LineError>
+    ensures { Gives (λ l. l) result (list_of bytes.now) }
+{
+    let mut list = TypeList::new(alloc);
+    let (class, name, mut rest) = listed_type(alloc, bytes)?;
+    list.push(class, name)?;
+    while !rest.is_empty() {
+        let (class, name, others) = listed_type(alloc, rest)?;
+        list.push(class, name)?;
+        rest = others;
+    }
+    Ok(list)
 }
 
 /// A file and a line.

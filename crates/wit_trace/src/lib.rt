@@ -8,6 +8,7 @@ mod machine;
 mod outcome;
 mod parse;
 mod ports;
+mod prelude;
 mod print;
 mod replaying;
 mod reports;
@@ -26,6 +27,8 @@ pub use summary::{ReplayError, Summary};
 mod ends;
 #[cfg(test)]
 mod fakes;
+#[cfg(test)]
+mod prelude_tests;
 #[cfg(test)]
 mod rows;
 #[cfg(test)]

@@ -4,7 +4,7 @@ ghost use Rattle.std.specs.Prelude.{◌≡◌, ◌≤◌, ◌<◌, ◌↔◌, le
 ghost use Rattle.wit_model.specs.declared.lines.Line.{Line};
 ghost use Rattle.wit_model.specs.declared.lines.Cause.TheVariants.{Long};
 ghost use Rattle.wit_model.specs.Spelling.{Spells};
-ghost use Rattle.wit_model.specs.Reading.{header_of, init_of, check_of, note_of, unlock_of, line_of};
+ghost use Rattle.wit_model.specs.Reading.{header_of, order_of, bless_of, init_of, check_of, note_of, unlock_of, line_of};
 ghost use Rattle.wit_trace.specs.declared.errors.LineError.TheVariants.{Bad};
 ghost use Rattle.wit_trace.specs.Lines.{Gives, IsWhy};
 
@@ -48,6 +48,10 @@ fn line(alloc: Global, bytes: &[u8]) -> Result<Line, LineError>
         unlock(rest)
     } else if keyword == b"init".as_slice() {
         init(alloc, rest)
+    } else if keyword == b"order".as_slice() {
+        order(alloc, rest)
+    } else if keyword == b"bless".as_slice() {
+        bless(alloc, rest)
     } else if keyword == b"witness-trace".as_slice() {
         header(rest)
     } else {
@@ -73,6 +77,26 @@ fn header(bytes: &[u8]) -> Result<Line, LineError>
         locks,
         chunks,
     })
+}
+
+#[tactic(auto, unfolding(wit_model::specs::Reading::order_of))]
+fn order(alloc: Global, bytes: &[u8]) -> Result<Line, LineError>
+    ensures { Gives (λ l. l) result (order_of bytes.now) }
+{
+    let list = fields::list(alloc, bytes)?;
+    Ok(Line::Order { list })
+}
+
+#[tactic(auto, unfolding(wit_model::specs::Reading::bless_of))]
+fn bless(alloc: Global, bytes: &[u8]) -> Result<Line, LineError>
+    ensures { Gives (λ l. l) result (bless_of bytes.now) }
+{
+    let (first, rest) = fields::name(alloc, bytes)?;
+    let (second, rest) = fields::name(alloc, rest)?;
+    if !rest.is_empty() {
+        return Err(LineError::SYNTAX);
+    }
+    Ok(Line::Bless { first, second })
 }
 
 #[tactic(auto, unfolding(wit_model::specs::Reading::init_of))]

@@ -1,8 +1,8 @@
 //! The replay of a trace by the verifier.
 
-ghost use Rattle.std.specs.Prelude.{◌≡◌, ◌≤◌, length, false, refl, Some, None, IfOk, OnErr};
-ghost use Rattle.wit_model.specs.Output.{Unstarted, Reading, entered, outcome, bad_text, output_from, summed};
-ghost use Rattle.wit_trace.specs.Replays.{progress, total, Passes, IsWritten, Shows};
+ghost use Rattle.std.specs.Prelude.{◌≡◌, ◌≤◌, ℕ, length, false, refl, Some, None, IfOk, OnErr};
+ghost use Rattle.wit_model.specs.Output.{Unstarted, reached, entered, outcome, bad_text, output_from, summed};
+ghost use Rattle.wit_trace.specs.Replays.{progress, total, Reaches, Passes, IsWritten, Shows};
 ghost use Rattle.wit_trace.specs.Stream.{WritesOutput, WritesFront};
 
 use crate::calls::enter_line;
@@ -11,11 +11,13 @@ use crate::machine::{Machine, Step};
 use crate::outcome::Outcome;
 use crate::parse::parse_line;
 use crate::ports::Failures;
+use crate::prelude::{Prelude, add_line, is_prelude, new_prelude, open};
 use crate::reports::bad_text;
 use crate::stream::run;
 use crate::summary::{ReplayError, Summary};
 use std::alloc::{AllocError, Global};
 use std::io::{BufRead, Write};
+use std::mem;
 use wit_core::Verifier;
 use wit_model::{Cause, Limits, Line, View};
 
@@ -25,8 +27,10 @@ const LOG: u32 = 16_777_216;
 /// Reads a trace, and writes what the view shows of it: for `Reports` the texts of the reports as they
 /// come, and at a bad line its number and cause, with which the reading ends.
 ///
-/// It keeps, beside the verifier, no more than one line of the input. It returns for every reader: once the looks at it and the
-/// lines read together come to 18,446,744,073,709,551,615, the reader counts as failed.
+/// It keeps, beside the verifier, no more than one line of the input and, up to the end of the prelude, the
+/// lists and pairs there. A list that is refused is a bad line, found where the prelude ends. It returns for
+/// every reader: once the looks at it and the lines read together come to 18,446,744,073,709,551,615, the
+/// reader counts as failed.
 ///
 /// # Errors
 /// `Read` where the reader failed, `Write` where the writer failed or took no byte, `Memory` where a growth was
@@ -44,45 +48,70 @@ pub fn replay<R: BufRead, W: Write>(
 {
     match view {
         View::Reports => {
-            let mut machine = Replaying { verifier: None };
+            let mut machine = Replaying::Unstarted;
             run(alloc, &mut Failures::new(), &mut machine, input, output)
         }
     }
 }
 
-/// A replay in progress: there is a verifier once the header was read.
+/// A replay in progress.
 #[derive(Drop)]
-struct Replaying {
-    verifier: Option<Verifier>,
+enum Replaying {
+    /// The header wasn't read.
+    Unstarted,
+    /// The prelude goes on.
+    Opening(Prelude),
+    /// The prelude is over.
+    Reading(Verifier),
 }
 
 impl Replaying {
-    fn read(&mut self, alloc: Global, bytes: &[u8]) -> Result<Outcome, AllocError>
+    // The prelude ends before a line that begins otherwise; a list that is refused then is the bad line.
+    fn reach(&mut self, alloc: Global, line: &[u8]) -> Result<Option<(u64, Cause)>, AllocError>
+        ensures { IfOk result (Reaches (reached (progress self.old) line.now) (progress self.old) (progress self.new)) }
+    {
+        match mem::replace(self, Replaying::Unstarted) {
+            Replaying::Opening(prelude) if !is_prelude(line) => match open(alloc, prelude)? {
+                Ok(verifier) => {
+                    *self = Replaying::Reading(verifier);
+                    Ok(None)
+                }
+                Err(bad) => Ok(Some(bad)),
+            },
+            before => {
+                *self = before;
+                Ok(None)
+            }
+        }
+    }
+
+    fn read(&mut self, alloc: Global, number: u64, bytes: &[u8]) -> Result<Outcome, AllocError>
         requires { length bytes.now ≤ 4096 }
-        ensures { IfOk result (Passes (outcome (progress self.old.verifier) bytes.now)
-            (progress self.old.verifier) (progress self.new.verifier)) }
+        ensures { IfOk result (Passes (outcome (progress self.old) number bytes.now)
+            (progress self.old) (progress self.new)) }
     {
         match parse_line(alloc, bytes) {
-            Ok(line) => self.enter(alloc, line),
+            Ok(line) => self.enter(alloc, number, line),
             Err(LineError::Bad(cause)) => Ok(Outcome::Bad(cause)),
             Err(LineError::Memory) => Err(AllocError),
         }
     }
 
-    fn enter(&mut self, alloc: Global, line: Line) -> Result<Outcome, AllocError>
-        ensures { IfOk result (Passes (entered (progress self.old.verifier) line)
-            (progress self.old.verifier) (progress self.new.verifier)) }
+    fn enter(&mut self, alloc: Global, number: u64, line: Line) -> Result<Outcome, AllocError>
+        ensures { IfOk result (Passes (entered (progress self.old) number line)
+            (progress self.old) (progress self.new)) }
     {
-        match &mut self.verifier {
-            Some(verifier) => enter_line(alloc, verifier, line),
-            None => self.start(alloc, line),
+        match self {
+            Replaying::Unstarted => self.start(alloc, line),
+            Replaying::Opening(prelude) => add_line(alloc, prelude, number, line),
+            Replaying::Reading(verifier) => enter_line(alloc, verifier, line),
         }
     }
 
     // The header comes first.
     fn start(&mut self, alloc: Global, line: Line) -> Result<Outcome, AllocError>
-        requires { self.old.verifier ≡ None }
-        ensures { IfOk result (Passes (entered Unstarted line) Unstarted (progress self.new.verifier)) }
+        requires { progress self.old ≡ Unstarted }
+        ensures { (number : ℕ) → IfOk result (Passes (entered Unstarted number line) Unstarted (progress self.new)) }
     {
         let Line::Header {
             seats,
@@ -96,25 +125,22 @@ impl Replaying {
         let Some(limits) = Limits::new(seats, types, locks, chunks, LOG) else {
             return Ok(Outcome::Bad(Cause::Limit));
         };
-        let Ok(verifier) = Verifier::new(alloc, limits, Vec::new(alloc), Vec::new(alloc)) else {
-            return Err(AllocError);
-        };
-        self.verifier = Some(verifier);
+        *self = Replaying::Opening(new_prelude(alloc, limits));
         Ok(Outcome::Told(Vec::new(alloc)))
     }
 
     fn summary(&self, bad: Option<(u64, Cause)>) -> Summary
-        ensures total { total result ≡ summed (progress self.now.verifier) bad }
+        ensures total { total result ≡ summed (progress self.now) bad }
         ensures circle { result.circle ≡ false }
     {
-        match &self.verifier {
-            Some(verifier) => Summary {
+        match self {
+            Replaying::Reading(verifier) => Summary {
                 calls: verifier.history().len() as u64,
                 reports: u64::from(verifier.reports()),
                 circle: false,
                 bad,
             },
-            None => Summary {
+            Replaying::Unstarted | Replaying::Opening(_) => Summary {
                 calls: 0,
                 reports: 0,
                 circle: false,
@@ -131,7 +157,7 @@ impl Replaying {
         cause: Cause,
     ) -> Result<(Vec<u8>, Summary), AllocError>
         ensures text { IfOk result (λ r. r.0.items ≡ bad_text number cause) }
-        ensures total { IfOk result (λ r. total r.1 ≡ summed (progress self.now.verifier) (Some (number, cause))) }
+        ensures total { IfOk result (λ r. total r.1 ≡ summed (progress self.now) (Some (number, cause))) }
         ensures circle { IfOk result (λ r. r.1.circle ≡ false) }
     {
         let text = bad_text(alloc, number, cause)?;
@@ -140,10 +166,14 @@ impl Replaying {
 }
 
 impl Machine for Replaying {
-    ghost allows = { λ m n lines tail text summary. IsWritten (output_from (progress m.verifier) n lines tail) text summary };
+    ghost allows = { λ m n lines tail text summary. IsWritten (output_from (progress m) n lines tail) text summary };
 
     fn line(&mut self, alloc: Global, number: u64, bytes: &[u8]) -> Result<Step, AllocError> {
-        match self.read(alloc, bytes)? {
+        if let Some((number, cause)) = self.reach(alloc, bytes)? {
+            let (text, summary) = self.ended(alloc, number, cause)?;
+            return Ok(Step::Ends(text, summary));
+        }
+        match self.read(alloc, number, bytes)? {
             Outcome::Told(text) => Ok(Step::Goes(text)),
             Outcome::Bad(cause) => {
                 let (text, summary) = self.ended(alloc, number, cause)?;
@@ -156,27 +186,33 @@ impl Machine for Replaying {
         &mut self,
         alloc: Global,
         number: u64,
-        _beginning: &[u8],
+        beginning: &[u8],
         cause: Cause,
     ) -> Result<(Vec<u8>, Summary), AllocError> {
-        self.ended(alloc, number, cause)
+        match self.reach(alloc, beginning)? {
+            Some((number, cause)) => self.ended(alloc, number, cause),
+            None => self.ended(alloc, number, cause),
+        }
     }
 
     fn end(&mut self, alloc: Global, number: u64) -> Result<(Vec<u8>, Summary), AllocError> {
-        if self.verifier.is_none() {
-            return self.ended(alloc, number, Cause::Cut);
+        if let Some((number, cause)) = self.reach(alloc, b"")? {
+            return self.ended(alloc, number, cause);
         }
-        Ok((Vec::new(alloc), self.summary(None)))
+        match self {
+            Replaying::Unstarted => self.ended(alloc, number, Cause::Cut),
+            _ => Ok((Vec::new(alloc), self.summary(None))),
+        }
     }
 
     ghost answers = { λ m n lines tail. (
-      (output_from (progress m.verifier) n lines tail).text,
+      (output_from (progress m) n lines tail).text,
       (
         record {
-          calls = (output_from (progress m.verifier) n lines tail).summed.calls;
-          reports = (output_from (progress m.verifier) n lines tail).summed.reports;
+          calls = (output_from (progress m) n lines tail).summed.calls;
+          reports = (output_from (progress m) n lines tail).summed.reports;
           circle = false;
-          bad = (output_from (progress m.verifier) n lines tail).summed.bad;
+          bad = (output_from (progress m) n lines tail).summed.bad;
         },
         record { text = refl; summed = refl; circle = refl },
       ),

@@ -83,7 +83,7 @@ established order:
 "#;
 
 /// A replay of this trace writes this output, and has this exit status.
-fn agree(
+pub fn agree(
     rt: &impl Abort,
     alloc: Global,
     name: &str,

@@ -5,7 +5,7 @@ use std::alloc::{AllocError, Global};
 use std::process::Abort;
 use std::test::Fail;
 use wit_model::{
-    Cause, Class, FileName, Line, LockFlags, LockNo, Mode, Name, NewLock, OpFlags, SeatNo,
+    Cause, Class, FileName, Line, LockFlags, LockNo, Mode, Name, NewLock, OpFlags, SeatNo, TypeList,
 };
 
 fn answer(alloc: Global, bytes: &[u8]) -> &'static str {
@@ -40,6 +40,13 @@ fn good_lines(rt: HostRuntime) -> Result<(), Fail> {
         "witness-trace 1 seats 2 types 3 locks 4 chunks 5",
         "witness-trace 1 seats 0 types 0 locks 0 chunks 0",
         "witness-trace 1 seats 4294967295 types 4294967295 locks 4294967295 chunks 4294967295",
+        "order mtx \"A\"",
+        "order mtx \"A\" spin \"B\"",
+        "order rw \"A B\" sx \" \" mtx \"A B\"",
+        "order mtx \"A\" mtx \"A\" mtx \"A\" mtx \"A\"",
+        "bless \"A\" \"B\"",
+        "bless \"A\" \"A\"",
+        "bless \" \" \"A B\"",
         "init 1 mtx - \"a\"",
         "init 0 spin r \"a b\"",
         "init 65535 rw d \"a\" \"b\"",
@@ -108,6 +115,45 @@ fn bad_lines(rt: HostRuntime) {
         "witness-trace 1 seats 2 types 3 locks 4 chunks 4294967296",
         "witness-trace  1 seats 2 types 3 locks 4 chunks 5",
         "witness-trace 1 seats 2 types 3 locks 4 chunks 5\r",
+        // Lists and blessed pairs.
+        "order",
+        "order ",
+        "order mtx",
+        "order mtx ",
+        "order \"A\"",
+        "order mtx A",
+        "order mtx \"A\" ",
+        "order mtx  \"A\"",
+        "order  mtx \"A\"",
+        "order mtx \"A\" mtx",
+        "order mtx \"A\" mtx ",
+        "order mtx \"A\" \"B\"",
+        "order mtx \"A\"  mtx \"B\"",
+        "order mtx \"A\" mtx \"B\" ",
+        "order mtx \"A\" mtx \"B\" mtx",
+        "order mtx \"A\" mtx \"B",
+        "order mtx \"A\"mtx \"B\"",
+        "order mtx \"A\", mtx \"B\"",
+        "order mtx \"A\" mutex \"B\"",
+        "order mtx \"A\" mtx \"\"",
+        "order mtx \"A\" mtx \"B\"\r",
+        "orders mtx \"A\"",
+        "order\tmtx \"A\"",
+        "Order mtx \"A\"",
+        "bless",
+        "bless ",
+        "bless \"A\"",
+        "bless \"A\" ",
+        "bless \"A\" \"B\" ",
+        "bless \"A\" \"B\" \"C\"",
+        "bless \"A\"  \"B\"",
+        "bless  \"A\" \"B\"",
+        "bless \"A\" B",
+        "bless A \"B\"",
+        "bless \"\" \"B\"",
+        "bless \"A\" \"\"",
+        "bless mtx \"A\" mtx \"B\"",
+        "blessed \"A\" \"B\"",
         // Numbers.
         "lock 1",
         "lock 1 ",
@@ -235,6 +281,12 @@ fn lengths(rt: HostRuntime) -> Result<(), Fail> {
         ("init 1 mtx - \"", b' ', 63, "\" \"b\"", "line"),
         ("init 1 mtx - \"b\" \"", b'a', 63, "\"", "line"),
         ("init 1 mtx - \"b\" \"", b'a', 64, "\"", "syntax"),
+        ("order mtx \"", b'A', 63, "\"", "line"),
+        ("order mtx \"", b'A', 64, "\"", "syntax"),
+        ("order mtx \"A\" mtx \"", b'B', 64, "\"", "syntax"),
+        ("bless \"", b'A', 63, "\" \"B\"", "line"),
+        ("bless \"", b'A', 64, "\" \"B\"", "syntax"),
+        ("bless \"A\" \"", b'B', 64, "\"", "syntax"),
         ("check 1 2 x - ", b'f', 1, ":3", "line"),
         ("check 1 2 x - ", b'f', 255, ":3", "line"),
         ("check 1 2 x - ", b'f', 256, ":3", "syntax"),
@@ -333,6 +385,96 @@ fn calls(rt: HostRuntime) -> Result<(), Fail> {
     )
 }
 
+/// A list of so many types of this name.
+fn list_of(alloc: Global, class: Class, name: &str, times: u16) -> Result<Line, AllocError> {
+    let mut list = TypeList::new(alloc);
+    for _ in 0..times {
+        list.push(class, Name::new(alloc, name)?)?;
+    }
+    Ok(Line::Order { list })
+}
+
+fn blessed(alloc: Global, first: &str, second: &str) -> Result<Line, AllocError> {
+    Ok(Line::Bless {
+        first: Name::new(alloc, first)?,
+        second: Name::new(alloc, second)?,
+    })
+}
+
+#[test]
+fn preludes(rt: HostRuntime) -> Result<(), Fail> {
+    let alloc = rt.alloc();
+    let rows = [
+        (Class::SleepMutex, "A", 1, "order mtx \"A\""),
+        (Class::SpinMutex, "A", 2, "order spin \"A\" spin \"A\""),
+        (Class::Rw, " ", 1, "order rw \" \""),
+        (
+            Class::Sx,
+            "a b",
+            3,
+            "order sx \"a b\" sx \"a b\" sx \"a b\"",
+        ),
+    ];
+    for (class, name, times, text) in rows {
+        agree(&rt, alloc, list_of(alloc, class, name, times)?, text)?;
+    }
+    let mut list = TypeList::new(alloc);
+    list.push(Class::SpinMutex, Name::new(alloc, "B")?)?;
+    list.push(Class::Rw, Name::new(alloc, "A")?)?;
+    agree(
+        &rt,
+        alloc,
+        Line::Order { list },
+        "order spin \"B\" rw \"A\"",
+    )?;
+    agree(
+        &rt,
+        alloc,
+        blessed(alloc, "A", "b c")?,
+        "bless \"A\" \"b c\"",
+    )
+}
+
+/// A list is as long as a line may be, or longer.
+#[test]
+fn long_lists(rt: HostRuntime) -> Result<(), Fail> {
+    let alloc = rt.alloc();
+    // Each type takes 3 bytes for its class, 4 for spaces and marks, and those of its name.
+    let rows = [
+        ("abcde", 340, true, 4085),
+        ("abcde", 341, false, 4097),
+        ("A", 511, true, 4093),
+        ("A", 512, false, 4101),
+    ];
+    for (name, times, fits, len) in rows {
+        let line = list_of(alloc, Class::SleepMutex, name, times)?;
+        assert_eq!(rt; spelled(&line), fits, "{times} times {name}");
+        let before = format!(in alloc; "order mtx \"{name}\"")?;
+        let mut text = Vec::from_slice(alloc, before.as_bytes())?;
+        let again = format!(in alloc; " mtx \"{name}\"")?;
+        for _ in 1..times {
+            text.extend_from_slice(again.as_bytes())?;
+        }
+        assert_eq!(rt; text.len(), len);
+        let want = if fits { "line" } else { "long" };
+        assert_eq!(rt; answer(alloc, text.as_slice()), want);
+        if fits {
+            let printed = print_line(alloc, &line)?;
+            assert_eq!(rt; printed.as_slice(), text.as_slice());
+        }
+    }
+    // Exactly 4,096 bytes, and one more.
+    for (last, fits) in [("abcdefghijklmnopq", true), ("abcdefghijklmnopqr", false)] {
+        let mut list = TypeList::new(alloc);
+        for _ in 0..339 {
+            list.push(Class::SleepMutex, Name::new(alloc, "abcde")?)?;
+        }
+        list.push(Class::Rw, Name::new(alloc, last)?)?;
+        assert_eq!(rt; spelled(&Line::Order { list }), fits, "at {last}");
+    }
+    Ok(())
+}
+
 #[test]
 fn new_locks(rt: HostRuntime) -> Result<(), Fail> {
     let rows = [
@@ -391,6 +533,14 @@ fn unspelled(rt: HostRuntime) -> Result<(), Fail> {
             name,
             type_name,
         )?;
+        assert!(rt; !spelled(&line), "spelled: {line:?}");
+    }
+    for (name, times) in [("A", 0), ("", 1), ("a\"", 1), ("é", 2)] {
+        let line = list_of(rt.alloc(), Class::Rw, name, times)?;
+        assert!(rt; !spelled(&line), "spelled: {line:?}");
+    }
+    for (first, second) in [("", "B"), ("A", ""), ("a\"", "B"), ("A", "é")] {
+        let line = blessed(rt.alloc(), first, second)?;
         assert!(rt; !spelled(&line), "spelled: {line:?}");
     }
     for (ops, file) in [(8, "a.c"), (0, ""), (0, "a b"), (255, "a.c")] {

@@ -1,0 +1,113 @@
+//! The prelude of a trace.
+
+ghost use Rattle.std.specs.Prelude.{◌≡◌, ◌-◌, IfOk};
+ghost use Rattle.std.specs.List.{slice_index_or};
+ghost use Rattle.wit_core.specs.Listed.{listed};
+ghost use Rattle.wit_model.specs.Output.{Opening, empty_prelude, entered, is_prelude, opened};
+ghost use Rattle.wit_model.specs.Start.{start_fault};
+ghost use Rattle.wit_trace.specs.Replays.{Opens, Passes, prelude_of};
+
+use crate::outcome::Outcome;
+use std::alloc::{AllocError, Global};
+use wit_core::{StartError, Verifier};
+use wit_model::{Cause, Class, Fault, Limits, Line, TypeList};
+
+/// What a prelude says so far: how the verifier is to start, and where each list stands.
+#[derive(Drop)]
+pub struct Prelude {
+    limits: Limits,
+    lists: Vec<Vec<(Class, String)>>,
+    /// The number of each list's line.
+    lines: Vec<u64>,
+    blessed: Vec<(String, String)>,
+}
+
+/// A prelude that says nothing but the limits.
+pub fn new_prelude(alloc: Global, limits: Limits) -> Prelude
+    ensures { prelude_of result ≡ empty_prelude limits }
+{
+    Prelude {
+        limits,
+        lists: Vec::new(alloc),
+        lines: Vec::new(alloc),
+        blessed: Vec::new(alloc),
+    }
+}
+
+/// Whether a line begins as those of the prelude do; its first six bytes decide it.
+pub fn is_prelude(line: &[u8]) -> bool
+    ensures { result ≡ is_prelude line.now }
+{
+    line.starts_with(b"order ") || line.starts_with(b"bless ")
+}
+
+/// A line of the prelude adds its list or its pair.
+///
+/// # Errors
+/// Want of memory alone.
+pub fn add_line(
+    alloc: Global,
+    prelude: &mut Prelude,
+    number: u64,
+    line: Line,
+) -> Result<Outcome, AllocError>
+    ensures { IfOk result (Passes (entered (Opening (prelude_of prelude.old)) number line)
+        (Opening (prelude_of prelude.old)) (Opening (prelude_of prelude.new))) }
+{
+    match line {
+        Line::Order { list } => {
+            prelude.lists.push(names_of(alloc, list)?)?;
+            prelude.lines.push(number)?;
+            Ok(Outcome::Told(Vec::new(alloc)))
+        }
+        Line::Bless { first, second } => {
+            let pair = (first.into_string(), second.into_string());
+            prelude.blessed.push(pair)?;
+            Ok(Outcome::Told(Vec::new(alloc)))
+        }
+        _ => Ok(Outcome::Bad(Cause::Syntax)),
+    }
+}
+
+#[tactic(auto, using(crate::proofs::ListedTypes::listed_next, crate::proofs::ListedTypes::listed_all))]
+fn names_of(alloc: Global, list: TypeList) -> Result<Vec<(Class, String)>, AllocError>
+    ensures { IfOk result (λ types. listed types.items ≡ list) }
+{
+    let mut types = Vec::new(alloc);
+    for (class, name) in list.into_types() {
+        types.push((class, name.into_string()))?;
+    }
+    Ok(types)
+}
+
+/// The verifier that the prelude asks for, or the number of the first line whose list is refused, and why.
+///
+/// # Errors
+/// Want of memory alone.
+pub fn open(alloc: Global, prelude: Prelude) -> Result<Result<Verifier, (u64, Cause)>, AllocError>
+    ensures { IfOk result (Opens (opened (prelude_of prelude) (start_fault (prelude_of prelude).start))) }
+{
+    match Verifier::new(alloc, prelude.limits, prelude.lists, prelude.blessed) {
+        Ok(verifier) => Ok(Ok(verifier)),
+        Err(
+            StartError {
+                fault: Fault::OutOfMemory,
+                ..
+            },
+        ) => Err(AllocError),
+        Err(StartError { list, fault }) => {
+            let number = line_of_list(&prelude.lines, list);
+            Ok(Err((number, Cause::Fault(fault))))
+        }
+    }
+}
+
+/// The number of a list's line, where lists count from 1.
+fn line_of_list(lines: &[u64], list: u64) -> u64
+    ensures { result ≡ slice_index_or lines.now (list - 1) 0 }
+{
+    match lines.get(list.saturating_sub(1) as usize) {
+        Some(number) => *number,
+        None => 0,
+    }
+}
