@@ -1,5 +1,5 @@
 -- What a replay of a trace writes and sums up.
-use Rattle.std.specs.Prelude.{ℕ, ◌≡◌, ◌≢◌, List, Option, None, Some, Result, Ok, Err, false}
+use Rattle.std.specs.Prelude.{Bool, not, ℕ, ◌≡◌, ◌≢◌, List, Option, None, Some, Result, Ok, Err, false}
 use Rattle.wit_model.specs.declared.calls.Reply.{Reply}
 use Rattle.wit_model.specs.declared.faults.Fault.{Fault}
 use Rattle.wit_model.specs.declared.lines.Cause.{Cause}
@@ -27,6 +27,11 @@ abbrev pub progress : Replaying → output.Progress
 progress Unstarted = output.Unstarted
 progress (Opening prelude) = output.Opening (prelude_of prelude)
 progress (Reading story) = output.Reading story
+
+-- whether the prelude ends before this line
+abbrev pub ends_prelude : output.Progress → List ℕ → Bool
+ends_prelude (output.Opening p) line = not (output.is_prelude line)
+ends_prelude _ line = false
 
 abbrev pub total : Summary → output.Total
 total s = record { calls = s.calls; reports = s.reports; bad = s.bad }

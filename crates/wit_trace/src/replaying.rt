@@ -2,7 +2,7 @@
 
 ghost use Rattle.std.specs.Prelude.{◌≡◌, ◌≤◌, ℕ, length, false, refl, Some, None, IfOk, OnErr};
 ghost use Rattle.wit_model.specs.Output.{Unstarted, reached, entered, outcome, bad_text, output_from, summed};
-ghost use Rattle.wit_trace.specs.Replays.{progress, total, Reaches, Passes, IsWritten, Shows};
+ghost use Rattle.wit_trace.specs.Replays.{ends_prelude, progress, total, Reaches, Passes, IsWritten, Shows};
 ghost use Rattle.wit_trace.specs.Stream.{WritesOutput, WritesFront};
 
 use crate::calls::enter_line;
@@ -70,8 +70,11 @@ impl Replaying {
     fn reach(&mut self, alloc: Global, line: &[u8]) -> Result<Option<(u64, Cause)>, AllocError>
         ensures { IfOk result (Reaches (reached (progress self.old) line.now) (progress self.old) (progress self.new)) }
     {
+        if !self.ends_prelude(line) {
+            return Ok(None);
+        }
         match mem::replace(self, Replaying::Unstarted) {
-            Replaying::Opening(prelude) if !is_prelude(line) => match open(alloc, prelude)? {
+            Replaying::Opening(prelude) => match open(alloc, prelude)? {
                 Ok(verifier) => {
                     *self = Replaying::Reading(verifier);
                     Ok(None)
@@ -82,6 +85,15 @@ impl Replaying {
                 *self = before;
                 Ok(None)
             }
+        }
+    }
+
+    fn ends_prelude(&self, line: &[u8]) -> bool
+        ensures { result ≡ ends_prelude (progress self.now) line.now }
+    {
+        match self {
+            Replaying::Opening(_) => !is_prelude(line),
+            _ => false,
         }
     }
 
