@@ -115,45 +115,6 @@ fn bad_lines(rt: HostRuntime) {
         "witness-trace 1 seats 2 types 3 locks 4 chunks 4294967296",
         "witness-trace  1 seats 2 types 3 locks 4 chunks 5",
         "witness-trace 1 seats 2 types 3 locks 4 chunks 5\r",
-        // Lists and blessed pairs.
-        "order",
-        "order ",
-        "order mtx",
-        "order mtx ",
-        "order \"A\"",
-        "order mtx A",
-        "order mtx \"A\" ",
-        "order mtx  \"A\"",
-        "order  mtx \"A\"",
-        "order mtx \"A\" mtx",
-        "order mtx \"A\" mtx ",
-        "order mtx \"A\" \"B\"",
-        "order mtx \"A\"  mtx \"B\"",
-        "order mtx \"A\" mtx \"B\" ",
-        "order mtx \"A\" mtx \"B\" mtx",
-        "order mtx \"A\" mtx \"B",
-        "order mtx \"A\"mtx \"B\"",
-        "order mtx \"A\", mtx \"B\"",
-        "order mtx \"A\" mutex \"B\"",
-        "order mtx \"A\" mtx \"\"",
-        "order mtx \"A\" mtx \"B\"\r",
-        "orders mtx \"A\"",
-        "order\tmtx \"A\"",
-        "Order mtx \"A\"",
-        "bless",
-        "bless ",
-        "bless \"A\"",
-        "bless \"A\" ",
-        "bless \"A\" \"B\" ",
-        "bless \"A\" \"B\" \"C\"",
-        "bless \"A\"  \"B\"",
-        "bless  \"A\" \"B\"",
-        "bless \"A\" B",
-        "bless A \"B\"",
-        "bless \"\" \"B\"",
-        "bless \"A\" \"\"",
-        "bless mtx \"A\" mtx \"B\"",
-        "blessed \"A\" \"B\"",
         // Numbers.
         "lock 1",
         "lock 1 ",
@@ -264,6 +225,53 @@ fn bad_lines(rt: HostRuntime) {
     ];
     for bytes in broken {
         assert_eq!(rt; answer(rt.alloc(), bytes), "syntax", "at {bytes:?}");
+    }
+}
+
+#[test]
+fn bad_preludes(rt: HostRuntime) {
+    let lines = [
+        "order",
+        "order ",
+        "order mtx",
+        "order mtx ",
+        "order \"A\"",
+        "order mtx A",
+        "order mtx \"A\" ",
+        "order mtx  \"A\"",
+        "order  mtx \"A\"",
+        "order mtx \"A\" mtx",
+        "order mtx \"A\" mtx ",
+        "order mtx \"A\" \"B\"",
+        "order mtx \"A\"  mtx \"B\"",
+        "order mtx \"A\" mtx \"B\" ",
+        "order mtx \"A\" mtx \"B\" mtx",
+        "order mtx \"A\" mtx \"B",
+        "order mtx \"A\"mtx \"B\"",
+        "order mtx \"A\", mtx \"B\"",
+        "order mtx \"A\" mutex \"B\"",
+        "order mtx \"A\" mtx \"\"",
+        "order mtx \"A\" mtx \"B\"\r",
+        "orders mtx \"A\"",
+        "order\tmtx \"A\"",
+        "Order mtx \"A\"",
+        "bless",
+        "bless ",
+        "bless \"A\"",
+        "bless \"A\" ",
+        "bless \"A\" \"B\" ",
+        "bless \"A\" \"B\" \"C\"",
+        "bless \"A\"  \"B\"",
+        "bless  \"A\" \"B\"",
+        "bless \"A\" B",
+        "bless A \"B\"",
+        "bless \"\" \"B\"",
+        "bless \"A\" \"\"",
+        "bless mtx \"A\" mtx \"B\"",
+        "blessed \"A\" \"B\"",
+    ];
+    for text in lines {
+        assert_eq!(rt; answer(rt.alloc(), text.as_bytes()), "syntax", "at {text}");
     }
 }
 
@@ -449,18 +457,16 @@ fn long_lists(rt: HostRuntime) -> Result<(), Fail> {
     for (name, times, fits, len) in rows {
         let line = list_of(alloc, Class::SleepMutex, name, times)?;
         assert_eq!(rt; spelled(&line), fits, "{times} times {name}");
-        let before = format!(in alloc; "order mtx \"{name}\"")?;
-        let mut text = Vec::from_slice(alloc, before.as_bytes())?;
+        let mut text = format!(in alloc; "order mtx \"{name}\"")?;
         let again = format!(in alloc; " mtx \"{name}\"")?;
         for _ in 1..times {
-            text.extend_from_slice(again.as_bytes())?;
+            text.push_str(&again)?;
         }
         assert_eq!(rt; text.len(), len);
         let want = if fits { "line" } else { "long" };
-        assert_eq!(rt; answer(alloc, text.as_slice()), want);
+        assert_eq!(rt; answer(alloc, text.as_bytes()), want);
         if fits {
-            let printed = print_line(alloc, &line)?;
-            assert_eq!(rt; printed.as_slice(), text.as_slice());
+            agree(&rt, alloc, line, &text)?;
         }
     }
     // Exactly 4,096 bytes, and one more.
