@@ -1,5 +1,5 @@
 -- Each call keeps the invariant of a verifier.
-use Rattle.std.proofs.Common.{◌≡◌, ℕ, ◌+◌, ◌-◌, ◌<◌, ◌≤◌, ◌&&◌, Bool, true, false, not, cond, List, [], ◌∷◌, ◌++◌, Option, None, Some, Ok, Err, Result, IfOk, OnOk, OnErr, String, length, map, reverse, find, get_or, vec_len, refl, sym, ap, ap₂, ◌∙◌, subst, arith, nat_le, is_some, length-append, zero-add}
+use Rattle.std.proofs.Common.{◌≡◌, ℕ, ◌+◌, ◌-◌, ◌<◌, ◌≤◌, ◌&&◌, Bool, true, false, cond, List, [], ◌∷◌, ◌++◌, Option, None, Some, Ok, Err, Result, IfOk, IfErr, OnOk, OnErr, String, length, map, reverse, find, unwrap_or, get_or, vec_len, refl, sym, ap, ap₂, ◌∙◌, subst, arith, is_some, length-append, zero-add}
 use Rattle.std.proofs.lemmas.List.{length-map}
 use Rattle.std.specs.List.{position, range_with_len, AllByRecursion}
 use Rattle.std.proofs.lemmas.List.Elements.{recursion_from_All}
@@ -7,11 +7,10 @@ use Rattle.std.specs.Vec.{vec_capacity}
 use Rattle.std.proofs.lemmas.List.{get_or-map}
 use Rattle.std.proofs.lemmas.List.Sums.{sum_by-cons}
 use Rattle.std.proofs.lemmas.List.FromFn.{length-map-range_with_len}
-use Rattle.std.proofs.lemmas.Bool.{leb-false, true≢false}
+use Rattle.std.proofs.lemmas.Bool.{and_parts, true≢false}
 use Rattle.std.proofs.Math.Nat.{add_comm}
 use Rattle.std.specs.declared.alloc.AllocError.{AllocError}
 use Rattle.wit_model.specs.declared.faults.Fault.{Fault}
-use Rattle.wit_model.specs.declared.faults.Fault.TheVariants.{BadName, FilesFull}
 use Rattle.wit_model.specs.declared.locks.Instance.{Instance}
 use Rattle.wit_model.specs.declared.locks.LockNo.{LockNo}
 use Rattle.wit_model.specs.declared.locks.FileNo.{FileNo}
@@ -24,18 +23,19 @@ use Rattle.wit_model.specs.declared.calls.Reply.{Reply}
 use Rattle.wit_model.specs.declared.calls.Reply.TheVariants.{Made, Recorded, Unlocked}
 use Rattle.wit_model.specs.declared.calls.Entry.{Entry}
 use Rattle.wit_model.specs.Sizes.{Sizes}
-use Rattle.wit_model.specs.Names.{is_file_name}
-use Rattle.wit_model.specs.Types.{is_spin}
+use Rattle.wit_model.specs.Names.{is_name}
+use Rattle.wit_model.specs.Types.{is_spin, type_name_of}
 use Rattle.wit_model.specs.Locks.{locks_of, lock_at, is_spin_lock}
 use Rattle.wit_model.specs.History.{is_report, reports_of, pending, watch_of}
 use Rattle.wit_model.specs.declared.locks.Watch.TheVariants.{On}
 use Rattle.wit_model.specs.Start.{start_fault}
-use Rattle.wit_model.specs.Files.{is_known_file, file_answer}
-use Rattle.wit_model.specs.State.{Start, Story, State, Known, state_of, known_of, seats_of, seat_of, owed, is_seat, seat_at, no_seat}
-use Rattle.wit_model.specs.Step.{answer_of, story_after, is_pending, chain_for, IsLegal}
+use Rattle.wit_model.specs.Files.{is_known_file, files_after, IsNumbered, NamesFile}
+use Rattle.wit_table.specs.Known.{Names, enroll_answer, filing_answer, with_file, IsRefusal}
+use Rattle.wit_model.specs.State.{Start, Story, State, Known, types_of, state_of, seats_of, seat_of, owed, is_seat, seat_at, no_seat}
+use Rattle.wit_model.specs.Step.{answer_of, story_after, is_pending, is_good_name, chain_for, IsLegal}
 use Rattle.wit_model.specs.Verdict.{is_of}
 use Rattle.wit_model.proofs.Sane.{IsSane}
-use Rattle.wit_model.proofs.Accepted.{note_accepted, check_accepted, unlock_accepted}
+use Rattle.wit_model.proofs.Accepted.{init_accepted, note_accepted, check_accepted, unlock_accepted}
 use Rattle.wit_model.proofs.Seats.{entry}
 use Rattle.wit_model.proofs.Owed.{owed_to, owed_to-nil, owed-init, owed-check, owed-note, owed-unlock}
 use Rattle.wit_model.proofs.Legal.{sane_more, pending-state, unlock-held}
@@ -48,13 +48,16 @@ use Rattle.wit_core.specs.declared.books.Books.{Books}
 use Rattle.wit_core.specs.declared.seats.Seat as program
 use Rattle.wit_core.specs.declared.verdicts.Verdict.{Verdict}
 use Rattle.wit_core.specs.Verdicts.{reply_of}
-use Rattle.std.specs.Global.{Global}
-use Rattle.wit_core.specs.Knowledge.{learnt, with_lock, nothing_but}
-use Rattle.wit_core.specs.Listed.{all_listed, pairs_of, with_lists}
+use Rattle.std.specs.Global.{Vec, Global}
+use Rattle.wit_model.specs.declared.locks.Class.{Class}
+use Rattle.wit_core.specs.declared.known.Knowledge.{Knowledge}
+use Rattle.wit_core.specs.Knowledge.{known, learnt, with_lock, IsSized, IsAdmitted}
+use Rattle.wit_core.specs.Listed.{all_listed, pairs_of}
 use Rattle.wit_core.specs.Fresh.{start_of, fresh}
 use Rattle.wit_core.specs.Rows.{seat_view, chain_in, changed_at, asked_in, noted_in, unlocked_in, CanRise, IsShallow, IsShallowAt}
-use Rattle.wit_core.specs.Books.{IsFresh, StaysSame, NamesFileIn, EntersInit, EntersCheck, EntersNote, EntersUnlock, state_in, spin_of, taken_by}
+use Rattle.wit_core.specs.Books.{IsFresh, StaysSame, EntersInit, EntersCheck, EntersNote, EntersUnlock, state_in, spin_of, taken_by}
 use Rattle.wit_core.specs.Kept.{IsKept, start_in, history_in, story_in}
+use Rattle.wit_core.proofs.Entering.{IsBegun}
 use Rattle.wit_core.proofs.Steps.{same_state, state-init, state-check, state-note, state-unlock}
 use Rattle.wit_core.proofs.Keeping.{seat_in, Enters, kept_entered, kept_same, same_story}
 
@@ -71,7 +74,7 @@ spin_same v l k = ap (λ (s : State). is_spin (lock_at s.known.locks l).made.cla
 
 module _ (v : Inside) (t : ℕ) (call : Call) (reply : Reply) (k : IsKept v) (ok : answer_of (story_in v) t call ≡ Ok reply) where
   sane_next : IsSane (entry t call reply ∷ history_in v)
-  sane_next = sane_more (start_in v) v.books.files.items (history_in v) (entry t call reply) k.legal ok
+  sane_next = sane_more (start_in v) v.books.known.names.files (history_in v) (entry t call reply) k.legal ok
 
   owed_now : v.books.owed ≡ owed_to v.books.limits.seats (history_in v)
   owed_now = k.owed ∙ ap owed k.state
@@ -90,7 +93,7 @@ pub enters_note : (v : Inside) (t : ℕ) (l : LockNo) (q : Request) (new : Books
     → (seat_at (state_in v.books) t).pending ≡ Some q → EntersNote v.books t l q new → Enters v t (Note l) Recorded new
 enters_note v t l q new k ok asked e =
     let start = start_in v in
-    let files = v.books.files.items in
+    let files = v.books.known.names.files in
     let h = history_in v in
     let sane = sane_next v t (Note l) Recorded k ok in
     let within = seat_in v t (Note l) Recorded k ok in
@@ -106,6 +109,7 @@ enters_note v t l q new k ok asked e =
     record {
       state = state;
       files = e.files;
+      sized = e.sized;
       room = e.room k.room;
       owed = omega (arith, less, now, sum, e.owed);
       reports = e.reports ∙ (k.reports ∙ sym (reports-quiet (entry t (Note l) Recorded) h refl));
@@ -118,7 +122,7 @@ pub enters_unlock : (v : Inside) (t : ℕ) (l : LockNo) (m : Mode) (new : Books)
     → EntersUnlock v.books t l m new → Enters v t (Unlock l m) Unlocked new
 enters_unlock v t l m new k ok e =
     let start = start_in v in
-    let files = v.books.files.items in
+    let files = v.books.known.names.files in
     let h = history_in v in
     let sane = sane_next v t (Unlock l m) Unlocked k ok in
     let within = seat_in v t (Unlock l m) Unlocked k ok in
@@ -133,6 +137,7 @@ enters_unlock v t l m new k ok e =
     record {
       state = state;
       files = e.files;
+      sized = e.sized;
       room = e.room k.room;
       owed = omega (arith, less, now, sum, e.owed);
       reports = e.reports ∙ (k.reports ∙ sym (reports-quiet (entry t (Unlock l m) Unlocked) h refl));
@@ -145,7 +150,7 @@ pub enters_check : (v : Inside) (t : ℕ) (q : Request) (verdict : Verdict) (new
     → EntersCheck v.books t q verdict new → Enters v t (Check q) (reply_of verdict) new
 enters_check v t q verdict new k ok e =
     let start = start_in v in
-    let files = v.books.files.items in
+    let files = v.books.known.names.files in
     let h = history_in v in
     let sane = sane_next v t (Check q) (reply_of verdict) k ok in
     let within = seat_in v t (Check q) (reply_of verdict) k ok in
@@ -159,6 +164,7 @@ enters_check v t q verdict new k ok e =
     record {
       state = state;
       files = e.files;
+      sized = e.sized;
       room = e.room k.room;
       owed = omega (arith, more, now, sum, e.owed);
       reports = e.reports ∙ (ap (λ n. n + cond (is_report (reply_of verdict)) 1 0) k.reports ∙ (add_comm _ _ ∙ sym (reports-entry (entry t (Check q) (reply_of verdict)) h)));
@@ -171,7 +177,7 @@ pub enters_init : (v : Inside) (t : ℕ) (lock : NewLock) (number : LockNo) (new
     → EntersInit v.books t number lock lock new → Enters v t (Init lock) (Made number) new
 enters_init v t lock number new k ok e =
     let start = start_in v in
-    let files = v.books.files.items in
+    let files = v.books.known.names.files in
     let h = history_in v in
     let sane = sane_next v t (Init lock) (Made number) k ok in
     let within = seat_in v t (Init lock) (Made number) k ok in
@@ -184,6 +190,7 @@ enters_init v t lock number new k ok e =
     record {
       state = state;
       files = e.files;
+      sized = e.sized;
       room = e.room k.room;
       owed = omega (arith, same, now, sum, e.owed);
       reports = e.reports ∙ (k.reports ∙ sym (reports-quiet (entry t (Init lock) (Made number)) h refl));
@@ -204,7 +211,7 @@ same_lock : (old : Books) (t : ℕ) (number : LockNo) (lock made logged : NewLoc
 same_lock old t number lock made logged new m l e =
     subst (λ x. EntersInit old t number lock x new) l (subst (λ x. EntersInit old t number x logged new) m e)
 
-pub kept_init : {X : Type 0} (v : Inside) (t : ℕ) (lock made logged : NewLock) (number : LockNo) (r : Result X AllocError) (new : Books) → IsKept v
+pub kept_init : {X : Type 0} (v : Inside) (t : ℕ) (lock made logged : NewLock) (number : LockNo) (r : Result X Fault) (new : Books) → IsKept v
     → made ≡ lock → logged ≡ lock → answer_of (story_in v) t (Init lock) ≡ Ok (Made number)
     → OnOk r (EntersInit v.books t number made logged new) → OnErr r (StaysSame v.books new)
     → IsKept (record v { books = new })
@@ -212,12 +219,31 @@ kept_init v t lock made logged number (Ok x) new k m l ok entered same =
     kept_entered v t (Init lock) (Made number) new k ok (enters_init v t lock number new k ok (same_lock v.books t number lock made logged new m l entered))
 kept_init v t lock made logged number (Err e) new k m l ok entered same = kept_same v new k same
 
+-- the type name of a lock with good names is a name
+type-named : (lock : NewLock) → (is_name lock.name && is_good_name lock.type_name) ≡ true → is_name (type_name_of lock) ≡ true
+type-named lock good = go lock.type_name (and_parts (is_name lock.name) (is_good_name lock.type_name) good)
+  where
+    go : (o : Option (List ℕ)) → (is_name lock.name ≡ true) × (is_good_name o ≡ true) → is_name (unwrap_or o lock.name) ≡ true
+    go None parts = parts.0
+    go (Some name) parts = parts.1
+
+-- what an init needs: a type that is known or can be enrolled
+pub admitted : (v : Inside) (t : ℕ) (lock made : NewLock) (number : LockNo) → IsKept v → made ≡ lock → answer_of (story_in v) t (Init lock) ≡ Ok (Made number)
+    → IsAdmitted v.books.known made
+admitted v t lock made number k same ok =
+    let accepted = init_accepted (state_of (story_in v)) t lock (Made number) ok in
+    let types : v.books.known.names.types ≡ types_of (start_in v) (history_in v) = ap (λ (s : State). s.known.types) k.state in
+    subst (IsAdmitted v.books.known) (sym same)
+    (subst (λ n. IsNumbered (enroll_answer (type_name_of lock) lock.class n v.books.known.names.types)) (sym k.sized.names)
+    (subst (λ ts. IsNumbered (enroll_answer (type_name_of lock) lock.class v.books.limits.types ts)) (sym types)
+    (rw (type-named lock accepted.names, accepted.class, accepted.types) tt)))
+
 -- what a note needs: room in the sum and in the log, and a count that can rise
 pub note_owed : (v : Inside) (t : ℕ) (l : LockNo) → IsKept v → answer_of (story_in v) t (Note l) ≡ Ok Recorded → (q : Request) → (seat_at (state_in v.books) t).pending ≡ Some q → 0 < v.books.owed
 note_owed v t l k ok q asked =
     let seat = (note_accepted (state_of (story_in v)) t l.0 Recorded ok).seat in
     let wants : pending t (history_in v) ≡ Some q =
-    sym (pending-state (start_in v) v.books.files.items (history_in v) t seat) ∙ (ap (λ (s : State). (seat_at s t).pending) (sym k.state) ∙ asked) in
+    sym (pending-state (start_in v) v.books.known.names.files (history_in v) t seat) ∙ (ap (λ (s : State). (seat_at s t).pending) (sym k.state) ∙ asked) in
     let within = seat_in v t (Note l) Recorded k ok in
     let less = owed-note v.books.limits.seats t l q (history_in v) (sane_next v t (Note l) Recorded k ok) within.0 within.1 wants in
     let now = owed_now v t (Note l) Recorded k ok in
@@ -226,7 +252,7 @@ note_owed v t l k ok q asked =
 pub unlock_owed : (v : Inside) (t : ℕ) (l : LockNo) (m : Mode) → IsKept v → answer_of (story_in v) t (Unlock l m) ≡ Ok Unlocked → 0 < v.books.owed
 unlock_owed v t l m k ok =
     let sane = sane_next v t (Unlock l m) Unlocked k ok in
-    let held = unlock-held (start_in v) v.books.files.items (history_in v) t l.0 m Unlocked sane.1 (unlock_accepted (state_of (story_in v)) t l.0 m Unlocked ok) in
+    let held = unlock-held (start_in v) v.books.known.names.files (history_in v) t l.0 m Unlocked sane.1 (unlock_accepted (state_of (story_in v)) t l.0 m Unlocked ok) in
     let within = seat_in v t (Unlock l m) Unlocked k ok in
     let less = owed-unlock v.books.limits.seats t l m Unlocked (history_in v) sane within.0 within.1 held.0 in
     let now = owed_now v t (Unlock l m) Unlocked k ok in
@@ -257,94 +283,96 @@ pub note_shallow : (v : Inside) (t : ℕ) (l : LockNo) → IsKept v → answer_o
 note_shallow v t l k ok = λ d.
     let within = seat_in v t (Note l) Recorded k ok in
     let same = chain_books v t l.0 d k within.0 within.1 in
-    can_rise l.0 _ (λ i found. note-count (start_in v) v.books.files.items (history_in v) t l.0 Recorded i k.legal
+    can_rise l.0 _ (λ i found. note-count (start_in v) v.books.known.names.files (history_in v) t l.0 Recorded i k.legal
     (note_accepted (state_of (story_in v)) t l.0 Recorded ok) (ap (find (is_of l.0)) (sym same) ∙ found))
 
--- a new verifier
 seats_alike : (seats : List program.Seat) (n : ℕ) → length seats ≡ n → AllByRecursion (λ s. seat_view s ≡ no_seat) seats → (a : ℕ)
     → map seat_view seats ≡ map (seat_of []) (range_with_len a n)
 seats_alike [] n count all a = ap (λ m. map (seat_of []) (range_with_len a m)) count
 seats_alike (s ∷ seats) n count all a =
     ap₂ (λ x xs. x ∷ xs) all.0 (seats_alike seats (length seats) refl all.1 (a + 1)) ∙ ap (λ m. map (seat_of []) (range_with_len a m)) count
 
-free_seats : (b : Books) (sizes : Sizes) (k : Known) → IsFresh sizes k b → map seat_view b.seats.items ≡ seats_of sizes.seats []
+free_seats : (b : Books) (sizes : Sizes) (k : Knowledge) → IsFresh sizes k b → map seat_view b.seats.items ≡ seats_of sizes.seats []
 free_seats b sizes k e = seats_alike b.seats.items sizes.seats e.count (recursion_from_All (λ s. seat_view s ≡ no_seat) b.seats.items e.seats) 1
 
-pub kept_fresh : (v : Inside) (sizes : Sizes) (k : Known) → start_fault (start_in v) ≡ None → k ≡ known_of (start_in v) [] → IsFresh sizes k v.books → IsKept v
-kept_fresh v sizes k started begun e =
-    let h : history_in v ≡ [] = ap (λ (l : List Entry). reverse l) e.log in
-    let seen : story_in v ≡ record { start = start_in v; history = []; files = [] } = same_story _ _ _ _ _ _ refl e.files h in
-    let state : state_in v.books ≡ state_of (record { start = start_in v; history = []; files = [] }) =
-    same_state v.books.limits _ _ _ _ _ _ _ _ (ap (λ (l : List (List ℕ)). length l) e.files) (e.known ∙ begun)
-    (free_seats v.books sizes k e ∙ ap (λ (s : Sizes). seats_of s.seats []) (sym e.limits)) (ap (λ (l : List Entry). length l) e.log) in
-    let owes : owed (state_in v.books) ≡ 0 = ap owed state ∙ owed_to-nil v.books.limits.seats in
-    let len = ap (λ (l : List Entry). length l) e.log in
-    let files = ap (λ (l : List (List ℕ)). length l) e.files in
-    record {
-      started = started;
-      legal = subst (λ (s : Story). IsLegal s.start s.files s.history) (sym seen) tt;
-      state = state ∙ ap state_of (sym seen);
-      room = e.room;
-      owed = e.owed ∙ sym owes;
-      reports = e.reports ∙ ap (λ (s : Story). reports_of s.history) (sym seen);
-      capacity = omega (arith, len, v.books.log.ok.0, e.owed);
-      files = omega (arith, files);
-    }
-
-module _ (v : Inside) (sizes : Sizes) (blessed : List (String Global × String Global)) (k : Known) (e : IsFresh sizes k v.books)
-    (entered : k ≡ with_lists (nothing_but (pairs_of blessed)) (all_listed v.lists.items)) where
-  start_begun : start_in v ≡ start_of sizes v.lists.items blessed
+-- a new verifier
+module _ (v : Inside) (sizes : Sizes) (lists : List (Vec (Class × String Global))) (blessed : List (String Global × String Global)) (k : Knowledge)
+    (e : IsFresh sizes k v.books) (same_lists : v.lists.items ≡ lists) (begun : IsBegun sizes (all_listed lists) (pairs_of blessed) k) where
+  start_begun : start_in v ≡ start_of sizes lists blessed
   start_begun =
-      ap₂ (λ (x : Sizes) (b : List (List ℕ × List ℕ)). record { sizes = x; lists = all_listed v.lists.items; blessed = b })
-      e.limits (ap (λ (x : Known). x.blessed) (e.known ∙ entered))
+      ap (λ (x : Sizes). record (start_in v) { sizes = x }) e.limits
+      ∙ (ap (λ ls. record { sizes = sizes; lists = all_listed ls; blessed = v.books.known.names.blessed }) same_lists
+      ∙ ap (λ (x : Known). record { sizes = sizes; lists = all_listed lists; blessed = x.blessed }) (ap known e.known ∙ begun.known))
 
-  pub kept_begun : start_fault (start_of sizes v.lists.items blessed) ≡ None → IsKept v
+  no_history : history_in v ≡ []
+  no_history = ap (λ (l : List Entry). reverse l) e.log
+
+  no_files : v.books.known.names.files ≡ []
+  no_files = ap (λ (x : Knowledge). x.names.files) e.known ∙ begun.files
+
+  pub story_begun : story_in v ≡ fresh (start_of sizes lists blessed)
+  story_begun = same_story _ _ _ _ _ _ start_begun no_files no_history
+
+  state_begun : state_in v.books ≡ state_of (fresh (start_of sizes lists blessed))
+  state_begun =
+      ap (λ (x : Sizes). record (state_in v.books) { sizes = x }) e.limits
+      ∙ same_state sizes _ _ _ _ _ _ _ _ (ap (λ (l : List (List ℕ)). length l) no_files) (ap known e.known ∙ begun.known)
+      (free_seats v.books sizes k e) (ap (λ (l : List Entry). length l) e.log)
+
+  pub kept_begun : start_fault (start_of sizes lists blessed) ≡ None → IsKept v
   kept_begun accepted =
-      kept_fresh v sizes k (subst (λ (s : Start). start_fault s ≡ None) (sym start_begun) accepted) (entered ∙ ap (λ (s : Start). known_of s []) (sym start_begun)) e
+      let len = ap (λ (l : List Entry). length l) e.log in
+      let owes : owed (state_in v.books) ≡ 0 = ap owed state_begun ∙ owed_to-nil sizes.seats in
+      record {
+        started = subst (λ (s : Start). start_fault s ≡ None) (sym start_begun) accepted;
+        legal = subst (λ (s : Story). IsLegal s.start s.files s.history) (sym story_begun) tt;
+        state = state_begun ∙ ap state_of (sym story_begun);
+        room = e.room;
+        owed = e.owed ∙ sym owes;
+        reports = e.reports ∙ ap (λ (s : Story). reports_of s.history) (sym story_begun);
+        capacity = omega (arith, len, v.books.log.ok.0, e.owed);
+        sized = subst (λ (x : Sizes). IsSized x.types v.books.known) (sym e.limits) (subst (IsSized sizes.types) (sym e.known) begun.sized);
+      }
 
-  pub story_begun : story_in v ≡ fresh (start_of sizes v.lists.items blessed)
-  story_begun = same_story _ _ _ _ _ _ start_begun e.files (ap (λ (l : List Entry). reverse l) e.log)
+-- a verifier to which a file was named
+abbrev pub with_files : Inside → Names → Inside
+with_files v names = record v { books = record v.books { known = record v.books.known { names = names } } }
 
--- the answer to a naming that is accepted, where no such file was named
-fresh_file : (name : List ℕ) (files : List (List ℕ)) (n : ℕ) → is_known_file name files ≡ false → file_answer name files ≡ Ok n → length files < 65535
-fresh_file name files n new ok =
-    let a = file_passed (not (is_file_name name)) BadName _ n ok in
-    let b = file_passed (not (is_known_file name files) && nat_le 65535 (length files)) FilesFull _ n a.1 in
-    let full : nat_le 65535 (length files) ≡ false = ap (λ k. not k && nat_le 65535 (length files)) (sym new) ∙ b.0 in
-    let lt = leb-false 65535 (length files) full in
-    omega (arith, lt)
+-- the story of a naming
+pub file_named : (v : Inside) (name : List ℕ) (r : Result FileNo Fault) (new : Names) → IsKept v
+    → IfOk r (λ f. filing_answer name v.books.known.names.most_files v.books.known.names.files ≡ Ok f.0)
+    → OnOk r (new ≡ with_file v.books.known.names name)
+    → IfErr r (IsRefusal (filing_answer name v.books.known.names.most_files v.books.known.names.files))
+    → OnErr r (new ≡ v.books.known.names)
+    → NamesFile (story_in v) name r (story_in (with_files v new))
+file_named v name (Ok f) new k ok entered err same =
+    (subst (λ most. filing_answer name most v.books.known.names.files ≡ Ok f.0) k.sized.files ok, ap (λ n. story_in (with_files v n)) entered)
+file_named v name (Err fault) new k ok entered err same =
+    (subst (λ most. IsRefusal (filing_answer name most v.books.known.names.files) fault) k.sized.files err, ap (λ n. story_in (with_files v n)) same)
+
+-- a naming that is accepted leaves the history legal
+files_legal : (start : Start) (h : List Entry) (old : List (List ℕ)) (name : List ℕ) → IsLegal start old h → IsLegal start (files_after name old) h
+files_legal start h old name legal = go (is_known_file name old)
   where
-    file_passed : (b : Bool) (f : Fault) (rest : Result ℕ Fault) (m : ℕ) → cond b (Err f) rest ≡ Ok m → (b ≡ false) × (rest ≡ Ok m)
-    file_passed true f rest m e = (cc)
-    file_passed false f rest m e = (refl, e)
-
--- the files stay legal and within their limit
-files_named : (start : Start) (h : List Entry) (old new : List (List ℕ)) (name : List ℕ) (r : Result FileNo Fault) → NamesFileIn old name r new
-    → IsLegal start old h → length old ≤ 65535 → IsLegal start new h × (length new ≤ 65535)
-files_named start h old new name (Err f) names legal few = subst (λ fs. IsLegal start fs h × (length fs ≤ 65535)) (sym names.1) (legal, few)
-files_named start h old new name (Ok n) names legal few = subst (λ fs. IsLegal start fs h × (length fs ≤ 65535)) (sym names.1) (go (is_known_file name old) refl)
-  where
-    go : (b : Bool) → is_known_file name old ≡ b → IsLegal start (cond b old (old ++ name ∷ [])) h × (length (cond b old (old ++ name ∷ [])) ≤ 65535)
-    go true e = (legal, few)
-    go false e =
-        let room = fresh_file name old n.0 e names.0 in
-        (legal-named start old name h legal, omega (arith, room, length-append old (name ∷ [])))
+    go : (b : Bool) → IsLegal start (cond b old (old ++ name ∷ [])) h
+    go true = legal
+    go false = legal-named start old name h legal
 
 -- naming a file keeps the invariant
-pub kept_file : (v : Inside) (name : List ℕ) (r : Result FileNo Fault) (new : Books) → IsKept v → NamesFileIn v.books.files.items name r new.files.items
-    → new ≡ record v.books { files = new.files } → IsKept (record v { books = new })
-kept_file v name r new k names others =
-    let both = files_named (start_in v) (history_in v) v.books.files.items new.files.items name r names k.legal k.files in
-    subst (λ (b : Books). IsKept (record v { books = b })) (sym others) (record {
+pub kept_file : (v : Inside) (name : List ℕ) (r : Result FileNo Fault) (new : Names) → IsKept v
+    → OnOk r (new ≡ with_file v.books.known.names name) → OnErr r (new ≡ v.books.known.names) → IsKept (with_files v new)
+kept_file v name (Ok f) new k entered same =
+    subst (λ n. IsKept (with_files v n)) (sym entered) (record {
       started = k.started;
-      legal = both.0;
-      state = ap (λ (s : State). record s { files = length new.files.items }) k.state;
+      legal = files_legal (start_in v) (history_in v) v.books.known.names.files name k.legal;
+      state = ap (λ (s : State). record s { files = length (files_after name v.books.known.names.files) }) k.state;
       room = k.room;
       owed = k.owed;
       reports = k.reports;
       capacity = k.capacity;
-      files = both.1;
+      sized = record { names = k.sized.names; files = k.sized.files; orders = k.sized.orders };
     })
+kept_file v name (Err fault) new k entered same = subst (λ n. IsKept (with_files v n)) (sym same) k
 
 -- watching is on as long as no call turns it down
 pub watch_on : (h : List Entry) → On ≡ watch_of h

@@ -1,8 +1,8 @@
 -- Static lists, entered list by list.
-use Rattle.std.proofs.Common.{◌≡◌, ℕ, ◌+◌, ◌<◌, ◌≤◌, Bool, true, false, not, ◌&&◌, cond, List, [], ◌∷◌, length, drop, get_or, Option, Some, None, String, refl, ap, sym, ap₂, ◌∙◌, subst, arith, inl, inr, ◌⊎◌, ⊎_elim}
-use Rattle.std.specs.List.{list_any}
+use Rattle.std.proofs.Common.{◌≡◌, ℕ, ◌+◌, ◌<◌, ◌≤◌, Bool, true, false, cond, List, [], ◌∷◌, ◌++◌, length, drop, get_or, Option, Some, None, String, refl, ap, sym, ap₂, ◌∙◌, subst, arith, inl, inr, ◌⊎◌, ⊎_elim}
 use Rattle.std.specs.Option.{option_or}
 use Rattle.std.specs.Global.{Vec, Global}
+use Rattle.std.proofs.lemmas.Bool.{cases_lt}
 use Rattle.std.proofs.lemmas.List.{drop_more, length-map}
 use Rattle.wit_model.specs.declared.faults.Fault.{Fault}
 use Rattle.wit_model.specs.declared.faults.Fault.TheVariants.{BadName, OutOfMemory}
@@ -11,12 +11,12 @@ use Rattle.wit_model.specs.declared.locks.LockType.{LockType}
 use Rattle.wit_model.specs.declared.calls.Adoption.{Adoption}
 use Rattle.wit_model.specs.Types.{enrolled_all}
 use Rattle.wit_model.specs.Orders.{listed_pairs}
-use Rattle.wit_model.specs.Names.{is_name}
 use Rattle.wit_model.proofs.Started.{list_accepted}
 use Rattle.wit_model.specs.State.{Start, Known}
-use Rattle.wit_model.specs.Start.{numbered, list_fault, lists_fault, blessed_fault, start_fault, IsAcceptedTo, IsRefused}
+use Rattle.wit_model.specs.Start.{numbered, list_fault, lists_fault, has_bad_pair, blessed_fault, start_fault, IsAcceptedTo, IsRefused}
 use Rattle.wit_model.specs.Sizes.{Sizes}
-use Rattle.wit_core.specs.Knowledge.{nothing_but}
+use Rattle.wit_core.specs.declared.known.Knowledge.{Knowledge}
+use Rattle.wit_core.specs.Knowledge.{known, nothing, IsSized}
 use Rattle.wit_core.specs.Fresh.{start_of}
 use Rattle.wit_core.specs.Listed.{listed, all_listed, pairs_of, with_list, with_lists, AreRefused}
 
@@ -44,7 +44,7 @@ later most n m (list ∷ lists) types orders some lt =
         → IsAcceptedTo m (lists_fault most (n + 1) lists (enrolled_all list types) (listed_pairs (enrolled_all list types) list orders))
         → IsAcceptedTo m (lists_fault most n (list ∷ lists) types orders)
     go None is rest = subst (IsAcceptedTo m) (sym (passed most n list lists types orders is)) rest
-    go (Some fault) is rest = subst (IsAcceptedTo m) (sym (faulty most n list lists types orders fault is)) (some, inl lt)
+    go (Some fault) is rest = subst (IsAcceptedTo m) (sym (faulty most n list lists types orders fault is)) (inl lt)
 
 module _ (lists : List (Vec (Class × String Global))) (most i : ℕ) (a : Vec (Class × String Global)) (items : List (Class × String Global)) (types : List LockType) (orders : List Adoption)
     (lt : i < length lists) (is_a : a ≡ get_or lists i a) (is : items ≡ a.items) where
@@ -96,63 +96,88 @@ pub start-refused : (start : Start) (number : ℕ) (fault : Fault) → AreRefuse
 start-refused start number fault refused =
     ⊎_elim
     (λ is. inl (ap (λ o. option_or o (blessed_fault start.blessed)) is))
-    (λ out. inr (out.0, (out.1.1.0, go (lists_fault start.sizes.types 1 start.lists [] []) out.1.0 out.1.1.1)))
+    (λ out. inr (out.0, (out.1.1.0, go (lists_fault start.sizes.types 1 start.lists [] []) out.1.1.1)))
     refused
   where
-    blessed : (b : Bool) → 0 < number → IsAcceptedTo number (cond b (Some (0, BadName)) None)
-    blessed true some = (some, inr refl)
-    blessed false some = tt
+    blessed : (b : Bool) → IsAcceptedTo number (cond b (Some (0, BadName)) None)
+    blessed true = inr refl
+    blessed false = tt
 
-    go : (o : Option (ℕ × Fault)) → 0 < number → IsAcceptedTo number o → IsAcceptedTo number (option_or o (blessed_fault start.blessed))
-    go None some accepted = blessed _ some
-    go (Some e) some accepted = accepted
+    go : (o : Option (ℕ × Fault)) → IsAcceptedTo number o → IsAcceptedTo number (option_or o (blessed_fault start.blessed))
+    go None accepted = blessed _
+    go (Some e) accepted = accepted
 
 -- an accepted list leaves the types within their limit
 pub list-few : (most : ℕ) (types : List LockType) (orders : List Adoption) (list : List (Class × List ℕ)) (bound : ℕ) → most ≤ bound → None ≡ list_fault most types orders list
     → length (enrolled_all list types) ≤ bound
 list-few most types orders list bound le none = let good = list_accepted most types orders list (sym none) in omega (arith, good.few, le)
 
--- an accepted start, or one whose blessed pairs aren't
-pub start-accepted : (start : Start) → lists_fault start.sizes.types 1 start.lists [] [] ≡ None
-    → list_any (λ (p : List ℕ × List ℕ). not (is_name p.0 && is_name p.1)) start.blessed ≡ false → start_fault start ≡ None
+-- an accepted start, and one whose blessed pairs aren't, or that can't be made
+pub start-accepted : (start : Start) → lists_fault start.sizes.types 1 start.lists [] [] ≡ None → has_bad_pair start.blessed ≡ false → start_fault start ≡ None
 start-accepted start lists good =
     ap (λ o. option_or o (blessed_fault start.blessed)) lists ∙ ap (λ b. cond {A = Option (ℕ × Fault)} b (Some (0, BadName)) None) good
 
-pub start-misnamed : (start : Start) → lists_fault start.sizes.types 1 start.lists [] [] ≡ None
-    → list_any (λ (p : List ℕ × List ℕ). not (is_name p.0 && is_name p.1)) start.blessed ≡ true → IsRefused start 0 BadName
+pub start-misnamed : (start : Start) → lists_fault start.sizes.types 1 start.lists [] [] ≡ None → has_bad_pair start.blessed ≡ true → IsRefused start 0 BadName
 start-misnamed start lists bad =
     inl (ap (λ o. option_or o (blessed_fault start.blessed)) lists ∙ ap (λ b. cond {A = Option (ℕ × Fault)} b (Some (0, BadName)) None) bad)
 
-pub start-unmade : (start : Start) → start_fault start ≡ None → IsRefused start 0 OutOfMemory
-start-unmade start accepted = inr (refl, (omega arith, subst (IsAcceptedTo 0) (sym accepted) tt))
+pub start-unmade : (start : Start) (fault : Fault) → fault ≡ OutOfMemory → IsRefused start 0 fault
+start-unmade start fault out = inr (out, (omega arith, any (start_fault start)))
+  where
+    any : (o : Option (ℕ × Fault)) → IsAcceptedTo 0 o
+    any None = tt
+    any (Some e) = ⊎_elim (λ (lt : 0 < e.0). inl lt) (λ (le : e.0 ≤ 0). inr (omega arith)) (cases_lt 0 e.0)
+
+-- what is known before anything has happened
+pub record IsBegun (sizes : Sizes) (lists : List (List (Class × List ℕ))) (blessed : List (List ℕ × List ℕ)) (k : Knowledge) : Type 0 where
+  pub known : known k ≡ with_lists (record nothing { blessed = blessed }) lists
+  pub files : k.names.files ≡ []
+  pub sized : IsSized sizes.types k
 
 -- what `new` finds once the lists are entered, and where they are refused
-module _ (sizes : Sizes) (most : ℕ) (lists passed_lists : List (Vec (Class × String Global))) (blessed : List (String Global × String Global)) (old : Known)
-    (most_is : most ≡ sizes.types) (lists_are : passed_lists ≡ lists) (old_is : old ≡ nothing_but (pairs_of blessed)) where
-  same-answer : lists_fault most 1 (all_listed passed_lists) old.types old.orders ≡ lists_fault sizes.types 1 (all_listed lists) [] []
+module _ (sizes : Sizes) (most : ℕ) (lists passed_lists : List (Vec (Class × String Global))) (blessed passed_pairs : List (String Global × String Global)) (old : Knowledge)
+    (most_is : most ≡ sizes.types) (lists_are : passed_lists ≡ lists) (pairs_are : passed_pairs ≡ blessed) (old_is : known old ≡ nothing) where
+  same-answer : lists_fault most 1 (all_listed passed_lists) old.names.types old.orders.orders ≡ lists_fault sizes.types 1 (all_listed lists) [] []
   same-answer =
-      ap (λ m. lists_fault m 1 (all_listed passed_lists) old.types old.orders) most_is
-      ∙ (ap (λ ls. lists_fault sizes.types 1 (all_listed ls) old.types old.orders) lists_are
+      ap (λ m. lists_fault m 1 (all_listed passed_lists) old.names.types old.orders.orders) most_is
+      ∙ (ap (λ ls. lists_fault sizes.types 1 (all_listed ls) old.names.types old.orders.orders) lists_are
       ∙ ap (λ (k : Known). lists_fault sizes.types 1 (all_listed lists) k.types k.orders) old_is)
 
-  pub lists-accepted : lists_fault most 1 (all_listed passed_lists) old.types old.orders ≡ None → lists_fault sizes.types 1 (all_listed lists) [] [] ≡ None
+  lists-accepted : lists_fault most 1 (all_listed passed_lists) old.names.types old.orders.orders ≡ None → lists_fault sizes.types 1 (all_listed lists) [] [] ≡ None
   lists-accepted none = sym same-answer ∙ none
 
-  pub lists-entered : (new : Known) → new ≡ with_lists old (all_listed passed_lists) → new ≡ with_lists (nothing_but (pairs_of blessed)) (all_listed lists)
-  lists-entered new is =
-      is ∙ (ap (λ ls. with_lists old (all_listed ls)) lists_are ∙ ap (λ k. with_lists k (all_listed lists)) old_is)
-
-  pub lists-refused : (number : ℕ) (fault : Fault) → AreRefused (lists_fault most 1 (all_listed passed_lists) old.types old.orders) (all_listed passed_lists) number fault
+  pub lists-refused : (number : ℕ) (fault : Fault) → AreRefused (lists_fault most 1 (all_listed passed_lists) old.names.types old.orders.orders) (all_listed passed_lists) number fault
       → IsRefused (start_of sizes lists blessed) number fault
   lists-refused number fault refused =
       start-refused (start_of sizes lists blessed) number fault
       (subst (λ ls. AreRefused (lists_fault sizes.types 1 (all_listed lists) [] []) (all_listed ls) number fault) lists_are
       (subst (λ o. AreRefused o (all_listed passed_lists) number fault) same-answer refused))
 
-  -- the blessed names, by what is known
-  pub blessed-names : (new : Known) (r : Bool) (passed_pairs pairs : List (String Global × String Global)) → new ≡ with_lists old (all_listed passed_lists)
-      → r ≡ list_any (λ (p : List ℕ × List ℕ). not (is_name p.0 && is_name p.1)) (pairs_of passed_pairs) → passed_pairs ≡ pairs → pairs_of pairs ≡ new.blessed
-      → list_any (λ (p : List ℕ × List ℕ). not (is_name p.0 && is_name p.1)) (pairs_of blessed) ≡ r
-  blessed-names new r passed_pairs pairs is e same kept =
-      sym (e ∙ ap (λ ps. list_any (λ (p : List ℕ × List ℕ). not (is_name p.0 && is_name p.1)) ps)
-      (ap pairs_of same ∙ (kept ∙ ap (λ (k : Known). k.blessed) (lists-entered new is))))
+  -- the blessed pairs are refused
+  pub pairs-refused : (fault : Fault) → lists_fault most 1 (all_listed passed_lists) old.names.types old.orders.orders ≡ None
+      → ((fault ≡ BadName) × (has_bad_pair (pairs_of passed_pairs) ≡ true)) ⊎ (fault ≡ OutOfMemory) → IsRefused (start_of sizes lists blessed) 0 fault
+  pairs-refused fault none why =
+      ⊎_elim
+      (λ bad. subst (IsRefused (start_of sizes lists blessed) 0) (sym bad.0)
+      (start-misnamed (start_of sizes lists blessed) (lists-accepted none) (ap (λ ps. has_bad_pair (pairs_of ps)) (sym pairs_are) ∙ bad.1)))
+      (λ out. start-unmade (start_of sizes lists blessed) fault out)
+      why
+
+  -- all are accepted
+  pub all-accepted : lists_fault most 1 (all_listed passed_lists) old.names.types old.orders.orders ≡ None → has_bad_pair (pairs_of passed_pairs) ≡ false
+      → start_fault (start_of sizes lists blessed) ≡ None
+  all-accepted none good = start-accepted (start_of sizes lists blessed) (lists-accepted none) (ap (λ ps. has_bad_pair (pairs_of ps)) (sym pairs_are) ∙ good)
+
+  pub is-begun : (entered new : Knowledge) → old.names.files ≡ [] → known entered ≡ with_lists (known old) (all_listed passed_lists) → entered.names.files ≡ old.names.files → IsSized most entered
+      → new ≡ record entered { names = record entered.names { blessed = entered.names.blessed ++ pairs_of passed_pairs } }
+      → IsBegun sizes (all_listed lists) (pairs_of blessed) new
+  is-begun entered new none known_is files sized new_is =
+      let here : known entered ≡ with_lists nothing (all_listed lists) =
+      known_is ∙ (ap (λ ls. with_lists (known old) (all_listed ls)) lists_are ∙ ap (λ k. with_lists k (all_listed lists)) old_is) in
+      subst (IsBegun sizes (all_listed lists) (pairs_of blessed)) (sym new_is) (record {
+        known = ap (λ (k : Known). record k { blessed = k.blessed ++ pairs_of passed_pairs }) here
+            ∙ ap (λ ps. with_lists (record nothing { blessed = pairs_of ps }) (all_listed lists)) pairs_are;
+        files = files ∙ none;
+        sized = subst (λ n. IsSized n (record entered { names = record entered.names { blessed = entered.names.blessed ++ pairs_of passed_pairs } })) most_is
+            (record { names = sized.names; files = sized.files; orders = sized.orders });
+      })

@@ -185,7 +185,7 @@ twins-names types (a ∷ b ∷ list) known =
     ap₂ (λ x y. x || y) (names-numbers types a.1 b.1 here.0 next.0) (twins-names types (b ∷ list) here.1)
 
 -- entering a list only adds types
-more-types : (list : List (Class × List ℕ)) (types : List LockType) → (more : List LockType) × (enrolled_all list types ≡ types ++ more)
+pub more-types : (list : List (Class × List ℕ)) (types : List LockType) → (more : List LockType) × (enrolled_all list types ≡ types ++ more)
 more-types [] types = ([], sym (append-nil types))
 more-types (e ∷ list) types =
     let one = added e.1 e.0 in

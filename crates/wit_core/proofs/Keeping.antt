@@ -21,16 +21,17 @@ use Rattle.wit_model.specs.Start.{start_fault}
 use Rattle.wit_model.specs.Orders.{IsSound}
 use Rattle.wit_core.specs.declared.verifier.Verifier.TheInside.{Inside}
 use Rattle.wit_core.specs.declared.books.Books.{Books}
+use Rattle.wit_core.specs.Knowledge.{IsSized, KeepsSizes}
 use Rattle.wit_core.specs.Books.{HasSums, AllHaveRoom, StaysSame, state_in}
 use Rattle.wit_core.specs.Kept.{IsKept, start_in, history_in, story_in}
 
 -- the sums, and the limits that they keep
 pub sums : (v : Inside) → IsKept v → HasSums v.books
 sums v k =
-    let few = few_legal (start_in v) v.books.files.items (history_in v) k.legal in
+    let few = few_legal (start_in v) v.books.known.names.files (history_in v) k.legal in
     let same = ap owed k.state in
     let len = length-reverse v.books.log.items in
-    let locks = locks_legal (start_in v) v.books.files.items (history_in v) k.legal in
+    let locks = locks_legal (start_in v) v.books.known.names.files (history_in v) k.legal in
     let locks_same = ap (λ (s : State). length s.known.locks) k.state in
     let told = count_by-le-length (λ (e : Entry). is_report e.reply) (history_in v) in
     record {
@@ -38,12 +39,13 @@ sums v k =
       fits = omega (arith, few, same, len, k.owed);
       locks = omega (arith, locks, locks_same);
       reports = omega (arith, told, len, k.reports);
+      sized = k.sized;
     }
 
 -- types are within their limit
-pub types_few : (v : Inside) → IsKept v → length v.books.known.types.items ≤ v.books.limits.types
+pub types_few : (v : Inside) → IsKept v → length v.books.known.names.types ≤ v.books.limits.types
 types_few v k =
-    let few = types_legal (start_in v) v.books.files.items (history_in v) (types_started (start_in v) k.started) k.legal in
+    let few = types_legal (start_in v) v.books.known.names.files (history_in v) (types_started (start_in v) k.started) k.legal in
     let same = ap (λ (s : State). length s.known.types) k.state in
     omega (arith, few, same)
 
@@ -53,7 +55,7 @@ answered v t call r k e = sym (e ∙ ap (λ s. step s t call) k.state)
 
 -- an accepted call's seat is one of the books
 pub seat_in : (v : Inside) (t : ℕ) (call : Call) (r : Reply) → IsKept v → answer_of (story_in v) t call ≡ Ok r → (0 < t) × (t ≤ v.books.limits.seats)
-seat_in v t call r k ok = seat-within (start_in v) v.books.files.items (history_in v) t (seat_accepted (state_of (story_in v)) t call r ok)
+seat_in v t call r k ok = seat-within (start_in v) v.books.known.names.files (history_in v) t (seat_accepted (state_of (story_in v)) t call r ok)
 
 -- the history once the log has one more
 history_more : (old new : List Entry) (e : Entry) → new ≡ old ++ e ∷ [] → reverse new ≡ e ∷ reverse old
@@ -61,8 +63,9 @@ history_more old new e same = ap reverse same ∙ reverse-append old (e ∷ [])
 
 -- the books after an accepted call
 pub record Enters (v : Inside) (t : ℕ) (call : Call) (reply : Reply) (new : Books) : Type 0 where
-  pub state : state_in new ≡ state_of (story_after (start_in v) v.books.files.items (entry t call reply ∷ history_in v))
-  pub files : new.files ≡ v.books.files
+  pub state : state_in new ≡ state_of (story_after (start_in v) v.books.known.names.files (entry t call reply ∷ history_in v))
+  pub files : new.known.names.files ≡ v.books.known.names.files
+  pub sized : KeepsSizes v.books.known new.known
   pub room : AllHaveRoom new
   pub owed : new.owed ≡ owed (state_in new)
   pub reports : new.reports ≡ reports_of (entry t call reply ∷ history_in v)
@@ -79,6 +82,12 @@ start_same v new s e sizes blessed =
     ap₂ (λ (x : Sizes) (b : List (List ℕ × List ℕ)). record (start_in v) { sizes = x; blessed = b })
     (ap (λ (x : State). x.sizes) e ∙ sizes) (ap (λ (x : State). x.known.blessed) e ∙ blessed)
 
+-- there is room for as many types as before
+sized_next : (v : Inside) (new : Books) (s : State) → IsKept v → state_in new ≡ s → s.sizes ≡ v.books.limits → KeepsSizes v.books.known new.known
+    → IsSized new.limits.types new.known
+sized_next v new s k e sizes keeps =
+    subst (λ (x : Sizes). IsSized x.types new.known) (sym (ap (λ (x : State). x.sizes) e ∙ sizes)) (keeps v.books.limits.types k.sized)
+
 -- a story by its parts
 abbrev pub story : Start → List (List ℕ) → List Entry → Story
 story start files h = record { start = start; history = h; files = files }
@@ -90,7 +99,7 @@ same_story s s' f f' h h' es ef eh = ap (λ x. story x f h) es ∙ (ap (λ x. st
 pub story_entered : (v : Inside) (t : ℕ) (call : Call) (reply : Reply) (new : Books) → Enters v t call reply new
     → story_in (record v { books = new }) ≡ logged (story_in v) t call reply
 story_entered v t call reply new e =
-    same_story _ _ _ _ _ _ (start_same v new _ e.state refl refl) (ap (λ f. f.items) e.files)
+    same_story _ _ _ _ _ _ (start_same v new _ e.state refl refl) e.files
     (history_more v.books.log.items new.log.items (entry t call reply) e.log)
 
 -- and keeps its invariant
@@ -106,13 +115,13 @@ kept_entered v t call reply new k ok e =
       owed = e.owed;
       reports = e.reports ∙ ap (λ (s : Story). reports_of s.history) (sym same);
       capacity = e.capacity;
-      files = subst (λ f. length f.items ≤ 65535) (sym e.files) k.files;
+      sized = sized_next v new _ k e.state refl e.sized;
     }
 
 -- where nothing has changed
 pub story_same : (v : Inside) (new : Books) → StaysSame v.books new → story_in (record v { books = new }) ≡ story_in v
 story_same v new e =
-    same_story _ _ _ _ _ _ (start_same v new _ e.state refl refl) (ap (λ f. f.items) e.files) (ap reverse e.log)
+    same_story _ _ _ _ _ _ (start_same v new _ e.state refl refl) e.files (ap reverse e.log)
 
 pub kept_same : (v : Inside) (new : Books) → IsKept v → StaysSame v.books new → IsKept (record v { books = new })
 kept_same v new k e =
@@ -126,9 +135,9 @@ kept_same v new k e =
       owed = e.owed ∙ (k.owed ∙ ap owed (sym e.state));
       reports = e.reports ∙ (k.reports ∙ ap (λ (s : Story). reports_of s.history) (sym same));
       capacity = omega (arith, len, new.log.ok.0, v.books.log.ok.0, e.owed, e.capacity, k.capacity);
-      files = subst (λ f. length f.items ≤ 65535) (sym e.files) k.files;
+      sized = sized_next v new _ k e.state refl e.sized;
     }
 
 -- no type is before itself
 pub sound_kept : (v : Inside) → IsKept v → IsSound (orders_of (start_in v) (history_in v))
-sound_kept v k = sound_legal (start_in v) v.books.files.items (history_in v) (sound_started (start_in v) k.started) k.legal
+sound_kept v k = sound_legal (start_in v) v.books.known.names.files (history_in v) (sound_started (start_in v) k.started) k.legal

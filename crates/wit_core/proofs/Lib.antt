@@ -1,9 +1,11 @@
+pub mod Apt
 pub mod Calls
 pub mod Ends
+pub mod Enrolling
 pub mod Entering
 pub mod Going
 pub mod Keeping
 pub mod Listing
+pub mod Relating
 pub mod SeatRows
 pub mod Steps
-pub mod Ways

@@ -21,10 +21,10 @@ any-map p f [] = refl
 any-map p f (x ∷ xs) = ap (λ b. p (f x) || b) (any-map p f xs)
 
 -- what stands at a place, and what follows
-item-at : {X : Type 0} (xs : List X) (i : ℕ) (x : X) → x ≡ get_or xs i x → i < length xs → drop i xs ≡ x ∷ drop (i + 1) xs
+pub item-at : {X : Type 0} (xs : List X) (i : ℕ) (x : X) → x ≡ get_or xs i x → i < length xs → drop i xs ≡ x ∷ drop (i + 1) xs
 item-at xs i x is lt = drop_more xs i x lt ∙ ap (λ y. y ∷ drop (i + 1) xs) (sym is)
 
-two-at : {X : Type 0} (xs : List X) (i j : ℕ) (a b : X) → j ≡ i + 1 → j < length xs → a ≡ get_or xs i a → b ≡ get_or xs j b → drop i xs ≡ a ∷ b ∷ drop (j + 1) xs
+pub two-at : {X : Type 0} (xs : List X) (i j : ℕ) (a b : X) → j ≡ i + 1 → j < length xs → a ≡ get_or xs i a → b ≡ get_or xs j b → drop i xs ≡ a ∷ b ∷ drop (j + 1) xs
 two-at xs i j a b e lt is_a is_b =
     item-at xs i a is_a (omega arith)
     ∙ ap (λ ys. a ∷ ys) (ap (λ n. drop n xs) (sym e) ∙ item-at xs j b is_b lt)
@@ -145,7 +145,7 @@ known-all name (x ∷ xs) types =
     ∙ (ap (λ b. b || list_any (λ (e : Class × List ℕ). bytes_eq e.1 name) xs) (known-one name x.1 x.0 types)
     ∙ or-assoc (is_enrolled name types) (bytes_eq x.1 name) (list_any (λ (e : Class × List ℕ). bytes_eq e.1 name) xs))
 
-length-one : (name : List ℕ) (class : Class) (types : List LockType) → length (enrolled name class types) ≡ length types + cond (is_enrolled name types) 0 1
+pub length-one : (name : List ℕ) (class : Class) (types : List LockType) → length (enrolled name class types) ≡ length types + cond (is_enrolled name types) 0 1
 length-one name class types = go (is_enrolled name types)
   where
     go : (b : Bool) → length (cond b types (types ++ record { name = name; class = class } ∷ [])) ≡ length types + cond b 0 1

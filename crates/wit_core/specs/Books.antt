@@ -1,9 +1,9 @@
 -- What a verifier keeps, as the rules speak of it.
-use Rattle.std.specs.Prelude.{ℕ, ◌+◌, ◌-◌, ◌<◌, ◌≤◌, ◌≡◌, ◌⊎◌, Bool, true, false, List, [], ◌∷◌, ◌++◌, vec_len, map, length, Option, None, Some, Result, Ok, Err, nat_lt, nat_le, not, ◌&&◌, if◌then◌else◌}
+use Rattle.std.specs.Prelude.{ℕ, ◌+◌, ◌-◌, ◌<◌, ◌≤◌, ◌≡◌, Bool, true, false, List, [], ◌∷◌, ◌++◌, vec_len, map, length, Option, None, Some, Result, Ok, Err, nat_lt, nat_le, not, ◌&&◌, if◌then◌else◌}
 use Rattle.std.specs.List.{All}
 use Rattle.std.specs.Vec.{vec_capacity}
 use Rattle.wit_model.specs.declared.faults.Fault.{Fault}
-use Rattle.wit_model.specs.declared.faults.Fault.TheVariants.{ClassMismatch, TypesFull, LocksFull, NotYet, LogFull, OutOfMemory}
+use Rattle.wit_model.specs.declared.faults.Fault.TheVariants.{ClassMismatch, TypesFull, LocksFull, NotYet, LogFull}
 use Rattle.wit_model.specs.Types.{is_otherwise, is_enrolled, type_name_of, is_spin}
 use Rattle.wit_model.specs.Step.{is_not_yet}
 use Rattle.wit_model.specs.declared.locks.Class.{Class}
@@ -17,14 +17,13 @@ use Rattle.wit_model.specs.declared.locks.Instance.{Instance}
 use Rattle.wit_model.specs.Locks.{lock_at}
 use Rattle.wit_model.specs.declared.calls.Request.{Request}
 use Rattle.wit_model.specs.declared.calls.Call.TheVariants.{Init, Check, Note, Unlock}
-use Rattle.wit_model.specs.declared.locks.FileNo.{FileNo}
 use Rattle.wit_model.specs.Sizes.{Sizes}
 use Rattle.wit_model.specs.History.{is_report}
-use Rattle.wit_model.specs.Files.{file_answer, files_after, IsNumbered}
-use Rattle.wit_model.specs.State.{State, Known, owed, has_room, no_seat}
+use Rattle.wit_model.specs.State.{State, owed, has_room, no_seat}
 use Rattle.wit_core.specs.declared.books.Books.{Books}
 use Rattle.wit_core.specs.declared.seats.Seat.{Seat}
-use Rattle.wit_core.specs.Knowledge.{known, learnt, with_lock}
+use Rattle.wit_core.specs.declared.known.Knowledge.{Knowledge}
+use Rattle.wit_core.specs.Knowledge.{known, learnt, with_lock, IsSized, KeepsSizes}
 use Rattle.wit_core.specs.Rows.{seat_view, HasRoom, changed_at, asked_in, noted_in, unlocked_in}
 use Rattle.wit_core.specs.declared.verdicts.Verdict.{Verdict}
 use Rattle.wit_core.specs.Verdicts.{reply_of}
@@ -32,18 +31,19 @@ use Rattle.wit_core.specs.Verdicts.{reply_of}
 abbrev pub state_in : Books → State
 state_in b = record {
   sizes = b.limits;
-  files = length b.files.items;
+  files = length b.known.names.files;
   known = known b.known;
   seats = map seat_view b.seats.items;
   used = length b.log.items;
 }
 
--- the sum of what is owed is kept, and fits the log beside what it has; locks are within their limit
+-- the sum of what is owed is kept, and fits the log beside what it has; locks are within their limit, and types have room up to theirs
 pub record HasSums (b : Books) : Type 0 where
   pub owed : b.owed ≡ owed (state_in b)
   pub fits : length b.log.items + b.owed ≤ b.limits.log
   pub locks : length b.known.locks.items ≤ b.limits.locks
   pub reports : b.reports ≤ length b.log.items
+  pub sized : IsSized b.limits.types b.known
 
 abbrev pub new_lock : List ℕ → Option (List ℕ) → Class → LockFlags → NewLock
 new_lock name type_name class flags = record { class = class; flags = flags; name = name; type_name = type_name }
@@ -84,10 +84,9 @@ abbrev pub AllHaveRoom : Books → Type 0
 AllHaveRoom b = All HasRoom b.seats.items
 
 -- books in which nothing has happened, with what is known from the start
-pub record IsFresh (sizes : Sizes) (k : Known) (b : Books) : Type 0 where
+pub record IsFresh (sizes : Sizes) (k : Knowledge) (b : Books) : Type 0 where
   pub limits : b.limits ≡ sizes
-  pub files : b.files.items ≡ []
-  pub known : known b.known ≡ k
+  pub known : b.known ≡ k
   pub count : length b.seats.items ≡ sizes.seats
   pub seats : All (λ s. seat_view s ≡ no_seat) b.seats.items
   pub room : AllHaveRoom b
@@ -98,22 +97,19 @@ pub record IsFresh (sizes : Sizes) (k : Known) (b : Books) : Type 0 where
 -- nothing that the rules speak of has changed, and no room is lost
 pub record StaysSame (old new : Books) : Type 0 where
   pub state : state_in new ≡ state_in old
-  pub files : new.files ≡ old.files
+  pub files : new.known.names.files ≡ old.known.names.files
+  pub sized : KeepsSizes old.known new.known
   pub room : AllHaveRoom old → AllHaveRoom new
   pub owed : new.owed ≡ old.owed
   pub reports : new.reports ≡ old.reports
   pub log : new.log.items ≡ old.log.items
   pub capacity : vec_capacity old.log ≤ vec_capacity new.log
 
--- the naming of a file, over the files
-abbrev pub NamesFileIn : List (List ℕ) → List ℕ → Result FileNo Fault → List (List ℕ) → Type 0
-NamesFileIn old name (Ok f) new = (file_answer name old ≡ Ok f.0) × (new ≡ files_after name old)
-NamesFileIn old name (Err fault) new = ((file_answer name old ≡ Err fault) ⊎ ((fault ≡ OutOfMemory) × IsNumbered (file_answer name old))) × (new ≡ old)
-
 -- a lock is entered
 pub record EntersInit (old : Books) (t : ℕ) (number : LockNo) (made logged : NewLock) (new : Books) : Type 0 where
   pub state : state_in new ≡ record (state_in old) { known = with_lock (known old.known) made; used = length old.log.items + 1 }
-  pub files : new.files ≡ old.files
+  pub files : new.known.names.files ≡ old.known.names.files
+  pub sized : KeepsSizes old.known new.known
   pub room : AllHaveRoom old → AllHaveRoom new
   pub owed : new.owed ≡ old.owed
   pub reports : new.reports ≡ old.reports
@@ -127,7 +123,8 @@ pub record EntersCheck (old : Books) (t : ℕ) (q : Request) (v : Verdict) (new 
     seats = changed_at (t - 1) (asked_in q) (state_in old).seats;
     used = length old.log.items + 1;
   }
-  pub files : new.files ≡ old.files
+  pub files : new.known.names.files ≡ old.known.names.files
+  pub sized : KeepsSizes old.known new.known
   pub room : AllHaveRoom old → AllHaveRoom new
   pub owed : new.owed ≡ old.owed + 2
   pub reports : new.reports ≡ old.reports + (if is_report (reply_of v) then 1 else 0)
@@ -148,7 +145,8 @@ pub record EntersNote (old : Books) (t : ℕ) (l : LockNo) (q : Request) (new : 
     seats = changed_at (t - 1) (noted_in (spin_of old l.0) (taken_by l q)) (state_in old).seats;
     used = length old.log.items + 1;
   }
-  pub files : new.files ≡ old.files
+  pub files : new.known.names.files ≡ old.known.names.files
+  pub sized : KeepsSizes old.known new.known
   pub room : AllHaveRoom old → AllHaveRoom new
   pub owed : new.owed + 1 ≡ old.owed
   pub reports : new.reports ≡ old.reports
@@ -161,7 +159,8 @@ pub record EntersUnlock (old : Books) (t : ℕ) (l : LockNo) (m : Mode) (new : B
     seats = changed_at (t - 1) (unlocked_in (spin_of old l.0) l.0) (state_in old).seats;
     used = length old.log.items + 1;
   }
-  pub files : new.files ≡ old.files
+  pub files : new.known.names.files ≡ old.known.names.files
+  pub sized : KeepsSizes old.known new.known
   pub room : AllHaveRoom old → AllHaveRoom new
   pub owed : new.owed + 1 ≡ old.owed
   pub reports : new.reports ≡ old.reports

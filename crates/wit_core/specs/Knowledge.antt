@@ -1,5 +1,5 @@
 -- What the verifier knows, as the rules speak of it.
-use Rattle.std.specs.Prelude.{ℕ, List, [], ◌∷◌, ◌++◌, reverse}
+use Rattle.std.specs.Prelude.{ℕ, ◌≡◌, List, [], ◌∷◌, ◌++◌}
 use Rattle.wit_model.specs.declared.locks.Site.{Site}
 use Rattle.wit_model.specs.declared.locks.Origin.TheVariants.{At}
 use Rattle.wit_model.specs.declared.calls.NewLock.{NewLock}
@@ -12,24 +12,46 @@ use Rattle.wit_model.specs.declared.locks.Lock.{Lock}
 use Rattle.wit_model.specs.declared.calls.Adoption.{Adoption}
 use Rattle.wit_model.specs.State.{Known}
 use Rattle.wit_core.specs.declared.known.Knowledge.{Knowledge}
-use Rattle.wit_core.specs.Listed.{pairs_of}
+use Rattle.wit_model.specs.Files.{IsNumbered}
+use Rattle.wit_table.specs.Known.{enroll_answer}
+use Rattle.wit_matrix.specs.Relation.{IsNumber}
+use Rattle.wit_core.specs.Following.{CanFollow}
 
 abbrev pub known : Knowledge → Known
 known k = record {
-  types = k.types.items;
+  types = k.names.types;
   locks = k.locks.items;
-  orders = k.orders;
-  found = reverse k.found.items;
-  blessed = pairs_of k.blessed.items;
+  orders = k.orders.orders;
+  found = k.orders.found;
+  blessed = k.names.blessed;
 }
 
 -- of locks and orders alone
 abbrev pub known_by : List Lock → List Adoption → Known
 known_by locks orders = record { types = []; locks = locks; orders = orders; found = []; blessed = [] }
 
--- nothing but the pairs of type names that may be taken in either order
-abbrev pub nothing_but : List (List ℕ × List ℕ) → Known
-nothing_but blessed = record { types = []; locks = []; orders = []; found = []; blessed = blessed }
+abbrev pub nothing : Known
+nothing = record { types = []; locks = []; orders = []; found = []; blessed = [] }
+
+-- there may be this many types, and all numbers of files
+pub record IsSized (types : ℕ) (k : Knowledge) : Type 0 where
+  pub names : k.names.most_types ≡ types
+  pub files : k.names.most_files ≡ 65535
+  pub orders : k.orders.size ≡ types
+
+abbrev pub KeepsSizes : Knowledge → Knowledge → Type 0
+KeepsSizes old new = (types : ℕ) → IsSized types old → IsSized types new
+
+-- the type of a new lock is known, or can be enrolled
+abbrev pub IsAdmitted : Knowledge → NewLock → Type 0
+IsAdmitted k lock = IsNumbered (enroll_answer (type_name_of lock) lock.class k.names.most_types k.names.types)
+
+-- what a verdict teaches is an order that can be adopted, or a pair of types
+abbrev pub IsApt : ℕ → Known → Verdict → Type 0
+IsApt n k Pass = Unit {0}
+IsApt n k (Adopt p c) = CanFollow n k.orders p.0 c.0
+IsApt n k (Silent a b) = IsNumber n a.0 × IsNumber n b.0
+IsApt n k (Reversal c) = IsNumber n (lock_at k.locks c.held.lock.0).type_no.0 × IsNumber n (lock_at k.locks c.asked.lock.0).type_no.0
 
 -- what is known once a verdict was told, at this site
 abbrev pub learnt : Known → Verdict → Site → Known

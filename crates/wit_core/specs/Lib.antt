@@ -1,9 +1,10 @@
 pub mod Books
+pub mod Following
 pub mod Fresh
 pub mod Kept
 pub mod Knowledge
 pub mod Listed
 pub mod Numbered
-pub mod Pairs
+pub mod Related
 pub mod Rows
 pub mod Verdicts

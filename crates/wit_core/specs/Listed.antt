@@ -1,6 +1,6 @@
 -- Static lists and blessed pairs, as the rules speak of them.
-use Rattle.std.specs.Prelude.{String, ℕ, ◌<◌, ◌≤◌, ◌≡◌, ◌⊎◌, Bool, true, false, ◌||◌, List, [], ◌∷◌, map, length, Option, Some, string_bytes}
-use Rattle.std.specs.List.{list_any}
+use Rattle.std.specs.Prelude.{String, ℕ, ◌<◌, ◌≤◌, ◌≡◌, ◌⊎◌, Bool, true, false, not, ◌||◌, List, [], ◌∷◌, map, length, Option, Some, string_bytes}
+use Rattle.std.specs.List.{list_any, list_all}
 use Rattle.std.specs.Global.{Vec, Global}
 use Rattle.std.specs.Str.{bytes_eq}
 use Rattle.wit_model.specs.declared.faults.Fault.{Fault}
@@ -8,10 +8,12 @@ use Rattle.wit_model.specs.declared.faults.Fault.TheVariants.{OutOfMemory}
 use Rattle.wit_model.specs.declared.locks.Class.{Class}
 use Rattle.wit_model.specs.declared.calls.Adoption.{Adoption}
 use Rattle.wit_model.specs.declared.locks.LockType.{LockType}
-use Rattle.wit_model.specs.Types.{type_number, enrolled_all, listed_types}
+use Rattle.wit_model.specs.Names.{is_name}
+use Rattle.wit_model.specs.Types.{is_enrolled, type_number, enrolled_all, listed_types}
 use Rattle.wit_model.specs.Orders.{is_before, listed_pairs, listed_orders}
 use Rattle.wit_model.specs.State.{Known}
-use Rattle.wit_model.specs.Start.{IsAcceptedTo}
+use Rattle.wit_model.specs.Start.{is_misclassed, has_twin, turns_round, IsAcceptedTo}
+use Rattle.wit_table.specs.Known.{Names}
 
 abbrev pub entry_of : Class × String Global → Class × List ℕ
 entry_of entry = (entry.0, string_bytes entry.1)
@@ -57,3 +59,22 @@ abbrev pub AreRefused : Option (ℕ × Fault) → List (List (Class × List ℕ)
 AreRefused answer lists number fault =
     (answer ≡ Some (number, fault))
     ⊎ ((fault ≡ OutOfMemory) × ((0 < number) × ((number ≤ length lists) × IsAcceptedTo number answer)))
+
+-- the names are names, no class differs, and there is room: so each type can be enrolled
+pub record CanBeEnrolled (most : ℕ) (types : List LockType) (list : List (Class × List ℕ)) : Type 0 where
+  pub names : list_any (λ (e : Class × List ℕ). not (is_name e.1)) list ≡ false
+  pub classes : list_any (is_misclassed types list) list ≡ false
+  pub room : length (enrolled_all list types) ≤ most
+
+-- the names are enrolled, no two neighbours have one name, and none turns an order round: so each order can be adopted
+pub record CanBeAdopted (types : List LockType) (orders : List Adoption) (list : List (Class × List ℕ)) : Type 0 where
+  pub known : list_all (λ (e : Class × List ℕ). is_enrolled e.1 types) list ≡ true
+  pub apart : has_twin list ≡ false
+  pub forward : turns_round types orders list ≡ false
+
+-- only types have changed
+pub record KeepsRest (old new : Names) : Type 0 where
+  pub files : new.files ≡ old.files
+  pub blessed : new.blessed ≡ old.blessed
+  pub most_types : new.most_types ≡ old.most_types
+  pub most_files : new.most_files ≡ old.most_files

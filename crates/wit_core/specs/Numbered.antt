@@ -1,13 +1,13 @@
 -- What stands under a number, from 1.
-use Rattle.std.specs.Prelude.{ℕ, ◌-◌, ◌≡◌, Bool, false, ◌&&◌, nat_lt, nat_le, List, length, Option, None, Some, map}
+use Rattle.std.specs.Prelude.{ℕ, ◌-◌, ◌≡◌, Bool, false, ◌&&◌, nat_lt, nat_le, List, length, Option, None, Some, if◌then◌else◌}
 use Rattle.std.specs.List.{slice_get}
 use Rattle.std.specs.Borrow.{Bor}
-use Rattle.std.specs.Global.{Vec}
-use Rattle.std.specs.Option.{option_map}
 use Rattle.wit_model.specs.declared.locks.Class.{Class}
 use Rattle.wit_model.specs.declared.locks.Lock.{Lock}
 use Rattle.wit_model.specs.declared.locks.LockType.{LockType}
 use Rattle.wit_model.specs.declared.locks.TypeNo.{TypeNo}
+use Rattle.wit_model.specs.Orders.{cell}
+use Rattle.wit_model.specs.State.{Known}
 
 -- no number was given beyond the length, and 0 never
 abbrev pub is_given : {X : Type 0} → List X → ℕ → Bool
@@ -43,9 +43,6 @@ abbrev pub NamesFileNo : List (List ℕ) → ℕ → Option (Bor (List ℕ)) →
 NamesFileNo files n None = is_given files n ≡ false
 NamesFileNo files n (Some name) = slice_get files (n - 1) ≡ Some name.now
 
-abbrev pub type_numbers : List TypeNo → List ℕ
-type_numbers types = map (λ (t : TypeNo). t.0) types
-
--- the numbers on a path, where there is one
-abbrev pub path_numbers : Option (Vec TypeNo) → Option (List ℕ)
-path_numbers p = option_map (λ (v : Vec TypeNo). type_numbers v.items) p
+-- the relation of two types, in the bits of subr_witness.c's matrix, where both numbers were given
+abbrev pub relation : Known → ℕ → ℕ → Option ℕ
+relation k a b = if is_given k.types a && is_given k.types b then Some (cell k.orders k.found a b) else None

@@ -1,33 +1,33 @@
 //! What a verifier keeps, and its answers, which change nothing.
 
-ghost use Rattle.std.specs.Prelude.{◌≡◌, ◌<◌, ◌≤◌, ◌+◌, ◌-◌, ◌==◌, true, length, vec_len, unwrap_or, IfOk, OnOk, OnErr};
+ghost use Rattle.std.specs.Prelude.{◌≡◌, ◌<◌, ◌≤◌, ◌-◌, ◌==◌, length, vec_len, unwrap_or, IfOk, IfErr, OnOk, OnErr};
 ghost use Rattle.std.specs.List.{list_any, All};
 ghost use Rattle.std.specs.Option.{option_copied};
 ghost use Rattle.wit_model.specs.declared.calls.Reply.TheVariants.{Recorded, Unlocked};
+ghost use Rattle.wit_model.specs.declared.faults.Fault.TheVariants.{OutOfMemory};
 ghost use Rattle.wit_model.specs.Locks.{is_made};
 ghost use Rattle.wit_model.specs.State.{has_room, no_seat, seat_at};
 ghost use Rattle.wit_model.specs.Step.{step_init, step_check, step_note, step_unlock, is_not_yet, is_file, is_deepest, is_good_name, released};
 ghost use Rattle.wit_core.specs.Books.{new_lock, lock_answer, type_fault, SeatIndex, made_reply, done_reply};
-ghost use Rattle.wit_model.specs.Files.{file_number, is_known_file};
 ghost use Rattle.std.specs.Vec.{vec_capacity};
 ghost use Rattle.wit_core.specs.Rows.{seat_view, HasRoom, HasSpaceAt, IsShallowAt, IsFreeAt};
 ghost use Rattle.wit_core.specs.Verdicts.{replied, reply_of};
 
-use crate::known::{Knowledge, class_of, held, is_enrolled, is_otherwise, type_number};
+use crate::known::{Knowledge, class_of, held};
+use crate::names::{is_enrolled, type_number};
 use crate::seats::{Seat, ask_at, make_room_at, note_at, unlock_at};
 use crate::verdicts::Verdict;
 use bitflags::Flags;
 use std::alloc::{AllocError, Global};
 use wit_model::{
-    Boxed, Call, Class, Entry, Fault, FileName, FileNo, Instance, Limits, Lock, LockFlags, LockNo,
-    LockType, Mode, Name, NewLock, Reply, Request, SeatNo,
+    Boxed, Call, Class, Entry, Fault, FileNo, Instance, Limits, Lock, LockFlags, LockNo, Mode,
+    Name, NewLock, Reply, Request, SeatNo, TypeNo,
 };
 
 /// What a verifier keeps.
 #[derive(Drop)]
 pub struct Books {
     pub limits: Limits,
-    pub files: Vec<FileName>,
     pub known: Knowledge,
     pub seats: Vec<Seat>,
     /// The log entries that the seats will still need.
@@ -91,11 +91,11 @@ impl Books {
     fn type_fault(&self, name: &str, class: Class) -> Option<Fault>
         ensures { result ≡ type_fault (state_in self.now) name.now class }
     {
-        let types = &self.known.types;
-        if is_otherwise(types, name, class) {
+        let names = &self.known.names;
+        if names.is_otherwise(name, class) {
             return Some(Fault::ClassMismatch);
         }
-        if !is_enrolled(types, name) && self.limits.types() as usize <= types.len() {
+        if !is_enrolled(names, name) && self.limits.types() as usize <= names.len() {
             return Some(Fault::TypesFull);
         }
         None
@@ -109,17 +109,7 @@ impl Books {
         !class.is(Class::SleepMutex)
             || flags.contains(LockFlags::RECURSABLE)
             || type_name == "Giant"
-            || has_type(&self.known.locks, type_number(&self.known.types, type_name))
-    }
-
-    /// How many types are known.
-    pub fn types(&self) -> u16
-        requires { length self.now.known.types.items ≤ self.now.limits.types }
-        ensures { result ≡ length self.now.known.types.items }
-    {
-        // The limit bounds their number.
-        let _limit = self.limits.types();
-        self.known.types.len() as u16
+            || has_type(&self.known.locks, type_number(&self.known.names, type_name))
     }
 
     /// The verdict of `check`.
@@ -197,7 +187,7 @@ impl Books {
     fn has_file(&self, file: FileNo) -> bool
         ensures { result ≡ is_file (state_in self.now) file.0 }
     {
-        0 < file.0 && file.0 as usize <= self.files.len()
+        0 < file.0 && file.0 as usize <= self.known.names.files()
     }
 
     // Whether the log has room for this many entries beside those that are owed.
@@ -211,20 +201,19 @@ impl Books {
 }
 
 impl Books {
-    ghost use Rattle.wit_core.specs.Knowledge.{known};
-    ghost use Rattle.wit_core.specs.Books.{HasSums, IsFresh, NamesFileIn, EntersInit, EntersCheck, EntersNote, EntersUnlock, StaysSame, spin_of};
+    ghost use Rattle.wit_core.specs.Knowledge.{known, IsApt, IsAdmitted};
+    ghost use Rattle.wit_core.specs.Books.{HasSums, IsFresh, EntersInit, EntersCheck, EntersNote, EntersUnlock, StaysSame, spin_of};
 
     /// Books in which nothing has happened, with what is known from the start.
     ///
     /// # Errors
     /// Want of memory alone.
     pub fn new(alloc: Global, limits: Limits, from_start: Knowledge) -> Result<Books, AllocError>
-        ensures { IfOk result (IsFresh limits (known from_start)) }
+        ensures { IfOk result (IsFresh limits from_start) }
     {
         let seats = free_seats(alloc, limits.seats())?;
         Ok(Books {
             limits,
-            files: Vec::new(alloc),
             known: from_start,
             seats,
             owed: 0,
@@ -233,51 +222,27 @@ impl Books {
         })
     }
 
-    /// The number of a file: `Verifier::file`.
-    pub fn name_file(&mut self, alloc: Global, name: &str) -> Result<FileNo, Fault>
-        requires { length self.old.files.items ≤ 65535 }
-        ensures names { NamesFileIn self.old.files.items name.now result self.new.files.items }
-        ensures others { self.new ≡ record self.old { files = self.new.files } }
-    {
-        if !FileName::accepts(name) {
-            return Err(Fault::BadName);
-        }
-        let number = file_number(&self.files, name);
-        if !is_known_file(&self.files, name) {
-            if self.files.len() >= 65535 {
-                return Err(Fault::FilesFull);
-            }
-            let Ok(file) = FileName::new(alloc, name) else {
-                return Err(Fault::OutOfMemory);
-            };
-            if self.files.push(file).is_err() {
-                return Err(Fault::OutOfMemory);
-            }
-        }
-        Ok(FileNo(number as u16))
-    }
-
     /// Enters a lock and its call.
     ///
     /// # Errors
-    /// Want of memory alone; nothing is entered then.
+    /// `OutOfMemory` alone; nothing is entered then.
     pub fn enter_init(
         &mut self,
-        alloc: Global,
         seat: SeatNo,
         number: LockNo,
         made: NewLock,
         logged: Boxed<NewLock>,
-    ) -> Result<(), AllocError>
+    ) -> Result<(), Fault>
         requires sums { HasSums self.old }
-        requires types { length self.old.known.types.items ≤ self.old.limits.types }
+        requires admitted { IsAdmitted self.old.known made }
         ensures ok { OnOk result (EntersInit self.old seat.0 number made logged self.new) }
         ensures err { OnErr result (StaysSame self.old self.new) }
+        ensures memory { IfErr result (λ e. e ≡ OutOfMemory) }
     {
-        let most = self.limits.types();
-        prove!(most <= 1023);
-        self.log.reserve(self.owed as usize + 1)?;
-        self.known.add_lock(alloc, made)?;
+        if self.log.reserve(self.owed as usize + 1).is_err() {
+            return Err(Fault::OutOfMemory);
+        }
+        self.known.add_lock(made)?;
         self.log.push_reserved(Entry {
             seat,
             call: Call::Init(logged),
@@ -299,6 +264,7 @@ impl Books {
     ) -> Result<Reply, AllocError>
         requires sums { HasSums self.old }
         requires seat { (0 < seat.0) × (seat.0 ≤ length self.old.seats.items) }
+        requires apt { IsApt self.old.known.orders.size (known self.old.known) verdict }
         ensures ok { IfOk result (λ reply. (reply ≡ reply_of verdict) × EntersCheck self.old seat.0 request verdict self.new) }
         ensures err { OnErr result (StaysSame self.old self.new) }
     {
@@ -443,28 +409,8 @@ pub fn type_name_or<'a>(name: &'a str, type_name: Option<&'a str>) -> &'a str
 }
 
 // Whether a lock of the type with this number was made.
-fn has_type(locks: &[Lock], number: usize) -> bool
-    ensures { result ≡ list_any (λ lock. lock.type_no.0 == number) locks.now }
+fn has_type(locks: &[Lock], number: TypeNo) -> bool
+    ensures { result ≡ list_any (λ lock. lock.type_no.0 == number.0) locks.now }
 {
-    locks.iter().any(|lock| lock.type_no.0 as usize == number)
-}
-
-fn is_known_file(files: &[FileName], name: &str) -> bool
-    ensures { result ≡ is_known_file name.now files.now }
-{
-    files.iter().any(|f| f.as_str() == name)
-}
-
-// The number of the file with this name, or the one that it would get.
-fn file_number(files: &[FileName], name: &str) -> usize
-    ensures value { result ≡ file_number name.now files.now }
-    ensures within { result ≤ length files.now + 1 }
-    ensures known { is_known_file name.now files.now ≡ true → result ≤ length files.now }
-{
-    for (place, file) in files.iter().enumerate() {
-        if file.as_str() == name {
-            return place + 1;
-        }
-    }
-    files.len() + 1
+    locks.iter().any(|lock| lock.type_no.0 == number.0)
 }

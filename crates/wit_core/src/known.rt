@@ -1,49 +1,56 @@
 //! What is known of types, locks and orders, and the verdict over it.
 
-ghost use Rattle.std.specs.Prelude.{◌≡◌, ◌<◌, ◌≤◌, ◌+◌, [], reverse, find, length, OnOk, OnErr};
-ghost use Rattle.std.specs.List.{list_any, last_or, position_or_len};
+ghost use Rattle.std.specs.Prelude.{◌≡◌, ◌<◌, ◌≤◌, [], reverse, find, OnOk, OnErr, IfOk, IfErr};
+ghost use Rattle.std.specs.List.{last_or, position_or_len};
+ghost use Rattle.wit_model.specs.declared.faults.Fault.TheVariants.{OutOfMemory};
 ghost use Rattle.wit_model.specs.Locks.{lock_at};
-ghost use Rattle.wit_model.specs.Orders.{is_found, found_once};
-ghost use Rattle.wit_model.specs.Types.{is_enrolled, is_otherwise, type_number, name_of};
-ghost use Rattle.wit_model.specs.Verdict.{violates, has_type_of, place_of, again, judged, ordered, verdict, is_of, is_blessed, is_named_pair};
-ghost use Rattle.wit_core.specs.Knowledge.{known_by, nothing_but};
-ghost use Rattle.wit_core.specs.Listed.{pairs_of};
+ghost use Rattle.wit_model.specs.Verdict.{violates, has_type_of, place_of, again, judged, ordered, verdict, is_of, is_blessed};
+ghost use Rattle.wit_core.specs.Knowledge.{known_by, nothing};
 ghost use Rattle.wit_core.specs.Verdicts.{replied};
 
+use crate::names::type_name;
 use crate::orders::Orders;
 use crate::verdicts::Verdict;
 use bitflags::Flags;
 use std::alloc::{AllocError, Global};
 use wit_model::{
-    Adoption, Class, Conflict, Fault, Heading, Instance, Lock, LockAt, LockFlags, LockNo, LockType,
-    Name, NewLock, OpFlags, Origin, Request, Site, TypeNo,
+    Adoption, Class, Conflict, Fault, Heading, Instance, Lock, LockAt, LockFlags, LockNo, NewLock,
+    OpFlags, Origin, Request, Site, TypeNo,
 };
+use wit_table::Table;
 
-/// What is known of types, locks and orders.
+/// How many source files may have numbers.
+const MOST_FILES: u32 = 65535;
+
+/// What is known of types, files, locks and orders.
 #[derive(Drop)]
 pub struct Knowledge {
-    pub types: Vec<LockType>,
+    /// The types, the source files, and the pairs of type names that may be taken in either order.
+    pub names: Table,
     pub locks: Vec<Lock>,
     pub orders: Orders,
-    pub found: Vec<(TypeNo, TypeNo)>,
-    /// The pairs of type names that may be taken in either order.
-    pub blessed: Vec<(String, String)>,
 }
 
 impl Knowledge {
-    ghost use Rattle.wit_core.specs.Knowledge.{known, learnt, with_lock};
+    ghost use Rattle.wit_core.specs.Knowledge.{known, learnt, with_lock, IsSized, KeepsSizes, IsApt, IsAdmitted};
 
-    /// Nothing is known but the blessed pairs.
-    pub fn new(alloc: Global, blessed: Vec<(String, String)>) -> Knowledge
-        ensures { known result ≡ nothing_but (pairs_of blessed.items) }
+    /// Nothing is known; there may be this many types (1 to 1,023).
+    ///
+    /// # Errors
+    /// `OutOfMemory` alone.
+    pub fn new(alloc: Global, types: u32) -> Result<Knowledge, Fault>
+        requires positive { 0 < types }
+        requires within { types ≤ 1023 }
+        ensures known { IfOk result (λ k. known k ≡ nothing) }
+        ensures files { IfOk result (λ k. k.names.files ≡ []) }
+        ensures sized { IfOk result (IsSized types) }
+        ensures err { IfErr result (λ e. e ≡ OutOfMemory) }
     {
-        Knowledge {
-            types: Vec::new(alloc),
+        Ok(Knowledge {
+            names: Table::new(alloc, types, MOST_FILES)?,
             locks: Vec::new(alloc),
-            orders: Orders::new(alloc),
-            found: Vec::new(alloc),
-            blessed,
-        }
+            orders: Orders::new(alloc, types)?,
+        })
     }
 
     /// Learns what a verdict tells: an order at this site, or a pair of types found in violation.
@@ -51,8 +58,11 @@ impl Knowledge {
     /// # Errors
     /// Want of memory alone; nothing is learnt then.
     pub fn learn(&mut self, verdict: Verdict, site: Site) -> Result<(), AllocError>
+        requires { IsApt self.old.orders.size (known self.old) verdict }
         ensures ok { OnOk result (known self.new ≡ learnt (known self.old) verdict site) }
         ensures err { OnErr result (known self.new ≡ known self.old) }
+        ensures names { self.new.names ≡ self.old.names }
+        ensures sized { KeepsSizes self.old self.new }
     {
         match verdict {
             Verdict::Pass => Ok(()),
@@ -61,32 +71,31 @@ impl Knowledge {
                 child,
                 origin: Origin::At(site),
             }),
-            Verdict::Silent(held, asked) => find_pair(&mut self.found, held, asked),
+            Verdict::Silent(held, asked) => self.orders.find(held, asked),
             Verdict::Reversal(conflict) => {
                 let held = type_of(&self.locks, conflict.held.lock);
                 let asked = type_of(&self.locks, conflict.asked.lock);
-                find_pair(&mut self.found, held, asked)
+                self.orders.find(held, asked)
             }
         }
     }
 
-    /// Enters a lock, and its type where that is new.
+    /// Enters a lock whose type is known or can be enrolled, and its type where that is new.
     ///
     /// # Errors
-    /// Want of memory alone; nothing is entered then.
-    pub fn add_lock(&mut self, alloc: Global, made: NewLock) -> Result<(), AllocError>
-        requires { length self.old.types.items < 2000 }
+    /// `OutOfMemory` alone; nothing is entered then.
+    pub fn add_lock(&mut self, made: NewLock) -> Result<(), Fault>
+        requires { IsAdmitted self.old made }
         ensures ok { OnOk result (known self.new ≡ with_lock (known self.old) made) }
         ensures err { OnErr result (known self.new ≡ known self.old) }
+        ensures memory { IfErr result (λ e. e ≡ OutOfMemory) }
+        ensures files { self.new.names.files ≡ self.old.names.files }
+        ensures sized { KeepsSizes self.old self.new }
     {
-        let number = type_number(&self.types, made.type_name());
-        self.locks.reserve(1)?;
-        if !is_enrolled(&self.types, made.type_name()) {
-            let name = Name::new(alloc, made.type_name())?;
-            let class = made.class;
-            self.types.push(LockType { name, class })?;
+        if self.locks.reserve(1).is_err() {
+            return Err(Fault::OutOfMemory);
         }
-        let type_no = TypeNo(number as u16);
+        let type_no = self.names.enroll(made.type_name(), made.class)?;
         self.locks.push_reserved(Lock { type_no, made });
         Ok(())
     }
@@ -152,7 +161,7 @@ impl Knowledge {
     {
         let asked = type_of(&self.locks, request.lock);
         let broken = type_of(&self.locks, held.lock);
-        let known = is_found(&self.found, broken, asked);
+        let known = self.orders.is_found(broken, asked);
         if known || self.is_blessed(broken, asked) {
             return Verdict::Silent(broken, asked);
         }
@@ -172,37 +181,8 @@ impl Knowledge {
     fn is_blessed(&self, a: TypeNo, b: TypeNo) -> bool
         ensures { result ≡ is_blessed (known self.now) a.0 b.0 }
     {
-        is_blessed_pair(
-            &self.blessed,
-            name_of(&self.types, a),
-            name_of(&self.types, b),
-        )
-    }
-}
-
-// Whether two names are two others, in either order.
-fn is_pair(c: &str, d: &str, a: &str, b: &str) -> bool
-    ensures { result ≡ is_named_pair a.now b.now (c.now, d.now) }
-{
-    (c == a && d == b) || (c == b && d == a)
-}
-
-// Whether the unordered pair of these names is blessed.
-fn is_blessed_pair(blessed: &[(String, String)], a: &str, b: &str) -> bool
-    ensures { result ≡ list_any (is_named_pair a.now b.now) (pairs_of blessed.now) }
-{
-    blessed
-        .iter()
-        .any(|p| is_pair(p.0.as_str(), p.1.as_str(), a, b))
-}
-
-// The name of a type, by its number; empty for a number that was never given.
-fn name_of(types: &[LockType], number: TypeNo) -> &str
-    ensures { result.now ≡ name_of number.0 types.now }
-{
-    match types.get((number.0 as usize).saturating_sub(1)) {
-        Some(known) => known.name.as_str(),
-        None => "",
+        self.names
+            .blessed(type_name(&self.names, a), type_name(&self.names, b))
     }
 }
 
@@ -287,7 +267,7 @@ fn violation(
     request: Request,
     chain: &[Instance],
 ) -> Option<Instance>
-    ensures { result ≡ find (violates (known_by locks.now orders.now) request) (reverse chain.now) }
+    ensures { result ≡ find (violates (known_by locks.now orders.now.orders) request) (reverse chain.now) }
 {
     let asked = type_of(locks, request.lock);
     chain
@@ -295,51 +275,4 @@ fn violation(
         .rev()
         .copied()
         .find(|i| orders.is_before(asked, type_of(locks, i.lock)))
-}
-
-// Adds an unordered pair of types where it is new.
-fn find_pair(pairs: &mut Vec<(TypeNo, TypeNo)>, a: TypeNo, b: TypeNo) -> Result<(), AllocError>
-    ensures ok { OnOk result (reverse pairs.new.items ≡ found_once a b (reverse pairs.old.items)) }
-    ensures err { OnErr result (pairs.new.items ≡ pairs.old.items) }
-{
-    if !is_found(pairs, a, b) {
-        pairs.push((a, b))?;
-    }
-    Ok(())
-}
-
-// Whether the unordered pair of these types is among the pairs.
-fn is_found(pairs: &[(TypeNo, TypeNo)], a: TypeNo, b: TypeNo) -> bool
-    ensures { result ≡ is_found (reverse pairs.now) a.0 b.0 }
-{
-    pairs.iter().rev().any(|p| (p.0.0 == a.0 && p.1.0 == b.0) || (p.0.0 == b.0 && p.1.0 == a.0))
-}
-
-// Whether a type has this name.
-pub fn is_enrolled(types: &[LockType], name: &str) -> bool
-    ensures { result ≡ is_enrolled name.now types.now }
-{
-    types.iter().any(|t| t.name.as_str() == name)
-}
-
-// Whether a type has this name and another class.
-pub fn is_otherwise(types: &[LockType], name: &str, class: Class) -> bool
-    ensures { result ≡ is_otherwise name.now class types.now }
-{
-    types
-        .iter()
-        .any(|t| t.name.as_str() == name && !t.class.is(class))
-}
-
-// The number that the type with this name has, or would get.
-pub fn type_number(types: &[LockType], name: &str) -> usize
-    ensures value { result ≡ type_number name.now types.now }
-    ensures within { result ≤ length types.now + 1 }
-{
-    for (place, known) in types.iter().enumerate() {
-        if known.name.as_str() == name {
-            return place + 1;
-        }
-    }
-    types.len() + 1
 }

@@ -4,6 +4,7 @@
 mod books;
 mod known;
 mod lists;
+mod names;
 mod orders;
 mod seats;
 mod verdicts;

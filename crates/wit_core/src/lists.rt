@@ -1,6 +1,6 @@
 //! Static lists: why one is refused, and how one is entered.
 
-ghost use Rattle.std.specs.Prelude.{◌≡◌, ◌<◌, ◌≤◌, ◌+◌, None, not, ◌&&◌, ◌||◌, Some, ◌⊎◌, length, drop, string_bytes, IfErr, OnOk, ℕ, List};
+ghost use Rattle.std.specs.Prelude.{◌≡◌, ◌<◌, ◌≤◌, ◌+◌, ◌++◌, true, false, None, not, ◌&&◌, ◌||◌, Some, ◌⊎◌, length, drop, string_bytes, IfErr, OnOk, ℕ, List};
 ghost use Rattle.std.specs.List.{list_any};
 ghost use Rattle.std.specs.Str.{bytes_eq};
 ghost use Rattle.wit_model.specs.declared.locks.Class.{Class};
@@ -8,14 +8,17 @@ ghost use Rattle.wit_model.specs.Names.{is_name};
 ghost use Rattle.wit_model.specs.Types.{is_spin, is_same_class, is_enrolled, enrolled, enrolled_all, type_number};
 ghost use Rattle.wit_model.specs.Orders.{listed_pairs, adopted_once};
 ghost use Rattle.wit_model.specs.declared.locks.Origin.TheVariants.{Listed};
-ghost use Rattle.wit_model.specs.Start.{list_fault, lists_fault, is_misclassed, has_both_kinds, has_twin};
-ghost use Rattle.wit_model.specs.declared.faults.Fault.TheVariants.{OutOfMemory};
-ghost use Rattle.wit_core.specs.Listed.{entry_of, listed, all_listed, pairs_of, with_list, with_lists, IsWithin, is_back, goes_back, AreRefused};
+ghost use Rattle.wit_model.specs.Start.{list_fault, lists_fault, is_misclassed, has_both_kinds, has_twin, has_bad_pair};
+ghost use Rattle.wit_model.specs.declared.faults.Fault.TheVariants.{BadName, OutOfMemory};
+ghost use Rattle.wit_core.specs.Listed.{entry_of, listed, all_listed, pairs_of, with_list, with_lists, IsWithin, is_back, goes_back, AreRefused, CanBeEnrolled, CanBeAdopted, KeepsRest};
+ghost use Rattle.wit_core.specs.Following.{CanFollow};
 
-use crate::known::{Knowledge, is_enrolled, is_otherwise, type_number};
+use crate::known::Knowledge;
+use crate::names::{is_enrolled, type_number};
 use crate::orders::Orders;
-use std::alloc::{AllocError, Global};
-use wit_model::{Adoption, Class, Fault, LockType, Name, Origin, TypeNo};
+use std::alloc::AllocError;
+use wit_model::{Adoption, Class, Fault, Name, Origin, TypeNo};
+use wit_table::Table;
 
 /// Why a verifier can't be made.
 #[derive(Clone, Copy, Debug, PartialEq, Eq)]
@@ -27,7 +30,7 @@ pub struct StartError {
 }
 
 impl Knowledge {
-    ghost use Rattle.wit_core.specs.Knowledge.{known};
+    ghost use Rattle.wit_core.specs.Knowledge.{known, IsSized, KeepsSizes};
 
     /// Enters static lists, each behind those before it, where there may be this many types.
     ///
@@ -35,22 +38,22 @@ impl Knowledge {
     /// The first list that is refused, from 1, and why; or `OutOfMemory` in place of a list's acceptance.
     pub fn enter_lists(
         &mut self,
-        alloc: Global,
         most: u32,
         lists: &[Vec<(Class, String)>],
     ) -> Result<(), StartError>
-        requires most { most ≤ 1023 }
-        requires few { length self.old.types.items ≤ most }
-        requires within { IsWithin (length self.old.types.items) self.old.orders }
+        requires sized { IsSized most self.old }
+        requires within { IsWithin (length self.old.names.types) self.old.orders.orders }
         ensures accepted { OnOk result
-            (lists_fault most 1 (all_listed lists.now) self.old.types.items self.old.orders ≡ None) }
+            (lists_fault most 1 (all_listed lists.now) self.old.names.types self.old.orders.orders ≡ None) }
         ensures entered { OnOk result (known self.new ≡ with_lists (known self.old) (all_listed lists.now)) }
+        ensures files { OnOk result (self.new.names.files ≡ self.old.names.files) }
+        ensures sized { OnOk result (IsSized most self.new) }
         ensures err { IfErr result (λ e. AreRefused
-            (lists_fault most 1 (all_listed lists.now) self.old.types.items self.old.orders) (all_listed lists.now) e.list e.fault) }
+            (lists_fault most 1 (all_listed lists.now) self.old.names.types self.old.orders.orders) (all_listed lists.now) e.list e.fault) }
     {
         for (place, list) in lists.iter().enumerate() {
             let number = place as u64 + 1;
-            if let Err(error) = self.enter_next(alloc, most, number, list) {
+            if let Err(error) = self.enter_next(most, number, list) {
                 return Err(error);
             }
         }
@@ -60,20 +63,20 @@ impl Knowledge {
     // Enters the list with this number where it isn't refused.
     fn enter_next(
         &mut self,
-        alloc: Global,
         most: u32,
         number: u64,
         list: &[(Class, String)],
     ) -> Result<(), StartError>
-        requires most { most ≤ 1023 }
-        requires few { length self.old.types.items ≤ most }
-        requires within { IsWithin (length self.old.types.items) self.old.orders }
-        ensures accepted { OnOk result (list_fault most self.old.types.items self.old.orders (listed list.now) ≡ None) }
+        requires sized { IsSized most self.old }
+        requires within { IsWithin (length self.old.names.types) self.old.orders.orders }
+        ensures accepted { OnOk result (list_fault most self.old.names.types self.old.orders.orders (listed list.now) ≡ None) }
         ensures entered { OnOk result (known self.new ≡ with_list (known self.old) (listed list.now)) }
+        ensures files { OnOk result (self.new.names.files ≡ self.old.names.files) }
+        ensures sized { OnOk result (IsSized most self.new) }
         ensures number { IfErr result (λ e. e.list ≡ number) }
         ensures err { IfErr result (λ e.
-            (list_fault most self.old.types.items self.old.orders (listed list.now) ≡ Some e.fault)
-            ⊎ ((e.fault ≡ OutOfMemory) × (list_fault most self.old.types.items self.old.orders (listed list.now) ≡ None))) }
+            (list_fault most self.old.names.types self.old.orders.orders (listed list.now) ≡ Some e.fault)
+            ⊎ ((e.fault ≡ OutOfMemory) × (list_fault most self.old.names.types self.old.orders.orders (listed list.now) ≡ None))) }
     {
         if let Some(fault) = self.list_fault(most, list) {
             return Err(StartError {
@@ -81,28 +84,27 @@ impl Knowledge {
                 fault,
             });
         }
-        match self.enter_list(alloc, list) {
+        match self.enter_list(most, list) {
             Ok(()) => Ok(()),
-            Err(_) => Err(StartError {
+            Err(fault) => Err(StartError {
                 list: number,
-                fault: Fault::OutOfMemory,
+                fault,
             }),
         }
     }
 
     // Why a list is refused, where there may be this many types.
     fn list_fault(&self, most: u32, list: &[(Class, String)]) -> Option<Fault>
-        requires few { length self.now.types.items ≤ 1023 }
-        requires within { IsWithin (length self.now.types.items) self.now.orders }
-        ensures { result ≡ list_fault most self.now.types.items self.now.orders (listed list.now) }
+        requires { IsWithin (length self.now.names.types) self.now.orders.orders }
+        ensures { result ≡ list_fault most self.now.names.types self.now.orders.orders (listed list.now) }
     {
         if has_bad_name(list) {
             return Some(Fault::BadName);
         }
-        if has_other_class(&self.types, list) {
+        if has_other_class(&self.names, list) {
             return Some(Fault::ClassMismatch);
         }
-        if (most as usize) < types_with(&self.types, list) {
+        if (most as usize) < types_with(&self.names, list) {
             return Some(Fault::TypesFull);
         }
         if has_both_kinds(list) {
@@ -120,8 +122,7 @@ impl Knowledge {
     // Whether a later entry's type is an earlier one's or before it. So is the second of two neighbours that
     // is before the first once those before them are adopted.
     fn goes_back(&self, list: &[(Class, String)]) -> bool
-        requires { length self.now.types.items ≤ 1023 }
-        ensures { result ≡ goes_back self.now.types.items self.now.orders (listed list.now) }
+        ensures { result ≡ goes_back self.now.names.types self.now.orders.orders (listed list.now) }
     {
         for (place, first) in list.iter().enumerate() {
             if self.is_behind(first, behind(list, place)) {
@@ -133,8 +134,7 @@ impl Knowledge {
 
     // Whether the type of one of these entries is that of another or before it.
     fn is_behind(&self, first: &(Class, String), list: &[(Class, String)]) -> bool
-        requires { length self.now.types.items ≤ 1023 }
-        ensures { result ≡ list_any (λ (e : Class × List ℕ). is_back self.now.types.items self.now.orders
+        ensures { result ≡ list_any (λ (e : Class × List ℕ). is_back self.now.names.types self.now.orders.orders
             (string_bytes first.now.1) e.1) (listed list.now) }
     {
         for entry in list {
@@ -147,24 +147,47 @@ impl Knowledge {
 
     // Whether an entry's type is that of another or before it.
     fn is_back(&self, first: &(Class, String), entry: &(Class, String)) -> bool
-        requires { length self.now.types.items ≤ 1023 }
-        ensures { result ≡ is_back self.now.types.items self.now.orders
+        ensures { result ≡ is_back self.now.names.types self.now.orders.orders
             (string_bytes first.now.1) (string_bytes entry.now.1) }
     {
         if are_twins(entry, first) {
             return true;
         }
-        let (a, b) = (number_of(&self.types, entry), number_of(&self.types, first));
+        let (a, b) = (number_of(&self.names, entry), number_of(&self.names, first));
         self.orders.is_before(a, b)
     }
 
     // Enters a list that isn't refused.
-    fn enter_list(&mut self, alloc: Global, list: &[(Class, String)]) -> Result<(), AllocError>
-        requires { length (enrolled_all (listed list.now) self.old.types.items) ≤ 1023 }
-        ensures { OnOk result (known self.new ≡ with_list (known self.old) (listed list.now)) }
+    fn enter_list(&mut self, most: u32, list: &[(Class, String)]) -> Result<(), Fault>
+        requires sized { IsSized most self.old }
+        requires accepted { list_fault most self.old.names.types self.old.orders.orders (listed list.now) ≡ None }
+        ensures ok { OnOk result (known self.new ≡ with_list (known self.old) (listed list.now)) }
+        ensures files { OnOk result (self.new.names.files ≡ self.old.names.files) }
+        ensures sized { OnOk result (IsSized most self.new) }
+        ensures err { IfErr result (λ e. e ≡ OutOfMemory) }
     {
-        enroll_all(&mut self.types, alloc, list)?;
-        adopt_all(&mut self.orders, &self.types, list)
+        enroll_all(&mut self.names, list)?;
+        match adopt_all(&mut self.orders, &self.names, list) {
+            Ok(()) => Ok(()),
+            Err(_) => Err(Fault::OutOfMemory),
+        }
+    }
+
+    /// Blesses pairs of names.
+    ///
+    /// # Errors
+    /// `BadName` where one of them is no name; `OutOfMemory`.
+    pub fn bless_all(&mut self, pairs: &[(String, String)]) -> Result<(), Fault>
+        ensures good { OnOk result (has_bad_pair (pairs_of pairs.now) ≡ false) }
+        ensures ok { OnOk result (self.new ≡ record self.old {
+          names = record self.old.names { blessed = self.old.names.blessed ++ pairs_of pairs.now };
+        }) }
+        ensures err { IfErr result (λ e. ((e ≡ BadName) × (has_bad_pair (pairs_of pairs.now) ≡ true)) ⊎ (e ≡ OutOfMemory)) }
+    {
+        for pair in pairs {
+            self.names.bless(&pair.0, &pair.1)?;
+        }
+        Ok(())
     }
 }
 
@@ -182,26 +205,17 @@ fn has_bad_name(list: &[(Class, String)]) -> bool
     list.iter().any(|e| !Name::accepts(&e.1))
 }
 
-/// Whether a blessed name is no name.
-pub fn has_bad_pair(blessed: &[(String, String)]) -> bool
-    ensures { result ≡ list_any (λ (p : List ℕ × List ℕ). not (is_name p.0 && is_name p.1)) (pairs_of blessed.now) }
-{
-    blessed
-        .iter()
-        .any(|p| !(Name::accepts(&p.0) && Name::accepts(&p.1)))
-}
-
 // Whether an entry gives a name another class than it has, or than the list gives it elsewhere.
-fn has_other_class(types: &[LockType], list: &[(Class, String)]) -> bool
-    ensures { result ≡ list_any (is_misclassed types.now (listed list.now)) (listed list.now) }
+fn has_other_class(names: &Table, list: &[(Class, String)]) -> bool
+    ensures { result ≡ list_any (is_misclassed names.now.types (listed list.now)) (listed list.now) }
 {
-    list.iter().any(|e| is_misclassed(types, list, e))
+    list.iter().any(|e| is_misclassed(names, list, e))
 }
 
-fn is_misclassed(types: &[LockType], list: &[(Class, String)], entry: &(Class, String)) -> bool
-    ensures { result ≡ is_misclassed types.now (listed list.now) (entry_of entry.now) }
+fn is_misclassed(names: &Table, list: &[(Class, String)], entry: &(Class, String)) -> bool
+    ensures { result ≡ is_misclassed names.now.types (listed list.now) (entry_of entry.now) }
 {
-    is_otherwise(types, &entry.1, entry.0) || is_listed_otherwise(list, &entry.1, entry.0)
+    names.is_otherwise(&entry.1, entry.0) || is_listed_otherwise(list, &entry.1, entry.0)
 }
 
 // Whether a list has this name with another class.
@@ -219,12 +233,12 @@ fn is_listed(list: &[(Class, String)], name: &str) -> bool
 }
 
 // How many types there are once a list is entered.
-fn types_with(types: &[LockType], list: &[(Class, String)]) -> usize
-    ensures { result ≡ length (enrolled_all (listed list.now) types.now) }
+fn types_with(names: &Table, list: &[(Class, String)]) -> usize
+    ensures { result ≡ length (enrolled_all (listed list.now) names.now.types) }
 {
-    let mut count = types.len();
+    let mut count = names.len();
     for (place, entry) in list.iter().enumerate() {
-        if is_new(types, &list[..place], entry) {
+        if is_new(names, &list[..place], entry) {
             count += 1;
         }
     }
@@ -232,11 +246,11 @@ fn types_with(types: &[LockType], list: &[(Class, String)]) -> usize
 }
 
 // Whether no type and none of these entries has an entry's name.
-fn is_new(types: &[LockType], earlier: &[(Class, String)], entry: &(Class, String)) -> bool
-    ensures { result ≡ not (is_enrolled (string_bytes entry.now.1) types.now
+fn is_new(names: &Table, earlier: &[(Class, String)], entry: &(Class, String)) -> bool
+    ensures { result ≡ not (is_enrolled (string_bytes entry.now.1) names.now.types
         || list_any (λ (e : Class × List ℕ). bytes_eq e.1 (string_bytes entry.now.1)) (listed earlier.now)) }
 {
-    !(is_enrolled(types, &entry.1) || is_listed(earlier, &entry.1))
+    !(is_enrolled(names, &entry.1) || is_listed(earlier, &entry.1))
 }
 
 // Whether a list has both spin locks and others.
@@ -278,55 +292,34 @@ fn are_twins(a: &(Class, String), b: &(Class, String)) -> bool
 }
 
 // The number that an entry's type has, or would get.
-fn number_of(types: &[LockType], entry: &(Class, String)) -> TypeNo
-    requires { length types.now ≤ 1023 }
-    ensures { result.0 ≡ type_number (string_bytes entry.now.1) types.now }
+fn number_of(names: &Table, entry: &(Class, String)) -> TypeNo
+    ensures { result.0 ≡ type_number (string_bytes entry.now.1) names.now.types }
 {
-    TypeNo(type_number(types, &entry.1) as u16)
+    type_number(names, &entry.1)
 }
 
 // Enrolls the types of a list that are new.
-fn enroll_all(
-    types: &mut Vec<LockType>,
-    alloc: Global,
-    list: &[(Class, String)],
-) -> Result<(), AllocError>
-    ensures { OnOk result (types.new.items ≡ enrolled_all (listed list.now) types.old.items) }
+fn enroll_all(names: &mut Table, list: &[(Class, String)]) -> Result<(), Fault>
+    requires { CanBeEnrolled names.old.most_types names.old.types (listed list.now) }
+    ensures types { OnOk result (names.new.types ≡ enrolled_all (listed list.now) names.old.types) }
+    ensures rest { OnOk result (KeepsRest names.old names.new) }
+    ensures err { IfErr result (λ e. e ≡ OutOfMemory) }
 {
     for entry in list {
-        enroll(types, alloc, entry)?;
-    }
-    Ok(())
-}
-
-// Enrolls an entry's type where its name is new.
-fn enroll(
-    types: &mut Vec<LockType>,
-    alloc: Global,
-    entry: &(Class, String),
-) -> Result<(), AllocError>
-    ensures { OnOk result (types.new.items ≡ enrolled (string_bytes entry.now.1) entry.now.0 types.old.items) }
-{
-    if !is_enrolled(types, &entry.1) {
-        let name = Name::new(alloc, &entry.1)?;
-        let class = entry.0;
-        types.push(LockType { name, class })?;
+        let _number = names.enroll(&entry.1, entry.0)?;
     }
     Ok(())
 }
 
 // Adopts the orders of a list's neighbours that are new.
-fn adopt_all(
-    orders: &mut Orders,
-    types: &[LockType],
-    list: &[(Class, String)],
-) -> Result<(), AllocError>
-    requires { length types.now ≤ 1023 }
-    ensures { OnOk result (orders.new ≡ listed_pairs types.now (listed list.now) orders.old) }
+fn adopt_all(orders: &mut Orders, names: &Table, list: &[(Class, String)]) -> Result<(), AllocError>
+    requires few { length names.now.types ≤ orders.old.size }
+    requires can { CanBeAdopted names.now.types orders.old.orders (listed list.now) }
+    ensures { OnOk result (orders.new ≡ record orders.old { orders = listed_pairs names.now.types (listed list.now) orders.old.orders }) }
 {
     for place in 1..list.len() {
-        let parent = number_of(types, &list[place - 1]);
-        let child = number_of(types, &list[place]);
+        let parent = number_of(names, &list[place - 1]);
+        let child = number_of(names, &list[place]);
         adopt_once(orders, parent, child)?;
     }
     Ok(())
@@ -334,7 +327,8 @@ fn adopt_all(
 
 // Adopts an order of a list where it is new.
 fn adopt_once(orders: &mut Orders, parent: TypeNo, child: TypeNo) -> Result<(), AllocError>
-    ensures { OnOk result (orders.new ≡ adopted_once parent.0 child.0 Listed orders.old) }
+    requires { CanFollow orders.old.size orders.old.orders parent.0 child.0 }
+    ensures { OnOk result (orders.new ≡ record orders.old { orders = adopted_once parent.0 child.0 Listed orders.old.orders }) }
 {
     if !orders.is_direct(parent, child) {
         orders.adopt(Adoption {

@@ -1,68 +1,118 @@
-//! The adopted orders, and which types are before one another.
+//! The adopted orders, which types are before one another, and which were found in violation.
 
-ghost use Rattle.std.specs.Prelude.{◌≡◌, [], ◌∷◌, ◌==◌, ◌||◌, ℕ, OnOk, OnErr, IfOk, reverse};
-ghost use Rattle.wit_model.specs.declared.locks.TypeNo.{TypeNo};
-ghost use Rattle.wit_model.specs.Orders.{is_direct, is_before};
-ghost use Rattle.wit_model.specs.Paths.{leads, next_type, way, path};
-ghost use Rattle.std.specs.Option.{option_map};
-ghost use Rattle.wit_core.specs.Numbered.{type_numbers, path_numbers};
-ghost use Rattle.wit_core.specs.Pairs.{is_among, is_one_of, JoinsRow, IsClosedBy};
+ghost use Rattle.std.specs.Prelude.{◌≡◌, ◌<◌, ◌≤◌, ◌&&◌, ◌∷◌, ℕ, [], OnOk, OnErr, IfOk, IfErr, reverse};
+ghost use Rattle.wit_model.specs.declared.faults.Fault.TheVariants.{OutOfMemory};
+ghost use Rattle.wit_model.specs.Orders.{is_direct, is_before, is_found, found_once, cell};
+ghost use Rattle.wit_model.specs.Paths.{path, path_numbers};
+ghost use Rattle.wit_matrix.specs.Relation.{IsNumber, OrdersAmong};
+ghost use Rattle.wit_core.specs.Following.{covers, CanFollow};
 
 use std::alloc::{AllocError, Global};
 use std::marker::Model;
-use wit_model::{Adoption, TypeNo};
+use wit_matrix::Matrix;
+use wit_model::{Adoption, Fault, TypeNo};
 
-/// The orders that were adopted. Beside them it keeps each pair of types of which one is before the other.
+/// The orders that were adopted, and the pairs of types that were found in violation, for up to a number of types.
+/// A type beyond that number is before none, and none before it.
 #[derive(Drop)]
 pub struct Orders {
-    alloc: Global,
     adopted: Vec<Adoption>,
-    before: Vec<(TypeNo, TypeNo)>,
+    found: Vec<(TypeNo, TypeNo)>,
+    /// The same, as a relation of each type to each, which answers every question.
+    matrix: Matrix,
 }
 
 impl Model for Orders {
-    ghost use Rattle.std.specs.Prelude.{List, reverse};
-    ghost use Rattle.wit_model.specs.declared.calls.Adoption.{Adoption};
-    ghost use Rattle.std.specs.Option.{option_map};
-    ghost use Rattle.wit_core.specs.Numbered.{type_numbers, path_numbers};
-    ghost use Rattle.wit_core.specs.Pairs.{IsClosure};
+    ghost use Rattle.wit_matrix.specs.Relation.{Relation};
 
-    ghost Value = { List Adoption };
+    ghost Value = { Relation };
 
-    ghost view = { λ o. reverse o.adopted.items };
+    ghost use Rattle.wit_core.specs.Related.{relation_in, IsRelated};
 
-    ghost invariant = { λ o. IsClosure (reverse o.adopted.items) o.before.items };
+    ghost view = { relation_in };
+
+    ghost invariant = { IsRelated };
 }
 
 impl Orders {
-    /// No orders.
-    pub fn new(alloc: Global) -> Orders
-        ensures { result ≡ [] }
+    /// No orders, for up to this many types (1 to 1,023).
+    ///
+    /// # Errors
+    /// `OutOfMemory` alone.
+    pub fn new(alloc: Global, types: u32) -> Result<Orders, Fault>
+        requires positive { 0 < types }
+        requires within { types ≤ 1023 }
+        ensures ok { IfOk result (λ o. o ≡ record { size = types; orders = []; found = [] }) }
+        ensures err { IfErr result (λ e. e ≡ OutOfMemory) }
     {
-        Orders {
-            alloc,
+        Ok(Orders {
             adopted: Vec::new(alloc),
-            before: Vec::new(alloc),
-        }
+            found: Vec::new(alloc),
+            matrix: Matrix::new(alloc, types as u16)?,
+        })
+    }
+
+    // Whether there may be types with these numbers.
+    fn covers(&self, a: TypeNo, b: TypeNo) -> bool
+        ensures { result ≡ covers self.now.size a.0 && covers self.now.size b.0 }
+    {
+        let size = self.matrix.size();
+        1 <= a.0 && a.0 <= size && 1 <= b.0 && b.0 <= size
     }
 
     /// Whether the order from a to b was adopted.
     pub fn is_direct(&self, a: TypeNo, b: TypeNo) -> bool
-        ensures { result ≡ is_direct self.now a.0 b.0 }
+        ensures { result ≡ is_direct self.now.orders a.0 b.0 }
     {
-        is_adopted(&self.adopted, a, b)
+        self.covers(a, b) && self.matrix.direct(a, b)
     }
 
     /// Whether a path of adopted orders leads from a to b.
     pub fn is_before(&self, a: TypeNo, b: TypeNo) -> bool
-        ensures { result ≡ is_before self.now a.0 b.0 }
+        ensures { result ≡ is_before self.now.orders a.0 b.0 }
     {
-        is_among(&self.before, a, b)
+        self.covers(a, b) && self.matrix.before(a, b)
     }
 
+    /// Whether the unordered pair of a and b was found in violation.
+    pub fn is_found(&self, a: TypeNo, b: TypeNo) -> bool
+        ensures { result ≡ is_found self.now.found a.0 b.0 }
+    {
+        self.covers(a, b) && self.matrix.reversed(a, b)
+    }
+
+    /// The relation of a to b, in the bits of `wit_matrix`.
+    pub fn cell(&self, a: TypeNo, b: TypeNo) -> u8
+        requires a { IsNumber self.now.size a.0 }
+        requires b { IsNumber self.now.size b.0 }
+        ensures { result ≡ cell self.now.orders self.now.found a.0 b.0 }
+    {
+        self.matrix.cell(a, b)
+    }
+
+    /// The path of adopted orders from one type to another that goes each time to the least type: `None` where none
+    /// leads there. It is the same among any number of types that the orders are between.
+    ///
+    /// # Errors
+    /// `OutOfMemory` alone.
+    pub fn path(&self, from: TypeNo, to: TypeNo) -> Result<Option<Vec<TypeNo>>, Fault>
+        ensures ok { IfOk result (λ p. (types : ℕ) → OrdersAmong types self.now.orders
+            → path_numbers p ≡ path self.now.orders types from.0 to.0) }
+        ensures err { IfErr result (λ e. e ≡ OutOfMemory) }
+    {
+        if !self.is_before(from, to) {
+            return Ok(None);
+        }
+        // Called for its clause that no type is before itself.
+        let _size = self.matrix.size();
+        self.matrix.path(from, to)
+    }
+}
+
+impl Orders {
     /// The adopted orders, oldest first.
     pub fn adopted(&self) -> &[Adoption]
-        ensures { reverse result.now ≡ self.now }
+        ensures { reverse result.now ≡ self.now.orders }
     {
         &self.adopted
     }
@@ -72,165 +122,29 @@ impl Orders {
     /// # Errors
     /// Want of memory alone; the orders are then as before.
     pub fn adopt(&mut self, order: Adoption) -> Result<(), AllocError>
-        ensures ok { OnOk result (self.new ≡ order ∷ self.old) }
+        requires { CanFollow self.old.size self.old.orders order.parent.0 order.child.0 }
+        ensures ok { OnOk result (self.new ≡ record self.old { orders = order ∷ self.old.orders }) }
         ensures err { OnErr result (self.new ≡ self.old) }
     {
-        let more = joined(self.alloc, &self.before, order.parent, order.child)?;
-        self.adopted.reserve(1)?;
-        self.before.extend_from_slice(&more)?;
-        self.adopted.push_reserved(order);
+        self.adopted.push(order)?;
+        self.matrix.adopt(order.parent, order.child);
         Ok(())
     }
 
-    /// The path of adopted orders from one type to another among the first so many, which goes each time to
-    /// the least type that leads there: `None` where there is none.
+    /// Finds the unordered pair of a and b in violation; a pair that was found stays as it is.
     ///
     /// # Errors
-    /// Want of memory alone.
-    pub fn path(
-        &self,
-        alloc: Global,
-        types: u16,
-        from: TypeNo,
-        to: TypeNo,
-    ) -> Result<Option<Vec<TypeNo>>, AllocError>
-        ensures { IfOk result (λ p. path_numbers p ≡ path self.now types from.0 to.0) }
+    /// Want of memory alone; the pairs are then as before.
+    pub fn find(&mut self, a: TypeNo, b: TypeNo) -> Result<(), AllocError>
+        requires a { IsNumber self.old.size a.0 }
+        requires b { IsNumber self.old.size b.0 }
+        ensures ok { OnOk result (self.new ≡ record self.old { found = found_once a b self.old.found }) }
+        ensures err { OnErr result (self.new ≡ self.old) }
     {
-        if !self.is_before(from, to) {
-            return Ok(None);
+        if !self.is_found(a, b) {
+            self.found.push((a, b))?;
+            self.matrix.set_reversal(a, b);
         }
-        let path = self.way(alloc, types, from, to)?;
-        Ok(Some(path))
+        Ok(())
     }
-
-    // From one type to another, each time to the least that leads there.
-    fn way(
-        &self,
-        alloc: Global,
-        types: u16,
-        from: TypeNo,
-        to: TypeNo,
-    ) -> Result<Vec<TypeNo>, AllocError>
-        ensures { IfOk result (λ v. type_numbers v.items ≡ way self.now types types from.0 to.0) }
-    {
-        let mut path = Vec::new(alloc);
-        let mut at = from;
-        for _step in 0..types {
-            path.push(at)?;
-            if at.0 == to.0 {
-                return Ok(path);
-            }
-            match self.next_type(types, at, to) {
-                Some(next) => at = next,
-                None => return Ok(path),
-            }
-        }
-        Ok(path)
-    }
-
-    // The least of the first types to which a path from one type to another can go.
-    fn next_type(&self, types: u16, from: TypeNo, to: TypeNo) -> Option<TypeNo>
-        ensures { option_map (λ (t : TypeNo). t.0) result ≡ next_type self.now types from.0 to.0 }
-    {
-        for number in 1..=types {
-            let next = TypeNo(number);
-            if self.leads(from, next, to) {
-                return Some(next);
-            }
-        }
-        None
-    }
-
-    // Whether an adopted order goes to a type that is another or before it.
-    fn leads(&self, from: TypeNo, next: TypeNo, to: TypeNo) -> bool
-        ensures { result ≡ leads self.now from.0 to.0 next.0 }
-    {
-        self.is_direct(from, next) && (next.0 == to.0 || self.is_before(next, to))
-    }
-}
-
-fn is_adopted(adopted: &[Adoption], a: TypeNo, b: TypeNo) -> bool
-    ensures { result ≡ is_direct (reverse adopted.now) a.0 b.0 }
-{
-    adopted
-        .iter()
-        .rev()
-        .any(|o| o.parent.0 == a.0 && o.child.0 == b.0)
-}
-
-fn is_among(pairs: &[(TypeNo, TypeNo)], a: TypeNo, b: TypeNo) -> bool
-    ensures { result ≡ is_among a.0 b.0 pairs.now }
-{
-    pairs.iter().any(|p| p.0.0 == a.0 && p.1.0 == b.0)
-}
-
-// The pairs that adopting the order from a parent to a child adds.
-fn joined(
-    alloc: Global,
-    pairs: &[(TypeNo, TypeNo)],
-    parent: TypeNo,
-    child: TypeNo,
-) -> Result<Vec<(TypeNo, TypeNo)>, AllocError>
-    ensures { IfOk result (λ more. IsClosedBy pairs.now parent.0 child.0 more.items) }
-{
-    let ancestors = with_ancestors(alloc, pairs, parent)?;
-    let descendants = with_descendants(alloc, pairs, child)?;
-    let mut more = Vec::new(alloc);
-    for a in &ancestors {
-        join_row(&mut more, pairs, *a, &descendants)?;
-    }
-    Ok(more)
-}
-
-// A type and all that are before it.
-fn with_ancestors(
-    alloc: Global,
-    pairs: &[(TypeNo, TypeNo)],
-    a: TypeNo,
-) -> Result<Vec<TypeNo>, AllocError>
-    ensures { IfOk result (λ v. (x : ℕ) → is_one_of x v.items ≡ ((a.0 == x) || is_among x a.0 pairs.now)) }
-{
-    let mut found = Vec::new(alloc);
-    found.push(a)?;
-    for p in pairs {
-        if p.1.0 == a.0 {
-            found.push(p.0)?;
-        }
-    }
-    Ok(found)
-}
-
-// A type and all that are after it.
-fn with_descendants(
-    alloc: Global,
-    pairs: &[(TypeNo, TypeNo)],
-    a: TypeNo,
-) -> Result<Vec<TypeNo>, AllocError>
-    ensures { IfOk result (λ v. (x : ℕ) → is_one_of x v.items ≡ ((a.0 == x) || is_among a.0 x pairs.now)) }
-{
-    let mut found = Vec::new(alloc);
-    found.push(a)?;
-    for p in pairs {
-        if p.0.0 == a.0 {
-            found.push(p.1)?;
-        }
-    }
-    Ok(found)
-}
-
-// Adds the pairs of a type with these others, but for those that are there already.
-fn join_row(
-    more: &mut Vec<(TypeNo, TypeNo)>,
-    pairs: &[(TypeNo, TypeNo)],
-    a: TypeNo,
-    others: &[TypeNo],
-) -> Result<(), AllocError>
-    ensures { OnOk result (JoinsRow pairs.now a.0 others.now more.old.items more.new.items) }
-{
-    for b in others {
-        if !is_among(pairs, a, *b) {
-            more.push((a, *b))?;
-        }
-    }
-    Ok(())
 }

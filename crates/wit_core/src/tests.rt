@@ -88,6 +88,17 @@ fn lists_of(alloc: Global, text: &str) -> Option<Vec<Vec<(Class, String)>>> {
     Some(lists)
 }
 
+/// The relations of the first two types: of 1 to 1, 1 to 2, 2 to 1 and 2 to 2.
+fn relations(verifier: &Verifier) -> [Option<u8>; 4] {
+    let (a, b) = (TypeNo(1), TypeNo(2));
+    [
+        verifier.relation(a, a),
+        verifier.relation(a, b),
+        verifier.relation(b, a),
+        verifier.relation(b, b),
+    ]
+}
+
 fn class_of(word: &str) -> Class {
     match word {
         "mtx" => Class::SleepMutex,
@@ -403,6 +414,13 @@ fn blessed_pairs(rt: HostRuntime) -> Result<(), Fail> {
         assert!(rt; silent, "{reply:?}");
         assert_eq!(rt; verifier.orders(), [order(1, 2, 2)].as_slice());
         assert_eq!(rt; verifier.reports(), 0);
+        // The order is adopted, so the types are parent and ancestor, child and descendant; and the pair is found.
+        assert_eq!(rt;
+            relations(&verifier),
+            [Some(0x00), Some(0x13), Some(0x1c), Some(0x00)]
+        );
+        assert_eq!(rt; verifier.relation(TypeNo(0), TypeNo(1)), None);
+        assert_eq!(rt; verifier.relation(TypeNo(1), TypeNo(3)), None);
     }
     Ok(())
 }

@@ -2,9 +2,9 @@
 
 ghost use Rattle.std.specs.Prelude.{◌≡◌, None, length, reverse, IfOk, IfErr};
 ghost use Rattle.std.specs.Option.{option_copied};
-ghost use Rattle.wit_model.specs.State.{orders_of, types_of, typed_locks};
-ghost use Rattle.wit_core.specs.Numbered.{IsNumbered, NamesLock, TypesLock, NamesType, ClassesType, NamesFileNo, path_numbers};
-ghost use Rattle.wit_model.specs.Paths.{path};
+ghost use Rattle.wit_model.specs.State.{known_of, orders_of, types_of, typed_locks};
+ghost use Rattle.wit_core.specs.Numbered.{IsNumbered, NamesLock, TypesLock, NamesType, ClassesType, NamesFileNo, relation};
+ghost use Rattle.wit_model.specs.Paths.{path, path_numbers};
 ghost use Rattle.wit_model.specs.History.{reports_of, watch_of};
 ghost use Rattle.wit_model.specs.Files.{NamesFile};
 ghost use Rattle.wit_model.specs.Orders.{IsSound};
@@ -17,12 +17,13 @@ ghost use Rattle.wit_model.specs.Start.{start_fault, IsRefused};
 
 use crate::books::Books;
 use crate::known::Knowledge;
-use crate::lists::{StartError, has_bad_pair};
+use crate::lists::StartError;
+use crate::names::is_type;
 use std::alloc::{AllocError, Global};
 use std::marker::Model;
 use wit_model::{
-    Adoption, Boxed, Class, Entry, Fault, FileNo, Limits, Lock, LockFlags, LockNo, LockType, Mode,
-    Name, NewLock, OpFlags, Reply, Request, SeatNo, Site, TypeNo, Watch,
+    Adoption, Boxed, Class, Entry, Fault, FileNo, Limits, Lock, LockFlags, LockNo, Mode, Name,
+    NewLock, OpFlags, Reply, Request, SeatNo, Site, TypeNo, Watch,
 };
 
 /// A verifier of lock orders, as witness(4) describes it: it is told of each acquisition and release, keeps
@@ -31,11 +32,21 @@ use wit_model::{
 ///
 /// Clauses see it as how it began, its history, and the files that were named to it. A refused call changes
 /// nothing of these.
-#[derive(Drop)]
 pub struct Verifier {
     alloc: Global,
     lists: Vec<Vec<(Class, String)>>,
     books: Books,
+}
+
+// Written by hand so that it is one call wherever a verifier goes, and not one for each field of each field.
+impl Drop for Verifier {
+    fn drop(self) {
+        let Verifier {
+            alloc: _,
+            lists: _,
+            books: _,
+        } = self;
+    }
 }
 
 impl Model for Verifier {
@@ -61,7 +72,8 @@ impl Verifier {
     /// `TypesFull` where it has more new names than there are numbers left; `KindMismatch` where it has both spin
     /// locks and others; `SameType` where two neighbours have one name; `WrongOrder` where, of two neighbours,
     /// the second is before the first, once those before them are adopted; `OutOfMemory`. Then, with 0 for the
-    /// list, `BadName` where a blessed name is no name, and `OutOfMemory`. Nothing is left of a refused start.
+    /// list, `BadName` where a blessed name is no name. `OutOfMemory` with 0 for the list, for what is made before
+    /// and after the lists, may stand in place of any answer. Nothing is left of a refused start.
     pub fn new(
         alloc: Global,
         limits: Limits,
@@ -72,25 +84,27 @@ impl Verifier {
             × (v ≡ fresh (start_of limits lists.items blessed.items))) }
         ensures err { IfErr result (λ e. IsRefused (start_of limits lists.items blessed.items) e.list e.fault) }
     {
-        let mut known = Knowledge::new(alloc, blessed);
-        known.enter_lists(alloc, limits.types(), &lists)?;
-        if has_bad_pair(&known.blessed) {
-            return Err(StartError {
-                list: 0,
-                fault: Fault::BadName,
-            });
+        let mut known = match Knowledge::new(alloc, limits.types()) {
+            Ok(known) => known,
+            Err(fault) => return Err(StartError { list: 0, fault }),
+        };
+        if let Err(error) = known.enter_lists(limits.types(), &lists) {
+            return Err(error);
         }
-        let Ok(books) = Books::new(alloc, limits, known) else {
-            return Err(StartError {
+        if let Err(fault) = known.bless_all(&blessed) {
+            return Err(StartError { list: 0, fault });
+        }
+        match Books::new(alloc, limits, known) {
+            Ok(books) => Ok(Verifier {
+                alloc,
+                lists,
+                books,
+            }),
+            Err(_) => Err(StartError {
                 list: 0,
                 fault: Fault::OutOfMemory,
-            });
-        };
-        Ok(Verifier {
-            alloc,
-            lists,
-            books,
-        })
+            }),
+        }
     }
 
     /// The number of a source file: a file that was named before keeps its number, a new one gets the next.
@@ -102,7 +116,7 @@ impl Verifier {
     pub fn file(&mut self, name: &str) -> Result<FileNo, Fault>
         ensures { NamesFile self.old name.now result self.new }
     {
-        self.books.name_file(self.alloc, name)
+        self.books.known.names.file(name)
     }
 
     /// Makes a lock, as `lock_init` does: its number is the next one.
@@ -129,9 +143,9 @@ impl Verifier {
         let Ok(logged) = boxed_lock(self.alloc, name, type_name, class, flags) else {
             return Err(Fault::OutOfMemory);
         };
-        match self.books.enter_init(self.alloc, seat, lock, made, logged) {
+        match self.books.enter_init(seat, lock, made, logged) {
             Ok(()) => Ok(lock),
-            Err(_) => Err(Fault::OutOfMemory),
+            Err(fault) => Err(fault),
         }
     }
 
@@ -248,32 +262,43 @@ impl Verifier {
     pub fn type_name(&self, number: TypeNo) -> Option<&str>
         ensures { NamesType (types_of self.now.start self.now.history) number.0 result }
     {
-        let known = known_type(&self.books.known.types, number)?;
-        Some(known.name.as_str())
+        let names = &self.books.known.names;
+        if is_type(names, number) {
+            Some(names.name_of(number))
+        } else {
+            None
+        }
     }
 
     /// The class of a type.
     pub fn class_of(&self, number: TypeNo) -> Option<Class>
         ensures { ClassesType (types_of self.now.start self.now.history) number.0 result }
     {
-        let known = known_type(&self.books.known.types, number)?;
-        Some(known.class)
+        let names = &self.books.known.names;
+        if is_type(names, number) {
+            Some(names.class_of(number))
+        } else {
+            None
+        }
     }
 
     /// The name of a file.
     pub fn file_name(&self, file: FileNo) -> Option<&str>
         ensures { NamesFileNo self.now.files file.0 result }
     {
-        let place = (file.0 as usize).checked_sub(1)?;
-        let name = self.books.files.get(place)?;
-        Some(name.as_str())
+        let names = &self.books.known.names;
+        if 0 < file.0 && file.0 as usize <= names.files() {
+            Some(names.file_name(file))
+        } else {
+            None
+        }
     }
 
     /// How many types are known.
     pub fn types(&self) -> usize
         ensures { result ≡ length (types_of self.now.start self.now.history) }
     {
-        self.books.known.types.len()
+        self.books.known.names.len()
     }
 
     /// The path of adopted orders from one type to another that goes each time to the least type: `None` where
@@ -286,10 +311,20 @@ impl Verifier {
             (length (types_of self.now.start self.now.history)) from.0 to.0) }
         ensures err { IfErr result (λ e. e ≡ OutOfMemory) }
     {
-        let types = self.books.types();
-        match self.books.known.orders.path(self.alloc, types, from, to) {
-            Ok(path) => Ok(path),
-            Err(_) => Err(Fault::OutOfMemory),
+        self.books.known.orders.path(from, to)
+    }
+
+    /// How one type is related to another, as the sum of 0x01 where the order from the first to the second was
+    /// adopted, 0x02 where the first is before the second, 0x04 and 0x08 where they are so the other way round,
+    /// and 0x10 where the pair was found in violation; `None` for a number that was never given.
+    pub fn relation(&self, a: TypeNo, b: TypeNo) -> Option<u8>
+        ensures { result ≡ relation (known_of self.now.start self.now.history) a.0 b.0 }
+    {
+        let known = &self.books.known;
+        if is_type(&known.names, a) && is_type(&known.names, b) {
+            Some(known.orders.cell(a, b))
+        } else {
+            None
         }
     }
 }
@@ -299,13 +334,6 @@ fn known_lock(locks: &[Lock], lock: LockNo) -> Option<&Lock>
 {
     let place = (lock.0 as usize).checked_sub(1)?;
     locks.get(place)
-}
-
-fn known_type(types: &[LockType], number: TypeNo) -> Option<&LockType>
-    ensures { IsNumbered types.now number.0 (option_copied result) }
-{
-    let place = (number.0 as usize).checked_sub(1)?;
-    types.get(place)
 }
 
 fn new_lock(

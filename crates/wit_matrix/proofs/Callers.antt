@@ -8,8 +8,8 @@ use Rattle.wit_model.specs.declared.locks.Origin.TheVariants.{Listed}
 use Rattle.wit_model.specs.declared.calls.Adoption.{Adoption}
 use Rattle.wit_model.specs.Orders.{is_adoption_of, is_direct, is_before, IsSound, is_pair_of, found_once, adopted_once}
 use Rattle.wit_model.specs.Paths.{leads, next_type, way, path}
-use Rattle.wit_matrix.specs.Relation.{IsNumber, HasSameOrders, HasSameFound}
-use Rattle.wit_matrix.proofs.Settled.{OrdersAmong, same_before}
+use Rattle.wit_matrix.specs.Relation.{IsNumber, HasSameOrders, HasSameFound, OrdersAmong}
+use Rattle.wit_matrix.proofs.Settled.{same_before}
 use Rattle.wit_matrix.proofs.Edits.{adopted_again, found_again}
 use Rattle.wit_matrix.proofs.Leading.{below, below_all, below_child, way_arrives, way_goes, next_there, differ}
 use Rattle.wit_matrix.proofs.Ways.{find_none}

@@ -8,11 +8,11 @@ use Rattle.wit_model.specs.declared.calls.Adoption.{Adoption}
 use Rattle.wit_model.specs.Orders.{is_adoption_of, is_direct, is_before, IsSound, is_pair_of, is_found, found_once, adopted_once}
 use Rattle.std.proofs.lemmas.List.{get_or-replicate, length-replicate}
 use Rattle.wit_model.proofs.Paths.{sound_adopt, test_from_before}
-use Rattle.wit_matrix.specs.Relation.{IsNumber, HasSameOrders, HasSameFound, Adopts, Finds}
+use Rattle.wit_matrix.specs.Relation.{IsNumber, HasSameOrders, HasSameFound, OrdersAmong, FoundAmong, Adopts, Finds}
 use Rattle.wit_matrix.proofs.Places.{place_within}
 use Rattle.wit_matrix.specs.Bytes.{place, byte_at, has, with_bits, order_of, relation_in, orders_in, found_in, IsKept, AddsWhere, is_at, reaches, joins}
 use Rattle.wit_matrix.proofs.Bits.{byte_of, add_parent, add_ancestor, add_child, add_descendant, add_reversal, has_ancestor, has_descendant, has_kept}
-use Rattle.wit_matrix.proofs.Settled.{OrdersAmong, FoundAmong, AreCells, direct_among, found_among, orders_settled, found_settled, settled, same_from, found-turned}
+use Rattle.wit_matrix.proofs.Settled.{AreCells, direct_among, found_among, orders_settled, found_settled, settled, same_from, found-turned}
 
 -- what the bytes say of a type and those before it
 pub reaches_up : (n : ℕ) (cells : List ℕ) → IsKept n cells → (a b : ℕ) → IsNumber n a → IsNumber n b

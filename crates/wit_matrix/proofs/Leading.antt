@@ -7,9 +7,8 @@ use Rattle.wit_model.specs.declared.calls.Adoption.{Adoption}
 use Rattle.wit_model.specs.Orders.{is_direct, IsPath, Before, is_before, IsSound}
 use Rattle.wit_model.specs.Paths.{leads, next_type, way}
 use Rattle.wit_model.proofs.Paths.{before_from_test, test_from_before, direct-before, is_before-trans}
-use Rattle.wit_matrix.specs.Relation.{IsNumber, LeadsBy}
+use Rattle.wit_matrix.specs.Relation.{IsNumber, OrdersAmong, LeadsBy}
 use Rattle.wit_matrix.proofs.Pairs.{among, range_to}
-use Rattle.wit_matrix.proofs.Settled.{OrdersAmong}
 
 -- how many of these pass
 tally : (ℕ → Bool) → List ℕ → ℕ

@@ -6,7 +6,7 @@ use Rattle.wit_model.specs.declared.locks.TypeNo.{TypeNo}
 use Rattle.wit_model.specs.declared.calls.Adoption.{Adoption}
 use Rattle.wit_model.specs.Orders.{is_adoption_of, is_direct, IsPath, Before, is_before, IsSound, is_pair_of, is_found, cell}
 use Rattle.wit_model.proofs.Paths.{before_from_test, test_from_before}
-use Rattle.wit_matrix.specs.Relation.{IsNumber, HasSameOrders, HasSameFound}
+use Rattle.wit_matrix.specs.Relation.{IsNumber, HasSameOrders, HasSameFound, OrdersAmong, FoundAmong}
 use Rattle.wit_matrix.specs.Bytes.{byte_at, has, pairs_where, order_of, types_of, orders_in, found_in, IsKept}
 use Rattle.wit_matrix.proofs.Bits.{has_parent, has_reversal}
 use Rattle.wit_matrix.proofs.Pairs.{is_pair, list_any-map, pair_from, pair_to}
@@ -52,13 +52,6 @@ found-turned (f ∷ fs) a b is =
     (or_cases ((eqb f.0.0 a) && (eqb f.1.0 b)) ((eqb f.0.0 b) && (eqb f.1.0 a)) here)))
     (λ later. or_right (is_pair_of b a f) (is_found fs b a) (found-turned fs a b later))
     (or_cases (is_pair_of a b f) (is_found fs a b) is)
-
--- the orders are between these types alone
-abbrev pub OrdersAmong : ℕ → List Adoption → Type 0
-OrdersAmong n os = (a b : ℕ) → is_direct os a b ≡ true → IsNumber n a × IsNumber n b
-
-abbrev pub FoundAmong : ℕ → List (TypeNo × TypeNo) → Type 0
-FoundAmong n fs = (a b : ℕ) → is_found fs a b ≡ true → IsNumber n a × IsNumber n b
 
 abbrev direct_bit : ℕ → List ℕ → ℕ → ℕ → Bool
 direct_bit n cells a b = has 0x01 (byte_at n cells a b)

@@ -1,7 +1,5 @@
 -- What a matrix says of its types, as the relation matrix in the comments of subr_witness.c does: for each two, how one is related to the other.
-use Rattle.std.specs.Prelude.{ℕ, ◌≡◌, ◌≤◌, List, [], ◌∷◌, ◌++◌, Option, map}
-use Rattle.std.specs.Global.{Vec}
-use Rattle.std.specs.Option.{option_map}
+use Rattle.std.specs.Prelude.{ℕ, ◌≡◌, ◌≤◌, true, List, [], ◌∷◌, ◌++◌}
 use Rattle.wit_model.specs.declared.locks.Origin.TheVariants.{Listed}
 use Rattle.wit_model.specs.declared.locks.TypeNo.{TypeNo}
 use Rattle.wit_model.specs.declared.calls.Adoption.{Adoption}
@@ -27,6 +25,13 @@ HasSameOrders os ps = (a b : ℕ) → is_direct os a b ≡ is_direct ps a b
 abbrev pub HasSameFound : List (TypeNo × TypeNo) → List (TypeNo × TypeNo) → Type 0
 HasSameFound fs gs = (a b : ℕ) → is_found fs a b ≡ is_found gs a b
 
+-- the orders, or the pairs, are between these types alone
+abbrev pub OrdersAmong : ℕ → List Adoption → Type 0
+OrdersAmong n os = (a b : ℕ) → is_direct os a b ≡ true → IsNumber n a × IsNumber n b
+
+abbrev pub FoundAmong : ℕ → List (TypeNo × TypeNo) → Type 0
+FoundAmong n fs = (a b : ℕ) → is_found fs a b ≡ true → IsNumber n a × IsNumber n b
+
 -- the order from p to c is adopted, and nothing else changes
 pub record Adopts (old : Relation) (p c : ℕ) (new : Relation) : Type 0 where
   pub size : new.size ≡ old.size
@@ -38,13 +43,6 @@ pub record Finds (old : Relation) (a b : TypeNo) (new : Relation) : Type 0 where
   pub size : new.size ≡ old.size
   pub orders : HasSameOrders new.orders old.orders
   pub found : HasSameFound new.found (found_once a b old.found)
-
-abbrev pub type_numbers : List TypeNo → List ℕ
-type_numbers types = map (λ (t : TypeNo). t.0) types
-
--- the numbers on a path, where there is one
-abbrev pub path_numbers : Option (Vec TypeNo) → Option (List ℕ)
-path_numbers p = option_map (λ (v : Vec TypeNo). type_numbers v.items) p
 
 -- the list starts with a and ends with b, and each step is an adopted order
 abbrev pub LeadsBy : List Adoption → ℕ → ℕ → List ℕ → Type 0

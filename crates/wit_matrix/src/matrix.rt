@@ -5,8 +5,8 @@ ghost use Rattle.wit_model.specs.declared.locks.TypeNo.{TypeNo};
 ghost use Rattle.std.specs.Option.{option_map};
 ghost use Rattle.wit_model.specs.declared.faults.Fault.TheVariants.{OutOfMemory};
 ghost use Rattle.wit_model.specs.Orders.{Before, IsSound, is_before, is_direct, is_found, cell};
-ghost use Rattle.wit_model.specs.Paths.{leads, next_type, way, path};
-ghost use Rattle.wit_matrix.specs.Relation.{IsNumber, Adopts, Finds, type_numbers, path_numbers, LeadsBy};
+ghost use Rattle.wit_model.specs.Paths.{leads, next_type, way, path, type_numbers, path_numbers};
+ghost use Rattle.wit_matrix.specs.Relation.{IsNumber, Adopts, Finds, LeadsBy};
 
 use crate::cells::{ANCESTOR, PARENT, REVERSAL, byte_at, has, link, mark};
 use std::alloc::{AllocError, Global};

@@ -1,6 +1,7 @@
 pub mod Accepted
 pub mod Acts
 pub mod After
+pub mod Among
 pub mod Asked
 pub mod ChainEdits
 pub mod Chains

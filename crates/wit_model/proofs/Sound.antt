@@ -21,7 +21,7 @@ use Rattle.wit_model.specs.State.{Start, Known, known_of, state_of, orders_of}
 use Rattle.wit_model.specs.Verdict.{is_exclusive, is_of, type_in, again, violates, is_blessed, conflict, judged, ordered, among, behind, verdict}
 use Rattle.wit_model.specs.Step.{chain_for, answer_of, story_after, IsLegal}
 use Rattle.wit_model.proofs.Paths.{sound_adopt}
-use Rattle.wit_model.proofs.Held.{made_sane, held_of-all}
+use Rattle.wit_model.proofs.Held.{IsMade, made_sane, held_of-all}
 use Rattle.wit_model.proofs.Seats.{entry}
 use Rattle.wit_model.proofs.TypedLocks.{length-typed, made-known}
 use Rattle.wit_model.proofs.Types.{types-apart}
@@ -140,21 +140,43 @@ learnt-free k q c a b l same =
     let s = last_whole c l.last l.is_last in
     true≢false (sym (eq-eqb l.last.lock.0 q.lock.0 same) ∙ find-last (is_of q.lock.0) s.0 l.last (subst (λ d. find (is_of q.lock.0) d ≡ None) s.1 l.free))
 
-sound_check : (start : Start) (files : List (List ℕ)) (h : List Entry) (t : ℕ) (q : Request) (a b : TypeNo) → IsLegal start files h
-    → CheckAccepted (state_of (story_after start files h)) t q (Adopted a b) → IsSound (orders_of start h)
-    → IsSound (record { parent = a; child = b; origin = At q.site } ∷ orders_of start h)
-sound_check start files h t q a b legal accepted sound =
+-- what a check that teaches an order says of it: which made locks are of its types, that these differ, and that the child isn't before the parent
+pub record IsTaught (start : Start) (h : List Entry) (q : Request) (a b : TypeNo) : Type 0 where
+  pub last : ℕ
+  pub was : IsMade last h
+  pub asks : IsMade q.lock.0 h
+  pub parent : type_in (known_of start h) last ≡ a
+  pub child : type_in (known_of start h) q.lock.0 ≡ b
+  pub apart : a.0 ≡ b.0 → ⊥
+  pub orderly : is_before (orders_of start h) b.0 a.0 ≡ false
+
+pub taught : (start : Start) (files : List (List ℕ)) (h : List Entry) (t : ℕ) (q : Request) (a b : TypeNo) → IsLegal start files h
+    → CheckAccepted (state_of (story_after start files h)) t q (Adopted a b) → IsTaught start h q a b
+taught start files h t q a b legal accepted =
     let sane = sane_legal start files h legal in
     let l = learnt (known_of start h) q (chain_for (state_of (story_after start files h)) t q.lock.0) a b accepted.verdict in
     let held : is_held t l.last.lock.0 h ≡ true = last-held (is_spin_lock (locks_of h) q.lock.0) t h l.last
     (subst (λ c. last_or None c ≡ Some l.last) (chain_for-state start files h t q.lock.0 accepted.seat) l.is_last) in
     let was = made_sane t l.last.lock.0 h sane held in
     let asks = made-known start h q.lock.0 accepted.lock in
-    sound_adopt (record { parent = a; child = b; origin = At q.site }) (orders_of start h) sound
-    (learnt-orderly (known_of start h) q (chain_for (state_of (story_after start files h)) t q.lock.0) a b l)
-    (λ (same : a.0 ≡ b.0). learnt-free (known_of start h) q (chain_for (state_of (story_after start files h)) t q.lock.0) a b l
-    (types-apart start files h l.last.lock.0 q.lock.0 legal was.0 (omega (arith, was.1, length-typed start h)) asks.0 (omega (arith, asks.1, length-typed start h))
-    (ap (λ (n : TypeNo). n.0) l.parent ∙ same ∙ sym (ap (λ (n : TypeNo). n.0) l.child))))
+    record {
+      last = l.last.lock.0;
+      was = was;
+      asks = asks;
+      parent = l.parent;
+      child = l.child;
+      apart = λ (same : a.0 ≡ b.0). learnt-free (known_of start h) q (chain_for (state_of (story_after start files h)) t q.lock.0) a b l
+          (types-apart start files h l.last.lock.0 q.lock.0 legal was.0 (omega (arith, was.1, length-typed start h)) asks.0 (omega (arith, asks.1, length-typed start h))
+          (ap (λ (n : TypeNo). n.0) l.parent ∙ same ∙ sym (ap (λ (n : TypeNo). n.0) l.child)));
+      orderly = learnt-orderly (known_of start h) q (chain_for (state_of (story_after start files h)) t q.lock.0) a b l;
+    }
+
+sound_check : (start : Start) (files : List (List ℕ)) (h : List Entry) (t : ℕ) (q : Request) (a b : TypeNo) → IsLegal start files h
+    → CheckAccepted (state_of (story_after start files h)) t q (Adopted a b) → IsSound (orders_of start h)
+    → IsSound (record { parent = a; child = b; origin = At q.site } ∷ orders_of start h)
+sound_check start files h t q a b legal accepted sound =
+    let l = taught start files h t q a b legal accepted in
+    sound_adopt (record { parent = a; child = b; origin = At q.site }) (orders_of start h) sound l.orderly l.apart
 
 sound_by : (start : Start) (files : List (List ℕ)) (h : List Entry) (t : ℕ) (c : Call) (r : Reply) → IsLegal start files h
     → answer_of (story_after start files h) t c ≡ Ok r → IsSound (orders_of start h) → IsSound (orders_of start (entry t c r ∷ h))

@@ -1,6 +1,9 @@
 -- The path by which an established order is told.
-use Rattle.std.specs.Prelude.{ℕ, suc, zero, Bool, ◌&&◌, ◌||◌, ◌==◌, List, [], ◌∷◌, Option, None, Some, find, if◌then◌else◌}
+use Rattle.std.specs.Prelude.{ℕ, suc, zero, Bool, ◌&&◌, ◌||◌, ◌==◌, List, [], ◌∷◌, map, Option, None, Some, find, if◌then◌else◌}
 use Rattle.std.specs.List.{range_with_len}
+use Rattle.std.specs.Global.{Vec}
+use Rattle.std.specs.Option.{option_map}
+use Rattle.wit_model.specs.declared.locks.TypeNo.{TypeNo}
 use Rattle.wit_model.specs.declared.calls.Adoption.{Adoption}
 use Rattle.wit_model.specs.Orders.{is_direct, is_before}
 
@@ -24,3 +27,10 @@ way orders n (suc most) a b = a ∷ (if a == b then [] else onward (λ c. way or
 -- the path from a to b among n types, where there is one
 abbrev pub path : List Adoption → ℕ → ℕ → ℕ → Option (List ℕ)
 path orders n a b = if is_before orders a b then Some (way orders n n a b) else None
+
+abbrev pub type_numbers : List TypeNo → List ℕ
+type_numbers types = map (λ (t : TypeNo). t.0) types
+
+-- the numbers on a path, where there is one
+abbrev pub path_numbers : Option (Vec TypeNo) → Option (List ℕ)
+path_numbers p = option_map (λ (v : Vec TypeNo). type_numbers v.items) p

@@ -61,21 +61,25 @@ lists_fault most number (list ∷ lists) types orders =
     option_or (numbered number (list_fault most types orders list))
     (lists_fault most (number + 1) lists (enrolled_all list types) (listed_pairs (enrolled_all list types) list orders))
 
+-- whether one of these pairs isn't of two names
+abbrev pub has_bad_pair : List (List ℕ × List ℕ) → Bool
+has_bad_pair pairs = list_any (λ (p : List ℕ × List ℕ). not (is_name p.0 && is_name p.1)) pairs
+
 -- blessed pairs are of names; their number is 0
 abbrev pub blessed_fault : List (List ℕ × List ℕ) → Option (ℕ × Fault)
-blessed_fault blessed =
-    if list_any (λ (p : List ℕ × List ℕ). not (is_name p.0 && is_name p.1)) blessed then Some (0, BadName) else None
+blessed_fault blessed = if has_bad_pair blessed then Some (0, BadName) else None
 
 -- why a start is refused, want of memory aside: the list, from 1, or 0 for the blessed pairs, and its fault
 abbrev pub start_fault : Start → Option (ℕ × Fault)
 start_fault start = option_or (lists_fault start.sizes.types 1 start.lists [] []) (blessed_fault start.blessed)
 
--- the list with this number and all before it are accepted; 0: all of them and the blessed pairs
+-- the list with this number and all before it are accepted; with 0 nothing is said
 abbrev pub IsAcceptedTo : ℕ → Option (ℕ × Fault) → Type 0
 IsAcceptedTo number None = Unit {0}
-IsAcceptedTo number (Some fault) = (0 < number) × ((number < fault.0) ⊎ (fault.0 ≡ 0))
+IsAcceptedTo number (Some fault) = (number < fault.0) ⊎ (fault.0 ≡ 0)
 
--- a refusal names the start's fault; want of memory stands only in place of an acceptance, of the list that it names or of all
+-- a refusal names the start's fault; want of memory stands only in place of the acceptance of the list that it names, or with 0,
+-- since the tables are made before any list is judged, of any answer
 abbrev pub IsRefused : Start → ℕ → Fault → Type 0
 IsRefused start number fault =
     (start_fault start ≡ Some (number, fault))

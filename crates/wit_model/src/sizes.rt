@@ -64,6 +64,7 @@ impl Limits {
     /// How many lock types.
     pub fn types(&self) -> u32
         ensures value { result ≡ self.now.types }
+        ensures positive { 0 < result }
         ensures within { result ≤ 1023 }
     {
         self.types

@@ -1,13 +1,13 @@
 -- What a table of names knows, as its callers see it, and its answers. Types and files have their places as numbers, from 1.
-use Rattle.std.specs.Prelude.{ℕ, ◌-◌, ◌<◌, ◌≤◌, ◌≡◌, ◌⊎◌, Bool, true, false, not, ◌&&◌, ◌||◌, List, [], ◌∷◌, ◌++◌, length, map, nat_le, slice_get, slice_set, slice_index, Some, Result, Ok, Err, if◌then◌else◌}
+use Rattle.std.specs.Prelude.{ℕ, ◌-◌, ◌<◌, ◌≤◌, ◌≡◌, ◌⊎◌, Bool, true, false, not, ◌&&◌, List, [], ◌∷◌, ◌++◌, length, map, nat_le, slice_get, slice_set, slice_index, Some, Result, Ok, Err, if◌then◌else◌}
 use Rattle.std.specs.List.{list_any}
-use Rattle.std.specs.Str.{bytes_eq}
 use Rattle.wit_model.specs.declared.faults.Fault.{Fault}
 use Rattle.wit_model.specs.declared.faults.Fault.TheVariants.{BadName, ClassMismatch, TypesFull, FilesFull, OutOfMemory}
 use Rattle.wit_model.specs.declared.locks.Class.{Class}
 use Rattle.wit_model.specs.Names.{is_name, is_file_name}
 use Rattle.wit_model.specs.declared.locks.LockType.{LockType}
 use Rattle.wit_model.specs.Types.{is_enrolled, is_otherwise, type_number, enrolled}
+use Rattle.wit_model.specs.Verdict.{is_named_pair}
 use Rattle.wit_model.specs.Files.{is_known_file, file_number, files_after, IsNumbered}
 
 -- the types, for each of them how many live locks it has, the source files, the pairs of names that were blessed, and how many
@@ -82,13 +82,9 @@ live_of n t = slice_index n.live (t - 1)
 abbrev pub with_live : Names → ℕ → ℕ → Names
 with_live n t count = record n { live = slice_set n.live (t - 1) count }
 
--- whether the pair holds these two names, in either order
-abbrev pub is_pair : List ℕ → List ℕ → List ℕ × List ℕ → Bool
-is_pair a b p = (bytes_eq p.0 a && bytes_eq p.1 b) || (bytes_eq p.0 b && bytes_eq p.1 a)
-
 -- whether these two names were blessed, in either order
 abbrev pub is_blessed : List ℕ → List ℕ → List (List ℕ × List ℕ) → Bool
-is_blessed a b pairs = list_any (is_pair a b) pairs
+is_blessed a b pairs = list_any (is_named_pair a b) pairs
 
 abbrev pub with_blessed : Names → List ℕ → List ℕ → Names
 with_blessed n a b = record n { blessed = n.blessed ++ (a, b) ∷ [] }

@@ -5,12 +5,14 @@ ghost use Rattle.std.specs.List.{IsDistinct};
 ghost use Rattle.std.specs.Str.{bytes_eq};
 ghost use Rattle.wit_model.specs.declared.faults.Fault.TheVariants.{OutOfMemory};
 ghost use Rattle.wit_model.specs.Names.{is_name, is_file_name};
-ghost use Rattle.wit_model.specs.Types.{is_enrolled, type_number};
+ghost use Rattle.wit_model.specs.Types.{is_enrolled, is_otherwise, type_number};
 ghost use Rattle.wit_model.specs.Files.{is_known_file, file_number};
 ghost use Rattle.wit_table.specs.Known.{no_names, type_names, IsGiven, HasName, HasClass, enroll_answer, filing_answer, IsRefusal, with_type, with_file, live_of, with_live, is_blessed, with_blessed, are_names, IsBlessRefusal};
 
 use crate::files::{file_at, file_in};
-use crate::types::{TypeRow, class_at, enroll_in, live_at, name_at, place_of, set_live};
+use crate::types::{
+    TypeRow, class_at, enroll_in, is_otherwise, live_at, name_at, place_of, set_live,
+};
 use indexmap::{IndexMap, IndexSet};
 use std::alloc::{AllocError, Global};
 use std::marker::Model;
@@ -93,6 +95,13 @@ impl Table {
     {
         let place = place_of(&self.types, name)?;
         Some(TypeNo(place as u16 + 1))
+    }
+
+    /// Whether a type has this name and another class.
+    pub fn is_otherwise(&self, name: &str, class: Class) -> bool
+        ensures { result ≡ is_otherwise name.now class self.now.types }
+    {
+        is_otherwise(&self.types, name, class)
     }
 
     /// How many types there are. No two of them have one name.

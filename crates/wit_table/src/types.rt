@@ -69,8 +69,8 @@ pub fn place_of(types: &IndexMap<String, TypeRow>, name: &str) -> Option<usize>
     types.get_index_of(name)
 }
 
-// Whether the type with this name has another class.
-fn is_otherwise(types: &IndexMap<String, TypeRow>, name: &str, class: Class) -> bool
+/// Whether the type with this name has another class.
+pub fn is_otherwise(types: &IndexMap<String, TypeRow>, name: &str, class: Class) -> bool
     ensures { result ≡ is_otherwise name.now class (types_in types.now.entries) }
 {
     // `len` is called for its clause that the keys are unique, which the proof cites.

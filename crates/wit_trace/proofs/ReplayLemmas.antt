@@ -1,5 +1,5 @@
 -- What becomes of a line, and what is written for it.
-use Rattle.std.proofs.Common.{◌≡◌, ℕ, ◌+◌, ◌<◌, ◌≤◌, Bool, ◌||◌, cond, ltb, List, [], ◌∷◌, ◌++◌, length, take, length-take, arith, codes, Option, Some, None, Result, Ok, Err, IfOk, refl, sym, ap, ap₂, subst, ◌∙◌, false, ◌⊎◌, inl, inr}
+use Rattle.std.proofs.Common.{◌≡◌, ℕ, ◌+◌, ◌<◌, ◌≤◌, Bool, ◌||◌, cond, ltb, List, [], ◌∷◌, ◌++◌, length, take, length-take, arith, codes, Option, Some, None, Result, Ok, Err, IfOk, refl, sym, ap, ap₂, subst, ◌∙◌, false, ◌⊎◌, inl, inr, true, not}
 use Rattle.std.specs.Global.{Vec}
 use Rattle.std.specs.Io.{StartsWith}
 use Rattle.std.specs.Str.{bytes_eq}
@@ -27,7 +27,8 @@ use Rattle.wit_model.specs.Step.{AnswersOrFails, IsAccepted, answer_of}
 use Rattle.wit_model.specs.Output as output
 use Rattle.wit_core.specs.Books.{new_lock, made_reply}
 use Rattle.wit_trace.specs.Machine.{BreaksAt, first_of}
-use Rattle.wit_trace.specs.Replays.{Passes, Tells, KeepsTotal, Reaches, IsWritten, progress, total}
+use Rattle.wit_trace.specs.Replays.{Passes, Tells, KeepsTotal, Opens, Reaches, IsWritten, prelude_of, progress, ends_prelude, total}
+use Rattle.wit_trace.specs.declared.prelude.Prelude.{Prelude}
 use Rattle.wit_trace.specs.declared.replaying.Replaying.{Replaying}
 use Rattle.wit_trace.specs.declared.replaying.Replaying.TheVariants.{Unstarted, Opening, Reading}
 use Rattle.wit_trace.specs.declared.outcome.Outcome.{Outcome}
@@ -232,3 +233,15 @@ refused_answer m r n cause bytes list line why (Err e) reaches some texts sums c
 refused_answer m r n cause bytes list line why (Ok a) reaches some texts sums circle =
     let h = subst (Reaches (output.reached (progress m) bytes) (progress m) (progress r)) some reaches in
     refused_broken (progress m) (progress r) n cause bytes (line, why) a.0.items a.1 h.0 h.1 texts sums circle
+
+-- the prelude ends before a line, and its lists are entered
+pub reached-open : (before : Replaying) (prelude : Prelude) (line : List ℕ) (story : Story) → before ≡ Opening prelude → ends_prelude (progress before) line ≡ true
+    → Opens (output.opened (prelude_of prelude) (start_fault (prelude_of prelude).start)) (Ok story) → output.reached (progress before) line ≡ Ok (output.Reading story)
+reached-open before prelude line story is ends opens =
+    subst (λ q. output.reached (progress q) line ≡ Ok (output.Reading story)) (sym is)
+    (go (output.is_prelude line) (subst (λ q. ends_prelude (progress q) line ≡ true) is ends))
+  where
+    go : (b : Bool) → not b ≡ true
+        → cond {A = Result output.Progress output.BadLine} b (Ok (output.Opening (prelude_of prelude))) (output.opened (prelude_of prelude) (start_fault (prelude_of prelude).start)) ≡ Ok (output.Reading story)
+    go true ended = (cc)
+    go false ended = opens

@@ -31,7 +31,8 @@ use Rattle.wit_model.specs.Texts.{type_words, class_words, site_words, lock_line
 use Rattle.wit_model.proofs.Seats.{entry}
 use Rattle.wit_model.proofs.Accepted.{init_accepted}
 use Rattle.wit_model.proofs.Types.{IsTyped, typed_made, typed-check, typed-note, typed-unlock, number-known}
-use Rattle.wit_core.specs.Numbered.{is_given, type_numbers, TypesLock, ClassesType, NamesType}
+use Rattle.wit_model.specs.Paths.{type_numbers}
+use Rattle.wit_core.specs.Numbered.{is_given, TypesLock, ClassesType, NamesType}
 
 -- pieces written one behind another make a line
 pub order-written : {t1 t2 t3 t4 t5 t6 t7 : List ℕ} (t : List ℕ) (k : Known) (files : List (List ℕ)) (a b : ℕ)

@@ -1,7 +1,11 @@
 use Rattle.std.proofs.Common.{◌≡◌, drop}
 use Rattle.wit_model.specs.Types.{enrolled_all}
-use Rattle.wit_core.specs.Listed.{listed}
+use Rattle.wit_core.specs.Listed.{listed, CanBeEnrolled, KeepsRest}
 use Rattle.wit_core.proofs.lists.enroll_all.Given as goal
 
 abbrev pub invariant-loop-entry : goal.invariant-loop-entry
-invariant-loop-entry l = enrolled_all (listed (drop l.entry-index l.list)) l.types.items ≡ enrolled_all (listed l.list) l.initial.types.items
+invariant-loop-entry l = record {
+  types : enrolled_all (listed (drop l.entry-index l.list)) l.names.types ≡ enrolled_all (listed l.list) l.initial.names.types;
+  can : CanBeEnrolled l.names.most_types l.names.types (listed (drop l.entry-index l.list));
+  rest : KeepsRest l.initial.names l.names;
+}

@@ -1,14 +1,15 @@
-use Rattle.std.proofs.Common.{◌≡◌, ◌≤◌, ◌+◌, length, drop}
+use Rattle.std.proofs.Common.{◌≡◌, ◌+◌, length, drop}
 use Rattle.wit_model.specs.Start.{lists_fault}
-use Rattle.wit_core.specs.Knowledge.{known}
+use Rattle.wit_core.specs.Knowledge.{known, IsSized}
 use Rattle.wit_core.specs.Listed.{all_listed, with_lists, IsWithin}
 use Rattle.wit_core.proofs.known.Knowledge.enter_lists.Given as goal
 
 abbrev pub invariant-loop-place : goal.invariant-loop-place
 invariant-loop-place l = record {
-  fault : lists_fault l.most (l.place + 1) (all_listed (drop l.place l.lists)) l.self.types.items l.self.orders
-      ≡ lists_fault l.most 1 (all_listed l.lists) l.initial.self.types.items l.initial.self.orders;
+  fault : lists_fault l.most (l.place + 1) (all_listed (drop l.place l.lists)) l.self.names.types l.self.orders.orders
+      ≡ lists_fault l.most 1 (all_listed l.lists) l.initial.self.names.types l.initial.self.orders.orders;
   entered : with_lists (known l.self) (all_listed (drop l.place l.lists)) ≡ with_lists (known l.initial.self) (all_listed l.lists);
-  few : length l.self.types.items ≤ l.most;
-  within : IsWithin (length l.self.types.items) l.self.orders;
+  files : l.self.names.files ≡ l.initial.self.names.files;
+  sized : IsSized l.most l.self;
+  within : IsWithin (length l.self.names.types) l.self.orders.orders;
 }

@@ -7,10 +7,10 @@ use Rattle.wit_core.proofs.known.Knowledge.goes_back.Goals as goal
 
 pub returns-then-is_behind : goal.returns-then-is_behind
 returns-then-is_behind c =
-    back-here c.args.self.now.types.items c.args.self.now.orders c.args.list.now c.loop-place.place c.index-list-place.result c.is_behind.result _
-    (omega arith) c.index-list-place.is (c.is_behind.ensures ∙ ap (λ xs. list_any (λ (e : Class × List ℕ). is_back c.args.self.now.types.items c.args.self.now.orders (string_bytes c.index-list-place.result.1) e.1) (listed xs)) c.behind.ensures) c.if-is_behind.true c.loop-place.invariant
+    back-here c.args.self.now.names.types c.args.self.now.orders.orders c.args.list.now c.loop-place.place c.index-list-place.result c.is_behind.result _
+    (omega arith) c.index-list-place.is (c.is_behind.ensures ∙ ap (λ xs. list_any (λ (e : Class × List ℕ). is_back c.args.self.now.names.types c.args.self.now.orders.orders (string_bytes c.index-list-place.result.1) e.1) (listed xs)) c.behind.ensures) c.if-is_behind.true c.loop-place.invariant
 
 pub loop-place-preserved : goal.loop-place-preserved
 loop-place-preserved c =
-    back-step c.args.self.now.types.items c.args.self.now.orders c.args.list.now c.loop-place.place c.index-list-place.result c.is_behind.result _
-    (omega arith) c.index-list-place.is (c.is_behind.ensures ∙ ap (λ xs. list_any (λ (e : Class × List ℕ). is_back c.args.self.now.types.items c.args.self.now.orders (string_bytes c.index-list-place.result.1) e.1) (listed xs)) c.behind.ensures) c.if-is_behind.false c.loop-place.invariant
+    back-step c.args.self.now.names.types c.args.self.now.orders.orders c.args.list.now c.loop-place.place c.index-list-place.result c.is_behind.result _
+    (omega arith) c.index-list-place.is (c.is_behind.ensures ∙ ap (λ xs. list_any (λ (e : Class × List ℕ). is_back c.args.self.now.names.types c.args.self.now.orders.orders (string_bytes c.index-list-place.result.1) e.1) (listed xs)) c.behind.ensures) c.if-is_behind.false c.loop-place.invariant

@@ -6,10 +6,10 @@ use Rattle.wit_core.proofs.known.Knowledge.is_behind.Goals as goal
 
 pub returns-then-is_back : goal.returns-then-is_back
 returns-then-is_back c =
-    behind-here (λ (e : Class × List ℕ). is_back c.args.self.now.types.items c.args.self.now.orders (string_bytes c.args.first.now.1) e.1) c.args.list.now c.loop-entry.entry-index
+    behind-here (λ (e : Class × List ℕ). is_back c.args.self.now.names.types c.args.self.now.orders.orders (string_bytes c.args.first.now.1) e.1) c.args.list.now c.loop-entry.entry-index
     c.entry-item.result (omega arith) c.entry-item.is (sym c.is_back.ensures ∙ c.if-is_back.true)
 
 pub returns : goal.returns
 returns c =
-    behind-none (λ (e : Class × List ℕ). is_back c.args.self.now.types.items c.args.self.now.orders (string_bytes c.args.first.now.1) e.1) c.args.list.now
+    behind-none (λ (e : Class × List ℕ). is_back c.args.self.now.names.types c.args.self.now.orders.orders (string_bytes c.args.first.now.1) e.1) c.args.list.now
     (λ k d lt. c.loop-entry.invariant k d (omega arith))

@@ -26,5 +26,5 @@ returns-in-Some c =
     (c.type_of-parent.ensures ∙ ap (λ (locks : List Lock). (lock_at locks c.args.last.lock.0).type_no) c.deref-2.ensures.value)
     (c.type_of-asked.ensures ∙ ap (λ (locks : List Lock). (lock_at locks c.args.request.lock.0).type_no) c.deref.ensures.value)
     (sym c.if-is_direct.ensures)
-    (ap (λ (locks : List Lock). find (violates (known_by locks c.args.self.now.orders) c.args.request) (reverse c.args.chain.now)) (sym c.deref-3.ensures.value) ∙ (sym c.violation.ensures ∙ c.in-Some.is))
+    (ap (λ (locks : List Lock). find (violates (known_by locks c.args.self.now.orders.orders) c.args.request) (reverse c.args.chain.now)) (sym c.deref-3.ensures.value) ∙ (sym c.violation.ensures ∙ c.in-Some.is))
     c.violated.ensures

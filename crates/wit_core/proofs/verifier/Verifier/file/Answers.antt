@@ -1,5 +1,10 @@
-use Rattle.wit_core.proofs.Calls.{kept_file}
+use Rattle.wit_core.proofs.Calls.{file_named, kept_file}
 use Rattle.wit_core.proofs.verifier.Verifier.file.Goals as goal
 
 pub invariant_of-self : goal.invariant_of-self
-invariant_of-self c = kept_file c.self.inside c.args.name.now _ c.name_file.new.self c.self.invariant c.name_file.ensures.names c.name_file.ensures.others
+invariant_of-self c = kept_file c.self.inside c.args.name.now c.file.result c.file.new.self c.self.invariant c.file.ensures.entered c.file.ensures.unchanged
+
+pub returns : goal.returns
+returns c =
+    rw (← c.self.view_is)
+    (file_named c.self.inside c.args.name.now c.file.result c.file.new.self c.self.invariant c.file.ensures.ok c.file.ensures.entered c.file.ensures.err c.file.ensures.unchanged)

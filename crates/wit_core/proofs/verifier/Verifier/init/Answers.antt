@@ -1,8 +1,8 @@
 use Rattle.std.specs.Option.{option_copied}
 use Rattle.wit_core.specs.Books.{new_lock}
 use Rattle.wit_model.specs.declared.calls.Call.TheVariants.{Init}
-use Rattle.wit_core.proofs.Keeping.{sums, types_few, answered}
-use Rattle.wit_core.proofs.Calls.{kept_init}
+use Rattle.wit_core.proofs.Keeping.{sums, answered}
+use Rattle.wit_core.proofs.Calls.{kept_init, admitted}
 use Rattle.wit_core.proofs.verifier.Verifier.init.Goals as goal
 
 pub answer_init-requires : goal.answer_init-requires
@@ -11,8 +11,10 @@ answer_init-requires c = sums c.self.inside c.self.invariant
 pub enter_init-requires-clause-sums : goal.enter_init-requires-clause-sums
 enter_init-requires-clause-sums c = sums c.self.inside c.self.invariant
 
-pub enter_init-requires-clause-types : goal.enter_init-requires-clause-types
-enter_init-requires-clause-types c = types_few c.self.inside c.self.invariant
+pub enter_init-requires-clause-admitted : goal.enter_init-requires-clause-admitted
+enter_init-requires-clause-admitted c =
+    admitted c.self.inside c.args.seat.0 _ c.in-Ok.made c.in_ok-lock.lock c.self.invariant c.in-Ok.ensures
+    (answered c.self.inside c.args.seat.0 (Init (new_lock c.args.name.now (option_copied c.args.type_name) c.args.class c.args.flags)) _ c.self.invariant c.in_ok-lock.ensures)
 
 pub invariant_of-self : goal.invariant_of-self
 invariant_of-self c =

@@ -1,9 +1,9 @@
 use Rattle.std.proofs.Common.{sym, subst, ◌∙◌}
 use Rattle.wit_model.specs.Orders.{IsSound}
-use Rattle.wit_model.specs.Paths.{way}
-use Rattle.wit_matrix.specs.Relation.{Relation, LeadsBy, type_numbers}
+use Rattle.wit_model.specs.Paths.{way, type_numbers}
+use Rattle.wit_matrix.specs.Relation.{Relation, OrdersAmong, LeadsBy}
 use Rattle.wit_matrix.proofs.Leading.{path_leads}
-use Rattle.wit_matrix.proofs.Settled.{OrdersAmong, direct_among}
+use Rattle.wit_matrix.proofs.Settled.{direct_among}
 use Rattle.wit_matrix.proofs.matrix.Matrix.path.Goals as goal
 
 pub returns-in-Ok-clause-leads : goal.returns-in-Ok-clause-leads

@@ -1,0 +1,81 @@
+-- What is known is between types that there are.
+use Rattle.std.proofs.Common.{◌≡◌, ℕ, Bool, true, List, Option, Result, Ok, Err, IfOk, length, nat_lt, nat_le, sym, ap, ◌∙◌, subst, arith}
+use Rattle.std.specs.Global.{Vec}
+use Rattle.std.proofs.lemmas.Bool.{and_parts, ltb-true, leb-true}
+use Rattle.wit_model.specs.declared.faults.Fault.{Fault}
+use Rattle.wit_model.specs.declared.locks.TypeNo.{TypeNo}
+use Rattle.wit_model.specs.declared.calls.Request.{Request}
+use Rattle.wit_model.specs.declared.calls.Call.TheVariants.{Check}
+use Rattle.wit_model.specs.Orders.{is_direct, is_before}
+use Rattle.wit_model.specs.declared.locks.Lock.{Lock}
+use Rattle.wit_model.specs.Locks.{lock_at}
+use Rattle.wit_model.specs.Paths.{path, path_numbers}
+use Rattle.wit_model.specs.State.{State, Known, state_of, known_of, types_of, typed_locks, orders_of}
+use Rattle.wit_model.specs.Step.{answer_of}
+use Rattle.wit_model.proofs.Accepted.{check_accepted}
+use Rattle.wit_model.proofs.Among.{IsOneOf, adopted-orderly, silent-known, reversal-known, orders-among}
+use Rattle.wit_matrix.specs.Relation.{IsNumber, OrdersAmong}
+use Rattle.wit_core.specs.declared.verifier.Verifier.TheInside.{Inside}
+use Rattle.wit_core.specs.declared.verdicts.Verdict.{Verdict}
+use Rattle.wit_core.specs.declared.verdicts.Verdict.TheVariants.{Pass, Adopt, Silent, Reversal}
+use Rattle.wit_core.specs.Verdicts.{reply_of}
+use Rattle.wit_core.specs.Knowledge.{known, IsApt}
+use Rattle.wit_core.specs.Numbered.{is_given}
+use Rattle.wit_core.specs.Kept.{IsKept, start_in, history_in, story_in}
+use Rattle.wit_core.proofs.Keeping.{types_few}
+
+module _ (v : Inside) (k : IsKept v) where
+  known-is : known v.books.known ≡ known_of (start_in v) (history_in v)
+  known-is = ap (λ (s : State). s.known) k.state
+
+  -- a known type's number is one of the matrix's
+  number : (t : ℕ) → IsOneOf (length (types_of (start_in v) (history_in v))) t → IsNumber v.books.known.orders.size t
+  number t is =
+      let few = types_few v k in
+      let same = ap (λ (x : Known). length x.types) known-is in
+      let size = k.sized.orders in
+      record { positive = is.0; within = omega (arith, is.1, few, same, size) }
+
+  pub given-number : (t : ℕ) (r : Bool) → r ≡ is_given v.books.known.names.types t → r ≡ true → IsNumber v.books.known.orders.size t
+  given-number t r is yes' =
+      let parts = and_parts (nat_lt 0 t) (nat_le t (length v.books.known.names.types)) (sym is ∙ yes') in
+      let some = ltb-true 0 t parts.0 in
+      let within = leb-true t (length v.books.known.names.types) parts.1 in
+      let few = types_few v k in
+      let size = k.sized.orders in
+      record { positive = omega (arith, some); within = omega (arith, within, few, size) }
+
+  among : OrdersAmong (length (types_of (start_in v) (history_in v))) v.books.known.orders.orders
+  among = λ a b direct.
+      let both = orders-among (start_in v) v.books.known.names.files (history_in v) k.legal a b (ap (λ (x : Known). is_direct x.orders a b) (sym known-is) ∙ direct) in
+      (record { positive = both.0.0; within = both.0.1 }, record { positive = both.1.0; within = both.1.1 })
+
+  -- the path is that of the history's orders
+  pub path-kept : (a b : ℕ) (r : Result (Option (Vec TypeNo)) Fault)
+      → IfOk r (λ p. (types : ℕ) → OrdersAmong types v.books.known.orders.orders → path_numbers p ≡ path v.books.known.orders.orders types a b)
+      → IfOk r (λ p. path_numbers p ≡ path (orders_of (start_in v) (history_in v)) (length (types_of (start_in v) (history_in v))) a b)
+  path-kept a b (Ok p) told =
+      told (length (types_of (start_in v) (history_in v))) among
+      ∙ ap (λ (x : Known). path x.orders (length (types_of (start_in v) (history_in v))) a b) known-is
+  path-kept a b (Err fault) told = tt
+
+  -- what an accepted check's verdict teaches can be learnt
+  pub apt : (t : ℕ) (q : Request) (verdict : Verdict) → answer_of (story_in v) t (Check q) ≡ Ok (reply_of verdict) → IsApt v.books.known.orders.size (known v.books.known) verdict
+  apt t q Pass ok = tt
+  apt t q (Adopt p c) ok =
+      let o = adopted-orderly (start_in v) v.books.known.names.files (history_in v) t q p c k.legal (check_accepted (state_of (story_in v)) t q _ ok) in
+      record {
+        parent = number p.0 o.parent;
+        child = number c.0 o.child;
+        apart = o.apart;
+        orderly = ap (λ (x : Known). is_before x.orders c.0 p.0) known-is ∙ o.orderly;
+      }
+  apt t q (Silent a b) ok =
+      let o = silent-known (start_in v) v.books.known.names.files (history_in v) t q a b k.legal (check_accepted (state_of (story_in v)) t q _ ok) in
+      (number a.0 o.0, number b.0 o.1)
+  apt t q (Reversal x) ok =
+      let o = reversal-known (start_in v) v.books.known.names.files (history_in v) t q x k.legal (check_accepted (state_of (story_in v)) t q _ ok) in
+      let locks : v.books.known.locks.items ≡ typed_locks (start_in v) (history_in v) = ap (λ (y : Known). y.locks) known-is in (
+        subst (λ (ls : List Lock). IsNumber v.books.known.orders.size (lock_at ls x.held.lock.0).type_no.0) (sym locks) (number _ o.0),
+        subst (λ (ls : List Lock). IsNumber v.books.known.orders.size (lock_at ls x.asked.lock.0).type_no.0) (sym locks) (number _ o.1),
+      )

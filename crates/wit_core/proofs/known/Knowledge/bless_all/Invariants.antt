@@ -1,0 +1,11 @@
+use Rattle.std.proofs.Common.{◌≡◌, ◌++◌, drop}
+use Rattle.wit_model.specs.Start.{has_bad_pair}
+use Rattle.wit_core.specs.Listed.{pairs_of}
+use Rattle.wit_core.proofs.known.Knowledge.bless_all.Given as goal
+
+abbrev pub invariant-loop-pair : goal.invariant-loop-pair
+invariant-loop-pair l = record {
+  blessed : l.self.names.blessed ++ pairs_of (drop l.pair-index l.pairs) ≡ l.initial.self.names.blessed ++ pairs_of l.pairs;
+  good : has_bad_pair (pairs_of (drop l.pair-index l.pairs)) ≡ has_bad_pair (pairs_of l.pairs);
+  rest : l.self ≡ record l.initial.self { names = record l.initial.self.names { blessed = l.self.names.blessed } };
+}

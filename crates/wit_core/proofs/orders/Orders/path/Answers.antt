@@ -1,0 +1,15 @@
+use Rattle.wit_core.proofs.Relating.{among-them, path-told}
+use Rattle.wit_core.proofs.orders.Orders.path.Goals as goal
+
+pub path-requires-clause-a : goal.path-requires-clause-a
+path-requires-clause-a c =
+    (among-them c.self.inside c.self.invariant c.args.self.now c.self.view_is c.args.from.0 c.args.to.0 c.is_before.result c.is_before.ensures c.if-not-is_before.false).0
+
+pub path-requires-clause-b : goal.path-requires-clause-b
+path-requires-clause-b c =
+    (among-them c.self.inside c.self.invariant c.args.self.now c.self.view_is c.args.from.0 c.args.to.0 c.is_before.result c.is_before.ensures c.if-not-is_before.false).1
+
+pub returns-clause-ok : goal.returns-clause-ok
+returns-clause-ok c =
+    path-told c.self.inside c.self.invariant c.args.self.now c.self.view_is c.args.from.0 c.args.to.0 c.is_before.result c.is_before.ensures c.if-not-is_before.false
+    c.size-size.ensures.sound c.path.result c.path.ensures.ok
