@@ -6,14 +6,14 @@ use Rattle.wit_model.specs.declared.faults.Fault.{Fault}
 use Rattle.wit_model.specs.declared.locks.TypeNo.{TypeNo}
 use Rattle.wit_model.specs.declared.calls.Request.{Request}
 use Rattle.wit_model.specs.declared.calls.Call.TheVariants.{Check}
-use Rattle.wit_model.specs.Orders.{is_direct, is_before}
+use Rattle.wit_model.specs.Rules.Orders.{is_direct, is_before}
 use Rattle.wit_model.specs.declared.locks.Lock.{Lock}
-use Rattle.wit_model.specs.Locks.{lock_at}
-use Rattle.wit_model.specs.Paths.{path, path_numbers}
-use Rattle.wit_model.specs.State.{State, Known, state_of, known_of, types_of, typed_locks, orders_of}
-use Rattle.wit_model.specs.Step.{answer_of}
-use Rattle.wit_model.proofs.Accepted.{check_accepted}
-use Rattle.wit_model.proofs.Among.{IsOneOf, adopted-orderly, silent-known, reversal-known, orders-among}
+use Rattle.wit_model.specs.Rules.Locks.{lock_at}
+use Rattle.wit_model.specs.Trace.Paths.{path, path_numbers}
+use Rattle.wit_model.specs.Rules.State.{State, Known, state_of, known_of, types_of, typed_locks, orders_of}
+use Rattle.wit_model.specs.Rules.Step.{answer_of}
+use Rattle.wit_model.proofs.Histories.Accepted.{check_accepted}
+use Rattle.wit_model.proofs.Orders.Among.{IsOneOf, adopted-orderly, silent-known, reversal-known, orders-among}
 use Rattle.wit_matrix.specs.Relation.{IsNumber, OrdersAmong}
 use Rattle.wit_core.specs.declared.verifier.Verifier.TheInside.{Inside}
 use Rattle.wit_core.specs.declared.verdicts.Verdict.{Verdict}

@@ -22,27 +22,27 @@ use Rattle.wit_model.specs.declared.calls.Call.TheVariants.{Init, Check, Note, U
 use Rattle.wit_model.specs.declared.calls.Reply.{Reply}
 use Rattle.wit_model.specs.declared.calls.Reply.TheVariants.{Made, Recorded, Unlocked}
 use Rattle.wit_model.specs.declared.calls.Entry.{Entry}
-use Rattle.wit_model.specs.Sizes.{Sizes}
-use Rattle.wit_model.specs.Names.{is_name}
-use Rattle.wit_model.specs.Types.{is_spin, type_name_of}
-use Rattle.wit_model.specs.Locks.{locks_of, lock_at, is_spin_lock}
-use Rattle.wit_model.specs.History.{is_report, reports_of, pending, watch_of}
+use Rattle.wit_model.specs.Rules.Sizes.{Sizes}
+use Rattle.wit_model.specs.Rules.Names.{is_name}
+use Rattle.wit_model.specs.Rules.Types.{is_spin, type_name_of}
+use Rattle.wit_model.specs.Rules.Locks.{locks_of, lock_at, is_spin_lock}
+use Rattle.wit_model.specs.Rules.History.{is_report, reports_of, pending, watch_of}
 use Rattle.wit_model.specs.declared.locks.Watch.TheVariants.{On}
-use Rattle.wit_model.specs.Start.{start_fault}
-use Rattle.wit_model.specs.Files.{is_known_file, files_after, IsNumbered, NamesFile}
+use Rattle.wit_model.specs.Rules.Start.{start_fault}
+use Rattle.wit_model.specs.Rules.Files.{is_known_file, files_after, IsNumbered, NamesFile}
 use Rattle.wit_table.specs.Known.{Names, enroll_answer, filing_answer, with_file, IsRefusal}
-use Rattle.wit_model.specs.State.{Start, Story, State, Known, types_of, state_of, seats_of, seat_of, owed, is_seat, seat_at, no_seat}
-use Rattle.wit_model.specs.Step.{answer_of, story_after, is_pending, is_good_name, chain_for, IsLegal}
-use Rattle.wit_model.specs.Verdict.{is_of}
-use Rattle.wit_model.proofs.Sane.{IsSane}
-use Rattle.wit_model.proofs.Accepted.{init_accepted, note_accepted, check_accepted, unlock_accepted}
-use Rattle.wit_model.proofs.Seats.{entry}
-use Rattle.wit_model.proofs.Owed.{owed_to, owed_to-nil, owed-init, owed-check, owed-note, owed-unlock}
-use Rattle.wit_model.proofs.Legal.{sane_more, pending-state, unlock-held}
-use Rattle.wit_model.proofs.TypedLocks.{spin_at}
-use Rattle.wit_model.proofs.NamedFiles.{legal-named}
-use Rattle.wit_model.proofs.Depth.{note-count}
-use Rattle.wit_model.proofs.Stands.{found-at}
+use Rattle.wit_model.specs.Rules.State.{Start, Story, State, Known, types_of, state_of, seats_of, seat_of, owed, is_seat, seat_at, no_seat}
+use Rattle.wit_model.specs.Rules.Step.{answer_of, story_after, is_pending, is_good_name, chain_for, IsLegal}
+use Rattle.wit_model.specs.Rules.Verdict.{is_of}
+use Rattle.wit_model.proofs.Chains.Sane.{IsSane}
+use Rattle.wit_model.proofs.Histories.Accepted.{init_accepted, note_accepted, check_accepted, unlock_accepted}
+use Rattle.wit_model.proofs.Chains.Seats.{entry}
+use Rattle.wit_model.proofs.Chains.Owed.{owed_to, owed_to-nil, owed-init, owed-check, owed-note, owed-unlock}
+use Rattle.wit_model.proofs.Histories.Legal.{sane_more, pending-state, unlock-held}
+use Rattle.wit_model.proofs.Orders.TypedLocks.{spin_at}
+use Rattle.wit_model.proofs.Histories.NamedFiles.{legal-named}
+use Rattle.wit_model.proofs.Chains.Depth.{note-count}
+use Rattle.wit_model.proofs.Chains.Stands.{found-at}
 use Rattle.wit_core.specs.declared.verifier.Verifier.TheInside.{Inside}
 use Rattle.wit_core.specs.declared.books.Books.{Books}
 use Rattle.wit_core.specs.declared.seats.Seat as program

@@ -12,13 +12,13 @@ use Rattle.wit_model.specs.declared.locks.Class.{Class}
 use Rattle.wit_model.specs.declared.locks.LockType.{LockType}
 use Rattle.wit_model.specs.declared.locks.Origin.TheVariants.{Listed}
 use Rattle.wit_model.specs.declared.calls.Adoption.{Adoption}
-use Rattle.wit_model.specs.Names.{is_name}
-use Rattle.wit_model.specs.Files.{IsNumbered}
-use Rattle.wit_model.specs.Types.{is_named, is_same_class, is_enrolled, is_otherwise, type_number, enrolled, enrolled_all}
-use Rattle.wit_model.specs.Orders.{is_before, adopted_once}
-use Rattle.wit_model.specs.Start.{is_misclassed, has_twin, turns_round, list_fault}
-use Rattle.wit_model.proofs.Types.{number-known}
-use Rattle.wit_model.proofs.Started.{all-enrolled, one_name, list_accepted}
+use Rattle.wit_model.specs.Rules.Names.{is_name}
+use Rattle.wit_model.specs.Rules.Files.{IsNumbered}
+use Rattle.wit_model.specs.Rules.Types.{is_named, is_same_class, is_enrolled, is_otherwise, type_number, enrolled, enrolled_all}
+use Rattle.wit_model.specs.Rules.Orders.{is_before, adopted_once}
+use Rattle.wit_model.specs.Rules.Start.{is_misclassed, has_twin, turns_round, list_fault}
+use Rattle.wit_model.proofs.Orders.Types.{number-known}
+use Rattle.wit_model.proofs.Orders.Started.{all-enrolled, one_name, list_accepted}
 use Rattle.wit_table.specs.Known.{Names, enroll_answer, with_type, IsRefusal}
 use Rattle.wit_matrix.specs.Relation.{Relation}
 use Rattle.wit_core.specs.Following.{CanFollow}

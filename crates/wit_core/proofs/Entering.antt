@@ -9,12 +9,12 @@ use Rattle.wit_model.specs.declared.faults.Fault.TheVariants.{BadName, OutOfMemo
 use Rattle.wit_model.specs.declared.locks.Class.{Class}
 use Rattle.wit_model.specs.declared.locks.LockType.{LockType}
 use Rattle.wit_model.specs.declared.calls.Adoption.{Adoption}
-use Rattle.wit_model.specs.Types.{enrolled_all}
-use Rattle.wit_model.specs.Orders.{listed_pairs}
-use Rattle.wit_model.proofs.Started.{list_accepted}
-use Rattle.wit_model.specs.State.{Start, Known}
-use Rattle.wit_model.specs.Start.{numbered, list_fault, lists_fault, has_bad_pair, blessed_fault, start_fault, IsAcceptedTo, IsRefused}
-use Rattle.wit_model.specs.Sizes.{Sizes}
+use Rattle.wit_model.specs.Rules.Types.{enrolled_all}
+use Rattle.wit_model.specs.Rules.Orders.{listed_pairs}
+use Rattle.wit_model.proofs.Orders.Started.{list_accepted}
+use Rattle.wit_model.specs.Rules.State.{Start, Known}
+use Rattle.wit_model.specs.Rules.Start.{numbered, list_fault, lists_fault, has_bad_pair, blessed_fault, start_fault, IsAcceptedTo, IsRefused}
+use Rattle.wit_model.specs.Rules.Sizes.{Sizes}
 use Rattle.wit_core.specs.declared.known.Knowledge.{Knowledge}
 use Rattle.wit_core.specs.Knowledge.{known, nothing, IsSized}
 use Rattle.wit_core.specs.Fresh.{start_of}

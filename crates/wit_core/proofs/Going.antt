@@ -9,14 +9,14 @@ use Rattle.wit_model.specs.declared.locks.Class.{Class}
 use Rattle.wit_model.specs.declared.locks.Origin.TheVariants.{Listed}
 use Rattle.wit_model.specs.declared.calls.Adoption.{Adoption}
 use Rattle.wit_model.specs.declared.locks.LockType.{LockType}
-use Rattle.wit_model.specs.Types.{is_named, is_enrolled, type_number, enrolled, enrolled_all}
-use Rattle.wit_model.specs.Orders.{is_direct, is_before, adopted_once, listed_pairs}
+use Rattle.wit_model.specs.Rules.Types.{is_named, is_enrolled, type_number, enrolled, enrolled_all}
+use Rattle.wit_model.specs.Rules.Orders.{is_direct, is_before, adopted_once, listed_pairs}
 use Rattle.wit_model.specs.declared.faults.Fault.TheVariants.{WrongOrder}
-use Rattle.wit_model.specs.Names.{is_name}
-use Rattle.wit_model.specs.Start.{is_misclassed, has_both_kinds, has_twin, turns_round, list_fault}
-use Rattle.wit_model.proofs.Paths.{direct-before, test_from_before, is_before-trans}
-use Rattle.wit_model.proofs.Types.{place-append, place-within, number-new}
-use Rattle.wit_model.proofs.Started.{all-enrolled, one_name}
+use Rattle.wit_model.specs.Rules.Names.{is_name}
+use Rattle.wit_model.specs.Rules.Start.{is_misclassed, has_both_kinds, has_twin, turns_round, list_fault}
+use Rattle.wit_model.proofs.Orders.Paths.{direct-before, test_from_before, is_before-trans}
+use Rattle.wit_model.proofs.Orders.Types.{place-append, place-within, number-new}
+use Rattle.wit_model.proofs.Orders.Started.{all-enrolled, one_name}
 use Rattle.wit_core.specs.Listed.{IsWithin, is_back, goes_back}
 
 -- b is a or before it

@@ -7,18 +7,18 @@ use Rattle.wit_model.specs.declared.faults.Fault.{Fault}
 use Rattle.wit_model.specs.declared.calls.Call.{Call}
 use Rattle.wit_model.specs.declared.calls.Reply.{Reply}
 use Rattle.wit_model.specs.declared.calls.Entry.{Entry}
-use Rattle.wit_model.specs.Sizes.{Sizes}
-use Rattle.wit_model.specs.History.{is_report, reports_of}
-use Rattle.wit_model.specs.State.{Start, Story, State, state_of, owed, orders_of}
-use Rattle.wit_model.specs.Step.{answer_of, story_after, step, logged, IsLegal}
-use Rattle.wit_model.proofs.Seats.{entry}
-use Rattle.wit_model.proofs.Owed.{few_legal}
-use Rattle.wit_model.proofs.Types.{types_legal, locks_legal}
-use Rattle.wit_model.proofs.Legal.{seat-within, seat_accepted}
-use Rattle.wit_model.proofs.Sound.{sound_legal}
-use Rattle.wit_model.proofs.Started.{sound_started, types_started}
-use Rattle.wit_model.specs.Start.{start_fault}
-use Rattle.wit_model.specs.Orders.{IsSound}
+use Rattle.wit_model.specs.Rules.Sizes.{Sizes}
+use Rattle.wit_model.specs.Rules.History.{is_report, reports_of}
+use Rattle.wit_model.specs.Rules.State.{Start, Story, State, state_of, owed, orders_of}
+use Rattle.wit_model.specs.Rules.Step.{answer_of, story_after, step, logged, IsLegal}
+use Rattle.wit_model.proofs.Chains.Seats.{entry}
+use Rattle.wit_model.proofs.Chains.Owed.{few_legal}
+use Rattle.wit_model.proofs.Orders.Types.{types_legal, locks_legal}
+use Rattle.wit_model.proofs.Histories.Legal.{seat-within, seat_accepted}
+use Rattle.wit_model.proofs.Orders.Sound.{sound_legal}
+use Rattle.wit_model.proofs.Orders.Started.{sound_started, types_started}
+use Rattle.wit_model.specs.Rules.Start.{start_fault}
+use Rattle.wit_model.specs.Rules.Orders.{IsSound}
 use Rattle.wit_core.specs.declared.verifier.Verifier.TheInside.{Inside}
 use Rattle.wit_core.specs.declared.books.Books.{Books}
 use Rattle.wit_core.specs.Knowledge.{IsSized, KeepsSizes}

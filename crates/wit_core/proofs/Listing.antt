@@ -11,9 +11,9 @@ use Rattle.wit_model.specs.declared.locks.Class.{Class}
 use Rattle.wit_model.specs.declared.locks.LockType.{LockType}
 use Rattle.wit_model.specs.declared.locks.Origin.TheVariants.{Listed}
 use Rattle.wit_model.specs.declared.calls.Adoption.{Adoption}
-use Rattle.wit_model.specs.Types.{is_named, is_enrolled, type_number, enrolled, enrolled_all}
-use Rattle.wit_model.specs.Orders.{adopted_once, listed_pairs}
-use Rattle.wit_model.specs.Start.{has_twin}
+use Rattle.wit_model.specs.Rules.Types.{is_named, is_enrolled, type_number, enrolled, enrolled_all}
+use Rattle.wit_model.specs.Rules.Orders.{adopted_once, listed_pairs}
+use Rattle.wit_model.specs.Rules.Start.{has_twin}
 use Rattle.wit_core.specs.Listed.{entry_of, listed, is_back, goes_back}
 
 pub any-map : {X Y : Type 0} (p : Y → Bool) (f : X → Y) (xs : List X) → list_any p (map f xs) ≡ list_any (λ x. p (f x)) xs

@@ -5,9 +5,9 @@ use Rattle.std.proofs.lemmas.Bool.{and_from, le-leb, true≢false}
 use Rattle.wit_model.specs.declared.calls.Adoption.{Adoption}
 use Rattle.wit_model.specs.declared.faults.Fault.{Fault}
 use Rattle.wit_model.specs.declared.locks.TypeNo.{TypeNo}
-use Rattle.wit_model.specs.Orders.{is_before, IsPath, IsSound}
-use Rattle.wit_model.specs.Paths.{path, path_numbers}
-use Rattle.wit_model.proofs.Paths.{before_from_test}
+use Rattle.wit_model.specs.Rules.Orders.{is_before, IsPath, IsSound}
+use Rattle.wit_model.specs.Trace.Paths.{path, path_numbers}
+use Rattle.wit_model.proofs.Orders.Paths.{before_from_test}
 use Rattle.wit_matrix.specs.Relation.{Relation, IsNumber, OrdersAmong, HasSameOrders}
 use Rattle.wit_matrix.proofs.Settled.{same_before, same_sound}
 use Rattle.wit_matrix.proofs.Callers.{same_path}

@@ -2,7 +2,7 @@
 use Rattle.std.proofs.Common.{◌≡◌, ℕ, ◌<◌, List, length, map, set, get_or, sym, ap, ◌∙◌}
 use Rattle.std.proofs.lemmas.List.{map-set, get_or-map}
 use Rattle.std.proofs.Math.Seq.{map-set_same}
-use Rattle.wit_model.specs.State as model
+use Rattle.wit_model.specs.Rules.State as model
 use Rattle.wit_core.specs.declared.seats.Seat.{Seat}
 use Rattle.wit_core.specs.Rows.{seat_view, changed_at}
 

@@ -12,17 +12,17 @@ use Rattle.wit_model.specs.declared.calls.NewLock.{NewLock}
 use Rattle.wit_model.specs.declared.calls.Request.{Request}
 use Rattle.wit_model.specs.declared.calls.Entry.{Entry}
 use Rattle.wit_model.specs.declared.locks.Lock.{Lock}
-use Rattle.wit_model.specs.Locks.{locks_of, is_spin_lock}
-use Rattle.wit_model.specs.Sizes.{Sizes}
-use Rattle.wit_model.specs.History.{pending}
-use Rattle.wit_model.specs.State.{Start, State, Known, Seat, state_of, known_of, seat_of, seats_of, typed_locks, no_seat}
-use Rattle.wit_model.specs.Step.{story_after}
-use Rattle.wit_model.specs.Verdict.{is_of}
-use Rattle.wit_model.proofs.Sane.{IsSane}
-use Rattle.wit_model.proofs.After.{noted, unlocked}
-use Rattle.wit_model.proofs.Seats.{entry, seat_after, seat_after-init, seat_after-check, seat_after-note, seat_after-unlock, seats_of-entry, get_or-seats_of}
-use Rattle.wit_model.proofs.Stands.{stands, stands-chain, found-nowhere}
-use Rattle.wit_model.proofs.ChainEdits.{noted-again, noted-new, unlocked-fewer, unlocked-gone}
+use Rattle.wit_model.specs.Rules.Locks.{locks_of, is_spin_lock}
+use Rattle.wit_model.specs.Rules.Sizes.{Sizes}
+use Rattle.wit_model.specs.Rules.History.{pending}
+use Rattle.wit_model.specs.Rules.State.{Start, State, Known, Seat, state_of, known_of, seat_of, seats_of, typed_locks, no_seat}
+use Rattle.wit_model.specs.Rules.Step.{story_after}
+use Rattle.wit_model.specs.Rules.Verdict.{is_of}
+use Rattle.wit_model.proofs.Chains.Sane.{IsSane}
+use Rattle.wit_model.proofs.Chains.After.{noted, unlocked}
+use Rattle.wit_model.proofs.Chains.Seats.{entry, seat_after, seat_after-init, seat_after-check, seat_after-note, seat_after-unlock, seats_of-entry, get_or-seats_of}
+use Rattle.wit_model.proofs.Chains.Stands.{stands, stands-chain, found-nowhere}
+use Rattle.wit_model.proofs.Chains.Edits.{noted-again, noted-new, unlocked-fewer, unlocked-gone}
 use Rattle.wit_core.specs.declared.verdicts.Verdict.{Verdict}
 use Rattle.wit_core.specs.declared.verdicts.Verdict.TheVariants.{Pass, Adopt, Silent, Reversal}
 use Rattle.wit_core.specs.Verdicts.{reply_of}

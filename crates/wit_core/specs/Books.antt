@@ -4,8 +4,8 @@ use Rattle.std.specs.List.{All}
 use Rattle.std.specs.Vec.{vec_capacity}
 use Rattle.wit_model.specs.declared.faults.Fault.{Fault}
 use Rattle.wit_model.specs.declared.faults.Fault.TheVariants.{ClassMismatch, TypesFull, LocksFull, NotYet, LogFull}
-use Rattle.wit_model.specs.Types.{is_otherwise, is_enrolled, type_name_of, is_spin}
-use Rattle.wit_model.specs.Step.{is_not_yet}
+use Rattle.wit_model.specs.Rules.Types.{is_otherwise, is_enrolled, type_name_of, is_spin}
+use Rattle.wit_model.specs.Rules.Step.{is_not_yet}
 use Rattle.wit_model.specs.declared.locks.Class.{Class}
 use Rattle.wit_model.specs.declared.flags.LockFlags.{LockFlags}
 use Rattle.wit_model.specs.declared.locks.LockNo.{LockNo}
@@ -14,12 +14,12 @@ use Rattle.wit_model.specs.declared.calls.Reply.{Reply}
 use Rattle.wit_model.specs.declared.calls.Reply.TheVariants.{Made, Recorded, Unlocked}
 use Rattle.wit_model.specs.declared.locks.Mode.{Mode}
 use Rattle.wit_model.specs.declared.locks.Instance.{Instance}
-use Rattle.wit_model.specs.Locks.{lock_at}
+use Rattle.wit_model.specs.Rules.Locks.{lock_at}
 use Rattle.wit_model.specs.declared.calls.Request.{Request}
 use Rattle.wit_model.specs.declared.calls.Call.TheVariants.{Init, Check, Note, Unlock}
-use Rattle.wit_model.specs.Sizes.{Sizes}
-use Rattle.wit_model.specs.History.{is_report}
-use Rattle.wit_model.specs.State.{State, owed, has_room, no_seat}
+use Rattle.wit_model.specs.Rules.Sizes.{Sizes}
+use Rattle.wit_model.specs.Rules.History.{is_report}
+use Rattle.wit_model.specs.Rules.State.{State, owed, has_room, no_seat}
 use Rattle.wit_core.specs.declared.books.Books.{Books}
 use Rattle.wit_core.specs.declared.seats.Seat.{Seat}
 use Rattle.wit_core.specs.declared.known.Knowledge.{Knowledge}

@@ -1,7 +1,7 @@
 -- Which types there may be, and when an order between two can be adopted.
 use Rattle.std.specs.Prelude.{ℕ, ◌≡◌, Bool, false, ◌&&◌, nat_le, List}
 use Rattle.wit_model.specs.declared.calls.Adoption.{Adoption}
-use Rattle.wit_model.specs.Orders.{is_before}
+use Rattle.wit_model.specs.Rules.Orders.{is_before}
 use Rattle.wit_matrix.specs.Relation.{IsNumber}
 
 -- whether there may be a type with this number, where there may be n types

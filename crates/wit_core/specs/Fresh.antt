@@ -2,8 +2,8 @@
 use Rattle.std.specs.Prelude.{String, List, []}
 use Rattle.std.specs.Global.{Vec, Global}
 use Rattle.wit_model.specs.declared.locks.Class.{Class}
-use Rattle.wit_model.specs.Sizes.{Sizes}
-use Rattle.wit_model.specs.State.{Start, Story}
+use Rattle.wit_model.specs.Rules.Sizes.{Sizes}
+use Rattle.wit_model.specs.Rules.State.{Start, Story}
 use Rattle.wit_core.specs.Listed.{all_listed, pairs_of}
 
 -- how a verifier begins

@@ -2,10 +2,10 @@
 use Rattle.std.specs.Prelude.{◌+◌, ◌≤◌, ◌≡◌, List, None, reverse, vec_len}
 use Rattle.std.specs.Vec.{vec_capacity}
 use Rattle.wit_model.specs.declared.calls.Entry.{Entry}
-use Rattle.wit_model.specs.State.{Start, Story, state_of, owed}
-use Rattle.wit_model.specs.Start.{start_fault}
-use Rattle.wit_model.specs.History.{reports_of}
-use Rattle.wit_model.specs.Step.{IsLegal}
+use Rattle.wit_model.specs.Rules.State.{Start, Story, state_of, owed}
+use Rattle.wit_model.specs.Rules.Start.{start_fault}
+use Rattle.wit_model.specs.Rules.History.{reports_of}
+use Rattle.wit_model.specs.Rules.Step.{IsLegal}
 use Rattle.wit_core.specs.declared.verifier.Verifier.TheInside.{Inside}
 use Rattle.wit_core.specs.Listed.{all_listed}
 use Rattle.wit_core.specs.Knowledge.{IsSized}

@@ -3,16 +3,16 @@ use Rattle.std.specs.Prelude.{ℕ, ◌≡◌, List, [], ◌∷◌, ◌++◌}
 use Rattle.wit_model.specs.declared.locks.Site.{Site}
 use Rattle.wit_model.specs.declared.locks.Origin.TheVariants.{At}
 use Rattle.wit_model.specs.declared.calls.NewLock.{NewLock}
-use Rattle.wit_model.specs.Types.{enrolled, type_number, type_name_of}
-use Rattle.wit_model.specs.Locks.{lock_at}
-use Rattle.wit_model.specs.Orders.{found_once}
+use Rattle.wit_model.specs.Rules.Types.{enrolled, type_number, type_name_of}
+use Rattle.wit_model.specs.Rules.Locks.{lock_at}
+use Rattle.wit_model.specs.Rules.Orders.{found_once}
 use Rattle.wit_core.specs.declared.verdicts.Verdict.{Verdict}
 use Rattle.wit_core.specs.declared.verdicts.Verdict.TheVariants.{Pass, Adopt, Silent, Reversal}
 use Rattle.wit_model.specs.declared.locks.Lock.{Lock}
 use Rattle.wit_model.specs.declared.calls.Adoption.{Adoption}
-use Rattle.wit_model.specs.State.{Known}
+use Rattle.wit_model.specs.Rules.State.{Known}
 use Rattle.wit_core.specs.declared.known.Knowledge.{Knowledge}
-use Rattle.wit_model.specs.Files.{IsNumbered}
+use Rattle.wit_model.specs.Rules.Files.{IsNumbered}
 use Rattle.wit_table.specs.Known.{enroll_answer}
 use Rattle.wit_matrix.specs.Relation.{IsNumber}
 use Rattle.wit_core.specs.Following.{CanFollow}

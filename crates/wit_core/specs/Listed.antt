@@ -8,11 +8,11 @@ use Rattle.wit_model.specs.declared.faults.Fault.TheVariants.{OutOfMemory}
 use Rattle.wit_model.specs.declared.locks.Class.{Class}
 use Rattle.wit_model.specs.declared.calls.Adoption.{Adoption}
 use Rattle.wit_model.specs.declared.locks.LockType.{LockType}
-use Rattle.wit_model.specs.Names.{is_name}
-use Rattle.wit_model.specs.Types.{is_enrolled, type_number, enrolled_all, listed_types}
-use Rattle.wit_model.specs.Orders.{is_before, listed_pairs, listed_orders}
-use Rattle.wit_model.specs.State.{Known}
-use Rattle.wit_model.specs.Start.{is_misclassed, has_twin, turns_round, IsAcceptedTo}
+use Rattle.wit_model.specs.Rules.Names.{is_name}
+use Rattle.wit_model.specs.Rules.Types.{is_enrolled, type_number, enrolled_all, listed_types}
+use Rattle.wit_model.specs.Rules.Orders.{is_before, listed_pairs, listed_orders}
+use Rattle.wit_model.specs.Rules.State.{Known}
+use Rattle.wit_model.specs.Rules.Start.{is_misclassed, has_twin, turns_round, IsAcceptedTo}
 use Rattle.wit_table.specs.Known.{Names}
 
 abbrev pub entry_of : Class × String Global → Class × List ℕ

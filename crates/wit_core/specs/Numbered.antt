@@ -6,8 +6,8 @@ use Rattle.wit_model.specs.declared.locks.Class.{Class}
 use Rattle.wit_model.specs.declared.locks.Lock.{Lock}
 use Rattle.wit_model.specs.declared.locks.LockType.{LockType}
 use Rattle.wit_model.specs.declared.locks.TypeNo.{TypeNo}
-use Rattle.wit_model.specs.Orders.{cell}
-use Rattle.wit_model.specs.State.{Known}
+use Rattle.wit_model.specs.Rules.Orders.{cell}
+use Rattle.wit_model.specs.Rules.State.{Known}
 
 -- no number was given beyond the length, and 0 never
 abbrev pub is_given : {X : Type 0} → List X → ℕ → Bool

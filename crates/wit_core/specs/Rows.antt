@@ -2,13 +2,13 @@
 use Rattle.std.specs.Prelude.{ℕ, ◌+◌, ◌-◌, ◌<◌, ◌≡◌, Bool, true, false, List, [], ◌∷◌, ◌++◌, Option, None, Some, is_some, vec_len, nat_lt, get_or, set, if◌then◌else◌}
 use Rattle.std.specs.List.{position, remove}
 use Rattle.wit_model.specs.declared.locks.Mode.TheVariants.{Exclusive}
-use Rattle.wit_model.specs.History.{no_site}
+use Rattle.wit_model.specs.Rules.History.{no_site}
 use Rattle.std.specs.Vec.{vec_capacity}
 use Rattle.wit_model.specs.declared.locks.Site.{Site}
-use Rattle.wit_model.specs.Verdict.{is_of}
+use Rattle.wit_model.specs.Rules.Verdict.{is_of}
 use Rattle.wit_model.specs.declared.locks.Instance.{Instance}
 use Rattle.wit_model.specs.declared.calls.Request.{Request}
-use Rattle.wit_model.specs.State as model
+use Rattle.wit_model.specs.Rules.State as model
 use Rattle.wit_core.specs.declared.seats.Seat.{Seat}
 
 abbrev pub seat_view : Seat → model.Seat

@@ -3,8 +3,8 @@
 ghost use Rattle.std.specs.Prelude.{◌≡◌, ◌<◌, ◌≤◌, [], reverse, find, OnOk, OnErr, IfOk, IfErr};
 ghost use Rattle.std.specs.List.{last_or, position_or_len};
 ghost use Rattle.wit_model.specs.declared.faults.Fault.TheVariants.{OutOfMemory};
-ghost use Rattle.wit_model.specs.Locks.{lock_at};
-ghost use Rattle.wit_model.specs.Verdict.{violates, has_type_of, place_of, again, judged, ordered, verdict, is_of, is_blessed};
+ghost use Rattle.wit_model.specs.Rules.Locks.{lock_at};
+ghost use Rattle.wit_model.specs.Rules.Verdict.{violates, has_type_of, place_of, again, judged, ordered, verdict, is_of, is_blessed};
 ghost use Rattle.wit_core.specs.Knowledge.{known_by, nothing};
 ghost use Rattle.wit_core.specs.Verdicts.{replied};
 

@@ -1,7 +1,7 @@
 //! Questions to the table of names.
 
 ghost use Rattle.std.specs.Prelude.{◌≡◌};
-ghost use Rattle.wit_model.specs.Types.{is_enrolled, type_number, name_of};
+ghost use Rattle.wit_model.specs.Rules.Types.{is_enrolled, type_number, name_of};
 ghost use Rattle.wit_core.specs.Numbered.{is_given};
 
 use wit_model::TypeNo;

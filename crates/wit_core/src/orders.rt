@@ -2,8 +2,8 @@
 
 ghost use Rattle.std.specs.Prelude.{◌≡◌, ◌<◌, ◌≤◌, ◌&&◌, ◌∷◌, ℕ, [], OnOk, OnErr, IfOk, IfErr, reverse};
 ghost use Rattle.wit_model.specs.declared.faults.Fault.TheVariants.{OutOfMemory};
-ghost use Rattle.wit_model.specs.Orders.{is_direct, is_before, is_found, found_once, cell};
-ghost use Rattle.wit_model.specs.Paths.{path, path_numbers};
+ghost use Rattle.wit_model.specs.Rules.Orders.{is_direct, is_before, is_found, found_once, cell};
+ghost use Rattle.wit_model.specs.Trace.Paths.{path, path_numbers};
 ghost use Rattle.wit_matrix.specs.Relation.{IsNumber, OrdersAmong};
 ghost use Rattle.wit_core.specs.Following.{covers, CanFollow};
 

@@ -2,9 +2,9 @@
 
 ghost use Rattle.std.specs.Prelude.{◌≡◌, ◌<◌, vec_len, length, map, position, OnOk, IfSome};
 ghost use Rattle.std.specs.List.{All};
-ghost use Rattle.wit_model.specs.Verdict.{is_of};
+ghost use Rattle.wit_model.specs.Rules.Verdict.{is_of};
 ghost use Rattle.std.specs.Vec.{vec_capacity};
-ghost use Rattle.wit_model.specs.State.{no_seat};
+ghost use Rattle.wit_model.specs.Rules.State.{no_seat};
 ghost use Rattle.wit_core.specs.Rows.{IsShallow, recorded, released, seat_view, HasRoom, HasSpaceAt, IsShallowAt, IsFreeAt, changed_at, asked_in, noted_in, unlocked_in};
 
 use std::alloc::{AllocError, Global};

@@ -1,7 +1,7 @@
 //! What the rules of a check come to.
 
 ghost use Rattle.std.specs.Prelude.{◌≡◌, IfOk};
-ghost use Rattle.wit_model.specs.History.{is_report};
+ghost use Rattle.wit_model.specs.Rules.History.{is_report};
 ghost use Rattle.wit_core.specs.Verdicts.{reply_of};
 
 use std::alloc::{AllocError, Global};

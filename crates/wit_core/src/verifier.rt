@@ -2,18 +2,18 @@
 
 ghost use Rattle.std.specs.Prelude.{◌≡◌, None, length, reverse, IfOk, IfErr};
 ghost use Rattle.std.specs.Option.{option_copied};
-ghost use Rattle.wit_model.specs.State.{known_of, orders_of, types_of, typed_locks};
+ghost use Rattle.wit_model.specs.Rules.State.{known_of, orders_of, types_of, typed_locks};
 ghost use Rattle.wit_core.specs.Numbered.{IsNumbered, NamesLock, TypesLock, NamesType, ClassesType, NamesFileNo, relation};
-ghost use Rattle.wit_model.specs.Paths.{path, path_numbers};
-ghost use Rattle.wit_model.specs.History.{reports_of, watch_of};
-ghost use Rattle.wit_model.specs.Files.{NamesFile};
-ghost use Rattle.wit_model.specs.Orders.{IsSound};
-ghost use Rattle.wit_model.specs.Step.{Answers, AnswersOrFails, IsLegal};
+ghost use Rattle.wit_model.specs.Trace.Paths.{path, path_numbers};
+ghost use Rattle.wit_model.specs.Rules.History.{reports_of, watch_of};
+ghost use Rattle.wit_model.specs.Rules.Files.{NamesFile};
+ghost use Rattle.wit_model.specs.Rules.Orders.{IsSound};
+ghost use Rattle.wit_model.specs.Rules.Step.{Answers, AnswersOrFails, IsLegal};
 ghost use Rattle.wit_core.specs.Books.{new_lock, made_reply};
 ghost use Rattle.wit_model.specs.declared.calls.Call.TheVariants.{Init, Check, Note, Unlock};
 ghost use Rattle.wit_model.specs.declared.faults.Fault.TheVariants.{OutOfMemory};
 ghost use Rattle.wit_core.specs.Fresh.{start_of, fresh};
-ghost use Rattle.wit_model.specs.Start.{start_fault, IsRefused};
+ghost use Rattle.wit_model.specs.Rules.Start.{start_fault, IsRefused};
 
 use crate::books::Books;
 use crate::known::Knowledge;
@@ -50,7 +50,7 @@ impl Drop for Verifier {
 }
 
 impl Model for Verifier {
-    ghost use Rattle.wit_model.specs.State.{Story};
+    ghost use Rattle.wit_model.specs.Rules.State.{Story};
 
     ghost Value = { Story };
 

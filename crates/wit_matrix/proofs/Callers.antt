@@ -6,8 +6,8 @@ use Rattle.std.proofs.lemmas.Bool.{or_cases, and_parts, eqb-true, eq-eqb, cases_
 use Rattle.wit_model.specs.declared.locks.TypeNo.{TypeNo}
 use Rattle.wit_model.specs.declared.locks.Origin.TheVariants.{Listed}
 use Rattle.wit_model.specs.declared.calls.Adoption.{Adoption}
-use Rattle.wit_model.specs.Orders.{is_adoption_of, is_direct, is_before, IsSound, is_pair_of, found_once, adopted_once}
-use Rattle.wit_model.specs.Paths.{leads, next_type, way, path}
+use Rattle.wit_model.specs.Rules.Orders.{is_adoption_of, is_direct, is_before, IsSound, is_pair_of, found_once, adopted_once}
+use Rattle.wit_model.specs.Trace.Paths.{leads, next_type, way, path}
 use Rattle.wit_matrix.specs.Relation.{IsNumber, HasSameOrders, HasSameFound, OrdersAmong}
 use Rattle.wit_matrix.proofs.Settled.{same_before}
 use Rattle.wit_matrix.proofs.Edits.{adopted_again, found_again}

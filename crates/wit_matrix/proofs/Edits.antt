@@ -5,9 +5,9 @@ use Rattle.std.proofs.lemmas.Bool.{or_cases, or_left, or_right, or_from, and_par
 use Rattle.wit_model.specs.declared.locks.TypeNo.{TypeNo}
 use Rattle.wit_model.specs.declared.locks.Origin.TheVariants.{Listed}
 use Rattle.wit_model.specs.declared.calls.Adoption.{Adoption}
-use Rattle.wit_model.specs.Orders.{is_adoption_of, is_direct, is_before, IsSound, is_pair_of, is_found, found_once, adopted_once}
+use Rattle.wit_model.specs.Rules.Orders.{is_adoption_of, is_direct, is_before, IsSound, is_pair_of, is_found, found_once, adopted_once}
 use Rattle.std.proofs.lemmas.List.{get_or-replicate, length-replicate}
-use Rattle.wit_model.proofs.Paths.{sound_adopt, test_from_before}
+use Rattle.wit_model.proofs.Orders.Paths.{sound_adopt, test_from_before}
 use Rattle.wit_matrix.specs.Relation.{IsNumber, HasSameOrders, HasSameFound, OrdersAmong, FoundAmong, Adopts, Finds}
 use Rattle.wit_matrix.proofs.Places.{place_within}
 use Rattle.wit_matrix.specs.Bytes.{place, byte_at, has, with_bits, order_of, relation_in, orders_in, found_in, IsKept, AddsWhere, is_at, reaches, joins}

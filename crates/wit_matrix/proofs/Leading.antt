@@ -4,9 +4,9 @@ use Rattle.std.specs.List.{range_with_len}
 use Rattle.std.proofs.lemmas.Bool.{or_cases, or_left, or_right, and_parts, and_from, eqb-true, eq-eqb, ne_eqb, false≢true}
 use Rattle.std.proofs.lemmas.List.FromFn.{length-range_with_len}
 use Rattle.wit_model.specs.declared.calls.Adoption.{Adoption}
-use Rattle.wit_model.specs.Orders.{is_direct, IsPath, Before, is_before, IsSound}
-use Rattle.wit_model.specs.Paths.{leads, next_type, way}
-use Rattle.wit_model.proofs.Paths.{before_from_test, test_from_before, direct-before, is_before-trans}
+use Rattle.wit_model.specs.Rules.Orders.{is_direct, IsPath, Before, is_before, IsSound}
+use Rattle.wit_model.specs.Trace.Paths.{leads, next_type, way}
+use Rattle.wit_model.proofs.Orders.Paths.{before_from_test, test_from_before, direct-before, is_before-trans}
 use Rattle.wit_matrix.specs.Relation.{IsNumber, OrdersAmong, LeadsBy}
 use Rattle.wit_matrix.proofs.Pairs.{among, range_to}
 

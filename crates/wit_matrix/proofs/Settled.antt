@@ -4,8 +4,8 @@ use Rattle.std.specs.List.{list_any}
 use Rattle.std.proofs.lemmas.Bool.{or_cases, or_left, or_right, and_parts, and_from, false≢true, le-leb, cases_lt}
 use Rattle.wit_model.specs.declared.locks.TypeNo.{TypeNo}
 use Rattle.wit_model.specs.declared.calls.Adoption.{Adoption}
-use Rattle.wit_model.specs.Orders.{is_adoption_of, is_direct, IsPath, Before, is_before, IsSound, is_pair_of, is_found, cell}
-use Rattle.wit_model.proofs.Paths.{before_from_test, test_from_before}
+use Rattle.wit_model.specs.Rules.Orders.{is_adoption_of, is_direct, IsPath, Before, is_before, IsSound, is_pair_of, is_found, cell}
+use Rattle.wit_model.proofs.Orders.Paths.{before_from_test, test_from_before}
 use Rattle.wit_matrix.specs.Relation.{IsNumber, HasSameOrders, HasSameFound, OrdersAmong, FoundAmong}
 use Rattle.wit_matrix.specs.Bytes.{byte_at, has, pairs_where, order_of, types_of, orders_in, found_in, IsKept}
 use Rattle.wit_matrix.proofs.Bits.{has_parent, has_reversal}

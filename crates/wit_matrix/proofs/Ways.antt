@@ -4,7 +4,7 @@ use Rattle.std.specs.List.{range_with_len}
 use Rattle.std.proofs.lemmas.Bool.{cases_order}
 use Rattle.wit_model.specs.declared.locks.TypeNo.{TypeNo}
 use Rattle.wit_model.specs.declared.calls.Adoption.{Adoption}
-use Rattle.wit_model.specs.Paths.{next_type, way, type_numbers}
+use Rattle.wit_model.specs.Trace.Paths.{next_type, way, type_numbers}
 
 -- the first number that passes
 pub find_first : (test : ℕ → Bool) (s n k : ℕ) → s ≤ k → k < s + n → ((t : ℕ) → s ≤ t → t < k → test t ≡ false) → test k ≡ true → Some k ≡ find test (range_with_len s n)

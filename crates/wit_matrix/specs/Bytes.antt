@@ -5,7 +5,7 @@ use Rattle.std.specs.Int.RustNames.{bit_and, bit_or}
 use Rattle.wit_model.specs.declared.locks.Origin.TheVariants.{Listed}
 use Rattle.wit_model.specs.declared.locks.TypeNo.{TypeNo}
 use Rattle.wit_model.specs.declared.calls.Adoption.{Adoption}
-use Rattle.wit_model.specs.Orders.{IsSound, cell}
+use Rattle.wit_model.specs.Rules.Orders.{IsSound, cell}
 use Rattle.wit_matrix.specs.Relation.{Relation, IsNumber}
 
 -- where the byte of row a and column b stands

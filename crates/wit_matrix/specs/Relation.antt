@@ -3,7 +3,7 @@ use Rattle.std.specs.Prelude.{ℕ, ◌≡◌, ◌≤◌, true, List, [], ◌∷�
 use Rattle.wit_model.specs.declared.locks.Origin.TheVariants.{Listed}
 use Rattle.wit_model.specs.declared.locks.TypeNo.{TypeNo}
 use Rattle.wit_model.specs.declared.calls.Adoption.{Adoption}
-use Rattle.wit_model.specs.Orders.{is_direct, IsPath, is_found, adopted_once, found_once}
+use Rattle.wit_model.specs.Rules.Orders.{is_direct, IsPath, is_found, adopted_once, found_once}
 
 -- the number of types, the adopted orders, and the unordered pairs found in violation. Both lists stand for sets:
 -- they hold each member once, by rows, and nothing is said of where an order came from

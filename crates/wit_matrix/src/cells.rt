@@ -2,7 +2,7 @@
 
 ghost use Rattle.std.specs.Prelude.{◌≡◌, ◌<◌, ◌*◌, false, length};
 ghost use Rattle.std.specs.Int.RustNames.{bit_and};
-ghost use Rattle.wit_model.specs.Orders.{is_before};
+ghost use Rattle.wit_model.specs.Rules.Orders.{is_before};
 ghost use Rattle.wit_matrix.specs.Relation.{IsNumber, Adopts, Finds};
 ghost use Rattle.wit_matrix.specs.Bytes.{place, byte_at, has, relation_in, orders_in, IsKept, AddsWhere, is_at, reaches, joins, joins_row};
 

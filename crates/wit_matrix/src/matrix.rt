@@ -4,8 +4,8 @@ ghost use Rattle.std.specs.Prelude.{◌≡◌, ◌↔◌, ◌≤◌, true, false
 ghost use Rattle.wit_model.specs.declared.locks.TypeNo.{TypeNo};
 ghost use Rattle.std.specs.Option.{option_map};
 ghost use Rattle.wit_model.specs.declared.faults.Fault.TheVariants.{OutOfMemory};
-ghost use Rattle.wit_model.specs.Orders.{Before, IsSound, is_before, is_direct, is_found, cell};
-ghost use Rattle.wit_model.specs.Paths.{leads, next_type, way, path, type_numbers, path_numbers};
+ghost use Rattle.wit_model.specs.Rules.Orders.{Before, IsSound, is_before, is_direct, is_found, cell};
+ghost use Rattle.wit_model.specs.Trace.Paths.{leads, next_type, way, path, type_numbers, path_numbers};
 ghost use Rattle.wit_matrix.specs.Relation.{IsNumber, Adopts, Finds, LeadsBy};
 
 use crate::cells::{ANCESTOR, PARENT, REVERSAL, byte_at, has, link, mark};

@@ -6,11 +6,11 @@ use Rattle.wit_model.specs.declared.calls.Call.TheVariants.{Check, Note}
 use Rattle.wit_model.specs.declared.calls.Reply.{Reply}
 use Rattle.wit_model.specs.declared.calls.Reply.TheVariants.{Recorded}
 use Rattle.wit_model.specs.declared.calls.Entry.{Entry}
-use Rattle.wit_model.specs.Orders.{Before, is_before, IsSound}
-use Rattle.wit_model.specs.History.{pending}
-use Rattle.wit_model.specs.State.{Start, Story, orders_of}
-use Rattle.wit_model.specs.Start.{start_fault}
-use Rattle.wit_model.specs.Step.{answer_of, logged, IsLegal}
+use Rattle.wit_model.specs.Rules.Orders.{Before, is_before, IsSound}
+use Rattle.wit_model.specs.Rules.History.{pending}
+use Rattle.wit_model.specs.Rules.State.{Start, Story, orders_of}
+use Rattle.wit_model.specs.Rules.Start.{start_fault}
+use Rattle.wit_model.specs.Rules.Step.{answer_of, logged, IsLegal}
 
 -- no type is before itself after a legal history, where its start is accepted
 abbrev pub OrdersStaySound : Type 0

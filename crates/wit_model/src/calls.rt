@@ -1,7 +1,7 @@
 //! The calls of a verifier, their replies, and the entries of its log.
 
 ghost use Rattle.std.specs.Prelude.{◌≡◌};
-ghost use Rattle.wit_model.specs.Types.{type_name_of};
+ghost use Rattle.wit_model.specs.Rules.Types.{type_name_of};
 
 use crate::boxes::Boxed;
 use crate::flags::{LockFlags, OpFlags};

@@ -1,7 +1,7 @@
 //! The faults of the verifier's calls.
 
 ghost use Rattle.std.specs.Prelude.{◌≡◌, Some};
-ghost use Rattle.wit_model.specs.Faults.{fault_text};
+ghost use Rattle.wit_model.specs.Rules.Faults.{fault_text};
 
 use std::fmt;
 

@@ -1,7 +1,7 @@
 //! Laws of the rules: what holds of every legal history. Each function is a theorem, and does nothing.
 
-ghost use Rattle.wit_model.specs.Spelling.{IsOneSpelling};
-ghost use Rattle.wit_model.specs.Reading.{ReadsSpellings};
+ghost use Rattle.wit_model.specs.Trace.Spelling.{IsOneSpelling};
+ghost use Rattle.wit_model.specs.Trace.Reading.{ReadsSpellings};
 ghost use Rattle.wit_model.specs.Laws.{
   OrdersStaySound,
   TestFindsPaths,

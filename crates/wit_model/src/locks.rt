@@ -1,9 +1,9 @@
 //! Classes, modes, numbers, types and locks: the plain words of locking(9).
 
 ghost use Rattle.std.specs.Prelude.{◌≡◌};
-ghost use Rattle.wit_model.specs.Types.{is_spin, is_same_class};
-ghost use Rattle.wit_model.specs.Verdict.{is_exclusive};
-ghost use Rattle.wit_model.specs.Step.{is_shareable};
+ghost use Rattle.wit_model.specs.Rules.Types.{is_spin, is_same_class};
+ghost use Rattle.wit_model.specs.Rules.Verdict.{is_exclusive};
+ghost use Rattle.wit_model.specs.Rules.Step.{is_shareable};
 
 use crate::calls::NewLock;
 use crate::names::Name;

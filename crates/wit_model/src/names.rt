@@ -2,7 +2,7 @@
 
 ghost use Rattle.std.specs.Prelude.{◌≡◌, IfOk, string_bytes};
 ghost use Rattle.std.specs.List.{list_all};
-ghost use Rattle.wit_model.specs.Names.{is_name, is_file_name, is_name_byte, is_file_byte};
+ghost use Rattle.wit_model.specs.Rules.Names.{is_name, is_file_name, is_name_byte, is_file_byte};
 
 use std::alloc::{AllocError, Global};
 use std::marker::Model;

@@ -1,7 +1,7 @@
 //! How much a verifier holds.
 
 ghost use Rattle.std.specs.Prelude.{◌≡◌, ◌↔◌, ◌<◌, ◌≤◌, IsSome, IfSome, IsTrue};
-ghost use Rattle.wit_model.specs.Sizes.{AreWithin, sizes_of};
+ghost use Rattle.wit_model.specs.Rules.Sizes.{AreWithin, sizes_of};
 
 use std::marker::Model;
 
@@ -16,7 +16,7 @@ pub struct Limits {
 }
 
 impl Model for Limits {
-    ghost use Rattle.wit_model.specs.Sizes.{Sizes, AreWithin, sizes_of};
+    ghost use Rattle.wit_model.specs.Rules.Sizes.{Sizes, AreWithin, sizes_of};
 
     ghost Value = { Sizes };
 

@@ -9,8 +9,8 @@ use Rattle.std.proofs.lemmas.Option.{slice_get-map, slice_get_within, get_or_fro
 use Rattle.std.specs.Map.{keys_of, values_of, lookup}
 use Rattle.wit_model.specs.declared.locks.Class.{Class}
 use Rattle.wit_model.specs.declared.locks.LockType.{LockType}
-use Rattle.wit_model.specs.Types.{is_same_class, is_named, is_enrolled, is_otherwise, type_number}
-use Rattle.wit_model.specs.Files.{is_known_file, file_number}
+use Rattle.wit_model.specs.Rules.Types.{is_same_class, is_named, is_enrolled, is_otherwise, type_number}
+use Rattle.wit_model.specs.Rules.Files.{is_known_file, file_number}
 use Rattle.indexmap.specs.IndexMap.{IndexMap, set_value_at, insert_entry}
 use Rattle.indexmap.proofs.CallerLemmas.{insert_entry-new}
 use Rattle.wit_table.specs.declared.types.TypeRow.{TypeRow}

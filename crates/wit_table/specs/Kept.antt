@@ -2,7 +2,7 @@
 use Rattle.std.specs.Prelude.{ℕ, ◌≤◌, ◌≡◌, true, List, length}
 use Rattle.std.specs.List.{All}
 use Rattle.wit_model.specs.declared.locks.LockType.{LockType}
-use Rattle.wit_model.specs.Names.{is_name, is_file_name}
+use Rattle.wit_model.specs.Rules.Names.{is_name, is_file_name}
 use Rattle.wit_table.specs.declared.table.Table.TheInside.{Inside}
 use Rattle.wit_table.specs.Known.{Names}
 use Rattle.wit_table.specs.Rows.{types_in, live_in, texts}

@@ -4,11 +4,11 @@ use Rattle.std.specs.List.{list_any}
 use Rattle.wit_model.specs.declared.faults.Fault.{Fault}
 use Rattle.wit_model.specs.declared.faults.Fault.TheVariants.{BadName, ClassMismatch, TypesFull, FilesFull, OutOfMemory}
 use Rattle.wit_model.specs.declared.locks.Class.{Class}
-use Rattle.wit_model.specs.Names.{is_name, is_file_name}
+use Rattle.wit_model.specs.Rules.Names.{is_name, is_file_name}
 use Rattle.wit_model.specs.declared.locks.LockType.{LockType}
-use Rattle.wit_model.specs.Types.{is_enrolled, is_otherwise, type_number, enrolled}
-use Rattle.wit_model.specs.Verdict.{is_named_pair}
-use Rattle.wit_model.specs.Files.{is_known_file, file_number, files_after, IsNumbered}
+use Rattle.wit_model.specs.Rules.Types.{is_enrolled, is_otherwise, type_number, enrolled}
+use Rattle.wit_model.specs.Rules.Verdict.{is_named_pair}
+use Rattle.wit_model.specs.Rules.Files.{is_known_file, file_number, files_after, IsNumbered}
 
 -- the types, for each of them how many live locks it has, the source files, the pairs of names that were blessed, and how many
 -- types and files there may be

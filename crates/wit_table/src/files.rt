@@ -1,7 +1,7 @@
 //! Source files by name, in order of first appearance.
 
 ghost use Rattle.std.specs.Prelude.{◌≡◌, ◌≤◌, ◌<◌, ◌+◌, ◌++◌, [], ◌∷◌, false, length, is_some, slice_get, IfSome, IfNone, IfOk, IfErr, OnOk, OnErr, Some, Ok};
-ghost use Rattle.wit_model.specs.Files.{is_known_file, file_number, files_after};
+ghost use Rattle.wit_model.specs.Rules.Files.{is_known_file, file_number, files_after};
 ghost use Rattle.wit_model.specs.declared.faults.Fault.TheVariants.{OutOfMemory};
 ghost use Rattle.wit_table.specs.Known.{IsGiven, filing_answer, IsRefusal};
 ghost use Rattle.wit_table.specs.Rows.{texts};

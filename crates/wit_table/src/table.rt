@@ -4,9 +4,9 @@ ghost use Rattle.std.specs.Prelude.{◌≡◌, ◌≤◌, ◌<◌, ◌+◌, ◌-
 ghost use Rattle.std.specs.List.{IsDistinct};
 ghost use Rattle.std.specs.Str.{bytes_eq};
 ghost use Rattle.wit_model.specs.declared.faults.Fault.TheVariants.{OutOfMemory};
-ghost use Rattle.wit_model.specs.Names.{is_name, is_file_name};
-ghost use Rattle.wit_model.specs.Types.{is_enrolled, is_otherwise, type_number};
-ghost use Rattle.wit_model.specs.Files.{is_known_file, file_number};
+ghost use Rattle.wit_model.specs.Rules.Names.{is_name, is_file_name};
+ghost use Rattle.wit_model.specs.Rules.Types.{is_enrolled, is_otherwise, type_number};
+ghost use Rattle.wit_model.specs.Rules.Files.{is_known_file, file_number};
 ghost use Rattle.wit_table.specs.Known.{no_names, type_names, IsGiven, HasName, HasClass, enroll_answer, filing_answer, IsRefusal, with_type, with_file, live_of, with_live, is_blessed, with_blessed, are_names, IsBlessRefusal};
 
 use crate::files::{file_at, file_in};

@@ -3,9 +3,9 @@ use Rattle.std.proofs.Common.{◌≡◌, ℕ, ◌≤◌, List, length, Option, S
 use Rattle.std.specs.Prelude.{IfOk, IfErr}
 use Rattle.wit_model.specs.declared.lines.Line.{Line}
 use Rattle.wit_model.specs.declared.lines.Cause.TheVariants.{Long, Syntax, Cut, Limit, Fault}
-use Rattle.wit_model.specs.Spelling.{Spells}
-use Rattle.wit_model.specs.Reading.{line_of}
-use Rattle.wit_model.proofs.LineLaws.{line_takes, spelled_again}
+use Rattle.wit_model.specs.Trace.Spelling.{Spells}
+use Rattle.wit_model.specs.Trace.Reading.{line_of}
+use Rattle.wit_model.proofs.Spelling.Laws.{line_takes, spelled_again}
 use Rattle.wit_trace.specs.declared.errors.LineError.{LineError}
 use Rattle.wit_trace.specs.declared.errors.LineError.TheVariants.{Bad, Memory}
 use Rattle.wit_trace.specs.Lines.{Gives, IsWhy}

@@ -11,8 +11,8 @@ use Rattle.wit_model.specs.declared.locks.Class.{Class}
 use Rattle.wit_model.specs.declared.locks.Class.TheVariants.{SleepMutex, SpinMutex, Rw, Sx}
 use Rattle.wit_model.specs.declared.locks.Mode.{Mode}
 use Rattle.wit_model.specs.declared.locks.Mode.TheVariants.{Shared, Exclusive}
-use Rattle.wit_model.specs.Names.{is_name, is_file_name}
-use Rattle.wit_model.specs.Spelling.{class_text, mode_text, lock_letters, op_letters, chosen_letters, flags_text, site_text, quoted, joined, type_field, spelling, IsSpellable}
+use Rattle.wit_model.specs.Rules.Names.{is_name, is_file_name}
+use Rattle.wit_model.specs.Trace.Spelling.{class_text, mode_text, lock_letters, op_letters, chosen_letters, flags_text, site_text, quoted, joined, type_field, spelling, IsSpellable}
 
 -- a field that takes little of a line
 abbrev IsShort : List ℕ → Type 0

@@ -2,9 +2,9 @@
 use Rattle.std.proofs.Common.{◌≡◌, ℕ, zero, suc, ◌<◌, ◌≤◌, true, eqb, List, [], ◌∷◌, ◌++◌, length, Option, Some, None, refl, sym, ap, subst, ◌∙◌, append_assoc, append-nil, arith}
 use Rattle.std.proofs.lemmas.Bool.{ne_eqb, eq-eqb}
 use Rattle.wit_model.specs.declared.locks.Class.{Class}
-use Rattle.wit_model.specs.Reading.{◌>>=◌, whole, repeated, type_at, list_of}
-use Rattle.wit_model.proofs.Codecs.{bind_some, some_is, chosen}
-use Rattle.wit_model.proofs.LineLaws.{type_shorter}
+use Rattle.wit_model.specs.Trace.Reading.{◌>>=◌, whole, repeated, type_at, list_of}
+use Rattle.wit_model.proofs.Spelling.Codecs.{bind_some, some_is, chosen}
+use Rattle.wit_model.proofs.Spelling.Laws.{type_shorter}
 
 abbrev Types : Type 0
 Types = List (Class × List ℕ)

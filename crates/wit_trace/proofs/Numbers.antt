@@ -7,8 +7,8 @@ use Rattle.std.specs.Str.Parse.{digits_value, ParsesUnsigned}
 use Rattle.std.proofs.lemmas.Bool.{and_parts, cases_lt, lt-ltb, le-ltb, eqb-false, not-true}
 use Rattle.std.proofs.lemmas.Fmt.{IsAscii-from_digits}
 use Rattle.std.proofs.lemmas.Str.Parse.{parse_digits}
-use Rattle.wit_model.specs.Reading.{is_numeral, number_of}
-use Rattle.wit_model.proofs.Words.{own}
+use Rattle.wit_model.specs.Trace.Reading.{is_numeral, number_of}
+use Rattle.wit_model.proofs.Spelling.Words.{own}
 
 digits : (word : List ℕ) → is_numeral word ≡ true → (list_all is_ascii_digit word ≡ true) × (0 < length word)
 digits word h =

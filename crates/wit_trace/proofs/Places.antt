@@ -3,8 +3,8 @@ use Rattle.std.proofs.Common.{◌≡◌, ℕ, suc, ◌+◌, ◌-◌, ◌<◌, �
 use Rattle.std.proofs.lemmas.Bool.{ne_eqb}
 use Rattle.std.proofs.lemmas.List.{take-append-drop, take_all, length-drop}
 use Rattle.std.proofs.Math.Seq.{drop-cons}
-use Rattle.wit_model.specs.Reading.{parted_at_last}
-use Rattle.wit_model.proofs.Words.{parted_here, parted_on}
+use Rattle.wit_model.specs.Trace.Reading.{parted_at_last}
+use Rattle.wit_model.proofs.Spelling.Words.{parted_here, parted_on}
 
 -- the bytes from a place on are the byte there, and the others
 from_place : (word : List ℕ) (i : ℕ) → 0 < i → i ≤ length word → drop (i - 1) word ≡ get_or word (i - 1) 0 ∷ drop i word

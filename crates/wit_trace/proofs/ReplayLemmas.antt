@@ -20,11 +20,11 @@ use Rattle.wit_model.specs.declared.locks.FileNo.{FileNo}
 use Rattle.wit_model.specs.declared.locks.LockNo.{LockNo}
 use Rattle.wit_model.specs.declared.locks.Mode.{Mode}
 use Rattle.wit_model.specs.declared.locks.SeatNo.{SeatNo}
-use Rattle.wit_model.specs.Files.{NamesFile}
-use Rattle.wit_model.specs.Start.{start_fault}
-use Rattle.wit_model.specs.State.{Story}
-use Rattle.wit_model.specs.Step.{AnswersOrFails, IsAccepted, answer_of}
-use Rattle.wit_model.specs.Output as output
+use Rattle.wit_model.specs.Rules.Files.{NamesFile}
+use Rattle.wit_model.specs.Rules.Start.{start_fault}
+use Rattle.wit_model.specs.Rules.State.{Story}
+use Rattle.wit_model.specs.Rules.Step.{AnswersOrFails, IsAccepted, answer_of}
+use Rattle.wit_model.specs.Trace.Output as output
 use Rattle.wit_core.specs.Books.{new_lock, made_reply}
 use Rattle.wit_trace.specs.Machine.{BreaksAt, first_of}
 use Rattle.wit_trace.specs.Replays.{Passes, Tells, KeepsTotal, Opens, Reaches, IsWritten, prelude_of, progress, ends_prelude, total}

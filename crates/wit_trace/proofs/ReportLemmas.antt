@@ -21,17 +21,17 @@ use Rattle.wit_model.specs.declared.calls.Call.{Call}
 use Rattle.wit_model.specs.declared.calls.Call.TheVariants.{Init, Check, Note, Unlock}
 use Rattle.wit_model.specs.declared.calls.Reply.{Reply}
 use Rattle.wit_model.specs.declared.calls.Entry.{Entry}
-use Rattle.wit_model.specs.Types.{is_named, is_enrolled, is_otherwise, is_same_class, type_number, enrolled, type_name_of, types_after}
-use Rattle.wit_model.specs.Orders.{is_adoption_of}
-use Rattle.wit_model.specs.Locks.{made_among, unknown_lock, lock_at}
-use Rattle.wit_model.specs.State.{Start, Known, state_of, types_of, typed_locks}
-use Rattle.wit_model.specs.Step.{answer_of, story_after, IsLegal}
-use Rattle.wit_model.specs.Spelling.{quoted}
-use Rattle.wit_model.specs.Texts.{type_words, class_words, site_words, lock_line, origin_words, order_line, order_lines, established}
-use Rattle.wit_model.proofs.Seats.{entry}
-use Rattle.wit_model.proofs.Accepted.{init_accepted}
-use Rattle.wit_model.proofs.Types.{IsTyped, typed_made, typed-check, typed-note, typed-unlock, number-known}
-use Rattle.wit_model.specs.Paths.{type_numbers}
+use Rattle.wit_model.specs.Rules.Types.{is_named, is_enrolled, is_otherwise, is_same_class, type_number, enrolled, type_name_of, types_after}
+use Rattle.wit_model.specs.Rules.Orders.{is_adoption_of}
+use Rattle.wit_model.specs.Rules.Locks.{made_among, unknown_lock, lock_at}
+use Rattle.wit_model.specs.Rules.State.{Start, Known, state_of, types_of, typed_locks}
+use Rattle.wit_model.specs.Rules.Step.{answer_of, story_after, IsLegal}
+use Rattle.wit_model.specs.Trace.Spelling.{quoted}
+use Rattle.wit_model.specs.Trace.Texts.{type_words, class_words, site_words, lock_line, origin_words, order_line, order_lines, established}
+use Rattle.wit_model.proofs.Chains.Seats.{entry}
+use Rattle.wit_model.proofs.Histories.Accepted.{init_accepted}
+use Rattle.wit_model.proofs.Orders.Types.{IsTyped, typed_made, typed-check, typed-note, typed-unlock, number-known}
+use Rattle.wit_model.specs.Trace.Paths.{type_numbers}
 use Rattle.wit_core.specs.Numbered.{is_given, TypesLock, ClassesType, NamesType}
 
 -- pieces written one behind another make a line

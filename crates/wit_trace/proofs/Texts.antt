@@ -5,8 +5,8 @@ use Rattle.std.specs.Str.{IsAscii, IsUtf8}
 use Rattle.std.proofs.lemmas.Bool.{and_parts, leb-true, false_from_ne_true}
 use Rattle.std.proofs.lemmas.Str.{IsUtf8-from_ascii}
 use Rattle.std.proofs.lemmas.Str.Ascii.{IsAscii-nil, IsAscii-cons}
-use Rattle.wit_model.specs.Names.{is_name, is_name_byte, is_file_name, is_file_byte}
-use Rattle.wit_model.specs.Reading.{accepted}
+use Rattle.wit_model.specs.Rules.Names.{is_name, is_name_byte, is_file_name, is_file_byte}
+use Rattle.wit_model.specs.Trace.Reading.{accepted}
 
 ascii_from_all : (p : ℕ → Bool) → ((b : ℕ) → p b ≡ true → b < 128) → (bytes : List ℕ) → list_all p bytes ≡ true → IsAscii bytes
 ascii_from_all p small [] all = IsAscii-nil

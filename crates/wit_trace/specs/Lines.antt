@@ -3,7 +3,7 @@ use Rattle.std.specs.Prelude.{◌≡◌, ◌<◌, ◌≤◌, ℕ, List, length, 
 use Rattle.wit_model.specs.declared.lines.Line.{Line}
 use Rattle.wit_model.specs.declared.lines.Cause.{Cause}
 use Rattle.wit_model.specs.declared.lines.Cause.TheVariants.{Long, Syntax, Cut, Limit, Fault}
-use Rattle.wit_model.specs.Spelling.{Spells, IsSpellable, spelling}
+use Rattle.wit_model.specs.Trace.Spelling.{Spells, IsSpellable, spelling}
 use Rattle.wit_trace.specs.declared.errors.LineError.{LineError}
 use Rattle.wit_trace.specs.declared.errors.LineError.TheVariants.{Bad, Memory}
 

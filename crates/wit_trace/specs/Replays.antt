@@ -7,8 +7,8 @@ use Rattle.wit_model.specs.declared.lines.Cause.TheVariants as why
 use Rattle.wit_model.specs.declared.faults.Fault.TheVariants.{OutOfMemory}
 use Rattle.wit_model.specs.declared.lines.View.{View}
 use Rattle.wit_model.specs.declared.lines.View.TheVariants.{Reports}
-use Rattle.wit_model.specs.State.{Story}
-use Rattle.wit_model.specs.Output as output
+use Rattle.wit_model.specs.Rules.State.{Story}
+use Rattle.wit_model.specs.Trace.Output as output
 use Rattle.wit_core.specs.Fresh.{start_of}
 use Rattle.wit_trace.specs.Text.{text_of}
 use Rattle.wit_trace.specs.declared.prelude.Prelude.{Prelude}

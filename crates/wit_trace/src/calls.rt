@@ -3,8 +3,8 @@
 ghost use Rattle.std.specs.Prelude.{◌≡◌, IfOk};
 ghost use Rattle.std.specs.Option.{option_copied};
 ghost use Rattle.wit_model.specs.declared.calls.Call.TheVariants.{Init};
-ghost use Rattle.wit_model.specs.Output.{Reading, calls};
-ghost use Rattle.wit_model.specs.Step.{AnswersOrFails};
+ghost use Rattle.wit_model.specs.Trace.Output.{Reading, calls};
+ghost use Rattle.wit_model.specs.Rules.Step.{AnswersOrFails};
 ghost use Rattle.wit_trace.specs.Replays.{Passes, Refuses, Tells};
 
 use crate::outcome::Outcome;

@@ -4,8 +4,8 @@ ghost use Rattle.std.specs.Prelude.{◌+◌, ◌≡◌, ◌≤◌, ◌<◌, ◌^
 ghost use Rattle.std.specs.Str.{IsAscii};
 ghost use Rattle.std.specs.List.{list_all};
 ghost use Rattle.std.specs.Char.{is_ascii_digit};
-ghost use Rattle.wit_model.specs.Names.{is_name, is_file_name};
-ghost use Rattle.wit_model.specs.Reading.{after, place_of, until, parted_at_last, is_numeral, number_of, class_of, mode_of, bits_of, flags_of, accepted, site_of, word_at, field_at, fixed_at, behind, quoted_at, optional, type_at, list_of, count_at, seat_at, lock_at};
+ghost use Rattle.wit_model.specs.Rules.Names.{is_name, is_file_name};
+ghost use Rattle.wit_model.specs.Trace.Reading.{after, place_of, until, parted_at_last, is_numeral, number_of, class_of, mode_of, bits_of, flags_of, accepted, site_of, word_at, field_at, fixed_at, behind, quoted_at, optional, type_at, list_of, count_at, seat_at, lock_at};
 ghost use Rattle.wit_trace.specs.Lines.{Gives};
 
 use crate::errors::LineError;
@@ -44,7 +44,7 @@ pub fn split_before(byte: u8, bytes: &[u8]) -> (&[u8], &[u8])
     bytes.split_at(index_of(byte, bytes))
 }
 
-#[tactic(auto, unfolding(wit_model::specs::Reading::word_at))]
+#[tactic(auto, unfolding(wit_model::specs::Trace::Reading::word_at))]
 fn word(bytes: &[u8]) -> Result<(&[u8], &[u8]), LineError>
     ensures { Gives (λ x. (x.0.now, x.1.now)) result (word_at bytes.now) }
 {
@@ -100,7 +100,7 @@ fn number(most: u32, bytes: &[u8]) -> Result<(u32, &[u8]), LineError>
     Ok((number_of(most, word)?, rest))
 }
 
-#[tactic(auto, unfolding(wit_model::specs::Reading::seat_at))]
+#[tactic(auto, unfolding(wit_model::specs::Trace::Reading::seat_at))]
 pub fn seat(bytes: &[u8]) -> Result<(SeatNo, &[u8]), LineError>
     ensures { Gives (λ x. (x.0.0, x.1.now)) result (seat_at bytes.now) }
 {
@@ -108,7 +108,7 @@ pub fn seat(bytes: &[u8]) -> Result<(SeatNo, &[u8]), LineError>
     Ok((SeatNo(seat as u16), rest))
 }
 
-#[tactic(auto, unfolding(wit_model::specs::Reading::lock_at))]
+#[tactic(auto, unfolding(wit_model::specs::Trace::Reading::lock_at))]
 pub fn lock(bytes: &[u8]) -> Result<(LockNo, &[u8]), LineError>
     ensures { Gives (λ x. (x.0.0, x.1.now)) result (lock_at bytes.now) }
 {
@@ -117,7 +117,7 @@ pub fn lock(bytes: &[u8]) -> Result<(LockNo, &[u8]), LineError>
 }
 
 /// The bytes after a fixed word.
-#[tactic(auto, unfolding(wit_model::specs::Reading::fixed_at))]
+#[tactic(auto, unfolding(wit_model::specs::Trace::Reading::fixed_at))]
 pub fn fixed<'a>(text: &[u8], bytes: &'a [u8]) -> Result<&'a [u8], LineError>
     ensures { Gives (λ x. x.now) result (fixed_at text.now bytes.now) }
 {
@@ -130,14 +130,14 @@ pub fn fixed<'a>(text: &[u8], bytes: &'a [u8]) -> Result<&'a [u8], LineError>
 }
 
 /// A number behind a fixed word.
-#[tactic(auto, unfolding(wit_model::specs::Reading::count_at))]
+#[tactic(auto, unfolding(wit_model::specs::Trace::Reading::count_at))]
 pub fn count<'a>(label: &[u8], bytes: &'a [u8]) -> Result<(u32, &'a [u8]), LineError>
     ensures { Gives (λ x. (x.0, x.1.now)) result (behind label.now count_at bytes.now) }
 {
     number(u32::MAX, fixed(label, bytes)?)
 }
 
-#[tactic(auto, unfolding(wit_model::specs::Reading::mode_of))]
+#[tactic(auto, unfolding(wit_model::specs::Trace::Reading::mode_of))]
 pub fn mode(bytes: &[u8]) -> Result<(Mode, &[u8]), LineError>
     ensures { Gives (λ x. (x.0, x.1.now)) result (field_at mode_of bytes.now) }
 {
@@ -149,7 +149,7 @@ pub fn mode(bytes: &[u8]) -> Result<(Mode, &[u8]), LineError>
     }
 }
 
-#[tactic(auto, unfolding(wit_model::specs::Reading::class_of))]
+#[tactic(auto, unfolding(wit_model::specs::Trace::Reading::class_of))]
 pub fn class(bytes: &[u8]) -> Result<(Class, &[u8]), LineError>
     ensures { Gives (λ x. (x.0, x.1.now)) result (field_at class_of bytes.now) }
 {
@@ -179,7 +179,7 @@ fn bits_of(letters: &[u8], word: &[u8]) -> Option<u8>
     }
 }
 
-#[tactic(auto, unfolding(wit_model::specs::Reading::flags_of))]
+#[tactic(auto, unfolding(wit_model::specs::Trace::Reading::flags_of))]
 pub fn flags<'a>(letters: &[u8], bytes: &'a [u8]) -> Result<(u8, &'a [u8]), LineError>
     requires { length letters.now ≤ 8 }
     ensures { Gives (λ x. (x.0, x.1.now)) result (field_at (flags_of letters.now) bytes.now) }
@@ -232,7 +232,7 @@ fn file_name_of(alloc: Global, bytes: &[u8]) -> Result<FileName, LineError>
 }
 
 /// A name between quotation marks.
-#[tactic(auto, unfolding(wit_model::specs::Reading::quoted_at))]
+#[tactic(auto, unfolding(wit_model::specs::Trace::Reading::quoted_at))]
 pub fn name(alloc: Global, bytes: &[u8]) -> Result<(Name, &[u8]), LineError>
     ensures { Gives (λ x. (x.0, x.1.now)) result (quoted_at bytes.now) }
 {
@@ -256,7 +256,7 @@ pub fn name_if_any(alloc: Global, bytes: &[u8]) -> Result<(Option<Name>, &[u8]),
 }
 
 /// A type by its class and its name.
-#[tactic(auto, unfolding(wit_model::specs::Reading::type_at))]
+#[tactic(auto, unfolding(wit_model::specs::Trace::Reading::type_at))]
 fn listed_type(alloc: Global, bytes: &[u8]) -> Result<(Class, Name, &[u8]), LineError>
     ensures { Gives (λ x. ((x.0, x.1), x.2.now)) result (type_at bytes.now) }
 {
@@ -266,7 +266,7 @@ fn listed_type(alloc: Global, bytes: &[u8]) -> Result<(Class, Name, &[u8]), Line
 }
 
 /// One type or more, up to the end of the line.
-#[tactic(auto, using(crate::proofs::ListReading::no_first, crate::proofs::ListReading::reads_first, crate::proofs::ListReading::reads_next, crate::proofs::ListReading::reads_none, crate::proofs::ListReading::reads_end, wit_model::proofs::LineLaws::type_shorter))]
+#[tactic(auto, using(crate::proofs::ListReading::no_first, crate::proofs::ListReading::reads_first, crate::proofs::ListReading::reads_next, crate::proofs::ListReading::reads_none, crate::proofs::ListReading::reads_end, wit_model::proofs::Spelling::Laws::type_shorter))]
 pub fn list(alloc: Global, bytes: &[u8]) -> Result<TypeList, LineError>
     ensures { Gives (λ l. l) result (list_of bytes.now) }
 {
@@ -282,7 +282,7 @@ pub fn list(alloc: Global, bytes: &[u8]) -> Result<TypeList, LineError>
 }
 
 /// A file and a line.
-#[tactic(auto, unfolding(wit_model::specs::Reading::site_of))]
+#[tactic(auto, unfolding(wit_model::specs::Trace::Reading::site_of))]
 pub fn site(alloc: Global, bytes: &[u8]) -> Result<(FileName, u32, &[u8]), LineError>
     ensures { Gives (λ x. ((x.0, x.1), x.2.now)) result (field_at site_of bytes.now) }
 {

@@ -3,8 +3,8 @@
 ghost use Rattle.std.specs.Prelude.{◌≡◌, ◌≤◌, ◌<◌, ◌↔◌, length, IfOk, IfErr, Err, Some};
 ghost use Rattle.wit_model.specs.declared.lines.Line.{Line};
 ghost use Rattle.wit_model.specs.declared.lines.Cause.TheVariants.{Long};
-ghost use Rattle.wit_model.specs.Spelling.{Spells};
-ghost use Rattle.wit_model.specs.Reading.{header_of, order_of, bless_of, init_of, check_of, note_of, unlock_of, line_of};
+ghost use Rattle.wit_model.specs.Trace.Spelling.{Spells};
+ghost use Rattle.wit_model.specs.Trace.Reading.{header_of, order_of, bless_of, init_of, check_of, note_of, unlock_of, line_of};
 ghost use Rattle.wit_trace.specs.declared.errors.LineError.TheVariants.{Bad};
 ghost use Rattle.wit_trace.specs.Lines.{Gives, IsWhy};
 
@@ -35,7 +35,7 @@ pub fn parse_line(alloc: Global, bytes: &[u8]) -> Result<Line, LineError>
     line(alloc, bytes)
 }
 
-#[tactic(auto, unfolding(wit_model::specs::Reading::line_of))]
+#[tactic(auto, unfolding(wit_model::specs::Trace::Reading::line_of))]
 fn line(alloc: Global, bytes: &[u8]) -> Result<Line, LineError>
     ensures { Gives (λ l. l) result (line_of bytes.now) }
 {
@@ -59,7 +59,7 @@ fn line(alloc: Global, bytes: &[u8]) -> Result<Line, LineError>
     }
 }
 
-#[tactic(auto, unfolding(wit_model::specs::Reading::header_of))]
+#[tactic(auto, unfolding(wit_model::specs::Trace::Reading::header_of))]
 fn header(bytes: &[u8]) -> Result<Line, LineError>
     ensures { Gives (λ l. l) result (header_of bytes.now) }
 {
@@ -79,7 +79,7 @@ fn header(bytes: &[u8]) -> Result<Line, LineError>
     })
 }
 
-#[tactic(auto, unfolding(wit_model::specs::Reading::order_of))]
+#[tactic(auto, unfolding(wit_model::specs::Trace::Reading::order_of))]
 fn order(alloc: Global, bytes: &[u8]) -> Result<Line, LineError>
     ensures { Gives (λ l. l) result (order_of bytes.now) }
 {
@@ -87,7 +87,7 @@ fn order(alloc: Global, bytes: &[u8]) -> Result<Line, LineError>
     Ok(Line::Order { list })
 }
 
-#[tactic(auto, unfolding(wit_model::specs::Reading::bless_of))]
+#[tactic(auto, unfolding(wit_model::specs::Trace::Reading::bless_of))]
 fn bless(alloc: Global, bytes: &[u8]) -> Result<Line, LineError>
     ensures { Gives (λ l. l) result (bless_of bytes.now) }
 {
@@ -99,7 +99,7 @@ fn bless(alloc: Global, bytes: &[u8]) -> Result<Line, LineError>
     Ok(Line::Bless { first, second })
 }
 
-#[tactic(auto, unfolding(wit_model::specs::Reading::init_of))]
+#[tactic(auto, unfolding(wit_model::specs::Trace::Reading::init_of))]
 fn init(alloc: Global, bytes: &[u8]) -> Result<Line, LineError>
     ensures { Gives (λ l. l) result (init_of bytes.now) }
 {
@@ -121,7 +121,7 @@ fn init(alloc: Global, bytes: &[u8]) -> Result<Line, LineError>
     Ok(Line::Init { seat, lock })
 }
 
-#[tactic(auto, unfolding(wit_model::specs::Reading::check_of))]
+#[tactic(auto, unfolding(wit_model::specs::Trace::Reading::check_of))]
 fn check(alloc: Global, bytes: &[u8]) -> Result<Line, LineError>
     ensures { Gives (λ l. l) result (check_of bytes.now) }
 {
@@ -143,7 +143,7 @@ fn check(alloc: Global, bytes: &[u8]) -> Result<Line, LineError>
     })
 }
 
-#[tactic(auto, unfolding(wit_model::specs::Reading::note_of))]
+#[tactic(auto, unfolding(wit_model::specs::Trace::Reading::note_of))]
 fn lock(bytes: &[u8]) -> Result<Line, LineError>
     ensures { Gives (λ l. l) result (note_of bytes.now) }
 {
@@ -155,7 +155,7 @@ fn lock(bytes: &[u8]) -> Result<Line, LineError>
     Ok(Line::Lock { seat, lock })
 }
 
-#[tactic(auto, unfolding(wit_model::specs::Reading::unlock_of))]
+#[tactic(auto, unfolding(wit_model::specs::Trace::Reading::unlock_of))]
 fn unlock(bytes: &[u8]) -> Result<Line, LineError>
     ensures { Gives (λ l. l) result (unlock_of bytes.now) }
 {

@@ -3,8 +3,8 @@
 ghost use Rattle.std.specs.Prelude.{◌≡◌, ◌-◌, IfOk};
 ghost use Rattle.std.specs.List.{slice_index_or};
 ghost use Rattle.wit_core.specs.Listed.{listed};
-ghost use Rattle.wit_model.specs.Output.{Opening, empty_prelude, entered, is_prelude, opened};
-ghost use Rattle.wit_model.specs.Start.{start_fault};
+ghost use Rattle.wit_model.specs.Trace.Output.{Opening, empty_prelude, entered, is_prelude, opened};
+ghost use Rattle.wit_model.specs.Rules.Start.{start_fault};
 ghost use Rattle.wit_trace.specs.Replays.{Opens, Passes, prelude_of};
 
 use crate::outcome::Outcome;

@@ -2,8 +2,8 @@
 
 ghost use Rattle.std.specs.Prelude.{◌≡◌, ◌≤◌, ℕ, List, ◌++◌, ◌∷◌, ◌↔◌, length, IsTrue, IfOk, IfErr, OnOk, IfSome};
 ghost use Rattle.std.specs.Fmt.{decimal};
-ghost use Rattle.wit_model.specs.Names.{is_name};
-ghost use Rattle.wit_model.specs.Spelling.{class_text, mode_text, chosen_letters, flags_text, quoted, site_text, joined, lock_fields, list_fields, spelling, IsSpellableLock, IsSpellableList, IsSpellable};
+ghost use Rattle.wit_model.specs.Rules.Names.{is_name};
+ghost use Rattle.wit_model.specs.Trace.Spelling.{class_text, mode_text, chosen_letters, flags_text, quoted, site_text, joined, lock_fields, list_fields, spelling, IsSpellableLock, IsSpellableList, IsSpellable};
 ghost use Rattle.std.specs.List.{list_all};
 ghost use Rattle.wit_model.specs.declared.locks.Class.{Class};
 ghost use Rattle.wit_model.specs.declared.lines.Line.TheVariants.{Header, Order, Bless, Init, Check, Lock, Unlock};

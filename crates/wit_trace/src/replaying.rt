@@ -1,7 +1,7 @@
 //! The replay of a trace by the verifier.
 
 ghost use Rattle.std.specs.Prelude.{◌≡◌, ◌≤◌, ℕ, length, false, refl, Some, None, IfOk, OnErr};
-ghost use Rattle.wit_model.specs.Output.{Unstarted, reached, entered, outcome, bad_text, output_from, summed};
+ghost use Rattle.wit_model.specs.Trace.Output.{Unstarted, reached, entered, outcome, bad_text, output_from, summed};
 ghost use Rattle.wit_trace.specs.Replays.{ends_prelude, progress, total, Reaches, Passes, IsWritten, Shows};
 ghost use Rattle.wit_trace.specs.Stream.{WritesOutput, WritesFront};
 

@@ -1,14 +1,14 @@
 //! The texts of reports and of bad lines.
 
 ghost use Rattle.std.specs.Prelude.{◌≡◌, ◌∷◌, ◌++◌, length, find, reverse, string_bytes, IfOk, OnOk};
-ghost use Rattle.wit_model.specs.Locks.{lock_at};
-ghost use Rattle.wit_model.specs.Orders.{is_adoption_of};
-ghost use Rattle.wit_model.specs.Output.{told, cause_text, bad_text};
-ghost use Rattle.wit_model.specs.Paths.{path, type_numbers};
-ghost use Rattle.wit_model.specs.Spelling.{quoted};
-ghost use Rattle.wit_model.specs.State.{known_of, orders_of, types_of, typed_locks};
-ghost use Rattle.wit_model.specs.Texts.{heading_words, class_words, type_words, file_with, site_words, lock_line, conflict_lines, origin_words, order_line, order_lines, established};
-ghost use Rattle.wit_model.specs.Types.{type_name_of};
+ghost use Rattle.wit_model.specs.Rules.Locks.{lock_at};
+ghost use Rattle.wit_model.specs.Rules.Orders.{is_adoption_of};
+ghost use Rattle.wit_model.specs.Trace.Output.{told, cause_text, bad_text};
+ghost use Rattle.wit_model.specs.Trace.Paths.{path, type_numbers};
+ghost use Rattle.wit_model.specs.Trace.Spelling.{quoted};
+ghost use Rattle.wit_model.specs.Rules.State.{known_of, orders_of, types_of, typed_locks};
+ghost use Rattle.wit_model.specs.Trace.Texts.{heading_words, class_words, type_words, file_with, site_words, lock_line, conflict_lines, origin_words, order_line, order_lines, established};
+ghost use Rattle.wit_model.specs.Rules.Types.{type_name_of};
 ghost use Rattle.wit_model.specs.declared.calls.Reply.TheVariants.{Reversal};
 
 use std::alloc::{AllocError, Global};

@@ -1,5 +1,5 @@
 use Rattle.std.proofs.Common.{◌≡◌, ◌<◌, ℕ, length, get_or}
-use Rattle.wit_model.specs.State.{no_seat}
+use Rattle.wit_model.specs.Rules.State.{no_seat}
 use Rattle.wit_core.specs.declared.seats.Seat.{Seat}
 use Rattle.wit_core.specs.Rows.{seat_view, HasRoom}
 use Rattle.wit_core.proofs.books.free_seats.Given as goal

@@ -2,8 +2,8 @@ use Rattle.std.proofs.Common.{◌≡◌, ◌<◌, ℕ, false, List, [], length, 
 use Rattle.std.specs.List.{position_or_len}
 use Rattle.std.proofs.lemmas.List.Sums.{position_or_len_is}
 use Rattle.wit_model.specs.declared.locks.Instance.{Instance}
-use Rattle.wit_model.specs.Verdict.{is_of}
-use Rattle.wit_model.specs.History.{instance}
+use Rattle.wit_model.specs.Rules.Verdict.{is_of}
+use Rattle.wit_model.specs.Rules.History.{instance}
 use Rattle.wit_core.proofs.known.place_in.Goals as goal
 
 -- the first place at which the lock stands

@@ -1,5 +1,5 @@
 use Rattle.std.proofs.Common.{◌≡◌, ◌-◌, drop}
-use Rattle.wit_model.specs.Orders.{listed_pairs}
+use Rattle.wit_model.specs.Rules.Orders.{listed_pairs}
 use Rattle.wit_core.specs.Listed.{listed, CanBeAdopted}
 use Rattle.wit_core.proofs.lists.adopt_all.Given as goal
 

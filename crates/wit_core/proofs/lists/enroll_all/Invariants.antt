@@ -1,5 +1,5 @@
 use Rattle.std.proofs.Common.{◌≡◌, drop}
-use Rattle.wit_model.specs.Types.{enrolled_all}
+use Rattle.wit_model.specs.Rules.Types.{enrolled_all}
 use Rattle.wit_core.specs.Listed.{listed, CanBeEnrolled, KeepsRest}
 use Rattle.wit_core.proofs.lists.enroll_all.Given as goal
 

@@ -3,7 +3,7 @@ use Rattle.std.specs.Global.{Global}
 use Rattle.std.proofs.lemmas.Iterator.{YieldsList-from_slice}
 use Rattle.std.proofs.lemmas.Iterator.Search.{any_from_yields_List}
 use Rattle.wit_model.specs.declared.locks.Class.{Class}
-use Rattle.wit_model.specs.Start.{is_misclassed}
+use Rattle.wit_model.specs.Rules.Start.{is_misclassed}
 use Rattle.wit_core.specs.Listed.{entry_of, listed}
 use Rattle.wit_core.proofs.Listing.{any-map}
 use Rattle.wit_core.proofs.lists.has_other_class.Goals as goal

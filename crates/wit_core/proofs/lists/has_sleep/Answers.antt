@@ -3,7 +3,7 @@ use Rattle.std.specs.Global.{Global}
 use Rattle.std.proofs.lemmas.Iterator.{YieldsList-from_slice}
 use Rattle.std.proofs.lemmas.Iterator.Search.{any_from_yields_List}
 use Rattle.wit_model.specs.declared.locks.Class.{Class}
-use Rattle.wit_model.specs.Types.{is_spin}
+use Rattle.wit_model.specs.Rules.Types.{is_spin}
 use Rattle.wit_core.proofs.Listing.{any-map}
 use Rattle.wit_core.proofs.lists.has_sleep.Goals as goal
 

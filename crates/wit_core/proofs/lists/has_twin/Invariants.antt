@@ -1,5 +1,5 @@
 use Rattle.std.proofs.Common.{◌≡◌, ◌-◌, drop}
-use Rattle.wit_model.specs.Start.{has_twin}
+use Rattle.wit_model.specs.Rules.Start.{has_twin}
 use Rattle.wit_core.specs.Listed.{listed}
 use Rattle.wit_core.proofs.lists.has_twin.Given as goal
 

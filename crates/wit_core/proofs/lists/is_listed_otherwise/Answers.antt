@@ -4,7 +4,7 @@ use Rattle.std.specs.Str.{bytes_eq}
 use Rattle.std.proofs.lemmas.Iterator.{YieldsList-from_slice}
 use Rattle.std.proofs.lemmas.Iterator.Search.{any_from_yields_List}
 use Rattle.wit_model.specs.declared.locks.Class.{Class}
-use Rattle.wit_model.specs.Types.{is_same_class}
+use Rattle.wit_model.specs.Rules.Types.{is_same_class}
 use Rattle.wit_core.proofs.Listing.{any-map}
 use Rattle.wit_core.proofs.lists.is_listed_otherwise.Goals as goal
 

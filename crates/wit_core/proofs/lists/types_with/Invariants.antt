@@ -1,5 +1,5 @@
 use Rattle.std.proofs.Common.{◌≡◌, ◌≤◌, ◌+◌, length, take}
-use Rattle.wit_model.specs.Types.{enrolled_all}
+use Rattle.wit_model.specs.Rules.Types.{enrolled_all}
 use Rattle.wit_core.specs.Listed.{listed}
 use Rattle.wit_core.proofs.lists.types_with.Given as goal
 

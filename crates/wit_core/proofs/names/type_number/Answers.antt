@@ -1,5 +1,5 @@
 use Rattle.std.proofs.Common.{◌+◌, sym, ap, ◌∙◌}
-use Rattle.wit_model.proofs.Types.{number-new}
+use Rattle.wit_model.proofs.Orders.Types.{number-new}
 use Rattle.wit_core.proofs.names.type_number.Goals as goal
 
 pub returns-in-None : goal.returns-in-None

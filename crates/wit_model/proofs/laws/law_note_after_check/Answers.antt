@@ -1,5 +1,5 @@
 use Rattle.wit_model.proofs.laws.law_note_after_check.Goals as goal
-use Rattle.wit_model.proofs.Asked.{note_pending, note_checked}
+use Rattle.wit_model.proofs.Histories.Asked.{note_pending, note_checked}
 
 pub returns-clause-pending : goal.returns-clause-pending
 returns-clause-pending c = λ s t q legal is. note_pending s.start s.files s.history t q legal is

@@ -1,6 +1,6 @@
 use Rattle.std.proofs.Common.{sym, ◌∙◌}
-use Rattle.wit_model.proofs.Codecs.{some_is}
-use Rattle.wit_model.proofs.LineLaws.{spelled_again}
+use Rattle.wit_model.proofs.Spelling.Codecs.{some_is}
+use Rattle.wit_model.proofs.Spelling.Laws.{spelled_again}
 use Rattle.wit_model.proofs.laws.law_one_spelling.Goals as goal
 
 pub returns : goal.returns

@@ -1,4 +1,4 @@
-use Rattle.wit_model.proofs.LineLaws.{line_takes, spelled_again}
+use Rattle.wit_model.proofs.Spelling.Laws.{line_takes, spelled_again}
 use Rattle.wit_model.proofs.laws.law_reading_finds_spellings.Goals as goal
 
 pub returns : goal.returns

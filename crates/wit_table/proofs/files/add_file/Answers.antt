@@ -1,6 +1,6 @@
 use Rattle.std.proofs.Common.{◌++◌, ◌∷◌, [], List, ℕ, ap, ◌∙◌, string_bytes, if◌then◌else◌}
 use Rattle.std.proofs.lemmas.List.{map-append}
-use Rattle.wit_model.specs.Files.{is_known_file}
+use Rattle.wit_model.specs.Rules.Files.{is_known_file}
 use Rattle.wit_table.specs.Rows.{Text, texts}
 use Rattle.wit_table.proofs.Places.{list_any-texts}
 use Rattle.wit_table.proofs.files.add_file.Goals as goal

@@ -1,6 +1,6 @@
 use Rattle.std.proofs.Common.{◌≡◌, ◌+◌, ℕ, List, Option, None, Some, length, position, IfSome, IfNone, is_some, sym, ap, ◌∙◌}
 use Rattle.std.specs.Str.{bytes_eq}
-use Rattle.wit_model.specs.Files.{is_known_file, file_number}
+use Rattle.wit_model.specs.Rules.Files.{is_known_file, file_number}
 use Rattle.wit_table.specs.Rows.{Text, texts}
 use Rattle.wit_table.proofs.Places.{is_text, first_place, position_or_len-texts, position_or_len-none, list_any-texts}
 use Rattle.wit_table.proofs.files.place_of.Goals as goal

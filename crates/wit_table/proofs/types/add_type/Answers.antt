@@ -1,6 +1,6 @@
 use Rattle.std.proofs.Common.{◌≡◌, ◌++◌, ◌∷◌, [], List, ℕ, ap, ◌∙◌}
 use Rattle.std.proofs.lemmas.List.{map-append}
-use Rattle.wit_model.specs.Types.{is_enrolled}
+use Rattle.wit_model.specs.Rules.Types.{is_enrolled}
 use Rattle.wit_table.specs.declared.types.TypeRow.{TypeRow}
 use Rattle.wit_table.specs.Rows.{Text, type_in, types_in, live_in}
 use Rattle.wit_table.proofs.Places.{entries-new}

@@ -1,6 +1,6 @@
 use Rattle.std.proofs.Common.{◌≡◌, ◌+◌, ℕ, List, Option, None, Some, length, position, IfSome, IfNone, is_some, sym, ap, ◌∙◌}
 use Rattle.std.specs.Map.{keys_of}
-use Rattle.wit_model.specs.Types.{is_named, is_enrolled, type_number}
+use Rattle.wit_model.specs.Rules.Types.{is_named, is_enrolled, type_number}
 use Rattle.wit_table.specs.declared.types.TypeRow.{TypeRow}
 use Rattle.wit_table.specs.Rows.{Text, types_in}
 use Rattle.wit_table.proofs.Places.{is_text, first_place, position_or_len-types, position_or_len-none, is_some-lookup}

@@ -1,5 +1,5 @@
 use Rattle.std.proofs.Common.{subst}
-use Rattle.wit_model.specs.Files.{NamesFile}
+use Rattle.wit_model.specs.Rules.Files.{NamesFile}
 use Rattle.wit_trace.proofs.ReplayLemmas.{line_checked}
 use Rattle.wit_trace.proofs.calls.enter_line.Goals as goal
 

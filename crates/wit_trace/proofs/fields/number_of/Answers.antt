@@ -1,5 +1,5 @@
 use Rattle.std.proofs.Common.{◌≡◌, ◌+◌, true, refl, sym, ◌∙◌, arith}
-use Rattle.wit_model.specs.Reading.{is_numeral}
+use Rattle.wit_model.specs.Trace.Reading.{is_numeral}
 use Rattle.wit_trace.proofs.Numbers.{parsed_some, parsed_large, parsed_none}
 use Rattle.wit_trace.proofs.fields.number_of.Goals as goal
 

@@ -1,6 +1,6 @@
 use Rattle.std.proofs.Common.{◌≡◌, ℕ, length, refl, ap, drop, ◌∙◌, sym, arith}
 use Rattle.std.proofs.lemmas.List.{drop_all}
-use Rattle.wit_model.specs.Reading.{parted_at_last}
+use Rattle.wit_model.specs.Trace.Reading.{parted_at_last}
 use Rattle.wit_trace.proofs.Places.{parts_at, goes_on}
 use Rattle.wit_trace.proofs.fields.split_at_last.Goals as goal
 

@@ -1,5 +1,5 @@
 use Rattle.std.proofs.Common.{◌≡◌, None, drop}
-use Rattle.wit_model.specs.Reading.{parted_at_last}
+use Rattle.wit_model.specs.Trace.Reading.{parted_at_last}
 use Rattle.wit_trace.proofs.fields.split_at_last.Given as goal
 
 -- the byte stands nowhere behind

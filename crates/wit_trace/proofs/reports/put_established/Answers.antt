@@ -1,5 +1,5 @@
 use Rattle.std.proofs.Common.{string_bytes}
-use Rattle.wit_model.specs.State.{known_of}
+use Rattle.wit_model.specs.Rules.State.{known_of}
 use Rattle.wit_trace.proofs.ReportLemmas.{established-written}
 use Rattle.wit_trace.proofs.reports.put_established.Goals as goal
 

@@ -1,5 +1,5 @@
 use Rattle.std.proofs.Common.{string_bytes, arith}
-use Rattle.wit_model.specs.State.{typed_locks}
+use Rattle.wit_model.specs.Rules.State.{typed_locks}
 use Rattle.wit_trace.proofs.ReportLemmas.{lock-written}
 use Rattle.wit_trace.proofs.reports.put_lock.Goals as goal
 

@@ -1,5 +1,5 @@
 use Rattle.std.proofs.Common.{◌∙◌, string_bytes, arith, refl}
-use Rattle.wit_model.specs.State.{known_of}
+use Rattle.wit_model.specs.Rules.State.{known_of}
 use Rattle.wit_trace.proofs.ReportLemmas.{line-turn}
 use Rattle.wit_trace.proofs.reports.put_orders_from.Goals as goal
 

@@ -1,7 +1,7 @@
 use Rattle.std.proofs.Common.{◌≡◌, ◌∷◌, ◌++◌, drop, string_bytes}
-use Rattle.wit_model.specs.State.{known_of}
-use Rattle.wit_model.specs.Texts.{order_lines}
-use Rattle.wit_model.specs.Paths.{type_numbers}
+use Rattle.wit_model.specs.Rules.State.{known_of}
+use Rattle.wit_model.specs.Trace.Texts.{order_lines}
+use Rattle.wit_model.specs.Trace.Paths.{type_numbers}
 use Rattle.wit_trace.proofs.reports.put_orders_from.Given as goal
 
 -- what was written and what is still to come make the whole

@@ -5,9 +5,9 @@ use Rattle.wit_model.specs.declared.faults.Fault.{Fault}
 use Rattle.wit_model.specs.declared.locks.Class.{Class}
 use Rattle.wit_model.specs.declared.flags.LockFlags.{LockFlags}
 use Rattle.wit_model.specs.declared.calls.Reply.{Reply}
-use Rattle.wit_model.specs.Names.{is_name}
-use Rattle.wit_model.specs.State.{State, is_seat}
-use Rattle.wit_model.specs.Step.{step_init, is_pending, is_good_name}
+use Rattle.wit_model.specs.Rules.Names.{is_name}
+use Rattle.wit_model.specs.Rules.State.{State, is_seat}
+use Rattle.wit_model.specs.Rules.Step.{step_init, is_pending, is_good_name}
 use Rattle.wit_core.specs.Books.{state_in, new_lock, lock_answer}
 use Rattle.wit_core.proofs.books.Books.answer_init.Goals as goal
 

@@ -1,5 +1,5 @@
 use Rattle.std.proofs.Common.{◌≡◌, ◌++◌, drop}
-use Rattle.wit_model.specs.Start.{has_bad_pair}
+use Rattle.wit_model.specs.Rules.Start.{has_bad_pair}
 use Rattle.wit_core.specs.Listed.{pairs_of}
 use Rattle.wit_core.proofs.known.Knowledge.bless_all.Given as goal
 

@@ -1,5 +1,5 @@
 use Rattle.std.proofs.Common.{ap, ◌∙◌, arith}
-use Rattle.wit_model.specs.State.{Known}
+use Rattle.wit_model.specs.Rules.State.{Known}
 use Rattle.wit_core.specs.Knowledge.{known}
 use Rattle.wit_core.specs.Listed.{listed}
 use Rattle.wit_core.proofs.Going.{within-next}

@@ -1,5 +1,5 @@
 use Rattle.std.proofs.Common.{◌≡◌, ◌+◌, length, drop}
-use Rattle.wit_model.specs.Start.{lists_fault}
+use Rattle.wit_model.specs.Rules.Start.{lists_fault}
 use Rattle.wit_core.specs.Knowledge.{known, IsSized}
 use Rattle.wit_core.specs.Listed.{all_listed, with_lists, IsWithin}
 use Rattle.wit_core.proofs.known.Knowledge.enter_lists.Given as goal

@@ -5,10 +5,10 @@ use Rattle.wit_model.specs.declared.locks.TypeNo.{TypeNo}
 use Rattle.wit_model.specs.declared.calls.Request.{Request}
 use Rattle.wit_model.specs.declared.calls.Reply.{Reply}
 use Rattle.wit_model.specs.declared.faults.Fault.{Fault}
-use Rattle.wit_model.specs.Locks.{lock_at}
-use Rattle.wit_model.specs.Orders.{is_direct}
-use Rattle.wit_model.specs.State.{Known}
-use Rattle.wit_model.specs.Verdict.{type_in, violates, judged, ordered}
+use Rattle.wit_model.specs.Rules.Locks.{lock_at}
+use Rattle.wit_model.specs.Rules.Orders.{is_direct}
+use Rattle.wit_model.specs.Rules.State.{Known}
+use Rattle.wit_model.specs.Rules.Verdict.{type_in, violates, judged, ordered}
 use Rattle.wit_core.specs.Knowledge.{known, known_by}
 use Rattle.wit_core.proofs.known.Knowledge.ordered.Goals as goal
 

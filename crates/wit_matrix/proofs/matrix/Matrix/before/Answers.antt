@@ -1,6 +1,6 @@
 use Rattle.std.proofs.Common.{◌≡◌, ap, sym, ◌∙◌}
-use Rattle.wit_model.specs.Orders.{is_direct, is_before, is_found}
-use Rattle.wit_model.proofs.Paths.{before_from_test, test_from_before}
+use Rattle.wit_model.specs.Rules.Orders.{is_direct, is_before, is_found}
+use Rattle.wit_model.proofs.Orders.Paths.{before_from_test, test_from_before}
 use Rattle.wit_matrix.specs.Bytes.{has}
 use Rattle.wit_matrix.proofs.Bits.{has_ancestor}
 use Rattle.wit_matrix.proofs.matrix.Matrix.before.Goals as goal

@@ -1,6 +1,6 @@
 use Rattle.std.proofs.Common.{◌≡◌, false, ap, sym, ◌∙◌, subst, inl, inr, arith}
 use Rattle.std.proofs.lemmas.Bool.{cases_eq}
-use Rattle.wit_model.specs.Paths.{leads}
+use Rattle.wit_model.specs.Trace.Paths.{leads}
 use Rattle.wit_matrix.specs.Relation.{Relation}
 use Rattle.wit_matrix.proofs.Ways.{find_first, find_none}
 use Rattle.wit_matrix.proofs.matrix.Matrix.next_type.Goals as goal

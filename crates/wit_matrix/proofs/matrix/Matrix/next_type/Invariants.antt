@@ -1,5 +1,5 @@
 use Rattle.std.proofs.Common.{◌≡◌, ◌<◌, ◌≤◌, ℕ, false}
-use Rattle.wit_model.specs.Paths.{leads}
+use Rattle.wit_model.specs.Trace.Paths.{leads}
 use Rattle.wit_matrix.proofs.matrix.Matrix.next_type.Given as goal
 
 abbrev pub invariant-loop-number : goal.invariant-loop-number

@@ -1,6 +1,6 @@
 use Rattle.std.proofs.Common.{sym, subst, ◌∙◌}
-use Rattle.wit_model.specs.Orders.{IsSound}
-use Rattle.wit_model.specs.Paths.{way, type_numbers}
+use Rattle.wit_model.specs.Rules.Orders.{IsSound}
+use Rattle.wit_model.specs.Trace.Paths.{way, type_numbers}
 use Rattle.wit_matrix.specs.Relation.{Relation, OrdersAmong, LeadsBy}
 use Rattle.wit_matrix.proofs.Leading.{path_leads}
 use Rattle.wit_matrix.proofs.Settled.{direct_among}

@@ -1,5 +1,5 @@
 use Rattle.std.proofs.Common.{subst}
-use Rattle.wit_model.specs.Orders.{IsSound}
+use Rattle.wit_model.specs.Rules.Orders.{IsSound}
 use Rattle.wit_matrix.specs.Relation.{Relation}
 use Rattle.wit_matrix.proofs.matrix.Matrix.size.Goals as goal
 

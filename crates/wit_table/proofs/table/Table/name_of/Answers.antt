@@ -1,6 +1,6 @@
 use Rattle.std.proofs.Common.{◌≡◌, true, ap, ◌∙◌}
 use Rattle.wit_model.specs.declared.locks.LockType.{LockType}
-use Rattle.wit_model.specs.Names.{is_name}
+use Rattle.wit_model.specs.Rules.Names.{is_name}
 use Rattle.wit_table.specs.Rows.{types_in}
 use Rattle.wit_table.proofs.Places.{type_number-HasName, All-at}
 use Rattle.wit_table.proofs.table.Table.name_of.Goals as goal

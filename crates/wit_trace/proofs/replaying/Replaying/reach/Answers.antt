@@ -1,6 +1,6 @@
 use Rattle.std.proofs.Common.{sym, subst, ◌∙◌}
-use Rattle.wit_model.specs.Start.{start_fault}
-use Rattle.wit_model.specs.Output as output
+use Rattle.wit_model.specs.Rules.Start.{start_fault}
+use Rattle.wit_model.specs.Trace.Output as output
 use Rattle.wit_trace.specs.Replays.{Opens, prelude_of}
 use Rattle.wit_trace.proofs.ReplayLemmas.{reached-open}
 use Rattle.wit_trace.proofs.replaying.Replaying.reach.Goals as goal

@@ -1,5 +1,5 @@
 use Rattle.std.proofs.Common.{subst}
-use Rattle.wit_model.specs.Output.{reached}
+use Rattle.wit_model.specs.Trace.Output.{reached}
 use Rattle.wit_trace.specs.Replays.{progress, Reaches}
 use Rattle.wit_trace.proofs.ReplayLemmas.{told, bad}
 use Rattle.wit_trace.proofs.replaying.ReplayingMachine.line.Goals as goal

@@ -1,0 +1,118 @@
+-- The seats after an entry: one is set.
+use Rattle.std.proofs.Common.{◌≡◌, ℕ, zero, suc, ◌+◌, ◌-◌, ◌<◌, ◌≤◌, Bool, true, false, not, cond, List, ◌∷◌, map, set, get_or, find, Option, Some, None, refl, ap, ap₂, sym, ◌∙◌, arith}
+use Rattle.std.specs.List.{range_with_len}
+use Rattle.std.proofs.lemmas.Bool.{eq-eqb, ne_eqb}
+use Rattle.std.proofs.lemmas.List.FromFn.{get_or-map-range_with_len}
+use Rattle.wit_model.specs.declared.locks.Instance.{Instance}
+use Rattle.wit_model.specs.declared.calls.NewLock.{NewLock}
+use Rattle.wit_model.specs.declared.calls.Request.{Request}
+use Rattle.wit_model.specs.declared.calls.Call.{Call}
+use Rattle.wit_model.specs.declared.calls.Call.TheVariants.{Init, Check, Note, Unlock}
+use Rattle.wit_model.specs.declared.calls.Reply.{Reply}
+use Rattle.wit_model.specs.declared.calls.Reply.TheVariants.{Recorded}
+use Rattle.wit_model.specs.declared.calls.Entry.{Entry}
+use Rattle.wit_model.specs.declared.locks.LockNo.{LockNo}
+use Rattle.wit_model.specs.declared.locks.Mode.{Mode}
+use Rattle.wit_model.specs.Rules.Locks.{locks_of, is_spin_lock}
+use Rattle.wit_model.specs.Rules.Verdict.{is_of}
+use Rattle.wit_model.specs.Rules.History.{Act, Nothing, act, act_by, chain, pending, pending_after, asked_mode, asked_site}
+use Rattle.wit_model.specs.Rules.State.{Seat, seat_of, seats_of}
+use Rattle.wit_model.proofs.Chains.Sane.{IsSane}
+use Rattle.wit_model.proofs.Chains.After.{noted, unlocked, part_after, chain-step}
+
+-- a seat after an entry of its own, where these are the locks
+abbrev pub seat_after : List NewLock → Entry → Seat → Seat
+seat_after ls x s = record {
+  sleep = part_after false ls (act x.call x.reply) (asked_mode x.call s.pending) (asked_site x.call s.pending) s.sleep;
+  spin = part_after true ls (act x.call x.reply) (asked_mode x.call s.pending) (asked_site x.call s.pending) s.spin;
+  pending = pending_after x.call s.pending;
+}
+
+make : List Instance → List Instance → Option Request → Seat
+make sleep spin p = record { sleep = sleep; spin = spin; pending = p }
+
+seat_is : (h : List Entry) (t : ℕ) (sleep spin : List Instance) (p : Option Request) → chain false t h ≡ sleep → chain true t h ≡ spin → pending t h ≡ p → seat_of h t ≡ make sleep spin p
+unfolding make
+seat_is h t sleep spin p es en ep = ap₂ (λ c d. make c d (pending t h)) es en ∙ ap (λ q. make sleep spin q) ep
+
+pub act-own : (x : Entry) → act_by x.seat.0 x ≡ act x.call x.reply
+act-own x = rw (eq-eqb x.seat.0 x.seat.0 refl) refl
+
+pub act-other : (t : ℕ) (x : Entry) → (x.seat.0 ≡ t → ⊥) → act_by t x ≡ Nothing
+act-other t x other = rw (ne_eqb x.seat.0 t other) refl
+
+pub seat-own : (x : Entry) (h : List Entry) → IsSane (x ∷ h) → seat_of (x ∷ h) x.seat.0 ≡ seat_after (locks_of h) x (seat_of h x.seat.0)
+unfolding make
+seat-own x h sane =
+    let part = λ (k : Bool) (a : Act). part_after k (locks_of h) a (asked_mode x.call (pending x.seat.0 h)) (asked_site x.call (pending x.seat.0 h)) (chain k x.seat.0 h) in
+    seat_is (x ∷ h) x.seat.0 (part false (act x.call x.reply)) (part true (act x.call x.reply)) (pending_after x.call (pending x.seat.0 h))
+    (chain-step false x.seat.0 x h sane ∙ ap (λ a. part false a) (act-own x))
+    (chain-step true x.seat.0 x h sane ∙ ap (λ a. part true a) (act-own x))
+    (rw (eq-eqb x.seat.0 x.seat.0 refl) refl)
+
+pub seat-other : (t : ℕ) (x : Entry) (h : List Entry) → IsSane (x ∷ h) → (x.seat.0 ≡ t → ⊥) → seat_of (x ∷ h) t ≡ seat_of h t
+unfolding make
+seat-other t x h sane other =
+    let part = λ (k : Bool) (a : Act). part_after k (locks_of h) a (asked_mode x.call (pending t h)) (asked_site x.call (pending t h)) (chain k t h) in
+    seat_is (x ∷ h) t (chain false t h) (chain true t h) (pending t h)
+    (chain-step false t x h sane ∙ ap (λ a. part false a) (act-other t x other))
+    (chain-step true t x h sane ∙ ap (λ a. part true a) (act-other t x other))
+    (rw (ne_eqb x.seat.0 t other) refl)
+
+map-other : {X : Type 0} (f g : ℕ → X) (j : ℕ) → ((t : ℕ) → (j ≡ t → ⊥) → f t ≡ g t) → (a n : ℕ) → j < a → map f (range_with_len a n) ≡ map g (range_with_len a n)
+map-other f g j same a zero lt = refl
+map-other f g j same a (suc n) lt =
+    ap₂ (λ x xs. x ∷ xs) (same a (λ (e : j ≡ a). let no : ⊥ = omega arith in no)) (map-other f g j same (a + 1) n (omega arith))
+
+-- one value of a function's list is set
+map-set_one : {X : Type 0} (f g : ℕ → X) (j : ℕ) → ((t : ℕ) → (j ≡ t → ⊥) → f t ≡ g t) → (a n i : ℕ) → a + i ≡ j → i < n
+    → map f (range_with_len a n) ≡ set (map g (range_with_len a n)) i (f j)
+map-set_one f g j same a zero i at lt = absurd (omega arith)
+map-set_one f g j same a (suc n) zero at lt =
+    let here : a ≡ j = omega arith in ap₂ (λ x xs. x ∷ xs) (ap f here) (map-other f g j same (a + 1) n (omega arith))
+map-set_one f g j same a (suc n) (suc i) at lt =
+    ap₂ (λ x xs. x ∷ xs) (same a (λ (e : j ≡ a). let no : ⊥ = omega arith in no)) (map-set_one f g j same (a + 1) n i (omega arith) (omega arith))
+
+pub get_or-seats_of : (n t : ℕ) (h : List Entry) (s : Seat) → 0 < t → t ≤ n → get_or (seats_of n h) (t - 1) s ≡ seat_of h t
+get_or-seats_of n t h s some within = get_or-map-range_with_len (seat_of h) 1 n (t - 1) t s (omega arith) (omega arith)
+
+pub seats_of-set : (n : ℕ) (x : Entry) (h : List Entry) → IsSane (x ∷ h) → 0 < x.seat.0 → x.seat.0 ≤ n
+    → seats_of n (x ∷ h) ≡ set (seats_of n h) (x.seat.0 - 1) (seat_of (x ∷ h) x.seat.0)
+seats_of-set n x h sane some within =
+    map-set_one (seat_of (x ∷ h)) (seat_of h) x.seat.0 (λ t other. seat-other t x h sane other) 1 n (x.seat.0 - 1) (omega arith) (omega arith)
+
+-- the seats after an entry: its own is set to what its act leaves, by the step of a program
+pub seats_of-entry : (n : ℕ) (x : Entry) (h : List Entry) → IsSane (x ∷ h) → 0 < x.seat.0 → x.seat.0 ≤ n → (s : Seat)
+    → seats_of n (x ∷ h) ≡ set (seats_of n h) (x.seat.0 - 1) (seat_after (locks_of h) x (get_or (seats_of n h) (x.seat.0 - 1) s))
+seats_of-entry n x h sane some within s =
+    seats_of-set n x h sane some within
+    ∙ ap (λ r. set (seats_of n h) (x.seat.0 - 1) r)
+    (seat-own x h sane ∙ ap (λ q. seat_after (locks_of h) x q) (sym (get_or-seats_of n x.seat.0 h s some within)))
+
+-- an entry of the log
+abbrev pub entry : ℕ → Call → Reply → Entry
+entry t c r = record { seat = record { 0 = t }; call = c; reply = r }
+
+-- what each call leaves of its seat
+pub seat_after-init : (ls : List NewLock) (t : ℕ) (lock : NewLock) (r : Reply) (s : Seat) → seat_after ls (entry t (Init lock) r) s ≡ s
+seat_after-init ls t lock r s = refl
+
+pub seat_after-check : (ls : List NewLock) (t : ℕ) (q : Request) (r : Reply) (s : Seat) → seat_after ls (entry t (Check q) r) s ≡ record s { pending = Some q }
+seat_after-check ls t q r s = refl
+
+pub seat_after-note : (ls : List NewLock) (t : ℕ) (l : LockNo) (q : Request) (s : Seat) → s.pending ≡ Some q
+    → seat_after ls (entry t (Note l) Recorded) s ≡ record {
+      sleep = cond (not (is_spin_lock ls l.0)) (noted l.0 q.mode q.site s.sleep (find (is_of l.0) s.sleep)) s.sleep;
+      spin = cond (is_spin_lock ls l.0) (noted l.0 q.mode q.site s.spin (find (is_of l.0) s.spin)) s.spin;
+      pending = None;
+    }
+unfolding make
+seat_after-note ls t l q s asked = ap (λ (p : Option Request). seat_after ls (entry t (Note l) Recorded) (make s.sleep s.spin p)) asked
+
+pub seat_after-unlock : (ls : List NewLock) (t : ℕ) (l : LockNo) (m : Mode) (r : Reply) (s : Seat)
+    → seat_after ls (entry t (Unlock l m) r) s ≡ record {
+      sleep = cond (not (is_spin_lock ls l.0)) (unlocked l.0 s.sleep (find (is_of l.0) s.sleep)) s.sleep;
+      spin = cond (is_spin_lock ls l.0) (unlocked l.0 s.spin (find (is_of l.0) s.spin)) s.spin;
+      pending = s.pending;
+    }
+seat_after-unlock ls t l m r s = refl

@@ -1,0 +1,5 @@
+-- Legal histories: what acceptance says, and what stays so.
+pub mod Accepted
+pub mod Asked
+pub mod Legal
+pub mod NamedFiles

@@ -1,0 +1,101 @@
+-- A pending request was accepted: its note is accepted too.
+use Rattle.std.proofs.Common.{◌≡◌, ℕ, ◌<◌, ◌≤◌, Bool, true, not, cond, List, [], ◌∷◌, length, length-append, Option, Some, Result, Ok, Err, refl, ap, sym, ◌∙◌, subst, inl, inr, arith}
+use Rattle.std.proofs.lemmas.Bool.{eq-eqb, and_from, lt-ltb, le-leb}
+use Rattle.std.proofs.lemmas.Bool.Decides.{eqb_tells}
+use Rattle.std.proofs.lemmas.List.FromFn.{length-map-range_with_len}
+use Rattle.wit_model.specs.declared.faults.Fault.{Fault}
+use Rattle.wit_model.specs.declared.faults.Fault.TheVariants.{UnknownSeat, UnknownLock, NotRequested}
+use Rattle.wit_model.specs.declared.calls.Request.{Request}
+use Rattle.wit_model.specs.declared.calls.Call.{Call}
+use Rattle.wit_model.specs.declared.calls.Call.TheVariants.{Init, Check, Note, Unlock}
+use Rattle.wit_model.specs.declared.calls.Reply.{Reply}
+use Rattle.wit_model.specs.declared.calls.Reply.TheVariants.{Recorded}
+use Rattle.wit_model.specs.declared.calls.Entry.{Entry}
+use Rattle.wit_model.specs.Rules.Locks.{is_made, made_among}
+use Rattle.wit_model.specs.Rules.History.{pending, pending_after}
+use Rattle.wit_model.specs.Rules.State.{Start, Story, state_of, seat_of, seats_of, seat_at, is_seat, types_of, typed_locks}
+use Rattle.wit_model.specs.Rules.Step.{is_for, answer_of, story_after, logged, IsLegal}
+use Rattle.wit_model.proofs.Chains.Seats.{entry}
+use Rattle.wit_model.proofs.Orders.TypedLocks.{length-typed, made-known, known-made}
+use Rattle.wit_model.proofs.Histories.Accepted.{same-request, check_accepted}
+use Rattle.wit_model.proofs.Histories.Legal.{seat-within, pending-state}
+
+-- the request's seat is known, and its lock was made
+record IsGood (start : Start) (h : List Entry) (t : ℕ) (q : Request) : Type 0 where
+  seat : (0 < t) × (t ≤ start.sizes.seats)
+  lock : is_made (typed_locks start h) q.lock.0 ≡ true
+
+Asks : Start → List Entry → ℕ → Option Request → Type 0
+Asks start h t o = (q : Request) → o ≡ Some q → IsGood start h t q
+
+made-later : (start : Start) (x : Entry) (h : List Entry) (l : ℕ) → is_made (typed_locks start h) l ≡ true → is_made (typed_locks start (x ∷ h)) l ≡ true
+made-later start x h l is =
+    let was = made-known start h l is in
+    known-made start (x ∷ h) l (was.0, omega (arith, was.1, length-more x, length-typed start h, length-typed start (x ∷ h)))
+  where
+    length-more : (e : Entry) → length (typed_locks start h) ≤ length (typed_locks start (e ∷ h))
+    length-more e = omega (arith, length-append (typed_locks start h) (made_among (types_of start h) e.call))
+
+good-later : (start : Start) (x : Entry) (h : List Entry) (t : ℕ) (q : Request) → IsGood start h t q → IsGood start (x ∷ h) t q
+good-later start x h t q g = record { seat = g.seat; lock = made-later start x h q.lock.0 g.lock }
+
+asks_own : (start : Start) (files : List (List ℕ)) (h : List Entry) (t : ℕ) (c : Call) (r : Reply) → answer_of (story_after start files h) t c ≡ Ok r
+    → Asks start h t (pending t h) → Asks start (entry t c r ∷ h) t (pending_after c (pending t h))
+unfolding Asks
+asks_own start files h t (Init lock) r ok asks = λ q is. good-later start (entry t (Init lock) r) h t q (asks q is)
+asks_own start files h t (Check p) r ok asks = λ q is.
+    let a = check_accepted (state_of (story_after start files h)) t p r ok in
+    subst (λ (k : Request). IsGood start (entry t (Check p) r ∷ h) t k) (same-request p q is)
+    (good-later start (entry t (Check p) r) h t p (record { seat = seat-within start files h t a.seat; lock = a.lock }))
+asks_own start files h t (Note l) r ok asks = λ q is. absurd (cc)
+asks_own start files h t (Unlock l m) r ok asks = λ q is. good-later start (entry t (Unlock l m) r) h t q (asks q is)
+
+asks_by : (start : Start) (files : List (List ℕ)) (h : List Entry) (t : ℕ) (x : Entry) → answer_of (story_after start files h) x.seat.0 x.call ≡ Ok x.reply
+    → Asks start h t (pending t h) → Asks start (x ∷ h) t (pending t (x ∷ h))
+unfolding Asks
+asks_by start files h t x ok asks =
+    elim (eqb_tells x.seat.0 t) [
+      | inl e ↦ subst (λ s. Asks start (x ∷ h) s (pending s (x ∷ h))) e.1
+          (subst (λ o. Asks start (x ∷ h) x.seat.0 o) (sym (let own : pending x.seat.0 (x ∷ h) ≡ pending_after x.call (pending x.seat.0 h) = rw (eq-eqb x.seat.0 x.seat.0 refl) refl in own))
+          (asks_own start files h x.seat.0 x.call x.reply ok (subst (λ s. Asks start h s (pending s h)) (sym e.1) asks)))
+      | inr e ↦ subst (λ o. Asks start (x ∷ h) t o) (sym (let keep : pending t (x ∷ h) ≡ pending t h = rw e.0 refl in keep))
+          (λ q is. good-later start x h t q (asks q is))
+    ]
+
+asks_legal : (start : Start) (files : List (List ℕ)) (h : List Entry) (t : ℕ) → IsLegal start files h → Asks start h t (pending t h)
+unfolding Asks
+asks_legal start files [] t legal = λ q is. absurd (cc)
+asks_legal start files (x ∷ h) t legal = asks_by start files h t x legal.0 (asks_legal start files h t legal.1)
+
+-- a pending request's seat is known, and its lock was made
+pub asked-seat : (start : Start) (files : List (List ℕ)) (h : List Entry) (t : ℕ) (q : Request) → IsLegal start files h → pending t h ≡ Some q
+    → is_seat (state_of (story_after start files h)) t ≡ true
+unfolding Asks
+asked-seat start files h t q legal is =
+    let g = asks_legal start files h t legal q is in
+    and_from _ _ (lt-ltb 0 t g.seat.0) (le-leb t (length (seats_of start.sizes.seats h)) (omega (arith, g.seat.1, length-map-range_with_len (seat_of h) 1 start.sizes.seats)))
+
+pub asked-made : (start : Start) (files : List (List ℕ)) (h : List Entry) (t : ℕ) (q : Request) → IsLegal start files h → pending t h ≡ Some q
+    → is_made (typed_locks start h) q.lock.0 ≡ true
+unfolding Asks
+asked-made start files h t q legal is = (asks_legal start files h t legal q is).lock
+
+note_by : (a b c : Bool) → a ≡ true → b ≡ true → c ≡ true
+    → cond {A = Result Reply Fault} (not a) (Err UnknownSeat) (cond (not b) (Err UnknownLock) (cond (not c) (Err NotRequested) (Ok Recorded))) ≡ Ok Recorded
+note_by a b c isa isb isc = rw (isa, isb, isc) refl
+
+-- the note of a pending request is accepted
+pub note_pending : (start : Start) (files : List (List ℕ)) (h : List Entry) (t : ℕ) (q : Request) → IsLegal start files h → pending t h ≡ Some q
+    → answer_of (story_after start files h) t (Note q.lock) ≡ Ok Recorded
+note_pending start files h t q legal is =
+    let seat = asked-seat start files h t q legal is in
+    note_by (is_seat (state_of (story_after start files h)) t) (is_made (typed_locks start h) q.lock.0) (is_for q.lock.0 (seat_at (state_of (story_after start files h)) t).pending)
+    seat (asked-made start files h t q legal is)
+    (ap (λ o. is_for q.lock.0 o) (pending-state start files h t seat ∙ is) ∙ eq-eqb q.lock.0 q.lock.0 refl)
+
+-- and at once after its check
+pub note_checked : (s : Story) (t : ℕ) (q : Request) (r : Reply) → IsLegal s.start s.files s.history → answer_of s t (Check q) ≡ Ok r
+    → answer_of (logged s t (Check q) r) t (Note q.lock) ≡ Ok Recorded
+note_checked s t q r legal ok =
+    note_pending s.start s.files (entry t (Check q) r ∷ s.history) t q (ok, legal)
+    (let own : pending t (entry t (Check q) r ∷ s.history) ≡ Some q = rw (eq-eqb t t refl) refl in own)

@@ -1,0 +1,108 @@
+-- A legal history is sane; and what is read of its state.
+use Rattle.std.proofs.Common.{◌≡◌, ℕ, ◌<◌, ◌≤◌, Bool, true, false, ◌&&◌, cond, List, [], ◌∷◌, length, find, Some, Ok, refl, ap, ap₂, sym, ◌∙◌, subst, arith}
+use Rattle.std.proofs.lemmas.Bool.{and_parts, ltb-true, leb-true}
+use Rattle.std.proofs.lemmas.List.FromFn.{length-map-range_with_len}
+use Rattle.wit_model.specs.declared.locks.Mode.{Mode}
+use Rattle.wit_model.specs.declared.locks.LockNo.{LockNo}
+use Rattle.wit_model.specs.declared.locks.Instance.{Instance}
+use Rattle.wit_model.specs.declared.calls.Call.{Call}
+use Rattle.wit_model.specs.declared.calls.Call.TheVariants.{Init, Check, Note, Unlock}
+use Rattle.wit_model.specs.declared.calls.Reply.{Reply}
+use Rattle.wit_model.specs.declared.calls.Entry.{Entry}
+use Rattle.wit_model.specs.Rules.Locks.{locks_of, is_spin_lock, is_of_kind}
+use Rattle.wit_model.specs.Rules.History.{act, is_held, chain, instance, pending}
+use Rattle.wit_model.specs.Rules.State.{Start, State, Seat, state_of, seat_of, seats_of, seat_at, is_seat, no_seat}
+use Rattle.wit_model.specs.Rules.Verdict.{is_of}
+use Rattle.wit_model.specs.Rules.Step.{chain_for, held_by, step, answer_of, story_after, IsLegal}
+use Rattle.wit_model.proofs.Chains.Sane.{IsFit, IsSane}
+use Rattle.wit_model.proofs.Chains.HeldLocks.{num-of_held}
+use Rattle.wit_model.proofs.Chains.Found.{if_some, found}
+use Rattle.wit_model.proofs.Chains.Seats.{get_or-seats_of}
+use Rattle.wit_model.proofs.Orders.TypedLocks.{spin_at, made-known}
+use Rattle.wit_model.proofs.Histories.Accepted.{check_accepted, NoteAccepted, note_accepted, UnlockAccepted, unlock_accepted, init_accepted}
+
+-- a known seat is within the sizes
+pub seat-within : (start : Start) (files : List (List ℕ)) (h : List Entry) (t : ℕ) → is_seat (state_of (story_after start files h)) t ≡ true
+    → (0 < t) × (t ≤ start.sizes.seats)
+seat-within start files h t is =
+    let parts = and_parts _ _ is in
+    let le = leb-true t (length (seats_of start.sizes.seats h)) parts.1 in
+    (ltb-true 0 t parts.0, omega (arith, length-map-range_with_len (seat_of h) 1 start.sizes.seats))
+
+pub seat_at-state : (start : Start) (files : List (List ℕ)) (h : List Entry) (t : ℕ) → is_seat (state_of (story_after start files h)) t ≡ true
+    → seat_at (state_of (story_after start files h)) t ≡ seat_of h t
+seat_at-state start files h t is =
+    let within = seat-within start files h t is in
+    get_or-seats_of start.sizes.seats t h no_seat within.0 within.1
+
+pub pending-state : (start : Start) (files : List (List ℕ)) (h : List Entry) (t : ℕ) → is_seat (state_of (story_after start files h)) t ≡ true
+    → (seat_at (state_of (story_after start files h)) t).pending ≡ pending t h
+pending-state start files h t is = ap (λ (s : Seat). s.pending) (seat_at-state start files h t is)
+
+pub one_chain : (k : Bool) (t : ℕ) (h : List Entry) → cond k (seat_of h t).spin (seat_of h t).sleep ≡ chain k t h
+one_chain true t h = refl
+one_chain false t h = refl
+
+-- the chain of the lock's kind
+pub chain_for-state : (start : Start) (files : List (List ℕ)) (h : List Entry) (t l : ℕ) → is_seat (state_of (story_after start files h)) t ≡ true
+    → chain_for (state_of (story_after start files h)) t l ≡ chain (is_spin_lock (locks_of h) l) t h
+chain_for-state start files h t l is =
+    ap₂ (λ (b : Bool) (s : Seat). cond b s.spin s.sleep) (spin_at start h l) (seat_at-state start files h t is) ∙ one_chain (is_spin_lock (locks_of h) l) t h
+
+pub own_kind : (k : Bool) (h : List Entry) (l : ℕ) → is_spin_lock (locks_of h) l ≡ k → is_of_kind k (locks_of h) l ≡ true
+own_kind true h l is = is
+own_kind false h l is = rw is refl
+
+if_both : (b c : Bool) (i : Instance) → c ≡ true → if_some (b && c) i ≡ if_some b i
+if_both true c i is = rw is refl
+if_both false c i is = refl
+
+-- the lock as its seat holds it
+pub held_by-state : (start : Start) (files : List (List ℕ)) (h : List Entry) (t l : ℕ) → is_seat (state_of (story_after start files h)) t ≡ true → IsSane h
+    → held_by (state_of (story_after start files h)) t l ≡ if_some (is_held t l h) (instance t h l)
+held_by-state start files h t l is sane =
+    ap (λ c. find (is_of l) c) (chain_for-state start files h t l is)
+    ∙ found (is_spin_lock (locks_of h) l) t l h sane
+    ∙ if_both (is_held t l h) (is_of_kind (is_spin_lock (locks_of h) l) (locks_of h) l) (instance t h l) (own_kind (is_spin_lock (locks_of h) l) h l refl)
+
+some-held : (b : Bool) (i j : Instance) → if_some b i ≡ Some j → (b ≡ true) × (i ≡ j)
+some-held true i j e = (refl, let same : i ≡ j = cc in same)
+some-held false i j e = (cc)
+
+-- what an accepted release finds
+pub unlock-held : (start : Start) (files : List (List ℕ)) (h : List Entry) (t l : ℕ) (m : Mode) (r : Reply) → IsSane h
+    → (a : UnlockAccepted (state_of (story_after start files h)) t l m r) → (is_held t l h ≡ true) × (instance t h l ≡ a.instance)
+unlock-held start files h t l m r sane a =
+    some-held (is_held t l h) (instance t h l) a.instance (sym (held_by-state start files h t l a.seat sane) ∙ a.held)
+
+note-fit : (start : Start) (files : List (List ℕ)) (h : List Entry) (t : ℕ) (l : LockNo) (r : Reply)
+    → NoteAccepted (state_of (story_after start files h)) t l.0 r → IsFit (act (Note l) r) t h
+note-fit start files h t l r a = subst (λ q. IsFit (act (Note l) q) t h) (sym a.reply) (made-known start h l.0 a.lock)
+
+call-fit : (start : Start) (files : List (List ℕ)) (h : List Entry) (t : ℕ) (c : Call) (r : Reply) → IsSane h
+    → answer_of (story_after start files h) t c ≡ Ok r → IsFit (act c r) t h
+call-fit start files h t (Init lock) r sane ok = tt
+call-fit start files h t (Check q) r sane ok = tt
+call-fit start files h t (Note l) r sane ok = note-fit start files h t l r (note_accepted (state_of (story_after start files h)) t l.0 r ok)
+call-fit start files h t (Unlock l m) r sane ok =
+    num-of_held t l.0 h (unlock-held start files h t l.0 m r sane (unlock_accepted (state_of (story_after start files h)) t l.0 m r ok)).0
+
+pub sane_legal : (start : Start) (files : List (List ℕ)) (h : List Entry) → IsLegal start files h → IsSane h
+sane_legal start files [] legal = tt
+sane_legal start files (e ∷ h) legal =
+    (call-fit start files h e.seat.0 e.call e.reply (sane_legal start files h legal.1) legal.0, sane_legal start files h legal.1)
+
+-- an accepted call extends a legal history to a sane one
+pub sane_more : (start : Start) (files : List (List ℕ)) (h : List Entry) (x : Entry) → IsLegal start files h
+    → answer_of (story_after start files h) x.seat.0 x.call ≡ Ok x.reply → IsSane (x ∷ h)
+sane_more start files h x legal ok = sane_legal start files (x ∷ h) (ok, legal)
+
+-- the seat of an accepted call is known
+call-seat : (s : State) (t : ℕ) (c : Call) (r : Reply) → step s t c ≡ Ok r → is_seat s t ≡ true
+call-seat s t (Init lock) r ok = (init_accepted s t lock r ok).seat
+call-seat s t (Check q) r ok = (check_accepted s t q r ok).seat
+call-seat s t (Note l) r ok = (note_accepted s t l.0 r ok).seat
+call-seat s t (Unlock l m) r ok = (unlock_accepted s t l.0 m r ok).seat
+
+pub seat_accepted : (s : State) (t : ℕ) (c : Call) (r : Reply) → step s t c ≡ Ok r → is_seat s t ≡ true
+seat_accepted s t c r ok = call-seat s t c r ok

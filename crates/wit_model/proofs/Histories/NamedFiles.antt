@@ -1,0 +1,58 @@
+-- A history stays legal where more files are named.
+use Rattle.std.proofs.Common.{◌≡◌, ℕ, ◌≤◌, Bool, true, not, ◌&&◌, cond, nat_lt, nat_le, List, [], ◌∷◌, ◌++◌, length, Result, Ok, Err, ap, sym, ◌∙◌, arith, length-append}
+use Rattle.std.proofs.lemmas.Bool.{and_parts, and_from, leb-true, le-leb}
+use Rattle.wit_model.specs.declared.faults.Fault.{Fault}
+use Rattle.wit_model.specs.declared.faults.Fault.TheVariants.{UnknownSeat, UnknownLock, UnknownFile, ModeNotAllowed, Pending, RecursionTooDeep}
+use Rattle.wit_model.specs.declared.calls.Request.{Request}
+use Rattle.wit_model.specs.declared.calls.Call.{Call}
+use Rattle.wit_model.specs.declared.calls.Call.TheVariants.{Init, Check, Note, Unlock}
+use Rattle.wit_model.specs.declared.calls.Reply.{Reply}
+use Rattle.wit_model.specs.declared.calls.Entry.{Entry}
+use Rattle.wit_model.specs.Rules.Locks.{lock_at, is_made}
+use Rattle.wit_model.specs.Rules.State.{Start, State, state_of, is_seat}
+use Rattle.wit_model.specs.Rules.Verdict.{is_exclusive, verdict}
+use Rattle.wit_model.specs.Rules.Step.{chain_for, held_by, is_pending, is_file, is_shareable, is_deepest, with_room, answer_of, story_after, IsLegal}
+use Rattle.wit_model.proofs.Histories.Accepted.{check_accepted}
+
+-- the answer to a check, where the file is known or not
+check_with : State → ℕ → Request → Bool → Result Reply Fault
+check_with s t q known =
+    cond (not (is_seat s t)) (Err UnknownSeat)
+    (cond (not (is_made s.known.locks q.lock.0)) (Err UnknownLock)
+    (cond (not known) (Err UnknownFile)
+    (cond (not (is_exclusive q.mode) && not (is_shareable (lock_at s.known.locks q.lock.0).made.class)) (Err ModeNotAllowed)
+    (cond (is_pending s t) (Err Pending)
+    (cond (is_deepest (held_by s t q.lock.0)) (Err RecursionTooDeep)
+    (with_room s (verdict s.known q (chain_for s t q.lock.0))))))))
+
+file-more : (f n m : ℕ) → (nat_lt 0 f && nat_le f n) ≡ true → n ≤ m → (nat_lt 0 f && nat_le f m) ≡ true
+file-more f n m is le =
+    let parts = and_parts (nat_lt 0 f) (nat_le f n) is in
+    let within = leb-true f n parts.1 in
+    and_from (nat_lt 0 f) (nat_le f m) parts.0 (le-leb f m (omega arith))
+
+check-more : (start : Start) (files more : List (List ℕ)) (h : List Entry) (t : ℕ) (q : Request) (r : Reply)
+    → answer_of (story_after start files h) t (Check q) ≡ Ok r → answer_of (story_after start (files ++ more) h) t (Check q) ≡ Ok r
+unfolding check_with
+check-more start files more h t q r ok =
+    let known = (check_accepted (state_of (story_after start files h)) t q r ok).file in
+    let still = file-more q.site.file.0 (length files) (length (files ++ more)) known (omega (arith, length-append files more)) in
+    let e : check_with (state_of (story_after start (files ++ more) h)) t q (is_file (state_of (story_after start (files ++ more) h)) q.site.file.0)
+    ≡ check_with (state_of (story_after start files h)) t q (is_file (state_of (story_after start files h)) q.site.file.0)
+    = ap (λ b. check_with (state_of (story_after start files h)) t q b) (still ∙ sym known) in
+    e ∙ ok
+
+answer-more : (start : Start) (files more : List (List ℕ)) (h : List Entry) (t : ℕ) (c : Call) (r : Reply)
+    → answer_of (story_after start files h) t c ≡ Ok r → answer_of (story_after start (files ++ more) h) t c ≡ Ok r
+answer-more start files more h t (Init lock) r ok = ok
+answer-more start files more h t (Check q) r ok = check-more start files more h t q r ok
+answer-more start files more h t (Note l) r ok = ok
+answer-more start files more h t (Unlock l m) r ok = ok
+
+pub legal-more : (start : Start) (files more : List (List ℕ)) (h : List Entry) → IsLegal start files h → IsLegal start (files ++ more) h
+legal-more start files more [] legal = tt
+legal-more start files more (x ∷ h) legal = (answer-more start files more h x.seat.0 x.call x.reply legal.0, legal-more start files more h legal.1)
+
+-- one more file
+pub legal-named : (start : Start) (files : List (List ℕ)) (name : List ℕ) (h : List Entry) → IsLegal start files h → IsLegal start (files ++ name ∷ []) h
+legal-named start files name h legal = legal-more start files (name ∷ []) h legal

@@ -1,0 +1,7 @@
+-- Lock types and the orders between them.
+pub mod Among
+pub mod Paths
+pub mod Sound
+pub mod Started
+pub mod TypedLocks
+pub mod Types

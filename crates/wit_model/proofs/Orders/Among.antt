@@ -1,0 +1,253 @@
+-- Orders are between known types, and so is what a verdict tells.
+use Rattle.std.proofs.Common.{◌≡◌, ℕ, ◌≤◌, Bool, true, false, not, ◌&&◌, ◌||◌, cond, eqb, List, [], ◌∷◌, ◌++◌, length, reverse, find, Option, Some, None, Result, Ok, refl, ap, sym, ◌∙◌, subst, arith, length-append, ⊎_elim}
+use Rattle.std.specs.List.{list_all, last_or}
+use Rattle.std.proofs.lemmas.Bool.{and_parts, and_from, or_cases, eqb-true, false≢true}
+use Rattle.std.proofs.lemmas.List.{reverse-append}
+use Rattle.std.proofs.lemmas.List.Folds.{list_all-append}
+use Rattle.wit_model.specs.declared.faults.Fault.{Fault}
+use Rattle.wit_model.specs.declared.locks.Class.{Class}
+use Rattle.wit_model.specs.declared.locks.TypeNo.{TypeNo}
+use Rattle.wit_model.specs.declared.locks.Instance.{Instance}
+use Rattle.wit_model.specs.declared.locks.Origin.TheVariants.{Listed, At}
+use Rattle.wit_model.specs.declared.calls.Adoption.{Adoption}
+use Rattle.wit_model.specs.declared.calls.Conflict.{Conflict}
+use Rattle.wit_model.specs.declared.calls.Request.{Request}
+use Rattle.wit_model.specs.declared.calls.Call.{Call}
+use Rattle.wit_model.specs.declared.calls.Call.TheVariants.{Init, Check, Note, Unlock}
+use Rattle.wit_model.specs.declared.calls.Reply.{Reply}
+use Rattle.wit_model.specs.declared.calls.Reply.TheVariants.{Pass, Adopted, Silent, Reversal}
+use Rattle.wit_model.specs.declared.calls.Entry.{Entry}
+use Rattle.wit_model.specs.Rules.Types.{LockType, is_enrolled, type_number, enrolled, enrolled_all, listed_types, type_name_of, types_after}
+use Rattle.wit_model.specs.Rules.Locks.{locks_of, has_flag, lock_at, is_made, is_spin_lock}
+use Rattle.wit_model.specs.Rules.Orders.{is_adoption_of, is_direct, is_before, is_found, adopted_once, listed_pairs, listed_orders}
+use Rattle.wit_model.specs.Rules.History.{is_held, chain}
+use Rattle.wit_model.specs.Rules.State.{Start, Known, known_of, state_of, types_of, typed_locks, orders_of}
+use Rattle.wit_model.specs.Rules.Verdict.{is_exclusive, is_of, type_in, again, violates, is_blessed, conflict, judged, ordered, among, behind, verdict}
+use Rattle.wit_model.specs.Rules.Step.{chain_for, answer_of, story_after, IsLegal}
+use Rattle.wit_model.proofs.Chains.Held.{IsMade, made_sane}
+use Rattle.wit_model.proofs.Chains.Seats.{entry}
+use Rattle.wit_model.proofs.Orders.TypedLocks.{length-typed, made-known}
+use Rattle.wit_model.proofs.Orders.Types.{number-known, typed_made}
+use Rattle.wit_model.proofs.Histories.Accepted.{passed, same_reply, CheckAccepted, check_accepted}
+use Rattle.wit_model.proofs.Histories.Legal.{chain_for-state, sane_legal}
+use Rattle.wit_model.proofs.Orders.Started.{all-enrolled}
+use Rattle.wit_model.proofs.Orders.Sound.{taught, chain-held}
+
+-- a number of one of n types
+abbrev pub IsOneOf : ℕ → ℕ → Type 0
+IsOneOf n t = (1 ≤ t) × (t ≤ n)
+
+made-type : (start : Start) (h : List Entry) (l : ℕ) → IsMade l h → IsOneOf (length (types_of start h)) (lock_at (typed_locks start h) l).type_no.0
+made-type start h l is =
+    let t = typed_made start h l is.0 (omega (arith, is.1, length-typed start h)) in
+    let n = number-known (type_name_of (lock_at (typed_locks start h) l).made) (types_of start h) t.known in
+    (omega (arith, n.0, t.number), omega (arith, n.1, t.number))
+
+-- a lock that was made is of a known type
+pub lock-type : (start : Start) (h : List Entry) (l : ℕ) → is_made (typed_locks start h) l ≡ true → IsOneOf (length (types_of start h)) (lock_at (typed_locks start h) l).type_no.0
+lock-type start h l is = made-type start h l (made-known start h l is)
+
+-- an order that a check teaches: its types are known and differ, and the child isn't before the parent
+pub record IsOrderly (n : ℕ) (orders : List Adoption) (a b : ℕ) : Type 0 where
+  pub parent : IsOneOf n a
+  pub child : IsOneOf n b
+  pub apart : a ≡ b → ⊥
+  pub orderly : is_before orders b a ≡ false
+
+pub adopted-orderly : (start : Start) (files : List (List ℕ)) (h : List Entry) (t : ℕ) (q : Request) (a b : TypeNo) → IsLegal start files h
+    → CheckAccepted (state_of (story_after start files h)) t q (Adopted a b) → IsOrderly (length (types_of start h)) (orders_of start h) a.0 b.0
+adopted-orderly start files h t q a b legal accepted =
+    let l = taught start files h t q a b legal accepted in
+    record {
+      parent = subst (λ (x : TypeNo). IsOneOf (length (types_of start h)) x.0) l.parent (made-type start h l.last l.was);
+      child = subst (λ (x : TypeNo). IsOneOf (length (types_of start h)) x.0) l.child (made-type start h q.lock.0 l.asks);
+      apart = l.apart;
+      orderly = l.orderly;
+    }
+
+-- an element that is found from the end has what all have
+all-reverse : (p : Instance → Bool) (c : List Instance) → list_all p c ≡ true → list_all p (reverse c) ≡ true
+all-reverse p [] all = refl
+all-reverse p (x ∷ c) all =
+    let parts = and_parts (p x) (list_all p c) all in
+    ap (λ d. list_all p d) (reverse-append (x ∷ []) c) ∙ list_all-append p (reverse c) (x ∷ [])
+    ∙ and_from (list_all p (reverse c)) (list_all p (x ∷ [])) (all-reverse p c parts.1) (and_from (p x) true parts.0 refl)
+
+all-find : (p r : Instance → Bool) (c : List Instance) (i : Instance) → list_all p c ≡ true → find r c ≡ Some i → p i ≡ true
+all-find p r [] i all is = (cc)
+all-find p r (x ∷ c) i all is = go (r x) is (and_parts (p x) (list_all p c) all) (λ rest more. all-find p r c i rest more)
+  where
+    go : (b : Bool) → cond b (Some x) (find r c) ≡ Some i → (p x ≡ true) × (list_all p c ≡ true) → (list_all p c ≡ true → find r c ≡ Some i → p i ≡ true) → p i ≡ true
+    go true same parts ih = subst (λ j. p j ≡ true) (let e : x ≡ i = cc in e) parts.0
+    go false same parts ih = ih parts.1 same
+
+found-last : (p r : Instance → Bool) (c : List Instance) (i : Instance) → list_all p c ≡ true → find r (reverse c) ≡ Some i → p i ≡ true
+found-last p r c i all is = all-find p r (reverse c) i (all-reverse p c all) is
+
+-- the pair of types that a reply tells of a violation
+abbrev pair_of : Known → Reply → Option (TypeNo × TypeNo)
+pair_of k (Silent a b) = Some (a, b)
+pair_of k (Reversal x) = Some (type_in k x.held.lock.0, type_in k x.asked.lock.0)
+pair_of k _ = None
+
+-- the violating lock that a told pair comes from
+record IsTold (k : Known) (q : Request) (c : List Instance) (p : TypeNo × TypeNo) : Type 0 where
+  held : Instance
+  violation : find (violates k q) (reverse c) ≡ Some held
+  pair : (type_in k held.lock.0, type_in k q.lock.0) ≡ p
+
+tells_nothing : (k : Known) (r s : Reply) (p : TypeNo × TypeNo) → pair_of k r ≡ None → ◌≡◌ {A = Result Reply Fault} (Ok r) (Ok s) → pair_of k s ≡ Some p → ⊥
+tells_nothing k r s p none ok is =
+    let e : ◌≡◌ {A = Option (TypeNo × TypeNo)} None (Some p) = sym none ∙ (ap (λ r'. pair_of k r') (same_reply ok) ∙ is) in cc
+
+tells_this : (k : Known) (r s : Reply) (o p : TypeNo × TypeNo) → pair_of k r ≡ Some o → ◌≡◌ {A = Result Reply Fault} (Ok r) (Ok s) → pair_of k s ≡ Some p → o ≡ p
+tells_this k r s o p one ok is =
+    let e : ◌≡◌ {A = Option (TypeNo × TypeNo)} (Some o) (Some p) = sym one ∙ (ap (λ r'. pair_of k r') (same_reply ok) ∙ is) in cc
+
+again_tells_nothing : (k : Known) (q : Request) (i : Instance) (r : Reply) (p : TypeNo × TypeNo) → again k q i ≡ Ok r → pair_of k r ≡ Some p → ⊥
+again_tells_nothing k q i r p ok is =
+    let one = passed (is_exclusive i.mode && not (is_exclusive q.mode)) _ _ r ok in
+    let two = passed (not (is_exclusive i.mode) && is_exclusive q.mode) _ _ r one.1 in
+    let three = passed (has_flag q.ops.0 0x04) _ _ r two.1 in
+    let four = passed (is_exclusive i.mode && not (has_flag (lock_at k.locks q.lock.0).made.flags.0 0x01)) _ (Ok Pass) r three.1 in
+    tells_nothing k Pass r p refl four.1 is
+
+judged_told : (k : Known) (q : Request) (c : List Instance) (last : Instance) (o : Option Instance) (r : Reply) (p : TypeNo × TypeNo) → find (violates k q) (reverse c) ≡ o
+    → judged k q c last o ≡ Ok r → pair_of k r ≡ Some p → IsTold k q c p
+judged_told k q c last None r p sees ok is = absurd (go (has_flag q.ops.0 0x01) ok)
+  where
+    go : (f : Bool) → cond {A = Result Reply Fault} f (Ok (Adopted (type_in k last.lock.0) (type_in k q.lock.0))) (Ok Pass) ≡ Ok r → ⊥
+    go true same = tells_nothing k (Adopted (type_in k last.lock.0) (type_in k q.lock.0)) r p refl same is
+    go false same = tells_nothing k Pass r p refl same is
+judged_told k q c last (Some i) r p sees ok is =
+    record { held = i; violation = sees; pair = go (is_found k.found (type_in k i.lock.0).0 (type_in k q.lock.0).0 || is_blessed k (type_in k i.lock.0).0 (type_in k q.lock.0).0) ok }
+  where
+    go : (f : Bool) → cond {A = Result Reply Fault} f (Ok (Silent (type_in k i.lock.0) (type_in k q.lock.0))) (Ok (Reversal (conflict k q c i))) ≡ Ok r
+        → (type_in k i.lock.0, type_in k q.lock.0) ≡ p
+    go true same = tells_this k (Silent (type_in k i.lock.0) (type_in k q.lock.0)) r (type_in k i.lock.0, type_in k q.lock.0) p refl same is
+    go false same = tells_this k (Reversal (conflict k q c i)) r (type_in k i.lock.0, type_in k q.lock.0) p refl same is
+
+ordered_told : (k : Known) (q : Request) (c : List Instance) (last : Instance) (r : Reply) (p : TypeNo × TypeNo) → ordered k q c last ≡ Ok r → pair_of k r ≡ Some p → IsTold k q c p
+ordered_told k q c last r p ok is = go (is_direct k.orders (type_in k last.lock.0).0 (type_in k q.lock.0).0) ok
+  where
+    go : (f : Bool) → cond {A = Result Reply Fault} f (Ok Pass) (judged k q c last (find (violates k q) (reverse c))) ≡ Ok r → IsTold k q c p
+    go true same = absurd (tells_nothing k Pass r p refl same is)
+    go false same = judged_told k q c last (find (violates k q) (reverse c)) r p refl same is
+
+among_told : (k : Known) (q : Request) (c : List Instance) (last : Instance) (o : Option Instance) (r : Reply) (p : TypeNo × TypeNo) → among k q c last o ≡ Ok r → pair_of k r ≡ Some p
+    → IsTold k q c p
+among_told k q c last None r p ok is = ordered_told k q c last r p ok is
+among_told k q c last (Some i) r p ok is = absurd (again_tells_nothing k q i r p ok is)
+
+behind_told : (k : Known) (q : Request) (c : List Instance) (o : Option Instance) (r : Reply) (p : TypeNo × TypeNo) → behind k q c o ≡ Ok r → pair_of k r ≡ Some p → IsTold k q c p
+behind_told k q c None r p ok is = absurd (tells_nothing k Pass r p refl ok is)
+behind_told k q c (Some last) r p ok is = among_told k q c last (find (is_of q.lock.0) c) r p ok is
+
+told : (k : Known) (q : Request) (c : List Instance) (r : Reply) (p : TypeNo × TypeNo) → verdict k q c ≡ Ok r → pair_of k r ≡ Some p → IsTold k q c p
+told k q c r p ok is = behind_told k q c (last_or None c) r p ok is
+
+told-known : (start : Start) (files : List (List ℕ)) (h : List Entry) (t : ℕ) (q : Request) (r : Reply) (p : TypeNo × TypeNo) → IsLegal start files h
+    → CheckAccepted (state_of (story_after start files h)) t q r → pair_of (known_of start h) r ≡ Some p
+    → IsOneOf (length (types_of start h)) p.0.0 × IsOneOf (length (types_of start h)) p.1.0
+told-known start files h t q r p legal accepted is =
+    let l = told (known_of start h) q (chain_for (state_of (story_after start files h)) t q.lock.0) r p accepted.verdict is in
+    let held : is_held t l.held.lock.0 h ≡ true =
+    found-last (λ (i : Instance). is_held t i.lock.0 h) (violates (known_of start h) q) (chain (is_spin_lock (locks_of h) q.lock.0) t h) l.held
+    (chain-held (is_spin_lock (locks_of h) q.lock.0) t h)
+    (subst (λ c. find (violates (known_of start h) q) (reverse c) ≡ Some l.held) (chain_for-state start files h t q.lock.0 accepted.seat) l.violation) in
+    subst (λ (p' : TypeNo × TypeNo). IsOneOf (length (types_of start h)) p'.0.0 × IsOneOf (length (types_of start h)) p'.1.0) l.pair
+    (made-type start h l.held.lock.0 (made_sane t l.held.lock.0 h (sane_legal start files h legal) held), lock-type start h q.lock.0 accepted.lock)
+
+-- the pair that a silent check, or a reversal, tells is of known types
+pub silent-known : (start : Start) (files : List (List ℕ)) (h : List Entry) (t : ℕ) (q : Request) (a b : TypeNo) → IsLegal start files h
+    → CheckAccepted (state_of (story_after start files h)) t q (Silent a b) → IsOneOf (length (types_of start h)) a.0 × IsOneOf (length (types_of start h)) b.0
+silent-known start files h t q a b legal accepted = told-known start files h t q (Silent a b) (a, b) legal accepted refl
+
+pub reversal-known : (start : Start) (files : List (List ℕ)) (h : List Entry) (t : ℕ) (q : Request) (x : Conflict) → IsLegal start files h
+    → CheckAccepted (state_of (story_after start files h)) t q (Reversal x)
+    → IsOneOf (length (types_of start h)) (lock_at (typed_locks start h) x.held.lock.0).type_no.0 × IsOneOf (length (types_of start h)) (lock_at (typed_locks start h) x.asked.lock.0).type_no.0
+reversal-known start files h t q x legal accepted =
+    told-known start files h t q (Reversal x) (type_in (known_of start h) x.held.lock.0, type_in (known_of start h) x.asked.lock.0) legal accepted refl
+
+-- orders between n types
+AreAmong : ℕ → List Adoption → Type 0
+AreAmong n orders = (a b : ℕ) → is_direct orders a b ≡ true → IsOneOf n a × IsOneOf n b
+
+among_push : (n : ℕ) (o : Adoption) (orders : List Adoption) → AreAmong n orders → IsOneOf n o.parent.0 → IsOneOf n o.child.0 → AreAmong n (o ∷ orders)
+unfolding AreAmong
+among_push n o orders all parent child = λ a b is.
+    ⊎_elim
+    (λ new. let same = and_parts (eqb o.parent.0 a) (eqb o.child.0 b) new in
+    (subst (λ c. IsOneOf n c) (eqb-true o.parent.0 a same.0) parent, subst (λ c. IsOneOf n c) (eqb-true o.child.0 b same.1) child))
+    (λ old. all a b old)
+    (or_cases (is_adoption_of a b o) (is_direct orders a b) is)
+
+among_more : (n m : ℕ) (orders : List Adoption) → n ≤ m → AreAmong n orders → AreAmong m orders
+unfolding AreAmong
+among_more n m orders le all = λ a b is.
+    let both = all a b is in ((both.0.0, omega (arith, le, both.0.1)), (both.1.0, omega (arith, le, both.1.1)))
+
+-- types never become fewer
+more-enrolled : (name : List ℕ) (class : Class) (types : List LockType) → length types ≤ length (enrolled name class types)
+more-enrolled name class types = go (is_enrolled name types)
+  where
+    go : (b : Bool) → length types ≤ length (cond b types (types ++ record { name = name; class = class } ∷ []))
+    go true = omega arith
+    go false = omega (arith, length-append types (record { name = name; class = class } ∷ []))
+
+more-listed : (list : List (Class × List ℕ)) (types : List LockType) → length types ≤ length (enrolled_all list types)
+more-listed [] types = omega arith
+more-listed (e ∷ list) types = omega (arith, more-enrolled e.1 e.0 types, more-listed list (enrolled e.1 e.0 types))
+
+more-types : (c : Call) (types : List LockType) → length types ≤ length (types_after c types)
+more-types (Init lock) types = more-enrolled (type_name_of lock) lock.class types
+more-types (Check q) types = omega arith
+more-types (Note l) types = omega arith
+more-types (Unlock l m) types = omega arith
+
+among_once : (n a b : ℕ) (orders : List Adoption) → AreAmong n orders → IsOneOf n a → IsOneOf n b → AreAmong n (adopted_once a b Listed orders)
+among_once n a b orders all parent child = go (is_direct orders a b)
+  where
+    go : (f : Bool) → AreAmong n (cond f orders (record { parent = record { 0 = a }; child = record { 0 = b }; origin = Listed } ∷ orders))
+    go true = all
+    go false = among_push n (record { parent = record { 0 = a }; child = record { 0 = b }; origin = Listed }) orders all parent child
+
+-- the orders of a list are between its types
+among_list : (types : List LockType) (list : List (Class × List ℕ)) (orders : List Adoption) → list_all (λ (e : Class × List ℕ). is_enrolled e.1 types) list ≡ true
+    → AreAmong (length types) orders → AreAmong (length types) (listed_pairs types list orders)
+among_list types [] orders known all = all
+among_list types (a ∷ []) orders known all = all
+among_list types (a ∷ b ∷ list) orders known all =
+    let here = and_parts (is_enrolled a.1 types) (list_all (λ (e : Class × List ℕ). is_enrolled e.1 types) (b ∷ list)) known in
+    let next = and_parts (is_enrolled b.1 types) (list_all (λ (e : Class × List ℕ). is_enrolled e.1 types) list) here.1 in
+    among_list types (b ∷ list) (adopted_once (type_number a.1 types) (type_number b.1 types) Listed orders) here.1
+    (among_once (length types) (type_number a.1 types) (type_number b.1 types) orders all (number-known a.1 types here.0) (number-known b.1 types next.0))
+
+among_lists : (lists : List (List (Class × List ℕ))) (types : List LockType) (orders : List Adoption) → AreAmong (length types) orders
+    → AreAmong (length (listed_types lists types)) (listed_orders lists types orders)
+among_lists [] types orders all = all
+among_lists (list ∷ lists) types orders all =
+    among_lists lists (enrolled_all list types) (listed_pairs (enrolled_all list types) list orders)
+    (among_list (enrolled_all list types) list orders (all-enrolled list types) (among_more (length types) (length (enrolled_all list types)) orders (more-listed list types) all))
+
+among_none : AreAmong 0 []
+unfolding AreAmong
+among_none = λ a b is. absurd (false≢true is)
+
+among_by : (start : Start) (files : List (List ℕ)) (h : List Entry) (t : ℕ) (c : Call) (r : Reply) → IsLegal start files h
+    → answer_of (story_after start files h) t c ≡ Ok r → AreAmong (length (types_of start h)) (orders_of start h)
+    → AreAmong (length (types_of start (entry t c r ∷ h))) (orders_of start (entry t c r ∷ h))
+among_by start files h t (Check q) (Adopted a b) legal ok all =
+    let o = adopted-orderly start files h t q a b legal (check_accepted (state_of (story_after start files h)) t q (Adopted a b) ok) in
+    among_push (length (types_of start h)) (record { parent = a; child = b; origin = At q.site }) (orders_of start h) all o.parent o.child
+among_by start files h t c r legal ok all = among_more (length (types_of start h)) (length (types_after c (types_of start h))) (orders_of start h) (more-types c (types_of start h)) all
+
+among_legal : (start : Start) (files : List (List ℕ)) (h : List Entry) → IsLegal start files h → AreAmong (length (types_of start h)) (orders_of start h)
+among_legal start files [] legal = among_lists start.lists [] [] among_none
+among_legal start files (x ∷ h) legal = among_by start files h x.seat.0 x.call x.reply legal.1 legal.0 (among_legal start files h legal.1)
+
+-- adopted orders are between known types
+pub orders-among : (start : Start) (files : List (List ℕ)) (h : List Entry) → IsLegal start files h
+    → (a b : ℕ) → is_direct (orders_of start h) a b ≡ true → IsOneOf (length (types_of start h)) a × IsOneOf (length (types_of start h)) b
+unfolding AreAmong
+orders-among start files h legal = among_legal start files h legal

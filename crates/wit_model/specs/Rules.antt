@@ -1,0 +1,13 @@
+-- The rules of lock orders: what is held, which orders are known, and what each call is answered.
+pub mod Faults
+pub mod Files
+pub mod History
+pub mod Locks
+pub mod Names
+pub mod Orders
+pub mod Sizes
+pub mod Start
+pub mod State
+pub mod Step
+pub mod Types
+pub mod Verdict

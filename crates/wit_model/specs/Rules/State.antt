@@ -1,0 +1,131 @@
+-- The state of a verifier: what its rules speak of, taken over its history.
+use Rattle.std.specs.Prelude.{ℕ, ◌+◌, ◌-◌, Bool, true, false, ◌&&◌, nat_lt, nat_le, List, [], ◌∷◌, ◌++◌, Option, None, Some, map, length, sum_by}
+use Rattle.std.specs.List.{range_with_len, slice_index_or}
+use Rattle.wit_model.specs.declared.locks.Class.{Class}
+use Rattle.wit_model.specs.declared.locks.TypeNo.{TypeNo}
+use Rattle.wit_model.specs.declared.locks.Instance.{Instance}
+use Rattle.wit_model.specs.declared.calls.Adoption.{Adoption}
+use Rattle.wit_model.specs.declared.calls.Reply.{Reply}
+use Rattle.wit_model.specs.declared.calls.Reply.TheVariants.{Silent, Reversal}
+use Rattle.wit_model.specs.declared.calls.Request.{Request}
+use Rattle.wit_model.specs.declared.calls.Entry.{Entry}
+use Rattle.wit_model.specs.Rules.Sizes.{Sizes}
+use Rattle.wit_model.specs.Rules.Types.{LockType, listed_types, types_from}
+use Rattle.wit_model.specs.Rules.Locks.{Lock, made_among, lock_at}
+use Rattle.wit_model.specs.Rules.Orders.{listed_orders, orders_from, found_once}
+use Rattle.wit_model.specs.Rules.History.{chain, pending}
+
+-- what a verifier is made with: its sizes, static lists of types in order, and pairs of type names that may be
+-- taken in either order
+pub record Start : Type 0 where
+  pub sizes : Sizes
+  pub lists : List (List (Class × List ℕ))
+  pub blessed : List (List ℕ × List ℕ)
+
+-- a verifier as its callers see it: how it began, its history (newest entry first), and the files that were
+-- named to it (in the order of their numbers, from 1)
+pub record Story : Type 0 where
+  pub start : Start
+  pub history : List Entry
+  pub files : List (List ℕ)
+
+-- what a seat holds, of each kind oldest first, and what it has asked for
+pub record Seat : Type 0 where
+  pub sleep : List Instance
+  pub spin : List Instance
+  pub pending : Option Request
+
+abbrev pub seat_of : List Entry → ℕ → Seat
+seat_of h t = record { sleep = chain false t h; spin = chain true t h; pending = pending t h }
+
+-- the first n seats
+abbrev pub seats_of : ℕ → List Entry → List Seat
+seats_of n h = map (seat_of h) (range_with_len 1 n)
+
+-- the types enrolled: those of the lists, then those of the locks made
+abbrev pub types_of : Start → List Entry → List LockType
+types_of start h = types_from (listed_types start.lists []) h
+
+-- the orders adopted, newest first: those of the lists, then those that the requests taught
+abbrev pub orders_of : Start → List Entry → List Adoption
+orders_of start h = orders_from (listed_orders start.lists [] []) h
+
+-- the locks made, oldest first, each with its type's number at the time (numbers stay, since types only grow)
+abbrev pub typed_locks : Start → List Entry → List Lock
+typed_locks start [] = []
+typed_locks start (e ∷ h) = typed_locks start h ++ made_among (types_of start h) e.call
+
+-- the pairs of types found in violation, once a reply names one
+abbrev pub found_after : List Lock → Reply → List (TypeNo × TypeNo) → List (TypeNo × TypeNo)
+found_after locks (Silent a b) pairs = found_once a b pairs
+found_after locks (Reversal c) pairs = found_once (lock_at locks c.held.lock.0).type_no (lock_at locks c.asked.lock.0).type_no pairs
+found_after _ _ pairs = pairs
+
+-- the pairs of types found in violation, newest first
+abbrev pub found_of : Start → List Entry → List (TypeNo × TypeNo)
+found_of start [] = []
+found_of start (e ∷ h) = found_after (typed_locks start h) e.reply (found_of start h)
+
+-- what is known of types, locks and orders, and the pairs of type names that may be taken in either order
+pub record Known : Type 0 where
+  pub types : List LockType
+  pub locks : List Lock
+  pub orders : List Adoption
+  pub found : List (TypeNo × TypeNo)
+  pub blessed : List (List ℕ × List ℕ)
+
+abbrev pub known_of : Start → List Entry → Known
+known_of start h = record {
+  types = types_of start h;
+  locks = typed_locks start h;
+  orders = orders_of start h;
+  found = found_of start h;
+  blessed = start.blessed;
+}
+
+pub record State : Type 0 where
+  pub sizes : Sizes
+  pub files : ℕ
+  pub known : Known
+  pub seats : List Seat
+  pub used : ℕ
+
+abbrev pub state_of : Story → State
+state_of s = record {
+  sizes = s.start.sizes;
+  files = length s.files;
+  known = known_of s.start s.history;
+  seats = seats_of s.start.sizes.seats s.history;
+  used = length s.history;
+}
+
+abbrev pub no_seat : Seat
+no_seat = record { sleep = []; spin = []; pending = None }
+
+-- the seat with this number
+abbrev pub seat_at : State → ℕ → Seat
+seat_at s t = slice_index_or s.seats (t - 1) no_seat
+
+abbrev pub is_seat : State → ℕ → Bool
+is_seat s t = nat_lt 0 t && nat_le t (length s.seats)
+
+-- the acquisitions in a chain, recursions counted
+abbrev pub recorded_in : List Instance → ℕ
+recorded_in c = sum_by (λ (i : Instance). i.count + 1) c
+
+-- a pending request will be noted and released
+abbrev pub owed_for : Option Request → ℕ
+owed_for None = 0
+owed_for (Some q) = 2
+
+-- the log entries that a seat will still need
+abbrev pub owed_by : Seat → ℕ
+owed_by s = recorded_in s.sleep + recorded_in s.spin + owed_for s.pending
+
+-- those of all seats
+abbrev pub owed : State → ℕ
+owed s = sum_by owed_by s.seats
+
+-- whether the log has room for n entries beside those that are owed
+abbrev pub has_room : State → ℕ → Bool
+has_room s n = nat_le (s.used + owed s + n) s.sizes.log

@@ -1,0 +1,151 @@
+-- What a verifier answers to a call, and which histories are legal. In each call the faults stand in the order in
+-- which they apply; want of memory is never among them.
+use Rattle.std.specs.Prelude.{ℕ, ◌+◌, ◌≡◌, Bool, true, false, not, ◌&&◌, ◌||◌, ◌==◌, nat_lt, nat_le, List, [], ◌∷◌, Option, None, Some, Result, Ok, Err, find, length, codes, is_some, if◌then◌else◌, ◌⊎◌}
+use Rattle.std.specs.List.{list_any}
+use Rattle.std.specs.Str.{bytes_eq}
+use Rattle.wit_model.specs.declared.faults.Fault.{Fault}
+use Rattle.wit_model.specs.declared.faults.Fault.TheVariants.{UnknownSeat, UnknownLock, ClassMismatch, TypesFull, LocksFull, RecursionTooDeep, NotLocked, SharedUnlock, ExclusiveUnlock, ForbiddenUnlock, Pending, NotRequested, LogFull, OutOfMemory, BadName, ModeNotAllowed, UnknownFile, NotYet}
+use Rattle.wit_model.specs.declared.locks.Class.{Class}
+use Rattle.wit_model.specs.declared.locks.Class.TheVariants.{SleepMutex, Rw, Sx}
+use Rattle.wit_model.specs.declared.locks.Mode.{Mode}
+use Rattle.wit_model.specs.declared.locks.Instance.{Instance}
+use Rattle.wit_model.specs.declared.calls.NewLock.{NewLock}
+use Rattle.wit_model.specs.declared.calls.Request.{Request}
+use Rattle.wit_model.specs.declared.calls.Call.{Call}
+use Rattle.wit_model.specs.declared.calls.Call.TheVariants.{Init, Check, Note, Unlock}
+use Rattle.wit_model.specs.declared.calls.Reply.{Reply}
+use Rattle.wit_model.specs.declared.calls.Reply.TheVariants.{Made, Recorded, Unlocked}
+use Rattle.wit_model.specs.declared.calls.Entry.{Entry}
+use Rattle.wit_model.specs.Rules.Names.{is_name}
+use Rattle.wit_model.specs.Rules.Types.{type_name_of, type_number, is_enrolled, is_otherwise, is_same_class, is_spin}
+use Rattle.wit_model.specs.Rules.Locks.{Lock, has_flag, lock_at, is_made}
+use Rattle.wit_model.specs.Rules.State.{Start, Story, State, state_of, seat_at, is_seat, has_room}
+use Rattle.wit_model.specs.Rules.Verdict.{is_exclusive, is_of, verdict}
+
+-- the chain of the lock's kind
+abbrev pub chain_for : State → ℕ → ℕ → List Instance
+chain_for s t l = if is_spin (lock_at s.known.locks l).made.class then (seat_at s t).spin else (seat_at s t).sleep
+
+-- the lock as the seat holds it
+abbrev pub held_by : State → ℕ → ℕ → Option Instance
+held_by s t l = find (is_of l) (chain_for s t l)
+
+abbrev pub is_pending : State → ℕ → Bool
+is_pending s t = is_some (seat_at s t).pending
+
+-- whether the request is for this lock
+abbrev pub is_for : ℕ → Option Request → Bool
+is_for l None = false
+is_for l (Some q) = q.lock.0 == l
+
+abbrev pub is_good_name : Option (List ℕ) → Bool
+is_good_name None = true
+is_good_name (Some name) = is_name name
+
+-- what isn't built yet: another class, a recursable lock, Giant, and a second lock of a type
+abbrev pub is_not_yet : State → NewLock → Bool
+is_not_yet s lock =
+    not (is_same_class lock.class SleepMutex) || (has_flag lock.flags.0 0x01 || (bytes_eq (type_name_of lock) (codes "Giant")
+    || list_any (λ (other : Lock). other.type_no.0 == type_number (type_name_of lock) s.known.types) s.known.locks))
+
+abbrev pub step_init : State → ℕ → NewLock → Result Reply Fault
+step_init s t lock =
+    if not (is_seat s t) then Err UnknownSeat
+    else if is_pending s t then Err Pending
+    else if not (is_name lock.name && is_good_name lock.type_name) then Err BadName
+    else if is_otherwise (type_name_of lock) lock.class s.known.types then Err ClassMismatch
+    else if not (is_enrolled (type_name_of lock) s.known.types) && nat_le s.sizes.types (length s.known.types) then Err TypesFull
+    else if nat_le s.sizes.locks (length s.known.locks) then Err LocksFull
+    else if is_not_yet s lock then Err NotYet
+    else if not (has_room s 1) then Err LogFull
+    else Ok (Made (record { 0 = length s.known.locks + 1 }))
+
+-- a site's file is one that was named
+abbrev pub is_file : State → ℕ → Bool
+is_file s f = nat_lt 0 f && nat_le f s.files
+
+-- mutexes are never held shared (mutex(9))
+abbrev pub is_shareable : Class → Bool
+is_shareable Rw = true
+is_shareable Sx = true
+is_shareable _ = false
+
+-- whether the recursion count has its greatest value
+abbrev pub is_deepest : Option Instance → Bool
+is_deepest None = false
+is_deepest (Some i) = i.count == 65535
+
+-- a verdict that isn't a fault needs room for the check, its note and its unlock
+abbrev pub with_room : State → Result Reply Fault → Result Reply Fault
+with_room s (Err fault) = Err fault
+with_room s (Ok reply) = if has_room s 3 then Ok reply else Err LogFull
+
+abbrev pub step_check : State → ℕ → Request → Result Reply Fault
+step_check s t q =
+    if not (is_seat s t) then Err UnknownSeat
+    else if not (is_made s.known.locks q.lock.0) then Err UnknownLock
+    else if not (is_file s q.site.file.0) then Err UnknownFile
+    else if not (is_exclusive q.mode) && not (is_shareable (lock_at s.known.locks q.lock.0).made.class) then Err ModeNotAllowed
+    else if is_pending s t then Err Pending
+    else if is_deepest (held_by s t q.lock.0) then Err RecursionTooDeep
+    else with_room s (verdict s.known q (chain_for s t q.lock.0))
+
+abbrev pub step_note : State → ℕ → ℕ → Result Reply Fault
+step_note s t l =
+    if not (is_seat s t) then Err UnknownSeat
+    else if not (is_made s.known.locks l) then Err UnknownLock
+    else if not (is_for l (seat_at s t).pending) then Err NotRequested
+    else Ok Recorded
+
+-- a release in this mode of a lock held so; None where it isn't held
+abbrev pub released : Mode → Option Instance → Result Reply Fault
+released m None = Err NotLocked
+released m (Some i) =
+    if is_exclusive i.mode && not (is_exclusive m) then Err SharedUnlock
+    else if not (is_exclusive i.mode) && is_exclusive m then Err ExclusiveUnlock
+    else if (i.count == 0) && i.norelease then Err ForbiddenUnlock
+    else Ok Unlocked
+
+abbrev pub step_unlock : State → ℕ → ℕ → Mode → Result Reply Fault
+step_unlock s t l m =
+    if not (is_seat s t) then Err UnknownSeat
+    else if not (is_made s.known.locks l) then Err UnknownLock
+    else if is_pending s t then Err Pending
+    else released m (held_by s t l)
+
+-- the answer to a call of seat t
+abbrev pub step : State → ℕ → Call → Result Reply Fault
+step s t (Init lock) = step_init s t lock
+step s t (Check q) = step_check s t q
+step s t (Note l) = step_note s t l.0
+step s t (Unlock l m) = step_unlock s t l.0 m
+
+abbrev pub answer_of : Story → ℕ → Call → Result Reply Fault
+answer_of story t call = step (state_of story) t call
+
+abbrev pub story_after : Start → List (List ℕ) → List Entry → Story
+story_after start files h = record { start = start; history = h; files = files }
+
+-- each entry's reply is the answer after the entries before it
+abbrev pub IsLegal : Start → List (List ℕ) → List Entry → Type 0
+IsLegal start files [] = Unit {0}
+IsLegal start files (e ∷ h) = (answer_of (story_after start files h) e.seat.0 e.call ≡ Ok e.reply) × IsLegal start files h
+
+-- the story with one more entry
+abbrev pub logged : Story → ℕ → Call → Reply → Story
+logged s t call reply = record s { history = record { seat = record { 0 = t }; call = call; reply = reply } ∷ s.history }
+
+-- an accepted call gets the step's reply and is logged with it; a refused one gets the step's fault and changes nothing
+abbrev pub Answers : Story → ℕ → Call → Result Reply Fault → Story → Type 0
+Answers old t call (Ok reply) new = (answer_of old t call ≡ Ok reply) × (new ≡ logged old t call reply)
+Answers old t call (Err fault) new = (answer_of old t call ≡ Err fault) × (new ≡ old)
+
+abbrev pub IsAccepted : Result Reply Fault → Type 0
+IsAccepted (Ok reply) = Unit {0}
+IsAccepted (Err fault) = ⊥
+
+-- the same, where a growth may be refused in place of an acceptance: then too nothing changes
+abbrev pub AnswersOrFails : Story → ℕ → Call → Result Reply Fault → Story → Type 0
+AnswersOrFails old t call (Ok reply) new = (answer_of old t call ≡ Ok reply) × (new ≡ logged old t call reply)
+AnswersOrFails old t call (Err fault) new =
+    ((answer_of old t call ≡ Err fault) ⊎ ((fault ≡ OutOfMemory) × IsAccepted (answer_of old t call))) × (new ≡ old)

@@ -1,0 +1,6 @@
+-- Traces: their lines, the texts of reports, and what a replay writes.
+pub mod Output
+pub mod Paths
+pub mod Reading
+pub mod Spelling
+pub mod Texts

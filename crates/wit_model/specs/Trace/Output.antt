@@ -1,0 +1,172 @@
+-- What a replay writes for a trace, and what it sums up.
+use Rattle.std.specs.Prelude.{ℕ, ◌+◌, ◌-◌, Bool, ◌||◌, nat_lt, List, [], ◌∷◌, ◌++◌, length, take, Option, None, Some, Result, Ok, Err, codes, if◌then◌else◌}
+use Rattle.std.specs.Fmt.{decimal}
+use Rattle.std.specs.List.{slice_index_or}
+use Rattle.std.specs.Str.{bytes_eq}
+use Rattle.wit_model.specs.declared.faults.Fault.{Fault}
+use Rattle.wit_model.specs.declared.lines.Line.{Line}
+use Rattle.wit_model.specs.declared.lines.Line.TheVariants.{Header, Order, Bless, Init, Check, Lock, Unlock}
+use Rattle.wit_model.specs.declared.lines.Cause as cause
+use Rattle.wit_model.specs.declared.lines.Cause.TheVariants as why
+use Rattle.wit_model.specs.declared.locks.Class.{Class}
+use Rattle.wit_model.specs.declared.calls.Call.{Call}
+use Rattle.wit_model.specs.declared.calls.Call.TheVariants as call
+use Rattle.wit_model.specs.declared.calls.Reply.{Reply}
+use Rattle.wit_model.specs.Rules.Faults.{fault_text}
+use Rattle.wit_model.specs.Rules.Files.{file_answer, files_after}
+use Rattle.wit_model.specs.Rules.History.{reports_of}
+use Rattle.wit_model.specs.Trace.Reading.{line_of}
+use Rattle.wit_model.specs.Rules.Sizes.{Sizes, sizes_of, are_within}
+use Rattle.wit_model.specs.Rules.Start.{start_fault}
+use Rattle.wit_model.specs.Rules.State.{Start, Story, known_of}
+use Rattle.wit_model.specs.Rules.Step.{answer_of, logged}
+use Rattle.wit_model.specs.Trace.Texts.{report_text}
+
+-- a prelude so far: how the verifier is to start, and the number of each list's line
+pub record Prelude : Type 0 where
+  pub start : Start
+  pub lines : List ℕ
+
+-- how far the reading is: before the header, in the prelude, or behind it, with the verifier's story
+pub data Progress : Type 0 where
+  Unstarted : Progress
+  Opening : Prelude → Progress
+  Reading : Story → Progress
+
+-- what becomes of a line: the reading goes on, having written a text; or the line is bad
+pub data Outcome : Type 0 where
+  Goes : Progress → List ℕ → Outcome
+  Bad : cause.Cause → Outcome
+
+-- nothing but the sizes
+abbrev pub empty_prelude : Sizes → Prelude
+empty_prelude sizes = record { start = record { sizes = sizes; lists = []; blessed = [] }; lines = [] }
+
+-- one more list, from the line with this number
+abbrev pub with_list : Prelude → ℕ → List (Class × List ℕ) → Prelude
+with_list p n list = record { start = record p.start { lists = p.start.lists ++ list ∷ [] }; lines = p.lines ++ n ∷ [] }
+
+-- one more pair that may be taken in either order
+abbrev pub with_pair : Prelude → List ℕ → List ℕ → Prelude
+with_pair p a b = record p { start = record p.start { blessed = p.start.blessed ++ (a, b) ∷ [] } }
+
+abbrev pub fresh_story : Start → Story
+fresh_story start = record { start = start; history = []; files = [] }
+
+-- the number of a bad line, and why it is bad
+abbrev pub BadLine : Type 0
+BadLine = ℕ × cause.Cause
+
+-- whether a line begins as those of the prelude do
+abbrev pub is_prelude : List ℕ → Bool
+is_prelude line = bytes_eq (take 6 line) (codes "order ") || bytes_eq (take 6 line) (codes "bless ")
+
+-- the lists are entered: one that is refused is bad at its own line
+abbrev pub opened : Prelude → Option (ℕ × Fault) → Result Progress BadLine
+opened p None = Ok (Reading (fresh_story p.start))
+opened p (Some refused) = Err (slice_index_or p.lines (refused.0 - 1) 0, why.Fault refused.1)
+
+-- where the reading stands when a line is looked at: before a line that doesn't begin as those of the prelude do, and at the
+-- end of the input, the prelude ends
+abbrev pub reached : Progress → List ℕ → Result Progress BadLine
+reached (Opening p) line = if is_prelude line then Ok (Opening p) else opened p (start_fault p.start)
+reached p line = Ok p
+
+-- the text of a reply, as things stand once it was given
+abbrev pub told : Story → Reply → List ℕ
+told s reply = report_text (known_of s.start s.history) s.files reply
+
+-- a call is made: its reply is logged and told, or the line is bad
+abbrev pub called : Story → ℕ → Call → Result Reply Fault → Outcome
+called s t call (Ok reply) = Goes (Reading (logged s t call reply)) (told (logged s t call reply) reply)
+called s t call (Err fault) = Bad (why.Fault fault)
+
+abbrev pub makes : Story → ℕ → Call → Outcome
+makes s t call = called s t call (answer_of s t call)
+
+-- a line with a site enters its file first
+abbrev pub at_file : Story → (Story → ℕ → Outcome) → List ℕ → Result ℕ Fault → Outcome
+at_file s next file (Ok n) = next (record s { files = files_after file s.files }) n
+at_file s next file (Err fault) = Bad (why.Fault fault)
+
+-- the log's limit in a replay
+abbrev pub log_limit : ℕ
+log_limit = 16777216
+
+-- a line behind the prelude makes its call
+abbrev pub calls : Story → Line → Outcome
+calls s (Init seat lock) = makes s seat.0 (call.Init lock)
+calls s (Check seat lock mode ops file line) =
+    at_file s (λ s' n. makes s' seat.0 (call.Check (record { lock = lock; site = record { file = record { 0 = n }; line = line }; mode = mode; ops = ops }))) file (file_answer file s.files)
+calls s (Lock seat lock) = makes s seat.0 (call.Note lock)
+calls s (Unlock seat lock mode) = makes s seat.0 (call.Unlock lock mode)
+calls s _ = Bad why.Syntax
+
+-- a line in its place, with its number
+abbrev pub entered : Progress → ℕ → Line → Outcome
+entered Unstarted n (Header seats types locks chunks) =
+    if are_within (sizes_of seats types locks chunks log_limit) then Goes (Opening (empty_prelude (sizes_of seats types locks chunks log_limit))) [] else Bad why.Limit
+entered (Opening p) n (Order list) = Goes (Opening (with_list p n list)) []
+entered (Opening p) n (Bless first second) = Goes (Opening (with_pair p first second)) []
+entered (Reading s) n line = calls s line
+entered _ n line = Bad why.Syntax
+
+abbrev pub read_as : Progress → ℕ → Option Line → Outcome
+read_as p n None = Bad why.Syntax
+read_as p n (Some line) = entered p n line
+
+-- a whole line, without its line feed
+abbrev pub outcome : Progress → ℕ → List ℕ → Outcome
+outcome p n line = if nat_lt 4096 (length line) then Bad why.Long else read_as p n (line_of line)
+
+abbrev pub cause_text : cause.Cause → List ℕ
+cause_text why.Long = codes "long"
+cause_text why.Cut = codes "cut"
+cause_text why.Syntax = codes "syntax"
+cause_text why.Limit = codes "limit"
+cause_text (why.Fault fault) = fault_text fault
+
+-- the text of a bad line, by its number
+abbrev pub bad_text : ℕ → cause.Cause → List ℕ
+bad_text n cause = codes "line " ++ (decimal n ++ (codes ": " ++ (cause_text cause ++ 10 ∷ [])))
+
+-- what a replay comes to: the calls logged, the reports among them, and the bad line that ended it
+pub record Total : Type 0 where
+  pub calls : ℕ
+  pub reports : ℕ
+  pub bad : Option BadLine
+
+pub record Written : Type 0 where
+  pub text : List ℕ
+  pub summed : Total
+
+abbrev pub summed : Progress → Option BadLine → Total
+summed (Reading s) bad = record { calls = length s.history; reports = reports_of s.history; bad = bad }
+summed _ bad = record { calls = 0; reports = 0; bad = bad }
+
+-- the reading ends at a bad line, or after the last whole line
+abbrev pub ends_bad : Progress → BadLine → Written
+ends_bad p bad = record { text = bad_text bad.0 bad.1; summed = summed p (Some bad) }
+
+abbrev pub ends : Progress → ℕ → List ℕ → Written
+ends Unstarted n [] = ends_bad Unstarted (n, why.Cut)
+ends p n [] = record { text = []; summed = summed p None }
+ends p n (b ∷ tail) = ends_bad p (n, if nat_lt 4096 (length (b ∷ tail)) then why.Long else why.Cut)
+
+abbrev pub before : List ℕ → Written → Written
+before text w = record { text = text ++ w.text; summed = w.summed }
+
+-- what follows a line
+abbrev pub output_after : Progress → ℕ → Outcome → (Progress → Written) → Written
+output_after p n (Goes q text) next = before text (next q)
+output_after p n (Bad cause) next = ends_bad p (n, cause)
+
+-- what follows once the reading stands there, unless a list was refused
+abbrev pub output_at : Progress → Result Progress BadLine → (Progress → Written) → Written
+output_at p (Ok q) next = next q
+output_at p (Err bad) next = ends_bad p bad
+
+-- from here on, where the next line has number n, these whole lines and this unfinished one are to come
+abbrev pub output_from : Progress → ℕ → List (List ℕ) → List ℕ → Written
+output_from p n [] tail = output_at p (reached p tail) (λ q. ends q n tail)
+output_from p n (line ∷ lines) tail = output_at p (reached p line) (λ q. output_after q n (outcome q n line) (λ r. output_from r (n + 1) lines tail))
