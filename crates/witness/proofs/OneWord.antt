@@ -1,11 +1,16 @@
--- What clap's definitions make of one word.
-use Rattle.std.proofs.Common.{◌≡◌, ◌∙◌, ℕ, Bool, true, false, zero, suc, List, [], ◌∷◌, Option, Some, None, length, refl, sym, ap, codes, if◌then◌else◌, slice_get, arith}
+-- What clap's definitions make of one word, and which view it names.
+use Rattle.std.proofs.Common.{◌≡◌, ◌∙◌, ℕ, Bool, true, false, zero, suc, List, [], ◌∷◌, Option, Some, None, IfNone, Result, Ok, Err, MatchResult, length, refl, sym, ap, subst, codes, if◌then◌else◌, get_or, slice_get, IsUtf8, arith}
+use Rattle.std.proofs.lemmas.Slice.Eq.{bytes_eq-Decides}
+use Rattle.std.specs.Global.{Vec}
+use Rattle.std.specs.Result.{result_ok}
 use Rattle.std.specs.Str.{bytes_eq, chars}
 use Rattle.clap.specs.Words.{Rule, Text, first_of, matches_of, takes, built}
 use Rattle.clap.specs.Lexer.{long_of, short_of}
 use Rattle.clap.specs.Walk.{Held, Step, trailing, after_flag, after_step, bundle_met, bundle_step, finished, idle, long_or_other, nothing_held, plain, short_or_plain, value, walk_from, walked}
 use Rattle.clap.proofs.OnLiterals.{clap_on_literals}
-use Rattle.witness.specs.CommandLine.{command, only_word}
+use Rattle.wit_model.specs.declared.lines.View.{View}
+use Rattle.wit_model.specs.declared.lines.View.TheVariants.{Reports}
+use Rattle.witness.specs.CommandLine.{asked, bytes_of, command, named, only_word, option_named}
 
 -- the rules that clap reads the words by
 abbrev pub rules : List Rule
@@ -83,3 +88,36 @@ replay_passes [] e = cc
 replay_passes (name ∷ []) e = cc
 replay_passes (name ∷ word ∷ []) e = ap (λ (w : Text). takes command (name ∷ w ∷ [])) (same_text _ _ e)
 replay_passes (name ∷ word ∷ third ∷ more) e = cc
+
+none_unless : (b : Bool) → (b ≡ true → ⊥) → (if b then Some Reports else None) ≡ None
+none_unless true h = absurd (h refl)
+none_unless false h = refl
+
+-- a word names no view where it isn't `replay`
+pub unnamed : (word : Text) → (word ≡ codes "replay" → ⊥) → named word ≡ None
+unnamed word h = none_unless (bytes_eq word (codes "replay")) (λ e. h ((bytes_eq-Decides word (codes "replay")).0 e))
+
+pub unnamed_option : (word : Option Text) → (word ≡ Some (codes "replay") → ⊥) → None ≡ option_named word
+unnamed_option None h = refl
+unnamed_option (Some word) h = sym (unnamed word (λ e. h (ap Some e)))
+
+replay_is_text : IsUtf8 (codes "replay")
+unfolding clap_on_literals
+replay_is_text = (codes "replay", (refl, refl))
+
+-- bytes that are no text name no view
+pub unnamed_bytes : (word : List ℕ) → (IsUtf8 word → ⊥) → named word ≡ None
+unnamed_bytes word h = unnamed word (λ e. h (subst IsUtf8 (sym e) replay_is_text))
+
+-- words of which the first names no view ask for none
+pub unasked : (words : List (Vec ℕ)) (word : Vec ℕ) → word ≡ get_or words 0 word → named word.items ≡ None → asked (bytes_of words) ≡ None
+unasked [] word at unnamed = refl
+unasked (first ∷ []) word at unnamed = ap (λ (w : Vec ℕ). named w.items) (sym at) ∙ unnamed
+unasked (first ∷ second ∷ more) word at unnamed = refl
+
+-- where nothing is left of a result it was an error
+pub none_of_error : {T E : Type 0} (A : T → Type 0) (B : E → Type 0) (P : Type 0) (r : Result T E) (o : Option T)
+    → o ≡ result_ok r → MatchResult r A B → ((e : E) → B e → P) → IfNone o P
+none_of_error A B P r (Some x) is cases f = tt
+none_of_error A B P (Ok x) None is cases f = cc
+none_of_error A B P (Err e) None is cases f = f e cases

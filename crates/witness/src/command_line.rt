@@ -1,21 +1,44 @@
 //! The command line: exactly one word, which names a view.
 
-ghost use Rattle.std.specs.Prelude.{◌≡◌, ◌↔◌, IfOk, IfErr, IsSome, Some, true, codes, map, option_map};
+ghost use Rattle.std.specs.Prelude.{◌≡◌, [], ◌∷◌, IfOk, IfErr, IfSome, IfNone, None, true, codes, map, option_map};
 ghost use Rattle.clap.specs.Words.{first_of, kind_of, matches_of, takes};
-ghost use Rattle.witness.specs.CommandLine.{command, only_word};
+ghost use Rattle.witness.specs.CommandLine.{asked, bytes_of, command, named, only_word, option_named};
 
 use clap::error::ErrorKind;
 use clap::{Arg, ArgAction, Command, Error};
 use std::alloc::{AllocError, Global};
 use std::convert::AsStr;
+use std::str;
 use wit_model::View;
 
-/// The view that these words ask for, the first of which is the program's name: `None` where the rest
-/// isn't exactly one word that names a view. No option names one, nor does a word for help. The error
-/// is want of memory.
-pub fn asked_view<'a, S: AsStr>(alloc: Global, words: &'a [S]) -> Result<Option<View>, AllocError>
-    ensures { IfOk result (λ view.
-        IsSome view ↔ (only_word (map S.text words.entry.now) ≡ Some (codes "replay"))) }
+/// The view that these words ask for, which stand behind the program's name: `None` where they aren't
+/// exactly one word that names a view. No option names one, nor does a word for help.
+///
+/// # Errors
+/// Want of memory.
+pub fn asked_view(alloc: Global, words: &[Vec<u8>]) -> Result<Option<View>, AllocError>
+    ensures { IfOk result (λ view. view ≡ asked (bytes_of words.now)) }
+{
+    match only_text(words) {
+        Some(word) => view_of(alloc, &["witness", word]),
+        None => Ok(None),
+    }
+}
+
+// The only word, where it is a text: all that names a view is.
+fn only_text(words: &[Vec<u8>]) -> Option<&str>
+    ensures text { IfSome result (λ word. bytes_of words.now ≡ word.now ∷ []) }
+    ensures none { IfNone result (asked (bytes_of words.now) ≡ None) }
+{
+    match words {
+        [word] => str::from_utf8(word.as_slice()).ok(),
+        _ => None,
+    }
+}
+
+// The view that clap reads from the words of a command line, of which the first is the program's name.
+fn view_of<'a, S: AsStr>(alloc: Global, words: &'a [S]) -> Result<Option<View>, AllocError>
+    ensures { IfOk result (λ view. view ≡ option_named (only_word (map S.text words.entry.now))) }
 {
     if words.len() != 2 {
         return Ok(None);
@@ -47,13 +70,10 @@ fn asked_word<'a, S: AsStr>(alloc: Global, words: &'a [S]) -> Result<Option<&'a 
 }
 
 fn named_view(word: &str) -> Option<View>
-    ensures { IsSome result ↔ (word.now ≡ codes "replay") }
+    ensures { result ≡ named word.now }
 {
     match word {
         "replay" => Some(View::Reports),
         _ => None,
     }
 }
-
-#[cfg(test)]
-mod tests;

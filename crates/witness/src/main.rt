@@ -2,10 +2,28 @@
 #![tactic(auto)]
 
 mod command_line;
+mod complaints;
 mod program;
+#[cfg(test)]
+mod tests;
+mod words;
 
+use crate::complaints::fail;
+use crate::program::run;
+use crate::words::words_of;
 use std::process::ExitCode;
+use wit_trace::ReplayError;
 
 fn main(rt: HostRuntime) -> ExitCode {
-    ExitCode::from(program::run(&rt))
+    let (mut output, mut complaints) = (rt.stdout(), rt.stderr());
+    ExitCode::from(match words_of(&rt, rt.alloc()) {
+        Ok(words) => run(
+            rt.alloc(),
+            words.as_slice(),
+            rt.reader(),
+            &mut output,
+            &mut complaints,
+        ),
+        Err(error) => fail(&mut complaints, &ReplayError::from(error)),
+    })
 }

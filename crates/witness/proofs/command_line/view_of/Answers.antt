@@ -2,9 +2,9 @@
 use Rattle.std.proofs.Common.{◌≡◌, ◌∙◌, ap, sym, codes, None, Some, option_map, map, length, arith}
 use Rattle.std.proofs.lemmas.List.{length-map}
 use Rattle.clap.specs.Words.{first_of, matches_of}
-use Rattle.witness.specs.CommandLine.{command}
-use Rattle.witness.proofs.OneWord.{given_is_asked, replay_is_given, replay_passes, same_text}
-use Rattle.witness.proofs.command_line.asked_view.Goals as goal
+use Rattle.witness.specs.CommandLine.{command, only_word, option_named}
+use Rattle.witness.proofs.OneWord.{given_is_asked, replay_is_given, replay_passes, unnamed_option}
+use Rattle.witness.proofs.command_line.view_of.Goals as goal
 
 pub returns-in-Ok-Some : goal.returns-in-Ok-Some
 returns-in-Ok-Some g c =
@@ -12,17 +12,16 @@ returns-in-Ok-Some g c =
     let two : length words ≡ 2 = omega (arith, length-map c.args.words.now g.S.AsStr.text) in
     let found : Some c.in-Ok-Some.word.now ≡ first_of (codes "word") (matches_of command words) =
     sym (ap (option_map (λ s. s.now)) c.in-Ok-Some.field-0-is) ∙ c.in-Ok-Some.ensures.word in
-    let asked = given_is_asked words c.in-Ok-Some.word.now two found in
-    (λ some. asked ∙ ap Some (c.named_view.ensures.0 some), λ replay. c.named_view.ensures.1 (same_text _ _ (sym asked ∙ replay)))
+    c.named_view.ensures ∙ ap option_named (sym (given_is_asked words c.in-Ok-Some.word.now two found))
 
 pub returns-in-Ok-None : goal.returns-in-Ok-None
 returns-in-Ok-None g c =
     let words = map g.S.AsStr.text c.args.words.now in
     let found : None ≡ first_of (codes "word") (matches_of command words) =
     sym (ap (option_map (λ s. s.now)) c.in-Ok-None.field-0-is) ∙ c.in-Ok-None.ensures.word in
-    (λ none. cc, λ replay. let given : None ≡ Some (codes "replay") = found ∙ replay_is_given words replay in cc)
+    unnamed_option (only_word words) (λ replay. let given : None ≡ Some (codes "replay") = found ∙ replay_is_given words replay in cc)
 
 pub returns : goal.returns
 returns g c =
     let words = map g.S.AsStr.text c.args.words.now in
-    (λ none. cc, λ replay. absurd (c.in_default.not-OutOfMemory (c.kind.ensures ∙ c.in-Err.ensures.memory (replay_passes words replay))))
+    unnamed_option (only_word words) (λ replay. c.in_default.not-OutOfMemory (c.kind.ensures ∙ c.in-Err.ensures.memory (replay_passes words replay)))

@@ -1,0 +1,19 @@
+-- What the program does with its words and its input.
+use Rattle.std.specs.Prelude.{ℕ, ◌≡◌, ◌⊎◌, List, Option, Ok}
+use Rattle.std.specs.Io.KnownBytes.{Keeps}
+use Rattle.wit_model.specs.declared.lines.View.{View}
+use Rattle.wit_trace.specs.Replays.{Shows}
+use Rattle.wit_trace.specs.Status.{exit_status}
+use Rattle.wit_trace.specs.Stream.{WritesOutput, WritesFront}
+use Rattle.wit_trace.specs.declared.summary.Summary.{Summary}
+
+-- the whole of what the view shows of the input was written, and this is its status
+pub record IsShown (view : View) (read written_old written_new : Option (List ℕ)) (ended : ℕ) : Type 0 where
+  pub summary : Summary
+  pub written : WritesOutput (Shows view) read written_old written_new summary
+  pub status : ended ≡ exit_status view (Ok summary)
+
+-- a beginning was written of what the view shows of the input, which may be nothing
+abbrev pub IsCutShort : View → Option (List ℕ) → Option (List ℕ) → Option (List ℕ) → Type 0
+IsCutShort view read written_old written_new =
+    Keeps written_old written_new ⊎ WritesFront (Shows view) read written_old written_new

@@ -1,0 +1,36 @@
+//! What goes to standard error: how the program is used, and why a replay failed.
+
+ghost use Rattle.std.specs.Prelude.{◌≡◌};
+
+use std::io::Write;
+use wit_trace::{FAILED, ReplayError};
+
+/// The exit status where the command line is no use of the program.
+pub const BAD_USAGE: u8 = 2;
+
+/// How the program is used.
+pub const USAGE: &str = "usage: witness replay < TRACE
+
+Reads a trace of lock calls from standard input, and writes the text of each report as it comes.
+Status: 0 nothing was reported, 1 something was reported, 2 bad usage, 3 a bad line (the last line of the
+output says which and why), 4 no memory, or reading or writing failed.
+The format of a trace: docs/TRACE.md
+";
+
+/// Says how the program is used, and gives the status of bad usage. The status alone tells it where
+/// nothing can be said.
+pub fn refuse<W: Write>(complaints: &mut W) -> u8
+    ensures { result ≡ 2 }
+{
+    let _ = complaints.write_all(USAGE.as_bytes());
+    BAD_USAGE
+}
+
+/// Says why a replay failed, and gives the status of a failure. The status alone tells it where nothing
+/// can be said.
+pub fn fail<W: Write>(complaints: &mut W, error: &ReplayError) -> u8
+    ensures { result ≡ 4 }
+{
+    let _ = writeln!(complaints, "witness: {error}");
+    FAILED
+}
