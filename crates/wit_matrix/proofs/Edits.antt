@@ -7,10 +7,10 @@ use Rattle.wit_model.specs.declared.locks.Origin.TheVariants.{Listed}
 use Rattle.wit_model.specs.declared.calls.Adoption.{Adoption}
 use Rattle.wit_model.specs.Rules.Orders.{is_adoption_of, is_direct, is_before, IsSound, is_pair_of, is_found, found_once, adopted_once}
 use Rattle.std.proofs.lemmas.List.{get_or-replicate, length-replicate}
-use Rattle.wit_model.proofs.Orders.Paths.{sound_adopt, test_from_before}
+use Rattle.wit_model.proofs.Orders.Paths.{sound_adopt, test_from_before, is_before-trans}
 use Rattle.wit_matrix.specs.Relation.{IsNumber, HasSameOrders, HasSameFound, OrdersAmong, FoundAmong, Adopts, Finds}
 use Rattle.wit_matrix.proofs.Places.{place_within}
-use Rattle.wit_matrix.specs.Bytes.{place, byte_at, has, with_bits, order_of, relation_in, orders_in, found_in, IsKept, AddsWhere, is_at, reaches, joins}
+use Rattle.wit_matrix.specs.Bytes.{place, byte_at, has, with_bits, order_of, relation_in, orders_in, found_in, IsKept, AddsWhere, JoinsNothing, is_at, reaches, joins}
 use Rattle.wit_matrix.proofs.Bits.{byte_of, add_parent, add_ancestor, add_child, add_descendant, add_reversal, has_ancestor, has_descendant, has_kept}
 use Rattle.wit_matrix.proofs.Settled.{AreCells, direct_among, found_among, orders_settled, found_settled, settled, same_from, found-turned}
 
@@ -75,6 +75,91 @@ joins_second n c0 c1 p c can first a b at bt =
     ap₂ (λ x y. x && y) (down_kept n c0 c1 p c can first a at ∙ reaches_down n c0 can.kept c a can.child at)
     (up_kept n c0 c1 p c can first b bt ∙ reaches_up n c0 can.kept p b can.parent bt)
     ∙ and_comm (eqb c a || is_before (orders_in n c0) c a) (eqb p b || is_before (orders_in n c0) b p)
+
+-- from a type to one that is b or before it
+before_or_at : (os : List Adoption) (a b c : ℕ) → is_before os a b ≡ true → (eqb b c || is_before os b c) ≡ true → is_before os a c ≡ true
+before_or_at os a b c first rest =
+    ⊎_elim
+    (λ here. subst (λ x. is_before os a x ≡ true) (eqb-true b c here) first)
+    (λ on. is_before-trans os a b c first on)
+    (or_cases (eqb b c) (is_before os b c) rest)
+
+-- and from one that is b, or that b is after, to c
+at_or_before : (os : List Adoption) (a b c : ℕ) → (eqb b a || is_before os a b) ≡ true → is_before os b c ≡ true → is_before os a c ≡ true
+at_or_before os a b c first rest =
+    ⊎_elim
+    (λ here. subst (λ x. is_before os x c ≡ true) (eqb-true b a here) rest)
+    (λ on. is_before-trans os a b c on rest)
+    (or_cases (eqb b a) (is_before os a b) first)
+
+-- the bytes while the ancestors' rows are joined
+first_cells : (n : ℕ) (c0 c1 : List ℕ) (p c : ℕ) → CanAdopt n c0 p c → AddsWhere n 0x02 (joins n c0 0x08 p 0x02 c) c0 c1 → (a b : ℕ) → IsNumber n a → IsNumber n b
+    → byte_at n c1 a b
+    ≡ byte_of (is_direct (orders_in n c0) a b) (is_before (orders_in n c0) a b || is_joined (orders_in n c0) p c a b) (is_direct (orders_in n c0) b a)
+    (is_before (orders_in n c0) b a) (is_found (found_in n c0) a b)
+first_cells n c0 c1 p c can first a b at bt =
+    let os = orders_in n c0 in
+    first a b at bt
+    ∙ (ap₂ (λ t z. with_bits t 0x02 z) (joins_first n c0 p c can a b at bt) (can.kept.each a b at bt)
+    ∙ add_ancestor (is_joined os p c a b) (is_direct os a b) (is_before os a b) (is_direct os b a) (is_before os b a) (is_found (found_in n c0) a b))
+
+-- a row that is before the child is before all after it
+pub down_closed : (n : ℕ) (c0 : List ℕ) (p c : ℕ) → CanAdopt n c0 p c → JoinsNothing n c0 0x02 c
+down_closed n c0 p c can a b at bt has_it on =
+    let os = orders_in n c0 in
+    let first : is_before os a c ≡ true =
+    sym (has_ancestor (is_direct os a c) (is_before os a c) (is_direct os c a) (is_before os c a) (is_found (found_in n c0) a c)) ∙ (ap (has 0x02) (sym (can.kept.each a c at can.child)) ∙ has_it) in
+    let all : is_before os a b ≡ true = before_or_at os a c b first (sym (reaches_down n c0 can.kept c b can.child bt) ∙ on) in
+    let is : byte_at n c0 a b ≡ byte_of (is_direct os a b) true (is_direct os b a) (is_before os b a) (is_found (found_in n c0) a b) =
+    can.kept.each a b at bt ∙ ap (λ t. byte_of (is_direct os a b) t (is_direct os b a) (is_before os b a) (is_found (found_in n c0) a b)) all in
+    rw is (add_ancestor true (is_direct os a b) true (is_direct os b a) (is_before os b a) (is_found (found_in n c0) a b))
+
+-- and a row that is after the parent is after all before it
+pub up_closed : (n : ℕ) (c0 c1 : List ℕ) (p c : ℕ) → CanAdopt n c0 p c → AddsWhere n 0x02 (joins n c0 0x08 p 0x02 c) c0 c1 → JoinsNothing n c1 0x08 p
+up_closed n c0 c1 p c can step a b at bt has_it on =
+    let os = orders_in n c0 in
+    let first : is_before os p a ≡ true =
+    sym (has_descendant (is_direct os a p) (is_before os a p || is_joined os p c a p) (is_direct os p a) (is_before os p a) (is_found (found_in n c0) a p))
+    ∙ (ap (has 0x08) (sym (first_cells n c0 c1 p c can step a p at can.parent)) ∙ has_it) in
+    let all : is_before os b a ≡ true =
+    at_or_before os b p a (sym (up_kept n c0 c1 p c can step b bt ∙ reaches_up n c0 can.kept p b can.parent bt) ∙ on) first in
+    let is : byte_at n c1 a b ≡ byte_of (is_direct os a b) (is_before os a b || is_joined os p c a b) (is_direct os b a) true (is_found (found_in n c0) a b) =
+    first_cells n c0 c1 p c can step a b at bt
+    ∙ ap (λ t. byte_of (is_direct os a b) (is_before os a b || is_joined os p c a b) (is_direct os b a) t (is_found (found_in n c0) a b)) all in
+    rw is (add_descendant true (is_direct os a b) (is_before os a b || is_joined os p c a b) (is_direct os b a) true (is_found (found_in n c0) a b))
+
+-- where the parent is before the child already, no row gets a bit
+joined_before : (os : List Adoption) (p c a b : ℕ) → is_before os p c ≡ true → is_joined os p c a b ≡ true → is_before os a b ≡ true
+joined_before os p c a b known is =
+    let parts = and_parts (eqb p a || is_before os a p) (eqb c b || is_before os c b) is in
+    before_or_at os a c b (at_or_before os a p c parts.0 known) parts.1
+
+same_with : (bit x : ℕ) (t : Bool) → (t ≡ true → with_bits true bit x ≡ x) → x ≡ with_bits t bit x
+same_with bit x true same = sym (same refl)
+same_with bit x false same = refl
+
+pub known_rows : (n : ℕ) (c0 : List ℕ) (p c : ℕ) → CanAdopt n c0 p c → has 0x02 (byte_at n c0 p c) ≡ true → AddsWhere n 0x02 (joins n c0 0x08 p 0x02 c) c0 c0
+known_rows n c0 p c can has_it a b at bt =
+    same_with 0x02 (byte_at n c0 a b) (joins n c0 0x08 p 0x02 c a b)
+    (λ j. let os = orders_in n c0 in
+    let known : is_before os p c ≡ true =
+    sym (has_ancestor (is_direct os p c) (is_before os p c) (is_direct os c p) (is_before os c p) (is_found (found_in n c0) p c)) ∙ (ap (has 0x02) (sym (can.kept.each p c can.parent can.child)) ∙ has_it) in
+    let all : is_before os a b ≡ true = joined_before os p c a b known (sym (joins_first n c0 p c can a b at bt) ∙ j) in
+    let is : byte_at n c0 a b ≡ byte_of (is_direct os a b) true (is_direct os b a) (is_before os b a) (is_found (found_in n c0) a b) =
+    can.kept.each a b at bt ∙ ap (λ t. byte_of (is_direct os a b) t (is_direct os b a) (is_before os b a) (is_found (found_in n c0) a b)) all in
+    rw is (add_ancestor true (is_direct os a b) true (is_direct os b a) (is_before os b a) (is_found (found_in n c0) a b)))
+
+pub known_mirror : (n : ℕ) (c0 : List ℕ) (p c : ℕ) → CanAdopt n c0 p c → has 0x02 (byte_at n c0 p c) ≡ true → AddsWhere n 0x08 (joins n c0 0x02 c 0x08 p) c0 c0
+known_mirror n c0 p c can has_it a b at bt =
+    same_with 0x08 (byte_at n c0 a b) (joins n c0 0x02 c 0x08 p a b)
+    (λ j. let os = orders_in n c0 in
+    let known : is_before os p c ≡ true =
+    sym (has_ancestor (is_direct os p c) (is_before os p c) (is_direct os c p) (is_before os c p) (is_found (found_in n c0) p c)) ∙ (ap (has 0x02) (sym (can.kept.each p c can.parent can.child)) ∙ has_it) in
+    let all : is_before os b a ≡ true =
+    joined_before os p c b a known (sym (joins_second n c0 c0 p c can (known_rows n c0 p c can has_it) a b at bt) ∙ j) in
+    let is : byte_at n c0 a b ≡ byte_of (is_direct os a b) (is_before os a b) (is_direct os b a) true (is_found (found_in n c0) a b) =
+    can.kept.each a b at bt ∙ ap (λ t. byte_of (is_direct os a b) (is_before os a b) (is_direct os b a) t (is_found (found_in n c0) a b)) all in
+    rw is (add_descendant true (is_direct os a b) (is_before os a b) (is_direct os b a) true (is_found (found_in n c0) a b)))
 
 -- the four steps of an adoption
 pub record Links (n : ℕ) (c0 c1 c2 c3 c4 : List ℕ) (p c : ℕ) : Type 0 where

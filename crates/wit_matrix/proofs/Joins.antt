@@ -1,9 +1,9 @@
 -- Bits that are added along rows.
-use Rattle.std.proofs.Common.{◌≡◌, ◌≢◌, ◌⊎◌, ℕ, ◌+◌, ◌<◌, Bool, true, false, ◌&&◌, ◌||◌, eqb, ltb, List, refl, ap, sym, ◌∙◌, subst, inl, inr, arith}
+use Rattle.std.proofs.Common.{◌≡◌, ◌≢◌, ◌⊎◌, ℕ, ◌+◌, ◌<◌, Bool, true, false, not, ◌&&◌, ◌||◌, eqb, ltb, List, refl, ap, sym, ◌∙◌, subst, inl, inr, arith}
 use Rattle.std.specs.Int.RustNames.{bit_and}
-use Rattle.std.proofs.lemmas.Bool.{cases_order, lt-ltb, le-ltb, eq-eqb, ne_eqb}
+use Rattle.std.proofs.lemmas.Bool.{cases_order, lt-ltb, le-ltb, eq-eqb, ne_eqb, and_parts, false≢true}
 use Rattle.wit_matrix.specs.Relation.{IsNumber}
-use Rattle.wit_matrix.specs.Bytes.{byte_at, has, with_bits, AddsWhere, reaches, joins, joins_row}
+use Rattle.wit_matrix.specs.Bytes.{byte_at, has, with_bits, AddsWhere, JoinsNothing, reaches, joins, joins_row}
 use Rattle.wit_matrix.proofs.Bits.{has_kept}
 
 -- one number more, where the others stay as they are
@@ -84,3 +84,46 @@ rows_same n other first bit source k old mid ft kt apart below isnt a b at bt =
     (λ e. let unreached : reaches n old other first a ≡ false = subst (λ j. reaches n old other first j ≡ false) (sym e) (sym (rows_first n other first bit source k old mid ft kt apart below) ∙ isnt) in
     rw unreached refl)
     (λ other_row. refl)
+
+-- a row that has the bit at the source is as if joined
+pub rows_skip : (n other first bit source k : ℕ) (old mid : List ℕ) → IsNumber n source → IsNumber n k → JoinsNothing n old bit source
+    → RowsBelow n other first bit source k old mid → has bit (byte_at n mid k source) ≡ true → RowsBelow n other first bit source (k + 1) old mid
+rows_skip n other first bit source k old mid st kt closed below is a b at bt = below a b at bt ∙ go (cases_order a k)
+  where
+    here : has bit (byte_at n old k source) ≡ true
+    here =
+        let none : ltb k k ≡ false = le-ltb k k (omega arith) in
+        ap (has bit) (sym (below k source kt st ∙ (rw none refl))) ∙ is
+
+    nothing : (t : Bool) → (t ≡ true → with_bits true bit (byte_at n old a b) ≡ byte_at n old a b) → byte_at n old a b ≡ with_bits t bit (byte_at n old a b)
+    nothing true same = sym (same refl)
+    nothing false same = refl
+
+    go : (a ≡ k) ⊎ ((a < k) ⊎ (k < a))
+        → with_bits (ltb a k && joins n old other first bit source a b) bit (byte_at n old a b) ≡ with_bits (ltb a (k + 1) && joins n old other first bit source a b) bit (byte_at n old a b)
+    go (inl e) =
+        let before : ltb a k ≡ false = le-ltb a k (omega arith) in
+        let after : ltb a (k + 1) ≡ true = lt-ltb a (k + 1) (omega arith) in
+        rw (before, after)
+        (nothing (joins n old other first bit source a b)
+        (λ j. closed a b at bt (subst (λ i. has bit (byte_at n old i source) ≡ true) (sym e) here)
+        (and_parts (reaches n old other first a) (reaches n old bit source b) j).1))
+    go (inr (inl lt)) =
+        let before : ltb a k ≡ true = lt-ltb a k lt in
+        let after : ltb a (k + 1) ≡ true = lt-ltb a (k + 1) (omega arith) in
+        rw (before, after) refl
+    go (inr (inr lt)) =
+        let before : ltb a k ≡ false = le-ltb a k (omega arith) in
+        let after : ltb a (k + 1) ≡ false = le-ltb a (k + 1) (omega arith) in
+        rw (before, after) refl
+
+-- a row that isn't joined: it isn't reached, or it is as if joined
+pub rows_left : (n other first bit source k : ℕ) (old mid : List ℕ) → IsNumber n first → IsNumber n source → IsNumber n k → bit_and bit other ≡ 0
+    → JoinsNothing n old bit source → RowsBelow n other first bit source k old mid
+    → (reaches n mid other first k && not (has bit (byte_at n mid k source))) ≡ false → RowsBelow n other first bit source (k + 1) old mid
+rows_left n other first bit source k old mid ft st kt apart closed below isnt = go (reaches n mid other first k) (has bit (byte_at n mid k source)) refl refl isnt
+  where
+    go : (r h : Bool) → reaches n mid other first k ≡ r → has bit (byte_at n mid k source) ≡ h → (r && not h) ≡ false → RowsBelow n other first bit source (k + 1) old mid
+    go false h unreached has_it isnt_so = rows_same n other first bit source k old mid ft kt apart below unreached
+    go true true reached has_it isnt_so = rows_skip n other first bit source k old mid st kt closed below has_it
+    go true false reached has_not isnt_so = absurd (false≢true (sym isnt_so))

@@ -1,5 +1,5 @@
 -- The relation as a square of bytes, row by row.
-use Rattle.std.specs.Prelude.{ℕ, ◌+◌, ◌-◌, ◌*◌, ◌≡◌, ◌≤◌, Bool, not, ◌&&◌, ◌||◌, ◌==◌, List, map, filter, length, get_or, nat_le, if◌then◌else◌}
+use Rattle.std.specs.Prelude.{ℕ, ◌+◌, ◌-◌, ◌*◌, ◌≡◌, ◌≤◌, Bool, true, not, ◌&&◌, ◌||◌, ◌==◌, List, map, filter, length, get_or, nat_le, if◌then◌else◌}
 use Rattle.std.specs.List.{range_with_len, flat_map}
 use Rattle.std.specs.Int.RustNames.{bit_and, bit_or}
 use Rattle.wit_model.specs.declared.locks.Origin.TheVariants.{Listed}
@@ -69,3 +69,9 @@ joins n cells other first bit source a b = reaches n cells other first a && reac
 
 abbrev pub joins_row : ℕ → List ℕ → ℕ → ℕ → ℕ → ℕ → ℕ → Bool
 joins_row n cells row bit source a b = (row == a) && reaches n cells bit source b
+
+-- a row that has the bit at the source has it wherever the source's row has it
+abbrev pub JoinsNothing : ℕ → List ℕ → ℕ → ℕ → Type 0
+JoinsNothing n cells bit source =
+    (a b : ℕ) → IsNumber n a → IsNumber n b → has bit (byte_at n cells a source) ≡ true → reaches n cells bit source b ≡ true
+    → with_bits true bit (byte_at n cells a b) ≡ byte_at n cells a b

@@ -1,10 +1,10 @@
 //! A square of bytes, row by row: one byte for each row's type and column's type.
 
-ghost use Rattle.std.specs.Prelude.{◌≡◌, ◌<◌, ◌*◌, false, length};
+ghost use Rattle.std.specs.Prelude.{◌≡◌, ◌<◌, ◌*◌, ◌&&◌, not, false, length};
 ghost use Rattle.std.specs.Int.RustNames.{bit_and};
 ghost use Rattle.wit_model.specs.Rules.Orders.{is_before};
 ghost use Rattle.wit_matrix.specs.Relation.{IsNumber, Adopts, Finds};
-ghost use Rattle.wit_matrix.specs.Bytes.{place, byte_at, has, relation_in, orders_in, IsKept, AddsWhere, is_at, reaches, joins, joins_row};
+ghost use Rattle.wit_matrix.specs.Bytes.{place, byte_at, has, relation_in, orders_in, IsKept, AddsWhere, JoinsNothing, is_at, reaches, joins, joins_row};
 
 use wit_model::TypeNo;
 
@@ -67,6 +67,26 @@ fn reaches(cells: &[u8], n: u16, bit: u8, from: TypeNo, to: TypeNo) -> bool
     from.0 == to.0 || has(byte_at(cells, n, from, to), bit)
 }
 
+// Whether a row is still to be joined: the first's row has the other bit for it, or it is the first, and it doesn't
+// have this bit at the source. A row that has it there has it wherever the source's row has it.
+fn is_to_join(
+    cells: &[u8],
+    n: u16,
+    first: TypeNo,
+    other: u8,
+    row: TypeNo,
+    source: TypeNo,
+    bit: u8,
+) -> bool
+    requires square { length cells.now ≡ n * n }
+    requires first { IsNumber n first.0 }
+    requires row { IsNumber n row.0 }
+    requires source { IsNumber n source.0 }
+    ensures { result ≡ reaches n cells.now other first.0 row.0 && not (has bit (byte_at n cells.now row.0 source.0)) }
+{
+    reaches(cells, n, other, first, row) && !has(byte_at(cells, n, row, source), bit)
+}
+
 // Adds a bit along a row: at the source, and wherever the source's row has it.
 fn join_row(cells: &mut [u8], n: u16, row: TypeNo, source: TypeNo, bit: u8)
     requires square { length cells.old ≡ n * n }
@@ -90,12 +110,13 @@ fn join_rows(cells: &mut [u8], n: u16, first: TypeNo, other: u8, source: TypeNo,
     requires source { IsNumber n source.0 }
     requires apart { reaches n cells.old other first.0 source.0 ≡ false }
     requires bits { bit_and bit other ≡ 0 }
+    requires closed { JoinsNothing n cells.old bit source.0 }
     ensures square { length cells.new ≡ n * n }
     ensures joined { AddsWhere n bit (joins n cells.old other first.0 bit source.0) cells.old cells.new }
 {
     for row in 1..=n {
         let row = TypeNo(row);
-        if reaches(cells, n, other, first, row) {
+        if is_to_join(cells, n, first, other, row, source, bit) {
             join_row(cells, n, row, source, bit);
         }
     }
@@ -111,8 +132,10 @@ pub fn link(cells: &mut [u8], n: u16, parent: TypeNo, child: TypeNo)
     ensures kept { IsKept n cells.new }
     ensures adopted { Adopts (relation_in n cells.old) parent.0 child.0 (relation_in n cells.new) }
 {
-    join_rows(cells, n, parent, DESCENDANT, child, ANCESTOR);
-    join_rows(cells, n, child, ANCESTOR, parent, DESCENDANT);
+    if !has(byte_at(cells, n, parent, child), ANCESTOR) {
+        join_rows(cells, n, parent, DESCENDANT, child, ANCESTOR);
+        join_rows(cells, n, child, ANCESTOR, parent, DESCENDANT);
+    }
     add_bits(cells, n, parent, child, PARENT);
     add_bits(cells, n, child, parent, CHILD);
 }
