@@ -1,12 +1,6 @@
 pub mod AnswerLemmas
-pub mod Found
-pub mod Lengths
-pub mod ListReading
 pub mod ListedTypes
-pub mod Numbers
-pub mod Places
 pub mod ReplayLemmas
 pub mod ReportLemmas
 pub mod StreamLemmas
 pub mod TextLemmas
-pub mod Texts

@@ -1,4 +1,3 @@
-pub mod Lines
 pub mod Machine
 pub mod Replays
 pub mod Status

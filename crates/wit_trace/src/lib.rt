@@ -2,26 +2,20 @@
 #![tactic(auto)]
 
 mod calls;
-mod errors;
-mod fields;
 mod machine;
 mod outcome;
-mod parse;
 mod ports;
 mod prelude;
-mod print;
 mod replaying;
 mod reports;
 mod status;
 mod stream;
 mod summary;
 
-pub use errors::LineError;
-pub use parse::parse_line;
-pub use print::{print_line, spelled};
 pub use replaying::replay;
 pub use status::{BAD_TRACE, FAILED, NOTHING_REPORTED, REPORTED, status_of};
 pub use summary::{ReplayError, Summary};
+pub use wit_grammar::{LineError, parse_line, print_line, spelled};
 
 #[cfg(test)]
 mod ends;
@@ -33,5 +27,3 @@ mod prelude_tests;
 mod rows;
 #[cfg(test)]
 mod stream_tests;
-#[cfg(test)]
-mod tests;

@@ -6,10 +6,8 @@ ghost use Rattle.wit_trace.specs.Replays.{ends_prelude, progress, total, Reaches
 ghost use Rattle.wit_trace.specs.Stream.{WritesOutput, WritesFront};
 
 use crate::calls::enter_line;
-use crate::errors::LineError;
 use crate::machine::{Machine, Step};
 use crate::outcome::Outcome;
-use crate::parse::parse_line;
 use crate::ports::Failures;
 use crate::prelude::{Prelude, add_line, is_prelude, new_prelude, open};
 use crate::reports::bad_text;
@@ -19,6 +17,7 @@ use std::alloc::{AllocError, Global};
 use std::io::{BufRead, Write};
 use std::mem;
 use wit_core::Verifier;
+use wit_grammar::{LineError, parse_line};
 use wit_model::{Cause, Limits, Line, View};
 
 /// The log's limit in a replay.

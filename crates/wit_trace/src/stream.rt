@@ -9,10 +9,8 @@ use crate::ports::{Piece, Ports};
 use crate::summary::{ReplayError, Summary};
 use std::alloc::{AllocError, Global};
 use std::io::{BufRead, Write};
+use wit_grammar::LONGEST;
 use wit_model::Cause;
-
-/// The most bytes of a line, its line feed aside.
-const LONGEST: usize = 4096;
 
 /// Reads the lines of a stream through a machine, and writes its texts as they come.
 ///

@@ -1,0 +1,38 @@
+-- What the reader of a line answers.
+use Rattle.std.specs.Prelude.{◌≡◌, ◌<◌, ◌≤◌, ℕ, List, length, Option, Some, None, Result, Ok, Err}
+use Rattle.wit_model.specs.declared.lines.Line.{Line}
+use Rattle.wit_model.specs.declared.lines.Cause.{Cause}
+use Rattle.wit_model.specs.declared.lines.Cause.TheVariants.{Long, Syntax, Cut, Limit, Fault}
+use Rattle.wit_model.specs.Trace.Spelling.{Spells, IsSpellable, spelling}
+use Rattle.wit_grammar.specs.declared.errors.LineError.{LineError}
+use Rattle.wit_grammar.specs.declared.errors.LineError.TheVariants.{Bad, Memory}
+
+-- `Bad` where nothing is there to read, and with no cause but `Syntax`
+abbrev pub Fails : {Y : Type 0} → LineError → Option Y → Type 0
+Fails Memory read = Unit {0}
+Fails (Bad cause) read = (cause ≡ Syntax) × (read ≡ None)
+
+-- the value, seen by view, is what is read, unless memory ran out
+abbrev pub Gives : {X Y : Type 0} → (X → Y) → Result X LineError → Option Y → Type 0
+Gives view (Ok x) read = read ≡ Some (view x)
+Gives view (Err e) read = Fails e read
+
+-- the bytes spell no line
+abbrev pub SpellsNone : List ℕ → Type 0
+SpellsNone bytes = (line : Line) → Spells bytes line → ⊥
+
+-- why bytes are no line
+abbrev pub IsWhyBad : List ℕ → Cause → Type 0
+IsWhyBad bytes Long = 4096 < length bytes
+IsWhyBad bytes Syntax = (length bytes ≤ 4096) × SpellsNone bytes
+IsWhyBad bytes Cut = ⊥
+IsWhyBad bytes Limit = ⊥
+IsWhyBad bytes (Fault f) = ⊥
+
+abbrev pub IsWhy : List ℕ → LineError → Type 0
+IsWhy bytes Memory = Unit {0}
+IsWhy bytes (Bad cause) = IsWhyBad bytes cause
+
+-- the line has a spelling, of at most 4,096 bytes
+abbrev pub IsSpelled : Line → Type 0
+IsSpelled line = IsSpellable line × (length (spelling line) ≤ 4096)

@@ -1,0 +1,169 @@
+//! Reading a line.
+
+ghost use Rattle.std.specs.Prelude.{◌≡◌, ◌≤◌, ◌<◌, ◌↔◌, length, IfOk, IfErr, Err, Some};
+ghost use Rattle.wit_model.specs.declared.lines.Line.{Line};
+ghost use Rattle.wit_model.specs.declared.lines.Cause.TheVariants.{Long};
+ghost use Rattle.wit_model.specs.Trace.Spelling.{Spells};
+ghost use Rattle.wit_model.specs.Trace.Reading.{header_of, order_of, bless_of, init_of, check_of, note_of, unlock_of, line_of};
+ghost use Rattle.wit_grammar.specs.declared.errors.LineError.TheVariants.{Bad};
+ghost use Rattle.wit_grammar.specs.Lines.{Gives, IsWhy};
+
+use crate::errors::LineError;
+use crate::fields;
+use std::alloc::Global;
+use wit_model::{Cause, Line, LockFlags, NewLock, OpFlags};
+
+/// The greatest number of bytes in a line; its line feed isn't among them.
+pub const LONGEST: usize = 4096;
+
+/// The line that the bytes spell; the line feed that ends a line isn't among them.
+///
+/// # Errors
+/// `Bad(Cause::Long)` exactly where there are more than 4,096 bytes. `Bad(Cause::Syntax)` where there
+/// are at most so many and they spell no line. No other cause. `Memory` where a growth was refused.
+pub fn parse_line(alloc: Global, bytes: &[u8]) -> Result<Line, LineError>
+    ensures found { IfOk result (λ line. Spells bytes.now line × (length bytes.now ≤ 4096)) }
+    ensures only { (line : Line) → Spells bytes.now line → length bytes.now ≤ 4096
+        → Gives (λ l. l) result (Some line) }
+    ensures long { (result ≡ Err (Bad Long)) ↔ (4096 < length bytes.now) }
+    ensures why { IfErr result (IsWhy bytes.now) }
+    ensures read { length bytes.now ≤ 4096 → Gives (λ l. l) result (line_of bytes.now) }
+{
+    if bytes.len() > LONGEST {
+        return Err(LineError::Bad(Cause::Long));
+    }
+    line(alloc, bytes)
+}
+
+#[tactic(auto, unfolding(wit_model::specs::Trace::Reading::line_of))]
+fn line(alloc: Global, bytes: &[u8]) -> Result<Line, LineError>
+    ensures { Gives (λ l. l) result (line_of bytes.now) }
+{
+    let (keyword, rest) = fields::split_before(b' ', bytes);
+    if keyword == b"check".as_slice() {
+        check(alloc, rest)
+    } else if keyword == b"lock".as_slice() {
+        lock(rest)
+    } else if keyword == b"unlock".as_slice() {
+        unlock(rest)
+    } else if keyword == b"init".as_slice() {
+        init(alloc, rest)
+    } else if keyword == b"order".as_slice() {
+        order(alloc, rest)
+    } else if keyword == b"bless".as_slice() {
+        bless(alloc, rest)
+    } else if keyword == b"witness-trace".as_slice() {
+        header(rest)
+    } else {
+        Err(LineError::SYNTAX)
+    }
+}
+
+#[tactic(auto, unfolding(wit_model::specs::Trace::Reading::header_of))]
+fn header(bytes: &[u8]) -> Result<Line, LineError>
+    ensures { Gives (λ l. l) result (header_of bytes.now) }
+{
+    let rest = fields::fixed(b"1", bytes)?;
+    let (seats, rest) = fields::count(b"seats", rest)?;
+    let (types, rest) = fields::count(b"types", rest)?;
+    let (locks, rest) = fields::count(b"locks", rest)?;
+    let (chunks, rest) = fields::count(b"chunks", rest)?;
+    if !rest.is_empty() {
+        return Err(LineError::SYNTAX);
+    }
+    Ok(Line::Header {
+        seats,
+        types,
+        locks,
+        chunks,
+    })
+}
+
+#[tactic(auto, unfolding(wit_model::specs::Trace::Reading::order_of))]
+fn order(alloc: Global, bytes: &[u8]) -> Result<Line, LineError>
+    ensures { Gives (λ l. l) result (order_of bytes.now) }
+{
+    let list = fields::list(alloc, bytes)?;
+    Ok(Line::Order { list })
+}
+
+#[tactic(auto, unfolding(wit_model::specs::Trace::Reading::bless_of))]
+fn bless(alloc: Global, bytes: &[u8]) -> Result<Line, LineError>
+    ensures { Gives (λ l. l) result (bless_of bytes.now) }
+{
+    let (first, rest) = fields::name(alloc, bytes)?;
+    let (second, rest) = fields::name(alloc, rest)?;
+    if !rest.is_empty() {
+        return Err(LineError::SYNTAX);
+    }
+    Ok(Line::Bless { first, second })
+}
+
+#[tactic(auto, unfolding(wit_model::specs::Trace::Reading::init_of))]
+fn init(alloc: Global, bytes: &[u8]) -> Result<Line, LineError>
+    ensures { Gives (λ l. l) result (init_of bytes.now) }
+{
+    let (seat, rest) = fields::seat(bytes)?;
+    let (class, rest) = fields::class(rest)?;
+    let (flags, rest) = fields::flags(b"rd", rest)?;
+    let (name, rest) = fields::name(alloc, rest)?;
+    let (type_name, rest) = fields::name_if_any(alloc, rest)?;
+    if !rest.is_empty() {
+        return Err(LineError::SYNTAX);
+    }
+    let flags = LockFlags(flags);
+    let lock = NewLock {
+        class,
+        flags,
+        name,
+        type_name,
+    };
+    Ok(Line::Init { seat, lock })
+}
+
+#[tactic(auto, unfolding(wit_model::specs::Trace::Reading::check_of))]
+fn check(alloc: Global, bytes: &[u8]) -> Result<Line, LineError>
+    ensures { Gives (λ l. l) result (check_of bytes.now) }
+{
+    let (seat, rest) = fields::seat(bytes)?;
+    let (lock, rest) = fields::lock(rest)?;
+    let (mode, rest) = fields::mode(rest)?;
+    let (ops, rest) = fields::flags(b"ndf", rest)?;
+    let (file, line, rest) = fields::site(alloc, rest)?;
+    if !rest.is_empty() {
+        return Err(LineError::SYNTAX);
+    }
+    Ok(Line::Check {
+        seat,
+        lock,
+        mode,
+        ops: OpFlags(ops),
+        file,
+        line,
+    })
+}
+
+#[tactic(auto, unfolding(wit_model::specs::Trace::Reading::note_of))]
+fn lock(bytes: &[u8]) -> Result<Line, LineError>
+    ensures { Gives (λ l. l) result (note_of bytes.now) }
+{
+    let (seat, rest) = fields::seat(bytes)?;
+    let (lock, rest) = fields::lock(rest)?;
+    if !rest.is_empty() {
+        return Err(LineError::SYNTAX);
+    }
+    Ok(Line::Lock { seat, lock })
+}
+
+#[tactic(auto, unfolding(wit_model::specs::Trace::Reading::unlock_of))]
+fn unlock(bytes: &[u8]) -> Result<Line, LineError>
+    ensures { Gives (λ l. l) result (unlock_of bytes.now) }
+{
+    let (seat, rest) = fields::seat(bytes)?;
+    let (lock, rest) = fields::lock(rest)?;
+    let (mode, rest) = fields::mode(rest)?;
+    if !rest.is_empty() {
+        return Err(LineError::SYNTAX);
+    }
+    Ok(Line::Unlock { seat, lock, mode })
+}
