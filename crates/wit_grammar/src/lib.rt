@@ -2,13 +2,17 @@
 #![tactic(auto)]
 
 mod errors;
-mod fields;
+mod names;
+mod numbers;
 mod parse;
 mod print;
+mod spellable;
+mod words;
 
 pub use errors::LineError;
 pub use parse::{LONGEST, parse_line};
-pub use print::{print_line, spelled};
+pub use print::print_line;
+pub use spellable::spelled;
 
 #[cfg(test)]
 mod tests;

@@ -9,7 +9,7 @@ ghost use Rattle.wit_grammar.specs.declared.errors.LineError.TheVariants.{Bad};
 ghost use Rattle.wit_grammar.specs.Lines.{Gives, IsWhy};
 
 use crate::errors::LineError;
-use crate::fields;
+use crate::{names, numbers, words};
 use std::alloc::Global;
 use wit_model::{Cause, Line, LockFlags, NewLock, OpFlags};
 
@@ -39,7 +39,7 @@ pub fn parse_line(alloc: Global, bytes: &[u8]) -> Result<Line, LineError>
 fn line(alloc: Global, bytes: &[u8]) -> Result<Line, LineError>
     ensures { Gives (λ l. l) result (line_of bytes.now) }
 {
-    let (keyword, rest) = fields::split_before(b' ', bytes);
+    let (keyword, rest) = words::split_before(b' ', bytes);
     if keyword == b"check".as_slice() {
         check(alloc, rest)
     } else if keyword == b"lock".as_slice() {
@@ -63,11 +63,11 @@ fn line(alloc: Global, bytes: &[u8]) -> Result<Line, LineError>
 fn header(bytes: &[u8]) -> Result<Line, LineError>
     ensures { Gives (λ l. l) result (header_of bytes.now) }
 {
-    let rest = fields::fixed(b"1", bytes)?;
-    let (seats, rest) = fields::count(b"seats", rest)?;
-    let (types, rest) = fields::count(b"types", rest)?;
-    let (locks, rest) = fields::count(b"locks", rest)?;
-    let (chunks, rest) = fields::count(b"chunks", rest)?;
+    let rest = words::fixed(b"1", bytes)?;
+    let (seats, rest) = numbers::count(b"seats", rest)?;
+    let (types, rest) = numbers::count(b"types", rest)?;
+    let (locks, rest) = numbers::count(b"locks", rest)?;
+    let (chunks, rest) = numbers::count(b"chunks", rest)?;
     if !rest.is_empty() {
         return Err(LineError::SYNTAX);
     }
@@ -83,7 +83,7 @@ fn header(bytes: &[u8]) -> Result<Line, LineError>
 fn order(alloc: Global, bytes: &[u8]) -> Result<Line, LineError>
     ensures { Gives (λ l. l) result (order_of bytes.now) }
 {
-    let list = fields::list(alloc, bytes)?;
+    let list = names::list(alloc, bytes)?;
     Ok(Line::Order { list })
 }
 
@@ -91,8 +91,8 @@ fn order(alloc: Global, bytes: &[u8]) -> Result<Line, LineError>
 fn bless(alloc: Global, bytes: &[u8]) -> Result<Line, LineError>
     ensures { Gives (λ l. l) result (bless_of bytes.now) }
 {
-    let (first, rest) = fields::name(alloc, bytes)?;
-    let (second, rest) = fields::name(alloc, rest)?;
+    let (first, rest) = names::name(alloc, bytes)?;
+    let (second, rest) = names::name(alloc, rest)?;
     if !rest.is_empty() {
         return Err(LineError::SYNTAX);
     }
@@ -103,11 +103,11 @@ fn bless(alloc: Global, bytes: &[u8]) -> Result<Line, LineError>
 fn init(alloc: Global, bytes: &[u8]) -> Result<Line, LineError>
     ensures { Gives (λ l. l) result (init_of bytes.now) }
 {
-    let (seat, rest) = fields::seat(bytes)?;
-    let (class, rest) = fields::class(rest)?;
-    let (flags, rest) = fields::flags(b"rd", rest)?;
-    let (name, rest) = fields::name(alloc, rest)?;
-    let (type_name, rest) = fields::name_if_any(alloc, rest)?;
+    let (seat, rest) = numbers::seat(bytes)?;
+    let (class, rest) = words::class(rest)?;
+    let (flags, rest) = words::flags(b"rd", rest)?;
+    let (name, rest) = names::name(alloc, rest)?;
+    let (type_name, rest) = names::name_if_any(alloc, rest)?;
     if !rest.is_empty() {
         return Err(LineError::SYNTAX);
     }
@@ -125,11 +125,11 @@ fn init(alloc: Global, bytes: &[u8]) -> Result<Line, LineError>
 fn check(alloc: Global, bytes: &[u8]) -> Result<Line, LineError>
     ensures { Gives (λ l. l) result (check_of bytes.now) }
 {
-    let (seat, rest) = fields::seat(bytes)?;
-    let (lock, rest) = fields::lock(rest)?;
-    let (mode, rest) = fields::mode(rest)?;
-    let (ops, rest) = fields::flags(b"ndf", rest)?;
-    let (file, line, rest) = fields::site(alloc, rest)?;
+    let (seat, rest) = numbers::seat(bytes)?;
+    let (lock, rest) = numbers::lock(rest)?;
+    let (mode, rest) = words::mode(rest)?;
+    let (ops, rest) = words::flags(b"ndf", rest)?;
+    let (file, line, rest) = names::site(alloc, rest)?;
     if !rest.is_empty() {
         return Err(LineError::SYNTAX);
     }
@@ -147,8 +147,8 @@ fn check(alloc: Global, bytes: &[u8]) -> Result<Line, LineError>
 fn lock(bytes: &[u8]) -> Result<Line, LineError>
     ensures { Gives (λ l. l) result (note_of bytes.now) }
 {
-    let (seat, rest) = fields::seat(bytes)?;
-    let (lock, rest) = fields::lock(rest)?;
+    let (seat, rest) = numbers::seat(bytes)?;
+    let (lock, rest) = numbers::lock(rest)?;
     if !rest.is_empty() {
         return Err(LineError::SYNTAX);
     }
@@ -159,9 +159,9 @@ fn lock(bytes: &[u8]) -> Result<Line, LineError>
 fn unlock(bytes: &[u8]) -> Result<Line, LineError>
     ensures { Gives (λ l. l) result (unlock_of bytes.now) }
 {
-    let (seat, rest) = fields::seat(bytes)?;
-    let (lock, rest) = fields::lock(rest)?;
-    let (mode, rest) = fields::mode(rest)?;
+    let (seat, rest) = numbers::seat(bytes)?;
+    let (lock, rest) = numbers::lock(rest)?;
+    let (mode, rest) = words::mode(rest)?;
     if !rest.is_empty() {
         return Err(LineError::SYNTAX);
     }

@@ -1,128 +1,16 @@
 //! Printing a line.
 
-ghost use Rattle.std.specs.Prelude.{◌≡◌, ◌≤◌, ℕ, List, ◌++◌, ◌∷◌, ◌↔◌, length, IsTrue, IfOk, IfErr, OnOk, IfSome};
+ghost use Rattle.std.specs.Prelude.{◌≡◌, ◌++◌, ◌∷◌, IfOk, IfErr, OnOk};
 ghost use Rattle.std.specs.Fmt.{decimal};
-ghost use Rattle.wit_model.specs.Rules.Names.{is_name};
-ghost use Rattle.wit_model.specs.Trace.Spelling.{class_text, mode_text, chosen_letters, flags_text, quoted, site_text, joined, lock_fields, list_fields, spelling, IsSpellableLock, IsSpellableList, IsSpellable};
-ghost use Rattle.std.specs.List.{list_all};
-ghost use Rattle.wit_model.specs.declared.locks.Class.{Class};
+ghost use Rattle.wit_model.specs.Trace.Spelling.{class_text, mode_text, chosen_letters, flags_text, quoted, site_text, joined, lock_fields, list_fields, spelling};
 ghost use Rattle.wit_model.specs.declared.lines.Line.TheVariants.{Header, Order, Bless, Init, Check, Lock, Unlock};
 ghost use Rattle.wit_grammar.specs.Lines.{IsSpelled};
 ghost use Rattle.wit_model.specs.declared.faults.Fault.TheVariants.{OutOfMemory};
 
-use crate::parse::LONGEST;
 use std::alloc::{AllocError, Global};
 use wit_model::{
     Class, Fault, FileName, Line, LockNo, Mode, Name, NewLock, OpFlags, SeatNo, TypeList,
 };
-
-/// Whether the line has a spelling of at most 4,096 bytes.
-pub fn spelled(line: &Line) -> bool
-    ensures { IsTrue result ↔ IsSpelled line.now }
-{
-    is_spellable(line) && is_short(line)
-}
-
-/// Whether a line that has a spelling has a short one.
-fn is_short(line: &Line) -> bool
-    requires { IsSpellable line.now }
-    ensures { IsTrue result ↔ (length (spelling line.now) ≤ 4096) }
-{
-    match line {
-        Line::Order { list } => are_within(list.types(), LONGEST - 5),
-        // All others have at most nine fields, each of at most 300 bytes.
-        _ => true,
-    }
-}
-
-/// Whether the types take at most so many bytes.
-fn are_within(types: &[(Class, Name)], most: usize) -> bool
-    ensures { IsTrue result ↔ (length (joined (list_fields types.now)) ≤ most) }
-{
-    match types {
-        [] => true,
-        [(class, name), others @ ..] => {
-            // Two spaces and two quotation marks.
-            let len = class_text(*class).len() + name.as_str().len() + 4;
-            len <= most && are_within(others, most - len)
-        }
-    }
-}
-
-fn is_spellable(line: &Line) -> bool
-    ensures { IsTrue result ↔ IsSpellable line.now }
-{
-    // A number's type keeps it in its range, and a read shows that.
-    match line {
-        Line::Header {
-            seats,
-            types,
-            locks,
-            chunks,
-        } => {
-            let _counts = [*seats, *types, *locks, *chunks];
-            true
-        }
-        Line::Order { list } => is_spellable_list(list.types()),
-        Line::Bless { first, second } => {
-            Name::accepts(first.as_str()) && Name::accepts(second.as_str())
-        }
-        Line::Init { seat, lock } => {
-            let _seat = seat.0;
-            is_spellable_lock(lock)
-        }
-        Line::Check {
-            seat,
-            lock,
-            ops,
-            file,
-            line,
-            ..
-        } => {
-            let _seat = seat.0;
-            let _lock = lock.0;
-            let _line = *line;
-            ops.0 < 8 && FileName::accepts(file.as_str())
-        }
-        Line::Lock { seat, lock } => {
-            let _seat = seat.0;
-            let _lock = lock.0;
-            true
-        }
-        Line::Unlock { seat, lock, .. } => {
-            let _seat = seat.0;
-            let _lock = lock.0;
-            true
-        }
-    }
-}
-
-fn is_spellable_list(types: &[(Class, Name)]) -> bool
-    ensures { IsTrue result ↔ IsSpellableList types.now }
-{
-    !types.is_empty() && are_named(types)
-}
-
-fn are_named(types: &[(Class, Name)]) -> bool
-    ensures { result ≡ list_all (λ (x : Class × List ℕ). is_name x.1) types.now }
-{
-    types.iter().all(|(_, name)| Name::accepts(name.as_str()))
-}
-
-fn is_spellable_lock(lock: &NewLock) -> bool
-    ensures { IsTrue result ↔ IsSpellableLock lock.now }
-{
-    lock.flags.0 < 4 && Name::accepts(lock.name.as_str()) && is_name_if_any(&lock.type_name)
-}
-
-fn is_name_if_any(name: &Option<Name>) -> bool
-    ensures { IsTrue result ↔ IfSome name.now (λ n. IsTrue (is_name n)) }
-{
-    match name {
-        None => true,
-        Some(name) => Name::accepts(name.as_str()),
-    }
-}
 
 /// The spelling of a line, without a line feed.
 ///
@@ -345,7 +233,7 @@ fn put_site(alloc: Global, out: &mut Vec<u8>, file: &FileName, line: u32) -> Res
     out.extend_from_slice(text.as_bytes())
 }
 
-fn class_text(class: Class) -> &'static [u8]
+pub fn class_text(class: Class) -> &'static [u8]
     ensures { result.now ≡ class_text class }
 {
     match class {

@@ -1,6 +1,0 @@
-use Rattle.std.proofs.Common.{refl}
-use Rattle.wit_grammar.proofs.Lengths.{spelled-le}
-use Rattle.wit_grammar.proofs.print.is_short.Goals as goal
-
-pub returns-in_default : goal.returns-in_default
-returns-in_default c = (λ _. spelled-le c.args.line.now c.requires c.in_default.not-Order, λ _. refl)

@@ -1,0 +1,111 @@
+//! The names of a line, with or without quotation marks, and lists of them.
+
+ghost use Rattle.std.specs.Prelude.{◌≡◌};
+ghost use Rattle.wit_model.specs.Rules.Names.{is_name, is_file_name};
+ghost use Rattle.wit_model.specs.Trace.Reading.{parted_at_last, accepted, site_of, field_at, quoted_at, optional, type_at, list_of};
+ghost use Rattle.wit_grammar.specs.Lines.{Gives};
+
+use crate::errors::LineError;
+use crate::numbers::number_of;
+use crate::words::{class, skip, split_before, word};
+use std::alloc::Global;
+use std::str;
+use wit_model::{Class, FileName, Name, TypeList};
+
+/// The bytes before a byte's last place, and those after it.
+fn split_at_last(byte: u8, word: &[u8]) -> Result<(&[u8], &[u8]), LineError>
+    ensures { Gives (λ x. (x.0.now, x.1.now)) result (parted_at_last byte word.now) }
+{
+    for i in (0..word.len()).rev() {
+        if word[i] == byte {
+            return Ok((&word[..i], &word[i + 1..]));
+        }
+    }
+    Err(LineError::SYNTAX)
+}
+
+fn name_of(alloc: Global, bytes: &[u8]) -> Result<Name, LineError>
+    ensures { Gives (λ n. n) result (accepted is_name bytes.now) }
+{
+    let Ok(text) = str::from_utf8(bytes) else {
+        return Err(LineError::SYNTAX);
+    };
+    if !Name::accepts(text) {
+        return Err(LineError::SYNTAX);
+    }
+    Ok(Name::new(alloc, text)?)
+}
+
+fn file_name_of(alloc: Global, bytes: &[u8]) -> Result<FileName, LineError>
+    ensures { Gives (λ n. n) result (accepted is_file_name bytes.now) }
+{
+    let Ok(text) = str::from_utf8(bytes) else {
+        return Err(LineError::SYNTAX);
+    };
+    if !FileName::accepts(text) {
+        return Err(LineError::SYNTAX);
+    }
+    Ok(FileName::new(alloc, text)?)
+}
+
+/// A name between quotation marks.
+#[tactic(auto, unfolding(wit_model::specs::Trace::Reading::quoted_at))]
+pub fn name(alloc: Global, bytes: &[u8]) -> Result<(Name, &[u8]), LineError>
+    ensures { Gives (λ x. (x.0, x.1.now)) result (quoted_at bytes.now) }
+{
+    let opened = skip(b' ', bytes)?;
+    let inside = skip(b'"', opened)?;
+    let (text, rest) = split_before(b'"', inside);
+    let name = name_of(alloc, text)?;
+    let rest = skip(b'"', rest)?;
+    Ok((name, rest))
+}
+
+/// A name, or none at the end of the line.
+pub fn name_if_any(alloc: Global, bytes: &[u8]) -> Result<(Option<Name>, &[u8]), LineError>
+    ensures { Gives (λ x. (x.0, x.1.now)) result (optional quoted_at bytes.now) }
+{
+    if bytes.is_empty() {
+        return Ok((None, bytes));
+    }
+    let (name, rest) = name(alloc, bytes)?;
+    Ok((Some(name), rest))
+}
+
+/// A type by its class and its name.
+#[tactic(auto, unfolding(wit_model::specs::Trace::Reading::type_at))]
+fn listed_type(alloc: Global, bytes: &[u8]) -> Result<(Class, Name, &[u8]), LineError>
+    ensures { Gives (λ x. ((x.0, x.1), x.2.now)) result (type_at bytes.now) }
+{
+    let (class, rest) = class(bytes)?;
+    let (name, rest) = name(alloc, rest)?;
+    Ok((class, name, rest))
+}
+
+/// One type or more, up to the end of the line.
+#[tactic(auto, using(crate::proofs::ListReading::no_first, crate::proofs::ListReading::reads_first, crate::proofs::ListReading::reads_next, crate::proofs::ListReading::reads_none, crate::proofs::ListReading::reads_end, wit_model::proofs::Spelling::Laws::type_shorter))]
+pub fn list(alloc: Global, bytes: &[u8]) -> Result<TypeList, LineError>
+    ensures { Gives (λ l. l) result (list_of bytes.now) }
+{
+    let mut list = TypeList::new(alloc);
+    let (class, name, mut rest) = listed_type(alloc, bytes)?;
+    list.push(class, name)?;
+    while !rest.is_empty() {
+        let (class, name, others) = listed_type(alloc, rest)?;
+        list.push(class, name)?;
+        rest = others;
+    }
+    Ok(list)
+}
+
+/// A file and a line.
+#[tactic(auto, unfolding(wit_model::specs::Trace::Reading::site_of))]
+pub fn site(alloc: Global, bytes: &[u8]) -> Result<(FileName, u32, &[u8]), LineError>
+    ensures { Gives (λ x. ((x.0, x.1), x.2.now)) result (field_at site_of bytes.now) }
+{
+    let (word, rest) = word(bytes)?;
+    let (file, line) = split_at_last(b':', word)?;
+    let file = file_name_of(alloc, file)?;
+    let line = number_of(u32::MAX, line)?;
+    Ok((file, line, rest))
+}

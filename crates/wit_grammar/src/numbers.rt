@@ -1,0 +1,84 @@
+//! The numbers of a line.
+
+ghost use Rattle.std.specs.Prelude.{◌+◌, ◌*◌, ◌≡◌, ◌≤◌, ◌<◌, ◌==◌, ◌&&◌, ◌||◌, not, length, true, None, IfOk, IfSome, slice_index};
+ghost use Rattle.std.specs.Char.{is_ascii_digit, digit_value};
+ghost use Rattle.wit_model.specs.Trace.Reading.{number_of, field_at, behind, count_at, seat_at, lock_at};
+ghost use Rattle.wit_grammar.specs.Lines.{Gives};
+
+use crate::errors::LineError;
+use crate::words::{fixed, word};
+use wit_model::{LockNo, SeatNo};
+
+/// Whether there are bytes, and the first isn't a leading zero.
+fn begins_numeral(word: &[u8]) -> bool
+    ensures { result ≡ (not (length word.now == 0)
+        && (not (slice_index word.now 0 == 48) || (length word.now == 1))) }
+{
+    !word.is_empty() && (word[0] != b'0' || word.len() == 1)
+}
+
+/// The number with one more digit, where the byte is one and the number stays within the bound.
+fn with_digit(most: u32, number: u32, byte: u8) -> Option<u32>
+    ensures some { IfSome result (λ n. (is_ascii_digit byte ≡ true)
+        × (n ≡ number * 10 + digit_value byte) × (n ≤ most)) }
+    ensures none { result ≡ None → is_ascii_digit byte ≡ true → most < number * 10 + digit_value byte }
+{
+    if !byte.is_ascii_digit() {
+        return None;
+    }
+    let more = u64::from(number) * 10 + u64::from(byte - b'0');
+    if more > u64::from(most) {
+        return None;
+    }
+    Some(more as u32)
+}
+
+/// The number that a word spells, without leading zeros.
+pub fn number_of(most: u32, word: &[u8]) -> Result<u32, LineError>
+    ensures value { Gives (λ n. n) result (number_of (most + 1) word.now) }
+    ensures below { IfOk result (λ n. n ≤ most) }
+{
+    if !begins_numeral(word) {
+        return Err(LineError::SYNTAX);
+    }
+    let mut number = 0;
+    for byte in word {
+        let Some(more) = with_digit(most, number, *byte) else {
+            return Err(LineError::SYNTAX);
+        };
+        number = more;
+    }
+    Ok(number)
+}
+
+fn number(most: u32, bytes: &[u8]) -> Result<(u32, &[u8]), LineError>
+    ensures value { Gives (λ x. (x.0, x.1.now)) result (field_at (number_of (most + 1)) bytes.now) }
+    ensures below { IfOk result (λ x. x.0 ≤ most) }
+{
+    let (word, rest) = word(bytes)?;
+    Ok((number_of(most, word)?, rest))
+}
+
+#[tactic(auto, unfolding(wit_model::specs::Trace::Reading::seat_at))]
+pub fn seat(bytes: &[u8]) -> Result<(SeatNo, &[u8]), LineError>
+    ensures { Gives (λ x. (x.0.0, x.1.now)) result (seat_at bytes.now) }
+{
+    let (seat, rest) = number(65535, bytes)?;
+    Ok((SeatNo(seat as u16), rest))
+}
+
+#[tactic(auto, unfolding(wit_model::specs::Trace::Reading::lock_at))]
+pub fn lock(bytes: &[u8]) -> Result<(LockNo, &[u8]), LineError>
+    ensures { Gives (λ x. (x.0.0, x.1.now)) result (lock_at bytes.now) }
+{
+    let (lock, rest) = number(u32::MAX, bytes)?;
+    Ok((LockNo(lock), rest))
+}
+
+/// A number behind a fixed word.
+#[tactic(auto, unfolding(wit_model::specs::Trace::Reading::count_at))]
+pub fn count<'a>(label: &[u8], bytes: &'a [u8]) -> Result<(u32, &'a [u8]), LineError>
+    ensures { Gives (λ x. (x.0, x.1.now)) result (behind label.now count_at bytes.now) }
+{
+    number(u32::MAX, fixed(label, bytes)?)
+}

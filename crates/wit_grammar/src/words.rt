@@ -1,0 +1,119 @@
+//! The words of a line: each reader gives a value and the bytes after it.
+
+ghost use Rattle.std.specs.Prelude.{◌≡◌, ◌≤◌, ◌<◌, ◌^◌, length, IfSome};
+ghost use Rattle.wit_model.specs.Trace.Reading.{after, place_of, until, class_of, mode_of, bits_of, flags_of, word_at, field_at, fixed_at};
+ghost use Rattle.wit_grammar.specs.Lines.{Gives};
+
+use crate::errors::LineError;
+use wit_model::{Class, Mode};
+
+/// The bytes after the one that must stand first.
+pub fn skip(byte: u8, bytes: &[u8]) -> Result<&[u8], LineError>
+    ensures { Gives (λ x. x.now) result (after byte bytes.now) }
+{
+    match bytes.split_first() {
+        Some((first, rest)) if *first == byte => Ok(rest),
+        _ => Err(LineError::SYNTAX),
+    }
+}
+
+/// The index of a byte's first place, or the length.
+fn index_of(byte: u8, bytes: &[u8]) -> usize
+    ensures place { result ≡ place_of byte bytes.now }
+    ensures within { result ≤ length bytes.now }
+{
+    for (i, b) in bytes.iter().enumerate() {
+        if *b == byte {
+            return i;
+        }
+    }
+    bytes.len()
+}
+
+/// The bytes before a byte's first place, and those from there on.
+pub fn split_before(byte: u8, bytes: &[u8]) -> (&[u8], &[u8])
+    ensures front { result.0.now ≡ (until byte bytes.now).0 }
+    ensures back { result.1.now ≡ (until byte bytes.now).1 }
+{
+    bytes.split_at(index_of(byte, bytes))
+}
+
+/// A word, up to the next space or the end.
+#[tactic(auto, unfolding(wit_model::specs::Trace::Reading::word_at))]
+pub fn word(bytes: &[u8]) -> Result<(&[u8], &[u8]), LineError>
+    ensures { Gives (λ x. (x.0.now, x.1.now)) result (word_at bytes.now) }
+{
+    let rest = skip(b' ', bytes)?;
+    Ok(split_before(b' ', rest))
+}
+
+/// The bytes after a fixed word.
+#[tactic(auto, unfolding(wit_model::specs::Trace::Reading::fixed_at))]
+pub fn fixed<'a>(text: &[u8], bytes: &'a [u8]) -> Result<&'a [u8], LineError>
+    ensures { Gives (λ x. x.now) result (fixed_at text.now bytes.now) }
+{
+    let (word, rest) = word(bytes)?;
+    if word == text {
+        Ok(rest)
+    } else {
+        Err(LineError::SYNTAX)
+    }
+}
+
+#[tactic(auto, unfolding(wit_model::specs::Trace::Reading::mode_of))]
+pub fn mode(bytes: &[u8]) -> Result<(Mode, &[u8]), LineError>
+    ensures { Gives (λ x. (x.0, x.1.now)) result (field_at mode_of bytes.now) }
+{
+    let (word, rest) = word(bytes)?;
+    match word {
+        b"s" => Ok((Mode::Shared, rest)),
+        b"x" => Ok((Mode::Exclusive, rest)),
+        _ => Err(LineError::SYNTAX),
+    }
+}
+
+#[tactic(auto, unfolding(wit_model::specs::Trace::Reading::class_of))]
+pub fn class(bytes: &[u8]) -> Result<(Class, &[u8]), LineError>
+    ensures { Gives (λ x. (x.0, x.1.now)) result (field_at class_of bytes.now) }
+{
+    let (word, rest) = word(bytes)?;
+    match word {
+        b"mtx" => Ok((Class::SleepMutex, rest)),
+        b"spin" => Ok((Class::SpinMutex, rest)),
+        b"rw" => Ok((Class::Rw, rest)),
+        b"sx" => Ok((Class::Sx, rest)),
+        _ => Err(LineError::SYNTAX),
+    }
+}
+
+/// The bits of letters that stand in order, none twice.
+fn bits_of(letters: &[u8], word: &[u8]) -> Option<u8>
+    requires { length letters.now ≤ 8 }
+    ensures value { result ≡ bits_of letters.now word.now }
+    ensures small { IfSome result (λ n. n < 2 ^ length letters.now) }
+{
+    match (letters, word) {
+        ([], []) => Some(0),
+        ([], _) => None,
+        ([letter, letters @ ..], [first, others @ ..]) if first == letter => {
+            Some(2 * bits_of(letters, others)? + 1)
+        }
+        ([_, letters @ ..], _) => Some(2 * bits_of(letters, word)?),
+    }
+}
+
+#[tactic(auto, unfolding(wit_model::specs::Trace::Reading::flags_of))]
+pub fn flags<'a>(letters: &[u8], bytes: &'a [u8]) -> Result<(u8, &'a [u8]), LineError>
+    requires { length letters.now ≤ 8 }
+    ensures { Gives (λ x. (x.0, x.1.now)) result (field_at (flags_of letters.now) bytes.now) }
+{
+    let (word, rest) = word(bytes)?;
+    match word {
+        b"-" => Ok((0, rest)),
+        [] => Err(LineError::SYNTAX),
+        _ => match bits_of(letters, word) {
+            Some(bits) => Ok((bits, rest)),
+            None => Err(LineError::SYNTAX),
+        },
+    }
+}
