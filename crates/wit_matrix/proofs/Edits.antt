@@ -1,193 +1,26 @@
--- What an adopted order and a found pair make of the bytes.
+-- What an adopted order and a found pair make of the squares.
 use Rattle.std.proofs.Common.{◌≡◌, ℕ, ◌*◌, ◌≤◌, Bool, true, false, ◌&&◌, ◌||◌, cond, eqb, List, [], ◌∷◌, length, refl, ap, ap₂, sym, ◌∙◌, subst, ⊎_elim, replicate}
 use Rattle.std.proofs.Math.Bool.{and_comm, or_comm, or_assoc}
-use Rattle.std.proofs.lemmas.Bool.{or_cases, or_left, or_right, or_from, and_parts, and_from, eqb-true, eq-eqb, ne_eqb, false≢true}
+use Rattle.std.proofs.lemmas.Bool.{or_cases, or_left, or_right, and_parts, and_from, eqb-true, eq-eqb, false≢true}
+use Rattle.std.proofs.lemmas.List.{length-replicate}
 use Rattle.wit_model.specs.declared.locks.TypeNo.{TypeNo}
 use Rattle.wit_model.specs.declared.locks.Origin.TheVariants.{Listed}
 use Rattle.wit_model.specs.declared.calls.Adoption.{Adoption}
 use Rattle.wit_model.specs.Rules.Orders.{is_adoption_of, is_direct, is_before, IsSound, is_pair_of, is_found, found_once, adopted_once}
-use Rattle.std.proofs.lemmas.List.{get_or-replicate, length-replicate}
 use Rattle.wit_model.proofs.Orders.Paths.{sound_adopt, test_from_before, is_before-trans}
 use Rattle.wit_matrix.specs.Relation.{IsNumber, HasSameOrders, HasSameFound, OrdersAmong, FoundAmong, Adopts, Finds}
-use Rattle.wit_matrix.proofs.Places.{place_within}
-use Rattle.wit_matrix.specs.Bytes.{place, byte_at, has, with_bits, order_of, relation_in, orders_in, found_in, IsKept, AddsWhere, JoinsNothing, is_at, reaches, joins}
-use Rattle.wit_matrix.proofs.Bits.{byte_of, add_parent, add_ancestor, add_child, add_descendant, add_reversal, has_ancestor, has_descendant, has_kept}
-use Rattle.wit_matrix.proofs.Settled.{AreCells, direct_among, found_among, orders_settled, found_settled, settled, same_from, found-turned}
+use Rattle.wit_matrix.specs.Squares.{width, has, order_of, relation_in, orders_in, found_in, Holds, IsSquare, IsKept, AddsWhere, IsTransitive, AreMirrors, is_at, links}
+use Rattle.wit_matrix.proofs.Words.{blank_has_none}
+use Rattle.wit_matrix.proofs.Settled.{direct_among, found_among, direct_holds, orders_settled, found_settled, same_from, same_before, same_sound, orders-sym, found-turned}
 
--- what the bytes say of a type and those before it
-pub reaches_up : (n : ℕ) (cells : List ℕ) → IsKept n cells → (a b : ℕ) → IsNumber n a → IsNumber n b
-    → reaches n cells 0x08 a b ≡ (eqb a b || is_before (orders_in n cells) b a)
-reaches_up n cells k a b at bt =
-    ap (λ t. eqb a b || t)
-    (ap (has 0x08) (k.each a b at bt)
-    ∙ has_descendant (is_direct (orders_in n cells) a b) (is_before (orders_in n cells) a b) (is_direct (orders_in n cells) b a) (is_before (orders_in n cells) b a)
-    (is_found (found_in n cells) a b))
+-- what is before what is transitive, and its mirror stands beside it
+pub kept_transitive : (n : ℕ) (direct before after found : List ℕ) → IsKept n direct before after found → IsTransitive n before
+kept_transitive n direct before after found kept a b c at bt ct first rest =
+    kept.tells_before a c at ct
+    ∙ is_before-trans (orders_in n direct) a b c (sym (kept.tells_before a b at bt) ∙ first) (sym (kept.tells_before b c bt ct) ∙ rest)
 
--- and those after it
-pub reaches_down : (n : ℕ) (cells : List ℕ) → IsKept n cells → (a b : ℕ) → IsNumber n a → IsNumber n b
-    → reaches n cells 0x02 a b ≡ (eqb a b || is_before (orders_in n cells) a b)
-reaches_down n cells k a b at bt =
-    ap (λ t. eqb a b || t)
-    (ap (has 0x02) (k.each a b at bt)
-    ∙ has_ancestor (is_direct (orders_in n cells) a b) (is_before (orders_in n cells) a b) (is_direct (orders_in n cells) b a) (is_before (orders_in n cells) b a)
-    (is_found (found_in n cells) a b))
-
--- the types that differ, of which the second isn't before the first
-pub record CanAdopt (n : ℕ) (cells : List ℕ) (p c : ℕ) : Type 0 where
-  pub kept : IsKept n cells
-  pub parent : IsNumber n p
-  pub child : IsNumber n c
-  pub apart : p ≡ c → ⊥
-  pub orderly : is_before (orders_in n cells) c p ≡ false
-
-pub not_up : (n : ℕ) (cells : List ℕ) (p c : ℕ) → CanAdopt n cells p c → reaches n cells 0x08 p c ≡ false
-not_up n cells p c can = reaches_up n cells can.kept p c can.parent can.child ∙ or_from (eqb p c) (is_before (orders_in n cells) c p) (ne_eqb p c can.apart) can.orderly
-
-not_down : (n : ℕ) (cells : List ℕ) (p c : ℕ) → CanAdopt n cells p c → reaches n cells 0x02 c p ≡ false
-not_down n cells p c can =
-    reaches_down n cells can.kept c p can.child can.parent ∙ or_from (eqb c p) (is_before (orders_in n cells) c p) (ne_eqb c p (λ e. can.apart (sym e))) can.orderly
-
--- the child's row stays as it is while its ancestors' rows are joined
-down_kept : (n : ℕ) (c0 c1 : List ℕ) (p c : ℕ) → CanAdopt n c0 p c → AddsWhere n 0x02 (joins n c0 0x08 p 0x02 c) c0 c1
-    → (b : ℕ) → IsNumber n b → reaches n c1 0x02 c b ≡ reaches n c0 0x02 c b
-down_kept n c0 c1 p c can first b bt =
-    ap (λ x. eqb c b || has 0x02 x) (first c b can.child bt ∙ (let none = not_up n c0 p c can in rw none refl))
-
-up_kept : (n : ℕ) (c0 c1 : List ℕ) (p c : ℕ) → CanAdopt n c0 p c → AddsWhere n 0x02 (joins n c0 0x08 p 0x02 c) c0 c1
-    → (b : ℕ) → IsNumber n b → reaches n c1 0x08 p b ≡ reaches n c0 0x08 p b
-up_kept n c0 c1 p c can first b bt =
-    ap (λ t. eqb p b || t) (ap (has 0x08) (first p b can.parent bt) ∙ has_kept 0x02 0x08 (byte_at n c0 p b) (joins n c0 0x08 p 0x02 c p b) refl)
-
-pub not_down_after : (n : ℕ) (c0 c1 : List ℕ) (p c : ℕ) → CanAdopt n c0 p c → AddsWhere n 0x02 (joins n c0 0x08 p 0x02 c) c0 c1 → reaches n c1 0x02 c p ≡ false
-not_down_after n c0 c1 p c can first = down_kept n c0 c1 p c can first p can.parent ∙ not_down n c0 p c can
-
--- whether the order from p to c puts a before b
-abbrev is_joined : List Adoption → ℕ → ℕ → ℕ → ℕ → Bool
-is_joined os p c a b = (eqb p a || is_before os a p) && (eqb c b || is_before os c b)
-
-joins_first : (n : ℕ) (c0 : List ℕ) (p c : ℕ) → CanAdopt n c0 p c → (a b : ℕ) → IsNumber n a → IsNumber n b
-    → joins n c0 0x08 p 0x02 c a b ≡ is_joined (orders_in n c0) p c a b
-joins_first n c0 p c can a b at bt = ap₂ (λ x y. x && y) (reaches_up n c0 can.kept p a can.parent at) (reaches_down n c0 can.kept c b can.child bt)
-
-joins_second : (n : ℕ) (c0 c1 : List ℕ) (p c : ℕ) → CanAdopt n c0 p c → AddsWhere n 0x02 (joins n c0 0x08 p 0x02 c) c0 c1
-    → (a b : ℕ) → IsNumber n a → IsNumber n b → joins n c1 0x02 c 0x08 p a b ≡ is_joined (orders_in n c0) p c b a
-joins_second n c0 c1 p c can first a b at bt =
-    ap₂ (λ x y. x && y) (down_kept n c0 c1 p c can first a at ∙ reaches_down n c0 can.kept c a can.child at)
-    (up_kept n c0 c1 p c can first b bt ∙ reaches_up n c0 can.kept p b can.parent bt)
-    ∙ and_comm (eqb c a || is_before (orders_in n c0) c a) (eqb p b || is_before (orders_in n c0) b p)
-
--- from a type to one that is b or before it
-before_or_at : (os : List Adoption) (a b c : ℕ) → is_before os a b ≡ true → (eqb b c || is_before os b c) ≡ true → is_before os a c ≡ true
-before_or_at os a b c first rest =
-    ⊎_elim
-    (λ here. subst (λ x. is_before os a x ≡ true) (eqb-true b c here) first)
-    (λ on. is_before-trans os a b c first on)
-    (or_cases (eqb b c) (is_before os b c) rest)
-
--- and from one that is b, or that b is after, to c
-at_or_before : (os : List Adoption) (a b c : ℕ) → (eqb b a || is_before os a b) ≡ true → is_before os b c ≡ true → is_before os a c ≡ true
-at_or_before os a b c first rest =
-    ⊎_elim
-    (λ here. subst (λ x. is_before os x c ≡ true) (eqb-true b a here) rest)
-    (λ on. is_before-trans os a b c on rest)
-    (or_cases (eqb b a) (is_before os a b) first)
-
--- the bytes while the ancestors' rows are joined
-first_cells : (n : ℕ) (c0 c1 : List ℕ) (p c : ℕ) → CanAdopt n c0 p c → AddsWhere n 0x02 (joins n c0 0x08 p 0x02 c) c0 c1 → (a b : ℕ) → IsNumber n a → IsNumber n b
-    → byte_at n c1 a b
-    ≡ byte_of (is_direct (orders_in n c0) a b) (is_before (orders_in n c0) a b || is_joined (orders_in n c0) p c a b) (is_direct (orders_in n c0) b a)
-    (is_before (orders_in n c0) b a) (is_found (found_in n c0) a b)
-first_cells n c0 c1 p c can first a b at bt =
-    let os = orders_in n c0 in
-    first a b at bt
-    ∙ (ap₂ (λ t z. with_bits t 0x02 z) (joins_first n c0 p c can a b at bt) (can.kept.each a b at bt)
-    ∙ add_ancestor (is_joined os p c a b) (is_direct os a b) (is_before os a b) (is_direct os b a) (is_before os b a) (is_found (found_in n c0) a b))
-
--- a row that is before the child is before all after it
-pub down_closed : (n : ℕ) (c0 : List ℕ) (p c : ℕ) → CanAdopt n c0 p c → JoinsNothing n c0 0x02 c
-down_closed n c0 p c can a b at bt has_it on =
-    let os = orders_in n c0 in
-    let first : is_before os a c ≡ true =
-    sym (has_ancestor (is_direct os a c) (is_before os a c) (is_direct os c a) (is_before os c a) (is_found (found_in n c0) a c)) ∙ (ap (has 0x02) (sym (can.kept.each a c at can.child)) ∙ has_it) in
-    let all : is_before os a b ≡ true = before_or_at os a c b first (sym (reaches_down n c0 can.kept c b can.child bt) ∙ on) in
-    let is : byte_at n c0 a b ≡ byte_of (is_direct os a b) true (is_direct os b a) (is_before os b a) (is_found (found_in n c0) a b) =
-    can.kept.each a b at bt ∙ ap (λ t. byte_of (is_direct os a b) t (is_direct os b a) (is_before os b a) (is_found (found_in n c0) a b)) all in
-    rw is (add_ancestor true (is_direct os a b) true (is_direct os b a) (is_before os b a) (is_found (found_in n c0) a b))
-
--- and a row that is after the parent is after all before it
-pub up_closed : (n : ℕ) (c0 c1 : List ℕ) (p c : ℕ) → CanAdopt n c0 p c → AddsWhere n 0x02 (joins n c0 0x08 p 0x02 c) c0 c1 → JoinsNothing n c1 0x08 p
-up_closed n c0 c1 p c can step a b at bt has_it on =
-    let os = orders_in n c0 in
-    let first : is_before os p a ≡ true =
-    sym (has_descendant (is_direct os a p) (is_before os a p || is_joined os p c a p) (is_direct os p a) (is_before os p a) (is_found (found_in n c0) a p))
-    ∙ (ap (has 0x08) (sym (first_cells n c0 c1 p c can step a p at can.parent)) ∙ has_it) in
-    let all : is_before os b a ≡ true =
-    at_or_before os b p a (sym (up_kept n c0 c1 p c can step b bt ∙ reaches_up n c0 can.kept p b can.parent bt) ∙ on) first in
-    let is : byte_at n c1 a b ≡ byte_of (is_direct os a b) (is_before os a b || is_joined os p c a b) (is_direct os b a) true (is_found (found_in n c0) a b) =
-    first_cells n c0 c1 p c can step a b at bt
-    ∙ ap (λ t. byte_of (is_direct os a b) (is_before os a b || is_joined os p c a b) (is_direct os b a) t (is_found (found_in n c0) a b)) all in
-    rw is (add_descendant true (is_direct os a b) (is_before os a b || is_joined os p c a b) (is_direct os b a) true (is_found (found_in n c0) a b))
-
--- where the parent is before the child already, no row gets a bit
-joined_before : (os : List Adoption) (p c a b : ℕ) → is_before os p c ≡ true → is_joined os p c a b ≡ true → is_before os a b ≡ true
-joined_before os p c a b known is =
-    let parts = and_parts (eqb p a || is_before os a p) (eqb c b || is_before os c b) is in
-    before_or_at os a c b (at_or_before os a p c parts.0 known) parts.1
-
-same_with : (bit x : ℕ) (t : Bool) → (t ≡ true → with_bits true bit x ≡ x) → x ≡ with_bits t bit x
-same_with bit x true same = sym (same refl)
-same_with bit x false same = refl
-
-pub known_rows : (n : ℕ) (c0 : List ℕ) (p c : ℕ) → CanAdopt n c0 p c → has 0x02 (byte_at n c0 p c) ≡ true → AddsWhere n 0x02 (joins n c0 0x08 p 0x02 c) c0 c0
-known_rows n c0 p c can has_it a b at bt =
-    same_with 0x02 (byte_at n c0 a b) (joins n c0 0x08 p 0x02 c a b)
-    (λ j. let os = orders_in n c0 in
-    let known : is_before os p c ≡ true =
-    sym (has_ancestor (is_direct os p c) (is_before os p c) (is_direct os c p) (is_before os c p) (is_found (found_in n c0) p c)) ∙ (ap (has 0x02) (sym (can.kept.each p c can.parent can.child)) ∙ has_it) in
-    let all : is_before os a b ≡ true = joined_before os p c a b known (sym (joins_first n c0 p c can a b at bt) ∙ j) in
-    let is : byte_at n c0 a b ≡ byte_of (is_direct os a b) true (is_direct os b a) (is_before os b a) (is_found (found_in n c0) a b) =
-    can.kept.each a b at bt ∙ ap (λ t. byte_of (is_direct os a b) t (is_direct os b a) (is_before os b a) (is_found (found_in n c0) a b)) all in
-    rw is (add_ancestor true (is_direct os a b) true (is_direct os b a) (is_before os b a) (is_found (found_in n c0) a b)))
-
-pub known_mirror : (n : ℕ) (c0 : List ℕ) (p c : ℕ) → CanAdopt n c0 p c → has 0x02 (byte_at n c0 p c) ≡ true → AddsWhere n 0x08 (joins n c0 0x02 c 0x08 p) c0 c0
-known_mirror n c0 p c can has_it a b at bt =
-    same_with 0x08 (byte_at n c0 a b) (joins n c0 0x02 c 0x08 p a b)
-    (λ j. let os = orders_in n c0 in
-    let known : is_before os p c ≡ true =
-    sym (has_ancestor (is_direct os p c) (is_before os p c) (is_direct os c p) (is_before os c p) (is_found (found_in n c0) p c)) ∙ (ap (has 0x02) (sym (can.kept.each p c can.parent can.child)) ∙ has_it) in
-    let all : is_before os b a ≡ true =
-    joined_before os p c b a known (sym (joins_second n c0 c0 p c can (known_rows n c0 p c can has_it) a b at bt) ∙ j) in
-    let is : byte_at n c0 a b ≡ byte_of (is_direct os a b) (is_before os a b) (is_direct os b a) true (is_found (found_in n c0) a b) =
-    can.kept.each a b at bt ∙ ap (λ t. byte_of (is_direct os a b) (is_before os a b) (is_direct os b a) t (is_found (found_in n c0) a b)) all in
-    rw is (add_descendant true (is_direct os a b) (is_before os a b) (is_direct os b a) true (is_found (found_in n c0) a b)))
-
--- the four steps of an adoption
-pub record Links (n : ℕ) (c0 c1 c2 c3 c4 : List ℕ) (p c : ℕ) : Type 0 where
-  pub rows : AddsWhere n 0x02 (joins n c0 0x08 p 0x02 c) c0 c1
-  pub mirror : AddsWhere n 0x08 (joins n c1 0x02 c 0x08 p) c1 c2
-  pub parent : AddsWhere n 0x01 (is_at p c) c2 c3
-  pub child : AddsWhere n 0x04 (is_at c p) c3 c4
-
-linked_cells : (n : ℕ) (c0 c1 c2 c3 c4 : List ℕ) (p c : ℕ) → CanAdopt n c0 p c → Links n c0 c1 c2 c3 c4 p c
-    → AreCells n c4 (order_of (p, c) ∷ orders_in n c0) (found_in n c0)
-linked_cells n c0 c1 c2 c3 c4 p c can l a b at bt =
-    let os = orders_in n c0 in
-    let d : Bool = is_direct os a b in
-    let e : Bool = is_direct os b a in
-    let x : Bool = is_before os a b in
-    let y : Bool = is_before os b a in
-    let r : Bool = is_found (found_in n c0) a b in
-    let j : Bool = is_joined os p c a b in
-    let k : Bool = is_joined os p c b a in
-    let one : byte_at n c1 a b ≡ byte_of d (x || j) e y r =
-    l.rows a b at bt ∙ (ap₂ (λ t z. with_bits t 0x02 z) (joins_first n c0 p c can a b at bt) (can.kept.each a b at bt) ∙ add_ancestor j d x e y r) in
-    let two : byte_at n c2 a b ≡ byte_of d (x || j) e (y || k) r =
-    l.mirror a b at bt ∙ (ap₂ (λ t z. with_bits t 0x08 z) (joins_second n c0 c1 p c can l.rows a b at bt) one ∙ add_descendant k d (x || j) e y r) in
-    let three : byte_at n c3 a b ≡ byte_of (is_at p c a b || d) (x || j) e (y || k) r =
-    l.parent a b at bt ∙ (ap (with_bits (is_at p c a b) 0x01) two ∙ add_parent (is_at p c a b) d (x || j) e (y || k) r) in
-    let four : byte_at n c4 a b ≡ byte_of (is_at p c a b || d) (x || j) (is_at c p a b || e) (y || k) r =
-    l.child a b at bt ∙ (ap (with_bits (is_at c p a b) 0x04) three ∙ add_child (is_at c p a b) (is_at p c a b || d) (x || j) e (y || k) r) in
-    four ∙ ap (λ t. byte_of (is_at p c a b || d) (x || j) (t || e) (y || k) r) (and_comm (eqb c a) (eqb p b))
+pub kept_mirrors : (n : ℕ) (direct before after found : List ℕ) → IsKept n direct before after found → AreMirrors n before after
+kept_mirrors n direct before after found kept a b at bt = kept.tells_after a b at bt ∙ sym (kept.tells_before b a bt at)
 
 more_among : (n p c : ℕ) (os : List Adoption) → IsNumber n p → IsNumber n c → OrdersAmong n os → OrdersAmong n (order_of (p, c) ∷ os)
 more_among n p c os pt ct among a b is =
@@ -196,11 +29,22 @@ more_among n p c os pt ct among a b is =
     (λ later. among a b later)
     (or_cases (is_at p c a b) (is_direct os a b) is)
 
-pub linked_kept : (n : ℕ) (c0 c1 c2 c3 c4 : List ℕ) (p c : ℕ) → CanAdopt n c0 p c → Links n c0 c1 c2 c3 c4 p c → length c4 ≡ n * n → IsKept n c4
-linked_kept n c0 c1 c2 c3 c4 p c can l square =
-    settled n c4 (order_of (p, c) ∷ orders_in n c0) (found_in n c0) can.kept.positive can.kept.within square (linked_cells n c0 c1 c2 c3 c4 p c can l)
-    (more_among n p c (orders_in n c0) can.parent can.child (direct_among n c0)) (found_among n c0)
-    (sound_adopt (order_of (p, c)) (orders_in n c0) can.kept.sound can.orderly can.apart)
+-- the types that differ, of which the second isn't before the first
+pub record CanAdopt (n : ℕ) (direct before after found : List ℕ) (p c : ℕ) : Type 0 where
+  pub kept : IsKept n direct before after found
+  pub parent : IsNumber n p
+  pub child : IsNumber n c
+  pub apart : p ≡ c → ⊥
+  pub orderly : is_before (orders_in n direct) c p ≡ false
+
+-- the two steps of an adoption, and what they leave
+pub record Links (n : ℕ) (direct before after d1 b1 a1 : List ℕ) (p c : ℕ) : Type 0 where
+  pub linked : AddsWhere n (links n before p c) before b1
+  pub mirrors : AreMirrors n b1 a1
+  pub adopted : AddsWhere n (is_at p c) direct d1
+  pub direct_square : IsSquare n d1
+  pub before_square : IsSquare n b1
+  pub after_square : IsSquare n a1
 
 -- an order that was adopted adds nothing
 pub adopted_again : (p c : ℕ) (os : List Adoption) → HasSameOrders (order_of (p, c) ∷ os) (adopted_once p c Listed os)
@@ -217,33 +61,44 @@ adopted_again p c os a b = go (is_direct os p c) refl
         (or_cases (is_at p c a b) (is_direct os a b) h))
         (λ h. or_right (is_at p c a b) (is_direct os a b) h)
 
-pub linked_adopts : (n : ℕ) (c0 c1 c2 c3 c4 : List ℕ) (p c : ℕ) → CanAdopt n c0 p c → Links n c0 c1 c2 c3 c4 p c → Adopts (relation_in n c0) p c (relation_in n c4)
-linked_adopts n c0 c1 c2 c3 c4 p c can l = record {
-  size = refl;
-  orders = λ a b.
-      orders_settled n c4 (order_of (p, c) ∷ orders_in n c0) (found_in n c0) (linked_cells n c0 c1 c2 c3 c4 p c can l)
-      (more_among n p c (orders_in n c0) can.parent can.child (direct_among n c0)) a b
-      ∙ adopted_again p c (orders_in n c0) a b;
-  found = found_settled n c4 (order_of (p, c) ∷ orders_in n c0) (found_in n c0) (linked_cells n c0 c1 c2 c3 c4 p c can l) (found_among n c0);
-}
+module _ (n : ℕ) (direct before after found d1 b1 a1 : List ℕ) (p c : ℕ) (can : CanAdopt n direct before after found p c) (made : Links n direct before after d1 b1 a1 p c) where
+  direct_more : Holds n d1 (is_direct (order_of (p, c) ∷ orders_in n direct))
+  direct_more a b at bt =
+      made.adopted a b at bt ∙ (ap (λ t. t || is_at p c a b) (direct_holds n direct a b at bt) ∙ or_comm (is_direct (orders_in n direct) a b) (is_at p c a b))
 
--- the two steps of a found pair
-marked_cells : (n : ℕ) (c0 c1 c2 : List ℕ) (a b : TypeNo) → IsKept n c0 → AddsWhere n 0x10 (is_at a.0 b.0) c0 c1 → AddsWhere n 0x10 (is_at b.0 a.0) c1 c2
-    → AreCells n c2 (orders_in n c0) ((a, b) ∷ found_in n c0)
-marked_cells n c0 c1 c2 a b kept first second i j it jt =
-    let os = orders_in n c0 in
-    let d : Bool = is_direct os i j in
-    let e : Bool = is_direct os j i in
-    let x : Bool = is_before os i j in
-    let y : Bool = is_before os j i in
-    let r : Bool = is_found (found_in n c0) i j in
-    let k : Bool = is_at a.0 b.0 i j in
-    let m : Bool = is_at b.0 a.0 i j in
-    let one : byte_at n c1 i j ≡ byte_of d x e y (r || k) = first i j it jt ∙ (ap (with_bits k 0x10) (kept.each i j it jt) ∙ add_reversal k d x e y r) in
-    let two : byte_at n c2 i j ≡ byte_of d x e y ((r || k) || m) = second i j it jt ∙ (ap (with_bits m 0x10) one ∙ add_reversal m d x e y (r || k)) in
-    two
-    ∙ ap (byte_of d x e y)
-    (or_assoc r k m ∙ (or_comm r (k || m) ∙ ap (λ t. (k || t) || r) (and_comm (eqb b.0 i) (eqb a.0 j))))
+  orders_more : HasSameOrders (orders_in n d1) (order_of (p, c) ∷ orders_in n direct)
+  orders_more =
+      orders_settled n d1 (order_of (p, c) ∷ orders_in n direct) direct_more
+      (more_among n p c (orders_in n direct) can.parent can.child (direct_among n direct))
+
+  before_more : Holds n b1 (is_before (orders_in n d1))
+  before_more a b at bt =
+      made.linked a b at bt
+      ∙ (ap₂ (λ x y. x || ((eqb p a || y) && (eqb c b || has n before c b))) (can.kept.tells_before a b at bt) (can.kept.tells_before a p at can.parent)
+      ∙ (ap (λ t. is_before (orders_in n direct) a b || ((eqb p a || is_before (orders_in n direct) a p) && (eqb c b || t))) (can.kept.tells_before c b can.child bt)
+      ∙ sym (same_before (orders_in n d1) (order_of (p, c) ∷ orders_in n direct) orders_more a b)))
+
+  pub adopted_kept : IsKept n d1 b1 a1 found
+  adopted_kept = record {
+    positive = can.kept.positive;
+    within = can.kept.within;
+    direct_square = made.direct_square;
+    before_square = made.before_square;
+    after_square = made.after_square;
+    found_square = can.kept.found_square;
+    tells_before = before_more;
+    tells_after = λ a b at bt. made.mirrors a b at bt ∙ before_more b a bt at;
+    tells_found = can.kept.tells_found;
+    sound = same_sound (order_of (p, c) ∷ orders_in n direct) (orders_in n d1) (orders-sym (orders_in n d1) (order_of (p, c) ∷ orders_in n direct) orders_more)
+        (sound_adopt (order_of (p, c)) (orders_in n direct) can.kept.sound can.orderly can.apart);
+  }
+
+  pub adopted_adopts : Adopts (relation_in n direct found) p c (relation_in n d1 found)
+  adopted_adopts = record {
+    size = refl;
+    orders = λ a b. orders_more a b ∙ adopted_again p c (orders_in n direct) a b;
+    found = λ a b. refl;
+  }
 
 pub found_again : (a b : TypeNo) (fs : List (TypeNo × TypeNo)) → HasSameFound ((a, b) ∷ fs) (found_once a b fs)
 found_again a b fs i j = go (is_found fs a.0 b.0) refl
@@ -273,22 +128,40 @@ found_more_among n a b fs at bt among i j is =
     (λ later. among i j later)
     (or_cases (is_pair_of i j (a, b)) (is_found fs i j) is)
 
-pub marked_kept : (n : ℕ) (c0 c1 c2 : List ℕ) (a b : TypeNo) → IsKept n c0 → IsNumber n a.0 → IsNumber n b.0
-    → AddsWhere n 0x10 (is_at a.0 b.0) c0 c1 → AddsWhere n 0x10 (is_at b.0 a.0) c1 c2 → length c2 ≡ n * n → IsKept n c2
-marked_kept n c0 c1 c2 a b kept at bt first second square =
-    settled n c2 (orders_in n c0) ((a, b) ∷ found_in n c0) kept.positive kept.within square (marked_cells n c0 c1 c2 a b kept first second)
-    (direct_among n c0) (found_more_among n a b (found_in n c0) at bt (found_among n c0)) kept.sound
+module _ (n : ℕ) (direct before after f0 f1 f2 : List ℕ) (a b : TypeNo) (kept : IsKept n direct before after f0) (at : IsNumber n a.0) (bt : IsNumber n b.0)
+    (first : AddsWhere n (is_at a.0 b.0) f0 f1) (second : AddsWhere n (is_at b.0 a.0) f1 f2) where
+  found_more : Holds n f2 (is_found ((a, b) ∷ found_in n f0))
+  found_more i j it jt =
+      let r : Bool = is_found (found_in n f0) i j in
+      let k : Bool = is_at a.0 b.0 i j in
+      let m : Bool = is_at b.0 a.0 i j in
+      second i j it jt
+      ∙ (ap (λ t. t || m) (first i j it jt ∙ ap (λ t. t || k) (kept.tells_found i j it jt))
+      ∙ (or_assoc r k m ∙ (or_comm r (k || m) ∙ ap (λ t. (k || t) || r) (and_comm (eqb b.0 i) (eqb a.0 j)))))
 
-pub marked_finds : (n : ℕ) (c0 c1 c2 : List ℕ) (a b : TypeNo) → IsKept n c0 → IsNumber n a.0 → IsNumber n b.0
-    → AddsWhere n 0x10 (is_at a.0 b.0) c0 c1 → AddsWhere n 0x10 (is_at b.0 a.0) c1 c2 → Finds (relation_in n c0) a b (relation_in n c2)
-marked_finds n c0 c1 c2 a b kept at bt first second = record {
-  size = refl;
-  orders = orders_settled n c2 (orders_in n c0) ((a, b) ∷ found_in n c0) (marked_cells n c0 c1 c2 a b kept first second) (direct_among n c0);
-  found = λ i j.
-      found_settled n c2 (orders_in n c0) ((a, b) ∷ found_in n c0) (marked_cells n c0 c1 c2 a b kept first second)
-      (found_more_among n a b (found_in n c0) at bt (found_among n c0)) i j
-      ∙ found_again a b (found_in n c0) i j;
-}
+  pairs_more : HasSameFound (found_in n f2) ((a, b) ∷ found_in n f0)
+  pairs_more = found_settled n f2 ((a, b) ∷ found_in n f0) found_more (found_more_among n a b (found_in n f0) at bt (found_among n f0))
+
+  pub marked_kept : IsSquare n f2 → IsKept n direct before after f2
+  marked_kept square = record {
+    positive = kept.positive;
+    within = kept.within;
+    direct_square = kept.direct_square;
+    before_square = kept.before_square;
+    after_square = kept.after_square;
+    found_square = square;
+    tells_before = kept.tells_before;
+    tells_after = kept.tells_after;
+    tells_found = λ i j it jt. found_more i j it jt ∙ sym (pairs_more i j);
+    sound = kept.sound;
+  }
+
+  pub marked_finds : Finds (relation_in n direct f0) a b (relation_in n direct f2)
+  marked_finds = record {
+    size = refl;
+    orders = λ i j. refl;
+    found = λ i j. pairs_more i j ∙ found_again a b (found_in n f0) i j;
+  }
 
 no_orders : (os : List Adoption) → HasSameOrders os [] → os ≡ []
 no_orders [] none = refl
@@ -309,21 +182,43 @@ no_found (f ∷ fs) none =
     (or_left ((eqb f.0.0 f.0.0) && (eqb f.1.0 f.1.0)) ((eqb f.0.0 f.1.0) && (eqb f.1.0 f.0.0))
     (and_from (eqb f.0.0 f.0.0) (eqb f.1.0 f.1.0) (eq-eqb f.0.0 f.0.0 refl) (eq-eqb f.1.0 f.1.0 refl)))))
 
-blank_cells : (n : ℕ) (cells : List ℕ) → cells ≡ replicate (n * n) 0 → AreCells n cells [] []
-blank_cells n cells is a b at bt =
-    ap (λ cs. byte_at n cs a b) is ∙ get_or-replicate (n * n) (place n a b) 0 0 (place_within n a b at bt)
-
 none_sound : IsSound []
 none_sound a p = false≢true (test_from_before [] a a p)
 
--- a matrix begins with no orders
-pub blank_kept : (n : ℕ) (cells : List ℕ) → 1 ≤ n → n ≤ 1023 → cells ≡ replicate (n * n) 0 → IsKept n cells
-blank_kept n cells positive within is =
-    settled n cells [] [] positive within (ap length is ∙ length-replicate (n * n) 0) (blank_cells n cells is)
-    (λ a b h. absurd (false≢true h)) (λ a b h. absurd (false≢true h)) none_sound
+-- a matrix begins with no orders and no pairs
+blank_orders : (n : ℕ) (words : List ℕ) → words ≡ replicate (n * width n) 0 → orders_in n words ≡ []
+blank_orders n words is = no_orders (orders_in n words) (orders_settled n words [] (blank_has_none n words is) (λ a b h. absurd (false≢true h)))
 
-pub blank : (n : ℕ) (cells : List ℕ) → cells ≡ replicate (n * n) 0 → relation_in n cells ≡ record { size = n; orders = []; found = [] }
-blank n cells is =
-    let orders : orders_in n cells ≡ [] = no_orders (orders_in n cells) (orders_settled n cells [] [] (blank_cells n cells is) (λ a b h. absurd (false≢true h))) in
-    let found : found_in n cells ≡ [] = no_found (found_in n cells) (found_settled n cells [] [] (blank_cells n cells is) (λ a b h. absurd (false≢true h))) in
-    rw (orders, found) refl
+blank_found : (n : ℕ) (words : List ℕ) → words ≡ replicate (n * width n) 0 → found_in n words ≡ []
+blank_found n words is = no_found (found_in n words) (found_settled n words [] (blank_has_none n words is) (λ a b h. absurd (false≢true h)))
+
+blank_square : (n : ℕ) (words : List ℕ) → words ≡ replicate (n * width n) 0 → IsSquare n words
+blank_square n words is = ap length is ∙ length-replicate (n * width n) 0
+
+pub blank_kept : (n : ℕ) (direct before after found : List ℕ) → 1 ≤ n → n ≤ 1023 → direct ≡ replicate (n * width n) 0 → before ≡ replicate (n * width n) 0
+    → after ≡ replicate (n * width n) 0 → found ≡ replicate (n * width n) 0 → IsKept n direct before after found
+blank_kept n direct before after found positive within d b a f = record {
+  positive = positive;
+  within = within;
+  direct_square = blank_square n direct d;
+  before_square = blank_square n before b;
+  after_square = blank_square n after a;
+  found_square = blank_square n found f;
+  tells_before = λ i j it jt. blank_has_none n before b i j it jt ∙ ap (λ os. is_before os i j) (sym (blank_orders n direct d));
+  tells_after = λ i j it jt. blank_has_none n after a i j it jt ∙ ap (λ os. is_before os j i) (sym (blank_orders n direct d));
+  tells_found = λ i j it jt. blank_has_none n found f i j it jt ∙ ap (λ fs. is_found fs i j) (sym (blank_found n found f));
+  sound = subst IsSound (sym (blank_orders n direct d)) none_sound;
+}
+
+pub blank : (n : ℕ) (direct found : List ℕ) → direct ≡ replicate (n * width n) 0 → found ≡ replicate (n * width n) 0
+    → relation_in n direct found ≡ record { size = n; orders = []; found = [] }
+blank n direct found d f =
+    let orders : orders_in n direct ≡ [] = blank_orders n direct d in
+    let pairs : found_in n found ≡ [] = blank_found n found f in
+    rw (orders, pairs) refl
+
+-- the same of squares that are equal
+pub kept_as : (n : ℕ) (d b a found direct before after : List ℕ) → direct ≡ d → before ≡ b → after ≡ a → IsKept n d b a found → IsKept n direct before after found
+kept_as n d b a found direct before after direct_is before_is after_is kept =
+    subst (λ ws. IsKept n ws before after found) (sym direct_is)
+    (subst (λ ws. IsKept n d ws after found) (sym before_is) (subst (λ ws. IsKept n d b ws found) (sym after_is) kept))

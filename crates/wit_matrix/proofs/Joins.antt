@@ -1,129 +1,133 @@
--- Bits that are added along rows.
-use Rattle.std.proofs.Common.{◌≡◌, ◌≢◌, ◌⊎◌, ℕ, ◌+◌, ◌<◌, Bool, true, false, not, ◌&&◌, ◌||◌, eqb, ltb, List, refl, ap, sym, ◌∙◌, subst, inl, inr, arith}
-use Rattle.std.specs.Int.RustNames.{bit_and}
-use Rattle.std.proofs.lemmas.Bool.{cases_order, lt-ltb, le-ltb, eq-eqb, ne_eqb, and_parts, false≢true}
+-- Rows that are joined with the source: those that the mirror's row of the first reaches.
+use Rattle.std.proofs.Common.{◌≡◌, ◌≢◌, ◌⊎◌, ℕ, ◌+◌, ◌<◌, ◌≤◌, Bool, true, false, not, ◌&&◌, ◌||◌, eqb, ltb, List, refl, ap, ap₂, sym, ◌∙◌, subst, inl, inr, ⊎_elim, arith}
+use Rattle.std.proofs.lemmas.Bool.{cases_order, lt-ltb, le-ltb, eqb-true, eq-eqb, ne_eqb, or_cases, and_parts, false≢true}
 use Rattle.wit_matrix.specs.Relation.{IsNumber}
-use Rattle.wit_matrix.specs.Bytes.{byte_at, has, with_bits, AddsWhere, JoinsNothing, reaches, joins, joins_row}
-use Rattle.wit_matrix.proofs.Bits.{has_kept}
+use Rattle.wit_matrix.specs.Squares.{has, AddsWhere, IsTransitive, is_at, reaches, joins, joins_row}
+use Rattle.wit_matrix.proofs.Words.{or_none, and_none}
 
--- one number more, where the others stay as they are
-one_more : (bit x i k : ℕ) (all at : Bool) → (i ≡ k → at ≡ all) → (i ≢ k → at ≡ false)
-    → with_bits at bit (with_bits (ltb i k && all) bit x) ≡ with_bits (ltb i (k + 1) && all) bit x
-one_more bit x i k all at same apart = go (cases_order i k)
+-- a row is joined with the source: first with its row, then with itself
+pub row_joined : (n row source : ℕ) (old mid new : List ℕ) → AddsWhere n (λ a b. eqb row a && has n old source b) old mid → AddsWhere n (is_at row source) mid new
+    → AddsWhere n (joins_row n old row source) old new
+row_joined n row source old mid new united added a b at bt =
+    added a b at bt ∙ (ap (λ t. t || is_at row source a b) (united a b at bt) ∙ go (has n old a b) (eqb row a) (has n old source b) (eqb source b))
   where
-    go : (i ≡ k) ⊎ ((i < k) ⊎ (k < i)) → with_bits at bit (with_bits (ltb i k && all) bit x) ≡ with_bits (ltb i (k + 1) && all) bit x
-    go (inl e) =
-        let here : at ≡ all = same e in
-        let old : ltb i k ≡ false = le-ltb i k (omega arith) in
-        let new : ltb i (k + 1) ≡ true = lt-ltb i (k + 1) (omega arith) in
-        rw (here, old, new) refl
-    go (inr (inl lt)) =
-        let none : at ≡ false = apart (λ e. absurd (omega arith)) in
-        let old : ltb i k ≡ true = lt-ltb i k lt in
-        let new : ltb i (k + 1) ≡ true = lt-ltb i (k + 1) (omega arith) in
-        rw (none, old, new) refl
-    go (inr (inr lt)) =
-        let none : at ≡ false = apart (λ e. absurd (omega arith)) in
-        let old : ltb i k ≡ false = le-ltb i k (omega arith) in
-        let new : ltb i (k + 1) ≡ false = le-ltb i (k + 1) (omega arith) in
-        rw (none, old, new) refl
-
--- the row is joined for the columns below k
-abbrev pub RowBelow : ℕ → ℕ → ℕ → ℕ → ℕ → List ℕ → List ℕ → Type 0
-RowBelow n row bit source k old new = AddsWhere n bit (λ a b. ltb b k && joins_row n old row bit source a b) old new
+    go : (x r s e : Bool) → ((x || (r && s)) || (r && e)) ≡ (x || (r && (e || s)))
+    go true r s e = refl
+    go false false s e = refl
+    go false true false e = sym (or_none e)
+    go false true true true = refl
+    go false true true false = refl
 
 -- the rows below k are joined
-abbrev pub RowsBelow : ℕ → ℕ → ℕ → ℕ → ℕ → ℕ → List ℕ → List ℕ → Type 0
-RowsBelow n other first bit source k old new = AddsWhere n bit (λ a b. ltb a k && joins n old other first bit source a b) old new
+abbrev pub RowsBelow : ℕ → List ℕ → ℕ → ℕ → ℕ → List ℕ → List ℕ → Type 0
+RowsBelow n mirror first source k old new = AddsWhere n (λ a b. ltb a k && joins n mirror first old source a b) old new
 
--- whether a row is joined doesn't change on the way
-rows_first : (n other first bit source k : ℕ) (old mid : List ℕ) → IsNumber n first → IsNumber n k → bit_and bit other ≡ 0 → RowsBelow n other first bit source k old mid
-    → reaches n mid other first k ≡ reaches n old other first k
-rows_first n other first bit source k old mid ft kt apart below =
-    ap (λ t. eqb first k || t)
-    (ap (has other) (below first k ft kt) ∙ has_kept bit other (byte_at n old first k) (ltb first k && joins n old other first bit source first k) apart)
-
--- nor does the source's row
-rows_source : (n other first bit source k b : ℕ) (old mid : List ℕ) → IsNumber n source → IsNumber n b → reaches n old other first source ≡ false
-    → RowsBelow n other first bit source k old mid → reaches n mid bit source b ≡ reaches n old bit source b
-rows_source n other first bit source k b old mid st bt outside below =
-    ap (λ x. eqb source b || has bit x) (below source b st bt ∙ (rw outside (none (ltb source k))))
+-- one row more, where the others stay as they are
+one_more : (x all at : Bool) (a k : ℕ) → (a ≡ k → at ≡ all) → (a ≢ k → at ≡ false) → ((x || (ltb a k && all)) || at) ≡ (x || (ltb a (k + 1) && all))
+one_more x all at a k same apart = go (cases_order a k)
   where
-    none : (t : Bool) → with_bits (t && false) bit (byte_at n old source b) ≡ byte_at n old source b
-    none true = refl
-    none false = refl
-
-pub rows_start : (n other first bit source : ℕ) (old : List ℕ) → RowsBelow n other first bit source 1 old old
-rows_start n other first bit source old a b at bt = let none : ltb a 1 ≡ false = le-ltb a 1 at.positive in rw none refl
-
-pub rows_end : (n other first bit source k : ℕ) (old new : List ℕ) → k ≡ n + 1 → RowsBelow n other first bit source k old new
-    → AddsWhere n bit (joins n old other first bit source) old new
-rows_end n other first bit source k old new end below a b at bt =
-    let all : ltb a k ≡ true = lt-ltb a k (omega (arith, at.within)) in
-    below a b at bt ∙ (rw all refl)
-
-pub rows_more : (n other first bit source k : ℕ) (old mid new : List ℕ) → IsNumber n first → IsNumber n source → IsNumber n k
-    → bit_and bit other ≡ 0 → reaches n old other first source ≡ false → RowsBelow n other first bit source k old mid
-    → reaches n mid other first k ≡ true → AddsWhere n bit (joins_row n mid k bit source) mid new → RowsBelow n other first bit source (k + 1) old new
-rows_more n other first bit source k old mid new ft st kt apart outside below is added a b at bt =
-    added a b at bt
-    ∙ (ap (with_bits (joins_row n mid k bit source a b) bit) (below a b at bt)
-    ∙ one_more bit (byte_at n old a b) a k (joins n old other first bit source a b) (joins_row n mid k bit source a b)
-    (λ e. let here : eqb k a ≡ true = eq-eqb k a (sym e) in
-    let reached : reaches n old other first a ≡ true = subst (λ j. reaches n old other first j ≡ true) (sym e) (sym (rows_first n other first bit source k old mid ft kt apart below) ∙ is) in
-    let source_same : reaches n mid bit source b ≡ reaches n old bit source b = rows_source n other first bit source k b old mid st bt outside below in
-    rw (here, reached) source_same)
-    (λ other_row. let none : eqb k a ≡ false = ne_eqb k a (λ e. other_row (sym e)) in rw none refl))
-
-pub rows_same : (n other first bit source k : ℕ) (old mid : List ℕ) → IsNumber n first → IsNumber n k
-    → bit_and bit other ≡ 0 → RowsBelow n other first bit source k old mid
-    → reaches n mid other first k ≡ false → RowsBelow n other first bit source (k + 1) old mid
-rows_same n other first bit source k old mid ft kt apart below isnt a b at bt =
-    below a b at bt
-    ∙ one_more bit (byte_at n old a b) a k (joins n old other first bit source a b) false
-    (λ e. let unreached : reaches n old other first a ≡ false = subst (λ j. reaches n old other first j ≡ false) (sym e) (sym (rows_first n other first bit source k old mid ft kt apart below) ∙ isnt) in
-    rw unreached refl)
-    (λ other_row. refl)
-
--- a row that has the bit at the source is as if joined
-pub rows_skip : (n other first bit source k : ℕ) (old mid : List ℕ) → IsNumber n source → IsNumber n k → JoinsNothing n old bit source
-    → RowsBelow n other first bit source k old mid → has bit (byte_at n mid k source) ≡ true → RowsBelow n other first bit source (k + 1) old mid
-rows_skip n other first bit source k old mid st kt closed below is a b at bt = below a b at bt ∙ go (cases_order a k)
-  where
-    here : has bit (byte_at n old k source) ≡ true
-    here =
-        let none : ltb k k ≡ false = le-ltb k k (omega arith) in
-        ap (has bit) (sym (below k source kt st ∙ (rw none refl))) ∙ is
-
-    nothing : (t : Bool) → (t ≡ true → with_bits true bit (byte_at n old a b) ≡ byte_at n old a b) → byte_at n old a b ≡ with_bits t bit (byte_at n old a b)
-    nothing true same = sym (same refl)
-    nothing false same = refl
-
-    go : (a ≡ k) ⊎ ((a < k) ⊎ (k < a))
-        → with_bits (ltb a k && joins n old other first bit source a b) bit (byte_at n old a b) ≡ with_bits (ltb a (k + 1) && joins n old other first bit source a b) bit (byte_at n old a b)
+    go : (a ≡ k) ⊎ ((a < k) ⊎ (k < a)) → ((x || (ltb a k && all)) || at) ≡ (x || (ltb a (k + 1) && all))
     go (inl e) =
-        let before : ltb a k ≡ false = le-ltb a k (omega arith) in
-        let after : ltb a (k + 1) ≡ true = lt-ltb a (k + 1) (omega arith) in
-        rw (before, after)
-        (nothing (joins n old other first bit source a b)
-        (λ j. closed a b at bt (subst (λ i. has bit (byte_at n old i source) ≡ true) (sym e) here)
-        (and_parts (reaches n old other first a) (reaches n old bit source b) j).1))
+        let here : at ≡ all = same e in
+        let old : ltb a k ≡ false = le-ltb a k (omega arith) in
+        let new : ltb a (k + 1) ≡ true = lt-ltb a (k + 1) (omega arith) in
+        rw (here, old, new) (ap (λ t. t || all) (or_none x))
     go (inr (inl lt)) =
-        let before : ltb a k ≡ true = lt-ltb a k lt in
-        let after : ltb a (k + 1) ≡ true = lt-ltb a (k + 1) (omega arith) in
-        rw (before, after) refl
+        let none : at ≡ false = apart (λ e. absurd (omega arith)) in
+        let old : ltb a k ≡ true = lt-ltb a k lt in
+        let new : ltb a (k + 1) ≡ true = lt-ltb a (k + 1) (omega arith) in
+        rw (none, old, new) (or_none (x || all))
     go (inr (inr lt)) =
-        let before : ltb a k ≡ false = le-ltb a k (omega arith) in
-        let after : ltb a (k + 1) ≡ false = le-ltb a (k + 1) (omega arith) in
-        rw (before, after) refl
+        let none : at ≡ false = apart (λ e. absurd (omega arith)) in
+        let old : ltb a k ≡ false = le-ltb a k (omega arith) in
+        let new : ltb a (k + 1) ≡ false = le-ltb a (k + 1) (omega arith) in
+        rw (none, old, new) (or_none (x || false))
 
--- a row that isn't joined: it isn't reached, or it is as if joined
-pub rows_left : (n other first bit source k : ℕ) (old mid : List ℕ) → IsNumber n first → IsNumber n source → IsNumber n k → bit_and bit other ≡ 0
-    → JoinsNothing n old bit source → RowsBelow n other first bit source k old mid
-    → (reaches n mid other first k && not (has bit (byte_at n mid k source))) ≡ false → RowsBelow n other first bit source (k + 1) old mid
-rows_left n other first bit source k old mid ft st kt apart closed below isnt = go (reaches n mid other first k) (has bit (byte_at n mid k source)) refl refl isnt
+-- a row from k on is as it was
+row_kept : (n : ℕ) (mirror : List ℕ) (first source k : ℕ) (old mid : List ℕ) → RowsBelow n mirror first source k old mid → (a b : ℕ) → IsNumber n a → IsNumber n b → k ≤ a
+    → has n mid a b ≡ has n old a b
+row_kept n mirror first source k old mid below a b at bt from =
+    below a b at bt ∙ (ap (λ t. has n old a b || (t && joins n mirror first old source a b)) (le-ltb a k from) ∙ or_none (has n old a b))
+
+-- and so is the source's row, which isn't joined
+source_kept : (n : ℕ) (mirror : List ℕ) (first source k : ℕ) (old mid : List ℕ) → IsNumber n source → reaches n mirror first source ≡ false
+    → RowsBelow n mirror first source k old mid → (b : ℕ) → IsNumber n b → has n mid source b ≡ has n old source b
+source_kept n mirror first source k old mid st outside below b bt =
+    below source b st bt
+    ∙ (ap (λ t. has n old source b || (ltb source k && (t && reaches n old source b))) outside
+    ∙ (ap (λ t. has n old source b || t) (and_none (ltb source k)) ∙ or_none (has n old source b)))
+
+pub rows_start : (n : ℕ) (mirror : List ℕ) (first source : ℕ) (old : List ℕ) → RowsBelow n mirror first source 1 old old
+rows_start n mirror first source old a b at bt =
+    sym (ap (λ t. has n old a b || (t && joins n mirror first old source a b)) (le-ltb a 1 at.positive) ∙ or_none (has n old a b))
+
+pub rows_end : (n : ℕ) (mirror : List ℕ) (first source k : ℕ) (old new : List ℕ) → k ≡ n + 1 → RowsBelow n mirror first source k old new
+    → AddsWhere n (joins n mirror first old source) old new
+rows_end n mirror first source k old new end below a b at bt =
+    let all : ltb a k ≡ true = lt-ltb a k (omega (arith, at.within, end)) in
+    below a b at bt ∙ ap (λ t. has n old a b || (t && joins n mirror first old source a b)) all
+
+pub rows_more : (n : ℕ) (mirror : List ℕ) (first source k : ℕ) (old mid new : List ℕ) → IsNumber n source → reaches n mirror first source ≡ false
+    → RowsBelow n mirror first source k old mid → reaches n mirror first k ≡ true → AddsWhere n (joins_row n mid k source) mid new
+    → RowsBelow n mirror first source (k + 1) old new
+rows_more n mirror first source k old mid new st outside below reached added a b at bt =
+    added a b at bt
+    ∙ (ap (λ t. t || joins_row n mid k source a b) (below a b at bt)
+    ∙ one_more (has n old a b) (joins n mirror first old source a b) (joins_row n mid k source a b) a k
+    (λ e. ap₂ (λ x y. x && y) (eq-eqb k a (sym e) ∙ sym (subst (λ j. reaches n mirror first j ≡ true) (sym e) reached))
+    (ap (λ t. eqb source b || t) (source_kept n mirror first source k old mid st outside below b bt)))
+    (λ other_row. ap (λ t. t && reaches n mid source b) (ne_eqb k a (λ e. other_row (sym e)))))
+
+-- the row isn't reached
+rows_same : (n : ℕ) (mirror : List ℕ) (first source k : ℕ) (old mid : List ℕ) → RowsBelow n mirror first source k old mid → reaches n mirror first k ≡ false
+    → RowsBelow n mirror first source (k + 1) old mid
+rows_same n mirror first source k old mid below unreached a b at bt =
+    below a b at bt
+    ∙ (sym (or_none (has n old a b || (ltb a k && joins n mirror first old source a b)))
+    ∙ one_more (has n old a b) (joins n mirror first old source a b) false a k
+    (λ e. sym (ap (λ t. t && reaches n old source b) (subst (λ j. reaches n mirror first j ≡ false) (sym e) unreached)))
+    (λ _. refl))
+
+-- what a row has adds nothing to it
+pub adds_nothing : (x all : Bool) → (all ≡ true → x ≡ true) → x ≡ (x || all)
+adds_nothing true all has_it = refl
+adds_nothing false false has_it = refl
+adds_nothing false true has_it = has_it refl
+
+-- the row has the source, so it has all that the source's row has
+rows_skip : (n : ℕ) (mirror : List ℕ) (first source k : ℕ) (old mid : List ℕ) → IsNumber n source → IsNumber n k → IsTransitive n old
+    → RowsBelow n mirror first source k old mid → has n mid k source ≡ true → RowsBelow n mirror first source (k + 1) old mid
+rows_skip n mirror first source k old mid st kt transitive below has_it a b at bt =
+    below a b at bt ∙ go (cases_order a k)
   where
-    go : (r h : Bool) → reaches n mid other first k ≡ r → has bit (byte_at n mid k source) ≡ h → (r && not h) ≡ false → RowsBelow n other first bit source (k + 1) old mid
-    go false h unreached has_it isnt_so = rows_same n other first bit source k old mid ft kt apart below unreached
-    go true true reached has_it isnt_so = rows_skip n other first bit source k old mid st kt closed below has_it
-    go true false reached has_not isnt_so = absurd (false≢true (sym isnt_so))
+    source_there : (a ≡ k) → has n old a source ≡ true
+    source_there e =
+        subst (λ j. has n old j source ≡ true) (sym e) (sym (row_kept n mirror first source k old mid below k source kt st (omega arith)) ∙ has_it)
+
+    there : (a ≡ k) → joins n mirror first old source a b ≡ true → has n old a b ≡ true
+    there e j =
+        ⊎_elim
+        (λ here. subst (λ y. has n old a y ≡ true) (eqb-true source b here) (source_there e))
+        (λ on. transitive a source b at st bt (source_there e) on)
+        (or_cases (eqb source b) (has n old source b) (and_parts (reaches n mirror first a) (reaches n old source b) j).1)
+
+    go : (a ≡ k) ⊎ ((a < k) ⊎ (k < a)) → (has n old a b || (ltb a k && joins n mirror first old source a b)) ≡ (has n old a b || (ltb a (k + 1) && joins n mirror first old source a b))
+    go (inl e) =
+        ap (λ t. has n old a b || (t && joins n mirror first old source a b)) (le-ltb a k (omega (arith, e)))
+        ∙ (or_none (has n old a b)
+        ∙ (adds_nothing (has n old a b) (joins n mirror first old source a b) (there e)
+        ∙ sym (ap (λ t. has n old a b || (t && joins n mirror first old source a b)) (lt-ltb a (k + 1) (omega (arith, e))))))
+    go (inr (inl lt)) =
+        ap (λ t. has n old a b || (t && joins n mirror first old source a b)) (lt-ltb a k lt ∙ sym (lt-ltb a (k + 1) (omega (arith, lt))))
+    go (inr (inr lt)) =
+        ap (λ t. has n old a b || (t && joins n mirror first old source a b)) (le-ltb a k (omega (arith, lt)) ∙ sym (le-ltb a (k + 1) (omega (arith, lt))))
+
+-- a row that isn't joined: it isn't reached, or it has the source
+pub rows_left : (n : ℕ) (mirror : List ℕ) (first source k : ℕ) (old mid : List ℕ) → IsNumber n source → IsNumber n k → IsTransitive n old
+    → RowsBelow n mirror first source k old mid → (reaches n mirror first k && not (has n mid k source)) ≡ false → RowsBelow n mirror first source (k + 1) old mid
+rows_left n mirror first source k old mid st kt transitive below left = go (reaches n mirror first k) (has n mid k source) refl refl left
+  where
+    go : (r h : Bool) → reaches n mirror first k ≡ r → has n mid k source ≡ h → (r && not h) ≡ false → RowsBelow n mirror first source (k + 1) old mid
+    go false h unreached has_it isnt = rows_same n mirror first source k old mid below unreached
+    go true true reached has_it isnt = rows_skip n mirror first source k old mid st kt transitive below has_it
+    go true false reached has_not isnt = absurd (false≢true (sym isnt))

@@ -1,9 +1,10 @@
-pub mod Bits
 pub mod Callers
 pub mod Edits
 pub mod Joins
 pub mod Leading
+pub mod Linked
 pub mod Pairs
 pub mod Places
 pub mod Settled
 pub mod Ways
+pub mod Words

@@ -5,7 +5,7 @@ use Rattle.std.proofs.lemmas.Bool.{or_cases, or_left, or_right, and_parts, and_f
 use Rattle.std.proofs.lemmas.Bool.Decides.{eqb_tells}
 use Rattle.std.proofs.lemmas.List.Folds.{list_any-append}
 use Rattle.wit_matrix.specs.Relation.{IsNumber}
-use Rattle.wit_matrix.specs.Bytes.{pairs_where}
+use Rattle.wit_matrix.specs.Squares.{pairs_where}
 
 pub list_any-map : {X Y : Type 0} (test : Y → Bool) (f : X → Y) (xs : List X) → list_any test (map f xs) ≡ list_any (λ x. test (f x)) xs
 list_any-map test f [] = refl

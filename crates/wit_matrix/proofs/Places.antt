@@ -1,49 +1,40 @@
--- Each row and column has a place of its own.
-use Rattle.std.proofs.Common.{◌≡◌, ◌≢◌, ◌⊎◌, ℕ, ◌+◌, ◌-◌, ◌*◌, ◌<◌, true, false, eqb, List, length, get_or, set, bit_or, refl, ap, sym, subst, inl, inr, arith}
+-- Each word of a square has a place of its own.
+use Rattle.std.proofs.Common.{◌≡◌, ◌⊎◌, ℕ, ◌+◌, ◌-◌, ◌*◌, ◌<◌, ◌≤◌, List, set, ap, sym, subst, inl, inr, arith}
 use Rattle.std.proofs.lemmas.Bool.{cases_order}
-use Rattle.std.proofs.lemmas.Bool.Decides.{eqb_tells}
 use Rattle.std.proofs.lemmas.Nat.{mul-add-lt}
 use Rattle.std.proofs.lemmas.List.{get_or-set_same, get_or-set_other}
 use Rattle.wit_matrix.specs.Relation.{IsNumber}
-use Rattle.wit_matrix.specs.Bytes.{place, byte_at, with_bits, is_at}
+use Rattle.wit_matrix.specs.Squares.{width, place, word_at, IsSquare}
 
 -- an earlier row stands before a later one
-place_below : (n a b i j : ℕ) → IsNumber n a → IsNumber n b → IsNumber n i → a < i → place n a b < place n i j
-place_below n a b i j at bt it lt =
-    let l : (a - 1) * n + (b - 1) < n * (i - 1) = mul-add-lt (a - 1) n (b - 1) (i - 1) (omega arith) (omega arith) in
+place_below : (w a i b j : ℕ) → 1 ≤ a → i < w → a < b → (a - 1) * w + i < (b - 1) * w + j
+place_below w a i b j some within lt =
+    let l : (a - 1) * w + i < w * (b - 1) = mul-add-lt (a - 1) w i (b - 1) (omega arith) within in
     omega (arith, l)
 
-pub place_apart : (n a b i j : ℕ) → IsNumber n a → IsNumber n b → IsNumber n i → IsNumber n j → place n a b ≡ place n i j → (a ≡ i) × (b ≡ j)
-place_apart n a b i j at bt it jt same = go (cases_order a i)
+place_apart : (w a i b j : ℕ) → 1 ≤ a → 1 ≤ b → i < w → j < w → (a - 1) * w + i ≡ (b - 1) * w + j → (a ≡ b) × (i ≡ j)
+place_apart w a i b j some some_too within within_too same = go (cases_order a b)
   where
-    go : (a ≡ i) ⊎ ((a < i) ⊎ (i < a)) → (a ≡ i) × (b ≡ j)
-    go (inl e) = (e, (let r : (a - 1) * n ≡ (i - 1) * n = ap (λ x. (x - 1) * n) e in omega (arith, r)))
-    go (inr (inl lt)) = absurd (let l = place_below n a b i j at bt it lt in omega (arith, l))
-    go (inr (inr lt)) = absurd (let l = place_below n i j a b it jt at lt in omega (arith, l))
+    go : (a ≡ b) ⊎ ((a < b) ⊎ (b < a)) → (a ≡ b) × (i ≡ j)
+    go (inl e) = (e, (let r : (a - 1) * w ≡ (b - 1) * w = ap (λ x. (x - 1) * w) e in omega (arith, r, same)))
+    go (inr (inl lt)) = absurd (let l = place_below w a i b j some within lt in omega (arith, l, same))
+    go (inr (inr lt)) = absurd (let l = place_below w b j a i some_too within_too lt in omega (arith, l, same))
 
-pub place_within : (n a b : ℕ) → IsNumber n a → IsNumber n b → place n a b < n * n
-place_within n a b at bt = mul-add-lt (a - 1) n (b - 1) n (omega arith) (omega arith)
+within_rows : (w n a i : ℕ) → 1 ≤ a → a ≤ n → i < w → (a - 1) * w + i < n * w
+within_rows w n a i some most within =
+    let l : (a - 1) * w + i < w * n = mul-add-lt (a - 1) w i n (omega arith) within in
+    omega (arith, l)
 
--- a byte that gets more bits leaves the others
-pub byte_with : (n a b bits i j p x : ℕ) (cells : List ℕ) → length cells ≡ n * n → p ≡ place n a b → x ≡ byte_at n cells a b
-    → IsNumber n a → IsNumber n b → IsNumber n i → IsNumber n j
-    → byte_at n (set cells p (bit_or x bits)) i j ≡ with_bits (is_at a b i j) bits (byte_at n cells i j)
-byte_with n a b bits i j p x cells square here was at bt it jt =
-    subst (λ q. get_or (set cells q (bit_or x bits)) (place n i j) 0 ≡ with_bits (is_at a b i j) bits (byte_at n cells i j)) (sym here)
-    (subst (λ y. get_or (set cells (place n a b) (bit_or y bits)) (place n i j) 0 ≡ with_bits (is_at a b i j) bits (byte_at n cells i j)) (sym was)
-    (go (eqb_tells a i) (eqb_tells b j)))
-  where
-    other : (is_at a b i j ≡ false) → (place n i j ≡ place n a b → ⊥)
-        → get_or (set cells (place n a b) (bit_or (byte_at n cells a b) bits)) (place n i j) 0 ≡ with_bits (is_at a b i j) bits (byte_at n cells i j)
-    other isnt apart = rw isnt (get_or-set_other cells (place n a b) (place n i j) (bit_or (byte_at n cells a b) bits) 0 apart)
+pub place_within : (n a i : ℕ) → IsNumber n a → i < width n → place n a i < n * width n
+place_within n a i at within = within_rows (width n) n a i at.positive at.within within
 
-    go : ((eqb a i ≡ true) × (a ≡ i)) ⊎ ((eqb a i ≡ false) × (a ≢ i)) → ((eqb b j ≡ true) × (b ≡ j)) ⊎ ((eqb b j ≡ false) × (b ≢ j))
-        → get_or (set cells (place n a b) (bit_or (byte_at n cells a b) bits)) (place n i j) 0 ≡ with_bits (is_at a b i j) bits (byte_at n cells i j)
-    go (inl e) (inl f) =
-        let l : place n a b < length cells = subst (λ m. place n a b < m) (sym square) (place_within n a b at bt) in
-        rw (e.0, f.0)
-        (subst (λ k. get_or (set cells (place n a b) (bit_or (byte_at n cells a b) bits)) (place n k j) 0 ≡ bit_or (byte_at n cells k j) bits) e.1
-        (subst (λ k. get_or (set cells (place n a b) (bit_or (byte_at n cells a b) bits)) (place n a k) 0 ≡ bit_or (byte_at n cells a k) bits) f.1
-        (get_or-set_same cells (place n a b) (bit_or (byte_at n cells a b) bits) 0 l)))
-    go (inl e) (inr f) = other (rw (e.0, f.0) refl) (λ same. f.1 (sym (place_apart n i j a b it jt at bt same).1))
-    go (inr e) f = other (rw e.0 refl) (λ same. e.1 (sym (place_apart n i j a b it jt at bt same).0))
+-- a word that is set leaves the others
+pub word_set_same : (n a i x : ℕ) (words : List ℕ) → IsSquare n words → IsNumber n a → i < width n → word_at n (set words (place n a i) x) a i ≡ x
+word_set_same n a i x words square at within =
+    get_or-set_same words (place n a i) x 0 (subst (λ m. place n a i < m) (sym square) (place_within n a i at within))
+
+pub word_set_other : (n a i b j x : ℕ) (words : List ℕ) → IsNumber n a → IsNumber n b → i < width n → j < width n → ((a ≡ b) × (i ≡ j) → ⊥)
+    → word_at n (set words (place n a i) x) b j ≡ word_at n words b j
+word_set_other n a i b j x words at bt within within_too apart =
+    get_or-set_other words (place n a i) (place n b j) x 0
+    (λ same. apart (place_apart (width n) a i b j at.positive bt.positive within within_too (sym same)))

@@ -1,5 +1,5 @@
--- What the bytes say is what they were made of.
-use Rattle.std.proofs.Common.{◌≡◌, ◌⊎◌, ℕ, ◌*◌, ◌≤◌, Bool, true, false, ◌&&◌, ◌||◌, eqb, leb, ◌<◌, List, [], ◌∷◌, length, refl, ap, sym, ◌∙◌, inl, inr, ⊎_elim, arith}
+-- What the squares say is what they were made of.
+use Rattle.std.proofs.Common.{◌≡◌, ◌⊎◌, ℕ, ◌≤◌, Bool, true, false, ◌&&◌, ◌||◌, eqb, leb, ◌<◌, List, [], ◌∷◌, refl, sym, ◌∙◌, inl, inr, ⊎_elim, arith}
 use Rattle.std.specs.List.{list_any}
 use Rattle.std.proofs.lemmas.Bool.{or_cases, or_left, or_right, and_parts, and_from, false≢true, le-leb, cases_lt}
 use Rattle.wit_model.specs.declared.locks.TypeNo.{TypeNo}
@@ -7,8 +7,7 @@ use Rattle.wit_model.specs.declared.calls.Adoption.{Adoption}
 use Rattle.wit_model.specs.Rules.Orders.{is_adoption_of, is_direct, IsPath, Before, is_before, IsSound, is_pair_of, is_found, cell}
 use Rattle.wit_model.proofs.Orders.Paths.{before_from_test, test_from_before}
 use Rattle.wit_matrix.specs.Relation.{IsNumber, HasSameOrders, HasSameFound, OrdersAmong, FoundAmong}
-use Rattle.wit_matrix.specs.Bytes.{byte_at, has, pairs_where, order_of, types_of, orders_in, found_in, IsKept}
-use Rattle.wit_matrix.proofs.Bits.{has_parent, has_reversal}
+use Rattle.wit_matrix.specs.Squares.{has, pairs_where, order_of, types_of, orders_in, found_in, Holds}
 use Rattle.wit_matrix.proofs.Pairs.{is_pair, list_any-map, pair_from, pair_to}
 
 pub same_from : (x y : Bool) → (x ≡ true → y ≡ true) → (y ≡ true → x ≡ true) → x ≡ y
@@ -53,14 +52,11 @@ found-turned (f ∷ fs) a b is =
     (λ later. or_right (is_pair_of b a f) (is_found fs b a) (found-turned fs a b later))
     (or_cases (is_pair_of a b f) (is_found fs a b) is)
 
-abbrev direct_bit : ℕ → List ℕ → ℕ → ℕ → Bool
-direct_bit n cells a b = has 0x01 (byte_at n cells a b)
-
 abbrev found_bit : ℕ → List ℕ → ℕ → ℕ → Bool
-found_bit n cells a b = leb a b && has 0x10 (byte_at n cells a b)
+found_bit n square a b = leb a b && has n square a b
 
-direct_pairs : (n : ℕ) (cells : List ℕ) (a b : ℕ) → is_direct (orders_in n cells) a b ≡ list_any (is_pair a b) (pairs_where n (direct_bit n cells))
-direct_pairs n cells a b = list_any-map (is_adoption_of a b) order_of (pairs_where n (direct_bit n cells))
+direct_pairs : (n : ℕ) (square : List ℕ) (a b : ℕ) → is_direct (orders_in n square) a b ≡ list_any (is_pair a b) (pairs_where n (has n square))
+direct_pairs n square a b = list_any-map (is_adoption_of a b) order_of (pairs_where n (has n square))
 
 any_or : {X : Type 0} (p q : X → Bool) (xs : List X) → list_any (λ x. p x || q x) xs ≡ true → (list_any p xs ≡ true) ⊎ (list_any q xs ≡ true)
 any_or p q [] is = absurd (false≢true is)
@@ -78,52 +74,38 @@ any_left p q (x ∷ xs) is =
     (λ h. or_right (p x || q x) (list_any (λ y. p y || q y) xs) (any_left p q xs h))
     (or_cases (p x) (list_any p xs) is)
 
-found_pairs : (n : ℕ) (cells : List ℕ) (a b : ℕ)
-    → is_found (found_in n cells) a b ≡ list_any (λ (p : ℕ × ℕ). is_pair a b p || is_pair b a p) (pairs_where n (found_bit n cells))
-found_pairs n cells a b = list_any-map (is_pair_of a b) types_of (pairs_where n (found_bit n cells))
+found_pairs : (n : ℕ) (square : List ℕ) (a b : ℕ)
+    → is_found (found_in n square) a b ≡ list_any (λ (p : ℕ × ℕ). is_pair a b p || is_pair b a p) (pairs_where n (found_bit n square))
+found_pairs n square a b = list_any-map (is_pair_of a b) types_of (pairs_where n (found_bit n square))
 
-pub direct_among : (n : ℕ) (cells : List ℕ) → OrdersAmong n (orders_in n cells)
-direct_among n cells a b is = let r = pair_from n (direct_bit n cells) a b (sym (direct_pairs n cells a b) ∙ is) in (r.0, r.1.0)
+pub direct_among : (n : ℕ) (square : List ℕ) → OrdersAmong n (orders_in n square)
+direct_among n square a b is = let r = pair_from n (has n square) a b (sym (direct_pairs n square a b) ∙ is) in (r.0, r.1.0)
 
-pub found_among : (n : ℕ) (cells : List ℕ) → FoundAmong n (found_in n cells)
-found_among n cells a b is =
+pub found_among : (n : ℕ) (square : List ℕ) → FoundAmong n (found_in n square)
+found_among n square a b is =
     ⊎_elim
-    (λ h. let r = pair_from n (found_bit n cells) a b h in (r.0, r.1.0))
-    (λ h. let r = pair_from n (found_bit n cells) b a h in (r.1.0, r.0))
-    (any_or (is_pair a b) (is_pair b a) (pairs_where n (found_bit n cells)) (sym (found_pairs n cells a b) ∙ is))
+    (λ h. let r = pair_from n (found_bit n square) a b h in (r.0, r.1.0))
+    (λ h. let r = pair_from n (found_bit n square) b a h in (r.1.0, r.0))
+    (any_or (is_pair a b) (is_pair b a) (pairs_where n (found_bit n square)) (sym (found_pairs n square a b) ∙ is))
 
--- each byte is the relation by these orders and pairs
-abbrev pub AreCells : ℕ → List ℕ → List Adoption → List (TypeNo × TypeNo) → Type 0
-AreCells n cells os fs = (a b : ℕ) → IsNumber n a → IsNumber n b → byte_at n cells a b ≡ cell os fs a b
-
-pub direct_by : (n : ℕ) (cells : List ℕ) (os : List Adoption) (fs : List (TypeNo × TypeNo)) → AreCells n cells os fs
-    → (a b : ℕ) → IsNumber n a → IsNumber n b → has 0x01 (byte_at n cells a b) ≡ is_direct os a b
-direct_by n cells os fs are a b at bt =
-    ap (has 0x01) (are a b at bt) ∙ has_parent (is_direct os a b) (is_before os a b) (is_direct os b a) (is_before os b a) (is_found fs a b)
-
-pub found_by : (n : ℕ) (cells : List ℕ) (os : List Adoption) (fs : List (TypeNo × TypeNo)) → AreCells n cells os fs
-    → (a b : ℕ) → IsNumber n a → IsNumber n b → has 0x10 (byte_at n cells a b) ≡ is_found fs a b
-found_by n cells os fs are a b at bt =
-    ap (has 0x10) (are a b at bt) ∙ has_reversal (is_direct os a b) (is_before os a b) (is_direct os b a) (is_before os b a) (is_found fs a b)
-
-pub orders_settled : (n : ℕ) (cells : List ℕ) (os : List Adoption) (fs : List (TypeNo × TypeNo)) → AreCells n cells os fs → OrdersAmong n os → HasSameOrders (orders_in n cells) os
-orders_settled n cells os fs are among a b =
-    same_from (is_direct (orders_in n cells) a b) (is_direct os a b)
-    (λ is. let r = pair_from n (direct_bit n cells) a b (sym (direct_pairs n cells a b) ∙ is) in sym (direct_by n cells os fs are a b r.0 r.1.0) ∙ r.1.1)
+pub orders_settled : (n : ℕ) (square : List ℕ) (os : List Adoption) → Holds n square (is_direct os) → OrdersAmong n os → HasSameOrders (orders_in n square) os
+orders_settled n square os are among a b =
+    same_from (is_direct (orders_in n square) a b) (is_direct os a b)
+    (λ is. let r = pair_from n (has n square) a b (sym (direct_pairs n square a b) ∙ is) in sym (are a b r.0 r.1.0) ∙ r.1.1)
     (λ is. let r = among a b is in
-    direct_pairs n cells a b ∙ pair_to n (direct_bit n cells) a b r.0 r.1 (direct_by n cells os fs are a b r.0 r.1 ∙ is))
+    direct_pairs n square a b ∙ pair_to n (has n square) a b r.0 r.1 (are a b r.0 r.1 ∙ is))
 
-from_bit : (n : ℕ) (cells : List ℕ) (os : List Adoption) (fs : List (TypeNo × TypeNo)) → AreCells n cells os fs
-    → (a b : ℕ) → list_any (is_pair a b) (pairs_where n (found_bit n cells)) ≡ true → is_found fs a b ≡ true
-from_bit n cells os fs are a b h =
-    let r = pair_from n (found_bit n cells) a b h in
-    sym (found_by n cells os fs are a b r.0 r.1.0) ∙ (and_parts (leb a b) (has 0x10 (byte_at n cells a b)) r.1.1).1
+from_bit : (n : ℕ) (square : List ℕ) (fs : List (TypeNo × TypeNo)) → Holds n square (is_found fs)
+    → (a b : ℕ) → list_any (is_pair a b) (pairs_where n (found_bit n square)) ≡ true → is_found fs a b ≡ true
+from_bit n square fs are a b h =
+    let r = pair_from n (found_bit n square) a b h in
+    sym (are a b r.0 r.1.0) ∙ (and_parts (leb a b) (has n square a b) r.1.1).1
 
-to_bit : (n : ℕ) (cells : List ℕ) (os : List Adoption) (fs : List (TypeNo × TypeNo)) → AreCells n cells os fs
-    → (a b : ℕ) → IsNumber n a → IsNumber n b → a ≤ b → is_found fs a b ≡ true → list_any (is_pair a b) (pairs_where n (found_bit n cells)) ≡ true
-to_bit n cells os fs are a b at bt le is =
-    pair_to n (found_bit n cells) a b at bt
-    (and_from (leb a b) (has 0x10 (byte_at n cells a b)) (le-leb a b le) (found_by n cells os fs are a b at bt ∙ is))
+to_bit : (n : ℕ) (square : List ℕ) (fs : List (TypeNo × TypeNo)) → Holds n square (is_found fs)
+    → (a b : ℕ) → IsNumber n a → IsNumber n b → a ≤ b → is_found fs a b ≡ true → list_any (is_pair a b) (pairs_where n (found_bit n square)) ≡ true
+to_bit n square fs are a b at bt le is =
+    pair_to n (found_bit n square) a b at bt
+    (and_from (leb a b) (has n square a b) (le-leb a b le) (are a b at bt ∙ is))
 
 any_right : {X : Type 0} (p q : X → Bool) (xs : List X) → list_any q xs ≡ true → list_any (λ x. p x || q x) xs ≡ true
 any_right p q [] is = is
@@ -133,29 +115,23 @@ any_right p q (x ∷ xs) is =
     (λ h. or_right (p x || q x) (list_any (λ y. p y || q y) xs) (any_right p q xs h))
     (or_cases (q x) (list_any q xs) is)
 
-pub found_settled : (n : ℕ) (cells : List ℕ) (os : List Adoption) (fs : List (TypeNo × TypeNo)) → AreCells n cells os fs → FoundAmong n fs → HasSameFound (found_in n cells) fs
-found_settled n cells os fs are among a b =
-    same_from (is_found (found_in n cells) a b) (is_found fs a b)
+pub found_settled : (n : ℕ) (square : List ℕ) (fs : List (TypeNo × TypeNo)) → Holds n square (is_found fs) → FoundAmong n fs → HasSameFound (found_in n square) fs
+found_settled n square fs are among a b =
+    same_from (is_found (found_in n square) a b) (is_found fs a b)
     (λ is. ⊎_elim
-    (λ h. from_bit n cells os fs are a b h)
-    (λ h. found-turned fs b a (from_bit n cells os fs are b a h))
-    (any_or (is_pair a b) (is_pair b a) (pairs_where n (found_bit n cells)) (sym (found_pairs n cells a b) ∙ is)))
+    (λ h. from_bit n square fs are a b h)
+    (λ h. found-turned fs b a (from_bit n square fs are b a h))
+    (any_or (is_pair a b) (is_pair b a) (pairs_where n (found_bit n square)) (sym (found_pairs n square a b) ∙ is)))
     (λ is. let r = among a b is in
-    found_pairs n cells a b
+    found_pairs n square a b
     ∙ ⊎_elim
-    (λ (lt : a < b). any_left (is_pair a b) (is_pair b a) (pairs_where n (found_bit n cells)) (to_bit n cells os fs are a b r.0 r.1 (omega arith) is))
-    (λ (le : b ≤ a). any_right (is_pair a b) (is_pair b a) (pairs_where n (found_bit n cells)) (to_bit n cells os fs are b a r.1 r.0 le (found-turned fs a b is)))
+    (λ (lt : a < b). any_left (is_pair a b) (is_pair b a) (pairs_where n (found_bit n square)) (to_bit n square fs are a b r.0 r.1 (omega arith) is))
+    (λ (le : b ≤ a). any_right (is_pair a b) (is_pair b a) (pairs_where n (found_bit n square)) (to_bit n square fs are b a r.1 r.0 le (found-turned fs a b is)))
     (cases_lt a b))
 
--- so what the bytes say is kept
-pub settled : (n : ℕ) (cells : List ℕ) (os : List Adoption) (fs : List (TypeNo × TypeNo)) → 1 ≤ n → n ≤ 1023 → length cells ≡ n * n
-    → AreCells n cells os fs → OrdersAmong n os → FoundAmong n fs → IsSound os → IsKept n cells
-settled n cells os fs positive within square are orders found sound = record {
-  positive = positive;
-  within = within;
-  square = square;
-  each = λ a b at bt.
-      are a b at bt
-      ∙ sym (same_cell (orders_in n cells) os (found_in n cells) fs (orders_settled n cells os fs are orders) (found_settled n cells os fs are found) a b);
-  sound = same_sound os (orders_in n cells) (orders-sym (orders_in n cells) os (orders_settled n cells os fs are orders)) sound;
-}
+-- a square says of n types what its orders say
+pub direct_holds : (n : ℕ) (square : List ℕ) → Holds n square (is_direct (orders_in n square))
+direct_holds n square a b at bt =
+    same_from (has n square a b) (is_direct (orders_in n square) a b)
+    (λ is. direct_pairs n square a b ∙ pair_to n (has n square) a b at bt is)
+    (λ is. (pair_from n (has n square) a b (sym (direct_pairs n square a b) ∙ is)).1.1)

@@ -2,8 +2,8 @@
 //! before it by adopted orders, or was found with it in violation.
 #![tactic(auto)]
 
-mod cells;
 mod matrix;
+mod squares;
 
 pub use matrix::Matrix;
 

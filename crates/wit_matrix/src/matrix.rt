@@ -1,6 +1,6 @@
 //! The relation matrix.
 
-ghost use Rattle.std.specs.Prelude.{◌≡◌, ◌↔◌, ◌≤◌, true, false, [], IsTrue, IfOk, IfErr, IfSome};
+ghost use Rattle.std.specs.Prelude.{◌≡◌, ◌↔◌, ◌≤◌, if◌then◌else◌, true, false, [], IsTrue, IfOk, IfErr, IfSome};
 ghost use Rattle.wit_model.specs.declared.locks.TypeNo.{TypeNo};
 ghost use Rattle.std.specs.Option.{option_map};
 ghost use Rattle.wit_model.specs.declared.faults.Fault.TheVariants.{OutOfMemory};
@@ -8,10 +8,29 @@ ghost use Rattle.wit_model.specs.Rules.Orders.{Before, IsSound, is_before, is_di
 ghost use Rattle.wit_model.specs.Trace.Paths.{leads, next_type, way, path, type_numbers, path_numbers};
 ghost use Rattle.wit_matrix.specs.Relation.{IsNumber, Adopts, Finds, LeadsBy};
 
-use crate::cells::{ANCESTOR, PARENT, REVERSAL, byte_at, has, link, mark};
+use crate::squares::{add, blank, has, link};
 use std::alloc::{AllocError, Global};
 use std::marker::Model;
 use wit_model::{Fault, TypeNo};
+
+/// The row's type was adopted as a direct parent of the column's.
+const PARENT: u8 = 0x01;
+/// The row's type is before the column's, directly or not.
+const ANCESTOR: u8 = 0x02;
+/// The column's type was adopted as a direct parent of the row's.
+const CHILD: u8 = 0x04;
+/// The column's type is before the row's.
+const DESCENDANT: u8 = 0x08;
+/// The two were found in violation.
+const REVERSAL: u8 = 0x10;
+
+// A cell's bit, where it is set.
+fn bit(value: u8, is_set: bool) -> u8
+    ensures value { result ≡ if is_set then value else 0 }
+    ensures within { result ≤ value }
+{
+    if is_set { value } else { 0 }
+}
 
 /// What is known of every two of up to 1,023 lock types, by their numbers from 1: which orders were
 /// adopted, which types are thereby before which, and which pairs were found in violation.
@@ -19,18 +38,25 @@ use wit_model::{Fault, TypeNo};
 pub struct Matrix {
     alloc: Global,
     size: u16,
-    cells: Vec<u8>,
+    /// For each type those that it was adopted as a direct parent of.
+    direct: Vec<u64>,
+    /// For each type those that it is before, directly or not.
+    before: Vec<u64>,
+    /// For each type those that are before it.
+    after: Vec<u64>,
+    /// For each type those with which it was found in violation.
+    found: Vec<u64>,
 }
 
 impl Model for Matrix {
     ghost use Rattle.wit_matrix.specs.Relation.{Relation};
-    ghost use Rattle.wit_matrix.specs.Bytes.{relation_in, IsKept};
+    ghost use Rattle.wit_matrix.specs.Squares.{relation_in, IsKept};
 
     ghost Value = { Relation };
 
-    ghost view = { λ m. relation_in m.size m.cells.items };
+    ghost view = { λ m. relation_in m.size m.direct.items m.found.items };
 
-    ghost invariant = { λ m. IsKept m.size m.cells.items };
+    ghost invariant = { λ m. IsKept m.size m.direct.items m.before.items m.after.items m.found.items };
 }
 
 impl Matrix {
@@ -44,13 +70,13 @@ impl Matrix {
         ensures ok { IfOk result (λ m. m ≡ record { size = n; orders = []; found = [] }) }
         ensures err { IfErr result (λ e. e ≡ OutOfMemory) }
     {
-        let Ok(cells) = vec![in alloc; 0; n as usize * n as usize] else {
-            return Err(Fault::OutOfMemory);
-        };
         Ok(Matrix {
             alloc,
             size: n,
-            cells,
+            direct: blank(alloc, n)?,
+            before: blank(alloc, n)?,
+            after: blank(alloc, n)?,
+            found: blank(alloc, n)?,
         })
     }
 
@@ -71,7 +97,7 @@ impl Matrix {
         ensures value { result ≡ is_before self.now.orders a.0 b.0 }
         ensures path { IsTrue result ↔ Before self.now.orders a.0 b.0 }
     {
-        has(self.cell(a, b), ANCESTOR)
+        has(&self.before, self.size, a, b)
     }
 
     /// Whether the order from a to b was adopted.
@@ -80,7 +106,7 @@ impl Matrix {
         requires b { IsNumber self.now.size b.0 }
         ensures { result ≡ is_direct self.now.orders a.0 b.0 }
     {
-        has(self.cell(a, b), PARENT)
+        has(&self.direct, self.size, a, b)
     }
 
     /// The relation of a to b, as the sum of 0x01 where the order from a to b was adopted, 0x02 where a is
@@ -91,7 +117,11 @@ impl Matrix {
         requires b { IsNumber self.now.size b.0 }
         ensures { result ≡ cell self.now.orders self.now.found a.0 b.0 }
     {
-        byte_at(&self.cells, self.size, a, b)
+        bit(PARENT, self.direct(a, b))
+            + bit(ANCESTOR, self.before(a, b))
+            + bit(CHILD, self.direct(b, a))
+            + bit(DESCENDANT, has(&self.after, self.size, a, b))
+            + bit(REVERSAL, self.reversed(a, b))
     }
 
     /// Adopts an order between two types that differ and of which the child isn't before the parent. An
@@ -105,7 +135,8 @@ impl Matrix {
         ensures again { is_direct self.old.orders parent.0 child.0 ≡ true → self.new ≡ self.old }
     {
         if !self.direct(parent, child) {
-            link(&mut self.cells, self.size, parent, child);
+            link(&mut self.before, &mut self.after, self.size, parent, child);
+            add(&mut self.direct, self.size, parent, child);
         }
     }
 
@@ -115,7 +146,8 @@ impl Matrix {
         requires b { IsNumber self.old.size b.0 }
         ensures { Finds self.old a b self.new }
     {
-        mark(&mut self.cells, self.size, a, b);
+        add(&mut self.found, self.size, a, b);
+        add(&mut self.found, self.size, b, a);
     }
 
     /// Whether the unordered pair of a and b was found in violation.
@@ -124,7 +156,7 @@ impl Matrix {
         requires b { IsNumber self.now.size b.0 }
         ensures { result ≡ is_found self.now.found a.0 b.0 }
     {
-        has(self.cell(a, b), REVERSAL)
+        has(&self.found, self.size, a, b)
     }
 
     /// The path of adopted orders from a to b that goes each time to the least type that is b or before it:

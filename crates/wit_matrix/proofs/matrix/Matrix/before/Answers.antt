@@ -1,18 +1,19 @@
-use Rattle.std.proofs.Common.{◌≡◌, ap, sym, ◌∙◌}
-use Rattle.wit_model.specs.Rules.Orders.{is_direct, is_before, is_found}
+use Rattle.std.proofs.Common.{◌≡◌, ap, sym, ◌∙◌, subst}
+use Rattle.wit_model.specs.Rules.Orders.{is_before}
 use Rattle.wit_model.proofs.Orders.Paths.{before_from_test, test_from_before}
-use Rattle.wit_matrix.specs.Bytes.{has}
-use Rattle.wit_matrix.proofs.Bits.{has_ancestor}
+use Rattle.wit_matrix.specs.Relation.{Relation, IsNumber}
+use Rattle.wit_matrix.specs.Squares.{has}
 use Rattle.wit_matrix.proofs.matrix.Matrix.before.Goals as goal
 
 pub returns-clause-path : goal.returns-clause-path
 returns-clause-path c =
-    let os = c.args.self.now.orders in
-    let value : c.has.result ≡ is_before os c.args.a.0 c.args.b.0 =
+    let size : c.self.inside.size ≡ c.args.self.now.size = ap (λ (m : Relation). m.size) c.self.view_is in
+    let at : IsNumber c.self.inside.size c.args.a.0 = subst (λ n. IsNumber n c.args.a.0) (sym size) c.requires.a in
+    let bt : IsNumber c.self.inside.size c.args.b.0 = subst (λ n. IsNumber n c.args.b.0) (sym size) c.requires.b in
+    let value : c.has.result ≡ is_before c.args.self.now.orders c.args.a.0 c.args.b.0 =
     c.has.ensures
-    ∙ (ap (has 0x02) c.cell.ensures
-    ∙ has_ancestor (is_direct os c.args.a.0 c.args.b.0) (is_before os c.args.a.0 c.args.b.0) (is_direct os c.args.b.0 c.args.a.0) (is_before os c.args.b.0 c.args.a.0)
-    (is_found c.args.self.now.found c.args.a.0 c.args.b.0)) in (
-      λ is. before_from_test os c.args.a.0 c.args.b.0 (sym value ∙ is),
-      λ p. value ∙ test_from_before os c.args.a.0 c.args.b.0 p,
+    ∙ (ap (λ words. has c.self.inside.size words c.args.a.0 c.args.b.0) c.deref.ensures.value
+    ∙ (c.self.invariant.tells_before c.args.a.0 c.args.b.0 at bt ∙ ap (λ (m : Relation). is_before m.orders c.args.a.0 c.args.b.0) c.self.view_is)) in (
+      λ is. before_from_test c.args.self.now.orders c.args.a.0 c.args.b.0 (sym value ∙ is),
+      λ p. value ∙ test_from_before c.args.self.now.orders c.args.a.0 c.args.b.0 p,
     )

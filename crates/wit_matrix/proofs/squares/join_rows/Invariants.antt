@@ -1,0 +1,6 @@
+use Rattle.wit_matrix.specs.Squares.{IsSquare}
+use Rattle.wit_matrix.proofs.Joins.{RowsBelow}
+use Rattle.wit_matrix.proofs.squares.join_rows.Given as goal
+
+abbrev pub invariant-loop-row : goal.invariant-loop-row
+invariant-loop-row l = IsSquare l.n l.words × RowsBelow l.n l.mirror l.first.0 l.source.0 l.row l.initial.words l.words
