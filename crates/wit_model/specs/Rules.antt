@@ -1,6 +1,8 @@
 -- The rules of lock orders: what is held, which orders are known, and what each call is answered.
+pub mod Chunks
 pub mod Faults
 pub mod Files
+pub mod Groups
 pub mod History
 pub mod Locks
 pub mod Names

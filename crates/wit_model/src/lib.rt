@@ -3,6 +3,7 @@
 
 mod boxes;
 mod calls;
+pub mod chunks;
 mod faults;
 mod flags;
 pub mod laws;
