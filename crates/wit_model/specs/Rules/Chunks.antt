@@ -1,6 +1,6 @@
 -- Lists of held locks in chunks, as their callers see them. Each list is held in groups, and each group lies in a chunk of its own. The
 -- lists are counted from 1.
-use Rattle.std.specs.Prelude.{ℕ, ◌+◌, ◌-◌, ◌<◌, ◌≤◌, ◌≡◌, ◌==◌, Bool, ◌&&◌, List, [], ◌∷◌, ◌++◌, length, map, nat_lt, slice_set, if◌then◌else◌}
+use Rattle.std.specs.Prelude.{ℕ, ◌+◌, ◌-◌, ◌<◌, ◌≤◌, ◌≡◌, ◌==◌, Bool, ◌&&◌, List, [], ◌∷◌, ◌++◌, length, map, nat_lt, replicate, slice_set, if◌then◌else◌}
 use Rattle.std.specs.List.{slice_index_or, sum_by, concat}
 use Rattle.wit_model.specs.declared.locks.Instance.{Instance}
 use Rattle.wit_model.specs.Rules.Groups.{flat, joined, opens}
@@ -45,3 +45,10 @@ pub record IsPlaced (c : Chunks) : Type 0 where
   pub lists : map length c.places ≡ map length c.groups
   pub once : (p : ℕ) → times p (concat c.places ++ c.unused) ≡ if nat_lt p c.size then 1 else 0
   pub all : sum_by length c.groups + length c.unused ≡ c.size
+
+-- lists that hold nothing, with all these chunks free
+pub record IsNew (chunks lists : ℕ) (c : Chunks) : Type 0 where
+  pub size : c.size ≡ chunks
+  pub groups : c.groups ≡ replicate lists []
+  pub free : length c.unused ≡ chunks
+  pub placed : IsPlaced c
