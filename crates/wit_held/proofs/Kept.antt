@@ -1,0 +1,214 @@
+-- What is read of lists on vectors, and what a call keeps.
+use Rattle.std.proofs.Common.{◌≡◌, ℕ, ◌+◌, ◌-◌, ◌^◌, ◌<◌, ◌≤◌, true, false, not, ◌&&◌, cond, eqb, List, [], ◌∷◌, ◌++◌, length, map, set, get_or, Some, slice_get, vec_len, refl, ap, ap₂, sym, ◌∙◌, subst, ◌⊎◌, inl, inr, arith}
+use Rattle.std.specs.List.{concat, remove}
+use Rattle.std.specs.Vec.{vec_capacity}
+use Rattle.std.specs.Global.{Vec}
+use Rattle.std.proofs.lemmas.Bool.{and_left, not-true, not-false, cond-true}
+use Rattle.std.proofs.lemmas.List.{length-append, length-map, length-set, get_or-map, get_or_default}
+use Rattle.wit_model.specs.declared.locks.Instance.{Instance}
+use Rattle.wit_model.specs.Rules.Groups.{flat, joined, opens, replaced_at, removed_at}
+use Rattle.wit_model.specs.Rules.Chunks.{Chunks, IsList, IsPlaced, groups_of, chain_of, set_groups, is_refused, pushed, times}
+use Rattle.wit_held.specs.declared.vec_lists.VecLists.TheInside.{Inside}
+use Rattle.wit_held.specs.Rows.{row, rows_of, places_of, groups_at, shown, AreWithin, AreSettled, ArePlaced, IsWithin, HaveRoom, HaveRoomFor, HasSpaceAt}
+use Rattle.wit_held.specs.Kept.{chunks_in, AreKept}
+use Rattle.wit_held.proofs.Placing.{IsFree, free, all-within, times-append, times-in}
+use Rattle.wit_held.proofs.Settled.{Leaves, both-nil, flat-push, groups-shown, list-within, list-short, chain-fits, push-fits, push-opens, push-refused, in-list, in-row, replaced, removed-kept, removed-freed}
+use Rattle.wit_held.proofs.VecRows.{row-read}
+
+-- what stays in a value that is written
+pub kept-by : (v : Inside) → AreKept v → (cs : Vec (Vec Instance)) (ls : Vec (Vec ℕ)) (us : Vec ℕ) (p : ℕ) (y : List Instance)
+    → rows_of cs.items ≡ set (rows_of v.chunks.items) p y → AreSettled (rows_of cs.items) (places_of ls.items) us.items → HaveRoom cs.items
+    → ((size : ℕ) → HaveRoomFor size v.lists.items → HaveRoomFor size ls.items) → vec_capacity us ≡ vec_capacity v.unused
+    → AreKept record { lists = ls; chunks = cs; unused = us }
+kept-by v kept cs ls us p y rows settled room lists free =
+    let len : length cs.items ≡ length v.chunks.items =
+    sym (length-map cs.items (λ (c : Vec Instance). c.items)) ∙ ap length rows ∙ length-set (rows_of v.chunks.items) p y
+    ∙ length-map v.chunks.items (λ (c : Vec Instance). c.items) in
+    record {
+      settled = settled;
+      rows = room;
+      lists = subst (λ n. HaveRoomFor n ls.items) (sym len) (lists (length v.chunks.items) kept.lists);
+      free = omega (arith, len, free, kept.free);
+    }
+
+module _ (v : Inside) (value : Chunks) (is : chunks_in v ≡ value) (kept : AreKept v) (list : ℕ) (named : IsList value list) where
+  pub in-lists : list - 1 < length (places_of v.lists.items)
+  in-lists = list-within (rows_of v.chunks.items) (places_of v.lists.items) v.unused.items list (subst (λ c. IsList c list) (sym is) named)
+
+  pub in-vec : list - 1 < length v.lists.items
+  in-vec = omega (arith, in-lists, length-map v.lists.items (λ (l : Vec ℕ). l.items))
+
+  -- the chunks of the list that is named
+  pub the-places : (l : Vec ℕ) (ps : List ℕ) → l ≡ get_or v.lists.items (list - 1) l → ps ≡ l.items → ps ≡ get_or (places_of v.lists.items) (list - 1) []
+  the-places l ps read e = e ∙ sym (row-read v.lists.items (list - 1) l in-vec read)
+
+  -- what it holds
+  pub chain-is : flat (groups_at (rows_of v.chunks.items) (get_or (places_of v.lists.items) (list - 1) [])) ≡ chain_of value list
+  chain-is = ap flat (sym (groups-shown (rows_of v.chunks.items) (places_of v.lists.items) (list - 1) in-lists)) ∙ ap (λ c. chain_of c list) is
+
+  -- the same where the chunks are read
+  module _ (ps : List ℕ) (cs : List (Vec Instance)) (p-is : ps ≡ get_or (places_of v.lists.items) (list - 1) []) (c-is : cs ≡ v.chunks.items) where
+    pub read-chunks : AreWithin (length cs) ps
+    read-chunks =
+        let len : length (rows_of v.chunks.items) ≡ length cs = length-map v.chunks.items (λ (c : Vec Instance). c.items) ∙ ap length (sym c-is) in
+        subst (λ qs. AreWithin (length cs) qs) (sym p-is)
+        (subst (λ n. AreWithin n (get_or (places_of v.lists.items) (list - 1) [])) len
+        (all-within (length (rows_of v.chunks.items)) (places_of v.lists.items) v.unused.items kept.settled.placed (list - 1) in-lists))
+
+    pub read-chain : flat (groups_at (rows_of cs) ps) ≡ chain_of value list
+    read-chain = ap₂ (λ ds qs. flat (groups_at (rows_of ds) qs)) c-is p-is ∙ chain-is
+
+    pub read-fits : length (flat (groups_at (rows_of cs) ps)) < 2 ^ 32
+    read-fits =
+        subst (λ (c : List Instance). length c < 2 ^ 32) (sym (ap₂ (λ ds qs. flat (groups_at (rows_of ds) qs)) c-is p-is))
+        (chain-fits (rows_of v.chunks.items) (places_of v.lists.items) v.unused.items (list - 1) kept.settled)
+
+    module _ (spot group index : ℕ) (w : IsWithin (groups_at (rows_of cs) ps) spot group index) (q : ℕ) (q-is : q ≡ get_or ps group q) where
+      inside : IsWithin (groups_at (rows_of v.chunks.items) (get_or (places_of v.lists.items) (list - 1) [])) spot group index
+      inside = subst (λ gs. IsWithin gs spot group index) (ap₂ (λ ds qs. groups_at (rows_of ds) qs) c-is p-is) w
+
+      pub among : group < length (get_or (places_of v.lists.items) (list - 1) [])
+      among = in-list (rows_of v.chunks.items) (places_of v.lists.items) list in-lists v.unused.items kept.settled spot group index inside
+
+      chunk-is : get_or (get_or (places_of v.lists.items) (list - 1) []) group 0 ≡ q
+      chunk-is =
+          sym
+          (q-is ∙ ap (λ (qs : List ℕ). get_or qs group q) p-is ∙ get_or_default (get_or (places_of v.lists.items) (list - 1) []) group q 0 among)
+
+      pub chunk-holds : index < length (row (rows_of v.chunks.items) q)
+      chunk-holds =
+          subst (λ p. index < length (row (rows_of v.chunks.items) p)) chunk-is
+          (in-row (rows_of v.chunks.items) (places_of v.lists.items) list in-lists v.unused.items kept.settled spot group index inside)
+
+      pub replace-leaves : (x : Instance)
+          → Leaves (set (rows_of v.chunks.items) q (set (row (rows_of v.chunks.items) q) index x)) (places_of v.lists.items) v.unused.items
+          (set_groups value list (replaced_at spot x (groups_of value list)))
+      replace-leaves x =
+          subst (λ c. Leaves (set (rows_of v.chunks.items) q (set (row (rows_of v.chunks.items) q) index x)) (places_of v.lists.items) v.unused.items
+          (set_groups c list (replaced_at spot x (groups_of c list)))) is
+          (subst (λ p. Leaves (set (rows_of v.chunks.items) p (set (row (rows_of v.chunks.items) p) index x)) (places_of v.lists.items) v.unused.items
+          (set_groups (chunks_in v) list (replaced_at spot x (groups_of (chunks_in v) list)))) chunk-is
+          (replaced (rows_of v.chunks.items) (places_of v.lists.items) list in-lists v.unused.items kept.settled spot group index inside x))
+
+      pub remove-keeps : (1 ≤ length (remove (row (rows_of v.chunks.items) q) index)) ⊎ (length ps ≤ 1)
+          → Leaves (set (rows_of v.chunks.items) q (remove (row (rows_of v.chunks.items) q) index)) (places_of v.lists.items) v.unused.items
+          (set_groups value list (removed_at spot (groups_of value list)))
+      remove-keeps stays =
+          subst (λ c. Leaves (set (rows_of v.chunks.items) q (remove (row (rows_of v.chunks.items) q) index)) (places_of v.lists.items) v.unused.items
+          (set_groups c list (removed_at spot (groups_of c list)))) is
+          (subst (λ p. Leaves (set (rows_of v.chunks.items) p (remove (row (rows_of v.chunks.items) p) index)) (places_of v.lists.items) v.unused.items
+          (set_groups (chunks_in v) list (removed_at spot (groups_of (chunks_in v) list)))) chunk-is
+          (removed-kept (rows_of v.chunks.items) (places_of v.lists.items) list in-lists v.unused.items kept.settled spot group index inside
+          (stay stays)))
+        where
+          stay : (1 ≤ length (remove (row (rows_of v.chunks.items) q) index)) ⊎ (length ps ≤ 1)
+              → (1 ≤ length (remove (row (rows_of v.chunks.items) (get_or (get_or (places_of v.lists.items) (list - 1) []) group 0)) index))
+              ⊎ (length (get_or (places_of v.lists.items) (list - 1) []) ≡ 1)
+          stay (inl some) = inl (subst (λ p. 1 ≤ length (remove (row (rows_of v.chunks.items) p) index)) (sym chunk-is) some)
+          stay (inr one) = inr (omega (arith, one, ap length p-is, among))
+
+      pub remove-frees : length (remove (row (rows_of v.chunks.items) q) index) ≡ 0 → 1 < length ps
+          → Leaves (set (rows_of v.chunks.items) q (remove (row (rows_of v.chunks.items) q) index))
+          (set (places_of v.lists.items) (list - 1) (remove (get_or (places_of v.lists.items) (list - 1) []) group)) (v.unused.items ++ q ∷ [])
+          (set_groups value list (removed_at spot (groups_of value list)))
+      remove-frees empty several =
+          let ones : length ps ≡ length (get_or (places_of v.lists.items) (list - 1) []) = ap length p-is in
+          subst (λ c. Leaves (set (rows_of v.chunks.items) q (remove (row (rows_of v.chunks.items) q) index))
+          (set (places_of v.lists.items) (list - 1) (remove (get_or (places_of v.lists.items) (list - 1) []) group)) (v.unused.items ++ q ∷ [])
+          (set_groups c list (removed_at spot (groups_of c list)))) is
+          (subst (λ p. Leaves (set (rows_of v.chunks.items) p (remove (row (rows_of v.chunks.items) p) index))
+          (set (places_of v.lists.items) (list - 1) (remove (get_or (places_of v.lists.items) (list - 1) []) group)) (v.unused.items ++ p ∷ [])
+          (set_groups (chunks_in v) list (removed_at spot (groups_of (chunks_in v) list)))) chunk-is
+          (removed-freed (rows_of v.chunks.items) (places_of v.lists.items) list in-lists v.unused.items kept.settled spot group index inside
+          (ap (λ p. length (remove (row (rows_of v.chunks.items) p) index)) chunk-is ∙ empty)
+          (λ one. absurd (omega (arith, one, ones, several)))))
+
+      -- the chunk that is given back
+      pub freed-is : get_or (get_or (places_of v.lists.items) (list - 1) []) group 0 ≡ q
+      freed-is = chunk-is
+
+      pub free-space : vec_len v.unused < vec_capacity v.unused
+      free-space =
+          omega (
+            arith,
+            among,
+            list-short (places_of v.lists.items) (list - 1),
+            kept.settled.placed.all,
+            kept.free,
+            v.unused.ok.0,
+            length-map v.chunks.items (λ (c : Vec Instance). c.items),
+          )
+
+    -- the newest chunk has room
+    pub push-leaves : (p : ℕ) (i : Instance) → slice_get ps (length ps - 1) ≡ Some p → length (row (rows_of cs) p) < 5 → true ≡ not (opens (groups_at (rows_of cs) ps))
+        → Leaves (set (rows_of v.chunks.items) p (row (rows_of v.chunks.items) p ++ i ∷ [])) (places_of v.lists.items) v.unused.items (pushed value list i)
+    push-leaves p i at short room =
+        subst (λ c. Leaves (set (rows_of v.chunks.items) p (row (rows_of v.chunks.items) p ++ i ∷ [])) (places_of v.lists.items) v.unused.items (pushed c list i)) is
+        (push-fits (rows_of v.chunks.items) (places_of v.lists.items) list in-lists v.unused.items kept.settled p i
+        (subst (λ qs. slice_get qs (length qs - 1) ≡ Some p) p-is at)
+        (subst (λ ds. length (row (rows_of ds) p) < 5) c-is short)
+        (fits room))
+      where
+        fits : true ≡ not (opens (groups_at (rows_of cs) ps)) → opens (groups_at (rows_of v.chunks.items) (get_or (places_of v.lists.items) (list - 1) [])) ≡ false
+        fits room = ap opens (ap₂ (λ ds qs. groups_at (rows_of ds) qs) (sym c-is) (sym p-is)) ∙ not-true (opens (groups_at (rows_of cs) ps)) (sym room)
+
+    pub push-room : true ≡ not (opens (groups_at (rows_of cs) ps)) → true ≡ not (is_refused value list)
+    push-room room =
+        let fits : opens (groups_of (shown (rows_of v.chunks.items) (places_of v.lists.items) v.unused.items) list) ≡ false =
+        ap opens (groups-shown (rows_of v.chunks.items) (places_of v.lists.items) (list - 1) in-lists ∙ ap₂ (λ ds qs. groups_at (rows_of ds) qs) (sym c-is) (sym p-is))
+        ∙ not-true (opens (groups_at (rows_of cs) ps)) (sym room) in
+        sym (ap not (ap (λ c. is_refused c list) (sym is) ∙ and_left (opens (groups_of (shown (rows_of v.chunks.items) (places_of v.lists.items) v.unused.items) list)) (eqb (length v.unused.items) 0) fits))
+
+    -- it is full
+    pub full : false ≡ not (opens (groups_at (rows_of cs) ps)) → opens (groups_at (rows_of v.chunks.items) (get_or (places_of v.lists.items) (list - 1) [])) ≡ true
+    full room = ap opens (ap₂ (λ ds qs. groups_at (rows_of ds) qs) (sym c-is) (sym p-is)) ∙ not-false (opens (groups_at (rows_of cs) ps)) (sym room)
+
+    module _ (rest : List ℕ) (p : ℕ) (unused : v.unused.items ≡ rest ++ p ∷ []) where
+      spare : AreSettled (rows_of v.chunks.items) (places_of v.lists.items) (rest ++ p ∷ [])
+      spare = subst (λ us. AreSettled (rows_of v.chunks.items) (places_of v.lists.items) us) unused kept.settled
+
+      pub open-within : p < length v.chunks.items
+      open-within =
+          let known : IsFree (length (rows_of v.chunks.items)) (places_of v.lists.items) (rest ++ p ∷ []) p =
+          free (length (rows_of v.chunks.items)) (places_of v.lists.items) (rest ++ p ∷ []) spare.placed p
+          (omega (arith, times-append p rest (p ∷ []), times-in (p ∷ []) 0 0 (omega arith))) in
+          omega (arith, known.within, length-map v.chunks.items (λ (c : Vec Instance). c.items))
+
+      pub open-short : length (row (rows_of v.chunks.items) p) < 5
+      open-short =
+          let none : row (rows_of v.chunks.items) p ≡ [] =
+          (both-nil (flat (groups_at (rows_of v.chunks.items) rest)) (row (rows_of v.chunks.items) p) (sym (flat-push (rows_of v.chunks.items) rest p) ∙ spare.empty)).1 in
+          omega (arith, ap length none)
+
+      pub open-space : HasSpaceAt (list - 1) v.lists.items
+      open-space d =
+          let l : Vec ℕ = get_or v.lists.items (list - 1) d in
+          let same : get_or (places_of v.lists.items) (list - 1) [] ≡ l.items = get_or-map (λ (m : Vec ℕ). m.items) v.lists.items (list - 1) d [] in-vec in
+          omega (
+            arith,
+            ap length same,
+            l.ok.0,
+            list-short (places_of v.lists.items) (list - 1),
+            spare.placed.all,
+            length-append rest (p ∷ []),
+            kept.lists (list - 1) d in-vec,
+            length-map v.chunks.items (λ (c : Vec Instance). c.items),
+          )
+
+      pub open-leaves : false ≡ not (opens (groups_at (rows_of cs) ps)) → (i : Instance)
+          → Leaves (set (rows_of v.chunks.items) p (row (rows_of v.chunks.items) p ++ i ∷ []))
+          (set (places_of v.lists.items) (list - 1) (get_or (places_of v.lists.items) (list - 1) [] ++ p ∷ [])) rest (pushed value list i)
+      open-leaves room i =
+          subst (λ c. Leaves (set (rows_of v.chunks.items) p (row (rows_of v.chunks.items) p ++ i ∷ []))
+          (set (places_of v.lists.items) (list - 1) (get_or (places_of v.lists.items) (list - 1) [] ++ p ∷ [])) rest (pushed c list i))
+          (sym (ap (shown (rows_of v.chunks.items) (places_of v.lists.items)) unused) ∙ is)
+          (push-opens (rows_of v.chunks.items) (places_of v.lists.items) list in-lists rest p spare i (full room))
+
+    pub refused : false ≡ not (opens (groups_at (rows_of cs) ps)) → length v.unused.items ≡ 0 → is_refused value list ≡ true
+    refused room none =
+        ap (λ c. is_refused c list) (sym is) ∙ push-refused (rows_of v.chunks.items) (places_of v.lists.items) list in-lists v.unused.items (full room) none
+
+    pub refused-groups : false ≡ not (opens (groups_at (rows_of cs) ps)) → length v.unused.items ≡ 0 → (i : Instance)
+        → map (groups_at (rows_of v.chunks.items)) (places_of v.lists.items) ≡ pushed value list i
+    refused-groups room none i =
+        ap (λ (c : Chunks). c.groups) is ∙ sym (cond-true (is_refused value list) value.groups (set_groups value list (joined i (groups_of value list))) (refused room none))

@@ -1,0 +1,9 @@
+pub mod Emptiness
+pub mod Grouping
+pub mod HeldLock
+pub mod Kept
+pub mod Placing
+pub mod Recording
+pub mod Settled
+pub mod VecRows
+pub mod Writing

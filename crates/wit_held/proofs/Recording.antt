@@ -1,0 +1,101 @@
+-- What an acquisition, a release and a turn of a lock that stands once make of the lists.
+use Rattle.std.proofs.Common.{◌≡◌, ℕ, zero, suc, ◌+◌, ◌-◌, ◌<◌, ◌≤◌, Bool, true, false, not, ◌&&◌, cond, nat_lt, List, [], ◌∷◌, length, map, find, position, set, get_or, Option, None, Some, is_some, unwrap_or, refl, ap, ap₂, sym, ◌∙◌, subst, arith}
+use Rattle.std.specs.List.{remove, position_or_len}
+use Rattle.std.proofs.lemmas.Bool.{lt-ltb, le-ltb, true≢false, ltb-true, ltb-false}
+use Rattle.std.proofs.lemmas.List.{set-get_or}
+use Rattle.wit_model.specs.declared.locks.Instance.{Instance}
+use Rattle.wit_model.specs.declared.locks.Mode.{Mode}
+use Rattle.wit_model.specs.Rules.Verdict.{is_of}
+use Rattle.wit_model.specs.Rules.Groups.{flat, tidied, left, edited_at, replaced_at, removed_at}
+use Rattle.wit_model.specs.Rules.Chunks.{Chunks, groups_of, chain_of, set_groups, is_refused, pushed}
+use Rattle.wit_held.specs.Chains.{stands, at_lock, is_other, change_lock, recursed, fewer, in_mode, recorded, recorded_by, forgotten, forgotten_by, is_unrecorded, IsOnce, IsShallow, CanRise, after_record, after_forget, after_turn}
+use Rattle.wit_held.proofs.HeldLock.{place_of, found-stands, find-found, find-missed, missed-stands, absent-all, change-absent, replaced-once, removed-once}
+
+pub first-place : (l : ℕ) (c : List Instance) (i : ℕ) → position (is_of l) c ≡ Some i → (place_of l c ≡ i) × (place_of l c < length c)
+first-place l c i e = by (nat_lt (place_of l c) (length c)) refl e
+  where
+    by : (b : Bool) → nat_lt (place_of l c) (length c) ≡ b → cond b (Some (place_of l c)) None ≡ Some i → (place_of l c ≡ i) × (place_of l c < length c)
+    by true within at = (ap (λ r. unwrap_or r (place_of l c)) at, omega (arith, ltb-true (place_of l c) (length c) within))
+    by false within at = absurd (true≢false (sym (ap is_some at)))
+
+pub no-place : (l : ℕ) (c : List Instance) → position (is_of l) c ≡ None → length c ≤ place_of l c
+no-place l c e = by (nat_lt (place_of l c) (length c)) refl e
+  where
+    by : (b : Bool) → nat_lt (place_of l c) (length c) ≡ b → cond b (Some (place_of l c)) None ≡ None → length c ≤ place_of l c
+    by true within at = absurd (true≢false (ap is_some at))
+    by false within at = ltb-false (place_of l c) (length c) within
+
+module _ (c : Chunks) (list l : ℕ) where
+  -- the lock isn't there
+  module _ (missed : None ≡ position (is_of l) (chain_of c list)) where
+    pub none : find (is_of l) (chain_of c list) ≡ None
+    none = find-missed l (chain_of c list) (no-place l (chain_of c list) (sym missed))
+
+    pub unrecorded : is_refused c list ≡ is_unrecorded c list l
+    unrecorded = sym (ap (λ o. not (is_some o) && is_refused c list) none)
+
+    pub forget-none : c.groups ≡ after_forget c list l
+    forget-none = sym (ap (set_groups c list) (ap (forgotten_by l (groups_of c list)) none) ∙ set-get_or c.groups (list - 1) [])
+
+    pub turn-none : (mode : Mode) → c.groups ≡ after_turn c list l mode
+    turn-none mode =
+        sym
+        (ap (set_groups c list) (absent-all l (map (at_lock l (in_mode mode))) (change-absent l (in_mode mode)) (groups_of c list) (missed-stands l (chain_of c list) none))
+        ∙ set-get_or c.groups (list - 1) [])
+
+  -- the lock is there once
+  module _ (i : ℕ) (d : Instance) (found : Some i ≡ position (is_of l) (chain_of c list)) (at : d ≡ get_or (chain_of c list) i d) where
+    place : (place_of l (chain_of c list) ≡ i) × (place_of l (chain_of c list) < length (chain_of c list))
+    place = first-place l (chain_of c list) i (sym found)
+
+    there : get_or (chain_of c list) (place_of l (chain_of c list)) d ≡ d
+    there = ap (λ n. get_or (chain_of c list) n d) place.0 ∙ sym at
+
+    pub some : find (is_of l) (chain_of c list) ≡ Some d
+    some = find-found l (chain_of c list) d place.1 ∙ ap Some there
+
+    pub recorded-some : is_unrecorded c list l ≡ false
+    recorded-some = ap (λ o. not (is_some o) && is_refused c list) some
+
+    pub can-rise : IsShallow l (chain_of c list) → d.count < 65535
+    can-rise shallow = subst CanRise some shallow
+
+    module _ (once : IsOnce l (chain_of c list)) where
+      one : stands l (chain_of c list) ≡ 1
+      one = omega (arith, once, found-stands l (chain_of c list) place.1)
+
+      -- the lock's instance is written over by its change
+      pub changed : (f : Instance → Instance) → replaced_at i (f d) (groups_of c list) ≡ change_lock l f (groups_of c list)
+      changed f = ap (λ n. edited_at (λ k g. set g k (f d)) n (groups_of c list)) (sym place.0) ∙ replaced-once l f d (groups_of c list) one there
+
+      pub gone : removed_at i (groups_of c list) ≡ left (is_other l) (groups_of c list)
+      gone =
+          ap tidied (ap (λ n. edited_at (λ k g. remove g k) n (groups_of c list)) (sym place.0) ∙ removed-once l d (groups_of c list) one there)
+
+      pub forget-fewer : 0 < d.count → set_groups c list (replaced_at i (fewer d) (groups_of c list)) ≡ after_forget c list l
+      forget-fewer again =
+          ap (set_groups c list)
+          (changed fewer
+          ∙ sym (ap (forgotten_by l (groups_of c list)) some ∙ ap (λ b. cond b (change_lock l fewer (groups_of c list)) (left (is_other l) (groups_of c list))) (lt-ltb 0 d.count again)))
+
+      pub forget-last : d.count ≤ 0 → set_groups c list (removed_at i (groups_of c list)) ≡ after_forget c list l
+      forget-last last =
+          ap (set_groups c list)
+          (gone
+          ∙ sym (ap (forgotten_by l (groups_of c list)) some ∙ ap (λ b. cond b (change_lock l fewer (groups_of c list)) (left (is_other l) (groups_of c list))) (le-ltb 0 d.count last)))
+
+      pub turned : (mode : Mode) → set_groups c list (replaced_at i (in_mode mode d) (groups_of c list)) ≡ after_turn c list l mode
+      turned mode = ap (set_groups c list) (changed (in_mode mode))
+
+-- a held lock is recorded once more
+pub record-again : (c : Chunks) (list : ℕ) (taken : Instance) (i : ℕ) (d : Instance) → Some i ≡ position (is_of taken.lock.0) (chain_of c list)
+    → d ≡ get_or (chain_of c list) i d → IsOnce taken.lock.0 (chain_of c list)
+    → set_groups c list (replaced_at i (recursed taken.site d) (groups_of c list)) ≡ after_record c list taken
+record-again c list taken i d found at once =
+    ap (set_groups c list) (changed c list taken.lock.0 i d found at once (recursed taken.site) ∙ sym (ap (recorded_by taken (groups_of c list)) (some c list taken.lock.0 i d found at)))
+    ∙ sym (ap (λ b. cond b c.groups (set_groups c list (recorded taken (groups_of c list)))) (recorded-some c list taken.lock.0 i d found at))
+
+-- a new one is pushed
+pub record-new : (c : Chunks) (list : ℕ) (taken : Instance) → None ≡ position (is_of taken.lock.0) (chain_of c list) → pushed c list taken ≡ after_record c list taken
+record-new c list taken missed =
+    ap₂ (λ b o. cond b c.groups (set_groups c list (recorded_by taken (groups_of c list) o))) (unrecorded c list taken.lock.0 missed) (sym (none c list taken.lock.0 missed))

@@ -1,0 +1,28 @@
+use Rattle.std.proofs.Common.{◌≡◌, ◌<◌, ◌≤◌, ◌+◌, length, get_or, vec_len, ap, arith}
+use Rattle.wit_held.specs.Rows.{row, rows_of}
+use Rattle.wit_held.proofs.VecRows.{before, before-all, before-within, length-more, len-read}
+use Rattle.wit_held.proofs.rows.count.Goals as goal
+
+pub overflow_add-held : goal.overflow_add-held
+overflow_add-held c =
+    let lt : c.loop-chunk.chunk-index < length c.args.places.now = omega arith in
+    let len = len-read c.args.chunks.now (get_or c.args.places.now c.loop-chunk.chunk-index 0) c.index-chunks-chunk.result (c.requires.chunks c.loop-chunk.chunk-index 0 lt) c.index-chunks-chunk.is in
+    omega (
+      arith,
+      len,
+      c.len-held.ensures,
+      c.loop-chunk.invariant,
+      c.requires.fits,
+      length-more (rows_of c.args.chunks.now) c.args.places.now c.loop-chunk.chunk-index lt,
+      before-within (rows_of c.args.chunks.now) c.args.places.now (c.loop-chunk.chunk-index + 1),
+    )
+
+pub loop-chunk-preserved : goal.loop-chunk-preserved
+loop-chunk-preserved c =
+    let lt : c.loop-chunk.chunk-index < length c.args.places.now = omega arith in
+    let len = len-read c.args.chunks.now (get_or c.args.places.now c.loop-chunk.chunk-index 0) c.index-chunks-chunk.result (c.requires.chunks c.loop-chunk.chunk-index 0 lt) c.index-chunks-chunk.is in
+    omega (arith, len, c.len-held.ensures, c.loop-chunk.invariant, length-more (rows_of c.args.chunks.now) c.args.places.now c.loop-chunk.chunk-index lt)
+
+pub returns : goal.returns
+returns c =
+    omega (arith, c.loop-chunk.invariant, ap length (before-all (rows_of c.args.chunks.now) c.args.places.now c.loop-chunk.chunk-index (omega arith)))

@@ -1,0 +1,61 @@
+use Rattle.std.proofs.Common.{◌≡◌, ◌<◌, ◌≤◌, ◌+◌, ℕ, Option, None, Some, List, length, get_or, position, vec_len, ap, sym, subst, ◌∙◌, arith}
+use Rattle.wit_model.specs.declared.locks.Instance.{Instance}
+use Rattle.wit_model.specs.Rules.Verdict.{is_of}
+use Rattle.wit_held.specs.Rows.{row, rows_of}
+use Rattle.wit_held.proofs.VecRows.{before, before-all, before-within, length-more, len-read, row-read, past-more, missed, met}
+use Rattle.wit_held.proofs.rows.find.Goals as goal
+
+-- what was found in the chunk
+here : (c : goal.In-Some) → Some c.in-Some.place ≡ position (is_of c.args.lock.0) (row (rows_of c.args.chunks.now) (get_or c.args.places.now c.loop-chunk.chunk-index 0))
+here c =
+    let lt : c.loop-chunk.chunk-index < length c.args.places.now = omega arith in
+    c.in-Some.ensures.place
+    ∙ ap (position (is_of c.args.lock.0)) (c.deref.ensures.value ∙ sym (row-read c.args.chunks.now (get_or c.args.places.now c.loop-chunk.chunk-index 0) c.index-chunks-chunk.result
+    (c.requires.chunks c.loop-chunk.chunk-index 0 lt) c.index-chunks-chunk.is))
+
+pub overflow_add-result : goal.overflow_add-result
+overflow_add-result c =
+    let lt : c.loop-chunk.chunk-index < length c.args.places.now = omega arith in
+    let found = met c.args.lock.0 (rows_of c.args.chunks.now) c.args.places.now c.loop-chunk.chunk-index c.in-Some.place lt c.loop-chunk.invariant.1 (here c) in
+    omega (arith, found.1, c.loop-chunk.invariant.0, c.requires.fits)
+
+pub returns-in-Some-clause-place : goal.returns-in-Some-clause-place
+returns-in-Some-clause-place c =
+    let lt : c.loop-chunk.chunk-index < length c.args.places.now = omega arith in
+    ap (λ (n : ℕ). Some (n + c.in-Some.place)) c.loop-chunk.invariant.0
+    ∙ (met c.args.lock.0 (rows_of c.args.chunks.now) c.args.places.now c.loop-chunk.chunk-index c.in-Some.place lt c.loop-chunk.invariant.1 (here c)).0
+
+pub returns-in-Some-clause-within : goal.returns-in-Some-clause-within
+returns-in-Some-clause-within c =
+    let lt : c.loop-chunk.chunk-index < length c.args.places.now = omega arith in
+    let found = met c.args.lock.0 (rows_of c.args.chunks.now) c.args.places.now c.loop-chunk.chunk-index c.in-Some.place lt c.loop-chunk.invariant.1 (here c) in
+    omega (arith, found.1, c.loop-chunk.invariant.0)
+
+pub overflow_add-before : goal.overflow_add-before
+overflow_add-before c =
+    let lt : c.loop-chunk.chunk-index < length c.args.places.now = omega arith in
+    let len = len-read c.args.chunks.now (get_or c.args.places.now c.loop-chunk.chunk-index 0) c.index-chunks-chunk.result (c.requires.chunks c.loop-chunk.chunk-index 0 lt) c.index-chunks-chunk.is in
+    omega (
+      arith,
+      len,
+      c.len-before.ensures,
+      c.loop-chunk.invariant.0,
+      c.requires.fits,
+      length-more (rows_of c.args.chunks.now) c.args.places.now c.loop-chunk.chunk-index lt,
+      before-within (rows_of c.args.chunks.now) c.args.places.now (c.loop-chunk.chunk-index + 1),
+    )
+
+pub loop-chunk-preserved : goal.loop-chunk-preserved
+loop-chunk-preserved c =
+    let lt : c.loop-chunk.chunk-index < length c.args.places.now = omega arith in
+    let there = c.requires.chunks c.loop-chunk.chunk-index 0 lt in
+    let len = len-read c.args.chunks.now (get_or c.args.places.now c.loop-chunk.chunk-index 0) c.index-chunks-chunk.result there c.index-chunks-chunk.is in (
+      omega (arith, len, c.len-before.ensures, c.loop-chunk.invariant.0, length-more (rows_of c.args.chunks.now) c.args.places.now c.loop-chunk.chunk-index lt),
+      past-more c.args.lock.0 (rows_of c.args.chunks.now) c.args.places.now c.loop-chunk.chunk-index lt c.loop-chunk.invariant.1
+          (c.in-None.ensures.place
+          ∙ ap (position (is_of c.args.lock.0)) (c.deref.ensures.value ∙ sym (row-read c.args.chunks.now (get_or c.args.places.now c.loop-chunk.chunk-index 0) c.index-chunks-chunk.result there c.index-chunks-chunk.is))),
+    )
+
+pub returns-clause-place : goal.returns-clause-place
+returns-clause-place c =
+    missed c.args.lock.0 (rows_of c.args.chunks.now) c.args.places.now c.loop-chunk.chunk-index (omega arith) c.loop-chunk.invariant.1

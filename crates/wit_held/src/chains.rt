@@ -1,0 +1,107 @@
+//! What acquisitions and releases make of a list of held locks, over any lists. Nothing here takes memory.
+
+ghost use Rattle.std.specs.Prelude.{◌≡◌, false, not, find};
+ghost use Rattle.std.specs.Option.{option_map};
+ghost use Rattle.wit_model.specs.declared.locks.Instance.{Instance};
+ghost use Rattle.wit_model.specs.Rules.Verdict.{is_of};
+ghost use Rattle.wit_model.specs.Rules.Chunks.{IsList, IsPlaced, chain_of};
+ghost use Rattle.wit_held.specs.Chains.{IsOnce, IsShallow, is_unrecorded, after_record, after_forget, after_turn};
+
+use wit_model::chunks::Lists;
+use wit_model::{Instance, LockNo, Mode};
+
+/// Records an acquisition in a list that holds the lock once at most: a held lock's count rises by one, it has the new site, and it
+/// keeps its mode; a new one goes to the end as it is given. False, and nothing is changed, exactly where that needs a chunk and none
+/// is free.
+///
+/// A held lock's count is below 65,535, since a count has 16 bits. A verifier refuses a deeper recursion before it comes here.
+pub fn record<L: Lists>(lists: &mut L, list: u16, taken: Instance) -> bool
+    requires list { IsList (L.chunks lists.old) list }
+    requires once { IsOnce taken.lock.0 (chain_of (L.chunks lists.old) list) }
+    requires shallow { IsShallow taken.lock.0 (chain_of (L.chunks lists.old) list) }
+    ensures result { result ≡ not (is_unrecorded (L.chunks lists.old) list taken.lock.0) }
+    ensures groups { (L.chunks lists.new).groups ≡ after_record (L.chunks lists.old) list taken }
+    ensures size { (L.chunks lists.new).size ≡ (L.chunks lists.old).size }
+    ensures placed { IsPlaced (L.chunks lists.new) }
+    ensures unchanged { result ≡ false → L.chunks lists.new ≡ L.chunks lists.old }
+{
+    match lists.find(list, taken.lock) {
+        Some(place) => {
+            let mut held = lists.at(list, place);
+            held.count += 1;
+            held.site = taken.site;
+            lists.replace(list, place, held);
+            true
+        }
+        None => lists.push(list, taken),
+    }
+}
+
+/// Takes a release back in a list that holds the lock once at most: its count falls by one, or it goes out where its count is 0.
+/// Nothing is changed where the list doesn't hold it.
+pub fn forget<L: Lists>(lists: &mut L, list: u16, lock: LockNo)
+    requires list { IsList (L.chunks lists.old) list }
+    requires once { IsOnce lock.0 (chain_of (L.chunks lists.old) list) }
+    ensures groups { (L.chunks lists.new).groups ≡ after_forget (L.chunks lists.old) list lock.0 }
+    ensures size { (L.chunks lists.new).size ≡ (L.chunks lists.old).size }
+    ensures placed { IsPlaced (L.chunks lists.old) → IsPlaced (L.chunks lists.new) }
+{
+    match lists.find(list, lock) {
+        Some(place) => {
+            let mut held = lists.at(list, place);
+            if held.count > 0 {
+                held.count -= 1;
+                lists.replace(list, place, held);
+            } else {
+                lists.remove(list, place);
+            }
+        }
+        None => {}
+    }
+}
+
+/// The oldest instance of a lock in a list.
+pub fn held_lock<L: Lists>(lists: &L, list: u16, lock: LockNo) -> Option<Instance>
+    requires { IsList (L.chunks lists.now) list }
+    ensures { result ≡ find (is_of lock.0) (chain_of (L.chunks lists.now) list) }
+{
+    match lists.find(list, lock) {
+        Some(place) => Some(lists.at(list, place)),
+        None => None,
+    }
+}
+
+/// How often a lock was acquired again: `None` where the list doesn't hold it.
+pub fn recursion<L: Lists>(lists: &L, list: u16, lock: LockNo) -> Option<u16>
+    requires { IsList (L.chunks lists.now) list }
+    ensures { result ≡ option_map (λ (i : Instance). i.count) (find (is_of lock.0) (chain_of (L.chunks lists.now) list)) }
+{
+    Some(held_lock(lists, list, lock)?.count)
+}
+
+/// How a lock is held: `None` where the list doesn't hold it.
+pub fn mode<L: Lists>(lists: &L, list: u16, lock: LockNo) -> Option<Mode>
+    requires { IsList (L.chunks lists.now) list }
+    ensures { result ≡ option_map (λ (i : Instance). i.mode) (find (is_of lock.0) (chain_of (L.chunks lists.now) list)) }
+{
+    Some(held_lock(lists, list, lock)?.mode)
+}
+
+/// Turns a lock that the list holds once at most to another mode: its count and its site stay. Nothing is changed where the list
+/// doesn't hold it.
+pub fn set_mode<L: Lists>(lists: &mut L, list: u16, lock: LockNo, mode: Mode)
+    requires list { IsList (L.chunks lists.old) list }
+    requires once { IsOnce lock.0 (chain_of (L.chunks lists.old) list) }
+    ensures groups { (L.chunks lists.new).groups ≡ after_turn (L.chunks lists.old) list lock.0 mode }
+    ensures size { (L.chunks lists.new).size ≡ (L.chunks lists.old).size }
+    ensures placed { IsPlaced (L.chunks lists.old) → IsPlaced (L.chunks lists.new) }
+{
+    match lists.find(list, lock) {
+        Some(place) => {
+            let mut held = lists.at(list, place);
+            held.mode = mode;
+            lists.replace(list, place, held);
+        }
+        None => {}
+    }
+}

@@ -1,0 +1,13 @@
+//! The lists of locks that the seats of a verifier hold: chunks on vectors, and what an acquisition and a release make of a list.
+#![tactic(auto)]
+
+mod chains;
+mod fresh;
+mod rows;
+mod vec_lists;
+
+pub use chains::{forget, mode, record, recursion, set_mode};
+pub use vec_lists::VecLists;
+
+#[cfg(test)]
+mod tests;

@@ -1,0 +1,142 @@
+//! Lists in chunks on vectors.
+
+ghost use Rattle.std.specs.Prelude.{◌≡◌, ◌<◌, ◌≤◌, length, IfOk, IfErr};
+ghost use Rattle.wit_model.specs.declared.faults.Fault.TheVariants.{OutOfMemory};
+ghost use Rattle.wit_model.specs.Rules.Chunks.{IsNew};
+
+use crate::fresh::{empty_rows, numbers_below};
+use crate::rows::{
+    CHUNK, add, count, find, locate, open_chunk, put, read, take_chunk, take_out, write,
+};
+use std::alloc::{AllocError, Global};
+use std::marker::Model;
+use wit_model::chunks::Lists;
+use wit_model::{Fault, Instance, LockNo};
+
+/// Lists in chunks on vectors, with all their room from the beginning.
+#[derive(Drop)]
+pub struct VecLists {
+    // The chunks of each list, oldest first, by their numbers.
+    lists: Vec<Vec<u16>>,
+    // What each chunk holds, oldest first, by its number.
+    chunks: Vec<Vec<Instance>>,
+    // The free chunks.
+    unused: Vec<u16>,
+}
+
+impl Model for VecLists {
+    ghost use Rattle.wit_model.specs.Rules.Chunks.{Chunks};
+
+    ghost Value = { Chunks };
+
+    ghost use Rattle.wit_held.specs.Kept.{chunks_in, AreKept};
+
+    ghost view = { chunks_in };
+
+    ghost invariant = { AreKept };
+}
+
+impl VecLists {
+    /// Lists that hold nothing, numbered from 1, and so many free chunks: 1 to 512 lists, 1 to 65,536 chunks. All the room that the
+    /// other calls will need is taken here.
+    ///
+    /// # Errors
+    /// `OutOfMemory` alone.
+    pub fn new(alloc: Global, chunks: u32, lists: u16) -> Result<VecLists, Fault>
+        requires chunks { (0 < chunks) × (chunks ≤ 65536) }
+        requires lists { (0 < lists) × (lists ≤ 512) }
+        ensures ok { IfOk result (IsNew chunks lists) }
+        ensures err { IfErr result (λ e. e ≡ OutOfMemory) }
+    {
+        match VecLists::make(alloc, chunks, lists) {
+            Ok(made) => Ok(made),
+            Err(_) => Err(Fault::OutOfMemory),
+        }
+    }
+
+    /// How many lists there are.
+    pub fn lists(&self) -> usize
+        ensures { result ≡ length self.now.groups }
+    {
+        self.lists.len()
+    }
+
+    fn make(alloc: Global, chunks: u32, lists: u16) -> Result<VecLists, AllocError>
+        requires { chunks ≤ 65536 }
+        ensures { IfOk result (IsNew chunks lists) }
+    {
+        let places = empty_rows(alloc, lists as usize, chunks as usize)?;
+        let rows = empty_rows(alloc, chunks as usize, CHUNK)?;
+        let unused = numbers_below(alloc, chunks)?;
+        Ok(VecLists {
+            lists: places,
+            chunks: rows,
+            unused,
+        })
+    }
+}
+
+impl Lists for VecLists {
+    ghost chunks = { λ s. s };
+
+    fn push(&mut self, list: u16, instance: Instance) -> bool {
+        let list = list as usize - 1;
+        match open_chunk(&self.lists[list], &self.chunks) {
+            Some(chunk) => {
+                put(&mut self.chunks, chunk, instance);
+                true
+            }
+            None => match self.unused.pop() {
+                Some(chunk) => {
+                    put(&mut self.chunks, chunk as usize, instance);
+                    add(&mut self.lists, list, chunk);
+                    true
+                }
+                None => false,
+            },
+        }
+    }
+
+    fn find(&self, list: u16, lock: LockNo) -> Option<usize> {
+        find(&self.lists[list as usize - 1], &self.chunks, lock)
+    }
+
+    fn at(&self, list: u16, place: usize) -> Instance {
+        read(&self.lists[list as usize - 1], &self.chunks, place)
+    }
+
+    fn len(&self, list: u16) -> usize {
+        count(&self.lists[list as usize - 1], &self.chunks)
+    }
+
+    fn last(&self, list: u16) -> Option<Instance> {
+        let count = self.len(list);
+        if count == 0 {
+            return None;
+        }
+        Some(self.at(list, count - 1))
+    }
+
+    fn replace(&mut self, list: u16, place: usize, instance: Instance) {
+        let places = &self.lists[list as usize - 1];
+        let (group, index) = locate(places, &self.chunks, place);
+        let chunk = places[group] as usize;
+        write(&mut self.chunks, chunk, index, instance);
+    }
+
+    fn remove(&mut self, list: u16, place: usize) {
+        let list = list as usize - 1;
+        let places = &self.lists[list];
+        let (group, index) = locate(places, &self.chunks, place);
+        let chunk = places[group] as usize;
+        let count = places.len();
+        if take_out(&mut self.chunks, chunk, index) && count > 1 {
+            let freed = take_chunk(&mut self.lists, list, group);
+            self.unused.push_reserved(freed);
+        }
+    }
+
+    fn free_chunks(&self) -> usize {
+        self.unused.len()
+    }
+}
