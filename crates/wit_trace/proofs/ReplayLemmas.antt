@@ -27,8 +27,11 @@ use Rattle.wit_model.specs.Rules.Step.{AnswersOrFails, IsAccepted, answer_of}
 use Rattle.wit_model.specs.Trace.Output as output
 use Rattle.wit_core.specs.Books.{new_lock, made_reply}
 use Rattle.wit_trace.specs.Machine.{BreaksAt, first_of}
-use Rattle.wit_trace.specs.Replays.{Passes, Tells, KeepsTotal, Opens, Reaches, IsWritten, prelude_of, progress, ends_prelude, total}
-use Rattle.wit_trace.specs.declared.prelude.Prelude.{Prelude}
+use Rattle.wit_trace.specs.Replays.{Passes, Tells, KeepsTotal, Opens, Reaches, IsWritten, ShowsFrom, prelude_of, progress, ends_prelude, total}
+use Rattle.wit_trace.specs.Stream.{GoesOn, OutputFrom, ReadsToEnd, WritesLines}
+use Rattle.wit_model.specs.declared.lines.View.{View}
+use Rattle.wit_model.specs.declared.lines.View.TheVariants.{Reports}
+use Rattle.wit_trace.specs.declared.replaying.prelude.Prelude.{Prelude}
 use Rattle.wit_trace.specs.declared.replaying.Replaying.{Replaying}
 use Rattle.wit_trace.specs.declared.replaying.Replaying.TheVariants.{Unstarted, Opening, Reading}
 use Rattle.wit_trace.specs.declared.outcome.Outcome.{Outcome}
@@ -245,3 +248,43 @@ reached-open before prelude line story is ends opens =
         → cond {A = Result output.Progress output.BadLine} b (Ok (output.Opening (prelude_of prelude))) (output.opened (prelude_of prelude) (start_fault (prelude_of prelude).start)) ≡ Ok (output.Reading story)
     go true ended = (cc)
     go false ended = opens
+
+-- what the machine that replays allows
+abbrev replays : Replaying → ℕ → List ℕ → List ℕ → Summary → Type 0
+replays = OutputFrom (λ m n lines tail text summary. IsWritten (output.output_from (progress m) n lines tail) text summary)
+
+shown_on : (lines text : List ℕ) → GoesOn replays Unstarted lines text → GoesOn (ShowsFrom Reports) output.Unstarted lines text
+shown_on lines text goes = record { at = progress goes.at; on = goes.on }
+
+-- there is one view
+pub only_reports : (view : View) → view ≡ Reports
+only_reports Reports = refl
+
+-- the end of a replay, as the view shows it
+pub shown_end : {E : Type 0} (view : View) (r0 r w0 w : Option (List ℕ)) (answer : Result Summary E) → view ≡ Reports → IfOk answer (ReadsToEnd replays Unstarted r0 r w0 w) → IfOk answer (ReadsToEnd (ShowsFrom view) output.Unstarted r0 r w0 w)
+shown_end view r0 r w0 w (Err e) is h = tt
+shown_end view r0 r w0 w (Ok summary) is h = rw is (record {
+  lines = h.lines;
+  last = h.last;
+  told = h.told;
+  text = h.text;
+  whole = h.whole;
+  goes = shown_on h.lines h.told h.goes;
+  one = h.one;
+  read = h.read;
+  is_last = h.is_last;
+  written = h.written;
+})
+
+-- what stands after a failed look, as the view shows it
+pub shown_lines : (view : View) (r0 r w0 w : Option (List ℕ)) → view ≡ Reports → WritesLines replays Unstarted r0 r w0 w → WritesLines (ShowsFrom view) output.Unstarted r0 r w0 w
+shown_lines view r0 r w0 w is h = rw is (record {
+  lines = h.lines;
+  begun = h.begun;
+  text = h.text;
+  whole = h.whole;
+  plain = h.plain;
+  goes = shown_on h.lines h.text h.goes;
+  read = h.read;
+  written = h.written;
+})

@@ -1,72 +1,28 @@
 -- A stream from one look to the next.
-use Rattle.std.proofs.Common.{◌≡◌, ◌≢◌, ℕ, ◌+◌, List, [], ◌∷◌, ◌++◌, length, take, drop, Option, None, Some, unwrap_or, refl, sym, ap, ◌∙◌, subst, append_assoc, append-nil, add-zero, take-append-drop}
-use Rattle.std.proofs.KnownBytes.{Appends-trans, Consumes-nil, Consumes-trans, Consumes-kept}
-use Rattle.std.specs.Io.KnownBytes.{Keeps, Appends, Consumes, IsAtEnd}
-use Rattle.std.proofs.lemmas.List.Elements.{All-append}
+use Rattle.std.proofs.Common.{◌≡◌, ◌≢◌, ℕ, ◌+◌, ◌^◌, ◌≤◌, arith, List, [], ◌∷◌, ◌++◌, length, take, drop, Option, None, Some, unwrap_or, inl, inr, refl, sym, ap, ◌∙◌, subst, append_assoc, append-nil, add-zero, take-append-drop}
+use Rattle.std.proofs.KnownBytes.{Appends-trans, Consumes-trans, Consumes-kept}
+use Rattle.std.specs.Io.KnownBytes.{Keeps, Appends, Consumes}
+use Rattle.std.proofs.lemmas.List.Elements.{All-append, All-nil}
 use lib.Seq.{take-append_seam}
-use Rattle.wit_trace.specs.Text.{HasNoFeed, feeds}
-use Rattle.wit_trace.specs.Stream.{AppendsFront, Takes, behind, MayCome, IsInput, WritesOutput, WritesFront}
-use Rattle.wit_trace.specs.declared.ports.Piece.{Piece}
-use Rattle.wit_trace.specs.declared.ports.Piece.TheVariants.{End, Part, Whole}
+use Rattle.wit_trace.specs.Text.{HasNoFeed, IsWholeLines, feeds}
+use Rattle.wit_trace.specs.Stream.{AppendsFront, GoesOn, IsInput, IsLastText, IsSpent, ReadsToEnd, TakesLast, TakesLine, TakesPart, WritesFront, WritesLines, WritesOutput}
 use Rattle.wit_trace.specs.declared.summary.Summary.{Summary}
 use Rattle.wit_trace.proofs.TextLemmas.{feeds-append, feeds-line}
 
--- what came and what was written so far: an output now, for the pending bytes and whatever follows them, is the rest of one from the start
-pub record Going (start now : List ℕ → List ℕ → Summary → Type 0) (r0 r w0 w : Option (List ℕ)) (lines : ℕ) (pending : List ℕ) : Type 0 where
-  pub came : List ℕ
+-- whole lines were taken and a line begun, and the texts of the lines written: an output of what comes behind the lines is the rest of one from the start
+pub record Going {P : Type 0} (output : P → ℕ → List ℕ → List ℕ → Summary → Type 0) (start at : P) (r0 r w0 w : Option (List ℕ)) (number : ℕ) (begun : List ℕ) : Type 0 where
+  pub lines : List ℕ
   pub wrote : List ℕ
-  pub read : Consumes r0 r came
+  pub whole : IsWholeLines lines
+  pub read : Consumes r0 r (lines ++ begun)
   pub written : Appends w0 w wrote
-  pub counted : feeds came ≡ lines
-  pub same : (more text : List ℕ) (summary : Summary) → now (pending ++ more) text summary → start (came ++ more) (wrote ++ text) summary
+  pub counted : number ≡ feeds lines + 1
+  pub plain : HasNoFeed begun
+  pub same : (more text : List ℕ) (summary : Summary) → output at number more text summary → output start 1 (lines ++ more) (wrote ++ text) summary
 
 -- some output is there for every input
 abbrev pub HasOutputs : (List ℕ → List ℕ → Summary → Type 0) → Type 0
 HasOutputs output = (input : List ℕ) → (text : List ℕ) × ((summary : Summary) × output input text summary)
-
-module _ {start now : List ℕ → List ℕ → Summary → Type 0} {r0 r w0 w : Option (List ℕ)} where
-  -- more bytes came
-  pub going_more : (r' : Option (List ℕ)) (line part pending : List ℕ) (lines count : ℕ) → Going start now r0 r w0 w lines line → Consumes r r' part → pending ≡ line ++ part → count ≡ lines + feeds part → Going start now r0 r' w0 w count pending
-  going_more r' line part pending lines count going read is counts = record {
-    came = going.came ++ part;
-    wrote = going.wrote;
-    read = Consumes-trans r0 r r' going.came part going.read read;
-    written = going.written;
-    counted = feeds-append going.came part ∙ ap (λ n. n + feeds part) going.counted ∙ sym counts;
-    same = λ more text summary h.
-        let e : pending ++ more ≡ line ++ (part ++ more) = ap (λ l. l ++ more) is ∙ append_assoc line part more in
-        let k : start (going.came ++ (part ++ more)) (going.wrote ++ text) summary = going.same (part ++ more) text summary (subst (λ l. now l text summary) e h) in
-        subst (λ l. start l (going.wrote ++ text) summary) (sym (append_assoc going.came part more)) k;
-  }
-
-  -- a look took a piece
-  pub going_look : (r' : Option (List ℕ)) (line line' : List ℕ) (lines : ℕ) (piece : Piece) → Going start now r0 r w0 w lines line → Takes r r' line line' piece → Going start now r0 r' w0 w (lines + feeds (behind piece)) (line' ++ behind piece)
-  going_look r' line line' lines End going took =
-      going_more r' line [] (line' ++ []) lines (lines + 0) going (Consumes-kept r r r' [] (Consumes-nil r) took.1) (ap (λ l. l ++ []) took.2) refl
-  going_look r' line line' lines Part going took =
-      let count : lines + 0 ≡ lines + feeds took.0 = ap (λ n. lines + n) (sym (feeds-line took.0 took.1.2)) in
-      going_more r' line took.0 (line' ++ []) lines (lines + 0) going took.1.0 (append-nil line' ∙ took.1.1) count
-  going_look r' line line' lines Whole going took =
-      let feed : feeds (took.0 ++ 10 ∷ []) ≡ 1 = feeds-append took.0 (10 ∷ []) ∙ ap (λ n. n + 1) (feeds-line took.0 took.1.2) in
-      let count : lines + 1 ≡ lines + feeds (took.0 ++ 10 ∷ []) = ap (λ n. lines + n) (sym feed) in
-      going_more r' line (took.0 ++ 10 ∷ []) (line' ++ 10 ∷ []) lines (lines + 1) going took.1.0 (ap (λ l. l ++ 10 ∷ []) took.1.1 ∙ append_assoc line took.0 (10 ∷ [])) count
-
-  -- a look took the line feed
-  pub going_whole : (r' : Option (List ℕ)) (line line' : List ℕ) (lines count : ℕ) (piece : Piece) → Going start now r0 r w0 w lines line → Takes r r' line line' piece → piece ≡ Whole → count ≡ lines + 1 → Going start now r0 r' w0 w count (line' ++ 10 ∷ [])
-  going_whole r' line line' lines count piece going took is counts = rw counts (going_look r' line line' lines Whole going (subst (Takes r r' line line') is took))
-
-  -- a look took bytes of a line, which goes on
-  pub going_part : (now' : List ℕ → List ℕ → Summary → Type 0) (r' : Option (List ℕ)) (line line' : List ℕ) (lines : ℕ) (piece : Piece) → Going start now r0 r w0 w lines line → Takes r r' line line' piece → piece ≡ Part → now' ≡ now → Going start now' r0 r' w0 w lines line'
-  going_part now' r' line line' lines piece going took is same =
-      let part = subst (Takes r r' line line') is took in
-      let count : lines ≡ lines + feeds part.0 = sym (ap (λ n. lines + n) (feeds-line part.0 part.1.2) ∙ add-zero lines) in
-      rw same (going_more r' line part.0 line' lines lines going part.1.0 part.1.1 count)
-
--- the line has no line feed after a look
-pub takes_plain : (r r' : Option (List ℕ)) (line line' : List ℕ) (piece : Piece) → HasNoFeed line → Takes r r' line line' piece → HasNoFeed line'
-takes_plain r r' line line' End plain took = subst HasNoFeed (sym took.2) plain
-takes_plain r r' line line' Part plain took = subst HasNoFeed (sym took.1.1) (All-append (λ b. b ≢ 10) line took.0 plain took.1.2)
-takes_plain r r' line line' Whole plain took = subst HasNoFeed (sym took.1.1) (All-append (λ b. b ≢ 10) line took.0 plain took.1.2)
 
 -- what a reader has left, where that is known
 rest_of : Option (List ℕ) → List ℕ
@@ -79,61 +35,25 @@ IsInput-rest None r came p = tt
 IsInput-rest (Some xs) None came p = absurd p
 IsInput-rest (Some xs) (Some ys) came p = p
 
--- what came before a look at the end is the input
-IsInput-end : (r0 r r' : Option (List ℕ)) (before came : List ℕ) → Consumes r0 r before → Consumes r0 r' came → IsAtEnd r → Keeps r r' → IsInput r0 (came ++ [])
-IsInput-end None r r' before came p q e k = tt
-IsInput-end (Some xs) None r' before came p q e k = absurd p
-IsInput-end (Some xs) (Some ys) None before came p q e k = absurd k
-IsInput-end (Some xs) (Some ys) (Some zs) before came p q e k = q ∙ ap (λ l. came ++ l) (k ∙ e)
+-- what came, and all that was left then, are the input
+IsInput-more : (r0 r : Option (List ℕ)) (came rest : List ℕ) → Consumes r0 r came → IsInput r rest → IsInput r0 (came ++ rest)
+IsInput-more None r came rest p e = tt
+IsInput-more (Some xs) None came rest p e = absurd p
+IsInput-more (Some xs) (Some ys) came rest p e = p ∙ ap (λ l. came ++ l) e
 
--- after each piece something may come that makes the input whole
-pub may_come : (r0 r r' : Option (List ℕ)) (before came line line' : List ℕ) (piece : Piece) → Consumes r0 r before → Consumes r0 r' came → Takes r r' line line' piece → (more : List ℕ) × (MayCome piece more × IsInput r0 (came ++ more))
-may_come r0 r r' before came line line' End p q took = ([], (refl, IsInput-end r0 r r' before came p q took.0 took.1))
-may_come r0 r r' before came line line' Part p q took = (rest_of r', (tt, IsInput-rest r0 r' came q))
-may_come r0 r r' before came line line' Whole p q took = (rest_of r', (tt, IsInput-rest r0 r' came q))
+-- something may be left that makes the input whole, and has that last text
+last_input : (r0 r : Option (List ℕ)) (came : List ℕ) (output : List ℕ → Type 0) → Consumes r0 r came → IsLastText (IsInput r0 came) output → (more : List ℕ) × (output more × IsInput r0 (came ++ more))
+last_input r0 r came output p (inl ends) = ([], (ends.1, subst (IsInput r0) (sym (append-nil came)) ends.0))
+last_input r0 r came output p (inr all) = (rest_of r, (all (rest_of r), IsInput-rest r0 r came p))
+
+-- the last text as an output of something else
+last_map : (A B : Type 0) (F G : List ℕ → Type 0) → (A → B) → ((more : List ℕ) → F more → G more) → IsLastText A F → IsLastText B G
+last_map A B F G g f (inl ends) = inl (g ends.0, f [] ends.1)
+last_map A B F G g f (inr all) = inr (λ more. f more (all more))
 
 -- a beginning of the bytes
 AppendsFront-of : (w0 w : Option (List ℕ)) (front rest bytes : List ℕ) → Appends w0 w front → bytes ≡ front ++ rest → AppendsFront w0 w bytes
 AppendsFront-of w0 w front rest bytes p e = (length front, subst (Appends w0 w) (sym (ap (take (length front)) e ∙ take-append_seam front rest)) p)
-
-module _ {start now : List ℕ → List ℕ → Summary → Type 0} {r0 r w0 w : Option (List ℕ)} {lines : ℕ} where
-  -- nothing more is written
-  pub going_front : (pending : List ℕ) → Going start now r0 r w0 w lines pending → HasOutputs now → WritesFront start r0 w0 w
-  going_front pending going outputs =
-      let out = outputs (pending ++ rest_of r) in
-      record {
-        input = going.came ++ rest_of r;
-        text = going.wrote ++ out.0;
-        summary = out.1.0;
-        is_input = IsInput-rest r0 r going.came going.read;
-        is_output = going.same (rest_of r) out.0 out.1.0 out.1.1;
-        written = AppendsFront-of w0 w going.wrote out.0 (going.wrote ++ out.0) going.written refl;
-      }
-
-  -- a line's text is written
-  pub going_goes : (next : List ℕ → List ℕ → Summary → Type 0) (w' : Option (List ℕ)) (line text : List ℕ) → Going start now r0 r w0 w lines (line ++ 10 ∷ [])
-      → ((input more : List ℕ) (summary : Summary) → next input more summary → now (line ++ 10 ∷ input) (text ++ more) summary) → Appends w w' text → Going start next r0 r w0 w' lines []
-  going_goes next w' line text going step p = record {
-    came = going.came;
-    wrote = going.wrote ++ text;
-    read = going.read;
-    written = Appends-trans w0 w w' going.wrote text going.written p;
-    counted = going.counted;
-    same = λ more t summary h.
-        let k : now ((line ++ 10 ∷ []) ++ more) (text ++ t) summary = subst (λ l. now l (text ++ t) summary) (sym (append_assoc line (10 ∷ []) more)) (step more t summary h) in
-        subst (λ l. start (going.came ++ more) l summary) (sym (append_assoc going.wrote text t)) (going.same more (text ++ t) summary k);
-  }
-
-  -- the last text is written
-  pub going_ends : (w' : Option (List ℕ)) (line back text more : List ℕ) (summary : Summary) → (going : Going start now r0 r w0 w lines (line ++ back)) → IsInput r0 (going.came ++ more)
-      → now (line ++ (back ++ more)) text summary → Appends w w' text → WritesOutput start r0 w0 w' summary
-  going_ends w' line back text more summary going input h p = record {
-    input = going.came ++ more;
-    text = going.wrote ++ text;
-    is_input = input;
-    is_output = going.same more text summary (subst (λ l. now l text summary) (sym (append_assoc line back more)) h);
-    written = Appends-trans w0 w w' going.wrote text going.written p;
-  }
 
 -- an output was written up to some place of its next text
 front_of : {start : List ℕ → List ℕ → Summary → Type 0} (r0 w0 w w' : Option (List ℕ)) (input wrote text more : List ℕ) (summary : Summary) → IsInput r0 input → start input (wrote ++ (text ++ more)) summary
@@ -150,18 +70,144 @@ front_of r0 w0 w w' input wrote text more summary is_input is_output p q =
       written = AppendsFront-of w0 w' (wrote ++ take q.0 text) (drop q.0 text ++ more) _ (Appends-trans w0 w w' wrote _ p q.1) parts;
     }
 
-module _ {start now : List ℕ → List ℕ → Summary → Type 0} {r0 r w0 w : Option (List ℕ)} {lines : ℕ} where
+module _ {P : Type 0} {output : P → ℕ → List ℕ → List ℕ → Summary → Type 0} {start at : P} {r0 r w0 w : Option (List ℕ)} {number : ℕ} where
+  -- the lines so far, behind which the reading goes on
+  goes_on : (begun : List ℕ) → (going : Going output start at r0 r w0 w number begun) → GoesOn output start going.lines going.wrote
+  goes_on begun going = record { at = at; on = λ more rest summary h. going.same more rest summary (rw going.counted h) }
+
+  -- a look took bytes of a line, which goes on
+  pub going_part : (at' : P) (r' : Option (List ℕ)) (line line' : List ℕ) → Going output start at r0 r w0 w number line → TakesPart r r' line line' → at' ≡ at → Going output start at' r0 r' w0 w number line'
+  going_part at' r' line line' going took same = rw (same, took.begun) (record {
+    lines = going.lines;
+    wrote = going.wrote;
+    whole = going.whole;
+    read = subst (Consumes r0 r') (append_assoc going.lines line took.part) (Consumes-trans r0 r r' (going.lines ++ line) took.part going.read took.taken);
+    written = going.written;
+    counted = going.counted;
+    plain = All-append (λ b. b ≢ 10) line took.part going.plain took.plain;
+    same = going.same;
+  })
+
+  -- what came once a look took the rest of a line
+  came_line : (r' : Option (List ℕ)) (line rest : List ℕ) → (going : Going output start at r0 r w0 w number line) → Consumes r r' rest → Consumes r0 r' (going.lines ++ (line ++ rest))
+  came_line r' line rest going took = subst (Consumes r0 r') (append_assoc going.lines line rest) (Consumes-trans r0 r r' (going.lines ++ line) rest going.read took)
+
+  -- a look took a line, and its text is written
+  pub going_line : (next : P) (r' w' : Option (List ℕ)) (line line' text : List ℕ) → Going output start at r0 r w0 w number line → TakesLine output at next number r r' line line' text → Appends w w' text
+      → Going output start next r0 r' w0 w' (number + 1) line'
+  going_line next r' w' line line' text going took p =
+      let bytes = line ++ took.rest in
+      let came : going.lines ++ (line ++ (took.rest ++ 10 ∷ [])) ≡ (going.lines ++ (bytes ++ 10 ∷ [])) ++ [] = simp (append_assoc, append-nil) in
+      let feed : feeds (bytes ++ 10 ∷ []) ≡ 1 = feeds-append bytes (10 ∷ []) ∙ ap (λ n. n + 1) (feeds-line bytes (All-append (λ b. b ≢ 10) line took.rest going.plain took.plain)) in
+      rw took.none (record {
+        lines = going.lines ++ (bytes ++ 10 ∷ []);
+        wrote = going.wrote ++ text;
+        whole = inr (going.lines ++ bytes, sym (append_assoc going.lines bytes (10 ∷ [])));
+        read = subst (Consumes r0 r') came (came_line r' line (took.rest ++ 10 ∷ []) going took.taken);
+        written = Appends-trans w0 w w' going.wrote text going.written p;
+        counted = ap (λ n. n + 1) (going.counted ∙ ap (λ n. feeds going.lines + n) (sym feed) ∙ sym (feeds-append going.lines (bytes ++ 10 ∷ [])));
+        plain = All-nil (λ b. b ≢ 10);
+        same = λ more t summary h.
+            let k : output at number ((bytes ++ 10 ∷ []) ++ more) (text ++ t) summary = subst (λ l. output at number l (text ++ t) summary) (sym (append_assoc bytes (10 ∷ []) more)) (took.told more t summary h) in
+            let e : (going.lines ++ (bytes ++ 10 ∷ [])) ++ more ≡ going.lines ++ ((bytes ++ 10 ∷ []) ++ more) = append_assoc going.lines (bytes ++ 10 ∷ []) more in
+            subst (λ l. output start 1 l ((going.wrote ++ text) ++ t) summary) (sym e)
+            (subst (λ l. output start 1 (going.lines ++ ((bytes ++ 10 ∷ []) ++ more)) l summary) (sym (append_assoc going.wrote text t)) (going.same ((bytes ++ 10 ∷ []) ++ more) (text ++ t) summary k));
+      })
+
+  -- what came, and the last line, are the input
+  came_all : (line rest : List ℕ) → (going : Going output start at r0 r w0 w number line) → IsInput r rest → IsInput r0 (going.lines ++ (line ++ rest))
+  came_all line rest going all = subst (IsInput r0) (append_assoc going.lines line rest) (IsInput-more r0 r (going.lines ++ line) rest going.read all)
+
+  -- the last text, behind those before it
+  all_last : (r' : Option (List ℕ)) (line text : List ℕ) (summary : Summary) → (going : Going output start at r0 r w0 w number line) → (took : TakesLast output at number r r' line text summary)
+      → IsLastText (IsInput r0 (going.lines ++ (line ++ took.rest))) (λ more. output start 1 ((going.lines ++ (line ++ took.rest)) ++ more) (going.wrote ++ text) summary)
+  all_last r' line text summary going took =
+      last_map _ _ _ _ (came_all line took.rest going)
+      (λ more h. subst (λ l. output start 1 l (going.wrote ++ text) summary) (sym (append_assoc going.lines (line ++ took.rest) more)) (going.same ((line ++ took.rest) ++ more) text summary h)) took.last
+
+  -- a look took the last line, and the last text is written
+  pub going_last : (r' w' : Option (List ℕ)) (line text : List ℕ) (summary : Summary) → Going output start at r0 r w0 w number line → TakesLast output at number r r' line text summary → Appends w w' text
+      → WritesOutput (output start 1) r0 w0 w' summary
+  going_last r' w' line text summary going took p =
+      let came = going.lines ++ (line ++ took.rest) in
+      let last = last_input r0 r' came _ (came_line r' line took.rest going took.taken) (all_last r' line text summary going took) in
+      record {
+        input = came ++ last.0;
+        text = going.wrote ++ text;
+        is_input = last.1.1;
+        is_output = last.1.0;
+        written = Appends-trans w0 w w' going.wrote text going.written p;
+      }
+
+  -- what was taken then
+  pub going_end : (r' w' : Option (List ℕ)) (line text : List ℕ) (summary : Summary) → Going output start at r0 r w0 w number line → TakesLast output at number r r' line text summary → Appends w w' text
+      → ReadsToEnd output start r0 r' w0 w' summary
+  going_end r' w' line text summary going took p = record {
+    lines = going.lines;
+    last = line ++ took.rest;
+    told = going.wrote;
+    text = going.wrote ++ text;
+    whole = going.whole;
+    goes = goes_on line going;
+    one = took.one;
+    read = came_line r' line took.rest going took.taken;
+    is_last = last_map _ _ _ _ (came_all line took.rest going) (λ more h. going.same ((line ++ took.rest) ++ more) text summary h) took.last;
+    written = Appends-trans w0 w w' going.wrote text going.written p;
+  }
+
+  -- nothing more is written
+  pub going_front : (begun : List ℕ) → Going output start at r0 r w0 w number begun → HasOutputs (output at number) → WritesFront (output start 1) r0 w0 w
+  going_front begun going outputs =
+      let out = outputs (begun ++ rest_of r) in
+      record {
+        input = going.lines ++ (begun ++ rest_of r);
+        text = going.wrote ++ out.0;
+        summary = out.1.0;
+        is_input = subst (IsInput r0) (append_assoc going.lines begun (rest_of r)) (IsInput-rest r0 r (going.lines ++ begun) going.read);
+        is_output = going.same (begun ++ rest_of r) out.0 out.1.0 out.1.1;
+        written = AppendsFront-of w0 w going.wrote out.0 (going.wrote ++ out.0) going.written refl;
+      }
+
+  -- nor is more taken
+  pub going_kept : (r' : Option (List ℕ)) (begun : List ℕ) → Going output start at r0 r w0 w number begun → Keeps r r' → WritesLines output start r0 r' w0 w
+  going_kept r' begun going kept = record {
+    lines = going.lines;
+    begun = begun;
+    text = going.wrote;
+    whole = going.whole;
+    plain = going.plain;
+    goes = goes_on begun going;
+    read = Consumes-kept r0 r r' (going.lines ++ begun) going.read kept;
+    written = going.written;
+  }
+
+  -- the looks and the lines are spent
+  pub going_spent : (begun : List ℕ) (looks : ℕ) → Going output start at r0 r w0 w number begun → number ≤ looks + 1 → 2 ^ 64 ≤ looks + number → IsSpent r0 r looks
+  going_spent begun looks going few enough =
+      let same : feeds (going.lines ++ begun) ≡ feeds going.lines = feeds-append going.lines begun ∙ ap (λ n. feeds going.lines + n) (feeds-line begun going.plain) ∙ add-zero (feeds going.lines) in
+      record {
+        came = going.lines ++ begun;
+        read = going.read;
+        lines = omega (arith, same, going.counted, few);
+        spent = omega (arith, same, going.counted, enough);
+      }
+
   -- a beginning of a line's text is written
-  pub going_goes_front : (next : List ℕ → List ℕ → Summary → Type 0) (w' : Option (List ℕ)) (line text : List ℕ) → Going start now r0 r w0 w lines (line ++ 10 ∷ [])
-      → ((input more : List ℕ) (summary : Summary) → next input more summary → now (line ++ 10 ∷ input) (text ++ more) summary) → HasOutputs next → AppendsFront w w' text → WritesFront start r0 w0 w'
-  going_goes_front next w' line text going step outputs p =
-      let out = outputs (rest_of r) in
-      let k : now ((line ++ 10 ∷ []) ++ rest_of r) (text ++ out.0) out.1.0 = subst (λ l. now l (text ++ out.0) out.1.0) (sym (append_assoc line (10 ∷ []) (rest_of r))) (step (rest_of r) out.0 out.1.0 out.1.1) in
-      front_of r0 w0 w w' (going.came ++ rest_of r) going.wrote text out.0 out.1.0 (IsInput-rest r0 r going.came going.read) (going.same (rest_of r) (text ++ out.0) out.1.0 k) going.written p
+  pub going_line_front : (next : P) (r' w' : Option (List ℕ)) (line line' text : List ℕ) → Going output start at r0 r w0 w number line → TakesLine output at next number r r' line line' text → HasOutputs (output next (number + 1)) → AppendsFront w w' text
+      → WritesFront (output start 1) r0 w0 w'
+  going_line_front next r' w' line line' text going took outputs p =
+      let out = outputs (rest_of r') in
+      let came : going.lines ++ (line ++ (took.rest ++ 10 ∷ [])) ≡ going.lines ++ ((line ++ took.rest) ++ 10 ∷ []) = simp append_assoc in
+      let e : (going.lines ++ ((line ++ took.rest) ++ 10 ∷ [])) ++ rest_of r' ≡ going.lines ++ ((line ++ took.rest) ++ 10 ∷ rest_of r') = simp append_assoc in
+      front_of r0 w0 w w' (going.lines ++ ((line ++ took.rest) ++ 10 ∷ rest_of r')) going.wrote text out.0 out.1.0
+      (subst (IsInput r0) (ap (λ l. l ++ rest_of r') came ∙ e) (IsInput-rest r0 r' _ (came_line r' line (took.rest ++ 10 ∷ []) going took.taken)))
+      (going.same ((line ++ took.rest) ++ 10 ∷ rest_of r') (text ++ out.0) out.1.0 (took.told (rest_of r') out.0 out.1.0 out.1.1)) going.written p
 
   -- a beginning of the last text is written
-  pub going_ends_front : (w' : Option (List ℕ)) (line back text more : List ℕ) (summary : Summary) → (going : Going start now r0 r w0 w lines (line ++ back)) → IsInput r0 (going.came ++ more)
-      → now (line ++ (back ++ more)) text summary → AppendsFront w w' text → WritesFront start r0 w0 w'
-  going_ends_front w' line back text more summary going input h p =
-      let k : now ((line ++ back) ++ more) (text ++ []) summary = subst (λ l. now l (text ++ []) summary) (sym (append_assoc line back more)) (rw (append-nil text) h) in
-      front_of r0 w0 w w' (going.came ++ more) going.wrote text [] summary input (going.same more (text ++ []) summary k) going.written p
+  pub going_last_front : (r' w' : Option (List ℕ)) (line text : List ℕ) (summary : Summary) → Going output start at r0 r w0 w number line → TakesLast output at number r r' line text summary → AppendsFront w w' text
+      → WritesFront (output start 1) r0 w0 w'
+  going_last_front r' w' line text summary going took p =
+      let came = going.lines ++ (line ++ took.rest) in
+      let last = last_input r0 r' came _ (came_line r' line took.rest going took.taken) (all_last r' line text summary going took) in
+      let k : output start 1 (came ++ last.0) (going.wrote ++ (text ++ [])) summary = rw (append-nil text) last.1.0 in
+      front_of r0 w0 w w' (came ++ last.0) going.wrote text [] summary last.1.1 k going.written p

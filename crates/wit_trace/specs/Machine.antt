@@ -4,8 +4,8 @@ use Rattle.std.specs.Io.{StartsWith}
 use Rattle.wit_model.specs.declared.lines.Cause.{Cause}
 use Rattle.wit_model.specs.declared.lines.Cause.TheVariants.{Long, Cut, Syntax, Limit, Fault}
 use Rattle.wit_trace.specs.declared.summary.Summary.{Summary}
-use Rattle.wit_trace.specs.declared.machine.Step.{Step}
-use Rattle.wit_trace.specs.declared.machine.Step.TheVariants.{Goes, Ends}
+use Rattle.wit_trace.specs.declared.stream.machine.Step.{Step}
+use Rattle.wit_trace.specs.declared.stream.machine.Step.TheVariants.{Goes, Ends}
 
 -- the text of the line, and then whatever the new machine may write; or the last text, whatever follows
 abbrev pub Follows : {M : Type 0} → (M → ℕ → List (List ℕ) → List ℕ → List ℕ → Summary → Type 0) → M → M → ℕ → List ℕ → Step → Type 0

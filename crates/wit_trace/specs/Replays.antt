@@ -11,7 +11,7 @@ use Rattle.wit_model.specs.Rules.State.{Story}
 use Rattle.wit_model.specs.Trace.Output as output
 use Rattle.wit_core.specs.Fresh.{start_of}
 use Rattle.wit_trace.specs.Text.{text_of}
-use Rattle.wit_trace.specs.declared.prelude.Prelude.{Prelude}
+use Rattle.wit_trace.specs.declared.replaying.prelude.Prelude.{Prelude}
 use Rattle.wit_trace.specs.declared.replaying.Replaying.{Replaying}
 use Rattle.wit_trace.specs.declared.replaying.Replaying.TheVariants.{Unstarted, Opening, Reading}
 use Rattle.wit_trace.specs.declared.summary.Summary.{Summary}
@@ -42,9 +42,13 @@ pub record IsWritten (w : output.Written) (bytes : List ℕ) (summary : Summary)
   pub summed : total summary ≡ w.summed
   pub circle : summary.circle ≡ false
 
+-- what the view shows of the rest of a trace, of which the first line has this number
+abbrev pub ShowsFrom : View → output.Progress → ℕ → List ℕ → List ℕ → Summary → Type 0
+ShowsFrom Reports p number input text summary = IsWritten (output.output_from p number (text_of input).lines (text_of input).tail) text summary
+
 -- what the view shows of a trace
 abbrev pub Shows : View → List ℕ → List ℕ → Summary → Type 0
-Shows Reports input text summary = IsWritten (output.output_from output.Unstarted 1 (text_of input).lines (text_of input).tail) text summary
+Shows view = ShowsFrom view output.Unstarted 1
 
 -- a line that ends the reading changes nothing of what is summed up
 abbrev pub KeepsTotal : output.Progress → output.Progress → Type 0

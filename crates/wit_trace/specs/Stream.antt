@@ -1,49 +1,63 @@
 -- What is read and written by a stream of lines.
-use Rattle.std.specs.Prelude.{◌≡◌, ℕ, ◌+◌, ◌-◌, ◌^◌, ◌≤◌, List, [], ◌∷◌, ◌++◌, length, take, Option, None, Some}
-use Rattle.std.specs.Io.KnownBytes.{Keeps, Appends, Consumes, IsAtEnd}
-use Rattle.wit_trace.specs.Text.{text_of, HasNoFeed, feeds}
-use Rattle.wit_trace.specs.declared.machine.Step.{Step}
-use Rattle.wit_trace.specs.declared.machine.Step.TheVariants.{Goes, Ends}
-use Rattle.wit_trace.specs.declared.ports.Piece.{Piece}
-use Rattle.wit_trace.specs.declared.ports.Piece.TheVariants.{End, Part, Whole}
+use Rattle.std.specs.Prelude.{◌≡◌, Bool, false, ℕ, ◌+◌, ◌-◌, ◌^◌, ◌<◌, ◌≤◌, ◌⊎◌, List, [], ◌∷◌, ◌++◌, length, take, Option, None, Some}
+use Rattle.std.specs.Io.KnownBytes.{Appends, Consumes}
+use Rattle.wit_trace.specs.Text.{text_of, HasNoFeed, IsWholeLines, IsLine, feeds}
+use Rattle.wit_trace.specs.declared.stream.machine.Step.{Step}
+use Rattle.wit_trace.specs.declared.stream.ports.Failures.{Failures}
+use Rattle.wit_trace.specs.declared.stream.machine.Step.TheVariants.{Goes, Ends}
 use Rattle.wit_trace.specs.declared.summary.Summary.{Summary}
 
 -- a beginning of the bytes is appended
 abbrev pub AppendsFront : Option (List ℕ) → Option (List ℕ) → List ℕ → Type 0
 AppendsFront old new bytes = (n : ℕ) × Appends old new (take n bytes)
 
--- what a look took: nothing at the end, bytes of a line, or these and the line feed
-abbrev pub Takes : Option (List ℕ) → Option (List ℕ) → List ℕ → List ℕ → Piece → Type 0
-Takes old new before after End = IsAtEnd old × Keeps old new × (after ≡ before)
-Takes old new before after Part = (part : List ℕ) × (Consumes old new part × (after ≡ before ++ part) × HasNoFeed part)
-Takes old new before after Whole = (part : List ℕ) × (Consumes old new (part ++ 10 ∷ []) × (after ≡ before ++ part) × HasNoFeed part)
-
--- the texts and summaries that a machine allows for the bytes, of which the first line has this number
-abbrev pub OutputFrom : (ℕ → List (List ℕ) → List ℕ → List ℕ → Summary → Type 0) → ℕ → List ℕ → List ℕ → Summary → Type 0
-OutputFrom allows number input text summary = allows number (text_of input).lines (text_of input).tail text summary
-
--- what a look took behind the bytes of the line
-abbrev pub behind : Piece → List ℕ
-behind End = []
-behind Part = []
-behind Whole = 10 ∷ []
-
--- what may still come after a look: nothing at the end
-abbrev pub MayCome : Piece → List ℕ → Type 0
-MayCome End more = more ≡ []
-MayCome Part more = Unit
-MayCome Whole more = Unit
-
--- what follows a line after a look: nothing yet, the text of the line, or the last text, whatever may still come
-abbrev pub Answers : {M : Type 0} → (M → ℕ → List (List ℕ) → List ℕ → List ℕ → Summary → Type 0) → M → M → ℕ → List ℕ → Piece → Option Step → Type 0
-Answers allows old new number line piece None = (piece ≡ Part) × (length line ≤ 4096) × (new ≡ old)
-Answers allows old new number line piece (Some (Goes text)) = (piece ≡ Whole) × ((input more : List ℕ) (summary : Summary) → OutputFrom (allows new) (number + 1) input more summary → OutputFrom (allows old) number (line ++ 10 ∷ input) (text.items ++ more) summary)
-Answers allows old new number line piece (Some (Ends text summary)) = (more : List ℕ) → MayCome piece more → OutputFrom (allows old) number (line ++ (behind piece ++ more)) text.items summary
-
 -- the input is what the reader has left, where that is known
 abbrev pub IsInput : Option (List ℕ) → List ℕ → Type 0
 IsInput None input = Unit
 IsInput (Some bytes) input = bytes ≡ input
+
+-- the texts and summaries that a machine allows for the bytes, of which the first line has this number
+abbrev pub OutputFrom : {M : Type 0} → (M → ℕ → List (List ℕ) → List ℕ → List ℕ → Summary → Type 0) → M → ℕ → List ℕ → List ℕ → Summary → Type 0
+OutputFrom allows m number input text summary = allows m number (text_of input).lines (text_of input).tail text summary
+
+-- the reading goes on behind these whole lines, whose texts are this text: whatever comes behind them, what is an output of that from this place on is, behind the text, an output of all
+pub record GoesOn {P : Type 0} (output : P → ℕ → List ℕ → List ℕ → Summary → Type 0) (start : P) (lines text : List ℕ) : Type 0 where
+  pub at : P
+  pub on : (more rest : List ℕ) (summary : Summary) → output at (feeds lines + 1) more rest summary → output start 1 (lines ++ more) (text ++ rest) summary
+
+-- a last text and summary, for what was taken and anything behind it: that was all, or they are these whatever comes
+abbrev pub IsLastText : Type 0 → (List ℕ → Type 0) → Type 0
+IsLastText all output = (all × output []) ⊎ ((more : List ℕ) → output more)
+
+-- a look took bytes of a line, which goes on
+pub record TakesPart (old new : Option (List ℕ)) (line line' : List ℕ) : Type 0 where
+  pub part : List ℕ
+  pub taken : Consumes old new part
+  pub some : 0 < length part
+  pub plain : HasNoFeed part
+  pub begun : line' ≡ line ++ part
+  pub short : length line' ≤ 4096
+
+-- a look took the rest of a line, of which this text is told
+pub record TakesLine {M : Type 0} (output : M → ℕ → List ℕ → List ℕ → Summary → Type 0) (before after : M) (number : ℕ) (old new : Option (List ℕ)) (line line' text : List ℕ) : Type 0 where
+  pub rest : List ℕ
+  pub taken : Consumes old new (rest ++ 10 ∷ [])
+  pub plain : HasNoFeed rest
+  pub none : line' ≡ []
+  pub told : (input more : List ℕ) (summary : Summary) → output after (number + 1) input more summary → output before number ((line ++ rest) ++ 10 ∷ input) (text ++ more) summary
+
+-- a look took what is left of the last line, or its beginning where it is too long
+pub record TakesLast {M : Type 0} (output : M → ℕ → List ℕ → List ℕ → Summary → Type 0) (before : M) (number : ℕ) (old new : Option (List ℕ)) (line text : List ℕ) (summary : Summary) : Type 0 where
+  pub rest : List ℕ
+  pub taken : Consumes old new rest
+  pub one : IsLine (line ++ rest)
+  pub last : IsLastText (IsInput old rest) (λ more. output before number ((line ++ rest) ++ more) text summary)
+
+-- what a look took behind the line begun, and what follows
+abbrev pub Advances : {M : Type 0} → (M → ℕ → List ℕ → List ℕ → Summary → Type 0) → M → M → ℕ → Option (List ℕ) → Option (List ℕ) → List ℕ → List ℕ → Option Step → Type 0
+Advances output before after number old new line line' None = TakesPart old new line line' × (after ≡ before)
+Advances output before after number old new line line' (Some (Goes text)) = TakesLine output before after number old new line line' text.items
+Advances output before after number old new line line' (Some (Ends text summary)) = TakesLast output before number old new line text.items summary
 
 -- a text was written that is an output of the input, with the summary
 pub record WritesOutput (output : List ℕ → List ℕ → Summary → Type 0) (read written_old written_new : Option (List ℕ)) (summary : Summary) : Type 0 where
@@ -62,9 +76,45 @@ pub record WritesFront (output : List ℕ → List ℕ → Summary → Type 0) (
   pub is_output : output input text summary
   pub written : AppendsFront written_old written_new text
 
+-- what was taken is whole lines behind which the reading goes on, and the line that ended it, of one that is too long its beginning; what was written is an output whatever may be left
+pub record ReadsToEnd {P : Type 0} (output : P → ℕ → List ℕ → List ℕ → Summary → Type 0) (start : P) (read_old read_new written_old written_new : Option (List ℕ)) (summary : Summary) : Type 0 where
+  pub lines : List ℕ
+  pub last : List ℕ
+  pub told : List ℕ
+  pub text : List ℕ
+  pub whole : IsWholeLines lines
+  pub goes : GoesOn output start lines told
+  pub one : IsLine last
+  pub read : Consumes read_old read_new (lines ++ last)
+  pub is_last : IsLastText (IsInput read_old (lines ++ last)) (λ more. output start 1 (lines ++ (last ++ more)) text summary)
+  pub written : Appends written_old written_new text
+
+-- what was taken is whole lines and a line begun, and what was written is the text of these lines, no less
+pub record WritesLines {P : Type 0} (output : P → ℕ → List ℕ → List ℕ → Summary → Type 0) (start : P) (read_old read_new written_old written_new : Option (List ℕ)) : Type 0 where
+  pub lines : List ℕ
+  pub begun : List ℕ
+  pub text : List ℕ
+  pub whole : IsWholeLines lines
+  pub plain : HasNoFeed begun
+  pub goes : GoesOn output start lines text
+  pub read : Consumes read_old read_new (lines ++ begun)
+  pub written : Appends written_old written_new text
+
 -- the looks and the lines read, which are never more, have come to the greatest number of a u64
 pub record IsSpent (read_old read_new : Option (List ℕ)) (looks : ℕ) : Type 0 where
   pub came : List ℕ
   pub read : Consumes read_old read_new came
   pub lines : feeds came ≤ looks
   pub spent : 2 ^ 64 - 1 ≤ looks + feeds came
+
+-- no failure was seen, nor the reader looked at
+abbrev pub no_failure : Failures
+no_failure = record { read = false; write = false; looks = 0 }
+
+-- the evidence that the reader failed
+abbrev pub has_read_failed : Failures → Bool
+has_read_failed f = f.read
+
+-- the evidence that the writer failed
+abbrev pub has_write_failed : Failures → Bool
+has_write_failed f = f.write

@@ -1,5 +1,5 @@
 -- A byte list as lines.
-use Rattle.std.specs.Prelude.{◌≢◌, ℕ, List, [], ◌∷◌, All, count_by, ◌==◌, if◌then◌else◌}
+use Rattle.std.specs.Prelude.{◌≡◌, ◌≢◌, ◌⊎◌, ℕ, ◌≤◌, List, [], ◌∷◌, ◌++◌, length, All, count_by, ◌==◌, if◌then◌else◌}
 
 -- whole lines, without their line feeds, and the unfinished one behind them
 pub record Text : Type 0 where
@@ -23,6 +23,17 @@ text_of (b ∷ bytes) = if b == 10 then text ([] ∷ (text_of bytes).lines) (tex
 -- no byte is a line feed
 abbrev pub HasNoFeed : List ℕ → Type 0
 HasNoFeed bytes = All (λ b. b ≢ 10) bytes
+
+-- whole lines, each with its line feed
+abbrev pub IsWholeLines : List ℕ → Type 0
+IsWholeLines bytes = (bytes ≡ []) ⊎ ((front : List ℕ) × (bytes ≡ front ++ 10 ∷ []))
+
+-- a line or the beginning of one, of at most 4,097 bytes beside its line feed
+pub record IsLine (bytes : List ℕ) : Type 0 where
+  pub line : List ℕ
+  pub plain : HasNoFeed line
+  pub short : length line ≤ 4097
+  pub is : (bytes ≡ line) ⊎ (bytes ≡ line ++ 10 ∷ [])
 
 -- how many bytes are line feeds
 abbrev pub feeds : List ℕ → ℕ

@@ -1,18 +1,22 @@
 //! The replay of a trace by the verifier.
 
-ghost use Rattle.std.specs.Prelude.{◌≡◌, ◌≤◌, ℕ, length, false, refl, Some, None, IfOk, OnErr};
+ghost use Rattle.std.specs.Prelude.{◌≡◌, ◌⊎◌, ◌≤◌, ℕ, length, false, refl, Some, None, IsTrue, IfOk, OnErr};
 ghost use Rattle.wit_model.specs.Trace.Output.{Unstarted, reached, entered, outcome, bad_text, output_from, summed};
-ghost use Rattle.wit_trace.specs.Replays.{ends_prelude, progress, total, Reaches, Passes, IsWritten, Shows};
-ghost use Rattle.wit_trace.specs.Stream.{WritesOutput, WritesFront};
+ghost use Rattle.wit_trace.specs.Replays.{ends_prelude, progress, total, Reaches, Passes, IsWritten, Shows, ShowsFrom};
+ghost use Rattle.wit_trace.specs.Stream.{IsSpent, ReadsToEnd, WritesFront, WritesLines, WritesOutput};
 
-use crate::calls::enter_line;
-use crate::machine::{Machine, Step};
+mod calls;
+mod prelude;
+mod reports;
+
 use crate::outcome::Outcome;
-use crate::ports::Failures;
-use crate::prelude::{Prelude, add_line, is_prelude, new_prelude, open};
-use crate::reports::bad_text;
+use crate::stream::machine::{Machine, Step};
+use crate::stream::ports::{Failures, Ports};
 use crate::stream::run;
 use crate::summary::{ReplayError, Summary};
+use calls::enter_line;
+use prelude::{Prelude, add_line, is_prelude, new_prelude, open};
+use reports::bad_text;
 use std::alloc::{AllocError, Global};
 use std::io::{BufRead, Write};
 use std::mem;
@@ -26,14 +30,18 @@ const LOG: u32 = 16_777_216;
 /// Reads a trace, and writes what the view shows of it: for `Reports` the texts of the reports as they
 /// come, and at a bad line its number and cause, with which the reading ends.
 ///
+/// A text is written and flushed before the reader is looked at again. After `Ok` exactly the lines up to
+/// the one that ended the reading were taken from the reader, of one that is too long its first 4,097 bytes.
+///
 /// It keeps, beside the verifier, no more than one line of the input and, up to the end of the prelude, the
 /// lists and pairs there. A list that is refused is a bad line, found where the prelude ends. It returns for
 /// every reader: once the looks at it and the lines read together come to 18,446,744,073,709,551,615, the
 /// reader counts as failed.
 ///
 /// # Errors
-/// `Read` where the reader failed, `Write` where the writer failed or took no byte, `Memory` where a growth was
-/// refused. What was written is then a beginning of an output.
+/// `Read` where the reader failed: what was written is then the text of every whole line that was taken.
+/// `Write` where the writer failed, took no byte or didn't flush, `Memory` where a growth was refused: what was
+/// written is then a beginning of an output.
 pub fn replay<R: BufRead, W: Write>(
     alloc: Global,
     input: &mut R,
@@ -44,11 +52,43 @@ pub fn replay<R: BufRead, W: Write>(
         (R.remaining input.old) (W.contents output.old) (W.contents output.new)) }
     ensures err { OnErr result (WritesFront (Shows view)
         (R.remaining input.old) (W.contents output.old) (W.contents output.new)) }
+    ensures taken { IfOk result (ReadsToEnd (ShowsFrom view) Unstarted
+        (R.remaining input.old) (R.remaining input.new) (W.contents output.old) (W.contents output.new)) }
+    ensures told { result ≡ Err ReplayError.Read → WritesLines (ShowsFrom view) Unstarted
+        (R.remaining input.old) (R.remaining input.new) (W.contents output.old) (W.contents output.new) }
+{
+    replay_through(alloc, &mut Failures::new(), input, output, view)
+}
+
+/// A replay as `replay` makes it, through ports that keep the evidence of failures and weren't used before.
+///
+/// # Errors
+/// As those of `replay`. `Read` comes only where the ports have seen the reader fail, or where the looks and
+/// the lines are spent; `Write` only where they have seen the writer fail.
+pub fn replay_through<R: BufRead, W: Write, P: Ports<R, W>>(
+    alloc: Global,
+    ports: &mut P,
+    input: &mut R,
+    output: &mut W,
+    view: View,
+) -> Result<Summary, ReplayError>
+    requires { P.looks ports.old ≡ 0 }
+    ensures ok { IfOk result (WritesOutput (Shows view)
+        (R.remaining input.old) (W.contents output.old) (W.contents output.new)) }
+    ensures err { OnErr result (WritesFront (Shows view)
+        (R.remaining input.old) (W.contents output.old) (W.contents output.new)) }
+    ensures taken { IfOk result (ReadsToEnd (ShowsFrom view) Unstarted
+        (R.remaining input.old) (R.remaining input.new) (W.contents output.old) (W.contents output.new)) }
+    ensures told { result ≡ Err ReplayError.Read → WritesLines (ShowsFrom view) Unstarted
+        (R.remaining input.old) (R.remaining input.new) (W.contents output.old) (W.contents output.new) }
+    ensures read { result ≡ Err ReplayError.Read → IsTrue (P.read_failed ports.new)
+        ⊎ IsSpent (R.remaining input.old) (R.remaining input.new) (P.looks ports.new) }
+    ensures write { result ≡ Err ReplayError.Write → IsTrue (P.write_failed ports.new) }
 {
     match view {
         View::Reports => {
             let mut machine = Replaying::Unstarted;
-            run(alloc, &mut Failures::new(), &mut machine, input, output)
+            run(alloc, ports, &mut machine, input, output)
         }
     }
 }

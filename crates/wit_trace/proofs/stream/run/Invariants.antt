@@ -1,16 +1,13 @@
 use Rattle.std.proofs.Common.{◌+◌, ◌-◌, ◌^◌, ◌<◌, ◌≤◌, length}
-use Rattle.wit_trace.specs.Text.{HasNoFeed}
 use Rattle.wit_trace.specs.Stream.{OutputFrom}
 use Rattle.wit_trace.proofs.StreamLemmas.{Going}
 use Rattle.wit_trace.proofs.stream.run.Given as goal
 
 abbrev pub invariant-loop-left : goal.invariant-loop-left
 invariant-loop-left g l = record {
-  going : Going (OutputFrom (g.M.Machine.allows l.fn.machine) 1) (OutputFrom (g.M.Machine.allows l.machine) l.number)
-      (g.R.Read.remaining l.fn.reader) (g.R.Read.remaining l.reader) (g.W.Write.contents l.fn.writer) (g.W.Write.contents l.writer) (l.number - 1) l.line.items;
-  plain : HasNoFeed l.line.items;
+  going : Going (OutputFrom g.M.Machine.allows) l.fn.machine l.machine
+      (g.R.Read.remaining l.fn.reader) (g.R.Read.remaining l.reader) (g.W.Write.contents l.fn.writer) (g.W.Write.contents l.writer) l.number l.line.items;
   short : length l.line.items ≤ 4096;
-  first : 1 ≤ l.number;
   fewer : l.number ≤ g.P.Ports.looks l.ports + 1;
   enough : 2 ^ 64 ≤ l.left + g.P.Ports.looks l.ports + l.number;
   within : 0 < l.left → l.left + g.P.Ports.looks l.ports + l.number ≤ 2 ^ 64;

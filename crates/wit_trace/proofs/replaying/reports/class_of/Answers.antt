@@ -1,0 +1,11 @@
+use Rattle.std.proofs.Common.{◌∙◌, arith}
+use Rattle.std.proofs.lemmas.Grind.{common_steps}
+use Rattle.wit_trace.proofs.ReportLemmas.{class_as_made}
+use Rattle.wit_trace.proofs.replaying.reports.class_of.Goals as goal
+
+pub returns-in-Some : goal.returns-in-Some
+returns-in-Some c =
+    let v = c.args.verifier.now in
+    c.unwrap_or.ensures
+    ∙ class_as_made v.start v.files v.history c.args.lock.0 c.max.result c.in-Some.number c.class_of.result c.history-log.ensures.legal (grind (arith, common_steps)) (grind (arith, common_steps))
+    c.in-Some.ensures c.class_of.ensures

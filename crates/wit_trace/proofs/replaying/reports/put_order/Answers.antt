@@ -1,0 +1,12 @@
+use Rattle.std.proofs.Common.{string_bytes, arith}
+use Rattle.wit_model.specs.Rules.State.{known_of}
+use Rattle.wit_trace.proofs.ReportLemmas.{order-written}
+use Rattle.wit_trace.proofs.replaying.reports.put_order.Goals as goal
+
+pub returns : goal.returns
+returns c =
+    let v = c.args.verifier.now in
+    order-written (string_bytes c.args.text.now) (known_of v.start v.history) v.files c.args.parent.0 c.args.child.0
+    (rw (c.push.ensures.ascii (omega arith)) at c.in_ok-push.ensures.bytes) (rw c.type_words.ensures at c.in_ok-put_quoted.ensures) c.in_ok-push_str.ensures.bytes
+    (rw c.type_words-2.ensures at c.in_ok-put_quoted-2.ensures) c.in_ok-push_str-2.ensures.bytes (rw c.adoption_of.ensures at c.in_ok-put_origin.ensures)
+    (rw (c.push-2.ensures.ascii (omega arith)) at c.in_ok-push-2.ensures.bytes)

@@ -1,0 +1,68 @@
+//! Lines and their ends.
+
+ghost use Rattle.std.specs.Prelude.{◌≡◌, ◌+◌, ◌<◌, ◌≤◌, [], ◌++◌, length, take, slice_index, IfOk, OnOk, MatchOption};
+ghost use Rattle.wit_trace.specs.Machine.{Follows};
+ghost use Rattle.wit_trace.specs.Text.{HasNoFeed};
+ghost use Rattle.wit_trace.specs.Stream.{OutputFrom};
+
+use crate::stream::machine::{Machine, Step};
+use crate::summary::Summary;
+use memchr::memchr;
+use std::alloc::{AllocError, Global};
+use wit_model::Cause;
+
+/// The place of the first line feed.
+pub fn feed_in(bytes: &[u8]) -> Option<usize>
+    ensures { MatchOption result (HasNoFeed bytes.now) (λ len.
+        (len < length bytes.now) × HasNoFeed (take len bytes.now) × (slice_index bytes.now len ≡ 10)) }
+{
+    memchr(b'\n', bytes)
+}
+
+/// A whole line goes to the machine, with what was begun of it before; one that stands whole in the
+/// reader's buffer isn't copied.
+///
+/// # Errors
+/// Want of memory alone.
+pub fn whole_line<M: Machine>(
+    alloc: Global,
+    machine: &mut M,
+    number: u64,
+    begun: &mut Vec<u8>,
+    rest: &[u8],
+) -> Result<Step, AllocError>
+    requires plain { HasNoFeed (begun.old.items ++ rest.now) }
+    requires plain_rest { HasNoFeed rest.now }
+    requires short { length begun.old.items + length rest.now ≤ 4096 }
+    ensures step { IfOk result (Follows M.allows machine.old machine.new number (begun.old.items ++ rest.now)) }
+    ensures none { OnOk result (begun.new.items ≡ []) }
+{
+    if begun.is_empty() {
+        return machine.line(alloc, number, rest);
+    }
+    begun.extend_from_slice(rest)?;
+    let step = machine.line(alloc, number, begun)?;
+    begun.clear();
+    Ok(step)
+}
+
+/// The input ends, behind what was begun of a line.
+///
+/// # Errors
+/// Want of memory alone.
+pub fn at_end<M: Machine>(
+    alloc: Global,
+    machine: &mut M,
+    number: u64,
+    begun: &[u8],
+) -> Result<(Vec<u8>, Summary), AllocError>
+    requires plain { HasNoFeed begun.now }
+    requires short { length begun.now ≤ 4096 }
+    ensures { IfOk result (λ r. OutputFrom M.allows machine.old number begun.now r.0.items r.1) }
+{
+    if begun.is_empty() {
+        machine.end(alloc, number)
+    } else {
+        machine.broken(alloc, number, begun, Cause::Cut)
+    }
+}

@@ -1,0 +1,160 @@
+//! One look at a reader, one text to a writer, and the evidence of their failures.
+
+ghost use Rattle.std.specs.Prelude.{◌≡◌, ◌≢◌, ℕ, ◌+◌, ◌-◌, ◌^◌, ◌<◌, ◌≤◌, Bool, length, IsTrue, IfOk, OnOk, OnErr};
+ghost use Rattle.std.specs.Io.KnownBytes.{Appends, Keeps};
+ghost use Rattle.wit_trace.specs.Text.{HasNoFeed};
+ghost use Rattle.wit_trace.specs.Stream.{Advances, AppendsFront, OutputFrom, has_read_failed, has_write_failed, no_failure};
+
+use crate::stream::lines::{at_end, feed_in, whole_line};
+use crate::stream::machine::{Machine, Step};
+use crate::summary::ReplayError;
+use std::alloc::Global;
+use std::io::{BufRead, Write};
+use wit_grammar::LONGEST;
+use wit_model::Cause;
+
+/// The only ways to look at a reader and to write, with the evidence of what failed.
+///
+/// Code that is generic over its ports can't claim a failure that they didn't have.
+pub trait Ports<R: BufRead, W: Write> {
+    ghost read_failed: { Self → Bool };
+
+    ghost write_failed: { Self → Bool };
+
+    ghost looks: { Self → ℕ };
+
+    /// Looks at the reader once, and takes what it shows of a line, behind what was begun of it: `None` where
+    /// the line goes on. A line that the reader shows whole goes to the machine without a copy.
+    ///
+    /// Errors: `Read` where the reader failed, of which nothing is taken then; `Memory` where the machine
+    /// found none, or what was begun couldn't grow.
+    fn advance<M: Machine>(
+        &mut self,
+        alloc: Global,
+        machine: &mut M,
+        number: u64,
+        reader: &mut R,
+        begun: &mut Vec<u8>,
+    ) -> Result<Option<Step>, ReplayError>
+        requires room { looks self.old < 2 ^ 64 - 1 }
+        requires plain { HasNoFeed begun.old.items }
+        requires short { length begun.old.items ≤ 4096 }
+        ensures ok { IfOk result (Advances (OutputFrom M.allows) machine.old machine.new number
+            (R.remaining reader.old) (R.remaining reader.new) begun.old.items begun.new.items) }
+        ensures kept { result ≡ Err ReplayError.Read → Keeps (R.remaining reader.old) (R.remaining reader.new) }
+        ensures counted { looks self.new ≡ looks self.old + 1 }
+        ensures failed { result ≡ Err ReplayError.Read → IsTrue (read_failed self.new) }
+        ensures not_write { result ≢ Err ReplayError.Write };
+
+    /// Writes all the bytes and then flushes the writer; no bytes make no call of it.
+    ///
+    /// Errors: `Write` where the writer failed, took no byte or didn't flush; it has then a beginning of
+    /// the bytes.
+    fn put(&mut self, writer: &mut W, bytes: &[u8]) -> Result<(), ReplayError>
+        ensures ok { OnOk result (Appends (W.contents writer.old) (W.contents writer.new) bytes.now) }
+        ensures err { OnErr result (AppendsFront (W.contents writer.old) (W.contents writer.new) bytes.now) }
+        ensures counted { looks self.new ≡ looks self.old }
+        ensures failed { OnErr result (IsTrue (write_failed self.new)) }
+        ensures only_write { OnErr result (result ≡ Err ReplayError.Write) };
+}
+
+/// Whether the reader or the writer failed, and how often the reader was looked at.
+#[derive(Debug, Drop)]
+pub struct Failures {
+    read: bool,
+    write: bool,
+    looks: u64,
+}
+
+impl Failures {
+    /// No failure and no look yet.
+    pub fn new() -> Failures
+        ensures { result ≡ no_failure }
+    {
+        Failures {
+            read: false,
+            write: false,
+            looks: 0,
+        }
+    }
+
+    /// Whether the reader failed.
+    pub fn has_read_failed(&self) -> bool
+        ensures { result ≡ has_read_failed self.now }
+    {
+        self.read
+    }
+
+    /// Whether the writer failed.
+    pub fn has_write_failed(&self) -> bool
+        ensures { result ≡ has_write_failed self.now }
+    {
+        self.write
+    }
+}
+
+impl<R: BufRead, W: Write> Ports<R, W> for Failures {
+    ghost read_failed = { λ f. f.read };
+
+    ghost write_failed = { λ f. f.write };
+
+    ghost looks = { λ f. f.looks };
+
+    fn advance<M: Machine>(
+        &mut self,
+        alloc: Global,
+        machine: &mut M,
+        number: u64,
+        reader: &mut R,
+        begun: &mut Vec<u8>,
+    ) -> Result<Option<Step>, ReplayError> {
+        let most = LONGEST + 1 - begun.len();
+        self.looks += 1;
+        let Ok(shown) = reader.fill_buf() else {
+            self.read = true;
+            return Err(ReplayError::Read);
+        };
+        if shown.is_empty() {
+            let (text, summary) = at_end(alloc, machine, number, begun)?;
+            return Ok(Some(Step::Ends(text, summary)));
+        }
+        let len = shown.len().min(most);
+        if let Some(len) = feed_in(&shown[..len]) {
+            let step = whole_line(alloc, machine, number, begun, &shown[..len])?;
+            reader.consume(len + 1);
+            return Ok(Some(step));
+        }
+        begun.extend_from_slice(&shown[..len])?;
+        reader.consume(len);
+        if begun.len() <= LONGEST {
+            return Ok(None);
+        }
+        let (text, summary) = machine.broken(alloc, number, begun, Cause::Long)?;
+        Ok(Some(Step::Ends(text, summary)))
+    }
+
+    fn put(&mut self, writer: &mut W, bytes: &[u8]) -> Result<(), ReplayError> {
+        if bytes.is_empty() {
+            return Ok(());
+        }
+        let mut done = 0;
+        while done < bytes.len() {
+            match writer.write(&bytes[done..]) {
+                Ok(0) => {
+                    self.write = true;
+                    return Err(ReplayError::Write);
+                }
+                Ok(n) => done += n,
+                Err(_) => {
+                    self.write = true;
+                    return Err(ReplayError::Write);
+                }
+            }
+        }
+        if writer.flush().is_err() {
+            self.write = true;
+            return Err(ReplayError::Write);
+        }
+        Ok(())
+    }
+}

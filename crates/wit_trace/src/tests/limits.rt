@@ -1,0 +1,127 @@
+//! A replay at the limits: every seat, hundreds of locks and types, the longest names, a long path.
+
+use crate::BAD_TRACE;
+use crate::tests::rows::agree;
+use std::alloc::{AllocError, Global};
+use std::test::Fail;
+
+/// A letter and a number, and behind them so many `x` that the word has `len` bytes.
+fn word(alloc: Global, letter: char, number: u16, len: usize) -> Result<String, AllocError> {
+    let mut word = format!(in alloc; "{letter}{number}")?;
+    for _ in word.len()..len {
+        word.push('x')?;
+    }
+    Ok(word)
+}
+
+/// The place of each acquisition of a lock, with a file name of 255 bytes.
+fn site(alloc: Global, lock: u16) -> Result<String, AllocError> {
+    let file = word(alloc, 'f', lock, 255)?;
+    format!(in alloc; "{file}:{lock}")
+}
+
+/// A lock with a name of 63 bytes, and its type with another.
+fn put_lock(trace: &mut String, alloc: Global, seat: u16, lock: u16) -> Result<(), AllocError> {
+    let name = word(alloc, 'l', lock, 63)?;
+    let of_type = word(alloc, 't', lock, 63)?;
+    let line = format!(in alloc; "init {seat} mtx d \"{name}\" \"{of_type}\"\n")?;
+    trace.push_str(&line)
+}
+
+fn put_acquisition(
+    trace: &mut String,
+    alloc: Global,
+    seat: u16,
+    lock: u16,
+) -> Result<(), AllocError> {
+    let ops = ["n", "nd", "nf", "ndf"][usize::from(lock % 4)];
+    let site = site(alloc, lock)?;
+    let lines = format!(in alloc; "check {seat} {lock} x {ops} {site}\nlock {seat} {lock}\n")?;
+    trace.push_str(&lines)
+}
+
+/// A seat takes one lock, then another, and lets both go.
+fn put_round(
+    trace: &mut String,
+    alloc: Global,
+    seat: u16,
+    first: u16,
+    second: u16,
+) -> Result<(), AllocError> {
+    put_acquisition(trace, alloc, seat, first)?;
+    put_acquisition(trace, alloc, seat, second)?;
+    let lines = format!(in alloc; "unlock {seat} {second} x\nunlock {seat} {first} x\n")?;
+    trace.push_str(&lines)
+}
+
+/// The report where a lock is asked for behind another, after each lock between was taken behind the one
+/// before it.
+fn put_report(text: &mut String, alloc: Global, asked: u16, held: u16) -> Result<(), AllocError> {
+    text.push_str("lock order reversal:\n")?;
+    for (rank, lock) in [("1st", held), ("2nd", asked)] {
+        let name = word(alloc, 'l', lock, 63)?;
+        let of_type = word(alloc, 't', lock, 63)?;
+        let site = site(alloc, lock)?;
+        let line = format!(in alloc; " {rank} \"{name}\" ({of_type}, sleep mutex) @ {site}\n")?;
+        text.push_str(&line)?;
+    }
+    text.push_str("established order:\n")?;
+    let mut parent = asked;
+    while parent < held {
+        let child = parent + 1;
+        let above = word(alloc, 't', parent, 63)?;
+        let below = word(alloc, 't', child, 63)?;
+        let site = site(alloc, child)?;
+        let line = format!(in alloc; " \"{above}\" -> \"{below}\" @ {site}\n")?;
+        text.push_str(&line)?;
+        parent = child;
+    }
+    Ok(())
+}
+
+/// 400 locks of 400 types, made by 256 seats, each of which takes one.
+fn put_seats(trace: &mut String, alloc: Global) -> Result<(), AllocError> {
+    trace.push_str("witness-trace 1 seats 256 types 400 locks 400 chunks 1\n")?;
+    for lock in 1..401 {
+        put_lock(trace, alloc, lock % 256 + 1, lock)?;
+    }
+    for seat in 1..257 {
+        put_acquisition(trace, alloc, seat, seat + 100)?;
+    }
+    for seat in 1..257 {
+        let line = format!(in alloc; "unlock {seat} {} x\n", seat + 100)?;
+        trace.push_str(&line)?;
+    }
+    Ok(())
+}
+
+#[test]
+fn many_of_everything(rt: HostRuntime) -> Result<(), Fail> {
+    let alloc = rt.alloc();
+    let mut trace = String::new(alloc);
+    put_seats(&mut trace, alloc)?;
+    for lock in 1..11 {
+        put_round(&mut trace, alloc, 3, lock, lock + 1)?;
+    }
+    put_round(&mut trace, alloc, 256, 11, 1)?;
+    put_round(&mut trace, alloc, 200, 20, 21)?;
+    put_round(&mut trace, alloc, 201, 21, 20)?;
+    put_round(&mut trace, alloc, 254, 399, 400)?;
+    put_round(&mut trace, alloc, 255, 400, 399)?;
+    // No number is left for another type.
+    trace.push_str("init 256 mtx r \"r\"\n")?;
+    let mut output = String::new(alloc);
+    put_report(&mut output, alloc, 1, 11)?;
+    put_report(&mut output, alloc, 20, 21)?;
+    put_report(&mut output, alloc, 399, 400)?;
+    // 1 header, 400 locks, 3 lines for each of 256 seats, 6 for each of 15 rounds.
+    output.push_str("line 1260: F4 TypesFull\n")?;
+    agree(
+        &rt,
+        alloc,
+        "a trace at the limits",
+        &trace,
+        &output,
+        BAD_TRACE,
+    )
+}
