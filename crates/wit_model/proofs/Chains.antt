@@ -6,9 +6,11 @@ pub mod Depth
 pub mod Edits
 pub mod Effects
 pub mod Found
+pub mod Grouping
 pub mod Held
 pub mod HeldLocks
 pub mod Owed
+pub mod Regrouping
 pub mod Sane
 pub mod Seats
 pub mod Stands

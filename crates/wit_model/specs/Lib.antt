@@ -1,3 +1,4 @@
+pub mod GroupLaws
 pub mod Laws
 pub mod Rules
 pub mod Trace

@@ -7,6 +7,7 @@ pub mod History
 pub mod Locks
 pub mod Names
 pub mod Orders
+pub mod SeatGroups
 pub mod Sizes
 pub mod Start
 pub mod State

@@ -6,6 +6,7 @@ mod calls;
 pub mod chunks;
 mod faults;
 mod flags;
+pub mod group_laws;
 pub mod laws;
 mod lines;
 mod locks;

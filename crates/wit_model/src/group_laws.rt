@@ -1,0 +1,14 @@
+//! Laws of the groups in which held locks lie. Each function is a theorem, and does nothing.
+
+ghost use Rattle.wit_model.specs.GroupLaws.{GroupsMakeChains, GroupsAreShort, GroupsAreTidy};
+
+/// The groups of a seat's held locks of one kind, joined in order, are its chain.
+pub fn law_groups_make_chains()
+    ensures { GroupsMakeChains }
+{}
+
+/// No group has more than five locks, and none is empty unless it is the only one.
+pub fn law_groups_are_tidy()
+    ensures short { GroupsAreShort }
+    ensures tidy { GroupsAreTidy }
+{}
