@@ -1,15 +1,15 @@
 -- What is read of lists on vectors, and what a call keeps.
-use Rattle.std.proofs.Common.{◌≡◌, ℕ, ◌+◌, ◌-◌, ◌^◌, ◌<◌, ◌≤◌, true, false, not, ◌&&◌, cond, eqb, List, [], ◌∷◌, ◌++◌, length, map, set, get_or, Some, slice_get, vec_len, refl, ap, ap₂, sym, ◌∙◌, subst, ◌⊎◌, inl, inr, arith}
-use Rattle.std.specs.List.{concat, remove}
+use Rattle.std.proofs.Common.{◌≡◌, ℕ, ◌-◌, ◌^◌, ◌<◌, ◌≤◌, true, false, not, eqb, List, [], ◌∷◌, ◌++◌, length, map, set, get_or, Some, slice_get, vec_len, ap, ap₂, sym, ◌∙◌, subst, ◌⊎◌, inl, inr, arith}
+use Rattle.std.specs.List.{remove}
 use Rattle.std.specs.Vec.{vec_capacity}
 use Rattle.std.specs.Global.{Vec}
 use Rattle.std.proofs.lemmas.Bool.{and_left, not-true, not-false, cond-true}
 use Rattle.std.proofs.lemmas.List.{length-append, length-map, length-set, get_or-map, get_or_default}
 use Rattle.wit_model.specs.declared.locks.Instance.{Instance}
 use Rattle.wit_model.specs.Rules.Groups.{flat, joined, opens, replaced_at, removed_at}
-use Rattle.wit_model.specs.Rules.Chunks.{Chunks, IsList, IsPlaced, groups_of, chain_of, set_groups, is_refused, pushed, times}
+use Rattle.wit_model.specs.Rules.Chunks.{Chunks, IsList, groups_of, chain_of, set_groups, is_refused, pushed}
 use Rattle.wit_held.specs.declared.vec_lists.VecLists.TheInside.{Inside}
-use Rattle.wit_held.specs.Rows.{row, rows_of, places_of, groups_at, shown, AreWithin, AreSettled, ArePlaced, IsWithin, HaveRoom, HaveRoomFor, HasSpaceAt}
+use Rattle.wit_held.specs.Rows.{row, rows_of, places_of, groups_at, shown, AreWithin, AreSettled, IsWithin, HaveRoom, HaveRoomFor, HasSpaceAt}
 use Rattle.wit_held.specs.Kept.{chunks_in, AreKept}
 use Rattle.wit_held.proofs.Placing.{IsFree, free, all-within, times-append, times-in}
 use Rattle.wit_held.proofs.Settled.{Leaves, both-nil, flat-push, groups-shown, list-within, list-short, chain-fits, push-fits, push-opens, push-refused, in-list, in-row, replaced, removed-kept, removed-freed}

@@ -1,5 +1,4 @@
 pub mod Emptiness
-pub mod Grouping
 pub mod HeldLock
 pub mod Kept
 pub mod Placing

@@ -1,14 +1,15 @@
 -- What an acquisition, a release and a turn of a lock that stands once make of the lists.
-use Rattle.std.proofs.Common.{◌≡◌, ℕ, zero, suc, ◌+◌, ◌-◌, ◌<◌, ◌≤◌, Bool, true, false, not, ◌&&◌, cond, nat_lt, List, [], ◌∷◌, length, map, find, position, set, get_or, Option, None, Some, is_some, unwrap_or, refl, ap, ap₂, sym, ◌∙◌, subst, arith}
-use Rattle.std.specs.List.{remove, position_or_len}
+use Rattle.std.proofs.Common.{◌≡◌, ℕ, ◌-◌, ◌<◌, ◌≤◌, Bool, true, false, not, ◌&&◌, cond, nat_lt, List, [], ◌∷◌, length, map, find, position, set, get_or, Option, None, Some, is_some, unwrap_or, refl, ap, ap₂, sym, ◌∙◌, subst, arith}
+use Rattle.std.specs.List.{remove}
+use Rattle.std.specs.Option.{option_map}
 use Rattle.std.proofs.lemmas.Bool.{lt-ltb, le-ltb, true≢false, ltb-true, ltb-false}
 use Rattle.std.proofs.lemmas.List.{set-get_or}
 use Rattle.wit_model.specs.declared.locks.Instance.{Instance}
 use Rattle.wit_model.specs.declared.locks.Mode.{Mode}
 use Rattle.wit_model.specs.Rules.Verdict.{is_of}
-use Rattle.wit_model.specs.Rules.Groups.{flat, tidied, left, edited_at, replaced_at, removed_at}
+use Rattle.wit_model.specs.Rules.Groups.{tidied, left, edited_at, replaced_at, removed_at}
 use Rattle.wit_model.specs.Rules.Chunks.{Chunks, groups_of, chain_of, set_groups, is_refused, pushed}
-use Rattle.wit_held.specs.Chains.{stands, at_lock, is_other, change_lock, recursed, fewer, in_mode, recorded, recorded_by, forgotten, forgotten_by, is_unrecorded, IsOnce, IsShallow, CanRise, after_record, after_forget, after_turn}
+use Rattle.wit_held.specs.Chains.{stands, at_lock, is_other, change_lock, recursed, fewer, in_mode, recorded, recorded_by, forgotten_by, is_unrecorded, IsOnce, IsShallow, CanRise, after_record, after_forget, after_turn}
 use Rattle.wit_held.proofs.HeldLock.{place_of, found-stands, find-found, find-missed, missed-stands, absent-all, change-absent, replaced-once, removed-once}
 
 pub first-place : (l : ℕ) (c : List Instance) (i : ℕ) → position (is_of l) c ≡ Some i → (place_of l c ≡ i) × (place_of l c < length c)
@@ -99,3 +100,18 @@ record-again c list taken i d found at once =
 pub record-new : (c : Chunks) (list : ℕ) (taken : Instance) → None ≡ position (is_of taken.lock.0) (chain_of c list) → pushed c list taken ≡ after_record c list taken
 record-new c list taken missed =
     ap₂ (λ b o. cond b c.groups (set_groups c list (recorded_by taken (groups_of c list) o))) (unrecorded c list taken.lock.0 missed) (sym (none c list taken.lock.0 missed))
+
+-- a list of at most one lock holds none twice
+pub stands-short : (l : ℕ) (c : List Instance) → length c ≤ 1 → stands l c ≤ 1
+stands-short l [] one = omega arith
+stands-short l (x ∷ []) one = by (is_of l x)
+  where
+    by : (b : Bool) → length (cond b (x ∷ []) []) ≤ 1
+    by true = omega arith
+    by false = omega arith
+stands-short l (x ∷ y ∷ c) one = absurd (omega (arith, one))
+
+-- a count that isn't the greatest can rise
+pub rises : (o : Option Instance) → unwrap_or (option_map (λ (i : Instance). i.count) o) 0 < 65535 → CanRise o
+rises None small = tt
+rises (Some i) small = small

@@ -1,18 +1,18 @@
 -- A push, a replacement and a removal leave everything in its place.
-use Rattle.std.proofs.Common.{◌≡◌, ℕ, zero, suc, ◌+◌, ◌-◌, ◌*◌, ◌^◌, ◌<◌, ◌≤◌, Bool, true, false, not, ◌&&◌, cond, eqb, nat_lt, List, [], ◌∷◌, ◌++◌, length, map, set, get_or, take, drop, Some, slice_get, refl, ap, ap₂, sym, ◌∙◌, subst, ◌⊎◌, inl, inr, arith}
+use Rattle.std.proofs.Common.{◌≡◌, ℕ, zero, suc, ◌+◌, ◌-◌, ◌*◌, ◌^◌, ◌<◌, ◌≤◌, true, false, eqb, List, [], ◌∷◌, ◌++◌, length, map, set, get_or, take, drop, Some, slice_get, refl, ap, ap₂, sym, ◌∙◌, subst, ◌⊎◌, inl, inr, arith}
 use Rattle.std.specs.List.{remove, concat, sum_by, All}
 use Rattle.std.proofs.lemmas.Bool.{and_left, and_right, and_from, cond-false, eq-eqb, ne_eqb, cases_lt}
 use Rattle.std.proofs.lemmas.List.{length-append, length-set, length-map, map-append, map-set, take-map, drop-map, set-set, get_or-map, get_or-set_same, append-nil, nil_from_length, get_or_past}
 use Rattle.std.proofs.lemmas.List.Edits.{length-remove}
-use Rattle.std.proofs.lemmas.List.Elements.{All-set, All-get_or}
+use Rattle.std.proofs.lemmas.List.Elements.{All-set}
 use Rattle.std.proofs.lemmas.List.Concat.{flat_map-append}
 use Rattle.std.proofs.lemmas.List.Sums.{sum_by-cons}
 use Rattle.std.proofs.lemmas.Option.{slice_get_within, get_or_from_slice_get}
 use Rattle.wit_model.specs.declared.locks.Instance.{Instance}
 use Rattle.wit_model.specs.Rules.Groups.{flat, joined, opens, tidied, edited_at, replaced_at, removed_at, AreTidy}
 use Rattle.wit_model.specs.Rules.Chunks.{Chunks, IsList, IsPlaced, groups_of, set_groups, is_refused, pushed, times}
-use Rattle.wit_held.specs.Rows.{row, groups_at, places_at, shown, ArePlaced, AreSettled, IsWithin}
-use Rattle.wit_held.proofs.Grouping.{edited-set, joined-opens, joined-fits, tidied-one, tidied-tidy, tidy-tidied, tidied-emptied, tidy-set, tidy-opened}
+use Rattle.wit_held.specs.Rows.{row, groups_at, shown, ArePlaced, AreSettled, IsWithin}
+use Rattle.wit_model.proofs.Chains.Grouping.{edited-set, joined-opens, joined-fits, tidied-one, tidied-tidy, tidy-tidied, tidied-emptied, tidy-set, tidy-opened}
 use Rattle.wit_held.proofs.Placing.{IsTaken, IsFree, taken, free, placed-opened, placed-freed, times-append, times-in, times-list, times-remove}
 use Rattle.wit_held.proofs.Writing.{same-rows, same-lists, one-list}
 

@@ -1,16 +1,16 @@
 -- Vectors in a row, one of which is read or written; and the first chunks of a list.
-use Rattle.std.proofs.Common.{◌≡◌, ◌≢◌, ℕ, zero, suc, ◌+◌, ◌-◌, ◌<◌, ◌≤◌, Bool, true, false, not, cond, nat_lt, List, [], ◌∷◌, ◌++◌, length, map, take, drop, set, get_or, Option, None, Some, is_some, position, slice_get, vec_len, refl, ap, ap₂, sym, ◌∙◌, subst, arith}
-use Rattle.std.specs.List.{position_or_len, All}
+use Rattle.std.proofs.Common.{◌≡◌, ℕ, suc, ◌+◌, ◌-◌, ◌<◌, ◌≤◌, Bool, true, false, not, cond, nat_lt, List, [], ◌∷◌, ◌++◌, length, map, take, drop, set, get_or, None, Some, is_some, position, slice_get, vec_len, refl, ap, sym, ◌∙◌, subst, arith}
+use Rattle.std.specs.List.{position_or_len}
 use Rattle.std.specs.Global.{Vec}
 use Rattle.std.proofs.lemmas.Bool.{true≢false, lt-ltb, le-ltb}
-use Rattle.std.proofs.lemmas.List.{length-append, length-map, map-append, map-set, get_or-map, take_more, take-map, take_all, length-take, append-nil, take-append-drop, get_or_default}
+use Rattle.std.proofs.lemmas.List.{length-append, length-map, map-append, map-set, get_or-map, take_more, take-map, take_all, take-append-drop}
 use Rattle.std.proofs.lemmas.List.Concat.{flat_map-append, get_or-flat_map}
 use Rattle.std.proofs.lemmas.Option.{get_or_from_slice_get, slice_get_within}
 use Rattle.wit_model.specs.declared.locks.Instance.{Instance}
 use Rattle.wit_model.specs.Rules.Groups.{flat, has_room, opens}
 use Rattle.wit_model.specs.Rules.Verdict.{is_of}
 use Rattle.wit_held.specs.Rows.{row, rows_of, groups_at, AreWithin, IsWithin}
-use Rattle.wit_held.proofs.Grouping.{opens-newest}
+use Rattle.wit_model.proofs.Chains.Grouping.{opens-newest}
 use Rattle.wit_held.proofs.HeldLock.{place_of}
 use Rattle.wit_held.proofs.Recording.{first-place, no-place}
 use Rattle.wit_held.proofs.Settled.{flat-push}

@@ -1,11 +1,11 @@
 -- What is written into one chunk, as the lists' groups show it.
-use Rattle.std.proofs.Common.{◌≡◌, ℕ, zero, suc, ◌+◌, ◌<◌, ◌≤◌, Bool, true, false, cond, eqb, List, [], ◌∷◌, ◌++◌, length, map, set, get_or, refl, ap, ap₂, sym, ◌∙◌, subst, arith}
+use Rattle.std.proofs.Common.{◌≡◌, ℕ, zero, suc, ◌+◌, ◌<◌, ◌≤◌, Bool, true, false, cond, eqb, List, [], ◌∷◌, length, map, set, get_or, refl, ap, ap₂, ◌∙◌, subst, arith}
 use Rattle.std.specs.List.{concat}
-use Rattle.std.proofs.lemmas.Bool.{eq-eqb, eqb-true, eqb-false, cond-true}
+use Rattle.std.proofs.lemmas.Bool.{eq-eqb, eqb-false, cond-true}
 use Rattle.std.proofs.lemmas.List.{get_or-set_same, get_or-set_other}
 use Rattle.wit_model.specs.declared.locks.Instance.{Instance}
 use Rattle.wit_model.specs.Rules.Chunks.{times}
-use Rattle.wit_held.specs.Rows.{row, groups_at}
+use Rattle.wit_held.specs.Rows.{groups_at}
 use Rattle.wit_held.proofs.Placing.{times-append, times-in, times-list}
 
 module _ (rows : List (List Instance)) (p : ℕ) (y : List Instance) where

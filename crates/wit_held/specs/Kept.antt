@@ -1,5 +1,5 @@
 -- Chunks on vectors as their callers see them, and what is kept.
-use Rattle.std.specs.Prelude.{ℕ, ◌≤◌, length}
+use Rattle.std.specs.Prelude.{◌≤◌, length}
 use Rattle.std.specs.Vec.{vec_capacity}
 use Rattle.wit_model.specs.Rules.Chunks.{Chunks}
 use Rattle.wit_held.specs.declared.vec_lists.VecLists.TheInside.{Inside}

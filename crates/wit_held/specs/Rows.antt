@@ -1,5 +1,5 @@
 -- Chunks on vectors: what each chunk holds, by its number, beside the numbers of each list's chunks.
-use Rattle.std.specs.Prelude.{ℕ, ◌+◌, ◌<◌, ◌≡◌, ◌≤◌, ◌++◌, List, [], ◌∷◌, map, length, vec_len, take, nat_lt, if◌then◌else◌}
+use Rattle.std.specs.Prelude.{ℕ, ◌+◌, ◌<◌, ◌≡◌, ◌≤◌, ◌++◌, List, [], map, length, vec_len, take, nat_lt, if◌then◌else◌}
 use Rattle.std.specs.List.{All, concat, slice_index_or}
 use Rattle.std.specs.Vec.{vec_capacity}
 use Rattle.std.specs.Global.{Vec}

@@ -2,7 +2,7 @@
 
 ghost use Rattle.std.specs.Prelude.{◌≡◌};
 
-use crate::{VecLists, forget, mode, record, recursion, set_mode};
+use crate::{VecLists, forget, record, recursion, set_mode};
 use std::alloc::AllocError;
 use std::test::Fail;
 use wit_model::chunks::Lists;
@@ -88,6 +88,40 @@ fn newest(lists: &VecLists, list: u16) -> Option<u32> {
     Some(lists.last(list)?.lock.0)
 }
 
+/// Records an acquisition in a list of at most one lock; false where it may not be recorded or finds no room.
+fn acquire(lists: &mut VecLists, list: u16, taken: Instance) -> bool {
+    if list == 0 || list as usize > lists.lists() || lists.len(list) > 1 {
+        return false;
+    }
+    let count = recursion(&*lists, list, taken.lock).unwrap_or(0);
+    if count > 65534 {
+        return false;
+    }
+    record(lists, list, taken)
+}
+
+/// Turns a lock to another mode in a list of at most one.
+fn turn(lists: &mut VecLists, list: u16, lock: LockNo, mode: Mode) {
+    if list > 0 && list as usize <= lists.lists() && lists.len(list) <= 1 {
+        set_mode(lists, list, lock, mode);
+    }
+}
+
+/// Takes a release back in a list of at most one lock.
+fn release(lists: &mut VecLists, list: u16, lock: LockNo) {
+    if list > 0 && list as usize <= lists.lists() && lists.len(list) <= 1 {
+        forget(lists, list, lock);
+    }
+}
+
+/// How the oldest lock of a list is held.
+fn oldest(lists: &VecLists, list: u16) -> Option<Instance> {
+    if list == 0 || list as usize > lists.lists() || lists.len(list) == 0 {
+        return None;
+    }
+    Some(lists.at(list, 0))
+}
+
 /// Whether a list holds these locks alone, oldest first.
 fn holds(lists: &VecLists, list: u16, locks: &[u32]) -> bool {
     for (place, lock) in locks.iter().enumerate() {
@@ -150,6 +184,35 @@ fn eight_locks(rt: HostRuntime) -> Result<(), Fail> {
     }
     assert!(rt; holds(&lists, 1, &[]));
     assert_eq!(rt; lists.free_chunks(), 3);
+    Ok(())
+}
+
+#[test]
+fn acquired_twice(rt: HostRuntime) -> Result<(), Fail> {
+    let mut lists = VecLists::new(rt.alloc(), 1, 1)?;
+    let first = held(7);
+    let mut again = held(7);
+    again.mode = Mode::Shared;
+    again.site.line = 9;
+    let mut twice = first;
+    twice.count = 1;
+    twice.site.line = 9;
+    let mut turned = twice;
+    turned.mode = Mode::Shared;
+    let mut once = turned;
+    once.count = 0;
+
+    assert!(rt; acquire(&mut lists, 1, first));
+    assert_eq!(rt; oldest(&lists, 1), Some(first));
+    assert!(rt; acquire(&mut lists, 1, again));
+    assert_eq!(rt; oldest(&lists, 1), Some(twice));
+    turn(&mut lists, 1, LockNo(7), Mode::Shared);
+    assert_eq!(rt; oldest(&lists, 1), Some(turned));
+    release(&mut lists, 1, LockNo(8));
+    release(&mut lists, 1, LockNo(7));
+    assert_eq!(rt; oldest(&lists, 1), Some(once));
+    release(&mut lists, 1, LockNo(7));
+    assert_eq!(rt; oldest(&lists, 1), None);
     Ok(())
 }
 

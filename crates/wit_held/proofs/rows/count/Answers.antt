@@ -1,6 +1,6 @@
-use Rattle.std.proofs.Common.{◌≡◌, ◌<◌, ◌≤◌, ◌+◌, length, get_or, vec_len, ap, arith}
-use Rattle.wit_held.specs.Rows.{row, rows_of}
-use Rattle.wit_held.proofs.VecRows.{before, before-all, before-within, length-more, len-read}
+use Rattle.std.proofs.Common.{◌<◌, ◌+◌, length, get_or, ap, arith}
+use Rattle.wit_held.specs.Rows.{rows_of}
+use Rattle.wit_held.proofs.VecRows.{before-all, before-within, length-more, len-read}
 use Rattle.wit_held.proofs.rows.count.Goals as goal
 
 pub overflow_add-held : goal.overflow_add-held

@@ -1,8 +1,7 @@
-use Rattle.std.proofs.Common.{◌≡◌, ◌<◌, ◌≤◌, ◌+◌, ℕ, Option, None, Some, List, length, get_or, position, vec_len, ap, sym, subst, ◌∙◌, arith}
-use Rattle.wit_model.specs.declared.locks.Instance.{Instance}
+use Rattle.std.proofs.Common.{◌≡◌, ◌<◌, ◌+◌, ℕ, Some, length, get_or, position, ap, sym, ◌∙◌, arith}
 use Rattle.wit_model.specs.Rules.Verdict.{is_of}
 use Rattle.wit_held.specs.Rows.{row, rows_of}
-use Rattle.wit_held.proofs.VecRows.{before, before-all, before-within, length-more, len-read, row-read, past-more, missed, met}
+use Rattle.wit_held.proofs.VecRows.{before-within, length-more, len-read, row-read, past-more, missed, met}
 use Rattle.wit_held.proofs.rows.find.Goals as goal
 
 -- what was found in the chunk

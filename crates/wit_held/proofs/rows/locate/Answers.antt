@@ -1,6 +1,6 @@
-use Rattle.std.proofs.Common.{◌≡◌, ◌<◌, ◌≤◌, length, get_or, vec_len, ap, arith}
-use Rattle.wit_held.specs.Rows.{row, rows_of}
-use Rattle.wit_held.proofs.VecRows.{before, before-all, length-more, len-read, found-within}
+use Rattle.std.proofs.Common.{◌<◌, length, get_or, ap, arith}
+use Rattle.wit_held.specs.Rows.{rows_of}
+use Rattle.wit_held.proofs.VecRows.{before-all, length-more, len-read, found-within}
 use Rattle.wit_held.proofs.rows.locate.Goals as goal
 
 pub returns-then-left-held : goal.returns-then-left-held

@@ -1,4 +1,4 @@
-use Rattle.std.proofs.Common.{ℕ, ◌<◌, List, length, position, IfSome, ap, subst, ◌∙◌}
+use Rattle.std.proofs.Common.{◌<◌, List, length, position, IfSome, ap, subst, ◌∙◌}
 use Rattle.wit_model.specs.declared.locks.Instance.{Instance}
 use Rattle.wit_model.specs.Rules.Verdict.{is_of}
 use Rattle.wit_held.proofs.Kept.{the-places, read-chunks, read-chain, read-fits}

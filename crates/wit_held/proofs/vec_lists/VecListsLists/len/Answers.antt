@@ -1,4 +1,4 @@
-use Rattle.std.proofs.Common.{List, length, ap, ◌∙◌}
+use Rattle.std.proofs.Common.{length, ap, ◌∙◌}
 use Rattle.wit_held.proofs.Kept.{the-places, read-chunks, read-chain, read-fits}
 use Rattle.wit_held.proofs.vec_lists.VecListsLists.len.Goals as goal
 

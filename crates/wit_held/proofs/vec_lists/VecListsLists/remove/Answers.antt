@@ -1,10 +1,10 @@
-use Rattle.std.proofs.Common.{◌≡◌, ◌<◌, ◌-◌, ◌++◌, ◌∷◌, [], ℕ, List, length, map, set, get_or, refl, ap, ap₂, sym, subst, ◌∙◌, inl, inr, arith}
+use Rattle.std.proofs.Common.{◌<◌, ◌-◌, ◌++◌, ◌∷◌, [], ℕ, List, length, map, set, get_or, refl, ap, ap₂, sym, subst, ◌∙◌, inl, inr, arith}
 use Rattle.std.specs.List.{remove}
 use Rattle.std.proofs.lemmas.Bool.{eqb-true, eqb-false}
 use Rattle.wit_model.specs.declared.locks.Instance.{Instance}
 use Rattle.wit_model.specs.Rules.Chunks.{Chunks, IsPlaced}
 use Rattle.wit_held.specs.Rows.{row, rows_of, places_of, groups_at, AreSettled}
-use Rattle.wit_held.proofs.Settled.{Leaves, placed-shown}
+use Rattle.wit_held.proofs.Settled.{placed-shown}
 use Rattle.wit_held.proofs.Kept.{the-places, read-chunks, read-chain, chunk-holds, remove-keeps, remove-frees, freed-is, free-space, kept-by}
 use Rattle.wit_held.proofs.vec_lists.VecListsLists.remove.Goals as goal
 use Rattle.wit_held.proofs.vec_lists.VecListsLists.remove.Goals.{else-take_out-via-then-take_out+else-count-gt1, else-take_out-via-else-take_out}

@@ -1,8 +1,8 @@
-use Rattle.std.proofs.Common.{◌≡◌, ◌<◌, ℕ, List, length, map, set, get_or, refl, ap, sym, subst, ◌∙◌}
+use Rattle.std.proofs.Common.{◌<◌, ℕ, List, length, map, set, get_or, refl, ap, sym, subst, ◌∙◌}
 use Rattle.wit_model.specs.declared.locks.Instance.{Instance}
 use Rattle.wit_held.specs.Rows.{row, rows_of, places_of, groups_at, AreSettled}
 use Rattle.wit_held.proofs.Settled.{placed-shown}
-use Rattle.wit_held.proofs.Kept.{the-places, read-chunks, read-chain, chunk-holds, replace-leaves, kept-by}
+use Rattle.wit_held.proofs.Kept.{the-places, read-chunks, read-chain, replace-leaves, kept-by}
 use Rattle.wit_held.proofs.vec_lists.VecListsLists.replace.Goals as goal
 
 pub locate-group-requires-clause-chunks : goal.locate-group-requires-clause-chunks
