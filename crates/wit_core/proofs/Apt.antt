@@ -1,12 +1,15 @@
 -- What is known is between types that there are.
-use Rattle.std.proofs.Common.{◌≡◌, ℕ, Bool, true, List, Option, Result, Ok, Err, IfOk, length, nat_lt, nat_le, sym, ap, ◌∙◌, subst, arith}
+use Rattle.std.proofs.Common.{◌≡◌, ℕ, Bool, true, List, Option, Result, Ok, Err, IfSome, IfOk, IfErr, length, nat_lt, nat_le, sym, ap, ◌∙◌, subst, arith}
 use Rattle.std.specs.Global.{Vec}
 use Rattle.std.proofs.lemmas.Bool.{and_parts, ltb-true, leb-true}
 use Rattle.wit_model.specs.declared.faults.Fault.{Fault}
+use Rattle.wit_model.specs.declared.faults.Fault.TheVariants.{OutOfMemory}
 use Rattle.wit_model.specs.declared.locks.TypeNo.{TypeNo}
 use Rattle.wit_model.specs.declared.calls.Request.{Request}
 use Rattle.wit_model.specs.declared.calls.Call.TheVariants.{Check}
-use Rattle.wit_model.specs.Rules.Orders.{is_direct, is_before}
+use Rattle.wit_model.specs.Rules.Numbers.{is_given}
+use Rattle.wit_model.specs.Rules.Orders.{is_direct, is_before, Before}
+use Rattle.wit_model.proofs.Orders.Paths.{before_from_test}
 use Rattle.wit_model.specs.declared.locks.Lock.{Lock}
 use Rattle.wit_model.specs.Rules.Locks.{lock_at}
 use Rattle.wit_model.specs.Trace.Paths.{path, path_numbers}
@@ -14,13 +17,12 @@ use Rattle.wit_model.specs.Rules.State.{State, Known, state_of, known_of, types_
 use Rattle.wit_model.specs.Rules.Step.{answer_of}
 use Rattle.wit_model.proofs.Histories.Accepted.{check_accepted}
 use Rattle.wit_model.proofs.Orders.Among.{IsOneOf, adopted-orderly, silent-known, reversal-known, orders-among}
-use Rattle.wit_matrix.specs.Relation.{IsNumber, OrdersAmong}
+use Rattle.wit_matrix.specs.Relation.{IsNumber, OrdersAmong, LeadsBy}
 use Rattle.wit_core.specs.declared.verifier.Verifier.TheInside.{Inside}
 use Rattle.wit_core.specs.declared.verdicts.Verdict.{Verdict}
 use Rattle.wit_core.specs.declared.verdicts.Verdict.TheVariants.{Pass, Adopt, Silent, Reversal}
 use Rattle.wit_core.specs.Verdicts.{reply_of}
 use Rattle.wit_core.specs.Knowledge.{known, IsApt}
-use Rattle.wit_core.specs.Numbered.{is_given}
 use Rattle.wit_core.specs.Kept.{IsKept, start_in, history_in, story_in}
 use Rattle.wit_core.proofs.Keeping.{types_few}
 
@@ -58,6 +60,18 @@ module _ (v : Inside) (k : IsKept v) where
       told (length (types_of (start_in v) (history_in v))) among
       ∙ ap (λ (x : Known). path x.orders (length (types_of (start_in v) (history_in v))) a b) known-is
   path-kept a b (Err fault) told = tt
+
+  -- it leads there
+  pub leads-kept : (a b : ℕ) (r : Result (Option (Vec TypeNo)) Fault) → IfOk r (λ p. IfSome (path_numbers p) (LeadsBy v.books.known.orders.orders a b))
+      → IfOk r (λ p. IfSome (path_numbers p) (LeadsBy (orders_of (start_in v) (history_in v)) a b))
+  leads-kept a b r told = subst (λ os. IfOk r (λ p. IfSome (path_numbers p) (LeadsBy os a b))) (ap (λ (x : Known). x.orders) known-is) told
+
+  -- want of memory stands only in place of a path
+  pub wanting-kept : (a b : ℕ) (r : Result (Option (Vec TypeNo)) Fault) → IfErr r (λ e. (e ≡ OutOfMemory) × (is_before v.books.known.orders.orders a b ≡ true))
+      → IfErr r (λ e. (e ≡ OutOfMemory) × Before (orders_of (start_in v) (history_in v)) a b)
+  wanting-kept a b (Ok p) told = tt
+  wanting-kept a b (Err fault) told =
+      (told.0, before_from_test (orders_of (start_in v) (history_in v)) a b (sym (ap (λ (x : Known). is_before x.orders a b) known-is) ∙ told.1))
 
   -- what an accepted check's verdict teaches can be learnt
   pub apt : (t : ℕ) (q : Request) (verdict : Verdict) → answer_of (story_in v) t (Check q) ≡ Ok (reply_of verdict) → IsApt v.books.known.orders.size (known v.books.known) verdict

@@ -1,5 +1,5 @@
 -- Each call keeps the invariant of a verifier.
-use Rattle.std.proofs.Common.{◌≡◌, ℕ, ◌+◌, ◌-◌, ◌<◌, ◌≤◌, ◌&&◌, Bool, true, false, cond, List, [], ◌∷◌, ◌++◌, Option, None, Some, Ok, Err, Result, IfOk, IfErr, OnOk, OnErr, String, length, map, reverse, find, unwrap_or, get_or, vec_len, refl, sym, ap, ap₂, ◌∙◌, subst, arith, is_some, length-append, zero-add}
+use Rattle.std.proofs.Common.{◌≡◌, ℕ, ◌+◌, ◌-◌, ◌<◌, ◌≤◌, ◌&&◌, ◌⊎◌, inl, inr, Bool, true, false, cond, List, [], ◌∷◌, ◌++◌, Option, None, Some, Ok, Err, Result, IfOk, IfErr, OnOk, OnErr, String, length, map, reverse, find, unwrap_or, get_or, vec_len, refl, sym, ap, ap₂, ◌∙◌, subst, arith, is_some, length-append, zero-add}
 use Rattle.std.proofs.lemmas.List.{length-map}
 use Rattle.std.specs.List.{position, range_with_len, AllByRecursion}
 use Rattle.std.proofs.lemmas.List.Elements.{recursion_from_All}
@@ -11,6 +11,7 @@ use Rattle.std.proofs.lemmas.Bool.{and_parts, true≢false}
 use Rattle.std.proofs.Math.Nat.{add_comm}
 use Rattle.std.specs.declared.alloc.AllocError.{AllocError}
 use Rattle.wit_model.specs.declared.faults.Fault.{Fault}
+use Rattle.wit_model.specs.declared.faults.Fault.TheVariants.{OutOfMemory}
 use Rattle.wit_model.specs.declared.locks.Instance.{Instance}
 use Rattle.wit_model.specs.declared.locks.LockNo.{LockNo}
 use Rattle.wit_model.specs.declared.locks.FileNo.{FileNo}
@@ -29,11 +30,12 @@ use Rattle.wit_model.specs.Rules.Locks.{locks_of, lock_at, is_spin_lock}
 use Rattle.wit_model.specs.Rules.History.{is_report, reports_of, pending, watch_of}
 use Rattle.wit_model.specs.declared.locks.Watch.TheVariants.{On}
 use Rattle.wit_model.specs.Rules.Start.{start_fault}
-use Rattle.wit_model.specs.Rules.Files.{is_known_file, files_after, IsNumbered, NamesFile}
+use Rattle.wit_model.specs.Rules.Files.{is_known_file, file_answer, files_after, IsNumbered, NamesFile}
 use Rattle.wit_table.specs.Known.{Names, enroll_answer, filing_answer, with_file, IsRefusal}
-use Rattle.wit_model.specs.Rules.State.{Start, Story, State, Known, types_of, state_of, seats_of, seat_of, owed, is_seat, seat_at, no_seat}
+use Rattle.wit_model.specs.Rules.State.{Start, Story, fresh, State, Known, types_of, state_of, seats_of, seat_of, owed, is_seat, seat_at, no_seat}
 use Rattle.wit_model.specs.Rules.Step.{answer_of, story_after, is_pending, is_good_name, chain_for, IsLegal}
 use Rattle.wit_model.specs.Rules.Verdict.{is_of}
+use Rattle.wit_model.proofs.Numbered.{with_number-or}
 use Rattle.wit_model.proofs.Chains.Sane.{IsSane}
 use Rattle.wit_model.proofs.Histories.Accepted.{init_accepted, note_accepted, check_accepted, unlock_accepted}
 use Rattle.wit_model.proofs.Chains.Seats.{entry}
@@ -53,7 +55,7 @@ use Rattle.wit_model.specs.declared.locks.Class.{Class}
 use Rattle.wit_core.specs.declared.known.Knowledge.{Knowledge}
 use Rattle.wit_core.specs.Knowledge.{known, learnt, with_lock, IsSized, IsAdmitted}
 use Rattle.wit_core.specs.Listed.{all_listed, pairs_of}
-use Rattle.wit_core.specs.Fresh.{start_of, fresh}
+use Rattle.wit_core.specs.Fresh.{start_of}
 use Rattle.wit_core.specs.Rows.{seat_view, chain_in, changed_at, asked_in, noted_in, unlocked_in, CanRise, IsShallow, IsShallowAt}
 use Rattle.wit_core.specs.Books.{IsFresh, StaysSame, EntersInit, EntersCheck, EntersNote, EntersUnlock, state_in, spin_of, taken_by}
 use Rattle.wit_core.specs.Kept.{IsKept, start_in, history_in, story_in}
@@ -275,7 +277,8 @@ chain_books : (v : Inside) (t l : ℕ) (d : program.Seat) → IsKept v → 0 < t
 chain_books v t l d k some within =
     let count : length v.books.seats.items ≡ v.books.limits.seats =
     sym (length-map v.books.seats.items seat_view) ∙ (ap (λ (s : State). length s.seats) k.state ∙ length-map-range_with_len (seat_of (history_in v)) 1 v.books.limits.seats) in
-    ap (chain_in (spin_of v.books l)) (sym (get_or-map seat_view v.books.seats.items (t - 1) d no_seat (omega (arith, count))))
+    ap (chain_in (spin_of v.books l))
+    (sym (get_or-map seat_view v.books.seats.items (t - 1) d no_seat (omega (arith, count))) ∙ sym (with_number-or (map seat_view v.books.seats.items) t no_seat some))
     ∙ ap (λ (s : State). chain_for s t l) k.state
 
 pub note_shallow : (v : Inside) (t : ℕ) (l : LockNo) → IsKept v → answer_of (story_in v) t (Note l) ≡ Ok Recorded
@@ -343,12 +346,19 @@ pub file_named : (v : Inside) (name : List ℕ) (r : Result FileNo Fault) (new :
     → IfOk r (λ f. filing_answer name v.books.known.names.most_files v.books.known.names.files ≡ Ok f.0)
     → OnOk r (new ≡ with_file v.books.known.names name)
     → IfErr r (IsRefusal (filing_answer name v.books.known.names.most_files v.books.known.names.files))
+    → IfErr r (λ e. e ≡ OutOfMemory → is_known_file name v.books.known.names.files ≡ false)
     → OnErr r (new ≡ v.books.known.names)
     → NamesFile (story_in v) name r (story_in (with_files v new))
-file_named v name (Ok f) new k ok entered err same =
+file_named v name (Ok f) new k ok entered err absent same =
     (subst (λ most. filing_answer name most v.books.known.names.files ≡ Ok f.0) k.sized.files ok, ap (λ n. story_in (with_files v n)) entered)
-file_named v name (Err fault) new k ok entered err same =
-    (subst (λ most. IsRefusal (filing_answer name most v.books.known.names.files) fault) k.sized.files err, ap (λ n. story_in (with_files v n)) same)
+file_named v name (Err fault) new k ok entered err absent same =
+    (refused (subst (λ most. IsRefusal (filing_answer name most v.books.known.names.files) fault) k.sized.files err), ap (λ n. story_in (with_files v n)) same)
+  where
+    refused : IsRefusal (file_answer name v.books.known.names.files) fault
+        → (file_answer name v.books.known.names.files ≡ Err fault)
+        ⊎ ((fault ≡ OutOfMemory) × (is_known_file name v.books.known.names.files ≡ false) × IsNumbered (file_answer name v.books.known.names.files))
+    refused (inl at) = inl at
+    refused (inr none) = inr (none.0, absent none.0, none.1)
 
 -- a naming that is accepted leaves the history legal
 files_legal : (start : Start) (h : List Entry) (old : List (List ℕ)) (name : List ℕ) → IsLegal start old h → IsLegal start (files_after name old) h

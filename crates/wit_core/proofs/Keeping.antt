@@ -15,10 +15,11 @@ use Rattle.wit_model.proofs.Chains.Seats.{entry}
 use Rattle.wit_model.proofs.Chains.Owed.{few_legal}
 use Rattle.wit_model.proofs.Orders.Types.{types_legal, locks_legal}
 use Rattle.wit_model.proofs.Histories.Legal.{seat-within, seat_accepted}
+use Rattle.wit_model.proofs.Orders.Once.{distinct_legal}
 use Rattle.wit_model.proofs.Orders.Sound.{sound_legal}
 use Rattle.wit_model.proofs.Orders.Started.{sound_started, types_started}
 use Rattle.wit_model.specs.Rules.Start.{start_fault}
-use Rattle.wit_model.specs.Rules.Orders.{IsSound}
+use Rattle.wit_model.specs.Rules.Orders.{AreDistinct, IsSound}
 use Rattle.wit_core.specs.declared.verifier.Verifier.TheInside.{Inside}
 use Rattle.wit_core.specs.declared.books.Books.{Books}
 use Rattle.wit_core.specs.Knowledge.{IsSized, KeepsSizes}
@@ -141,3 +142,7 @@ kept_same v new k e =
 -- no type is before itself
 pub sound_kept : (v : Inside) → IsKept v → IsSound (orders_of (start_in v) (history_in v))
 sound_kept v k = sound_legal (start_in v) v.books.known.names.files (history_in v) (sound_started (start_in v) k.started) k.legal
+
+-- no order stands twice
+pub distinct_kept : (v : Inside) → IsKept v → AreDistinct (orders_of (start_in v) (history_in v))
+distinct_kept v k = distinct_legal (start_in v) v.books.known.names.files (history_in v) k.legal

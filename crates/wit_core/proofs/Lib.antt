@@ -6,6 +6,7 @@ pub mod Entering
 pub mod Going
 pub mod Keeping
 pub mod Listing
+pub mod Looking
 pub mod Relating
 pub mod SeatRows
 pub mod Steps

@@ -1,14 +1,15 @@
 -- Orders by their matrix.
-use Rattle.std.proofs.Common.{◌≡◌, ℕ, Bool, true, false, ◌&&◌, List, [], ◌∷◌, reverse, Option, Result, Ok, Err, IfOk, refl, ap, sym, ◌∙◌, subst}
+use Rattle.std.proofs.Common.{◌≡◌, ℕ, Bool, true, false, ◌&&◌, List, [], ◌∷◌, reverse, Option, None, Some, Result, Ok, Err, IfSome, IfOk, IfErr, refl, ap, sym, ◌∙◌, subst}
 use Rattle.std.specs.Global.{Vec}
 use Rattle.std.proofs.lemmas.Bool.{and_from, le-leb, true≢false}
 use Rattle.wit_model.specs.declared.calls.Adoption.{Adoption}
 use Rattle.wit_model.specs.declared.faults.Fault.{Fault}
+use Rattle.wit_model.specs.declared.faults.Fault.TheVariants.{OutOfMemory}
 use Rattle.wit_model.specs.declared.locks.TypeNo.{TypeNo}
 use Rattle.wit_model.specs.Rules.Orders.{is_before, IsPath, IsSound}
 use Rattle.wit_model.specs.Trace.Paths.{path, path_numbers}
 use Rattle.wit_model.proofs.Orders.Paths.{before_from_test}
-use Rattle.wit_matrix.specs.Relation.{Relation, IsNumber, OrdersAmong, HasSameOrders}
+use Rattle.wit_matrix.specs.Relation.{Relation, IsNumber, OrdersAmong, HasSameOrders, LeadsBy}
 use Rattle.wit_matrix.proofs.Settled.{same_before, same_sound}
 use Rattle.wit_matrix.proofs.Callers.{same_path}
 use Rattle.wit_core.specs.declared.orders.Orders.TheInside.{Inside}
@@ -36,6 +37,16 @@ before-none n os a b r among is none = go (is_before os a b) refl
         let both = before-among n os among a b e in
         absurd (true≢false (sym (and_from (covers n a) (covers n b) (covered n a both.0) (covered n b both.1)) ∙ (sym is ∙ none)))
 
+-- a path is one of any orders with the same direct ones
+same_way : (os ps : List Adoption) → HasSameOrders os ps → (a : ℕ) (way : List ℕ) (b : ℕ) → IsPath os a way b → IsPath ps a way b
+same_way os ps same a [] b p = sym (same a b) ∙ p
+same_way os ps same a (v ∷ way) b p = (sym (same a v) ∙ p.0, same_way os ps same v way b p.1)
+
+-- want of memory stands only in place of a path
+pub wanting-told : {X : Type 0} (answer : Result X Fault) (T : Type 0) → IfErr answer (λ e. e ≡ OutOfMemory) → T → IfErr answer (λ e. (e ≡ OutOfMemory) × T)
+wanting-told (Ok x) T told is = tt
+wanting-told (Err fault) T told is = (told, is)
+
 module _ (o : Inside) (k : IsRelated o) (now : Relation) (seen : relation_in o ≡ now) where
   pub before-by : (a b : ℕ) → is_before o.matrix.orders a b ≡ is_before now.orders a b
   before-by a b = same_before o.matrix.orders (reverse o.adopted.items) k.orders a b ∙ ap (λ (r : Relation). is_before r.orders a b) seen
@@ -62,3 +73,11 @@ module _ (o : Inside) (k : IsRelated o) (now : Relation) (seen : relation_in o �
       → IfOk answer (λ p. (types : ℕ) → OrdersAmong types now.orders → path_numbers p ≡ path now.orders types a b)
   path-told a b r is yes' sound (Ok p) told = λ types among. told ∙ path-by a b r is yes' sound types among
   path-told a b r is yes' sound (Err fault) told = tt
+
+  pub leads-told : (a b : ℕ) (answer : Result (Option (Vec TypeNo)) Fault) → IfOk answer (λ p. IfSome (path_numbers p) (LeadsBy o.matrix.orders a b))
+      → IfOk answer (λ p. IfSome (path_numbers p) (LeadsBy now.orders a b))
+  leads-told a b (Ok None) told = tt
+  leads-told a b (Ok (Some p)) told =
+      let same : HasSameOrders o.matrix.orders now.orders = subst (λ (x : Relation). HasSameOrders o.matrix.orders x.orders) seen k.orders in
+      (told.0, (told.1.0, same_way o.matrix.orders now.orders same a told.0 b told.1.1))
+  leads-told a b (Err fault) told = tt

@@ -74,11 +74,6 @@ abbrev pub done_reply : {X : Type 0} → Reply → Result X Fault → Result Rep
 done_reply reply (Ok x) = Ok reply
 done_reply reply (Err f) = Err f
 
--- the index of a seat with this number, where there is one
-abbrev pub SeatIndex : List Seat → ℕ → Option ℕ → Type 0
-SeatIndex seats t None = (nat_lt 0 t && nat_le t (length seats)) ≡ false
-SeatIndex seats t (Some i) = ((nat_lt 0 t && nat_le t (length seats)) ≡ true) × (i ≡ t - 1) × (i < length seats)
-
 -- while a request is pending, its seat's chains have room for its note
 abbrev pub AllHaveRoom : Books → Type 0
 AllHaveRoom b = All HasRoom b.seats.items

@@ -1,14 +1,15 @@
 //! What a verifier keeps, and its answers, which change nothing.
 
-ghost use Rattle.std.specs.Prelude.{◌≡◌, ◌<◌, ◌≤◌, ◌-◌, ◌==◌, length, vec_len, unwrap_or, IfOk, IfErr, OnOk, OnErr};
+ghost use Rattle.std.specs.Prelude.{◌≡◌, ◌<◌, ◌≤◌, ◌-◌, ◌==◌, length, map, vec_len, is_some, unwrap_or, IfSome, IfOk, IfErr, OnOk, OnErr};
 ghost use Rattle.std.specs.List.{list_any, All};
 ghost use Rattle.std.specs.Option.{option_copied};
 ghost use Rattle.wit_model.specs.declared.calls.Reply.TheVariants.{Recorded, Unlocked};
 ghost use Rattle.wit_model.specs.declared.faults.Fault.TheVariants.{OutOfMemory};
 ghost use Rattle.wit_model.specs.Rules.Locks.{is_made};
+ghost use Rattle.wit_model.specs.Rules.Numbers.{is_given, with_number};
 ghost use Rattle.wit_model.specs.Rules.State.{has_room, no_seat, seat_at};
-ghost use Rattle.wit_model.specs.Rules.Step.{step_init, step_check, step_note, step_unlock, is_not_yet, is_file, is_deepest, is_good_name, released};
-ghost use Rattle.wit_core.specs.Books.{new_lock, lock_answer, type_fault, SeatIndex, made_reply, done_reply};
+ghost use Rattle.wit_model.specs.Rules.Step.{step_init, step_check, step_note, step_unlock, is_not_yet, is_file, is_good_name, released};
+ghost use Rattle.wit_core.specs.Books.{new_lock, lock_answer, type_fault, made_reply, done_reply};
 ghost use Rattle.std.specs.Vec.{vec_capacity};
 ghost use Rattle.wit_core.specs.Rows.{seat_view, HasRoom, HasSpaceAt, IsShallowAt, IsFreeAt};
 ghost use Rattle.wit_core.specs.Verdicts.{replied, reply_of};
@@ -53,10 +54,10 @@ impl Books {
         ensures { made_reply result ≡ step_init (state_in self.now) seat.0
             (new_lock name.now (option_copied type_name.entry) class flags) }
     {
-        let Some(place) = seat_index(&self.seats, seat) else {
+        let Some(row) = seat_with(&self.seats, seat) else {
             return Err(Fault::UnknownSeat);
         };
-        if self.seats[place].pending.is_some() {
+        if row.pending.is_some() {
             return Err(Fault::Pending);
         }
         if !Name::accepts(name) || !is_good_name(type_name) {
@@ -117,7 +118,7 @@ impl Books {
         requires { HasSums self.now }
         ensures { replied result ≡ step_check (state_in self.now) seat.0 request }
     {
-        let Some(place) = seat_index(&self.seats, seat) else {
+        let Some(row) = seat_with(&self.seats, seat) else {
             return Err(Fault::UnknownSeat);
         };
         if !is_made(&self.known.locks, request.lock) {
@@ -130,15 +131,10 @@ impl Books {
         if !request.mode.is_exclusive() && !class.is_shareable() {
             return Err(Fault::ModeNotAllowed);
         }
-        let row = &self.seats[place];
         if row.pending.is_some() {
             return Err(Fault::Pending);
         }
-        let chain = row.chain(class.is_spin());
-        if is_deepest(held(chain, request.lock)) {
-            return Err(Fault::RecursionTooDeep);
-        }
-        let verdict = self.known.verdict(request, chain)?;
+        let verdict = self.known.verdict(request, row.chain(class.is_spin()))?;
         if !self.has_room(3) {
             return Err(Fault::LogFull);
         }
@@ -150,13 +146,13 @@ impl Books {
         ensures answer { done_reply Recorded result ≡ step_note (state_in self.now) seat.0 lock.0 }
         ensures request { IfOk result (λ q. (seat_at (state_in self.now) seat.0).pending ≡ Some q) }
     {
-        let Some(place) = seat_index(&self.seats, seat) else {
+        let Some(row) = seat_with(&self.seats, seat) else {
             return Err(Fault::UnknownSeat);
         };
         if !is_made(&self.known.locks, lock) {
             return Err(Fault::UnknownLock);
         }
-        match self.seats[place].pending {
+        match row.pending {
             Some(request) if request.lock.0 == lock.0 => Ok(request),
             _ => Err(Fault::NotRequested),
         }
@@ -166,13 +162,12 @@ impl Books {
     pub fn answer_unlock(&self, seat: SeatNo, lock: LockNo, mode: Mode) -> Result<(), Fault>
         ensures { done_reply Unlocked result ≡ step_unlock (state_in self.now) seat.0 lock.0 mode }
     {
-        let Some(place) = seat_index(&self.seats, seat) else {
+        let Some(row) = seat_with(&self.seats, seat) else {
             return Err(Fault::UnknownSeat);
         };
         if !is_made(&self.known.locks, lock) {
             return Err(Fault::UnknownLock);
         }
-        let row = &self.seats[place];
         if row.pending.is_some() {
             return Err(Fault::Pending);
         }
@@ -239,9 +234,7 @@ impl Books {
         ensures err { OnErr result (StaysSame self.old self.new) }
         ensures memory { IfErr result (λ e. e ≡ OutOfMemory) }
     {
-        if self.log.reserve(self.owed as usize + 1).is_err() {
-            return Err(Fault::OutOfMemory);
-        }
+        self.log.reserve(self.owed as usize + 1)?;
         self.known.add_lock(made)?;
         self.log.push_reserved(Entry {
             seat,
@@ -362,31 +355,21 @@ fn answer_release(held: Instance, mode: Mode) -> Result<(), Fault>
     Ok(())
 }
 
-// The index of a seat, by its number.
-pub fn seat_index(seats: &[Seat], seat: SeatNo) -> Option<usize>
-    ensures { SeatIndex seats.now seat.0 result }
+// The seat with this number.
+fn seat_with(seats: &[Seat], seat: SeatNo) -> Option<&Seat>
+    ensures found { is_given (map seat_view seats.now) seat.0 ≡ is_some result }
+    ensures seat { IfSome result (λ row. unwrap_or (with_number (map seat_view seats.now) seat.0) no_seat ≡ seat_view row.now) }
 {
-    let place = (seat.0 as usize).checked_sub(1)?;
-    if place < seats.len() {
-        Some(place)
-    } else {
-        None
+    if seat.0 == 0 {
+        return None;
     }
+    seats.get(seat.0 as usize - 1)
 }
 
 fn is_made(locks: &[Lock], lock: LockNo) -> bool
     ensures { result ≡ is_made locks.now lock.0 }
 {
     0 < lock.0 && lock.0 as usize <= locks.len()
-}
-
-fn is_deepest(held: Option<Instance>) -> bool
-    ensures { result ≡ is_deepest held }
-{
-    match held {
-        Some(held) => held.count == 65535,
-        None => false,
-    }
 }
 
 fn is_good_name(name: Option<&str>) -> bool

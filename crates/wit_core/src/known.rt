@@ -1,12 +1,14 @@
 //! What is known of types, locks and orders, and the verdict over it.
 
-ghost use Rattle.std.specs.Prelude.{◌≡◌, ◌<◌, ◌≤◌, [], reverse, find, OnOk, OnErr, IfOk, IfErr};
+ghost use Rattle.std.specs.Prelude.{◌≡◌, ◌<◌, ◌≤◌, [], ◌∷◌, Some, Ok, reverse, find, OnOk, OnErr, IfOk, IfErr};
 ghost use Rattle.std.specs.List.{last_or, position_or_len};
 ghost use Rattle.wit_model.specs.declared.faults.Fault.TheVariants.{OutOfMemory};
+ghost use Rattle.std.specs.Option.{option_copied, option_or};
 ghost use Rattle.wit_model.specs.Rules.Locks.{lock_at};
-ghost use Rattle.wit_model.specs.Rules.Verdict.{violates, has_type_of, place_of, again, judged, ordered, verdict, is_of, is_blessed};
+ghost use Rattle.wit_model.specs.Rules.Numbers.{with_number};
+ghost use Rattle.wit_model.specs.Rules.Verdict.{violates, has_type_of, place_of, again, judged, among, verdict, is_of, is_blessed};
 ghost use Rattle.wit_core.specs.Knowledge.{known_by, nothing};
-ghost use Rattle.wit_core.specs.Verdicts.{replied};
+ghost use Rattle.wit_core.specs.Verdicts.{replied, shallow, breaks};
 
 use crate::names::type_name;
 use crate::orders::Orders;
@@ -92,31 +94,53 @@ impl Knowledge {
         ensures files { self.new.names.files ≡ self.old.names.files }
         ensures sized { KeepsSizes self.old self.new }
     {
-        if self.locks.reserve(1).is_err() {
-            return Err(Fault::OutOfMemory);
-        }
+        self.locks.reserve(1)?;
         let type_no = self.names.enroll(made.type_name(), made.class)?;
         self.locks.push_reserved(Lock { type_no, made });
         Ok(())
     }
 
-    /// The verdict over a chain of held locks.
+    /// The verdict over a chain of held locks. Each of them is looked at once.
     pub fn verdict(&self, request: Request, chain: &[Instance]) -> Result<Verdict, Fault>
-        ensures { replied result ≡ verdict (known self.now) request chain.now }
+        ensures { replied result ≡ shallow (find (is_of request.lock.0) chain.now) (verdict (known self.now) request chain.now) }
     {
-        let Some(last) = newest(chain) else {
-            return Ok(Verdict::Pass);
-        };
-        match held(chain, request.lock) {
-            Some(held) => self.again(request, held),
-            None => self.ordered(request, chain, last),
+        match newest(chain) {
+            Some(last) => self.behind(request, chain, last),
+            None => Ok(Verdict::Pass),
+        }
+    }
+
+    // A lock is asked for behind others: its order behind the last is known, or all are looked at.
+    fn behind(&self, request: Request, chain: &[Instance], last: Instance) -> Result<Verdict, Fault>
+        ensures { replied result ≡ shallow (find (is_of request.lock.0) chain.now)
+            (among (known self.now) request chain.now last (find (is_of request.lock.0) chain.now)) }
+    {
+        let asked = type_of(&self.locks, request.lock);
+        let parent = type_of(&self.locks, last.lock);
+        if self.orders.is_direct(parent, asked) {
+            return match held(chain, request.lock) {
+                Some(held) => self.again(request, held),
+                None => Ok(Verdict::Pass),
+            };
+        }
+        let (held, broken) = look(&self.locks, &self.orders, request, chain);
+        if let Some(held) = held {
+            return self.again(request, held);
+        }
+        match broken {
+            Some(broken) => Ok(self.violated(request, chain, broken)),
+            None if request.ops.contains(OpFlags::NEWORDER) => Ok(Verdict::Adopt(parent, asked)),
+            None => Ok(Verdict::Pass),
         }
     }
 
     // A held lock is asked for again.
     fn again(&self, request: Request, held: Instance) -> Result<Verdict, Fault>
-        ensures { replied result ≡ again (known self.now) request held }
+        ensures { replied result ≡ shallow (Some held) (again (known self.now) request held) }
     {
+        if held.count == 65535 {
+            return Err(Fault::RecursionTooDeep);
+        }
         let wanted = request.mode.is_exclusive();
         let exclusive = held.mode.is_exclusive();
         if exclusive && !wanted {
@@ -132,27 +156,6 @@ impl Knowledge {
             return Err(Fault::Recursed);
         }
         Ok(Verdict::Pass)
-    }
-
-    // A lock that isn't held is asked for behind others.
-    fn ordered(
-        &self,
-        request: Request,
-        chain: &[Instance],
-        last: Instance,
-    ) -> Result<Verdict, Fault>
-        ensures { replied result ≡ ordered (known self.now) request chain.now last }
-    {
-        let asked = type_of(&self.locks, request.lock);
-        let parent = type_of(&self.locks, last.lock);
-        if self.orders.is_direct(parent, asked) {
-            return Ok(Verdict::Pass);
-        }
-        match violation(&self.locks, &self.orders, request, chain) {
-            Some(held) => Ok(self.violated(request, chain, held)),
-            None if request.ops.contains(OpFlags::NEWORDER) => Ok(Verdict::Adopt(parent, asked)),
-            None => Ok(Verdict::Pass),
-        }
     }
 
     // A held lock breaks the order.
@@ -195,11 +198,21 @@ fn place_of(held: Instance) -> LockAt
     }
 }
 
+// The lock with this number.
+pub fn lock_with(locks: &[Lock], lock: LockNo) -> Option<&Lock>
+    ensures { option_copied result ≡ with_number locks.now lock.0 }
+{
+    if lock.0 == 0 {
+        return None;
+    }
+    locks.get(lock.0 as usize - 1)
+}
+
 // The type of a lock, by its number; 0 for a lock that was never made.
 pub fn type_of(locks: &[Lock], lock: LockNo) -> TypeNo
     ensures { result ≡ (lock_at locks.now lock.0).type_no }
 {
-    match locks.get(lock.0.saturating_sub(1) as usize) {
+    match lock_with(locks, lock) {
         Some(lock) => lock.type_no,
         None => TypeNo(0),
     }
@@ -208,7 +221,7 @@ pub fn type_of(locks: &[Lock], lock: LockNo) -> TypeNo
 fn flags_of(locks: &[Lock], lock: LockNo) -> LockFlags
     ensures { result ≡ (lock_at locks.now lock.0).made.flags }
 {
-    match locks.get(lock.0.saturating_sub(1) as usize) {
+    match lock_with(locks, lock) {
         Some(lock) => lock.made.flags,
         None => LockFlags(0),
     }
@@ -217,7 +230,7 @@ fn flags_of(locks: &[Lock], lock: LockNo) -> LockFlags
 pub fn class_of(locks: &[Lock], lock: LockNo) -> Class
     ensures { result ≡ (lock_at locks.now lock.0).made.class }
 {
-    match locks.get(lock.0.saturating_sub(1) as usize) {
+    match lock_with(locks, lock) {
         Some(lock) => lock.made.class,
         None => Class::SleepMutex,
     }
@@ -260,19 +273,55 @@ fn newest_of_type(locks: &[Lock], request: Request, chain: &[Instance]) -> Optio
         .find(|i| type_of(locks, i.lock).0 == asked.0)
 }
 
-// The newest held lock whose type the requested one is before.
-fn violation(
+// One look through a chain, newest first: the requested lock as it is held, and the newest lock whose type the requested one
+// is before.
+fn look(
     locks: &[Lock],
     orders: &Orders,
     request: Request,
     chain: &[Instance],
-) -> Option<Instance>
-    ensures { result ≡ find (violates (known_by locks.now orders.now.orders) request) (reverse chain.now) }
+) -> (Option<Instance>, Option<Instance>)
+    ensures held { result.0 ≡ find (is_of request.lock.0) chain.now }
+    ensures broken { result.1 ≡ find (violates (known_by locks.now orders.now.orders) request) (reverse chain.now) }
 {
     let asked = type_of(locks, request.lock);
-    chain
-        .iter()
-        .rev()
-        .copied()
-        .find(|i| orders.is_before(asked, type_of(locks, i.lock)))
+    let mut held = None;
+    let mut broken = None;
+    for place in (0..chain.len()).rev() {
+        let older = chain[place];
+        held = held_or(older, request.lock, held);
+        broken = broken_or(locks, orders, asked, older, broken);
+    }
+    (held, broken)
+}
+
+// A lock as it is held, where it is this one; else what was found before.
+fn held_or(older: Instance, lock: LockNo, found: Option<Instance>) -> Option<Instance>
+    ensures { result ≡ option_or (find (is_of lock.0) (older ∷ [])) found }
+{
+    if older.lock.0 == lock.0 {
+        Some(older)
+    } else {
+        found
+    }
+}
+
+// What was found before; else this lock, where the type asked for is before its type.
+fn broken_or(
+    locks: &[Lock],
+    orders: &Orders,
+    asked: TypeNo,
+    older: Instance,
+    found: Option<Instance>,
+) -> Option<Instance>
+    ensures { result ≡ option_or found (find (breaks locks.now orders.now.orders asked.0) (older ∷ [])) }
+{
+    if found.is_some() {
+        return found;
+    }
+    if orders.is_before(asked, type_of(locks, older.lock)) {
+        Some(older)
+    } else {
+        None
+    }
 }

@@ -167,10 +167,8 @@ impl Knowledge {
         ensures err { IfErr result (λ e. e ≡ OutOfMemory) }
     {
         enroll_all(&mut self.names, list)?;
-        match adopt_all(&mut self.orders, &self.names, list) {
-            Ok(()) => Ok(()),
-            Err(_) => Err(Fault::OutOfMemory),
-        }
+        adopt_all(&mut self.orders, &self.names, list)?;
+        Ok(())
     }
 
     /// Blesses pairs of names.

@@ -2,7 +2,7 @@
 
 ghost use Rattle.std.specs.Prelude.{◌≡◌};
 ghost use Rattle.wit_model.specs.Rules.Types.{is_enrolled, type_number, name_of};
-ghost use Rattle.wit_core.specs.Numbered.{is_given};
+ghost use Rattle.wit_model.specs.Rules.Numbers.{is_given};
 
 use wit_model::TypeNo;
 use wit_table::Table;
@@ -31,11 +31,10 @@ pub fn is_type(names: &Table, number: TypeNo) -> bool
     0 < number.0 && number.0 as usize <= names.len()
 }
 
-/// The name of a type, by its number, where 0 is read as 1; empty for any other number that was never given.
+/// The name of a type, by its number; empty for a number that was never given.
 pub fn type_name(names: &Table, number: TypeNo) -> &str
     ensures { result.now ≡ name_of number.0 names.now.types }
 {
-    let number = TypeNo(number.0.max(1));
     if is_type(names, number) {
         names.name_of(number)
     } else {

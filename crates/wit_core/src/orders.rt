@@ -1,10 +1,10 @@
 //! The adopted orders, which types are before one another, and which were found in violation.
 
-ghost use Rattle.std.specs.Prelude.{◌≡◌, ◌<◌, ◌≤◌, ◌&&◌, ◌∷◌, ℕ, [], OnOk, OnErr, IfOk, IfErr, reverse};
+ghost use Rattle.std.specs.Prelude.{◌≡◌, ◌<◌, ◌≤◌, ◌&&◌, ◌∷◌, ℕ, true, [], IfSome, OnOk, OnErr, IfOk, IfErr, reverse};
 ghost use Rattle.wit_model.specs.declared.faults.Fault.TheVariants.{OutOfMemory};
 ghost use Rattle.wit_model.specs.Rules.Orders.{is_direct, is_before, is_found, found_once, cell};
 ghost use Rattle.wit_model.specs.Trace.Paths.{path, path_numbers};
-ghost use Rattle.wit_matrix.specs.Relation.{IsNumber, OrdersAmong};
+ghost use Rattle.wit_matrix.specs.Relation.{IsNumber, OrdersAmong, LeadsBy};
 ghost use Rattle.wit_core.specs.Following.{covers, CanFollow};
 
 use std::alloc::{AllocError, Global};
@@ -94,11 +94,12 @@ impl Orders {
     /// leads there. It is the same among any number of types that the orders are between.
     ///
     /// # Errors
-    /// `OutOfMemory` alone.
+    /// `OutOfMemory` alone, and only where a path leads there.
     pub fn path(&self, from: TypeNo, to: TypeNo) -> Result<Option<Vec<TypeNo>>, Fault>
         ensures ok { IfOk result (λ p. (types : ℕ) → OrdersAmong types self.now.orders
             → path_numbers p ≡ path self.now.orders types from.0 to.0) }
-        ensures err { IfErr result (λ e. e ≡ OutOfMemory) }
+        ensures leads { IfOk result (λ p. IfSome (path_numbers p) (LeadsBy self.now.orders from.0 to.0)) }
+        ensures err { IfErr result (λ e. (e ≡ OutOfMemory) × (is_before self.now.orders from.0 to.0 ≡ true)) }
     {
         if !self.is_before(from, to) {
             return Ok(None);

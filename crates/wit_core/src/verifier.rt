@@ -1,29 +1,31 @@
 //! The verifier of lock orders.
 
-ghost use Rattle.std.specs.Prelude.{◌≡◌, None, length, reverse, IfOk, IfErr};
+ghost use Rattle.std.specs.Prelude.{◌≡◌, None, length, reverse, IfSome, IfOk, IfErr};
 ghost use Rattle.std.specs.Option.{option_copied};
-ghost use Rattle.wit_model.specs.Rules.State.{known_of, orders_of, types_of, typed_locks};
-ghost use Rattle.wit_core.specs.Numbered.{IsNumbered, NamesLock, TypesLock, NamesType, ClassesType, NamesFileNo, relation};
+ghost use Rattle.wit_model.specs.Rules.State.{fresh, known_of, orders_of, types_of, typed_locks};
+ghost use Rattle.wit_model.specs.Rules.Numbers.{with_number};
+ghost use Rattle.wit_core.specs.Numbered.{lock_name, lock_type, type_name, type_class, relation};
 ghost use Rattle.wit_model.specs.Trace.Paths.{path, path_numbers};
 ghost use Rattle.wit_model.specs.Rules.History.{reports_of, watch_of};
 ghost use Rattle.wit_model.specs.Rules.Files.{NamesFile};
-ghost use Rattle.wit_model.specs.Rules.Orders.{IsSound};
+ghost use Rattle.wit_model.specs.Rules.Orders.{AreDistinct, Before, IsSound};
 ghost use Rattle.wit_model.specs.Rules.Step.{Answers, AnswersOrFails, IsLegal};
 ghost use Rattle.wit_core.specs.Books.{new_lock, made_reply};
 ghost use Rattle.wit_model.specs.declared.calls.Call.TheVariants.{Init, Check, Note, Unlock};
 ghost use Rattle.wit_model.specs.declared.faults.Fault.TheVariants.{OutOfMemory};
-ghost use Rattle.wit_core.specs.Fresh.{start_of, fresh};
+ghost use Rattle.wit_core.specs.Fresh.{start_of};
 ghost use Rattle.wit_model.specs.Rules.Start.{start_fault, IsRefused};
+ghost use Rattle.wit_matrix.specs.Relation.{LeadsBy};
 
 use crate::books::Books;
-use crate::known::Knowledge;
+use crate::known::{Knowledge, lock_with};
 use crate::lists::StartError;
 use crate::names::is_type;
 use std::alloc::{AllocError, Global};
 use std::marker::Model;
 use wit_model::{
-    Adoption, Boxed, Class, Entry, Fault, FileNo, Limits, Lock, LockFlags, LockNo, Mode, Name,
-    NewLock, OpFlags, Reply, Request, SeatNo, Site, TypeNo, Watch,
+    Adoption, Boxed, Class, Entry, Fault, FileNo, Limits, LockFlags, LockNo, Mode, Name, NewLock,
+    OpFlags, Reply, Request, SeatNo, Site, TypeNo, Watch,
 };
 
 /// A verifier of lock orders, as witness(4) describes it: it is told of each acquisition and release, keeps
@@ -112,7 +114,7 @@ impl Verifier {
     ///
     /// # Errors
     /// `BadName` where the text is no file name; `FilesFull` where it is new and 65,535 files have numbers;
-    /// `OutOfMemory`. The files are then as before.
+    /// `OutOfMemory` where it is new. The files are then as before.
     pub fn file(&mut self, name: &str) -> Result<FileNo, Fault>
         ensures { NamesFile self.old name.now result self.new }
     {
@@ -137,16 +139,10 @@ impl Verifier {
             (Init (new_lock name.now (option_copied type_name.entry) class flags)) (made_reply result) self.new }
     {
         let lock = self.books.answer_init(seat, name, type_name, class, flags)?;
-        let Ok(made) = new_lock(self.alloc, name, type_name, class, flags) else {
-            return Err(Fault::OutOfMemory);
-        };
-        let Ok(logged) = boxed_lock(self.alloc, name, type_name, class, flags) else {
-            return Err(Fault::OutOfMemory);
-        };
-        match self.books.enter_init(seat, lock, made, logged) {
-            Ok(()) => Ok(lock),
-            Err(fault) => Err(fault),
-        }
+        let made = new_lock(self.alloc, name, type_name, class, flags)?;
+        let logged = boxed_lock(self.alloc, name, type_name, class, flags)?;
+        self.books.enter_init(seat, lock, made, logged)?;
+        Ok(lock)
     }
 
     /// Asks whether a lock may be acquired here: WITNESS's `checkorder`. Its request is then pending until it is
@@ -176,10 +172,8 @@ impl Verifier {
             ops,
         };
         let verdict = self.books.answer_check(seat, request)?;
-        match self.books.enter_check(self.alloc, seat, request, verdict) {
-            Ok(reply) => Ok(reply),
-            Err(_) => Err(Fault::OutOfMemory),
-        }
+        let reply = self.books.enter_check(self.alloc, seat, request, verdict)?;
+        Ok(reply)
     }
 
     /// Records that the lock asked for was acquired: WITNESS's `lock`. It takes no memory.
@@ -209,9 +203,10 @@ impl Verifier {
     }
 
     /// The log: each accepted call with its seat and reply, oldest first. Each reply is the answer of the rules
-    /// after the entries before it.
+    /// after the entries before it, behind a start that isn't refused.
     pub fn history(&self) -> &[Entry]
         ensures log { reverse result.now ≡ self.now.history }
+        ensures accepted { start_fault self.now.start ≡ None }
         ensures legal { IsLegal self.now.start self.now.files self.now.history }
     {
         &self.books.log
@@ -231,9 +226,10 @@ impl Verifier {
         Watch::On
     }
 
-    /// The adopted orders with their origins, oldest first. By them no type is before itself.
+    /// The adopted orders with their origins, oldest first. None stands twice, and by them no type is before itself.
     pub fn orders(&self) -> &[Adoption]
         ensures orders { reverse result.now ≡ orders_of self.now.start self.now.history }
+        ensures distinct { AreDistinct (orders_of self.now.start self.now.history) }
         ensures sound { IsSound (orders_of self.now.start self.now.history) }
     {
         self.books.known.orders.adopted()
@@ -244,35 +240,34 @@ impl Verifier {
 impl Verifier {
     /// The name of a lock.
     pub fn lock_name(&self, lock: LockNo) -> Option<&str>
-        ensures { NamesLock (typed_locks self.now.start self.now.history) lock.0 result }
+        ensures { option_copied result ≡ lock_name (typed_locks self.now.start self.now.history) lock.0 }
     {
-        let lock = known_lock(&self.books.known.locks, lock)?;
-        Some(lock.made.name.as_str())
+        let named = lock_with(&self.books.known.locks, lock)?;
+        Some(named.made.name.as_str())
     }
 
     /// The type of a lock.
     pub fn type_of(&self, lock: LockNo) -> Option<TypeNo>
-        ensures { TypesLock (typed_locks self.now.start self.now.history) lock.0 result }
+        ensures { result ≡ lock_type (typed_locks self.now.start self.now.history) lock.0 }
     {
-        let lock = known_lock(&self.books.known.locks, lock)?;
-        Some(lock.type_no)
+        let typed = lock_with(&self.books.known.locks, lock)?;
+        Some(typed.type_no)
     }
 
     /// The name of a type.
     pub fn type_name(&self, number: TypeNo) -> Option<&str>
-        ensures { NamesType (types_of self.now.start self.now.history) number.0 result }
+        ensures { option_copied result ≡ type_name (types_of self.now.start self.now.history) number.0 }
     {
         let names = &self.books.known.names;
-        if is_type(names, number) {
-            Some(names.name_of(number))
-        } else {
-            None
+        if !is_type(names, number) {
+            return None;
         }
+        Some(names.name_of(number))
     }
 
     /// The class of a type.
     pub fn class_of(&self, number: TypeNo) -> Option<Class>
-        ensures { ClassesType (types_of self.now.start self.now.history) number.0 result }
+        ensures { result ≡ type_class (types_of self.now.start self.now.history) number.0 }
     {
         let names = &self.books.known.names;
         if is_type(names, number) {
@@ -284,7 +279,7 @@ impl Verifier {
 
     /// The name of a file.
     pub fn file_name(&self, file: FileNo) -> Option<&str>
-        ensures { NamesFileNo self.now.files file.0 result }
+        ensures { option_copied result ≡ with_number self.now.files file.0 }
     {
         let names = &self.books.known.names;
         if 0 < file.0 && file.0 as usize <= names.files() {
@@ -305,11 +300,12 @@ impl Verifier {
     /// none leads there.
     ///
     /// # Errors
-    /// `OutOfMemory` alone.
+    /// `OutOfMemory` alone, and only where a path leads there.
     pub fn path(&self, from: TypeNo, to: TypeNo) -> Result<Option<Vec<TypeNo>>, Fault>
         ensures ok { IfOk result (λ p. path_numbers p ≡ path (orders_of self.now.start self.now.history)
             (length (types_of self.now.start self.now.history)) from.0 to.0) }
-        ensures err { IfErr result (λ e. e ≡ OutOfMemory) }
+        ensures leads { IfOk result (λ p. IfSome (path_numbers p) (LeadsBy (orders_of self.now.start self.now.history) from.0 to.0)) }
+        ensures err { IfErr result (λ e. (e ≡ OutOfMemory) × Before (orders_of self.now.start self.now.history) from.0 to.0) }
     {
         self.books.known.orders.path(from, to)
     }
@@ -327,13 +323,6 @@ impl Verifier {
             None
         }
     }
-}
-
-fn known_lock(locks: &[Lock], lock: LockNo) -> Option<&Lock>
-    ensures { IsNumbered locks.now lock.0 (option_copied result) }
-{
-    let place = (lock.0 as usize).checked_sub(1)?;
-    locks.get(place)
 }
 
 fn new_lock(

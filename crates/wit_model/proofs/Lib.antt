@@ -1,5 +1,6 @@
 pub mod Chains
 pub mod Histories
 pub mod Lists
+pub mod Numbered
 pub mod Orders
 pub mod Spelling

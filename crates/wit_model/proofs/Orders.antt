@@ -1,5 +1,6 @@
 -- Lock types and the orders between them.
 pub mod Among
+pub mod Once
 pub mod Paths
 pub mod Sound
 pub mod Started

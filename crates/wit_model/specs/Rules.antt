@@ -6,6 +6,7 @@ pub mod Groups
 pub mod History
 pub mod Locks
 pub mod Names
+pub mod Numbers
 pub mod Orders
 pub mod SeatGroups
 pub mod Sizes

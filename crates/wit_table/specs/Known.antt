@@ -1,10 +1,12 @@
 -- What a table of names knows, as its callers see it, and its answers. Types and files have their places as numbers, from 1.
-use Rattle.std.specs.Prelude.{ℕ, ◌-◌, ◌<◌, ◌≤◌, ◌≡◌, ◌⊎◌, Bool, true, false, not, ◌&&◌, List, [], ◌∷◌, ◌++◌, length, map, nat_le, slice_get, slice_set, slice_index, Some, Result, Ok, Err, if◌then◌else◌}
+use Rattle.std.specs.Prelude.{ℕ, ◌<◌, ◌≤◌, ◌≡◌, ◌⊎◌, Bool, true, false, not, ◌&&◌, List, [], ◌∷◌, ◌++◌, length, map, nat_le, slice_get, unwrap_or, Some, Result, Ok, Err, if◌then◌else◌}
 use Rattle.std.specs.List.{list_any}
+use Rattle.std.specs.Option.{option_map}
 use Rattle.wit_model.specs.declared.faults.Fault.{Fault}
 use Rattle.wit_model.specs.declared.faults.Fault.TheVariants.{BadName, ClassMismatch, TypesFull, FilesFull, OutOfMemory}
 use Rattle.wit_model.specs.declared.locks.Class.{Class}
 use Rattle.wit_model.specs.Rules.Names.{is_name, is_file_name}
+use Rattle.wit_model.specs.Rules.Numbers.{with_number, with_changed}
 use Rattle.wit_model.specs.declared.locks.LockType.{LockType}
 use Rattle.wit_model.specs.Rules.Types.{is_enrolled, is_otherwise, type_number, enrolled}
 use Rattle.wit_model.specs.Rules.Verdict.{is_named_pair}
@@ -40,11 +42,11 @@ HasClassAt types i class = (t : LockType) × (slice_get types i ≡ Some t) × (
 
 -- the name of the type with this number
 abbrev pub HasName : List LockType → ℕ → List ℕ → Type 0
-HasName types n name = HasNameAt types (n - 1) name
+HasName types n name = option_map (λ (t : LockType). t.name) (with_number types n) ≡ Some name
 
 -- the class of the type with this number
 abbrev pub HasClass : List LockType → ℕ → Class → Type 0
-HasClass types n class = HasClassAt types (n - 1) class
+HasClass types n class = option_map (λ (t : LockType). t.class) (with_number types n) ≡ Some class
 
 -- the answer to an enrolment, want of memory aside: a known name of the same class gives its number also where no number is left
 abbrev pub enroll_answer : List ℕ → Class → ℕ → List LockType → Result ℕ Fault
@@ -77,10 +79,10 @@ with_file n name = record n { files = files_after name n.files }
 
 -- how many live locks the type with this number has
 abbrev pub live_of : Names → ℕ → ℕ
-live_of n t = slice_index n.live (t - 1)
+live_of n t = unwrap_or (with_number n.live t) 0
 
 abbrev pub with_live : Names → ℕ → ℕ → Names
-with_live n t count = record n { live = slice_set n.live (t - 1) count }
+with_live n t count = record n { live = with_changed n.live t count }
 
 -- whether these two names were blessed, in either order
 abbrev pub is_blessed : List ℕ → List ℕ → List (List ℕ × List ℕ) → Bool

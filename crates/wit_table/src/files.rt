@@ -40,10 +40,8 @@ pub fn file_in(
     if count >= most as usize {
         return Err(Fault::FilesFull);
     }
-    match add_file(alloc, files, name) {
-        Ok(()) => Ok(FileNo((count + 1) as u16)),
-        Err(_) => Err(Fault::OutOfMemory),
-    }
+    add_file(alloc, files, name)?;
+    Ok(FileNo((count + 1) as u16))
 }
 
 // The place of the file with this name.

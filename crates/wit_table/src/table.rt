@@ -1,10 +1,11 @@
 //! The table of names.
 
-ghost use Rattle.std.specs.Prelude.{◌≡◌, ◌≤◌, ◌<◌, ◌+◌, ◌-◌, ◌++◌, [], ◌∷◌, true, false, length, is_some, slice_get, IfSome, IfOk, IfErr, OnOk, OnErr, Some, Ok};
+ghost use Rattle.std.specs.Prelude.{◌≡◌, ◌≤◌, ◌<◌, ◌+◌, ◌-◌, ◌++◌, [], ◌∷◌, true, false, length, is_some, IfSome, IfOk, IfErr, OnOk, OnErr, Some, Ok};
 ghost use Rattle.std.specs.List.{IsDistinct};
 ghost use Rattle.std.specs.Str.{bytes_eq};
 ghost use Rattle.wit_model.specs.declared.faults.Fault.TheVariants.{OutOfMemory};
 ghost use Rattle.wit_model.specs.Rules.Names.{is_name, is_file_name};
+ghost use Rattle.wit_model.specs.Rules.Numbers.{with_number};
 ghost use Rattle.wit_model.specs.Rules.Types.{is_enrolled, is_otherwise, type_number};
 ghost use Rattle.wit_model.specs.Rules.Files.{is_known_file, file_number};
 ghost use Rattle.wit_table.specs.Known.{no_names, type_names, IsGiven, HasName, HasClass, enroll_answer, filing_answer, IsRefusal, with_type, with_file, live_of, with_live, is_blessed, with_blessed, are_names, IsBlessRefusal};
@@ -56,9 +57,7 @@ impl Table {
         ensures ok { IfOk result (λ t. t ≡ no_names types files) }
         ensures err { IfErr result (λ e. e ≡ OutOfMemory) }
     {
-        let Ok(rows) = IndexMap::with_capacity(alloc, types as usize) else {
-            return Err(Fault::OutOfMemory);
-        };
+        let rows = IndexMap::with_capacity(alloc, types as usize)?;
         Ok(Table {
             alloc,
             types: rows,
@@ -148,7 +147,7 @@ impl Table {
     /// The name of a source file, by its number.
     pub fn file_name(&self, file: FileNo) -> &str
         requires { IsGiven self.now.files file.0 }
-        ensures name { slice_get self.now.files (file.0 - 1) ≡ Some result.now }
+        ensures name { with_number self.now.files file.0 ≡ Some result.now }
         ensures number { file_number result.now self.now.files ≡ file.0 }
         ensures good { is_file_name result.now ≡ true }
     {
@@ -218,10 +217,8 @@ impl Table {
         if !Name::accepts(a) || !Name::accepts(b) {
             return Err(Fault::BadName);
         }
-        match add_pair(self.alloc, &mut self.blessed, a, b) {
-            Ok(()) => Ok(()),
-            Err(_) => Err(Fault::OutOfMemory),
-        }
+        add_pair(self.alloc, &mut self.blessed, a, b)?;
+        Ok(())
     }
 
     /// Whether a pair of names was blessed, in either order.

@@ -53,10 +53,8 @@ pub fn enroll_in(
     if count >= most as usize {
         return Err(Fault::TypesFull);
     }
-    match add_type(alloc, types, name, class) {
-        Ok(()) => Ok(TypeNo(count as u16 + 1)),
-        Err(_) => Err(Fault::OutOfMemory),
-    }
+    add_type(alloc, types, name, class)?;
+    Ok(TypeNo(count as u16 + 1))
 }
 
 /// The place of the type with this name.

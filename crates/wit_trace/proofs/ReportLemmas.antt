@@ -1,12 +1,12 @@
 -- What the texts of reports rest on: pieces written one behind another, what stands under a number, and the type
 -- of a lock.
-use Rattle.std.proofs.Common.{◌≡◌, ℕ, ◌+◌, ◌-◌, ◌<◌, ◌≤◌, Bool, true, false, not, ◌&&◌, ◌||◌, cond, List, [], ◌∷◌, ◌++◌, length, get_or, drop, Option, None, Some, Ok, find, unwrap_or, refl, ap, sym, ◌∙◌, subst, arith, append_assoc, length-append, ⊎_elim, codes}
+use Rattle.std.proofs.Common.{◌≡◌, ℕ, ◌+◌, ◌-◌, ◌<◌, ◌≤◌, Bool, true, false, not, ◌&&◌, ◌||◌, cond, List, [], ◌∷◌, ◌++◌, length, get_or, drop, Option, None, Some, Ok, find, unwrap_or, nat_lt, refl, ap, sym, ◌∙◌, subst, arith, append_assoc, length-append, ⊎_elim, codes}
 use Rattle.std.specs.List.{list_any, position_or_len, slice_get}
-use Rattle.std.specs.Option.{option_or}
+use Rattle.std.specs.Option.{option_or, option_map, option_copied}
 use Rattle.std.specs.Borrow.{Bor}
-use Rattle.std.proofs.lemmas.Bool.{false≢true, true≢false, or_parts, not-false, and_from, cases_lt, lt-ltb, le-leb}
+use Rattle.std.proofs.lemmas.Bool.{false≢true, or_parts, not-false, cases_lt, ltb-true}
 use Rattle.std.proofs.lemmas.Slice.Eq.{bytes_eq-Decides}
-use Rattle.std.proofs.lemmas.Option.{slice_get_within, get_or_from_slice_get, same_Some}
+use Rattle.std.proofs.lemmas.Option.{slice_get_within, same_Some}
 use Rattle.std.proofs.lemmas.List.{get_or_append_left, at_drop_more}
 use Rattle.std.proofs.lemmas.List.Folds.{find-append, find_at}
 use Rattle.std.proofs.Math.Seq.{get_or-append_seam}
@@ -21,25 +21,27 @@ use Rattle.wit_model.specs.declared.calls.Call.{Call}
 use Rattle.wit_model.specs.declared.calls.Call.TheVariants.{Init, Check, Note, Unlock}
 use Rattle.wit_model.specs.declared.calls.Reply.{Reply}
 use Rattle.wit_model.specs.declared.calls.Entry.{Entry}
-use Rattle.wit_model.specs.Rules.Types.{is_named, is_enrolled, is_otherwise, is_same_class, type_number, enrolled, type_name_of, types_after}
+use Rattle.wit_model.specs.Rules.Types.{name_of, is_named, is_enrolled, is_otherwise, is_same_class, type_number, enrolled, type_name_of, types_after}
 use Rattle.wit_model.specs.Rules.Orders.{is_adoption_of}
 use Rattle.wit_model.specs.Rules.Locks.{made_among, unknown_lock, lock_at}
 use Rattle.wit_model.specs.Rules.State.{Start, Known, state_of, types_of, typed_locks}
 use Rattle.wit_model.specs.Rules.Step.{answer_of, story_after, IsLegal}
 use Rattle.wit_model.specs.Trace.Spelling.{quoted}
-use Rattle.wit_model.specs.Trace.Texts.{type_words, class_words, site_words, lock_line, origin_words, order_line, order_lines, established}
+use Rattle.wit_model.specs.Trace.Texts.{class_words, site_words, lock_line, origin_words, order_line, order_lines, established}
 use Rattle.wit_model.proofs.Chains.Seats.{entry}
 use Rattle.wit_model.proofs.Histories.Accepted.{init_accepted}
-use Rattle.wit_model.proofs.Orders.Types.{IsTyped, typed_made, typed-check, typed-note, typed-unlock, number-known}
+use Rattle.wit_model.proofs.Orders.Types.{IsTyped, typed_made, typed-check, typed-note, typed-unlock}
 use Rattle.wit_model.specs.Trace.Paths.{type_numbers}
-use Rattle.wit_core.specs.Numbered.{is_given, TypesLock, ClassesType, NamesType}
+use Rattle.wit_model.specs.Rules.Numbers.{with_number}
+use Rattle.wit_model.proofs.Numbered.{with_number-at, with_number-or}
+use Rattle.wit_core.specs.Numbered.{lock_type, type_class, type_name}
 
 -- pieces written one behind another make a line
 pub order-written : {t1 t2 t3 t4 t5 t6 t7 : List ℕ} (t : List ℕ) (k : Known) (files : List (List ℕ)) (a b : ℕ)
-    → t1 ≡ t ++ codes " " → t2 ≡ t1 ++ quoted (type_words k.types a) → t3 ≡ t2 ++ codes " -> " → t4 ≡ t3 ++ quoted (type_words k.types b) → t5 ≡ t4 ++ codes " @ "
+    → t1 ≡ t ++ codes " " → t2 ≡ t1 ++ quoted (name_of a k.types) → t3 ≡ t2 ++ codes " -> " → t4 ≡ t3 ++ quoted (name_of b k.types) → t5 ≡ t4 ++ codes " @ "
     → t6 ≡ t5 ++ origin_words files (find (is_adoption_of a b) k.orders) → t7 ≡ t6 ++ 10 ∷ [] → t7 ≡ t ++ order_line k files a b
 order-written t k files a b e1 e2 e3 e4 e5 e6 e7 =
-    behind7 t (codes " ") (quoted (type_words k.types a)) (codes " -> ") (quoted (type_words k.types b)) (codes " @ ")
+    behind7 t (codes " ") (quoted (name_of a k.types)) (codes " -> ") (quoted (name_of b k.types)) (codes " @ ")
     (origin_words files (find (is_adoption_of a b) k.orders)) (10 ∷ []) e1 e2 e3 e4 e5 e6 e7
   where
     behind7 : {u1 u2 u3 u4 u5 u6 u7 : List ℕ} (u p1 p2 p3 p4 p5 p6 p7 : List ℕ) → u1 ≡ u ++ p1 → u2 ≡ u1 ++ p2 → u3 ≡ u2 ++ p3 → u4 ≡ u3 ++ p4 → u5 ≡ u4 ++ p5 → u6 ≡ u5 ++ p6 → u7 ≡ u6 ++ p7
@@ -172,53 +174,64 @@ unfolding HaveTypes
 types_all start files [] legal = λ i lt. absurd (omega arith)
 types_all start files (x ∷ h) legal = types_by start files h x.seat.0 x.call x.reply legal.0 (types_all start files h legal.1)
 
+-- what stands under a number has a number that was given
+number-within : {X : Type 0} (xs : List X) (n : ℕ) (x : X) → with_number xs n ≡ Some x → (0 < n) × (n ≤ length xs)
+number-within {X = X} xs n x at = go (nat_lt 0 n) refl at
+  where
+    go : (b : Bool) → nat_lt 0 n ≡ b → cond b (slice_get xs (n - 1)) None ≡ Some x → (0 < n) × (n ≤ length xs)
+    go true some here =
+        let up = ltb-true 0 n some in
+        let lt = slice_get_within xs (n - 1) x here in
+        (up, omega (arith, up, lt))
+    go false none here = cc
+
 -- under its type's number, a lock that was made has its type name and its class
-record IsOfType (types : List LockType) (k : Lock) : Type 0 where
-  given : is_given types k.type_no.0 ≡ true
-  is : slice_get types (k.type_no.0 - 1) ≡ Some (record { name = type_name_of k.made; class = k.made.class })
+IsOfType : List LockType → Lock → Type 0
+IsOfType types k = with_number types k.type_no.0 ≡ Some (record { name = type_name_of k.made; class = k.made.class })
 
 of_type : (start : Start) (files : List (List ℕ)) (h : List Entry) (l : ℕ) → IsLegal start files h → 0 < l → l ≤ length (typed_locks start h)
     → IsOfType (types_of start h) (lock_at (typed_locks start h) l)
-unfolding HaveTypes HasType
+unfolding HaveTypes HasType IsOfType
 of_type start files h l legal some within =
     let k = lock_at (typed_locks start h) l in
     let typed : IsTyped (types_of start h) k = typed_made start h l some within in
-    let known = number-known (type_name_of k.made) (types_of start h) typed.known in
     let place : k.type_no.0 - 1 ≡ position_or_len (is_named (type_name_of k.made)) (types_of start h) = omega (arith, typed.number) in
-    record {
-      given = and_from _ _ (lt-ltb 0 k.type_no.0 (omega (arith, typed.number, known.0))) (le-leb k.type_no.0 (length (types_of start h)) (omega (arith, typed.number, known.1)));
-      is = ap (λ i. slice_get (types_of start h) i) place ∙ sym (find_at (is_named (type_name_of k.made)) (types_of start h))
-          ∙ types_all start files h legal (l - 1) (omega arith);
-    }
+    let own : find (is_named (type_name_of k.made)) (types_of start h) ≡ Some (record { name = type_name_of k.made; class = k.made.class }) =
+    subst (λ (m : Lock). find (is_named (type_name_of m.made)) (types_of start h) ≡ Some (record { name = type_name_of m.made; class = m.made.class }))
+    (sym (with_number-or (typed_locks start h) l unknown_lock some)) (types_all start files h legal (l - 1) (omega arith)) in
+    with_number-at (types_of start h) k.type_no.0 (omega (arith, typed.number))
+    ∙ ap (λ i. slice_get (types_of start h) i) place ∙ sym (find_at (is_named (type_name_of k.made)) (types_of start h)) ∙ own
 
--- a lock that was found under a number, where 0 is read as 1, is of its type
-found_lock : (start : Start) (files : List (List ℕ)) (h : List Entry) (n m : ℕ) (number : TypeNo) → IsLegal start files h → 0 < m → m - 1 ≡ n - 1
-    → TypesLock (typed_locks start h) m (Some number) → (number ≡ (lock_at (typed_locks start h) n).type_no) × IsOfType (types_of start h) (lock_at (typed_locks start h) n)
-found_lock start files h n m number legal some same (lock, at, is) =
-    let within : m - 1 < length (typed_locks start h) = slice_get_within (typed_locks start h) (m - 1) lock at in
-    let here : lock_at (typed_locks start h) m ≡ lock_at (typed_locks start h) n = ap (λ i. get_or (typed_locks start h) i unknown_lock) same in
-    let own : lock_at (typed_locks start h) m ≡ lock = get_or_from_slice_get (typed_locks start h) (m - 1) lock unknown_lock at in (
-      is ∙ ap (λ (k : Lock). k.type_no) (sym own ∙ here),
-      subst (λ (k : Lock). IsOfType (types_of start h) k) here (of_type start files h m legal some (omega (arith, within))),
-    )
+-- a lock that was found under a number is of its type
+found_lock : (start : Start) (files : List (List ℕ)) (h : List Entry) (n : ℕ) (number : TypeNo) → IsLegal start files h
+    → Some number ≡ lock_type (typed_locks start h) n → (number ≡ (lock_at (typed_locks start h) n).type_no) × IsOfType (types_of start h) (lock_at (typed_locks start h) n)
+found_lock start files h n number legal is = go (with_number (typed_locks start h) n) refl is
+  where
+    go : (o : Option Lock) → with_number (typed_locks start h) n ≡ o → Some number ≡ option_map (λ (l : Lock). l.type_no) o
+        → (number ≡ (lock_at (typed_locks start h) n).type_no) × IsOfType (types_of start h) (lock_at (typed_locks start h) n)
+    go None none told = cc
+    go (Some lock) here told =
+        let given = number-within (typed_locks start h) n lock here in
+        let own : lock_at (typed_locks start h) n ≡ lock = ap (λ o. unwrap_or o unknown_lock) here in
+        (same_Some _ _ told ∙ ap (λ (l : Lock). l.type_no) (sym own), of_type start files h n legal given.0 given.1)
 
 -- so its type's class and name are its own
-pub class_as_made : (start : Start) (files : List (List ℕ)) (h : List Entry) (n m : ℕ) (number : TypeNo) (r : Option Class) → IsLegal start files h → 0 < m → m - 1 ≡ n - 1
-    → TypesLock (typed_locks start h) m (Some number) → ClassesType (types_of start h) number.0 r → unwrap_or r SleepMutex ≡ (lock_at (typed_locks start h) n).made.class
-class_as_made start files h n m number None legal some same found none =
-    let f = found_lock start files h n m number legal some same found in
-    absurd (true≢false (sym f.1.given ∙ sym (ap (λ (t : TypeNo). is_given (types_of start h) t.0) f.0) ∙ none))
-class_as_made start files h n m number (Some class) legal some same found (t, at, is) =
-    let f = found_lock start files h n m number legal some same found in
-    let type_is = same_Some _ _ (sym at ∙ ap (λ (t : TypeNo). slice_get (types_of start h) (t.0 - 1)) f.0 ∙ f.1.is) in
-    is ∙ ap (λ (t : LockType). t.class) type_is
+pub class_as_made : (start : Start) (files : List (List ℕ)) (h : List Entry) (n : ℕ) (number : TypeNo) (r : Option Class) → IsLegal start files h
+    → Some number ≡ lock_type (typed_locks start h) n → r ≡ type_class (types_of start h) number.0 → unwrap_or r SleepMutex ≡ (lock_at (typed_locks start h) n).made.class
+unfolding IsOfType
+class_as_made start files h n number r legal found told =
+    let f = found_lock start files h n number legal found in
+    ap (λ o. unwrap_or o SleepMutex)
+    (told ∙ ap (λ (t : TypeNo). type_class (types_of start h) t.0) f.0 ∙ ap (option_map (λ (t : LockType). t.class)) f.1)
 
-pub name_as_made : (start : Start) (files : List (List ℕ)) (h : List Entry) (n m : ℕ) (number : TypeNo) (r : Option (Bor (List ℕ))) (d : Bor (List ℕ)) → IsLegal start files h → 0 < m → m - 1 ≡ n - 1
-    → TypesLock (typed_locks start h) m (Some number) → NamesType (types_of start h) number.0 r → (unwrap_or r d).now ≡ type_name_of (lock_at (typed_locks start h) n).made
-name_as_made start files h n m number None d legal some same found none =
-    let f = found_lock start files h n m number legal some same found in
-    absurd (true≢false (sym f.1.given ∙ sym (ap (λ (t : TypeNo). is_given (types_of start h) t.0) f.0) ∙ none))
-name_as_made start files h n m number (Some name) d legal some same found (t, at, is) =
-    let f = found_lock start files h n m number legal some same found in
-    let type_is = same_Some _ _ (sym at ∙ ap (λ (t : TypeNo). slice_get (types_of start h) (t.0 - 1)) f.0 ∙ f.1.is) in
-    is ∙ ap (λ (t : LockType). t.name) type_is
+pub name_as_made : (start : Start) (files : List (List ℕ)) (h : List Entry) (n : ℕ) (number : TypeNo) (r : Option (Bor (List ℕ))) (d : Bor (List ℕ)) → IsLegal start files h
+    → Some number ≡ lock_type (typed_locks start h) n → option_copied r ≡ type_name (types_of start h) number.0
+    → (unwrap_or r d).now ≡ type_name_of (lock_at (typed_locks start h) n).made
+unfolding IsOfType
+name_as_made start files h n number r d legal found told =
+    let f = found_lock start files h n number legal found in
+    go r (told ∙ ap (λ (t : TypeNo). type_name (types_of start h) t.0) f.0 ∙ ap (option_map (λ (t : LockType). t.name)) f.1)
+  where
+    go : (o : Option (Bor (List ℕ))) → option_copied o ≡ Some (type_name_of (lock_at (typed_locks start h) n).made) → (unwrap_or o d).now ≡ type_name_of (lock_at (typed_locks start h) n).made
+    go None none = cc
+    go (Some name) here = same_Some _ _ here

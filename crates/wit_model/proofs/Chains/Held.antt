@@ -3,7 +3,6 @@ use Rattle.std.proofs.Common.{◌≡◌, ℕ, ◌+◌, ◌-◌, ◌<◌, ◌≤�
 use Rattle.std.specs.List.{list_any, list_all}
 use Rattle.std.proofs.lemmas.Bool.{eq-eqb, ne_eqb, eqb-true, true≢false, and_from, or_right}
 use Rattle.std.proofs.lemmas.Bool.Decides.{eqb_tells}
-use Rattle.std.proofs.lemmas.List.{get_or_append_left}
 use Rattle.std.proofs.lemmas.List.Folds.{list_any-append, list_all-append}
 use Rattle.std.proofs.lemmas.Map.Views.{any-filter_same}
 use Rattle.wit_model.specs.declared.calls.NewLock.{NewLock}
@@ -15,6 +14,7 @@ use Rattle.wit_model.proofs.Chains.Sane.{IsFit, IsSane, fit_by}
 use Rattle.wit_model.proofs.Chains.Acts.{num-nil}
 use Rattle.wit_model.proofs.Chains.HeldLocks.{subject, held-not, held-apart}
 use Rattle.wit_model.proofs.Chains.Effects.{is_not, Effect, Same, New, Gone, effect, held-same}
+use Rattle.wit_model.proofs.Numbered.{with_number-stays}
 use Rattle.wit_model.proofs.Lists.{times, times-nil, times-cons, times-append, times-filter, filter-where, list_all-filtered}
 
 held_at-all : (t : ℕ) (h : List Entry) (a : Act) (i : ℕ) → list_all (λ l. is_held t l h) (held_at t h a i) ≡ true
@@ -142,7 +142,7 @@ kind_by false ls more l e = ap not e
 pub kind-stays : (k : Bool) (l : ℕ) (x : Entry) (h : List Entry) → IsMade l h → is_of_kind k (locks_of (x ∷ h)) l ≡ is_of_kind k (locks_of h) l
 kind-stays k l x h is =
     kind_by k (locks_of h) (made x.call) l
-    (ap (λ (n : NewLock). is_spin n.class) (get_or_append_left (locks_of h) (made x.call) no_lock (l - 1) (omega (arith, is.0, is.1))))
+    (ap (λ (n : NewLock). is_spin n.class) (with_number-stays (locks_of h) (made x.call) l no_lock is.0 (omega (arith, is.0, is.1))))
 
 -- a filter by kind sees no new lock
 pub kinds-stay : (k : Bool) (t : ℕ) (x : Entry) (h : List Entry) → IsSane h → (ls : List ℕ) → list_all (λ l. is_held t l h) ls ≡ true

@@ -17,6 +17,7 @@ use Rattle.wit_model.specs.Rules.Step.{chain_for, held_by, step, answer_of, stor
 use Rattle.wit_model.proofs.Chains.Sane.{IsFit, IsSane}
 use Rattle.wit_model.proofs.Chains.HeldLocks.{num-of_held}
 use Rattle.wit_model.proofs.Chains.Found.{if_some, found}
+use Rattle.wit_model.proofs.Numbered.{with_number-or}
 use Rattle.wit_model.proofs.Chains.Seats.{get_or-seats_of}
 use Rattle.wit_model.proofs.Orders.TypedLocks.{spin_at, made-known}
 use Rattle.wit_model.proofs.Histories.Accepted.{check_accepted, NoteAccepted, note_accepted, UnlockAccepted, unlock_accepted, init_accepted}
@@ -33,7 +34,7 @@ pub seat_at-state : (start : Start) (files : List (List ℕ)) (h : List Entry) (
     → seat_at (state_of (story_after start files h)) t ≡ seat_of h t
 seat_at-state start files h t is =
     let within = seat-within start files h t is in
-    get_or-seats_of start.sizes.seats t h no_seat within.0 within.1
+    with_number-or (seats_of start.sizes.seats h) t no_seat within.0 ∙ get_or-seats_of start.sizes.seats t h no_seat within.0 within.1
 
 pub pending-state : (start : Start) (files : List (List ℕ)) (h : List Entry) (t : ℕ) → is_seat (state_of (story_after start files h)) t ≡ true
     → (seat_at (state_of (story_after start files h)) t).pending ≡ pending t h

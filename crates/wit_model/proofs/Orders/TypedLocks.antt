@@ -1,8 +1,8 @@
 -- The locks with their types' numbers, beside the locks as they were made.
-use Rattle.std.proofs.Common.{◌≡◌, ℕ, ◌-◌, ◌<◌, ◌≤◌, true, List, [], ◌∷◌, ◌++◌, length, map, refl, ap, ap₂, sym, ◌∙◌, arith}
+use Rattle.std.proofs.Common.{◌≡◌, ℕ, ◌<◌, ◌≤◌, true, List, [], ◌∷◌, ◌++◌, length, map, refl, ap, ap₂, sym, ◌∙◌, arith}
 use Rattle.std.proofs.lemmas.Bool.{and_parts, and_from, ltb-true, leb-true, lt-ltb, le-leb}
 use Rattle.std.proofs.lemmas.List.{map-append}
-use Rattle.std.proofs.Math.ListN.{get_or-map, length-map}
+use Rattle.std.proofs.Math.ListN.{length-map}
 use Rattle.wit_model.specs.declared.calls.NewLock.{NewLock}
 use Rattle.wit_model.specs.declared.calls.Call.{Call}
 use Rattle.wit_model.specs.declared.calls.Call.TheVariants.{Init, Check, Note, Unlock}
@@ -10,6 +10,7 @@ use Rattle.wit_model.specs.declared.calls.Entry.{Entry}
 use Rattle.wit_model.specs.Rules.Types.{LockType, is_spin}
 use Rattle.wit_model.specs.Rules.Locks.{Lock, made, locks_of, lock_of, lock_at, unknown_lock, made_among, is_made, is_spin_lock}
 use Rattle.wit_model.specs.Rules.State.{Start, types_of, typed_locks}
+use Rattle.wit_model.proofs.Numbered.{with_number-or-map}
 
 made_of : Lock → NewLock
 made_of k = k.made
@@ -34,7 +35,7 @@ length-typed start h = sym (length-map (typed_locks start h) (λ (k : Lock). k.m
 
 pub lock_at-made : (start : Start) (h : List Entry) (l : ℕ) → (lock_at (typed_locks start h) l).made ≡ lock_of (locks_of h) l
 lock_at-made start h l =
-    sym (get_or-map (λ (k : Lock). k.made) (typed_locks start h) (l - 1) unknown_lock) ∙ ap (λ ls. lock_of ls l) (typed-made start h)
+    sym (with_number-or-map (λ (k : Lock). k.made) (typed_locks start h) l unknown_lock) ∙ ap (λ ls. lock_of ls l) (typed-made start h)
 
 pub spin_at : (start : Start) (h : List Entry) (l : ℕ) → is_spin (lock_at (typed_locks start h) l).made.class ≡ is_spin_lock (locks_of h) l
 spin_at start h l = ap (λ (k : NewLock). is_spin k.class) (lock_at-made start h l)

@@ -21,6 +21,7 @@ use Rattle.wit_model.specs.Rules.Types.{LockType, is_named, is_enrolled, is_same
 use Rattle.wit_model.specs.Rules.Locks.{Lock, has_flag, made_among, unknown_lock, lock_at}
 use Rattle.wit_model.specs.Rules.State.{Start, state_of, types_of, typed_locks}
 use Rattle.wit_model.specs.Rules.Step.{answer_of, story_after, IsLegal}
+use Rattle.wit_model.proofs.Numbered.{with_number-or, with_number-stays}
 use Rattle.wit_model.proofs.Chains.Seats.{entry}
 use Rattle.wit_model.proofs.Histories.Accepted.{init_accepted}
 
@@ -120,7 +121,7 @@ typed-unlock start h t l m r = append-nil (typed_locks start h)
 -- a lock that was made is the same in a longer history
 pub lock-stays : (start : Start) (x : Entry) (h : List Entry) (l : ℕ) → 0 < l → l ≤ length (typed_locks start h)
     → lock_at (typed_locks start (x ∷ h)) l ≡ lock_at (typed_locks start h) l
-lock-stays start x h l some within = get_or_append_left (typed_locks start h) (made_among (types_of start h) x.call) unknown_lock (l - 1) (omega arith)
+lock-stays start x h l some within = with_number-stays (typed_locks start h) (made_among (types_of start h) x.call) l unknown_lock some (omega arith)
 
 -- a lock's type is enrolled, and has the lock's type number
 pub record IsTyped (types : List LockType) (k : Lock) : Type 0 where
@@ -167,7 +168,8 @@ typed_all start (x ∷ h) = typed_more start x.seat.0 x.call x.reply h (typed_al
 -- every lock made is of an enrolled type, under its number
 pub typed_made : (start : Start) (h : List Entry) (l : ℕ) → 0 < l → l ≤ length (typed_locks start h) → IsTyped (types_of start h) (lock_at (typed_locks start h) l)
 unfolding AreTyped
-typed_made start h l some within = typed_all start h (l - 1) (omega arith)
+typed_made start h l some within =
+    subst (λ (k : Lock). IsTyped (types_of start h) k) (sym (with_number-or (typed_locks start h) l unknown_lock some)) (typed_all start h (l - 1) (omega arith))
 
 -- types and locks stay within the sizes
 length-enrolled : (name : List ℕ) (class : Class) (types : List LockType) (most : ℕ) → (not (is_enrolled name types) && nat_le most (length types)) ≡ false
@@ -261,4 +263,7 @@ pub types-apart : (start : Start) (files : List (List ℕ)) (h : List Entry) (l 
     → (lock_at (typed_locks start h) l).type_no.0 ≡ (lock_at (typed_locks start h) m).type_no.0 → l ≡ m
 unfolding AreApart
 types-apart start files h l m legal somel withinl somem withinm same =
-    let e : l - 1 ≡ m - 1 = apart_all start files h legal (l - 1) (m - 1) (omega arith) (omega arith) same in omega arith
+    let at : (n : ℕ) → 0 < n → (lock_at (typed_locks start h) n).type_no.0 ≡ (get_or (typed_locks start h) (n - 1) unknown_lock).type_no.0 =
+    λ n some. ap (λ (k : Lock). k.type_no.0) (with_number-or (typed_locks start h) n unknown_lock some) in
+    let e : l - 1 ≡ m - 1 = apart_all start files h legal (l - 1) (m - 1) (omega arith) (omega arith) (sym (at l somel) ∙ same ∙ at m somem) in
+    omega arith

@@ -1,5 +1,5 @@
 -- Source files, by number from 1 in order of first appearance.
-use Rattle.std.specs.Prelude.{ℕ, ◌+◌, ◌≡◌, Bool, not, ◌&&◌, List, [], ◌∷◌, ◌++◌, length, nat_le, Result, Ok, Err, if◌then◌else◌, ◌⊎◌}
+use Rattle.std.specs.Prelude.{ℕ, ◌+◌, ◌≡◌, Bool, false, not, ◌&&◌, List, [], ◌∷◌, ◌++◌, length, nat_le, Result, Ok, Err, if◌then◌else◌, ◌⊎◌}
 use Rattle.std.specs.List.{list_any, position_or_len}
 use Rattle.std.specs.Str.{bytes_eq}
 use Rattle.wit_model.specs.declared.faults.Fault.{Fault}
@@ -27,13 +27,15 @@ file_answer name files =
 abbrev pub files_after : List ℕ → List (List ℕ) → List (List ℕ)
 files_after name files = if is_known_file name files then files else files ++ name ∷ []
 
+-- the answer is a number
 abbrev pub IsNumbered : Result ℕ Fault → Type 0
 IsNumbered (Ok n) = Unit {0}
 IsNumbered (Err fault) = ⊥
 
 -- naming a file adds it where it is new and changes nothing else; a refusal changes nothing, and want of memory stands only in
--- place of a number
+-- place of a new file's number
 abbrev pub NamesFile : Story → List ℕ → Result FileNo Fault → Story → Type 0
 NamesFile old name (Ok f) new = (file_answer name old.files ≡ Ok f.0) × (new ≡ record old { files = files_after name old.files })
 NamesFile old name (Err fault) new =
-    ((file_answer name old.files ≡ Err fault) ⊎ ((fault ≡ OutOfMemory) × IsNumbered (file_answer name old.files))) × (new ≡ old)
+    ((file_answer name old.files ≡ Err fault)
+    ⊎ ((fault ≡ OutOfMemory) × (is_known_file name old.files ≡ false) × IsNumbered (file_answer name old.files))) × (new ≡ old)

@@ -1,6 +1,5 @@
 -- The locks that were made. A lock's number is its place among them, from 1.
-use Rattle.std.specs.Prelude.{ℕ, ◌-◌, Bool, true, false, not, ◌&&◌, ◌==◌, List, [], ◌∷◌, ◌++◌, None, length, nat_lt, nat_le}
-use Rattle.std.specs.List.{slice_index_or}
+use Rattle.std.specs.Prelude.{ℕ, Bool, true, false, not, ◌==◌, List, [], ◌∷◌, ◌++◌, None, unwrap_or}
 use Rattle.std.specs.Int.RustNames.{bit_and}
 use Rattle.wit_model.specs.declared.locks.Class.TheVariants.{SleepMutex}
 pub use Rattle.wit_model.specs.declared.locks.Lock.{Lock}
@@ -8,6 +7,7 @@ use Rattle.wit_model.specs.declared.calls.NewLock.{NewLock}
 use Rattle.wit_model.specs.declared.calls.Call.{Call}
 use Rattle.wit_model.specs.declared.calls.Call.TheVariants.{Init}
 use Rattle.wit_model.specs.declared.calls.Entry.{Entry}
+use Rattle.wit_model.specs.Rules.Numbers.{is_given, with_number}
 use Rattle.wit_model.specs.Rules.Types.{LockType, type_number, type_name_of, is_spin}
 
 -- whether a set of flags has this one
@@ -29,7 +29,7 @@ no_lock = record { class = SleepMutex; flags = record { 0 = 0 }; name = []; type
 
 -- what the lock with this number was made as
 abbrev pub lock_of : List NewLock → ℕ → NewLock
-lock_of locks l = slice_index_or locks (l - 1) no_lock
+lock_of locks l = unwrap_or (with_number locks l) no_lock
 
 -- whether the lock is of the spin kind
 abbrev pub is_spin_lock : List NewLock → ℕ → Bool
@@ -51,8 +51,8 @@ unknown_lock = record { type_no = record { 0 = 0 }; made = no_lock }
 
 -- the lock with this number
 abbrev pub lock_at : List Lock → ℕ → Lock
-lock_at locks l = slice_index_or locks (l - 1) unknown_lock
+lock_at locks l = unwrap_or (with_number locks l) unknown_lock
 
 -- whether a lock with this number was made
 abbrev pub is_made : List Lock → ℕ → Bool
-is_made locks l = nat_lt 0 l && nat_le l (length locks)
+is_made locks l = is_given locks l

@@ -37,6 +37,11 @@ is_before (o ∷ orders) a b =
     is_before orders a b
     || (((o.parent.0 == a) || is_before orders a o.parent.0) && ((o.child.0 == b) || is_before orders o.child.0 b))
 
+-- no order stands twice: each was new when it was adopted
+abbrev pub AreDistinct : List Adoption → Type 0
+AreDistinct [] = Unit {0}
+AreDistinct (o ∷ orders) = (is_direct orders o.parent.0 o.child.0 ≡ false) × AreDistinct orders
+
 -- no type is before itself
 abbrev pub IsSound : List Adoption → Type 0
 IsSound orders = (a : ℕ) → Before orders a a → ⊥

@@ -1,5 +1,6 @@
 -- How much a verifier holds.
-use Rattle.std.specs.Prelude.{ℕ, ◌<◌, ◌≤◌, Bool, ◌&&◌, nat_lt, nat_le}
+use Rattle.std.specs.Prelude.{ℕ, ◌<◌, ◌≤◌, Bool, ◌&&◌}
+use Rattle.wit_model.specs.Rules.Numbers.{is_number}
 
 -- seats, lock types, locks ever made, chunks of held locks, entries of the log
 pub record Sizes : Type 0 where
@@ -22,7 +23,7 @@ pub record AreWithin (s : Sizes) : Type 0 where
   pub log : (0 < s.log) × (s.log ≤ 16777216)
 
 abbrev pub is_within : ℕ → ℕ → Bool
-is_within n most = nat_lt 0 n && nat_le n most
+is_within n most = is_number most n
 
 -- the test for it
 abbrev pub are_within : Sizes → Bool

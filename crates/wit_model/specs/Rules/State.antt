@@ -1,6 +1,6 @@
 -- The state of a verifier: what its rules speak of, taken over its history.
-use Rattle.std.specs.Prelude.{ℕ, ◌+◌, ◌-◌, Bool, true, false, ◌&&◌, nat_lt, nat_le, List, [], ◌∷◌, ◌++◌, Option, None, Some, map, length, sum_by}
-use Rattle.std.specs.List.{range_with_len, slice_index_or}
+use Rattle.std.specs.Prelude.{ℕ, ◌+◌, Bool, true, false, nat_le, List, [], ◌∷◌, ◌++◌, Option, None, Some, map, length, unwrap_or, sum_by}
+use Rattle.std.specs.List.{range_with_len}
 use Rattle.wit_model.specs.declared.locks.Class.{Class}
 use Rattle.wit_model.specs.declared.locks.TypeNo.{TypeNo}
 use Rattle.wit_model.specs.declared.locks.Instance.{Instance}
@@ -10,6 +10,7 @@ use Rattle.wit_model.specs.declared.calls.Reply.TheVariants.{Silent, Reversal}
 use Rattle.wit_model.specs.declared.calls.Request.{Request}
 use Rattle.wit_model.specs.declared.calls.Entry.{Entry}
 use Rattle.wit_model.specs.Rules.Sizes.{Sizes}
+use Rattle.wit_model.specs.Rules.Numbers.{is_given, with_number}
 use Rattle.wit_model.specs.Rules.Types.{LockType, listed_types, types_from}
 use Rattle.wit_model.specs.Rules.Locks.{Lock, made_among, lock_at}
 use Rattle.wit_model.specs.Rules.Orders.{listed_orders, orders_from, found_once}
@@ -28,6 +29,10 @@ pub record Story : Type 0 where
   pub start : Start
   pub history : List Entry
   pub files : List (List ℕ)
+
+-- nothing has happened, and no file is named
+abbrev pub fresh : Start → Story
+fresh start = record { start = start; history = []; files = [] }
 
 -- what a seat holds, of each kind oldest first, and what it has asked for
 pub record Seat : Type 0 where
@@ -104,10 +109,10 @@ no_seat = record { sleep = []; spin = []; pending = None }
 
 -- the seat with this number
 abbrev pub seat_at : State → ℕ → Seat
-seat_at s t = slice_index_or s.seats (t - 1) no_seat
+seat_at s t = unwrap_or (with_number s.seats t) no_seat
 
 abbrev pub is_seat : State → ℕ → Bool
-is_seat s t = nat_lt 0 t && nat_le t (length s.seats)
+is_seat s t = is_given s.seats t
 
 -- the acquisitions in a chain, recursions counted
 abbrev pub recorded_in : List Instance → ℕ

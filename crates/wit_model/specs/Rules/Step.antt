@@ -1,6 +1,6 @@
 -- What a verifier answers to a call, and which histories are legal. In each call the faults stand in the order in
 -- which they apply; want of memory is never among them.
-use Rattle.std.specs.Prelude.{ℕ, ◌+◌, ◌≡◌, Bool, true, false, not, ◌&&◌, ◌||◌, ◌==◌, nat_lt, nat_le, List, [], ◌∷◌, Option, None, Some, Result, Ok, Err, find, length, codes, is_some, if◌then◌else◌, ◌⊎◌}
+use Rattle.std.specs.Prelude.{ℕ, ◌+◌, ◌≡◌, Bool, true, false, not, ◌&&◌, ◌||◌, ◌==◌, nat_le, List, [], ◌∷◌, Option, None, Some, Result, Ok, Err, find, length, codes, is_some, if◌then◌else◌, ◌⊎◌}
 use Rattle.std.specs.List.{list_any}
 use Rattle.std.specs.Str.{bytes_eq}
 use Rattle.wit_model.specs.declared.faults.Fault.{Fault}
@@ -17,6 +17,7 @@ use Rattle.wit_model.specs.declared.calls.Reply.{Reply}
 use Rattle.wit_model.specs.declared.calls.Reply.TheVariants.{Made, Recorded, Unlocked}
 use Rattle.wit_model.specs.declared.calls.Entry.{Entry}
 use Rattle.wit_model.specs.Rules.Names.{is_name}
+use Rattle.wit_model.specs.Rules.Numbers.{is_number}
 use Rattle.wit_model.specs.Rules.Types.{type_name_of, type_number, is_enrolled, is_otherwise, is_same_class, is_spin}
 use Rattle.wit_model.specs.Rules.Locks.{Lock, has_flag, lock_at, is_made}
 use Rattle.wit_model.specs.Rules.State.{Start, Story, State, state_of, seat_at, is_seat, has_room}
@@ -62,7 +63,7 @@ step_init s t lock =
 
 -- a site's file is one that was named
 abbrev pub is_file : State → ℕ → Bool
-is_file s f = nat_lt 0 f && nat_le f s.files
+is_file s f = is_number s.files f
 
 -- mutexes are never held shared (mutex(9))
 abbrev pub is_shareable : Class → Bool

@@ -1,8 +1,8 @@
 -- Lock types: the name that mtx_init is passed as type "is used by the witness code to classify a mutex when doing
 -- checks of lock ordering" (mutex(9)). A type is a name with a class, and its number is its place among the types
 -- enrolled so far, from 1.
-use Rattle.std.specs.Prelude.{ℕ, ◌+◌, ◌-◌, Bool, true, false, not, ◌&&◌, List, [], ◌∷◌, ◌++◌, unwrap_or, if◌then◌else◌}
-use Rattle.std.specs.List.{list_any, position_or_len, slice_index_or}
+use Rattle.std.specs.Prelude.{ℕ, ◌+◌, Bool, true, false, not, ◌&&◌, List, [], ◌∷◌, ◌++◌, unwrap_or, if◌then◌else◌}
+use Rattle.std.specs.List.{list_any, position_or_len}
 use Rattle.std.specs.Str.{bytes_eq}
 use Rattle.wit_model.specs.declared.locks.Class.{Class}
 use Rattle.wit_model.specs.declared.locks.Class.TheVariants.{SleepMutex, SpinMutex, Rw, Sx}
@@ -10,6 +10,7 @@ use Rattle.wit_model.specs.declared.calls.NewLock.{NewLock}
 use Rattle.wit_model.specs.declared.calls.Call.{Call}
 use Rattle.wit_model.specs.declared.calls.Call.TheVariants.{Init}
 use Rattle.wit_model.specs.declared.calls.Entry.{Entry}
+use Rattle.wit_model.specs.Rules.Numbers.{with_number}
 pub use Rattle.wit_model.specs.declared.locks.LockType.{LockType}
 
 abbrev pub is_same_class : Class → Class → Bool
@@ -42,9 +43,9 @@ is_otherwise name class types = list_any (λ t. is_named name t && not (is_same_
 abbrev no_type : LockType
 no_type = record { name = []; class = SleepMutex }
 
--- the name of the type with this number
+-- the name of the type with this number, empty where there is none
 abbrev pub name_of : ℕ → List LockType → List ℕ
-name_of number types = (slice_index_or types (number - 1) no_type).name
+name_of number types = (unwrap_or (with_number types number) no_type).name
 
 -- the types once this name is enrolled: a known name stays where it is
 abbrev pub enrolled : List ℕ → Class → List LockType → List LockType

@@ -1,7 +1,6 @@
 -- What a replay writes for a trace, and what it sums up.
-use Rattle.std.specs.Prelude.{ℕ, ◌+◌, ◌-◌, Bool, ◌||◌, nat_lt, List, [], ◌∷◌, ◌++◌, length, take, Option, None, Some, Result, Ok, Err, codes, if◌then◌else◌}
+use Rattle.std.specs.Prelude.{ℕ, ◌+◌, Bool, ◌||◌, nat_lt, List, [], ◌∷◌, ◌++◌, length, take, unwrap_or, Option, None, Some, Result, Ok, Err, codes, if◌then◌else◌}
 use Rattle.std.specs.Fmt.{decimal}
-use Rattle.std.specs.List.{slice_index_or}
 use Rattle.std.specs.Str.{bytes_eq}
 use Rattle.wit_model.specs.declared.faults.Fault.{Fault}
 use Rattle.wit_model.specs.declared.lines.Line.{Line}
@@ -17,8 +16,9 @@ use Rattle.wit_model.specs.Rules.Files.{file_answer, files_after}
 use Rattle.wit_model.specs.Rules.History.{reports_of}
 use Rattle.wit_model.specs.Trace.Reading.{line_of}
 use Rattle.wit_model.specs.Rules.Sizes.{Sizes, sizes_of, are_within}
+use Rattle.wit_model.specs.Rules.Numbers.{with_number}
 use Rattle.wit_model.specs.Rules.Start.{start_fault}
-use Rattle.wit_model.specs.Rules.State.{Start, Story, known_of}
+use Rattle.wit_model.specs.Rules.State.{Start, Story, fresh, known_of}
 use Rattle.wit_model.specs.Rules.Step.{answer_of, logged}
 use Rattle.wit_model.specs.Trace.Texts.{report_text}
 
@@ -50,9 +50,6 @@ with_list p n list = record { start = record p.start { lists = p.start.lists ++ 
 abbrev pub with_pair : Prelude → List ℕ → List ℕ → Prelude
 with_pair p a b = record p { start = record p.start { blessed = p.start.blessed ++ (a, b) ∷ [] } }
 
-abbrev pub fresh_story : Start → Story
-fresh_story start = record { start = start; history = []; files = [] }
-
 -- the number of a bad line, and why it is bad
 abbrev pub BadLine : Type 0
 BadLine = ℕ × cause.Cause
@@ -63,8 +60,8 @@ is_prelude line = bytes_eq (take 6 line) (codes "order ") || bytes_eq (take 6 li
 
 -- the lists are entered: one that is refused is bad at its own line
 abbrev pub opened : Prelude → Option (ℕ × Fault) → Result Progress BadLine
-opened p None = Ok (Reading (fresh_story p.start))
-opened p (Some refused) = Err (slice_index_or p.lines (refused.0 - 1) 0, why.Fault refused.1)
+opened p None = Ok (Reading (fresh p.start))
+opened p (Some refused) = Err (unwrap_or (with_number p.lines refused.0) 0, why.Fault refused.1)
 
 -- where the reading stands when a line is looked at: before a line that doesn't begin as those of the prelude do, and at the
 -- end of the input, the prelude ends

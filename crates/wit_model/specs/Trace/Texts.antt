@@ -1,11 +1,9 @@
 -- The texts of reports.
-use Rattle.std.specs.Prelude.{ℕ, ◌-◌, List, [], ◌∷◌, ◌++◌, Option, None, Some, find, length, codes}
+use Rattle.std.specs.Prelude.{ℕ, List, [], ◌∷◌, ◌++◌, Option, None, Some, find, length, unwrap_or, codes}
 use Rattle.std.specs.Fmt.{decimal}
-use Rattle.std.specs.List.{slice_index_or}
 use Rattle.wit_model.specs.declared.locks.Class.{Class}
 use Rattle.wit_model.specs.declared.locks.Class.TheVariants.{SleepMutex, SpinMutex, Rw, Sx}
 use Rattle.wit_model.specs.declared.locks.Lock.{Lock}
-use Rattle.wit_model.specs.declared.locks.LockType.{LockType}
 use Rattle.wit_model.specs.declared.locks.Site.{Site}
 use Rattle.wit_model.specs.declared.locks.Origin.{Origin}
 use Rattle.wit_model.specs.declared.locks.Origin.TheVariants.{Listed, Defined, At}
@@ -16,7 +14,8 @@ use Rattle.wit_model.specs.declared.calls.LockAt.{LockAt}
 use Rattle.wit_model.specs.declared.calls.Conflict.{Conflict}
 use Rattle.wit_model.specs.declared.calls.Reply.{Reply}
 use Rattle.wit_model.specs.declared.calls.Reply.TheVariants.{Reversal}
-use Rattle.wit_model.specs.Rules.Types.{type_name_of}
+use Rattle.wit_model.specs.Rules.Numbers.{with_number}
+use Rattle.wit_model.specs.Rules.Types.{type_name_of, name_of}
 use Rattle.wit_model.specs.Rules.Locks.{lock_at}
 use Rattle.wit_model.specs.Rules.Orders.{is_adoption_of}
 use Rattle.wit_model.specs.Trace.Paths.{path}
@@ -30,9 +29,9 @@ class_words SpinMutex = codes "spin mutex"
 class_words Rw = codes "rw"
 class_words Sx = codes "sx"
 
--- the file with this number
+-- the file with this number, empty where there is none
 abbrev pub file_with : List (List ℕ) → ℕ → List ℕ
-file_with files f = slice_index_or files (f - 1) []
+file_with files f = unwrap_or (with_number files f) []
 
 -- a place in the watched program: FILE:LINE
 abbrev pub site_words : List (List ℕ) → Site → List ℕ
@@ -56,10 +55,6 @@ conflict_lines locks files c None = lock_line locks files (codes "1st") c.held +
 conflict_lines locks files c (Some older) =
     lock_line locks files (codes "1st") older ++ (lock_line locks files (codes "2nd") c.held ++ lock_line locks files (codes "3rd") c.asked)
 
--- the name of the type with this number
-abbrev pub type_words : List LockType → ℕ → List ℕ
-type_words types t = (slice_index_or types (t - 1) (record { name = []; class = SleepMutex })).name
-
 -- where an order comes from
 abbrev pub origin_words : List (List ℕ) → Option Adoption → List ℕ
 origin_words files None = []
@@ -73,7 +68,7 @@ origin_words files (Some o) = by_origin files o.origin
 -- a direct order, as a line: "TYPE" -> "TYPE" @ ORIGIN
 abbrev pub order_line : Known → List (List ℕ) → ℕ → ℕ → List ℕ
 order_line k files a b =
-    codes " " ++ (quoted (type_words k.types a) ++ (codes " -> " ++ (quoted (type_words k.types b) ++ (codes " @ "
+    codes " " ++ (quoted (name_of a k.types) ++ (codes " -> " ++ (quoted (name_of b k.types) ++ (codes " @ "
     ++ (origin_words files (find (is_adoption_of a b) k.orders) ++ 10 ∷ [])))))
 
 -- the orders between neighbours of a path

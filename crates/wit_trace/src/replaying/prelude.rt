@@ -1,7 +1,7 @@
 //! The prelude of a trace.
 
-ghost use Rattle.std.specs.Prelude.{◌≡◌, ◌-◌, IfOk};
-ghost use Rattle.std.specs.List.{slice_index_or};
+ghost use Rattle.std.specs.Prelude.{◌≡◌, unwrap_or, IfOk};
+ghost use Rattle.wit_model.specs.Rules.Numbers.{with_number};
 ghost use Rattle.wit_core.specs.Listed.{listed};
 ghost use Rattle.wit_model.specs.Trace.Output.{Opening, empty_prelude, entered, is_prelude, opened};
 ghost use Rattle.wit_model.specs.Rules.Start.{start_fault};
@@ -102,11 +102,14 @@ pub fn open(alloc: Global, prelude: Prelude) -> Result<Result<Verifier, (u64, Ca
     }
 }
 
-/// The number of a list's line, where lists count from 1.
+/// The number of a list's line, where lists count from 1; 0 for no list.
 fn line_of_list(lines: &[u64], list: u64) -> u64
-    ensures { result ≡ slice_index_or lines.now (list - 1) 0 }
+    ensures { result ≡ unwrap_or (with_number lines.now list) 0 }
 {
-    match lines.get(list.saturating_sub(1) as usize) {
+    if list == 0 {
+        return 0;
+    }
+    match lines.get(list as usize - 1) {
         Some(number) => *number,
         None => 0,
     }

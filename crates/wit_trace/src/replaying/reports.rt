@@ -7,8 +7,8 @@ ghost use Rattle.wit_model.specs.Trace.Output.{told, cause_text, bad_text};
 ghost use Rattle.wit_model.specs.Trace.Paths.{path, type_numbers};
 ghost use Rattle.wit_model.specs.Trace.Spelling.{quoted};
 ghost use Rattle.wit_model.specs.Rules.State.{known_of, orders_of, types_of, typed_locks};
-ghost use Rattle.wit_model.specs.Trace.Texts.{heading_words, class_words, type_words, file_with, site_words, lock_line, conflict_lines, origin_words, order_line, order_lines, established};
-ghost use Rattle.wit_model.specs.Rules.Types.{type_name_of};
+ghost use Rattle.wit_model.specs.Trace.Texts.{heading_words, class_words, file_with, site_words, lock_line, conflict_lines, origin_words, order_line, order_lines, established};
+ghost use Rattle.wit_model.specs.Rules.Types.{name_of, type_name_of};
 ghost use Rattle.wit_model.specs.declared.calls.Reply.TheVariants.{Reversal};
 
 use std::alloc::{AllocError, Global};
@@ -18,8 +18,7 @@ use wit_model::{
 };
 
 /// The text of a reply's report, as things stand once the reply was given; empty where it reports nothing.
-/// Number 0 is read as 1; any other number that was never given stands for an empty name, and a lock under
-/// it for a sleep mutex.
+/// A number that was never given stands for an empty name, and a lock under it for a sleep mutex.
 ///
 /// # Errors
 /// Want of memory alone.
@@ -69,11 +68,11 @@ fn class_words(class: Class) -> &'static str
     }
 }
 
-// What stands under a number. 0, which is never given, is read as 1, as in the definitions of the texts.
+// What stands under a number.
 fn lock_name(verifier: &Verifier, lock: LockNo) -> &str
     ensures { result.now ≡ (lock_at (typed_locks verifier.now.start verifier.now.history) lock.0).made.name }
 {
-    match verifier.lock_name(LockNo(lock.0.max(1))) {
+    match verifier.lock_name(lock) {
         Some(name) => name,
         None => "",
     }
@@ -82,7 +81,7 @@ fn lock_name(verifier: &Verifier, lock: LockNo) -> &str
 fn type_number(verifier: &Verifier, lock: LockNo) -> TypeNo
     ensures { result ≡ (lock_at (typed_locks verifier.now.start verifier.now.history) lock.0).type_no }
 {
-    match verifier.type_of(LockNo(lock.0.max(1))) {
+    match verifier.type_of(lock) {
         Some(number) => number,
         None => TypeNo(0),
     }
@@ -93,7 +92,7 @@ fn type_name(verifier: &Verifier, lock: LockNo) -> &str
 {
     // In a legal log, a lock's type has its type name and its class.
     let _log = verifier.history();
-    match verifier.type_of(LockNo(lock.0.max(1))) {
+    match verifier.type_of(lock) {
         Some(number) => verifier.type_name(number).unwrap_or(""),
         None => "",
     }
@@ -104,16 +103,16 @@ fn class_of(verifier: &Verifier, lock: LockNo) -> Class
 {
     // In a legal log, a lock's type has its type name and its class.
     let _log = verifier.history();
-    match verifier.type_of(LockNo(lock.0.max(1))) {
+    match verifier.type_of(lock) {
         Some(number) => verifier.class_of(number).unwrap_or(Class::SleepMutex),
         None => Class::SleepMutex,
     }
 }
 
 fn type_words(verifier: &Verifier, number: TypeNo) -> &str
-    ensures { result.now ≡ type_words (types_of verifier.now.start verifier.now.history) number.0 }
+    ensures { result.now ≡ name_of number.0 (types_of verifier.now.start verifier.now.history) }
 {
-    match verifier.type_name(TypeNo(number.0.max(1))) {
+    match verifier.type_name(number) {
         Some(name) => name,
         None => "",
     }
@@ -122,7 +121,7 @@ fn type_words(verifier: &Verifier, number: TypeNo) -> &str
 fn file_words(verifier: &Verifier, file: FileNo) -> &str
     ensures { result.now ≡ file_with verifier.now.files file.0 }
 {
-    match verifier.file_name(FileNo(file.0.max(1))) {
+    match verifier.file_name(file) {
         Some(name) => name,
         None => "",
     }

@@ -1,4 +1,5 @@
-use Rattle.wit_core.proofs.Relating.{among-them, path-told}
+use Rattle.std.proofs.Common.{◌∙◌, sym}
+use Rattle.wit_core.proofs.Relating.{among-them, path-told, leads-told, wanting-told}
 use Rattle.wit_core.proofs.orders.Orders.path.Goals as goal
 
 pub path-requires-clause-a : goal.path-requires-clause-a
@@ -13,3 +14,9 @@ pub returns-clause-ok : goal.returns-clause-ok
 returns-clause-ok c =
     path-told c.self.inside c.self.invariant c.args.self.now c.self.view_is c.args.from.0 c.args.to.0 c.is_before.result c.is_before.ensures c.if-not-is_before.false
     c.size-size.ensures.sound c.path.result c.path.ensures.ok
+
+pub returns-clause-leads : goal.returns-clause-leads
+returns-clause-leads c = leads-told c.self.inside c.self.invariant c.args.self.now c.self.view_is c.args.from.0 c.args.to.0 c.path.result c.path.ensures.leads
+
+pub returns-clause-err : goal.returns-clause-err
+returns-clause-err c = wanting-told c.path.result _ c.path.ensures.err (sym c.is_before.ensures ∙ c.if-not-is_before.false)

@@ -18,3 +18,8 @@ invariant_of-self c =
 pub enter_check-requires-clause-apt : goal.enter_check-requires-clause-apt
 enter_check-requires-clause-apt c =
     apt c.self.inside c.self.invariant c.args.seat.0 _ c.in_ok-verdict.verdict (answered c.self.inside c.args.seat.0 (Check _) _ c.self.invariant c.in_ok-verdict.ensures)
+
+pub invariant_of-self-2 : goal.invariant_of-self-2
+invariant_of-self-2 c =
+    kept_check c.self.inside c.args.seat.0 _ c.in_ok-verdict.verdict _ c.enter_check.new.self c.self.invariant
+    (answered c.self.inside c.args.seat.0 (Check _) _ c.self.invariant c.in_ok-verdict.ensures) c.enter_check.ensures.ok c.enter_check.ensures.err

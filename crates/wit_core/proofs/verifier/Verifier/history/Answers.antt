@@ -1,4 +1,7 @@
 use Rattle.wit_core.proofs.verifier.Verifier.history.Goals as goal
 
+pub returns-clause-accepted : goal.returns-clause-accepted
+returns-clause-accepted c = rw (← c.self.view_is) c.self.invariant.started
+
 pub returns-clause-legal : goal.returns-clause-legal
 returns-clause-legal c = rw (← c.self.view_is) c.self.invariant.legal

@@ -1,5 +1,6 @@
-use Rattle.std.proofs.Common.{◌≡◌, ℕ, List, true}
+use Rattle.std.proofs.Common.{◌≡◌, ℕ, List, true, ◌∙◌}
 use Rattle.wit_model.specs.Rules.Names.{is_file_name}
+use Rattle.wit_model.proofs.Numbered.{with_number-at}
 use Rattle.wit_table.specs.Rows.{texts}
 use Rattle.wit_table.proofs.Places.{file_number-at, All-at}
 use Rattle.wit_table.proofs.table.Table.file_name.Goals as goal
@@ -11,3 +12,6 @@ returns-clause-number c =
 pub returns-clause-good : goal.returns-clause-good
 returns-clause-good c =
     All-at (λ (f : List ℕ). is_file_name f ≡ true) (texts c.self.inside.files.keys) _ _ c.self.invariant.file_names c.file_at.ensures
+
+pub returns-clause-name : goal.returns-clause-name
+returns-clause-name c = rw (← c.self.view_is) (with_number-at (texts c.self.inside.files.keys) c.args.file.0 c.requires.0 ∙ c.file_at.ensures)

@@ -1,5 +1,4 @@
-use Rattle.std.proofs.Common.{◌∙◌, arith}
-use Rattle.std.proofs.lemmas.Grind.{common_steps}
+use Rattle.std.proofs.Common.{◌∙◌, ap, sym}
 use Rattle.wit_trace.proofs.ReportLemmas.{class_as_made}
 use Rattle.wit_trace.proofs.replaying.reports.class_of.Goals as goal
 
@@ -7,5 +6,4 @@ pub returns-in-Some : goal.returns-in-Some
 returns-in-Some c =
     let v = c.args.verifier.now in
     c.unwrap_or.ensures
-    ∙ class_as_made v.start v.files v.history c.args.lock.0 c.max.result c.in-Some.number c.class_of.result c.history-log.ensures.legal (grind (arith, common_steps)) (grind (arith, common_steps))
-    c.in-Some.ensures c.class_of.ensures
+    ∙ class_as_made v.start v.files v.history c.args.lock.0 c.in-Some.number c.class_of.result c.history-log.ensures.legal c.in-Some.ensures c.class_of.ensures
