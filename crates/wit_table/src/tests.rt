@@ -1,136 +1,194 @@
-//! Each call once on its happy path, and the answers that callers rest on.
+//! Calls in turn with the answers that callers rest on, and many long names.
+//!
+//! A call that wants memory is made again, so that `calls_in_turn` passes whichever growth is refused once.
+
+ghost use Rattle.std.specs.Prelude.{◌<◌, ◌≤◌};
 
 use crate::Table;
-use std::alloc::Global;
+use std::alloc::{AllocError, Global};
 use std::test::Fail;
 use wit_model::{Class, Fault, FileNo, TypeNo};
 
-/// A table with the types `A` and `B`, which has room for one more.
-fn two_types(alloc: Global) -> Result<Table, Fail> {
-    let mut table = Table::new(alloc, 3, 2)?;
-    table.enroll("A", Class::SleepMutex)?;
-    table.enroll("B", Class::SpinMutex)?;
-    Ok(table)
+/// A call, and what it has to answer.
+#[derive(Clone, Copy)]
+enum Call {
+    Enroll(&'static str, Class, Result<TypeNo, Fault>),
+    Find(&'static str, Option<TypeNo>),
+    /// The type with this name is read by its number: its name, its class and its live locks.
+    Read(&'static str, Class, u32),
+    Retain(&'static str),
+    Release(&'static str),
+    File(&'static str, Result<FileNo, Fault>),
+    FileName(FileNo, &'static str),
+    Bless(&'static str, &'static str, Result<(), Fault>),
+    Blessed(&'static str, &'static str, bool),
+    /// How many types and files there are.
+    Counts(usize, usize),
 }
 
-#[test]
-fn types_are_numbered_from_one(rt: HostRuntime) -> Result<(), Fail> {
-    let mut table = Table::new(rt.alloc(), 3, 2)?;
-    assert_eq!(rt; table.len(), 0);
-    assert_eq!(rt; table.enroll("A", Class::SleepMutex), Ok(TypeNo(1)));
-    assert_eq!(rt; table.enroll("B", Class::SpinMutex), Ok(TypeNo(2)));
-    assert_eq!(rt; table.enroll("A", Class::SleepMutex), Ok(TypeNo(1)));
-    assert_eq!(rt; table.len(), 2);
-    assert_eq!(rt; table.find("B"), Some(TypeNo(2)));
-    assert_eq!(rt; table.find("C"), None);
-    Ok(())
+const CALLS: [Call; 43] = [
+    Call::Counts(0, 0),
+    Call::Find("A", None),
+    Call::Enroll("", Class::Rw, Err(Fault::BadName)),
+    Call::Enroll("A", Class::SleepMutex, Ok(TypeNo(1))),
+    Call::Enroll("B", Class::SpinMutex, Ok(TypeNo(2))),
+    Call::Enroll("A", Class::SleepMutex, Ok(TypeNo(1))),
+    Call::Counts(2, 0),
+    Call::Find("B", Some(TypeNo(2))),
+    Call::Find("C", None),
+    Call::Read("A", Class::SleepMutex, 0),
+    Call::Read("B", Class::SpinMutex, 0),
+    Call::Enroll("A", Class::Rw, Err(Fault::ClassMismatch)),
+    Call::Enroll("C", Class::Sx, Ok(TypeNo(3))),
+    Call::Enroll("D", Class::Sx, Err(Fault::TypesFull)),
+    Call::Enroll("A", Class::Rw, Err(Fault::ClassMismatch)),
+    Call::Enroll("A", Class::SleepMutex, Ok(TypeNo(1))),
+    Call::Counts(3, 0),
+    Call::Find("D", None),
+    Call::Retain("B"),
+    Call::Retain("B"),
+    Call::Read("A", Class::SleepMutex, 0),
+    Call::Read("B", Class::SpinMutex, 2),
+    Call::Release("B"),
+    Call::Read("A", Class::SleepMutex, 0),
+    Call::Read("B", Class::SpinMutex, 1),
+    Call::Read("C", Class::Sx, 0),
+    Call::File("f.c", Ok(FileNo(1))),
+    Call::File("g.c", Ok(FileNo(2))),
+    Call::File("h.c", Err(Fault::FilesFull)),
+    Call::File("a b", Err(Fault::BadName)),
+    Call::File("f.c", Ok(FileNo(1))),
+    Call::Counts(3, 2),
+    Call::FileName(FileNo(1), "f.c"),
+    Call::FileName(FileNo(2), "g.c"),
+    Call::Blessed("A", "B", false),
+    Call::Bless("A", "B", Ok(())),
+    Call::Bless("A", "\"", Err(Fault::BadName)),
+    Call::Blessed("A", "B", true),
+    Call::Blessed("B", "A", true),
+    Call::Blessed("A", "A", false),
+    Call::Blessed("A", "C", false),
+    Call::Counts(3, 2),
+    Call::Find("A", Some(TypeNo(1))),
+];
+
+fn make(alloc: Global, types: u32, files: u32) -> Result<Table, Fault>
+    requires types { (0 < types) × (types ≤ 1023) }
+    requires files { (0 < files) × (files ≤ 65535) }
+{
+    match Table::new(alloc, types, files) {
+        Err(_) => Table::new(alloc, types, files),
+        made => made,
+    }
 }
 
-#[test]
-fn a_type_is_read_by_its_number(rt: HostRuntime) -> Result<(), Fail> {
-    let table = two_types(rt.alloc())?;
-    let Some(number) = table.find("B") else {
-        return Err(Fail::from("B isn't enrolled"));
+fn enroll(table: &mut Table, name: &str, class: Class) -> Result<TypeNo, Fault> {
+    let answer = table.enroll(name, class);
+    if answer == Err(Fault::OutOfMemory) && table.find(name).is_none() {
+        return table.enroll(name, class);
+    }
+    answer
+}
+
+fn file(table: &mut Table, name: &str) -> Result<FileNo, Fault> {
+    let count = table.files();
+    let answer = table.file(name);
+    if answer == Err(Fault::OutOfMemory) && table.files() == count {
+        return table.file(name);
+    }
+    answer
+}
+
+fn bless(table: &mut Table, a: &str, b: &str) -> Result<(), Fault> {
+    let answer = table.bless(a, b);
+    if answer == Err(Fault::OutOfMemory) && !table.blessed(b, a) {
+        return table.bless(a, b);
+    }
+    answer
+}
+
+fn is_read(table: &Table, name: &str, class: Class, live: u32) -> bool {
+    let Some(number) = table.find(name) else {
+        return false;
     };
-    assert_eq!(rt; table.name_of(number), "B");
-    assert_eq!(rt; table.class_of(number), Class::SpinMutex);
-    assert_eq!(rt; table.live(number), 0);
-    Ok(())
+    table.name_of(number) == name && table.class_of(number) == class && table.live(number) == live
 }
 
-#[test]
-fn a_refused_type_changes_nothing(rt: HostRuntime) -> Result<(), Fail> {
-    let mut table = two_types(rt.alloc())?;
-    assert_eq!(rt; table.enroll("", Class::Rw), Err(Fault::BadName));
-    assert_eq!(rt; table.enroll("A", Class::Rw), Err(Fault::ClassMismatch));
-    assert_eq!(rt; table.enroll("C", Class::Sx), Ok(TypeNo(3)));
-    assert_eq!(rt; table.enroll("D", Class::Sx), Err(Fault::TypesFull));
-    assert_eq!(rt; table.enroll("A", Class::Rw), Err(Fault::ClassMismatch));
-    assert_eq!(rt; table.enroll("A", Class::SleepMutex), Ok(TypeNo(1)));
-    assert_eq!(rt; table.len(), 3);
-    assert_eq!(rt; table.find("D"), None);
-    Ok(())
-}
-
-#[test]
-fn live_locks_are_counted_by_type(rt: HostRuntime) -> Result<(), Fail> {
-    let mut table = two_types(rt.alloc())?;
-    let (Some(a), Some(b)) = (table.find("A"), table.find("B")) else {
-        return Err(Fail::from("a type isn't enrolled"));
+fn retain(table: &mut Table, name: &str) -> bool {
+    let Some(number) = table.find(name) else {
+        return false;
     };
-    if table.live(b) < 65536 {
-        table.retain(b);
+    let has_room = table.live(number) < 65536;
+    if has_room {
+        table.retain(number);
     }
-    if table.live(b) < 65536 {
-        table.retain(b);
-    }
-    assert_eq!(rt; (table.live(a), table.live(b)), (0, 2));
-    if 0 < table.live(b) {
-        table.release(b);
-    }
-    assert_eq!(rt; (table.live(a), table.live(b)), (0, 1));
-    Ok(())
+    has_room
 }
 
-#[test]
-fn files_are_numbered_from_one(rt: HostRuntime) -> Result<(), Fail> {
-    let mut table = Table::new(rt.alloc(), 1, 2)?;
-    assert_eq!(rt; table.file("f.c"), Ok(FileNo(1)));
-    assert_eq!(rt; table.file("g.c"), Ok(FileNo(2)));
-    assert_eq!(rt; table.file("h.c"), Err(Fault::FilesFull));
-    assert_eq!(rt; table.file("a b"), Err(Fault::BadName));
-    assert_eq!(rt; table.file("f.c"), Ok(FileNo(1)));
-    assert_eq!(rt; table.files(), 2);
-    if table.files() == 2 {
-        assert_eq!(rt; table.file_name(FileNo(2)), "g.c");
-    }
-    Ok(())
-}
-
-#[test]
-fn a_pair_is_blessed_in_both_directions(rt: HostRuntime) -> Result<(), Fail> {
-    let mut table = Table::new(rt.alloc(), 1, 1)?;
-    assert_eq!(rt; table.bless("A", "B"), Ok(()));
-    assert_eq!(rt; table.bless("A", "\""), Err(Fault::BadName));
-    assert_eq!(rt;
-        (table.blessed("A", "B"), table.blessed("B", "A")),
-        (true, true)
-    );
-    assert_eq!(rt;
-        (table.blessed("A", "A"), table.blessed("A", "C")),
-        (false, false)
-    );
-    Ok(())
-}
-
-// Each call is made again where a growth was refused, so this passes whichever one is.
-#[test]
-fn want_of_memory(rt: HostRuntime) -> Result<(), Fail> {
-    let alloc = rt.alloc();
-    let mut table = match Table::new(alloc, 3, 2) {
-        Ok(table) => table,
-        Err(fault) => {
-            assert_eq!(rt; fault, Fault::OutOfMemory);
-            Table::new(alloc, 3, 2)?
-        }
+fn release(table: &mut Table, name: &str) -> bool {
+    let Some(number) = table.find(name) else {
+        return false;
     };
-    let mut number = table.enroll("A", Class::Sx);
-    if number == Err(Fault::OutOfMemory) {
-        assert_eq!(rt; (table.len(), table.find("A")), (0, None));
-        number = table.enroll("A", Class::Sx);
+    let is_live = 0 < table.live(number);
+    if is_live {
+        table.release(number);
     }
-    assert_eq!(rt; (number, table.len()), (Ok(TypeNo(1)), 1));
-    let mut file = table.file("f");
-    if file == Err(Fault::OutOfMemory) {
-        assert_eq!(rt; table.files(), 0);
-        file = table.file("f");
+    is_live
+}
+
+fn is_file_name(table: &Table, number: FileNo, name: &str) -> bool {
+    let is_given = 0 < number.0 && number.0 as usize <= table.files();
+    is_given && table.file_name(number) == name
+}
+
+fn is_answered(table: &mut Table, call: Call) -> bool {
+    match call {
+        Call::Enroll(name, class, answer) => enroll(table, name, class) == answer,
+        Call::Find(name, answer) => table.find(name) == answer,
+        Call::Read(name, class, live) => is_read(table, name, class, live),
+        Call::Retain(name) => retain(table, name),
+        Call::Release(name) => release(table, name),
+        Call::File(name, answer) => file(table, name) == answer,
+        Call::FileName(number, name) => is_file_name(table, number, name),
+        Call::Bless(a, b, answer) => bless(table, a, b) == answer,
+        Call::Blessed(a, b, answer) => table.blessed(a, b) == answer,
+        Call::Counts(types, files) => (table.len(), table.files()) == (types, files),
     }
-    assert_eq!(rt; (file, table.files()), (Ok(FileNo(1)), 1));
-    let mut pair = table.bless("A", "B");
-    if pair == Err(Fault::OutOfMemory) {
-        assert_eq!(rt; table.blessed("B", "A"), false);
-        pair = table.bless("A", "B");
+}
+
+#[test]
+fn calls_in_turn(rt: HostRuntime) -> Result<(), Fail> {
+    let mut table = make(rt.alloc(), 3, 2)?;
+    for (place, call) in CALLS.into_iter().enumerate() {
+        assert!(rt; is_answered(&mut table, call), "call {place}");
     }
-    assert_eq!(rt; (pair, table.blessed("B", "A")), (Ok(()), true));
+    Ok(())
+}
+
+/// The number behind as many zeros as make the text so wide.
+fn text_of(alloc: Global, number: u16, width: usize) -> Result<String, AllocError> {
+    format!(in alloc; "{number:0>width$}")
+}
+
+/// Whether the next type, with a name of 63 bytes, and the next file, with one of 255, get this number.
+fn is_next(alloc: Global, table: &mut Table, number: u16) -> Result<bool, AllocError> {
+    let (name, path) = (text_of(alloc, number, 63)?, text_of(alloc, number, 255)?);
+    let (name, path) = (name.as_str(), path.as_str());
+    Ok(
+        enroll(table, name, Class::Sx) == Ok(TypeNo(number))
+            && file(table, path) == Ok(FileNo(number))
+            && bless(table, name, "A") == Ok(())
+            && is_read(table, name, Class::Sx, 0)
+            && is_file_name(table, FileNo(number), path)
+            && table.blessed("A", name),
+    )
+}
+
+#[test]
+fn many_long_names(rt: HostRuntime) -> Result<(), Fail> {
+    let mut table = make(rt.alloc(), 60, 60)?;
+    for number in 1..61 {
+        assert!(rt; is_next(rt.alloc(), &mut table, number)?, "number {number}");
+    }
     Ok(())
 }
