@@ -1,8 +1,8 @@
 -- Rows that are joined with the source: those that the mirror's row of the first reaches.
 use Rattle.std.proofs.Common.{◌≡◌, ◌≢◌, ◌⊎◌, ℕ, ◌+◌, ◌<◌, ◌≤◌, Bool, true, false, not, ◌&&◌, ◌||◌, eqb, ltb, List, refl, ap, ap₂, sym, ◌∙◌, subst, inl, inr, ⊎_elim, arith}
-use Rattle.std.proofs.lemmas.Bool.{cases_order, lt-ltb, le-ltb, eqb-true, eq-eqb, ne_eqb, or_cases, and_parts, false≢true}
+use Rattle.std.proofs.lemmas.Bool.{cases_order, cases_lt, lt-ltb, le-ltb, eqb-true, eq-eqb, ne_eqb, or_cases, or_from, and_parts, false≢true}
 use Rattle.wit_matrix.specs.Relation.{IsNumber}
-use Rattle.wit_matrix.specs.Squares.{has, AddsWhere, IsTransitive, is_at, reaches, joins, joins_row}
+use Rattle.wit_matrix.specs.Squares.{has, AddsWhere, IsTransitive, HasNone, ReachesNone, is_at, reaches, joins, joins_row}
 use Rattle.wit_matrix.proofs.Words.{or_none, and_none}
 
 -- a row is joined with the source: first with its row, then with itself
@@ -61,7 +61,7 @@ pub rows_start : (n : ℕ) (mirror : List ℕ) (first source : ℕ) (old : List 
 rows_start n mirror first source old a b at bt =
     sym (ap (λ t. has n old a b || (t && joins n mirror first old source a b)) (le-ltb a 1 at.positive) ∙ or_none (has n old a b))
 
-pub rows_end : (n : ℕ) (mirror : List ℕ) (first source k : ℕ) (old new : List ℕ) → k ≡ n + 1 → RowsBelow n mirror first source k old new
+pub rows_end : (n : ℕ) (mirror : List ℕ) (first source k : ℕ) (old new : List ℕ) → n < k → RowsBelow n mirror first source k old new
     → AddsWhere n (joins n mirror first old source) old new
 rows_end n mirror first source k old new end below a b at bt =
     let all : ltb a k ≡ true = lt-ltb a k (omega (arith, at.within, end)) in
@@ -78,15 +78,28 @@ rows_more n mirror first source k old mid new st outside below reached added a b
     (ap (λ t. eqb source b || t) (source_kept n mirror first source k old mid st outside below b bt)))
     (λ other_row. ap (λ t. t && reaches n mid source b) (ne_eqb k a (λ e. other_row (sym e)))))
 
+-- rows that aren't reached
+pub rows_until : (n : ℕ) (mirror : List ℕ) (first source k m : ℕ) (old mid : List ℕ) → k ≤ m → RowsBelow n mirror first source k old mid
+    → ReachesNone n mirror first k m → RowsBelow n mirror first source m old mid
+rows_until n mirror first source k m old mid le below none a b at bt = below a b at bt ∙ ap (λ t. has n old a b || t) (go (cases_lt a k))
+  where
+    none_here : (k ≤ a) → a < m → (ltb a m && joins n mirror first old source a b) ≡ false
+    none_here from lt = ap (λ t. ltb a m && (t && reaches n old source b)) (none a from lt) ∙ and_none (ltb a m)
+
+    from_k : k ≤ a → (a < m) ⊎ (m ≤ a) → false ≡ (ltb a m && joins n mirror first old source a b)
+    from_k from (inl lt) = sym (none_here from lt)
+    from_k from (inr more) = sym (ap (λ t. t && joins n mirror first old source a b) (le-ltb a m more))
+
+    go : (a < k) ⊎ (k ≤ a) → (ltb a k && joins n mirror first old source a b) ≡ (ltb a m && joins n mirror first old source a b)
+    go (inl lt) = ap (λ t. t && joins n mirror first old source a b) (lt-ltb a k lt ∙ sym (lt-ltb a m (omega (arith, lt, le))))
+    go (inr from) = ap (λ t. t && joins n mirror first old source a b) (le-ltb a k from) ∙ from_k from (cases_lt a m)
+
 -- the row isn't reached
 rows_same : (n : ℕ) (mirror : List ℕ) (first source k : ℕ) (old mid : List ℕ) → RowsBelow n mirror first source k old mid → reaches n mirror first k ≡ false
     → RowsBelow n mirror first source (k + 1) old mid
-rows_same n mirror first source k old mid below unreached a b at bt =
-    below a b at bt
-    ∙ (sym (or_none (has n old a b || (ltb a k && joins n mirror first old source a b)))
-    ∙ one_more (has n old a b) (joins n mirror first old source a b) false a k
-    (λ e. sym (ap (λ t. t && reaches n old source b) (subst (λ j. reaches n mirror first j ≡ false) (sym e) unreached)))
-    (λ _. refl))
+rows_same n mirror first source k old mid below unreached =
+    rows_until n mirror first source k (k + 1) old mid (omega arith) below
+    (λ b le lt. let e : k ≡ b = omega (arith, le, lt) in subst (λ j. reaches n mirror first j ≡ false) e unreached)
 
 -- what a row has adds nothing to it
 pub adds_nothing : (x all : Bool) → (all ≡ true → x ≡ true) → x ≡ (x || all)
@@ -131,3 +144,8 @@ rows_left n mirror first source k old mid st kt transitive below left = go (reac
     go false h unreached has_it isnt = rows_same n mirror first source k old mid below unreached
     go true true reached has_it isnt = rows_skip n mirror first source k old mid st kt transitive below has_it
     go true false reached has_not isnt = absurd (false≢true (sym isnt))
+
+-- what a row reaches none of, where it has none but for itself
+pub reaches_none : (n : ℕ) (words : List ℕ) (first from to : ℕ) → HasNone n words first from to → ((from ≤ first) → first < to → ⊥) → ReachesNone n words first from to
+reaches_none n words first from to none apart b le lt =
+    or_from (eqb first b) (has n words first b) (ne_eqb first b (λ e. apart (subst (λ k. from ≤ k) (sym e) le) (subst (λ k. k < to) (sym e) lt))) (none b le lt)

@@ -1,12 +1,13 @@
 -- What adding a bit, or a row, does to the bits of a square.
-use Rattle.std.proofs.Common.{◌≡◌, ◌≢◌, ◌⊎◌, ℕ, ◌+◌, ◌*◌, ◌/◌, ◌%◌, ◌^◌, ◌<◌, ◌≤◌, max, Bool, true, false, ◌&&◌, ◌||◌, cond, eqb, ltb, List, set, replicate, bit_or, refl, ap, sym, ◌∙◌, subst, inl, inr, arith}
-use Rattle.std.specs.Int.{bit_at}
+use Rattle.std.proofs.Common.{◌≡◌, ◌≢◌, ◌⊎◌, ℕ, ◌+◌, ◌-◌, ◌*◌, ◌/◌, ◌%◌, ◌^◌, ◌<◌, ◌≤◌, max, Bool, true, false, ◌&&◌, ◌||◌, cond, eqb, ltb, List, set, replicate, bit_or, w64, refl, ap, sym, ◌∙◌, subst, inl, inr, arith}
+use Rattle.std.specs.Int.{bit_at, trailing_zeros}
 use Rattle.std.proofs.lemmas.Bool.{cases_order, cases_lt, lt-ltb, le-ltb, eq-eqb, ne_eqb}
 use Rattle.std.proofs.lemmas.Bool.Decides.{eqb_tells}
-use Rattle.std.proofs.lemmas.Nat.Bits.{bit_at_or, bit_at-lt, bit_at-pow_same, bit_at-pow_other, bit_at-zero}
+use Rattle.std.proofs.lemmas.Nat.Bits.{bit_at_or, bit_at-lt, bit_at-pow_same, bit_at-pow_other, bit_at-zero, bit_at_above, bit_at-trailing_zeros}
+use Rattle.std.proofs.lemmas.Nat.{shr-shr}
 use Rattle.std.proofs.lemmas.List.{get_or-replicate}
 use Rattle.wit_matrix.specs.Relation.{IsNumber}
-use Rattle.wit_matrix.specs.Squares.{width, place, word_at, has, IsSquare, Holds, AddsWhere, is_at}
+use Rattle.wit_matrix.specs.Squares.{width, place, word_at, has, IsSquare, Holds, AddsWhere, HasNone, is_at}
 use Rattle.wit_matrix.proofs.Places.{place_within, word_set_same, word_set_other}
 
 pub or_none : (x : Bool) → (x || false) ≡ x
@@ -187,3 +188,38 @@ blank_has_none n words is a b at bt =
     ap (λ w. eqb (bit_at w (b % 64)) 1)
     (ap (λ ws. word_at n ws a (b / 64)) is ∙ get_or-replicate (n * width n) (place n a (b / 64)) 0 0 (place_within n a (b / 64) at (word_within n b bt.within)))
     ∙ ap (λ d. eqb d 1) (bit_at-zero (b % 64))
+
+-- ---- the rest of a word
+
+module _ (n row from : ℕ) (words : List ℕ) (x : ℕ) (is : x ≡ word_at n words row (from / 64)) where
+  -- a number of the same word, by its bit in the rest
+  not_had : (b : ℕ) → from ≤ b → b / 64 ≡ from / 64 → bit_at (x / 2 ^ (from % 64)) (b - from) ≡ 0 → has n words row b ≡ false
+  not_had b le same none =
+      let at : b % 64 ≡ from % 64 + (b - from) = omega (arith, le, same) in
+      ap (λ w. eqb (bit_at (word_at n words row w) (b % 64)) 1) same
+      ∙ (ap (λ y. eqb (bit_at y (b % 64)) 1) (sym is)
+      ∙ (ap (λ i. eqb (bit_at x i) 1) at
+      ∙ ap (λ d. eqb d 1) (ap (λ y. y % 2) (sym (shr-shr x (from % 64) (b - from))) ∙ none)))
+
+  pub none_left : x / 2 ^ (from % 64) ≡ 0 → HasNone n words row from (from / 64 * 64 + 63)
+  none_left empty b le lt =
+      not_had b le (omega (arith, le, lt)) (ap (λ y. bit_at y (b - from)) empty ∙ bit_at-zero (b - from))
+
+  module _ (fits : x < 2 ^ 64) (some : 0 < x / 2 ^ (from % 64)) (rest_fits : x / 2 ^ (from % 64) < 2 ^ 64) where
+    -- the lowest bit of the rest is one of the word's
+    pub lowest_in_word : from % 64 + trailing_zeros w64 (x / 2 ^ (from % 64)) < 64
+    lowest_in_word = elim (cases_lt (from % 64 + trailing_zeros w64 (x / 2 ^ (from % 64))) 64) [
+      | inl lt ↦ lt
+      | inr le ↦
+          let lowest = bit_at-trailing_zeros w64 (x / 2 ^ (from % 64)) some rest_fits in
+          let above = bit_at_above x 64 (from % 64 + trailing_zeros w64 (x / 2 ^ (from % 64))) fits le in
+          let one : bit_at x (from % 64 + trailing_zeros w64 (x / 2 ^ (from % 64))) ≡ 1 =
+          ap (λ y. y % 2) (sym (shr-shr x (from % 64) (trailing_zeros w64 (x / 2 ^ (from % 64))))) ∙ lowest.1 in
+          let wrong : ◌≡◌ {A = ℕ} 0 1 = sym above ∙ one in
+          absurd (omega (arith, wrong))
+    ]
+
+    pub none_below : HasNone n words row from (from + trailing_zeros w64 (x / 2 ^ (from % 64)))
+    none_below b le lt =
+        let lowest = bit_at-trailing_zeros w64 (x / 2 ^ (from % 64)) some rest_fits in
+        not_had b le (omega (arith, le, lt, lowest_in_word)) (lowest.2 (b - from) (omega (arith, le, lt)))

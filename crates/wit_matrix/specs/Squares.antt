@@ -1,5 +1,5 @@
 -- Squares of bits: for each of n types a row of words of 64 bits, in which the bit of a number stands for the type of that number.
-use Rattle.std.specs.Prelude.{ℕ, ◌+◌, ◌-◌, ◌*◌, ◌/◌, ◌%◌, ◌≡◌, ◌≤◌, Bool, true, ◌&&◌, ◌||◌, ◌==◌, List, map, filter, length, get_or, nat_le}
+use Rattle.std.specs.Prelude.{ℕ, ◌+◌, ◌-◌, ◌*◌, ◌/◌, ◌%◌, ◌≡◌, ◌<◌, ◌≤◌, Bool, true, false, ◌&&◌, ◌||◌, ◌==◌, List, map, filter, length, get_or, nat_le}
 use Rattle.std.specs.Int.{bit_at}
 use Rattle.std.specs.List.{range_with_len, flat_map}
 use Rattle.wit_model.specs.declared.locks.Origin.TheVariants.{Listed}
@@ -93,3 +93,10 @@ IsTransitive n words =
 
 abbrev pub AreMirrors : ℕ → List ℕ → List ℕ → Type 0
 AreMirrors n before after = Holds n after (λ a b. has n before b a)
+
+-- the row has none of the numbers from one up to another
+abbrev pub HasNone : ℕ → List ℕ → ℕ → ℕ → ℕ → Type 0
+HasNone n words row from to = (b : ℕ) → from ≤ b → b < to → has n words row b ≡ false
+
+abbrev pub ReachesNone : ℕ → List ℕ → ℕ → ℕ → ℕ → Type 0
+ReachesNone n words row from to = (b : ℕ) → from ≤ b → b < to → reaches n words row b ≡ false

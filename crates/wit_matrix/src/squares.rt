@@ -1,9 +1,9 @@
 //! Squares of bits: for each type a row of words, in which the bit of a number stands for the type of that number.
 
-ghost use Rattle.std.specs.Prelude.{◌≡◌, ◌<◌, ◌*◌, ◌&&◌, ◌==◌, ◌%◌, ◌^◌, ◌≤◌, not, false, IfOk, IfErr, length, replicate};
+ghost use Rattle.std.specs.Prelude.{◌≡◌, ◌<◌, ◌*◌, ◌&&◌, ◌==◌, ◌+◌, ◌/◌, ◌%◌, ◌^◌, ◌≤◌, not, false, IfOk, IfErr, length, replicate};
 ghost use Rattle.wit_model.specs.declared.faults.Fault.TheVariants.{OutOfMemory};
 ghost use Rattle.wit_matrix.specs.Relation.{IsNumber};
-ghost use Rattle.wit_matrix.specs.Squares.{width, place, has, IsSquare, AddsWhere, AreMirrors, IsTransitive, is_at, reaches, joins_row, joins, links};
+ghost use Rattle.wit_matrix.specs.Squares.{width, place, has, IsSquare, AddsWhere, AreMirrors, IsTransitive, HasNone, ReachesNone, is_at, reaches, joins_row, joins, links};
 
 use std::alloc::Global;
 use wit_model::{Fault, TypeNo};
@@ -126,10 +126,48 @@ fn is_to_join(
     reaches(mirror, n, first, row) && !has(words, n, row, source)
 }
 
+// A number from this one on, before which a row has none of them: the least that it has in this one's word, or else
+// the word's last.
+fn skip(words: &[u64], n: u16, row: TypeNo, from: u16) -> u16
+    requires square { IsSquare n words.now }
+    requires row { IsNumber n row.0 }
+    requires from { from ≤ n }
+    ensures onward { from ≤ result }
+    ensures in_word { result ≤ from / 64 * 64 + 63 }
+    ensures none { HasNone n words.now row.0 from result }
+{
+    let rest = words[place(n, row, from as usize / 64)] >> (from % 64);
+    if rest == 0 {
+        from / 64 * 64 + 63
+    } else {
+        from + rest.trailing_zeros() as u16
+    }
+}
+
+// A row from this one on, before which the mirror's row of the first reaches none of them.
+fn next_row(mirror: &[u64], n: u16, first: TypeNo, from: u16) -> u16
+    requires mirror_square { IsSquare n mirror.now }
+    requires first { IsNumber n first.0 }
+    requires from { from ≤ n }
+    ensures onward { from ≤ result }
+    ensures in_word { result ≤ from / 64 * 64 + 63 }
+    ensures none { ReachesNone n mirror.now first.0 from result }
+{
+    let next = skip(mirror, n, first, from);
+    if first.0 < from {
+        next
+    } else if first.0 < next {
+        first.0
+    } else {
+        next
+    }
+}
+
 // Joins the row of a type, and of each type that the mirror's row of it has, with the source.
 fn join_rows(words: &mut [u64], mirror: &[u64], n: u16, first: TypeNo, source: TypeNo)
     requires square { IsSquare n words.old }
     requires mirror_square { IsSquare n mirror.now }
+    requires types { n ≤ 1023 }
     requires first { IsNumber n first.0 }
     requires source { IsNumber n source.0 }
     requires apart { reaches n mirror.now first.0 source.0 ≡ false }
@@ -137,11 +175,16 @@ fn join_rows(words: &mut [u64], mirror: &[u64], n: u16, first: TypeNo, source: T
     ensures square { IsSquare n words.new }
     ensures joined { AddsWhere n (joins n mirror.now first.0 words.old source.0) words.old words.new }
 {
-    for row in 1..=n {
-        let row = TypeNo(row);
-        if is_to_join(words, mirror, n, first, row, source) {
-            join_row(words, n, row, source);
+    let mut row = 1;
+    while row <= n {
+        let next = next_row(mirror, n, first, row);
+        if next > n {
+            return;
         }
+        if is_to_join(words, mirror, n, first, TypeNo(next), source) {
+            join_row(words, n, TypeNo(next), source);
+        }
+        row = next + 1;
     }
 }
 
@@ -149,6 +192,7 @@ fn join_rows(words: &mut [u64], mirror: &[u64], n: u16, first: TypeNo, source: T
 pub fn link(before: &mut [u64], after: &mut [u64], n: u16, parent: TypeNo, child: TypeNo)
     requires square { IsSquare n before.old }
     requires mirror_square { IsSquare n after.old }
+    requires types { n ≤ 1023 }
     requires parent { IsNumber n parent.0 }
     requires child { IsNumber n child.0 }
     requires apart { parent.0 ≡ child.0 → ⊥ }

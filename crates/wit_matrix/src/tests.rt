@@ -1,5 +1,7 @@
 //! Matrices step by step, of sizes about a word's end, and the greatest one.
 
+ghost use Rattle.wit_matrix.specs.Relation.{IsNumber};
+
 use crate::Matrix;
 use Step::{Adopt, Cell, Find, NoPath, Path};
 use std::alloc::Global;
@@ -73,35 +75,56 @@ const GREATEST: [Step; 4] = [
     Cell(1023, 1, 0x08),
 ];
 
-/// Takes one step; false where it can't be taken, or the matrix says otherwise.
-fn take(matrix: &mut Matrix, step: Step) -> Result<bool, Fault> {
-    let (a, b) = match step {
-        Adopt(a, b) | Find(a, b) | NoPath(a, b) | Cell(a, b, _) => (a, b),
-        Path(way) => (way[0].0, way[3].0),
-    };
-    let size = matrix.size();
-    if a < 1 || a > size || b < 1 || b > size {
-        return Ok(false);
+/// The type of this number, or the first where the matrix has none of that number.
+fn type_of(matrix: &Matrix, number: u16) -> TypeNo
+    ensures { IsNumber matrix.now.size result.0 }
+{
+    if 1 <= number && number <= matrix.size() {
+        TypeNo(number)
+    } else {
+        let _positive = matrix.size();
+        TypeNo(1)
     }
-    let (a, b) = (TypeNo(a), TypeNo(b));
+}
+
+/// Adopts an order; false where it may not be adopted.
+fn adopt(matrix: &mut Matrix, parent: u16, child: u16) -> bool {
+    let parent = type_of(matrix, parent);
+    let child = type_of(matrix, child);
+    if parent.0 == child.0 || matrix.before(child, parent) {
+        return false;
+    }
+    matrix.adopt(parent, child);
+    true
+}
+
+/// Finds a pair in violation; whether both its orders say so.
+fn find(matrix: &mut Matrix, a: u16, b: u16) -> bool {
+    let a = type_of(matrix, a);
+    let b = type_of(matrix, b);
+    matrix.set_reversal(a, b);
+    matrix.reversed(a, b) && matrix.reversed(b, a)
+}
+
+fn cell(matrix: &Matrix, a: u16, b: u16) -> u8 {
+    matrix.cell(type_of(matrix, a), type_of(matrix, b))
+}
+
+fn path(matrix: &Matrix, a: u16, b: u16) -> Result<Option<Vec<TypeNo>>, Fault> {
+    matrix.path(type_of(matrix, a), type_of(matrix, b))
+}
+
+/// Takes one step; whether it could be taken, and the matrix says so.
+fn take(matrix: &mut Matrix, step: Step) -> Result<bool, Fault> {
     match step {
-        Adopt(..) => {
-            let can = a.0 != b.0 && !matrix.before(b, a);
-            if can {
-                matrix.adopt(a, b);
-            }
-            Ok(can)
-        }
-        Find(..) => {
-            matrix.set_reversal(a, b);
-            Ok(matrix.reversed(a, b) && matrix.reversed(b, a))
-        }
-        Cell(_, _, expected) => Ok(matrix.cell(a, b) == expected),
-        Path(way) => {
-            let told = matrix.path(a, b)?;
-            Ok(told.is_some_and(|told| told.as_slice() == way.as_slice()))
-        }
-        NoPath(..) => Ok(matrix.path(a, b)?.is_none()),
+        Adopt(a, b) => Ok(adopt(matrix, a, b)),
+        Find(a, b) => Ok(find(matrix, a, b)),
+        Cell(a, b, expected) => Ok(cell(matrix, a, b) == expected),
+        Path(way) => match path(matrix, way[0].0, way[3].0)? {
+            Some(told) => Ok(told.as_slice() == way.as_slice()),
+            None => Ok(false),
+        },
+        NoPath(a, b) => Ok(path(matrix, a, b)?.is_none()),
     }
 }
 
@@ -119,28 +142,27 @@ fn first_failure(alloc: Global, size: u16, steps: &[Step]) -> Result<Option<usiz
     Ok(None)
 }
 
-#[test]
-fn steps_of_matrices(rt: HostRuntime) -> Result<(), Fail> {
-    for size in [4, 63, 64, 65, 1023] {
-        assert_eq!(rt;
-            first_failure(rt.alloc(), size, &CHAIN)?,
-            None,
-            "of {size} types"
-        );
-    }
-    assert_eq!(rt; first_failure(rt.alloc(), 65, &LAST_WORD)?, None);
-    assert_eq!(rt; first_failure(rt.alloc(), 1023, &GREATEST)?, None);
-    Ok(())
+/// The first step that fails in each matrix, where one does.
+fn failures(alloc: Global) -> Result<[Option<usize>; 7], Fault> {
+    Ok([
+        first_failure(alloc, 4, &CHAIN)?,
+        first_failure(alloc, 63, &CHAIN)?,
+        first_failure(alloc, 64, &CHAIN)?,
+        first_failure(alloc, 65, &CHAIN)?,
+        first_failure(alloc, 1023, &CHAIN)?,
+        first_failure(alloc, 65, &LAST_WORD)?,
+        first_failure(alloc, 1023, &GREATEST)?,
+    ])
 }
 
 // The steps are taken again where a growth was refused, so this passes whichever one is.
 #[test]
-fn want_of_memory(rt: HostRuntime) -> Result<(), Fail> {
-    let mut failure = first_failure(rt.alloc(), 4, &CHAIN);
-    if failure.is_err() {
-        assert_eq!(rt; failure.err(), Some(Fault::OutOfMemory));
-        failure = first_failure(rt.alloc(), 4, &CHAIN);
+fn steps_of_matrices(rt: HostRuntime) -> Result<(), Fail> {
+    let mut told = failures(rt.alloc());
+    if told.is_err() {
+        assert_eq!(rt; told.err(), Some(Fault::OutOfMemory));
+        told = failures(rt.alloc());
     }
-    assert_eq!(rt; failure?, None);
+    assert_eq!(rt; told?, [None; 7]);
     Ok(())
 }
