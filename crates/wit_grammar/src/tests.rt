@@ -35,6 +35,7 @@ check 1 1 x ndf sys/kern/kern_lock.c:100$
 lock 1 2$
 lock 0 0$
 lock 65535 4294967295$
+lock 1 1111111111$
 unlock 1 2 s$
 unlock 0 0 x$
 unlock 65535 4294967295 x"#;
@@ -75,6 +76,7 @@ lock 1 02$
 lock 1 00$
 lock 65536 2$
 lock 1 4294967296$
+lock 1 11111111111$
 lock 1 99999999999999999999999$
 lock +1 2$
 lock 1 +2$
@@ -244,7 +246,8 @@ fn around(
     Ok(bytes)
 }
 
-/// The first byte with another verdict where those from `low` to `high` are good, a quotation mark aside.
+/// The first byte with another verdict where those from `low` to `high` are good, a quotation mark aside;
+/// none is where `low` is the greater.
 fn byte_unlike(
     alloc: Global,
     before: &str,
@@ -272,6 +275,14 @@ fn single_bytes(rt: HostRuntime) -> Result<(), Fail> {
         ("lock 1 2", "", b'0', b'9'),
         ("lock 1 ", "", b'0', b'9'),
         ("lock", "1 2", b' ', b' '),
+        ("lock 1", "2", b' ', b' '),
+        ("order mtx \"A\" mtx \"B\"", "", 1, 0),
+        (
+            "witness-trace 1 seats 2 types 3 locks 4 chunks 5",
+            "",
+            b'0',
+            b'9',
+        ),
         ("order", "mtx \"A\"", b' ', b' '),
     ];
     for (before, behind, low, high) in rows {
@@ -350,8 +361,6 @@ fn lengths_of_lines(rt: HostRuntime) -> Result<(), Fail> {
         ),
         ("check 1 2 x - ", b":", 256, "3", "line"),
         ("check 1 2 x - ", b":", 257, "3", "syntax"),
-        ("lock 1 ", b"1", 10, "", "line"),
-        ("lock 1 ", b"1", 11, "", "syntax"),
         ("lock 1 ", b"1", 4089, "", "syntax"),
     ];
     for (before, piece, times, behind, want) in rows {
