@@ -100,7 +100,7 @@ impl Knowledge {
         Ok(())
     }
 
-    /// The verdict over a chain of held locks. Each of them is looked at once.
+    /// The verdict over a chain of held locks. Each of them is looked at once, and again only to tell of a reversal.
     pub fn verdict(&self, request: Request, chain: &[Instance]) -> Result<Verdict, Fault>
         ensures { replied result ≡ shallow (find (is_of request.lock.0) chain.now) (verdict (known self.now) request chain.now) }
     {
