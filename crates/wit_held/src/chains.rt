@@ -60,8 +60,8 @@ pub fn forget<L: Lists>(lists: &mut L, list: u16, lock: LockNo)
     }
 }
 
-/// The oldest instance of a lock in a list.
-pub fn held_lock<L: Lists>(lists: &L, list: u16, lock: LockNo) -> Option<Instance>
+// The oldest instance of a lock in a list.
+fn held_lock<L: Lists>(lists: &L, list: u16, lock: LockNo) -> Option<Instance>
     requires { IsList (L.chunks lists.now) list }
     ensures { result ≡ find (is_of lock.0) (chain_of (L.chunks lists.now) list) }
 {
