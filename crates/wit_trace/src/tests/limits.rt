@@ -66,15 +66,12 @@ fn put_report(text: &mut String, alloc: Global, asked: u16, held: u16) -> Result
         text.push_str(&line)?;
     }
     text.push_str("established order:\n")?;
-    let mut parent = asked;
-    while parent < held {
-        let child = parent + 1;
+    for parent in asked..held {
         let above = word(alloc, 't', parent, 63)?;
-        let below = word(alloc, 't', child, 63)?;
-        let site = site(alloc, child)?;
+        let below = word(alloc, 't', parent + 1, 63)?;
+        let site = site(alloc, parent + 1)?;
         let line = format!(in alloc; " \"{above}\" -> \"{below}\" @ {site}\n")?;
         text.push_str(&line)?;
-        parent = child;
     }
     Ok(())
 }
