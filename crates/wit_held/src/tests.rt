@@ -1,8 +1,9 @@
-//! Eight locks in chunks, lists filled to the last chunk, and a lock acquired twice.
+//! Eight locks in chunks, lists filled to the last chunk, a lock acquired twice, and a long walk beside plain vectors.
 
 ghost use Rattle.std.specs.Prelude.{◌≡◌};
 
 use crate::{VecLists, forget, record, recursion, set_mode};
+use std::alloc::AllocError;
 use std::test::Fail;
 use wit_model::chunks::Lists;
 use wit_model::{Fault, FileNo, Instance, LockNo, Mode, Site};
@@ -51,6 +52,20 @@ fn take(lists: &mut VecLists, list: u16, lock: u32) -> bool {
     match lists.find(list, LockNo(lock)) {
         Some(place) => {
             lists.remove(list, place);
+            true
+        }
+        None => false,
+    }
+}
+
+/// Writes another lock over one; false where the list doesn't hold it.
+fn rename(lists: &mut VecLists, list: u16, lock: u32, other: u32) -> bool {
+    if list == 0 || list as usize > lists.lists() {
+        return false;
+    }
+    match lists.find(list, LockNo(lock)) {
+        Some(place) => {
+            lists.replace(list, place, held(other));
             true
         }
         None => false,
@@ -115,6 +130,40 @@ fn holds(lists: &VecLists, list: u16, locks: &[u32]) -> bool {
         }
     }
     lock_at(lists, list, locks.len()).is_none() && newest(lists, list) == locks.last().copied()
+}
+
+/// Does the same to a list and to a plain vector; whether both then hold the same.
+fn step(
+    lists: &mut VecLists,
+    plain: &mut Vec<u32>,
+    list: u16,
+    action: u32,
+    lock: u32,
+) -> Result<bool, AllocError> {
+    let place = plain.iter().position(|held| *held == lock);
+    let agrees = match (action, place) {
+        (0 | 1, _) => {
+            let room = push(lists, list, lock);
+            if room {
+                plain.push(lock)?;
+            }
+            room || lists.free_chunks() == 0
+        }
+        (2, Some(place)) => {
+            if place < plain.len() {
+                let _lock = plain.remove(place);
+            }
+            take(lists, list, lock)
+        }
+        (_, Some(place)) => {
+            if place < plain.len() {
+                plain[place] = lock | 16;
+            }
+            rename(lists, list, lock, lock | 16)
+        }
+        (_, None) => !take(lists, list, lock),
+    };
+    Ok(agrees && holds(lists, list, plain))
 }
 
 #[test]
@@ -193,6 +242,36 @@ fn most_chunks(rt: HostRuntime) -> Result<(), Fail> {
     assert!(rt; push(&mut lists, 1, 2));
     assert!(rt; holds(&lists, 512, &[1]));
     assert_eq!(rt; lists.free_chunks(), 65534);
+    Ok(())
+}
+
+#[test]
+fn long_walk(rt: HostRuntime) -> Result<(), Fail> {
+    let mut lists = VecLists::new(rt.alloc(), 6, 4)?;
+    let mut plain = Vec::new(rt.alloc());
+    for _list in 0..4 {
+        plain.push(Vec::new(rt.alloc()))?;
+    }
+    let mut seed: u32 = 20261122;
+    for turn in 0..2000 {
+        seed = seed.wrapping_mul(1664525).wrapping_add(1013904223);
+        let list = (seed >> 30) as u16;
+        if let Some(chain) = plain.get_mut(list as usize) {
+            let agrees = step(
+                &mut lists,
+                chain,
+                list + 1,
+                (seed >> 28) % 4,
+                (seed >> 16) % 10,
+            )?;
+            assert!(rt; agrees, "in turn {turn}");
+        }
+    }
+    for list in 0..4 {
+        if let Some(chain) = plain.get(list as usize) {
+            assert!(rt; holds(&lists, list + 1, chain), "in list {list}");
+        }
+    }
     Ok(())
 }
 
