@@ -385,7 +385,7 @@ fn program(
     Ok((other, counts_of(&verifier)))
 }
 
-fn counts(history: usize, orders: usize, reports: u32) -> Counts {
+fn make_counts(history: usize, orders: usize, reports: u32) -> Counts {
     Counts {
         history,
         orders,
@@ -397,15 +397,15 @@ fn counts(history: usize, orders: usize, reports: u32) -> Counts {
 fn programs(rt: HostRuntime) -> Result<(), Fail> {
     let alloc = rt.alloc();
     let done = program(alloc, 64, "", &REVERSAL)?;
-    assert_eq!(rt; done, (None, counts(17, 1, 1)));
+    assert_eq!(rt; done, (None, make_counts(17, 1, 1)));
     let done = program(alloc, 64, "", &REVERSAL_OF_A_PATH)?;
-    assert_eq!(rt; done, (None, counts(18, 2, 1)));
+    assert_eq!(rt; done, (None, make_counts(18, 2, 1)));
     let done = program(alloc, 5, "", &FULL_LOG)?;
-    assert_eq!(rt; done, (None, counts(5, 0, 0)));
+    assert_eq!(rt; done, (None, make_counts(5, 0, 0)));
     let done = program(alloc, 64, "", &FAULTS)?;
-    assert_eq!(rt; done, (None, counts(5, 1, 0)));
+    assert_eq!(rt; done, (None, make_counts(5, 1, 0)));
     let done = program(alloc, 64, "mtx:A mtx:B; mtx:B rw:C", &AGAINST_A_LIST)?;
-    assert_eq!(rt; done, (None, counts(5, 2, 1)));
+    assert_eq!(rt; done, (None, make_counts(5, 2, 1)));
     Ok(())
 }
 
