@@ -7,7 +7,7 @@ use Rattle.wit_model.specs.declared.faults.Fault.TheVariants.{OutOfMemory}
 use Rattle.wit_model.specs.declared.locks.TypeNo.{TypeNo}
 use Rattle.wit_model.specs.declared.calls.Request.{Request}
 use Rattle.wit_model.specs.declared.calls.Call.TheVariants.{Check}
-use Rattle.wit_model.specs.Rules.Numbers.{is_given}
+use Rattle.wit_model.specs.Rules.Numbers.{is_given, IsNumber}
 use Rattle.wit_model.specs.Rules.Orders.{is_direct, is_before, Before}
 use Rattle.wit_model.proofs.Orders.Paths.{before_from_test}
 use Rattle.wit_model.specs.declared.locks.Lock.{Lock}
@@ -16,8 +16,8 @@ use Rattle.wit_model.specs.Trace.Paths.{path, path_numbers}
 use Rattle.wit_model.specs.Rules.State.{State, Known, state_of, known_of, types_of, typed_locks, orders_of}
 use Rattle.wit_model.specs.Rules.Step.{answer_of}
 use Rattle.wit_model.proofs.Histories.Accepted.{check_accepted}
-use Rattle.wit_model.proofs.Orders.Among.{IsOneOf, adopted-orderly, silent-known, reversal-known, orders-among}
-use Rattle.wit_matrix.specs.Relation.{IsNumber, OrdersAmong, LeadsBy}
+use Rattle.wit_model.proofs.Orders.Among.{adopted-orderly, silent-known, reversal-known, orders-among}
+use Rattle.wit_matrix.specs.Relation.{OrdersAmong, LeadsBy}
 use Rattle.wit_core.specs.declared.verifier.Verifier.TheInside.{Inside}
 use Rattle.wit_core.specs.declared.verdicts.Verdict.{Verdict}
 use Rattle.wit_core.specs.declared.verdicts.Verdict.TheVariants.{Pass, Adopt, Silent, Reversal}
@@ -31,12 +31,12 @@ module _ (v : Inside) (k : IsKept v) where
   known-is = ap (λ (s : State). s.known) k.state
 
   -- a known type's number is one of the matrix's
-  number : (t : ℕ) → IsOneOf (length (types_of (start_in v) (history_in v))) t → IsNumber v.books.known.orders.size t
+  number : (t : ℕ) → IsNumber (length (types_of (start_in v) (history_in v))) t → IsNumber v.books.known.orders.size t
   number t is =
       let few = types_few v k in
       let same = ap (λ (x : Known). length x.types) known-is in
       let size = k.sized.orders in
-      record { positive = is.0; within = omega (arith, is.1, few, same, size) }
+      (is.0, omega (arith, is.1, few, same, size))
 
   pub given-number : (t : ℕ) (r : Bool) → r ≡ is_given v.books.known.names.types t → r ≡ true → IsNumber v.books.known.orders.size t
   given-number t r is yes' =
@@ -45,12 +45,11 @@ module _ (v : Inside) (k : IsKept v) where
       let within = leb-true t (length v.books.known.names.types) parts.1 in
       let few = types_few v k in
       let size = k.sized.orders in
-      record { positive = omega (arith, some); within = omega (arith, within, few, size) }
+      (omega (arith, some), omega (arith, within, few, size))
 
   among : OrdersAmong (length (types_of (start_in v) (history_in v))) v.books.known.orders.orders
   among = λ a b direct.
-      let both = orders-among (start_in v) v.books.known.names.files (history_in v) k.legal a b (ap (λ (x : Known). is_direct x.orders a b) (sym known-is) ∙ direct) in
-      (record { positive = both.0.0; within = both.0.1 }, record { positive = both.1.0; within = both.1.1 })
+      orders-among (start_in v) v.books.known.names.files (history_in v) k.legal a b (ap (λ (x : Known). is_direct x.orders a b) (sym known-is) ∙ direct)
 
   -- the path is that of the history's orders
   pub path-kept : (a b : ℕ) (r : Result (Option (Vec TypeNo)) Fault)

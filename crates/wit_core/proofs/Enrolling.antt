@@ -95,8 +95,8 @@ module _ (size : ℕ) (types : List LockType) (orders : List Adoption) (a b : Cl
       let m = number-known a.1 types here.0 in
       let n = number-known b.1 types next.0 in
       record {
-        parent = record { positive = omega (arith, m.0); within = omega (arith, m.1, few) };
-        child = record { positive = omega (arith, n.0); within = omega (arith, n.1, few) };
+        parent = (omega (arith, m.0), omega (arith, m.1, few));
+        child = (omega (arith, n.0), omega (arith, n.1, few));
         apart = λ same. true≢false (sym ((bytes_eq-Decides a.1 b.1).1 (one_name a.1 b.1 types here.0 next.0 same)) ∙ differ.0);
         orderly = (or_parts (is_before orders (type_number b.1 types) (type_number a.1 types))
             (turns_round types (adopted_once (type_number a.1 types) (type_number b.1 types) Listed orders) (b ∷ list)) can.forward).0;

@@ -13,11 +13,12 @@ use Rattle.wit_model.specs.declared.calls.Reply.{Reply}
 use Rattle.wit_model.specs.declared.calls.Reply.TheVariants.{Pass}
 use Rattle.wit_model.specs.Rules.Orders.{is_direct}
 use Rattle.wit_model.specs.Rules.State.{Seat, State, Known, is_seat, seat_at}
-use Rattle.wit_model.specs.Rules.Step.{is_deepest, with_room, is_file, is_pending, is_shareable, chain_for, held_by, step_check}
+use Rattle.wit_model.specs.Rules.Step.{is_deepest, with_room, is_pending, is_shareable, chain_for, held_by, step_check}
 use Rattle.wit_model.specs.Rules.Verdict.{is_exclusive, is_of, type_in, violates, judged, among, behind, verdict}
 use Rattle.wit_model.specs.declared.locks.Class.{Class}
-use Rattle.wit_model.specs.Rules.Locks.{is_made, lock_at}
+use Rattle.wit_model.specs.Rules.Locks.{lock_at}
 use Rattle.wit_model.specs.Rules.Types.{is_spin}
+use Rattle.wit_model.specs.Rules.Numbers.{is_given, is_number}
 use Rattle.wit_core.specs.Rows.{chain_in}
 use Rattle.wit_core.specs.Verdicts.{shallow}
 
@@ -66,7 +67,7 @@ skip false other rest none at = at
 
 -- a refusal by the verdict, once all that stands before it is passed
 pub check-refused : (s : State) (t : ℕ) (q : Request) (v : Seat) (spin : Bool) (class : Class) (c : List Instance) (f : Fault)
-    → is_seat s t ≡ true → is_made s.known.locks q.lock.0 ≡ true → is_file s q.site.file.0 ≡ true
+    → is_seat s t ≡ true → is_given s.known.locks q.lock.0 ≡ true → is_number s.files q.site.file.0 ≡ true
     → (not (is_exclusive q.mode) && not (is_shareable class)) ≡ false → seat_at s t ≡ v → is_some v.pending ≡ false
     → class ≡ (lock_at s.known.locks q.lock.0).made.class → spin ≡ is_spin class → c ≡ chain_in spin v
     → Err f ≡ shallow (find (is_of q.lock.0) c) (verdict s.known q c) → Err f ≡ step_check s t q
@@ -75,8 +76,8 @@ check-refused s t q v spin class c f seat made file mode at free same kind is to
     let told' : Err f ≡ shallow (held_by s t q.lock.0) (verdict s.known q (chain_for s t q.lock.0)) =
     told ∙ ap (λ d. shallow (find (is_of q.lock.0) d) (verdict s.known q d)) here in
     skip (not (is_seat s t)) UnknownSeat _ (ap not seat)
-    (skip (not (is_made s.known.locks q.lock.0)) UnknownLock _ (ap not made)
-    (skip (not (is_file s q.site.file.0)) UnknownFile _ (ap not file)
+    (skip (not (is_given s.known.locks q.lock.0)) UnknownLock _ (ap not made)
+    (skip (not (is_number s.files q.site.file.0)) UnknownFile _ (ap not file)
     (skip (not (is_exclusive q.mode) && not (is_shareable (lock_at s.known.locks q.lock.0).made.class)) ModeNotAllowed _
     (ap (λ k. not (is_exclusive q.mode) && not (is_shareable k)) (sym same) ∙ mode)
     (skip (is_pending s t) Pending _ (ap (λ (x : Seat). is_some x.pending) at ∙ free)

@@ -1,19 +1,19 @@
 -- Orders by their matrix.
 use Rattle.std.proofs.Common.{◌≡◌, ℕ, Bool, true, false, ◌&&◌, List, [], ◌∷◌, reverse, Option, None, Some, Result, Ok, Err, IfSome, IfOk, IfErr, refl, ap, sym, ◌∙◌, subst}
 use Rattle.std.specs.Global.{Vec}
-use Rattle.std.proofs.lemmas.Bool.{and_from, le-leb, true≢false}
+use Rattle.std.proofs.lemmas.Bool.{and_from, le-leb, lt-ltb, true≢false}
 use Rattle.wit_model.specs.declared.calls.Adoption.{Adoption}
 use Rattle.wit_model.specs.declared.faults.Fault.{Fault}
 use Rattle.wit_model.specs.declared.faults.Fault.TheVariants.{OutOfMemory}
 use Rattle.wit_model.specs.declared.locks.TypeNo.{TypeNo}
 use Rattle.wit_model.specs.Rules.Orders.{is_before, IsPath, IsSound}
+use Rattle.wit_model.specs.Rules.Numbers.{IsNumber, is_number}
 use Rattle.wit_model.specs.Trace.Paths.{path, path_numbers}
 use Rattle.wit_model.proofs.Orders.Paths.{before_from_test}
-use Rattle.wit_matrix.specs.Relation.{Relation, IsNumber, OrdersAmong, HasSameOrders, LeadsBy}
+use Rattle.wit_matrix.specs.Relation.{Relation, OrdersAmong, HasSameOrders, LeadsBy}
 use Rattle.wit_matrix.proofs.Settled.{same_before, same_sound}
 use Rattle.wit_matrix.proofs.Callers.{same_path}
 use Rattle.wit_core.specs.declared.orders.Orders.TheInside.{Inside}
-use Rattle.wit_core.specs.Following.{covers}
 use Rattle.wit_core.specs.Related.{relation_in, IsRelated}
 
 path-ends : (n : ℕ) (os : List Adoption) → OrdersAmong n os → (a : ℕ) (way : List ℕ) (b : ℕ) → IsPath os a way b → IsNumber n a × IsNumber n b
@@ -24,18 +24,18 @@ path-ends n os among a (v ∷ way) b p = ((among a v p.0).0, (path-ends n os amo
 pub before-among : (n : ℕ) (os : List Adoption) → OrdersAmong n os → (a b : ℕ) → is_before os a b ≡ true → IsNumber n a × IsNumber n b
 before-among n os among a b is = let p = before_from_test os a b is in path-ends n os among a p.0 b p.1
 
-covered : (n t : ℕ) → IsNumber n t → covers n t ≡ true
-covered n t is = and_from _ _ (le-leb 1 t is.positive) (le-leb t n is.within)
+covered : (n t : ℕ) → IsNumber n t → is_number n t ≡ true
+covered n t is = and_from _ _ (lt-ltb 0 t is.0) (le-leb t n is.1)
 
 -- a type beyond the others is before none, and none before it
-pub before-none : (n : ℕ) (os : List Adoption) (a b : ℕ) (r : Bool) → OrdersAmong n os → r ≡ (covers n a && covers n b) → r ≡ false → false ≡ is_before os a b
+pub before-none : (n : ℕ) (os : List Adoption) (a b : ℕ) (r : Bool) → OrdersAmong n os → r ≡ (is_number n a && is_number n b) → r ≡ false → false ≡ is_before os a b
 before-none n os a b r among is none = go (is_before os a b) refl
   where
     go : (t : Bool) → is_before os a b ≡ t → false ≡ t
     go false e = refl
     go true e =
         let both = before-among n os among a b e in
-        absurd (true≢false (sym (and_from (covers n a) (covers n b) (covered n a both.0) (covered n b both.1)) ∙ (sym is ∙ none)))
+        absurd (true≢false (sym (and_from (is_number n a) (is_number n b) (covered n a both.0) (covered n b both.1)) ∙ (sym is ∙ none)))
 
 -- a path is one of any orders with the same direct ones
 same_way : (os ps : List Adoption) → HasSameOrders os ps → (a : ℕ) (way : List ℕ) (b : ℕ) → IsPath os a way b → IsPath ps a way b
@@ -51,7 +51,7 @@ module _ (o : Inside) (k : IsRelated o) (now : Relation) (seen : relation_in o �
   pub before-by : (a b : ℕ) → is_before o.matrix.orders a b ≡ is_before now.orders a b
   before-by a b = same_before o.matrix.orders (reverse o.adopted.items) k.orders a b ∙ ap (λ (r : Relation). is_before r.orders a b) seen
 
-  pub before-beyond : (a b : ℕ) (r : Bool) → r ≡ (covers now.size a && covers now.size b) → r ≡ false → r ≡ is_before now.orders a b
+  pub before-beyond : (a b : ℕ) (r : Bool) → r ≡ (is_number now.size a && is_number now.size b) → r ≡ false → r ≡ is_before now.orders a b
   before-beyond a b r is none =
       none ∙ before-none now.size now.orders a b r (subst (λ (x : Relation). OrdersAmong x.size x.orders) seen k.orders_among) is none
 

@@ -1,12 +1,8 @@
 -- Which types there may be, and when an order between two can be adopted.
-use Rattle.std.specs.Prelude.{ℕ, ◌≡◌, Bool, false, ◌&&◌, nat_le, List}
+use Rattle.std.specs.Prelude.{ℕ, ◌≡◌, false, List}
 use Rattle.wit_model.specs.declared.calls.Adoption.{Adoption}
 use Rattle.wit_model.specs.Rules.Orders.{is_before}
-use Rattle.wit_matrix.specs.Relation.{IsNumber}
-
--- whether there may be a type with this number, where there may be n types
-abbrev pub covers : ℕ → ℕ → Bool
-covers n t = nat_le 1 t && nat_le t n
+use Rattle.wit_model.specs.Rules.Numbers.{IsNumber}
 
 -- c can come behind p: both are among n types, they differ, and c isn't before p
 pub record CanFollow (n : ℕ) (orders : List Adoption) (p c : ℕ) : Type 0 where

@@ -13,8 +13,8 @@ use Rattle.wit_model.specs.declared.calls.Adoption.{Adoption}
 use Rattle.wit_model.specs.Rules.State.{Known}
 use Rattle.wit_core.specs.declared.known.Knowledge.{Knowledge}
 use Rattle.wit_model.specs.Rules.Files.{IsNumbered}
+use Rattle.wit_model.specs.Rules.Numbers.{IsNumber}
 use Rattle.wit_table.specs.Known.{enroll_answer}
-use Rattle.wit_matrix.specs.Relation.{IsNumber}
 use Rattle.wit_core.specs.Following.{CanFollow}
 
 abbrev pub known : Knowledge → Known

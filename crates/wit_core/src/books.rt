@@ -5,10 +5,9 @@ ghost use Rattle.std.specs.List.{list_any, All};
 ghost use Rattle.std.specs.Option.{option_copied};
 ghost use Rattle.wit_model.specs.declared.calls.Reply.TheVariants.{Recorded, Unlocked};
 ghost use Rattle.wit_model.specs.declared.faults.Fault.TheVariants.{OutOfMemory};
-ghost use Rattle.wit_model.specs.Rules.Locks.{is_made};
-ghost use Rattle.wit_model.specs.Rules.Numbers.{is_given, with_number};
+ghost use Rattle.wit_model.specs.Rules.Numbers.{is_given, with_number, is_number};
 ghost use Rattle.wit_model.specs.Rules.State.{has_room, no_seat, seat_at};
-ghost use Rattle.wit_model.specs.Rules.Step.{step_init, step_check, step_note, step_unlock, is_not_yet, is_file, is_good_name, released};
+ghost use Rattle.wit_model.specs.Rules.Step.{step_init, step_check, step_note, step_unlock, is_not_yet, is_good_name, released};
 ghost use Rattle.wit_core.specs.Books.{new_lock, lock_answer, type_fault, made_reply, done_reply};
 ghost use Rattle.std.specs.Vec.{vec_capacity};
 ghost use Rattle.wit_core.specs.Rows.{seat_view, HasRoom, HasSpaceAt, IsShallowAt, IsFreeAt};
@@ -180,7 +179,7 @@ impl Books {
 
     // Whether a file was named under this number.
     fn has_file(&self, file: FileNo) -> bool
-        ensures { result ≡ is_file (state_in self.now) file.0 }
+        ensures { result ≡ is_number (state_in self.now).files file.0 }
     {
         0 < file.0 && file.0 as usize <= self.known.names.files()
     }
@@ -367,7 +366,7 @@ fn seat_with(seats: &[Seat], seat: SeatNo) -> Option<&Seat>
 }
 
 fn is_made(locks: &[Lock], lock: LockNo) -> bool
-    ensures { result ≡ is_made locks.now lock.0 }
+    ensures { result ≡ is_given locks.now lock.0 }
 {
     0 < lock.0 && lock.0 as usize <= locks.len()
 }

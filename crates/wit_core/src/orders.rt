@@ -3,9 +3,10 @@
 ghost use Rattle.std.specs.Prelude.{◌≡◌, ◌<◌, ◌≤◌, ◌&&◌, ◌∷◌, ℕ, true, [], IfSome, OnOk, OnErr, IfOk, IfErr, reverse};
 ghost use Rattle.wit_model.specs.declared.faults.Fault.TheVariants.{OutOfMemory};
 ghost use Rattle.wit_model.specs.Rules.Orders.{is_direct, is_before, is_found, found_once, cell};
+ghost use Rattle.wit_model.specs.Rules.Numbers.{IsNumber, is_number};
 ghost use Rattle.wit_model.specs.Trace.Paths.{path, path_numbers};
-ghost use Rattle.wit_matrix.specs.Relation.{IsNumber, OrdersAmong, LeadsBy};
-ghost use Rattle.wit_core.specs.Following.{covers, CanFollow};
+ghost use Rattle.wit_matrix.specs.Relation.{OrdersAmong, LeadsBy};
+ghost use Rattle.wit_core.specs.Following.{CanFollow};
 
 use std::alloc::{AllocError, Global};
 use std::marker::Model;
@@ -54,7 +55,7 @@ impl Orders {
 
     // Whether there may be types with these numbers.
     fn covers(&self, a: TypeNo, b: TypeNo) -> bool
-        ensures { result ≡ covers self.now.size a.0 && covers self.now.size b.0 }
+        ensures { result ≡ is_number self.now.size a.0 && is_number self.now.size b.0 }
     {
         let size = self.matrix.size();
         1 <= a.0 && a.0 <= size && 1 <= b.0 && b.0 <= size

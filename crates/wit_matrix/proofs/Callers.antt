@@ -7,8 +7,9 @@ use Rattle.wit_model.specs.declared.locks.TypeNo.{TypeNo}
 use Rattle.wit_model.specs.declared.locks.Origin.TheVariants.{Listed}
 use Rattle.wit_model.specs.declared.calls.Adoption.{Adoption}
 use Rattle.wit_model.specs.Rules.Orders.{is_adoption_of, is_direct, is_before, IsSound, is_pair_of, found_once, adopted_once}
+use Rattle.wit_model.specs.Rules.Numbers.{IsNumber}
 use Rattle.wit_model.specs.Trace.Paths.{leads, next_type, way, path}
-use Rattle.wit_matrix.specs.Relation.{IsNumber, HasSameOrders, HasSameFound, OrdersAmong}
+use Rattle.wit_matrix.specs.Relation.{HasSameOrders, HasSameFound, OrdersAmong}
 use Rattle.wit_matrix.proofs.Settled.{same_before}
 use Rattle.wit_matrix.proofs.Edits.{adopted_again, found_again}
 use Rattle.wit_matrix.proofs.Leading.{below, below_all, below_child, way_arrives, way_goes, next_there, differ}
@@ -45,7 +46,7 @@ leads_not : (os : List Adoption) (n a b c : ℕ) → OrdersAmong n os → n < c 
 leads_not os n a b c among lt = go (is_direct os a c) refl
   where
     go : (t : Bool) → is_direct os a c ≡ t → (is_direct os a c && (eqb c b || is_before os c b)) ≡ false
-    go true is = absurd (let w = (among a c is).1.within in omega (arith, w, lt))
+    go true is = absurd (let w = (among a c is).1.1 in omega (arith, w, lt))
     go false isnt = rw isnt refl
 
 -- what is said of some types holds among more

@@ -7,8 +7,9 @@ use Rattle.wit_model.specs.declared.locks.TypeNo.{TypeNo}
 use Rattle.wit_model.specs.declared.locks.Origin.TheVariants.{Listed}
 use Rattle.wit_model.specs.declared.calls.Adoption.{Adoption}
 use Rattle.wit_model.specs.Rules.Orders.{is_adoption_of, is_direct, is_before, IsSound, is_pair_of, is_found, found_once, adopted_once}
+use Rattle.wit_model.specs.Rules.Numbers.{IsNumber}
 use Rattle.wit_model.proofs.Orders.Paths.{sound_adopt, test_from_before, is_before-trans}
-use Rattle.wit_matrix.specs.Relation.{IsNumber, HasSameOrders, HasSameFound, OrdersAmong, FoundAmong, Adopts, Finds}
+use Rattle.wit_matrix.specs.Relation.{HasSameOrders, HasSameFound, OrdersAmong, FoundAmong, Adopts, Finds}
 use Rattle.wit_matrix.specs.Squares.{width, has, order_of, relation_in, orders_in, found_in, Holds, IsSquare, IsKept, AddsWhere, IsTransitive, AreMirrors, is_at, links}
 use Rattle.wit_matrix.proofs.Words.{blank_has_none}
 use Rattle.wit_matrix.proofs.Settled.{direct_among, found_among, direct_holds, orders_settled, found_settled, same_from, same_before, same_sound, orders-sym, found-turned}

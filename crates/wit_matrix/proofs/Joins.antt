@@ -1,9 +1,9 @@
 -- Rows that are joined with the source: those that the mirror's row of the first reaches.
 use Rattle.std.proofs.Common.{◌≡◌, ◌≢◌, ◌⊎◌, ℕ, ◌+◌, ◌<◌, ◌≤◌, Bool, true, false, not, ◌&&◌, ◌||◌, eqb, ltb, List, refl, ap, ap₂, sym, ◌∙◌, subst, inl, inr, ⊎_elim, arith}
 use Rattle.std.proofs.lemmas.Bool.{cases_order, cases_lt, lt-ltb, le-ltb, eqb-true, eq-eqb, ne_eqb, or_cases, or_from, and_parts, false≢true}
-use Rattle.wit_matrix.specs.Relation.{IsNumber}
 use Rattle.wit_matrix.specs.Squares.{has, AddsWhere, IsTransitive, HasNone, ReachesNone, is_at, reaches, joins, joins_row}
 use Rattle.wit_matrix.proofs.Words.{or_none, and_none}
+use Rattle.wit_model.specs.Rules.Numbers.{IsNumber}
 
 -- a row is joined with the source: first with its row, then with itself
 pub row_joined : (n row source : ℕ) (old mid new : List ℕ) → AddsWhere n (λ a b. eqb row a && has n old source b) old mid → AddsWhere n (is_at row source) mid new
@@ -59,12 +59,12 @@ source_kept n mirror first source k old mid st outside below b bt =
 
 pub rows_start : (n : ℕ) (mirror : List ℕ) (first source : ℕ) (old : List ℕ) → RowsBelow n mirror first source 1 old old
 rows_start n mirror first source old a b at bt =
-    sym (ap (λ t. has n old a b || (t && joins n mirror first old source a b)) (le-ltb a 1 at.positive) ∙ or_none (has n old a b))
+    sym (ap (λ t. has n old a b || (t && joins n mirror first old source a b)) (le-ltb a 1 at.0) ∙ or_none (has n old a b))
 
 pub rows_end : (n : ℕ) (mirror : List ℕ) (first source k : ℕ) (old new : List ℕ) → n < k → RowsBelow n mirror first source k old new
     → AddsWhere n (joins n mirror first old source) old new
 rows_end n mirror first source k old new end below a b at bt =
-    let all : ltb a k ≡ true = lt-ltb a k (omega (arith, at.within, end)) in
+    let all : ltb a k ≡ true = lt-ltb a k (omega (arith, at.1, end)) in
     below a b at bt ∙ ap (λ t. has n old a b || (t && joins n mirror first old source a b)) all
 
 pub rows_more : (n : ℕ) (mirror : List ℕ) (first source k : ℕ) (old mid new : List ℕ) → IsNumber n source → reaches n mirror first source ≡ false

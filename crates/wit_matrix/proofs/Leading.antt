@@ -5,9 +5,10 @@ use Rattle.std.proofs.lemmas.Bool.{or_cases, or_left, or_right, and_parts, and_f
 use Rattle.std.proofs.lemmas.List.FromFn.{length-range_with_len}
 use Rattle.wit_model.specs.declared.calls.Adoption.{Adoption}
 use Rattle.wit_model.specs.Rules.Orders.{is_direct, IsPath, Before, is_before, IsSound}
+use Rattle.wit_model.specs.Rules.Numbers.{IsNumber}
 use Rattle.wit_model.specs.Trace.Paths.{leads, next_type, way}
 use Rattle.wit_model.proofs.Orders.Paths.{before_from_test, test_from_before, direct-before, is_before-trans}
-use Rattle.wit_matrix.specs.Relation.{IsNumber, OrdersAmong, LeadsBy}
+use Rattle.wit_matrix.specs.Relation.{OrdersAmong, LeadsBy}
 use Rattle.wit_matrix.proofs.Pairs.{among, range_to}
 
 -- how many of these pass
@@ -82,7 +83,7 @@ pub below : List Adoption → ℕ → ℕ → ℕ
 below os n a = tally (is_before os a) (range_with_len 1 n)
 
 in_range : (n c : ℕ) → IsNumber n c → among c (range_with_len 1 n) ≡ true
-in_range n c is = range_to 1 n c is.positive (omega (arith, is.within))
+in_range n c is = range_to 1 n c is.0 (omega (arith, is.1))
 
 not_itself : (os : List Adoption) → IsSound os → (a : ℕ) → is_before os a a ≡ false
 not_itself os sound a = go (is_before os a a) refl

@@ -2,10 +2,10 @@
 use Rattle.std.proofs.Common.{◌≡◌, ℕ, true, false, ◌&&◌, ◌||◌, eqb, List, ap, ap₂, sym, ◌∙◌, subst, ⊎_elim}
 use Rattle.std.proofs.Math.Bool.{and_comm}
 use Rattle.std.proofs.lemmas.Bool.{or_cases, or_from, and_parts, eqb-true, ne_eqb}
-use Rattle.wit_matrix.specs.Relation.{IsNumber}
 use Rattle.wit_matrix.specs.Squares.{has, AddsWhere, IsTransitive, AreMirrors, reaches, joins, links}
 use Rattle.wit_matrix.proofs.Words.{or_none}
 use Rattle.wit_matrix.proofs.Joins.{adds_nothing}
+use Rattle.wit_model.specs.Rules.Numbers.{IsNumber}
 
 -- a transitive square and its mirror, and two types of which the second isn't before the first
 pub record CanLink (n : ℕ) (before after : List ℕ) (p c : ℕ) : Type 0 where

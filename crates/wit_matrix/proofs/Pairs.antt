@@ -4,8 +4,8 @@ use Rattle.std.specs.List.{list_any, range_with_len, flat_map}
 use Rattle.std.proofs.lemmas.Bool.{or_cases, or_left, or_right, and_parts, and_from, eqb-true, eq-eqb, false≢true}
 use Rattle.std.proofs.lemmas.Bool.Decides.{eqb_tells}
 use Rattle.std.proofs.lemmas.List.Folds.{list_any-append}
-use Rattle.wit_matrix.specs.Relation.{IsNumber}
 use Rattle.wit_matrix.specs.Squares.{pairs_where}
+use Rattle.wit_model.specs.Rules.Numbers.{IsNumber}
 
 pub list_any-map : {X Y : Type 0} (test : Y → Bool) (f : X → Y) (xs : List X) → list_any test (map f xs) ≡ list_any (λ x. test (f x)) xs
 list_any-map test f [] = refl
@@ -110,9 +110,9 @@ pair_from n holds a b h =
     let r = rows_from holds (range_with_len 1 n) (range_with_len 1 n) a b h in
     let x = range_from 1 n a r.0 in
     let y = range_from 1 n b r.1.0 in
-    (record { positive = x.0; within = omega (arith, x.1) }, (record { positive = y.0; within = omega (arith, y.1) }, r.1.1))
+    ((x.0, omega (arith, x.1)), ((y.0, omega (arith, y.1)), r.1.1))
 
 pub pair_to : (n : ℕ) (holds : ℕ → ℕ → Bool) (a b : ℕ) → IsNumber n a → IsNumber n b → holds a b ≡ true → list_any (is_pair a b) (pairs_where n holds) ≡ true
 unfolding row
 pair_to n holds a b at bt h =
-    rows_to holds (range_with_len 1 n) (range_with_len 1 n) a b (range_to 1 n a at.positive (omega arith)) (range_to 1 n b bt.positive (omega arith)) h
+    rows_to holds (range_with_len 1 n) (range_with_len 1 n) a b (range_to 1 n a at.0 (omega arith)) (range_to 1 n b bt.0 (omega arith)) h

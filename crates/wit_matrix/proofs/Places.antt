@@ -3,8 +3,8 @@ use Rattle.std.proofs.Common.{◌≡◌, ◌⊎◌, ℕ, ◌+◌, ◌-◌, ◌*�
 use Rattle.std.proofs.lemmas.Bool.{cases_order}
 use Rattle.std.proofs.lemmas.Nat.{mul-add-lt}
 use Rattle.std.proofs.lemmas.List.{get_or-set_same, get_or-set_other}
-use Rattle.wit_matrix.specs.Relation.{IsNumber}
 use Rattle.wit_matrix.specs.Squares.{width, place, word_at, IsSquare}
+use Rattle.wit_model.specs.Rules.Numbers.{IsNumber}
 
 -- an earlier row stands before a later one
 place_below : (w a i b j : ℕ) → 1 ≤ a → i < w → a < b → (a - 1) * w + i < (b - 1) * w + j
@@ -26,7 +26,7 @@ within_rows w n a i some most within =
     omega (arith, l)
 
 pub place_within : (n a i : ℕ) → IsNumber n a → i < width n → place n a i < n * width n
-place_within n a i at within = within_rows (width n) n a i at.positive at.within within
+place_within n a i at within = within_rows (width n) n a i at.0 at.1 within
 
 -- a word that is set leaves the others
 pub word_set_same : (n a i x : ℕ) (words : List ℕ) → IsSquare n words → IsNumber n a → i < width n → word_at n (set words (place n a i) x) a i ≡ x
@@ -37,4 +37,4 @@ pub word_set_other : (n a i b j x : ℕ) (words : List ℕ) → IsNumber n a →
     → word_at n (set words (place n a i) x) b j ≡ word_at n words b j
 word_set_other n a i b j x words at bt within within_too apart =
     get_or-set_other words (place n a i) (place n b j) x 0
-    (λ same. apart (place_apart (width n) a i b j at.positive bt.positive within within_too (sym same)))
+    (λ same. apart (place_apart (width n) a i b j at.0 bt.0 within within_too (sym same)))

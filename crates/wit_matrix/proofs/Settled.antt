@@ -5,8 +5,9 @@ use Rattle.std.proofs.lemmas.Bool.{or_cases, or_left, or_right, and_parts, and_f
 use Rattle.wit_model.specs.declared.locks.TypeNo.{TypeNo}
 use Rattle.wit_model.specs.declared.calls.Adoption.{Adoption}
 use Rattle.wit_model.specs.Rules.Orders.{is_adoption_of, is_direct, IsPath, Before, is_before, IsSound, is_pair_of, is_found, cell}
+use Rattle.wit_model.specs.Rules.Numbers.{IsNumber}
 use Rattle.wit_model.proofs.Orders.Paths.{before_from_test, test_from_before}
-use Rattle.wit_matrix.specs.Relation.{IsNumber, HasSameOrders, HasSameFound, OrdersAmong, FoundAmong}
+use Rattle.wit_matrix.specs.Relation.{HasSameOrders, HasSameFound, OrdersAmong, FoundAmong}
 use Rattle.wit_matrix.specs.Squares.{has, pairs_where, order_of, types_of, orders_in, found_in, Holds}
 use Rattle.wit_matrix.proofs.Pairs.{is_pair, list_any-map, pair_from, pair_to}
 

@@ -6,9 +6,9 @@ use Rattle.std.proofs.lemmas.Bool.Decides.{eqb_tells}
 use Rattle.std.proofs.lemmas.Nat.Bits.{bit_at_or, bit_at-lt, bit_at-pow_same, bit_at-pow_other, bit_at-zero, bit_at_above, bit_at-trailing_zeros}
 use Rattle.std.proofs.lemmas.Nat.{shr-shr}
 use Rattle.std.proofs.lemmas.List.{get_or-replicate}
-use Rattle.wit_matrix.specs.Relation.{IsNumber}
 use Rattle.wit_matrix.specs.Squares.{width, place, word_at, has, IsSquare, Holds, AddsWhere, HasNone, is_at}
 use Rattle.wit_matrix.proofs.Places.{place_within, word_set_same, word_set_other}
+use Rattle.wit_model.specs.Rules.Numbers.{IsNumber}
 
 pub or_none : (x : Bool) → (x || false) ≡ x
 or_none true = refl
@@ -56,7 +56,7 @@ module _ (n a b : ℕ) (words : List ℕ) (square : IsSquare n words) (at : IsNu
   same_word i j e f =
       subst (λ k. word_at n with_bit k (j / 64) ≡ bit_or (word_at n words k (j / 64)) (2 ^ (b % 64))) e
       (subst (λ l. word_at n with_bit a l ≡ bit_or (word_at n words a l) (2 ^ (b % 64))) f
-      (word_set_same n a (b / 64) (bit_or (word_at n words a (b / 64)) (2 ^ (b % 64))) words square at (word_within n b bt.within)))
+      (word_set_same n a (b / 64) (bit_or (word_at n words a (b / 64)) (2 ^ (b % 64))) words square at (word_within n b bt.1)))
 
   same_bit : (i j : ℕ) → eqb a i ≡ true → b / 64 ≡ j / 64 → eqb (b % 64) (j % 64) ≡ is_at a b i j
   same_bit i j e f = go (eqb_tells b j)
@@ -70,7 +70,7 @@ module _ (n a b : ℕ) (words : List ℕ) (square : IsSquare n words) (at : IsNu
   unfolding with_bit
   other_word i j it jt apart isnt =
       ap (λ w. eqb (bit_at w (j % 64)) 1)
-      (word_set_other n a (b / 64) i (j / 64) (bit_or (word_at n words a (b / 64)) (2 ^ (b % 64))) words at it (word_within n b bt.within) (word_within n j jt.within) apart)
+      (word_set_other n a (b / 64) i (j / 64) (bit_or (word_at n words a (b / 64)) (2 ^ (b % 64))) words at it (word_within n b bt.1) (word_within n j jt.1) apart)
       ∙ sym (ap (λ t. has n words i j || t) isnt ∙ or_none (has n words i j))
 
   bit_added : AddsWhere n (is_at a b) words with_bit
@@ -170,9 +170,9 @@ module _ (n row source k : ℕ) (old mid : List ℕ) (square : IsSquare n mid) (
 
 pub united_end : (n row source k : ℕ) (old new : List ℕ) → k ≡ width n → UnitedBelow n row source k old new → AddsWhere n (λ a b. eqb row a && has n old source b) old new
 united_end n row source k old new end below a b at bt =
-    let all : ltb (b / 64) k ≡ true = lt-ltb (b / 64) k (subst (λ w. b / 64 < w) (sym end) (word_within n b bt.within)) in
+    let all : ltb (b / 64) k ≡ true = lt-ltb (b / 64) k (subst (λ w. b / 64 < w) (sym end) (word_within n b bt.1)) in
     ap (λ w. eqb (bit_at w (b % 64)) 1)
-    (below a (b / 64) at (word_within n b bt.within)
+    (below a (b / 64) at (word_within n b bt.1)
     ∙ ap (λ t. cond (eqb row a && t) (bit_or (word_at n old a (b / 64)) (word_at n old source (b / 64))) (word_at n old a (b / 64))) all)
     ∙ go (eqb row a)
   where
@@ -186,7 +186,7 @@ united_end n row source k old new end below a b at bt =
 pub blank_has_none : (n : ℕ) (words : List ℕ) → words ≡ replicate (n * width n) 0 → Holds n words (λ _ _. false)
 blank_has_none n words is a b at bt =
     ap (λ w. eqb (bit_at w (b % 64)) 1)
-    (ap (λ ws. word_at n ws a (b / 64)) is ∙ get_or-replicate (n * width n) (place n a (b / 64)) 0 0 (place_within n a (b / 64) at (word_within n b bt.within)))
+    (ap (λ ws. word_at n ws a (b / 64)) is ∙ get_or-replicate (n * width n) (place n a (b / 64)) 0 0 (place_within n a (b / 64) at (word_within n b bt.1)))
     ∙ ap (λ d. eqb d 1) (bit_at-zero (b % 64))
 
 -- ---- the rest of a word

@@ -4,6 +4,7 @@ use Rattle.wit_model.specs.declared.locks.Origin.TheVariants.{Listed}
 use Rattle.wit_model.specs.declared.locks.TypeNo.{TypeNo}
 use Rattle.wit_model.specs.declared.calls.Adoption.{Adoption}
 use Rattle.wit_model.specs.Rules.Orders.{is_direct, IsPath, is_found, adopted_once, found_once}
+use Rattle.wit_model.specs.Rules.Numbers.{IsNumber}
 
 -- the number of types, the adopted orders, and the unordered pairs found in violation. Both lists stand for sets:
 -- they hold each member once, by rows, and nothing is said of where an order came from
@@ -11,11 +12,6 @@ pub record Relation : Type 0 where
   pub size : ℕ
   pub orders : List Adoption
   pub found : List (TypeNo × TypeNo)
-
--- whether a number is one of n types
-pub record IsNumber (n t : ℕ) : Type 0 where
-  pub positive : 1 ≤ t
-  pub within : t ≤ n
 
 -- both hold the same direct orders
 abbrev pub HasSameOrders : List Adoption → List Adoption → Type 0

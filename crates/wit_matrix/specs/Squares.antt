@@ -6,7 +6,8 @@ use Rattle.wit_model.specs.declared.locks.Origin.TheVariants.{Listed}
 use Rattle.wit_model.specs.declared.locks.TypeNo.{TypeNo}
 use Rattle.wit_model.specs.declared.calls.Adoption.{Adoption}
 use Rattle.wit_model.specs.Rules.Orders.{IsSound, is_before, is_found}
-use Rattle.wit_matrix.specs.Relation.{Relation, IsNumber}
+use Rattle.wit_model.specs.Rules.Numbers.{IsNumber}
+use Rattle.wit_matrix.specs.Relation.{Relation}
 
 -- how many words a row has: bits for the numbers from 0 to n
 abbrev pub width : ℕ → ℕ

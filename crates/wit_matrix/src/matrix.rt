@@ -5,8 +5,9 @@ ghost use Rattle.wit_model.specs.declared.locks.TypeNo.{TypeNo};
 ghost use Rattle.std.specs.Option.{option_map};
 ghost use Rattle.wit_model.specs.declared.faults.Fault.TheVariants.{OutOfMemory};
 ghost use Rattle.wit_model.specs.Rules.Orders.{Before, IsSound, is_before, is_direct, is_found, cell};
+ghost use Rattle.wit_model.specs.Rules.Numbers.{IsNumber};
 ghost use Rattle.wit_model.specs.Trace.Paths.{leads, next_type, way, path, type_numbers, path_numbers};
-ghost use Rattle.wit_matrix.specs.Relation.{IsNumber, Adopts, Finds, LeadsBy};
+ghost use Rattle.wit_matrix.specs.Relation.{Adopts, Finds, LeadsBy};
 
 use crate::squares::{add, blank, has, link};
 use std::alloc::{AllocError, Global};

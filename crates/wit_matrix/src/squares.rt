@@ -2,8 +2,8 @@
 
 ghost use Rattle.std.specs.Prelude.{◌≡◌, ◌<◌, ◌*◌, ◌&&◌, ◌==◌, ◌+◌, ◌/◌, ◌%◌, ◌^◌, ◌≤◌, not, false, IfOk, IfErr, length, replicate};
 ghost use Rattle.wit_model.specs.declared.faults.Fault.TheVariants.{OutOfMemory};
-ghost use Rattle.wit_matrix.specs.Relation.{IsNumber};
 ghost use Rattle.wit_matrix.specs.Squares.{width, place, has, IsSquare, AddsWhere, AreMirrors, IsTransitive, HasNone, ReachesNone, is_at, reaches, joins_row, joins, links};
+ghost use Rattle.wit_model.specs.Rules.Numbers.{IsNumber};
 
 use std::alloc::Global;
 use wit_model::{Fault, TypeNo};

@@ -1,6 +1,6 @@
 //! Matrices step by step, of sizes about a word's end, and the greatest one.
+ghost use Rattle.wit_model.specs.Rules.Numbers.{IsNumber};
 
-ghost use Rattle.wit_matrix.specs.Relation.{IsNumber};
 
 use crate::Matrix;
 use Step::{Adopt, Cell, Find, NoPath, Path};

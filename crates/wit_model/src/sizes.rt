@@ -1,6 +1,7 @@
 //! How much a verifier holds.
 
 ghost use Rattle.std.specs.Prelude.{◌≡◌, ◌↔◌, ◌<◌, ◌≤◌, IsSome, IfSome, IsTrue};
+ghost use Rattle.wit_model.specs.Rules.Numbers.{IsNumber};
 ghost use Rattle.wit_model.specs.Rules.Sizes.{AreWithin, sizes_of};
 
 use std::marker::Model;
@@ -34,11 +35,11 @@ impl Limits {
         ensures within { IsSome result ↔ AreWithin (sizes_of seats types locks chunks log) }
         ensures value { IfSome result (λ l. l ≡ sizes_of seats types locks chunks log) }
     {
-        let good = is_within(seats, 256)
-            && is_within(types, 1023)
-            && is_within(locks, 65536)
-            && is_within(chunks, 65536)
-            && is_within(log, 16777216);
+        let good = is_number(256, seats)
+            && is_number(1023, types)
+            && is_number(65536, locks)
+            && is_number(65536, chunks)
+            && is_number(16777216, log);
         if !good {
             return None;
         }
@@ -95,8 +96,8 @@ impl Limits {
     }
 }
 
-fn is_within(number: u32, most: u32) -> bool
-    ensures { IsTrue result ↔ ((0 < number) × (number ≤ most)) }
+fn is_number(most: u32, number: u32) -> bool
+    ensures { IsTrue result ↔ IsNumber most number }
 {
     0 < number && number <= most
 }

@@ -28,10 +28,6 @@ no_names types files = record { types = []; live = []; files = []; blessed = [];
 abbrev pub type_names : List LockType → List (List ℕ)
 type_names types = map (λ (t : LockType). t.name) types
 
--- a number that was given: those of the list's places, from 1
-abbrev pub IsGiven : {X : Type 0} → List X → ℕ → Type 0
-IsGiven xs n = (0 < n) × (n ≤ length xs)
-
 -- the name of the type at this place
 abbrev pub HasNameAt : List LockType → ℕ → List ℕ → Type 0
 HasNameAt types i name = (t : LockType) × (slice_get types i ≡ Some t) × (name ≡ t.name)

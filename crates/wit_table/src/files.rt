@@ -2,8 +2,9 @@
 
 ghost use Rattle.std.specs.Prelude.{◌≡◌, ◌≤◌, ◌<◌, ◌+◌, ◌++◌, [], ◌∷◌, false, length, is_some, slice_get, IfSome, IfNone, IfOk, IfErr, OnOk, OnErr, Some, Ok};
 ghost use Rattle.wit_model.specs.Rules.Files.{is_known_file, file_number, files_after};
+ghost use Rattle.wit_model.specs.Rules.Numbers.{IsGiven};
 ghost use Rattle.wit_model.specs.declared.faults.Fault.TheVariants.{OutOfMemory};
-ghost use Rattle.wit_table.specs.Known.{IsGiven, filing_answer, IsRefusal};
+ghost use Rattle.wit_table.specs.Known.{filing_answer, IsRefusal};
 ghost use Rattle.wit_table.specs.Rows.{texts};
 
 use indexmap::IndexSet;

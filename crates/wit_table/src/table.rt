@@ -5,10 +5,10 @@ ghost use Rattle.std.specs.List.{IsDistinct};
 ghost use Rattle.std.specs.Str.{bytes_eq};
 ghost use Rattle.wit_model.specs.declared.faults.Fault.TheVariants.{OutOfMemory};
 ghost use Rattle.wit_model.specs.Rules.Names.{is_name, is_file_name};
-ghost use Rattle.wit_model.specs.Rules.Numbers.{with_number};
+ghost use Rattle.wit_model.specs.Rules.Numbers.{with_number, IsGiven, IsNumber};
 ghost use Rattle.wit_model.specs.Rules.Types.{is_enrolled, is_otherwise, type_number};
 ghost use Rattle.wit_model.specs.Rules.Files.{is_known_file, file_number};
-ghost use Rattle.wit_table.specs.Known.{no_names, type_names, IsGiven, HasName, HasClass, enroll_answer, filing_answer, IsRefusal, with_type, with_file, live_of, with_live, is_blessed, with_blessed, are_names, IsBlessRefusal};
+ghost use Rattle.wit_table.specs.Known.{no_names, type_names, HasName, HasClass, enroll_answer, filing_answer, IsRefusal, with_type, with_file, live_of, with_live, is_blessed, with_blessed, are_names, IsBlessRefusal};
 
 use crate::files::{file_at, file_in};
 use crate::types::{
@@ -52,8 +52,8 @@ impl Table {
     /// # Errors
     /// `OutOfMemory` alone.
     pub fn new(alloc: Global, types: u32, files: u32) -> Result<Table, Fault>
-        requires types { (0 < types) × (types ≤ 1023) }
-        requires files { (0 < files) × (files ≤ 65535) }
+        requires types { IsNumber 1023 types }
+        requires files { IsNumber 65535 files }
         ensures ok { IfOk result (λ t. t ≡ no_names types files) }
         ensures err { IfErr result (λ e. e ≡ OutOfMemory) }
     {

@@ -2,7 +2,7 @@
 //!
 //! A call that wants memory is made again, so that `calls_in_turn` passes whichever growth is refused once.
 
-ghost use Rattle.std.specs.Prelude.{◌<◌, ◌≤◌};
+ghost use Rattle.wit_model.specs.Rules.Numbers.{IsNumber};
 
 use crate::Table;
 use std::alloc::{AllocError, Global};
@@ -73,8 +73,8 @@ const CALLS: [Call; 43] = [
 ];
 
 fn make(alloc: Global, types: u32, files: u32) -> Result<Table, Fault>
-    requires types { (0 < types) × (types ≤ 1023) }
-    requires files { (0 < files) × (files ≤ 65535) }
+    requires types { IsNumber 1023 types }
+    requires files { IsNumber 65535 files }
 {
     match Table::new(alloc, types, files) {
         Err(_) => Table::new(alloc, types, files),

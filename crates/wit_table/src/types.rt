@@ -2,8 +2,9 @@
 
 ghost use Rattle.std.specs.Prelude.{◌≡◌, ◌≤◌, ◌<◌, ◌+◌, ◌-◌, ◌++◌, [], ◌∷◌, false, length, is_some, slice_get, slice_set, slice_index, IfSome, IfNone, IfOk, IfErr, OnOk, OnErr, Some, Ok};
 ghost use Rattle.wit_model.specs.Rules.Types.{is_enrolled, is_otherwise, type_number, enrolled};
+ghost use Rattle.wit_model.specs.Rules.Numbers.{IsGiven};
 ghost use Rattle.wit_model.specs.declared.faults.Fault.TheVariants.{OutOfMemory};
-ghost use Rattle.wit_table.specs.Known.{HasNameAt, HasClassAt, IsGiven, enroll_answer, live_after, IsRefusal};
+ghost use Rattle.wit_table.specs.Known.{HasNameAt, HasClassAt, enroll_answer, live_after, IsRefusal};
 ghost use Rattle.wit_table.specs.Rows.{types_in, live_in};
 
 use indexmap::IndexMap;

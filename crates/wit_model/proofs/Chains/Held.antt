@@ -10,6 +10,7 @@ use Rattle.wit_model.specs.declared.calls.Entry.{Entry}
 use Rattle.wit_model.specs.Rules.Locks.{made, locks_of, no_lock, is_spin_lock, is_of_kind}
 use Rattle.wit_model.specs.Rules.Types.{is_spin}
 use Rattle.wit_model.specs.Rules.History.{Act, Nothing, Records, Releases, Turns, Marks, act_by, is_held, place, held_at, held_among, held, held_of}
+use Rattle.wit_model.specs.Rules.Numbers.{IsGiven}
 use Rattle.wit_model.proofs.Chains.Sane.{IsFit, IsSane, fit_by}
 use Rattle.wit_model.proofs.Chains.Acts.{num-nil}
 use Rattle.wit_model.proofs.Chains.HeldLocks.{subject, held-not, held-apart}
@@ -110,17 +111,14 @@ pub once : (t l : ℕ) (h : List Entry) → IsSane h → times l (held t h) ≡ 
 once t l [] sane = times-nil l ∙ sym (ap one_if (held-not t l [] (num-nil t l)))
 once t l (x ∷ h) sane = once_step t l x h sane (effect t x h sane) (once t l h sane.1)
 
-abbrev pub IsMade : ℕ → List Entry → Type 0
-IsMade l h = (0 < l) × (l ≤ length (locks_of h))
-
-made_more : (l : ℕ) (x : Entry) (h : List Entry) → IsMade l h → IsMade l (x ∷ h)
+made_more : (l : ℕ) (x : Entry) (h : List Entry) → IsGiven (locks_of h) l → IsGiven (locks_of (x ∷ h)) l
 made_more l x h is = (is.0, omega (arith, is.1, length-append (locks_of h) (made x.call)))
 
-made_step : (t l : ℕ) (x : Entry) (h : List Entry) → IsSane (x ∷ h) → Effect t x h → (is_held t l h ≡ true → IsMade l h) → is_held t l (x ∷ h) ≡ true → IsMade l (x ∷ h)
+made_step : (t l : ℕ) (x : Entry) (h : List Entry) → IsSane (x ∷ h) → Effect t x h → (is_held t l h ≡ true → IsGiven (locks_of h) l) → is_held t l (x ∷ h) ≡ true → IsGiven (locks_of (x ∷ h)) l
 made_step t l x h sane (Same same) ih is = made_more l x h (ih (sym (same l) ∙ is))
 made_step t l x h sane (New m acts was now held') ih is =
     elim (eqb_tells m l) [
-      | inl e ↦ made_more l x h (subst (λ k. IsMade k h) e.1 (subst (λ a. IsFit a t h) acts (fit_by t x h sane)))
+      | inl e ↦ made_more l x h (subst (λ k. IsGiven (locks_of h) k) e.1 (subst (λ a. IsFit a t h) acts (fit_by t x h sane)))
       | inr e ↦ made_more l x h (ih (sym (held-apart t l x h (ap (λ a. eqb (subject a) l) acts ∙ e.0) sane.1) ∙ is))
     ]
 made_step t l x h sane (Gone m acts was now held') ih is =
@@ -130,7 +128,7 @@ made_step t l x h sane (Gone m acts was now held') ih is =
     ]
 
 -- a held lock was made
-pub made_sane : (t l : ℕ) (h : List Entry) → IsSane h → is_held t l h ≡ true → IsMade l h
+pub made_sane : (t l : ℕ) (h : List Entry) → IsSane h → is_held t l h ≡ true → IsGiven (locks_of h) l
 made_sane t l [] sane is = absurd (true≢false (sym is ∙ held-not t l [] (num-nil t l)))
 made_sane t l (x ∷ h) sane is = made_step t l x h sane (effect t x h sane) (made_sane t l h sane.1) is
 
@@ -139,7 +137,7 @@ kind_by true ls more l e = e
 kind_by false ls more l e = ap not e
 
 -- a lock's kind stays
-pub kind-stays : (k : Bool) (l : ℕ) (x : Entry) (h : List Entry) → IsMade l h → is_of_kind k (locks_of (x ∷ h)) l ≡ is_of_kind k (locks_of h) l
+pub kind-stays : (k : Bool) (l : ℕ) (x : Entry) (h : List Entry) → IsGiven (locks_of h) l → is_of_kind k (locks_of (x ∷ h)) l ≡ is_of_kind k (locks_of h) l
 kind-stays k l x h is =
     kind_by k (locks_of h) (made x.call) l
     (ap (λ (n : NewLock). is_spin n.class) (with_number-stays (locks_of h) (made x.call) l no_lock is.0 (omega (arith, is.0, is.1))))

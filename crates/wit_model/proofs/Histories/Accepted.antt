@@ -11,10 +11,11 @@ use Rattle.wit_model.specs.declared.calls.Reply.{Reply}
 use Rattle.wit_model.specs.declared.calls.Reply.TheVariants.{Made, Recorded, Unlocked}
 use Rattle.wit_model.specs.Rules.Names.{is_name}
 use Rattle.wit_model.specs.Rules.Types.{type_name_of, is_enrolled, is_otherwise}
-use Rattle.wit_model.specs.Rules.Locks.{lock_at, is_made}
+use Rattle.wit_model.specs.Rules.Locks.{lock_at}
 use Rattle.wit_model.specs.Rules.State.{State, seat_at, is_seat, has_room}
 use Rattle.wit_model.specs.Rules.Verdict.{is_exclusive, verdict}
-use Rattle.wit_model.specs.Rules.Step.{chain_for, held_by, is_pending, is_for, is_good_name, is_not_yet, is_file, is_shareable, is_deepest, with_room, released, step_init, step_check, step_note, step_unlock}
+use Rattle.wit_model.specs.Rules.Step.{chain_for, held_by, is_pending, is_for, is_good_name, is_not_yet, is_shareable, is_deepest, with_room, released, step_init, step_check, step_note, step_unlock}
+use Rattle.wit_model.specs.Rules.Numbers.{is_given, is_number}
 
 -- a fault that doesn't apply is passed by
 pub passed : (b : Bool) (f : Fault) (rest : Result Reply Fault) (r : Reply) → cond b (Err f) rest ≡ Ok r → (b ≡ false) × (rest ≡ Ok r)
@@ -38,8 +39,8 @@ asked-lock l (Some q) is = (q, refl, eqb-true q.lock.0 l is)
 
 pub record CheckAccepted (s : State) (t : ℕ) (q : Request) (r : Reply) : Type 0 where
   pub seat : is_seat s t ≡ true
-  pub lock : is_made s.known.locks q.lock.0 ≡ true
-  pub file : is_file s q.site.file.0 ≡ true
+  pub lock : is_given s.known.locks q.lock.0 ≡ true
+  pub file : is_number s.files q.site.file.0 ≡ true
   pub mode : (not (is_exclusive q.mode) && not (is_shareable (lock_at s.known.locks q.lock.0).made.class)) ≡ false
   pub idle : is_pending s t ≡ false
   pub shallow : is_deepest (held_by s t q.lock.0) ≡ false
@@ -57,8 +58,8 @@ roomy s (Ok a) r ok = go (has_room s 3) refl ok
 pub check_accepted : (s : State) (t : ℕ) (q : Request) (r : Reply) → step_check s t q ≡ Ok r → CheckAccepted s t q r
 check_accepted s t q r ok =
     let a = passed_not (is_seat s t) _ _ r ok in
-    let b = passed_not (is_made s.known.locks q.lock.0) _ _ r a.1 in
-    let c = passed_not (is_file s q.site.file.0) _ _ r b.1 in
+    let b = passed_not (is_given s.known.locks q.lock.0) _ _ r a.1 in
+    let c = passed_not (is_number s.files q.site.file.0) _ _ r b.1 in
     let d = passed (not (is_exclusive q.mode) && not (is_shareable (lock_at s.known.locks q.lock.0).made.class)) _ _ r c.1 in
     let e = passed (is_pending s t) _ _ r d.1 in
     let f = passed (is_deepest (held_by s t q.lock.0)) _ _ r e.1 in
@@ -67,20 +68,20 @@ check_accepted s t q r ok =
 
 pub record NoteAccepted (s : State) (t l : ℕ) (r : Reply) : Type 0 where
   pub seat : is_seat s t ≡ true
-  pub lock : is_made s.known.locks l ≡ true
+  pub lock : is_given s.known.locks l ≡ true
   pub asked : is_for l (seat_at s t).pending ≡ true
   pub reply : r ≡ Recorded
 
 pub note_accepted : (s : State) (t l : ℕ) (r : Reply) → step_note s t l ≡ Ok r → NoteAccepted s t l r
 note_accepted s t l r ok =
     let a = passed_not (is_seat s t) _ _ r ok in
-    let b = passed_not (is_made s.known.locks l) _ _ r a.1 in
+    let b = passed_not (is_given s.known.locks l) _ _ r a.1 in
     let c = passed_not (is_for l (seat_at s t).pending) _ _ r b.1 in
     record { seat = a.0; lock = b.0; asked = c.0; reply = sym (same_reply c.1) }
 
 pub record UnlockAccepted (s : State) (t l : ℕ) (m : Mode) (r : Reply) : Type 0 where
   pub seat : is_seat s t ≡ true
-  pub lock : is_made s.known.locks l ≡ true
+  pub lock : is_given s.known.locks l ≡ true
   pub idle : is_pending s t ≡ false
   pub instance : Instance
   pub held : held_by s t l ≡ Some instance
@@ -94,7 +95,7 @@ unlocked_reply m i r ok =
     let c = passed (eqb i.count 0 && i.norelease) _ _ r b.1 in
     sym (same_reply c.1)
 
-unlock_held : (s : State) (t l : ℕ) (m : Mode) (r : Reply) (o : Option Instance) → is_seat s t ≡ true → is_made s.known.locks l ≡ true → is_pending s t ≡ false
+unlock_held : (s : State) (t l : ℕ) (m : Mode) (r : Reply) (o : Option Instance) → is_seat s t ≡ true → is_given s.known.locks l ≡ true → is_pending s t ≡ false
     → held_by s t l ≡ o → released m o ≡ Ok r → UnlockAccepted s t l m r
 unlock_held s t l m r None seat lock idle is ok = (cc)
 unlock_held s t l m r (Some i) seat lock idle is ok =
@@ -103,7 +104,7 @@ unlock_held s t l m r (Some i) seat lock idle is ok =
 pub unlock_accepted : (s : State) (t l : ℕ) (m : Mode) (r : Reply) → step_unlock s t l m ≡ Ok r → UnlockAccepted s t l m r
 unlock_accepted s t l m r ok =
     let a = passed_not (is_seat s t) _ _ r ok in
-    let b = passed_not (is_made s.known.locks l) _ _ r a.1 in
+    let b = passed_not (is_given s.known.locks l) _ _ r a.1 in
     let c = passed (is_pending s t) _ _ r b.1 in
     unlock_held s t l m r (held_by s t l) a.0 b.0 c.0 refl c.1
 

@@ -11,10 +11,11 @@ use Rattle.wit_model.specs.declared.calls.Call.TheVariants.{Init, Check, Note, U
 use Rattle.wit_model.specs.declared.calls.Reply.{Reply}
 use Rattle.wit_model.specs.declared.calls.Reply.TheVariants.{Recorded}
 use Rattle.wit_model.specs.declared.calls.Entry.{Entry}
-use Rattle.wit_model.specs.Rules.Locks.{is_made, made_among}
+use Rattle.wit_model.specs.Rules.Locks.{made_among}
 use Rattle.wit_model.specs.Rules.History.{pending, pending_after}
 use Rattle.wit_model.specs.Rules.State.{Start, Story, state_of, seat_of, seats_of, seat_at, is_seat, types_of, typed_locks}
 use Rattle.wit_model.specs.Rules.Step.{is_for, answer_of, story_after, logged, IsLegal}
+use Rattle.wit_model.specs.Rules.Numbers.{is_given}
 use Rattle.wit_model.proofs.Chains.Seats.{entry}
 use Rattle.wit_model.proofs.Orders.TypedLocks.{length-typed, made-known, known-made}
 use Rattle.wit_model.proofs.Histories.Accepted.{same-request, check_accepted}
@@ -23,12 +24,12 @@ use Rattle.wit_model.proofs.Histories.Legal.{seat-within, pending-state}
 -- the request's seat is known, and its lock was made
 record IsGood (start : Start) (h : List Entry) (t : ℕ) (q : Request) : Type 0 where
   seat : (0 < t) × (t ≤ start.sizes.seats)
-  lock : is_made (typed_locks start h) q.lock.0 ≡ true
+  lock : is_given (typed_locks start h) q.lock.0 ≡ true
 
 Asks : Start → List Entry → ℕ → Option Request → Type 0
 Asks start h t o = (q : Request) → o ≡ Some q → IsGood start h t q
 
-made-later : (start : Start) (x : Entry) (h : List Entry) (l : ℕ) → is_made (typed_locks start h) l ≡ true → is_made (typed_locks start (x ∷ h)) l ≡ true
+made-later : (start : Start) (x : Entry) (h : List Entry) (l : ℕ) → is_given (typed_locks start h) l ≡ true → is_given (typed_locks start (x ∷ h)) l ≡ true
 made-later start x h l is =
     let was = made-known start h l is in
     known-made start (x ∷ h) l (was.0, omega (arith, was.1, length-more x, length-typed start h, length-typed start (x ∷ h)))
@@ -76,7 +77,7 @@ asked-seat start files h t q legal is =
     and_from _ _ (lt-ltb 0 t g.seat.0) (le-leb t (length (seats_of start.sizes.seats h)) (omega (arith, g.seat.1, length-map-range_with_len (seat_of h) 1 start.sizes.seats)))
 
 pub asked-made : (start : Start) (files : List (List ℕ)) (h : List Entry) (t : ℕ) (q : Request) → IsLegal start files h → pending t h ≡ Some q
-    → is_made (typed_locks start h) q.lock.0 ≡ true
+    → is_given (typed_locks start h) q.lock.0 ≡ true
 unfolding Asks
 asked-made start files h t q legal is = (asks_legal start files h t legal q is).lock
 
@@ -89,7 +90,7 @@ pub note_pending : (start : Start) (files : List (List ℕ)) (h : List Entry) (t
     → answer_of (story_after start files h) t (Note q.lock) ≡ Ok Recorded
 note_pending start files h t q legal is =
     let seat = asked-seat start files h t q legal is in
-    note_by (is_seat (state_of (story_after start files h)) t) (is_made (typed_locks start h) q.lock.0) (is_for q.lock.0 (seat_at (state_of (story_after start files h)) t).pending)
+    note_by (is_seat (state_of (story_after start files h)) t) (is_given (typed_locks start h) q.lock.0) (is_for q.lock.0 (seat_at (state_of (story_after start files h)) t).pending)
     seat (asked-made start files h t q legal is)
     (ap (λ o. is_for q.lock.0 o) (pending-state start files h t seat ∙ is) ∙ eq-eqb q.lock.0 q.lock.0 refl)
 

@@ -8,17 +8,18 @@ use Rattle.wit_model.specs.declared.calls.Call.{Call}
 use Rattle.wit_model.specs.declared.calls.Call.TheVariants.{Init, Check, Note, Unlock}
 use Rattle.wit_model.specs.declared.calls.Reply.{Reply}
 use Rattle.wit_model.specs.declared.calls.Entry.{Entry}
-use Rattle.wit_model.specs.Rules.Locks.{lock_at, is_made}
+use Rattle.wit_model.specs.Rules.Locks.{lock_at}
 use Rattle.wit_model.specs.Rules.State.{Start, State, state_of, is_seat}
 use Rattle.wit_model.specs.Rules.Verdict.{is_exclusive, verdict}
-use Rattle.wit_model.specs.Rules.Step.{chain_for, held_by, is_pending, is_file, is_shareable, is_deepest, with_room, answer_of, story_after, IsLegal}
+use Rattle.wit_model.specs.Rules.Step.{chain_for, held_by, is_pending, is_shareable, is_deepest, with_room, answer_of, story_after, IsLegal}
+use Rattle.wit_model.specs.Rules.Numbers.{is_given, is_number}
 use Rattle.wit_model.proofs.Histories.Accepted.{check_accepted}
 
 -- the answer to a check, where the file is known or not
 check_with : State → ℕ → Request → Bool → Result Reply Fault
 check_with s t q known =
     cond (not (is_seat s t)) (Err UnknownSeat)
-    (cond (not (is_made s.known.locks q.lock.0)) (Err UnknownLock)
+    (cond (not (is_given s.known.locks q.lock.0)) (Err UnknownLock)
     (cond (not known) (Err UnknownFile)
     (cond (not (is_exclusive q.mode) && not (is_shareable (lock_at s.known.locks q.lock.0).made.class)) (Err ModeNotAllowed)
     (cond (is_pending s t) (Err Pending)
@@ -37,8 +38,8 @@ unfolding check_with
 check-more start files more h t q r ok =
     let known = (check_accepted (state_of (story_after start files h)) t q r ok).file in
     let still = file-more q.site.file.0 (length files) (length (files ++ more)) known (omega (arith, length-append files more)) in
-    let e : check_with (state_of (story_after start (files ++ more) h)) t q (is_file (state_of (story_after start (files ++ more) h)) q.site.file.0)
-    ≡ check_with (state_of (story_after start files h)) t q (is_file (state_of (story_after start files h)) q.site.file.0)
+    let e : check_with (state_of (story_after start (files ++ more) h)) t q (is_number (state_of (story_after start (files ++ more) h)).files q.site.file.0)
+    ≡ check_with (state_of (story_after start files h)) t q (is_number (state_of (story_after start files h)).files q.site.file.0)
     = ap (λ b. check_with (state_of (story_after start files h)) t q b) (still ∙ sym known) in
     e ∙ ok
 

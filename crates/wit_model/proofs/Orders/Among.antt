@@ -18,13 +18,14 @@ use Rattle.wit_model.specs.declared.calls.Reply.{Reply}
 use Rattle.wit_model.specs.declared.calls.Reply.TheVariants.{Pass, Adopted, Silent, Reversal}
 use Rattle.wit_model.specs.declared.calls.Entry.{Entry}
 use Rattle.wit_model.specs.Rules.Types.{LockType, is_enrolled, type_number, enrolled, enrolled_all, listed_types, type_name_of, types_after}
-use Rattle.wit_model.specs.Rules.Locks.{locks_of, has_flag, lock_at, is_made, is_spin_lock}
+use Rattle.wit_model.specs.Rules.Locks.{locks_of, has_flag, lock_at, is_spin_lock}
 use Rattle.wit_model.specs.Rules.Orders.{is_adoption_of, is_direct, is_before, is_found, adopted_once, listed_pairs, listed_orders}
 use Rattle.wit_model.specs.Rules.History.{is_held, chain}
 use Rattle.wit_model.specs.Rules.State.{Start, Known, known_of, state_of, types_of, typed_locks, orders_of}
 use Rattle.wit_model.specs.Rules.Verdict.{is_exclusive, is_of, type_in, again, violates, is_blessed, conflict, judged, ordered, among, behind, verdict}
 use Rattle.wit_model.specs.Rules.Step.{chain_for, answer_of, story_after, IsLegal}
-use Rattle.wit_model.proofs.Chains.Held.{IsMade, made_sane}
+use Rattle.wit_model.specs.Rules.Numbers.{is_given, IsGiven, IsNumber}
+use Rattle.wit_model.proofs.Chains.Held.{made_sane}
 use Rattle.wit_model.proofs.Chains.Seats.{entry}
 use Rattle.wit_model.proofs.Orders.TypedLocks.{length-typed, made-known}
 use Rattle.wit_model.proofs.Orders.Types.{number-known, typed_made}
@@ -33,24 +34,20 @@ use Rattle.wit_model.proofs.Histories.Legal.{chain_for-state, sane_legal}
 use Rattle.wit_model.proofs.Orders.Started.{all-enrolled}
 use Rattle.wit_model.proofs.Orders.Sound.{taught, chain-held}
 
--- a number of one of n types
-abbrev pub IsOneOf : ℕ → ℕ → Type 0
-IsOneOf n t = (1 ≤ t) × (t ≤ n)
-
-made-type : (start : Start) (h : List Entry) (l : ℕ) → IsMade l h → IsOneOf (length (types_of start h)) (lock_at (typed_locks start h) l).type_no.0
+made-type : (start : Start) (h : List Entry) (l : ℕ) → IsGiven (locks_of h) l → IsNumber (length (types_of start h)) (lock_at (typed_locks start h) l).type_no.0
 made-type start h l is =
     let t = typed_made start h l is.0 (omega (arith, is.1, length-typed start h)) in
     let n = number-known (type_name_of (lock_at (typed_locks start h) l).made) (types_of start h) t.known in
     (omega (arith, n.0, t.number), omega (arith, n.1, t.number))
 
 -- a lock that was made is of a known type
-pub lock-type : (start : Start) (h : List Entry) (l : ℕ) → is_made (typed_locks start h) l ≡ true → IsOneOf (length (types_of start h)) (lock_at (typed_locks start h) l).type_no.0
+pub lock-type : (start : Start) (h : List Entry) (l : ℕ) → is_given (typed_locks start h) l ≡ true → IsNumber (length (types_of start h)) (lock_at (typed_locks start h) l).type_no.0
 lock-type start h l is = made-type start h l (made-known start h l is)
 
 -- an order that a check teaches: its types are known and differ, and the child isn't before the parent
 pub record IsOrderly (n : ℕ) (orders : List Adoption) (a b : ℕ) : Type 0 where
-  pub parent : IsOneOf n a
-  pub child : IsOneOf n b
+  pub parent : IsNumber n a
+  pub child : IsNumber n b
   pub apart : a ≡ b → ⊥
   pub orderly : is_before orders b a ≡ false
 
@@ -59,8 +56,8 @@ pub adopted-orderly : (start : Start) (files : List (List ℕ)) (h : List Entry)
 adopted-orderly start files h t q a b legal accepted =
     let l = taught start files h t q a b legal accepted in
     record {
-      parent = subst (λ (x : TypeNo). IsOneOf (length (types_of start h)) x.0) l.parent (made-type start h l.last l.was);
-      child = subst (λ (x : TypeNo). IsOneOf (length (types_of start h)) x.0) l.child (made-type start h q.lock.0 l.asks);
+      parent = subst (λ (x : TypeNo). IsNumber (length (types_of start h)) x.0) l.parent (made-type start h l.last l.was);
+      child = subst (λ (x : TypeNo). IsNumber (length (types_of start h)) x.0) l.child (made-type start h q.lock.0 l.asks);
       apart = l.apart;
       orderly = l.orderly;
     }
@@ -148,37 +145,37 @@ told k q c r p ok is = behind_told k q c (last_or None c) r p ok is
 
 told-known : (start : Start) (files : List (List ℕ)) (h : List Entry) (t : ℕ) (q : Request) (r : Reply) (p : TypeNo × TypeNo) → IsLegal start files h
     → CheckAccepted (state_of (story_after start files h)) t q r → pair_of (known_of start h) r ≡ Some p
-    → IsOneOf (length (types_of start h)) p.0.0 × IsOneOf (length (types_of start h)) p.1.0
+    → IsNumber (length (types_of start h)) p.0.0 × IsNumber (length (types_of start h)) p.1.0
 told-known start files h t q r p legal accepted is =
     let l = told (known_of start h) q (chain_for (state_of (story_after start files h)) t q.lock.0) r p accepted.verdict is in
     let held : is_held t l.held.lock.0 h ≡ true =
     found-last (λ (i : Instance). is_held t i.lock.0 h) (violates (known_of start h) q) (chain (is_spin_lock (locks_of h) q.lock.0) t h) l.held
     (chain-held (is_spin_lock (locks_of h) q.lock.0) t h)
     (subst (λ c. find (violates (known_of start h) q) (reverse c) ≡ Some l.held) (chain_for-state start files h t q.lock.0 accepted.seat) l.violation) in
-    subst (λ (p' : TypeNo × TypeNo). IsOneOf (length (types_of start h)) p'.0.0 × IsOneOf (length (types_of start h)) p'.1.0) l.pair
+    subst (λ (p' : TypeNo × TypeNo). IsNumber (length (types_of start h)) p'.0.0 × IsNumber (length (types_of start h)) p'.1.0) l.pair
     (made-type start h l.held.lock.0 (made_sane t l.held.lock.0 h (sane_legal start files h legal) held), lock-type start h q.lock.0 accepted.lock)
 
 -- the pair that a silent check, or a reversal, tells is of known types
 pub silent-known : (start : Start) (files : List (List ℕ)) (h : List Entry) (t : ℕ) (q : Request) (a b : TypeNo) → IsLegal start files h
-    → CheckAccepted (state_of (story_after start files h)) t q (Silent a b) → IsOneOf (length (types_of start h)) a.0 × IsOneOf (length (types_of start h)) b.0
+    → CheckAccepted (state_of (story_after start files h)) t q (Silent a b) → IsNumber (length (types_of start h)) a.0 × IsNumber (length (types_of start h)) b.0
 silent-known start files h t q a b legal accepted = told-known start files h t q (Silent a b) (a, b) legal accepted refl
 
 pub reversal-known : (start : Start) (files : List (List ℕ)) (h : List Entry) (t : ℕ) (q : Request) (x : Conflict) → IsLegal start files h
     → CheckAccepted (state_of (story_after start files h)) t q (Reversal x)
-    → IsOneOf (length (types_of start h)) (lock_at (typed_locks start h) x.held.lock.0).type_no.0 × IsOneOf (length (types_of start h)) (lock_at (typed_locks start h) x.asked.lock.0).type_no.0
+    → IsNumber (length (types_of start h)) (lock_at (typed_locks start h) x.held.lock.0).type_no.0 × IsNumber (length (types_of start h)) (lock_at (typed_locks start h) x.asked.lock.0).type_no.0
 reversal-known start files h t q x legal accepted =
     told-known start files h t q (Reversal x) (type_in (known_of start h) x.held.lock.0, type_in (known_of start h) x.asked.lock.0) legal accepted refl
 
 -- orders between n types
 AreAmong : ℕ → List Adoption → Type 0
-AreAmong n orders = (a b : ℕ) → is_direct orders a b ≡ true → IsOneOf n a × IsOneOf n b
+AreAmong n orders = (a b : ℕ) → is_direct orders a b ≡ true → IsNumber n a × IsNumber n b
 
-among_push : (n : ℕ) (o : Adoption) (orders : List Adoption) → AreAmong n orders → IsOneOf n o.parent.0 → IsOneOf n o.child.0 → AreAmong n (o ∷ orders)
+among_push : (n : ℕ) (o : Adoption) (orders : List Adoption) → AreAmong n orders → IsNumber n o.parent.0 → IsNumber n o.child.0 → AreAmong n (o ∷ orders)
 unfolding AreAmong
 among_push n o orders all parent child = λ a b is.
     ⊎_elim
     (λ new. let same = and_parts (eqb o.parent.0 a) (eqb o.child.0 b) new in
-    (subst (λ c. IsOneOf n c) (eqb-true o.parent.0 a same.0) parent, subst (λ c. IsOneOf n c) (eqb-true o.child.0 b same.1) child))
+    (subst (λ c. IsNumber n c) (eqb-true o.parent.0 a same.0) parent, subst (λ c. IsNumber n c) (eqb-true o.child.0 b same.1) child))
     (λ old. all a b old)
     (or_cases (is_adoption_of a b o) (is_direct orders a b) is)
 
@@ -205,7 +202,7 @@ more-types (Check q) types = omega arith
 more-types (Note l) types = omega arith
 more-types (Unlock l m) types = omega arith
 
-among_once : (n a b : ℕ) (orders : List Adoption) → AreAmong n orders → IsOneOf n a → IsOneOf n b → AreAmong n (adopted_once a b Listed orders)
+among_once : (n a b : ℕ) (orders : List Adoption) → AreAmong n orders → IsNumber n a → IsNumber n b → AreAmong n (adopted_once a b Listed orders)
 among_once n a b orders all parent child = go (is_direct orders a b)
   where
     go : (f : Bool) → AreAmong n (cond f orders (record { parent = record { 0 = a }; child = record { 0 = b }; origin = Listed } ∷ orders))
@@ -248,6 +245,6 @@ among_legal start files (x ∷ h) legal = among_by start files h x.seat.0 x.call
 
 -- adopted orders are between known types
 pub orders-among : (start : Start) (files : List (List ℕ)) (h : List Entry) → IsLegal start files h
-    → (a b : ℕ) → is_direct (orders_of start h) a b ≡ true → IsOneOf (length (types_of start h)) a × IsOneOf (length (types_of start h)) b
+    → (a b : ℕ) → is_direct (orders_of start h) a b ≡ true → IsNumber (length (types_of start h)) a × IsNumber (length (types_of start h)) b
 unfolding AreAmong
 orders-among start files h legal = among_legal start files h legal

@@ -20,8 +20,9 @@ use Rattle.wit_model.specs.Rules.History.{is_held, held_of, chain, instance}
 use Rattle.wit_model.specs.Rules.State.{Start, Known, known_of, state_of, orders_of}
 use Rattle.wit_model.specs.Rules.Verdict.{is_exclusive, is_of, type_in, again, violates, is_blessed, conflict, judged, ordered, among, behind, verdict}
 use Rattle.wit_model.specs.Rules.Step.{chain_for, answer_of, story_after, IsLegal}
+use Rattle.wit_model.specs.Rules.Numbers.{IsGiven}
 use Rattle.wit_model.proofs.Orders.Paths.{sound_adopt}
-use Rattle.wit_model.proofs.Chains.Held.{IsMade, made_sane, held_of-all}
+use Rattle.wit_model.proofs.Chains.Held.{made_sane, held_of-all}
 use Rattle.wit_model.proofs.Chains.Seats.{entry}
 use Rattle.wit_model.proofs.Orders.TypedLocks.{length-typed, made-known}
 use Rattle.wit_model.proofs.Orders.Types.{types-apart}
@@ -143,8 +144,8 @@ learnt-free k q c a b l same =
 -- what a check that teaches an order says of it: which made locks are of its types, that these differ, and that the child isn't before the parent
 pub record IsTaught (start : Start) (h : List Entry) (q : Request) (a b : TypeNo) : Type 0 where
   pub last : ℕ
-  pub was : IsMade last h
-  pub asks : IsMade q.lock.0 h
+  pub was : IsGiven (locks_of h) last
+  pub asks : IsGiven (locks_of h) q.lock.0
   pub parent : type_in (known_of start h) last ≡ a
   pub child : type_in (known_of start h) q.lock.0 ≡ b
   pub apart : a.0 ≡ b.0 → ⊥

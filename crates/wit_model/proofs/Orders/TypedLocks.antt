@@ -8,8 +8,9 @@ use Rattle.wit_model.specs.declared.calls.Call.{Call}
 use Rattle.wit_model.specs.declared.calls.Call.TheVariants.{Init, Check, Note, Unlock}
 use Rattle.wit_model.specs.declared.calls.Entry.{Entry}
 use Rattle.wit_model.specs.Rules.Types.{LockType, is_spin}
-use Rattle.wit_model.specs.Rules.Locks.{Lock, made, locks_of, lock_of, lock_at, unknown_lock, made_among, is_made, is_spin_lock}
+use Rattle.wit_model.specs.Rules.Locks.{Lock, made, locks_of, lock_of, lock_at, unknown_lock, made_among, is_spin_lock}
 use Rattle.wit_model.specs.Rules.State.{Start, types_of, typed_locks}
+use Rattle.wit_model.specs.Rules.Numbers.{is_given}
 use Rattle.wit_model.proofs.Numbered.{with_number-or-map}
 
 made_of : Lock → NewLock
@@ -41,10 +42,10 @@ pub spin_at : (start : Start) (h : List Entry) (l : ℕ) → is_spin (lock_at (t
 spin_at start h l = ap (λ (k : NewLock). is_spin k.class) (lock_at-made start h l)
 
 -- a lock that is known was made
-pub made-known : (start : Start) (h : List Entry) (l : ℕ) → is_made (typed_locks start h) l ≡ true → (0 < l) × (l ≤ length (locks_of h))
+pub made-known : (start : Start) (h : List Entry) (l : ℕ) → is_given (typed_locks start h) l ≡ true → (0 < l) × (l ≤ length (locks_of h))
 made-known start h l is =
     let parts = and_parts _ _ is in
     (ltb-true 0 l parts.0, (let le = leb-true l (length (typed_locks start h)) parts.1 in omega (arith, length-typed start h)))
 
-pub known-made : (start : Start) (h : List Entry) (l : ℕ) → (0 < l) × (l ≤ length (locks_of h)) → is_made (typed_locks start h) l ≡ true
+pub known-made : (start : Start) (h : List Entry) (l : ℕ) → (0 < l) × (l ≤ length (locks_of h)) → is_given (typed_locks start h) l ≡ true
 known-made start h l is = and_from _ _ (lt-ltb 0 l is.0) (le-leb l (length (typed_locks start h)) (omega (arith, is.1, length-typed start h)))

@@ -3,6 +3,7 @@
 use Rattle.std.specs.Prelude.{ℕ, ◌+◌, ◌-◌, ◌<◌, ◌≤◌, ◌≡◌, ◌==◌, Bool, ◌&&◌, List, [], ◌∷◌, ◌++◌, length, map, nat_lt, replicate, slice_set, if◌then◌else◌}
 use Rattle.std.specs.List.{slice_index_or, sum_by, concat}
 use Rattle.wit_model.specs.declared.locks.Instance.{Instance}
+use Rattle.wit_model.specs.Rules.Numbers.{IsGiven}
 use Rattle.wit_model.specs.Rules.Groups.{flat, joined, opens}
 
 -- how many chunks there are, numbered from 0; each list's groups, oldest first; the chunk of each of these groups; and the free chunks
@@ -13,7 +14,7 @@ pub record Chunks : Type 0 where
   pub unused : List ℕ
 
 abbrev pub IsList : Chunks → ℕ → Type 0
-IsList c list = (0 < list) × (list ≤ length c.groups)
+IsList c list = IsGiven c.groups list
 
 abbrev pub groups_of : Chunks → ℕ → List (List Instance)
 groups_of c list = slice_index_or c.groups (list - 1) []

@@ -7,7 +7,7 @@ use Rattle.wit_model.specs.declared.calls.NewLock.{NewLock}
 use Rattle.wit_model.specs.declared.calls.Call.{Call}
 use Rattle.wit_model.specs.declared.calls.Call.TheVariants.{Init}
 use Rattle.wit_model.specs.declared.calls.Entry.{Entry}
-use Rattle.wit_model.specs.Rules.Numbers.{is_given, with_number}
+use Rattle.wit_model.specs.Rules.Numbers.{with_number}
 use Rattle.wit_model.specs.Rules.Types.{LockType, type_number, type_name_of, is_spin}
 
 -- whether a set of flags has this one
@@ -53,6 +53,3 @@ unknown_lock = record { type_no = record { 0 = 0 }; made = no_lock }
 abbrev pub lock_at : List Lock → ℕ → Lock
 lock_at locks l = unwrap_or (with_number locks l) unknown_lock
 
--- whether a lock with this number was made
-abbrev pub is_made : List Lock → ℕ → Bool
-is_made locks l = is_given locks l

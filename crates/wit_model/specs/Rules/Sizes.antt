@@ -1,6 +1,6 @@
 -- How much a verifier holds.
-use Rattle.std.specs.Prelude.{ℕ, ◌<◌, ◌≤◌, Bool, ◌&&◌}
-use Rattle.wit_model.specs.Rules.Numbers.{is_number}
+use Rattle.std.specs.Prelude.{ℕ, Bool, ◌&&◌}
+use Rattle.wit_model.specs.Rules.Numbers.{is_number, IsNumber}
 
 -- seats, lock types, locks ever made, chunks of held locks, entries of the log
 pub record Sizes : Type 0 where
@@ -16,15 +16,12 @@ sizes_of s t l c n = record { seats = s; types = t; locks = l; chunks = c; log =
 
 -- each is at least 1, and at most what a verifier can hold
 pub record AreWithin (s : Sizes) : Type 0 where
-  pub seats : (0 < s.seats) × (s.seats ≤ 256)
-  pub types : (0 < s.types) × (s.types ≤ 1023)
-  pub locks : (0 < s.locks) × (s.locks ≤ 65536)
-  pub chunks : (0 < s.chunks) × (s.chunks ≤ 65536)
-  pub log : (0 < s.log) × (s.log ≤ 16777216)
-
-abbrev pub is_within : ℕ → ℕ → Bool
-is_within n most = is_number most n
+  pub seats : IsNumber 256 s.seats
+  pub types : IsNumber 1023 s.types
+  pub locks : IsNumber 65536 s.locks
+  pub chunks : IsNumber 65536 s.chunks
+  pub log : IsNumber 16777216 s.log
 
 -- the test for it
 abbrev pub are_within : Sizes → Bool
-are_within s = is_within s.seats 256 && (is_within s.types 1023 && (is_within s.locks 65536 && (is_within s.chunks 65536 && is_within s.log 16777216)))
+are_within s = is_number 256 s.seats && (is_number 1023 s.types && (is_number 65536 s.locks && (is_number 65536 s.chunks && is_number 16777216 s.log)))

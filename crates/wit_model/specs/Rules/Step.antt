@@ -17,9 +17,9 @@ use Rattle.wit_model.specs.declared.calls.Reply.{Reply}
 use Rattle.wit_model.specs.declared.calls.Reply.TheVariants.{Made, Recorded, Unlocked}
 use Rattle.wit_model.specs.declared.calls.Entry.{Entry}
 use Rattle.wit_model.specs.Rules.Names.{is_name}
-use Rattle.wit_model.specs.Rules.Numbers.{is_number}
+use Rattle.wit_model.specs.Rules.Numbers.{is_number, is_given}
 use Rattle.wit_model.specs.Rules.Types.{type_name_of, type_number, is_enrolled, is_otherwise, is_same_class, is_spin}
-use Rattle.wit_model.specs.Rules.Locks.{Lock, has_flag, lock_at, is_made}
+use Rattle.wit_model.specs.Rules.Locks.{Lock, has_flag, lock_at}
 use Rattle.wit_model.specs.Rules.State.{Start, Story, State, state_of, seat_at, is_seat, has_room}
 use Rattle.wit_model.specs.Rules.Verdict.{is_exclusive, is_of, verdict}
 
@@ -61,10 +61,6 @@ step_init s t lock =
     else if not (has_room s 1) then Err LogFull
     else Ok (Made (record { 0 = length s.known.locks + 1 }))
 
--- a site's file is one that was named
-abbrev pub is_file : State → ℕ → Bool
-is_file s f = is_number s.files f
-
 -- mutexes are never held shared (mutex(9))
 abbrev pub is_shareable : Class → Bool
 is_shareable Rw = true
@@ -84,8 +80,8 @@ with_room s (Ok reply) = if has_room s 3 then Ok reply else Err LogFull
 abbrev pub step_check : State → ℕ → Request → Result Reply Fault
 step_check s t q =
     if not (is_seat s t) then Err UnknownSeat
-    else if not (is_made s.known.locks q.lock.0) then Err UnknownLock
-    else if not (is_file s q.site.file.0) then Err UnknownFile
+    else if not (is_given s.known.locks q.lock.0) then Err UnknownLock
+    else if not (is_number s.files q.site.file.0) then Err UnknownFile
     else if not (is_exclusive q.mode) && not (is_shareable (lock_at s.known.locks q.lock.0).made.class) then Err ModeNotAllowed
     else if is_pending s t then Err Pending
     else if is_deepest (held_by s t q.lock.0) then Err RecursionTooDeep
@@ -94,7 +90,7 @@ step_check s t q =
 abbrev pub step_note : State → ℕ → ℕ → Result Reply Fault
 step_note s t l =
     if not (is_seat s t) then Err UnknownSeat
-    else if not (is_made s.known.locks l) then Err UnknownLock
+    else if not (is_given s.known.locks l) then Err UnknownLock
     else if not (is_for l (seat_at s t).pending) then Err NotRequested
     else Ok Recorded
 
@@ -110,7 +106,7 @@ released m (Some i) =
 abbrev pub step_unlock : State → ℕ → ℕ → Mode → Result Reply Fault
 step_unlock s t l m =
     if not (is_seat s t) then Err UnknownSeat
-    else if not (is_made s.known.locks l) then Err UnknownLock
+    else if not (is_given s.known.locks l) then Err UnknownLock
     else if is_pending s t then Err Pending
     else released m (held_by s t l)
 

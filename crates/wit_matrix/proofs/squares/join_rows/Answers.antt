@@ -1,10 +1,10 @@
 use Rattle.std.proofs.Common.{◌≡◌, true, not, ◌+◌, sym, ◌∙◌, subst, arith}
 use Rattle.std.proofs.lemmas.Bool.{and_parts, true≢false}
-use Rattle.wit_matrix.specs.Relation.{IsNumber}
 use Rattle.wit_matrix.specs.Squares.{IsSquare, has, reaches}
 use Rattle.wit_matrix.proofs.Joins.{RowsBelow, rows_start, rows_until, rows_more, rows_left, rows_end}
 use Rattle.wit_matrix.proofs.squares.join_rows.Goals.{then-is_to_join, else-is_to_join}
 use Rattle.wit_matrix.proofs.squares.join_rows.Goals as goal
+use Rattle.wit_model.specs.Rules.Numbers.{IsNumber}
 
 pub loop-row-init : goal.loop-row-init
 loop-row-init c = record {
@@ -23,10 +23,8 @@ join_row-requires-clause-apart c = λ same.
 
 pub loop-row-preserved : goal.loop-row-preserved
 loop-row-preserved c =
-    let here : IsNumber c.args.n c.next_row-next.result = record {
-      positive = omega (arith, c.loop-row.invariant.positive, c.next_row-next.ensures.onward);
-      within = omega arith;
-    } in
+    let here : IsNumber c.args.n c.next_row-next.result =
+    (omega (arith, c.loop-row.invariant.positive, c.next_row-next.ensures.onward), omega arith) in
     let below : RowsBelow c.args.n c.args.mirror.now c.args.first.0 c.args.source.0 c.next_row-next.result c.args.words.now c.loop-row.words =
     rows_until c.args.n c.args.mirror.now c.args.first.0 c.args.source.0 c.loop-row.row c.next_row-next.result c.args.words.now c.loop-row.words c.next_row-next.ensures.onward
     c.loop-row.invariant.joined c.next_row-next.ensures.none in

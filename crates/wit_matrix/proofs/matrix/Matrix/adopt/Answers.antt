@@ -1,7 +1,8 @@
 use Rattle.std.proofs.Common.{◌≡◌, ℕ, false, List, length, ap, sym, ◌∙◌, subst, arith}
 use Rattle.std.proofs.lemmas.List.{with_items_is}
 use Rattle.wit_model.specs.Rules.Orders.{is_before}
-use Rattle.wit_matrix.specs.Relation.{Relation, IsNumber, Adopts}
+use Rattle.wit_model.specs.Rules.Numbers.{IsNumber}
+use Rattle.wit_matrix.specs.Relation.{Relation, Adopts}
 use Rattle.wit_matrix.specs.Squares.{relation_in, AddsWhere, IsTransitive, is_at, links}
 use Rattle.wit_matrix.proofs.Edits.{CanAdopt, Links, kept_transitive, adopted_kept, adopted_adopts, kept_as}
 use Rattle.wit_matrix.proofs.matrix.Matrix.adopt.Goals as goal

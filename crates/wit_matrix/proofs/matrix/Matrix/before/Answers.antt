@@ -1,7 +1,8 @@
 use Rattle.std.proofs.Common.{◌≡◌, ap, sym, ◌∙◌, subst}
 use Rattle.wit_model.specs.Rules.Orders.{is_before}
+use Rattle.wit_model.specs.Rules.Numbers.{IsNumber}
 use Rattle.wit_model.proofs.Orders.Paths.{before_from_test, test_from_before}
-use Rattle.wit_matrix.specs.Relation.{Relation, IsNumber}
+use Rattle.wit_matrix.specs.Relation.{Relation}
 use Rattle.wit_matrix.specs.Squares.{has}
 use Rattle.wit_matrix.proofs.matrix.Matrix.before.Goals as goal
 

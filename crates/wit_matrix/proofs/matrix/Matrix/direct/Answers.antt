@@ -1,6 +1,7 @@
 use Rattle.std.proofs.Common.{◌≡◌, ap, sym, ◌∙◌, subst}
 use Rattle.wit_model.specs.Rules.Orders.{is_direct}
-use Rattle.wit_matrix.specs.Relation.{Relation, IsNumber}
+use Rattle.wit_model.specs.Rules.Numbers.{IsNumber}
+use Rattle.wit_matrix.specs.Relation.{Relation}
 use Rattle.wit_matrix.specs.Squares.{has}
 use Rattle.wit_matrix.proofs.Settled.{direct_holds}
 use Rattle.wit_matrix.proofs.matrix.Matrix.direct.Goals as goal

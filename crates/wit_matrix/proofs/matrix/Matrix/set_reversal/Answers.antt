@@ -1,10 +1,11 @@
 use Rattle.std.proofs.Common.{◌≡◌, ℕ, List, length, ap, sym, ◌∙◌, subst, arith}
 use Rattle.std.specs.Vec.{with_items}
 use Rattle.std.proofs.lemmas.List.{with_items_is}
-use Rattle.wit_matrix.specs.Relation.{Relation, IsNumber, Finds}
+use Rattle.wit_matrix.specs.Relation.{Relation, Finds}
 use Rattle.wit_matrix.specs.Squares.{relation_in, AddsWhere, IsKept, is_at}
 use Rattle.wit_matrix.proofs.Edits.{marked_kept, marked_finds}
 use Rattle.wit_matrix.proofs.matrix.Matrix.set_reversal.Goals as goal
+use Rattle.wit_model.specs.Rules.Numbers.{IsNumber}
 
 pub invariant_of-self : goal.invariant_of-self
 invariant_of-self c =
