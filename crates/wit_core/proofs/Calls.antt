@@ -1,5 +1,5 @@
 -- Each call keeps the invariant of a verifier.
-use Rattle.std.proofs.Common.{◌≡◌, ℕ, ◌+◌, ◌-◌, ◌<◌, ◌≤◌, ◌&&◌, ◌⊎◌, inl, inr, Bool, true, false, cond, List, [], ◌∷◌, ◌++◌, Option, None, Some, Ok, Err, Result, IfOk, IfErr, OnOk, OnErr, String, length, map, reverse, find, unwrap_or, get_or, vec_len, refl, sym, ap, ap₂, ◌∙◌, subst, arith, is_some, length-append, zero-add}
+use Rattle.std.proofs.Common.{◌≡◌, ℕ, ◌+◌, ◌-◌, ◌<◌, ◌≤◌, ◌&&◌, ◌⊎◌, inl, inr, Bool, true, false, cond, List, [], ◌∷◌, ◌++◌, Option, None, Some, Ok, Err, Result, IsOk, IfOk, IfErr, OnOk, OnErr, String, length, map, reverse, find, unwrap_or, get_or, vec_len, refl, sym, ap, ap₂, ◌∙◌, subst, arith, is_some, length-append, zero-add}
 use Rattle.std.proofs.lemmas.List.{length-map}
 use Rattle.std.specs.List.{position, range_with_len, AllByRecursion}
 use Rattle.std.proofs.lemmas.List.Elements.{recursion_from_All}
@@ -28,10 +28,11 @@ use Rattle.wit_model.specs.Rules.Names.{is_name}
 use Rattle.wit_model.specs.Rules.Types.{is_spin, type_name_of}
 use Rattle.wit_model.specs.Rules.Locks.{locks_of, lock_at, is_spin_lock}
 use Rattle.wit_model.specs.Rules.History.{is_report, reports_of, pending, watch_of}
+use Rattle.wit_model.specs.Rules.Refusals.{IsRefusal}
 use Rattle.wit_model.specs.declared.locks.Watch.TheVariants.{On}
 use Rattle.wit_model.specs.Rules.Start.{start_fault}
-use Rattle.wit_model.specs.Rules.Files.{is_known_file, file_answer, files_after, IsNumbered, NamesFile}
-use Rattle.wit_table.specs.Known.{Names, enroll_answer, filing_answer, with_file, IsRefusal}
+use Rattle.wit_model.specs.Rules.Files.{is_known_file, file_answer, files_after, NamesFile}
+use Rattle.wit_table.specs.Known.{Names, enroll_answer, with_file}
 use Rattle.wit_model.specs.Rules.State.{Start, Story, fresh, State, Known, types_of, state_of, seats_of, seat_of, owed, is_seat, seat_at, no_seat}
 use Rattle.wit_model.specs.Rules.Step.{answer_of, story_after, is_pending, is_good_name, chain_for, IsLegal}
 use Rattle.wit_model.specs.Rules.Verdict.{is_of}
@@ -236,9 +237,9 @@ admitted v t lock made number k same ok =
     let accepted = init_accepted (state_of (story_in v)) t lock (Made number) ok in
     let types : v.books.known.names.types ≡ types_of (start_in v) (history_in v) = ap (λ (s : State). s.known.types) k.state in
     subst (IsAdmitted v.books.known) (sym same)
-    (subst (λ n. IsNumbered (enroll_answer (type_name_of lock) lock.class n v.books.known.names.types)) (sym k.sized.names)
-    (subst (λ ts. IsNumbered (enroll_answer (type_name_of lock) lock.class v.books.limits.types ts)) (sym types)
-    (rw (type-named lock accepted.names, accepted.class, accepted.types) tt)))
+    (subst (λ n. IsOk (enroll_answer (type_name_of lock) lock.class n v.books.known.names.types)) (sym k.sized.names)
+    (subst (λ ts. IsOk (enroll_answer (type_name_of lock) lock.class v.books.limits.types ts)) (sym types)
+    (rw (type-named lock accepted.names, accepted.class, accepted.types) refl)))
 
 -- what a note needs: room in the sum and in the log, and a count that can rise
 pub note_owed : (v : Inside) (t : ℕ) (l : LockNo) → IsKept v → answer_of (story_in v) t (Note l) ≡ Ok Recorded → (q : Request) → (seat_at (state_in v.books) t).pending ≡ Some q → 0 < v.books.owed
@@ -343,22 +344,16 @@ with_files v names = record v { books = record v.books { known = record v.books.
 
 -- the story of a naming
 pub file_named : (v : Inside) (name : List ℕ) (r : Result FileNo Fault) (new : Names) → IsKept v
-    → IfOk r (λ f. filing_answer name v.books.known.names.most_files v.books.known.names.files ≡ Ok f.0)
+    → IfOk r (λ f. file_answer name v.books.known.names.most_files v.books.known.names.files ≡ Ok f.0)
     → OnOk r (new ≡ with_file v.books.known.names name)
-    → IfErr r (IsRefusal (filing_answer name v.books.known.names.most_files v.books.known.names.files))
+    → IfErr r (IsRefusal (file_answer name v.books.known.names.most_files v.books.known.names.files))
     → IfErr r (λ e. e ≡ OutOfMemory → is_known_file name v.books.known.names.files ≡ false)
     → OnErr r (new ≡ v.books.known.names)
     → NamesFile (story_in v) name r (story_in (with_files v new))
 file_named v name (Ok f) new k ok entered err absent same =
-    (subst (λ most. filing_answer name most v.books.known.names.files ≡ Ok f.0) k.sized.files ok, ap (λ n. story_in (with_files v n)) entered)
+    (subst (λ most. file_answer name most v.books.known.names.files ≡ Ok f.0) k.sized.files ok, ap (λ n. story_in (with_files v n)) entered)
 file_named v name (Err fault) new k ok entered err absent same =
-    (refused (subst (λ most. IsRefusal (filing_answer name most v.books.known.names.files) fault) k.sized.files err), ap (λ n. story_in (with_files v n)) same)
-  where
-    refused : IsRefusal (file_answer name v.books.known.names.files) fault
-        → (file_answer name v.books.known.names.files ≡ Err fault)
-        ⊎ ((fault ≡ OutOfMemory) × (is_known_file name v.books.known.names.files ≡ false) × IsNumbered (file_answer name v.books.known.names.files))
-    refused (inl at) = inl at
-    refused (inr none) = inr (none.0, absent none.0, none.1)
+    (subst (λ most. IsRefusal (file_answer name most v.books.known.names.files) fault) k.sized.files err, absent, ap (λ n. story_in (with_files v n)) same)
 
 -- a naming that is accepted leaves the history legal
 files_legal : (start : Start) (h : List Entry) (old : List (List ℕ)) (name : List ℕ) → IsLegal start old h → IsLegal start (files_after name old) h

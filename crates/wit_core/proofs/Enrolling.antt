@@ -1,9 +1,9 @@
 -- What an accepted list is entered by: its types can be enrolled one by one, its orders adopted one by one.
-use Rattle.std.proofs.Common.{◌≡◌, ℕ, ◌+◌, ◌<◌, ◌≤◌, Bool, true, false, not, ◌&&◌, ◌||◌, cond, nat_le, List, [], ◌∷◌, ◌++◌, length, drop, get_or, None, String, string_bytes, refl, ap, ap₂, sym, ◌∙◌, subst, arith, length-append, ⊎_elim}
+use Rattle.std.proofs.Common.{◌≡◌, ℕ, ◌+◌, ◌<◌, ◌≤◌, Bool, true, false, not, ◌&&◌, ◌||◌, cond, nat_le, List, [], ◌∷◌, ◌++◌, length, drop, get_or, None, IsOk, String, string_bytes, refl, ap, ap₂, sym, ◌∙◌, subst, arith, length-append, ⊎_elim}
 use Rattle.std.specs.List.{list_any, list_all}
 use Rattle.std.specs.Global.{Global}
 use Rattle.std.specs.Str.{bytes_eq}
-use Rattle.std.proofs.lemmas.Bool.{and_parts, or_parts, lt-leb, true≢false}
+use Rattle.std.proofs.lemmas.Bool.{and_parts, or_parts, lt-leb, true≢false, false≢true}
 use Rattle.std.proofs.lemmas.Slice.Eq.{bytes_eq-Decides}
 use Rattle.std.proofs.lemmas.List.Folds.{list_any-append}
 use Rattle.wit_model.specs.declared.faults.Fault.{Fault}
@@ -13,13 +13,13 @@ use Rattle.wit_model.specs.declared.locks.LockType.{LockType}
 use Rattle.wit_model.specs.declared.locks.Origin.TheVariants.{Listed}
 use Rattle.wit_model.specs.declared.calls.Adoption.{Adoption}
 use Rattle.wit_model.specs.Rules.Names.{is_name}
-use Rattle.wit_model.specs.Rules.Files.{IsNumbered}
 use Rattle.wit_model.specs.Rules.Types.{is_named, is_same_class, is_enrolled, is_otherwise, type_number, enrolled, enrolled_all}
 use Rattle.wit_model.specs.Rules.Orders.{is_before, adopted_once}
 use Rattle.wit_model.specs.Rules.Start.{is_misclassed, has_twin, turns_round, list_fault}
+use Rattle.wit_model.specs.Rules.Refusals.{IsRefusal}
 use Rattle.wit_model.proofs.Orders.Types.{number-known}
 use Rattle.wit_model.proofs.Orders.Started.{all-enrolled, one_name, list_accepted}
-use Rattle.wit_table.specs.Known.{Names, enroll_answer, with_type, IsRefusal}
+use Rattle.wit_table.specs.Known.{Names, enroll_answer, with_type}
 use Rattle.wit_matrix.specs.Relation.{Relation}
 use Rattle.wit_core.specs.Following.{CanFollow}
 use Rattle.wit_core.specs.Listed.{entry_of, listed, CanBeEnrolled, CanBeAdopted, KeepsRest}
@@ -51,12 +51,12 @@ otherwise-one name other class its types none agrees = go (is_enrolled other typ
 
 module _ (most : ℕ) (types : List LockType) (e : Class × List ℕ) (list : List (Class × List ℕ)) (can : CanBeEnrolled most types (e ∷ list)) where
   -- the first type can be enrolled
-  pub enrolls-first : IsNumbered (enroll_answer e.1 e.0 most types)
+  pub enrolls-first : IsOk (enroll_answer e.1 e.0 most types)
   enrolls-first =
       let named = (or_parts (not (is_name e.1)) (list_any (λ (d : Class × List ℕ). not (is_name d.1)) list) can.names).0 in
       let agrees = (or_parts (is_misclassed types (e ∷ list) e) (list_any (is_misclassed types (e ∷ list)) list) can.classes).0 in
       let known = (or_parts (is_otherwise e.1 e.0 types) _ agrees).0 in
-      rw (named, known, room) tt
+      rw (named, known, room) refl
     where
       go : (b : Bool) → is_enrolled e.1 types ≡ b → (not b && nat_le most (length types)) ≡ false
       go true is = refl
@@ -121,7 +121,7 @@ module _ (list : List (Class × String Global)) (i : ℕ) (a : Class × String G
 
   pub no-refusal : (fault : Fault) → IsRefusal (enroll_answer name a.0 names.most_types names.types) fault → fault ≡ OutOfMemory
   no-refusal fault refusal =
-      ⊎_elim (λ is. absurd (subst IsNumbered is (enrolls-first names.most_types names.types (a.0, name) (listed (drop (i + 1) list)) here))) (λ out. out.0) refusal
+      ⊎_elim (λ is. absurd (false≢true (subst IsOk is (enrolls-first names.most_types names.types (a.0, name) (listed (drop (i + 1) list)) here)))) (λ out. out.0) refusal
 
   pub can-step : (next : Names) → next ≡ with_type names name a.0 → CanBeEnrolled next.most_types next.types (listed (drop (i + 1) list))
   can-step next is =

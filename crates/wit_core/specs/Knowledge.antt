@@ -1,5 +1,5 @@
 -- What the verifier knows, as the rules speak of it.
-use Rattle.std.specs.Prelude.{ℕ, ◌≡◌, List, [], ◌∷◌, ◌++◌}
+use Rattle.std.specs.Prelude.{ℕ, ◌≡◌, List, [], ◌∷◌, ◌++◌, IsOk}
 use Rattle.wit_model.specs.declared.locks.Site.{Site}
 use Rattle.wit_model.specs.declared.locks.Origin.TheVariants.{At}
 use Rattle.wit_model.specs.declared.calls.NewLock.{NewLock}
@@ -12,7 +12,6 @@ use Rattle.wit_model.specs.declared.locks.Lock.{Lock}
 use Rattle.wit_model.specs.declared.calls.Adoption.{Adoption}
 use Rattle.wit_model.specs.Rules.State.{Known}
 use Rattle.wit_core.specs.declared.known.Knowledge.{Knowledge}
-use Rattle.wit_model.specs.Rules.Files.{IsNumbered}
 use Rattle.wit_model.specs.Rules.Numbers.{IsNumber}
 use Rattle.wit_table.specs.Known.{enroll_answer}
 use Rattle.wit_core.specs.Following.{CanFollow}
@@ -44,7 +43,7 @@ KeepsSizes old new = (types : ℕ) → IsSized types old → IsSized types new
 
 -- the type of a new lock is known, or can be enrolled
 abbrev pub IsAdmitted : Knowledge → NewLock → Type 0
-IsAdmitted k lock = IsNumbered (enroll_answer (type_name_of lock) lock.class k.names.most_types k.names.types)
+IsAdmitted k lock = IsOk (enroll_answer (type_name_of lock) lock.class k.names.most_types k.names.types)
 
 -- what a verdict teaches is an order that can be adopted, or a pair of types
 abbrev pub IsApt : ℕ → Known → Verdict → Type 0

@@ -8,6 +8,7 @@ pub mod Locks
 pub mod Names
 pub mod Numbers
 pub mod Orders
+pub mod Refusals
 pub mod SeatGroups
 pub mod Sizes
 pub mod Start

@@ -1,16 +1,16 @@
 -- What a table of names knows, as its callers see it, and its answers. Types and files have their places as numbers, from 1.
-use Rattle.std.specs.Prelude.{ℕ, ◌<◌, ◌≤◌, ◌≡◌, ◌⊎◌, Bool, true, false, not, ◌&&◌, List, [], ◌∷◌, ◌++◌, length, map, nat_le, slice_get, unwrap_or, Some, Result, Ok, Err, if◌then◌else◌}
+use Rattle.std.specs.Prelude.{ℕ, ◌≡◌, ◌⊎◌, Bool, true, false, not, ◌&&◌, List, [], ◌∷◌, ◌++◌, length, map, nat_le, slice_get, unwrap_or, Some, Result, Ok, Err, if◌then◌else◌}
 use Rattle.std.specs.List.{list_any}
 use Rattle.std.specs.Option.{option_map}
 use Rattle.wit_model.specs.declared.faults.Fault.{Fault}
-use Rattle.wit_model.specs.declared.faults.Fault.TheVariants.{BadName, ClassMismatch, TypesFull, FilesFull, OutOfMemory}
+use Rattle.wit_model.specs.declared.faults.Fault.TheVariants.{BadName, ClassMismatch, TypesFull, OutOfMemory}
 use Rattle.wit_model.specs.declared.locks.Class.{Class}
-use Rattle.wit_model.specs.Rules.Names.{is_name, is_file_name}
+use Rattle.wit_model.specs.Rules.Names.{is_name}
 use Rattle.wit_model.specs.Rules.Numbers.{with_number, with_changed}
 use Rattle.wit_model.specs.declared.locks.LockType.{LockType}
 use Rattle.wit_model.specs.Rules.Types.{is_enrolled, is_otherwise, type_number, enrolled}
 use Rattle.wit_model.specs.Rules.Verdict.{is_named_pair}
-use Rattle.wit_model.specs.Rules.Files.{is_known_file, file_number, files_after, IsNumbered}
+use Rattle.wit_model.specs.Rules.Files.{files_after}
 
 -- the types, for each of them how many live locks it has, the source files, the pairs of names that were blessed, and how many
 -- types and files there may be
@@ -51,17 +51,6 @@ enroll_answer name class most types =
     else if is_otherwise name class types then Err ClassMismatch
     else if not (is_enrolled name types) && nat_le most (length types) then Err TypesFull
     else Ok (type_number name types)
-
--- the answer to the naming of a file, want of memory aside: a known file gives its number also where no number is left
-abbrev pub filing_answer : List ℕ → ℕ → List (List ℕ) → Result ℕ Fault
-filing_answer name most files =
-    if not (is_file_name name) then Err BadName
-    else if not (is_known_file name files) && nat_le most (length files) then Err FilesFull
-    else Ok (file_number name files)
-
--- a refusal: the answer's fault, or want of memory in place of a number
-abbrev pub IsRefusal : Result ℕ Fault → Fault → Type 0
-IsRefusal answer fault = (answer ≡ Err fault) ⊎ ((fault ≡ OutOfMemory) × IsNumbered answer)
 
 -- the counts of live locks once this name is enrolled: a new type has none
 abbrev pub live_after : List ℕ → List LockType → List ℕ → List ℕ

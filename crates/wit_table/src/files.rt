@@ -1,10 +1,10 @@
 //! Source files by name, in order of first appearance.
 
 ghost use Rattle.std.specs.Prelude.{◌≡◌, ◌≤◌, ◌<◌, ◌+◌, ◌++◌, [], ◌∷◌, false, length, is_some, slice_get, IfSome, IfNone, IfOk, IfErr, OnOk, OnErr, Some, Ok};
-ghost use Rattle.wit_model.specs.Rules.Files.{is_known_file, file_number, files_after};
+ghost use Rattle.wit_model.specs.Rules.Files.{is_known_file, file_number, files_after, file_answer};
 ghost use Rattle.wit_model.specs.Rules.Numbers.{IsGiven};
 ghost use Rattle.wit_model.specs.declared.faults.Fault.TheVariants.{OutOfMemory};
-ghost use Rattle.wit_table.specs.Known.{filing_answer, IsRefusal};
+ghost use Rattle.wit_model.specs.Rules.Refusals.{IsRefusal};
 ghost use Rattle.wit_table.specs.Rows.{texts};
 
 use indexmap::IndexSet;
@@ -23,10 +23,10 @@ pub fn file_in(
 ) -> Result<FileNo, Fault>
     requires few { length (texts files.old.keys) ≤ most }
     requires most { most ≤ 65535 }
-    ensures ok { IfOk result (λ f. filing_answer name.now most (texts files.old.keys) ≡ Ok f.0) }
+    ensures ok { IfOk result (λ f. file_answer name.now most (texts files.old.keys) ≡ Ok f.0) }
     ensures number { IfOk result (λ f. f.0 ≡ file_number name.now (texts files.old.keys)) }
     ensures given { IfOk result (λ f. IsGiven (texts files.new.keys) f.0) }
-    ensures err { IfErr result (IsRefusal (filing_answer name.now most (texts files.old.keys))) }
+    ensures err { IfErr result (IsRefusal (file_answer name.now most (texts files.old.keys))) }
     ensures absent { IfErr result (λ e. e ≡ OutOfMemory → is_known_file name.now (texts files.old.keys) ≡ false) }
     ensures files { OnOk result (texts files.new.keys ≡ files_after name.now (texts files.old.keys)) }
     ensures unchanged { OnErr result (files.new.keys ≡ files.old.keys) }

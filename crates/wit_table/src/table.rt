@@ -7,8 +7,9 @@ ghost use Rattle.wit_model.specs.declared.faults.Fault.TheVariants.{OutOfMemory}
 ghost use Rattle.wit_model.specs.Rules.Names.{is_name, is_file_name};
 ghost use Rattle.wit_model.specs.Rules.Numbers.{with_number, IsGiven, IsNumber};
 ghost use Rattle.wit_model.specs.Rules.Types.{is_enrolled, is_otherwise, type_number};
-ghost use Rattle.wit_model.specs.Rules.Files.{is_known_file, file_number};
-ghost use Rattle.wit_table.specs.Known.{no_names, type_names, HasName, HasClass, enroll_answer, filing_answer, IsRefusal, with_type, with_file, live_of, with_live, is_blessed, with_blessed, are_names, IsBlessRefusal};
+ghost use Rattle.wit_model.specs.Rules.Files.{is_known_file, file_number, file_answer};
+ghost use Rattle.wit_model.specs.Rules.Refusals.{IsRefusal};
+ghost use Rattle.wit_table.specs.Known.{no_names, type_names, HasName, HasClass, enroll_answer, with_type, with_file, live_of, with_live, is_blessed, with_blessed, are_names, IsBlessRefusal};
 
 use crate::files::{file_at, file_in};
 use crate::types::{
@@ -193,11 +194,11 @@ impl Table {
     /// In this order: `BadName` where the text is no file name; `FilesFull` where it is new and no number is left;
     /// `OutOfMemory`, only where it is new.
     pub fn file(&mut self, name: &str) -> Result<FileNo, Fault>
-        ensures ok { IfOk result (λ f. filing_answer name.now self.old.most_files self.old.files ≡ Ok f.0) }
+        ensures ok { IfOk result (λ f. file_answer name.now self.old.most_files self.old.files ≡ Ok f.0) }
         ensures number { IfOk result (λ f. f.0 ≡ file_number name.now self.old.files) }
         ensures given { IfOk result (λ f. IsGiven self.new.files f.0) }
         ensures entered { OnOk result (self.new ≡ with_file self.old name.now) }
-        ensures err { IfErr result (IsRefusal (filing_answer name.now self.old.most_files self.old.files)) }
+        ensures err { IfErr result (IsRefusal (file_answer name.now self.old.most_files self.old.files)) }
         ensures absent { IfErr result (λ e. e ≡ OutOfMemory → is_known_file name.now self.old.files ≡ false) }
         ensures unchanged { OnErr result (self.new ≡ self.old) }
     {

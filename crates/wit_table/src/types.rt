@@ -4,7 +4,8 @@ ghost use Rattle.std.specs.Prelude.{◌≡◌, ◌≤◌, ◌<◌, ◌+◌, ◌-
 ghost use Rattle.wit_model.specs.Rules.Types.{is_enrolled, is_otherwise, type_number, enrolled};
 ghost use Rattle.wit_model.specs.Rules.Numbers.{IsGiven};
 ghost use Rattle.wit_model.specs.declared.faults.Fault.TheVariants.{OutOfMemory};
-ghost use Rattle.wit_table.specs.Known.{HasNameAt, HasClassAt, enroll_answer, live_after, IsRefusal};
+ghost use Rattle.wit_model.specs.Rules.Refusals.{IsRefusal};
+ghost use Rattle.wit_table.specs.Known.{HasNameAt, HasClassAt, enroll_answer, live_after};
 ghost use Rattle.wit_table.specs.Rows.{types_in, live_in};
 
 use indexmap::IndexMap;

@@ -23,7 +23,8 @@ use Rattle.wit_model.specs.declared.locks.SeatNo.{SeatNo}
 use Rattle.wit_model.specs.Rules.Files.{NamesFile}
 use Rattle.wit_model.specs.Rules.Start.{start_fault}
 use Rattle.wit_model.specs.Rules.State.{Story}
-use Rattle.wit_model.specs.Rules.Step.{AnswersOrFails, IsAccepted, answer_of}
+use Rattle.wit_model.specs.Rules.Refusals.{IsRefusal}
+use Rattle.wit_model.specs.Rules.Step.{AnswersOrFails, answer_of}
 use Rattle.wit_model.specs.Trace.Output as output
 use Rattle.wit_core.specs.Books.{new_lock, made_reply}
 use Rattle.wit_trace.specs.Machine.{BreaksAt, first_of}
@@ -55,7 +56,7 @@ passes_made s new t c (Ok reply) (Bad cause) answers tells = elim tells [ ]
 passes_made s new t c (Err fault) (Told text) answers tells = elim tells [ ]
 passes_made s new t c (Err fault) (Bad cause) answers tells = refused answers.0
   where
-    refused : (answer_of s t c ≡ Err fault) ⊎ ((fault ≡ OutOfMemory) × IsAccepted (answer_of s t c)) → Passes (output.makes s t c) (output.Reading s) (output.Reading new) (Bad cause)
+    refused : IsRefusal (answer_of s t c) fault → Passes (output.makes s t c) (output.Reading s) (output.Reading new) (Bad cause)
     refused (inl e) = rw e (tells.0, λ bad. ap (λ (x : Story). output.summed (output.Reading x) bad) answers.1)
     refused (inr none) = absurd (tells.1 none.0)
 

@@ -1,10 +1,10 @@
 -- What a verifier answers to a call, and which histories are legal. In each call the faults stand in the order in
 -- which they apply; want of memory is never among them.
-use Rattle.std.specs.Prelude.{ℕ, ◌+◌, ◌≡◌, Bool, true, false, not, ◌&&◌, ◌||◌, ◌==◌, nat_le, List, [], ◌∷◌, Option, None, Some, Result, Ok, Err, find, length, codes, is_some, if◌then◌else◌, ◌⊎◌}
+use Rattle.std.specs.Prelude.{ℕ, ◌+◌, ◌≡◌, Bool, true, false, not, ◌&&◌, ◌||◌, ◌==◌, nat_le, List, [], ◌∷◌, Option, None, Some, Result, Ok, Err, find, length, codes, is_some, if◌then◌else◌}
 use Rattle.std.specs.List.{list_any}
 use Rattle.std.specs.Str.{bytes_eq}
 use Rattle.wit_model.specs.declared.faults.Fault.{Fault}
-use Rattle.wit_model.specs.declared.faults.Fault.TheVariants.{UnknownSeat, UnknownLock, ClassMismatch, TypesFull, LocksFull, RecursionTooDeep, NotLocked, SharedUnlock, ExclusiveUnlock, ForbiddenUnlock, Pending, NotRequested, LogFull, OutOfMemory, BadName, ModeNotAllowed, UnknownFile, NotYet}
+use Rattle.wit_model.specs.declared.faults.Fault.TheVariants.{UnknownSeat, UnknownLock, ClassMismatch, TypesFull, LocksFull, RecursionTooDeep, NotLocked, SharedUnlock, ExclusiveUnlock, ForbiddenUnlock, Pending, NotRequested, LogFull, BadName, ModeNotAllowed, UnknownFile, NotYet}
 use Rattle.wit_model.specs.declared.locks.Class.{Class}
 use Rattle.wit_model.specs.declared.locks.Class.TheVariants.{SleepMutex, Rw, Sx}
 use Rattle.wit_model.specs.declared.locks.Mode.{Mode}
@@ -18,6 +18,7 @@ use Rattle.wit_model.specs.declared.calls.Reply.TheVariants.{Made, Recorded, Unl
 use Rattle.wit_model.specs.declared.calls.Entry.{Entry}
 use Rattle.wit_model.specs.Rules.Names.{is_name}
 use Rattle.wit_model.specs.Rules.Numbers.{is_number, is_given}
+use Rattle.wit_model.specs.Rules.Refusals.{IsRefusal}
 use Rattle.wit_model.specs.Rules.Types.{type_name_of, type_number, is_enrolled, is_otherwise, is_same_class, is_spin}
 use Rattle.wit_model.specs.Rules.Locks.{Lock, has_flag, lock_at}
 use Rattle.wit_model.specs.Rules.State.{Start, Story, State, state_of, seat_at, is_seat, has_room}
@@ -137,12 +138,7 @@ abbrev pub Answers : Story → ℕ → Call → Result Reply Fault → Story →
 Answers old t call (Ok reply) new = (answer_of old t call ≡ Ok reply) × (new ≡ logged old t call reply)
 Answers old t call (Err fault) new = (answer_of old t call ≡ Err fault) × (new ≡ old)
 
-abbrev pub IsAccepted : Result Reply Fault → Type 0
-IsAccepted (Ok reply) = Unit {0}
-IsAccepted (Err fault) = ⊥
-
 -- the same, where a growth may be refused in place of an acceptance: then too nothing changes
 abbrev pub AnswersOrFails : Story → ℕ → Call → Result Reply Fault → Story → Type 0
 AnswersOrFails old t call (Ok reply) new = (answer_of old t call ≡ Ok reply) × (new ≡ logged old t call reply)
-AnswersOrFails old t call (Err fault) new =
-    ((answer_of old t call ≡ Err fault) ⊎ ((fault ≡ OutOfMemory) × IsAccepted (answer_of old t call))) × (new ≡ old)
+AnswersOrFails old t call (Err fault) new = IsRefusal (answer_of old t call) fault × (new ≡ old)

@@ -12,7 +12,7 @@ use Rattle.wit_model.specs.declared.calls.Call.{Call}
 use Rattle.wit_model.specs.declared.calls.Call.TheVariants as call
 use Rattle.wit_model.specs.declared.calls.Reply.{Reply}
 use Rattle.wit_model.specs.Rules.Faults.{fault_text}
-use Rattle.wit_model.specs.Rules.Files.{file_answer, files_after}
+use Rattle.wit_model.specs.Rules.Files.{naming_answer, files_after}
 use Rattle.wit_model.specs.Rules.History.{reports_of}
 use Rattle.wit_model.specs.Trace.Reading.{line_of}
 use Rattle.wit_model.specs.Rules.Sizes.{Sizes, sizes_of, are_within}
@@ -94,7 +94,7 @@ log_limit = 16777216
 abbrev pub calls : Story → Line → Outcome
 calls s (Init seat lock) = makes s seat.0 (call.Init lock)
 calls s (Check seat lock mode ops file line) =
-    at_file s (λ s' n. makes s' seat.0 (call.Check (record { lock = lock; site = record { file = record { 0 = n }; line = line }; mode = mode; ops = ops }))) file (file_answer file s.files)
+    at_file s (λ s' n. makes s' seat.0 (call.Check (record { lock = lock; site = record { file = record { 0 = n }; line = line }; mode = mode; ops = ops }))) file (naming_answer s file)
 calls s (Lock seat lock) = makes s seat.0 (call.Note lock)
 calls s (Unlock seat lock mode) = makes s seat.0 (call.Unlock lock mode)
 calls s _ = Bad why.Syntax
