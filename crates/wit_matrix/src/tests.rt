@@ -1,7 +1,6 @@
 //! Matrices step by step, of sizes about a word's end, and the greatest one.
 ghost use Rattle.wit_model.specs.Rules.Numbers.{IsNumber};
 
-
 use crate::Matrix;
 use Step::{Adopt, Cell, Find, NoPath, Path};
 use std::alloc::Global;

@@ -1,6 +1,6 @@
 -- Lists of held locks in chunks, as their callers see them. Each list is held in groups, and each group lies in a chunk of its own. The
 -- lists are counted from 1.
-use Rattle.std.specs.Prelude.{ℕ, ◌+◌, ◌-◌, ◌<◌, ◌≤◌, ◌≡◌, ◌==◌, Bool, ◌&&◌, List, [], ◌∷◌, ◌++◌, length, map, nat_lt, replicate, slice_set, if◌then◌else◌}
+use Rattle.std.specs.Prelude.{ℕ, ◌+◌, ◌-◌, ◌≡◌, ◌==◌, Bool, ◌&&◌, List, [], ◌∷◌, ◌++◌, length, map, nat_lt, replicate, slice_set, if◌then◌else◌}
 use Rattle.std.specs.List.{slice_index_or, sum_by, concat}
 use Rattle.wit_model.specs.declared.locks.Instance.{Instance}
 use Rattle.wit_model.specs.Rules.Numbers.{IsGiven}

@@ -52,4 +52,3 @@ unknown_lock = record { type_no = record { 0 = 0 }; made = no_lock }
 -- the lock with this number
 abbrev pub lock_at : List Lock → ℕ → Lock
 lock_at locks l = unwrap_or (with_number locks l) unknown_lock
-
