@@ -2,9 +2,9 @@
 use Rattle.std.proofs.Common.{◌≡◌, ℕ, ◌-◌, ◌^◌, ◌<◌, ◌≤◌, true, false, not, eqb, List, [], ◌∷◌, ◌++◌, length, map, set, get_or, Some, slice_get, vec_len, ap, ap₂, sym, ◌∙◌, subst, ◌⊎◌, inl, inr, arith}
 use Rattle.std.specs.List.{remove}
 use Rattle.std.specs.Vec.{vec_capacity}
-use Rattle.std.specs.Global.{Vec}
+use Rattle.std.specs.declared.vec.Vec.{Vec}
 use Rattle.std.proofs.lemmas.Bool.{and_left, not-true, not-false, cond-true}
-use Rattle.std.proofs.lemmas.List.{length-append, length-map, length-set, get_or-map, get_or_default}
+use Rattle.std.proofs.lemmas.List.{length-append, length-set, get_or-map, get_or_default}
 use Rattle.wit_model.specs.declared.locks.Instance.{Instance}
 use Rattle.wit_model.specs.Rules.Groups.{flat, joined, opens, replaced_at, removed_at}
 use Rattle.wit_model.specs.Rules.Chunks.{Chunks, IsList, groups_of, chain_of, set_groups, is_refused, pushed}
@@ -13,17 +13,17 @@ use Rattle.wit_held.specs.Rows.{row, rows_of, places_of, groups_at, shown, AreWi
 use Rattle.wit_held.specs.Kept.{chunks_in, AreKept}
 use Rattle.wit_held.proofs.Placing.{IsFree, free, all-within, times-append, times-in}
 use Rattle.wit_held.proofs.Settled.{Leaves, both-nil, flat-push, groups-shown, list-within, list-short, chain-fits, push-fits, push-opens, push-refused, in-list, in-row, replaced, removed-kept, removed-freed}
-use Rattle.wit_held.proofs.VecRows.{row-read}
+use Rattle.wit_held.proofs.VecRows.{length-contents, row-read}
 
 -- what stays in a value that is written
-pub kept-by : (v : Inside) → AreKept v → (cs : Vec (Vec Instance)) (ls : Vec (Vec ℕ)) (us : Vec ℕ) (p : ℕ) (y : List Instance)
+pub kept-by : {A : Type 0} (v : Inside A) → AreKept v → (cs : Vec (Vec Instance A) A) (ls : Vec (Vec ℕ A) A) (us : Vec ℕ A) (p : ℕ) (y : List Instance)
     → rows_of cs.items ≡ set (rows_of v.chunks.items) p y → AreSettled (rows_of cs.items) (places_of ls.items) us.items → HaveRoom cs.items
     → ((size : ℕ) → HaveRoomFor size v.lists.items → HaveRoomFor size ls.items) → vec_capacity us ≡ vec_capacity v.unused
     → AreKept record { lists = ls; chunks = cs; unused = us }
-kept-by v kept cs ls us p y rows settled room lists free =
+kept-by {A} v kept cs ls us p y rows settled room lists free =
     let len : length cs.items ≡ length v.chunks.items =
-    sym (length-map cs.items (λ (c : Vec Instance). c.items)) ∙ ap length rows ∙ length-set (rows_of v.chunks.items) p y
-    ∙ length-map v.chunks.items (λ (c : Vec Instance). c.items) in
+    sym (length-contents cs.items) ∙ ap length rows ∙ length-set (rows_of v.chunks.items) p y
+    ∙ length-contents v.chunks.items in
     record {
       settled = settled;
       rows = room;
@@ -31,15 +31,15 @@ kept-by v kept cs ls us p y rows settled room lists free =
       free = omega (arith, len, free, kept.free);
     }
 
-module _ (v : Inside) (value : Chunks) (is : chunks_in v ≡ value) (kept : AreKept v) (list : ℕ) (named : IsList value list) where
+module _ {A : Type 0} (v : Inside A) (value : Chunks) (is : chunks_in v ≡ value) (kept : AreKept v) (list : ℕ) (named : IsList value list) where
   pub in-lists : list - 1 < length (places_of v.lists.items)
   in-lists = list-within (rows_of v.chunks.items) (places_of v.lists.items) v.unused.items list (subst (λ c. IsList c list) (sym is) named)
 
   pub in-vec : list - 1 < length v.lists.items
-  in-vec = omega (arith, in-lists, length-map v.lists.items (λ (l : Vec ℕ). l.items))
+  in-vec = omega (arith, in-lists, length-contents v.lists.items)
 
   -- the chunks of the list that is named
-  pub the-places : (l : Vec ℕ) (ps : List ℕ) → l ≡ get_or v.lists.items (list - 1) l → ps ≡ l.items → ps ≡ get_or (places_of v.lists.items) (list - 1) []
+  pub the-places : (l : Vec ℕ A) (ps : List ℕ) → l ≡ get_or v.lists.items (list - 1) l → ps ≡ l.items → ps ≡ get_or (places_of v.lists.items) (list - 1) []
   the-places l ps read e = e ∙ sym (row-read v.lists.items (list - 1) l in-vec read)
 
   -- what it holds
@@ -47,10 +47,10 @@ module _ (v : Inside) (value : Chunks) (is : chunks_in v ≡ value) (kept : AreK
   chain-is = ap flat (sym (groups-shown (rows_of v.chunks.items) (places_of v.lists.items) (list - 1) in-lists)) ∙ ap (λ c. chain_of c list) is
 
   -- the same where the chunks are read
-  module _ (ps : List ℕ) (cs : List (Vec Instance)) (p-is : ps ≡ get_or (places_of v.lists.items) (list - 1) []) (c-is : cs ≡ v.chunks.items) where
+  module _ (ps : List ℕ) (cs : List (Vec Instance A)) (p-is : ps ≡ get_or (places_of v.lists.items) (list - 1) []) (c-is : cs ≡ v.chunks.items) where
     pub read-chunks : AreWithin (length cs) ps
     read-chunks =
-        let len : length (rows_of v.chunks.items) ≡ length cs = length-map v.chunks.items (λ (c : Vec Instance). c.items) ∙ ap length (sym c-is) in
+        let len : length (rows_of v.chunks.items) ≡ length cs = length-contents v.chunks.items ∙ ap length (sym c-is) in
         subst (λ qs. AreWithin (length cs) qs) (sym p-is)
         (subst (λ n. AreWithin n (get_or (places_of v.lists.items) (list - 1) [])) len
         (all-within (length (rows_of v.chunks.items)) (places_of v.lists.items) v.unused.items kept.settled.placed (list - 1) in-lists))
@@ -136,7 +136,7 @@ module _ (v : Inside) (value : Chunks) (is : chunks_in v ≡ value) (kept : AreK
             kept.settled.placed.all,
             kept.free,
             v.unused.ok.0,
-            length-map v.chunks.items (λ (c : Vec Instance). c.items),
+            length-contents v.chunks.items,
           )
 
     -- the newest chunk has room
@@ -172,7 +172,7 @@ module _ (v : Inside) (value : Chunks) (is : chunks_in v ≡ value) (kept : AreK
           let known : IsFree (length (rows_of v.chunks.items)) (places_of v.lists.items) (rest ++ p ∷ []) p =
           free (length (rows_of v.chunks.items)) (places_of v.lists.items) (rest ++ p ∷ []) spare.placed p
           (omega (arith, times-append p rest (p ∷ []), times-in (p ∷ []) 0 0 (omega arith))) in
-          omega (arith, known.within, length-map v.chunks.items (λ (c : Vec Instance). c.items))
+          omega (arith, known.within, length-contents v.chunks.items)
 
       pub open-short : length (row (rows_of v.chunks.items) p) < 5
       open-short =
@@ -182,8 +182,8 @@ module _ (v : Inside) (value : Chunks) (is : chunks_in v ≡ value) (kept : AreK
 
       pub open-space : HasSpaceAt (list - 1) v.lists.items
       open-space d =
-          let l : Vec ℕ = get_or v.lists.items (list - 1) d in
-          let same : get_or (places_of v.lists.items) (list - 1) [] ≡ l.items = get_or-map (λ (m : Vec ℕ). m.items) v.lists.items (list - 1) d [] in-vec in
+          let l : Vec ℕ A = get_or v.lists.items (list - 1) d in
+          let same : get_or (places_of v.lists.items) (list - 1) [] ≡ l.items = get_or-map (λ (m : Vec ℕ A). m.items) v.lists.items (list - 1) d [] in-vec in
           omega (
             arith,
             ap length same,
@@ -192,7 +192,7 @@ module _ (v : Inside) (value : Chunks) (is : chunks_in v ≡ value) (kept : AreK
             spare.placed.all,
             length-append rest (p ∷ []),
             kept.lists (list - 1) d in-vec,
-            length-map v.chunks.items (λ (c : Vec Instance). c.items),
+            length-contents v.chunks.items,
           )
 
       pub open-leaves : false ≡ not (opens (groups_at (rows_of cs) ps)) → (i : Instance)

@@ -1,7 +1,7 @@
 -- Vectors in a row, one of which is read or written; and the first chunks of a list.
 use Rattle.std.proofs.Common.{◌≡◌, ℕ, suc, ◌+◌, ◌-◌, ◌<◌, ◌≤◌, Bool, true, false, not, cond, nat_lt, List, [], ◌∷◌, ◌++◌, length, map, take, drop, set, get_or, None, Some, is_some, position, slice_get, vec_len, refl, ap, sym, ◌∙◌, subst, arith}
 use Rattle.std.specs.List.{position_or_len}
-use Rattle.std.specs.Global.{Vec}
+use Rattle.std.specs.declared.vec.Vec.{Vec}
 use Rattle.std.proofs.lemmas.Bool.{true≢false, lt-ltb, le-ltb}
 use Rattle.std.proofs.lemmas.List.{length-append, length-map, map-append, map-set, get_or-map, take_more, take-map, take_all, take-append-drop}
 use Rattle.std.proofs.lemmas.List.Concat.{flat_map-append, get_or-flat_map}
@@ -9,24 +9,27 @@ use Rattle.std.proofs.lemmas.Option.{get_or_from_slice_get, slice_get_within}
 use Rattle.wit_model.specs.declared.locks.Instance.{Instance}
 use Rattle.wit_model.specs.Rules.Groups.{flat, has_room, opens}
 use Rattle.wit_model.specs.Rules.Verdict.{is_of}
-use Rattle.wit_held.specs.Rows.{row, rows_of, groups_at, AreWithin, IsWithin}
+use Rattle.wit_held.specs.Rows.{contents, row, rows_of, groups_at, AreWithin, IsWithin}
 use Rattle.wit_model.proofs.Chains.Grouping.{opens-newest}
 use Rattle.wit_held.proofs.HeldLock.{place_of}
 use Rattle.wit_held.proofs.Recording.{first-place, no-place}
 use Rattle.wit_held.proofs.Settled.{flat-push}
 
+pub length-contents : {X A : Type 0} (rows : List (Vec X A)) → length (contents rows) ≡ length rows
+length-contents {X} {A} rows = length-map rows (λ (v : Vec X A). v.items)
+
 -- what one of the vectors holds
-pub row-read : {X : Type 0} (rows : List (Vec X)) (place : ℕ) (v : Vec X) → place < length rows → v ≡ get_or rows place v
-    → get_or (map (λ (c : Vec X). c.items) rows) place [] ≡ v.items
-row-read {X} rows place v lt read = get_or-map (λ (c : Vec X). c.items) rows place v [] lt ∙ ap (λ (c : Vec X). c.items) (sym read)
+pub row-read : {X A : Type 0} (rows : List (Vec X A)) (place : ℕ) (v : Vec X A) → place < length rows → v ≡ get_or rows place v
+    → get_or (map (λ (c : Vec X A). c.items) rows) place [] ≡ v.items
+row-read {X} {A} rows place v lt read = get_or-map (λ (c : Vec X A). c.items) rows place v [] lt ∙ ap (λ (c : Vec X A). c.items) (sym read)
 
 -- one of them is edited
-pub rows-written : {X : Type 0} (rows : List (Vec X)) (place : ℕ) (v w : Vec X) (edit : List X → List X) → place < length rows → v ≡ get_or rows place v
+pub rows-written : {X A : Type 0} (rows : List (Vec X A)) (place : ℕ) (v w : Vec X A) (edit : List X → List X) → place < length rows → v ≡ get_or rows place v
     → w.items ≡ edit v.items
-    → map (λ (c : Vec X). c.items) (set rows place w) ≡ set (map (λ (c : Vec X). c.items) rows) place (edit (get_or (map (λ (c : Vec X). c.items) rows) place []))
-rows-written {X} rows place v w edit lt read e =
-    map-set (λ (c : Vec X). c.items) rows place w
-    ∙ ap (set (map (λ (c : Vec X). c.items) rows) place) (e ∙ ap edit (sym (row-read rows place v lt read)))
+    → map (λ (c : Vec X A). c.items) (set rows place w) ≡ set (map (λ (c : Vec X A). c.items) rows) place (edit (get_or (map (λ (c : Vec X A). c.items) rows) place []))
+rows-written {X} {A} rows place v w edit lt read e =
+    map-set (λ (c : Vec X A). c.items) rows place w
+    ∙ ap (set (map (λ (c : Vec X A). c.items) rows) place) (e ∙ ap edit (sym (row-read rows place v lt read)))
 
 -- the newest chunk decides whether a new lock opens one
 pub opens-at : (rows : List (List Instance)) (ps : List ℕ) (p : ℕ) → slice_get ps (length ps - 1) ≡ Some p → opens (groups_at rows ps) ≡ not (nat_lt (length (row rows p)) 5)
@@ -69,7 +72,7 @@ before-within rows ps k =
     omega (arith, ap length parts, length-append (before rows ps k) (flat (groups_at rows (drop k ps))))
 
 -- how much one of the chunks holds
-pub len-read : (chunks : List (Vec Instance)) (p : ℕ) (v : Vec Instance) → p < length chunks → v ≡ get_or chunks p v → vec_len v ≡ length (row (rows_of chunks) p)
+pub len-read : {A : Type 0} (chunks : List (Vec Instance A)) (p : ℕ) (v : Vec Instance A) → p < length chunks → v ≡ get_or chunks p v → vec_len v ≡ length (row (rows_of chunks) p)
 len-read chunks p v lt read = omega (arith, ap length (row-read chunks p v lt read), v.ok.0)
 
 -- a place is found in its chunk

@@ -5,11 +5,11 @@ use Rattle.wit_model.specs.Rules.Chunks.{Chunks}
 use Rattle.wit_held.specs.declared.vec_lists.VecLists.TheInside.{Inside}
 use Rattle.wit_held.specs.Rows.{rows_of, places_of, shown, AreSettled, HaveRoom, HaveRoomFor}
 
-abbrev pub chunks_in : Inside → Chunks
+abbrev pub chunks_in : {A : Type 0} → Inside A → Chunks
 chunks_in v = shown (rows_of v.chunks.items) (places_of v.lists.items) v.unused.items
 
 -- everything is in its place, and there is room for whatever may come
-pub record AreKept (v : Inside) : Type 0 where
+pub record AreKept {A : Type 0} (v : Inside A) : Type 0 where
   pub settled : AreSettled (rows_of v.chunks.items) (places_of v.lists.items) v.unused.items
   pub rows : HaveRoom v.chunks.items
   pub lists : HaveRoomFor (length v.chunks.items) v.lists.items

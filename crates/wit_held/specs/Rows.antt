@@ -2,19 +2,19 @@
 use Rattle.std.specs.Prelude.{ℕ, ◌+◌, ◌<◌, ◌≡◌, ◌≤◌, ◌++◌, List, [], map, length, vec_len, take, nat_lt, if◌then◌else◌}
 use Rattle.std.specs.List.{All, concat, slice_index_or}
 use Rattle.std.specs.Vec.{vec_capacity}
-use Rattle.std.specs.Global.{Vec}
+use Rattle.std.specs.declared.vec.Vec.{Vec}
 use Rattle.wit_model.specs.declared.locks.Instance.{Instance}
 use Rattle.wit_model.specs.Rules.Groups.{flat, AreTidy}
 use Rattle.wit_model.specs.Rules.Chunks.{Chunks, times}
 
 -- what each of the vectors holds
-abbrev pub contents : {X : Type 0} → List (Vec X) → List (List X)
-contents {X} rows = map (λ (v : Vec X). v.items) rows
+abbrev pub contents : {X A : Type 0} → List (Vec X A) → List (List X)
+contents {X} {A} rows = map (λ (v : Vec X A). v.items) rows
 
-abbrev pub rows_of : List (Vec Instance) → List (List Instance)
+abbrev pub rows_of : {A : Type 0} → List (Vec Instance A) → List (List Instance)
 rows_of chunks = contents chunks
 
-abbrev pub places_of : List (Vec ℕ) → List (List ℕ)
+abbrev pub places_of : {A : Type 0} → List (Vec ℕ A) → List (List ℕ)
 places_of lists = contents lists
 
 -- what the chunk with this number holds
@@ -47,16 +47,16 @@ pub record AreSettled (rows : List (List Instance)) (lists : List (List ℕ)) (u
   pub tidy : All AreTidy (map (groups_at rows) lists)
 
 -- each of the vectors has room for this many
-abbrev pub HaveRoomFor : {X : Type 0} → ℕ → List (Vec X) → Type 0
-HaveRoomFor {X} room rows = All (λ (v : Vec X). room ≤ vec_capacity v) rows
+abbrev pub HaveRoomFor : {X A : Type 0} → ℕ → List (Vec X A) → Type 0
+HaveRoomFor {X} {A} room rows = All (λ (v : Vec X A). room ≤ vec_capacity v) rows
 
 -- each chunk has room for five
-abbrev pub HaveRoom : List (Vec Instance) → Type 0
+abbrev pub HaveRoom : {A : Type 0} → List (Vec Instance A) → Type 0
 HaveRoom chunks = HaveRoomFor 5 chunks
 
 -- the list at this place has room for one more chunk
-abbrev pub HasSpaceAt : ℕ → List (Vec ℕ) → Type 0
-HasSpaceAt list lists = (d : Vec ℕ) → vec_len (slice_index_or lists list d) < vec_capacity (slice_index_or lists list d)
+abbrev pub HasSpaceAt : {A : Type 0} → ℕ → List (Vec ℕ A) → Type 0
+HasSpaceAt {A} list lists = (d : Vec ℕ A) → vec_len (slice_index_or lists list d) < vec_capacity (slice_index_or lists list d)
 
 -- each of these chunks is there
 abbrev pub AreWithin : ℕ → List ℕ → Type 0

@@ -5,17 +5,17 @@ ghost use Rattle.std.specs.List.{range_with_len};
 ghost use Rattle.std.specs.Vec.{vec_capacity};
 ghost use Rattle.wit_held.specs.Rows.{contents, HaveRoomFor};
 
-use std::alloc::{AllocError, Global};
+use std::alloc::{AllocError, Allocator};
 
 /// This many empty vectors, each with this much room.
 ///
 /// # Errors
 /// Want of memory alone.
-pub fn empty_rows<T: Drop>(
-    alloc: Global,
+pub fn empty_rows<T: Drop, A: Allocator + Copy>(
+    alloc: A,
     count: usize,
     room: usize,
-) -> Result<Vec<Vec<T>>, AllocError>
+) -> Result<Vec<Vec<T, A>, A>, AllocError>
     ensures empty { IfOk result (λ rows. contents rows.items ≡ replicate count []) }
     ensures room { IfOk result (λ rows. HaveRoomFor room rows.items) }
 {
@@ -31,7 +31,7 @@ pub fn empty_rows<T: Drop>(
 ///
 /// # Errors
 /// Want of memory alone.
-pub fn numbers_below(alloc: Global, count: u32) -> Result<Vec<u16>, AllocError>
+pub fn numbers_below<A: Allocator>(alloc: A, count: u32) -> Result<Vec<u16, A>, AllocError>
     requires { count ≤ 65536 }
     ensures numbers { IfOk result (λ numbers. numbers.items ≡ range_with_len 0 count) }
     ensures room { IfOk result (λ numbers. count ≤ vec_capacity numbers) }

@@ -6,13 +6,14 @@ ghost use Rattle.wit_model.specs.Rules.Groups.{flat, opens};
 ghost use Rattle.wit_model.specs.Rules.Verdict.{is_of};
 ghost use Rattle.wit_held.specs.Rows.{rows_of, places_of, row, groups_at, places_at, HaveRoom, HaveRoomFor, HasSpaceAt, AreWithin, IsWithin};
 
+use std::alloc::Allocator;
 use wit_model::{Instance, LockNo};
 
 /// How many locks a chunk holds at most.
 pub const CHUNK: usize = 5;
 
 /// The newest chunk of a list, where it has room for one more.
-pub fn open_chunk(places: &[u16], chunks: &[Vec<Instance>]) -> Option<usize>
+pub fn open_chunk<A: Allocator>(places: &[u16], chunks: &[Vec<Instance, A>]) -> Option<usize>
     requires { AreWithin (length chunks.now) places.now }
     ensures newest { IfSome result (λ p. slice_get places.now (length places.now - 1) ≡ Some p) }
     ensures within { IfSome result (λ p. p < length chunks.now) }
@@ -28,7 +29,7 @@ pub fn open_chunk(places: &[u16], chunks: &[Vec<Instance>]) -> Option<usize>
 }
 
 /// Puts a lock at the end of a chunk.
-pub fn put(chunks: &mut Vec<Vec<Instance>>, place: usize, instance: Instance)
+pub fn put<A: Allocator>(chunks: &mut Vec<Vec<Instance, A>, A>, place: usize, instance: Instance)
     requires place { place < vec_len chunks.old }
     requires room { HaveRoom chunks.old.items }
     requires short { length (row (rows_of chunks.old.items) place) < 5 }
@@ -40,7 +41,12 @@ pub fn put(chunks: &mut Vec<Vec<Instance>>, place: usize, instance: Instance)
 }
 
 /// Writes a lock over one in a chunk.
-pub fn write(chunks: &mut Vec<Vec<Instance>>, place: usize, index: usize, instance: Instance)
+pub fn write<A: Allocator>(
+    chunks: &mut Vec<Vec<Instance, A>, A>,
+    place: usize,
+    index: usize,
+    instance: Instance,
+)
     requires place { place < vec_len chunks.old }
     requires index { index < length (row (rows_of chunks.old.items) place) }
     requires room { HaveRoom chunks.old.items }
@@ -52,7 +58,11 @@ pub fn write(chunks: &mut Vec<Vec<Instance>>, place: usize, index: usize, instan
 }
 
 /// Takes a lock out of a chunk, in which the later ones move down. Whether the chunk is empty now.
-pub fn take_out(chunks: &mut Vec<Vec<Instance>>, place: usize, index: usize) -> bool
+pub fn take_out<A: Allocator>(
+    chunks: &mut Vec<Vec<Instance, A>, A>,
+    place: usize,
+    index: usize,
+) -> bool
     requires place { place < vec_len chunks.old }
     requires index { index < length (row (rows_of chunks.old.items) place) }
     requires room { HaveRoom chunks.old.items }
@@ -66,7 +76,7 @@ pub fn take_out(chunks: &mut Vec<Vec<Instance>>, place: usize, index: usize) -> 
 }
 
 /// Gives a list one more chunk, which is its newest.
-pub fn add(lists: &mut Vec<Vec<u16>>, list: usize, chunk: u16)
+pub fn add<A: Allocator>(lists: &mut Vec<Vec<u16, A>, A>, list: usize, chunk: u16)
     requires list { list < vec_len lists.old }
     requires space { HasSpaceAt list lists.old.items }
     ensures places { places_of lists.new.items ≡ slice_set (places_of lists.old.items) list (places_at (places_of lists.old.items) list ++ chunk ∷ []) }
@@ -77,7 +87,7 @@ pub fn add(lists: &mut Vec<Vec<u16>>, list: usize, chunk: u16)
 }
 
 /// Takes one of its chunks from a list.
-pub fn take_chunk(lists: &mut Vec<Vec<u16>>, list: usize, group: usize) -> u16
+pub fn take_chunk<A: Allocator>(lists: &mut Vec<Vec<u16, A>, A>, list: usize, group: usize) -> u16
     requires list { list < vec_len lists.old }
     requires group { group < length (places_at (places_of lists.old.items) list) }
     ensures places { places_of lists.new.items ≡ slice_set (places_of lists.old.items) list (remove (places_at (places_of lists.old.items) list) group) }
@@ -89,7 +99,11 @@ pub fn take_chunk(lists: &mut Vec<Vec<u16>>, list: usize, group: usize) -> u16
 }
 
 /// Which group of a list a place of the list lies in, and where in the group.
-pub fn locate(places: &[u16], chunks: &[Vec<Instance>], place: usize) -> (usize, usize)
+pub fn locate<A: Allocator>(
+    places: &[u16],
+    chunks: &[Vec<Instance, A>],
+    place: usize,
+) -> (usize, usize)
     requires chunks { AreWithin (length chunks.now) places.now }
     requires place { place < length (flat (groups_at (rows_of chunks.now) places.now)) }
     ensures { IsWithin (groups_at (rows_of chunks.now) places.now) place result.0 result.1 }
@@ -106,7 +120,7 @@ pub fn locate(places: &[u16], chunks: &[Vec<Instance>], place: usize) -> (usize,
 }
 
 /// The lock at a place of a list.
-pub fn read(places: &[u16], chunks: &[Vec<Instance>], place: usize) -> Instance
+pub fn read<A: Allocator>(places: &[u16], chunks: &[Vec<Instance, A>], place: usize) -> Instance
     requires chunks { AreWithin (length chunks.now) places.now }
     requires place { place < length (flat (groups_at (rows_of chunks.now) places.now)) }
     ensures { result ≡ slice_index_or (flat (groups_at (rows_of chunks.now) places.now)) place result }
@@ -117,7 +131,7 @@ pub fn read(places: &[u16], chunks: &[Vec<Instance>], place: usize) -> Instance
 }
 
 /// How many locks a list holds.
-pub fn count(places: &[u16], chunks: &[Vec<Instance>]) -> usize
+pub fn count<A: Allocator>(places: &[u16], chunks: &[Vec<Instance, A>]) -> usize
     requires chunks { AreWithin (length chunks.now) places.now }
     requires fits { length (flat (groups_at (rows_of chunks.now) places.now)) < 2 ^ 32 }
     ensures { result ≡ length (flat (groups_at (rows_of chunks.now) places.now)) }
@@ -130,7 +144,11 @@ pub fn count(places: &[u16], chunks: &[Vec<Instance>]) -> usize
 }
 
 /// The place in a list of the oldest instance of a lock.
-pub fn find(places: &[u16], chunks: &[Vec<Instance>], lock: LockNo) -> Option<usize>
+pub fn find<A: Allocator>(
+    places: &[u16],
+    chunks: &[Vec<Instance, A>],
+    lock: LockNo,
+) -> Option<usize>
     requires chunks { AreWithin (length chunks.now) places.now }
     requires fits { length (flat (groups_at (rows_of chunks.now) places.now)) < 2 ^ 32 }
     ensures place { result ≡ position (is_of lock.0) (flat (groups_at (rows_of chunks.now) places.now)) }

@@ -3,7 +3,8 @@
 ghost use Rattle.std.specs.Prelude.{◌≡◌};
 
 use crate::{VecLists, forget, record, recursion, set_mode};
-use std::alloc::AllocError;
+use linked_list_allocator::LocalHeap;
+use std::alloc::{AllocError, Allocator};
 use std::test::Fail;
 use wit_model::chunks::Lists;
 use wit_model::{Fault, FileNo, Instance, LockNo, Mode, Site};
@@ -37,7 +38,7 @@ fn held(lock: u32) -> Instance {
 }
 
 /// Puts a lock at the end of a list; false where it finds no room or there is no such list.
-fn push(lists: &mut VecLists, list: u16, lock: u32) -> bool {
+fn push<A: Allocator>(lists: &mut VecLists<A>, list: u16, lock: u32) -> bool {
     if list == 0 || list as usize > lists.lists() {
         return false;
     }
@@ -275,16 +276,25 @@ fn long_walk(rt: HostRuntime) -> Result<(), Fail> {
     Ok(())
 }
 
-// Made again where a growth was refused, so this passes whichever one is.
+// The heap grows by its least block, so that each growth of `new` is the first to be refused at one of the sizes.
 #[test]
 fn want_of_memory(rt: HostRuntime) -> Result<(), Fail> {
-    let mut made = VecLists::new(rt.alloc(), 4, 4);
-    if made.is_err() {
-        assert_eq!(rt; made.err(), Some(Fault::OutOfMemory));
-        made = VecLists::new(rt.alloc(), 4, 4);
+    let mut made = false;
+    for blocks in 0..64 {
+        let heap = LocalHeap::new(rt.alloc(), blocks * 16)?;
+        match VecLists::new(&heap, 4, 4) {
+            Ok(mut lists) => {
+                assert!(rt; push(&mut lists, 4, 1), "in {blocks} blocks");
+                assert_eq!(rt; lists.free_chunks(), 3, "in {blocks} blocks");
+                made = true;
+            }
+            Err(fault) => {
+                assert_eq!(rt; fault, Fault::OutOfMemory, "in {blocks} blocks");
+                assert!(rt; !made, "in {blocks} blocks");
+            }
+        }
+        assert_eq!(rt; heap.used(), 0, "in {blocks} blocks");
     }
-    let mut lists = made?;
-    assert!(rt; push(&mut lists, 4, 1));
-    assert_eq!(rt; lists.free_chunks(), 3);
+    assert!(rt; made);
     Ok(())
 }

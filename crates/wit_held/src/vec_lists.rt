@@ -8,23 +8,23 @@ use crate::fresh::{empty_rows, numbers_below};
 use crate::rows::{
     CHUNK, add, count, find, locate, open_chunk, put, read, take_chunk, take_out, write,
 };
-use std::alloc::{AllocError, Global};
+use std::alloc::{AllocError, Allocator, Global};
 use std::marker::Model;
 use wit_model::chunks::Lists;
 use wit_model::{Fault, Instance, LockNo};
 
 /// Lists in chunks on vectors, with all their room from the beginning.
 #[derive(Drop)]
-pub struct VecLists {
+pub struct VecLists<A: Allocator = Global> {
     // The chunks of each list, oldest first, by their numbers.
-    lists: Vec<Vec<u16>>,
+    lists: Vec<Vec<u16, A>, A>,
     // What each chunk holds, oldest first, by its number.
-    chunks: Vec<Vec<Instance>>,
+    chunks: Vec<Vec<Instance, A>, A>,
     // The free chunks.
-    unused: Vec<u16>,
+    unused: Vec<u16, A>,
 }
 
-impl Model for VecLists {
+impl<A: Allocator> Model for VecLists<A> {
     ghost use Rattle.wit_model.specs.Rules.Chunks.{Chunks};
 
     ghost Value = { Chunks };
@@ -36,13 +36,15 @@ impl Model for VecLists {
     ghost invariant = { AreKept };
 }
 
-impl VecLists {
+impl<A: Allocator> VecLists<A> {
     /// Lists that hold nothing, numbered from 1, and so many free chunks: 1 to 512 lists, 1 to 65,536 chunks. All the room that the
     /// other calls will need is taken here.
     ///
     /// # Errors
     /// `OutOfMemory` alone.
-    pub fn new(alloc: Global, chunks: u32, lists: u16) -> Result<VecLists, Fault>
+    pub fn new(alloc: A, chunks: u32, lists: u16) -> Result<VecLists<A>, Fault>
+    where
+        A: Copy,
         requires chunks { (0 < chunks) × (chunks ≤ 65536) }
         requires lists { (0 < lists) × (lists ≤ 512) }
         ensures ok { IfOk result (IsNew chunks lists) }
@@ -61,7 +63,9 @@ impl VecLists {
         self.lists.len()
     }
 
-    fn make(alloc: Global, chunks: u32, lists: u16) -> Result<VecLists, AllocError>
+    fn make(alloc: A, chunks: u32, lists: u16) -> Result<VecLists<A>, AllocError>
+    where
+        A: Copy,
         requires { chunks ≤ 65536 }
         ensures { IfOk result (IsNew chunks lists) }
     {
@@ -76,7 +80,7 @@ impl VecLists {
     }
 }
 
-impl Lists for VecLists {
+impl<A: Allocator> Lists for VecLists<A> {
     ghost chunks = { λ s. s };
 
     fn push(&mut self, list: u16, instance: Instance) -> bool {

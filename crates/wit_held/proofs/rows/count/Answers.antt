@@ -4,7 +4,7 @@ use Rattle.wit_held.proofs.VecRows.{before-all, before-within, length-more, len-
 use Rattle.wit_held.proofs.rows.count.Goals as goal
 
 pub overflow_add-held : goal.overflow_add-held
-overflow_add-held c =
+overflow_add-held g c =
     let lt : c.loop-chunk.chunk-index < length c.args.places.now = omega arith in
     let len = len-read c.args.chunks.now (get_or c.args.places.now c.loop-chunk.chunk-index 0) c.index-chunks-chunk.result (c.requires.chunks c.loop-chunk.chunk-index 0 lt) c.index-chunks-chunk.is in
     omega (
@@ -18,11 +18,11 @@ overflow_add-held c =
     )
 
 pub loop-chunk-preserved : goal.loop-chunk-preserved
-loop-chunk-preserved c =
+loop-chunk-preserved g c =
     let lt : c.loop-chunk.chunk-index < length c.args.places.now = omega arith in
     let len = len-read c.args.chunks.now (get_or c.args.places.now c.loop-chunk.chunk-index 0) c.index-chunks-chunk.result (c.requires.chunks c.loop-chunk.chunk-index 0 lt) c.index-chunks-chunk.is in
     omega (arith, len, c.len-held.ensures, c.loop-chunk.invariant, length-more (rows_of c.args.chunks.now) c.args.places.now c.loop-chunk.chunk-index lt)
 
 pub returns : goal.returns
-returns c =
+returns g c =
     omega (arith, c.loop-chunk.invariant, ap length (before-all (rows_of c.args.chunks.now) c.args.places.now c.loop-chunk.chunk-index (omega arith)))

@@ -2,36 +2,37 @@ use Rattle.std.proofs.Common.{◌≡◌, ◌<◌, ◌+◌, ℕ, Some, length, ge
 use Rattle.wit_model.specs.Rules.Verdict.{is_of}
 use Rattle.wit_held.specs.Rows.{row, rows_of}
 use Rattle.wit_held.proofs.VecRows.{before-within, length-more, len-read, row-read, past-more, missed, met}
+use Rattle.wit_held.proofs.rows.find.Given.{Over}
 use Rattle.wit_held.proofs.rows.find.Goals as goal
 
 -- what was found in the chunk
-here : (c : goal.In-Some) → Some c.in-Some.place ≡ position (is_of c.args.lock.0) (row (rows_of c.args.chunks.now) (get_or c.args.places.now c.loop-chunk.chunk-index 0))
-here c =
+here : (g : Over) (c : goal.In-Some g) → Some c.in-Some.place ≡ position (is_of c.args.lock.0) (row (rows_of c.args.chunks.now) (get_or c.args.places.now c.loop-chunk.chunk-index 0))
+here g c =
     let lt : c.loop-chunk.chunk-index < length c.args.places.now = omega arith in
     c.in-Some.ensures.place
     ∙ ap (position (is_of c.args.lock.0)) (c.deref.ensures.value ∙ sym (row-read c.args.chunks.now (get_or c.args.places.now c.loop-chunk.chunk-index 0) c.index-chunks-chunk.result
     (c.requires.chunks c.loop-chunk.chunk-index 0 lt) c.index-chunks-chunk.is))
 
 pub overflow_add-result : goal.overflow_add-result
-overflow_add-result c =
+overflow_add-result g c =
     let lt : c.loop-chunk.chunk-index < length c.args.places.now = omega arith in
-    let found = met c.args.lock.0 (rows_of c.args.chunks.now) c.args.places.now c.loop-chunk.chunk-index c.in-Some.place lt c.loop-chunk.invariant.1 (here c) in
+    let found = met c.args.lock.0 (rows_of c.args.chunks.now) c.args.places.now c.loop-chunk.chunk-index c.in-Some.place lt c.loop-chunk.invariant.1 (here g c) in
     omega (arith, found.1, c.loop-chunk.invariant.0, c.requires.fits)
 
 pub returns-in-Some-clause-place : goal.returns-in-Some-clause-place
-returns-in-Some-clause-place c =
+returns-in-Some-clause-place g c =
     let lt : c.loop-chunk.chunk-index < length c.args.places.now = omega arith in
     ap (λ (n : ℕ). Some (n + c.in-Some.place)) c.loop-chunk.invariant.0
-    ∙ (met c.args.lock.0 (rows_of c.args.chunks.now) c.args.places.now c.loop-chunk.chunk-index c.in-Some.place lt c.loop-chunk.invariant.1 (here c)).0
+    ∙ (met c.args.lock.0 (rows_of c.args.chunks.now) c.args.places.now c.loop-chunk.chunk-index c.in-Some.place lt c.loop-chunk.invariant.1 (here g c)).0
 
 pub returns-in-Some-clause-within : goal.returns-in-Some-clause-within
-returns-in-Some-clause-within c =
+returns-in-Some-clause-within g c =
     let lt : c.loop-chunk.chunk-index < length c.args.places.now = omega arith in
-    let found = met c.args.lock.0 (rows_of c.args.chunks.now) c.args.places.now c.loop-chunk.chunk-index c.in-Some.place lt c.loop-chunk.invariant.1 (here c) in
+    let found = met c.args.lock.0 (rows_of c.args.chunks.now) c.args.places.now c.loop-chunk.chunk-index c.in-Some.place lt c.loop-chunk.invariant.1 (here g c) in
     omega (arith, found.1, c.loop-chunk.invariant.0)
 
 pub overflow_add-before : goal.overflow_add-before
-overflow_add-before c =
+overflow_add-before g c =
     let lt : c.loop-chunk.chunk-index < length c.args.places.now = omega arith in
     let len = len-read c.args.chunks.now (get_or c.args.places.now c.loop-chunk.chunk-index 0) c.index-chunks-chunk.result (c.requires.chunks c.loop-chunk.chunk-index 0 lt) c.index-chunks-chunk.is in
     omega (
@@ -45,7 +46,7 @@ overflow_add-before c =
     )
 
 pub loop-chunk-preserved : goal.loop-chunk-preserved
-loop-chunk-preserved c =
+loop-chunk-preserved g c =
     let lt : c.loop-chunk.chunk-index < length c.args.places.now = omega arith in
     let there = c.requires.chunks c.loop-chunk.chunk-index 0 lt in
     let len = len-read c.args.chunks.now (get_or c.args.places.now c.loop-chunk.chunk-index 0) c.index-chunks-chunk.result there c.index-chunks-chunk.is in (
@@ -56,5 +57,5 @@ loop-chunk-preserved c =
     )
 
 pub returns-clause-place : goal.returns-clause-place
-returns-clause-place c =
+returns-clause-place g c =
     missed c.args.lock.0 (rows_of c.args.chunks.now) c.args.places.now c.loop-chunk.chunk-index (omega arith) c.loop-chunk.invariant.1

@@ -5,7 +5,7 @@ use Rattle.wit_held.proofs.VecRows.{opens-at, newest-within, len-read}
 use Rattle.wit_held.proofs.rows.open_chunk.Goals as goal
 
 pub returns-then-len-lt-CHUNK-clause-room : goal.returns-then-len-lt-CHUNK-clause-room
-returns-then-len-lt-CHUNK-clause-room c =
+returns-then-len-lt-CHUNK-clause-room g c =
     let p = c.in_ok-place.field-0.now in
     let at = sym c.in_ok-place.ensures.value in
     let len = len-read c.args.chunks.now p c.index-chunks-place.result (newest-within c.args.places.now p (length c.args.chunks.now) at c.requires) c.index-chunks-place.is in
@@ -13,7 +13,7 @@ returns-then-len-lt-CHUNK-clause-room c =
     sym (ap not (opens-at (rows_of c.args.chunks.now) c.args.places.now p at) ∙ ap (λ b. not (not b)) (lt-ltb (length (row (rows_of c.args.chunks.now) p)) 5 short))
 
 pub returns-else-len-lt-CHUNK-clause-room : goal.returns-else-len-lt-CHUNK-clause-room
-returns-else-len-lt-CHUNK-clause-room c =
+returns-else-len-lt-CHUNK-clause-room g c =
     let p = c.in_ok-place.field-0.now in
     let at = sym c.in_ok-place.ensures.value in
     let len = len-read c.args.chunks.now p c.index-chunks-place.result (newest-within c.args.places.now p (length c.args.chunks.now) at c.requires) c.index-chunks-place.is in

@@ -6,7 +6,7 @@ use Rattle.wit_held.proofs.VecRows.{row-read, read-within}
 use Rattle.wit_held.proofs.rows.read.Goals as goal
 
 pub returns : goal.returns
-returns c =
+returns g c =
     let group = c.locate-group.result.0 in
     let lt : group < length c.args.places.now = omega (arith, c.locate-group.ensures.there, length-map c.args.places.now (row (rows_of c.args.chunks.now))) in
     c.index.ensures

@@ -1,6 +1,4 @@
-use Rattle.std.proofs.Common.{ℕ, ◌<◌, ◌≤◌, Option, find, length, unwrap_or, ap, subst, sym, ◌∙◌, arith}
-use Rattle.std.specs.Option.{option_map}
-use Rattle.wit_model.specs.declared.locks.Instance.{Instance}
+use Rattle.std.proofs.Common.{ℕ, ◌<◌, Option, find, unwrap_or, subst, arith}
 use Rattle.wit_model.specs.Rules.Verdict.{is_of}
 use Rattle.wit_model.specs.Rules.Chunks.{chain_of}
 use Rattle.wit_held.proofs.Recording.{stands-short, rises}

@@ -1,4 +1,4 @@
-use Rattle.std.proofs.Common.{length, arith}
+use Rattle.std.proofs.Common.{arith}
 use Rattle.wit_model.specs.Rules.Chunks.{chain_of}
 use Rattle.wit_held.proofs.Recording.{stands-short}
 use Rattle.wit_held.proofs.tests.release.Goals as goal

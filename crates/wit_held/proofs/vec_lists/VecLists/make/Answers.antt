@@ -1,17 +1,17 @@
 use Rattle.std.proofs.Common.{◌≡◌, List, [], length, ap, sym, subst, ◌∙◌, arith}
-use Rattle.std.proofs.lemmas.List.{length-map, length-replicate}
-use Rattle.std.specs.Global.{Vec}
+use Rattle.std.proofs.lemmas.List.{length-replicate}
 use Rattle.wit_model.specs.declared.locks.Instance.{Instance}
 use Rattle.wit_held.specs.Rows.{rows_of, places_of, HaveRoomFor}
 use Rattle.wit_held.proofs.Emptiness.{fresh-shown}
+use Rattle.wit_held.proofs.VecRows.{length-contents}
 use Rattle.wit_held.proofs.vec_lists.VecLists.make.Goals as goal
 
 pub invariant_of-result : goal.invariant_of-result
-invariant_of-result c =
+invariant_of-result g c =
     let made = fresh-shown c.args.chunks c.args.lists (rows_of c.in_ok-rows.rows.items) (places_of c.in_ok-places.places.items) c.in_ok-unused.unused.items c.requires
     c.in_ok-rows.ensures.empty c.in_ok-places.ensures.empty c.in_ok-unused.ensures.numbers in
     let len : length c.in_ok-rows.rows.items ≡ c.args.chunks =
-    sym (length-map c.in_ok-rows.rows.items (λ (v : Vec Instance). v.items)) ∙ ap length c.in_ok-rows.ensures.empty ∙ length-replicate {A = List Instance} c.args.chunks [] in
+    sym (length-contents c.in_ok-rows.rows.items) ∙ ap length c.in_ok-rows.ensures.empty ∙ length-replicate {A = List Instance} c.args.chunks [] in
     record {
       settled = made.0;
       rows = c.in_ok-rows.ensures.room;
@@ -20,6 +20,6 @@ invariant_of-result c =
     }
 
 pub returns : goal.returns
-returns c =
+returns g c =
     (fresh-shown c.args.chunks c.args.lists (rows_of c.in_ok-rows.rows.items) (places_of c.in_ok-places.places.items) c.in_ok-unused.unused.items c.requires
     c.in_ok-rows.ensures.empty c.in_ok-places.ensures.empty c.in_ok-unused.ensures.numbers).1

@@ -3,10 +3,10 @@ use Rattle.wit_held.proofs.Kept.{the-places, read-chunks, read-chain, read-fits}
 use Rattle.wit_held.proofs.vec_lists.VecListsLists.len.Goals as goal
 
 pub count-requires-clause-chunks : goal.count-requires-clause-chunks
-count-requires-clause-chunks c = read-chunks c.self.inside c.args.self.now c.self.view_is c.self.invariant c.args.list c.requires.list c.deref.result.now c.deref-2.result.now (the-places c.self.inside c.args.self.now c.self.view_is c.self.invariant c.args.list c.requires.list c.index.result.now c.deref.result.now c.index.ensures c.deref.ensures.value) c.deref-2.ensures.value
+count-requires-clause-chunks g c = read-chunks c.self.inside c.args.self.now c.self.view_is c.self.invariant c.args.list c.requires.list c.deref.result.now c.deref-2.result.now (the-places c.self.inside c.args.self.now c.self.view_is c.self.invariant c.args.list c.requires.list c.index.result.now c.deref.result.now c.index.ensures c.deref.ensures.value) c.deref-2.ensures.value
 
 pub count-requires-clause-fits : goal.count-requires-clause-fits
-count-requires-clause-fits c = read-fits c.self.inside c.args.self.now c.self.view_is c.self.invariant c.args.list c.requires.list c.deref.result.now c.deref-2.result.now (the-places c.self.inside c.args.self.now c.self.view_is c.self.invariant c.args.list c.requires.list c.index.result.now c.deref.result.now c.index.ensures c.deref.ensures.value) c.deref-2.ensures.value
+count-requires-clause-fits g c = read-fits c.self.inside c.args.self.now c.self.view_is c.self.invariant c.args.list c.requires.list c.deref.result.now c.deref-2.result.now (the-places c.self.inside c.args.self.now c.self.view_is c.self.invariant c.args.list c.requires.list c.index.result.now c.deref.result.now c.index.ensures c.deref.ensures.value) c.deref-2.ensures.value
 
 pub returns : goal.returns
-returns c = c.count.ensures ∙ ap length (read-chain c.self.inside c.args.self.now c.self.view_is c.self.invariant c.args.list c.requires.list c.deref.result.now c.deref-2.result.now (the-places c.self.inside c.args.self.now c.self.view_is c.self.invariant c.args.list c.requires.list c.index.result.now c.deref.result.now c.index.ensures c.deref.ensures.value) c.deref-2.ensures.value)
+returns g c = c.count.ensures ∙ ap length (read-chain c.self.inside c.args.self.now c.self.view_is c.self.invariant c.args.list c.requires.list c.deref.result.now c.deref-2.result.now (the-places c.self.inside c.args.self.now c.self.view_is c.self.invariant c.args.list c.requires.list c.index.result.now c.deref.result.now c.index.ensures c.deref.ensures.value) c.deref-2.ensures.value)
