@@ -6,13 +6,13 @@ use Rattle.std.specs.declared.vec.Vec.{Vec}
 use Rattle.std.proofs.lemmas.Bool.{and_left, not-true, not-false, cond-true}
 use Rattle.std.proofs.lemmas.List.{length-append, length-set, get_or-map, get_or_default}
 use Rattle.wit_model.specs.declared.locks.Instance.{Instance}
-use Rattle.wit_model.specs.Rules.Groups.{flat, joined, opens, replaced_at, removed_at}
+use Rattle.wit_model.specs.Rules.Groups.{flat, joined, opens, replaced_at, removed_at, AreTidy}
 use Rattle.wit_model.specs.Rules.Chunks.{Chunks, IsList, groups_of, chain_of, set_groups, is_refused, pushed}
 use Rattle.wit_held.specs.declared.vec_lists.VecLists.TheInside.{Inside}
 use Rattle.wit_held.specs.Rows.{row, rows_of, places_of, groups_at, shown, AreWithin, AreSettled, IsWithin, HaveRoom, HaveRoomFor, HasSpaceAt}
 use Rattle.wit_held.specs.Kept.{chunks_in, AreKept}
 use Rattle.wit_held.proofs.Placing.{IsFree, free, all-within, times-append, times-in}
-use Rattle.wit_held.proofs.Settled.{Leaves, both-nil, flat-push, groups-shown, list-within, list-short, chain-fits, push-fits, push-opens, push-refused, in-list, in-row, replaced, removed-kept, removed-freed}
+use Rattle.wit_held.proofs.Settled.{Leaves, both-nil, flat-push, groups-shown, list-within, list-short, chain-fits, push-fits, push-opens, push-refused, in-list, in-row, replaced, removed-kept, removed-freed, tidy-at}
 use Rattle.wit_held.proofs.VecRows.{length-contents, row-read}
 
 -- what stays in a value that is written
@@ -57,6 +57,11 @@ module _ {A : Type 0} (v : Inside A) (value : Chunks) (is : chunks_in v ≡ valu
 
     pub read-chain : flat (groups_at (rows_of cs) ps) ≡ chain_of value list
     read-chain = ap₂ (λ ds qs. flat (groups_at (rows_of ds) qs)) c-is p-is ∙ chain-is
+
+    pub read-tidy : AreTidy (groups_at (rows_of cs) ps)
+    read-tidy =
+        subst (λ (gs : List (List Instance)). AreTidy gs) (sym (ap₂ (λ ds qs. groups_at (rows_of ds) qs) c-is p-is))
+        (tidy-at (rows_of v.chunks.items) (places_of v.lists.items) v.unused.items kept.settled (list - 1) in-lists)
 
     pub read-fits : length (flat (groups_at (rows_of cs) ps)) < 2 ^ 32
     read-fits =

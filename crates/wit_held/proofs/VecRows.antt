@@ -1,16 +1,17 @@
 -- Vectors in a row, one of which is read or written; and the first chunks of a list.
 use Rattle.std.proofs.Common.{◌≡◌, ℕ, suc, ◌+◌, ◌-◌, ◌<◌, ◌≤◌, Bool, true, false, not, cond, nat_lt, List, [], ◌∷◌, ◌++◌, length, map, take, drop, set, get_or, None, Some, is_some, position, slice_get, vec_len, refl, ap, sym, ◌∙◌, subst, arith}
 use Rattle.std.specs.List.{position_or_len}
+use Rattle.std.specs.Option.{option_map}
 use Rattle.std.specs.declared.vec.Vec.{Vec}
 use Rattle.std.proofs.lemmas.Bool.{true≢false, lt-ltb, le-ltb}
-use Rattle.std.proofs.lemmas.List.{length-append, length-map, map-append, map-set, get_or-map, take_more, take-map, take_all, take-append-drop}
+use Rattle.std.proofs.lemmas.List.{append-nil, length-append, length-map, map-append, map-set, get_or-map, take_more, take-map, take_all, take-append-drop}
 use Rattle.std.proofs.lemmas.List.Concat.{flat_map-append, get_or-flat_map}
-use Rattle.std.proofs.lemmas.Option.{get_or_from_slice_get, slice_get_within}
+use Rattle.std.proofs.lemmas.Option.{get_or_from_slice_get, slice_get_within, slice_get-map}
 use Rattle.wit_model.specs.declared.locks.Instance.{Instance}
-use Rattle.wit_model.specs.Rules.Groups.{flat, has_room, opens}
+use Rattle.wit_model.specs.Rules.Groups.{flat, has_room, opens, AreTidy}
 use Rattle.wit_model.specs.Rules.Verdict.{is_of}
 use Rattle.wit_held.specs.Rows.{contents, row, rows_of, groups_at, AreWithin, IsWithin}
-use Rattle.wit_model.proofs.Chains.Grouping.{opens-newest}
+use Rattle.wit_model.proofs.Chains.Grouping.{opens-newest, tidy-filled}
 use Rattle.wit_held.proofs.HeldLock.{place_of}
 use Rattle.wit_held.proofs.Recording.{first-place, no-place}
 use Rattle.wit_held.proofs.Settled.{flat-push}
@@ -46,6 +47,37 @@ opens-at rows (q ∷ qs) p at =
 pub newest-within : (ps : List ℕ) (p size : ℕ) → slice_get ps (length ps - 1) ≡ Some p → AreWithin size ps → p < size
 newest-within ps p size at within =
     subst (λ q. q < size) (get_or_from_slice_get ps (length ps - 1) p 0 at) (within (length ps - 1) 0 (slice_get_within ps (length ps - 1) p at))
+
+after : {X : Type 0} (xs ys : List X) (n : ℕ) → slice_get (xs ++ ys) (length xs + n) ≡ slice_get ys n
+after [] ys n = ap (slice_get ys) (omega arith)
+after (x ∷ xs) ys n =
+    let next : length (x ∷ xs) + n ≡ suc (length xs + n) = omega arith in
+    ap (slice_get (x ∷ (xs ++ ys))) next ∙ after xs ys n
+
+-- the newest of a list stands at the end of its newest group
+pub newest-flat : (gs : List (List Instance)) (g : List Instance) → AreTidy gs → slice_get gs (length gs - 1) ≡ Some g
+    → slice_get (flat gs) (length (flat gs) - 1) ≡ slice_get g (length g - 1)
+newest-flat [] g tidy at = absurd (true≢false (sym (ap is_some at)))
+newest-flat (x ∷ []) g tidy at =
+    ap (λ (xs : List Instance). slice_get xs (length xs - 1)) (append-nil x ∙ get_or_from_slice_get (x ∷ []) 0 g x at)
+newest-flat (x ∷ y ∷ gs) g tidy at =
+    let some : 1 ≤ length (flat (y ∷ gs)) = omega (arith, length-append y (flat gs), tidy.1.0) in
+    let len : length (x ++ flat (y ∷ gs)) - 1 ≡ length x + (length (flat (y ∷ gs)) - 1) = omega (arith, some, length-append x (flat (y ∷ gs))) in
+    let next : length (x ∷ y ∷ gs) - 1 ≡ suc (length (y ∷ gs) - 1) = omega arith in
+    ap (slice_get (x ++ flat (y ∷ gs))) len
+    ∙ after x (flat (y ∷ gs)) (length (flat (y ∷ gs)) - 1)
+    ∙ newest-flat (y ∷ gs) g (tidy-filled (y ∷ gs) tidy.1) (sym (ap (slice_get (x ∷ y ∷ gs)) next) ∙ at)
+
+pub newest-read : {A : Type 0} (chunks : List (Vec Instance A)) (ps : List ℕ) (p : ℕ) (v : Vec Instance A) → slice_get ps (length ps - 1) ≡ Some p
+    → AreWithin (length chunks) ps → AreTidy (groups_at (rows_of chunks) ps) → v ≡ get_or chunks p v
+    → slice_get (flat (groups_at (rows_of chunks) ps)) (length (flat (groups_at (rows_of chunks) ps)) - 1) ≡ slice_get v.items (length v.items - 1)
+newest-read chunks ps p v at within tidy read =
+    let newest : slice_get (groups_at (rows_of chunks) ps) (length (groups_at (rows_of chunks) ps) - 1) ≡ Some (row (rows_of chunks) p) =
+    ap (λ n. slice_get (groups_at (rows_of chunks) ps) (n - 1)) (length-map ps (row (rows_of chunks)))
+    ∙ slice_get-map (row (rows_of chunks)) ps (length ps - 1)
+    ∙ ap (option_map (row (rows_of chunks))) at in
+    newest-flat (groups_at (rows_of chunks) ps) (row (rows_of chunks) p) tidy newest
+    ∙ ap (λ (xs : List Instance). slice_get xs (length xs - 1)) (row-read chunks p v (newest-within ps p (length chunks) at within) read)
 
 -- the locks of a list's first chunks
 abbrev pub before : List (List Instance) → List ℕ → ℕ → List Instance

@@ -2,7 +2,7 @@
 
 ghost use Rattle.std.specs.Prelude.{◌≡◌, ◌==◌, ◌<◌, ◌≤◌, ℕ, ◌+◌, ◌-◌, ◌^◌, ◌++◌, [], ◌∷◌, false, not, length, vec_len, is_some, position, slice_get, slice_set, IfSome};
 ghost use Rattle.std.specs.List.{slice_index_or, remove};
-ghost use Rattle.wit_model.specs.Rules.Groups.{flat, opens};
+ghost use Rattle.wit_model.specs.Rules.Groups.{flat, opens, AreTidy};
 ghost use Rattle.wit_model.specs.Rules.Verdict.{is_of};
 ghost use Rattle.wit_held.specs.Rows.{rows_of, places_of, row, groups_at, places_at, HaveRoom, HaveRoomFor, HasSpaceAt, AreWithin, IsWithin};
 
@@ -128,6 +128,16 @@ pub fn read<A: Allocator>(places: &[u16], chunks: &[Vec<Instance, A>], place: us
     let (group, index) = locate(places, chunks, place);
     let chunk = &chunks[places[group] as usize];
     chunk[index]
+}
+
+/// The newest lock of a list, of which no chunk but an only one is empty.
+pub fn newest<A: Allocator>(places: &[u16], chunks: &[Vec<Instance, A>]) -> Option<Instance>
+    requires chunks { AreWithin (length chunks.now) places.now }
+    requires tidy { AreTidy (groups_at (rows_of chunks.now) places.now) }
+    ensures { result ≡ slice_get (flat (groups_at (rows_of chunks.now) places.now)) (length (flat (groups_at (rows_of chunks.now) places.now)) - 1) }
+{
+    let chunk = *places.last()? as usize;
+    chunks[chunk].last().copied()
 }
 
 /// How many locks a list holds.

@@ -6,7 +6,7 @@ ghost use Rattle.wit_model.specs.Rules.Chunks.{IsNew};
 
 use crate::fresh::{empty_rows, numbers_below};
 use crate::rows::{
-    CHUNK, add, count, find, locate, open_chunk, put, read, take_chunk, take_out, write,
+    CHUNK, add, count, find, locate, newest, open_chunk, put, read, take_chunk, take_out, write,
 };
 use std::alloc::{AllocError, Allocator, Global};
 use std::marker::Model;
@@ -114,11 +114,7 @@ impl<A: Allocator> Lists for VecLists<A> {
     }
 
     fn last(&self, list: u16) -> Option<Instance> {
-        let count = self.len(list);
-        if count == 0 {
-            return None;
-        }
-        Some(self.at(list, count - 1))
+        newest(&self.lists[list as usize - 1], &self.chunks)
     }
 
     fn replace(&mut self, list: u16, place: usize, instance: Instance) {
