@@ -1,11 +1,15 @@
 -- What the reader of a line answers.
-use Rattle.std.specs.Prelude.{◌≡◌, ◌<◌, ◌≤◌, ℕ, List, length, Option, Some, None, Result, Ok, Err}
+use Rattle.std.specs.Prelude.{◌≡◌, ◌≢◌, ◌<◌, ◌≤◌, ℕ, List, length, Option, Some, None, Result, Ok, Err}
+use Rattle.wit_model.specs.declared.faults.Fault.{Fault}
+use Rattle.wit_model.specs.declared.faults.Fault.TheVariants.{OutOfMemory}
 use Rattle.wit_model.specs.declared.lines.Line.{Line}
 use Rattle.wit_model.specs.declared.lines.Cause.{Cause}
-use Rattle.wit_model.specs.declared.lines.Cause.TheVariants.{Long, Syntax, Cut, Limit, Fault}
+use Rattle.wit_model.specs.declared.lines.Cause.TheVariants.{Long, Syntax, Cut, Limit}
+use Rattle.wit_model.specs.declared.lines.Cause.TheVariants as why
 use Rattle.wit_model.specs.Trace.Spelling.{Spells, IsSpellable, spelling}
 use Rattle.wit_grammar.specs.declared.errors.LineError.{LineError}
 use Rattle.wit_grammar.specs.declared.errors.LineError.TheVariants.{Bad, Memory}
+use Rattle.wit_grammar.specs.declared.parse.TheConstants.{LONGEST}
 
 -- `Bad` where nothing is there to read, and with no cause but `Syntax`
 abbrev pub Fails : {Y : Type 0} → LineError → Option Y → Type 0
@@ -23,11 +27,11 @@ SpellsNone bytes = (line : Line) → Spells bytes line → ⊥
 
 -- why bytes are no line
 abbrev pub IsWhyBad : List ℕ → Cause → Type 0
-IsWhyBad bytes Long = 4096 < length bytes
-IsWhyBad bytes Syntax = (length bytes ≤ 4096) × SpellsNone bytes
+IsWhyBad bytes Long = LONGEST < length bytes
+IsWhyBad bytes Syntax = (length bytes ≤ LONGEST) × SpellsNone bytes
 IsWhyBad bytes Cut = ⊥
 IsWhyBad bytes Limit = ⊥
-IsWhyBad bytes (Fault f) = ⊥
+IsWhyBad bytes (why.Fault f) = ⊥
 
 abbrev pub IsWhy : List ℕ → LineError → Type 0
 IsWhy bytes Memory = Unit {0}
@@ -35,4 +39,9 @@ IsWhy bytes (Bad cause) = IsWhyBad bytes cause
 
 -- the line has a spelling, of at most 4,096 bytes
 abbrev pub IsSpelled : Line → Type 0
-IsSpelled line = IsSpellable line × (length (spelling line) ≤ 4096)
+IsSpelled line = IsSpellable line × (length (spelling line) ≤ LONGEST)
+
+-- a refused call makes its line bad, unless it was for want of memory
+abbrev pub Refuses : Fault → LineError → Type 0
+Refuses fault Memory = fault ≡ OutOfMemory
+Refuses fault (Bad cause) = (cause ≡ why.Fault fault) × (fault ≢ OutOfMemory)

@@ -1,15 +1,16 @@
-//! Why a line could not be read.
+//! Why a line is no call that was made.
 
 ghost use Rattle.std.specs.Prelude.{◌≡◌};
 ghost use Rattle.wit_grammar.specs.declared.errors.LineError.TheVariants.{Memory};
+ghost use Rattle.wit_grammar.specs.Lines.{Refuses};
 
 use std::alloc::AllocError;
-use wit_model::Cause;
+use wit_model::{Cause, Fault};
 
-/// Why a line could not be read.
+/// Why a line could not be read, or its call not be made.
 #[derive(Debug, Drop)]
 pub enum LineError {
-    /// The bytes are no line.
+    /// The line is bad.
     Bad(Cause),
     /// A growth was refused.
     Memory,
@@ -25,5 +26,16 @@ impl From<AllocError> for LineError {
 
     fn from(_error: AllocError) -> LineError {
         LineError::Memory
+    }
+}
+
+impl From<Fault> for LineError {
+    ghost from_gives = { Refuses };
+
+    fn from(fault: Fault) -> LineError {
+        match fault {
+            Fault::OutOfMemory => LineError::Memory,
+            fault => LineError::Bad(Cause::Fault(fault)),
+        }
     }
 }

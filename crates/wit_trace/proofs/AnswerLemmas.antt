@@ -9,7 +9,7 @@ use Rattle.std.proofs.lemmas.List.{get_or-take, take-take, take_more}
 use Rattle.std.proofs.lemmas.List.Elements.{All-append}
 use lib.Seq.{take-append_seam}
 use Rattle.wit_model.specs.declared.lines.Cause.TheVariants.{Long, Cut}
-use Rattle.wit_trace.specs.Text.{text_of, HasNoFeed, IsLine}
+use Rattle.wit_trace.specs.Text.{text_of, HasNoFeed}
 use Rattle.wit_trace.specs.Machine.{Follows, BreaksAt}
 use Rattle.wit_trace.specs.Stream.{Advances, IsInput, OutputFrom, TakesLast, TakesLine, TakesPart}
 use Rattle.wit_trace.specs.declared.stream.machine.Step.{Step}

@@ -1,7 +1,8 @@
 -- What becomes of a line, and what is written for it.
-use Rattle.std.proofs.Common.{◌≡◌, ℕ, ◌+◌, ◌<◌, ◌≤◌, Bool, ◌||◌, cond, ltb, List, [], ◌∷◌, ◌++◌, length, take, length-take, arith, codes, Option, Some, None, Result, Ok, Err, IfOk, refl, sym, ap, ap₂, subst, ◌∙◌, false, ◌⊎◌, inl, inr, true, not}
+use Rattle.std.proofs.Common.{◌≡◌, ℕ, ◌+◌, ◌<◌, ◌≤◌, Bool, ◌||◌, cond, ltb, List, [], ◌∷◌, ◌++◌, length, take, length-take, arith, codes, Option, Some, None, Result, Ok, Err, IfOk, refl, sym, ap, ap₂, subst, ◌∙◌, false, ◌⊎◌, inl, inr, true, not, unwrap_or}
 use Rattle.std.specs.Global.{Vec}
 use Rattle.std.specs.Io.{StartsWith}
+use Rattle.std.specs.Result.{IsErrAnd}
 use Rattle.std.specs.Str.{bytes_eq}
 use Rattle.std.proofs.lemmas.Bool.{lt-ltb, le-ltb}
 use Rattle.std.proofs.lemmas.List.{take-take}
@@ -26,97 +27,92 @@ use Rattle.wit_model.specs.Rules.State.{Story}
 use Rattle.wit_model.specs.Rules.Refusals.{IsRefusal}
 use Rattle.wit_model.specs.Rules.Step.{AnswersOrFails, answer_of}
 use Rattle.wit_model.specs.Trace.Output as output
-use Rattle.wit_core.specs.Books.{new_lock, made_reply}
+use Rattle.wit_core.specs.Books.{new_lock}
+use Rattle.wit_grammar.specs.Lines.{Refuses}
+use Rattle.wit_grammar.specs.declared.errors.LineError.{LineError}
+use Rattle.wit_grammar.specs.declared.errors.LineError.TheVariants.{Bad, Memory}
 use Rattle.wit_trace.specs.Machine.{BreaksAt, first_of}
-use Rattle.wit_trace.specs.Replays.{Passes, Tells, KeepsTotal, Opens, Reaches, IsWritten, ShowsFrom, prelude_of, progress, ends_prelude, total}
+use Rattle.wit_trace.specs.Replays.{Calls, FailsFor, GoesOnWith, IsBadFor, Passes, KeepsTotal, Opens, Reaches, IsWritten, ShowsFrom, prelude_of, progress, ends_prelude, total}
 use Rattle.wit_trace.specs.Stream.{GoesOn, OutputFrom, ReadsToEnd, WritesLines}
 use Rattle.wit_model.specs.declared.lines.View.{View}
 use Rattle.wit_model.specs.declared.lines.View.TheVariants.{Reports}
 use Rattle.wit_trace.specs.declared.replaying.prelude.Prelude.{Prelude}
 use Rattle.wit_trace.specs.declared.replaying.Replaying.{Replaying}
 use Rattle.wit_trace.specs.declared.replaying.Replaying.TheVariants.{Unstarted, Opening, Reading}
-use Rattle.wit_trace.specs.declared.outcome.Outcome.{Outcome}
-use Rattle.wit_trace.specs.declared.outcome.Outcome.TheVariants.{Told, Bad}
 use Rattle.wit_trace.specs.declared.summary.Summary.{Summary}
 
--- a lock that couldn't be made
-pub made_err : (old new : Story) (t : ℕ) (lock : NewLock) (name : List ℕ) (type_name : Option (List ℕ)) (r : Result LockNo Fault) (fault : Fault) → name ≡ lock.name → type_name ≡ lock.type_name
-    → r ≡ Err fault → AnswersOrFails old t (call.Init (new_lock name type_name lock.class lock.flags)) (made_reply r) new → AnswersOrFails old t (call.Init lock) (Err fault) new
-made_err old new t lock name type_name r fault named typed is answers =
-    let same : new_lock name type_name lock.class lock.flags ≡ lock = ap₂ (λ n k. new_lock n k lock.class lock.flags) named typed in
-    subst (λ (l : NewLock). AnswersOrFails old t (call.Init l) (Err fault) new) same
-    (subst (λ (x : Result LockNo Fault). AnswersOrFails old t (call.Init (new_lock name type_name lock.class lock.flags)) (made_reply x) new) is answers)
+-- a lock's fields by themselves make the lock
+pub named_lock : (lock : NewLock) (name : List ℕ) (type_name : Option (List ℕ)) → name ≡ lock.name → type_name ≡ lock.type_name → new_lock name type_name lock.class lock.flags ≡ lock
+named_lock lock name type_name named typed = ap₂ (λ n k. new_lock n k lock.class lock.flags) named typed
 
--- a call was made, and its answer told
-pub passes_made : (s new : Story) (t : ℕ) (c : Call) (reply : Result Reply Fault) (o : Outcome) → AnswersOrFails s t c reply new → Tells new reply o
-    → Passes (output.makes s t c) (output.Reading s) (output.Reading new) o
-passes_made s new t c (Ok reply) (Told text) answers tells =
-    rw answers.0 (ap output.Reading answers.1, tells ∙ ap (λ (x : Story). output.told x reply) answers.1)
-passes_made s new t c (Ok reply) (Bad cause) answers tells = elim tells [ ]
-passes_made s new t c (Err fault) (Told text) answers tells = elim tells [ ]
-passes_made s new t c (Err fault) (Bad cause) answers tells = refused answers.0
+-- a call that was answered
+pub call_made : (s new : Story) (t : ℕ) (c : Call) (reply : Reply) → AnswersOrFails s t c (Ok reply) new → output.makes s t c ≡ output.Goes (output.Reading new) (output.told new reply)
+call_made s new t c reply answers = rw answers.0 (ap (λ (x : Story). output.Goes (output.Reading x) (output.told x reply)) (sym answers.1))
+
+-- a call that was refused
+pub call_refused : (s new : Story) (t : ℕ) (c : Call) (fault : Fault) (r : Result Reply LineError) → AnswersOrFails s t c (Err fault) new → IsErrAnd r (Refuses fault) → Calls (output.makes s t c) s new r
+call_refused s new t c fault (Ok reply) answers refuses = elim refuses [ ]
+call_refused s new t c fault (Err Memory) answers refuses = tt
+call_refused s new t c fault (Err (Bad cause)) answers refuses = go answers.0
   where
-    refused : IsRefusal (answer_of s t c) fault → Passes (output.makes s t c) (output.Reading s) (output.Reading new) (Bad cause)
-    refused (inl e) = rw e (tells.0, λ bad. ap (λ (x : Story). output.summed (output.Reading x) bad) answers.1)
-    refused (inr none) = absurd (tells.1 none.0)
+    go : IsRefusal (answer_of s t c) fault → FailsFor (output.makes s t c) (output.Reading s) (output.Reading new) (Bad cause)
+    go (inl e) = rw e (refuses.0, λ bad. ap (λ (x : Story). output.summed (output.Reading x) bad) answers.1)
+    go (inr none) = absurd (refuses.1 none.0)
 
 -- what is summed up is the history's
-passes_from : (w : output.Outcome) (old mid : Story) (new : output.Progress) (o : Outcome) → mid.history ≡ old.history → Passes w (output.Reading mid) new o → Passes w (output.Reading old) new o
-passes_from (output.Goes q text) old mid new (Told told) same passes = passes
-passes_from (output.Goes q text) old mid new (Bad cause) same passes = passes
-passes_from (output.Bad why) old mid new (Told told) same passes = passes
-passes_from (output.Bad why) old mid new (Bad cause) same passes =
-    (passes.0, λ bad. passes.1 bad ∙ ap (λ h. output.summed (output.Reading (record old { history = h })) bad) same)
+fails_from : (due : output.Outcome) (old mid new : Story) (fault : Fault) (r : Result Reply LineError) → mid.history ≡ old.history → IsErrAnd r (Refuses fault) → Calls due mid new r → Calls due old new r
+fails_from due old mid new fault (Ok reply) same refuses fails = elim refuses [ ]
+fails_from due old mid new fault (Err Memory) same refuses fails = tt
+fails_from (output.Goes q text) old mid new fault (Err (Bad cause)) same refuses fails = fails
+fails_from (output.Bad why) old mid new fault (Err (Bad cause)) same refuses fails =
+    (fails.0, λ bad. fails.1 bad ∙ ap (λ h. output.summed (output.Reading (record old { history = h })) bad) same)
 
--- a file was entered, then its call made
-passes_check : (old mid new : Story) (seat : SeatNo) (lock : LockNo) (mode : Mode) (ops : OpFlags) (name : List ℕ) (line : ℕ) (f : FileNo) (reply : Result Reply Fault) (o : Outcome)
-    → NamesFile old name (Ok f) mid
-    → AnswersOrFails mid seat.0 (call.Check (record { lock = lock; site = record { file = f; line = line }; mode = mode; ops = ops })) reply new → Tells new reply o
-    → Passes (output.calls old (Check seat lock mode ops name line)) (output.Reading old) (output.Reading new) o
-passes_check old mid new seat lock mode ops name line f reply o names answers tells =
-    let q : Request = record { lock = lock; site = record { file = f; line = line }; mode = mode; ops = ops } in
-    let made = passes_made mid new seat.0 (call.Check q) reply o answers tells in
-    rw names.0 (subst (λ (s : Story). Passes (output.makes s seat.0 (call.Check q)) (output.Reading old) (output.Reading new) o) names.1
-    (passes_from _ old mid (output.Reading new) o (ap (λ (s : Story). s.history) names.1) made))
+module _ (old mid new : Story) (seat : SeatNo) (lock : LockNo) (mode : Mode) (ops : OpFlags) (name : List ℕ) (line : ℕ) (f : FileNo) (names : NamesFile old name (Ok f) mid) where
+  abbrev asked : Request
+  asked = record { lock = lock; site = record { file = f; line = line }; mode = mode; ops = ops }
 
-pub line_checked : (old mid new : Story) (seat : SeatNo) (lock : LockNo) (mode : Mode) (ops : OpFlags) (name : List ℕ) (line : ℕ) (f : FileNo) (named : Result FileNo Fault) (reply : Result Reply Fault) {E : Type 0} (r : Result Outcome E)
-    → named ≡ Ok f → NamesFile old name named mid
-    → AnswersOrFails mid seat.0 (call.Check (record { lock = lock; site = record { file = f; line = line }; mode = mode; ops = ops })) reply new → IfOk r (Tells new reply)
-    → IfOk r (Passes (output.calls old (Check seat lock mode ops name line)) (output.Reading old) (output.Reading new))
-line_checked old mid new seat lock mode ops name line f named reply (Err e) is names answers tells = tt
-line_checked old mid new seat lock mode ops name line f named reply (Ok o) is names answers tells =
-    passes_check old mid new seat lock mode ops name line f reply o (subst (λ (n : Result FileNo Fault). NamesFile old name n mid) is names) answers tells
+  -- a file was entered, then its call made
+  pub check_made : (reply : Reply) → AnswersOrFails mid seat.0 (call.Check asked) (Ok reply) new
+      → output.calls old (Check seat lock mode ops name line) ≡ output.Goes (output.Reading new) (output.told new reply)
+  check_made reply answers =
+      rw names.0 (subst (λ (s : Story). output.makes s seat.0 (call.Check asked) ≡ output.Goes (output.Reading new) (output.told new reply)) names.1 (call_made mid new seat.0 (call.Check asked) reply answers))
+
+  -- a file was entered, then its call refused
+  pub check_refused : (fault : Fault) (r : Result Reply LineError) → AnswersOrFails mid seat.0 (call.Check asked) (Err fault) new → IsErrAnd r (Refuses fault) → Calls (output.calls old (Check seat lock mode ops name line)) old new r
+  check_refused fault r answers refuses =
+      rw names.0 (subst (λ (s : Story). Calls (output.makes s seat.0 (call.Check asked)) old new r) names.1
+      (fails_from _ old mid new fault r (ap (λ (s : Story). s.history) names.1) refuses (call_refused mid new seat.0 (call.Check asked) fault r answers refuses)))
 
 -- a line's text, and what follows it
-told_after : (w : output.Outcome) (p q : output.Progress) (n : ℕ) (text : Vec ℕ) (next : output.Progress → output.Written) (more : List ℕ) (summary : Summary) → Passes w p q (Told text)
-    → IsWritten (next q) more summary → IsWritten (output.output_after p n w next) (text.items ++ more) summary
-told_after (output.Bad why) p q n text next more summary passes written = elim passes [ ]
-told_after (output.Goes to told) p q n text next more summary passes written = record {
-  text = ap₂ (λ a b. a ++ b) passes.1 (written.text ∙ ap (λ x. (next x).text) passes.0);
-  summed = written.summed ∙ ap (λ x. (next x).summed) passes.0;
+told_after : (w : output.Outcome) (p q : output.Progress) (n : ℕ) (text : List ℕ) (next : output.Progress → output.Written) (more : List ℕ) (summary : Summary) → GoesOnWith w q text
+    → IsWritten (next q) more summary → IsWritten (output.output_after p n w next) (text ++ more) summary
+told_after (output.Bad why) p q n text next more summary goes written = elim goes [ ]
+told_after (output.Goes to told) p q n text next more summary goes written = record {
+  text = ap₂ (λ a b. a ++ b) goes.1 (written.text ∙ ap (λ x. (next x).text) goes.0);
+  summed = written.summed ∙ ap (λ x. (next x).summed) goes.0;
   circle = written.circle;
 }
 
-pub told : (from p q : output.Progress) (n : ℕ) (line : List ℕ) (o : Outcome) (text : Vec ℕ) → output.reached from line ≡ Ok p → Passes (output.outcome p n line) p q o → o ≡ Told text
+pub told : (from p q : output.Progress) (n : ℕ) (line : List ℕ) (r : Result (Vec ℕ) LineError) (text : Vec ℕ) → output.reached from line ≡ Ok p → Passes (output.outcome p n line) p q r → r ≡ Ok text
     → (lines : List (List ℕ)) (tail more : List ℕ) (summary : Summary) → IsWritten (output.output_from q (n + 1) lines tail) more summary
     → IsWritten (output.output_from from n (line ∷ lines) tail) (text.items ++ more) summary
-told from p q n line o text stands passes is lines tail more summary written =
-    rw stands (told_after (output.outcome p n line) p q n text _ more summary (subst (Passes (output.outcome p n line) p q) is passes) written)
+told from p q n line r text stands passes is lines tail more summary written =
+    rw stands (told_after (output.outcome p n line) p q n text.items _ more summary (subst (Passes (output.outcome p n line) p q) is passes) written)
 
 -- a bad line's text and summary, whatever follows it
-bad_after : (w : output.Outcome) (p q : output.Progress) (n : ℕ) (cause : Cause) (next : output.Progress → output.Written) (text : List ℕ) (summary : Summary) → Passes w p q (Bad cause)
+bad_after : (w : output.Outcome) (p q : output.Progress) (n : ℕ) (cause : Cause) (next : output.Progress → output.Written) (text : List ℕ) (summary : Summary) → IsBadFor w p q cause
     → text ≡ output.bad_text n cause → total summary ≡ output.summed q (Some (n, cause)) → summary.circle ≡ false → IsWritten (output.output_after p n w next) text summary
-bad_after (output.Goes to told) p q n cause next text summary passes texts sums circle = elim passes [ ]
-bad_after (output.Bad why) p q n cause next text summary passes texts sums circle = record {
-  text = texts ∙ ap (output.bad_text n) passes.0;
-  summed = sums ∙ (passes.1 (Some (n, cause)) ∙ ap (λ c. output.summed p (Some (n, c))) passes.0);
+bad_after (output.Goes to told) p q n cause next text summary bad texts sums circle = elim bad [ ]
+bad_after (output.Bad why) p q n cause next text summary bad texts sums circle = record {
+  text = texts ∙ ap (output.bad_text n) bad.0;
+  summed = sums ∙ (bad.1 (Some (n, cause)) ∙ ap (λ c. output.summed p (Some (n, c))) bad.0);
   circle = circle;
 }
 
-pub bad : (from p q : output.Progress) (n : ℕ) (line : List ℕ) (o : Outcome) (cause : Cause) (text : List ℕ) (summary : Summary) → output.reached from line ≡ Ok p → Passes (output.outcome p n line) p q o → o ≡ Bad cause
+pub bad : (from p q : output.Progress) (n : ℕ) (line : List ℕ) (r : Result (Vec ℕ) LineError) (cause : Cause) (text : List ℕ) (summary : Summary) → output.reached from line ≡ Ok p → Passes (output.outcome p n line) p q r → r ≡ Err (Bad cause)
     → text ≡ output.bad_text n cause → total summary ≡ output.summed q (Some (n, cause)) → summary.circle ≡ false
     → (lines : List (List ℕ)) (tail : List ℕ) → IsWritten (output.output_from from n (line ∷ lines) tail) text summary
-bad from p q n line o cause text summary stands passes is texts sums circle lines tail =
+bad from p q n line r cause text summary stands passes is texts sums circle lines tail =
     rw stands (bad_after (output.outcome p n line) p q n cause _ text summary (subst (Passes (output.outcome p n line) p q) is passes) texts sums circle)
 
 -- the text and the summary at a list that is refused
@@ -221,22 +217,15 @@ all_read m n text summary from stands on texts sums circle =
     (sym (ap (λ (due : Result output.Progress output.BadLine). output.output_at from due (λ q. output.ends q n [])) stands ∙ ends_on m n on))
     (record { text = texts; summed = sums; circle = circle })
 
--- what is answered at a line that breaks off
-pub broken_answer : {E : Type 0} (m r : Replaying) (n : ℕ) (cause : Cause) (bytes : List ℕ) (list : Option output.BadLine) (answer : Result (Vec ℕ × Summary) E) → Reaches (output.reached (progress m) bytes) (progress m) (progress r) list → list ≡ None
-    → IfOk answer (λ a. a.0.items ≡ output.bad_text n cause) → IfOk answer (λ a. total a.1 ≡ output.summed (progress r) (Some (n, cause))) → IfOk answer (λ a. a.1.circle ≡ false)
+-- what is answered at a line that breaks off, where a list may be refused
+pub broken_answer : {E : Type 0} (m r : Replaying) (n : ℕ) (cause : Cause) (bytes : List ℕ) (list : Option output.BadLine) (at : output.BadLine) (answer : Result (Vec ℕ × Summary) E) → Reaches (output.reached (progress m) bytes) (progress m) (progress r) list → at ≡ unwrap_or list (n, cause)
+    → IfOk answer (λ a. a.0.items ≡ output.bad_text at.0 at.1) → IfOk answer (λ a. total a.1 ≡ output.summed (progress r) (Some at)) → IfOk answer (λ a. a.1.circle ≡ false)
     → IfOk answer (λ a. (lines : List (List ℕ)) (tail : List ℕ) → BreaksAt cause bytes lines tail → IsWritten (output.output_from (progress m) n lines tail) a.0.items a.1)
-broken_answer m r n cause bytes list (Err e) reaches none texts sums circle = tt
-broken_answer m r n cause bytes list (Ok a) reaches none texts sums circle =
-    broken (progress m) (progress r) n cause bytes a.0.items a.1 (subst (Reaches (output.reached (progress m) bytes) (progress m) (progress r)) none reaches) texts sums circle
-
--- what is answered there where a list is refused
-pub refused_answer : {E : Type 0} (m r : Replaying) (n : ℕ) (cause : Cause) (bytes : List ℕ) (list : Option output.BadLine) (line : ℕ) (why : Cause) (answer : Result (Vec ℕ × Summary) E) → Reaches (output.reached (progress m) bytes) (progress m) (progress r) list → list ≡ Some (line, why)
-    → IfOk answer (λ a. a.0.items ≡ output.bad_text line why) → IfOk answer (λ a. total a.1 ≡ output.summed (progress r) (Some (line, why))) → IfOk answer (λ a. a.1.circle ≡ false)
-    → IfOk answer (λ a. (lines : List (List ℕ)) (tail : List ℕ) → BreaksAt cause bytes lines tail → IsWritten (output.output_from (progress m) n lines tail) a.0.items a.1)
-refused_answer m r n cause bytes list line why (Err e) reaches some texts sums circle = tt
-refused_answer m r n cause bytes list line why (Ok a) reaches some texts sums circle =
-    let h = subst (Reaches (output.reached (progress m) bytes) (progress m) (progress r)) some reaches in
-    refused_broken (progress m) (progress r) n cause bytes (line, why) a.0.items a.1 h.0 h.1 texts sums circle
+broken_answer m r n cause bytes list at (Err e) reaches is texts sums circle = tt
+broken_answer m r n cause bytes None at (Ok a) reaches is texts sums circle =
+    broken (progress m) (progress r) n cause bytes a.0.items a.1 reaches (texts ∙ ap (λ (l : output.BadLine). output.bad_text l.0 l.1) is) (sums ∙ ap (λ (l : output.BadLine). output.summed (progress r) (Some l)) is) circle
+broken_answer m r n cause bytes (Some line) at (Ok a) reaches is texts sums circle =
+    refused_broken (progress m) (progress r) n cause bytes line a.0.items a.1 reaches.0 reaches.1 (texts ∙ ap (λ (l : output.BadLine). output.bad_text l.0 l.1) is) (sums ∙ ap (λ (l : output.BadLine). output.summed (progress r) (Some l)) is) circle
 
 -- the prelude ends before a line, and its lists are entered
 pub reached-open : (before : Replaying) (prelude : Prelude) (line : List ℕ) (story : Story) → before ≡ Opening prelude → ends_prelude (progress before) line ≡ true

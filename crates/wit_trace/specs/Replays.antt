@@ -1,22 +1,20 @@
 -- What a replay of a trace writes and sums up.
-use Rattle.std.specs.Prelude.{Bool, not, ℕ, ◌≡◌, ◌≢◌, List, Option, None, Some, Result, Ok, Err, false}
+use Rattle.std.specs.Prelude.{Bool, not, ℕ, ◌≡◌, List, Option, None, Some, Result, Ok, Err, false}
+use Rattle.std.specs.Global.{Vec}
 use Rattle.wit_model.specs.declared.calls.Reply.{Reply}
-use Rattle.wit_model.specs.declared.faults.Fault.{Fault}
 use Rattle.wit_model.specs.declared.lines.Cause.{Cause}
-use Rattle.wit_model.specs.declared.lines.Cause.TheVariants as why
-use Rattle.wit_model.specs.declared.faults.Fault.TheVariants.{OutOfMemory}
 use Rattle.wit_model.specs.declared.lines.View.{View}
 use Rattle.wit_model.specs.declared.lines.View.TheVariants.{Reports}
 use Rattle.wit_model.specs.Rules.State.{Story}
 use Rattle.wit_model.specs.Trace.Output as output
 use Rattle.wit_core.specs.Fresh.{start_of}
+use Rattle.wit_grammar.specs.declared.errors.LineError.{LineError}
+use Rattle.wit_grammar.specs.declared.errors.LineError.TheVariants.{Bad, Memory}
 use Rattle.wit_trace.specs.Text.{text_of}
 use Rattle.wit_trace.specs.declared.replaying.prelude.Prelude.{Prelude}
 use Rattle.wit_trace.specs.declared.replaying.Replaying.{Replaying}
 use Rattle.wit_trace.specs.declared.replaying.Replaying.TheVariants.{Unstarted, Opening, Reading}
 use Rattle.wit_trace.specs.declared.summary.Summary.{Summary}
-use Rattle.wit_trace.specs.declared.outcome.Outcome.{Outcome}
-use Rattle.wit_trace.specs.declared.outcome.Outcome.TheVariants.{Told, Bad}
 
 -- what was read of a prelude
 abbrev pub prelude_of : Prelude → output.Prelude
@@ -54,12 +52,30 @@ Shows view = ShowsFrom view output.Unstarted 1
 abbrev pub KeepsTotal : output.Progress → output.Progress → Type 0
 KeepsTotal old new = (bad : Option (ℕ × Cause)) → output.summed new bad ≡ output.summed old bad
 
+-- the reading goes on, and this is what was told
+abbrev pub GoesOnWith : output.Outcome → output.Progress → List ℕ → Type 0
+GoesOnWith (output.Goes q text) new told = (new ≡ q) × (told ≡ text)
+GoesOnWith (output.Bad why) new told = ⊥
+
+-- the line is bad for this cause, and nothing is changed of what is summed up
+abbrev pub IsBadFor : output.Outcome → output.Progress → output.Progress → Cause → Type 0
+IsBadFor (output.Goes q text) old new cause = ⊥
+IsBadFor (output.Bad why) old new cause = (cause ≡ why) × KeepsTotal old new
+
+-- of want of memory nothing is said
+abbrev pub FailsFor : output.Outcome → output.Progress → output.Progress → LineError → Type 0
+FailsFor due old new Memory = Unit {0}
+FailsFor due old new (Bad cause) = IsBadFor due old new cause
+
 -- what became of a line is what should become of it
-abbrev pub Passes : output.Outcome → output.Progress → output.Progress → Outcome → Type 0
-Passes (output.Goes q text) old new (Told told) = (new ≡ q) × (told.items ≡ text)
-Passes (output.Goes q text) old new (Bad cause) = ⊥
-Passes (output.Bad why) old new (Told told) = ⊥
-Passes (output.Bad why) old new (Bad cause) = (cause ≡ why) × KeepsTotal old new
+abbrev pub Passes : output.Outcome → output.Progress → output.Progress → Result (Vec ℕ) LineError → Type 0
+Passes due old new (Ok told) = GoesOnWith due new told.items
+Passes due old new (Err e) = FailsFor due old new e
+
+-- the reply to a line's call leads to what should become of the line
+abbrev pub Calls : output.Outcome → Story → Story → Result Reply LineError → Type 0
+Calls due old new (Ok reply) = due ≡ output.Goes (output.Reading new) (output.told new reply)
+Calls due old new (Err e) = FailsFor due (output.Reading old) (output.Reading new) e
 
 -- the verifier was made, or a list refused, as it should be
 abbrev pub Opens : Result output.Progress output.BadLine → Result Story (ℕ × Cause) → Type 0
@@ -70,14 +86,3 @@ Opens due (Err bad) = due ≡ Err bad
 abbrev pub Reaches : Result output.Progress output.BadLine → output.Progress → output.Progress → Option (ℕ × Cause) → Type 0
 Reaches due old new None = due ≡ Ok new
 Reaches due old new (Some bad) = (due ≡ Err bad) × KeepsTotal old new
-
--- what becomes of a line by the answer to its call, as things then stand
-abbrev pub Tells : Story → Result Reply Fault → Outcome → Type 0
-Tells s (Ok reply) (Told text) = text.items ≡ output.told s reply
-Tells s (Ok reply) (Bad cause) = ⊥
-Tells s (Err fault) (Told text) = ⊥
-Tells s (Err fault) (Bad cause) = (cause ≡ why.Fault fault) × (fault ≢ OutOfMemory)
-
--- a refused call makes its line bad; for want of memory nothing is said
-abbrev pub Refuses : Fault → Outcome → Type 0
-Refuses fault o = (o ≡ Bad (why.Fault fault)) × (fault ≢ OutOfMemory)

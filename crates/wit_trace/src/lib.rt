@@ -1,7 +1,6 @@
 //! Traces of a lock order verifier: their lines as bytes, and the replay of a stream of them.
 #![tactic(auto)]
 
-mod outcome;
 mod replaying;
 mod status;
 mod stream;

@@ -1,15 +1,15 @@
 //! The replay of a trace by the verifier.
 
-ghost use Rattle.std.specs.Prelude.{◌≡◌, ◌⊎◌, ◌≤◌, ℕ, length, false, refl, Some, None, IsTrue, IfOk, OnErr};
+ghost use Rattle.std.specs.Prelude.{◌≡◌, ◌⊎◌, ◌≤◌, ℕ, List, length, true, false, refl, Some, None, IsTrue, IfOk, OnErr};
 ghost use Rattle.wit_model.specs.Trace.Output.{Unstarted, reached, entered, outcome, bad_text, output_from, summed};
 ghost use Rattle.wit_trace.specs.Replays.{ends_prelude, progress, total, Reaches, Passes, IsWritten, Shows, ShowsFrom};
 ghost use Rattle.wit_trace.specs.Stream.{IsSpent, ReadsToEnd, WritesFront, WritesLines, WritesOutput};
+ghost use Rattle.wit_grammar.specs.declared.parse.TheConstants.{LONGEST};
 
 mod calls;
 mod prelude;
 mod reports;
 
-use crate::outcome::Outcome;
 use crate::stream::machine::{Machine, Step};
 use crate::stream::ports::{Failures, Ports};
 use crate::stream::run;
@@ -109,9 +109,20 @@ impl Replaying {
     fn reach(&mut self, alloc: Global, line: &[u8]) -> Result<Option<(u64, Cause)>, AllocError>
         ensures { IfOk result (Reaches (reached (progress self.old) line.now) (progress self.old) (progress self.new)) }
     {
-        if !self.ends_prelude(line) {
-            return Ok(None);
+        if self.ends_prelude(line) {
+            self.end_prelude(alloc)
+        } else {
+            Ok(None)
         }
+    }
+
+    // By itself, so that no other line pays for its large locals.
+    #[cold]
+    #[inline(never)]
+    fn end_prelude(&mut self, alloc: Global) -> Result<Option<(u64, Cause)>, AllocError>
+        ensures { (line : List ℕ) → ends_prelude (progress self.old) line ≡ true
+            → IfOk result (Reaches (reached (progress self.old) line) (progress self.old) (progress self.new)) }
+    {
         match mem::replace(self, Replaying::Unstarted) {
             Replaying::Opening(prelude) => match open(alloc, prelude)? {
                 Ok(verifier) => {
@@ -136,21 +147,18 @@ impl Replaying {
         }
     }
 
-    fn read(&mut self, alloc: Global, number: u64, bytes: &[u8]) -> Result<Outcome, AllocError>
-        requires { length bytes.now ≤ 4096 }
-        ensures { IfOk result (Passes (outcome (progress self.old) number bytes.now)
-            (progress self.old) (progress self.new)) }
+    fn read(&mut self, alloc: Global, number: u64, bytes: &[u8]) -> Result<Vec<u8>, LineError>
+        requires { length bytes.now ≤ LONGEST }
+        ensures { Passes (outcome (progress self.old) number bytes.now)
+            (progress self.old) (progress self.new) result }
     {
-        match parse_line(alloc, bytes) {
-            Ok(line) => self.enter(alloc, number, line),
-            Err(LineError::Bad(cause)) => Ok(Outcome::Bad(cause)),
-            Err(LineError::Memory) => Err(AllocError),
-        }
+        let line = parse_line(alloc, bytes)?;
+        self.enter(alloc, number, line)
     }
 
-    fn enter(&mut self, alloc: Global, number: u64, line: Line) -> Result<Outcome, AllocError>
-        ensures { IfOk result (Passes (entered (progress self.old) number line)
-            (progress self.old) (progress self.new)) }
+    fn enter(&mut self, alloc: Global, number: u64, line: Line) -> Result<Vec<u8>, LineError>
+        ensures { Passes (entered (progress self.old) number line)
+            (progress self.old) (progress self.new) result }
     {
         match self {
             Replaying::Unstarted => self.start(alloc, line),
@@ -160,9 +168,9 @@ impl Replaying {
     }
 
     // The header comes first.
-    fn start(&mut self, alloc: Global, line: Line) -> Result<Outcome, AllocError>
+    fn start(&mut self, alloc: Global, line: Line) -> Result<Vec<u8>, LineError>
         requires { progress self.old ≡ Unstarted }
-        ensures { (number : ℕ) → IfOk result (Passes (entered Unstarted number line) Unstarted (progress self.new)) }
+        ensures { (number : ℕ) → Passes (entered Unstarted number line) Unstarted (progress self.new) result }
     {
         let Line::Header {
             seats,
@@ -171,32 +179,28 @@ impl Replaying {
             chunks,
         } = line
         else {
-            return Ok(Outcome::Bad(Cause::Syntax));
+            return Err(LineError::SYNTAX);
         };
         let Some(limits) = Limits::new(seats, types, locks, chunks, LOG) else {
-            return Ok(Outcome::Bad(Cause::Limit));
+            return Err(LineError::Bad(Cause::Limit));
         };
         *self = Replaying::Opening(new_prelude(alloc, limits));
-        Ok(Outcome::Told(Vec::new(alloc)))
+        Ok(Vec::new(alloc))
     }
 
     fn summary(&self, bad: Option<(u64, Cause)>) -> Summary
         ensures total { total result ≡ summed (progress self.now) bad }
         ensures circle { result.circle ≡ false }
     {
-        match self {
-            Replaying::Reading(verifier) => Summary {
-                calls: verifier.history().len() as u64,
-                reports: u64::from(verifier.reports()),
-                circle: false,
-                bad,
-            },
-            Replaying::Unstarted | Replaying::Opening(_) => Summary {
-                calls: 0,
-                reports: 0,
-                circle: false,
-                bad,
-            },
+        let (calls, reports) = match self {
+            Replaying::Reading(verifier) => (verifier.history().len() as u64, verifier.reports()),
+            Replaying::Unstarted | Replaying::Opening(_) => (0, 0),
+        };
+        Summary {
+            calls,
+            reports: u64::from(reports),
+            circle: false,
+            bad,
         }
     }
 
@@ -224,12 +228,13 @@ impl Machine for Replaying {
             let (text, summary) = self.ended(alloc, number, cause)?;
             return Ok(Step::Ends(text, summary));
         }
-        match self.read(alloc, number, bytes)? {
-            Outcome::Told(text) => Ok(Step::Goes(text)),
-            Outcome::Bad(cause) => {
+        match self.read(alloc, number, bytes) {
+            Ok(text) => Ok(Step::Goes(text)),
+            Err(LineError::Bad(cause)) => {
                 let (text, summary) = self.ended(alloc, number, cause)?;
                 Ok(Step::Ends(text, summary))
             }
+            Err(LineError::Memory) => Err(AllocError),
         }
     }
 
@@ -240,10 +245,8 @@ impl Machine for Replaying {
         beginning: &[u8],
         cause: Cause,
     ) -> Result<(Vec<u8>, Summary), AllocError> {
-        match self.reach(alloc, beginning)? {
-            Some((number, cause)) => self.ended(alloc, number, cause),
-            None => self.ended(alloc, number, cause),
-        }
+        let (number, cause) = self.reach(alloc, beginning)?.unwrap_or((number, cause));
+        self.ended(alloc, number, cause)
     }
 
     fn end(&mut self, alloc: Global, number: u64) -> Result<(Vec<u8>, Summary), AllocError> {

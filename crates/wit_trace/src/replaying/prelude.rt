@@ -1,16 +1,16 @@
 //! The prelude of a trace.
 
-ghost use Rattle.std.specs.Prelude.{◌≡◌, unwrap_or, IfOk};
+ghost use Rattle.std.specs.Prelude.{◌≡◌, unwrap_or, IfOk, OnOk};
 ghost use Rattle.wit_model.specs.Rules.Numbers.{with_number};
 ghost use Rattle.wit_core.specs.Listed.{listed};
-ghost use Rattle.wit_model.specs.Trace.Output.{Opening, empty_prelude, entered, is_prelude, opened};
+ghost use Rattle.wit_model.specs.Trace.Output.{Opening, empty_prelude, entered, is_prelude, opened, with_list, with_pair};
 ghost use Rattle.wit_model.specs.Rules.Start.{start_fault};
 ghost use Rattle.wit_trace.specs.Replays.{Opens, Passes, prelude_of};
 
-use crate::outcome::Outcome;
 use std::alloc::{AllocError, Global};
 use wit_core::{StartError, Verifier};
-use wit_model::{Cause, Class, Fault, Limits, Line, TypeList};
+use wit_grammar::LineError;
+use wit_model::{Cause, Class, Fault, Limits, Line, Name, TypeList};
 
 /// What a prelude says so far: how the verifier is to start, and where each list stands.
 #[derive(Drop)]
@@ -44,29 +44,43 @@ pub fn is_prelude(line: &[u8]) -> bool
 /// A line of the prelude adds its list or its pair.
 ///
 /// # Errors
-/// Want of memory alone.
+/// `Bad` where it is no line of the prelude; `Memory`.
 pub fn add_line(
     alloc: Global,
     prelude: &mut Prelude,
     number: u64,
     line: Line,
-) -> Result<Outcome, AllocError>
-    ensures { IfOk result (Passes (entered (Opening (prelude_of prelude.old)) number line)
-        (Opening (prelude_of prelude.old)) (Opening (prelude_of prelude.new))) }
+) -> Result<Vec<u8>, LineError>
+    ensures { Passes (entered (Opening (prelude_of prelude.old)) number line)
+        (Opening (prelude_of prelude.old)) (Opening (prelude_of prelude.new)) result }
 {
     match line {
-        Line::Order { list } => {
-            prelude.lists.push(names_of(alloc, list)?)?;
-            prelude.lines.push(number)?;
-            Ok(Outcome::Told(Vec::new(alloc)))
-        }
-        Line::Bless { first, second } => {
-            let pair = (first.into_string(), second.into_string());
-            prelude.blessed.push(pair)?;
-            Ok(Outcome::Told(Vec::new(alloc)))
-        }
-        _ => Ok(Outcome::Bad(Cause::Syntax)),
+        Line::Order { list } => add_list(alloc, prelude, number, list)?,
+        Line::Bless { first, second } => add_pair(prelude, first, second)?,
+        _ => return Err(LineError::SYNTAX),
     }
+    Ok(Vec::new(alloc))
+}
+
+fn add_list(
+    alloc: Global,
+    prelude: &mut Prelude,
+    number: u64,
+    list: TypeList,
+) -> Result<(), AllocError>
+    ensures { OnOk result (prelude_of prelude.new ≡ with_list (prelude_of prelude.old) number list) }
+{
+    prelude.lists.push(names_of(alloc, list)?)?;
+    prelude.lines.push(number)?;
+    Ok(())
+}
+
+fn add_pair(prelude: &mut Prelude, first: Name, second: Name) -> Result<(), AllocError>
+    ensures { OnOk result (prelude_of prelude.new ≡ with_pair (prelude_of prelude.old) first second) }
+{
+    let pair = (first.into_string(), second.into_string());
+    prelude.blessed.push(pair)?;
+    Ok(())
 }
 
 #[tactic(auto, using(crate::proofs::ListedTypes::listed_next, crate::proofs::ListedTypes::listed_all))]

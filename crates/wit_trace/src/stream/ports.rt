@@ -38,7 +38,7 @@ pub trait Ports<R: BufRead, W: Write> {
     ) -> Result<Option<Step>, ReplayError>
         requires room { looks self.old < 2 ^ 64 - 1 }
         requires plain { HasNoFeed begun.old.items }
-        requires short { length begun.old.items ≤ 4096 }
+        requires short { length begun.old.items ≤ LONGEST }
         ensures ok { IfOk result (Advances (OutputFrom M.allows) machine.old machine.new number
             (R.remaining reader.old) (R.remaining reader.new) begun.old.items begun.new.items) }
         ensures kept { result ≡ Err ReplayError.Read → Keeps (R.remaining reader.old) (R.remaining reader.new) }
@@ -140,15 +140,11 @@ impl<R: BufRead, W: Write> Ports<R, W> for Failures {
         let mut done = 0;
         while done < bytes.len() {
             match writer.write(&bytes[done..]) {
-                Ok(0) => {
+                Ok(0) | Err(_) => {
                     self.write = true;
                     return Err(ReplayError::Write);
                 }
                 Ok(n) => done += n,
-                Err(_) => {
-                    self.write = true;
-                    return Err(ReplayError::Write);
-                }
             }
         }
         if writer.flush().is_err() {

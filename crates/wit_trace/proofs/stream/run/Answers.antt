@@ -1,4 +1,4 @@
-use Rattle.std.proofs.Common.{◌+◌, ◌-◌, Result, Ok, Err, OnErr, inr, subst, arith, rules}
+use Rattle.std.proofs.Common.{Result, Ok, Err, OnErr, inr, subst, arith, rules}
 use Rattle.std.proofs.KnownBytes.{Keeps-refl}
 use Rattle.std.specs.Io.KnownBytes.{Appends}
 use Rattle.wit_trace.specs.Stream.{AppendsFront, OutputFrom}

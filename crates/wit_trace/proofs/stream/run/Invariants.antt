@@ -1,4 +1,4 @@
-use Rattle.std.proofs.Common.{◌+◌, ◌-◌, ◌^◌, ◌<◌, ◌≤◌, length}
+use Rattle.std.proofs.Common.{◌+◌, ◌^◌, ◌<◌, ◌≤◌, length}
 use Rattle.wit_trace.specs.Stream.{OutputFrom}
 use Rattle.wit_trace.proofs.StreamLemmas.{Going}
 use Rattle.wit_trace.proofs.stream.run.Given as goal

@@ -1,4 +1,4 @@
-use Rattle.std.proofs.Common.{◌∙◌, ap, sym}
+use Rattle.std.proofs.Common.{◌∙◌}
 use Rattle.wit_trace.proofs.ReportLemmas.{class_as_made}
 use Rattle.wit_trace.proofs.replaying.reports.class_of.Goals as goal
 

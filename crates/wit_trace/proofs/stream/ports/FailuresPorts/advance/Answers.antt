@@ -1,4 +1,4 @@
-use Rattle.std.proofs.Common.{◌≢◌, ℕ, ◌+◌, List, length, take, refl, sym, ap, ◌∙◌, subst, arith, length-append, length-take}
+use Rattle.std.proofs.Common.{◌≢◌, ℕ, ◌+◌, List, length, take, refl, ap, ◌∙◌, subst, arith, length-append, length-take}
 use Rattle.std.proofs.lemmas.List.Elements.{All-append}
 use Rattle.wit_model.specs.declared.lines.Cause.TheVariants.{Long}
 use Rattle.wit_trace.specs.Machine.{BreaksAt}
