@@ -22,12 +22,12 @@ pub const LONGEST: usize = 4096;
 /// `Bad(Cause::Long)` exactly where there are more than 4,096 bytes. `Bad(Cause::Syntax)` where there
 /// are at most so many and they spell no line. No other cause. `Memory` where a growth was refused.
 pub fn parse_line(alloc: Global, bytes: &[u8]) -> Result<Line, LineError>
-    ensures found { IfOk result (λ line. Spells bytes.now line × (length bytes.now ≤ 4096)) }
-    ensures only { (line : Line) → Spells bytes.now line → length bytes.now ≤ 4096
+    ensures found { IfOk result (λ line. Spells bytes.now line × (length bytes.now ≤ LONGEST)) }
+    ensures only { (line : Line) → Spells bytes.now line → length bytes.now ≤ LONGEST
         → Gives (λ l. l) result (Some line) }
-    ensures long { (result ≡ Err (Bad Long)) ↔ (4096 < length bytes.now) }
+    ensures long { (result ≡ Err (Bad Long)) ↔ (LONGEST < length bytes.now) }
     ensures why { IfErr result (IsWhy bytes.now) }
-    ensures read { length bytes.now ≤ 4096 → Gives (λ l. l) result (line_of bytes.now) }
+    ensures read { length bytes.now ≤ LONGEST → Gives (λ l. l) result (line_of bytes.now) }
 {
     if bytes.len() > LONGEST {
         return Err(LineError::Bad(Cause::Long));

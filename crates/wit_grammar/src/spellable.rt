@@ -21,7 +21,7 @@ pub fn spelled(line: &Line) -> bool
 /// Whether a line that has a spelling has a short one.
 fn is_short(line: &Line) -> bool
     requires { IsSpellable line.now }
-    ensures { IsTrue result ↔ (length (spelling line.now) ≤ 4096) }
+    ensures { IsTrue result ↔ (length (spelling line.now) ≤ LONGEST) }
 {
     match line {
         Line::Order { list } => are_within(list.types(), LONGEST - 5),

@@ -6,6 +6,7 @@ use Rattle.wit_model.specs.declared.lines.Cause.TheVariants.{Long, Cut, Syntax, 
 use Rattle.wit_trace.specs.declared.summary.Summary.{Summary}
 use Rattle.wit_trace.specs.declared.stream.machine.Step.{Step}
 use Rattle.wit_trace.specs.declared.stream.machine.Step.TheVariants.{Goes, Ends}
+use Rattle.wit_grammar.specs.declared.parse.TheConstants.{LONGEST}
 
 -- the text of the line, and then whatever the new machine may write; or the last text, whatever follows
 abbrev pub Follows : {M : Type 0} → (M → ℕ → List (List ℕ) → List ℕ → List ℕ → Summary → Type 0) → M → M → ℕ → List ℕ → Step → Type 0
@@ -19,8 +20,8 @@ first_of (line ∷ lines) tail = line
 
 -- what is still to come begins with a line that is too long, which begins with these bytes; or these bytes are all
 abbrev pub BreaksAt : Cause → List ℕ → List (List ℕ) → List ℕ → Type 0
-BreaksAt Long bytes lines tail = (4096 < length bytes) × StartsWith (first_of lines tail) bytes
-BreaksAt Cut bytes lines tail = (0 < length bytes) × (length bytes ≤ 4096) × (lines ≡ []) × (tail ≡ bytes)
+BreaksAt Long bytes lines tail = (LONGEST < length bytes) × StartsWith (first_of lines tail) bytes
+BreaksAt Cut bytes lines tail = (0 < length bytes) × (length bytes ≤ LONGEST) × (lines ≡ []) × (tail ≡ bytes)
 BreaksAt Syntax bytes lines tail = ⊥
 BreaksAt Limit bytes lines tail = ⊥
 BreaksAt (Fault fault) bytes lines tail = ⊥

@@ -6,6 +6,7 @@ use Rattle.wit_trace.specs.declared.stream.machine.Step.{Step}
 use Rattle.wit_trace.specs.declared.stream.ports.Failures.{Failures}
 use Rattle.wit_trace.specs.declared.stream.machine.Step.TheVariants.{Goes, Ends}
 use Rattle.wit_trace.specs.declared.summary.Summary.{Summary}
+use Rattle.wit_grammar.specs.declared.parse.TheConstants.{LONGEST}
 
 -- a beginning of the bytes is appended
 abbrev pub AppendsFront : Option (List ℕ) → Option (List ℕ) → List ℕ → Type 0
@@ -36,7 +37,7 @@ pub record TakesPart (old new : Option (List ℕ)) (line line' : List ℕ) : Typ
   pub some : 0 < length part
   pub plain : HasNoFeed part
   pub begun : line' ≡ line ++ part
-  pub short : length line' ≤ 4096
+  pub short : length line' ≤ LONGEST
 
 -- a look took the rest of a line, of which this text is told
 pub record TakesLine {M : Type 0} (output : M → ℕ → List ℕ → List ℕ → Summary → Type 0) (before after : M) (number : ℕ) (old new : Option (List ℕ)) (line line' text : List ℕ) : Type 0 where

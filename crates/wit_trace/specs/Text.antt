@@ -1,5 +1,6 @@
 -- A byte list as lines.
-use Rattle.std.specs.Prelude.{◌≡◌, ◌≢◌, ◌⊎◌, ℕ, ◌≤◌, List, [], ◌∷◌, ◌++◌, length, All, count_by, ◌==◌, if◌then◌else◌}
+use Rattle.std.specs.Prelude.{◌≡◌, ◌≢◌, ◌⊎◌, ℕ, ◌+◌, ◌≤◌, List, [], ◌∷◌, ◌++◌, length, All, count_by, ◌==◌, if◌then◌else◌}
+use Rattle.wit_grammar.specs.declared.parse.TheConstants.{LONGEST}
 
 -- whole lines, without their line feeds, and the unfinished one behind them
 pub record Text : Type 0 where
@@ -32,7 +33,7 @@ IsWholeLines bytes = (bytes ≡ []) ⊎ ((front : List ℕ) × (bytes ≡ front 
 pub record IsLine (bytes : List ℕ) : Type 0 where
   pub line : List ℕ
   pub plain : HasNoFeed line
-  pub short : length line ≤ 4097
+  pub short : length line ≤ LONGEST + 1
   pub is : (bytes ≡ line) ⊎ (bytes ≡ line ++ 10 ∷ [])
 
 -- how many bytes are line feeds

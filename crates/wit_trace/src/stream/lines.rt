@@ -4,6 +4,7 @@ ghost use Rattle.std.specs.Prelude.{◌≡◌, ◌+◌, ◌<◌, ◌≤◌, [], 
 ghost use Rattle.wit_trace.specs.Machine.{Follows};
 ghost use Rattle.wit_trace.specs.Text.{HasNoFeed};
 ghost use Rattle.wit_trace.specs.Stream.{OutputFrom};
+ghost use Rattle.wit_grammar.specs.declared.parse.TheConstants.{LONGEST};
 
 use crate::stream::machine::{Machine, Step};
 use crate::summary::Summary;
@@ -33,7 +34,7 @@ pub fn whole_line<M: Machine>(
 ) -> Result<Step, AllocError>
     requires plain { HasNoFeed (begun.old.items ++ rest.now) }
     requires plain_rest { HasNoFeed rest.now }
-    requires short { length begun.old.items + length rest.now ≤ 4096 }
+    requires short { length begun.old.items + length rest.now ≤ LONGEST }
     ensures step { IfOk result (Follows M.allows machine.old machine.new number (begun.old.items ++ rest.now)) }
     ensures none { OnOk result (begun.new.items ≡ []) }
 {
@@ -57,7 +58,7 @@ pub fn at_end<M: Machine>(
     begun: &[u8],
 ) -> Result<(Vec<u8>, Summary), AllocError>
     requires plain { HasNoFeed begun.now }
-    requires short { length begun.now ≤ 4096 }
+    requires short { length begun.now ≤ LONGEST }
     ensures { IfOk result (λ r. OutputFrom M.allows machine.old number begun.now r.0.items r.1) }
 {
     if begun.is_empty() {

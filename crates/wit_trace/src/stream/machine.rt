@@ -4,6 +4,7 @@ ghost use Rattle.std.specs.Prelude.{ℕ, ◌+◌, ◌≤◌, List, [], ◌∷◌
 ghost use Rattle.wit_trace.specs.Text.{HasNoFeed};
 ghost use Rattle.wit_trace.specs.Machine.{Follows, BreaksAt};
 ghost use Rattle.wit_trace.specs.declared.summary.Summary.{Summary};
+ghost use Rattle.wit_grammar.specs.declared.parse.TheConstants.{LONGEST};
 
 use crate::summary::Summary;
 use std::alloc::{AllocError, Global};
@@ -30,7 +31,7 @@ pub trait Machine {
     ///
     /// An error promises nothing.
     fn line(&mut self, alloc: Global, number: u64, bytes: &[u8]) -> Result<Step, AllocError>
-        requires short { length bytes.now ≤ 4096 }
+        requires short { length bytes.now ≤ LONGEST }
         requires plain { HasNoFeed bytes.now }
         ensures { IfOk result (Follows allows self.old self.new number bytes.now) };
 
