@@ -1,6 +1,5 @@
 pub mod AnswerLemmas
 pub mod ListedTypes
 pub mod ReplayLemmas
-pub mod ReportLemmas
 pub mod StreamLemmas
 pub mod TextLemmas

@@ -1,5 +1,5 @@
 -- What becomes of a line, and what is written for it.
-use Rattle.std.proofs.Common.{◌≡◌, ℕ, ◌+◌, ◌<◌, ◌≤◌, Bool, ◌||◌, cond, ltb, List, [], ◌∷◌, ◌++◌, length, take, length-take, arith, codes, Option, Some, None, Result, Ok, Err, IfOk, refl, sym, ap, ap₂, subst, ◌∙◌, false, ◌⊎◌, inl, inr, true, not, unwrap_or}
+use Rattle.std.proofs.Common.{◌≡◌, ℕ, ◌+◌, ◌<◌, ◌≤◌, Bool, ◌||◌, cond, ltb, List, [], ◌∷◌, ◌++◌, length, take, length-take, arith, codes, Option, Some, None, Result, Ok, Err, IfOk, refl, sym, ap, ap₂, subst, ◌∙◌, false, inl, inr, true, not, unwrap_or}
 use Rattle.std.specs.Global.{Vec}
 use Rattle.std.specs.Io.{StartsWith}
 use Rattle.std.specs.Result.{IsErrAnd}
@@ -12,7 +12,6 @@ use Rattle.wit_model.specs.declared.calls.NewLock.{NewLock}
 use Rattle.wit_model.specs.declared.calls.Reply.{Reply}
 use Rattle.wit_model.specs.declared.calls.Request.{Request}
 use Rattle.wit_model.specs.declared.faults.Fault.{Fault}
-use Rattle.wit_model.specs.declared.faults.Fault.TheVariants.{OutOfMemory}
 use Rattle.wit_model.specs.declared.flags.OpFlags.{OpFlags}
 use Rattle.wit_model.specs.declared.lines.Line.TheVariants.{Check}
 use Rattle.wit_model.specs.declared.lines.Cause.{Cause}

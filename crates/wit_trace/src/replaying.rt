@@ -6,17 +6,17 @@ ghost use Rattle.wit_trace.specs.Replays.{ends_prelude, progress, total, Reaches
 ghost use Rattle.wit_trace.specs.Stream.{IsSpent, ReadsToEnd, WritesFront, WritesLines, WritesOutput};
 ghost use Rattle.wit_grammar.specs.declared.parse.TheConstants.{LONGEST};
 
+mod bad_lines;
 mod calls;
 mod prelude;
-mod reports;
 
 use crate::stream::machine::{Machine, Step};
 use crate::stream::ports::{Failures, Ports};
 use crate::stream::run;
 use crate::summary::{ReplayError, Summary};
+use bad_lines::bad_text;
 use calls::enter_line;
 use prelude::{Prelude, add_line, is_prelude, new_prelude, open};
-use reports::bad_text;
 use std::alloc::{AllocError, Global};
 use std::io::{BufRead, Write};
 use std::mem;

@@ -6,11 +6,11 @@ ghost use Rattle.wit_model.specs.declared.calls.Call.TheVariants.{Init};
 ghost use Rattle.wit_model.specs.Trace.Output.{Reading, calls, makes};
 ghost use Rattle.wit_trace.specs.Replays.{Calls, Passes};
 
-use crate::replaying::reports::report_text;
 use std::alloc::Global;
 use wit_core::Verifier;
 use wit_grammar::LineError;
 use wit_model::{Line, NewLock, Reply, SeatNo, Site};
+use wit_report::report_text;
 
 /// A line behind the prelude makes its call, and tells of it; one with a site enters its file first.
 ///

@@ -2,7 +2,7 @@ use Rattle.std.proofs.Common.{◌≡◌, ◌∷◌, ◌++◌, drop, string_bytes
 use Rattle.wit_model.specs.Rules.State.{known_of}
 use Rattle.wit_model.specs.Trace.Texts.{order_lines}
 use Rattle.wit_model.specs.Trace.Paths.{type_numbers}
-use Rattle.wit_trace.proofs.replaying.reports.put_orders_from.Given as goal
+use Rattle.wit_report.proofs.orders.put_orders_from.Given as goal
 
 -- what was written and what is still to come make the whole
 abbrev pub invariant-loop-child : goal.invariant-loop-child

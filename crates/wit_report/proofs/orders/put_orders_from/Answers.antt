@@ -1,7 +1,7 @@
 use Rattle.std.proofs.Common.{◌∙◌, string_bytes, arith, refl}
 use Rattle.wit_model.specs.Rules.State.{known_of}
-use Rattle.wit_trace.proofs.ReportLemmas.{line-turn}
-use Rattle.wit_trace.proofs.replaying.reports.put_orders_from.Goals as goal
+use Rattle.wit_report.proofs.Written.{line-turn}
+use Rattle.wit_report.proofs.orders.put_orders_from.Goals as goal
 
 pub loop-child-preserved : goal.loop-child-preserved
 loop-child-preserved c =

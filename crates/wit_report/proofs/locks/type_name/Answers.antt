@@ -1,7 +1,7 @@
 use Rattle.std.proofs.Common.{◌∙◌, ap, ℕ, List}
 use Rattle.std.specs.Borrow.{Bor}
-use Rattle.wit_trace.proofs.ReportLemmas.{name_as_made}
-use Rattle.wit_trace.proofs.replaying.reports.type_name.Goals as goal
+use Rattle.wit_report.proofs.LockTypes.{name_as_made}
+use Rattle.wit_report.proofs.locks.type_name.Goals as goal
 
 pub returns-in-Some : goal.returns-in-Some
 returns-in-Some c =

@@ -1,7 +1,7 @@
 use Rattle.std.proofs.Common.{string_bytes, arith}
 use Rattle.wit_model.specs.Rules.State.{known_of}
-use Rattle.wit_trace.proofs.ReportLemmas.{order-written}
-use Rattle.wit_trace.proofs.replaying.reports.put_order.Goals as goal
+use Rattle.wit_report.proofs.Written.{order-written}
+use Rattle.wit_report.proofs.orders.put_order.Goals as goal
 
 pub returns : goal.returns
 returns c =

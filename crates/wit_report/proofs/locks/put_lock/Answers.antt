@@ -1,7 +1,7 @@
 use Rattle.std.proofs.Common.{string_bytes, arith}
 use Rattle.wit_model.specs.Rules.State.{typed_locks}
-use Rattle.wit_trace.proofs.ReportLemmas.{lock-written}
-use Rattle.wit_trace.proofs.replaying.reports.put_lock.Goals as goal
+use Rattle.wit_report.proofs.Written.{lock-written}
+use Rattle.wit_report.proofs.locks.put_lock.Goals as goal
 
 pub returns : goal.returns
 returns c =

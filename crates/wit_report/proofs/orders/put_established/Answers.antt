@@ -1,7 +1,7 @@
 use Rattle.std.proofs.Common.{string_bytes}
 use Rattle.wit_model.specs.Rules.State.{known_of}
-use Rattle.wit_trace.proofs.ReportLemmas.{established-written}
-use Rattle.wit_trace.proofs.replaying.reports.put_established.Goals as goal
+use Rattle.wit_report.proofs.Written.{established-written}
+use Rattle.wit_report.proofs.orders.put_established.Goals as goal
 
 pub returns-in_ok-put_orders-in-Ok-Some : goal.returns-in_ok-put_orders-in-Ok-Some
 returns-in_ok-put_orders-in-Ok-Some c =

@@ -1,0 +1,2 @@
+pub mod LockTypes
+pub mod Written

@@ -1,0 +1,113 @@
+//! The locks of a report, a line each.
+
+ghost use Rattle.std.specs.Prelude.{◌≡◌, ◌++◌, string_bytes, OnOk};
+ghost use Rattle.wit_model.specs.Rules.Locks.{lock_at};
+ghost use Rattle.wit_model.specs.Rules.State.{typed_locks};
+ghost use Rattle.wit_model.specs.Rules.Types.{type_name_of};
+ghost use Rattle.wit_model.specs.Trace.Texts.{class_words, lock_line, conflict_lines};
+
+use crate::pieces::{put_quoted, put_site};
+use std::alloc::{AllocError, Global};
+use wit_core::Verifier;
+use wit_model::{Class, Conflict, LockAt, LockNo, TypeNo};
+
+// The locks of a reversal, oldest first.
+pub fn put_locks(
+    text: &mut String,
+    alloc: Global,
+    verifier: &Verifier,
+    conflict: &Conflict,
+) -> Result<(), AllocError>
+    ensures { OnOk result (string_bytes text.new ≡ string_bytes text.old
+        ++ conflict_lines (typed_locks verifier.now.start verifier.now.history) verifier.now.files conflict.now conflict.now.older) }
+{
+    match conflict.older {
+        Some(older) => {
+            put_lock(text, alloc, verifier, "1st", older)?;
+            put_lock(text, alloc, verifier, "2nd", conflict.held)?;
+            put_lock(text, alloc, verifier, "3rd", conflict.asked)?;
+        }
+        None => {
+            put_lock(text, alloc, verifier, "1st", conflict.held)?;
+            put_lock(text, alloc, verifier, "2nd", conflict.asked)?;
+        }
+    }
+    Ok(())
+}
+
+// A lock at a place, as a line behind its rank.
+fn put_lock(
+    text: &mut String,
+    alloc: Global,
+    verifier: &Verifier,
+    rank: &str,
+    at: LockAt,
+) -> Result<(), AllocError>
+    ensures { OnOk result (string_bytes text.new ≡ string_bytes text.old
+        ++ lock_line (typed_locks verifier.now.start verifier.now.history) verifier.now.files rank.now at) }
+{
+    text.push(' ')?;
+    text.push_str(rank)?;
+    text.push(' ')?;
+    put_quoted(text, lock_name(verifier, at.lock))?;
+    text.push_str(" (")?;
+    text.push_str(type_name(verifier, at.lock))?;
+    text.push_str(", ")?;
+    text.push_str(class_words(class_of(verifier, at.lock)))?;
+    text.push_str(") @ ")?;
+    put_site(text, alloc, verifier, at.site)?;
+    text.push('\n')?;
+    Ok(())
+}
+
+fn class_words(class: Class) -> &'static str
+    ensures { result.now ≡ class_words class }
+{
+    match class {
+        Class::SleepMutex => "sleep mutex",
+        Class::SpinMutex => "spin mutex",
+        Class::Rw => "rw",
+        Class::Sx => "sx",
+    }
+}
+
+// What stands under a number.
+fn lock_name(verifier: &Verifier, lock: LockNo) -> &str
+    ensures { result.now ≡ (lock_at (typed_locks verifier.now.start verifier.now.history) lock.0).made.name }
+{
+    match verifier.lock_name(lock) {
+        Some(name) => name,
+        None => "",
+    }
+}
+
+pub fn type_number(verifier: &Verifier, lock: LockNo) -> TypeNo
+    ensures { result ≡ (lock_at (typed_locks verifier.now.start verifier.now.history) lock.0).type_no }
+{
+    match verifier.type_of(lock) {
+        Some(number) => number,
+        None => TypeNo(0),
+    }
+}
+
+fn type_name(verifier: &Verifier, lock: LockNo) -> &str
+    ensures { result.now ≡ type_name_of (lock_at (typed_locks verifier.now.start verifier.now.history) lock.0).made }
+{
+    // In a legal log, a lock's type has its type name and its class.
+    let _log = verifier.history();
+    match verifier.type_of(lock) {
+        Some(number) => verifier.type_name(number).unwrap_or(""),
+        None => "",
+    }
+}
+
+fn class_of(verifier: &Verifier, lock: LockNo) -> Class
+    ensures { result ≡ (lock_at (typed_locks verifier.now.start verifier.now.history) lock.0).made.class }
+{
+    // In a legal log, a lock's type has its type name and its class.
+    let _log = verifier.history();
+    match verifier.type_of(lock) {
+        Some(number) => verifier.class_of(number).unwrap_or(Class::SleepMutex),
+        None => Class::SleepMutex,
+    }
+}

@@ -1,0 +1,135 @@
+//! The path by which an order is established, a line a step.
+
+ghost use Rattle.std.specs.Prelude.{◌≡◌, ◌∷◌, ◌++◌, length, find, reverse, string_bytes, OnOk};
+ghost use Rattle.wit_model.specs.Rules.Orders.{is_adoption_of};
+ghost use Rattle.wit_model.specs.Rules.State.{known_of, orders_of, types_of};
+ghost use Rattle.wit_model.specs.Rules.Types.{name_of};
+ghost use Rattle.wit_model.specs.Trace.Paths.{path, type_numbers};
+ghost use Rattle.wit_model.specs.Trace.Texts.{origin_words, order_line, order_lines, established};
+
+use crate::pieces::{put_quoted, put_site};
+use std::alloc::{AllocError, Global};
+use wit_core::Verifier;
+use wit_model::{Adoption, Origin, TypeNo};
+
+// The path by which the order from one type to another is established.
+pub fn put_established(
+    text: &mut String,
+    alloc: Global,
+    verifier: &Verifier,
+    from: TypeNo,
+    to: TypeNo,
+) -> Result<(), AllocError>
+    ensures { OnOk result (string_bytes text.new ≡ string_bytes text.old
+        ++ established (known_of verifier.now.start verifier.now.history) verifier.now.files
+        (path (orders_of verifier.now.start verifier.now.history) (length (types_of verifier.now.start verifier.now.history)) from.0 to.0)) }
+{
+    match verifier.path(from, to) {
+        Ok(Some(path)) => {
+            text.push_str("established order:\n")?;
+            put_orders(text, alloc, verifier, &path)?;
+            Ok(())
+        }
+        Ok(None) => Ok(()),
+        Err(_) => Err(AllocError),
+    }
+}
+
+// The orders between neighbours of a path.
+fn put_orders(
+    text: &mut String,
+    alloc: Global,
+    verifier: &Verifier,
+    path: &[TypeNo],
+) -> Result<(), AllocError>
+    ensures { OnOk result (string_bytes text.new ≡ string_bytes text.old
+        ++ order_lines (known_of verifier.now.start verifier.now.history) verifier.now.files (type_numbers path.now)) }
+{
+    match path {
+        [] => Ok(()),
+        [first, others @ ..] => put_orders_from(text, alloc, verifier, *first, others),
+    }
+}
+
+fn put_orders_from(
+    text: &mut String,
+    alloc: Global,
+    verifier: &Verifier,
+    first: TypeNo,
+    others: &[TypeNo],
+) -> Result<(), AllocError>
+    ensures { OnOk result (string_bytes text.new ≡ string_bytes text.old
+        ++ order_lines (known_of verifier.now.start verifier.now.history) verifier.now.files (first.0 ∷ type_numbers others.now)) }
+{
+    let mut parent = first;
+    for child in others {
+        put_order(text, alloc, verifier, parent, *child)?;
+        parent = *child;
+    }
+    Ok(())
+}
+
+// A direct order, as a line.
+fn put_order(
+    text: &mut String,
+    alloc: Global,
+    verifier: &Verifier,
+    parent: TypeNo,
+    child: TypeNo,
+) -> Result<(), AllocError>
+    ensures { OnOk result (string_bytes text.new ≡ string_bytes text.old
+        ++ order_line (known_of verifier.now.start verifier.now.history) verifier.now.files parent.0 child.0) }
+{
+    text.push(' ')?;
+    put_quoted(text, type_words(verifier, parent))?;
+    text.push_str(" -> ")?;
+    put_quoted(text, type_words(verifier, child))?;
+    text.push_str(" @ ")?;
+    put_origin(text, alloc, verifier, adoption_of(verifier, parent, child))?;
+    text.push('\n')?;
+    Ok(())
+}
+
+fn type_words(verifier: &Verifier, number: TypeNo) -> &str
+    ensures { result.now ≡ name_of number.0 (types_of verifier.now.start verifier.now.history) }
+{
+    match verifier.type_name(number) {
+        Some(name) => name,
+        None => "",
+    }
+}
+
+fn put_origin(
+    text: &mut String,
+    alloc: Global,
+    verifier: &Verifier,
+    order: Option<Adoption>,
+) -> Result<(), AllocError>
+    ensures { OnOk result (string_bytes text.new ≡ string_bytes text.old ++ origin_words verifier.now.files order) }
+{
+    let Some(order) = order else {
+        return Ok(());
+    };
+    match order.origin {
+        Origin::Listed => text.push_str("listed"),
+        Origin::Defined => text.push_str("defined"),
+        Origin::At(site) => put_site(text, alloc, verifier, site),
+    }
+}
+
+fn adoption_of(verifier: &Verifier, parent: TypeNo, child: TypeNo) -> Option<Adoption>
+    ensures { result ≡ find (is_adoption_of parent.0 child.0) (orders_of verifier.now.start verifier.now.history) }
+{
+    newest_adoption(verifier.orders(), parent, child)
+}
+
+// Of orders that stand oldest first.
+fn newest_adoption(orders: &[Adoption], parent: TypeNo, child: TypeNo) -> Option<Adoption>
+    ensures { result ≡ find (is_adoption_of parent.0 child.0) (reverse orders.now) }
+{
+    orders
+        .iter()
+        .rev()
+        .copied()
+        .find(|o| o.parent.0 == parent.0 && o.child.0 == child.0)
+}

@@ -1,0 +1,54 @@
+//! The text of a reversal.
+
+ghost use Rattle.std.specs.Prelude.{◌≡◌, string_bytes, IfOk, IfErr};
+ghost use Rattle.wit_model.specs.declared.calls.Reply.TheVariants.{Reversal};
+ghost use Rattle.wit_model.specs.declared.faults.Fault.TheVariants.{OutOfMemory};
+ghost use Rattle.wit_model.specs.Trace.Output.{told};
+ghost use Rattle.wit_model.specs.Trace.Texts.{heading_words};
+
+use crate::locks::{put_locks, type_number};
+use crate::orders::put_established;
+use std::alloc::{AllocError, Global};
+use wit_core::Verifier;
+use wit_model::{Conflict, Fault, Heading, Reply};
+
+/// The text of a reply's report, as things stand once the reply was given; empty where it reports nothing.
+/// A number that was never given stands for an empty name, and a lock under it for a sleep mutex.
+///
+/// # Errors
+/// `OutOfMemory` alone.
+pub fn report_text(alloc: Global, verifier: &Verifier, reply: &Reply) -> Result<String, Fault>
+    ensures ok { IfOk result (λ text. string_bytes text ≡ told verifier.now reply.now) }
+    ensures err { IfErr result (λ e. e ≡ OutOfMemory) }
+{
+    match reply {
+        Reply::Reversal(conflict) => Ok(reversal_text(alloc, verifier, conflict.get())?),
+        _ => Ok(String::new(alloc)),
+    }
+}
+
+fn reversal_text(
+    alloc: Global,
+    verifier: &Verifier,
+    conflict: &Conflict,
+) -> Result<String, AllocError>
+    ensures { IfOk result (λ text. string_bytes text ≡ told verifier.now (Reversal conflict.now)) }
+{
+    let mut text = String::from_str(alloc, heading_words(conflict.heading))?;
+    text.push('\n')?;
+    put_locks(&mut text, alloc, verifier, conflict)?;
+    let asked = type_number(verifier, conflict.asked.lock);
+    let held = type_number(verifier, conflict.held.lock);
+    put_established(&mut text, alloc, verifier, asked, held)?;
+    Ok(text)
+}
+
+fn heading_words(heading: Heading) -> &'static str
+    ensures { result.now ≡ heading_words heading }
+{
+    match heading {
+        Heading::Order => "lock order reversal:",
+        Heading::Sleepable => "lock order reversal: (sleepable after non-sleepable)",
+        Heading::Giant => "lock order reversal: (Giant after non-sleepable)",
+    }
+}

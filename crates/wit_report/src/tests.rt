@@ -1,0 +1,73 @@
+//! The text of a reversal, call by call.
+
+use crate::report_text;
+use std::alloc::Global;
+use std::test::Fail;
+use wit_core::{StartError, Verifier};
+use wit_model::{
+    Class, Fault, FileNo, Limits, LockFlags, LockNo, Mode, OpFlags, Reply, SeatNo, Site,
+};
+
+fn start(alloc: Global) -> Result<Verifier, StartError> {
+    let unmade = StartError {
+        list: 0,
+        fault: Fault::OutOfMemory,
+    };
+    let limits = Limits::new(2, 8, 16, 4, 64).ok_or(unmade)?;
+    Verifier::new(alloc, limits, Vec::new(alloc), Vec::new(alloc))
+}
+
+fn make_locks(verifier: &mut Verifier) -> Result<(), Fault> {
+    verifier.file("f")?;
+    let none = LockFlags(0);
+    verifier.init(SeatNo(1), "a", Some("A"), Class::SleepMutex, none)?;
+    verifier.init(SeatNo(1), "b", Some("B"), Class::SleepMutex, none)?;
+    Ok(())
+}
+
+fn check(verifier: &mut Verifier, seat: u16, lock: u32, line: u32) -> Result<Reply, Fault> {
+    let site = Site {
+        file: FileNo(1),
+        line,
+    };
+    let exclusive = Mode::Exclusive;
+    verifier.check(
+        SeatNo(seat),
+        LockNo(lock),
+        exclusive,
+        OpFlags::NEWORDER,
+        site,
+    )
+}
+
+fn take(verifier: &mut Verifier, seat: u16, lock: u32, line: u32) -> Result<Reply, Fault> {
+    check(verifier, seat, lock, line)?;
+    verifier.note(SeatNo(seat), LockNo(lock))
+}
+
+// Seat 1 takes a, then b; seat 2 takes b, then asks for a.
+fn turn_round(verifier: &mut Verifier) -> Result<Reply, Fault> {
+    take(verifier, 1, 1, 1)?;
+    take(verifier, 1, 2, 2)?;
+    take(verifier, 2, 2, 3)?;
+    check(verifier, 2, 1, 4)
+}
+
+fn text_of(alloc: Global, verifier: &Verifier, reply: &Reply) -> Result<String, Fault> {
+    report_text(alloc, verifier, reply)
+}
+
+#[test]
+fn reversals(rt: HostRuntime) -> Result<(), Fail> {
+    let alloc = rt.alloc();
+    let mut verifier = start(alloc)?;
+    make_locks(&mut verifier)?;
+    let reply = turn_round(&mut verifier)?;
+    let text = text_of(alloc, &verifier, &reply)?;
+    let expected =
+        "lock order reversal:\n 1st \"b\" (B, sleep mutex) @ f:3\n 2nd \"a\" (A, sleep mutex) @ f:4\nestablished order:\n \"A\" -> \"B\" @ f:2\n";
+    assert_eq!(rt; text.as_str(), expected);
+    let text = text_of(alloc, &verifier, &Reply::Recorded)?;
+    assert_eq!(rt; text.as_str(), "");
+    Ok(())
+}
