@@ -1,14 +1,11 @@
 -- Each call keeps the invariant of a verifier.
-use Rattle.std.proofs.Common.{◌≡◌, ℕ, ◌+◌, ◌-◌, ◌<◌, ◌≤◌, ◌&&◌, ◌⊎◌, inl, inr, Bool, true, false, cond, List, [], ◌∷◌, ◌++◌, Option, None, Some, Ok, Err, Result, IsOk, IfOk, IfErr, OnOk, OnErr, String, length, map, reverse, find, unwrap_or, get_or, vec_len, refl, sym, ap, ap₂, ◌∙◌, subst, arith, is_some, length-append, zero-add}
+use Rattle.std.proofs.Common.{◌≡◌, ℕ, ◌+◌, ◌-◌, ◌<◌, ◌≤◌, ◌&&◌, ◌⊎◌, inl, inr, Bool, true, false, cond, List, [], ◌∷◌, ◌++◌, Option, None, Some, Ok, Err, Result, IsOk, IfOk, IfErr, OnOk, OnErr, String, length, map, find, unwrap_or, get_or, refl, sym, ap, ap₂, ◌∙◌, subst, arith, is_some}
 use Rattle.std.proofs.lemmas.List.{length-map}
 use Rattle.std.specs.List.{position, range_with_len, AllByRecursion}
 use Rattle.std.proofs.lemmas.List.Elements.{recursion_from_All}
-use Rattle.std.specs.Vec.{vec_capacity}
 use Rattle.std.proofs.lemmas.List.{get_or-map}
-use Rattle.std.proofs.lemmas.List.Sums.{sum_by-cons}
 use Rattle.std.proofs.lemmas.List.FromFn.{length-map-range_with_len}
-use Rattle.std.proofs.lemmas.Bool.{and_parts, true≢false}
-use Rattle.std.proofs.Math.Nat.{add_comm}
+use Rattle.std.proofs.lemmas.Bool.{and_parts, leb-true, true≢false}
 use Rattle.std.specs.declared.alloc.AllocError.{AllocError}
 use Rattle.wit_model.specs.declared.faults.Fault.{Fault}
 use Rattle.wit_model.specs.declared.faults.Fault.TheVariants.{OutOfMemory}
@@ -27,13 +24,13 @@ use Rattle.wit_model.specs.Rules.Sizes.{Sizes}
 use Rattle.wit_model.specs.Rules.Names.{is_name}
 use Rattle.wit_model.specs.Rules.Types.{is_spin, type_name_of}
 use Rattle.wit_model.specs.Rules.Locks.{locks_of, lock_at, is_spin_lock}
-use Rattle.wit_model.specs.Rules.History.{is_report, reports_of, pending, watch_of}
+use Rattle.wit_model.specs.Rules.History.{pending, watch_of}
 use Rattle.wit_model.specs.Rules.Refusals.{IsRefusal}
 use Rattle.wit_model.specs.declared.locks.Watch.TheVariants.{On}
 use Rattle.wit_model.specs.Rules.Start.{start_fault}
 use Rattle.wit_model.specs.Rules.Files.{is_known_file, file_answer, files_after, NamesFile}
 use Rattle.wit_table.specs.Known.{Names, enroll_answer, with_file}
-use Rattle.wit_model.specs.Rules.State.{Start, Story, fresh, State, Known, types_of, state_of, seats_of, seat_of, owed, is_seat, seat_at, no_seat}
+use Rattle.wit_model.specs.Rules.State.{Start, Story, fresh, State, Known, types_of, state_of, seats_of, seat_of, owed, has_room, is_seat, seat_at, no_seat}
 use Rattle.wit_model.specs.Rules.Step.{answer_of, story_after, is_pending, is_good_name, chain_for, IsLegal}
 use Rattle.wit_model.specs.Rules.Verdict.{is_of}
 use Rattle.wit_model.proofs.Numbered.{with_number-or}
@@ -59,17 +56,11 @@ use Rattle.wit_core.specs.Listed.{all_listed, pairs_of}
 use Rattle.wit_core.specs.Fresh.{start_of}
 use Rattle.wit_core.specs.Rows.{seat_view, chain_in, changed_at, asked_in, noted_in, unlocked_in, CanRise, IsShallow, IsShallowAt}
 use Rattle.wit_core.specs.Books.{IsFresh, StaysSame, EntersInit, EntersCheck, EntersNote, EntersUnlock, state_in, spin_of, taken_by}
+use Rattle.wit_core.specs.Journal.{Journal}
 use Rattle.wit_core.specs.Kept.{IsKept, start_in, history_in, story_in}
 use Rattle.wit_core.proofs.Entering.{IsBegun}
 use Rattle.wit_core.proofs.Steps.{same_state, state-init, state-check, state-note, state-unlock}
 use Rattle.wit_core.proofs.Keeping.{seat_in, Enters, kept_entered, kept_same, same_story}
-
--- the reports once there is one more entry
-reports-entry : (e : Entry) (h : List Entry) → reports_of (e ∷ h) ≡ cond (is_report e.reply) 1 0 + reports_of h
-reports-entry e h = sum_by-cons (λ (x : Entry). cond (is_report x.reply) 1 0) e h
-
-reports-quiet : (e : Entry) (h : List Entry) → is_report e.reply ≡ false → reports_of (e ∷ h) ≡ reports_of h
-reports-quiet e h quiet = reports-entry e h ∙ (ap (λ b. cond b 1 0 + reports_of h) quiet ∙ zero-add (reports_of h))
 
 -- a lock's kind, by the books and by the history
 spin_same : (v : Inside) (l : ℕ) → IsKept v → spin_of v.books l ≡ is_spin_lock (locks_of (history_in v)) l
@@ -79,7 +70,7 @@ module _ (v : Inside) (t : ℕ) (call : Call) (reply : Reply) (k : IsKept v) (ok
   sane_next : IsSane (entry t call reply ∷ history_in v)
   sane_next = sane_more (start_in v) v.books.known.names.files (history_in v) (entry t call reply) k.legal ok
 
-  owed_now : v.books.owed ≡ owed_to v.books.limits.seats (history_in v)
+  owed_now : v.books.log.owed ≡ owed_to v.books.limits.seats (history_in v)
   owed_now = k.owed ∙ ap owed k.state
 
 -- a seat that asks for nothing
@@ -108,16 +99,14 @@ enters_note v t l q new k ok asked e =
     let less = owed-note v.books.limits.seats t l q h sane within.0 within.1 wants in
     let now = owed_now v t (Note l) Recorded k ok in
     let sum = ap owed state in
-    let len = ap (λ (xs : List Entry). length xs) e.log ∙ length-append v.books.log.items (entry t (Note l) Recorded ∷ []) in
     record {
       state = state;
       files = e.files;
       sized = e.sized;
       room = e.room k.room;
-      owed = omega (arith, less, now, sum, e.owed);
-      reports = e.reports ∙ (k.reports ∙ sym (reports-quiet (entry t (Note l) Recorded) h refl));
-      log = e.log;
-      capacity = omega (arith, len, new.log.ok.0, v.books.log.ok.0, e.owed, e.capacity, k.capacity);
+      owed = let here = ap (λ (l : Journal). l.owed) e.log in omega (arith, less, now, sum, here);
+      limit = ap (λ (l : Journal). l.limit) e.log;
+      history = ap (λ (l : Journal). l.history) e.log;
     }
 
 -- the books after a release
@@ -136,16 +125,14 @@ enters_unlock v t l m new k ok e =
     let less = owed-unlock v.books.limits.seats t l m Unlocked h sane within.0 within.1 held.0 in
     let now = owed_now v t (Unlock l m) Unlocked k ok in
     let sum = ap owed state in
-    let len = ap (λ (xs : List Entry). length xs) e.log ∙ length-append v.books.log.items (entry t (Unlock l m) Unlocked ∷ []) in
     record {
       state = state;
       files = e.files;
       sized = e.sized;
       room = e.room k.room;
-      owed = omega (arith, less, now, sum, e.owed);
-      reports = e.reports ∙ (k.reports ∙ sym (reports-quiet (entry t (Unlock l m) Unlocked) h refl));
-      log = e.log;
-      capacity = omega (arith, len, new.log.ok.0, v.books.log.ok.0, e.owed, e.capacity, k.capacity);
+      owed = let here = ap (λ (l : Journal). l.owed) e.log in omega (arith, less, now, sum, here);
+      limit = ap (λ (l : Journal). l.limit) e.log;
+      history = ap (λ (l : Journal). l.history) e.log;
     }
 
 -- the books after a check
@@ -169,10 +156,9 @@ enters_check v t q verdict new k ok e =
       files = e.files;
       sized = e.sized;
       room = e.room k.room;
-      owed = omega (arith, more, now, sum, e.owed);
-      reports = e.reports ∙ (ap (λ n. n + cond (is_report (reply_of verdict)) 1 0) k.reports ∙ (add_comm _ _ ∙ sym (reports-entry (entry t (Check q) (reply_of verdict)) h)));
-      log = e.log;
-      capacity = e.capacity;
+      owed = let here = ap (λ (l : Journal). l.owed) e.log in omega (arith, more, now, sum, here);
+      limit = ap (λ (l : Journal). l.limit) e.log;
+      history = ap (λ (l : Journal). l.history) e.log;
     }
 
 -- the books after a lock was made
@@ -195,10 +181,9 @@ enters_init v t lock number new k ok e =
       files = e.files;
       sized = e.sized;
       room = e.room k.room;
-      owed = omega (arith, same, now, sum, e.owed);
-      reports = e.reports ∙ (k.reports ∙ sym (reports-quiet (entry t (Init lock) (Made number)) h refl));
-      log = e.log;
-      capacity = e.capacity;
+      owed = let here = ap (λ (l : Journal). l.owed) e.log in omega (arith, same, now, sum, here);
+      limit = ap (λ (l : Journal). l.limit) e.log;
+      history = ap (λ (l : Journal). l.history) e.log;
     }
 
 -- a check or an init whose growth may be refused
@@ -242,7 +227,7 @@ admitted v t lock made number k same ok =
     (rw (type-named lock accepted.names, accepted.class, accepted.types) refl)))
 
 -- what a note needs: room in the sum and in the log, and a count that can rise
-pub note_owed : (v : Inside) (t : ℕ) (l : LockNo) → IsKept v → answer_of (story_in v) t (Note l) ≡ Ok Recorded → (q : Request) → (seat_at (state_in v.books) t).pending ≡ Some q → 0 < v.books.owed
+pub note_owed : (v : Inside) (t : ℕ) (l : LockNo) → IsKept v → answer_of (story_in v) t (Note l) ≡ Ok Recorded → (q : Request) → (seat_at (state_in v.books) t).pending ≡ Some q → 0 < v.books.log.owed
 note_owed v t l k ok q asked =
     let seat = (note_accepted (state_of (story_in v)) t l.0 Recorded ok).seat in
     let wants : pending t (history_in v) ≡ Some q =
@@ -252,7 +237,7 @@ note_owed v t l k ok q asked =
     let now = owed_now v t (Note l) Recorded k ok in
     omega arith
 
-pub unlock_owed : (v : Inside) (t : ℕ) (l : LockNo) (m : Mode) → IsKept v → answer_of (story_in v) t (Unlock l m) ≡ Ok Unlocked → 0 < v.books.owed
+pub unlock_owed : (v : Inside) (t : ℕ) (l : LockNo) (m : Mode) → IsKept v → answer_of (story_in v) t (Unlock l m) ≡ Ok Unlocked → 0 < v.books.log.owed
 unlock_owed v t l m k ok =
     let sane = sane_next v t (Unlock l m) Unlocked k ok in
     let held = unlock-held (start_in v) v.books.known.names.files (history_in v) t l.0 m Unlocked sane.1 (unlock_accepted (state_of (story_in v)) t l.0 m Unlocked ok) in
@@ -261,9 +246,18 @@ unlock_owed v t l m k ok =
     let now = owed_now v t (Unlock l m) Unlocked k ok in
     omega arith
 
--- while something is owed, the log has room
-pub log_room : (v : Inside) → IsKept v → 0 < v.books.owed → vec_len v.books.log < vec_capacity v.books.log
-log_room v k some = omega (arith, k.capacity)
+-- what an init and a check need: room in the log
+room_left : (v : Inside) (more : ℕ) → IsKept v → has_room (state_of (story_in v)) (more + 1) ≡ true
+    → length v.books.log.history + v.books.log.owed + more < v.books.log.limit
+room_left v more k room = let few = leb-true _ _ room in omega (arith, few, ap owed k.state, k.owed, k.limit)
+
+pub init_room : (v : Inside) (t : ℕ) (lock : NewLock) (number : LockNo) → IsKept v → answer_of (story_in v) t (Init lock) ≡ Ok (Made number)
+    → length v.books.log.history + v.books.log.owed < v.books.log.limit
+init_room v t lock number k ok = let room = room_left v 0 k (init_accepted (state_of (story_in v)) t lock (Made number) ok).room in omega (arith, room)
+
+pub check_room : (v : Inside) (t : ℕ) (q : Request) (r : Reply) → IsKept v → answer_of (story_in v) t (Check q) ≡ Ok r
+    → length v.books.log.history + v.books.log.owed + 2 < v.books.log.limit
+check_room v t q r k ok = room_left v 2 k (check_accepted (state_of (story_in v)) t q r ok).room
 
 can_rise : (l : ℕ) (c : List Instance) → ((i : Instance) → find (is_of l) c ≡ Some i → i.count + 1 ≤ 65535) → IsShallow l c
 can_rise l c bound = go (position (is_of l) c) refl
@@ -309,7 +303,7 @@ module _ (v : Inside) (sizes : Sizes) (lists : List (Vec (Class × String Global
       ∙ ap (λ (x : Known). record { sizes = sizes; lists = all_listed lists; blessed = x.blessed }) (ap known e.known ∙ begun.known))
 
   no_history : history_in v ≡ []
-  no_history = ap (λ (l : List Entry). reverse l) e.log
+  no_history = ap (λ (l : Journal). l.history) e.log
 
   no_files : v.books.known.names.files ≡ []
   no_files = ap (λ (x : Knowledge). x.names.files) e.known ∙ begun.files
@@ -321,20 +315,18 @@ module _ (v : Inside) (sizes : Sizes) (lists : List (Vec (Class × String Global
   state_begun =
       ap (λ (x : Sizes). record (state_in v.books) { sizes = x }) e.limits
       ∙ same_state sizes _ _ _ _ _ _ _ _ (ap (λ (l : List (List ℕ)). length l) no_files) (ap known e.known ∙ begun.known)
-      (free_seats v.books sizes k e) (ap (λ (l : List Entry). length l) e.log)
+      (free_seats v.books sizes k e) (ap (λ (l : Journal). length l.history) e.log)
 
   pub kept_begun : start_fault (start_of sizes lists blessed) ≡ None → IsKept v
   kept_begun accepted =
-      let len = ap (λ (l : List Entry). length l) e.log in
       let owes : owed (state_in v.books) ≡ 0 = ap owed state_begun ∙ owed_to-nil sizes.seats in
       record {
         started = subst (λ (s : Start). start_fault s ≡ None) (sym start_begun) accepted;
         legal = subst (λ (s : Story). IsLegal s.start s.files s.history) (sym story_begun) tt;
         state = state_begun ∙ ap state_of (sym story_begun);
         room = e.room;
-        owed = e.owed ∙ sym owes;
-        reports = e.reports ∙ ap (λ (s : Story). reports_of s.history) (sym story_begun);
-        capacity = omega (arith, len, v.books.log.ok.0, e.owed);
+        owed = ap (λ (l : Journal). l.owed) e.log ∙ sym owes;
+        limit = ap (λ (l : Journal). l.limit) e.log ∙ ap (λ (x : Sizes). x.log) (sym e.limits);
         sized = subst (λ (x : Sizes). IsSized x.types v.books.known) (sym e.limits) (subst (IsSized sizes.types) (sym e.known) begun.sized);
       }
 
@@ -373,8 +365,7 @@ kept_file v name (Ok f) new k entered same =
       state = ap (λ (s : State). record s { files = length (files_after name v.books.known.names.files) }) k.state;
       room = k.room;
       owed = k.owed;
-      reports = k.reports;
-      capacity = k.capacity;
+      limit = k.limit;
       sized = record { names = k.sized.names; files = k.sized.files; orders = k.sized.orders };
     })
 kept_file v name (Err fault) new k entered same = subst (λ n. IsKept (with_files v n)) (sym same) k

@@ -1,18 +1,13 @@
 -- What the invariant of a verifier gives, and how each call keeps it.
-use Rattle.std.proofs.Common.{◌≡◌, ℕ, ◌+◌, ◌<◌, ◌≤◌, List, [], ◌∷◌, ◌++◌, None, Ok, Result, length, reverse, vec_len, refl, sym, ap, ap₂, ◌∙◌, subst, arith}
-use Rattle.std.specs.Vec.{vec_capacity}
-use Rattle.std.proofs.lemmas.List.{length-reverse, reverse-append}
-use Rattle.std.proofs.lemmas.List.Sums.{count_by-le-length}
+use Rattle.std.proofs.Common.{◌≡◌, ℕ, ◌<◌, ◌≤◌, List, ◌∷◌, None, Ok, Result, length, refl, sym, ap, ap₂, ◌∙◌, subst, arith}
 use Rattle.wit_model.specs.declared.faults.Fault.{Fault}
 use Rattle.wit_model.specs.declared.calls.Call.{Call}
 use Rattle.wit_model.specs.declared.calls.Reply.{Reply}
 use Rattle.wit_model.specs.declared.calls.Entry.{Entry}
 use Rattle.wit_model.specs.Rules.Sizes.{Sizes}
-use Rattle.wit_model.specs.Rules.History.{is_report, reports_of}
 use Rattle.wit_model.specs.Rules.State.{Start, Story, State, state_of, owed, orders_of}
 use Rattle.wit_model.specs.Rules.Step.{answer_of, story_after, step, logged, IsLegal}
 use Rattle.wit_model.proofs.Chains.Seats.{entry}
-use Rattle.wit_model.proofs.Chains.Owed.{few_legal}
 use Rattle.wit_model.proofs.Orders.Types.{types_legal, locks_legal}
 use Rattle.wit_model.proofs.Histories.Legal.{seat-within, seat_accepted}
 use Rattle.wit_model.proofs.Orders.Once.{distinct_legal}
@@ -24,24 +19,15 @@ use Rattle.wit_core.specs.declared.verifier.Verifier.TheInside.{Inside}
 use Rattle.wit_core.specs.declared.books.Books.{Books}
 use Rattle.wit_core.specs.Knowledge.{IsSized, KeepsSizes}
 use Rattle.wit_core.specs.Books.{HasSums, AllHaveRoom, StaysSame, state_in}
+use Rattle.wit_core.specs.Journal.{Journal}
 use Rattle.wit_core.specs.Kept.{IsKept, start_in, history_in, story_in}
 
 -- the sums, and the limits that they keep
 pub sums : (v : Inside) → IsKept v → HasSums v.books
 sums v k =
-    let few = few_legal (start_in v) v.books.known.names.files (history_in v) k.legal in
-    let same = ap owed k.state in
-    let len = length-reverse v.books.log.items in
     let locks = locks_legal (start_in v) v.books.known.names.files (history_in v) k.legal in
     let locks_same = ap (λ (s : State). length s.known.locks) k.state in
-    let told = count_by-le-length (λ (e : Entry). is_report e.reply) (history_in v) in
-    record {
-      owed = k.owed;
-      fits = omega (arith, few, same, len, k.owed);
-      locks = omega (arith, locks, locks_same);
-      reports = omega (arith, told, len, k.reports);
-      sized = k.sized;
-    }
+    record { owed = k.owed; limit = k.limit; locks = omega (arith, locks, locks_same); sized = k.sized }
 
 -- types are within their limit
 pub types_few : (v : Inside) → IsKept v → length v.books.known.names.types ≤ v.books.limits.types
@@ -58,20 +44,15 @@ answered v t call r k e = sym (e ∙ ap (λ s. step s t call) k.state)
 pub seat_in : (v : Inside) (t : ℕ) (call : Call) (r : Reply) → IsKept v → answer_of (story_in v) t call ≡ Ok r → (0 < t) × (t ≤ v.books.limits.seats)
 seat_in v t call r k ok = seat-within (start_in v) v.books.known.names.files (history_in v) t (seat_accepted (state_of (story_in v)) t call r ok)
 
--- the history once the log has one more
-history_more : (old new : List Entry) (e : Entry) → new ≡ old ++ e ∷ [] → reverse new ≡ e ∷ reverse old
-history_more old new e same = ap reverse same ∙ reverse-append old (e ∷ [])
-
 -- the books after an accepted call
 pub record Enters (v : Inside) (t : ℕ) (call : Call) (reply : Reply) (new : Books) : Type 0 where
   pub state : state_in new ≡ state_of (story_after (start_in v) v.books.known.names.files (entry t call reply ∷ history_in v))
   pub files : new.known.names.files ≡ v.books.known.names.files
   pub sized : KeepsSizes v.books.known new.known
   pub room : AllHaveRoom new
-  pub owed : new.owed ≡ owed (state_in new)
-  pub reports : new.reports ≡ reports_of (entry t call reply ∷ history_in v)
-  pub log : new.log.items ≡ v.books.log.items ++ entry t call reply ∷ []
-  pub capacity : vec_len new.log + new.owed ≤ vec_capacity new.log
+  pub owed : new.log.owed ≡ owed (state_in new)
+  pub limit : new.log.limit ≡ v.books.log.limit
+  pub history : new.log.history ≡ entry t call reply ∷ history_in v
 
 with_books : Inside → Books → Inside
 with_books v new = record v { books = new }
@@ -100,8 +81,7 @@ same_story s s' f f' h h' es ef eh = ap (λ x. story x f h) es ∙ (ap (λ x. st
 pub story_entered : (v : Inside) (t : ℕ) (call : Call) (reply : Reply) (new : Books) → Enters v t call reply new
     → story_in (record v { books = new }) ≡ logged (story_in v) t call reply
 story_entered v t call reply new e =
-    same_story _ _ _ _ _ _ (start_same v new _ e.state refl refl) e.files
-    (history_more v.books.log.items new.log.items (entry t call reply) e.log)
+    same_story _ _ _ _ _ _ (start_same v new _ e.state refl refl) e.files e.history
 
 -- and keeps its invariant
 pub kept_entered : (v : Inside) (t : ℕ) (call : Call) (reply : Reply) (new : Books) → IsKept v → answer_of (story_in v) t call ≡ Ok reply → Enters v t call reply new
@@ -114,28 +94,25 @@ kept_entered v t call reply new k ok e =
       state = e.state ∙ ap state_of (sym same);
       room = e.room;
       owed = e.owed;
-      reports = e.reports ∙ ap (λ (s : Story). reports_of s.history) (sym same);
-      capacity = e.capacity;
+      limit = e.limit ∙ (k.limit ∙ sym (ap (λ (s : State). s.sizes.log) e.state));
       sized = sized_next v new _ k e.state refl e.sized;
     }
 
 -- where nothing has changed
 pub story_same : (v : Inside) (new : Books) → StaysSame v.books new → story_in (record v { books = new }) ≡ story_in v
 story_same v new e =
-    same_story _ _ _ _ _ _ (start_same v new _ e.state refl refl) e.files (ap reverse e.log)
+    same_story _ _ _ _ _ _ (start_same v new _ e.state refl refl) e.files (ap (λ (l : Journal). l.history) e.log)
 
 pub kept_same : (v : Inside) (new : Books) → IsKept v → StaysSame v.books new → IsKept (record v { books = new })
 kept_same v new k e =
     let same = story_same v new e in
-    let len = ap (λ (l : List Entry). length l) e.log in
     record {
       started = subst (λ (s : Story). start_fault s.start ≡ None) (sym same) k.started;
       legal = subst (λ (s : Story). IsLegal s.start s.files s.history) (sym same) k.legal;
       state = e.state ∙ (k.state ∙ ap state_of (sym same));
       room = e.room k.room;
-      owed = e.owed ∙ (k.owed ∙ ap owed (sym e.state));
-      reports = e.reports ∙ (k.reports ∙ ap (λ (s : Story). reports_of s.history) (sym same));
-      capacity = omega (arith, len, new.log.ok.0, v.books.log.ok.0, e.owed, e.capacity, k.capacity);
+      owed = ap (λ (l : Journal). l.owed) e.log ∙ (k.owed ∙ ap owed (sym e.state));
+      limit = ap (λ (l : Journal). l.limit) e.log ∙ (k.limit ∙ sym (ap (λ (s : State). s.sizes.log) e.state));
       sized = sized_next v new _ k e.state refl e.sized;
     }
 

@@ -1,5 +1,5 @@
 -- One look through a chain, newest first, and what the verdict makes of it.
-use Rattle.std.proofs.Common.{◌≡◌, ℕ, ◌+◌, ◌<◌, Bool, true, false, not, ◌&&◌, cond, is_some, List, [], ◌∷◌, ◌++◌, Option, None, Some, Result, Ok, Err, length, drop, get_or, find, reverse, refl, sym, ap, ap₂, ◌∙◌, true≢false}
+use Rattle.std.proofs.Common.{◌≡◌, ℕ, ◌+◌, ◌<◌, Bool, true, false, not, ◌&&◌, cond, is_some, List, [], ◌∷◌, Option, None, Some, Result, Ok, Err, length, drop, get_or, find, reverse, refl, sym, ap, ap₂, ◌∙◌, true≢false}
 use Rattle.std.specs.List.{last_or}
 use Rattle.std.specs.Option.{option_or}
 use Rattle.std.proofs.lemmas.List.{drop_more, reverse-append}
@@ -14,7 +14,7 @@ use Rattle.wit_model.specs.declared.calls.Reply.TheVariants.{Pass}
 use Rattle.wit_model.specs.Rules.Orders.{is_direct}
 use Rattle.wit_model.specs.Rules.State.{Seat, State, Known, is_seat, seat_at}
 use Rattle.wit_model.specs.Rules.Step.{is_deepest, with_room, is_pending, is_shareable, chain_for, held_by, step_check}
-use Rattle.wit_model.specs.Rules.Verdict.{is_exclusive, is_of, type_in, violates, judged, among, behind, verdict}
+use Rattle.wit_model.specs.Rules.Verdict.{is_exclusive, is_of, type_in, violates, judged, among, verdict}
 use Rattle.wit_model.specs.declared.locks.Class.{Class}
 use Rattle.wit_model.specs.Rules.Locks.{lock_at}
 use Rattle.wit_model.specs.Rules.Types.{is_spin}

@@ -1,7 +1,6 @@
 -- What a verifier keeps, as the rules speak of it.
-use Rattle.std.specs.Prelude.{ℕ, ◌+◌, ◌-◌, ◌<◌, ◌≤◌, ◌≡◌, Bool, true, false, List, [], ◌∷◌, ◌++◌, vec_len, map, length, Option, None, Some, Result, Ok, Err, nat_lt, nat_le, not, ◌&&◌, if◌then◌else◌}
+use Rattle.std.specs.Prelude.{ℕ, ◌+◌, ◌-◌, ◌≤◌, ◌≡◌, Bool, false, List, [], ◌∷◌, map, length, Option, None, Some, Result, Ok, Err, nat_le, not, ◌&&◌, if◌then◌else◌}
 use Rattle.std.specs.List.{All}
-use Rattle.std.specs.Vec.{vec_capacity}
 use Rattle.wit_model.specs.declared.faults.Fault.{Fault}
 use Rattle.wit_model.specs.declared.faults.Fault.TheVariants.{ClassMismatch, TypesFull, LocksFull, NotYet, LogFull}
 use Rattle.wit_model.specs.Rules.Types.{is_otherwise, is_enrolled, type_name_of, is_spin}
@@ -18,10 +17,8 @@ use Rattle.wit_model.specs.Rules.Locks.{lock_at}
 use Rattle.wit_model.specs.declared.calls.Request.{Request}
 use Rattle.wit_model.specs.declared.calls.Call.TheVariants.{Init, Check, Note, Unlock}
 use Rattle.wit_model.specs.Rules.Sizes.{Sizes}
-use Rattle.wit_model.specs.Rules.History.{is_report}
 use Rattle.wit_model.specs.Rules.State.{State, owed, has_room, no_seat}
 use Rattle.wit_core.specs.declared.books.Books.{Books}
-use Rattle.wit_core.specs.declared.seats.Seat.{Seat}
 use Rattle.wit_core.specs.declared.known.Knowledge.{Knowledge}
 use Rattle.wit_core.specs.Knowledge.{known, learnt, with_lock, IsSized, KeepsSizes}
 use Rattle.wit_core.specs.Rows.{seat_view, HasRoom, changed_at, asked_in, noted_in, unlocked_in}
@@ -34,15 +31,14 @@ state_in b = record {
   files = length b.known.names.files;
   known = known b.known;
   seats = map seat_view b.seats.items;
-  used = length b.log.items;
+  used = length b.log.history;
 }
 
--- the sum of what is owed is kept, and fits the log beside what it has; locks are within their limit, and types have room up to theirs
+-- the log owes what the rules say, up to its limit; locks are within their limit, and types have room up to theirs
 pub record HasSums (b : Books) : Type 0 where
-  pub owed : b.owed ≡ owed (state_in b)
-  pub fits : length b.log.items + b.owed ≤ b.limits.log
+  pub owed : b.log.owed ≡ owed (state_in b)
+  pub limit : b.log.limit ≡ b.limits.log
   pub locks : length b.known.locks.items ≤ b.limits.locks
-  pub reports : b.reports ≤ length b.log.items
   pub sized : IsSized b.limits.types b.known
 
 abbrev pub new_lock : List ℕ → Option (List ℕ) → Class → LockFlags → NewLock
@@ -85,9 +81,7 @@ pub record IsFresh (sizes : Sizes) (k : Knowledge) (b : Books) : Type 0 where
   pub count : length b.seats.items ≡ sizes.seats
   pub seats : All (λ s. seat_view s ≡ no_seat) b.seats.items
   pub room : AllHaveRoom b
-  pub owed : b.owed ≡ 0
-  pub reports : b.reports ≡ 0
-  pub log : b.log.items ≡ []
+  pub log : b.log ≡ record { limit = sizes.log; history = []; owed = 0; spare = b.log.spare }
 
 -- nothing that the rules speak of has changed, and no room is lost
 pub record StaysSame (old new : Books) : Type 0 where
@@ -95,36 +89,34 @@ pub record StaysSame (old new : Books) : Type 0 where
   pub files : new.known.names.files ≡ old.known.names.files
   pub sized : KeepsSizes old.known new.known
   pub room : AllHaveRoom old → AllHaveRoom new
-  pub owed : new.owed ≡ old.owed
-  pub reports : new.reports ≡ old.reports
-  pub log : new.log.items ≡ old.log.items
-  pub capacity : vec_capacity old.log ≤ vec_capacity new.log
+  pub log : new.log ≡ record old.log { spare = new.log.spare }
 
 -- a lock is entered
 pub record EntersInit (old : Books) (t : ℕ) (number : LockNo) (made logged : NewLock) (new : Books) : Type 0 where
-  pub state : state_in new ≡ record (state_in old) { known = with_lock (known old.known) made; used = length old.log.items + 1 }
+  pub state : state_in new ≡ record (state_in old) { known = with_lock (known old.known) made; used = length old.log.history + 1 }
   pub files : new.known.names.files ≡ old.known.names.files
   pub sized : KeepsSizes old.known new.known
   pub room : AllHaveRoom old → AllHaveRoom new
-  pub owed : new.owed ≡ old.owed
-  pub reports : new.reports ≡ old.reports
-  pub log : new.log.items ≡ old.log.items ++ record { seat = record { 0 = t }; call = Init logged; reply = Made number } ∷ []
-  pub capacity : vec_len new.log + new.owed ≤ vec_capacity new.log
+  pub log : new.log ≡ record old.log {
+    history = record { seat = record { 0 = t }; call = Init logged; reply = Made number } ∷ old.log.history;
+    spare = new.log.spare;
+  }
 
 -- a check is entered
 pub record EntersCheck (old : Books) (t : ℕ) (q : Request) (v : Verdict) (new : Books) : Type 0 where
   pub state : state_in new ≡ record (state_in old) {
     known = learnt (known old.known) v q.site;
     seats = changed_at (t - 1) (asked_in q) (state_in old).seats;
-    used = length old.log.items + 1;
+    used = length old.log.history + 1;
   }
   pub files : new.known.names.files ≡ old.known.names.files
   pub sized : KeepsSizes old.known new.known
   pub room : AllHaveRoom old → AllHaveRoom new
-  pub owed : new.owed ≡ old.owed + 2
-  pub reports : new.reports ≡ old.reports + (if is_report (reply_of v) then 1 else 0)
-  pub log : new.log.items ≡ old.log.items ++ record { seat = record { 0 = t }; call = Check q; reply = reply_of v } ∷ []
-  pub capacity : vec_len new.log + new.owed ≤ vec_capacity new.log
+  pub log : new.log ≡ record old.log {
+    history = record { seat = record { 0 = t }; call = Check q; reply = reply_of v } ∷ old.log.history;
+    owed = old.log.owed + 2;
+    spare = new.log.spare;
+  }
 
 -- whether a lock is of the spin kind
 abbrev pub spin_of : Books → ℕ → Bool
@@ -138,26 +130,26 @@ taken_by l q = record { lock = l; mode = q.mode; norelease = false; count = 0; s
 pub record EntersNote (old : Books) (t : ℕ) (l : LockNo) (q : Request) (new : Books) : Type 0 where
   pub state : state_in new ≡ record (state_in old) {
     seats = changed_at (t - 1) (noted_in (spin_of old l.0) (taken_by l q)) (state_in old).seats;
-    used = length old.log.items + 1;
+    used = length old.log.history + 1;
   }
   pub files : new.known.names.files ≡ old.known.names.files
   pub sized : KeepsSizes old.known new.known
   pub room : AllHaveRoom old → AllHaveRoom new
-  pub owed : new.owed + 1 ≡ old.owed
-  pub reports : new.reports ≡ old.reports
-  pub log : new.log.items ≡ old.log.items ++ record { seat = record { 0 = t }; call = Note l; reply = Recorded } ∷ []
-  pub capacity : vec_capacity new.log ≡ vec_capacity old.log
+  pub log : new.log ≡ record old.log {
+    history = record { seat = record { 0 = t }; call = Note l; reply = Recorded } ∷ old.log.history;
+    owed = old.log.owed - 1;
+  }
 
 -- a release is entered
 pub record EntersUnlock (old : Books) (t : ℕ) (l : LockNo) (m : Mode) (new : Books) : Type 0 where
   pub state : state_in new ≡ record (state_in old) {
     seats = changed_at (t - 1) (unlocked_in (spin_of old l.0) l.0) (state_in old).seats;
-    used = length old.log.items + 1;
+    used = length old.log.history + 1;
   }
   pub files : new.known.names.files ≡ old.known.names.files
   pub sized : KeepsSizes old.known new.known
   pub room : AllHaveRoom old → AllHaveRoom new
-  pub owed : new.owed + 1 ≡ old.owed
-  pub reports : new.reports ≡ old.reports
-  pub log : new.log.items ≡ old.log.items ++ record { seat = record { 0 = t }; call = Unlock l m; reply = Unlocked } ∷ []
-  pub capacity : vec_capacity new.log ≡ vec_capacity old.log
+  pub log : new.log ≡ record old.log {
+    history = record { seat = record { 0 = t }; call = Unlock l m; reply = Unlocked } ∷ old.log.history;
+    owed = old.log.owed - 1;
+  }

@@ -1,9 +1,11 @@
 pub mod Books
 pub mod Following
 pub mod Fresh
+pub mod Journal
 pub mod Kept
 pub mod Knowledge
 pub mod Listed
+pub mod Logged
 pub mod Numbered
 pub mod Related
 pub mod Rows

@@ -1,19 +1,19 @@
 //! What a verifier keeps, and its answers, which change nothing.
 
-ghost use Rattle.std.specs.Prelude.{◌≡◌, ◌<◌, ◌≤◌, ◌-◌, ◌==◌, length, map, vec_len, is_some, unwrap_or, IfSome, IfOk, IfErr, OnOk, OnErr};
+ghost use Rattle.std.specs.Prelude.{◌≡◌, ◌<◌, ◌≤◌, ◌-◌, ◌+◌, ◌==◌, length, map, is_some, unwrap_or, IfSome, IfOk, IfErr, OnOk, OnErr};
 ghost use Rattle.std.specs.List.{list_any, All};
 ghost use Rattle.std.specs.Option.{option_copied};
 ghost use Rattle.wit_model.specs.declared.calls.Reply.TheVariants.{Recorded, Unlocked};
 ghost use Rattle.wit_model.specs.declared.faults.Fault.TheVariants.{OutOfMemory};
 ghost use Rattle.wit_model.specs.Rules.Numbers.{is_given, with_number, is_number};
-ghost use Rattle.wit_model.specs.Rules.State.{has_room, no_seat, seat_at};
+ghost use Rattle.wit_model.specs.Rules.State.{no_seat, seat_at};
 ghost use Rattle.wit_model.specs.Rules.Step.{step_init, step_check, step_note, step_unlock, is_not_yet, is_good_name, released};
 ghost use Rattle.wit_core.specs.Books.{new_lock, lock_answer, type_fault, made_reply, done_reply};
-ghost use Rattle.std.specs.Vec.{vec_capacity};
 ghost use Rattle.wit_core.specs.Rows.{seat_view, HasRoom, HasSpaceAt, IsShallowAt, IsFreeAt};
 ghost use Rattle.wit_core.specs.Verdicts.{replied, reply_of};
 
 use crate::known::{Knowledge, class_of, held};
+use crate::log::Log;
 use crate::names::{is_enrolled, type_number};
 use crate::seats::{Seat, ask_at, make_room_at, note_at, unlock_at};
 use crate::verdicts::Verdict;
@@ -30,11 +30,7 @@ pub struct Books {
     pub limits: Limits,
     pub known: Knowledge,
     pub seats: Vec<Seat>,
-    /// The log entries that the seats will still need.
-    pub owed: u32,
-    /// How many reports the log has.
-    pub reports: u32,
-    pub log: Vec<Entry>,
+    pub log: Log,
 }
 
 impl Books {
@@ -81,7 +77,7 @@ impl Books {
         if self.is_not_yet(type_name, class, flags) {
             return Err(Fault::NotYet);
         }
-        if !self.has_room(1) {
+        if !self.log.has_room(1) {
             return Err(Fault::LogFull);
         }
         Ok(LockNo(locks as u32 + 1))
@@ -134,7 +130,7 @@ impl Books {
             return Err(Fault::Pending);
         }
         let verdict = self.known.verdict(request, row.chain(class.is_spin()))?;
-        if !self.has_room(3) {
+        if !self.log.has_room(3) {
             return Err(Fault::LogFull);
         }
         Ok(verdict)
@@ -183,20 +179,11 @@ impl Books {
     {
         0 < file.0 && file.0 as usize <= self.known.names.files()
     }
-
-    // Whether the log has room for this many entries beside those that are owed.
-    fn has_room(&self, more: u32) -> bool
-        requires sums { HasSums self.now }
-        requires few { more < 10 }
-        ensures { result ≡ has_room (state_in self.now) more }
-    {
-        self.log.len() + self.owed as usize + more as usize <= self.limits.log() as usize
-    }
 }
 
 impl Books {
     ghost use Rattle.wit_core.specs.Knowledge.{known, IsApt, IsAdmitted};
-    ghost use Rattle.wit_core.specs.Books.{HasSums, IsFresh, EntersInit, EntersCheck, EntersNote, EntersUnlock, StaysSame, spin_of};
+    ghost use Rattle.wit_core.specs.Books.{IsFresh, EntersInit, EntersCheck, EntersNote, EntersUnlock, StaysSame, spin_of};
 
     /// Books in which nothing has happened, with what is known from the start.
     ///
@@ -210,9 +197,7 @@ impl Books {
             limits,
             known: from_start,
             seats,
-            owed: 0,
-            reports: 0,
-            log: Vec::new(alloc),
+            log: Log::new(alloc, limits.log()),
         })
     }
 
@@ -227,19 +212,20 @@ impl Books {
         made: NewLock,
         logged: Boxed<NewLock>,
     ) -> Result<(), Fault>
-        requires sums { HasSums self.old }
+        requires room { length self.old.log.history + self.old.log.owed < self.old.log.limit }
         requires admitted { IsAdmitted self.old.known made }
         ensures ok { OnOk result (EntersInit self.old seat.0 number made logged self.new) }
         ensures err { OnErr result (StaysSame self.old self.new) }
         ensures memory { IfErr result (λ e. e ≡ OutOfMemory) }
     {
-        self.log.reserve(self.owed as usize + 1)?;
+        self.log.reserve(1)?;
         self.known.add_lock(made)?;
-        self.log.push_reserved(Entry {
+        let entry = Entry {
             seat,
             call: Call::Init(logged),
             reply: Reply::Made(number),
-        });
+        };
+        self.log.push(entry, 0);
         Ok(())
     }
 
@@ -254,7 +240,7 @@ impl Books {
         request: Request,
         verdict: Verdict,
     ) -> Result<Reply, AllocError>
-        requires sums { HasSums self.old }
+        requires room { length self.old.log.history + self.old.log.owed + 2 < self.old.log.limit }
         requires seat { (0 < seat.0) × (seat.0 ≤ length self.old.seats.items) }
         requires apt { IsApt self.old.known.orders.size (known self.old.known) verdict }
         ensures ok { IfOk result (λ reply. (reply ≡ reply_of verdict) × EntersCheck self.old seat.0 request verdict self.new) }
@@ -263,30 +249,25 @@ impl Books {
         let reply = verdict.reply(alloc)?;
         let kept = verdict.reply(alloc)?;
         let place = seat.0 as usize - 1;
-        self.log.reserve(self.owed as usize + 3)?;
+        self.log.reserve(3)?;
         make_room_at(&mut self.seats, place)?;
         self.known.learn(verdict, request.site)?;
         ask_at(&mut self.seats, place, request);
-        self.owed += 2;
-        if verdict.is_report() {
-            self.reports += 1;
-        }
-        self.log.push_reserved(Entry {
+        let entry = Entry {
             seat,
             call: Call::Check(request),
             reply: kept,
-        });
+        };
+        self.log.push(entry, 2);
         Ok(reply)
     }
 
     /// Enters the note of a lock's pending request. It takes no memory.
     pub fn enter_note(&mut self, seat: SeatNo, lock: LockNo, request: Request)
-        requires sums { HasSums self.old }
         requires seat { (0 < seat.0) × (seat.0 ≤ length self.old.seats.items) }
         requires room { HasSpaceAt (seat.0 - 1) self.old.seats.items }
         requires shallow { IsShallowAt (seat.0 - 1) (spin_of self.old lock.0) lock.0 self.old.seats.items }
-        requires log { vec_len self.old.log < vec_capacity self.old.log }
-        requires owed { 0 < self.old.owed }
+        requires owed { 0 < self.old.log.owed }
         ensures { EntersNote self.old seat.0 lock request self.new }
     {
         let spin = class_of(&self.known.locks, lock).is_spin();
@@ -298,8 +279,7 @@ impl Books {
             site: request.site,
         };
         note_at(&mut self.seats, seat.0 as usize - 1, spin, taken);
-        self.owed -= 1;
-        self.log.push_reserved(Entry {
+        self.log.push_owed(Entry {
             seat,
             call: Call::Note(lock),
             reply: Reply::Recorded,
@@ -308,17 +288,14 @@ impl Books {
 
     /// Enters a release. It takes no memory.
     pub fn enter_unlock(&mut self, seat: SeatNo, lock: LockNo, mode: Mode)
-        requires sums { HasSums self.old }
         requires seat { (0 < seat.0) × (seat.0 ≤ length self.old.seats.items) }
         requires free { IsFreeAt (seat.0 - 1) self.old.seats.items }
-        requires log { vec_len self.old.log < vec_capacity self.old.log }
-        requires owed { 0 < self.old.owed }
+        requires owed { 0 < self.old.log.owed }
         ensures { EntersUnlock self.old seat.0 lock mode self.new }
     {
         let spin = class_of(&self.known.locks, lock).is_spin();
         unlock_at(&mut self.seats, seat.0 as usize - 1, spin, lock);
-        self.owed -= 1;
-        self.log.push_reserved(Entry {
+        self.log.push_owed(Entry {
             seat,
             call: Call::Unlock(lock, mode),
             reply: Reply::Unlocked,

@@ -4,6 +4,7 @@
 mod books;
 mod known;
 mod lists;
+mod log;
 mod names;
 mod orders;
 mod seats;

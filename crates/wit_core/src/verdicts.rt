@@ -1,7 +1,6 @@
 //! What the rules of a check come to.
 
 ghost use Rattle.std.specs.Prelude.{◌≡◌, IfOk};
-ghost use Rattle.wit_model.specs.Rules.History.{is_report};
 ghost use Rattle.wit_core.specs.Verdicts.{reply_of};
 
 use std::alloc::{AllocError, Global};
@@ -21,16 +20,6 @@ pub enum Verdict {
 }
 
 impl Verdict {
-    /// Whether it is to be reported.
-    pub fn is_report(self) -> bool
-        ensures { result ≡ is_report (reply_of self) }
-    {
-        match self {
-            Verdict::Reversal(_) => true,
-            _ => false,
-        }
-    }
-
     /// The reply that tells it.
     ///
     /// # Errors

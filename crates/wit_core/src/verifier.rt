@@ -209,14 +209,14 @@ impl Verifier {
         ensures accepted { start_fault self.now.start ≡ None }
         ensures legal { IsLegal self.now.start self.now.files self.now.history }
     {
-        &self.books.log
+        self.books.log.entries()
     }
 
     /// How many reports the log has.
     pub fn reports(&self) -> u32
         ensures { result ≡ reports_of self.now.history }
     {
-        self.books.reports
+        self.books.log.reports()
     }
 
     /// How much is watched.

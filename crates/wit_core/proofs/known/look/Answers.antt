@@ -1,7 +1,6 @@
 use Rattle.std.proofs.Common.{◌-◌, ◌∙◌, refl, arith}
 use Rattle.wit_model.specs.Rules.Verdict.{is_of, violates}
 use Rattle.wit_core.specs.Knowledge.{known_by}
-use Rattle.wit_core.specs.Verdicts.{breaks}
 use Rattle.wit_core.proofs.Looking.{first-found, last-found}
 use Rattle.wit_core.proofs.known.look.Goals as goal
 

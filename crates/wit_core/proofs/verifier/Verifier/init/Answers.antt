@@ -2,14 +2,16 @@ use Rattle.std.specs.Option.{option_copied}
 use Rattle.wit_core.specs.Books.{new_lock}
 use Rattle.wit_model.specs.declared.calls.Call.TheVariants.{Init}
 use Rattle.wit_core.proofs.Keeping.{sums, answered}
-use Rattle.wit_core.proofs.Calls.{kept_init, admitted}
+use Rattle.wit_core.proofs.Calls.{init_room, kept_init, admitted}
 use Rattle.wit_core.proofs.verifier.Verifier.init.Goals as goal
 
 pub answer_init-requires : goal.answer_init-requires
 answer_init-requires c = sums c.self.inside c.self.invariant
 
-pub enter_init-requires-clause-sums : goal.enter_init-requires-clause-sums
-enter_init-requires-clause-sums c = sums c.self.inside c.self.invariant
+pub enter_init-requires-clause-room : goal.enter_init-requires-clause-room
+enter_init-requires-clause-room c =
+    init_room c.self.inside c.args.seat.0 (new_lock c.args.name.now (option_copied c.args.type_name) c.args.class c.args.flags) c.in_ok-lock.lock c.self.invariant
+    (answered c.self.inside c.args.seat.0 (Init (new_lock c.args.name.now (option_copied c.args.type_name) c.args.class c.args.flags)) _ c.self.invariant c.in_ok-lock.ensures)
 
 pub enter_init-requires-clause-admitted : goal.enter_init-requires-clause-admitted
 enter_init-requires-clause-admitted c =

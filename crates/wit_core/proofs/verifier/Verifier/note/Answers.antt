@@ -1,12 +1,9 @@
 use Rattle.std.proofs.Common.{Ok}
 use Rattle.wit_model.specs.declared.calls.Call.TheVariants.{Note}
 use Rattle.wit_model.specs.declared.calls.Reply.TheVariants.{Recorded}
-use Rattle.wit_core.proofs.Keeping.{sums, answered, story_entered, kept_entered}
-use Rattle.wit_core.proofs.Calls.{note_owed, log_room, note_shallow, enters_note}
+use Rattle.wit_core.proofs.Keeping.{answered, story_entered, kept_entered}
+use Rattle.wit_core.proofs.Calls.{note_owed, note_shallow, enters_note}
 use Rattle.wit_core.proofs.verifier.Verifier.note.Goals as goal
-
-pub enter_note-requires-clause-sums : goal.enter_note-requires-clause-sums
-enter_note-requires-clause-sums c = sums c.self.inside c.self.invariant
 
 pub enter_note-requires-clause-shallow : goal.enter_note-requires-clause-shallow
 enter_note-requires-clause-shallow c =
@@ -17,11 +14,6 @@ pub enter_note-requires-clause-owed : goal.enter_note-requires-clause-owed
 enter_note-requires-clause-owed c =
     note_owed c.self.inside c.args.seat.0 c.args.lock c.self.invariant
     (answered c.self.inside c.args.seat.0 (Note c.args.lock) (Ok Recorded) c.self.invariant c.in_ok-request.ensures.answer) c.in_ok-request.request c.in_ok-request.ensures.request
-
-pub enter_note-requires-clause-log : goal.enter_note-requires-clause-log
-enter_note-requires-clause-log c =
-    log_room c.self.inside c.self.invariant (note_owed c.self.inside c.args.seat.0 c.args.lock c.self.invariant
-    (answered c.self.inside c.args.seat.0 (Note c.args.lock) (Ok Recorded) c.self.invariant c.in_ok-request.ensures.answer) c.in_ok-request.request c.in_ok-request.ensures.request)
 
 pub invariant_of-self : goal.invariant_of-self
 invariant_of-self c =

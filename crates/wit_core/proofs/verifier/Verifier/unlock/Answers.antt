@@ -1,17 +1,9 @@
 use Rattle.std.proofs.Common.{Ok}
 use Rattle.wit_model.specs.declared.calls.Call.TheVariants.{Unlock}
 use Rattle.wit_model.specs.declared.calls.Reply.TheVariants.{Unlocked}
-use Rattle.wit_core.proofs.Keeping.{sums, answered, kept_entered}
-use Rattle.wit_core.proofs.Calls.{enters_unlock, unlock_owed, log_room}
+use Rattle.wit_core.proofs.Keeping.{answered, kept_entered}
+use Rattle.wit_core.proofs.Calls.{enters_unlock, unlock_owed}
 use Rattle.wit_core.proofs.verifier.Verifier.unlock.Goals as goal
-
-pub enter_unlock-requires-clause-sums : goal.enter_unlock-requires-clause-sums
-enter_unlock-requires-clause-sums c = sums c.self.inside c.self.invariant
-
-pub enter_unlock-requires-clause-log : goal.enter_unlock-requires-clause-log
-enter_unlock-requires-clause-log c =
-    log_room c.self.inside c.self.invariant (unlock_owed c.self.inside c.args.seat.0 c.args.lock c.args.mode c.self.invariant
-    (answered c.self.inside c.args.seat.0 (Unlock c.args.lock c.args.mode) (Ok Unlocked) c.self.invariant c.in_ok-answer_unlock.ensures))
 
 pub enter_unlock-requires-clause-owed : goal.enter_unlock-requires-clause-owed
 enter_unlock-requires-clause-owed c =
