@@ -5,6 +5,8 @@ use Rattle.std.proofs.lemmas.Bool.{and_parts, ltb-true, leb-true}
 use Rattle.wit_model.specs.declared.faults.Fault.{Fault}
 use Rattle.wit_model.specs.declared.faults.Fault.TheVariants.{OutOfMemory}
 use Rattle.wit_model.specs.declared.locks.TypeNo.{TypeNo}
+use Rattle.wit_model.specs.declared.locks.LockType.{LockType}
+use Rattle.wit_model.specs.declared.calls.Adoption.{Adoption}
 use Rattle.wit_model.specs.declared.calls.Request.{Request}
 use Rattle.wit_model.specs.declared.calls.Call.TheVariants.{Check}
 use Rattle.wit_model.specs.Rules.Numbers.{is_given, IsNumber}
@@ -19,64 +21,64 @@ use Rattle.wit_model.proofs.Histories.Accepted.{check_accepted}
 use Rattle.wit_model.proofs.Orders.Among.{adopted-orderly, silent-known, reversal-known, orders-among}
 use Rattle.wit_matrix.specs.Relation.{OrdersAmong, LeadsBy}
 use Rattle.wit_core.specs.declared.verifier.Verifier.TheInside.{Inside}
-use Rattle.wit_core.specs.declared.verdicts.Verdict.{Verdict}
-use Rattle.wit_core.specs.declared.verdicts.Verdict.TheVariants.{Pass, Adopt, Silent, Reversal}
-use Rattle.wit_core.specs.Verdicts.{reply_of}
-use Rattle.wit_core.specs.Knowledge.{known, IsApt}
+use Rattle.wit_core.specs.declared.verdict.Verdict.{Verdict}
+use Rattle.wit_core.specs.declared.verdict.Verdict.TheVariants.{Pass, Adopt, Silent, Reversal}
+use Rattle.wit_core.specs.Verdict.{reply_of}
+use Rattle.wit_core.specs.Known.{IsApt}
 use Rattle.wit_core.specs.Kept.{IsKept, start_in, history_in, story_in}
 use Rattle.wit_core.proofs.Keeping.{types_few}
 
 module _ (v : Inside) (k : IsKept v) where
-  known-is : known v.books.known ≡ known_of (start_in v) (history_in v)
+  known-is : v.books.known.known ≡ known_of (start_in v) (history_in v)
   known-is = ap (λ (s : State). s.known) k.state
 
   -- a known type's number is one of the matrix's
-  number : (t : ℕ) → IsNumber (length (types_of (start_in v) (history_in v))) t → IsNumber v.books.known.orders.size t
+  number : (t : ℕ) → IsNumber (length (types_of (start_in v) (history_in v))) t → IsNumber v.books.known.most_types t
   number t is =
       let few = types_few v k in
       let same = ap (λ (x : Known). length x.types) known-is in
-      let size = k.sized.orders in
+      let size = k.types in
       (is.0, omega (arith, is.1, few, same, size))
 
-  pub given-number : (t : ℕ) (r : Bool) → r ≡ is_given v.books.known.names.types t → r ≡ true → IsNumber v.books.known.orders.size t
-  given-number t r is yes' =
-      let parts = and_parts (nat_lt 0 t) (nat_le t (length v.books.known.names.types)) (sym is ∙ yes') in
+  pub given-number : (types : List LockType) (size t : ℕ) (r : Bool) → types ≡ v.books.known.known.types → size ≡ v.books.known.most_types
+      → r ≡ is_given types t → r ≡ true → IsNumber size t
+  given-number types size t r same size_is is yes' =
+      let parts = and_parts (nat_lt 0 t) (nat_le t (length types)) (sym is ∙ yes') in
       let some = ltb-true 0 t parts.0 in
-      let within = leb-true t (length v.books.known.names.types) parts.1 in
+      let within = leb-true t (length types) parts.1 in
+      let count = ap (λ (ts : List LockType). length ts) same in
       let few = types_few v k in
-      let size = k.sized.orders in
-      (omega (arith, some), omega (arith, within, few, size))
+      let most = k.types in
+      (omega (arith, some), omega (arith, within, count, few, most, size_is))
 
-  among : OrdersAmong (length (types_of (start_in v) (history_in v))) v.books.known.orders.orders
+  among : OrdersAmong (length (types_of (start_in v) (history_in v))) v.books.known.known.orders
   among = λ a b direct.
-      orders-among (start_in v) v.books.known.names.files (history_in v) k.legal a b (ap (λ (x : Known). is_direct x.orders a b) (sym known-is) ∙ direct)
+      orders-among (start_in v) v.books.known.files (history_in v) k.legal a b (ap (λ (x : Known). is_direct x.orders a b) (sym known-is) ∙ direct)
 
-  -- the path is that of the history's orders
-  pub path-kept : (a b : ℕ) (r : Result (Option (Vec TypeNo)) Fault)
-      → IfOk r (λ p. (types : ℕ) → OrdersAmong types v.books.known.orders.orders → path_numbers p ≡ path v.books.known.orders.orders types a b)
+  -- the path is that of the history's orders, it leads there, and want of memory stands only in place of a path
+  pub path-kept : (os : List Adoption) (a b : ℕ) (r : Result (Option (Vec TypeNo)) Fault) → os ≡ v.books.known.known.orders
+      → IfOk r (λ p. (types : ℕ) → OrdersAmong types os → path_numbers p ≡ path os types a b)
       → IfOk r (λ p. path_numbers p ≡ path (orders_of (start_in v) (history_in v)) (length (types_of (start_in v) (history_in v))) a b)
-  path-kept a b (Ok p) told =
-      told (length (types_of (start_in v) (history_in v))) among
-      ∙ ap (λ (x : Known). path x.orders (length (types_of (start_in v) (history_in v))) a b) known-is
-  path-kept a b (Err fault) told = tt
+  path-kept os a b (Ok p) is told =
+      told (length (types_of (start_in v) (history_in v))) (subst (OrdersAmong (length (types_of (start_in v) (history_in v)))) (sym is) among)
+      ∙ (ap (λ ps. path ps (length (types_of (start_in v) (history_in v))) a b) (is ∙ ap (λ (x : Known). x.orders) known-is))
+  path-kept os a b (Err fault) is told = tt
 
-  -- it leads there
-  pub leads-kept : (a b : ℕ) (r : Result (Option (Vec TypeNo)) Fault) → IfOk r (λ p. IfSome (path_numbers p) (LeadsBy v.books.known.orders.orders a b))
-      → IfOk r (λ p. IfSome (path_numbers p) (LeadsBy (orders_of (start_in v) (history_in v)) a b))
-  leads-kept a b r told = subst (λ os. IfOk r (λ p. IfSome (path_numbers p) (LeadsBy os a b))) (ap (λ (x : Known). x.orders) known-is) told
+  pub leads-kept : (os : List Adoption) (a b : ℕ) (r : Result (Option (Vec TypeNo)) Fault) → os ≡ v.books.known.known.orders
+      → IfOk r (λ p. IfSome (path_numbers p) (LeadsBy os a b)) → IfOk r (λ p. IfSome (path_numbers p) (LeadsBy (orders_of (start_in v) (history_in v)) a b))
+  leads-kept os a b r is told = subst (λ ps. IfOk r (λ p. IfSome (path_numbers p) (LeadsBy ps a b))) (is ∙ ap (λ (x : Known). x.orders) known-is) told
 
-  -- want of memory stands only in place of a path
-  pub wanting-kept : (a b : ℕ) (r : Result (Option (Vec TypeNo)) Fault) → IfErr r (λ e. (e ≡ OutOfMemory) × (is_before v.books.known.orders.orders a b ≡ true))
-      → IfErr r (λ e. (e ≡ OutOfMemory) × Before (orders_of (start_in v) (history_in v)) a b)
-  wanting-kept a b (Ok p) told = tt
-  wanting-kept a b (Err fault) told =
-      (told.0, before_from_test (orders_of (start_in v) (history_in v)) a b (sym (ap (λ (x : Known). is_before x.orders a b) known-is) ∙ told.1))
+  pub wanting-kept : (os : List Adoption) (a b : ℕ) (r : Result (Option (Vec TypeNo)) Fault) → os ≡ v.books.known.known.orders
+      → IfErr r (λ e. (e ≡ OutOfMemory) × (is_before os a b ≡ true)) → IfErr r (λ e. (e ≡ OutOfMemory) × Before (orders_of (start_in v) (history_in v)) a b)
+  wanting-kept os a b (Ok p) is told = tt
+  wanting-kept os a b (Err fault) is told =
+      (told.0, before_from_test (orders_of (start_in v) (history_in v)) a b (sym (ap (λ ps. is_before ps a b) (is ∙ ap (λ (x : Known). x.orders) known-is)) ∙ told.1))
 
   -- what an accepted check's verdict teaches can be learnt
-  pub apt : (t : ℕ) (q : Request) (verdict : Verdict) → answer_of (story_in v) t (Check q) ≡ Ok (reply_of verdict) → IsApt v.books.known.orders.size (known v.books.known) verdict
+  pub apt : (t : ℕ) (q : Request) (verdict : Verdict) → answer_of (story_in v) t (Check q) ≡ Ok (reply_of verdict) → IsApt v.books.known.most_types v.books.known.known verdict
   apt t q Pass ok = tt
   apt t q (Adopt p c) ok =
-      let o = adopted-orderly (start_in v) v.books.known.names.files (history_in v) t q p c k.legal (check_accepted (state_of (story_in v)) t q _ ok) in
+      let o = adopted-orderly (start_in v) v.books.known.files (history_in v) t q p c k.legal (check_accepted (state_of (story_in v)) t q _ ok) in
       record {
         parent = number p.0 o.parent;
         child = number c.0 o.child;
@@ -84,11 +86,11 @@ module _ (v : Inside) (k : IsKept v) where
         orderly = ap (λ (x : Known). is_before x.orders c.0 p.0) known-is ∙ o.orderly;
       }
   apt t q (Silent a b) ok =
-      let o = silent-known (start_in v) v.books.known.names.files (history_in v) t q a b k.legal (check_accepted (state_of (story_in v)) t q _ ok) in
+      let o = silent-known (start_in v) v.books.known.files (history_in v) t q a b k.legal (check_accepted (state_of (story_in v)) t q _ ok) in
       (number a.0 o.0, number b.0 o.1)
   apt t q (Reversal x) ok =
-      let o = reversal-known (start_in v) v.books.known.names.files (history_in v) t q x k.legal (check_accepted (state_of (story_in v)) t q _ ok) in
-      let locks : v.books.known.locks.items ≡ typed_locks (start_in v) (history_in v) = ap (λ (y : Known). y.locks) known-is in (
-        subst (λ (ls : List Lock). IsNumber v.books.known.orders.size (lock_at ls x.held.lock.0).type_no.0) (sym locks) (number _ o.0),
-        subst (λ (ls : List Lock). IsNumber v.books.known.orders.size (lock_at ls x.asked.lock.0).type_no.0) (sym locks) (number _ o.1),
+      let o = reversal-known (start_in v) v.books.known.files (history_in v) t q x k.legal (check_accepted (state_of (story_in v)) t q _ ok) in
+      let locks : v.books.known.known.locks ≡ typed_locks (start_in v) (history_in v) = ap (λ (y : Known). y.locks) known-is in (
+        subst (λ (ls : List Lock). IsNumber v.books.known.most_types (lock_at ls x.held.lock.0).type_no.0) (sym locks) (number _ o.0),
+        subst (λ (ls : List Lock). IsNumber v.books.known.most_types (lock_at ls x.asked.lock.0).type_no.0) (sym locks) (number _ o.1),
       )

@@ -1,5 +1,5 @@
 -- Each call keeps the invariant of a verifier.
-use Rattle.std.proofs.Common.{◌≡◌, ℕ, ◌+◌, ◌-◌, ◌<◌, ◌≤◌, ◌&&◌, ◌⊎◌, inl, inr, Bool, true, false, cond, List, [], ◌∷◌, ◌++◌, Option, None, Some, Ok, Err, Result, IsOk, IfOk, IfErr, OnOk, OnErr, String, length, map, find, unwrap_or, get_or, refl, sym, ap, ap₂, ◌∙◌, subst, arith, is_some}
+use Rattle.std.proofs.Common.{◌≡◌, ℕ, ◌+◌, ◌-◌, ◌<◌, ◌≤◌, ◌&&◌, Bool, true, false, cond, List, [], ◌∷◌, ◌++◌, Option, None, Some, Ok, Err, Result, IsOk, IfOk, IfErr, OnOk, OnErr, String, length, map, find, unwrap_or, get_or, refl, sym, ap, ap₂, ◌∙◌, subst, arith, is_some}
 use Rattle.std.proofs.lemmas.List.{length-map}
 use Rattle.std.specs.List.{position, range_with_len, AllByRecursion}
 use Rattle.std.proofs.lemmas.List.Elements.{recursion_from_All}
@@ -29,7 +29,7 @@ use Rattle.wit_model.specs.Rules.Refusals.{IsRefusal}
 use Rattle.wit_model.specs.declared.locks.Watch.TheVariants.{On}
 use Rattle.wit_model.specs.Rules.Start.{start_fault}
 use Rattle.wit_model.specs.Rules.Files.{is_known_file, file_answer, files_after, NamesFile}
-use Rattle.wit_table.specs.Known.{Names, enroll_answer, with_file}
+use Rattle.wit_table.specs.Known.{enroll_answer}
 use Rattle.wit_model.specs.Rules.State.{Start, Story, fresh, State, Known, types_of, state_of, seats_of, seat_of, owed, has_room, is_seat, seat_at, no_seat}
 use Rattle.wit_model.specs.Rules.Step.{answer_of, story_after, is_pending, is_good_name, chain_for, IsLegal}
 use Rattle.wit_model.specs.Rules.Verdict.{is_of}
@@ -46,12 +46,11 @@ use Rattle.wit_model.proofs.Chains.Stands.{found-at}
 use Rattle.wit_core.specs.declared.verifier.Verifier.TheInside.{Inside}
 use Rattle.wit_core.specs.declared.books.Books.{Books}
 use Rattle.wit_core.specs.declared.seats.Seat as program
-use Rattle.wit_core.specs.declared.verdicts.Verdict.{Verdict}
-use Rattle.wit_core.specs.Verdicts.{reply_of}
+use Rattle.wit_core.specs.declared.verdict.Verdict.{Verdict}
+use Rattle.wit_core.specs.Verdict.{reply_of}
 use Rattle.std.specs.Global.{Vec, Global}
 use Rattle.wit_model.specs.declared.locks.Class.{Class}
-use Rattle.wit_core.specs.declared.known.Knowledge.{Knowledge}
-use Rattle.wit_core.specs.Knowledge.{known, learnt, with_lock, IsSized, IsAdmitted}
+use Rattle.wit_core.specs.Known.{Facts, learnt, with_lock, IsAdmitted}
 use Rattle.wit_core.specs.Listed.{all_listed, pairs_of}
 use Rattle.wit_core.specs.Fresh.{start_of}
 use Rattle.wit_core.specs.Rows.{seat_view, chain_in, changed_at, asked_in, noted_in, unlocked_in, CanRise, IsShallow, IsShallowAt}
@@ -68,7 +67,7 @@ spin_same v l k = ap (λ (s : State). is_spin (lock_at s.known.locks l).made.cla
 
 module _ (v : Inside) (t : ℕ) (call : Call) (reply : Reply) (k : IsKept v) (ok : answer_of (story_in v) t call ≡ Ok reply) where
   sane_next : IsSane (entry t call reply ∷ history_in v)
-  sane_next = sane_more (start_in v) v.books.known.names.files (history_in v) (entry t call reply) k.legal ok
+  sane_next = sane_more (start_in v) v.books.known.files (history_in v) (entry t call reply) k.legal ok
 
   owed_now : v.books.log.owed ≡ owed_to v.books.limits.seats (history_in v)
   owed_now = k.owed ∙ ap owed k.state
@@ -87,7 +86,7 @@ pub enters_note : (v : Inside) (t : ℕ) (l : LockNo) (q : Request) (new : Books
     → (seat_at (state_in v.books) t).pending ≡ Some q → EntersNote v.books t l q new → Enters v t (Note l) Recorded new
 enters_note v t l q new k ok asked e =
     let start = start_in v in
-    let files = v.books.known.names.files in
+    let files = v.books.known.files in
     let h = history_in v in
     let sane = sane_next v t (Note l) Recorded k ok in
     let within = seat_in v t (Note l) Recorded k ok in
@@ -102,7 +101,7 @@ enters_note v t l q new k ok asked e =
     record {
       state = state;
       files = e.files;
-      sized = e.sized;
+      types = e.types;
       room = e.room k.room;
       owed = let here = ap (λ (l : Journal). l.owed) e.log in omega (arith, less, now, sum, here);
       limit = ap (λ (l : Journal). l.limit) e.log;
@@ -114,7 +113,7 @@ pub enters_unlock : (v : Inside) (t : ℕ) (l : LockNo) (m : Mode) (new : Books)
     → EntersUnlock v.books t l m new → Enters v t (Unlock l m) Unlocked new
 enters_unlock v t l m new k ok e =
     let start = start_in v in
-    let files = v.books.known.names.files in
+    let files = v.books.known.files in
     let h = history_in v in
     let sane = sane_next v t (Unlock l m) Unlocked k ok in
     let within = seat_in v t (Unlock l m) Unlocked k ok in
@@ -128,7 +127,7 @@ enters_unlock v t l m new k ok e =
     record {
       state = state;
       files = e.files;
-      sized = e.sized;
+      types = e.types;
       room = e.room k.room;
       owed = let here = ap (λ (l : Journal). l.owed) e.log in omega (arith, less, now, sum, here);
       limit = ap (λ (l : Journal). l.limit) e.log;
@@ -140,11 +139,11 @@ pub enters_check : (v : Inside) (t : ℕ) (q : Request) (verdict : Verdict) (new
     → EntersCheck v.books t q verdict new → Enters v t (Check q) (reply_of verdict) new
 enters_check v t q verdict new k ok e =
     let start = start_in v in
-    let files = v.books.known.names.files in
+    let files = v.books.known.files in
     let h = history_in v in
     let sane = sane_next v t (Check q) (reply_of verdict) k ok in
     let within = seat_in v t (Check q) (reply_of verdict) k ok in
-    let G : State → State = λ s. record s { known = learnt s.known verdict q.site; seats = changed_at (t - 1) (asked_in q) s.seats; used = s.used + 1 } in
+    let G : State → State = λ s. record s { known = learnt s.known q (reply_of verdict); seats = changed_at (t - 1) (asked_in q) s.seats; used = s.used + 1 } in
     let state : state_in new ≡ state_of (story_after start files (entry t (Check q) (reply_of verdict) ∷ h)) =
     e.state ∙ (ap G k.state ∙ sym (state-check start files h t q verdict sane within.0 within.1)) in
     let accepted = check_accepted (state_of (story_in v)) t q (reply_of verdict) ok in
@@ -154,7 +153,7 @@ enters_check v t q verdict new k ok e =
     record {
       state = state;
       files = e.files;
-      sized = e.sized;
+      types = e.types;
       room = e.room k.room;
       owed = let here = ap (λ (l : Journal). l.owed) e.log in omega (arith, more, now, sum, here);
       limit = ap (λ (l : Journal). l.limit) e.log;
@@ -166,7 +165,7 @@ pub enters_init : (v : Inside) (t : ℕ) (lock : NewLock) (number : LockNo) (new
     → EntersInit v.books t number lock lock new → Enters v t (Init lock) (Made number) new
 enters_init v t lock number new k ok e =
     let start = start_in v in
-    let files = v.books.known.names.files in
+    let files = v.books.known.files in
     let h = history_in v in
     let sane = sane_next v t (Init lock) (Made number) k ok in
     let within = seat_in v t (Init lock) (Made number) k ok in
@@ -179,7 +178,7 @@ enters_init v t lock number new k ok e =
     record {
       state = state;
       files = e.files;
-      sized = e.sized;
+      types = e.types;
       room = e.room k.room;
       owed = let here = ap (λ (l : Journal). l.owed) e.log in omega (arith, same, now, sum, here);
       limit = ap (λ (l : Journal). l.limit) e.log;
@@ -220,9 +219,9 @@ pub admitted : (v : Inside) (t : ℕ) (lock made : NewLock) (number : LockNo) �
     → IsAdmitted v.books.known made
 admitted v t lock made number k same ok =
     let accepted = init_accepted (state_of (story_in v)) t lock (Made number) ok in
-    let types : v.books.known.names.types ≡ types_of (start_in v) (history_in v) = ap (λ (s : State). s.known.types) k.state in
+    let types : v.books.known.known.types ≡ types_of (start_in v) (history_in v) = ap (λ (s : State). s.known.types) k.state in
     subst (IsAdmitted v.books.known) (sym same)
-    (subst (λ n. IsOk (enroll_answer (type_name_of lock) lock.class n v.books.known.names.types)) (sym k.sized.names)
+    (subst (λ n. IsOk (enroll_answer (type_name_of lock) lock.class n v.books.known.known.types)) (sym k.types)
     (subst (λ ts. IsOk (enroll_answer (type_name_of lock) lock.class v.books.limits.types ts)) (sym types)
     (rw (type-named lock accepted.names, accepted.class, accepted.types) refl)))
 
@@ -231,7 +230,7 @@ pub note_owed : (v : Inside) (t : ℕ) (l : LockNo) → IsKept v → answer_of (
 note_owed v t l k ok q asked =
     let seat = (note_accepted (state_of (story_in v)) t l.0 Recorded ok).seat in
     let wants : pending t (history_in v) ≡ Some q =
-    sym (pending-state (start_in v) v.books.known.names.files (history_in v) t seat) ∙ (ap (λ (s : State). (seat_at s t).pending) (sym k.state) ∙ asked) in
+    sym (pending-state (start_in v) v.books.known.files (history_in v) t seat) ∙ (ap (λ (s : State). (seat_at s t).pending) (sym k.state) ∙ asked) in
     let within = seat_in v t (Note l) Recorded k ok in
     let less = owed-note v.books.limits.seats t l q (history_in v) (sane_next v t (Note l) Recorded k ok) within.0 within.1 wants in
     let now = owed_now v t (Note l) Recorded k ok in
@@ -240,7 +239,7 @@ note_owed v t l k ok q asked =
 pub unlock_owed : (v : Inside) (t : ℕ) (l : LockNo) (m : Mode) → IsKept v → answer_of (story_in v) t (Unlock l m) ≡ Ok Unlocked → 0 < v.books.log.owed
 unlock_owed v t l m k ok =
     let sane = sane_next v t (Unlock l m) Unlocked k ok in
-    let held = unlock-held (start_in v) v.books.known.names.files (history_in v) t l.0 m Unlocked sane.1 (unlock_accepted (state_of (story_in v)) t l.0 m Unlocked ok) in
+    let held = unlock-held (start_in v) v.books.known.files (history_in v) t l.0 m Unlocked sane.1 (unlock_accepted (state_of (story_in v)) t l.0 m Unlocked ok) in
     let within = seat_in v t (Unlock l m) Unlocked k ok in
     let less = owed-unlock v.books.limits.seats t l m Unlocked (history_in v) sane within.0 within.1 held.0 in
     let now = owed_now v t (Unlock l m) Unlocked k ok in
@@ -281,7 +280,7 @@ pub note_shallow : (v : Inside) (t : ℕ) (l : LockNo) → IsKept v → answer_o
 note_shallow v t l k ok = λ d.
     let within = seat_in v t (Note l) Recorded k ok in
     let same = chain_books v t l.0 d k within.0 within.1 in
-    can_rise l.0 _ (λ i found. note-count (start_in v) v.books.known.names.files (history_in v) t l.0 Recorded i k.legal
+    can_rise l.0 _ (λ i found. note-count (start_in v) v.books.known.files (history_in v) t l.0 Recorded i k.legal
     (note_accepted (state_of (story_in v)) t l.0 Recorded ok) (ap (find (is_of l.0)) (sym same) ∙ found))
 
 seats_alike : (seats : List program.Seat) (n : ℕ) → length seats ≡ n → AllByRecursion (λ s. seat_view s ≡ no_seat) seats → (a : ℕ)
@@ -290,23 +289,23 @@ seats_alike [] n count all a = ap (λ m. map (seat_of []) (range_with_len a m)) 
 seats_alike (s ∷ seats) n count all a =
     ap₂ (λ x xs. x ∷ xs) all.0 (seats_alike seats (length seats) refl all.1 (a + 1)) ∙ ap (λ m. map (seat_of []) (range_with_len a m)) count
 
-free_seats : (b : Books) (sizes : Sizes) (k : Knowledge) → IsFresh sizes k b → map seat_view b.seats.items ≡ seats_of sizes.seats []
+free_seats : (b : Books) (sizes : Sizes) (k : Facts) → IsFresh sizes k b → map seat_view b.seats.items ≡ seats_of sizes.seats []
 free_seats b sizes k e = seats_alike b.seats.items sizes.seats e.count (recursion_from_All (λ s. seat_view s ≡ no_seat) b.seats.items e.seats) 1
 
 -- a new verifier
-module _ (v : Inside) (sizes : Sizes) (lists : List (Vec (Class × String Global))) (blessed : List (String Global × String Global)) (k : Knowledge)
+module _ (v : Inside) (sizes : Sizes) (lists : List (Vec (Class × String Global))) (blessed : List (String Global × String Global)) (k : Facts)
     (e : IsFresh sizes k v.books) (same_lists : v.lists.items ≡ lists) (begun : IsBegun sizes (all_listed lists) (pairs_of blessed) k) where
   start_begun : start_in v ≡ start_of sizes lists blessed
   start_begun =
       ap (λ (x : Sizes). record (start_in v) { sizes = x }) e.limits
-      ∙ (ap (λ ls. record { sizes = sizes; lists = all_listed ls; blessed = v.books.known.names.blessed }) same_lists
-      ∙ ap (λ (x : Known). record { sizes = sizes; lists = all_listed lists; blessed = x.blessed }) (ap known e.known ∙ begun.known))
+      ∙ (ap (λ ls. record { sizes = sizes; lists = all_listed ls; blessed = v.books.known.known.blessed }) same_lists
+      ∙ ap (λ (x : Known). record { sizes = sizes; lists = all_listed lists; blessed = x.blessed }) (ap (λ (x : Facts). x.known) e.known ∙ begun.known))
 
   no_history : history_in v ≡ []
   no_history = ap (λ (l : Journal). l.history) e.log
 
-  no_files : v.books.known.names.files ≡ []
-  no_files = ap (λ (x : Knowledge). x.names.files) e.known ∙ begun.files
+  no_files : v.books.known.files ≡ []
+  no_files = ap (λ (x : Facts). x.files) e.known ∙ begun.files
 
   pub story_begun : story_in v ≡ fresh (start_of sizes lists blessed)
   story_begun = same_story _ _ _ _ _ _ start_begun no_files no_history
@@ -314,7 +313,7 @@ module _ (v : Inside) (sizes : Sizes) (lists : List (Vec (Class × String Global
   state_begun : state_in v.books ≡ state_of (fresh (start_of sizes lists blessed))
   state_begun =
       ap (λ (x : Sizes). record (state_in v.books) { sizes = x }) e.limits
-      ∙ same_state sizes _ _ _ _ _ _ _ _ (ap (λ (l : List (List ℕ)). length l) no_files) (ap known e.known ∙ begun.known)
+      ∙ same_state sizes _ _ _ _ _ _ _ _ (ap (λ (l : List (List ℕ)). length l) no_files) (ap (λ (x : Facts). x.known) e.known ∙ begun.known)
       (free_seats v.books sizes k e) (ap (λ (l : Journal). length l.history) e.log)
 
   pub kept_begun : start_fault (start_of sizes lists blessed) ≡ None → IsKept v
@@ -327,25 +326,23 @@ module _ (v : Inside) (sizes : Sizes) (lists : List (Vec (Class × String Global
         room = e.room;
         owed = ap (λ (l : Journal). l.owed) e.log ∙ sym owes;
         limit = ap (λ (l : Journal). l.limit) e.log ∙ ap (λ (x : Sizes). x.log) (sym e.limits);
-        sized = subst (λ (x : Sizes). IsSized x.types v.books.known) (sym e.limits) (subst (IsSized sizes.types) (sym e.known) begun.sized);
+        types = ap (λ (x : Facts). x.most_types) e.known ∙ (begun.types ∙ sym (ap (λ (x : Sizes). x.types) e.limits));
       }
 
--- a verifier to which a file was named
-abbrev pub with_files : Inside → Names → Inside
-with_files v names = record v { books = record v.books { known = record v.books.known { names = names } } }
+-- a verifier with this knowledge
+abbrev pub with_known : Inside → Facts → Inside
+with_known v new = record v { books = record v.books { known = new } }
 
 -- the story of a naming
-pub file_named : (v : Inside) (name : List ℕ) (r : Result FileNo Fault) (new : Names) → IsKept v
-    → IfOk r (λ f. file_answer name v.books.known.names.most_files v.books.known.names.files ≡ Ok f.0)
-    → OnOk r (new ≡ with_file v.books.known.names name)
-    → IfErr r (IsRefusal (file_answer name v.books.known.names.most_files v.books.known.names.files))
-    → IfErr r (λ e. e ≡ OutOfMemory → is_known_file name v.books.known.names.files ≡ false)
-    → OnErr r (new ≡ v.books.known.names)
-    → NamesFile (story_in v) name r (story_in (with_files v new))
-file_named v name (Ok f) new k ok entered err absent same =
-    (subst (λ most. file_answer name most v.books.known.names.files ≡ Ok f.0) k.sized.files ok, ap (λ n. story_in (with_files v n)) entered)
-file_named v name (Err fault) new k ok entered err absent same =
-    (subst (λ most. IsRefusal (file_answer name most v.books.known.names.files) fault) k.sized.files err, absent, ap (λ n. story_in (with_files v n)) same)
+pub file_named : (v : Inside) (name : List ℕ) (r : Result FileNo Fault) (new : Facts)
+    → IfOk r (λ f. file_answer name 65535 v.books.known.files ≡ Ok f.0)
+    → OnOk r (new ≡ record v.books.known { files = files_after name v.books.known.files })
+    → IfErr r (IsRefusal (file_answer name 65535 v.books.known.files))
+    → IfErr r (λ e. e ≡ OutOfMemory → is_known_file name v.books.known.files ≡ false)
+    → OnErr r (new ≡ v.books.known)
+    → NamesFile (story_in v) name r (story_in (with_known v new))
+file_named v name (Ok f) new ok entered err absent same = (ok, ap (λ n. story_in (with_known v n)) entered)
+file_named v name (Err fault) new ok entered err absent same = (err, absent, ap (λ n. story_in (with_known v n)) same)
 
 -- a naming that is accepted leaves the history legal
 files_legal : (start : Start) (h : List Entry) (old : List (List ℕ)) (name : List ℕ) → IsLegal start old h → IsLegal start (files_after name old) h
@@ -356,19 +353,19 @@ files_legal start h old name legal = go (is_known_file name old)
     go false = legal-named start old name h legal
 
 -- naming a file keeps the invariant
-pub kept_file : (v : Inside) (name : List ℕ) (r : Result FileNo Fault) (new : Names) → IsKept v
-    → OnOk r (new ≡ with_file v.books.known.names name) → OnErr r (new ≡ v.books.known.names) → IsKept (with_files v new)
+pub kept_file : (v : Inside) (name : List ℕ) (r : Result FileNo Fault) (new : Facts) → IsKept v
+    → OnOk r (new ≡ record v.books.known { files = files_after name v.books.known.files }) → OnErr r (new ≡ v.books.known) → IsKept (with_known v new)
 kept_file v name (Ok f) new k entered same =
-    subst (λ n. IsKept (with_files v n)) (sym entered) (record {
+    subst (λ n. IsKept (with_known v n)) (sym entered) (record {
       started = k.started;
-      legal = files_legal (start_in v) (history_in v) v.books.known.names.files name k.legal;
-      state = ap (λ (s : State). record s { files = length (files_after name v.books.known.names.files) }) k.state;
+      legal = files_legal (start_in v) (history_in v) v.books.known.files name k.legal;
+      state = ap (λ (s : State). record s { files = length (files_after name v.books.known.files) }) k.state;
       room = k.room;
       owed = k.owed;
       limit = k.limit;
-      sized = record { names = k.sized.names; files = k.sized.files; orders = k.sized.orders };
+      types = k.types;
     })
-kept_file v name (Err fault) new k entered same = subst (λ n. IsKept (with_files v n)) (sym same) k
+kept_file v name (Err fault) new k entered same = subst (λ n. IsKept (with_known v n)) (sym same) k
 
 -- watching is on as long as no call turns it down
 pub watch_on : (h : List Entry) → On ≡ watch_of h

@@ -12,11 +12,10 @@ use Rattle.wit_model.specs.declared.calls.Adoption.{Adoption}
 use Rattle.wit_model.specs.Rules.Types.{enrolled_all}
 use Rattle.wit_model.specs.Rules.Orders.{listed_pairs}
 use Rattle.wit_model.proofs.Orders.Started.{list_accepted}
-use Rattle.wit_model.specs.Rules.State.{Start, Known}
+use Rattle.wit_model.specs.Rules.State.{Start}
 use Rattle.wit_model.specs.Rules.Start.{numbered, list_fault, lists_fault, has_bad_pair, blessed_fault, start_fault, IsAcceptedTo, IsRefused}
 use Rattle.wit_model.specs.Rules.Sizes.{Sizes}
-use Rattle.wit_core.specs.declared.known.Knowledge.{Knowledge}
-use Rattle.wit_core.specs.Knowledge.{known, nothing, IsSized}
+use Rattle.wit_core.specs.Known.{Facts, nothing}
 use Rattle.wit_core.specs.Fresh.{start_of}
 use Rattle.wit_core.specs.Listed.{listed, all_listed, pairs_of, with_list, with_lists, AreRefused}
 
@@ -85,11 +84,11 @@ module _ (lists : List (Vec (Class × String Global))) (most i : ℕ) (a : Vec (
       ))
       why)
 
-  pub known-step : (k next whole : Known) → next ≡ with_list k (listed items)
-      → with_lists k (all_listed (drop i lists)) ≡ whole → with_lists next (all_listed (drop (i + 1) lists)) ≡ whole
-  known-step k next whole next_is was =
-      ap (λ x. with_lists x (all_listed (drop (i + 1) lists))) next_is
-      ∙ (ap (λ ls. with_lists k ls) (sym here) ∙ was)
+  pub known-step : (old next whole : Facts) → next ≡ record old { known = with_list old.known (listed items) }
+      → record old { known = with_lists old.known (all_listed (drop i lists)) } ≡ whole → record next { known = with_lists next.known (all_listed (drop (i + 1) lists)) } ≡ whole
+  known-step old next whole next_is was =
+      ap (λ (x : Facts). record x { known = with_lists x.known (all_listed (drop (i + 1) lists)) }) next_is
+      ∙ (ap (λ ls. record old { known = with_lists old.known ls }) (sym here) ∙ was)
 
 -- a refusal of the lists refuses the start
 pub start-refused : (start : Start) (number : ℕ) (fault : Fault) → AreRefused (lists_fault start.sizes.types 1 start.lists [] []) start.lists number fault → IsRefused start number fault
@@ -129,24 +128,25 @@ start-unmade start fault out = inr (out, (omega arith, any (start_fault start)))
     any (Some e) = ⊎_elim (λ (lt : 0 < e.0). inl lt) (λ (le : e.0 ≤ 0). inr (omega arith)) (cases_lt 0 e.0)
 
 -- what is known before anything has happened
-pub record IsBegun (sizes : Sizes) (lists : List (List (Class × List ℕ))) (blessed : List (List ℕ × List ℕ)) (k : Knowledge) : Type 0 where
-  pub known : known k ≡ with_lists (record nothing { blessed = blessed }) lists
-  pub files : k.names.files ≡ []
-  pub sized : IsSized sizes.types k
+pub record IsBegun (sizes : Sizes) (lists : List (List (Class × List ℕ))) (blessed : List (List ℕ × List ℕ)) (k : Facts) : Type 0 where
+  pub known : k.known ≡ with_lists (record nothing { blessed = blessed }) lists
+  pub files : k.files ≡ []
+  pub types : k.most_types ≡ sizes.types
 
 -- what `new` finds once the lists are entered, and where they are refused
-module _ (sizes : Sizes) (most : ℕ) (lists passed_lists : List (Vec (Class × String Global))) (blessed passed_pairs : List (String Global × String Global)) (old : Knowledge)
-    (most_is : most ≡ sizes.types) (lists_are : passed_lists ≡ lists) (pairs_are : passed_pairs ≡ blessed) (old_is : known old ≡ nothing) where
-  same-answer : lists_fault most 1 (all_listed passed_lists) old.names.types old.orders.orders ≡ lists_fault sizes.types 1 (all_listed lists) [] []
+module _ (sizes : Sizes) (most : ℕ) (lists passed_lists : List (Vec (Class × String Global))) (blessed passed_pairs : List (String Global × String Global)) (old : Facts)
+    (most_is : most ≡ sizes.types) (lists_are : passed_lists ≡ lists) (pairs_are : passed_pairs ≡ blessed)
+    (old_is : old ≡ record { known = nothing; files = []; most_types = most }) where
+  same-answer : lists_fault most 1 (all_listed passed_lists) old.known.types old.known.orders ≡ lists_fault sizes.types 1 (all_listed lists) [] []
   same-answer =
-      ap (λ m. lists_fault m 1 (all_listed passed_lists) old.names.types old.orders.orders) most_is
-      ∙ (ap (λ ls. lists_fault sizes.types 1 (all_listed ls) old.names.types old.orders.orders) lists_are
-      ∙ ap (λ (k : Known). lists_fault sizes.types 1 (all_listed lists) k.types k.orders) old_is)
+      ap (λ m. lists_fault m 1 (all_listed passed_lists) old.known.types old.known.orders) most_is
+      ∙ (ap (λ ls. lists_fault sizes.types 1 (all_listed ls) old.known.types old.known.orders) lists_are
+      ∙ ap (λ (k : Facts). lists_fault sizes.types 1 (all_listed lists) k.known.types k.known.orders) old_is)
 
-  lists-accepted : lists_fault most 1 (all_listed passed_lists) old.names.types old.orders.orders ≡ None → lists_fault sizes.types 1 (all_listed lists) [] [] ≡ None
+  lists-accepted : lists_fault most 1 (all_listed passed_lists) old.known.types old.known.orders ≡ None → lists_fault sizes.types 1 (all_listed lists) [] [] ≡ None
   lists-accepted none = sym same-answer ∙ none
 
-  pub lists-refused : (number : ℕ) (fault : Fault) → AreRefused (lists_fault most 1 (all_listed passed_lists) old.names.types old.orders.orders) (all_listed passed_lists) number fault
+  pub lists-refused : (number : ℕ) (fault : Fault) → AreRefused (lists_fault most 1 (all_listed passed_lists) old.known.types old.known.orders) (all_listed passed_lists) number fault
       → IsRefused (start_of sizes lists blessed) number fault
   lists-refused number fault refused =
       start-refused (start_of sizes lists blessed) number fault
@@ -154,7 +154,7 @@ module _ (sizes : Sizes) (most : ℕ) (lists passed_lists : List (Vec (Class × 
       (subst (λ o. AreRefused o (all_listed passed_lists) number fault) same-answer refused))
 
   -- the blessed pairs are refused
-  pub pairs-refused : (fault : Fault) → lists_fault most 1 (all_listed passed_lists) old.names.types old.orders.orders ≡ None
+  pub pairs-refused : (fault : Fault) → lists_fault most 1 (all_listed passed_lists) old.known.types old.known.orders ≡ None
       → ((fault ≡ BadName) × (has_bad_pair (pairs_of passed_pairs) ≡ true)) ⊎ (fault ≡ OutOfMemory) → IsRefused (start_of sizes lists blessed) 0 fault
   pairs-refused fault none why =
       ⊎_elim
@@ -164,20 +164,20 @@ module _ (sizes : Sizes) (most : ℕ) (lists passed_lists : List (Vec (Class × 
       why
 
   -- all are accepted
-  pub all-accepted : lists_fault most 1 (all_listed passed_lists) old.names.types old.orders.orders ≡ None → has_bad_pair (pairs_of passed_pairs) ≡ false
+  pub all-accepted : lists_fault most 1 (all_listed passed_lists) old.known.types old.known.orders ≡ None → has_bad_pair (pairs_of passed_pairs) ≡ false
       → start_fault (start_of sizes lists blessed) ≡ None
   all-accepted none good = start-accepted (start_of sizes lists blessed) (lists-accepted none) (ap (λ ps. has_bad_pair (pairs_of ps)) (sym pairs_are) ∙ good)
 
-  pub is-begun : (entered new : Knowledge) → old.names.files ≡ [] → known entered ≡ with_lists (known old) (all_listed passed_lists) → entered.names.files ≡ old.names.files → IsSized most entered
-      → new ≡ record entered { names = record entered.names { blessed = entered.names.blessed ++ pairs_of passed_pairs } }
+  pub is-begun : (entered new : Facts) → entered ≡ record old { known = with_lists old.known (all_listed passed_lists) }
+      → new ≡ record entered { known = record entered.known { blessed = entered.known.blessed ++ pairs_of passed_pairs } }
       → IsBegun sizes (all_listed lists) (pairs_of blessed) new
-  is-begun entered new none known_is files sized new_is =
-      let here : known entered ≡ with_lists nothing (all_listed lists) =
-      known_is ∙ (ap (λ ls. with_lists (known old) (all_listed ls)) lists_are ∙ ap (λ k. with_lists k (all_listed lists)) old_is) in
+  is-begun entered new entered_is new_is =
+      let here : entered ≡ record { known = with_lists nothing (all_listed lists); files = []; most_types = most } =
+      entered_is ∙ (ap (λ ls. record old { known = with_lists old.known (all_listed ls) }) lists_are
+      ∙ ap (λ (k : Facts). record k { known = with_lists k.known (all_listed lists) }) old_is) in
       subst (IsBegun sizes (all_listed lists) (pairs_of blessed)) (sym new_is) (record {
-        known = ap (λ (k : Known). record k { blessed = k.blessed ++ pairs_of passed_pairs }) here
+        known = ap (λ (k : Facts). record k.known { blessed = k.known.blessed ++ pairs_of passed_pairs }) here
             ∙ ap (λ ps. with_lists (record nothing { blessed = pairs_of ps }) (all_listed lists)) pairs_are;
-        files = files ∙ none;
-        sized = subst (λ n. IsSized n (record entered { names = record entered.names { blessed = entered.names.blessed ++ pairs_of passed_pairs } })) most_is
-            (record { names = sized.names; files = sized.files; orders = sized.orders });
+        files = ap (λ (k : Facts). k.files) here;
+        types = ap (λ (k : Facts). k.most_types) here ∙ most_is;
       })

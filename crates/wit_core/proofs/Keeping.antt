@@ -17,7 +17,6 @@ use Rattle.wit_model.specs.Rules.Start.{start_fault}
 use Rattle.wit_model.specs.Rules.Orders.{AreDistinct, IsSound}
 use Rattle.wit_core.specs.declared.verifier.Verifier.TheInside.{Inside}
 use Rattle.wit_core.specs.declared.books.Books.{Books}
-use Rattle.wit_core.specs.Knowledge.{IsSized, KeepsSizes}
 use Rattle.wit_core.specs.Books.{HasSums, AllHaveRoom, StaysSame, state_in}
 use Rattle.wit_core.specs.Journal.{Journal}
 use Rattle.wit_core.specs.Kept.{IsKept, start_in, history_in, story_in}
@@ -25,14 +24,14 @@ use Rattle.wit_core.specs.Kept.{IsKept, start_in, history_in, story_in}
 -- the sums, and the limits that they keep
 pub sums : (v : Inside) → IsKept v → HasSums v.books
 sums v k =
-    let locks = locks_legal (start_in v) v.books.known.names.files (history_in v) k.legal in
+    let locks = locks_legal (start_in v) v.books.known.files (history_in v) k.legal in
     let locks_same = ap (λ (s : State). length s.known.locks) k.state in
-    record { owed = k.owed; limit = k.limit; locks = omega (arith, locks, locks_same); sized = k.sized }
+    record { owed = k.owed; limit = k.limit; locks = omega (arith, locks, locks_same); types = k.types }
 
 -- types are within their limit
-pub types_few : (v : Inside) → IsKept v → length v.books.known.names.types ≤ v.books.limits.types
+pub types_few : (v : Inside) → IsKept v → length v.books.known.known.types ≤ v.books.limits.types
 types_few v k =
-    let few = types_legal (start_in v) v.books.known.names.files (history_in v) (types_started (start_in v) k.started) k.legal in
+    let few = types_legal (start_in v) v.books.known.files (history_in v) (types_started (start_in v) k.started) k.legal in
     let same = ap (λ (s : State). length s.known.types) k.state in
     omega (arith, few, same)
 
@@ -42,13 +41,13 @@ answered v t call r k e = sym (e ∙ ap (λ s. step s t call) k.state)
 
 -- an accepted call's seat is one of the books
 pub seat_in : (v : Inside) (t : ℕ) (call : Call) (r : Reply) → IsKept v → answer_of (story_in v) t call ≡ Ok r → (0 < t) × (t ≤ v.books.limits.seats)
-seat_in v t call r k ok = seat-within (start_in v) v.books.known.names.files (history_in v) t (seat_accepted (state_of (story_in v)) t call r ok)
+seat_in v t call r k ok = seat-within (start_in v) v.books.known.files (history_in v) t (seat_accepted (state_of (story_in v)) t call r ok)
 
 -- the books after an accepted call
 pub record Enters (v : Inside) (t : ℕ) (call : Call) (reply : Reply) (new : Books) : Type 0 where
-  pub state : state_in new ≡ state_of (story_after (start_in v) v.books.known.names.files (entry t call reply ∷ history_in v))
-  pub files : new.known.names.files ≡ v.books.known.names.files
-  pub sized : KeepsSizes v.books.known new.known
+  pub state : state_in new ≡ state_of (story_after (start_in v) v.books.known.files (entry t call reply ∷ history_in v))
+  pub files : new.known.files ≡ v.books.known.files
+  pub types : new.known.most_types ≡ v.books.known.most_types
   pub room : AllHaveRoom new
   pub owed : new.log.owed ≡ owed (state_in new)
   pub limit : new.log.limit ≡ v.books.log.limit
@@ -63,12 +62,6 @@ start_same : (v : Inside) (new : Books) (s : State) → state_in new ≡ s → s
 start_same v new s e sizes blessed =
     ap₂ (λ (x : Sizes) (b : List (List ℕ × List ℕ)). record (start_in v) { sizes = x; blessed = b })
     (ap (λ (x : State). x.sizes) e ∙ sizes) (ap (λ (x : State). x.known.blessed) e ∙ blessed)
-
--- there is room for as many types as before
-sized_next : (v : Inside) (new : Books) (s : State) → IsKept v → state_in new ≡ s → s.sizes ≡ v.books.limits → KeepsSizes v.books.known new.known
-    → IsSized new.limits.types new.known
-sized_next v new s k e sizes keeps =
-    subst (λ (x : Sizes). IsSized x.types new.known) (sym (ap (λ (x : State). x.sizes) e ∙ sizes)) (keeps v.books.limits.types k.sized)
 
 -- a story by its parts
 abbrev pub story : Start → List (List ℕ) → List Entry → Story
@@ -95,7 +88,7 @@ kept_entered v t call reply new k ok e =
       room = e.room;
       owed = e.owed;
       limit = e.limit ∙ (k.limit ∙ sym (ap (λ (s : State). s.sizes.log) e.state));
-      sized = sized_next v new _ k e.state refl e.sized;
+      types = e.types ∙ (k.types ∙ sym (ap (λ (s : State). s.sizes.types) e.state));
     }
 
 -- where nothing has changed
@@ -113,13 +106,13 @@ kept_same v new k e =
       room = e.room k.room;
       owed = ap (λ (l : Journal). l.owed) e.log ∙ (k.owed ∙ ap owed (sym e.state));
       limit = ap (λ (l : Journal). l.limit) e.log ∙ (k.limit ∙ sym (ap (λ (s : State). s.sizes.log) e.state));
-      sized = sized_next v new _ k e.state refl e.sized;
+      types = e.types ∙ (k.types ∙ sym (ap (λ (s : State). s.sizes.types) e.state));
     }
 
 -- no type is before itself
 pub sound_kept : (v : Inside) → IsKept v → IsSound (orders_of (start_in v) (history_in v))
-sound_kept v k = sound_legal (start_in v) v.books.known.names.files (history_in v) (sound_started (start_in v) k.started) k.legal
+sound_kept v k = sound_legal (start_in v) v.books.known.files (history_in v) (sound_started (start_in v) k.started) k.legal
 
 -- no order stands twice
 pub distinct_kept : (v : Inside) → IsKept v → AreDistinct (orders_of (start_in v) (history_in v))
-distinct_kept v k = distinct_legal (start_in v) v.books.known.names.files (history_in v) k.legal
+distinct_kept v k = distinct_legal (start_in v) v.books.known.files (history_in v) k.legal

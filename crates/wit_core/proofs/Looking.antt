@@ -20,7 +20,7 @@ use Rattle.wit_model.specs.Rules.Locks.{lock_at}
 use Rattle.wit_model.specs.Rules.Types.{is_spin}
 use Rattle.wit_model.specs.Rules.Numbers.{is_given, is_number}
 use Rattle.wit_core.specs.Rows.{chain_in}
-use Rattle.wit_core.specs.Verdicts.{shallow}
+use Rattle.wit_core.specs.Verdict.{shallow}
 
 module _ (p : Instance → Bool) (c : List Instance) (i n : ℕ) (x d : Instance) (found : Option Instance) (lt : i < length c) (next : n ≡ i + 1) (is : x ≡ get_or c i d) where
   -- the first from the front, once one more is looked at

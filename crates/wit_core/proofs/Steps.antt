@@ -23,10 +23,9 @@ use Rattle.wit_model.proofs.Chains.After.{noted, unlocked}
 use Rattle.wit_model.proofs.Chains.Seats.{entry, seat_after, seat_after-init, seat_after-check, seat_after-note, seat_after-unlock, seats_of-entry, get_or-seats_of}
 use Rattle.wit_model.proofs.Chains.Stands.{stands, stands-chain, found-nowhere}
 use Rattle.wit_model.proofs.Chains.Edits.{noted-again, noted-new, unlocked-fewer, unlocked-gone}
-use Rattle.wit_core.specs.declared.verdicts.Verdict.{Verdict}
-use Rattle.wit_core.specs.declared.verdicts.Verdict.TheVariants.{Pass, Adopt, Silent, Reversal}
-use Rattle.wit_core.specs.Verdicts.{reply_of}
-use Rattle.wit_core.specs.Knowledge.{learnt, with_lock}
+use Rattle.wit_core.specs.declared.verdict.Verdict.{Verdict}
+use Rattle.wit_core.specs.Verdict.{reply_of}
+use Rattle.wit_core.specs.Known.{learnt, with_lock}
 use Rattle.wit_core.specs.Rows.{recorded, recorded_at, released, released_at, released_once, no_instance, changed_at, asked_in, noted_in, unlocked_in}
 use Rattle.wit_core.specs.Books.{taken_by}
 
@@ -41,14 +40,6 @@ same_state sizes f f' k k' ss ss' u u' ef ek es eu =
 
 same_locks : (k : Known) (locks : List Lock) → locks ≡ k.locks → record k { locks = locks } ≡ k
 same_locks k locks e = ap (λ (ls : List Lock). record k { locks = ls }) e
-
--- what is known after a check
-known-check : (start : Start) (h : List Entry) (t : ℕ) (q : Request) (v : Verdict)
-    → known_of start (entry t (Check q) (reply_of v) ∷ h) ≡ learnt (known_of start h) v q.site
-known-check start h t q Pass = same_locks (known_of start h) _ (append-nil (typed_locks start h))
-known-check start h t q (Adopt p c) = same_locks (learnt (known_of start h) (Adopt p c) q.site) _ (append-nil (typed_locks start h))
-known-check start h t q (Silent a b) = same_locks (learnt (known_of start h) (Silent a b) q.site) _ (append-nil (typed_locks start h))
-known-check start h t q (Reversal c) = same_locks (learnt (known_of start h) (Reversal c) q.site) _ (append-nil (typed_locks start h))
 
 -- the seat of an entry after it
 seats-entry : (n : ℕ) (x : Entry) (h : List Entry) (change : Seat → Seat) → IsSane (x ∷ h) → 0 < x.seat.0 → x.seat.0 ≤ n
@@ -76,12 +67,12 @@ pub state-check : (start : Start) (files : List (List ℕ)) (h : List Entry) (t 
     → 0 < t → t ≤ start.sizes.seats
     → state_of (story_after start files (entry t (Check q) (reply_of v) ∷ h))
     ≡ record (state_of (story_after start files h)) {
-      known = learnt (known_of start h) v q.site;
+      known = learnt (known_of start h) q (reply_of v);
       seats = changed_at (t - 1) (asked_in q) (seats_of start.sizes.seats h);
       used = length h + 1;
     }
 state-check start files h t q v sane some within =
-    same_state start.sizes (length files) (length files) _ _ _ _ _ _ refl (known-check start h t q v)
+    same_state start.sizes (length files) (length files) _ _ _ _ _ _ refl (same_locks (learnt (known_of start h) q (reply_of v)) _ (append-nil (typed_locks start h)))
     (seats-entry start.sizes.seats (entry t (Check q) (reply_of v)) h (asked_in q) sane some within (seat_after-check (locks_of h) t q (reply_of v) (seat_of h t)))
     (used-entry (entry t (Check q) (reply_of v)) h)
 

@@ -19,17 +19,16 @@ use Rattle.wit_model.specs.declared.calls.Call.TheVariants.{Init, Check, Note, U
 use Rattle.wit_model.specs.Rules.Sizes.{Sizes}
 use Rattle.wit_model.specs.Rules.State.{State, owed, has_room, no_seat}
 use Rattle.wit_core.specs.declared.books.Books.{Books}
-use Rattle.wit_core.specs.declared.known.Knowledge.{Knowledge}
-use Rattle.wit_core.specs.Knowledge.{known, learnt, with_lock, IsSized, KeepsSizes}
+use Rattle.wit_core.specs.Known.{Facts, learnt, with_lock}
 use Rattle.wit_core.specs.Rows.{seat_view, HasRoom, changed_at, asked_in, noted_in, unlocked_in}
-use Rattle.wit_core.specs.declared.verdicts.Verdict.{Verdict}
-use Rattle.wit_core.specs.Verdicts.{reply_of}
+use Rattle.wit_core.specs.declared.verdict.Verdict.{Verdict}
+use Rattle.wit_core.specs.Verdict.{reply_of}
 
 abbrev pub state_in : Books → State
 state_in b = record {
   sizes = b.limits;
-  files = length b.known.names.files;
-  known = known b.known;
+  files = length b.known.files;
+  known = b.known.known;
   seats = map seat_view b.seats.items;
   used = length b.log.history;
 }
@@ -38,8 +37,8 @@ state_in b = record {
 pub record HasSums (b : Books) : Type 0 where
   pub owed : b.log.owed ≡ owed (state_in b)
   pub limit : b.log.limit ≡ b.limits.log
-  pub locks : length b.known.locks.items ≤ b.limits.locks
-  pub sized : IsSized b.limits.types b.known
+  pub locks : length b.known.known.locks ≤ b.limits.locks
+  pub types : b.known.most_types ≡ b.limits.types
 
 abbrev pub new_lock : List ℕ → Option (List ℕ) → Class → LockFlags → NewLock
 new_lock name type_name class flags = record { class = class; flags = flags; name = name; type_name = type_name }
@@ -75,7 +74,7 @@ abbrev pub AllHaveRoom : Books → Type 0
 AllHaveRoom b = All HasRoom b.seats.items
 
 -- books in which nothing has happened, with what is known from the start
-pub record IsFresh (sizes : Sizes) (k : Knowledge) (b : Books) : Type 0 where
+pub record IsFresh (sizes : Sizes) (k : Facts) (b : Books) : Type 0 where
   pub limits : b.limits ≡ sizes
   pub known : b.known ≡ k
   pub count : length b.seats.items ≡ sizes.seats
@@ -86,16 +85,16 @@ pub record IsFresh (sizes : Sizes) (k : Knowledge) (b : Books) : Type 0 where
 -- nothing that the rules speak of has changed, and no room is lost
 pub record StaysSame (old new : Books) : Type 0 where
   pub state : state_in new ≡ state_in old
-  pub files : new.known.names.files ≡ old.known.names.files
-  pub sized : KeepsSizes old.known new.known
+  pub files : new.known.files ≡ old.known.files
+  pub types : new.known.most_types ≡ old.known.most_types
   pub room : AllHaveRoom old → AllHaveRoom new
   pub log : new.log ≡ record old.log { spare = new.log.spare }
 
 -- a lock is entered
 pub record EntersInit (old : Books) (t : ℕ) (number : LockNo) (made logged : NewLock) (new : Books) : Type 0 where
-  pub state : state_in new ≡ record (state_in old) { known = with_lock (known old.known) made; used = length old.log.history + 1 }
-  pub files : new.known.names.files ≡ old.known.names.files
-  pub sized : KeepsSizes old.known new.known
+  pub state : state_in new ≡ record (state_in old) { known = with_lock old.known.known made; used = length old.log.history + 1 }
+  pub files : new.known.files ≡ old.known.files
+  pub types : new.known.most_types ≡ old.known.most_types
   pub room : AllHaveRoom old → AllHaveRoom new
   pub log : new.log ≡ record old.log {
     history = record { seat = record { 0 = t }; call = Init logged; reply = Made number } ∷ old.log.history;
@@ -105,12 +104,12 @@ pub record EntersInit (old : Books) (t : ℕ) (number : LockNo) (made logged : N
 -- a check is entered
 pub record EntersCheck (old : Books) (t : ℕ) (q : Request) (v : Verdict) (new : Books) : Type 0 where
   pub state : state_in new ≡ record (state_in old) {
-    known = learnt (known old.known) v q.site;
+    known = learnt old.known.known q (reply_of v);
     seats = changed_at (t - 1) (asked_in q) (state_in old).seats;
     used = length old.log.history + 1;
   }
-  pub files : new.known.names.files ≡ old.known.names.files
-  pub sized : KeepsSizes old.known new.known
+  pub files : new.known.files ≡ old.known.files
+  pub types : new.known.most_types ≡ old.known.most_types
   pub room : AllHaveRoom old → AllHaveRoom new
   pub log : new.log ≡ record old.log {
     history = record { seat = record { 0 = t }; call = Check q; reply = reply_of v } ∷ old.log.history;
@@ -120,7 +119,7 @@ pub record EntersCheck (old : Books) (t : ℕ) (q : Request) (v : Verdict) (new 
 
 -- whether a lock is of the spin kind
 abbrev pub spin_of : Books → ℕ → Bool
-spin_of b l = is_spin (lock_at b.known.locks.items l).made.class
+spin_of b l = is_spin (lock_at b.known.known.locks l).made.class
 
 -- a new acquisition of a lock, as its request has it
 abbrev pub taken_by : LockNo → Request → Instance
@@ -132,8 +131,8 @@ pub record EntersNote (old : Books) (t : ℕ) (l : LockNo) (q : Request) (new : 
     seats = changed_at (t - 1) (noted_in (spin_of old l.0) (taken_by l q)) (state_in old).seats;
     used = length old.log.history + 1;
   }
-  pub files : new.known.names.files ≡ old.known.names.files
-  pub sized : KeepsSizes old.known new.known
+  pub files : new.known.files ≡ old.known.files
+  pub types : new.known.most_types ≡ old.known.most_types
   pub room : AllHaveRoom old → AllHaveRoom new
   pub log : new.log ≡ record old.log {
     history = record { seat = record { 0 = t }; call = Note l; reply = Recorded } ∷ old.log.history;
@@ -146,8 +145,8 @@ pub record EntersUnlock (old : Books) (t : ℕ) (l : LockNo) (m : Mode) (new : B
     seats = changed_at (t - 1) (unlocked_in (spin_of old l.0) l.0) (state_in old).seats;
     used = length old.log.history + 1;
   }
-  pub files : new.known.names.files ≡ old.known.names.files
-  pub sized : KeepsSizes old.known new.known
+  pub files : new.known.files ≡ old.known.files
+  pub types : new.known.most_types ≡ old.known.most_types
   pub room : AllHaveRoom old → AllHaveRoom new
   pub log : new.log ≡ record old.log {
     history = record { seat = record { 0 = t }; call = Unlock l m; reply = Unlocked } ∷ old.log.history;

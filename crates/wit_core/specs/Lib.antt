@@ -3,10 +3,11 @@ pub mod Following
 pub mod Fresh
 pub mod Journal
 pub mod Kept
-pub mod Knowledge
+pub mod Known
 pub mod Listed
 pub mod Logged
 pub mod Numbered
 pub mod Related
+pub mod Remembered
 pub mod Rows
-pub mod Verdicts
+pub mod Verdict

@@ -10,13 +10,13 @@ ghost use Rattle.wit_model.specs.Rules.State.{no_seat, seat_at};
 ghost use Rattle.wit_model.specs.Rules.Step.{step_init, step_check, step_note, step_unlock, is_not_yet, is_good_name, released};
 ghost use Rattle.wit_core.specs.Books.{new_lock, lock_answer, type_fault, made_reply, done_reply};
 ghost use Rattle.wit_core.specs.Rows.{seat_view, HasRoom, HasSpaceAt, IsShallowAt, IsFreeAt};
-ghost use Rattle.wit_core.specs.Verdicts.{replied, reply_of};
+ghost use Rattle.wit_core.specs.Verdict.{replied, reply_of};
 
-use crate::known::{Knowledge, class_of, held};
+use crate::known::{Known, class_of};
 use crate::log::Log;
 use crate::names::{is_enrolled, type_number};
 use crate::seats::{Seat, ask_at, make_room_at, note_at, unlock_at};
-use crate::verdicts::Verdict;
+use crate::verdict::{Verdict, held};
 use bitflags::Flags;
 use std::alloc::{AllocError, Global};
 use wit_model::{
@@ -28,7 +28,7 @@ use wit_model::{
 #[derive(Drop)]
 pub struct Books {
     pub limits: Limits,
-    pub known: Knowledge,
+    pub known: Known,
     pub seats: Vec<Seat>,
     pub log: Log,
 }
@@ -70,7 +70,7 @@ impl Books {
         if let Some(fault) = self.type_fault(type_name, class) {
             return Err(fault);
         }
-        let locks = self.known.locks.len();
+        let locks = self.known.locks().len();
         if self.limits.locks() as usize <= locks {
             return Err(Fault::LocksFull);
         }
@@ -87,7 +87,7 @@ impl Books {
     fn type_fault(&self, name: &str, class: Class) -> Option<Fault>
         ensures { result ≡ type_fault (state_in self.now) name.now class }
     {
-        let names = &self.known.names;
+        let names = self.known.names();
         if names.is_otherwise(name, class) {
             return Some(Fault::ClassMismatch);
         }
@@ -105,7 +105,10 @@ impl Books {
         !class.is(Class::SleepMutex)
             || flags.contains(LockFlags::RECURSABLE)
             || type_name == "Giant"
-            || has_type(&self.known.locks, type_number(&self.known.names, type_name))
+            || has_type(
+                self.known.locks(),
+                type_number(self.known.names(), type_name),
+            )
     }
 
     /// The verdict of `check`.
@@ -116,13 +119,13 @@ impl Books {
         let Some(row) = seat_with(&self.seats, seat) else {
             return Err(Fault::UnknownSeat);
         };
-        if !is_made(&self.known.locks, request.lock) {
+        if !is_made(self.known.locks(), request.lock) {
             return Err(Fault::UnknownLock);
         }
         if !self.has_file(request.site.file) {
             return Err(Fault::UnknownFile);
         }
-        let class = class_of(&self.known.locks, request.lock);
+        let class = class_of(self.known.locks(), request.lock);
         if !request.mode.is_exclusive() && !class.is_shareable() {
             return Err(Fault::ModeNotAllowed);
         }
@@ -144,7 +147,7 @@ impl Books {
         let Some(row) = seat_with(&self.seats, seat) else {
             return Err(Fault::UnknownSeat);
         };
-        if !is_made(&self.known.locks, lock) {
+        if !is_made(self.known.locks(), lock) {
             return Err(Fault::UnknownLock);
         }
         match row.pending {
@@ -160,13 +163,13 @@ impl Books {
         let Some(row) = seat_with(&self.seats, seat) else {
             return Err(Fault::UnknownSeat);
         };
-        if !is_made(&self.known.locks, lock) {
+        if !is_made(self.known.locks(), lock) {
             return Err(Fault::UnknownLock);
         }
         if row.pending.is_some() {
             return Err(Fault::Pending);
         }
-        let chain = row.chain(class_of(&self.known.locks, lock).is_spin());
+        let chain = row.chain(class_of(self.known.locks(), lock).is_spin());
         match held(chain, lock) {
             Some(held) => answer_release(held, mode),
             None => Err(Fault::NotLocked),
@@ -177,19 +180,19 @@ impl Books {
     fn has_file(&self, file: FileNo) -> bool
         ensures { result ≡ is_number (state_in self.now).files file.0 }
     {
-        0 < file.0 && file.0 as usize <= self.known.names.files()
+        0 < file.0 && file.0 as usize <= self.known.names().files()
     }
 }
 
 impl Books {
-    ghost use Rattle.wit_core.specs.Knowledge.{known, IsApt, IsAdmitted};
+    ghost use Rattle.wit_core.specs.Known.{IsApt, IsAdmitted};
     ghost use Rattle.wit_core.specs.Books.{IsFresh, EntersInit, EntersCheck, EntersNote, EntersUnlock, StaysSame, spin_of};
 
     /// Books in which nothing has happened, with what is known from the start.
     ///
     /// # Errors
     /// Want of memory alone.
-    pub fn new(alloc: Global, limits: Limits, from_start: Knowledge) -> Result<Books, AllocError>
+    pub fn new(alloc: Global, limits: Limits, from_start: Known) -> Result<Books, AllocError>
         ensures { IfOk result (IsFresh limits from_start) }
     {
         let seats = free_seats(alloc, limits.seats())?;
@@ -242,7 +245,7 @@ impl Books {
     ) -> Result<Reply, AllocError>
         requires room { length self.old.log.history + self.old.log.owed + 2 < self.old.log.limit }
         requires seat { (0 < seat.0) × (seat.0 ≤ length self.old.seats.items) }
-        requires apt { IsApt self.old.known.orders.size (known self.old.known) verdict }
+        requires apt { IsApt self.old.known.most_types self.old.known.known verdict }
         ensures ok { IfOk result (λ reply. (reply ≡ reply_of verdict) × EntersCheck self.old seat.0 request verdict self.new) }
         ensures err { OnErr result (StaysSame self.old self.new) }
     {
@@ -251,7 +254,7 @@ impl Books {
         let place = seat.0 as usize - 1;
         self.log.reserve(3)?;
         make_room_at(&mut self.seats, place)?;
-        self.known.learn(verdict, request.site)?;
+        self.known.learn(request, verdict)?;
         ask_at(&mut self.seats, place, request);
         let entry = Entry {
             seat,
@@ -270,7 +273,7 @@ impl Books {
         requires owed { 0 < self.old.log.owed }
         ensures { EntersNote self.old seat.0 lock request self.new }
     {
-        let spin = class_of(&self.known.locks, lock).is_spin();
+        let spin = class_of(self.known.locks(), lock).is_spin();
         let taken = Instance {
             lock,
             mode: request.mode,
@@ -293,7 +296,7 @@ impl Books {
         requires owed { 0 < self.old.log.owed }
         ensures { EntersUnlock self.old seat.0 lock mode self.new }
     {
-        let spin = class_of(&self.known.locks, lock).is_spin();
+        let spin = class_of(self.known.locks(), lock).is_spin();
         unlock_at(&mut self.seats, seat.0 as usize - 1, spin, lock);
         self.log.push_owed(Entry {
             seat,

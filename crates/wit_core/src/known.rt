@@ -1,23 +1,21 @@
-//! What is known of types, locks and orders, and the verdict over it.
+//! What is known of types, locks and orders.
 
-ghost use Rattle.std.specs.Prelude.{◌≡◌, ◌<◌, ◌≤◌, [], ◌∷◌, Some, Ok, reverse, find, OnOk, OnErr, IfOk, IfErr};
-ghost use Rattle.std.specs.List.{last_or, position_or_len};
+ghost use Rattle.std.specs.Prelude.{◌≡◌, ◌<◌, ◌≤◌, [], false, Ok, OnOk, OnErr, IfOk, IfErr};
+ghost use Rattle.std.specs.Option.{option_copied};
 ghost use Rattle.wit_model.specs.declared.faults.Fault.TheVariants.{OutOfMemory};
-ghost use Rattle.std.specs.Option.{option_copied, option_or};
+ghost use Rattle.wit_model.specs.Rules.Files.{is_known_file, file_answer, files_after};
 ghost use Rattle.wit_model.specs.Rules.Locks.{lock_at};
 ghost use Rattle.wit_model.specs.Rules.Numbers.{with_number};
-ghost use Rattle.wit_model.specs.Rules.Verdict.{violates, has_type_of, place_of, again, judged, among, verdict, is_of, is_blessed};
-ghost use Rattle.wit_core.specs.Knowledge.{known_by, nothing};
-ghost use Rattle.wit_core.specs.Verdicts.{replied, shallow, breaks};
+ghost use Rattle.wit_model.specs.Rules.Refusals.{IsRefusal};
+ghost use Rattle.wit_core.specs.Known.{nothing, learnt, with_lock, IsApt, IsAdmitted};
+ghost use Rattle.wit_core.specs.Verdict.{reply_of};
 
-use crate::names::type_name;
 use crate::orders::Orders;
-use crate::verdicts::Verdict;
-use bitflags::Flags;
+use crate::verdict::Verdict;
 use std::alloc::{AllocError, Global};
+use std::marker::Model;
 use wit_model::{
-    Adoption, Class, Conflict, Fault, Heading, Instance, Lock, LockAt, LockFlags, LockNo, NewLock,
-    OpFlags, Origin, Request, Site, TypeNo,
+    Adoption, Class, Fault, FileNo, Lock, LockFlags, LockNo, NewLock, Origin, Request, TypeNo,
 };
 use wit_table::Table;
 
@@ -26,52 +24,100 @@ const MOST_FILES: u32 = 65535;
 
 /// What is known of types, files, locks and orders.
 #[derive(Drop)]
-pub struct Knowledge {
+pub struct Known {
     /// The types, the source files, and the pairs of type names that may be taken in either order.
     pub names: Table,
     pub locks: Vec<Lock>,
     pub orders: Orders,
 }
 
-impl Knowledge {
-    ghost use Rattle.wit_core.specs.Knowledge.{known, learnt, with_lock, IsSized, KeepsSizes, IsApt, IsAdmitted};
+impl Model for Known {
+    ghost use Rattle.wit_core.specs.Known.{Facts};
 
+    ghost Value = { Facts };
+
+    ghost use Rattle.wit_core.specs.Remembered.{facts_in, IsSized};
+
+    ghost view = { facts_in };
+
+    ghost invariant = { IsSized };
+}
+
+impl Known {
     /// Nothing is known; there may be this many types (1 to 1,023).
     ///
     /// # Errors
     /// `OutOfMemory` alone.
-    pub fn new(alloc: Global, types: u32) -> Result<Knowledge, Fault>
+    pub fn new(alloc: Global, types: u32) -> Result<Known, Fault>
         requires positive { 0 < types }
         requires within { types ≤ 1023 }
-        ensures known { IfOk result (λ k. known k ≡ nothing) }
-        ensures files { IfOk result (λ k. k.names.files ≡ []) }
-        ensures sized { IfOk result (IsSized types) }
+        ensures ok { IfOk result (λ k. k ≡ record { known = nothing; files = []; most_types = types }) }
         ensures err { IfErr result (λ e. e ≡ OutOfMemory) }
     {
-        Ok(Knowledge {
+        Ok(Known {
             names: Table::new(alloc, types, MOST_FILES)?,
             locks: Vec::new(alloc),
             orders: Orders::new(alloc, types)?,
         })
     }
 
-    /// Learns what a verdict tells: an order at this site, or a pair of types found in violation.
+    /// The types, the files and the blessed pairs.
+    pub fn names(&self) -> &Table
+        ensures types { result.now.types ≡ self.now.known.types }
+        ensures files { result.now.files ≡ self.now.files }
+        ensures blessed { result.now.blessed ≡ self.now.known.blessed }
+    {
+        &self.names
+    }
+
+    /// The locks, in the order of their numbers.
+    pub fn locks(&self) -> &[Lock]
+        ensures { result.now ≡ self.now.known.locks }
+    {
+        &self.locks
+    }
+
+    /// The orders and the pairs found in violation.
+    pub fn orders(&self) -> &Orders
+        ensures orders { result.now.orders ≡ self.now.known.orders }
+        ensures found { result.now.found ≡ self.now.known.found }
+        ensures size { result.now.size ≡ self.now.most_types }
+    {
+        &self.orders
+    }
+}
+
+impl Known {
+    /// Names a file: `Table::file`.
+    ///
+    /// # Errors
+    /// In this order: `BadName`, `FilesFull`, `OutOfMemory`; the files are then as before.
+    pub fn file(&mut self, name: &str) -> Result<FileNo, Fault>
+        ensures ok { IfOk result (λ f. file_answer name.now 65535 self.old.files ≡ Ok f.0) }
+        ensures entered { OnOk result (self.new ≡ record self.old { files = files_after name.now self.old.files }) }
+        ensures err { IfErr result (IsRefusal (file_answer name.now 65535 self.old.files)) }
+        ensures absent { IfErr result (λ e. e ≡ OutOfMemory → is_known_file name.now self.old.files ≡ false) }
+        ensures unchanged { OnErr result (self.new ≡ self.old) }
+    {
+        self.names.file(name)
+    }
+
+    /// Learns what the verdict on a request tells: the order behind the last held lock, or a pair of types found in
+    /// violation.
     ///
     /// # Errors
     /// Want of memory alone; nothing is learnt then.
-    pub fn learn(&mut self, verdict: Verdict, site: Site) -> Result<(), AllocError>
-        requires { IsApt self.old.orders.size (known self.old) verdict }
-        ensures ok { OnOk result (known self.new ≡ learnt (known self.old) verdict site) }
-        ensures err { OnErr result (known self.new ≡ known self.old) }
-        ensures names { self.new.names ≡ self.old.names }
-        ensures sized { KeepsSizes self.old self.new }
+    pub fn learn(&mut self, request: Request, verdict: Verdict) -> Result<(), AllocError>
+        requires { IsApt self.old.most_types self.old.known verdict }
+        ensures ok { OnOk result (self.new ≡ record self.old { known = learnt self.old.known request (reply_of verdict) }) }
+        ensures err { OnErr result (self.new ≡ self.old) }
     {
         match verdict {
             Verdict::Pass => Ok(()),
             Verdict::Adopt(parent, child) => self.orders.adopt(Adoption {
                 parent,
                 child,
-                origin: Origin::At(site),
+                origin: Origin::At(request.site),
             }),
             Verdict::Silent(held, asked) => self.orders.find(held, asked),
             Verdict::Reversal(conflict) => {
@@ -88,113 +134,14 @@ impl Knowledge {
     /// `OutOfMemory` alone; nothing is entered then.
     pub fn add_lock(&mut self, made: NewLock) -> Result<(), Fault>
         requires { IsAdmitted self.old made }
-        ensures ok { OnOk result (known self.new ≡ with_lock (known self.old) made) }
-        ensures err { OnErr result (known self.new ≡ known self.old) }
+        ensures ok { OnOk result (self.new ≡ record self.old { known = with_lock self.old.known made }) }
+        ensures err { OnErr result (self.new ≡ self.old) }
         ensures memory { IfErr result (λ e. e ≡ OutOfMemory) }
-        ensures files { self.new.names.files ≡ self.old.names.files }
-        ensures sized { KeepsSizes self.old self.new }
     {
         self.locks.reserve(1)?;
         let type_no = self.names.enroll(made.type_name(), made.class)?;
         self.locks.push_reserved(Lock { type_no, made });
         Ok(())
-    }
-
-    /// The verdict over a chain of held locks. Each of them is looked at once, and again only to tell of a reversal.
-    pub fn verdict(&self, request: Request, chain: &[Instance]) -> Result<Verdict, Fault>
-        ensures { replied result ≡ shallow (find (is_of request.lock.0) chain.now) (verdict (known self.now) request chain.now) }
-    {
-        match newest(chain) {
-            Some(last) => self.behind(request, chain, last),
-            None => Ok(Verdict::Pass),
-        }
-    }
-
-    // A lock is asked for behind others: its order behind the last is known, or all are looked at.
-    fn behind(&self, request: Request, chain: &[Instance], last: Instance) -> Result<Verdict, Fault>
-        ensures { replied result ≡ shallow (find (is_of request.lock.0) chain.now)
-            (among (known self.now) request chain.now last (find (is_of request.lock.0) chain.now)) }
-    {
-        let asked = type_of(&self.locks, request.lock);
-        let parent = type_of(&self.locks, last.lock);
-        if self.orders.is_direct(parent, asked) {
-            return match held(chain, request.lock) {
-                Some(held) => self.again(request, held),
-                None => Ok(Verdict::Pass),
-            };
-        }
-        let (held, broken) = look(&self.locks, &self.orders, request, chain);
-        if let Some(held) = held {
-            return self.again(request, held);
-        }
-        match broken {
-            Some(broken) => Ok(self.violated(request, chain, broken)),
-            None if request.ops.contains(OpFlags::NEWORDER) => Ok(Verdict::Adopt(parent, asked)),
-            None => Ok(Verdict::Pass),
-        }
-    }
-
-    // A held lock is asked for again.
-    fn again(&self, request: Request, held: Instance) -> Result<Verdict, Fault>
-        ensures { replied result ≡ shallow (Some held) (again (known self.now) request held) }
-    {
-        if held.count == 65535 {
-            return Err(Fault::RecursionTooDeep);
-        }
-        let wanted = request.mode.is_exclusive();
-        let exclusive = held.mode.is_exclusive();
-        if exclusive && !wanted {
-            return Err(Fault::SharedOfExclusive);
-        }
-        if !exclusive && wanted {
-            return Err(Fault::ExclusiveOfShared);
-        }
-        if request.ops.contains(OpFlags::FRESH) {
-            return Err(Fault::Recursed);
-        }
-        if exclusive && !flags_of(&self.locks, request.lock).contains(LockFlags::RECURSABLE) {
-            return Err(Fault::Recursed);
-        }
-        Ok(Verdict::Pass)
-    }
-
-    // A held lock breaks the order.
-    fn violated(&self, request: Request, chain: &[Instance], held: Instance) -> Verdict
-        ensures { replied (Ok result) ≡ judged (known self.now) request chain.now held (Some held) }
-    {
-        let asked = type_of(&self.locks, request.lock);
-        let broken = type_of(&self.locks, held.lock);
-        let known = self.orders.is_found(broken, asked);
-        if known || self.is_blessed(broken, asked) {
-            return Verdict::Silent(broken, asked);
-        }
-        let older = &chain[..place_in(chain, held.lock)];
-        Verdict::Reversal(Conflict {
-            heading: Heading::Order,
-            held: place_of(held),
-            older: newest_of_type(&self.locks, request, older).map(|i| place_of(i)),
-            asked: LockAt {
-                lock: request.lock,
-                site: request.site,
-            },
-        })
-    }
-
-    // Whether the types may be taken in either order.
-    fn is_blessed(&self, a: TypeNo, b: TypeNo) -> bool
-        ensures { result ≡ is_blessed (known self.now) a.0 b.0 }
-    {
-        self.names
-            .blessed(type_name(&self.names, a), type_name(&self.names, b))
-    }
-}
-
-fn place_of(held: Instance) -> LockAt
-    ensures { result ≡ place_of held }
-{
-    LockAt {
-        lock: held.lock,
-        site: held.site,
     }
 }
 
@@ -218,7 +165,7 @@ pub fn type_of(locks: &[Lock], lock: LockNo) -> TypeNo
     }
 }
 
-fn flags_of(locks: &[Lock], lock: LockNo) -> LockFlags
+pub fn flags_of(locks: &[Lock], lock: LockNo) -> LockFlags
     ensures { result ≡ (lock_at locks.now lock.0).made.flags }
 {
     match lock_with(locks, lock) {
@@ -233,95 +180,5 @@ pub fn class_of(locks: &[Lock], lock: LockNo) -> Class
     match lock_with(locks, lock) {
         Some(lock) => lock.made.class,
         None => Class::SleepMutex,
-    }
-}
-
-fn newest(chain: &[Instance]) -> Option<Instance>
-    ensures { result ≡ last_or None chain.now }
-{
-    chain.last().copied()
-}
-
-// A lock as it is held.
-pub fn held(chain: &[Instance], lock: LockNo) -> Option<Instance>
-    ensures { result ≡ find (is_of lock.0) chain.now }
-{
-    chain.iter().copied().find(|i| i.lock.0 == lock.0)
-}
-
-// The place of a lock in a chain; the chain's length where it isn't there.
-pub fn place_in(chain: &[Instance], lock: LockNo) -> usize
-    ensures { result ≡ position_or_len (is_of lock.0) chain.now }
-{
-    for (place, held) in chain.iter().enumerate() {
-        if held.lock.0 == lock.0 {
-            return place;
-        }
-    }
-    chain.len()
-}
-
-// The newest of these locks that has the requested one's type.
-fn newest_of_type(locks: &[Lock], request: Request, chain: &[Instance]) -> Option<Instance>
-    ensures { result ≡ find (has_type_of (known_by locks.now []) request) (reverse chain.now) }
-{
-    let asked = type_of(locks, request.lock);
-    chain
-        .iter()
-        .rev()
-        .copied()
-        .find(|i| type_of(locks, i.lock).0 == asked.0)
-}
-
-// One look through a chain, newest first: the requested lock as it is held, and the newest lock whose type the requested one
-// is before.
-fn look(
-    locks: &[Lock],
-    orders: &Orders,
-    request: Request,
-    chain: &[Instance],
-) -> (Option<Instance>, Option<Instance>)
-    ensures held { result.0 ≡ find (is_of request.lock.0) chain.now }
-    ensures broken { result.1 ≡ find (violates (known_by locks.now orders.now.orders) request) (reverse chain.now) }
-{
-    let asked = type_of(locks, request.lock);
-    let mut held = None;
-    let mut broken = None;
-    for place in (0..chain.len()).rev() {
-        let older = chain[place];
-        held = held_or(older, request.lock, held);
-        broken = broken_or(locks, orders, asked, older, broken);
-    }
-    (held, broken)
-}
-
-// A lock as it is held, where it is this one; else what was found before.
-fn held_or(older: Instance, lock: LockNo, found: Option<Instance>) -> Option<Instance>
-    ensures { result ≡ option_or (find (is_of lock.0) (older ∷ [])) found }
-{
-    if older.lock.0 == lock.0 {
-        Some(older)
-    } else {
-        found
-    }
-}
-
-// What was found before; else this lock, where the type asked for is before its type.
-fn broken_or(
-    locks: &[Lock],
-    orders: &Orders,
-    asked: TypeNo,
-    older: Instance,
-    found: Option<Instance>,
-) -> Option<Instance>
-    ensures { result ≡ option_or found (find (breaks locks.now orders.now.orders asked.0) (older ∷ [])) }
-{
-    if found.is_some() {
-        return found;
-    }
-    if orders.is_before(asked, type_of(locks, older.lock)) {
-        Some(older)
-    } else {
-        None
     }
 }

@@ -8,7 +8,7 @@ mod log;
 mod names;
 mod orders;
 mod seats;
-mod verdicts;
+mod verdict;
 mod verifier;
 
 pub use lists::StartError;

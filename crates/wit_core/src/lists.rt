@@ -13,7 +13,7 @@ ghost use Rattle.wit_model.specs.declared.faults.Fault.TheVariants.{BadName, Out
 ghost use Rattle.wit_core.specs.Listed.{entry_of, listed, all_listed, pairs_of, with_list, with_lists, IsWithin, is_back, goes_back, AreRefused, CanBeEnrolled, CanBeAdopted, KeepsRest};
 ghost use Rattle.wit_core.specs.Following.{CanFollow};
 
-use crate::known::Knowledge;
+use crate::known::Known;
 use crate::names::{is_enrolled, type_number};
 use crate::orders::Orders;
 use std::alloc::AllocError;
@@ -29,9 +29,26 @@ pub struct StartError {
     pub fault: Fault,
 }
 
-impl Knowledge {
-    ghost use Rattle.wit_core.specs.Knowledge.{known, IsSized, KeepsSizes};
+impl From<Fault> for StartError {
+    ghost from_gives = { λ fault e. e ≡ record { list = 0; fault = fault } };
 
+    fn from(fault: Fault) -> StartError {
+        StartError { list: 0, fault }
+    }
+}
+
+impl From<AllocError> for StartError {
+    ghost from_gives = { λ _ e. e ≡ record { list = 0; fault = OutOfMemory } };
+
+    fn from(_error: AllocError) -> StartError {
+        StartError {
+            list: 0,
+            fault: Fault::OutOfMemory,
+        }
+    }
+}
+
+impl Known {
     /// Enters static lists, each behind those before it, where there may be this many types.
     ///
     /// # Errors
@@ -41,21 +58,17 @@ impl Knowledge {
         most: u32,
         lists: &[Vec<(Class, String)>],
     ) -> Result<(), StartError>
-        requires sized { IsSized most self.old }
-        requires within { IsWithin (length self.old.names.types) self.old.orders.orders }
+        requires most { most ≡ self.old.most_types }
+        requires within { IsWithin (length self.old.known.types) self.old.known.orders }
         ensures accepted { OnOk result
-            (lists_fault most 1 (all_listed lists.now) self.old.names.types self.old.orders.orders ≡ None) }
-        ensures entered { OnOk result (known self.new ≡ with_lists (known self.old) (all_listed lists.now)) }
-        ensures files { OnOk result (self.new.names.files ≡ self.old.names.files) }
-        ensures sized { OnOk result (IsSized most self.new) }
+            (lists_fault most 1 (all_listed lists.now) self.old.known.types self.old.known.orders ≡ None) }
+        ensures entered { OnOk result (self.new ≡ record self.old { known = with_lists self.old.known (all_listed lists.now) }) }
         ensures err { IfErr result (λ e. AreRefused
-            (lists_fault most 1 (all_listed lists.now) self.old.names.types self.old.orders.orders) (all_listed lists.now) e.list e.fault) }
+            (lists_fault most 1 (all_listed lists.now) self.old.known.types self.old.known.orders) (all_listed lists.now) e.list e.fault) }
     {
         for (place, list) in lists.iter().enumerate() {
             let number = place as u64 + 1;
-            if let Err(error) = self.enter_next(most, number, list) {
-                return Err(error);
-            }
+            self.enter_next(most, number, list)?;
         }
         Ok(())
     }
@@ -67,16 +80,14 @@ impl Knowledge {
         number: u64,
         list: &[(Class, String)],
     ) -> Result<(), StartError>
-        requires sized { IsSized most self.old }
-        requires within { IsWithin (length self.old.names.types) self.old.orders.orders }
-        ensures accepted { OnOk result (list_fault most self.old.names.types self.old.orders.orders (listed list.now) ≡ None) }
-        ensures entered { OnOk result (known self.new ≡ with_list (known self.old) (listed list.now)) }
-        ensures files { OnOk result (self.new.names.files ≡ self.old.names.files) }
-        ensures sized { OnOk result (IsSized most self.new) }
+        requires most { most ≡ self.old.most_types }
+        requires within { IsWithin (length self.old.known.types) self.old.known.orders }
+        ensures accepted { OnOk result (list_fault most self.old.known.types self.old.known.orders (listed list.now) ≡ None) }
+        ensures entered { OnOk result (self.new ≡ record self.old { known = with_list self.old.known (listed list.now) }) }
         ensures number { IfErr result (λ e. e.list ≡ number) }
         ensures err { IfErr result (λ e.
-            (list_fault most self.old.names.types self.old.orders.orders (listed list.now) ≡ Some e.fault)
-            ⊎ ((e.fault ≡ OutOfMemory) × (list_fault most self.old.names.types self.old.orders.orders (listed list.now) ≡ None))) }
+            (list_fault most self.old.known.types self.old.known.orders (listed list.now) ≡ Some e.fault)
+            ⊎ ((e.fault ≡ OutOfMemory) × (list_fault most self.old.known.types self.old.known.orders (listed list.now) ≡ None))) }
     {
         if let Some(fault) = self.list_fault(most, list) {
             return Err(StartError {
@@ -95,8 +106,8 @@ impl Knowledge {
 
     // Why a list is refused, where there may be this many types.
     fn list_fault(&self, most: u32, list: &[(Class, String)]) -> Option<Fault>
-        requires { IsWithin (length self.now.names.types) self.now.orders.orders }
-        ensures { result ≡ list_fault most self.now.names.types self.now.orders.orders (listed list.now) }
+        requires { IsWithin (length self.now.known.types) self.now.known.orders }
+        ensures { result ≡ list_fault most self.now.known.types self.now.known.orders (listed list.now) }
     {
         if has_bad_name(list) {
             return Some(Fault::BadName);
@@ -122,7 +133,7 @@ impl Knowledge {
     // Whether a later entry's type is an earlier one's or before it. So is the second of two neighbours that
     // is before the first once those before them are adopted.
     fn goes_back(&self, list: &[(Class, String)]) -> bool
-        ensures { result ≡ goes_back self.now.names.types self.now.orders.orders (listed list.now) }
+        ensures { result ≡ goes_back self.now.known.types self.now.known.orders (listed list.now) }
     {
         for (place, first) in list.iter().enumerate() {
             if self.is_behind(first, behind(list, place)) {
@@ -134,7 +145,7 @@ impl Knowledge {
 
     // Whether the type of one of these entries is that of another or before it.
     fn is_behind(&self, first: &(Class, String), list: &[(Class, String)]) -> bool
-        ensures { result ≡ list_any (λ (e : Class × List ℕ). is_back self.now.names.types self.now.orders.orders
+        ensures { result ≡ list_any (λ (e : Class × List ℕ). is_back self.now.known.types self.now.known.orders
             (string_bytes first.now.1) e.1) (listed list.now) }
     {
         for entry in list {
@@ -147,7 +158,7 @@ impl Knowledge {
 
     // Whether an entry's type is that of another or before it.
     fn is_back(&self, first: &(Class, String), entry: &(Class, String)) -> bool
-        ensures { result ≡ is_back self.now.names.types self.now.orders.orders
+        ensures { result ≡ is_back self.now.known.types self.now.known.orders
             (string_bytes first.now.1) (string_bytes entry.now.1) }
     {
         if are_twins(entry, first) {
@@ -159,11 +170,9 @@ impl Knowledge {
 
     // Enters a list that isn't refused.
     fn enter_list(&mut self, most: u32, list: &[(Class, String)]) -> Result<(), Fault>
-        requires sized { IsSized most self.old }
-        requires accepted { list_fault most self.old.names.types self.old.orders.orders (listed list.now) ≡ None }
-        ensures ok { OnOk result (known self.new ≡ with_list (known self.old) (listed list.now)) }
-        ensures files { OnOk result (self.new.names.files ≡ self.old.names.files) }
-        ensures sized { OnOk result (IsSized most self.new) }
+        requires most { most ≡ self.old.most_types }
+        requires accepted { list_fault most self.old.known.types self.old.known.orders (listed list.now) ≡ None }
+        ensures ok { OnOk result (self.new ≡ record self.old { known = with_list self.old.known (listed list.now) }) }
         ensures err { IfErr result (λ e. e ≡ OutOfMemory) }
     {
         enroll_all(&mut self.names, list)?;
@@ -178,15 +187,25 @@ impl Knowledge {
     pub fn bless_all(&mut self, pairs: &[(String, String)]) -> Result<(), Fault>
         ensures good { OnOk result (has_bad_pair (pairs_of pairs.now) ≡ false) }
         ensures ok { OnOk result (self.new ≡ record self.old {
-          names = record self.old.names { blessed = self.old.names.blessed ++ pairs_of pairs.now };
+          known = record self.old.known { blessed = self.old.known.blessed ++ pairs_of pairs.now };
         }) }
         ensures err { IfErr result (λ e. ((e ≡ BadName) × (has_bad_pair (pairs_of pairs.now) ≡ true)) ⊎ (e ≡ OutOfMemory)) }
     {
-        for pair in pairs {
-            self.names.bless(&pair.0, &pair.1)?;
-        }
-        Ok(())
+        bless_each(&mut self.names, pairs)
     }
+}
+
+// Blesses pairs of names, up to one that is refused.
+fn bless_each(names: &mut Table, pairs: &[(String, String)]) -> Result<(), Fault>
+    ensures good { OnOk result (has_bad_pair (pairs_of pairs.now) ≡ false) }
+    ensures ok { OnOk result (names.new ≡ record names.old { blessed = names.old.blessed ++ pairs_of pairs.now }) }
+    ensures rest { names.new ≡ record names.old { blessed = names.new.blessed } }
+    ensures err { IfErr result (λ e. ((e ≡ BadName) × (has_bad_pair (pairs_of pairs.now) ≡ true)) ⊎ (e ≡ OutOfMemory)) }
+{
+    for pair in pairs {
+        names.bless(&pair.0, &pair.1)?;
+    }
+    Ok(())
 }
 
 // The entries behind the one at this place.
@@ -300,7 +319,7 @@ fn number_of(names: &Table, entry: &(Class, String)) -> TypeNo
 fn enroll_all(names: &mut Table, list: &[(Class, String)]) -> Result<(), Fault>
     requires { CanBeEnrolled names.old.most_types names.old.types (listed list.now) }
     ensures types { OnOk result (names.new.types ≡ enrolled_all (listed list.now) names.old.types) }
-    ensures rest { OnOk result (KeepsRest names.old names.new) }
+    ensures rest { KeepsRest names.old names.new }
     ensures err { IfErr result (λ e. e ≡ OutOfMemory) }
 {
     for entry in list {
@@ -313,7 +332,8 @@ fn enroll_all(names: &mut Table, list: &[(Class, String)]) -> Result<(), Fault>
 fn adopt_all(orders: &mut Orders, names: &Table, list: &[(Class, String)]) -> Result<(), AllocError>
     requires few { length names.now.types ≤ orders.old.size }
     requires can { CanBeAdopted names.now.types orders.old.orders (listed list.now) }
-    ensures { OnOk result (orders.new ≡ record orders.old { orders = listed_pairs names.now.types (listed list.now) orders.old.orders }) }
+    ensures size { orders.new.size ≡ orders.old.size }
+    ensures ok { OnOk result (orders.new ≡ record orders.old { orders = listed_pairs names.now.types (listed list.now) orders.old.orders }) }
 {
     for place in 1..list.len() {
         let parent = number_of(names, &list[place - 1]);
@@ -326,7 +346,8 @@ fn adopt_all(orders: &mut Orders, names: &Table, list: &[(Class, String)]) -> Re
 // Adopts an order of a list where it is new.
 fn adopt_once(orders: &mut Orders, parent: TypeNo, child: TypeNo) -> Result<(), AllocError>
     requires { CanFollow orders.old.size orders.old.orders parent.0 child.0 }
-    ensures { OnOk result (orders.new ≡ record orders.old { orders = adopted_once parent.0 child.0 Listed orders.old.orders }) }
+    ensures size { orders.new.size ≡ orders.old.size }
+    ensures ok { OnOk result (orders.new ≡ record orders.old { orders = adopted_once parent.0 child.0 Listed orders.old.orders }) }
 {
     if !orders.is_direct(parent, child) {
         orders.adopt(Adoption {

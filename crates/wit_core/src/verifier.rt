@@ -18,7 +18,7 @@ ghost use Rattle.wit_model.specs.Rules.Start.{start_fault, IsRefused};
 ghost use Rattle.wit_matrix.specs.Relation.{LeadsBy};
 
 use crate::books::Books;
-use crate::known::{Knowledge, lock_with};
+use crate::known::{Known, lock_with};
 use crate::lists::StartError;
 use crate::names::is_type;
 use std::alloc::{AllocError, Global};
@@ -86,27 +86,16 @@ impl Verifier {
             × (v ≡ fresh (start_of limits lists.items blessed.items))) }
         ensures err { IfErr result (λ e. IsRefused (start_of limits lists.items blessed.items) e.list e.fault) }
     {
-        let mut known = match Knowledge::new(alloc, limits.types()) {
-            Ok(known) => known,
-            Err(fault) => return Err(StartError { list: 0, fault }),
-        };
-        if let Err(error) = known.enter_lists(limits.types(), &lists) {
-            return Err(error);
-        }
-        if let Err(fault) = known.bless_all(&blessed) {
-            return Err(StartError { list: 0, fault });
-        }
-        match Books::new(alloc, limits, known) {
-            Ok(books) => Ok(Verifier {
-                alloc,
-                lists,
-                books,
-            }),
-            Err(_) => Err(StartError {
-                list: 0,
-                fault: Fault::OutOfMemory,
-            }),
-        }
+        let types = limits.types();
+        let mut known = Known::new(alloc, types)?;
+        known.enter_lists(types, &lists)?;
+        known.bless_all(&blessed)?;
+        let books = Books::new(alloc, limits, known)?;
+        Ok(Verifier {
+            alloc,
+            lists,
+            books,
+        })
     }
 
     /// The number of a source file: a file that was named before keeps its number, a new one gets the next.
@@ -118,7 +107,7 @@ impl Verifier {
     pub fn file(&mut self, name: &str) -> Result<FileNo, Fault>
         ensures { NamesFile self.old name.now result self.new }
     {
-        self.books.known.names.file(name)
+        self.books.known.file(name)
     }
 
     /// Makes a lock, as `lock_init` does: its number is the next one.
@@ -232,7 +221,7 @@ impl Verifier {
         ensures distinct { AreDistinct (orders_of self.now.start self.now.history) }
         ensures sound { IsSound (orders_of self.now.start self.now.history) }
     {
-        self.books.known.orders.adopted()
+        self.books.known.orders().adopted()
     }
 }
 
@@ -242,7 +231,7 @@ impl Verifier {
     pub fn lock_name(&self, lock: LockNo) -> Option<&str>
         ensures { option_copied result ≡ lock_name (typed_locks self.now.start self.now.history) lock.0 }
     {
-        let named = lock_with(&self.books.known.locks, lock)?;
+        let named = lock_with(self.books.known.locks(), lock)?;
         Some(named.made.name.as_str())
     }
 
@@ -250,7 +239,7 @@ impl Verifier {
     pub fn type_of(&self, lock: LockNo) -> Option<TypeNo>
         ensures { result ≡ lock_type (typed_locks self.now.start self.now.history) lock.0 }
     {
-        let typed = lock_with(&self.books.known.locks, lock)?;
+        let typed = lock_with(self.books.known.locks(), lock)?;
         Some(typed.type_no)
     }
 
@@ -258,7 +247,7 @@ impl Verifier {
     pub fn type_name(&self, number: TypeNo) -> Option<&str>
         ensures { option_copied result ≡ type_name (types_of self.now.start self.now.history) number.0 }
     {
-        let names = &self.books.known.names;
+        let names = self.books.known.names();
         if !is_type(names, number) {
             return None;
         }
@@ -269,7 +258,7 @@ impl Verifier {
     pub fn class_of(&self, number: TypeNo) -> Option<Class>
         ensures { result ≡ type_class (types_of self.now.start self.now.history) number.0 }
     {
-        let names = &self.books.known.names;
+        let names = self.books.known.names();
         if is_type(names, number) {
             Some(names.class_of(number))
         } else {
@@ -281,7 +270,7 @@ impl Verifier {
     pub fn file_name(&self, file: FileNo) -> Option<&str>
         ensures { option_copied result ≡ with_number self.now.files file.0 }
     {
-        let names = &self.books.known.names;
+        let names = self.books.known.names();
         if 0 < file.0 && file.0 as usize <= names.files() {
             Some(names.file_name(file))
         } else {
@@ -293,7 +282,7 @@ impl Verifier {
     pub fn types(&self) -> usize
         ensures { result ≡ length (types_of self.now.start self.now.history) }
     {
-        self.books.known.names.len()
+        self.books.known.names().len()
     }
 
     /// The path of adopted orders from one type to another that goes each time to the least type: `None` where
@@ -307,7 +296,7 @@ impl Verifier {
         ensures leads { IfOk result (λ p. IfSome (path_numbers p) (LeadsBy (orders_of self.now.start self.now.history) from.0 to.0)) }
         ensures err { IfErr result (λ e. (e ≡ OutOfMemory) × Before (orders_of self.now.start self.now.history) from.0 to.0) }
     {
-        self.books.known.orders.path(from, to)
+        self.books.known.orders().path(from, to)
     }
 
     /// How one type is related to another, as the sum of 0x01 where the order from the first to the second was
@@ -317,8 +306,8 @@ impl Verifier {
         ensures { result ≡ relation (known_of self.now.start self.now.history) a.0 b.0 }
     {
         let known = &self.books.known;
-        if is_type(&known.names, a) && is_type(&known.names, b) {
-            Some(known.orders.cell(a, b))
+        if is_type(known.names(), a) && is_type(known.names(), b) {
+            Some(known.orders().cell(a, b))
         } else {
             None
         }

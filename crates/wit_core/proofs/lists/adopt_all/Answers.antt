@@ -18,7 +18,7 @@ loop-place-preserved c =
     let list = c.args.list.now in
     let orders = c.loop-place.orders in
     let new = c.adopt_once.new.orders in
-    let is = ap (λ (r : Relation). r.orders) c.in_ok-adopt_once.ensures in
+    let is = ap (λ (r : Relation). r.orders) c.in_ok-adopt_once.ensures.ok in
     record {
       pairs = adopt-step types list (c.loop-place.place - 1) c.loop-place.place (c.loop-place.place + 1 - 1) c.index-list-place.result c.index-list-place-in-loop-place.result
           c.number_of-parent.result.0 c.number_of-child.result.0 orders.orders new.orders _
@@ -28,11 +28,11 @@ loop-place-preserved c =
           c.number_of-parent.result.0 c.number_of-child.result.0 orders.orders
           (omega arith) (omega arith) c.index-list-place.is c.index-list-place-in-loop-place.is c.number_of-parent.ensures c.number_of-child.ensures c.loop-place.invariant.can
           (c.loop-place.place + 1 - 1) new.orders (omega arith) is;
-      rest = orders-alone c.args.orders.now orders new _ c.in_ok-adopt_once.ensures c.loop-place.invariant.rest;
+      rest = orders-alone c.args.orders.now orders new _ c.in_ok-adopt_once.ensures.ok c.loop-place.invariant.rest;
     }
 
-pub returns : goal.returns
-returns c =
+pub returns-clause-ok : goal.returns-clause-ok
+returns-clause-ok c =
     c.loop-place.invariant.rest
     ∙ ap (λ (os : List Adoption). record c.args.orders.now { orders = os })
     (adopt-end c.args.names.now.types c.args.list.now (c.loop-place.place - 1) c.loop-place.orders.orders _ (omega arith) c.loop-place.invariant.pairs)

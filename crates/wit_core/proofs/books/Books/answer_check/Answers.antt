@@ -19,5 +19,5 @@ returns-in_err-verdict c =
     (search rules) (search rules) (search (tests, rules))
     (sym (ap (λ (xs : List Seat). unwrap_or (with_number (map seat_view xs) c.args.seat.0) no_seat) c.deref.ensures.value) ∙ c.in-Some.ensures.seat)
     (search rules)
-    (c.class_of-class.ensures ∙ ap (λ (locks : List Lock). (lock_at locks c.args.request.lock.0).made.class) c.deref-3.ensures.value)
+    (c.class_of-class.ensures ∙ ap (λ (locks : List Lock). (lock_at locks c.args.request.lock.0).made.class) c.locks-2.ensures)
     c.is_spin.ensures c.chain.ensures c.in_err-verdict.ensures)

@@ -7,4 +7,4 @@ invariant_of-self c = kept_file c.self.inside c.args.name.now c.file.result c.fi
 pub returns : goal.returns
 returns c =
     rw (← c.self.view_is)
-    (file_named c.self.inside c.args.name.now c.file.result c.file.new.self c.self.invariant c.file.ensures.ok c.file.ensures.entered c.file.ensures.err c.file.ensures.absent c.file.ensures.unchanged)
+    (file_named c.self.inside c.args.name.now c.file.result c.file.new.self c.file.ensures.ok c.file.ensures.entered c.file.ensures.err c.file.ensures.absent c.file.ensures.unchanged)
