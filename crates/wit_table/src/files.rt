@@ -1,6 +1,8 @@
 //! Source files by name, in order of first appearance.
 
-ghost use Rattle.std.specs.Prelude.{◌≡◌, ◌≤◌, ◌<◌, ◌+◌, ◌++◌, [], ◌∷◌, false, length, is_some, slice_get, IfSome, IfNone, IfOk, IfErr, OnOk, OnErr, Some, Ok};
+ghost use Rattle.std.specs.Prelude.{◌≡◌, ◌≤◌, ◌<◌, ◌+◌, ◌++◌, [], ◌∷◌, ℕ, List, true, false, length, is_some, slice_get, IfSome, IfNone, IfOk, IfErr, OnOk, OnErr, Some, Ok};
+ghost use Rattle.std.specs.List.{All};
+ghost use Rattle.wit_model.specs.Rules.Names.{is_file_name};
 ghost use Rattle.wit_model.specs.Rules.Files.{is_known_file, file_number, files_after, file_answer};
 ghost use Rattle.wit_model.specs.Rules.Numbers.{IsGiven};
 ghost use Rattle.wit_model.specs.declared.faults.Fault.TheVariants.{OutOfMemory};
@@ -23,6 +25,7 @@ pub fn file_in(
 ) -> Result<FileNo, Fault>
     requires few { length (texts files.old.keys) ≤ most }
     requires most { most ≤ 65535 }
+    requires names { All (λ (f : List ℕ). is_file_name f ≡ true) (texts files.old.keys) }
     ensures ok { IfOk result (λ f. file_answer name.now most (texts files.old.keys) ≡ Ok f.0) }
     ensures number { IfOk result (λ f. f.0 ≡ file_number name.now (texts files.old.keys)) }
     ensures given { IfOk result (λ f. IsGiven (texts files.new.keys) f.0) }
@@ -31,11 +34,12 @@ pub fn file_in(
     ensures files { OnOk result (texts files.new.keys ≡ files_after name.now (texts files.old.keys)) }
     ensures unchanged { OnErr result (files.new.keys ≡ files.old.keys) }
 {
-    if !FileName::accepts(name) {
-        return Err(Fault::BadName);
-    }
+    // A known name is a file name, and isn't tested again.
     if let Some(place) = place_of(files, name) {
         return Ok(FileNo((place + 1) as u16));
+    }
+    if !FileName::accepts(name) {
+        return Err(Fault::BadName);
     }
     let count = files.len();
     if count >= most as usize {
@@ -47,9 +51,11 @@ pub fn file_in(
 
 // The place of the file with this name.
 fn place_of(files: &IndexSet<String>, name: &str) -> Option<usize>
+    requires { All (λ (f : List ℕ). is_file_name f ≡ true) (texts files.now.keys) }
     ensures number { IfSome result (λ i. i + 1 ≡ file_number name.now (texts files.now.keys)) }
     ensures found { is_some result ≡ is_known_file name.now (texts files.now.keys) }
     ensures within { IfSome result (λ i. i < length (texts files.now.keys)) }
+    ensures good { IfSome result (λ _. is_file_name name.now ≡ true) }
     ensures next { IfNone result (file_number name.now (texts files.now.keys) ≡ length (texts files.now.keys) + 1) }
 {
     files.get_index_of(name)
