@@ -3,12 +3,15 @@ use Rattle.std.specs.Prelude.{◌≡◌, ◌≢◌, ◌<◌, ◌≤◌, ℕ, Lis
 use Rattle.wit_model.specs.declared.faults.Fault.{Fault}
 use Rattle.wit_model.specs.declared.faults.Fault.TheVariants.{OutOfMemory}
 use Rattle.wit_model.specs.declared.lines.Line.{Line}
+use Rattle.wit_model.specs.declared.lines.Line.TheVariants.{Check, Lock, Unlock}
 use Rattle.wit_model.specs.declared.lines.Cause.{Cause}
 use Rattle.wit_model.specs.declared.lines.Cause.TheVariants.{Long, Syntax, Cut, Limit}
 use Rattle.wit_model.specs.declared.lines.Cause.TheVariants as why
 use Rattle.wit_model.specs.Trace.Spelling.{Spells, IsSpellable, spelling}
 use Rattle.wit_grammar.specs.declared.errors.LineError.{LineError}
 use Rattle.wit_grammar.specs.declared.errors.LineError.TheVariants.{Bad, Memory}
+use Rattle.wit_grammar.specs.declared.lock_lines.LockLine.{LockLine}
+use Rattle.wit_grammar.specs.declared.lock_lines.LockLine.TheVariants as lock_line
 use Rattle.wit_grammar.specs.declared.parse.TheConstants.{LONGEST}
 
 -- `Bad` where nothing is there to read, and with no cause but `Syntax`
@@ -20,6 +23,17 @@ Fails (Bad cause) read = (cause ≡ Syntax) × (read ≡ None)
 abbrev pub Gives : {X Y : Type 0} → (X → Y) → Result X LineError → Option Y → Type 0
 Gives view (Ok x) read = read ≡ Some (view x)
 Gives view (Err e) read = Fails e read
+
+-- a value that was found, seen by view, is what is read
+abbrev pub Finds : {X Y : Type 0} → (X → Y) → Option X → Option Y → Type 0
+Finds view (Some x) read = read ≡ Some (view x)
+Finds view None read = Unit {0}
+
+-- the line by itself
+abbrev pub as_line : LockLine → Line
+as_line (lock_line.Check seat lock mode ops file line) = Check seat lock mode ops file.now line
+as_line (lock_line.Lock seat lock) = Lock seat lock
+as_line (lock_line.Unlock seat lock mode) = Unlock seat lock mode
 
 -- the bytes spell no line
 abbrev pub SpellsNone : List ℕ → Type 0

@@ -2,6 +2,7 @@
 #![tactic(auto)]
 
 mod errors;
+mod lock_lines;
 mod names;
 mod numbers;
 mod parse;
@@ -10,6 +11,7 @@ mod spellable;
 mod words;
 
 pub use errors::LineError;
+pub use lock_lines::{LockLine, parse_lock_line};
 pub use parse::{LONGEST, parse_line};
 pub use print::print_line;
 pub use spellable::spelled;

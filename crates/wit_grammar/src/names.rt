@@ -36,8 +36,8 @@ fn name_of(alloc: Global, bytes: &[u8]) -> Result<Name, LineError>
     Ok(Name::new(alloc, text)?)
 }
 
-fn file_name_of(alloc: Global, bytes: &[u8]) -> Result<FileName, LineError>
-    ensures { Gives (λ n. n) result (accepted is_file_name bytes.now) }
+fn file_name_of(bytes: &[u8]) -> Result<&str, LineError>
+    ensures { Gives (λ n. n.now) result (accepted is_file_name bytes.now) }
 {
     let Ok(text) = str::from_utf8(bytes) else {
         return Err(LineError::SYNTAX);
@@ -45,7 +45,7 @@ fn file_name_of(alloc: Global, bytes: &[u8]) -> Result<FileName, LineError>
     if !FileName::accepts(text) {
         return Err(LineError::SYNTAX);
     }
-    Ok(FileName::new(alloc, text)?)
+    Ok(text)
 }
 
 /// A name between quotation marks.
@@ -100,12 +100,12 @@ pub fn list(alloc: Global, bytes: &[u8]) -> Result<TypeList, LineError>
 
 /// A file and a line.
 #[tactic(auto, unfolding(wit_model::specs::Trace::Reading::site_of))]
-pub fn site(alloc: Global, bytes: &[u8]) -> Result<(FileName, u32, &[u8]), LineError>
-    ensures { Gives (λ x. ((x.0, x.1), x.2.now)) result (field_at site_of bytes.now) }
+pub fn site(bytes: &[u8]) -> Result<(&str, u32, &[u8]), LineError>
+    ensures { Gives (λ x. ((x.0.now, x.1), x.2.now)) result (field_at site_of bytes.now) }
 {
     let (word, rest) = word(bytes)?;
     let (file, line) = split_at_last(b':', word)?;
-    let file = file_name_of(alloc, file)?;
+    let file = file_name_of(file)?;
     let line = number_of(u32::MAX, line)?;
     Ok((file, line, rest))
 }

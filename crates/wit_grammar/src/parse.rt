@@ -4,14 +4,15 @@ ghost use Rattle.std.specs.Prelude.{◌≡◌, ◌≤◌, ◌<◌, ◌↔◌, le
 ghost use Rattle.wit_model.specs.declared.lines.Line.{Line};
 ghost use Rattle.wit_model.specs.declared.lines.Cause.TheVariants.{Long};
 ghost use Rattle.wit_model.specs.Trace.Spelling.{Spells};
-ghost use Rattle.wit_model.specs.Trace.Reading.{header_of, order_of, bless_of, init_of, check_of, note_of, unlock_of, line_of};
+ghost use Rattle.wit_model.specs.Trace.Reading.{header_of, order_of, bless_of, init_of, line_of};
 ghost use Rattle.wit_grammar.specs.declared.errors.LineError.TheVariants.{Bad};
 ghost use Rattle.wit_grammar.specs.Lines.{Gives, IsWhy};
 
 use crate::errors::LineError;
+use crate::lock_lines::{check, lock, owned, unlock};
 use crate::{names, numbers, words};
 use std::alloc::Global;
-use wit_model::{Cause, Line, LockFlags, NewLock, OpFlags};
+use wit_model::{Cause, Line, LockFlags, NewLock};
 
 /// The greatest number of bytes in a line; its line feed isn't among them.
 pub const LONGEST: usize = 4096;
@@ -41,11 +42,14 @@ fn line(alloc: Global, bytes: &[u8]) -> Result<Line, LineError>
 {
     let (keyword, rest) = words::split_before(b' ', bytes);
     if keyword == b"check".as_slice() {
-        check(alloc, rest)
+        let line = check(rest)?;
+        Ok(owned(alloc, line)?)
     } else if keyword == b"lock".as_slice() {
-        lock(rest)
+        let line = lock(rest)?;
+        Ok(owned(alloc, line)?)
     } else if keyword == b"unlock".as_slice() {
-        unlock(rest)
+        let line = unlock(rest)?;
+        Ok(owned(alloc, line)?)
     } else if keyword == b"init".as_slice() {
         init(alloc, rest)
     } else if keyword == b"order".as_slice() {
@@ -119,51 +123,4 @@ fn init(alloc: Global, bytes: &[u8]) -> Result<Line, LineError>
         type_name,
     };
     Ok(Line::Init { seat, lock })
-}
-
-#[tactic(auto, unfolding(wit_model::specs::Trace::Reading::check_of))]
-fn check(alloc: Global, bytes: &[u8]) -> Result<Line, LineError>
-    ensures { Gives (λ l. l) result (check_of bytes.now) }
-{
-    let (seat, rest) = numbers::seat(bytes)?;
-    let (lock, rest) = numbers::lock(rest)?;
-    let (mode, rest) = words::mode(rest)?;
-    let (ops, rest) = words::flags(b"ndf", rest)?;
-    let (file, line, rest) = names::site(alloc, rest)?;
-    if !rest.is_empty() {
-        return Err(LineError::SYNTAX);
-    }
-    Ok(Line::Check {
-        seat,
-        lock,
-        mode,
-        ops: OpFlags(ops),
-        file,
-        line,
-    })
-}
-
-#[tactic(auto, unfolding(wit_model::specs::Trace::Reading::note_of))]
-fn lock(bytes: &[u8]) -> Result<Line, LineError>
-    ensures { Gives (λ l. l) result (note_of bytes.now) }
-{
-    let (seat, rest) = numbers::seat(bytes)?;
-    let (lock, rest) = numbers::lock(rest)?;
-    if !rest.is_empty() {
-        return Err(LineError::SYNTAX);
-    }
-    Ok(Line::Lock { seat, lock })
-}
-
-#[tactic(auto, unfolding(wit_model::specs::Trace::Reading::unlock_of))]
-fn unlock(bytes: &[u8]) -> Result<Line, LineError>
-    ensures { Gives (λ l. l) result (unlock_of bytes.now) }
-{
-    let (seat, rest) = numbers::seat(bytes)?;
-    let (lock, rest) = numbers::lock(rest)?;
-    let (mode, rest) = words::mode(rest)?;
-    if !rest.is_empty() {
-        return Err(LineError::SYNTAX);
-    }
-    Ok(Line::Unlock { seat, lock, mode })
 }

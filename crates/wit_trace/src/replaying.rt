@@ -15,13 +15,13 @@ use crate::stream::ports::{Failures, Ports};
 use crate::stream::run;
 use crate::summary::{ReplayError, Summary};
 use bad_lines::bad_text;
-use calls::enter_line;
+use calls::{enter_line, enter_lock_line};
 use prelude::{Prelude, add_line, is_prelude, new_prelude, open};
 use std::alloc::{AllocError, Global};
 use std::io::{BufRead, Write};
 use std::mem;
 use wit_core::Verifier;
-use wit_grammar::{LineError, parse_line};
+use wit_grammar::{LineError, parse_line, parse_lock_line};
 use wit_model::{Cause, Limits, Line, View};
 
 /// The log's limit in a replay.
@@ -148,6 +148,21 @@ impl Replaying {
     }
 
     fn read(&mut self, alloc: Global, number: u64, bytes: &[u8]) -> Result<Vec<u8>, LineError>
+        requires { length bytes.now ≤ LONGEST }
+        ensures { Passes (outcome (progress self.old) number bytes.now)
+            (progress self.old) (progress self.new) result }
+    {
+        if let Replaying::Reading(verifier) = self {
+            if let Some(line) = parse_lock_line(bytes) {
+                return enter_lock_line(alloc, verifier, line);
+            }
+        }
+        self.read_any(alloc, number, bytes)
+    }
+
+    // By itself, so that a line that makes a call on a lock doesn't pay for its large locals.
+    #[inline(never)]
+    fn read_any(&mut self, alloc: Global, number: u64, bytes: &[u8]) -> Result<Vec<u8>, LineError>
         requires { length bytes.now ≤ LONGEST }
         ensures { Passes (outcome (progress self.old) number bytes.now)
             (progress self.old) (progress self.new) result }

@@ -1,14 +1,15 @@
 //! The calls that lines make.
 
-ghost use Rattle.std.specs.Prelude.{◌≡◌};
+ghost use Rattle.std.specs.Prelude.{◌≡◌, IfOk};
 ghost use Rattle.std.specs.Option.{option_copied};
 ghost use Rattle.wit_model.specs.declared.calls.Call.TheVariants.{Init};
-ghost use Rattle.wit_model.specs.Trace.Output.{Reading, calls, makes};
+ghost use Rattle.wit_model.specs.Trace.Output.{Reading, calls, makes, told};
+ghost use Rattle.wit_grammar.specs.Lines.{as_line};
 ghost use Rattle.wit_trace.specs.Replays.{Calls, Passes};
 
-use std::alloc::Global;
+use std::alloc::{AllocError, Global};
 use wit_core::Verifier;
-use wit_grammar::LineError;
+use wit_grammar::{LineError, LockLine};
 use wit_model::{Line, NewLock, Reply, SeatNo, Site};
 use wit_report::report_text;
 
@@ -20,7 +21,29 @@ pub fn enter_line(alloc: Global, verifier: &mut Verifier, line: Line) -> Result<
     ensures { Passes (calls verifier.old line) (Reading verifier.old) (Reading verifier.new) result }
 {
     let reply = make_call(verifier, line)?;
-    let text = report_text(alloc, verifier, &reply)?;
+    Ok(told(alloc, verifier, &reply)?)
+}
+
+/// A line that makes a call on a lock makes it, as `enter_line` does.
+///
+/// # Errors
+/// As those of `enter_line`.
+pub fn enter_lock_line(
+    alloc: Global,
+    verifier: &mut Verifier,
+    line: LockLine<'_>,
+) -> Result<Vec<u8>, LineError>
+    ensures { Passes (calls verifier.old (as_line line.entry)) (Reading verifier.old) (Reading verifier.new) result }
+{
+    let reply = call_on_lock(verifier, line)?;
+    Ok(told(alloc, verifier, &reply)?)
+}
+
+// The text of a reply.
+fn told(alloc: Global, verifier: &Verifier, reply: &Reply) -> Result<Vec<u8>, AllocError>
+    ensures { IfOk result (λ text. text.items ≡ told verifier.now reply.now) }
+{
+    let text = report_text(alloc, verifier, reply)?;
     Ok(text.into_bytes())
 }
 
@@ -38,11 +61,44 @@ fn make_call(verifier: &mut Verifier, line: Line) -> Result<Reply, LineError>
             file,
             line,
         } => {
-            let file = verifier.file(file.as_str())?;
+            let file = file.as_str();
+            call_on_lock(
+                verifier,
+                LockLine::Check {
+                    seat,
+                    lock,
+                    mode,
+                    ops,
+                    file,
+                    line,
+                },
+            )
+        }
+        Line::Lock { seat, lock } => call_on_lock(verifier, LockLine::Lock { seat, lock }),
+        Line::Unlock { seat, lock, mode } => call_on_lock(
+            verifier,
+            LockLine::Unlock { seat, lock, mode },
+        ),
+    }
+}
+
+fn call_on_lock(verifier: &mut Verifier, line: LockLine<'_>) -> Result<Reply, LineError>
+    ensures { Calls (calls verifier.old (as_line line.entry)) verifier.old verifier.new result }
+{
+    match line {
+        LockLine::Check {
+            seat,
+            lock,
+            mode,
+            ops,
+            file,
+            line,
+        } => {
+            let file = verifier.file(file)?;
             Ok(verifier.check(seat, lock, mode, ops, Site { file, line })?)
         }
-        Line::Lock { seat, lock } => Ok(verifier.note(seat, lock)?),
-        Line::Unlock { seat, lock, mode } => Ok(verifier.unlock(seat, lock, mode)?),
+        LockLine::Lock { seat, lock } => Ok(verifier.note(seat, lock)?),
+        LockLine::Unlock { seat, lock, mode } => Ok(verifier.unlock(seat, lock, mode)?),
     }
 }
 

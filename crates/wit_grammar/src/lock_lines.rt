@@ -1,0 +1,121 @@
+//! Lines that make a call on a lock.
+
+ghost use Rattle.std.specs.Prelude.{◌≡◌, IfOk};
+ghost use Rattle.wit_model.specs.Trace.Reading.{check_of, note_of, unlock_of, line_of};
+ghost use Rattle.wit_grammar.specs.Lines.{Finds, Gives, as_line};
+
+use crate::errors::LineError;
+use crate::{names, numbers, words};
+use std::alloc::{AllocError, Global};
+use wit_model::{FileName, Line, LockNo, Mode, OpFlags, SeatNo};
+
+/// A line that makes a call on a lock; its file stands in the bytes that it was read from.
+#[derive(Clone, Copy, Debug)]
+pub enum LockLine<'a> {
+    /// `check`: a lock is about to be acquired, at a line of a file.
+    Check {
+        seat: SeatNo,
+        lock: LockNo,
+        mode: Mode,
+        ops: OpFlags,
+        file: &'a str,
+        line: u32,
+    },
+    /// `lock`: the lock asked for was acquired.
+    Lock {
+        seat: SeatNo,
+        lock: LockNo,
+    },
+    /// `unlock`: a lock is released, as one held in this mode.
+    Unlock {
+        seat: SeatNo,
+        lock: LockNo,
+        mode: Mode,
+    },
+}
+
+/// The line that the bytes spell, where it makes a call on a lock, without a copy. `None` says nothing.
+#[tactic(auto, unfolding(wit_model::specs::Trace::Reading::line_of))]
+pub fn parse_lock_line(bytes: &[u8]) -> Option<LockLine<'_>>
+    ensures { Finds as_line result (line_of bytes.now) }
+{
+    let (keyword, rest) = words::split_before(b' ', bytes);
+    match keyword {
+        b"check" => check(rest).ok(),
+        b"lock" => lock(rest).ok(),
+        b"unlock" => unlock(rest).ok(),
+        _ => None,
+    }
+}
+
+/// The line by itself.
+pub fn owned(alloc: Global, line: LockLine<'_>) -> Result<Line, AllocError>
+    ensures { IfOk result (λ l. l ≡ as_line line.entry) }
+{
+    match line {
+        LockLine::Check {
+            seat,
+            lock,
+            mode,
+            ops,
+            file,
+            line,
+        } => Ok(Line::Check {
+            seat,
+            lock,
+            mode,
+            ops,
+            file: FileName::new(alloc, file)?,
+            line,
+        }),
+        LockLine::Lock { seat, lock } => Ok(Line::Lock { seat, lock }),
+        LockLine::Unlock { seat, lock, mode } => Ok(Line::Unlock { seat, lock, mode }),
+    }
+}
+
+#[tactic(auto, unfolding(wit_model::specs::Trace::Reading::check_of))]
+pub fn check(bytes: &[u8]) -> Result<LockLine<'_>, LineError>
+    ensures { Gives as_line result (check_of bytes.now) }
+{
+    let (seat, rest) = numbers::seat(bytes)?;
+    let (lock, rest) = numbers::lock(rest)?;
+    let (mode, rest) = words::mode(rest)?;
+    let (ops, rest) = words::flags(b"ndf", rest)?;
+    let (file, line, rest) = names::site(rest)?;
+    if !rest.is_empty() {
+        return Err(LineError::SYNTAX);
+    }
+    Ok(LockLine::Check {
+        seat,
+        lock,
+        mode,
+        ops: OpFlags(ops),
+        file,
+        line,
+    })
+}
+
+#[tactic(auto, unfolding(wit_model::specs::Trace::Reading::note_of))]
+pub fn lock(bytes: &[u8]) -> Result<LockLine<'_>, LineError>
+    ensures { Gives as_line result (note_of bytes.now) }
+{
+    let (seat, rest) = numbers::seat(bytes)?;
+    let (lock, rest) = numbers::lock(rest)?;
+    if !rest.is_empty() {
+        return Err(LineError::SYNTAX);
+    }
+    Ok(LockLine::Lock { seat, lock })
+}
+
+#[tactic(auto, unfolding(wit_model::specs::Trace::Reading::unlock_of))]
+pub fn unlock(bytes: &[u8]) -> Result<LockLine<'_>, LineError>
+    ensures { Gives as_line result (unlock_of bytes.now) }
+{
+    let (seat, rest) = numbers::seat(bytes)?;
+    let (lock, rest) = numbers::lock(rest)?;
+    let (mode, rest) = words::mode(rest)?;
+    if !rest.is_empty() {
+        return Err(LineError::SYNTAX);
+    }
+    Ok(LockLine::Unlock { seat, lock, mode })
+}
