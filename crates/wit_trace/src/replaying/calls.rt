@@ -1,13 +1,14 @@
 //! The calls that lines make.
 
-ghost use Rattle.std.specs.Prelude.{◌≡◌, IfOk};
+ghost use Rattle.std.specs.Prelude.{◌≡◌, IfOk, IfErr};
 ghost use Rattle.std.specs.Option.{option_copied};
 ghost use Rattle.wit_model.specs.declared.calls.Call.TheVariants.{Init};
 ghost use Rattle.wit_model.specs.Trace.Output.{Reading, calls, makes, told};
 ghost use Rattle.wit_grammar.specs.Lines.{as_line};
+ghost use Rattle.wit_grammar.specs.declared.errors.LineError.TheVariants.{Memory};
 ghost use Rattle.wit_trace.specs.Replays.{Calls, Passes};
 
-use std::alloc::{AllocError, Global};
+use std::alloc::Global;
 use wit_core::Verifier;
 use wit_grammar::{LineError, LockLine};
 use wit_model::{Line, NewLock, Reply, SeatNo, Site};
@@ -21,7 +22,7 @@ pub fn enter_line(alloc: Global, verifier: &mut Verifier, line: Line) -> Result<
     ensures { Passes (calls verifier.old line) (Reading verifier.old) (Reading verifier.new) result }
 {
     let reply = make_call(verifier, line)?;
-    Ok(told(alloc, verifier, &reply)?)
+    told(alloc, verifier, &reply)
 }
 
 /// A line that makes a call on a lock makes it, as `enter_line` does.
@@ -36,12 +37,13 @@ pub fn enter_lock_line(
     ensures { Passes (calls verifier.old (as_line line.entry)) (Reading verifier.old) (Reading verifier.new) result }
 {
     let reply = call_on_lock(verifier, line)?;
-    Ok(told(alloc, verifier, &reply)?)
+    told(alloc, verifier, &reply)
 }
 
 // The text of a reply.
-fn told(alloc: Global, verifier: &Verifier, reply: &Reply) -> Result<Vec<u8>, AllocError>
-    ensures { IfOk result (λ text. text.items ≡ told verifier.now reply.now) }
+fn told(alloc: Global, verifier: &Verifier, reply: &Reply) -> Result<Vec<u8>, LineError>
+    ensures ok { IfOk result (λ text. text.items ≡ told verifier.now reply.now) }
+    ensures err { IfErr result (λ e. e ≡ Memory) }
 {
     let text = report_text(alloc, verifier, reply)?;
     Ok(text.into_bytes())
