@@ -22,6 +22,11 @@ use Rattle.wit_model.specs.Trace.Paths.{path}
 use Rattle.wit_model.specs.Trace.Spelling.{quoted}
 use Rattle.wit_model.specs.Rules.State.{Known}
 
+-- these pieces one behind another, as a line
+abbrev pub line : List (List ℕ) → List ℕ
+line [] = 10 ∷ []
+line (piece ∷ pieces) = piece ++ line pieces
+
 -- a class in words
 abbrev pub class_words : Class → List ℕ
 class_words SleepMutex = codes "sleep mutex"
@@ -41,8 +46,8 @@ site_words files site = file_with files site.file.0 ++ 58 ∷ decimal site.line
 abbrev pub lock_line : List Lock → List (List ℕ) → List ℕ → LockAt → List ℕ
 lock_line locks files rank at =
     let lock = (lock_at locks at.lock.0).made in
-    codes " " ++ (rank ++ (codes " " ++ (quoted lock.name ++ (codes " (" ++ (type_name_of lock ++ (codes ", " ++ (class_words lock.class ++ (codes ") @ "
-    ++ (site_words files at.site ++ 10 ∷ [])))))))))
+    line (codes " " ∷ rank ∷ codes " " ∷ quoted lock.name ∷ codes " (" ∷ type_name_of lock ∷ codes ", " ∷ class_words lock.class ∷ codes ") @ "
+    ∷ site_words files at.site ∷ [])
 
 abbrev pub heading_words : Heading → List ℕ
 heading_words Order = codes "lock order reversal:"
@@ -68,8 +73,8 @@ origin_words files (Some o) = by_origin files o.origin
 -- a direct order, as a line: "TYPE" -> "TYPE" @ ORIGIN
 abbrev pub order_line : Known → List (List ℕ) → ℕ → ℕ → List ℕ
 order_line k files a b =
-    codes " " ++ (quoted (name_of a k.types) ++ (codes " -> " ++ (quoted (name_of b k.types) ++ (codes " @ "
-    ++ (origin_words files (find (is_adoption_of a b) k.orders) ++ 10 ∷ [])))))
+    line (codes " " ∷ quoted (name_of a k.types) ∷ codes " -> " ∷ quoted (name_of b k.types) ∷ codes " @ "
+    ∷ origin_words files (find (is_adoption_of a b) k.orders) ∷ [])
 
 -- the orders between neighbours of a path
 abbrev pub order_lines : Known → List (List ℕ) → List ℕ → List ℕ
@@ -80,11 +85,11 @@ order_lines k files (a ∷ b ∷ way) = order_line k files a b ++ order_lines k 
 -- the established order, where there is one
 abbrev pub established : Known → List (List ℕ) → Option (List ℕ) → List ℕ
 established k files None = []
-established k files (Some way) = codes "established order:" ++ (10 ∷ order_lines k files way)
+established k files (Some way) = line (codes "established order:" ∷ []) ++ order_lines k files way
 
 -- the text of a report, empty where nothing is reported
 abbrev pub report_text : Known → List (List ℕ) → Reply → List ℕ
 report_text k files (Reversal c) =
-    heading_words c.heading ++ (10 ∷ (conflict_lines k.locks files c c.older
-    ++ established k files (path k.orders (length k.types) (lock_at k.locks c.asked.lock.0).type_no.0 (lock_at k.locks c.held.lock.0).type_no.0)))
+    line (heading_words c.heading ∷ []) ++ conflict_lines k.locks files c c.older
+    ++ established k files (path k.orders (length k.types) (lock_at k.locks c.asked.lock.0).type_no.0 (lock_at k.locks c.held.lock.0).type_no.0)
 report_text k files _ = []
