@@ -19,7 +19,7 @@ use Rattle.wit_model.proofs.Chains.Held.{one_if, once}
 use Rattle.wit_model.proofs.Chains.Changes.{at, is_other, map-absent, filter-absent}
 
 -- how often a lock stands in a chain
-pub stands : ℕ → List Instance → ℕ
+unfoldable pub stands : ℕ → List Instance → ℕ
 stands l [] = 0
 stands l (i ∷ c) = one_if (is_of l i) + stands l c
 

@@ -1,5 +1,5 @@
 -- The state of a verifier: what its rules speak of, taken over its history.
-use Rattle.std.specs.Prelude.{ℕ, ◌+◌, Bool, true, false, nat_le, List, [], ◌∷◌, ◌++◌, Option, None, Some, map, length, unwrap_or, sum_by}
+use Rattle.std.specs.Prelude.{ℕ, ◌+◌, Bool, true, false, nat_le, List, [], ◌∷◌, ◌++◌, Option, None, Some, map, length, unwrap_or, sum_by, if◌then◌else◌}
 use Rattle.std.specs.List.{range_with_len}
 use Rattle.wit_model.specs.declared.locks.Class.{Class}
 use Rattle.wit_model.specs.declared.locks.TypeNo.{TypeNo}
@@ -108,8 +108,15 @@ abbrev pub no_seat : Seat
 no_seat = record { sleep = []; spin = []; pending = None }
 
 -- the seat with this number
+abbrev pub seat_among : List Seat → ℕ → Seat
+seat_among seats t = unwrap_or (with_number seats t) no_seat
+
 abbrev pub seat_at : State → ℕ → Seat
-seat_at s t = unwrap_or (with_number s.seats t) no_seat
+seat_at s t = seat_among s.seats t
+
+-- what a seat holds of one kind: the spin kind is `true`
+abbrev pub chain_in : Bool → Seat → List Instance
+chain_in spin s = if spin then s.spin else s.sleep
 
 abbrev pub is_seat : State → ℕ → Bool
 is_seat s t = is_given s.seats t
