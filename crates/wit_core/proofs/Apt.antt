@@ -29,18 +29,18 @@ use Rattle.wit_core.specs.Kept.{IsKept, start_in, history_in, story_in}
 use Rattle.wit_core.proofs.Keeping.{types_few}
 
 module _ (v : Inside) (k : IsKept v) where
-  known-is : v.books.known.known ≡ known_of (start_in v) (history_in v)
+  known-is : v.known.known ≡ known_of (start_in v) (history_in v)
   known-is = ap (λ (s : State). s.known) k.state
 
   -- a known type's number is one of the matrix's
-  number : (t : ℕ) → IsNumber (length (types_of (start_in v) (history_in v))) t → IsNumber v.books.known.most_types t
+  number : (t : ℕ) → IsNumber (length (types_of (start_in v) (history_in v))) t → IsNumber v.known.most_types t
   number t is =
       let few = types_few v k in
       let same = ap (λ (x : Known). length x.types) known-is in
       let size = k.types in
       (is.0, omega (arith, is.1, few, same, size))
 
-  pub given-number : (types : List LockType) (size t : ℕ) (r : Bool) → types ≡ v.books.known.known.types → size ≡ v.books.known.most_types
+  pub given-number : (types : List LockType) (size t : ℕ) (r : Bool) → types ≡ v.known.known.types → size ≡ v.known.most_types
       → r ≡ is_given types t → r ≡ true → IsNumber size t
   given-number types size t r same size_is is yes' =
       let parts = and_parts (nat_lt 0 t) (nat_le t (length types)) (sym is ∙ yes') in
@@ -51,12 +51,12 @@ module _ (v : Inside) (k : IsKept v) where
       let most = k.types in
       (omega (arith, some), omega (arith, within, count, few, most, size_is))
 
-  among : OrdersAmong (length (types_of (start_in v) (history_in v))) v.books.known.known.orders
+  among : OrdersAmong (length (types_of (start_in v) (history_in v))) v.known.known.orders
   among = λ a b direct.
-      orders-among (start_in v) v.books.known.files (history_in v) k.legal a b (ap (λ (x : Known). is_direct x.orders a b) (sym known-is) ∙ direct)
+      orders-among (start_in v) v.known.files (history_in v) k.legal a b (ap (λ (x : Known). is_direct x.orders a b) (sym known-is) ∙ direct)
 
   -- the path is that of the history's orders, it leads there, and want of memory stands only in place of a path
-  pub path-kept : (os : List Adoption) (a b : ℕ) (r : Result (Option (Vec TypeNo)) Fault) → os ≡ v.books.known.known.orders
+  pub path-kept : (os : List Adoption) (a b : ℕ) (r : Result (Option (Vec TypeNo)) Fault) → os ≡ v.known.known.orders
       → IfOk r (λ p. (types : ℕ) → OrdersAmong types os → path_numbers p ≡ path os types a b)
       → IfOk r (λ p. path_numbers p ≡ path (orders_of (start_in v) (history_in v)) (length (types_of (start_in v) (history_in v))) a b)
   path-kept os a b (Ok p) is told =
@@ -64,21 +64,21 @@ module _ (v : Inside) (k : IsKept v) where
       ∙ (ap (λ ps. path ps (length (types_of (start_in v) (history_in v))) a b) (is ∙ ap (λ (x : Known). x.orders) known-is))
   path-kept os a b (Err fault) is told = tt
 
-  pub leads-kept : (os : List Adoption) (a b : ℕ) (r : Result (Option (Vec TypeNo)) Fault) → os ≡ v.books.known.known.orders
+  pub leads-kept : (os : List Adoption) (a b : ℕ) (r : Result (Option (Vec TypeNo)) Fault) → os ≡ v.known.known.orders
       → IfOk r (λ p. IfSome (path_numbers p) (LeadsBy os a b)) → IfOk r (λ p. IfSome (path_numbers p) (LeadsBy (orders_of (start_in v) (history_in v)) a b))
   leads-kept os a b r is told = subst (λ ps. IfOk r (λ p. IfSome (path_numbers p) (LeadsBy ps a b))) (is ∙ ap (λ (x : Known). x.orders) known-is) told
 
-  pub wanting-kept : (os : List Adoption) (a b : ℕ) (r : Result (Option (Vec TypeNo)) Fault) → os ≡ v.books.known.known.orders
+  pub wanting-kept : (os : List Adoption) (a b : ℕ) (r : Result (Option (Vec TypeNo)) Fault) → os ≡ v.known.known.orders
       → IfErr r (λ e. (e ≡ OutOfMemory) × (is_before os a b ≡ true)) → IfErr r (λ e. (e ≡ OutOfMemory) × Before (orders_of (start_in v) (history_in v)) a b)
   wanting-kept os a b (Ok p) is told = tt
   wanting-kept os a b (Err fault) is told =
       (told.0, before_from_test (orders_of (start_in v) (history_in v)) a b (sym (ap (λ ps. is_before ps a b) (is ∙ ap (λ (x : Known). x.orders) known-is)) ∙ told.1))
 
   -- what an accepted check's verdict teaches can be learnt
-  pub apt : (t : ℕ) (q : Request) (verdict : Verdict) → answer_of (story_in v) t (Check q) ≡ Ok (reply_of verdict) → IsApt v.books.known.most_types v.books.known.known verdict
+  pub apt : (t : ℕ) (q : Request) (verdict : Verdict) → answer_of (story_in v) t (Check q) ≡ Ok (reply_of verdict) → IsApt v.known.most_types v.known.known verdict
   apt t q Pass ok = tt
   apt t q (Adopt p c) ok =
-      let o = adopted-orderly (start_in v) v.books.known.files (history_in v) t q p c k.legal (check_accepted (state_of (story_in v)) t q _ ok) in
+      let o = adopted-orderly (start_in v) v.known.files (history_in v) t q p c k.legal (check_accepted (state_of (story_in v)) t q _ ok) in
       record {
         parent = number p.0 o.parent;
         child = number c.0 o.child;
@@ -86,11 +86,11 @@ module _ (v : Inside) (k : IsKept v) where
         orderly = ap (λ (x : Known). is_before x.orders c.0 p.0) known-is ∙ o.orderly;
       }
   apt t q (Silent a b) ok =
-      let o = silent-known (start_in v) v.books.known.files (history_in v) t q a b k.legal (check_accepted (state_of (story_in v)) t q _ ok) in
+      let o = silent-known (start_in v) v.known.files (history_in v) t q a b k.legal (check_accepted (state_of (story_in v)) t q _ ok) in
       (number a.0 o.0, number b.0 o.1)
   apt t q (Reversal x) ok =
-      let o = reversal-known (start_in v) v.books.known.files (history_in v) t q x k.legal (check_accepted (state_of (story_in v)) t q _ ok) in
-      let locks : v.books.known.known.locks ≡ typed_locks (start_in v) (history_in v) = ap (λ (y : Known). y.locks) known-is in (
-        subst (λ (ls : List Lock). IsNumber v.books.known.most_types (lock_at ls x.held.lock.0).type_no.0) (sym locks) (number _ o.0),
-        subst (λ (ls : List Lock). IsNumber v.books.known.most_types (lock_at ls x.asked.lock.0).type_no.0) (sym locks) (number _ o.1),
+      let o = reversal-known (start_in v) v.known.files (history_in v) t q x k.legal (check_accepted (state_of (story_in v)) t q _ ok) in
+      let locks : v.known.known.locks ≡ typed_locks (start_in v) (history_in v) = ap (λ (y : Known). y.locks) known-is in (
+        subst (λ (ls : List Lock). IsNumber v.known.most_types (lock_at ls x.held.lock.0).type_no.0) (sym locks) (number _ o.0),
+        subst (λ (ls : List Lock). IsNumber v.known.most_types (lock_at ls x.asked.lock.0).type_no.0) (sym locks) (number _ o.1),
       )

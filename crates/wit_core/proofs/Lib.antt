@@ -1,12 +1,14 @@
 pub mod Apt
-pub mod Calls
 pub mod Ends
 pub mod Enrolling
 pub mod Entering
+pub mod Entries
+pub mod Finding
 pub mod Going
 pub mod Keeping
 pub mod Listing
 pub mod Looking
+pub mod Now
 pub mod Relating
 pub mod SeatRows
 pub mod Steps

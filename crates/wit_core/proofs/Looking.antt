@@ -1,5 +1,5 @@
 -- One look through a chain, newest first, and what the verdict makes of it.
-use Rattle.std.proofs.Common.{◌≡◌, ℕ, ◌+◌, ◌<◌, Bool, true, false, not, ◌&&◌, cond, is_some, List, [], ◌∷◌, Option, None, Some, Result, Ok, Err, length, drop, get_or, find, reverse, refl, sym, ap, ap₂, ◌∙◌, true≢false}
+use Rattle.std.proofs.Common.{◌≡◌, ℕ, ◌+◌, ◌<◌, Bool, true, false, not, ◌&&◌, cond, List, [], ◌∷◌, Option, None, Some, Result, Ok, Err, length, drop, get_or, find, reverse, refl, sym, ap, ◌∙◌, true≢false}
 use Rattle.std.specs.List.{last_or}
 use Rattle.std.specs.Option.{option_or}
 use Rattle.std.proofs.lemmas.List.{drop_more, reverse-append}
@@ -12,14 +12,12 @@ use Rattle.wit_model.specs.declared.calls.Request.{Request}
 use Rattle.wit_model.specs.declared.calls.Reply.{Reply}
 use Rattle.wit_model.specs.declared.calls.Reply.TheVariants.{Pass}
 use Rattle.wit_model.specs.Rules.Orders.{is_direct}
-use Rattle.wit_model.specs.Rules.State.{Seat, State, Known, is_seat, seat_at}
+use Rattle.wit_model.specs.Rules.State.{State, Known, is_seat}
 use Rattle.wit_model.specs.Rules.Step.{is_deepest, with_room, is_pending, is_shareable, chain_for, held_by, step_check}
 use Rattle.wit_model.specs.Rules.Verdict.{is_exclusive, is_of, type_in, violates, judged, among, verdict}
 use Rattle.wit_model.specs.declared.locks.Class.{Class}
 use Rattle.wit_model.specs.Rules.Locks.{lock_at}
-use Rattle.wit_model.specs.Rules.Types.{is_spin}
 use Rattle.wit_model.specs.Rules.Numbers.{is_given, is_number}
-use Rattle.wit_core.specs.Rows.{chain_in}
 use Rattle.wit_core.specs.Verdict.{shallow}
 
 module _ (p : Instance → Bool) (c : List Instance) (i n : ℕ) (x d : Instance) (found : Option Instance) (lt : i < length c) (next : n ≡ i + 1) (is : x ≡ get_or c i d) where
@@ -66,19 +64,16 @@ skip true other rest none at = absurd (true≢false none)
 skip false other rest none at = at
 
 -- a refusal by the verdict, once all that stands before it is passed
-pub check-refused : (s : State) (t : ℕ) (q : Request) (v : Seat) (spin : Bool) (class : Class) (c : List Instance) (f : Fault)
+pub check-refused : (s : State) (t : ℕ) (q : Request) (class : Class) (f : Fault)
     → is_seat s t ≡ true → is_given s.known.locks q.lock.0 ≡ true → is_number s.files q.site.file.0 ≡ true
-    → (not (is_exclusive q.mode) && not (is_shareable class)) ≡ false → seat_at s t ≡ v → is_some v.pending ≡ false
-    → class ≡ (lock_at s.known.locks q.lock.0).made.class → spin ≡ is_spin class → c ≡ chain_in spin v
-    → Err f ≡ shallow (find (is_of q.lock.0) c) (verdict s.known q c) → Err f ≡ step_check s t q
-check-refused s t q v spin class c f seat made file mode at free same kind is told =
-    let here : c ≡ chain_for s t q.lock.0 = is ∙ ap₂ chain_in (kind ∙ ap is_spin same) (sym at) in
-    let told' : Err f ≡ shallow (held_by s t q.lock.0) (verdict s.known q (chain_for s t q.lock.0)) =
-    told ∙ ap (λ d. shallow (find (is_of q.lock.0) d) (verdict s.known q d)) here in
+    → (not (is_exclusive q.mode) && not (is_shareable class)) ≡ false → is_pending s t ≡ false
+    → class ≡ (lock_at s.known.locks q.lock.0).made.class
+    → Err f ≡ shallow (held_by s t q.lock.0) (verdict s.known q (chain_for s t q.lock.0)) → Err f ≡ step_check s t q
+check-refused s t q class f seat made file mode free same told =
     skip (not (is_seat s t)) UnknownSeat _ (ap not seat)
     (skip (not (is_given s.known.locks q.lock.0)) UnknownLock _ (ap not made)
     (skip (not (is_number s.files q.site.file.0)) UnknownFile _ (ap not file)
     (skip (not (is_exclusive q.mode) && not (is_shareable (lock_at s.known.locks q.lock.0).made.class)) ModeNotAllowed _
     (ap (λ k. not (is_exclusive q.mode) && not (is_shareable k)) (sym same) ∙ mode)
-    (skip (is_pending s t) Pending _ (ap (λ (x : Seat). is_some x.pending) at ∙ free)
-    (refused s (held_by s t q.lock.0) (verdict s.known q (chain_for s t q.lock.0)) f told')))))
+    (skip (is_pending s t) Pending _ free
+    (refused s (held_by s t q.lock.0) (verdict s.known q (chain_for s t q.lock.0)) f told)))))

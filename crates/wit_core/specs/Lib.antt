@@ -1,4 +1,4 @@
-pub mod Books
+pub mod Answers
 pub mod Following
 pub mod Fresh
 pub mod Journal
@@ -9,5 +9,6 @@ pub mod Logged
 pub mod Numbered
 pub mod Related
 pub mod Remembered
-pub mod Rows
+pub mod Seated
+pub mod Seats
 pub mod Verdict

@@ -1,26 +1,36 @@
--- A seat of the program as the rules see it, and what an acquisition and a release leave of its chains.
-use Rattle.std.specs.Prelude.{ℕ, ◌+◌, ◌-◌, ◌<◌, ◌≡◌, Bool, true, false, List, [], ◌∷◌, ◌++◌, Option, None, Some, is_some, vec_len, nat_lt, get_or, set, if◌then◌else◌}
+-- The seats of the program as the rules see them, and what a request, an acquisition and a release leave of one.
+use Rattle.std.specs.Prelude.{ℕ, ◌+◌, ◌-◌, ◌<◌, ◌≡◌, Bool, true, false, List, [], ◌∷◌, ◌++◌, Option, None, Some, is_some, vec_len, nat_lt, ◌&&◌, length, get_or, set, if◌then◌else◌}
 use Rattle.std.specs.List.{position, remove}
 use Rattle.wit_model.specs.declared.locks.Mode.TheVariants.{Exclusive}
 use Rattle.wit_model.specs.Rules.History.{no_site}
 use Rattle.std.specs.Vec.{vec_capacity}
+use Rattle.wit_model.specs.declared.locks.LockNo.{LockNo}
 use Rattle.wit_model.specs.declared.locks.Site.{Site}
+use Rattle.wit_model.specs.Rules.Numbers.{with_number}
 use Rattle.wit_model.specs.Rules.Verdict.{is_of}
 use Rattle.wit_model.specs.declared.locks.Instance.{Instance}
 use Rattle.wit_model.specs.declared.calls.Request.{Request}
 use Rattle.wit_model.specs.Rules.State as model
 use Rattle.wit_core.specs.declared.seats.Seat.{Seat}
 
+-- the seats, and for each of them whether there is room for one more lock of either kind
+pub record Row : Type 0 where
+  pub seats : List model.Seat
+  pub spaces : List Bool
+
+-- there is room for one more lock of the seat with this number
+abbrev pub HasSpaceFor : Row → ℕ → Type 0
+HasSpaceFor row t = with_number row.spaces t ≡ Some true
+
 abbrev pub seat_view : Seat → model.Seat
 seat_view s = record { sleep = s.sleep.items; spin = s.spin.items; pending = s.pending }
-
--- the chain of one kind: the spin kind is true
-abbrev pub chain_in : Bool → model.Seat → List Instance
-chain_in spin s = if spin then s.spin else s.sleep
 
 -- both chains have room for one more
 abbrev pub HasSpace : Seat → Type 0
 HasSpace s = (vec_len s.sleep < vec_capacity s.sleep) × (vec_len s.spin < vec_capacity s.spin)
+
+abbrev pub is_spacious : Seat → Bool
+is_spacious s = nat_lt (vec_len s.sleep) (vec_capacity s.sleep) && nat_lt (vec_len s.spin) (vec_capacity s.spin)
 
 -- while a request is pending, there is room for its note
 abbrev pub HasRoom : Seat → Type 0
@@ -37,6 +47,11 @@ recursed site i = record i { count = i.count + 1; site = site }
 -- released once
 abbrev pub fewer : Instance → Instance
 fewer i = record i { count = i.count - 1 }
+
+-- the lock stands at one place at most
+abbrev pub IsOnce : ℕ → List Instance → Type 0
+IsOnce l chain = (i j : ℕ) (d : Instance) → i < length chain → j < length chain
+    → is_of l (get_or chain i d) ≡ true → is_of l (get_or chain j d) ≡ true → i ≡ j
 
 -- the count of the lock at this place can rise
 abbrev pub CanRise : List Instance → Option ℕ → Type 0
@@ -58,44 +73,33 @@ recorded i chain = recorded_at i chain (position (is_of i.lock.0) chain)
 abbrev pub released_once : List Instance → ℕ → Instance → List Instance
 released_once chain p i = if nat_lt 0 i.count then set chain p (fewer i) else remove chain p
 
-abbrev pub released_at : Instance → List Instance → Option ℕ → List Instance
-released_at d chain None = chain
-released_at d chain (Some p) = released_once chain p (get_or chain p d)
-
--- a chain after a release: the lock's count falls, or it goes out where it has none
+-- a chain after a release of the lock at this place: its count falls, or it goes out where it has none
 abbrev pub released : ℕ → List Instance → List Instance
-released l chain = released_at no_instance chain (position (is_of l) chain)
+released p chain = released_once chain p (get_or chain p no_instance)
+
+-- a seat where the chain of one kind is changed so
+abbrev pub in_chain : Bool → (List Instance → List Instance) → model.Seat → model.Seat
+in_chain spin change s = record s {
+  sleep = if spin then s.sleep else change s.sleep;
+  spin = if spin then change s.spin else s.spin;
+}
 
 -- a seat after the acquisition that it asked for
 abbrev pub noted_in : Bool → Instance → model.Seat → model.Seat
-noted_in spin i s = record {
-  sleep = if spin then s.sleep else recorded i s.sleep;
-  spin = if spin then recorded i s.spin else s.spin;
-  pending = None;
-}
+noted_in spin i s = record (in_chain spin (recorded i) s) { pending = None }
 
--- a seat after a release
+-- a seat after a release of the lock of this kind at this place
 abbrev pub unlocked_in : Bool → ℕ → model.Seat → model.Seat
-unlocked_in spin l s = record {
-  sleep = if spin then s.sleep else released l s.sleep;
-  spin = if spin then released l s.spin else s.spin;
-  pending = s.pending;
-}
+unlocked_in spin p s = in_chain spin (released p) s
 
 -- a seat once it has asked for a lock
 abbrev pub asked_in : Request → model.Seat → model.Seat
 asked_in q s = record s { pending = Some q }
 
--- the seats where the one at this place is changed so
-abbrev pub changed_at : ℕ → (model.Seat → model.Seat) → List model.Seat → List model.Seat
-changed_at place change seats = set seats place (change (get_or seats place model.no_seat))
+-- the seats where the one with this number is changed so
+abbrev pub changed : ℕ → (model.Seat → model.Seat) → List model.Seat → List model.Seat
+changed t change seats = set seats (t - 1) (change (get_or seats (t - 1) model.no_seat))
 
-abbrev pub HasSpaceAt : ℕ → List Seat → Type 0
-HasSpaceAt place seats = (d : Seat) → HasSpace (get_or seats place d)
-
-abbrev pub IsShallowAt : ℕ → Bool → ℕ → List Seat → Type 0
-IsShallowAt place spin l seats = (d : Seat) → IsShallow l (chain_in spin (seat_view (get_or seats place d)))
-
--- the seat at this place asks for nothing
-abbrev pub IsFreeAt : ℕ → List Seat → Type 0
-IsFreeAt place seats = (d : Seat) → (get_or seats place d).pending ≡ None
+-- a new acquisition of a lock, as its request has it
+abbrev pub taken_by : LockNo → Request → Instance
+taken_by l q = record { lock = l; mode = q.mode; norelease = false; count = 0; site = q.site }

@@ -1,12 +1,14 @@
 //! The verifier of lock orders, and its log.
 #![tactic(auto)]
 
-mod books;
+mod calls;
 mod known;
 mod lists;
 mod log;
 mod names;
 mod orders;
+mod questions;
+mod readers;
 mod seats;
 mod verdict;
 mod verifier;

@@ -1,4 +1,4 @@
-use Rattle.wit_core.proofs.Calls.{file_named, kept_file}
+use Rattle.wit_core.proofs.Entries.{file_named, kept_file}
 use Rattle.wit_core.proofs.verifier.Verifier.file.Goals as goal
 
 pub invariant_of-self : goal.invariant_of-self

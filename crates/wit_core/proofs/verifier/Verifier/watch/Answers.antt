@@ -1,4 +1,4 @@
-use Rattle.wit_core.proofs.Calls.{watch_on}
+use Rattle.wit_core.proofs.Entries.{watch_on}
 use Rattle.wit_core.proofs.verifier.Verifier.watch.Goals as goal
 
 pub returns : goal.returns

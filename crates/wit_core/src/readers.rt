@@ -1,0 +1,105 @@
+//! What a verifier tells of itself, apart from its log.
+
+ghost use Rattle.std.specs.Prelude.{◌≡◌, length, IfSome, IfOk, IfErr};
+ghost use Rattle.std.specs.Option.{option_copied};
+ghost use Rattle.wit_model.specs.declared.faults.Fault.TheVariants.{OutOfMemory};
+ghost use Rattle.wit_model.specs.Rules.Numbers.{with_number};
+ghost use Rattle.wit_model.specs.Rules.Orders.{Before};
+ghost use Rattle.wit_model.specs.Rules.State.{known_of, orders_of, types_of, typed_locks};
+ghost use Rattle.wit_model.specs.Trace.Paths.{path, path_numbers};
+ghost use Rattle.wit_matrix.specs.Relation.{LeadsBy};
+ghost use Rattle.wit_core.specs.Numbered.{lock_name, lock_type, type_name, type_class, relation};
+
+use crate::known::lock_with;
+use crate::names::is_type;
+use crate::verifier::Verifier;
+use wit_model::{Class, Fault, FileNo, LockNo, TypeNo};
+
+/// What is known by number; `None` for a number that was never given.
+impl Verifier {
+    /// The name of a lock.
+    pub fn lock_name(&self, lock: LockNo) -> Option<&str>
+        ensures { option_copied result ≡ lock_name (typed_locks self.now.start self.now.history) lock.0 }
+    {
+        let named = lock_with(self.known.locks(), lock)?;
+        Some(named.made.name.as_str())
+    }
+
+    /// The type of a lock.
+    pub fn type_of(&self, lock: LockNo) -> Option<TypeNo>
+        ensures { result ≡ lock_type (typed_locks self.now.start self.now.history) lock.0 }
+    {
+        let typed = lock_with(self.known.locks(), lock)?;
+        Some(typed.type_no)
+    }
+
+    /// The name of a type.
+    pub fn type_name(&self, number: TypeNo) -> Option<&str>
+        ensures { option_copied result ≡ type_name (types_of self.now.start self.now.history) number.0 }
+    {
+        let names = self.known.names();
+        if !is_type(names, number) {
+            return None;
+        }
+        Some(names.name_of(number))
+    }
+
+    /// The class of a type.
+    pub fn class_of(&self, number: TypeNo) -> Option<Class>
+        ensures { result ≡ type_class (types_of self.now.start self.now.history) number.0 }
+    {
+        let names = self.known.names();
+        if is_type(names, number) {
+            Some(names.class_of(number))
+        } else {
+            None
+        }
+    }
+
+    /// The name of a file.
+    pub fn file_name(&self, file: FileNo) -> Option<&str>
+        ensures { option_copied result ≡ with_number self.now.files file.0 }
+    {
+        let names = self.known.names();
+        if 0 < file.0 && file.0 as usize <= names.files() {
+            Some(names.file_name(file))
+        } else {
+            None
+        }
+    }
+
+    /// How many types are known.
+    pub fn types(&self) -> usize
+        ensures { result ≡ length (types_of self.now.start self.now.history) }
+    {
+        self.known.names().len()
+    }
+
+    /// The path of adopted orders from one type to another that goes each time to the least type: `None` where
+    /// none leads there.
+    ///
+    /// # Errors
+    /// `OutOfMemory` alone, and only where a path leads there.
+    pub fn path(&self, from: TypeNo, to: TypeNo) -> Result<Option<Vec<TypeNo>>, Fault>
+        ensures ok { IfOk result (λ p. path_numbers p ≡ path (orders_of self.now.start self.now.history)
+            (length (types_of self.now.start self.now.history)) from.0 to.0) }
+        ensures leads { IfOk result (λ p. IfSome (path_numbers p) (LeadsBy (orders_of self.now.start self.now.history) from.0 to.0)) }
+        ensures err { IfErr result (λ e. (e ≡ OutOfMemory) × Before (orders_of self.now.start self.now.history) from.0 to.0) }
+    {
+        self.known.orders().path(from, to)
+    }
+
+    /// How one type is related to another, as the sum of 0x01 where the order from the first to the second was
+    /// adopted, 0x02 where the first is before the second, 0x04 and 0x08 where they are so the other way round,
+    /// and 0x10 where the pair was found in violation; `None` for a number that was never given.
+    pub fn relation(&self, a: TypeNo, b: TypeNo) -> Option<u8>
+        ensures { result ≡ relation (known_of self.now.start self.now.history) a.0 b.0 }
+    {
+        let known = &self.known;
+        if is_type(known.names(), a) && is_type(known.names(), b) {
+            Some(known.orders().cell(a, b))
+        } else {
+            None
+        }
+    }
+}
