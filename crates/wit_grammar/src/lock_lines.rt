@@ -36,6 +36,7 @@ pub enum LockLine<'a> {
 
 /// The line that the bytes spell, where it makes a call on a lock, without a copy. `None` says nothing.
 #[tactic(auto, unfolding(wit_model::specs::Trace::Reading::line_of))]
+#[inline(always)]
 pub fn parse_lock_line(bytes: &[u8]) -> Option<LockLine<'_>>
     ensures { Finds as_line result (line_of bytes.now) }
 {
@@ -74,6 +75,7 @@ pub fn owned(alloc: Global, line: LockLine<'_>) -> Result<Line, AllocError>
 }
 
 #[tactic(auto, unfolding(wit_model::specs::Trace::Reading::check_of))]
+#[inline(always)]
 pub fn check(bytes: &[u8]) -> Result<LockLine<'_>, LineError>
     ensures { Gives as_line result (check_of bytes.now) }
 {
@@ -96,6 +98,7 @@ pub fn check(bytes: &[u8]) -> Result<LockLine<'_>, LineError>
 }
 
 #[tactic(auto, unfolding(wit_model::specs::Trace::Reading::note_of))]
+#[inline(always)]
 pub fn lock(bytes: &[u8]) -> Result<LockLine<'_>, LineError>
     ensures { Gives as_line result (note_of bytes.now) }
 {
@@ -108,6 +111,7 @@ pub fn lock(bytes: &[u8]) -> Result<LockLine<'_>, LineError>
 }
 
 #[tactic(auto, unfolding(wit_model::specs::Trace::Reading::unlock_of))]
+#[inline(always)]
 pub fn unlock(bytes: &[u8]) -> Result<LockLine<'_>, LineError>
     ensures { Gives as_line result (unlock_of bytes.now) }
 {

@@ -13,6 +13,7 @@ use std::str;
 use wit_model::{Class, FileName, Name, TypeList};
 
 /// The bytes before a byte's last place, and those after it.
+#[inline(always)]
 fn split_at_last(byte: u8, word: &[u8]) -> Result<(&[u8], &[u8]), LineError>
     ensures { Gives (λ x. (x.0.now, x.1.now)) result (parted_at_last byte word.now) }
 {
@@ -36,6 +37,7 @@ fn name_of(alloc: Global, bytes: &[u8]) -> Result<Name, LineError>
     Ok(Name::new(alloc, text)?)
 }
 
+#[inline(always)]
 fn file_name_of(bytes: &[u8]) -> Result<&str, LineError>
     ensures { Gives (λ n. n.now) result (accepted is_file_name bytes.now) }
 {
@@ -100,6 +102,7 @@ pub fn list(alloc: Global, bytes: &[u8]) -> Result<TypeList, LineError>
 
 /// A file and a line.
 #[tactic(auto, unfolding(wit_model::specs::Trace::Reading::site_of))]
+#[inline(always)]
 pub fn site(bytes: &[u8]) -> Result<(&str, u32, &[u8]), LineError>
     ensures { Gives (λ x. ((x.0.now, x.1), x.2.now)) result (field_at site_of bytes.now) }
 {

@@ -10,6 +10,7 @@ use crate::words::{fixed, word};
 use wit_model::{LockNo, SeatNo};
 
 /// Whether there are bytes, and the first isn't a leading zero.
+#[inline(always)]
 fn begins_numeral(word: &[u8]) -> bool
     ensures { result ≡ (not (length word.now == 0)
         && (not (slice_index word.now 0 == 48) || (length word.now == 1))) }
@@ -18,6 +19,7 @@ fn begins_numeral(word: &[u8]) -> bool
 }
 
 /// The number with one more digit, where the byte is one and the number stays within the bound.
+#[inline(always)]
 fn with_digit(most: u32, number: u32, byte: u8) -> Option<u32>
     ensures some { IfSome result (λ n. (is_ascii_digit byte ≡ true)
         × (n ≡ number * 10 + digit_value byte) × (n ≤ most)) }
@@ -34,6 +36,7 @@ fn with_digit(most: u32, number: u32, byte: u8) -> Option<u32>
 }
 
 /// The number that a word spells, without leading zeros.
+#[inline(always)]
 pub fn number_of(most: u32, word: &[u8]) -> Result<u32, LineError>
     ensures value { Gives (λ n. n) result (number_of (most + 1) word.now) }
     ensures below { IfOk result (λ n. n ≤ most) }
@@ -51,6 +54,7 @@ pub fn number_of(most: u32, word: &[u8]) -> Result<u32, LineError>
     Ok(number)
 }
 
+#[inline(always)]
 fn number(most: u32, bytes: &[u8]) -> Result<(u32, &[u8]), LineError>
     ensures value { Gives (λ x. (x.0, x.1.now)) result (field_at (number_of (most + 1)) bytes.now) }
     ensures below { IfOk result (λ x. x.0 ≤ most) }
@@ -60,6 +64,7 @@ fn number(most: u32, bytes: &[u8]) -> Result<(u32, &[u8]), LineError>
 }
 
 #[tactic(auto, unfolding(wit_model::specs::Trace::Reading::seat_at))]
+#[inline(always)]
 pub fn seat(bytes: &[u8]) -> Result<(SeatNo, &[u8]), LineError>
     ensures { Gives (λ x. (x.0.0, x.1.now)) result (seat_at bytes.now) }
 {
@@ -68,6 +73,7 @@ pub fn seat(bytes: &[u8]) -> Result<(SeatNo, &[u8]), LineError>
 }
 
 #[tactic(auto, unfolding(wit_model::specs::Trace::Reading::lock_at))]
+#[inline(always)]
 pub fn lock(bytes: &[u8]) -> Result<(LockNo, &[u8]), LineError>
     ensures { Gives (λ x. (x.0.0, x.1.now)) result (lock_at bytes.now) }
 {

@@ -8,6 +8,7 @@ use crate::errors::LineError;
 use wit_model::{Class, Mode};
 
 /// The bytes after the one that must stand first.
+#[inline(always)]
 pub fn skip(byte: u8, bytes: &[u8]) -> Result<&[u8], LineError>
     ensures { Gives (λ x. x.now) result (after byte bytes.now) }
 {
@@ -18,6 +19,7 @@ pub fn skip(byte: u8, bytes: &[u8]) -> Result<&[u8], LineError>
 }
 
 /// The index of a byte's first place, or the length.
+#[inline(always)]
 fn index_of(byte: u8, bytes: &[u8]) -> usize
     ensures place { result ≡ place_of byte bytes.now }
     ensures within { result ≤ length bytes.now }
@@ -31,6 +33,7 @@ fn index_of(byte: u8, bytes: &[u8]) -> usize
 }
 
 /// The bytes before a byte's first place, and those from there on.
+#[inline(always)]
 pub fn split_before(byte: u8, bytes: &[u8]) -> (&[u8], &[u8])
     ensures front { result.0.now ≡ (until byte bytes.now).0 }
     ensures back { result.1.now ≡ (until byte bytes.now).1 }
@@ -40,6 +43,7 @@ pub fn split_before(byte: u8, bytes: &[u8]) -> (&[u8], &[u8])
 
 /// A word, up to the next space or the end.
 #[tactic(auto, unfolding(wit_model::specs::Trace::Reading::word_at))]
+#[inline(always)]
 pub fn word(bytes: &[u8]) -> Result<(&[u8], &[u8]), LineError>
     ensures { Gives (λ x. (x.0.now, x.1.now)) result (word_at bytes.now) }
 {
@@ -61,6 +65,7 @@ pub fn fixed<'a>(text: &[u8], bytes: &'a [u8]) -> Result<&'a [u8], LineError>
 }
 
 #[tactic(auto, unfolding(wit_model::specs::Trace::Reading::mode_of))]
+#[inline(always)]
 pub fn mode(bytes: &[u8]) -> Result<(Mode, &[u8]), LineError>
     ensures { Gives (λ x. (x.0, x.1.now)) result (field_at mode_of bytes.now) }
 {
@@ -103,6 +108,7 @@ fn bits_of(letters: &[u8], word: &[u8]) -> Option<u8>
 }
 
 #[tactic(auto, unfolding(wit_model::specs::Trace::Reading::flags_of))]
+#[inline(always)]
 pub fn flags<'a>(letters: &[u8], bytes: &'a [u8]) -> Result<(u8, &'a [u8]), LineError>
     requires { length letters.now ≤ 8 }
     ensures { Gives (λ x. (x.0, x.1.now)) result (field_at (flags_of letters.now) bytes.now) }

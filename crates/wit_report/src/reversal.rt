@@ -17,6 +17,7 @@ use wit_model::{Conflict, Fault, Heading, Reply};
 ///
 /// # Errors
 /// `OutOfMemory` alone.
+#[inline(always)]
 pub fn report_text(alloc: Global, verifier: &Verifier, reply: &Reply) -> Result<String, Fault>
     ensures ok { IfOk result (λ text. string_bytes text ≡ told verifier.now reply.now) }
     ensures err { IfErr result (λ e. e ≡ OutOfMemory) }
@@ -27,6 +28,8 @@ pub fn report_text(alloc: Global, verifier: &Verifier, reply: &Reply) -> Result<
     }
 }
 
+#[cold]
+#[inline(never)]
 fn reversal_text(
     alloc: Global,
     verifier: &Verifier,

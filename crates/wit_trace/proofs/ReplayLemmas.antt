@@ -13,6 +13,7 @@ use Rattle.wit_model.specs.declared.calls.Reply.{Reply}
 use Rattle.wit_model.specs.declared.calls.Request.{Request}
 use Rattle.wit_model.specs.declared.faults.Fault.{Fault}
 use Rattle.wit_model.specs.declared.flags.OpFlags.{OpFlags}
+use Rattle.wit_model.specs.declared.lines.Line.{Line}
 use Rattle.wit_model.specs.declared.lines.Line.TheVariants.{Check}
 use Rattle.wit_model.specs.declared.lines.Cause.{Cause}
 use Rattle.wit_model.specs.declared.lines.Cause.TheVariants as why
@@ -26,19 +27,27 @@ use Rattle.wit_model.specs.Rules.State.{Story}
 use Rattle.wit_model.specs.Rules.Refusals.{IsRefusal}
 use Rattle.wit_model.specs.Rules.Step.{AnswersOrFails, answer_of}
 use Rattle.wit_model.specs.Trace.Output as output
+use Rattle.wit_model.specs.Trace.Reading.{line_of}
 use Rattle.wit_core.specs.Books.{new_lock}
 use Rattle.wit_grammar.specs.Lines.{Refuses}
 use Rattle.wit_grammar.specs.declared.errors.LineError.{LineError}
 use Rattle.wit_grammar.specs.declared.errors.LineError.TheVariants.{Bad, Memory}
-use Rattle.wit_trace.specs.Machine.{BreaksAt, first_of}
-use Rattle.wit_trace.specs.Replays.{Calls, FailsFor, GoesOnWith, IsBadFor, Passes, KeepsTotal, Opens, Reaches, IsWritten, ShowsFrom, prelude_of, progress, ends_prelude, total}
+use Rattle.wit_trace.specs.Machine.{BreaksAt, Follows, first_of}
+use Rattle.wit_trace.specs.Replays.{Calls, EndsFor, FailsFor, GoesOnWith, IsBadFor, allowed, Passes, KeepsTotal, Opens, Reaches, IsWritten, ShowsFrom, prelude_of, progress, ends_prelude, total}
 use Rattle.wit_trace.specs.Stream.{GoesOn, OutputFrom, ReadsToEnd, WritesLines}
 use Rattle.wit_model.specs.declared.lines.View.{View}
 use Rattle.wit_model.specs.declared.lines.View.TheVariants.{Reports}
 use Rattle.wit_trace.specs.declared.replaying.prelude.Prelude.{Prelude}
 use Rattle.wit_trace.specs.declared.replaying.Replaying.{Replaying}
 use Rattle.wit_trace.specs.declared.replaying.Replaying.TheVariants.{Unstarted, Opening, Reading}
+use Rattle.wit_trace.specs.declared.stream.machine.Step.{Step}
+use Rattle.wit_trace.specs.declared.stream.machine.Step.TheVariants as step
 use Rattle.wit_trace.specs.declared.summary.Summary.{Summary}
+
+-- what holds of each value holds of an answer that is one
+pub if_ok : {T E : Type 0} (P Q : T → Type 0) (r : Result T E) → ((x : T) → P x → Q x) → IfOk r P → IfOk r Q
+if_ok P Q (Err e) each h = tt
+if_ok P Q (Ok x) each h = each x h
 
 -- a lock's fields by themselves make the lock
 pub named_lock : (lock : NewLock) (name : List ℕ) (type_name : Option (List ℕ)) → name ≡ lock.name → type_name ≡ lock.type_name → new_lock name type_name lock.class lock.flags ≡ lock
@@ -100,19 +109,29 @@ told from p q n line r text stands passes is lines tail more summary written =
 
 -- a bad line's text and summary, whatever follows it
 bad_after : (w : output.Outcome) (p q : output.Progress) (n : ℕ) (cause : Cause) (next : output.Progress → output.Written) (text : List ℕ) (summary : Summary) → IsBadFor w p q cause
-    → text ≡ output.bad_text n cause → total summary ≡ output.summed q (Some (n, cause)) → summary.circle ≡ false → IsWritten (output.output_after p n w next) text summary
-bad_after (output.Goes to told) p q n cause next text summary bad texts sums circle = elim bad [ ]
-bad_after (output.Bad why) p q n cause next text summary bad texts sums circle = record {
-  text = texts ∙ ap (output.bad_text n) bad.0;
-  summed = sums ∙ (bad.1 (Some (n, cause)) ∙ ap (λ c. output.summed p (Some (n, c))) bad.0);
-  circle = circle;
+    → IsWritten (output.ends_bad q (n, cause)) text summary → IsWritten (output.output_after p n w next) text summary
+bad_after (output.Goes to told) p q n cause next text summary bad ends = elim bad [ ]
+bad_after (output.Bad why) p q n cause next text summary bad ends = record {
+  text = ends.text ∙ ap (output.bad_text n) bad.0;
+  summed = ends.summed ∙ (bad.1 (Some (n, cause)) ∙ ap (λ c. output.summed p (Some (n, c))) bad.0);
+  circle = ends.circle;
 }
 
-pub bad : (from p q : output.Progress) (n : ℕ) (line : List ℕ) (r : Result (Vec ℕ) LineError) (cause : Cause) (text : List ℕ) (summary : Summary) → output.reached from line ≡ Ok p → Passes (output.outcome p n line) p q r → r ≡ Err (Bad cause)
-    → text ≡ output.bad_text n cause → total summary ≡ output.summed q (Some (n, cause)) → summary.circle ≡ false
-    → (lines : List (List ℕ)) (tail : List ℕ) → IsWritten (output.output_from from n (line ∷ lines) tail) text summary
-bad from p q n line r cause text summary stands passes is texts sums circle lines tail =
-    rw stands (bad_after (output.outcome p n line) p q n cause _ text summary (subst (Passes (output.outcome p n line) p q) is passes) texts sums circle)
+-- what becomes of a line that is bad
+pub line_ends : (m q : Replaying) (p : output.Progress) (n : ℕ) (line : List ℕ) (r : Result (Vec ℕ) LineError) (e : LineError) (s : Step) → output.reached (progress m) line ≡ Ok p → Passes (output.outcome p n line) p (progress q) r
+    → r ≡ Err e → EndsFor (progress q) n e s → Follows allowed m q n line s
+line_ends m q p n line r Memory s stands passes is ends = elim ends [ ]
+line_ends m q p n line r (Bad cause) (step.Goes text) stands passes is ends = elim ends [ ]
+line_ends m q p n line r (Bad cause) (step.Ends text summary) stands passes is ends = λ lines tail.
+    rw stands (bad_after (output.outcome p n line) p (progress q) n cause _ text.items summary (subst (Passes (output.outcome p n line) p (progress q)) is passes) ends)
+
+module _ (s new : Story) (n : ℕ) (bytes : List ℕ) (line : Line) (r : Result Reply LineError) (short : length bytes ≤ 4096) (reads : line_of bytes ≡ Some line) (calls : Calls (output.calls s line) s new r) where
+  makes_call : output.outcome (output.Reading s) n bytes ≡ output.calls s line
+  makes_call = rw (le-ltb 4096 (length bytes) short, reads) refl
+
+  -- what becomes of a line whose call is refused
+  pub call_ends : (e : LineError) (t : Step) → r ≡ Err e → EndsFor (output.Reading new) n e t → Follows allowed (Reading s) (Reading new) n bytes t
+  call_ends e t is ends = line_ends (Reading s) (Reading new) (output.Reading s) n bytes (Err e) e t refl (rw makes_call (subst (Calls (output.calls s line) s new) is calls)) refl ends
 
 -- the text and the summary at a list that is refused
 refused_at : (due : Result output.Progress output.BadLine) (p q : output.Progress) (line : output.BadLine) (next : output.Progress → output.Written) (text : List ℕ) (summary : Summary) → due ≡ Err line → KeepsTotal p q

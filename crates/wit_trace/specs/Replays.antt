@@ -14,6 +14,8 @@ use Rattle.wit_trace.specs.Text.{text_of}
 use Rattle.wit_trace.specs.declared.replaying.prelude.Prelude.{Prelude}
 use Rattle.wit_trace.specs.declared.replaying.Replaying.{Replaying}
 use Rattle.wit_trace.specs.declared.replaying.Replaying.TheVariants.{Unstarted, Opening, Reading}
+use Rattle.wit_trace.specs.declared.stream.machine.Step.{Step}
+use Rattle.wit_trace.specs.declared.stream.machine.Step.TheVariants as step
 use Rattle.wit_trace.specs.declared.summary.Summary.{Summary}
 
 -- what was read of a prelude
@@ -76,6 +78,21 @@ Passes due old new (Err e) = FailsFor due old new e
 abbrev pub Calls : output.Outcome → Story → Story → Result Reply LineError → Type 0
 Calls due old new (Ok reply) = due ≡ output.Goes (output.Reading new) (output.told new reply)
 Calls due old new (Err e) = FailsFor due (output.Reading old) (output.Reading new) e
+
+-- this text is told, and the reading goes on
+abbrev pub GoesWith : List ℕ → Step → Type 0
+GoesWith told (step.Goes text) = text.items ≡ told
+GoesWith told (step.Ends text summary) = ⊥
+
+-- the reading ends at a bad line, with its text and this summary; not for want of memory
+abbrev pub EndsFor : output.Progress → ℕ → LineError → Step → Type 0
+EndsFor p number Memory s = ⊥
+EndsFor p number (Bad cause) (step.Goes text) = ⊥
+EndsFor p number (Bad cause) (step.Ends text summary) = IsWritten (output.ends_bad p (number, cause)) text.items summary
+
+-- what a replay in progress may write and sum up
+abbrev pub allowed : Replaying → ℕ → List (List ℕ) → List ℕ → List ℕ → Summary → Type 0
+allowed m number lines tail text summary = IsWritten (output.output_from (progress m) number lines tail) text summary
 
 -- the verifier was made, or a list refused, as it should be
 abbrev pub Opens : Result output.Progress output.BadLine → Result Story (ℕ × Cause) → Type 0

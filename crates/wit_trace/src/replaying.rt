@@ -2,7 +2,8 @@
 
 ghost use Rattle.std.specs.Prelude.{◌≡◌, ◌⊎◌, ◌≤◌, ℕ, List, length, true, false, refl, Some, None, IsTrue, IfOk, OnErr};
 ghost use Rattle.wit_model.specs.Trace.Output.{Unstarted, reached, entered, outcome, bad_text, output_from, summed};
-ghost use Rattle.wit_trace.specs.Replays.{ends_prelude, progress, total, Reaches, Passes, IsWritten, Shows, ShowsFrom};
+ghost use Rattle.wit_trace.specs.Machine.{Follows};
+ghost use Rattle.wit_trace.specs.Replays.{allowed, ends_prelude, progress, total, EndsFor, Reaches, Passes, Shows, ShowsFrom};
 ghost use Rattle.wit_trace.specs.Stream.{IsSpent, ReadsToEnd, WritesFront, WritesLines, WritesOutput};
 ghost use Rattle.wit_grammar.specs.declared.parse.TheConstants.{LONGEST};
 
@@ -15,7 +16,7 @@ use crate::stream::ports::{Failures, Ports};
 use crate::stream::run;
 use crate::summary::{ReplayError, Summary};
 use bad_lines::bad_text;
-use calls::{enter_line, enter_lock_line};
+use calls::{call_on_lock, enter_line, told_step};
 use prelude::{Prelude, add_line, is_prelude, new_prelude, open};
 use std::alloc::{AllocError, Global};
 use std::io::{BufRead, Write};
@@ -106,6 +107,7 @@ enum Replaying {
 
 impl Replaying {
     // The prelude ends before a line that begins otherwise; a list that is refused then is the bad line.
+    #[inline(always)]
     fn reach(&mut self, alloc: Global, line: &[u8]) -> Result<Option<(u64, Cause)>, AllocError>
         ensures { IfOk result (Reaches (reached (progress self.old) line.now) (progress self.old) (progress self.new)) }
     {
@@ -138,6 +140,7 @@ impl Replaying {
         }
     }
 
+    #[inline(always)]
     fn ends_prelude(&self, line: &[u8]) -> bool
         ensures { result ≡ ends_prelude (progress self.now) line.now }
     {
@@ -147,22 +150,23 @@ impl Replaying {
         }
     }
 
-    fn read(&mut self, alloc: Global, number: u64, bytes: &[u8]) -> Result<Vec<u8>, LineError>
+    // A line of any kind, in its place. By itself, so that a line that makes a call on a lock doesn't pay for
+    // its large locals.
+    #[inline(never)]
+    fn any_line(&mut self, alloc: Global, number: u64, bytes: &[u8]) -> Result<Step, AllocError>
         requires { length bytes.now ≤ LONGEST }
-        ensures { Passes (outcome (progress self.old) number bytes.now)
-            (progress self.old) (progress self.new) result }
+        ensures { IfOk result (Follows allowed self.old self.new number bytes.now) }
     {
-        if let Replaying::Reading(verifier) = self {
-            if let Some(line) = parse_lock_line(bytes) {
-                return enter_lock_line(alloc, verifier, line);
-            }
+        if let Some((number, cause)) = self.reach(alloc, bytes)? {
+            return self.ended_step(alloc, number, LineError::Bad(cause));
         }
-        self.read_any(alloc, number, bytes)
+        match self.read(alloc, number, bytes) {
+            Ok(text) => Ok(Step::Goes(text)),
+            Err(error) => self.ended_step(alloc, number, error),
+        }
     }
 
-    // By itself, so that a line that makes a call on a lock doesn't pay for its large locals.
-    #[inline(never)]
-    fn read_any(&mut self, alloc: Global, number: u64, bytes: &[u8]) -> Result<Vec<u8>, LineError>
+    fn read(&mut self, alloc: Global, number: u64, bytes: &[u8]) -> Result<Vec<u8>, LineError>
         requires { length bytes.now ≤ LONGEST }
         ensures { Passes (outcome (progress self.old) number bytes.now)
             (progress self.old) (progress self.new) result }
@@ -219,6 +223,21 @@ impl Replaying {
         }
     }
 
+    // What becomes of a line that is bad, or found no memory.
+    #[cold]
+    #[inline(never)]
+    fn ended_step(&self, alloc: Global, number: u64, error: LineError) -> Result<Step, AllocError>
+        ensures { IfOk result (EndsFor (progress self.now) number error) }
+    {
+        match error {
+            LineError::Bad(cause) => {
+                let (text, summary) = self.ended(alloc, number, cause)?;
+                Ok(Step::Ends(text, summary))
+            }
+            LineError::Memory => Err(AllocError),
+        }
+    }
+
     // The last text and the summary at a bad line.
     fn ended(
         &self,
@@ -236,21 +255,18 @@ impl Replaying {
 }
 
 impl Machine for Replaying {
-    ghost allows = { λ m n lines tail text summary. IsWritten (output_from (progress m) n lines tail) text summary };
+    ghost allows = { allowed };
 
     fn line(&mut self, alloc: Global, number: u64, bytes: &[u8]) -> Result<Step, AllocError> {
-        if let Some((number, cause)) = self.reach(alloc, bytes)? {
-            let (text, summary) = self.ended(alloc, number, cause)?;
-            return Ok(Step::Ends(text, summary));
-        }
-        match self.read(alloc, number, bytes) {
-            Ok(text) => Ok(Step::Goes(text)),
-            Err(LineError::Bad(cause)) => {
-                let (text, summary) = self.ended(alloc, number, cause)?;
-                Ok(Step::Ends(text, summary))
+        if let Replaying::Reading(verifier) = self {
+            if let Some(line) = parse_lock_line(bytes) {
+                return match call_on_lock(verifier, line) {
+                    Ok(reply) => told_step(alloc, verifier, reply),
+                    Err(error) => self.ended_step(alloc, number, error),
+                };
             }
-            Err(LineError::Memory) => Err(AllocError),
         }
+        self.any_line(alloc, number, bytes)
     }
 
     fn broken(

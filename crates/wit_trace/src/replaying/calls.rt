@@ -1,14 +1,14 @@
 //! The calls that lines make.
 
-ghost use Rattle.std.specs.Prelude.{◌≡◌, IfOk, IfErr};
+ghost use Rattle.std.specs.Prelude.{◌≡◌, IfOk};
 ghost use Rattle.std.specs.Option.{option_copied};
 ghost use Rattle.wit_model.specs.declared.calls.Call.TheVariants.{Init};
 ghost use Rattle.wit_model.specs.Trace.Output.{Reading, calls, makes, told};
 ghost use Rattle.wit_grammar.specs.Lines.{as_line};
-ghost use Rattle.wit_grammar.specs.declared.errors.LineError.TheVariants.{Memory};
-ghost use Rattle.wit_trace.specs.Replays.{Calls, Passes};
+ghost use Rattle.wit_trace.specs.Replays.{Calls, GoesWith, Passes};
 
-use std::alloc::Global;
+use crate::stream::machine::Step;
+use std::alloc::{AllocError, Global};
 use wit_core::Verifier;
 use wit_grammar::{LineError, LockLine};
 use wit_model::{Line, NewLock, Reply, SeatNo, Site};
@@ -22,33 +22,38 @@ pub fn enter_line(alloc: Global, verifier: &mut Verifier, line: Line) -> Result<
     ensures { Passes (calls verifier.old line) (Reading verifier.old) (Reading verifier.new) result }
 {
     let reply = make_call(verifier, line)?;
-    told(alloc, verifier, &reply)
+    Ok(told(alloc, verifier, &reply)?)
 }
 
-/// A line that makes a call on a lock makes it, as `enter_line` does.
+/// What becomes of a line by the reply to its call.
 ///
 /// # Errors
-/// As those of `enter_line`.
-pub fn enter_lock_line(
-    alloc: Global,
-    verifier: &mut Verifier,
-    line: LockLine<'_>,
-) -> Result<Vec<u8>, LineError>
-    ensures { Passes (calls verifier.old (as_line line.entry)) (Reading verifier.old) (Reading verifier.new) result }
+/// Want of memory alone.
+#[inline(always)]
+pub fn told_step(alloc: Global, verifier: &Verifier, reply: Reply) -> Result<Step, AllocError>
+    ensures { IfOk result (GoesWith (told verifier.now reply)) }
 {
-    let reply = call_on_lock(verifier, line)?;
-    told(alloc, verifier, &reply)
+    match reply {
+        // Nothing else has a text.
+        Reply::Reversal(_) => Ok(Step::Goes(told(alloc, verifier, &reply)?)),
+        _ => Ok(Step::Goes(Vec::new(alloc))),
+    }
 }
 
 // The text of a reply.
-fn told(alloc: Global, verifier: &Verifier, reply: &Reply) -> Result<Vec<u8>, LineError>
-    ensures ok { IfOk result (λ text. text.items ≡ told verifier.now reply.now) }
-    ensures err { IfErr result (λ e. e ≡ Memory) }
+#[cold]
+#[inline(never)]
+fn told(alloc: Global, verifier: &Verifier, reply: &Reply) -> Result<Vec<u8>, AllocError>
+    ensures { IfOk result (λ text. text.items ≡ told verifier.now reply.now) }
 {
-    let text = report_text(alloc, verifier, reply)?;
-    Ok(text.into_bytes())
+    match report_text(alloc, verifier, reply) {
+        Ok(text) => Ok(text.into_bytes()),
+        // It fails for want of memory alone.
+        Err(_) => Err(AllocError),
+    }
 }
 
+#[inline(never)]
 fn make_call(verifier: &mut Verifier, line: Line) -> Result<Reply, LineError>
     ensures { Calls (calls verifier.old line) verifier.old verifier.new result }
 {
@@ -84,7 +89,12 @@ fn make_call(verifier: &mut Verifier, line: Line) -> Result<Reply, LineError>
     }
 }
 
-fn call_on_lock(verifier: &mut Verifier, line: LockLine<'_>) -> Result<Reply, LineError>
+/// A line that makes a call on a lock makes it; one with a site enters its file first.
+///
+/// # Errors
+/// `Bad` where the call is refused; `Memory`.
+#[inline(always)]
+pub fn call_on_lock(verifier: &mut Verifier, line: LockLine<'_>) -> Result<Reply, LineError>
     ensures { Calls (calls verifier.old (as_line line.entry)) verifier.old verifier.new result }
 {
     match line {
