@@ -7,7 +7,7 @@ ghost use Rattle.wit_grammar.specs.Lines.{Gives};
 
 use crate::errors::LineError;
 use crate::numbers::number_of;
-use crate::words::{class, skip, split_before, word};
+use crate::words::{class, long_word, skip, split_before};
 use std::alloc::Global;
 use std::str;
 use wit_model::{Class, FileName, Name, TypeList};
@@ -106,7 +106,7 @@ pub fn list(alloc: Global, bytes: &[u8]) -> Result<TypeList, LineError>
 pub fn site(bytes: &[u8]) -> Result<(&str, u32, &[u8]), LineError>
     ensures { Gives (λ x. ((x.0.now, x.1), x.2.now)) result (field_at site_of bytes.now) }
 {
-    let (word, rest) = word(bytes)?;
+    let (word, rest) = long_word(bytes)?;
     let (file, line) = split_at_last(b':', word)?;
     let file = file_name_of(file)?;
     let line = number_of(u32::MAX, line)?;

@@ -5,6 +5,7 @@ ghost use Rattle.wit_model.specs.Trace.Reading.{after, place_of, until, class_of
 ghost use Rattle.wit_grammar.specs.Lines.{Gives};
 
 use crate::errors::LineError;
+use memchr::memchr;
 use wit_model::{Class, Mode};
 
 /// The bytes after the one that must stand first.
@@ -32,6 +33,17 @@ fn index_of(byte: u8, bytes: &[u8]) -> usize
     bytes.len()
 }
 
+/// As `index_of`, and faster where the place is far off.
+fn far_index_of(byte: u8, bytes: &[u8]) -> usize
+    ensures place { result ≡ place_of byte bytes.now }
+    ensures within { result ≤ length bytes.now }
+{
+    match memchr(byte, bytes) {
+        Some(place) => place,
+        None => bytes.len(),
+    }
+}
+
 /// The bytes before a byte's first place, and those from there on.
 #[inline(always)]
 pub fn split_before(byte: u8, bytes: &[u8]) -> (&[u8], &[u8])
@@ -49,6 +61,16 @@ pub fn word(bytes: &[u8]) -> Result<(&[u8], &[u8]), LineError>
 {
     let rest = skip(b' ', bytes)?;
     Ok(split_before(b' ', rest))
+}
+
+/// As `word`, and faster where the word is long.
+#[tactic(auto, unfolding(wit_model::specs::Trace::Reading::word_at))]
+#[inline(always)]
+pub fn long_word(bytes: &[u8]) -> Result<(&[u8], &[u8]), LineError>
+    ensures { Gives (λ x. (x.0.now, x.1.now)) result (word_at bytes.now) }
+{
+    let rest = skip(b' ', bytes)?;
+    Ok(rest.split_at(far_index_of(b' ', rest)))
 }
 
 /// The bytes after a fixed word.
