@@ -333,6 +333,19 @@ fn lengths_of_names(rt: HostRuntime) -> Result<(), Fail> {
     Ok(())
 }
 
+// The tests rest on what is unlike being found.
+#[test]
+fn unlike(rt: HostRuntime) -> Result<(), Fail> {
+    let alloc = rt.alloc();
+    assert_eq!(rt;
+        first_unlike(alloc, "lock 1 2$\nlock 1", "line"),
+        Some("lock 1")
+    );
+    assert_eq!(rt; byte_unlike(alloc, "lock 1 2", "", b'0', b'8')?, Some(b'9'));
+    assert_eq!(rt; length_unlike(alloc, "order mtx \"", 62, "\"")?, Some(63));
+    Ok(())
+}
+
 #[test]
 fn lengths_of_lines(rt: HostRuntime) -> Result<(), Fail> {
     // Each type takes 3 bytes for its class, 4 for spaces and marks, and those of its name.

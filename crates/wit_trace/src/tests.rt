@@ -4,6 +4,5 @@ mod ends;
 mod fakes;
 mod flushes;
 mod limits;
-mod preludes;
 mod rows;
 mod streams;

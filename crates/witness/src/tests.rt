@@ -154,6 +154,16 @@ fn statuses(rt: HostRuntime) -> Result<(), Fail> {
     Ok(())
 }
 
+// The tests rest on these being told apart.
+#[test]
+fn unequal(rt: HostRuntime) -> Result<(), Fail> {
+    let (status, output, complaints) = run_texts(rt.alloc(), &["replay"], BOTH_ORDERS)?;
+    assert!(rt; (status, output.len()) != (0, output.len()));
+    assert!(rt; output.as_slice() != b"".as_slice());
+    assert!(rt; complaints.as_slice() != USAGE.as_bytes());
+    Ok(())
+}
+
 #[test]
 fn words_that_are_no_text(rt: HostRuntime) -> Result<(), Fail> {
     let long = [b'r'; 1000];

@@ -9,7 +9,7 @@ use crate::tests::rows::{
 use std::alloc::Global;
 use std::process::Abort;
 use std::test::Fail;
-use wit_model::{Cause, View};
+use wit_model::{Cause, Fault, View};
 
 /// Traces whose last line is reported, and their outputs.
 const REPORTED_LAST: [(&str, &str); 2] = [
@@ -183,4 +183,31 @@ fn statuses(rt: HostRuntime) -> Result<(), Fail> {
         (0, 1, 3, 4)
     );
     Ok(())
+}
+
+// The tests rest on these being told apart.
+#[test]
+fn unequal(rt: HostRuntime) {
+    assert!(rt; Cause::Cut != Cause::Syntax);
+    assert!(rt; Cause::Fault(Fault::Pending) != Cause::Fault(Fault::LogFull));
+    let summary = Summary {
+        calls: 1,
+        reports: 0,
+        circle: false,
+        bad: None,
+    };
+    assert!(rt;
+        summary
+            != Summary {
+                calls: 2,
+                ..summary
+            }
+    );
+    assert!(rt;
+        summary
+            != Summary {
+                bad: Some((1, Cause::Cut)),
+                ..summary
+            }
+    );
 }
