@@ -159,8 +159,8 @@ fn is_answered(table: &mut Table, call: Call) -> bool {
 #[test]
 fn calls_in_turn(rt: HostRuntime) -> Result<(), Fail> {
     let mut table = make(rt.alloc(), 3, 2)?;
-    for (place, call) in CALLS.into_iter().enumerate() {
-        assert!(rt; is_answered(&mut table, call), "call {place}");
+    for (place, call) in CALLS.iter().enumerate() {
+        assert!(rt; is_answered(&mut table, *call), "call {place}");
     }
     Ok(())
 }
@@ -190,5 +190,15 @@ fn many_long_names(rt: HostRuntime) -> Result<(), Fail> {
     for number in 1..61 {
         assert!(rt; is_next(rt.alloc(), &mut table, number)?, "number {number}");
     }
+    Ok(())
+}
+
+// That what is compared above can differ.
+#[test]
+fn unequal(rt: HostRuntime) -> Result<(), Fail> {
+    assert!(rt; TypeNo(1) != TypeNo(2));
+    assert!(rt; FileNo(1) != FileNo(2));
+    assert!(rt; Class::Sx != Class::Rw);
+    assert!(rt; Fault::TypesFull != Fault::FilesFull);
     Ok(())
 }
