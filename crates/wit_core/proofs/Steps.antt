@@ -26,7 +26,7 @@ use Rattle.wit_model.proofs.Chains.Edits.{noted-again, noted-new, unlocked-fewer
 use Rattle.wit_core.specs.declared.verdict.Verdict.{Verdict}
 use Rattle.wit_core.specs.Verdict.{reply_of}
 use Rattle.wit_core.specs.Known.{learnt, with_lock}
-use Rattle.wit_core.specs.Seats.{recorded, recorded_at, released, released_once, no_instance, changed, asked_in, noted_in, unlocked_in, taken_by}
+use Rattle.wit_core.specs.Seats.{with_acquired, acquired_at, with_released, released_once, no_instance, changed, asked_in, noted_in, unlocked_in, taken_by}
 
 -- a state by its parts
 abbrev pub state : Sizes → ℕ → Known → List Seat → ℕ → State
@@ -76,14 +76,14 @@ state-check start files h t q v sane some within =
     (used-entry (entry t (Check q) (reply_of v)) h)
 
 -- the chain after an acquisition, and after a release
-recorded-is : (l : LockNo) (q : Request) (c : List Instance) → stands l.0 c ≤ 1 → recorded (taken_by l q) c ≡ noted l.0 q.mode q.site c (find (is_of l.0) c)
+recorded-is : (l : LockNo) (q : Request) (c : List Instance) → stands l.0 c ≤ 1 → with_acquired (taken_by l q) c ≡ noted l.0 q.mode q.site c (find (is_of l.0) c)
 recorded-is l q c one = go (position (is_of l.0) c) refl
   where
-    go : (o : Option ℕ) → position (is_of l.0) c ≡ o → recorded (taken_by l q) c ≡ noted l.0 q.mode q.site c (find (is_of l.0) c)
-    go None e = ap (recorded_at (taken_by l q) c) e ∙ sym (noted-new l.0 q.mode q.site c e)
-    go (Some p) e = ap (recorded_at (taken_by l q) c) e ∙ sym (noted-again l.0 q.mode q.site c p (taken_by l q) e one)
+    go : (o : Option ℕ) → position (is_of l.0) c ≡ o → with_acquired (taken_by l q) c ≡ noted l.0 q.mode q.site c (find (is_of l.0) c)
+    go None e = ap (acquired_at (taken_by l q) c) e ∙ sym (noted-new l.0 q.mode q.site c e)
+    go (Some p) e = ap (acquired_at (taken_by l q) c) e ∙ sym (noted-again l.0 q.mode q.site c p (taken_by l q) e one)
 
-released-is : (l p : ℕ) (c : List Instance) → position (is_of l) c ≡ Some p → stands l c ≤ 1 → released p c ≡ unlocked l c (find (is_of l) c)
+released-is : (l p : ℕ) (c : List Instance) → position (is_of l) c ≡ Some p → stands l c ≤ 1 → with_released p c ≡ unlocked l c (find (is_of l) c)
 released-is l p c e one = count (nat_lt 0 (get_or c p no_instance).count) refl
   where
     count : (b : Bool) → nat_lt 0 (get_or c p no_instance).count ≡ b → released_once c p (get_or c p no_instance) ≡ unlocked l c (find (is_of l) c)

@@ -1,4 +1,3 @@
-pub mod Answers
 pub mod Following
 pub mod Fresh
 pub mod Journal
@@ -9,6 +8,7 @@ pub mod Logged
 pub mod Numbered
 pub mod Related
 pub mod Remembered
+pub mod Replies
 pub mod Seated
 pub mod Seats
 pub mod Verdict

@@ -62,20 +62,20 @@ CanRise chain (Some p) = (d : Instance) → (get_or chain p d).count < 65535
 abbrev pub IsShallow : ℕ → List Instance → Type 0
 IsShallow l chain = CanRise chain (position (is_of l) chain)
 
-abbrev pub recorded_at : Instance → List Instance → Option ℕ → List Instance
-recorded_at i chain None = chain ++ i ∷ []
-recorded_at i chain (Some p) = set chain p (recursed i.site (get_or chain p i))
+abbrev pub acquired_at : Instance → List Instance → Option ℕ → List Instance
+acquired_at i chain None = chain ++ i ∷ []
+acquired_at i chain (Some p) = set chain p (recursed i.site (get_or chain p i))
 
 -- a chain after an acquisition: the lock's count rises, or it goes to the end
-abbrev pub recorded : Instance → List Instance → List Instance
-recorded i chain = recorded_at i chain (position (is_of i.lock.0) chain)
+abbrev pub with_acquired : Instance → List Instance → List Instance
+with_acquired i chain = acquired_at i chain (position (is_of i.lock.0) chain)
 
 abbrev pub released_once : List Instance → ℕ → Instance → List Instance
 released_once chain p i = if nat_lt 0 i.count then set chain p (fewer i) else remove chain p
 
 -- a chain after a release of the lock at this place: its count falls, or it goes out where it has none
-abbrev pub released : ℕ → List Instance → List Instance
-released p chain = released_once chain p (get_or chain p no_instance)
+abbrev pub with_released : ℕ → List Instance → List Instance
+with_released p chain = released_once chain p (get_or chain p no_instance)
 
 -- a seat where the chain of one kind is changed so
 abbrev pub in_chain : Bool → (List Instance → List Instance) → model.Seat → model.Seat
@@ -86,11 +86,11 @@ in_chain spin change s = record s {
 
 -- a seat after the acquisition that it asked for
 abbrev pub noted_in : Bool → Instance → model.Seat → model.Seat
-noted_in spin i s = record (in_chain spin (recorded i) s) { pending = None }
+noted_in spin i s = record (in_chain spin (with_acquired i) s) { pending = None }
 
 -- a seat after a release of the lock of this kind at this place
 abbrev pub unlocked_in : Bool → ℕ → model.Seat → model.Seat
-unlocked_in spin p s = in_chain spin (released p) s
+unlocked_in spin p s = in_chain spin (with_released p) s
 
 -- a seat once it has asked for a lock
 abbrev pub asked_in : Request → model.Seat → model.Seat

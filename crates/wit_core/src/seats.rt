@@ -8,7 +8,7 @@ ghost use Rattle.wit_model.specs.declared.locks.Instance.{Instance};
 ghost use Rattle.wit_model.specs.Rules.Numbers.{is_given, with_number, IsGiven};
 ghost use Rattle.wit_model.specs.Rules.State.{no_seat, seat_among, chain_in, seats_of};
 ghost use Rattle.wit_model.specs.Rules.Verdict.{is_of};
-ghost use Rattle.wit_core.specs.Seats.{IsOnce, IsShallow, recorded, released, seat_view, HasRoom, HasSpace, HasSpaceFor, changed, asked_in, noted_in, unlocked_in};
+ghost use Rattle.wit_core.specs.Seats.{IsOnce, IsShallow, with_acquired, with_released, seat_view, HasRoom, HasSpace, HasSpaceFor, changed, asked_in, noted_in, unlocked_in};
 
 use std::alloc::{AllocError, Global};
 use std::marker::Model;
@@ -223,7 +223,7 @@ fn record(chain: &mut Vec<Instance>, taken: Instance)
     requires room { vec_len chain.old < vec_capacity chain.old }
     requires once { IsOnce taken.lock.0 chain.old.items }
     requires shallow { IsShallow taken.lock.0 chain.old.items }
-    ensures items { chain.new.items ≡ recorded taken chain.old.items }
+    ensures items { chain.new.items ≡ with_acquired taken chain.old.items }
     ensures capacity { vec_capacity chain.new ≡ vec_capacity chain.old }
 {
     match find_lock(chain, taken.lock) {
@@ -239,7 +239,7 @@ fn record(chain: &mut Vec<Instance>, taken: Instance)
 // Takes a release back: once less, or the lock goes out.
 fn release(chain: &mut Vec<Instance>, place: usize)
     requires { place < length chain.old.items }
-    ensures items { chain.new.items ≡ released place chain.old.items }
+    ensures items { chain.new.items ≡ with_released place chain.old.items }
     ensures capacity { vec_capacity chain.new ≡ vec_capacity chain.old }
 {
     if chain[place].count > 0 {

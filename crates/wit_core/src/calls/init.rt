@@ -7,7 +7,7 @@ ghost use Rattle.wit_model.specs.declared.calls.Reply.TheVariants.{Made};
 ghost use Rattle.wit_model.specs.declared.faults.Fault.TheVariants.{OutOfMemory};
 ghost use Rattle.wit_model.specs.Rules.State.{state_of};
 ghost use Rattle.wit_model.specs.Rules.Step.{AnswersOrFails, answer_of, logged, step_typed, is_good_name};
-ghost use Rattle.wit_core.specs.Answers.{new_lock, made_reply};
+ghost use Rattle.wit_core.specs.Replies.{new_lock, made_reply};
 
 use crate::verifier::Verifier;
 use std::alloc::{AllocError, Global};

@@ -5,7 +5,7 @@ ghost use Rattle.wit_model.specs.declared.calls.Call.TheVariants.{Note};
 ghost use Rattle.wit_model.specs.declared.calls.Reply.TheVariants.{Recorded};
 ghost use Rattle.wit_model.specs.Rules.State.{state_of, seat_at};
 ghost use Rattle.wit_model.specs.Rules.Step.{Answers, answer_of, logged};
-ghost use Rattle.wit_core.specs.Answers.{done_reply};
+ghost use Rattle.wit_core.specs.Replies.{done_reply};
 
 use crate::verifier::Verifier;
 use wit_model::{Call, Entry, Fault, Instance, LockNo, Reply, Request, SeatNo};

@@ -6,7 +6,7 @@ ghost use Rattle.wit_model.specs.declared.calls.Reply.TheVariants.{Unlocked};
 ghost use Rattle.wit_model.specs.Rules.State.{state_of};
 ghost use Rattle.wit_model.specs.Rules.Step.{Answers, answer_of, logged, chain_for, released};
 ghost use Rattle.wit_model.specs.Rules.Verdict.{is_of};
-ghost use Rattle.wit_core.specs.Answers.{done_reply};
+ghost use Rattle.wit_core.specs.Replies.{done_reply};
 
 use crate::verifier::Verifier;
 use wit_model::{Call, Entry, Fault, Instance, LockNo, Mode, Reply, SeatNo};

@@ -1,4 +1,4 @@
--- What the calls answer, as replies.
+-- The answers of calls as replies.
 use Rattle.std.specs.Prelude.{ℕ, List, Option, Result, Ok, Err}
 use Rattle.wit_model.specs.declared.faults.Fault.{Fault}
 use Rattle.wit_model.specs.declared.flags.LockFlags.{LockFlags}
