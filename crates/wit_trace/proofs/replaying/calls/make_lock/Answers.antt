@@ -4,7 +4,7 @@ use Rattle.wit_model.specs.declared.calls.Call.TheVariants.{Init}
 use Rattle.wit_model.specs.declared.calls.NewLock.{NewLock}
 use Rattle.wit_model.specs.declared.calls.Reply.TheVariants.{Made}
 use Rattle.wit_model.specs.Trace.Output.{Goes, Reading, makes, told}
-use Rattle.wit_core.specs.Books.{new_lock}
+use Rattle.wit_core.specs.Replies.{new_lock}
 use Rattle.wit_trace.specs.Replays.{Calls}
 use Rattle.wit_trace.proofs.ReplayLemmas.{named_lock, call_made, call_refused}
 use Rattle.wit_trace.proofs.replaying.calls.make_lock.Goals as goal
