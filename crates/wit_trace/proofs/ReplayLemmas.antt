@@ -28,7 +28,7 @@ use Rattle.wit_model.specs.Rules.Refusals.{IsRefusal}
 use Rattle.wit_model.specs.Rules.Step.{AnswersOrFails, answer_of}
 use Rattle.wit_model.specs.Trace.Output as output
 use Rattle.wit_model.specs.Trace.Reading.{line_of}
-use Rattle.wit_core.specs.Answers.{new_lock}
+use Rattle.wit_core.specs.Replies.{new_lock}
 use Rattle.wit_grammar.specs.Lines.{Refuses}
 use Rattle.wit_grammar.specs.declared.errors.LineError.{LineError}
 use Rattle.wit_grammar.specs.declared.errors.LineError.TheVariants.{Bad, Memory}
