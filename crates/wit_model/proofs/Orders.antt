@@ -2,6 +2,7 @@
 pub mod Among
 pub mod Once
 pub mod Paths
+pub mod Ruled
 pub mod Sound
 pub mod Started
 pub mod TypedLocks

@@ -9,9 +9,9 @@ use Rattle.wit_model.specs.declared.calls.Call.TheVariants.{Init, Check, Note, U
 use Rattle.wit_model.specs.declared.calls.Reply.{Reply}
 use Rattle.wit_model.specs.declared.calls.Entry.{Entry}
 use Rattle.wit_model.specs.Rules.Locks.{lock_at}
-use Rattle.wit_model.specs.Rules.State.{Start, State, state_of, is_seat}
+use Rattle.wit_model.specs.Rules.State.{Start, State, state_of, seat_at, is_seat}
 use Rattle.wit_model.specs.Rules.Verdict.{is_exclusive, verdict}
-use Rattle.wit_model.specs.Rules.Step.{chain_for, held_by, is_pending, is_shareable, is_deepest, with_room, answer_of, story_after, IsLegal}
+use Rattle.wit_model.specs.Rules.Step.{held_by, is_pending, is_shareable, is_deepest, with_room, answer_of, story_after, IsLegal}
 use Rattle.wit_model.specs.Rules.Numbers.{is_given, is_number}
 use Rattle.wit_model.proofs.Histories.Accepted.{check_accepted}
 
@@ -24,7 +24,7 @@ check_with s t q known =
     (cond (not (is_exclusive q.mode) && not (is_shareable (lock_at s.known.locks q.lock.0).made.class)) (Err ModeNotAllowed)
     (cond (is_pending s t) (Err Pending)
     (cond (is_deepest (held_by s t q.lock.0)) (Err RecursionTooDeep)
-    (with_room s (verdict s.known q (chain_for s t q.lock.0))))))))
+    (with_room s (verdict s.known (seat_at s t) q)))))))
 
 file-more : (f n m : ℕ) → (nat_lt 0 f && nat_le f n) ≡ true → n ≤ m → (nat_lt 0 f && nat_le f m) ≡ true
 file-more f n m is le =

@@ -1,5 +1,5 @@
 -- Orders are between known types, and so is what a verdict tells.
-use Rattle.std.proofs.Common.{◌≡◌, ℕ, ◌≤◌, Bool, true, false, not, ◌&&◌, ◌||◌, cond, eqb, List, [], ◌∷◌, ◌++◌, length, reverse, find, Option, Some, None, Result, Ok, refl, ap, sym, ◌∙◌, subst, arith, length-append, ⊎_elim}
+use Rattle.std.proofs.Common.{◌≡◌, ℕ, ◌≤◌, Bool, true, false, not, ◌&&◌, ◌||◌, cond, eqb, List, [], ◌∷◌, ◌++◌, length, reverse, find, Option, Some, None, Result, Ok, refl, ap, sym, ◌∙◌, subst, arith, length-append, ⊎_elim, inl, inr}
 use Rattle.std.specs.List.{list_all, last_or}
 use Rattle.std.proofs.lemmas.Bool.{and_parts, and_from, or_cases, eqb-true, false≢true}
 use Rattle.std.proofs.lemmas.List.{reverse-append}
@@ -21,8 +21,8 @@ use Rattle.wit_model.specs.Rules.Types.{LockType, is_enrolled, type_number, enro
 use Rattle.wit_model.specs.Rules.Locks.{locks_of, has_flag, lock_at, is_spin_lock}
 use Rattle.wit_model.specs.Rules.Orders.{is_adoption_of, is_direct, is_before, is_found, adopted_once, listed_pairs, listed_orders}
 use Rattle.wit_model.specs.Rules.History.{is_held, chain}
-use Rattle.wit_model.specs.Rules.State.{Start, Known, known_of, state_of, types_of, typed_locks, orders_of}
-use Rattle.wit_model.specs.Rules.Verdict.{is_exclusive, is_of, type_in, again, violates, is_blessed, conflict, judged, ordered, among, behind, verdict}
+use Rattle.wit_model.specs.Rules.State.{Start, Known, Seat, seat_at, known_of, state_of, types_of, typed_locks, orders_of}
+use Rattle.wit_model.specs.Rules.Verdict.{type_in, violates, is_blessed, conflict, reported, chain_of_kind, verdict}
 use Rattle.wit_model.specs.Rules.Step.{chain_for, answer_of, story_after, IsLegal}
 use Rattle.wit_model.specs.Rules.Numbers.{is_given, IsGiven, IsNumber}
 use Rattle.wit_model.proofs.Chains.Held.{made_sane}
@@ -32,6 +32,7 @@ use Rattle.wit_model.proofs.Orders.Types.{number-known, typed_made}
 use Rattle.wit_model.proofs.Histories.Accepted.{passed, same_reply, CheckAccepted, check_accepted}
 use Rattle.wit_model.proofs.Histories.Legal.{chain_for-state, sane_legal}
 use Rattle.wit_model.proofs.Orders.Started.{all-enrolled}
+use Rattle.wit_model.proofs.Orders.Ruled.{Says, ruled}
 use Rattle.wit_model.proofs.Orders.Sound.{taught, chain-held}
 
 made-type : (start : Start) (h : List Entry) (l : ℕ) → IsGiven (locks_of h) l → IsNumber (length (types_of start h)) (lock_at (typed_locks start h) l).type_no.0
@@ -93,61 +94,39 @@ record IsTold (k : Known) (q : Request) (c : List Instance) (p : TypeNo × TypeN
   violation : find (violates k q) (reverse c) ≡ Some held
   pair : (type_in k held.lock.0, type_in k q.lock.0) ≡ p
 
-tells_nothing : (k : Known) (r s : Reply) (p : TypeNo × TypeNo) → pair_of k r ≡ None → ◌≡◌ {A = Result Reply Fault} (Ok r) (Ok s) → pair_of k s ≡ Some p → ⊥
-tells_nothing k r s p none ok is =
-    let e : ◌≡◌ {A = Option (TypeNo × TypeNo)} None (Some p) = sym none ∙ (ap (λ r'. pair_of k r') (same_reply ok) ∙ is) in cc
-
 tells_this : (k : Known) (r s : Reply) (o p : TypeNo × TypeNo) → pair_of k r ≡ Some o → ◌≡◌ {A = Result Reply Fault} (Ok r) (Ok s) → pair_of k s ≡ Some p → o ≡ p
 tells_this k r s o p one ok is =
     let e : ◌≡◌ {A = Option (TypeNo × TypeNo)} (Some o) (Some p) = sym one ∙ (ap (λ r'. pair_of k r') (same_reply ok) ∙ is) in cc
 
-again_tells_nothing : (k : Known) (q : Request) (i : Instance) (r : Reply) (p : TypeNo × TypeNo) → again k q i ≡ Ok r → pair_of k r ≡ Some p → ⊥
-again_tells_nothing k q i r p ok is =
-    let one = passed (is_exclusive i.mode && not (is_exclusive q.mode)) _ _ r ok in
-    let two = passed (not (is_exclusive i.mode) && is_exclusive q.mode) _ _ r one.1 in
-    let three = passed (has_flag q.ops.0 0x04) _ _ r two.1 in
-    let four = passed (is_exclusive i.mode && not (has_flag (lock_at k.locks q.lock.0).made.flags.0 0x01)) _ (Ok Pass) r three.1 in
-    tells_nothing k Pass r p refl four.1 is
-
-judged_told : (k : Known) (q : Request) (c : List Instance) (last : Instance) (o : Option Instance) (r : Reply) (p : TypeNo × TypeNo) → find (violates k q) (reverse c) ≡ o
-    → judged k q c last o ≡ Ok r → pair_of k r ≡ Some p → IsTold k q c p
-judged_told k q c last None r p sees ok is = absurd (go (has_flag q.ops.0 0x01) ok)
-  where
-    go : (f : Bool) → cond {A = Result Reply Fault} f (Ok (Adopted (type_in k last.lock.0) (type_in k q.lock.0))) (Ok Pass) ≡ Ok r → ⊥
-    go true same = tells_nothing k (Adopted (type_in k last.lock.0) (type_in k q.lock.0)) r p refl same is
-    go false same = tells_nothing k Pass r p refl same is
-judged_told k q c last (Some i) r p sees ok is =
-    record { held = i; violation = sees; pair = go (is_found k.found (type_in k i.lock.0).0 (type_in k q.lock.0).0 || is_blessed k (type_in k i.lock.0).0 (type_in k q.lock.0).0) ok }
+reported_told : (k : Known) (q : Request) (c : List Instance) (i : Instance) (r : Reply) (p : TypeNo × TypeNo) → reported k q c i ≡ Ok r → pair_of k r ≡ Some p
+    → (type_in k i.lock.0, type_in k q.lock.0) ≡ p
+reported_told k q c i r p ok is = go (is_found k.found (type_in k i.lock.0).0 (type_in k q.lock.0).0 || is_blessed k (type_in k i.lock.0).0 (type_in k q.lock.0).0) ok
   where
     go : (f : Bool) → cond {A = Result Reply Fault} f (Ok (Silent (type_in k i.lock.0) (type_in k q.lock.0))) (Ok (Reversal (conflict k q c i))) ≡ Ok r
         → (type_in k i.lock.0, type_in k q.lock.0) ≡ p
     go true same = tells_this k (Silent (type_in k i.lock.0) (type_in k q.lock.0)) r (type_in k i.lock.0, type_in k q.lock.0) p refl same is
     go false same = tells_this k (Reversal (conflict k q c i)) r (type_in k i.lock.0, type_in k q.lock.0) p refl same is
 
-ordered_told : (k : Known) (q : Request) (c : List Instance) (last : Instance) (r : Reply) (p : TypeNo × TypeNo) → ordered k q c last ≡ Ok r → pair_of k r ≡ Some p → IsTold k q c p
-ordered_told k q c last r p ok is = go (is_direct k.orders (type_in k last.lock.0).0 (type_in k q.lock.0).0) ok
+told : (k : Known) (seat : Seat) (q : Request) (r : Reply) (p : TypeNo × TypeNo) → verdict k seat q ≡ Ok r → pair_of k r ≡ Some p → IsTold k q (chain_of_kind k seat q.lock.0) p
+told k seat q r p ok is = go (ruled k seat q r ok)
   where
-    go : (f : Bool) → cond {A = Result Reply Fault} f (Ok Pass) (judged k q c last (find (violates k q) (reverse c))) ≡ Ok r → IsTold k q c p
-    go true same = absurd (tells_nothing k Pass r p refl same is)
-    go false same = judged_told k q c last (find (violates k q) (reverse c)) r p refl same is
+    none : (s : Reply) → r ≡ s → pair_of k s ≡ None → ⊥
+    none s same untold = let e : ◌≡◌ {A = Option (TypeNo × TypeNo)} None (Some p) = sym untold ∙ (ap (λ r'. pair_of k r') (sym same) ∙ is) in cc
 
-among_told : (k : Known) (q : Request) (c : List Instance) (last : Instance) (o : Option Instance) (r : Reply) (p : TypeNo × TypeNo) → among k q c last o ≡ Ok r → pair_of k r ≡ Some p
-    → IsTold k q c p
-among_told k q c last None r p ok is = ordered_told k q c last r p ok is
-among_told k q c last (Some i) r p ok is = absurd (again_tells_nothing k q i r p ok is)
-
-behind_told : (k : Known) (q : Request) (c : List Instance) (o : Option Instance) (r : Reply) (p : TypeNo × TypeNo) → behind k q c o ≡ Ok r → pair_of k r ≡ Some p → IsTold k q c p
-behind_told k q c None r p ok is = absurd (tells_nothing k Pass r p refl ok is)
-behind_told k q c (Some last) r p ok is = among_told k q c last (find (is_of q.lock.0) c) r p ok is
-
-told : (k : Known) (q : Request) (c : List Instance) (r : Reply) (p : TypeNo × TypeNo) → verdict k q c ≡ Ok r → pair_of k r ≡ Some p → IsTold k q c p
-told k q c r p ok is = behind_told k q c (last_or None c) r p ok is
+    go : Says k q (chain_of_kind k seat q.lock.0) r → IsTold k q (chain_of_kind k seat q.lock.0) p
+    go (inl passes) = absurd (none Pass passes refl)
+    go (inr (inl l)) = absurd (none (Adopted (type_in k l.last.lock.0) (type_in k q.lock.0)) l.reply refl)
+    go (inr (inr broken)) = record {
+      held = broken.held;
+      violation = broken.violation;
+      pair = reported_told k q (chain_of_kind k seat q.lock.0) broken.held r p broken.reply is;
+    }
 
 told-known : (start : Start) (files : List (List ℕ)) (h : List Entry) (t : ℕ) (q : Request) (r : Reply) (p : TypeNo × TypeNo) → IsLegal start files h
     → CheckAccepted (state_of (story_after start files h)) t q r → pair_of (known_of start h) r ≡ Some p
     → IsNumber (length (types_of start h)) p.0.0 × IsNumber (length (types_of start h)) p.1.0
 told-known start files h t q r p legal accepted is =
-    let l = told (known_of start h) q (chain_for (state_of (story_after start files h)) t q.lock.0) r p accepted.verdict is in
+    let l = told (known_of start h) (seat_at (state_of (story_after start files h)) t) q r p accepted.verdict is in
     let held : is_held t l.held.lock.0 h ≡ true =
     found-last (λ (i : Instance). is_held t i.lock.0 h) (violates (known_of start h) q) (chain (is_spin_lock (locks_of h) q.lock.0) t h) l.held
     (chain-held (is_spin_lock (locks_of h) q.lock.0) t h)

@@ -11,8 +11,8 @@ use Rattle.wit_model.specs.declared.calls.Reply.TheVariants.{Adopted}
 use Rattle.wit_model.specs.declared.calls.Entry.{Entry}
 use Rattle.wit_model.specs.Rules.Types.{LockType, type_number, enrolled_all}
 use Rattle.wit_model.specs.Rules.Orders.{is_direct, AreDistinct, adopted_once, listed_pairs, listed_orders}
-use Rattle.wit_model.specs.Rules.State.{Start, known_of, state_of, orders_of}
-use Rattle.wit_model.specs.Rules.Step.{chain_for, answer_of, story_after, IsLegal}
+use Rattle.wit_model.specs.Rules.State.{Start, seat_at, known_of, state_of, orders_of}
+use Rattle.wit_model.specs.Rules.Step.{answer_of, story_after, IsLegal}
 use Rattle.wit_model.proofs.Chains.Seats.{entry}
 use Rattle.wit_model.proofs.Histories.Accepted.{check_accepted}
 use Rattle.wit_model.proofs.Orders.Sound.{learnt}
@@ -40,7 +40,7 @@ distinct_by : (start : Start) (files : List (List ℕ)) (h : List Entry) (t : �
     → AreDistinct (orders_of start h) → AreDistinct (orders_of start (entry t c r ∷ h))
 distinct_by start files h t (Check q) (Adopted a b) ok all =
     let s = state_of (story_after start files h) in
-    let l = learnt (known_of start h) q (chain_for s t q.lock.0) a b (check_accepted s t q (Adopted a b) ok).verdict in
+    let l = learnt (known_of start h) (seat_at s t) q a b (check_accepted s t q (Adopted a b) ok).verdict in
     (ap₂ (λ (x y : TypeNo). is_direct (orders_of start h) x.0 y.0) (sym l.parent) (sym l.child) ∙ l.new, all)
 distinct_by start files h t c r ok all = all
 

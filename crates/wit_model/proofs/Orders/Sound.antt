@@ -1,5 +1,5 @@
 -- An order is learnt only where it turns none round: so no type is ever before itself.
-use Rattle.std.proofs.Common.{◌≡◌, ℕ, Bool, true, false, not, ◌&&◌, ◌||◌, cond, List, [], ◌∷◌, ◌++◌, reverse, find, map, Option, Some, None, Result, Ok, refl, ap, sym, ◌∙◌, subst, arith}
+use Rattle.std.proofs.Common.{◌≡◌, ℕ, Bool, true, false, not, ◌&&◌, ◌||◌, cond, List, [], ◌∷◌, ◌++◌, reverse, find, map, Option, Some, None, Result, Ok, refl, ap, sym, ◌∙◌, subst, arith, inl, inr}
 use Rattle.std.specs.List.{list_all, last_or}
 use Rattle.std.proofs.lemmas.Bool.{and_parts, eq-eqb, true≢false}
 use Rattle.std.proofs.lemmas.List.{reverse-append}
@@ -17,11 +17,12 @@ use Rattle.wit_model.specs.declared.calls.Entry.{Entry}
 use Rattle.wit_model.specs.Rules.Locks.{locks_of, has_flag, lock_at, is_spin_lock, is_of_kind}
 use Rattle.wit_model.specs.Rules.Orders.{is_direct, is_before, is_found, IsSound}
 use Rattle.wit_model.specs.Rules.History.{is_held, held_of, chain, instance}
-use Rattle.wit_model.specs.Rules.State.{Start, Known, known_of, state_of, orders_of}
-use Rattle.wit_model.specs.Rules.Verdict.{is_exclusive, is_of, type_in, again, violates, is_blessed, conflict, judged, ordered, among, behind, verdict}
+use Rattle.wit_model.specs.Rules.State.{Start, Known, Seat, seat_at, known_of, state_of, orders_of}
+use Rattle.wit_model.specs.Rules.Verdict.{is_of, type_in, violates, is_blessed, conflict, reported, chain_of_kind, verdict}
 use Rattle.wit_model.specs.Rules.Step.{chain_for, answer_of, story_after, IsLegal}
 use Rattle.wit_model.specs.Rules.Numbers.{IsGiven}
 use Rattle.wit_model.proofs.Orders.Paths.{sound_adopt}
+use Rattle.wit_model.proofs.Orders.Ruled.{Says, ruled}
 use Rattle.wit_model.proofs.Chains.Held.{made_sane, held_of-all}
 use Rattle.wit_model.proofs.Chains.Seats.{entry}
 use Rattle.wit_model.proofs.Orders.TypedLocks.{length-typed, made-known}
@@ -60,51 +61,29 @@ pub record IsLearnt (k : Known) (q : Request) (c : List Instance) (p child' : Ty
   pub parent : type_in k last.lock.0 ≡ p
   pub child : type_in k q.lock.0 ≡ child'
 
-again_teaches_nothing : (k : Known) (q : Request) (i : Instance) (a b : TypeNo) → again k q i ≡ Ok (Adopted a b) → ⊥
-again_teaches_nothing k q i a b ok =
-    let one = passed (is_exclusive i.mode && not (is_exclusive q.mode)) _ _ (Adopted a b) ok in
-    let two = passed (not (is_exclusive i.mode) && is_exclusive q.mode) _ _ (Adopted a b) one.1 in
-    let three = passed (has_flag q.ops.0 0x04) _ _ (Adopted a b) two.1 in
-    let four = passed (is_exclusive i.mode && not (has_flag (lock_at k.locks q.lock.0).made.flags.0 0x01)) _ _ (Adopted a b) three.1 in
-    let five : ◌≡◌ {A = Result Reply Fault} (Ok Pass) (Ok (Adopted a b)) = four.1 in
-    cc
-
-judged_learnt : (k : Known) (q : Request) (c : List Instance) (last : Instance) (o : Option Instance) (a b : TypeNo) → judged k q c last o ≡ Ok (Adopted a b)
-    → (o ≡ None) × (has_flag q.ops.0 0x01 ≡ true) × (type_in k last.lock.0 ≡ a) × (type_in k q.lock.0 ≡ b)
-judged_learnt k q c last None a b ok = go (has_flag q.ops.0 0x01) refl ok
-  where
-    go : (f : Bool) → has_flag q.ops.0 0x01 ≡ f → cond {A = Result Reply Fault} f (Ok (Adopted (type_in k last.lock.0) (type_in k q.lock.0))) (Ok Pass) ≡ Ok (Adopted a b)
-        → (◌≡◌ {A = Option Instance} None None) × (has_flag q.ops.0 0x01 ≡ true) × (type_in k last.lock.0 ≡ a) × (type_in k q.lock.0 ≡ b)
-    go true is same = (refl, is, (let e : type_in k last.lock.0 ≡ a = cc in e), (let e : type_in k q.lock.0 ≡ b = cc in e))
-    go false is same = (cc)
-judged_learnt k q c last (Some i) a b ok = absurd (go (is_found k.found (type_in k i.lock.0).0 (type_in k q.lock.0).0 || is_blessed k (type_in k i.lock.0).0 (type_in k q.lock.0).0) ok)
+reported_teaches_nothing : (k : Known) (q : Request) (c : List Instance) (i : Instance) (a b : TypeNo) → reported k q c i ≡ Ok (Adopted a b) → ⊥
+reported_teaches_nothing k q c i a b ok = go (is_found k.found (type_in k i.lock.0).0 (type_in k q.lock.0).0 || is_blessed k (type_in k i.lock.0).0 (type_in k q.lock.0).0) ok
   where
     go : (f : Bool) → cond {A = Result Reply Fault} f (Ok (Silent (type_in k i.lock.0) (type_in k q.lock.0))) (Ok (Reversal (conflict k q c i))) ≡ Ok (Adopted a b) → ⊥
     go true same = (cc)
     go false same = (cc)
 
-passed_ok : (b : Bool) (r : Reply) (rest : Result Reply Fault) (a c : TypeNo) → cond {A = Result Reply Fault} b (Ok Pass) rest ≡ Ok (Adopted a c) → (b ≡ false) × (rest ≡ Ok (Adopted a c))
-passed_ok true r rest a c ok = (cc)
-passed_ok false r rest a c ok = (refl, ok)
-
-ordered_learnt : (k : Known) (q : Request) (c : List Instance) (last : Instance) (a b : TypeNo) → last_or None c ≡ Some last → find (is_of q.lock.0) c ≡ None
-    → ordered k q c last ≡ Ok (Adopted a b) → IsLearnt k q c a b
-ordered_learnt k q c last a b is_last free ok =
-    let one = passed_ok (is_direct k.orders (type_in k last.lock.0).0 (type_in k q.lock.0).0) Pass (judged k q c last (find (violates k q) (reverse c))) a b ok in
-    let two = judged_learnt k q c last (find (violates k q) (reverse c)) a b one.1 in
-    record { last = last; is_last = is_last; free = free; new = one.0; orderly = two.0; allowed = two.1; parent = two.2; child = two.3 }
-
-among_learnt : (k : Known) (q : Request) (c : List Instance) (last : Instance) (o : Option Instance) (a b : TypeNo) → last_or None c ≡ Some last → find (is_of q.lock.0) c ≡ o
-    → among k q c last o ≡ Ok (Adopted a b) → IsLearnt k q c a b
-among_learnt k q c last None a b is_last free ok = ordered_learnt k q c last a b is_last free ok
-among_learnt k q c last (Some i) a b is_last free ok = absurd (again_teaches_nothing k q i a b ok)
-
-behind_learnt : (k : Known) (q : Request) (c : List Instance) (o : Option Instance) (a b : TypeNo) → last_or None c ≡ o → behind k q c o ≡ Ok (Adopted a b) → IsLearnt k q c a b
-behind_learnt k q c None a b is ok = (cc)
-behind_learnt k q c (Some last) a b is ok = among_learnt k q c last (find (is_of q.lock.0) c) a b is refl ok
-
-pub learnt : (k : Known) (q : Request) (c : List Instance) (a b : TypeNo) → verdict k q c ≡ Ok (Adopted a b) → IsLearnt k q c a b
-learnt k q c a b ok = behind_learnt k q c (last_or None c) a b refl ok
+pub learnt : (k : Known) (seat : Seat) (q : Request) (a b : TypeNo) → verdict k seat q ≡ Ok (Adopted a b) → IsLearnt k q (chain_of_kind k seat q.lock.0) a b
+learnt k seat q a b ok = go (ruled k seat q (Adopted a b) ok)
+  where
+    go : Says k q (chain_of_kind k seat q.lock.0) (Adopted a b) → IsLearnt k q (chain_of_kind k seat q.lock.0) a b
+    go (inl passes) = (cc)
+    go (inr (inl l)) = record {
+      last = l.last;
+      is_last = l.is_last;
+      free = l.free;
+      new = l.new;
+      orderly = l.orderly;
+      allowed = l.allowed;
+      parent = (let e : a ≡ type_in k l.last.lock.0 = (let same = l.reply in cc) in sym e);
+      child = (let e : b ≡ type_in k q.lock.0 = (let same = l.reply in cc) in sym e);
+    }
+    go (inr (inr broken)) = absurd (reported_teaches_nothing k q (chain_of_kind k seat q.lock.0) broken.held a b broken.reply)
 
 through : (t : ℕ) (h : List Entry) (k : Bool) (ls : List ℕ) → list_all (λ l. is_held t l h && is_of_kind k (locks_of h) l) ls ≡ true
     → list_all (λ (i : Instance). is_held t i.lock.0 h) (map (instance t h) ls) ≡ true
@@ -155,7 +134,7 @@ pub taught : (start : Start) (files : List (List ℕ)) (h : List Entry) (t : ℕ
     → CheckAccepted (state_of (story_after start files h)) t q (Adopted a b) → IsTaught start h q a b
 taught start files h t q a b legal accepted =
     let sane = sane_legal start files h legal in
-    let l = learnt (known_of start h) q (chain_for (state_of (story_after start files h)) t q.lock.0) a b accepted.verdict in
+    let l = learnt (known_of start h) (seat_at (state_of (story_after start files h)) t) q a b accepted.verdict in
     let held : is_held t l.last.lock.0 h ≡ true = last-held (is_spin_lock (locks_of h) q.lock.0) t h l.last
     (subst (λ c. last_or None c ≡ Some l.last) (chain_for-state start files h t q.lock.0 accepted.seat) l.is_last) in
     let was = made_sane t l.last.lock.0 h sane held in

@@ -22,12 +22,12 @@ use Rattle.wit_model.specs.Rules.Numbers.{is_number, is_given}
 use Rattle.wit_model.specs.Rules.Refusals.{IsRefusal}
 use Rattle.wit_model.specs.Rules.Types.{type_name_of, type_number, is_enrolled, is_otherwise, is_same_class, is_spin}
 use Rattle.wit_model.specs.Rules.Locks.{Lock, has_flag, lock_at}
-use Rattle.wit_model.specs.Rules.State.{Start, Story, State, state_of, seat_at, is_seat, chain_in, has_room}
-use Rattle.wit_model.specs.Rules.Verdict.{is_exclusive, is_of, verdict}
+use Rattle.wit_model.specs.Rules.State.{Start, Story, State, state_of, seat_at, is_seat, has_room}
+use Rattle.wit_model.specs.Rules.Verdict.{is_exclusive, is_of, chain_of_kind, verdict}
 
 -- the chain of the lock's kind
 abbrev pub chain_for : State → ℕ → ℕ → List Instance
-chain_for s t l = chain_in (is_spin (lock_at s.known.locks l).made.class) (seat_at s t)
+chain_for s t l = chain_of_kind s.known (seat_at s t) l
 
 -- the lock as the seat holds it
 abbrev pub held_by : State → ℕ → ℕ → Option Instance
@@ -92,7 +92,7 @@ step_check s t q =
     else if not (is_exclusive q.mode) && not (is_shareable (lock_at s.known.locks q.lock.0).made.class) then Err ModeNotAllowed
     else if is_pending s t then Err Pending
     else if is_deepest (held_by s t q.lock.0) then Err RecursionTooDeep
-    else with_room s (verdict s.known q (chain_for s t q.lock.0))
+    else with_room s (verdict s.known (seat_at s t) q)
 
 abbrev pub step_note : State → ℕ → ℕ → Result Reply Fault
 step_note s t l =

@@ -1,10 +1,11 @@
 -- The verdict of a check: WITNESS compares the requested lock with the held ones (witness(4); the comments of
 -- witness_checkorder in subr_witness.c). The first rule that applies decides.
-use Rattle.std.specs.Prelude.{ℕ, Bool, true, false, not, ◌&&◌, ◌||◌, ◌==◌, List, Option, None, Some, Result, Ok, Err, reverse, find, if◌then◌else◌}
+use Rattle.std.specs.Prelude.{ℕ, Bool, true, false, not, ◌&&◌, ◌||◌, ◌==◌, List, [], ◌∷◌, Option, None, Some, is_some, is_none, Result, Ok, Err, reverse, find, if◌then◌else◌}
 use Rattle.std.specs.List.{list_any, last_or, before_first}
+use Rattle.std.specs.Option.{option_map}
 use Rattle.std.specs.Str.{bytes_eq}
 use Rattle.wit_model.specs.declared.faults.Fault.{Fault}
-use Rattle.wit_model.specs.declared.faults.Fault.TheVariants.{SharedOfExclusive, ExclusiveOfShared, Recursed}
+use Rattle.wit_model.specs.declared.faults.Fault.TheVariants.{SleepUnderSpin, SharedOfExclusive, ExclusiveOfShared, Recursed}
 use Rattle.wit_model.specs.declared.locks.Mode.{Mode}
 use Rattle.wit_model.specs.declared.locks.Mode.TheVariants.{Shared, Exclusive}
 use Rattle.wit_model.specs.declared.locks.Instance.{Instance}
@@ -15,10 +16,10 @@ use Rattle.wit_model.specs.declared.calls.Conflict.{Conflict}
 use Rattle.wit_model.specs.declared.calls.Reply.{Reply}
 use Rattle.wit_model.specs.declared.calls.Reply.TheVariants.{Pass, Adopted, Silent, Reversal}
 use Rattle.wit_model.specs.declared.calls.Request.{Request}
-use Rattle.wit_model.specs.Rules.Types.{name_of}
+use Rattle.wit_model.specs.Rules.Types.{name_of, is_spin}
 use Rattle.wit_model.specs.Rules.Locks.{has_flag, lock_at}
 use Rattle.wit_model.specs.Rules.Orders.{is_direct, is_before, is_found}
-use Rattle.wit_model.specs.Rules.State.{Known}
+use Rattle.wit_model.specs.Rules.State.{Known, Seat, chain_in}
 
 abbrev pub is_exclusive : Mode → Bool
 is_exclusive Exclusive = true
@@ -73,31 +74,66 @@ is_named_pair a b p = (bytes_eq p.0 a && bytes_eq p.1 b) || (bytes_eq p.0 b && b
 abbrev pub is_blessed : Known → ℕ → ℕ → Bool
 is_blessed k a b = list_any (is_named_pair (name_of a k.types) (name_of b k.types)) k.blessed
 
--- no held lock violates the order: it is learnt, where the request allows it (0x01). The newest held lock that does
--- is reported, once for a pair of types, and never where the pair is blessed
-abbrev pub judged : Known → Request → List Instance → Instance → Option Instance → Result Reply Fault
-judged k q chain last None =
-    if has_flag q.ops.0 0x01 then Ok (Adopted (type_in k last.lock.0) (type_in k q.lock.0)) else Ok Pass
-judged k q chain last (Some i) =
+-- a violation is reported, once for a pair of types, and never where the pair is blessed
+abbrev pub reported : Known → Request → List Instance → Instance → Result Reply Fault
+reported k q chain i =
     if is_found k.found (type_in k i.lock.0).0 (type_in k q.lock.0).0 || is_blessed k (type_in k i.lock.0).0 (type_in k q.lock.0).0
     then Ok (Silent (type_in k i.lock.0) (type_in k q.lock.0))
     else Ok (Reversal (conflict k q chain i))
 
--- a lock that isn't held: its order behind the last held lock is known, or all held locks are looked at, newest first
-abbrev pub ordered : Known → Request → List Instance → Instance → Result Reply Fault
-ordered k q chain last =
-    if is_direct k.orders (type_in k last.lock.0).0 (type_in k q.lock.0).0 then Ok Pass
-    else judged k q chain last (find (violates k q) (reverse chain))
+-- ---- the rules: each has an answer, or leaves it to the next
 
-abbrev pub among : Known → Request → List Instance → Instance → Option Instance → Result Reply Fault
-among k q chain last None = ordered k q chain last
-among k q chain last (Some i) = again k q i
+abbrev pub Rule : Type 0
+Rule = Option (Result Reply Fault)
 
--- nothing is held, or something: the last held lock is given
-abbrev pub behind : Known → Request → List Instance → Option Instance → Result Reply Fault
-behind k q chain None = Ok Pass
-behind k q chain (Some last) = among k q chain last (find (is_of q.lock.0) chain)
+abbrev pub when : Bool → Result Reply Fault → Rule
+when applies answer = if applies then Some answer else None
 
--- the verdict over the chain of the requested lock's kind, oldest first
-abbrev pub verdict : Known → Request → List Instance → Result Reply Fault
-verdict k q chain = behind k q chain (last_or None chain)
+-- the answer of the first that has one; where none has, the request passes
+abbrev pub decided : List Rule → Result Reply Fault
+decided [] = Ok Pass
+decided (None ∷ rules) = decided rules
+decided (Some answer ∷ rules) = answer
+
+-- a spin lock is held, and a lock of the sleep kind asked for
+abbrev pub sleeps_under_spin : Known → Seat → Request → Rule
+sleeps_under_spin k seat q = when (not (is_spin (lock_at k.locks q.lock.0).made.class) && is_some (last_or None seat.spin)) (Err SleepUnderSpin)
+
+-- no lock of its kind is held
+abbrev pub holds_nothing : Option Instance → Rule
+holds_nothing last = when (is_none last) (Ok Pass)
+
+-- the lock itself is held
+abbrev pub holds_it : Known → Request → List Instance → Rule
+holds_it k q chain = option_map (again k q) (find (is_of q.lock.0) chain)
+
+-- its order behind the last held lock is a direct one
+abbrev pub follows : Known → Request → Option Instance → Rule
+follows k q None = None
+follows k q (Some last) = when (is_direct k.orders (type_in k last.lock.0).0 (type_in k q.lock.0).0) (Ok Pass)
+
+-- a held lock violates the order: the newest one that does
+abbrev pub breaks_order : Known → Request → List Instance → Rule
+breaks_order k q chain = option_map (reported k q chain) (find (violates k q) (reverse chain))
+
+-- the order behind the last held lock is learnt, where the request allows it (0x01)
+abbrev pub teaches : Known → Request → Option Instance → Rule
+teaches k q None = None
+teaches k q (Some last) = when (has_flag q.ops.0 0x01) (Ok (Adopted (type_in k last.lock.0) (type_in k q.lock.0)))
+
+-- the seat's chain of the lock's kind, oldest first
+abbrev pub chain_of_kind : Known → Seat → ℕ → List Instance
+chain_of_kind k seat l = chain_in (is_spin (lock_at k.locks l).made.class) seat
+
+-- what is asked of a seat's chain, by which of its locks is the last
+abbrev pub over : Known → Request → List Instance → Option Instance → List Rule
+over k q chain last =
+    holds_nothing last
+    ∷ holds_it k q chain
+    ∷ follows k q last
+    ∷ breaks_order k q chain
+    ∷ teaches k q last
+    ∷ []
+
+abbrev pub verdict : Known → Seat → Request → Result Reply Fault
+verdict k seat q = decided (sleeps_under_spin k seat q ∷ over k q (chain_of_kind k seat q.lock.0) (last_or None (chain_of_kind k seat q.lock.0)))
