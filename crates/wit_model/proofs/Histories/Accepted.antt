@@ -115,7 +115,7 @@ pub record InitAccepted (s : State) (t : ℕ) (lock : NewLock) (r : Reply) : Typ
   pub class : is_otherwise (type_name_of lock) lock.class s.known.types ≡ false
   pub types : (not (is_enrolled (type_name_of lock) s.known.types) && nat_le s.sizes.types (length s.known.types)) ≡ false
   pub locks : nat_le s.sizes.locks (length s.known.locks) ≡ false
-  pub built : is_not_yet s (type_name_of lock) lock.class lock.flags ≡ false
+  pub built : is_not_yet s (type_name_of lock) lock.class ≡ false
   pub room : has_room s 1 ≡ true
   pub reply : r ≡ Made (record { 0 = length s.known.locks + 1 })
 
@@ -127,6 +127,6 @@ init_accepted s t lock r ok =
     let d = passed (is_otherwise (type_name_of lock) lock.class s.known.types) _ _ r c.1 in
     let e = passed (not (is_enrolled (type_name_of lock) s.known.types) && nat_le s.sizes.types (length s.known.types)) _ _ r d.1 in
     let f = passed (nat_le s.sizes.locks (length s.known.locks)) _ _ r e.1 in
-    let g = passed (is_not_yet s (type_name_of lock) lock.class lock.flags) _ _ r f.1 in
+    let g = passed (is_not_yet s (type_name_of lock) lock.class) _ _ r f.1 in
     let i = passed_not (has_room s 1) _ _ r g.1 in
     record { seat = a.0; idle = b.0; names = c.0; class = d.0; types = e.0; locks = f.0; built = g.0; room = i.0; reply = sym (same_reply i.1) }

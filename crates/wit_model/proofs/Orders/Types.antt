@@ -8,7 +8,7 @@ use Rattle.std.proofs.lemmas.List.{get_or_append_left}
 use Rattle.std.proofs.Math.Seq.{get_or-append_seam}
 use Rattle.std.proofs.lemmas.List.Folds.{list_any-append, list_any_at}
 use Rattle.wit_model.specs.declared.locks.Class.{Class}
-use Rattle.wit_model.specs.declared.locks.Class.TheVariants.{SleepMutex}
+use Rattle.wit_model.specs.declared.locks.Class.TheVariants.{Sx}
 use Rattle.wit_model.specs.declared.locks.LockNo.{LockNo}
 use Rattle.wit_model.specs.declared.locks.Mode.{Mode}
 use Rattle.wit_model.specs.declared.calls.NewLock.{NewLock}
@@ -238,14 +238,14 @@ apart_push ls k apart none i j lti ltj same =
         let e : n ≡ length ls = omega (arith, past, lt, length-append ls (k ∷ [])) in
         ap (λ m. (get_or (ls ++ k ∷ []) m unknown_lock).type_no.0) e ∙ ap (λ (m : Lock). m.type_no.0) (get_or-append_seam ls k [] unknown_lock)
 
-built_fresh : (a b c d : Bool) → (a || (b || (c || d))) ≡ false → d ≡ false
-built_fresh a b c d built = (or_parts c d (or_parts b (c || d) (or_parts a (b || (c || d)) built).1).1).1
+built_fresh : (a b c : Bool) → (a || (b || c)) ≡ false → c ≡ false
+built_fresh a b c built = (or_parts b c (or_parts a (b || c) built).1).1
 
 apart_by : (start : Start) (files : List (List ℕ)) (h : List Entry) (t : ℕ) (c : Call) (r : Reply) → answer_of (story_after start files h) t c ≡ Ok r
     → AreApart (typed_locks start h) → AreApart (typed_locks start (entry t c r ∷ h))
 apart_by start files h t (Init lock) r ok apart =
     let built = (init_accepted (state_of (story_after start files h)) t lock r ok).built in
-    let fresh = built_fresh (not (is_same_class lock.class SleepMutex)) (has_flag lock.flags.0 0x01) (bytes_eq (type_name_of lock) (codes "Giant"))
+    let fresh = built_fresh (is_same_class lock.class Sx) (bytes_eq (type_name_of lock) (codes "Giant"))
     (list_any (λ (other : Lock). eqb other.type_no.0 (type_number (type_name_of lock) (types_of start h))) (typed_locks start h)) built in
     apart_push (typed_locks start h) (record { type_no = record { 0 = type_number (type_name_of lock) (types_of start h) }; made = lock }) apart fresh
 apart_by start files h t (Check q) r ok apart = subst AreApart (sym (typed-check start h t q r)) apart

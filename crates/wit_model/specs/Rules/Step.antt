@@ -6,8 +6,7 @@ use Rattle.std.specs.Str.{bytes_eq}
 use Rattle.wit_model.specs.declared.faults.Fault.{Fault}
 use Rattle.wit_model.specs.declared.faults.Fault.TheVariants.{UnknownSeat, UnknownLock, ClassMismatch, TypesFull, LocksFull, RecursionTooDeep, NotLocked, SharedUnlock, ExclusiveUnlock, ForbiddenUnlock, Pending, NotRequested, LogFull, BadName, ModeNotAllowed, UnknownFile, NotYet}
 use Rattle.wit_model.specs.declared.locks.Class.{Class}
-use Rattle.wit_model.specs.declared.locks.Class.TheVariants.{SleepMutex, Rw, Sx}
-use Rattle.wit_model.specs.declared.flags.LockFlags.{LockFlags}
+use Rattle.wit_model.specs.declared.locks.Class.TheVariants.{Rw, Sx}
 use Rattle.wit_model.specs.declared.locks.Mode.{Mode}
 use Rattle.wit_model.specs.declared.locks.Instance.{Instance}
 use Rattle.wit_model.specs.declared.calls.NewLock.{NewLock}
@@ -21,7 +20,7 @@ use Rattle.wit_model.specs.Rules.Names.{is_name}
 use Rattle.wit_model.specs.Rules.Numbers.{is_number, is_given}
 use Rattle.wit_model.specs.Rules.Refusals.{IsRefusal}
 use Rattle.wit_model.specs.Rules.Types.{type_name_of, type_number, is_enrolled, is_otherwise, is_same_class, is_spin}
-use Rattle.wit_model.specs.Rules.Locks.{Lock, has_flag, lock_at}
+use Rattle.wit_model.specs.Rules.Locks.{Lock, lock_at}
 use Rattle.wit_model.specs.Rules.State.{Start, Story, State, state_of, seat_at, is_seat, has_room}
 use Rattle.wit_model.specs.Rules.Verdict.{is_exclusive, is_of, chain_of_kind, verdict}
 
@@ -45,19 +44,19 @@ abbrev pub is_good_name : Option (List ℕ) → Bool
 is_good_name None = true
 is_good_name (Some name) = is_name name
 
--- what isn't built yet: another class, a recursable lock, Giant, and a second lock of a type
-abbrev pub is_not_yet : State → List ℕ → Class → LockFlags → Bool
-is_not_yet s type_name class flags =
-    not (is_same_class class SleepMutex) || (has_flag flags.0 0x01 || (bytes_eq type_name (codes "Giant")
-    || list_any (λ (lock : Lock). lock.type_no.0 == type_number type_name s.known.types) s.known.locks))
+-- what isn't built yet: an sx lock, Giant, and a second lock of a type
+abbrev pub is_not_yet : State → List ℕ → Class → Bool
+is_not_yet s type_name class =
+    is_same_class class Sx || (bytes_eq type_name (codes "Giant")
+    || list_any (λ (lock : Lock). lock.type_no.0 == type_number type_name s.known.types) s.known.locks)
 
 -- the answer to `init` for a lock of the type with this name, where the seat asks for nothing and the names are good
-abbrev pub step_typed : State → List ℕ → Class → LockFlags → Result Reply Fault
-step_typed s type_name class flags =
+abbrev pub step_typed : State → List ℕ → Class → Result Reply Fault
+step_typed s type_name class =
     if is_otherwise type_name class s.known.types then Err ClassMismatch
     else if not (is_enrolled type_name s.known.types) && nat_le s.sizes.types (length s.known.types) then Err TypesFull
     else if nat_le s.sizes.locks (length s.known.locks) then Err LocksFull
-    else if is_not_yet s type_name class flags then Err NotYet
+    else if is_not_yet s type_name class then Err NotYet
     else if not (has_room s 1) then Err LogFull
     else Ok (Made (record { 0 = length s.known.locks + 1 }))
 
@@ -66,7 +65,7 @@ step_init s t lock =
     if not (is_seat s t) then Err UnknownSeat
     else if is_pending s t then Err Pending
     else if not (is_name lock.name && is_good_name lock.type_name) then Err BadName
-    else step_typed s (type_name_of lock) lock.class lock.flags
+    else step_typed s (type_name_of lock) lock.class
 
 -- mutexes are never held shared (mutex(9))
 abbrev pub is_shareable : Class → Bool
