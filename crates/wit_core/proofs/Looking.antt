@@ -5,16 +5,16 @@ use Rattle.std.specs.Option.{option_or}
 use Rattle.std.proofs.lemmas.List.{drop_more, reverse-append}
 use Rattle.std.proofs.lemmas.List.Folds.{find-append}
 use Rattle.wit_model.specs.declared.faults.Fault.{Fault}
-use Rattle.wit_model.specs.declared.faults.Fault.TheVariants.{UnknownSeat, UnknownLock, UnknownFile, ModeNotAllowed, Pending, RecursionTooDeep}
+use Rattle.wit_model.specs.declared.faults.Fault.TheVariants.{UnknownSeat, UnknownLock, UnknownFile, SleepUnderSpin, ModeNotAllowed, Pending, RecursionTooDeep}
 use Rattle.wit_model.specs.declared.locks.Instance.{Instance}
 use Rattle.wit_model.specs.declared.locks.TypeNo.{TypeNo}
 use Rattle.wit_model.specs.declared.calls.Request.{Request}
 use Rattle.wit_model.specs.declared.calls.Reply.{Reply}
 use Rattle.wit_model.specs.declared.calls.Reply.TheVariants.{Pass}
 use Rattle.wit_model.specs.Rules.Orders.{is_direct}
-use Rattle.wit_model.specs.Rules.State.{State, Known, is_seat}
+use Rattle.wit_model.specs.Rules.State.{State, Known, is_seat, seat_at}
 use Rattle.wit_model.specs.Rules.Step.{is_deepest, with_room, is_pending, is_shareable, chain_for, held_by, step_check}
-use Rattle.wit_model.specs.Rules.Verdict.{is_exclusive, is_of, type_in, violates, judged, among, verdict}
+use Rattle.wit_model.specs.Rules.Verdict.{is_exclusive, is_of, type_in, violates, reported, when, decided, over, verdict}
 use Rattle.wit_model.specs.declared.locks.Class.{Class}
 use Rattle.wit_model.specs.Rules.Locks.{lock_at}
 use Rattle.wit_model.specs.Rules.Numbers.{is_given, is_number}
@@ -38,7 +38,7 @@ module _ (p : Instance → Bool) (c : List Instance) (i n : ℕ) (x d : Instance
 pub violated : (k : Known) (q : Request) (chain : List Instance) (last held : Instance) (r : Result Reply Fault) (parent asked : TypeNo)
     → parent ≡ type_in k last.lock.0 → asked ≡ type_in k q.lock.0
     → is_direct k.orders parent.0 asked.0 ≡ false → find (is_of q.lock.0) chain ≡ None → find (violates k q) (reverse chain) ≡ Some held
-    → r ≡ judged k q chain held (Some held) → r ≡ shallow (find (is_of q.lock.0) chain) (among k q chain last (find (is_of q.lock.0) chain))
+    → r ≡ reported k q chain held → r ≡ shallow (find (is_of q.lock.0) chain) (decided (over k q chain (Some last)))
 violated k q chain last held r parent asked p a d n f e =
     let d' = rw (p, a) at d in rw (n, d', f) e
 
@@ -47,9 +47,10 @@ last_there d [] none = cc
 last_there d (i ∷ c) none = last_there i c none
 
 -- the verdict where nothing is held
-pub nothing-held : (k : Known) (q : Request) (c : List Instance) → None ≡ last_or None c → ◌≡◌ {A = Result Reply Fault} (Ok Pass) (shallow (find (is_of q.lock.0) c) (verdict k q c))
-nothing-held k q [] none = refl
-nothing-held k q (i ∷ c) none = absurd (last_there i c (sym none))
+pub nothing-held : (k : Known) (q : Request) (c : List Instance) (under_spin : Bool) → under_spin ≡ false → None ≡ last_or None c
+    → ◌≡◌ {A = Result Reply Fault} (Ok Pass) (shallow (find (is_of q.lock.0) c) (decided (when under_spin (Err SleepUnderSpin) ∷ over k q c (last_or None c))))
+nothing-held k q [] under_spin free none = rw free refl
+nothing-held k q (i ∷ c) under_spin free none = absurd (last_there i c (sym none))
 
 -- a refusal needs no room
 refused : (s : State) (held : Option Instance) (v : Result Reply Fault) (f : Fault) → Err f ≡ shallow held v → Err f ≡ cond (is_deepest held) (Err RecursionTooDeep) (with_room s v)
@@ -68,7 +69,7 @@ pub check-refused : (s : State) (t : ℕ) (q : Request) (class : Class) (f : Fau
     → is_seat s t ≡ true → is_given s.known.locks q.lock.0 ≡ true → is_number s.files q.site.file.0 ≡ true
     → (not (is_exclusive q.mode) && not (is_shareable class)) ≡ false → is_pending s t ≡ false
     → class ≡ (lock_at s.known.locks q.lock.0).made.class
-    → Err f ≡ shallow (held_by s t q.lock.0) (verdict s.known q (chain_for s t q.lock.0)) → Err f ≡ step_check s t q
+    → Err f ≡ shallow (held_by s t q.lock.0) (verdict s.known (seat_at s t) q) → Err f ≡ step_check s t q
 check-refused s t q class f seat made file mode free same told =
     skip (not (is_seat s t)) UnknownSeat _ (ap not seat)
     (skip (not (is_given s.known.locks q.lock.0)) UnknownLock _ (ap not made)
@@ -76,4 +77,4 @@ check-refused s t q class f seat made file mode free same told =
     (skip (not (is_exclusive q.mode) && not (is_shareable (lock_at s.known.locks q.lock.0).made.class)) ModeNotAllowed _
     (ap (λ k. not (is_exclusive q.mode) && not (is_shareable k)) (sym same) ∙ mode)
     (skip (is_pending s t) Pending _ free
-    (refused s (held_by s t q.lock.0) (verdict s.known q (chain_for s t q.lock.0)) f told)))))
+    (refused s (held_by s t q.lock.0) (verdict s.known (seat_at s t) q) f told)))))

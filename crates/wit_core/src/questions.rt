@@ -1,7 +1,7 @@
 //! What the answers ask of a verifier, in the words of the rules.
 
-ghost use Rattle.std.specs.Prelude.{◌≡◌, ◌<◌, ◌+◌, ◌&&◌, ◌==◌, ℕ, true, not, is_some, IfSome, length, nat_le, find, position};
-ghost use Rattle.std.specs.List.{list_any};
+ghost use Rattle.std.specs.Prelude.{◌≡◌, ◌<◌, ◌+◌, ◌&&◌, ◌==◌, ℕ, true, None, not, is_some, IfSome, length, nat_le, find, position};
+ghost use Rattle.std.specs.List.{list_any, last_or};
 ghost use Rattle.std.specs.Option.{option_map};
 ghost use Rattle.wit_model.specs.declared.locks.Instance.{Instance};
 ghost use Rattle.wit_model.specs.Rules.Locks.{lock_at};
@@ -14,10 +14,9 @@ ghost use Rattle.wit_core.specs.Verdict.{replied, shallow};
 
 use crate::known::class_of;
 use crate::names::{is_enrolled, type_number};
-use crate::verdict::Verdict;
+use crate::verdict::{Verdict, newest};
 use crate::verifier::Verifier;
-use bitflags::Flags;
-use wit_model::{Class, Fault, FileNo, Instance, Lock, LockFlags, LockNo, Request, SeatNo, TypeNo};
+use wit_model::{Class, Fault, FileNo, Instance, Lock, LockNo, Request, SeatNo, TypeNo};
 
 impl Verifier {
     pub(crate) fn is_seat(&self, seat: SeatNo) -> bool
@@ -65,10 +64,19 @@ impl Verifier {
 
     pub(crate) fn verdict(&self, seat: SeatNo, request: Request) -> Result<Verdict, Fault>
         ensures { replied result ≡ shallow (held_by (state_of self.now) seat.0 request.lock.0)
-            (verdict (state_of self.now).known request (chain_for (state_of self.now) seat.0 request.lock.0)) }
+            (verdict (state_of self.now).known (seat_at (state_of self.now) seat.0) request) }
     {
         let spin = self.class_of_lock(request.lock).is_spin();
-        self.known.verdict(request, self.seats.chain(seat, spin))
+        let under_spin = !spin && self.holds_spin(seat);
+        self.known
+            .verdict(request, under_spin, self.seats.chain(seat, spin))
+    }
+
+    // Whether a seat holds a spin lock.
+    fn holds_spin(&self, seat: SeatNo) -> bool
+        ensures { result ≡ is_some (last_or None (seat_at (state_of self.now) seat.0).spin) }
+    {
+        newest(self.seats.chain(seat, true)).is_some()
     }
 
     // Whether the log has room for this many entries beside those that are owed.
@@ -110,13 +118,10 @@ impl Verifier {
     }
 
     // What isn't built yet.
-    pub(crate) fn is_not_yet(&self, type_name: &str, class: Class, flags: LockFlags) -> bool
-        ensures { result ≡ is_not_yet (state_of self.now) type_name.now class flags }
+    pub(crate) fn is_not_yet(&self, type_name: &str, class: Class) -> bool
+        ensures { result ≡ is_not_yet (state_of self.now) type_name.now class }
     {
-        !class.is(Class::SleepMutex)
-            || flags.contains(LockFlags::RECURSABLE)
-            || type_name == "Giant"
-            || self.has_type(type_name)
+        class.is(Class::Sx) || type_name == "Giant" || self.has_type(type_name)
     }
 
     // Whether a lock of the type with this name was made.

@@ -1,9 +1,10 @@
 //! The verdict of a check, by the rules of WITNESS.
 
-ghost use Rattle.std.specs.Prelude.{◌≡◌, [], ◌∷◌, Some, Ok, reverse, find, IfOk};
+ghost use Rattle.std.specs.Prelude.{◌≡◌, [], ◌∷◌, None, Some, Ok, Err, reverse, find, IfOk};
 ghost use Rattle.std.specs.List.{last_or, position_or_len};
 ghost use Rattle.std.specs.Option.{option_or};
-ghost use Rattle.wit_model.specs.Rules.Verdict.{violates, has_type_of, place_of, again, judged, among, verdict, is_of, is_blessed};
+ghost use Rattle.wit_model.specs.Rules.Verdict.{violates, has_type_of, place_of, again, reported, when, decided, over, is_of, is_blessed};
+ghost use Rattle.wit_model.specs.declared.faults.Fault.TheVariants.{SleepUnderSpin};
 ghost use Rattle.wit_core.specs.Verdict.{known_by, reply_of, replied, shallow, breaks};
 
 use crate::known::{Known, flags_of, type_of};
@@ -47,10 +48,20 @@ impl Verdict {
 }
 
 impl Known {
-    /// The verdict over a chain of held locks. Each of them is looked at once, and again only to tell of a reversal.
-    pub fn verdict(&self, request: Request, chain: &[Instance]) -> Result<Verdict, Fault>
-        ensures { replied result ≡ shallow (find (is_of request.lock.0) chain.now) (verdict self.now.known request chain.now) }
+    /// The verdict over the chain of held locks of the requested one's kind, where it is told whether that one is of the sleep
+    /// kind while a spin lock is held. Each lock is looked at once, and again only to tell of a reversal.
+    pub fn verdict(
+        &self,
+        request: Request,
+        under_spin: bool,
+        chain: &[Instance],
+    ) -> Result<Verdict, Fault>
+        ensures { replied result ≡ shallow (find (is_of request.lock.0) chain.now)
+            (decided (when under_spin (Err SleepUnderSpin) ∷ over self.now.known request chain.now (last_or None chain.now))) }
     {
+        if under_spin {
+            return Err(fault_under_spin(held(chain, request.lock)));
+        }
         match newest(chain) {
             Some(last) => self.behind(request, chain, last),
             None => Ok(Verdict::Pass),
@@ -60,7 +71,7 @@ impl Known {
     // A lock is asked for behind others: its order behind the last is known, or all are looked at.
     fn behind(&self, request: Request, chain: &[Instance], last: Instance) -> Result<Verdict, Fault>
         ensures { replied result ≡ shallow (find (is_of request.lock.0) chain.now)
-            (among self.now.known request chain.now last (find (is_of request.lock.0) chain.now)) }
+            (decided (over self.now.known request chain.now (Some last))) }
     {
         let asked = type_of(&self.locks, request.lock);
         let parent = type_of(&self.locks, last.lock);
@@ -107,7 +118,7 @@ impl Known {
 
     // A held lock breaks the order.
     fn violated(&self, request: Request, chain: &[Instance], held: Instance) -> Verdict
-        ensures { replied (Ok result) ≡ judged self.now.known request chain.now held (Some held) }
+        ensures { replied (Ok result) ≡ reported self.now.known request chain.now held }
     {
         let asked = type_of(&self.locks, request.lock);
         let broken = type_of(&self.locks, held.lock);
@@ -136,6 +147,16 @@ impl Known {
     }
 }
 
+// A spin lock is held, and a lock of the sleep kind asked for, which may be held too.
+fn fault_under_spin(held: Option<Instance>) -> Fault
+    ensures { Err result ≡ shallow held (Err SleepUnderSpin) }
+{
+    match held {
+        Some(held) if held.count == 65535 => Fault::RecursionTooDeep,
+        _ => Fault::SleepUnderSpin,
+    }
+}
+
 fn place_of(held: Instance) -> LockAt
     ensures { result ≡ place_of held }
 {
@@ -145,7 +166,7 @@ fn place_of(held: Instance) -> LockAt
     }
 }
 
-fn newest(chain: &[Instance]) -> Option<Instance>
+pub fn newest(chain: &[Instance]) -> Option<Instance>
     ensures { result ≡ last_or None chain.now }
 {
     chain.last().copied()

@@ -19,8 +19,9 @@ impl Verifier {
     ///
     /// # Errors
     /// In this order: `UnknownSeat`; `UnknownLock`; `UnknownFile`; `ModeNotAllowed` for a mutex asked for shared;
-    /// `Pending`; `RecursionTooDeep`; `SharedOfExclusive`, `ExclusiveOfShared` and `Recursed` for a lock that
-    /// the seat holds; `LogFull`; `OutOfMemory`.
+    /// `Pending`; `RecursionTooDeep`; `SleepUnderSpin` for a lock of the sleep kind where the seat holds a spin
+    /// lock; `SharedOfExclusive`, `ExclusiveOfShared` and `Recursed` for a lock that the seat holds; `LogFull`;
+    /// `OutOfMemory`.
     pub fn check(
         &mut self,
         seat: SeatNo,

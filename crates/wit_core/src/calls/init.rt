@@ -61,12 +61,12 @@ impl Verifier {
         if !Name::accepts(name) || !is_good_name(type_name) {
             return Err(Fault::BadName);
         }
-        self.answer_typed(type_name_or(name, type_name), class, flags)
+        self.answer_typed(type_name_or(name, type_name), class)
     }
 
     // The number of a new lock of the type with this name.
-    fn answer_typed(&self, type_name: &str, class: Class, flags: LockFlags) -> Result<LockNo, Fault>
-        ensures { made_reply result ≡ step_typed (state_of self.now) type_name.now class flags }
+    fn answer_typed(&self, type_name: &str, class: Class) -> Result<LockNo, Fault>
+        ensures { made_reply result ≡ step_typed (state_of self.now) type_name.now class }
     {
         if self.is_otherwise(type_name, class) {
             return Err(Fault::ClassMismatch);
@@ -77,7 +77,7 @@ impl Verifier {
         let Some(number) = self.next_lock() else {
             return Err(Fault::LocksFull);
         };
-        if self.is_not_yet(type_name, class, flags) {
+        if self.is_not_yet(type_name, class) {
             return Err(Fault::NotYet);
         }
         if !self.has_room(1) {
