@@ -11,7 +11,6 @@ use Rattle.wit_model.specs.declared.locks.LockType.{LockType}
 use Rattle.wit_model.specs.declared.calls.Adoption.{Adoption}
 use Rattle.wit_model.specs.Rules.Types.{enrolled_all}
 use Rattle.wit_model.specs.Rules.Orders.{listed_pairs}
-use Rattle.wit_model.proofs.Orders.Started.{list_accepted}
 use Rattle.wit_model.specs.Rules.State.{Start}
 use Rattle.wit_model.specs.Rules.Start.{numbered, list_fault, lists_fault, has_bad_pair, blessed_fault, start_fault, IsAcceptedTo, IsRefused}
 use Rattle.wit_model.specs.Rules.Sizes.{Sizes}
@@ -105,11 +104,6 @@ start-refused start number fault refused =
     go : (o : Option (ℕ × Fault)) → IsAcceptedTo number o → IsAcceptedTo number (option_or o (blessed_fault start.blessed))
     go None accepted = blessed _
     go (Some e) accepted = accepted
-
--- an accepted list leaves the types within their limit
-pub list-few : (most : ℕ) (types : List LockType) (orders : List Adoption) (list : List (Class × List ℕ)) (bound : ℕ) → most ≤ bound → None ≡ list_fault most types orders list
-    → length (enrolled_all list types) ≤ bound
-list-few most types orders list bound le none = let good = list_accepted most types orders list (sym none) in omega (arith, good.few, le)
 
 -- an accepted start, and one whose blessed pairs aren't, or that can't be made
 pub start-accepted : (start : Start) → lists_fault start.sizes.types 1 start.lists [] [] ≡ None → has_bad_pair start.blessed ≡ false → start_fault start ≡ None

@@ -27,7 +27,7 @@ use Rattle.wit_model.specs.Rules.Start.{start_fault}
 use Rattle.wit_model.specs.Rules.Files.{is_known_file, file_answer, files_after, NamesFile}
 use Rattle.wit_table.specs.Known.{enroll_answer}
 use Rattle.wit_model.specs.Rules.State.{Start, Story, fresh, State, Known, types_of, state_of, seat_of, seats_of, owed, has_room, seat_at, seat_among, chain_in}
-use Rattle.wit_model.specs.Rules.Step.{answer_of, is_pending, is_good_name, chain_for, IsLegal}
+use Rattle.wit_model.specs.Rules.Step.{answer_of, is_good_name, chain_for, IsLegal}
 use Rattle.wit_model.specs.Rules.Verdict.{is_of}
 use Rattle.wit_model.proofs.Chains.Sane.{IsSane}
 use Rattle.wit_model.proofs.Histories.Accepted.{init_accepted, note_accepted, check_accepted, unlock_accepted}
@@ -37,7 +37,7 @@ use Rattle.wit_model.proofs.Histories.Legal.{sane_more, pending-state, unlock-he
 use Rattle.wit_model.proofs.Orders.TypedLocks.{spin_at}
 use Rattle.wit_model.proofs.Histories.NamedFiles.{legal-named}
 use Rattle.wit_model.proofs.Chains.Depth.{note-count}
-use Rattle.wit_model.proofs.Chains.Stands.{found-at, position-within}
+use Rattle.wit_model.proofs.Chains.Stands.{found-at}
 use Rattle.wit_core.specs.declared.verifier.Verifier.TheInside.{Inside}
 use Rattle.wit_core.specs.declared.verdict.Verdict.{Verdict}
 use Rattle.wit_core.specs.Verdict.{reply_of}
@@ -52,7 +52,7 @@ use Rattle.wit_core.specs.Kept.{IsKept, start_in, history_in, story_in, state_in
 use Rattle.wit_core.proofs.Entering.{IsBegun}
 use Rattle.wit_core.proofs.Steps.{same_state, state-init, state-check, state-note, state-unlock}
 use Rattle.wit_core.proofs.Keeping.{seat_in, Leaves, same_story}
-use Rattle.wit_core.proofs.Now.{now, chain_now, once_now}
+use Rattle.wit_core.proofs.Now.{chain_now, once_now}
 use Rattle.wit_model.specs.Rules.Numbers.{IsGiven}
 
 -- a lock's kind, by the locks and by the history
@@ -104,9 +104,6 @@ module _ (v : Inside) (k : IsKept v) (s : Story) (seen : story_in v ≡ s) where
       sym (pending-state (start_in v) v.known.files (history_in v) t (note_accepted (state_of (story_in v)) t l.0 Recorded (accepted t (Note l) Recorded ok)).seat)
       ∙ (ap (λ (x : Story). (seat_at (state_of x) t).pending) seen ∙ asked)
 
-  pub note_pending : (t : ℕ) (q : Request) → (seat_at (state_of s) t).pending ≡ Some q → is_some (seat_among v.seats.seats t).pending ≡ true
-  note_pending t q asked = ap (λ (o : Option Request). is_some o) (ap (λ (x : State). (seat_at x t).pending) (now v k s seen) ∙ asked)
-
   pub note_owed : (t : ℕ) (l : LockNo) (q : Request) → answer_of s t (Note l) ≡ Ok Recorded → (seat_at (state_of s) t).pending ≡ Some q → 0 < v.log.owed
   note_owed t l q ok asked =
       let in_row = within t (Note l) Recorded ok in
@@ -146,14 +143,6 @@ module _ (v : Inside) (k : IsKept v) (s : Story) (seen : story_in v ≡ s) where
   release_held t l m ok =
       (unlock-held (start_in v) v.known.files (history_in v) t l.0 m Unlocked (sane_next t (Unlock l m) Unlocked ok).1
       (unlock_accepted (state_of (story_in v)) t l.0 m Unlocked (accepted t (Unlock l m) Unlocked ok))).0
-
-  pub unlock_idle : (t : ℕ) (l : LockNo) (m : Mode) → answer_of s t (Unlock l m) ≡ Ok Unlocked → (seat_among v.seats.seats t).pending ≡ None
-  unlock_idle t l m ok = none_from _ (ap (λ (x : State). is_pending x t) (now v k s seen) ∙ (unlock_accepted (state_of s) t l.0 m Unlocked ok).idle)
-
-  pub unlock_place : (t : ℕ) (l : LockNo) (spin : Bool) (p : ℕ) → position (is_of l.0) (chain_for (state_of s) t l.0) ≡ Some p
-      → spin ≡ is_spin (lock_at (state_of s).known.locks l.0).made.class → p < length (chain_in spin (seat_among v.seats.seats t))
-  unlock_place t l spin p at kind =
-      position-within l.0 _ p (ap (position (is_of l.0)) (chain_now v k s seen t l.0 spin kind) ∙ at)
 
   pub unlock_owed : (t : ℕ) (l : LockNo) (m : Mode) → answer_of s t (Unlock l m) ≡ Ok Unlocked → 0 < v.log.owed
   unlock_owed t l m ok =
@@ -273,7 +262,7 @@ module _ (v : Inside) (sizes : Sizes) (lists : List (Vec (Class × String Global
         types = (begun.types ∙ sym (ap (λ (x : Sizes). x.types) limits));
       }
 
--- a verifier with this knowledge
+-- a verifier that knows this
 abbrev pub with_known : Inside → Facts → Inside
 with_known v new = record v { known = new }
 

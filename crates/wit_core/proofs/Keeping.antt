@@ -6,7 +6,7 @@ use Rattle.wit_model.specs.declared.calls.Entry.{Entry}
 use Rattle.wit_model.specs.Rules.State.{Start, Story, State, Known, Seat, state_of, owed_by, orders_of}
 use Rattle.wit_model.specs.Rules.Step.{answer_of, story_after, logged, IsLegal}
 use Rattle.wit_model.proofs.Chains.Seats.{entry}
-use Rattle.wit_model.proofs.Orders.Types.{types_legal, locks_legal}
+use Rattle.wit_model.proofs.Orders.Types.{types_legal}
 use Rattle.wit_model.proofs.Histories.Legal.{seat-within, seat_accepted}
 use Rattle.wit_model.proofs.Orders.Once.{distinct_legal}
 use Rattle.wit_model.proofs.Orders.Sound.{sound_legal}
@@ -25,13 +25,6 @@ pub types_few : (v : Inside) → IsKept v → length v.known.known.types ≤ v.l
 types_few v k =
     let few = types_legal (start_in v) v.known.files (history_in v) (types_started (start_in v) k.started) k.legal in
     let same = ap (λ (s : State). length s.known.types) k.state in
-    omega (arith, few, same)
-
--- and so are locks
-pub locks_few : (v : Inside) → IsKept v → length v.known.known.locks ≤ v.limits.locks
-locks_few v k =
-    let few = locks_legal (start_in v) v.known.files (history_in v) k.legal in
-    let same = ap (λ (s : State). length s.known.locks) k.state in
     omega (arith, few, same)
 
 -- an accepted call's seat is one of the verifier's
@@ -86,27 +79,6 @@ module _ (v : Inside) (t : ℕ) (call : Call) (reply : Reply) (known : Known) (s
         legal = subst (λ (s : Story). IsLegal s.start s.files s.history) (sym same) (ok, k.legal);
         state = here ∙ left.state ∙ ap state_of (sym same);
         owed = ap (λ (l : Journal). l.owed) log ∙ left.owed ∙ ap (sum_by owed_by) (sym row);
-        limit = ap (λ (l : Journal). l.limit) log ∙ k.limit;
-        types = ap (λ (f : Facts). f.most_types) knows ∙ k.types;
-      }
-
--- where nothing has changed but room
-module _ (v : Inside) (new_known : Facts) (new_seats : Row) (new_log : Journal)
-    (knows : new_known ≡ v.known) (row : new_seats.seats ≡ v.seats.seats) (log : new_log ≡ record v.log { spare = new_log.spare }) where
-  pub story_same : story_in (with_parts v new_known new_seats new_log) ≡ story_in v
-  story_same =
-      same_story _ _ _ _ _ _
-      (ap (λ (f : Facts). record (start_in v) { blessed = f.known.blessed }) knows) (ap (λ (f : Facts). f.files) knows) (ap (λ (l : Journal). l.history) log)
-
-  pub kept_same : IsKept v → IsKept (with_parts v new_known new_seats new_log)
-  kept_same k =
-      let same = story_same in
-      record {
-        started = subst (λ (s : Story). start_fault s.start ≡ None) (sym same) k.started;
-        legal = subst (λ (s : Story). IsLegal s.start s.files s.history) (sym same) k.legal;
-        state = same_state v.limits _ _ _ _ _ _ _ _ (ap (λ (f : Facts). length f.files) knows) (ap (λ (f : Facts). f.known) knows) row
-            (ap (λ (l : Journal). length l.history) log) ∙ (k.state ∙ ap state_of (sym same));
-        owed = ap (λ (l : Journal). l.owed) log ∙ (k.owed ∙ ap (sum_by owed_by) (sym row));
         limit = ap (λ (l : Journal). l.limit) log ∙ k.limit;
         types = ap (λ (f : Facts). f.most_types) knows ∙ k.types;
       }

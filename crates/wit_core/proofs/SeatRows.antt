@@ -1,18 +1,17 @@
 -- Seats in a row, one of which is written.
-use Rattle.std.proofs.Common.{◌≡◌, ℕ, ◌+◌, ◌-◌, ◌<◌, true, false, List, [], ◌∷◌, Option, Some, None, length, map, set, get_or, is_some, nat_lt, vec_len, refl, sym, ap, ap₂, ◌∙◌, subst, arith}
-use Rattle.std.specs.Vec.{vec_capacity}
+use Rattle.std.proofs.Common.{◌≡◌, ℕ, ◌+◌, ◌-◌, ◌<◌, true, false, List, [], ◌∷◌, Option, Some, None, length, map, set, get_or, is_some, refl, sym, ap, ap₂, ◌∙◌, subst, arith}
 use Rattle.std.specs.List.{All, AllByRecursion, range_with_len}
 use Rattle.std.proofs.lemmas.List.Elements.{recursion_from_All}
-use Rattle.std.proofs.lemmas.Bool.{and_parts, and_from, ltb-true, lt-ltb, true≢false}
+use Rattle.std.proofs.lemmas.Bool.{true≢false}
 use Rattle.std.proofs.lemmas.List.{map-set, get_or-map, length-map, length-set, get_or-set_same}
-use Rattle.std.proofs.lemmas.Option.{slice_get-get_or, get_or_from_slice_get}
+use Rattle.std.proofs.lemmas.Option.{slice_get-get_or}
 use Rattle.std.proofs.Math.Seq.{map-set_same}
 use Rattle.wit_model.specs.Rules.Numbers.{with_number, IsGiven}
 use Rattle.wit_model.specs.Rules.State.{no_seat, seat_among, seat_of, seats_of}
 use Rattle.wit_model.specs.Rules.State as model
 use Rattle.wit_model.proofs.Numbered.{with_number-or, with_number-at}
 use Rattle.wit_core.specs.declared.seats.Seat.{Seat}
-use Rattle.wit_core.specs.Seats.{Row, seat_view, is_spacious, HasSpace, HasSpaceFor, HasRoom, changed}
+use Rattle.wit_core.specs.Seats.{Row, seat_view, is_spacious, HasSpace, HasRoom, changed}
 use Rattle.wit_core.specs.Seated.{row_in}
 use Rattle.wit_core.specs.declared.seats.Seats.TheInside.{Inside}
 use Rattle.wit_model.specs.declared.calls.Request.{Request}
@@ -38,9 +37,6 @@ read-among seats t old given read =
     ∙ sym (get_or-map seat_view seats (t - 1) old no_seat (omega (arith, given.0, given.1, length-map seats seat_view)))
     ∙ sym (with_number-or (map seat_view seats) t no_seat given.0)
 
-is-spacious : (s : Seat) → HasSpace s → is_spacious s ≡ true
-is-spacious s space = and_from _ _ (lt-ltb _ _ space.0) (lt-ltb _ _ space.1)
-
 seats_alike : (seats : List Seat) (n : ℕ) → length seats ≡ n → AllByRecursion (λ s. seat_view s ≡ no_seat) seats → (a : ℕ)
     → map seat_view seats ≡ map (seat_of []) (range_with_len a n)
 seats_alike [] n count all a = ap (λ m. map (seat_of []) (range_with_len a m)) count
@@ -51,16 +47,7 @@ seats_alike (s ∷ seats) n count all a =
 pub seats-free : (seats : List Seat) (n : ℕ) → length seats ≡ n → All (λ s. seat_view s ≡ no_seat) seats → map seat_view seats ≡ seats_of n []
 seats-free seats n count all = seats_alike seats n count (recursion_from_All (λ s. seat_view s ≡ no_seat) seats all) 1
 
--- there is room at the seat that is read, and once some was made there
-pub space-from : (seats : List Seat) (t : ℕ) (old : Seat) → IsGiven (map seat_view seats) t → old ≡ get_or seats (t - 1) old
-    → with_number (map is_spacious seats) t ≡ Some true → HasSpace old
-space-from seats t old given read is =
-    let lt : t - 1 < length seats = omega (arith, given.0, given.1, length-map seats seat_view) in
-    let at : is_spacious old ≡ true = ap is_spacious read ∙ sym (get_or-map is_spacious seats (t - 1) old false lt)
-    ∙ get_or_from_slice_get (map is_spacious seats) (t - 1) true false (sym (with_number-at (map is_spacious seats) t given.0) ∙ is) in
-    let both = and_parts (nat_lt (vec_len old.sleep) (vec_capacity old.sleep)) (nat_lt (vec_len old.spin) (vec_capacity old.spin)) at in
-    (ltb-true _ _ both.0, ltb-true _ _ both.1)
-
+-- there is room at a seat once some was made there
 pub space-to : (seats : List Seat) (t : ℕ) (new : Seat) → IsGiven (map seat_view seats) t → HasSpace new
     → with_number (map is_spacious (set seats (t - 1) new)) t ≡ Some true
 space-to seats t new given space =
@@ -70,7 +57,7 @@ space-to seats t new given space =
     with_number-at (map is_spacious (set seats (t - 1) new)) t given.0
     ∙ slice_get-get_or (map is_spacious (set seats (t - 1) new)) (t - 1) false len'
     ∙ ap (λ b. Some b) (get_or-map is_spacious (set seats (t - 1) new) (t - 1) new false len
-    ∙ (ap is_spacious (get_or-set_same seats (t - 1) new new lt) ∙ is-spacious new space))
+    ∙ (ap is_spacious (get_or-set_same seats (t - 1) new new lt) ∙ space))
 
 -- the seat that a method writes, by what its caller sees
 module _ (o : Inside) (r : Row) (seen : row_in o ≡ r) (t : ℕ) (given : IsGiven r.seats t) (old : Seat) (read : old ≡ get_or o.row.items (t - 1) old) where
@@ -90,17 +77,9 @@ module _ (o : Inside) (r : Row) (seen : row_in o ≡ r) (t : ℕ) (given : IsGiv
   pub same-now : (new : Seat) → seat_view new ≡ seat_view old → map seat_view (set o.row.items (t - 1) new) ≡ r.seats
   same-now new e = map-same o.row.items (t - 1) old new read e ∙ ap (λ (x : Row). x.seats) seen
 
-  pub space-now : HasSpaceFor r t → HasSpace old
-  space-now is = space-from o.row.items t old given-in read (subst (λ (x : Row). HasSpaceFor x t) (sym seen) is)
-
   pub space-made : (new : Seat) → HasSpace new → with_number (map is_spacious (set o.row.items (t - 1) new)) t ≡ Some true
   space-made new space = space-to o.row.items t new given-in space
 
-  -- a seat that asks for nothing, and one that asks
+  -- a seat that asks for nothing needs no room
   pub idle-now : (new : Seat) → (seat_among r.seats t).pending ≡ None → new.pending ≡ old.pending → HasRoom new
   idle-now new idle same = λ some. absurd (true≢false (sym some ∙ ap (λ (p : Option Request). is_some p) (same ∙ (ap (λ (x : model.Seat). x.pending) view-now ∙ idle))))
-
-  pub asks-now : is_some (seat_among r.seats t).pending ≡ true → All HasRoom o.row.items → HasSpace old
-  asks-now some room =
-      subst HasSpace (sym read) (room (t - 1) old within-row
-      (ap (λ (x : Seat). is_some x.pending) (sym read) ∙ (ap (λ (x : model.Seat). is_some x.pending) view-now ∙ some)))

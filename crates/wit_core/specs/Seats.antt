@@ -25,12 +25,12 @@ HasSpaceFor row t = with_number row.spaces t ≡ Some true
 abbrev pub seat_view : Seat → model.Seat
 seat_view s = record { sleep = s.sleep.items; spin = s.spin.items; pending = s.pending }
 
--- both chains have room for one more
-abbrev pub HasSpace : Seat → Type 0
-HasSpace s = (vec_len s.sleep < vec_capacity s.sleep) × (vec_len s.spin < vec_capacity s.spin)
-
+-- whether both chains have room for one more
 abbrev pub is_spacious : Seat → Bool
 is_spacious s = nat_lt (vec_len s.sleep) (vec_capacity s.sleep) && nat_lt (vec_len s.spin) (vec_capacity s.spin)
+
+abbrev pub HasSpace : Seat → Type 0
+HasSpace s = is_spacious s ≡ true
 
 -- while a request is pending, there is room for its note
 abbrev pub HasRoom : Seat → Type 0
