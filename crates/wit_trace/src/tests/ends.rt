@@ -6,7 +6,7 @@ use crate::tests::fakes::{Drip, Funnel};
 use crate::tests::rows::{
     BOTH_ORDERS, BOTH_ORDERS_REPORT, HEADER, THROUGH_A_PATH, THROUGH_A_PATH_REPORT, replayed,
 };
-use std::alloc::Global;
+use std::alloc::{AllocError, Global};
 use std::process::Abort;
 use std::test::Fail;
 use wit_model::{Cause, Fault, View};
@@ -39,6 +39,16 @@ fn ends_as(
     is_bad && written.as_slice() == output && status_is(&outcome, status)
 }
 
+/// Whether a replay of the beginning of a trace says nothing, or that it is cut in this line.
+fn beginning_agrees(alloc: Global, front: &[u8], line: u64) -> Result<bool, AllocError> {
+    if front.ends_with(b"\n") {
+        return Ok(ends_as(alloc, front, b"", NOTHING_REPORTED, None));
+    }
+    let cut = format!(in alloc; "line {line}: cut\n")?;
+    let bad = Some((line, Cause::Cut));
+    Ok(ends_as(alloc, front, cut.as_bytes(), BAD_TRACE, bad))
+}
+
 #[test]
 fn beginnings(rt: HostRuntime) -> Result<(), Fail> {
     let alloc = rt.alloc();
@@ -48,15 +58,8 @@ fn beginnings(rt: HostRuntime) -> Result<(), Fail> {
         let mut line: u64 = 1;
         for len in 0..bytes.len() {
             let front = &bytes[..len];
-            let is_right = if front.ends_with(b"\n") {
-                line = line.saturating_add(1);
-                ends_as(alloc, front, b"", NOTHING_REPORTED, None)
-            } else {
-                let cut = format!(in alloc; "line {line}: cut\n")?;
-                let bad = Some((line, Cause::Cut));
-                ends_as(alloc, front, cut.as_bytes(), BAD_TRACE, bad)
-            };
-            assert!(rt; is_right, "of {len} bytes");
+            assert!(rt; beginning_agrees(alloc, front, line)?, "of {len} bytes");
+            line = line.saturating_add(u64::from(bytes[len] == b'\n'));
         }
         assert!(rt; ends_as(alloc, bytes, report.as_bytes(), REPORTED, None));
     }

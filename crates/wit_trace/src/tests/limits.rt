@@ -113,6 +113,6 @@ fn many_of_everything(rt: HostRuntime) -> Result<(), Fail> {
     put_report(&mut output, alloc, 399, 400)?;
     // 1 header, 400 locks, 3 lines for each of 256 seats, 6 for each of 15 rounds.
     output.push_str("line 1260: F4 TypesFull\n")?;
-    assert!(rt; agrees(alloc, &trace, &output, BAD_TRACE));
+    assert!(rt; agrees(alloc, trace.as_bytes(), output.as_bytes(), BAD_TRACE));
     Ok(())
 }

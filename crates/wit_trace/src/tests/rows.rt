@@ -105,91 +105,75 @@ order mtx "B" mtx "A"
 const REFUSED: &str = "line 3: F20 WrongOrder\n";
 
 /// The pieces of a trace, the pieces of its output, and its exit status.
-type Row = ([&'static str; 3], [&'static str; 2], u8);
+type Row = (&'static [&'static str], &'static [&'static str], u8);
 
 const ROWS: [Row; 16] = [
-    ([HEADER, "", ""], ["", ""], NOTHING_REPORTED),
+    (&[HEADER], &[], NOTHING_REPORTED),
     (
-        ["witness-trace 1 seats 1 types 1 locks 1 chunks 1\n", "", ""],
-        ["", ""],
+        &["witness-trace 1 seats 1 types 1 locks 1 chunks 1\n"],
+        &[],
         NOTHING_REPORTED,
     ),
     (
-        [
-            "witness-trace 1 seats 256 types 1023 locks 65536 chunks 65536\n",
-            "",
-            "",
-        ],
-        ["", ""],
+        &["witness-trace 1 seats 256 types 1023 locks 65536 chunks 65536\n"],
+        &[],
         NOTHING_REPORTED,
     ),
+    (&[HEADER, BOTH_ORDERS], &[BOTH_ORDERS_REPORT], REPORTED),
     (
-        [HEADER, BOTH_ORDERS, ""],
-        [BOTH_ORDERS_REPORT, ""],
+        &[HEADER, BOTH_ORDERS, ONCE_MORE],
+        &[BOTH_ORDERS_REPORT],
         REPORTED,
     ),
     (
-        [HEADER, BOTH_ORDERS, ONCE_MORE],
-        [BOTH_ORDERS_REPORT, ""],
-        REPORTED,
-    ),
-    (
-        [HEADER, BOTH_ORDERS, "lock 2 2\n"],
-        [BOTH_ORDERS_REPORT, "line 13: F25 NotRequested\n"],
+        &[HEADER, BOTH_ORDERS, "lock 2 2\n"],
+        &[BOTH_ORDERS_REPORT, "line 13: F25 NotRequested\n"],
         BAD_TRACE,
     ),
     (
-        [HEADER, THROUGH_A_PATH, ""],
-        [THROUGH_A_PATH_REPORT, ""],
+        &[HEADER, THROUGH_A_PATH],
+        &[THROUGH_A_PATH_REPORT],
+        REPORTED,
+    ),
+    (&[HEADER, "order mtx \"A\"\n"], &[], NOTHING_REPORTED),
+    (&[HEADER, "bless \"A\" \"B\"\n"], &[], NOTHING_REPORTED),
+    (
+        &[HEADER, "order mtx \"A\" mtx \"B\"\n", LISTED],
+        &[LISTED_REPORT],
         REPORTED,
     ),
     (
-        [HEADER, "order mtx \"A\"\n", ""],
-        ["", ""],
+        &[HEADER, "order mtx \"B\" mtx \"A\"\n", LISTED],
+        &[],
         NOTHING_REPORTED,
     ),
     (
-        [HEADER, "bless \"A\" \"B\"\n", ""],
-        ["", ""],
+        &[HEADER, "bless \"A\" \"B\"\n", BOTH_ORDERS],
+        &[],
         NOTHING_REPORTED,
     ),
     (
-        [HEADER, "order mtx \"A\" mtx \"B\"\n", LISTED],
-        [LISTED_REPORT, ""],
-        REPORTED,
-    ),
-    (
-        [HEADER, "order mtx \"B\" mtx \"A\"\n", LISTED],
-        ["", ""],
+        &[HEADER, "bless \"B\" \"A\"\n", BOTH_ORDERS],
+        &[],
         NOTHING_REPORTED,
     ),
     (
-        [HEADER, "bless \"A\" \"B\"\n", BOTH_ORDERS],
-        ["", ""],
-        NOTHING_REPORTED,
-    ),
-    (
-        [HEADER, "bless \"B\" \"A\"\n", BOTH_ORDERS],
-        ["", ""],
-        NOTHING_REPORTED,
-    ),
-    (
-        [
+        &[
             HEADER,
             "bless \"C\" \"D\"\nbless \"A\" \"B\"\n",
             BOTH_ORDERS,
         ],
-        ["", ""],
+        &[],
         NOTHING_REPORTED,
     ),
     (
-        [HEADER, "bless \"A\" \"C\"\n", BOTH_ORDERS],
-        [BOTH_ORDERS_REPORT, ""],
+        &[HEADER, "bless \"A\" \"C\"\n", BOTH_ORDERS],
+        &[BOTH_ORDERS_REPORT],
         REPORTED,
     ),
     (
-        [HEADER, "bless \"a\" \"b\"\n", BOTH_ORDERS],
-        [BOTH_ORDERS_REPORT, ""],
+        &[HEADER, "bless \"a\" \"b\"\n", BOTH_ORDERS],
+        &[BOTH_ORDERS_REPORT],
         REPORTED,
     ),
 ];
@@ -305,59 +289,58 @@ pub fn replayed<R: BufRead, W: Write>(
 }
 
 /// Whether a replay of this trace writes this output, and has this exit status.
-pub fn agrees(alloc: Global, trace: &str, output: &str, status: u8) -> bool {
-    let mut reader = trace.as_bytes();
+pub fn agrees(alloc: Global, trace: &[u8], output: &[u8], status: u8) -> bool {
+    let mut reader = trace;
     let mut written = Vec::new(alloc);
     let outcome = replayed(alloc, &mut reader, &mut written);
-    written.as_slice() == output.as_bytes() && status_of(View::Reports, &outcome) == status
+    written.as_slice() == output && status_of(View::Reports, &outcome) == status
 }
 
-fn joined(alloc: Global, pieces: &[&str]) -> Result<String, AllocError> {
-    let mut text = String::new(alloc);
-    for piece in pieces {
-        text.push_str(piece)?;
+/// The bytes of texts, one behind the other.
+fn joined(alloc: Global, texts: &[&str]) -> Result<Vec<u8>, AllocError> {
+    let mut bytes = Vec::new(alloc);
+    for text in texts {
+        bytes.extend_from_slice(text.as_bytes())?;
     }
-    Ok(text)
+    Ok(bytes)
 }
 
-fn row_agrees(
-    alloc: Global,
-    trace: [&str; 3],
-    output: [&str; 2],
-    status: u8,
-) -> Result<bool, AllocError> {
-    let trace = joined(alloc, &trace)?;
-    let output = joined(alloc, &output)?;
-    Ok(agrees(alloc, &trace, &output, status))
+fn row_agrees(alloc: Global, row: &Row) -> Result<bool, AllocError> {
+    let trace = joined(alloc, row.0)?;
+    let output = joined(alloc, row.1)?;
+    Ok(agrees(alloc, &trace, &output, row.2))
 }
 
 #[test]
 fn whole_traces(rt: HostRuntime) -> Result<(), Fail> {
-    for (trace, output, status) in ROWS {
-        let is_right = row_agrees(rt.alloc(), trace, output, status)?;
-        let [_, beginning, rest] = trace;
-        assert!(rt; is_right, "at {beginning}{rest}");
+    for (at, row) in ROWS.iter().enumerate() {
+        assert!(rt; row_agrees(rt.alloc(), row)?, "row {at}");
     }
     Ok(())
 }
 
-fn read_mark(letter: char) -> char {
-    match letter {
-        '|' => '\n',
-        '^' => '\t',
-        letter => letter,
+/// The bytes of a text, where `|` stands for a line feed and `^` for a tab.
+fn marked(alloc: Global, text: &str) -> Result<Vec<u8>, AllocError> {
+    let mut bytes = Vec::new(alloc);
+    for byte in text.as_bytes() {
+        let byte = match byte {
+            b'|' => b'\n',
+            b'^' => b'\t',
+            byte => *byte,
+        };
+        bytes.push(byte)?;
     }
+    Ok(bytes)
 }
 
 /// Whether a trace that goes on behind this beginning, and its output, are those of a row.
-fn bad_row_agrees(alloc: Global, beginning: &str, row: &str) -> Result<bool, AllocError> {
+fn bad_row_agrees(alloc: Global, beginning: &[u8], row: &str) -> Result<bool, AllocError> {
     let Some((rest, bad_line)) = row.split_once(" => ") else {
         return Ok(false);
     };
-    let mut trace = String::from_str(alloc, beginning)?;
-    for letter in rest.chars() {
-        trace.push(read_mark(letter))?;
-    }
+    let mut trace = Vec::from_slice(alloc, beginning)?;
+    let rest = marked(alloc, rest)?;
+    trace.extend_from_slice(&rest)?;
     let output = joined(alloc, &[bad_line, "\n"])?;
     Ok(agrees(alloc, &trace, &output, BAD_TRACE))
 }
@@ -365,7 +348,7 @@ fn bad_row_agrees(alloc: Global, beginning: &str, row: &str) -> Result<bool, All
 /// The first row that doesn't agree.
 fn first_unlike<'a>(
     alloc: Global,
-    beginning: &str,
+    beginning: &[u8],
     rows: &'a str,
 ) -> Result<Option<&'a str>, AllocError> {
     for row in rows.split('\n') {
@@ -380,61 +363,64 @@ fn first_unlike<'a>(
 fn bad_lines(rt: HostRuntime) -> Result<(), Fail> {
     let alloc = rt.alloc();
     let lists = joined(alloc, &[HEADER, AT_ODDS])?;
-    for (beginning, rows) in [
-        ("", BAD),
-        (HEADER, BAD_BEHIND_HEADER),
-        (lists.as_str(), BAD_BEHIND_LISTS),
-    ] {
-        assert_eq!(rt; first_unlike(alloc, beginning, rows)?, None);
-    }
+    assert_eq!(rt; first_unlike(alloc, b"", BAD)?, None);
+    assert_eq!(rt;
+        first_unlike(alloc, HEADER.as_bytes(), BAD_BEHIND_HEADER)?,
+        None
+    );
+    assert_eq!(rt; first_unlike(alloc, &lists, BAD_BEHIND_LISTS)?, None);
     Ok(())
 }
 
-/// Whether a trace agrees that ends with a line of so many bytes.
-fn long_line_agrees(
-    alloc: Global,
-    lists: &str,
-    beginning: &str,
-    len: u16,
-    end: &str,
-    output: &str,
-) -> Result<bool, AllocError> {
-    let mut trace = joined(alloc, &[HEADER, lists, beginning])?;
-    for _ in beginning.len()..usize::from(len) {
-        trace.push('x')?;
+/// What stands behind the header, the beginning of a line, its length, what stands behind it, and the output.
+type LongLine = (
+    &'static str,
+    &'static str,
+    usize,
+    &'static str,
+    &'static str,
+);
+
+const LONG_LINES: [LongLine; 11] = [
+    ("", "", 4097, "\n", "line 2: long\n"),
+    ("", "", 4097, "", "line 2: long\n"),
+    ("", "", 4096, "\n", "line 2: syntax\n"),
+    ("", "", 4096, "", "line 2: cut\n"),
+    (AT_ODDS, "order ", 4096, "\n", "line 4: syntax\n"),
+    (AT_ODDS, "order ", 4096, "", "line 4: cut\n"),
+    (AT_ODDS, "order ", 4097, "\n", "line 4: long\n"),
+    (AT_ODDS, "bless ", 4097, "", "line 4: long\n"),
+    (AT_ODDS, "check ", 4097, "\n", REFUSED),
+    (AT_ODDS, "order", 4097, "", REFUSED),
+    (AT_ODDS, "check ", 4096, "", REFUSED),
+];
+
+fn long_line_agrees(alloc: Global, row: &LongLine) -> Result<bool, AllocError> {
+    let mut trace = joined(alloc, &[HEADER, row.0, row.1])?;
+    for _ in row.1.len()..row.2 {
+        trace.push(b'x')?;
     }
-    trace.push_str(end)?;
-    Ok(agrees(alloc, &trace, output, BAD_TRACE))
+    trace.extend_from_slice(row.3.as_bytes())?;
+    Ok(agrees(alloc, &trace, row.4.as_bytes(), BAD_TRACE))
 }
 
 #[test]
 fn long_lines(rt: HostRuntime) -> Result<(), Fail> {
-    for (lists, beginning, len, end, output) in [
-        ("", "", 4097, "\n", "line 2: long\n"),
-        ("", "", 4097, "", "line 2: long\n"),
-        ("", "", 4096, "\n", "line 2: syntax\n"),
-        ("", "", 4096, "", "line 2: cut\n"),
-        (AT_ODDS, "order ", 4096, "\n", "line 4: syntax\n"),
-        (AT_ODDS, "order ", 4096, "", "line 4: cut\n"),
-        (AT_ODDS, "order ", 4097, "\n", "line 4: long\n"),
-        (AT_ODDS, "bless ", 4097, "", "line 4: long\n"),
-        (AT_ODDS, "check ", 4097, "\n", REFUSED),
-        (AT_ODDS, "order", 4097, "", REFUSED),
-        (AT_ODDS, "check ", 4096, "", REFUSED),
-    ] {
-        let is_right = long_line_agrees(rt.alloc(), lists, beginning, len, end, output)?;
-        assert!(rt; is_right, "{beginning} of {len} bytes");
+    for (at, row) in LONG_LINES.iter().enumerate() {
+        assert!(rt; long_line_agrees(rt.alloc(), row)?, "row {at}");
     }
     Ok(())
 }
 
 #[test]
 fn clean_run(rt: HostRuntime) -> Result<(), Fail> {
-    let mut trace = String::from_str(rt.alloc(), HEADER)?;
-    trace.push_str("init 1 mtx - \"A\"\ninit 1 mtx - \"B\"\n")?;
+    let mut trace = joined(
+        rt.alloc(),
+        &[HEADER, "init 1 mtx - \"A\"\ninit 1 mtx - \"B\"\n"],
+    )?;
     for _ in 0..1000 {
-        trace.push_str(ROUND)?;
+        trace.extend_from_slice(ROUND.as_bytes())?;
     }
-    assert!(rt; agrees(rt.alloc(), &trace, "", NOTHING_REPORTED));
+    assert!(rt; agrees(rt.alloc(), &trace, b"", NOTHING_REPORTED));
     Ok(())
 }
