@@ -3,24 +3,47 @@
 ghost use Rattle.std.specs.Prelude.{◌≡◌};
 
 use crate::{VecLists, forget, record, recursion, set_mode};
+use Call::{Push, Refused, Take};
 use linked_list_allocator::LocalHeap;
 use std::alloc::{AllocError, Allocator};
 use std::test::Fail;
 use wit_model::chunks::Lists;
 use wit_model::{Fault, FileNo, Instance, LockNo, Mode, Site};
 
-/// Six acquisitions (true), three releases, and one acquisition.
-const EIGHT: [(bool, u32); 10] = [
-    (true, 1),
-    (true, 2),
-    (true, 3),
-    (true, 4),
-    (true, 5),
-    (true, 6),
-    (false, 1),
-    (false, 3),
-    (false, 6),
-    (true, 7),
+/// A call, with the number of its list and that of its lock.
+#[derive(Clone, Copy)]
+enum Call {
+    Push(u16, u32),
+    /// A push that finds no room.
+    Refused(u16, u32),
+    Take(u16, u32),
+}
+
+/// Six acquisitions, three releases, and one acquisition.
+const EIGHT: [Call; 10] = [
+    Push(1, 1),
+    Push(1, 2),
+    Push(1, 3),
+    Push(1, 4),
+    Push(1, 5),
+    Push(1, 6),
+    Take(1, 1),
+    Take(1, 3),
+    Take(1, 6),
+    Push(1, 7),
+];
+
+/// Both chunks are taken, and one of them is full.
+const FILLED: [Call; 9] = [
+    Push(1, 1),
+    Push(1, 2),
+    Push(1, 3),
+    Push(1, 4),
+    Push(1, 5),
+    Push(2, 6),
+    Push(2, 7),
+    Refused(1, 8),
+    Refused(3, 8),
 ];
 
 /// A lock that was acquired once, at the line of its number.
@@ -167,22 +190,29 @@ fn step(
     Ok(agrees && holds(lists, list, plain))
 }
 
+/// Makes the calls; which of them is the first that ends otherwise.
+fn first_failure(lists: &mut VecLists, calls: &[Call]) -> Option<usize> {
+    for (place, call) in calls.iter().enumerate() {
+        let done = match *call {
+            Push(list, lock) => push(lists, list, lock),
+            Refused(list, lock) => !push(lists, list, lock),
+            Take(list, lock) => take(lists, list, lock),
+        };
+        if !done {
+            return Some(place);
+        }
+    }
+    None
+}
+
 #[test]
 fn eight_locks(rt: HostRuntime) -> Result<(), Fail> {
     let mut lists = VecLists::new(rt.alloc(), 4, 4)?;
-    for (acquired, lock) in EIGHT {
-        let done = if acquired {
-            push(&mut lists, 1, lock)
-        } else {
-            take(&mut lists, 1, lock)
-        };
-        assert!(rt; done, "at {lock}");
-    }
+    assert_eq!(rt; first_failure(&mut lists, &EIGHT), None);
     assert!(rt; holds(&lists, 1, &[2, 4, 5, 7]));
     assert_eq!(rt; lists.free_chunks(), 3);
-    for lock in [2, 4, 5, 7] {
-        assert!(rt; take(&mut lists, 1, lock), "at {lock}");
-    }
+    let all = [Take(1, 2), Take(1, 4), Take(1, 5), Take(1, 7)];
+    assert_eq!(rt; first_failure(&mut lists, &all), None);
     assert!(rt; holds(&lists, 1, &[]));
     assert_eq!(rt; lists.free_chunks(), 3);
     Ok(())
@@ -220,19 +250,12 @@ fn acquired_twice(rt: HostRuntime) -> Result<(), Fail> {
 #[test]
 fn last_chunk(rt: HostRuntime) -> Result<(), Fail> {
     let mut lists = VecLists::new(rt.alloc(), 2, 3)?;
-    for (list, lock) in [(1, 1), (1, 2), (1, 3), (1, 4), (1, 5), (2, 6), (2, 7)] {
-        assert!(rt; push(&mut lists, list, lock), "at {lock}");
-    }
+    assert_eq!(rt; first_failure(&mut lists, &FILLED), None);
     assert_eq!(rt; lists.free_chunks(), 0);
-    assert!(rt; !push(&mut lists, 1, 8));
-    assert!(rt; !push(&mut lists, 3, 8));
-    assert!(rt; holds(&lists, 1, &[1, 2, 3, 4, 5]));
-    assert!(rt; holds(&lists, 3, &[]));
-    assert!(rt; push(&mut lists, 2, 8));
-    assert!(rt; take(&mut lists, 1, 3));
-    assert!(rt; push(&mut lists, 1, 9));
-    assert!(rt; holds(&lists, 1, &[1, 2, 4, 5, 9]));
-    assert!(rt; holds(&lists, 2, &[6, 7, 8]));
+    assert!(rt; holds(&lists, 1, &[1, 2, 3, 4, 5]) && holds(&lists, 3, &[]));
+    let more = [Push(2, 8), Take(1, 3), Push(1, 9)];
+    assert_eq!(rt; first_failure(&mut lists, &more), None);
+    assert!(rt; holds(&lists, 1, &[1, 2, 4, 5, 9]) && holds(&lists, 2, &[6, 7, 8]));
     Ok(())
 }
 
@@ -276,25 +299,65 @@ fn long_walk(rt: HostRuntime) -> Result<(), Fail> {
     Ok(())
 }
 
+/// Whether lists that find room in a heap take a lock.
+fn is_made_in(heap: &LocalHeap) -> Result<bool, Fault> {
+    let mut lists = VecLists::new(heap, 4, 4)?;
+    Ok(push(&mut lists, 4, 1) && lists.free_chunks() == 3)
+}
+
 // The heap grows by its least block, so that each growth of `new` is the first to be refused at one of the sizes.
 #[test]
 fn want_of_memory(rt: HostRuntime) -> Result<(), Fail> {
     let mut made = false;
     for blocks in 0..64 {
         let heap = LocalHeap::new(rt.alloc(), blocks * 16)?;
-        match VecLists::new(&heap, 4, 4) {
-            Ok(mut lists) => {
-                assert!(rt; push(&mut lists, 4, 1), "in {blocks} blocks");
-                assert_eq!(rt; lists.free_chunks(), 3, "in {blocks} blocks");
-                made = true;
-            }
-            Err(fault) => {
-                assert_eq!(rt; fault, Fault::OutOfMemory, "in {blocks} blocks");
-                assert!(rt; !made, "in {blocks} blocks");
-            }
-        }
+        let told = is_made_in(&heap);
+        made = made || told.is_ok();
+        let expected = if made {
+            Ok(true)
+        } else {
+            Err(Fault::OutOfMemory)
+        };
+        assert_eq!(rt; told, expected, "in {blocks} blocks");
         assert_eq!(rt; heap.used(), 0, "in {blocks} blocks");
     }
     assert!(rt; made);
+    Ok(())
+}
+
+// That what is compared above can differ.
+#[test]
+fn unequal(rt: HostRuntime) -> Result<(), Fail> {
+    let lock = held(7);
+    let Site { file, line } = lock.site;
+    for other in [
+        Instance {
+            lock: LockNo(8),
+            ..lock
+        },
+        Instance {
+            mode: Mode::Shared,
+            ..lock
+        },
+        Instance {
+            norelease: true,
+            ..lock
+        },
+        Instance { count: 1, ..lock },
+        Instance {
+            site: Site { file, line: 8 },
+            ..lock
+        },
+        Instance {
+            site: Site {
+                file: FileNo(2),
+                line,
+            },
+            ..lock
+        },
+    ] {
+        assert!(rt; lock != other);
+    }
+    assert!(rt; Fault::OutOfMemory != Fault::BadName);
     Ok(())
 }
