@@ -3,24 +3,28 @@
 ghost use Rattle.std.specs.Prelude.{◌≡◌};
 
 use crate::{VecLists, forget, record, recursion, set_mode};
-use Call::{Push, Refused, Take};
+use Call::{Free, Holds, Push, Refused, Take};
 use linked_list_allocator::LocalHeap;
-use std::alloc::{AllocError, Allocator};
+use std::alloc::{AllocError, Allocator, Global};
 use std::test::Fail;
 use wit_model::chunks::Lists;
 use wit_model::{Fault, FileNo, Instance, LockNo, Mode, Site};
 
-/// A call, with the number of its list and that of its lock.
+/// A call, or what the lists are to hold after it. Lists and locks stand by their numbers.
 #[derive(Clone, Copy)]
 enum Call {
     Push(u16, u32),
     /// A push that finds no room.
     Refused(u16, u32),
     Take(u16, u32),
+    /// A list holds these locks alone, oldest first.
+    Holds(u16, &'static [u32]),
+    /// So many chunks are free.
+    Free(usize),
 }
 
-/// Six acquisitions, three releases, and one acquisition.
-const EIGHT: [Call; 10] = [
+/// Six acquisitions, three releases and one acquisition, of 4 chunks and 4 lists.
+const EIGHT: [Call; 18] = [
     Push(1, 1),
     Push(1, 2),
     Push(1, 3),
@@ -31,10 +35,18 @@ const EIGHT: [Call; 10] = [
     Take(1, 3),
     Take(1, 6),
     Push(1, 7),
+    Holds(1, &[2, 4, 5, 7]),
+    Free(3),
+    Take(1, 2),
+    Take(1, 4),
+    Take(1, 5),
+    Take(1, 7),
+    Holds(1, &[]),
+    Free(3),
 ];
 
-/// Both chunks are taken, and one of them is full.
-const FILLED: [Call; 9] = [
+/// Both of 2 chunks are taken, and one of them is full.
+const FILLED: [Call; 17] = [
     Push(1, 1),
     Push(1, 2),
     Push(1, 3),
@@ -42,8 +54,25 @@ const FILLED: [Call; 9] = [
     Push(1, 5),
     Push(2, 6),
     Push(2, 7),
+    Free(0),
     Refused(1, 8),
     Refused(3, 8),
+    Holds(1, &[1, 2, 3, 4, 5]),
+    Holds(3, &[]),
+    Push(2, 8),
+    Take(1, 3),
+    Push(1, 9),
+    Holds(1, &[1, 2, 4, 5, 9]),
+    Holds(2, &[6, 7, 8]),
+];
+
+/// The first and the last of most lists, and most chunks.
+const MOST: [Call; 5] = [
+    Push(512, 1),
+    Push(1, 2),
+    Holds(512, &[1]),
+    Holds(1, &[2]),
+    Free(65534),
 ];
 
 /// A lock that was acquired once, at the line of its number.
@@ -190,31 +219,45 @@ fn step(
     Ok(agrees && holds(lists, list, plain))
 }
 
-/// Makes the calls; which of them is the first that ends otherwise.
-fn first_failure(lists: &mut VecLists, calls: &[Call]) -> Option<usize> {
+fn is_so(lists: &mut VecLists, call: Call) -> bool {
+    match call {
+        Push(list, lock) => push(lists, list, lock),
+        Refused(list, lock) => list as usize <= lists.lists() && !push(lists, list, lock),
+        Take(list, lock) => take(lists, list, lock),
+        Holds(list, locks) => holds(lists, list, locks),
+        Free(chunks) => lists.free_chunks() == chunks,
+    }
+}
+
+/// Makes the calls on new lists; which of them is the first that ends otherwise.
+fn first_failure(
+    alloc: Global,
+    chunks: u32,
+    lists: u16,
+    calls: &[Call],
+) -> Result<Option<usize>, Fault> {
+    if chunks < 1 || chunks > 65536 || lists < 1 || lists > 512 {
+        return Ok(Some(0));
+    }
+    let mut made = VecLists::new(alloc, chunks, lists)?;
     for (place, call) in calls.iter().enumerate() {
-        let done = match *call {
-            Push(list, lock) => push(lists, list, lock),
-            Refused(list, lock) => !push(lists, list, lock),
-            Take(list, lock) => take(lists, list, lock),
-        };
-        if !done {
-            return Some(place);
+        if !is_so(&mut made, *call) {
+            return Ok(Some(place));
         }
     }
-    None
+    Ok(None)
 }
 
 #[test]
-fn eight_locks(rt: HostRuntime) -> Result<(), Fail> {
-    let mut lists = VecLists::new(rt.alloc(), 4, 4)?;
-    assert_eq!(rt; first_failure(&mut lists, &EIGHT), None);
-    assert!(rt; holds(&lists, 1, &[2, 4, 5, 7]));
-    assert_eq!(rt; lists.free_chunks(), 3);
-    let all = [Take(1, 2), Take(1, 4), Take(1, 5), Take(1, 7)];
-    assert_eq!(rt; first_failure(&mut lists, &all), None);
-    assert!(rt; holds(&lists, 1, &[]));
-    assert_eq!(rt; lists.free_chunks(), 3);
+fn calls_in_turn(rt: HostRuntime) -> Result<(), Fail> {
+    for (chunks, lists, calls) in [
+        (4, 4, EIGHT.as_slice()),
+        (2, 3, FILLED.as_slice()),
+        (65536, 512, MOST.as_slice()),
+    ] {
+        let told = first_failure(rt.alloc(), chunks, lists, calls);
+        assert_eq!(rt; told, Ok(None), "of {chunks} chunks");
+    }
     Ok(())
 }
 
@@ -244,28 +287,6 @@ fn acquired_twice(rt: HostRuntime) -> Result<(), Fail> {
     assert_eq!(rt; oldest(&lists, 1), Some(once));
     release(&mut lists, 1, LockNo(7));
     assert_eq!(rt; oldest(&lists, 1), None);
-    Ok(())
-}
-
-#[test]
-fn last_chunk(rt: HostRuntime) -> Result<(), Fail> {
-    let mut lists = VecLists::new(rt.alloc(), 2, 3)?;
-    assert_eq!(rt; first_failure(&mut lists, &FILLED), None);
-    assert_eq!(rt; lists.free_chunks(), 0);
-    assert!(rt; holds(&lists, 1, &[1, 2, 3, 4, 5]) && holds(&lists, 3, &[]));
-    let more = [Push(2, 8), Take(1, 3), Push(1, 9)];
-    assert_eq!(rt; first_failure(&mut lists, &more), None);
-    assert!(rt; holds(&lists, 1, &[1, 2, 4, 5, 9]) && holds(&lists, 2, &[6, 7, 8]));
-    Ok(())
-}
-
-#[test]
-fn most_chunks(rt: HostRuntime) -> Result<(), Fail> {
-    let mut lists = VecLists::new(rt.alloc(), 65536, 512)?;
-    assert!(rt; push(&mut lists, 512, 1));
-    assert!(rt; push(&mut lists, 1, 2));
-    assert!(rt; holds(&lists, 512, &[1]));
-    assert_eq!(rt; lists.free_chunks(), 65534);
     Ok(())
 }
 
