@@ -10,17 +10,17 @@ use Rattle.wit_grammar.specs.declared.errors.LineError.{LineError}
 use Rattle.wit_grammar.specs.declared.errors.LineError.TheVariants.{Bad, Memory}
 use Rattle.wit_grammar.specs.Lines.{Gives, IsWhy}
 
-abbrev Answers : List ℕ → Result Line LineError → Type 0
-Answers bytes r = Gives (λ l. l) r (line_of bytes)
+abbrev Reads : List ℕ → Result Line LineError → Type 0
+Reads bytes r = Gives (λ l. l) r (line_of bytes)
 
-pub found : (bytes : List ℕ) (r : Result Line LineError) → Answers bytes r → length bytes ≤ 4096 → IfOk r (λ line. Spells bytes line × (length bytes ≤ 4096))
+pub found : (bytes : List ℕ) (r : Result Line LineError) → Reads bytes r → length bytes ≤ 4096 → IfOk r (λ line. Spells bytes line × (length bytes ≤ 4096))
 found bytes (Ok line) given small = (line_takes bytes line given, small)
 found bytes (Err e) given small = tt
 
-pub only : (bytes : List ℕ) (r : Result Line LineError) (line : Line) → Answers bytes r → Spells bytes line → Gives (λ l. l) r (Some line)
+pub only : (bytes : List ℕ) (r : Result Line LineError) (line : Line) → Reads bytes r → Spells bytes line → Gives (λ l. l) r (Some line)
 only bytes r line given spells = subst (λ (o : Option Line). Gives (λ l. l) r o) (spelled_again bytes line spells) given
 
-pub why : (bytes : List ℕ) (r : Result Line LineError) → Answers bytes r → length bytes ≤ 4096 → IfErr r (IsWhy bytes)
+pub why : (bytes : List ℕ) (r : Result Line LineError) → Reads bytes r → length bytes ≤ 4096 → IfErr r (IsWhy bytes)
 why bytes (Ok line) given small = tt
 why bytes (Err Memory) given small = tt
 why bytes (Err (Bad Syntax)) given small = (small, λ line spells. let e : None ≡ Some line = sym given.1 ∙ spelled_again bytes line spells in absurd cc)

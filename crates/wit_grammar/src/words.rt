@@ -1,7 +1,7 @@
 //! The words of a line: each reader gives a value and the bytes after it.
 
 ghost use Rattle.std.specs.Prelude.{◌≡◌, ◌≤◌, ◌<◌, ◌^◌, length, IfSome};
-ghost use Rattle.wit_model.specs.Trace.Reading.{after, place_of, until, class_of, mode_of, bits_of, flags_of, word_at, field_at, fixed_at};
+ghost use Rattle.wit_model.specs.Trace.Reading.{after, byte_place, until, class_of, mode_of, bits_of, flags_of, word_at, field_at, fixed_at};
 ghost use Rattle.wit_grammar.specs.Lines.{Gives};
 
 use crate::errors::LineError;
@@ -22,7 +22,7 @@ pub fn skip(byte: u8, bytes: &[u8]) -> Result<&[u8], LineError>
 /// The index of a byte's first place, or the length.
 #[inline(always)]
 fn index_of(byte: u8, bytes: &[u8]) -> usize
-    ensures place { result ≡ place_of byte bytes.now }
+    ensures place { result ≡ byte_place byte bytes.now }
     ensures within { result ≤ length bytes.now }
 {
     for (i, b) in bytes.iter().enumerate() {
@@ -35,7 +35,7 @@ fn index_of(byte: u8, bytes: &[u8]) -> usize
 
 /// As `index_of`, and faster where the place is far off.
 fn far_index_of(byte: u8, bytes: &[u8]) -> usize
-    ensures place { result ≡ place_of byte bytes.now }
+    ensures place { result ≡ byte_place byte bytes.now }
     ensures within { result ≤ length bytes.now }
 {
     match memchr(byte, bytes) {

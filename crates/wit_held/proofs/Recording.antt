@@ -10,21 +10,21 @@ use Rattle.wit_model.specs.Rules.Verdict.{is_of}
 use Rattle.wit_model.specs.Rules.Groups.{tidied, left, edited_at, replaced_at, removed_at}
 use Rattle.wit_model.specs.Rules.Chunks.{Chunks, groups_of, chain_of, set_groups, is_refused, pushed}
 use Rattle.wit_held.specs.Chains.{stands, at_lock, is_other, change_lock, recursed, fewer, in_mode, recorded, recorded_by, forgotten_by, is_unrecorded, IsOnce, IsShallow, CanRise, after_record, after_forget, after_turn}
-use Rattle.wit_held.proofs.HeldLock.{place_of, found-stands, find-found, find-missed, missed-stands, absent-all, change-absent, replaced-once, removed-once}
+use Rattle.wit_held.proofs.HeldLock.{lock_place, found-stands, find-found, find-missed, missed-stands, absent-all, change-absent, replaced-once, removed-once}
 
-pub first-place : (l : ℕ) (c : List Instance) (i : ℕ) → position (is_of l) c ≡ Some i → (place_of l c ≡ i) × (place_of l c < length c)
-first-place l c i e = by (nat_lt (place_of l c) (length c)) refl e
+pub first-place : (l : ℕ) (c : List Instance) (i : ℕ) → position (is_of l) c ≡ Some i → (lock_place l c ≡ i) × (lock_place l c < length c)
+first-place l c i e = by (nat_lt (lock_place l c) (length c)) refl e
   where
-    by : (b : Bool) → nat_lt (place_of l c) (length c) ≡ b → cond b (Some (place_of l c)) None ≡ Some i → (place_of l c ≡ i) × (place_of l c < length c)
-    by true within at = (ap (λ r. unwrap_or r (place_of l c)) at, omega (arith, ltb-true (place_of l c) (length c) within))
+    by : (b : Bool) → nat_lt (lock_place l c) (length c) ≡ b → cond b (Some (lock_place l c)) None ≡ Some i → (lock_place l c ≡ i) × (lock_place l c < length c)
+    by true within at = (ap (λ r. unwrap_or r (lock_place l c)) at, omega (arith, ltb-true (lock_place l c) (length c) within))
     by false within at = absurd (true≢false (sym (ap is_some at)))
 
-pub no-place : (l : ℕ) (c : List Instance) → position (is_of l) c ≡ None → length c ≤ place_of l c
-no-place l c e = by (nat_lt (place_of l c) (length c)) refl e
+pub no-place : (l : ℕ) (c : List Instance) → position (is_of l) c ≡ None → length c ≤ lock_place l c
+no-place l c e = by (nat_lt (lock_place l c) (length c)) refl e
   where
-    by : (b : Bool) → nat_lt (place_of l c) (length c) ≡ b → cond b (Some (place_of l c)) None ≡ None → length c ≤ place_of l c
+    by : (b : Bool) → nat_lt (lock_place l c) (length c) ≡ b → cond b (Some (lock_place l c)) None ≡ None → length c ≤ lock_place l c
     by true within at = absurd (true≢false (ap is_some at))
-    by false within at = ltb-false (place_of l c) (length c) within
+    by false within at = ltb-false (lock_place l c) (length c) within
 
 module _ (c : Chunks) (list l : ℕ) where
   -- the lock isn't there
@@ -46,10 +46,10 @@ module _ (c : Chunks) (list l : ℕ) where
 
   -- the lock is there once
   module _ (i : ℕ) (d : Instance) (found : Some i ≡ position (is_of l) (chain_of c list)) (at : d ≡ get_or (chain_of c list) i d) where
-    place : (place_of l (chain_of c list) ≡ i) × (place_of l (chain_of c list) < length (chain_of c list))
+    place : (lock_place l (chain_of c list) ≡ i) × (lock_place l (chain_of c list) < length (chain_of c list))
     place = first-place l (chain_of c list) i (sym found)
 
-    there : get_or (chain_of c list) (place_of l (chain_of c list)) d ≡ d
+    there : get_or (chain_of c list) (lock_place l (chain_of c list)) d ≡ d
     there = ap (λ n. get_or (chain_of c list) n d) place.0 ∙ sym at
 
     pub some : find (is_of l) (chain_of c list) ≡ Some d

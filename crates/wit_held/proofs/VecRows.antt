@@ -12,7 +12,7 @@ use Rattle.wit_model.specs.Rules.Groups.{flat, has_room, opens, AreTidy}
 use Rattle.wit_model.specs.Rules.Verdict.{is_of}
 use Rattle.wit_held.specs.Rows.{contents, row, rows_of, groups_at, AreWithin, IsWithin}
 use Rattle.wit_model.proofs.Chains.Grouping.{opens-newest, tidy-filled}
-use Rattle.wit_held.proofs.HeldLock.{place_of}
+use Rattle.wit_held.proofs.HeldLock.{lock_place}
 use Rattle.wit_held.proofs.Recording.{first-place, no-place}
 use Rattle.wit_held.proofs.Settled.{flat-push}
 
@@ -169,7 +169,7 @@ pub met : (l : ℕ) (rows : List (List Instance)) (ps : List ℕ) (k i : ℕ) �
     → (Some (length (before rows ps k) + i) ≡ position (is_of l) (flat (groups_at rows ps))) × (length (before rows ps k) + i < length (flat (groups_at rows ps)))
 met l rows ps k i lt past found =
     let g : List Instance = row rows (get_or ps k 0) in
-    let here : (place_of l g ≡ i) × (place_of l g < length g) = first-place l g i (sym found) in
+    let here : (lock_place l g ≡ i) × (lock_place l g < length g) = first-place l g i (sym found) in
     let c : List Instance = flat (groups_at rows ps) in
     let rest : List Instance = flat (groups_at rows (drop (k + 1) ps)) in
     let parts : c ≡ before rows ps k ++ g ++ rest =

@@ -6,7 +6,7 @@ use Rattle.std.proofs.lemmas.Bool.{and_parts, eqb-true, eq-eqb}
 use Rattle.std.proofs.lemmas.List.{take_at, drop_at, take-append-drop, nil_from_length}
 use Rattle.std.proofs.lemmas.Option.{cond_some}
 use Rattle.std.proofs.lemmas.Slice.Eq.{bytes_eq-Decides}
-use Rattle.wit_model.specs.Trace.Reading.{◌>>=◌, after, place_of, until, named, word_at, field_at, fixed_at, behind, optional, both, whole}
+use Rattle.wit_model.specs.Trace.Reading.{◌>>=◌, after, byte_place, until, named, word_at, field_at, fixed_at, behind, optional, both, whole}
 
 -- ---- steps of a reader
 
@@ -43,7 +43,7 @@ pub Lacks-append : (byte : ℕ) (xs ys : List ℕ) → Lacks byte xs → Lacks b
 Lacks-append byte [] ys p q = q
 Lacks-append byte (x ∷ xs) ys p q = (p.0, Lacks-append byte xs ys p.1 q)
 
-pub place_end : (byte : ℕ) (word rest : List ℕ) → Lacks byte word → Ends byte rest → place_of byte (word ++ rest) ≡ length word
+pub place_end : (byte : ℕ) (word rest : List ℕ) → Lacks byte word → Ends byte rest → byte_place byte (word ++ rest) ≡ length word
 place_end byte [] [] lacks ends = refl
 place_end byte [] (b ∷ rest) lacks ends = rw (eq-eqb b byte ends) refl
 place_end byte (b ∷ word) rest lacks ends = rw (lacks.0, place_end byte word rest lacks.1 ends) (omega arith)
@@ -53,7 +53,7 @@ until_end byte word rest lacks ends = rw (place_end byte word rest lacks ends, t
 
 -- what stands before the byte, and the rest, are the whole
 pub until_whole : (byte : ℕ) (bytes : List ℕ) → bytes ≡ (until byte bytes).0 ++ (until byte bytes).1
-until_whole byte bytes = sym (take-append-drop (place_of byte bytes) bytes)
+until_whole byte bytes = sym (take-append-drop (byte_place byte bytes) bytes)
 
 pub after_some : (byte : ℕ) (bytes rest : List ℕ) → after byte bytes ≡ Some rest → bytes ≡ byte ∷ rest
 after_some byte [] rest e = absurd cc

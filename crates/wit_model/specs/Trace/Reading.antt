@@ -26,12 +26,12 @@ after byte [] = None
 after byte (b ∷ bytes) = if b == byte then Some bytes else None
 
 -- where the byte stands first, or the length
-abbrev pub place_of : ℕ → List ℕ → ℕ
-place_of byte bytes = position_or_len (λ b. b == byte) bytes
+abbrev pub byte_place : ℕ → List ℕ → ℕ
+byte_place byte bytes = position_or_len (λ b. b == byte) bytes
 
 -- what stands before the byte, and the rest from there on
 abbrev pub until : ℕ → List ℕ → List ℕ × List ℕ
-until byte bytes = (take (place_of byte bytes) bytes, drop (place_of byte bytes) bytes)
+until byte bytes = (take (byte_place byte bytes) bytes, drop (byte_place byte bytes) bytes)
 
 -- a byte before what was parted behind it; where nothing was, it may be the byte itself that parts
 abbrev pub parted_before : ℕ → Bool → List ℕ → Option (List ℕ × List ℕ) → Option (List ℕ × List ℕ)
