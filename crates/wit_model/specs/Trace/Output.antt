@@ -86,6 +86,10 @@ abbrev pub at_file : Story → (Story → ℕ → Outcome) → List ℕ → Resu
 at_file s next file (Ok n) = next (record s { files = files_after file s.files }) n
 at_file s next file (Err fault) = Bad (why.Fault fault)
 
+-- how many bytes a line may have, without its line feed
+abbrev pub longest_line : ℕ
+longest_line = 4096
+
 -- the log's limit in a replay
 abbrev pub log_limit : ℕ
 log_limit = 16777216
@@ -114,7 +118,7 @@ read_as p n (Some line) = entered p n line
 
 -- a whole line, without its line feed
 abbrev pub outcome : Progress → ℕ → List ℕ → Outcome
-outcome p n line = if nat_lt 4096 (length line) then Bad why.Long else read_as p n (line_of line)
+outcome p n line = if nat_lt longest_line (length line) then Bad why.Long else read_as p n (line_of line)
 
 abbrev pub cause_text : cause.Cause → List ℕ
 cause_text why.Long = codes "long"
@@ -148,7 +152,7 @@ ends_bad p bad = record { text = bad_text bad.0 bad.1; summed = summed p (Some b
 abbrev pub ends : Progress → ℕ → List ℕ → Written
 ends Unstarted n [] = ends_bad Unstarted (n, why.Cut)
 ends p n [] = record { text = []; summed = summed p None }
-ends p n (b ∷ tail) = ends_bad p (n, if nat_lt 4096 (length (b ∷ tail)) then why.Long else why.Cut)
+ends p n (b ∷ tail) = ends_bad p (n, if nat_lt longest_line (length (b ∷ tail)) then why.Long else why.Cut)
 
 abbrev pub before : List ℕ → Written → Written
 before text w = record { text = text ++ w.text; summed = w.summed }
