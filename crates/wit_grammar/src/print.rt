@@ -21,10 +21,7 @@ pub fn print_line(alloc: Global, line: &Line) -> Result<Vec<u8>, Fault>
     ensures ok { IfOk result (λ bytes. bytes.items ≡ spelling line.now) }
     ensures err { IfErr result (λ fault. fault ≡ OutOfMemory) }
 {
-    match spell(alloc, line) {
-        Ok(bytes) => Ok(bytes),
-        Err(_) => Err(Fault::OutOfMemory),
-    }
+    Ok(spell(alloc, line)?)
 }
 
 fn spell(alloc: Global, line: &Line) -> Result<Vec<u8>, AllocError>

@@ -3,6 +3,7 @@
 ghost use Rattle.std.specs.Prelude.{◌≡◌, ◌<◌, ◌≤◌, length, IfOk, IfErr};
 ghost use Rattle.wit_model.specs.declared.faults.Fault.TheVariants.{OutOfMemory};
 ghost use Rattle.wit_model.specs.Rules.Chunks.{IsNew};
+ghost use Rattle.wit_model.specs.Rules.Numbers.{IsNumber};
 
 use crate::fresh::{empty_rows, numbers_below};
 use crate::rows::{
@@ -45,15 +46,12 @@ impl<A: Allocator> VecLists<A> {
     pub fn new(alloc: A, chunks: u32, lists: u16) -> Result<VecLists<A>, Fault>
     where
         A: Copy,
-        requires chunks { (0 < chunks) × (chunks ≤ 65536) }
-        requires lists { (0 < lists) × (lists ≤ 512) }
+        requires chunks { IsNumber 65536 chunks }
+        requires lists { IsNumber 512 lists }
         ensures ok { IfOk result (IsNew chunks lists) }
         ensures err { IfErr result (λ e. e ≡ OutOfMemory) }
     {
-        match VecLists::make(alloc, chunks, lists) {
-            Ok(made) => Ok(made),
-            Err(_) => Err(Fault::OutOfMemory),
-        }
+        Ok(VecLists::make(alloc, chunks, lists)?)
     }
 
     /// How many lists there are.

@@ -175,10 +175,7 @@ impl Matrix {
         if !self.before(a, b) {
             return Ok(None);
         }
-        match self.way(self.alloc, a, b) {
-            Ok(way) => Ok(Some(way)),
-            Err(_) => Err(Fault::OutOfMemory),
-        }
+        Ok(Some(self.way(self.alloc, a, b)?))
     }
 
     // From one type to another, each time to the least that leads there.

@@ -41,10 +41,7 @@ pub fn blank(alloc: Global, n: u16) -> Result<Vec<u64>, Fault>
     ensures ok { IfOk result (λ v. v.items ≡ replicate (n * width n) 0) }
     ensures err { IfErr result (λ e. e ≡ OutOfMemory) }
 {
-    match vec![in alloc; 0; n as usize * width(n)] {
-        Ok(words) => Ok(words),
-        Err(_) => Err(Fault::OutOfMemory),
-    }
+    Ok(vec![in alloc; 0; n as usize * width(n)]?)
 }
 
 /// Whether a row has the bit of a column.
