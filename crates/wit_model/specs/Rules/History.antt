@@ -10,7 +10,7 @@ use Rattle.wit_model.specs.declared.locks.Instance.{Instance}
 use Rattle.wit_model.specs.declared.calls.Call.{Call}
 use Rattle.wit_model.specs.declared.calls.Call.TheVariants.{Check, Note, NoteTry, GiveUp, Unlock, SetWatch}
 use Rattle.wit_model.specs.declared.calls.Reply.{Reply}
-use Rattle.wit_model.specs.declared.calls.Reply.TheVariants.{Reversal, Duplicate, Recorded, Exhausted}
+use Rattle.wit_model.specs.declared.calls.Reply.TheVariants.{Reversal, Duplicate, Recorded, Exhausted, Unlocked}
 use Rattle.wit_model.specs.declared.calls.Request.{Request}
 use Rattle.wit_model.specs.declared.calls.Entry.{Entry}
 use Rattle.wit_model.specs.Rules.Locks.{locks_of, is_of_kind}
@@ -31,7 +31,7 @@ pub data Act : Type 0 where
 abbrev pub act : Call → Reply → Act
 act (Note l) Recorded = Records l.0
 act (NoteTry l m s) Recorded = Records l.0
-act (Unlock l m) reply = Releases l.0
+act (Unlock l m) Unlocked = Releases l.0
 act _ _ = Nothing
 
 -- what an entry does to the locks that seat t holds
