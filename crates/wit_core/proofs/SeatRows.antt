@@ -91,7 +91,7 @@ module _ (c : Chunks) (ps : List (Option Request)) where
       (ap (seat_with (groups_of c (list_of false t)) (groups_of c (list_of true t))) (get_or-set_same ps (t - 1) p None (omega (arith, g.0, g.1)))
       ∙ ap (asking p) (sym (seat-is t given no_seat)))
 
-  module _ (pair : length c.groups ≡ length ps * 2) where
+  module _ (pair : length c.groups ≡ 2 * length ps) where
     pub list-given : (t : ℕ) (spin : Bool) → IsGiven (seats_by c ps) t → IsList c (list_of spin t)
     list-given t true given = let g = given-by t given in (omega (arith, g.0), omega (arith, g.1, pair))
     list-given t false given = let g = given-by t given in (omega (arith, g.0), omega (arith, g.1, pair))
@@ -124,18 +124,18 @@ module _ (c : Chunks) (ps : List (Option Request)) where
           ∙ ap (set (seats_by c ps) (t - 1)) (seat-written spin is)
 
     -- the groups of all lists are those of all seats
-    halves : (k n : ℕ) → length c.groups ≡ (k + n) * 2
-        → sum_by length (drop (k * 2) c.groups) ≡ sum_by chunks_of (map (seat_by c ps) (range_with_len (k + 1) n))
-    halves k zero len = ap (sum_by length) (nil_from_length (drop (k * 2) c.groups) (omega (arith, length-drop (k * 2) c.groups, len)))
+    halves : (k n : ℕ) → length c.groups ≡ 2 * (k + n)
+        → sum_by length (drop (2 * k) c.groups) ≡ sum_by chunks_of (map (seat_by c ps) (range_with_len (k + 1) n))
+    halves k zero len = ap (sum_by length) (nil_from_length (drop (2 * k) c.groups) (omega (arith, length-drop (2 * k) c.groups, len)))
     halves k (suc n) len =
-        let one = sum_by-drop_more length c.groups (k * 2) [] (omega (arith, len)) in
-        let two = sum_by-drop_more length c.groups (k * 2 + 1) [] (omega (arith, len)) in
+        let one = sum_by-drop_more length c.groups (2 * k) [] (omega (arith, len)) in
+        let two = sum_by-drop_more length c.groups (2 * k + 1) [] (omega (arith, len)) in
         let rest = halves (k + 1) n (omega (arith, len)) in
-        let next : k * 2 + 1 + 1 ≡ (k + 1) * 2 = omega arith in
+        let next : 2 * k + 1 + 1 ≡ 2 * (k + 1) = omega arith in
         let left = ap (λ m. sum_by length (drop m c.groups)) next in
         let here = sum_by-cons chunks_of (seat_by c ps (k + 1)) (map (seat_by c ps) (range_with_len (k + 1 + 1) n)) in
-        let low : list_of false (k + 1) - 1 ≡ k * 2 = omega arith in
-        let high : list_of true (k + 1) - 1 ≡ k * 2 + 1 = omega arith in
+        let low : list_of false (k + 1) - 1 ≡ 2 * k = omega arith in
+        let high : list_of true (k + 1) - 1 ≡ 2 * k + 1 = omega arith in
         let low_is = ap (λ m. length (get_or c.groups m [])) low in
         let high_is = ap (λ m. length (get_or c.groups m [])) high in
         omega (arith, one, two, rest, left, here, low_is, high_is)
@@ -214,7 +214,7 @@ module _ (o : Inside) (r : Row) (seen : row_in o ≡ r) where
   pub holds-now : AreSeated o → HoldFor r o.lists
   holds-now k = record {
     groups = λ t spin given. groups-now k t given (list_of spin t) spin refl;
-    lists = k.lists ∙ ap (λ n. n * 2) (sym count-now);
+    lists = k.lists ∙ ap (λ n. 2 * n) (sym count-now);
     size = ap (λ (x : Row). x.chunks) seen;
     placed = k.placed;
   }
@@ -270,7 +270,7 @@ module _ (o : Inside) (r : Row) (seen : row_in o ≡ r) (k : AreSeated o) (t : �
             ∙ sym (ap (λ b. cond b r (with_seat t (acquired spin i) r)) (sym (room-now i.lock.0) ∙ room))
 
 -- new seats
-module _ (seats chunks lists : ℕ) (count : lists ≡ seats * 2) (c : Chunks) (ps : List (Option Request)) (new : IsNew chunks lists c) (none : ps ≡ replicate seats None) where
+module _ (seats chunks lists : ℕ) (count : lists ≡ 2 * seats) (c : Chunks) (ps : List (Option Request)) (new : IsNew chunks lists c) (none : ps ≡ replicate seats None) where
   ps-length : length ps ≡ seats
   ps-length = ap length none ∙ length-replicate seats None
 
@@ -286,8 +286,8 @@ module _ (seats chunks lists : ℕ) (count : lists ≡ seats * 2) (c : Chunks) (
   row-idle =
       ap₂ row (ap (λ n. map (seat_by c ps) (range_with_len 1 n)) ps-length ∙ map-alike (seat_by c ps) no_seat seat-idle 1 seats) new.size
 
-  pub idle-lists : length c.groups ≡ length ps * 2
-  idle-lists = ap length new.groups ∙ length-replicate lists [] ∙ count ∙ ap (λ n. n * 2) (sym ps-length)
+  pub idle-lists : length c.groups ≡ 2 * length ps
+  idle-lists = ap length new.groups ∙ length-replicate lists [] ∙ count ∙ ap (λ n. 2 * n) (sym ps-length)
 
   pub idle-few : seats ≤ 256 → length ps ≤ 256
   idle-few few = omega (arith, few, ps-length)

@@ -23,5 +23,5 @@ row_in s = record { seats = seats_by s.lists s.requests.items; chunks = s.lists.
 -- each seat has its two lists, and each chunk stands once
 pub record AreSeated (s : Inside) : Type 0 where
   pub few : length s.requests.items ≤ 256
-  pub lists : length s.lists.groups ≡ length s.requests.items * 2
+  pub lists : length s.lists.groups ≡ 2 * length s.requests.items
   pub placed : IsPlaced s.lists

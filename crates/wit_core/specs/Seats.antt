@@ -77,11 +77,11 @@ after_acquired t spin i row = if has_no_room row t spin i.lock.0 then row else w
 
 -- the list of the locks of one kind that a seat holds: of the sleep kind, then of the spin kind
 abbrev pub list_of : Bool → ℕ → ℕ
-list_of spin t = if spin then t * 2 else t * 2 - 1
+list_of spin t = if spin then 2 * t else 2 * t - 1
 
 -- the lists of these chunks hold what the seats hold, and each chunk stands once
 pub record HoldFor (row : Row) (c : Chunks) : Type 0 where
   pub groups : (t : ℕ) (spin : Bool) → IsGiven row.seats t → groups_of c (list_of spin t) ≡ groups_in spin (seat_in row t)
-  pub lists : length c.groups ≡ length row.seats * 2
+  pub lists : length c.groups ≡ 2 * length row.seats
   pub size : c.size ≡ row.chunks
   pub placed : IsPlaced c

@@ -48,7 +48,7 @@ impl Seats {
         ensures err { IfErr result (λ e. e ≡ OutOfMemory) }
     {
         Ok(Seats {
-            lists: VecLists::new(alloc, chunks, seats as u16 * 2)?,
+            lists: VecLists::new(alloc, chunks, 2 * seats as u16)?,
             requests: no_requests(alloc, seats)?,
         })
     }
@@ -159,7 +159,7 @@ fn list_of(seat: SeatNo, spin: bool) -> u16
     requires { IsNumber 256 seat.0 }
     ensures { result ≡ list_of spin seat.0 }
 {
-    let last = seat.0 * 2;
+    let last = 2 * seat.0;
     if spin { last } else { last - 1 }
 }
 

@@ -55,7 +55,7 @@ impl Verifier {
         if !self.is_seat(seat) {
             return Err(Fault::UnknownSeat);
         }
-        if self.pending(seat).is_some() {
+        if self.request(seat).is_some() {
             return Err(Fault::Pending);
         }
         if !Name::accepts(name) || !is_good_name(type_name) {
