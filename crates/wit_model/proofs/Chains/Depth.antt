@@ -11,7 +11,7 @@ use Rattle.wit_model.specs.declared.calls.Call.TheVariants.{Check, Note, NoteTry
 use Rattle.wit_model.specs.declared.calls.Reply.{Reply}
 use Rattle.wit_model.specs.declared.calls.Reply.TheVariants.{Recorded, Unlocked}
 use Rattle.wit_model.specs.declared.calls.Entry.{Entry}
-use Rattle.wit_model.specs.Rules.History.{Nothing, Records, Releases, act, act_by, num, is_held, instance, pending, pending_after, is_off, watch_of}
+use Rattle.wit_model.specs.Rules.History.{Nothing, Records, Releases, act, num, is_held, instance, pending, pending_after, is_off, watch_of}
 use Rattle.wit_model.specs.Rules.State.{Start, state_of, is_seat}
 use Rattle.wit_model.specs.Rules.Step.{held_by, is_for, is_deepest, is_too_deep, answer_of, story_after, IsLegal}
 use Rattle.wit_model.proofs.Chains.Sane.{IsSane}

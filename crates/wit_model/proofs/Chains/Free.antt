@@ -1,5 +1,5 @@
 -- The chunks that the seats have after an entry, and that they are never more than there are.
-use Rattle.std.proofs.Common.{◌≡◌, ℕ, zero, suc, ◌+◌, ◌-◌, ◌<◌, ◌≤◌, Bool, true, false, not, ◌&&◌, cond, eqb, nat_lt, List, [], ◌∷◌, ◌++◌, length, map, filter, find, sum_by, Option, None, Some, is_some, Ok, refl, ap, ap₂, sym, ◌∙◌, subst, arith}
+use Rattle.std.proofs.Common.{◌≡◌, ℕ, zero, suc, ◌+◌, ◌<◌, ◌≤◌, Bool, true, false, not, ◌&&◌, cond, eqb, nat_lt, List, [], ◌∷◌, ◌++◌, length, map, filter, find, sum_by, Option, None, Some, is_some, Ok, refl, ap, ap₂, sym, ◌∙◌, subst, arith}
 use Rattle.std.specs.List.{range_with_len}
 use Rattle.std.proofs.lemmas.Bool.{eqb-false}
 use Rattle.std.proofs.lemmas.List.{length-map}
@@ -14,7 +14,7 @@ use Rattle.wit_model.specs.declared.calls.Reply.{Reply}
 use Rattle.wit_model.specs.declared.calls.Reply.TheVariants.{Recorded, Unlocked}
 use Rattle.wit_model.specs.declared.calls.Entry.{Entry}
 use Rattle.wit_model.specs.Rules.Locks.{locks_of, is_spin_lock}
-use Rattle.wit_model.specs.Rules.History.{Act, Nothing, Records, Releases, Turns, Marks, act, chain}
+use Rattle.wit_model.specs.Rules.History.{Act, Nothing, Records, Releases, act, chain}
 use Rattle.wit_model.specs.Rules.Groups.{has_room, joined, opens, is_filled, tidied, left}
 use Rattle.wit_model.specs.Rules.SeatGroups.{seat_groups}
 use Rattle.wit_model.specs.Rules.Verdict.{is_of}
@@ -24,7 +24,7 @@ use Rattle.wit_model.proofs.Chains.Sane.{IsSane}
 use Rattle.wit_model.proofs.Chains.Effects.{is_not}
 use Rattle.wit_model.proofs.Chains.Regrouping.{filter-shorter, seat_groups-nil}
 use Rattle.wit_model.proofs.Chains.GroupSteps.{entered, withdrawn, groups_after}
-use Rattle.wit_model.proofs.Chains.Seats.{seat_after, sum-step}
+use Rattle.wit_model.proofs.Chains.Seats.{sum-step}
 use Rattle.wit_model.proofs.Histories.Accepted.{recorded_room, note_accepted, try_accepted}
 use Rattle.wit_model.proofs.Histories.Legal.{seat-within, one_chain, one_groups, chain_for-state, groups_for-state, sane_legal, seat_accepted}
 

@@ -17,7 +17,7 @@ use Rattle.wit_model.specs.Rules.Types.{type_name_of, is_enrolled, is_otherwise}
 use Rattle.wit_model.specs.Rules.Locks.{lock_at}
 use Rattle.wit_model.specs.Rules.State.{State, seat_at, is_seat, has_room}
 use Rattle.wit_model.specs.Rules.Verdict.{is_exclusive, verdict}
-use Rattle.wit_model.specs.Rules.Step.{chain_for, held_by, is_pending, is_for, is_good_name, is_not_yet, is_shareable, is_too_deep, with_room, is_exhausted, recorded, released, let_go, step_init, step_check, step_note, step_note_try, step_give_up, step_unlock, step_set_watch, is_logged}
+use Rattle.wit_model.specs.Rules.Step.{held_by, is_pending, is_for, is_good_name, is_not_yet, is_shareable, is_too_deep, with_room, is_exhausted, recorded, released, let_go, step_init, step_check, step_note, step_note_try, step_give_up, step_unlock, step_set_watch, is_logged}
 use Rattle.wit_model.specs.Rules.Numbers.{is_given, is_number}
 
 -- a fault that doesn't apply is passed by
