@@ -6,6 +6,7 @@ pub mod Depth
 pub mod Edits
 pub mod Effects
 pub mod Found
+pub mod Free
 pub mod GroupSteps
 pub mod Grouping
 pub mod Held

@@ -1,11 +1,11 @@
 -- The groups of a seat's held locks after an entry: the step that a program takes.
-use Rattle.std.proofs.Common.{◌≡◌, ℕ, ◌+◌, ◌-◌, ◌<◌, Bool, true, false, not, ◌&&◌, cond, nat_lt, List, [], ◌∷◌, find, Option, Some, None, refl, ap, ap₂, sym, ◌∙◌, subst, arith}
+use Rattle.std.proofs.Common.{◌≡◌, ℕ, ◌+◌, ◌-◌, Bool, true, false, not, ◌&&◌, cond, nat_lt, List, ◌∷◌, find, Option, Some, None, refl, ap, ap₂, sym, ◌∙◌, subst, arith}
 use Rattle.std.proofs.lemmas.Bool.{eq-eqb}
 use Rattle.wit_model.specs.declared.locks.Instance.{Instance}
 use Rattle.wit_model.specs.declared.calls.NewLock.{NewLock}
 use Rattle.wit_model.specs.declared.calls.Entry.{Entry}
 use Rattle.wit_model.specs.Rules.Locks.{locks_of, is_of_kind}
-use Rattle.wit_model.specs.Rules.History.{Act, Nothing, Records, Releases, Turns, Marks, act_by, num, is_held, rises, instance, chain}
+use Rattle.wit_model.specs.Rules.History.{Act, Records, Releases, act_by, num, is_held, rises, instance, chain}
 use Rattle.wit_model.specs.Rules.Groups.{joined, left}
 use Rattle.wit_model.specs.Rules.SeatGroups.{falls, regrouped, seat_groups}
 use Rattle.wit_model.specs.Rules.Verdict.{is_of}

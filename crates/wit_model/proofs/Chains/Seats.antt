@@ -1,8 +1,9 @@
 -- The seats after an entry: one is set.
-use Rattle.std.proofs.Common.{◌≡◌, ℕ, zero, suc, ◌+◌, ◌-◌, ◌<◌, ◌≤◌, Bool, true, false, not, cond, List, ◌∷◌, map, set, get_or, find, Option, Some, None, refl, ap, ap₂, sym, ◌∙◌, arith}
+use Rattle.std.proofs.Common.{◌≡◌, ℕ, zero, suc, ◌+◌, ◌-◌, ◌<◌, ◌≤◌, Bool, true, false, not, cond, List, ◌∷◌, map, length, set, get_or, find, sum_by, Option, Some, None, refl, ap, ap₂, sym, ◌∙◌, arith}
 use Rattle.std.specs.List.{range_with_len}
 use Rattle.std.proofs.lemmas.Bool.{eq-eqb, ne_eqb}
-use Rattle.std.proofs.lemmas.List.FromFn.{get_or-map-range_with_len}
+use Rattle.std.proofs.lemmas.List.Sums.{sum_by-set}
+use Rattle.std.proofs.lemmas.List.FromFn.{length-map-range_with_len, get_or-map-range_with_len}
 use Rattle.wit_model.specs.declared.locks.Instance.{Instance}
 use Rattle.wit_model.specs.declared.calls.NewLock.{NewLock}
 use Rattle.wit_model.specs.declared.calls.Request.{Request}
@@ -18,7 +19,7 @@ use Rattle.wit_model.specs.Rules.Locks.{locks_of, is_spin_lock}
 use Rattle.wit_model.specs.Rules.Verdict.{is_of}
 use Rattle.wit_model.specs.Rules.History.{Act, Nothing, act, act_by, chain, pending, pending_after, asked_mode, asked_site}
 use Rattle.wit_model.specs.Rules.SeatGroups.{seat_groups}
-use Rattle.wit_model.specs.Rules.State.{Seat, seat_of, seats_of}
+use Rattle.wit_model.specs.Rules.State.{Seat, seat_of, seats_of, no_seat}
 use Rattle.wit_model.proofs.Chains.Sane.{IsSane}
 use Rattle.wit_model.proofs.Chains.After.{noted, unlocked, part_after, chain-step}
 use Rattle.wit_model.proofs.Chains.GroupSteps.{entered, withdrawn, groups_after, groups-step}
@@ -104,6 +105,17 @@ seats_of-entry n x h sane some within s =
     seats_of-set n x h sane some within
     ∙ ap (λ r. set (seats_of n h) (x.seat.0 - 1) r)
     (seat-own x h sane ∙ ap (λ q. seat_after (locks_of h) x q) (sym (get_or-seats_of n x.seat.0 h s some within)))
+
+-- and a sum over them changes by what its own seat changes
+pub sum-step : (g : Seat → ℕ) (n : ℕ) (x : Entry) (h : List Entry) → IsSane (x ∷ h) → 0 < x.seat.0 → x.seat.0 ≤ n
+    → sum_by g (seats_of n (x ∷ h)) + g (seat_of h x.seat.0) ≡ sum_by g (seats_of n h) + g (seat_after (locks_of h) x (seat_of h x.seat.0))
+sum-step g n x h sane some within =
+    let e = sum_by-set g (seats_of n h) (x.seat.0 - 1) (seat_of (x ∷ h) x.seat.0) no_seat
+    (let len : x.seat.0 - 1 < length (seats_of n h) = omega (arith, length-map-range_with_len (seat_of h) 1 n) in len) in
+    let f = ap (λ ss. sum_by g ss) (seats_of-set n x h sane some within) in
+    let own = ap g (get_or-seats_of n x.seat.0 h no_seat some within) in
+    let k = ap g (seat-own x h sane) in
+    omega (arith, e, f, own, k)
 
 -- an entry of the log
 abbrev pub entry : ℕ → Call → Reply → Entry

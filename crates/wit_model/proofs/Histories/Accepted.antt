@@ -1,5 +1,5 @@
 -- What the acceptance of a call says: each fault's absence, and the reply.
-use Rattle.std.proofs.Common.{◌≡◌, ℕ, ◌+◌, Bool, true, false, not, ◌&&◌, cond, eqb, nat_le, length, Option, Some, None, Result, Ok, Err, refl, ap, sym, ◌∙◌}
+use Rattle.std.proofs.Common.{◌≡◌, ℕ, ◌+◌, Bool, true, false, not, ◌&&◌, cond, eqb, nat_le, length, is_some, Option, Some, None, Result, Ok, Err, refl, ap, sym, ◌∙◌}
 use Rattle.std.proofs.lemmas.Bool.{eqb-true, false≢true}
 use Rattle.wit_model.specs.declared.faults.Fault.{Fault}
 use Rattle.wit_model.specs.declared.faults.Fault.TheVariants.{LogFull}
@@ -10,14 +10,14 @@ use Rattle.wit_model.specs.declared.locks.Instance.{Instance}
 use Rattle.wit_model.specs.declared.calls.NewLock.{NewLock}
 use Rattle.wit_model.specs.declared.calls.Request.{Request}
 use Rattle.wit_model.specs.declared.calls.Reply.{Reply}
-use Rattle.wit_model.specs.declared.calls.Reply.TheVariants.{Made, Done, Unlocked, Ignored}
+use Rattle.wit_model.specs.declared.calls.Reply.TheVariants.{Made, Done, Recorded, Exhausted, Unrecorded, Unlocked}
 use Rattle.wit_model.specs.Rules.Names.{is_name}
 use Rattle.wit_model.specs.Rules.History.{is_on, is_off}
 use Rattle.wit_model.specs.Rules.Types.{type_name_of, is_enrolled, is_otherwise}
 use Rattle.wit_model.specs.Rules.Locks.{lock_at}
 use Rattle.wit_model.specs.Rules.State.{State, seat_at, is_seat, has_room}
 use Rattle.wit_model.specs.Rules.Verdict.{is_exclusive, verdict}
-use Rattle.wit_model.specs.Rules.Step.{chain_for, held_by, is_pending, is_for, is_good_name, is_not_yet, is_shareable, is_too_deep, with_room, recorded, released, let_go, step_init, step_check, step_note, step_note_try, step_give_up, step_unlock, step_set_watch, is_logged}
+use Rattle.wit_model.specs.Rules.Step.{held_by, is_pending, is_for, is_good_name, is_not_yet, is_shareable, is_too_deep, with_room, is_exhausted, recorded, released, let_go, step_init, step_check, step_note, step_note_try, step_give_up, step_unlock, step_set_watch, is_logged}
 use Rattle.wit_model.specs.Rules.Numbers.{is_given, is_number}
 
 -- a fault that doesn't apply is passed by
@@ -68,6 +68,20 @@ check_accepted s t q r ok =
     let f = passed (is_too_deep s t q.lock.0) _ _ r e.1 in
     let g = roomy s 3 (verdict s.known s.watch (seat_at s t) q) r f.1 in
     record { seat = a.0; lock = b.0; file = c.0; mode = d.0; idle = e.0; shallow = f.0; verdict = g.0; room = g.1 }
+
+-- what is recorded: nothing at Off, and no lock that is new where its chunk is wanting
+recorded_by : (off held none : Bool) → cond {A = Reply} off Unrecorded (cond held Recorded (cond none Exhausted Recorded)) ≡ Recorded
+    → (off ≡ false) × (held ≡ false → none ≡ false)
+recorded_by true held none is = (cc)
+recorded_by false true none is = (refl, λ no. absurd (false≢true (sym no)))
+recorded_by false false true is = (cc)
+recorded_by false false false is = (refl, λ no. refl)
+
+pub recorded_on : (s : State) (t l : ℕ) → recorded s t l ≡ Recorded → is_off s.watch ≡ false
+recorded_on s t l is = (recorded_by (is_off s.watch) (is_some (held_by s t l)) (is_exhausted s t l) is).0
+
+pub recorded_room : (s : State) (t l : ℕ) → recorded s t l ≡ Recorded → is_some (held_by s t l) ≡ false → is_exhausted s t l ≡ false
+recorded_room s t l is new = (recorded_by (is_off s.watch) (is_some (held_by s t l)) (is_exhausted s t l) is).1 new
 
 pub record NoteAccepted (s : State) (t l : ℕ) (r : Reply) : Type 0 where
   pub seat : is_seat s t ≡ true

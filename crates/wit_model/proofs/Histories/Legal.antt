@@ -1,16 +1,16 @@
 -- A legal history is sane; and what is read of its state.
-use Rattle.std.proofs.Common.{◌≡◌, ℕ, ◌<◌, ◌≤◌, Bool, true, false, ◌&&◌, cond, List, [], ◌∷◌, length, find, Some, Ok, refl, ap, ap₂, sym, ◌∙◌, subst, arith}
-use Rattle.std.proofs.lemmas.Bool.{and_parts, ltb-true, leb-true}
+use Rattle.std.proofs.Common.{◌≡◌, ℕ, ◌<◌, ◌≤◌, Bool, true, false, not, ◌&&◌, cond, List, [], ◌∷◌, length, find, Some, Ok, refl, ap, ap₂, sym, ◌∙◌, arith}
+use Rattle.std.proofs.lemmas.Bool.{and_parts, ltb-true, leb-true, false≢true}
 use Rattle.std.proofs.lemmas.List.FromFn.{length-map-range_with_len}
 use Rattle.wit_model.specs.declared.locks.Mode.{Mode}
 use Rattle.wit_model.specs.declared.locks.Instance.{Instance}
 use Rattle.wit_model.specs.declared.calls.Call.{Call}
 use Rattle.wit_model.specs.declared.calls.Call.TheVariants.{Init, Check, Note, NoteTry, GiveUp, Unlock, SetWatch}
 use Rattle.wit_model.specs.declared.calls.Reply.{Reply}
-use Rattle.wit_model.specs.declared.calls.Reply.TheVariants.{Recorded, Unlocked}
+use Rattle.wit_model.specs.declared.calls.Reply.TheVariants.{Recorded, Exhausted, Unlocked}
 use Rattle.wit_model.specs.declared.calls.Entry.{Entry}
 use Rattle.wit_model.specs.Rules.Locks.{locks_of, is_spin_lock, is_of_kind}
-use Rattle.wit_model.specs.Rules.History.{act, is_held, chain, instance, pending}
+use Rattle.wit_model.specs.Rules.History.{act, is_held, chain, instance, pending, is_off, watch_after, watch_of}
 use Rattle.wit_model.specs.Rules.SeatGroups.{seat_groups}
 use Rattle.wit_model.specs.Rules.State.{Start, State, Seat, state_of, seat_of, seats_of, seat_at, is_seat, no_seat}
 use Rattle.wit_model.specs.Rules.Verdict.{is_of}
@@ -120,3 +120,18 @@ call-seat s t (SetWatch w) r ok = (watch_accepted s t w r ok).seat
 
 pub seat_accepted : (s : State) (t : ℕ) (c : Call) (r : Reply) → step s t c ≡ Ok r → is_seat s t ≡ true
 seat_accepted s t c r ok = call-seat s t c r ok
+
+watched-call : (s : State) (t : ℕ) (c : Call) (r : Reply) → step s t c ≡ Ok r → is_off (watch_after c r s.watch) ≡ false → is_off s.watch ≡ false
+watched-call s t (SetWatch w) r ok some =
+    sym (ap (λ b. is_off s.watch && not b) some ∙ alone (is_off s.watch)) ∙ (watch_accepted s t w r ok).level
+  where
+    alone : (b : Bool) → (b && true) ≡ b
+    alone true = refl
+    alone false = refl
+watched-call s t c Exhausted ok some = absurd (false≢true (sym some))
+watched-call s t c r ok some = some
+
+-- what is watched after an accepted call was watched before it
+pub watched-before : (start : Start) (files : List (List ℕ)) (h : List Entry) (x : Entry) → answer_of (story_after start files h) x.seat.0 x.call ≡ Ok x.reply
+    → is_off (watch_of (x ∷ h)) ≡ false → is_off (watch_of h) ≡ false
+watched-before start files h x ok some = watched-call (state_of (story_after start files h)) x.seat.0 x.call x.reply ok some

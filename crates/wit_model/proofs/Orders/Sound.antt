@@ -1,5 +1,5 @@
 -- An order is learnt only where it turns none round: so no type is ever before itself.
-use Rattle.std.proofs.Common.{◌≡◌, ℕ, Bool, true, false, not, ◌&&◌, ◌||◌, cond, List, [], ◌∷◌, ◌++◌, reverse, find, map, Option, Some, None, Result, Ok, refl, ap, sym, ◌∙◌, subst, arith, inl, inr}
+use Rattle.std.proofs.Common.{◌≡◌, ℕ, Bool, true, false, ◌&&◌, ◌||◌, cond, List, [], ◌∷◌, ◌++◌, reverse, find, map, Option, Some, None, Result, Ok, refl, ap, sym, ◌∙◌, subst, arith, inl, inr}
 use Rattle.std.specs.List.{list_all, last_or}
 use Rattle.std.proofs.lemmas.Bool.{and_parts, eq-eqb, true≢false}
 use Rattle.std.proofs.lemmas.List.{reverse-append}
@@ -13,9 +13,9 @@ use Rattle.wit_model.specs.declared.calls.Request.{Request}
 use Rattle.wit_model.specs.declared.calls.Call.{Call}
 use Rattle.wit_model.specs.declared.calls.Call.TheVariants.{Check}
 use Rattle.wit_model.specs.declared.calls.Reply.{Reply}
-use Rattle.wit_model.specs.declared.calls.Reply.TheVariants.{Pass, Adopted, Silent, Reversal}
+use Rattle.wit_model.specs.declared.calls.Reply.TheVariants.{Adopted, Silent, Reversal}
 use Rattle.wit_model.specs.declared.calls.Entry.{Entry}
-use Rattle.wit_model.specs.Rules.Locks.{locks_of, has_flag, lock_at, is_spin_lock, is_of_kind}
+use Rattle.wit_model.specs.Rules.Locks.{locks_of, has_flag, is_spin_lock, is_of_kind}
 use Rattle.wit_model.specs.Rules.Orders.{is_direct, is_before, is_found, IsSound}
 use Rattle.wit_model.specs.Rules.History.{is_held, held_of, chain, instance, watch_of}
 use Rattle.wit_model.specs.Rules.State.{Start, Known, Seat, seat_at, known_of, state_of, orders_of}
@@ -28,7 +28,7 @@ use Rattle.wit_model.proofs.Chains.Held.{made_sane, held_of-all}
 use Rattle.wit_model.proofs.Chains.Seats.{entry}
 use Rattle.wit_model.proofs.Orders.TypedLocks.{length-typed, made-known}
 use Rattle.wit_model.proofs.Orders.Types.{types-apart}
-use Rattle.wit_model.proofs.Histories.Accepted.{passed, CheckAccepted, check_accepted}
+use Rattle.wit_model.proofs.Histories.Accepted.{CheckAccepted, check_accepted}
 use Rattle.wit_model.proofs.Histories.Legal.{chain_for-state, sane_legal}
 
 last_front : (d : Instance) (c : List Instance) (x : Instance) → last_or (Some d) c ≡ Some x → (front : List Instance) × (d ∷ c ≡ front ++ x ∷ [])

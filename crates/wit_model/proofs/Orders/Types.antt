@@ -9,16 +9,13 @@ use Rattle.std.proofs.Math.Seq.{get_or-append_seam}
 use Rattle.std.proofs.lemmas.List.Folds.{list_any-append, list_any_at}
 use Rattle.wit_model.specs.declared.locks.Class.{Class}
 use Rattle.wit_model.specs.declared.locks.Class.TheVariants.{Sx}
-use Rattle.wit_model.specs.declared.locks.LockNo.{LockNo}
-use Rattle.wit_model.specs.declared.locks.Mode.{Mode}
 use Rattle.wit_model.specs.declared.calls.NewLock.{NewLock}
-use Rattle.wit_model.specs.declared.calls.Request.{Request}
 use Rattle.wit_model.specs.declared.calls.Call.{Call}
 use Rattle.wit_model.specs.declared.calls.Call.TheVariants.{Init}
 use Rattle.wit_model.specs.declared.calls.Reply.{Reply}
 use Rattle.wit_model.specs.declared.calls.Entry.{Entry}
 use Rattle.wit_model.specs.Rules.Types.{LockType, is_named, is_enrolled, is_same_class, type_number, enrolled, type_name_of, types_after}
-use Rattle.wit_model.specs.Rules.Locks.{Lock, has_flag, made_among, unknown_lock, lock_at}
+use Rattle.wit_model.specs.Rules.Locks.{Lock, made_among, unknown_lock, lock_at}
 use Rattle.wit_model.specs.Rules.State.{Start, state_of, types_of, typed_locks}
 use Rattle.wit_model.specs.Rules.Step.{answer_of, story_after, IsLegal}
 use Rattle.wit_model.proofs.Numbered.{with_number-or, with_number-stays}
