@@ -11,7 +11,7 @@ use Rattle.wit_model.specs.declared.locks.Class.TheVariants.{SleepMutex, SpinMut
 use Rattle.wit_model.specs.declared.locks.Mode.{Mode}
 use Rattle.wit_model.specs.declared.locks.Mode.TheVariants.{Shared, Exclusive}
 use Rattle.wit_model.specs.declared.locks.Watch as level
-use Rattle.wit_model.specs.declared.locks.Watch.TheVariants as level
+use Rattle.wit_model.specs.declared.locks.Watch.TheVariants.{On, Quiet, Off}
 use Rattle.wit_model.specs.Rules.Names.{is_name, is_file_name}
 use Rattle.wit_model.specs.Trace.Spelling.{Spells, class_text, mode_text, level_text, lock_letters, op_letters}
 
@@ -67,7 +67,7 @@ unfoldable pub mode_of : List ℕ → Option Mode
 mode_of = named ((mode_text Shared, Shared) ∷ (mode_text Exclusive, Exclusive) ∷ [])
 
 unfoldable pub level_of : List ℕ → Option level.Watch
-level_of = named ((level_text level.On, level.On) ∷ (level_text level.Quiet, level.Quiet) ∷ (level_text level.Off, level.Off) ∷ [])
+level_of = named ((level_text On, On) ∷ (level_text Quiet, Quiet) ∷ (level_text Off, Off) ∷ [])
 
 -- the bits of letters that stand in order, none twice
 abbrev pub bits_of : List ℕ → List ℕ → Option ℕ

@@ -10,7 +10,7 @@ use Rattle.wit_model.specs.declared.locks.Class.TheVariants.{SleepMutex, SpinMut
 use Rattle.wit_model.specs.declared.locks.Mode.{Mode}
 use Rattle.wit_model.specs.declared.locks.Mode.TheVariants.{Shared, Exclusive}
 use Rattle.wit_model.specs.declared.locks.Watch as level
-use Rattle.wit_model.specs.declared.locks.Watch.TheVariants as level
+use Rattle.wit_model.specs.declared.locks.Watch.TheVariants.{On, Quiet, Off}
 use Rattle.wit_model.specs.Rules.Names.{is_name, is_file_name}
 
 -- a class
@@ -27,9 +27,9 @@ mode_text Exclusive = codes "x"
 
 -- how much the verifier does: the numbers of the sysctl debug.witness.watch of witness(4)
 abbrev pub level_text : level.Watch → List ℕ
-level_text level.On = codes "1"
-level_text level.Quiet = codes "0"
-level_text level.Off = codes "-1"
+level_text On = codes "1"
+level_text Quiet = codes "0"
+level_text Off = codes "-1"
 
 -- the letters of the flags of a lock, and of a request, from the lowest bit on
 abbrev pub lock_letters : List ℕ
