@@ -39,6 +39,20 @@ pub struct Request {
     pub ops: OpFlags,
 }
 
+/// A request as it is judged, with what is known of the lock.
+#[derive(Clone, Copy, Debug, PartialEq, Eq, Hash)]
+pub struct Asked {
+    pub lock: LockNo,
+    /// The lock's type.
+    pub type_no: TypeNo,
+    /// What the lock allows.
+    pub flags: LockFlags,
+    pub mode: Mode,
+    /// What the request allows.
+    pub ops: OpFlags,
+    pub site: Site,
+}
+
 /// A call that the log keeps.
 #[derive(Debug, Drop)]
 pub enum Call {
@@ -82,6 +96,15 @@ pub struct Conflict {
     pub asked: LockAt,
 }
 
+/// What a report of two locks of one type is about.
+#[derive(Clone, Copy, Debug, PartialEq, Eq, Hash)]
+pub struct Doubling {
+    /// The last held lock, which is of the requested type.
+    pub last: LockAt,
+    /// The requested lock.
+    pub asked: LockAt,
+}
+
 /// The answer of an accepted call.
 #[derive(Debug, Drop)]
 pub enum Reply {
@@ -95,6 +118,8 @@ pub enum Reply {
     Silent(TypeNo, TypeNo),
     /// The request breaks an order: a possible deadlock.
     Reversal(Boxed<Conflict>),
+    /// The last held lock is of the requested type.
+    Duplicate(Boxed<Doubling>),
     /// The acquisition is recorded.
     Recorded,
     /// The release is recorded.

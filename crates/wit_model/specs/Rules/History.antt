@@ -10,7 +10,7 @@ use Rattle.wit_model.specs.declared.locks.Instance.{Instance}
 use Rattle.wit_model.specs.declared.calls.Call.{Call}
 use Rattle.wit_model.specs.declared.calls.Call.TheVariants.{Check, Note, Unlock}
 use Rattle.wit_model.specs.declared.calls.Reply.{Reply}
-use Rattle.wit_model.specs.declared.calls.Reply.TheVariants.{Recorded, Reversal}
+use Rattle.wit_model.specs.declared.calls.Reply.TheVariants.{Reversal, Duplicate, Recorded}
 use Rattle.wit_model.specs.declared.calls.Request.{Request}
 use Rattle.wit_model.specs.declared.calls.Entry.{Entry}
 use Rattle.wit_model.specs.Rules.Locks.{locks_of, is_of_kind}
@@ -139,6 +139,10 @@ held_of kind t h = filter (is_of_kind kind (locks_of h)) (held t h)
 abbrev pub chain : Bool → ℕ → List Entry → List Instance
 chain kind t h = map (instance t h) (held_of kind t h)
 
+abbrev pub is_on : Watch → Bool
+is_on On = true
+is_on _ = false
+
 -- how much is watched: everything, as long as no call turns it down
 abbrev pub watch_after : Call → Reply → Watch → Watch
 watch_after call reply watch = watch
@@ -149,6 +153,7 @@ watch_of (e ∷ h) = watch_after e.call e.reply (watch_of h)
 
 abbrev pub is_report : Reply → Bool
 is_report (Reversal c) = true
+is_report (Duplicate d) = true
 is_report _ = false
 
 -- how many reports are in a history

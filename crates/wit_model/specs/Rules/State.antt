@@ -3,10 +3,11 @@ use Rattle.std.specs.Prelude.{ℕ, ◌+◌, Bool, true, false, nat_le, List, [],
 use Rattle.std.specs.List.{range_with_len}
 use Rattle.wit_model.specs.declared.locks.Class.{Class}
 use Rattle.wit_model.specs.declared.locks.TypeNo.{TypeNo}
+use Rattle.wit_model.specs.declared.locks.Watch.{Watch}
 use Rattle.wit_model.specs.declared.locks.Instance.{Instance}
 use Rattle.wit_model.specs.declared.calls.Adoption.{Adoption}
 use Rattle.wit_model.specs.declared.calls.Reply.{Reply}
-use Rattle.wit_model.specs.declared.calls.Reply.TheVariants.{Silent, Reversal}
+use Rattle.wit_model.specs.declared.calls.Reply.TheVariants.{Silent, Reversal, Duplicate}
 use Rattle.wit_model.specs.declared.calls.Request.{Request}
 use Rattle.wit_model.specs.declared.calls.Entry.{Entry}
 use Rattle.wit_model.specs.Rules.Sizes.{Sizes}
@@ -14,7 +15,7 @@ use Rattle.wit_model.specs.Rules.Numbers.{is_given, with_number}
 use Rattle.wit_model.specs.Rules.Types.{LockType, listed_types, types_from}
 use Rattle.wit_model.specs.Rules.Locks.{Lock, made_among, lock_at}
 use Rattle.wit_model.specs.Rules.Orders.{listed_orders, orders_from, found_once}
-use Rattle.wit_model.specs.Rules.History.{chain, pending}
+use Rattle.wit_model.specs.Rules.History.{chain, pending, watch_of}
 
 -- what a verifier is made with: its sizes, static lists of types in order, and pairs of type names that may be
 -- taken in either order
@@ -64,6 +65,7 @@ typed_locks start (e ∷ h) = typed_locks start h ++ made_among (types_of start 
 abbrev pub found_after : List Lock → Reply → List (TypeNo × TypeNo) → List (TypeNo × TypeNo)
 found_after locks (Silent a b) pairs = found_once a b pairs
 found_after locks (Reversal c) pairs = found_once (lock_at locks c.held.lock.0).type_no (lock_at locks c.asked.lock.0).type_no pairs
+found_after locks (Duplicate d) pairs = found_once (lock_at locks d.asked.lock.0).type_no (lock_at locks d.asked.lock.0).type_no pairs
 found_after _ _ pairs = pairs
 
 -- the pairs of types found in violation, newest first
@@ -93,6 +95,7 @@ pub record State : Type 0 where
   pub files : ℕ
   pub known : Known
   pub seats : List Seat
+  pub watch : Watch
   pub used : ℕ
 
 abbrev pub state_of : Story → State
@@ -101,6 +104,7 @@ state_of s = record {
   files = length s.files;
   known = known_of s.start s.history;
   seats = seats_of s.start.sizes.seats s.history;
+  watch = watch_of s.history;
   used = length s.history;
 }
 

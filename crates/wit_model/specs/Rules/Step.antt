@@ -91,7 +91,7 @@ step_check s t q =
     else if not (is_exclusive q.mode) && not (is_shareable (lock_at s.known.locks q.lock.0).made.class) then Err ModeNotAllowed
     else if is_pending s t then Err Pending
     else if is_deepest (held_by s t q.lock.0) then Err RecursionTooDeep
-    else with_room s (verdict s.known (seat_at s t) q)
+    else with_room s (verdict s.known s.watch (seat_at s t) q)
 
 abbrev pub step_note : State → ℕ → ℕ → Result Reply Fault
 step_note s t l =
