@@ -4,7 +4,7 @@ use Rattle.std.specs.Prelude.{ℕ, ◌-◌, Bool, true, false, not, ◌&&◌, �
 use Rattle.wit_model.specs.declared.locks.Mode.{Mode}
 use Rattle.wit_model.specs.declared.locks.Mode.TheVariants.{Exclusive}
 use Rattle.wit_model.specs.declared.locks.Watch.{Watch}
-use Rattle.wit_model.specs.declared.locks.Watch.TheVariants.{On}
+use Rattle.wit_model.specs.declared.locks.Watch.TheVariants.{Off, On}
 use Rattle.wit_model.specs.declared.locks.Site.{Site}
 use Rattle.wit_model.specs.declared.locks.Instance.{Instance}
 use Rattle.wit_model.specs.declared.calls.Call.{Call}
@@ -142,6 +142,10 @@ chain kind t h = map (instance t h) (held_of kind t h)
 abbrev pub is_on : Watch → Bool
 is_on On = true
 is_on _ = false
+
+abbrev pub is_off : Watch → Bool
+is_off Off = true
+is_off _ = false
 
 -- how much is watched: everything, as long as no call turns it down
 abbrev pub watch_after : Call → Reply → Watch → Watch

@@ -126,24 +126,25 @@ abbrev pub follows : Basis → Option Instance → Asked → Rule
 follows g None q = None
 follows g (Some last) q = when (is_direct g.orders (type_held g last).0 q.type_no.0) (Ok Pass)
 
--- which rule a held lock breaks. Giant is let go while its holder sleeps: so it may stand behind a sleepable lock, and before one
-abbrev pub breach : Basis → Asked → Instance → Option Heading
-breach g q i =
-    if is_giant g q.type_no && is_sleepable g (type_held g i) then None
-    else if is_sleepable g q.type_no && is_giant g (type_held g i) then None
-    else if is_sleepable g q.type_no && not (is_sleepable g (type_held g i)) then Some heading.Sleepable
-    else if is_giant g q.type_no && not (is_sleepable g (type_held g i)) then Some heading.Giant
-    else if is_before g.orders q.type_no.0 (type_held g i).0 then Some heading.Order
+-- which order a held lock's type breaks, where a lock of the first type is asked for. Giant is let go while its holder sleeps: so it may
+-- stand before a sleepable lock, and behind one
+abbrev pub breach : Basis → TypeNo → TypeNo → Option Heading
+breach g asked held =
+    if is_giant g asked && is_sleepable g held then None
+    else if is_sleepable g asked && is_giant g held then None
+    else if is_sleepable g asked && not (is_sleepable g held) then Some heading.Sleepable
+    else if is_giant g asked && not (is_sleepable g held) then Some heading.Giant
+    else if is_before g.orders asked.0 held.0 then Some heading.Order
     else None
 
 abbrev pub violates : Basis → Asked → Instance → Bool
-violates g q i = is_some (breach g q i)
+violates g q i = is_some (breach g q.type_no (type_held g i))
 
 -- what is told of a reversal: the violating held lock, the newest held lock of the requested type among those older
 -- than it, and the requested lock
 abbrev pub conflict : Basis → Asked → List Instance → Instance → Conflict
 conflict g q chain i = record {
-  heading = unwrap_or (breach g q i) heading.Order;
+  heading = unwrap_or (breach g q.type_no (type_held g i)) heading.Order;
   held = place_of i;
   older = option_map place_of (find (has_type_of g q) (reverse (before_first (is_of i.lock.0) chain)));
   asked = place_asked q;
