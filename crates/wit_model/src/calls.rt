@@ -60,6 +60,20 @@ pub struct Request {
     pub ops: OpFlags,
 }
 
+/// A request as it is judged, with what is known of the lock.
+#[derive(Clone, Copy, Debug, PartialEq, Eq, Hash)]
+pub struct Asked {
+    pub lock: LockNo,
+    /// The lock's type.
+    pub type_no: TypeNo,
+    /// What the lock allows.
+    pub flags: LockFlags,
+    pub mode: Mode,
+    /// What the request allows.
+    pub ops: OpFlags,
+    pub site: Site,
+}
+
 /// A call that the log keeps.
 #[derive(Debug, Drop)]
 pub enum Call {
