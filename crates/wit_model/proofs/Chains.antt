@@ -11,6 +11,7 @@ pub mod GroupSteps
 pub mod Grouping
 pub mod Held
 pub mod HeldLocks
+pub mod Numbers
 pub mod Owed
 pub mod Regrouping
 pub mod Sane
