@@ -1,5 +1,5 @@
 -- The groups of held locks as instances: what an acquisition and a release leave of them, and that the chain and the numbers decide them.
-use Rattle.std.proofs.Common.{◌≡◌, ℕ, Bool, true, false, not, cond, eqb, nat_lt, List, [], ◌∷◌, ◌++◌, length, map, filter, find, take, drop, Option, None, Some, refl, ap, ap₂, sym, ◌∙◌, subst}
+use Rattle.std.proofs.Common.{◌≡◌, ℕ, Bool, true, false, not, cond, eqb, nat_lt, List, [], ◌∷◌, ◌++◌, length, map, filter, find, take, drop, Option, None, Some, refl, ap, ap₂, sym, ◌∙◌}
 use Rattle.std.proofs.lemmas.List.{length-map}
 use Rattle.std.proofs.Math.Seq.{take-append_seam, drop-append_seam}
 use Rattle.wit_model.specs.declared.locks.Mode.{Mode}
@@ -15,7 +15,7 @@ use Rattle.wit_model.specs.Rules.Verdict.{is_of}
 use Rattle.wit_model.proofs.Chains.Sane.{IsSane}
 use Rattle.wit_model.proofs.Chains.HeldLocks.{changed, taken}
 use Rattle.wit_model.proofs.Chains.Changes.{at, is_other}
-use Rattle.wit_model.proofs.Chains.After.{recursed, fewer, noted, unlocked, chain_after, part_after, chain-step}
+use Rattle.wit_model.proofs.Chains.After.{recursed, fewer, noted, unlocked, part_after, chain-step}
 use Rattle.wit_model.proofs.Chains.Regrouping.{flat-joined, flat-left, flat-map, groups-chain}
 use Rattle.wit_model.proofs.Chains.GroupSteps.{entered, withdrawn, groups_after, groups-step}
 use Rattle.wit_model.proofs.Chains.Numbers.{numbers, numbers-joined, numbers-left, numbers-changed, numbers-held}
@@ -56,9 +56,10 @@ numbers-released l gs (Some i) = go (nat_lt 0 i.count)
 
 -- two lists of groups of the same sizes that are one chain are the same groups
 heads_same : {X : Type 0} (g h xs ys : List X) → length g ≡ length h → g ++ xs ≡ h ++ ys → (g ≡ h) × (xs ≡ ys)
-heads_same g h xs ys size e =
-    (sym (take-append_seam g xs) ∙ ap₂ (λ n zs. take n zs) size e ∙ take-append_seam h ys,
-    sym (drop-append_seam g xs) ∙ ap₂ (λ n zs. drop n zs) size e ∙ drop-append_seam h ys)
+heads_same g h xs ys size e = (
+  sym (take-append_seam g xs) ∙ ap₂ (λ n zs. take n zs) size e ∙ take-append_seam h ys,
+  sym (drop-append_seam g xs) ∙ ap₂ (λ n zs. drop n zs) size e ∙ drop-append_seam h ys,
+)
 
 cons_parts : {X : Type 0} (x y : X) (xs ys : List X) → ◌≡◌ {A = List X} (x ∷ xs) (y ∷ ys) → (x ≡ y) × (xs ≡ ys)
 cons_parts x y xs ys e = ((cc), (cc))
