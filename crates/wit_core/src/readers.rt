@@ -4,7 +4,7 @@ ghost use Rattle.std.specs.Prelude.{◌≡◌, length, IfSome, IfOk, IfErr};
 ghost use Rattle.std.specs.Option.{option_copied};
 ghost use Rattle.wit_model.specs.declared.faults.Fault.TheVariants.{OutOfMemory};
 ghost use Rattle.wit_model.specs.Rules.Numbers.{with_number};
-ghost use Rattle.wit_model.specs.Rules.Orders.{Before};
+ghost use Rattle.wit_model.specs.Rules.Orders.{Before, origin_of};
 ghost use Rattle.wit_model.specs.Rules.State.{known_of, orders_of, types_of, typed_locks};
 ghost use Rattle.wit_model.specs.Trace.Paths.{path, path_numbers};
 ghost use Rattle.wit_matrix.specs.Relation.{LeadsBy};
@@ -13,7 +13,7 @@ ghost use Rattle.wit_core.specs.Numbered.{lock_name, lock_type, type_name, type_
 use crate::known::lock_with;
 use crate::names::is_type;
 use crate::verifier::Verifier;
-use wit_model::{Class, Fault, FileNo, LockNo, TypeNo};
+use wit_model::{Class, Fault, FileNo, LockNo, Origin, TypeNo};
 
 /// What is known by number; `None` for a number that was never given.
 impl Verifier {
@@ -73,6 +73,13 @@ impl Verifier {
         ensures { result ≡ length (types_of self.now.start self.now.history) }
     {
         self.known.names().len()
+    }
+
+    /// Where the direct order from one type to another comes from; `None` where it wasn't adopted.
+    pub fn origin(&self, parent: TypeNo, child: TypeNo) -> Option<Origin>
+        ensures { result ≡ origin_of parent.0 child.0 (orders_of self.now.start self.now.history) }
+    {
+        self.known.orders().origin(parent, child)
     }
 
     /// The path of adopted orders from one type to another that goes each time to the least type: `None` where
