@@ -5,7 +5,7 @@ ghost use Rattle.wit_model.specs.Rules.Types.{type_name_of};
 
 use crate::boxes::Boxed;
 use crate::flags::{LockFlags, OpFlags};
-use crate::locks::{Class, LockNo, Mode, Origin, SeatNo, Site, TypeNo};
+use crate::locks::{Class, LockNo, Mode, Origin, SeatNo, Site, TypeNo, Watch};
 use crate::names::Name;
 
 /// What a new lock is to be: the arguments of `lock_init` in witness(4)'s interface.
@@ -48,8 +48,14 @@ pub enum Call {
     Check(Request),
     /// The lock asked for was acquired.
     Note(LockNo),
+    /// A lock was acquired in this mode without waiting, as by `mtx_trylock` of mutex(9).
+    NoteTry(LockNo, Mode, Site),
+    /// The lock asked for was not acquired.
+    GiveUp(LockNo),
     /// A lock is released, as one held in this mode.
     Unlock(LockNo, Mode),
+    /// This much is watched from now on.
+    SetWatch(Watch),
 }
 
 /// Which rule a reversal breaks.
@@ -82,11 +88,22 @@ pub struct Conflict {
     pub asked: LockAt,
 }
 
+/// What a report of two locks of one type is about.
+#[derive(Clone, Copy, Debug, PartialEq, Eq, Hash)]
+pub struct Doubling {
+    /// The last held lock, which is of the requested type.
+    pub last: LockAt,
+    /// The requested lock.
+    pub asked: LockAt,
+}
+
 /// The answer of an accepted call.
 #[derive(Debug, Drop)]
 pub enum Reply {
     /// The lock was made, with this number.
     Made(LockNo),
+    /// The call did what it says.
+    Done,
     /// Nothing to say.
     Pass,
     /// The order of these types was learnt.
@@ -95,10 +112,18 @@ pub enum Reply {
     Silent(TypeNo, TypeNo),
     /// The request breaks an order: a possible deadlock.
     Reversal(Boxed<Conflict>),
+    /// The last held lock is of the requested type.
+    Duplicate(Boxed<Doubling>),
     /// The acquisition is recorded.
     Recorded,
+    /// No chunk is free for the acquisition: it isn't recorded, and nothing is watched from now on.
+    Exhausted,
+    /// The acquisition isn't recorded, since nothing is watched.
+    Unrecorded,
     /// The release is recorded.
     Unlocked,
+    /// The call is passed over, since not everything is watched. The log holds no such answer.
+    Ignored,
 }
 
 /// An entry of the log: an accepted call of a seat, and its reply.

@@ -2,6 +2,7 @@
 
 ghost use Rattle.std.specs.Prelude.{◌≡◌};
 ghost use Rattle.wit_model.specs.Rules.Types.{is_spin, is_same_class};
+ghost use Rattle.wit_model.specs.Rules.History.{is_on, is_off};
 ghost use Rattle.wit_model.specs.Rules.Verdict.{is_exclusive};
 ghost use Rattle.wit_model.specs.Rules.Step.{is_shareable};
 
@@ -80,6 +81,28 @@ pub enum Watch {
     Quiet,
     /// Everything.
     On,
+}
+
+impl Watch {
+    /// Whether everything is watched.
+    pub fn is_on(self) -> bool
+        ensures { result ≡ is_on self }
+    {
+        match self {
+            Watch::On => true,
+            _ => false,
+        }
+    }
+
+    /// Whether nothing is watched any more.
+    pub fn is_off(self) -> bool
+        ensures { result ≡ is_off self }
+    {
+        match self {
+            Watch::Off => true,
+            _ => false,
+        }
+    }
 }
 
 /// The number of a lock type, from 1 in order of enrolment.

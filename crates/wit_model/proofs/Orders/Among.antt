@@ -1,35 +1,36 @@
 -- Orders are between known types, and so is what a verdict tells.
-use Rattle.std.proofs.Common.{◌≡◌, ℕ, ◌≤◌, Bool, true, false, not, ◌&&◌, ◌||◌, cond, eqb, List, [], ◌∷◌, ◌++◌, length, reverse, find, Option, Some, None, Result, Ok, refl, ap, sym, ◌∙◌, subst, arith, length-append, ⊎_elim, inl, inr}
-use Rattle.std.specs.List.{list_all, last_or}
+use Rattle.std.proofs.Common.{◌≡◌, ℕ, ◌≤◌, Bool, true, false, ◌||◌, cond, eqb, List, [], ◌∷◌, ◌++◌, length, reverse, find, Option, Some, None, Result, Ok, refl, ap, sym, ◌∙◌, subst, arith, length-append, ⊎_elim, inl, inr}
+use Rattle.std.specs.List.{list_all}
 use Rattle.std.proofs.lemmas.Bool.{and_parts, and_from, or_cases, eqb-true, false≢true}
 use Rattle.std.proofs.lemmas.List.{reverse-append}
 use Rattle.std.proofs.lemmas.List.Folds.{list_all-append}
 use Rattle.wit_model.specs.declared.faults.Fault.{Fault}
 use Rattle.wit_model.specs.declared.locks.Class.{Class}
 use Rattle.wit_model.specs.declared.locks.TypeNo.{TypeNo}
+use Rattle.wit_model.specs.declared.locks.Watch.{Watch}
 use Rattle.wit_model.specs.declared.locks.Instance.{Instance}
 use Rattle.wit_model.specs.declared.locks.Origin.TheVariants.{Listed, At}
 use Rattle.wit_model.specs.declared.calls.Adoption.{Adoption}
 use Rattle.wit_model.specs.declared.calls.Conflict.{Conflict}
 use Rattle.wit_model.specs.declared.calls.Request.{Request}
 use Rattle.wit_model.specs.declared.calls.Call.{Call}
-use Rattle.wit_model.specs.declared.calls.Call.TheVariants.{Init, Check, Note, Unlock}
+use Rattle.wit_model.specs.declared.calls.Call.TheVariants.{Init, Check}
 use Rattle.wit_model.specs.declared.calls.Reply.{Reply}
 use Rattle.wit_model.specs.declared.calls.Reply.TheVariants.{Pass, Adopted, Silent, Reversal}
 use Rattle.wit_model.specs.declared.calls.Entry.{Entry}
 use Rattle.wit_model.specs.Rules.Types.{LockType, is_enrolled, type_number, enrolled, enrolled_all, listed_types, type_name_of, types_after}
-use Rattle.wit_model.specs.Rules.Locks.{locks_of, has_flag, lock_at, is_spin_lock}
+use Rattle.wit_model.specs.Rules.Locks.{locks_of, lock_at, is_spin_lock}
 use Rattle.wit_model.specs.Rules.Orders.{is_adoption_of, is_direct, is_before, is_found, adopted_once, listed_pairs, listed_orders}
-use Rattle.wit_model.specs.Rules.History.{is_held, chain}
+use Rattle.wit_model.specs.Rules.History.{is_held, chain, watch_of}
 use Rattle.wit_model.specs.Rules.State.{Start, Known, Seat, seat_at, known_of, state_of, types_of, typed_locks, orders_of}
 use Rattle.wit_model.specs.Rules.Verdict.{type_in, violates, is_blessed, conflict, reported, chain_of_kind, verdict}
-use Rattle.wit_model.specs.Rules.Step.{chain_for, answer_of, story_after, IsLegal}
+use Rattle.wit_model.specs.Rules.Step.{answer_of, story_after, IsLegal}
 use Rattle.wit_model.specs.Rules.Numbers.{is_given, IsGiven, IsNumber}
 use Rattle.wit_model.proofs.Chains.Held.{made_sane}
 use Rattle.wit_model.proofs.Chains.Seats.{entry}
 use Rattle.wit_model.proofs.Orders.TypedLocks.{length-typed, made-known}
 use Rattle.wit_model.proofs.Orders.Types.{number-known, typed_made}
-use Rattle.wit_model.proofs.Histories.Accepted.{passed, same_reply, CheckAccepted, check_accepted}
+use Rattle.wit_model.proofs.Histories.Accepted.{same_reply, CheckAccepted, check_accepted}
 use Rattle.wit_model.proofs.Histories.Legal.{chain_for-state, sane_legal}
 use Rattle.wit_model.proofs.Orders.Started.{all-enrolled}
 use Rattle.wit_model.proofs.Orders.Ruled.{Says, ruled}
@@ -107,8 +108,8 @@ reported_told k q c i r p ok is = go (is_found k.found (type_in k i.lock.0).0 (t
     go true same = tells_this k (Silent (type_in k i.lock.0) (type_in k q.lock.0)) r (type_in k i.lock.0, type_in k q.lock.0) p refl same is
     go false same = tells_this k (Reversal (conflict k q c i)) r (type_in k i.lock.0, type_in k q.lock.0) p refl same is
 
-told : (k : Known) (seat : Seat) (q : Request) (r : Reply) (p : TypeNo × TypeNo) → verdict k seat q ≡ Ok r → pair_of k r ≡ Some p → IsTold k q (chain_of_kind k seat q.lock.0) p
-told k seat q r p ok is = go (ruled k seat q r ok)
+told : (k : Known) (watch : Watch) (seat : Seat) (q : Request) (r : Reply) (p : TypeNo × TypeNo) → verdict k watch seat q ≡ Ok r → pair_of k r ≡ Some p → IsTold k q (chain_of_kind k seat q.lock.0) p
+told k watch seat q r p ok is = go (ruled k watch seat q r ok)
   where
     none : (s : Reply) → r ≡ s → pair_of k s ≡ None → ⊥
     none s same untold = let e : ◌≡◌ {A = Option (TypeNo × TypeNo)} None (Some p) = sym untold ∙ (ap (λ r'. pair_of k r') (sym same) ∙ is) in cc
@@ -126,7 +127,7 @@ told-known : (start : Start) (files : List (List ℕ)) (h : List Entry) (t : ℕ
     → CheckAccepted (state_of (story_after start files h)) t q r → pair_of (known_of start h) r ≡ Some p
     → IsNumber (length (types_of start h)) p.0.0 × IsNumber (length (types_of start h)) p.1.0
 told-known start files h t q r p legal accepted is =
-    let l = told (known_of start h) (seat_at (state_of (story_after start files h)) t) q r p accepted.verdict is in
+    let l = told (known_of start h) (watch_of h) (seat_at (state_of (story_after start files h)) t) q r p accepted.verdict is in
     let held : is_held t l.held.lock.0 h ≡ true =
     found-last (λ (i : Instance). is_held t i.lock.0 h) (violates (known_of start h) q) (chain (is_spin_lock (locks_of h) q.lock.0) t h) l.held
     (chain-held (is_spin_lock (locks_of h) q.lock.0) t h)
@@ -177,9 +178,7 @@ more-listed (e ∷ list) types = omega (arith, more-enrolled e.1 e.0 types, more
 
 more-types : (c : Call) (types : List LockType) → length types ≤ length (types_after c types)
 more-types (Init lock) types = more-enrolled (type_name_of lock) lock.class types
-more-types (Check q) types = omega arith
-more-types (Note l) types = omega arith
-more-types (Unlock l m) types = omega arith
+more-types _ types = omega arith
 
 among_once : (n a b : ℕ) (orders : List Adoption) → AreAmong n orders → IsNumber n a → IsNumber n b → AreAmong n (adopted_once a b Listed orders)
 among_once n a b orders all parent child = go (is_direct orders a b)
@@ -220,7 +219,7 @@ among_by start files h t c r legal ok all = among_more (length (types_of start h
 
 among_legal : (start : Start) (files : List (List ℕ)) (h : List Entry) → IsLegal start files h → AreAmong (length (types_of start h)) (orders_of start h)
 among_legal start files [] legal = among_lists start.lists [] [] among_none
-among_legal start files (x ∷ h) legal = among_by start files h x.seat.0 x.call x.reply legal.1 legal.0 (among_legal start files h legal.1)
+among_legal start files (x ∷ h) legal = among_by start files h x.seat.0 x.call x.reply legal.2 legal.0 (among_legal start files h legal.2)
 
 -- adopted orders are between known types
 pub orders-among : (start : Start) (files : List (List ℕ)) (h : List Entry) → IsLegal start files h

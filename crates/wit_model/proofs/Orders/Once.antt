@@ -40,11 +40,11 @@ distinct_by : (start : Start) (files : List (List ℕ)) (h : List Entry) (t : �
     → AreDistinct (orders_of start h) → AreDistinct (orders_of start (entry t c r ∷ h))
 distinct_by start files h t (Check q) (Adopted a b) ok all =
     let s = state_of (story_after start files h) in
-    let l = learnt (known_of start h) (seat_at s t) q a b (check_accepted s t q (Adopted a b) ok).verdict in
+    let l = learnt (known_of start h) s.watch (seat_at s t) q a b (check_accepted s t q (Adopted a b) ok).verdict in
     (ap₂ (λ (x y : TypeNo). is_direct (orders_of start h) x.0 y.0) (sym l.parent) (sym l.child) ∙ l.new, all)
 distinct_by start files h t c r ok all = all
 
 -- no order is adopted twice
 pub distinct_legal : (start : Start) (files : List (List ℕ)) (h : List Entry) → IsLegal start files h → AreDistinct (orders_of start h)
 distinct_legal start files [] legal = distinct_lists start.lists [] [] tt
-distinct_legal start files (x ∷ h) legal = distinct_by start files h x.seat.0 x.call x.reply legal.0 (distinct_legal start files h legal.1)
+distinct_legal start files (x ∷ h) legal = distinct_by start files h x.seat.0 x.call x.reply legal.0 (distinct_legal start files h legal.2)

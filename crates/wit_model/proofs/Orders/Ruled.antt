@@ -1,9 +1,9 @@
 -- What an accepted verdict says: the request passes, an order is learnt, or a held lock violates one.
-use Rattle.std.proofs.Common.{◌≡◌, Bool, true, false, not, ◌&&◌, cond, List, [], ◌∷◌, Option, None, Some, Result, Ok, Err, is_some, find, reverse, refl, sym, ◌⊎◌, inl, inr}
+use Rattle.std.proofs.Common.{◌≡◌, Bool, true, false, not, ◌&&◌, List, [], ◌∷◌, Option, None, Some, Ok, Err, is_some, find, reverse, refl, sym, ◌⊎◌, inl, inr}
 use Rattle.std.specs.List.{last_or}
 use Rattle.std.specs.Option.{option_map}
-use Rattle.wit_model.specs.declared.faults.Fault.{Fault}
 use Rattle.wit_model.specs.declared.faults.Fault.TheVariants.{SleepUnderSpin}
+use Rattle.wit_model.specs.declared.locks.Watch.{Watch}
 use Rattle.wit_model.specs.declared.locks.Instance.{Instance}
 use Rattle.wit_model.specs.declared.calls.Request.{Request}
 use Rattle.wit_model.specs.declared.calls.Reply.{Reply}
@@ -11,8 +11,9 @@ use Rattle.wit_model.specs.declared.calls.Reply.TheVariants.{Pass, Adopted}
 use Rattle.wit_model.specs.Rules.Locks.{has_flag, lock_at}
 use Rattle.wit_model.specs.Rules.Orders.{is_direct}
 use Rattle.wit_model.specs.Rules.State.{Known, Seat}
+use Rattle.wit_model.specs.Rules.History.{is_on}
 use Rattle.wit_model.specs.Rules.Types.{is_spin}
-use Rattle.wit_model.specs.Rules.Verdict.{is_exclusive, is_of, type_in, again, violates, reported, when, decided, follows, breaks_order, teaches, chain_of_kind, over, verdict}
+use Rattle.wit_model.specs.Rules.Verdict.{is_exclusive, is_of, type_in, again, violates, reported, when, decided, sleeps_under_spin, follows, breaks_order, teaches, chain_of_kind, over, verdict}
 use Rattle.wit_model.proofs.Histories.Accepted.{passed, same_reply}
 
 -- the order behind the last held lock is learnt
@@ -71,10 +72,21 @@ module _ (k : Known) (q : Request) (c : List Instance) (r : Reply) where
   over_chain None none ok = inl (sym (same_reply ok))
   over_chain (Some last) is ok = behind_last last is ok
 
-pub ruled : (k : Known) (seat : Seat) (q : Request) (r : Reply) → verdict k seat q ≡ Ok r → Says k q (chain_of_kind k seat q.lock.0) r
-ruled k seat q r ok = go (not (is_spin (lock_at k.locks q.lock.0).made.class) && is_some (last_or None seat.spin)) ok
+watched : (k : Known) (seat : Seat) (q : Request) (r : Reply)
+    → decided (sleeps_under_spin k seat q ∷ over k q (chain_of_kind k seat q.lock.0) (last_or None (chain_of_kind k seat q.lock.0))) ≡ Ok r
+    → Says k q (chain_of_kind k seat q.lock.0) r
+watched k seat q r ok = go (not (is_spin (lock_at k.locks q.lock.0).made.class) && is_some (last_or None seat.spin)) ok
   where
     go : (b : Bool) → decided (when b (Err SleepUnderSpin) ∷ over k q (chain_of_kind k seat q.lock.0) (last_or None (chain_of_kind k seat q.lock.0))) ≡ Ok r
         → Says k q (chain_of_kind k seat q.lock.0) r
     go true told = (cc)
     go false told = over_chain k q (chain_of_kind k seat q.lock.0) r (last_or None (chain_of_kind k seat q.lock.0)) refl told
+
+pub ruled : (k : Known) (watch : Watch) (seat : Seat) (q : Request) (r : Reply) → verdict k watch seat q ≡ Ok r → Says k q (chain_of_kind k seat q.lock.0) r
+ruled k watch seat q r ok = go (not (is_on watch)) ok
+  where
+    go : (b : Bool)
+        → decided (when b (Ok Pass) ∷ sleeps_under_spin k seat q ∷ over k q (chain_of_kind k seat q.lock.0) (last_or None (chain_of_kind k seat q.lock.0))) ≡ Ok r
+        → Says k q (chain_of_kind k seat q.lock.0) r
+    go true told = inl (sym (same_reply told))
+    go false told = watched k seat q r told

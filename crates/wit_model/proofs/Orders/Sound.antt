@@ -1,22 +1,23 @@
 -- An order is learnt only where it turns none round: so no type is ever before itself.
-use Rattle.std.proofs.Common.{◌≡◌, ℕ, Bool, true, false, not, ◌&&◌, ◌||◌, cond, List, [], ◌∷◌, ◌++◌, reverse, find, map, Option, Some, None, Result, Ok, refl, ap, sym, ◌∙◌, subst, arith, inl, inr}
+use Rattle.std.proofs.Common.{◌≡◌, ℕ, Bool, true, false, ◌&&◌, ◌||◌, cond, List, [], ◌∷◌, ◌++◌, reverse, find, map, Option, Some, None, Result, Ok, refl, ap, sym, ◌∙◌, subst, arith, inl, inr}
 use Rattle.std.specs.List.{list_all, last_or}
 use Rattle.std.proofs.lemmas.Bool.{and_parts, eq-eqb, true≢false}
 use Rattle.std.proofs.lemmas.List.{reverse-append}
 use Rattle.std.proofs.lemmas.List.Folds.{list_all-append}
 use Rattle.wit_model.specs.declared.faults.Fault.{Fault}
 use Rattle.wit_model.specs.declared.locks.TypeNo.{TypeNo}
+use Rattle.wit_model.specs.declared.locks.Watch.{Watch}
 use Rattle.wit_model.specs.declared.locks.Instance.{Instance}
 use Rattle.wit_model.specs.declared.locks.Origin.TheVariants.{At}
 use Rattle.wit_model.specs.declared.calls.Request.{Request}
 use Rattle.wit_model.specs.declared.calls.Call.{Call}
 use Rattle.wit_model.specs.declared.calls.Call.TheVariants.{Check}
 use Rattle.wit_model.specs.declared.calls.Reply.{Reply}
-use Rattle.wit_model.specs.declared.calls.Reply.TheVariants.{Pass, Adopted, Silent, Reversal}
+use Rattle.wit_model.specs.declared.calls.Reply.TheVariants.{Adopted, Silent, Reversal}
 use Rattle.wit_model.specs.declared.calls.Entry.{Entry}
-use Rattle.wit_model.specs.Rules.Locks.{locks_of, has_flag, lock_at, is_spin_lock, is_of_kind}
+use Rattle.wit_model.specs.Rules.Locks.{locks_of, has_flag, is_spin_lock, is_of_kind}
 use Rattle.wit_model.specs.Rules.Orders.{is_direct, is_before, is_found, IsSound}
-use Rattle.wit_model.specs.Rules.History.{is_held, held_of, chain, instance}
+use Rattle.wit_model.specs.Rules.History.{is_held, held_of, chain, instance, watch_of}
 use Rattle.wit_model.specs.Rules.State.{Start, Known, Seat, seat_at, known_of, state_of, orders_of}
 use Rattle.wit_model.specs.Rules.Verdict.{is_of, type_in, violates, is_blessed, conflict, reported, chain_of_kind, verdict}
 use Rattle.wit_model.specs.Rules.Step.{chain_for, answer_of, story_after, IsLegal}
@@ -27,7 +28,7 @@ use Rattle.wit_model.proofs.Chains.Held.{made_sane, held_of-all}
 use Rattle.wit_model.proofs.Chains.Seats.{entry}
 use Rattle.wit_model.proofs.Orders.TypedLocks.{length-typed, made-known}
 use Rattle.wit_model.proofs.Orders.Types.{types-apart}
-use Rattle.wit_model.proofs.Histories.Accepted.{passed, CheckAccepted, check_accepted}
+use Rattle.wit_model.proofs.Histories.Accepted.{CheckAccepted, check_accepted}
 use Rattle.wit_model.proofs.Histories.Legal.{chain_for-state, sane_legal}
 
 last_front : (d : Instance) (c : List Instance) (x : Instance) → last_or (Some d) c ≡ Some x → (front : List Instance) × (d ∷ c ≡ front ++ x ∷ [])
@@ -68,8 +69,8 @@ reported_teaches_nothing k q c i a b ok = go (is_found k.found (type_in k i.lock
     go true same = (cc)
     go false same = (cc)
 
-pub learnt : (k : Known) (seat : Seat) (q : Request) (a b : TypeNo) → verdict k seat q ≡ Ok (Adopted a b) → IsLearnt k q (chain_of_kind k seat q.lock.0) a b
-learnt k seat q a b ok = go (ruled k seat q (Adopted a b) ok)
+pub learnt : (k : Known) (watch : Watch) (seat : Seat) (q : Request) (a b : TypeNo) → verdict k watch seat q ≡ Ok (Adopted a b) → IsLearnt k q (chain_of_kind k seat q.lock.0) a b
+learnt k watch seat q a b ok = go (ruled k watch seat q (Adopted a b) ok)
   where
     go : Says k q (chain_of_kind k seat q.lock.0) (Adopted a b) → IsLearnt k q (chain_of_kind k seat q.lock.0) a b
     go (inl passes) = (cc)
@@ -134,7 +135,7 @@ pub taught : (start : Start) (files : List (List ℕ)) (h : List Entry) (t : ℕ
     → CheckAccepted (state_of (story_after start files h)) t q (Adopted a b) → IsTaught start h q a b
 taught start files h t q a b legal accepted =
     let sane = sane_legal start files h legal in
-    let l = learnt (known_of start h) (seat_at (state_of (story_after start files h)) t) q a b accepted.verdict in
+    let l = learnt (known_of start h) (watch_of h) (seat_at (state_of (story_after start files h)) t) q a b accepted.verdict in
     let held : is_held t l.last.lock.0 h ≡ true = last-held (is_spin_lock (locks_of h) q.lock.0) t h l.last
     (subst (λ c. last_or None c ≡ Some l.last) (chain_for-state start files h t q.lock.0 accepted.seat) l.is_last) in
     let was = made_sane t l.last.lock.0 h sane held in
@@ -168,4 +169,4 @@ sound_by start files h t c r legal ok sound = sound
 pub sound_legal : (start : Start) (files : List (List ℕ)) (h : List Entry) → IsSound (orders_of start []) → IsLegal start files h → IsSound (orders_of start h)
 sound_legal start files [] sound legal = sound
 sound_legal start files (x ∷ h) sound legal =
-    sound_by start files h x.seat.0 x.call x.reply legal.1 legal.0 (sound_legal start files h sound legal.1)
+    sound_by start files h x.seat.0 x.call x.reply legal.2 legal.0 (sound_legal start files h sound legal.2)

@@ -1,12 +1,13 @@
 -- The state of a verifier: what its rules speak of, taken over its history.
-use Rattle.std.specs.Prelude.{ℕ, ◌+◌, Bool, true, false, nat_le, List, [], ◌∷◌, ◌++◌, Option, None, Some, map, length, unwrap_or, sum_by, if◌then◌else◌}
+use Rattle.std.specs.Prelude.{ℕ, ◌+◌, ◌-◌, Bool, true, false, nat_le, List, [], ◌∷◌, ◌++◌, Option, None, Some, map, length, unwrap_or, sum_by, if◌then◌else◌}
 use Rattle.std.specs.List.{range_with_len}
 use Rattle.wit_model.specs.declared.locks.Class.{Class}
 use Rattle.wit_model.specs.declared.locks.TypeNo.{TypeNo}
+use Rattle.wit_model.specs.declared.locks.Watch.{Watch}
 use Rattle.wit_model.specs.declared.locks.Instance.{Instance}
 use Rattle.wit_model.specs.declared.calls.Adoption.{Adoption}
 use Rattle.wit_model.specs.declared.calls.Reply.{Reply}
-use Rattle.wit_model.specs.declared.calls.Reply.TheVariants.{Silent, Reversal}
+use Rattle.wit_model.specs.declared.calls.Reply.TheVariants.{Silent, Reversal, Duplicate}
 use Rattle.wit_model.specs.declared.calls.Request.{Request}
 use Rattle.wit_model.specs.declared.calls.Entry.{Entry}
 use Rattle.wit_model.specs.Rules.Sizes.{Sizes}
@@ -14,7 +15,8 @@ use Rattle.wit_model.specs.Rules.Numbers.{is_given, with_number}
 use Rattle.wit_model.specs.Rules.Types.{LockType, listed_types, types_from}
 use Rattle.wit_model.specs.Rules.Locks.{Lock, made_among, lock_at}
 use Rattle.wit_model.specs.Rules.Orders.{listed_orders, orders_from, found_once}
-use Rattle.wit_model.specs.Rules.History.{chain, pending}
+use Rattle.wit_model.specs.Rules.History.{chain, pending, watch_of}
+use Rattle.wit_model.specs.Rules.SeatGroups.{seat_groups}
 
 -- what a verifier is made with: its sizes, static lists of types in order, and pairs of type names that may be
 -- taken in either order
@@ -34,14 +36,22 @@ pub record Story : Type 0 where
 abbrev pub fresh : Start → Story
 fresh start = record { start = start; history = []; files = [] }
 
--- what a seat holds, of each kind oldest first, and what it has asked for
+-- what a seat holds, of each kind oldest first, the groups in which these locks lie, and what it has asked for
 pub record Seat : Type 0 where
   pub sleep : List Instance
   pub spin : List Instance
+  pub sleep_groups : List (List ℕ)
+  pub spin_groups : List (List ℕ)
   pub pending : Option Request
 
 abbrev pub seat_of : List Entry → ℕ → Seat
-seat_of h t = record { sleep = chain false t h; spin = chain true t h; pending = pending t h }
+seat_of h t = record {
+  sleep = chain false t h;
+  spin = chain true t h;
+  sleep_groups = seat_groups false t h;
+  spin_groups = seat_groups true t h;
+  pending = pending t h;
+}
 
 -- the first n seats
 abbrev pub seats_of : ℕ → List Entry → List Seat
@@ -64,6 +74,7 @@ typed_locks start (e ∷ h) = typed_locks start h ++ made_among (types_of start 
 abbrev pub found_after : List Lock → Reply → List (TypeNo × TypeNo) → List (TypeNo × TypeNo)
 found_after locks (Silent a b) pairs = found_once a b pairs
 found_after locks (Reversal c) pairs = found_once (lock_at locks c.held.lock.0).type_no (lock_at locks c.asked.lock.0).type_no pairs
+found_after locks (Duplicate d) pairs = found_once (lock_at locks d.asked.lock.0).type_no (lock_at locks d.asked.lock.0).type_no pairs
 found_after _ _ pairs = pairs
 
 -- the pairs of types found in violation, newest first
@@ -93,6 +104,7 @@ pub record State : Type 0 where
   pub files : ℕ
   pub known : Known
   pub seats : List Seat
+  pub watch : Watch
   pub used : ℕ
 
 abbrev pub state_of : Story → State
@@ -101,11 +113,12 @@ state_of s = record {
   files = length s.files;
   known = known_of s.start s.history;
   seats = seats_of s.start.sizes.seats s.history;
+  watch = watch_of s.history;
   used = length s.history;
 }
 
 abbrev pub no_seat : Seat
-no_seat = record { sleep = []; spin = []; pending = None }
+no_seat = record { sleep = []; spin = []; sleep_groups = []; spin_groups = []; pending = None }
 
 -- the seat with this number
 abbrev pub seat_among : List Seat → ℕ → Seat
@@ -117,6 +130,10 @@ seat_at s t = seat_among s.seats t
 -- what a seat holds of one kind: the spin kind is `true`
 abbrev pub chain_in : Bool → Seat → List Instance
 chain_in spin s = if spin then s.spin else s.sleep
+
+-- the groups in which these locks lie
+abbrev pub groups_in : Bool → Seat → List (List ℕ)
+groups_in spin s = if spin then s.spin_groups else s.sleep_groups
 
 abbrev pub is_seat : State → ℕ → Bool
 is_seat s t = is_given s.seats t
@@ -137,6 +154,14 @@ owed_by s = recorded_in s.sleep + recorded_in s.spin + owed_for s.pending
 -- those of all seats
 abbrev pub owed : State → ℕ
 owed s = sum_by owed_by s.seats
+
+-- the chunks of a seat: one for each of its groups
+abbrev pub chunks_of : Seat → ℕ
+chunks_of s = length s.sleep_groups + length s.spin_groups
+
+-- the chunks that no seat has
+abbrev pub free : State → ℕ
+free s = s.sizes.chunks - sum_by chunks_of s.seats
 
 -- whether the log has room for n entries beside those that are owed
 abbrev pub has_room : State → ℕ → Bool

@@ -8,6 +8,7 @@ use Rattle.wit_model.specs.declared.faults.Fault.{Fault}
 use Rattle.wit_model.specs.declared.faults.Fault.TheVariants.{SleepUnderSpin, SharedOfExclusive, ExclusiveOfShared, Recursed}
 use Rattle.wit_model.specs.declared.locks.Mode.{Mode}
 use Rattle.wit_model.specs.declared.locks.Mode.TheVariants.{Shared, Exclusive}
+use Rattle.wit_model.specs.declared.locks.Watch.{Watch}
 use Rattle.wit_model.specs.declared.locks.Instance.{Instance}
 use Rattle.wit_model.specs.declared.locks.TypeNo.{TypeNo}
 use Rattle.wit_model.specs.declared.calls.Heading.TheVariants.{Order}
@@ -16,6 +17,7 @@ use Rattle.wit_model.specs.declared.calls.Conflict.{Conflict}
 use Rattle.wit_model.specs.declared.calls.Reply.{Reply}
 use Rattle.wit_model.specs.declared.calls.Reply.TheVariants.{Pass, Adopted, Silent, Reversal}
 use Rattle.wit_model.specs.declared.calls.Request.{Request}
+use Rattle.wit_model.specs.Rules.History.{is_on}
 use Rattle.wit_model.specs.Rules.Types.{name_of, is_spin}
 use Rattle.wit_model.specs.Rules.Locks.{has_flag, lock_at}
 use Rattle.wit_model.specs.Rules.Orders.{is_direct, is_before, is_found}
@@ -95,6 +97,10 @@ decided [] = Ok Pass
 decided (None ∷ rules) = decided rules
 decided (Some answer ∷ rules) = answer
 
+-- not everything is watched
+abbrev pub is_unwatched : Watch → Rule
+is_unwatched watch = when (not (is_on watch)) (Ok Pass)
+
 -- a spin lock is held, and a lock of the sleep kind asked for
 abbrev pub sleeps_under_spin : Known → Seat → Request → Rule
 sleeps_under_spin k seat q = when (not (is_spin (lock_at k.locks q.lock.0).made.class) && is_some (last_or None seat.spin)) (Err SleepUnderSpin)
@@ -135,5 +141,6 @@ over k q chain last =
     ∷ teaches k q last
     ∷ []
 
-abbrev pub verdict : Known → Seat → Request → Result Reply Fault
-verdict k seat q = decided (sleeps_under_spin k seat q ∷ over k q (chain_of_kind k seat q.lock.0) (last_or None (chain_of_kind k seat q.lock.0)))
+abbrev pub verdict : Known → Watch → Seat → Request → Result Reply Fault
+verdict k watch seat q =
+    decided (is_unwatched watch ∷ sleeps_under_spin k seat q ∷ over k q (chain_of_kind k seat q.lock.0) (last_or None (chain_of_kind k seat q.lock.0)))
