@@ -8,14 +8,12 @@ ghost use Rattle.wit_model.specs.Rules.Locks.{lock_at};
 ghost use Rattle.wit_model.specs.Rules.Numbers.{with_number};
 ghost use Rattle.wit_model.specs.Rules.Refusals.{IsRefusal};
 ghost use Rattle.wit_core.specs.Known.{nothing, learnt, with_lock, IsApt, IsAdmitted};
-ghost use Rattle.wit_core.specs.Verdict.{reply_of};
 
 use crate::orders::Orders;
-use crate::verdict::Verdict;
 use std::alloc::{AllocError, Global};
 use std::marker::Model;
 use wit_model::{
-    Adoption, Class, Fault, FileNo, Lock, LockFlags, LockNo, NewLock, Origin, Request, TypeNo,
+    Adoption, Class, Fault, FileNo, Lock, LockFlags, LockNo, NewLock, Origin, Reply, Request, TypeNo,
 };
 use wit_table::Table;
 
@@ -102,29 +100,33 @@ impl Known {
         self.names.file(name)
     }
 
-    /// Learns what the verdict on a request tells: the order behind the last held lock, or a pair of types found in
-    /// violation.
+    /// Learns what the reply to a request tells: the order behind the last held lock, or a pair of types found in violation.
     ///
     /// # Errors
     /// Want of memory alone; nothing is learnt then.
-    pub fn learn(&mut self, request: Request, verdict: Verdict) -> Result<(), AllocError>
-        requires { IsApt self.old.most_types self.old.known verdict }
-        ensures ok { OnOk result (self.new ≡ record self.old { known = learnt self.old.known request (reply_of verdict) }) }
+    pub fn learn(&mut self, request: Request, reply: &Reply) -> Result<(), AllocError>
+        requires { IsApt self.old.most_types self.old.known reply.now }
+        ensures ok { OnOk result (self.new ≡ record self.old { known = learnt self.old.known request reply.now }) }
         ensures err { OnErr result (self.new ≡ self.old) }
     {
-        match verdict {
-            Verdict::Pass => Ok(()),
-            Verdict::Adopt(parent, child) => self.orders.adopt(Adoption {
-                parent,
-                child,
+        match reply {
+            Reply::Adopted(parent, child) => self.orders.adopt(Adoption {
+                parent: *parent,
+                child: *child,
                 origin: Origin::At(request.site),
             }),
-            Verdict::Silent(held, asked) => self.orders.find(held, asked),
-            Verdict::Reversal(conflict) => {
+            Reply::Silent(held, asked) => self.orders.find(*held, *asked),
+            Reply::Duplicate(doubling) => {
+                let asked = type_of(&self.locks, doubling.get().asked.lock);
+                self.orders.find(asked, asked)
+            }
+            Reply::Reversal(conflict) => {
+                let conflict = conflict.get();
                 let held = type_of(&self.locks, conflict.held.lock);
                 let asked = type_of(&self.locks, conflict.asked.lock);
                 self.orders.find(held, asked)
             }
+            _ => Ok(()),
         }
     }
 
