@@ -1,8 +1,9 @@
 //! What is known of types, locks and orders.
 
-ghost use Rattle.std.specs.Prelude.{◌≡◌, ◌<◌, ◌≤◌, [], false, Ok, OnOk, OnErr, IfOk, IfErr};
+ghost use Rattle.std.specs.Prelude.{◌≡◌, ◌<◌, ◌≤◌, [], false, map, Ok, OnOk, OnErr, IfOk, IfErr};
 ghost use Rattle.std.specs.Option.{option_copied};
 ghost use Rattle.wit_model.specs.declared.faults.Fault.TheVariants.{OutOfMemory};
+ghost use Rattle.wit_model.specs.declared.locks.Lock.{Lock};
 ghost use Rattle.wit_model.specs.Rules.Files.{is_known_file, file_answer, files_after};
 ghost use Rattle.wit_model.specs.Rules.Locks.{lock_at};
 ghost use Rattle.wit_model.specs.Rules.Numbers.{with_number};
@@ -26,6 +27,8 @@ pub struct Known {
     /// The types, the source files, and the pairs of type names that may be taken in either order.
     pub names: Table,
     pub locks: Vec<Lock>,
+    /// The type of each lock, in the order of the locks.
+    pub lock_types: Vec<TypeNo>,
     pub orders: Orders,
 }
 
@@ -55,6 +58,7 @@ impl Known {
         Ok(Known {
             names: Table::new(alloc, types, MOST_FILES)?,
             locks: Vec::new(alloc),
+            lock_types: Vec::new(alloc),
             orders: Orders::new(alloc, types)?,
         })
     }
@@ -73,6 +77,13 @@ impl Known {
         ensures { result.now ≡ self.now.known.locks }
     {
         &self.locks
+    }
+
+    /// The type of each lock, in the order of the locks' numbers.
+    pub fn lock_types(&self) -> &[TypeNo]
+        ensures { result.now ≡ map (λ (l : Lock). l.type_no) self.now.known.locks }
+    {
+        &self.lock_types
     }
 
     /// The orders and the pairs found in violation.
@@ -141,8 +152,10 @@ impl Known {
         ensures memory { IfErr result (λ e. e ≡ OutOfMemory) }
     {
         self.locks.reserve(1)?;
+        self.lock_types.reserve(1)?;
         let type_no = self.names.enroll(made.type_name(), made.class)?;
         self.locks.push_reserved(Lock { type_no, made });
+        self.lock_types.push_reserved(type_no);
         Ok(())
     }
 }
