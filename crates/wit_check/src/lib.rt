@@ -1,0 +1,10 @@
+//! The verdict of a check: what WITNESS says of a request for a lock, by what its seat holds.
+#![tactic(auto)]
+
+mod again;
+mod answers;
+mod rules;
+
+pub use answers::Verdict;
+pub use rules::verdict;
+
