@@ -1,10 +1,10 @@
 -- Laws of the groups in which held locks lie.
-use Rattle.std.specs.Prelude.{ℕ, ◌≡◌, Bool, List}
+use Rattle.std.specs.Prelude.{ℕ, ◌+◌, ◌≡◌, Bool, List, sum_by}
 use Rattle.wit_model.specs.declared.calls.Entry.{Entry}
 use Rattle.wit_model.specs.Rules.History.{chain}
 use Rattle.wit_model.specs.Rules.Groups.{flat, AreShort, AreTidy}
 use Rattle.wit_model.specs.Rules.SeatGroups.{seat_groups, held_groups}
-use Rattle.wit_model.specs.Rules.State.{Start}
+use Rattle.wit_model.specs.Rules.State.{Start, Story, state_of, chunks_of, free}
 use Rattle.wit_model.specs.Rules.Step.{IsLegal}
 
 -- after a legal history the groups joined in order are the chain
@@ -20,3 +20,8 @@ GroupsAreShort = (kind : Bool) (t : ℕ) (h : List Entry) → AreShort (seat_gro
 -- none is empty unless it is the only one
 abbrev pub GroupsAreTidy : Type 0
 GroupsAreTidy = (kind : Bool) (t : ℕ) (h : List Entry) → AreTidy (seat_groups kind t h)
+
+-- after a legal history the free chunks and those of all seats are all chunks
+abbrev pub ChunksAddUp : Type 0
+ChunksAddUp =
+    (s : Story) → IsLegal s.start s.files s.history → free (state_of s) + sum_by chunks_of (state_of s).seats ≡ s.start.sizes.chunks

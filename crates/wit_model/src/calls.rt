@@ -1,12 +1,13 @@
 //! The calls of a verifier, their replies, and the entries of its log.
 
-ghost use Rattle.std.specs.Prelude.{◌≡◌};
+ghost use Rattle.std.specs.Prelude.{◌≡◌, IfOk};
 ghost use Rattle.wit_model.specs.Rules.Types.{type_name_of};
 
 use crate::boxes::Boxed;
 use crate::flags::{LockFlags, OpFlags};
-use crate::locks::{Class, LockNo, Mode, Origin, SeatNo, Site, TypeNo};
+use crate::locks::{Class, LockNo, Mode, Origin, SeatNo, Site, TypeNo, Watch};
 use crate::names::Name;
+use std::alloc::{AllocError, Global};
 
 /// What a new lock is to be: the arguments of `lock_init` in witness(4)'s interface.
 #[derive(Debug, Drop)]
@@ -20,13 +21,33 @@ pub struct NewLock {
 
 impl NewLock {
     /// The name under which it takes part in orders.
-    pub fn type_name(&self) -> &str
+    pub fn type_name(&self) -> &Name
         ensures { result.now ≡ type_name_of self.now }
     {
         match &self.type_name {
-            Some(name) => name.as_str(),
-            None => self.name.as_str(),
+            Some(name) => name,
+            None => &self.name,
         }
+    }
+
+    /// The same once more.
+    ///
+    /// # Errors
+    /// Want of memory alone.
+    pub fn copy(&self, alloc: Global) -> Result<NewLock, AllocError>
+        ensures { IfOk result (λ l. l ≡ self.now) }
+    {
+        let name = self.name.copy(alloc)?;
+        let type_name = match &self.type_name {
+            Some(type_name) => Some(type_name.copy(alloc)?),
+            None => None,
+        };
+        Ok(NewLock {
+            class: self.class,
+            flags: self.flags,
+            name,
+            type_name,
+        })
     }
 }
 
@@ -62,8 +83,14 @@ pub enum Call {
     Check(Request),
     /// The lock asked for was acquired.
     Note(LockNo),
+    /// A lock was acquired in this mode without waiting, as by `mtx_trylock` of mutex(9).
+    NoteTry(LockNo, Mode, Site),
+    /// The lock asked for was not acquired.
+    GiveUp(LockNo),
     /// A lock is released, as one held in this mode.
     Unlock(LockNo, Mode),
+    /// This much is watched from now on.
+    SetWatch(Watch),
 }
 
 /// Which rule a reversal breaks.
@@ -110,6 +137,8 @@ pub struct Doubling {
 pub enum Reply {
     /// The lock was made, with this number.
     Made(LockNo),
+    /// The call did what it says.
+    Done,
     /// Nothing to say.
     Pass,
     /// The order of these types was learnt.
@@ -122,8 +151,14 @@ pub enum Reply {
     Duplicate(Boxed<Doubling>),
     /// The acquisition is recorded.
     Recorded,
+    /// No chunk is free for the acquisition: it isn't recorded, and nothing is watched from now on.
+    Exhausted,
+    /// The acquisition isn't recorded, since nothing is watched.
+    Unrecorded,
     /// The release is recorded.
     Unlocked,
+    /// The call is passed over, since not everything is watched. The log holds no such answer.
+    Ignored,
 }
 
 /// An entry of the log: an accepted call of a seat, and its reply.

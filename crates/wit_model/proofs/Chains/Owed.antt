@@ -1,9 +1,8 @@
 -- The log entries that are owed, after an entry; and that the log never runs out of room for them.
-use Rattle.std.proofs.Common.{◌≡◌, ℕ, zero, suc, ◌+◌, ◌-◌, ◌<◌, ◌≤◌, Bool, true, false, not, ◌&&◌, cond, nat_lt, List, [], ◌∷◌, length, map, filter, find, sum_by, Option, Some, None, is_some, Ok, refl, ap, ap₂, sym, ◌∙◌, subst, arith}
+use Rattle.std.proofs.Common.{◌≡◌, ℕ, zero, suc, ◌+◌, ◌<◌, ◌≤◌, Bool, true, false, not, ◌&&◌, cond, nat_lt, List, [], ◌∷◌, length, map, filter, find, sum_by, Option, Some, None, is_some, Ok, refl, ap, ap₂, sym, ◌∙◌, arith}
 use Rattle.std.specs.List.{range_with_len}
 use Rattle.std.proofs.lemmas.Bool.{ltb-true, ltb-false, leb-true, true≢false}
-use Rattle.std.proofs.lemmas.List.Sums.{sum_by-cons, sum_by_push, sum_by-set}
-use Rattle.std.proofs.lemmas.List.FromFn.{length-map-range_with_len}
+use Rattle.std.proofs.lemmas.List.Sums.{sum_by-cons, sum_by_push}
 use Rattle.wit_model.specs.declared.locks.LockNo.{LockNo}
 use Rattle.wit_model.specs.declared.locks.Mode.{Mode}
 use Rattle.wit_model.specs.declared.locks.Site.{Site}
@@ -11,23 +10,23 @@ use Rattle.wit_model.specs.declared.locks.Instance.{Instance}
 use Rattle.wit_model.specs.declared.calls.NewLock.{NewLock}
 use Rattle.wit_model.specs.declared.calls.Request.{Request}
 use Rattle.wit_model.specs.declared.calls.Call.{Call}
-use Rattle.wit_model.specs.declared.calls.Call.TheVariants.{Init, Check, Note, Unlock}
+use Rattle.wit_model.specs.declared.calls.Call.TheVariants.{Init, Check, Note, NoteTry, GiveUp, Unlock, SetWatch}
 use Rattle.wit_model.specs.declared.calls.Reply.{Reply}
-use Rattle.wit_model.specs.declared.calls.Reply.TheVariants.{Recorded}
+use Rattle.wit_model.specs.declared.calls.Reply.TheVariants.{Recorded, Unlocked}
 use Rattle.wit_model.specs.declared.calls.Entry.{Entry}
 use Rattle.wit_model.specs.Rules.Locks.{locks_of, is_spin_lock, is_of_kind}
-use Rattle.wit_model.specs.Rules.History.{chain, pending, is_held, instance, asked_mode, asked_site}
-use Rattle.wit_model.specs.Rules.State.{Start, seat_of, seats_of, state_of, no_seat, recorded_in, owed_for, owed_by}
+use Rattle.wit_model.specs.Rules.History.{Nothing, act, chain, pending, pending_after, is_held, instance, asked_mode, asked_site}
+use Rattle.wit_model.specs.Rules.State.{Start, seat_of, seats_of, state_of, recorded_in, owed_for, owed_by}
 use Rattle.wit_model.specs.Rules.Verdict.{is_of}
-use Rattle.wit_model.specs.Rules.Step.{is_for, answer_of, story_after, IsLegal}
+use Rattle.wit_model.specs.Rules.Step.{is_for, is_logged, answer_of, story_after, IsLegal}
 use Rattle.wit_model.proofs.Chains.Sane.{IsSane}
 use Rattle.wit_model.proofs.Chains.HeldLocks.{taken}
 use Rattle.wit_model.proofs.Chains.Found.{if_some, found}
 use Rattle.wit_model.proofs.Chains.Changes.{at, is_other}
 use Rattle.wit_model.proofs.Chains.After.{recursed, fewer, noted, unlocked}
-use Rattle.wit_model.proofs.Chains.Seats.{seat_after, seat-own, seats_of-set, get_or-seats_of, entry}
+use Rattle.wit_model.proofs.Chains.Seats.{seat_after, sum-step, entry, seat_after-quiet}
 use Rattle.wit_model.proofs.Chains.Stands.{stands, stands-chain, sum-changed, sum-removed}
-use Rattle.wit_model.proofs.Histories.Accepted.{asked-lock, check_accepted, note_accepted, unlock_accepted, init_accepted}
+use Rattle.wit_model.proofs.Histories.Accepted.{asked-lock, check_accepted, note_accepted, try_accepted, give_up_accepted, unlock_accepted, watch_accepted, init_accepted}
 use Rattle.wit_model.proofs.Histories.Legal.{one_chain, own_kind, seat-within, pending-state, sane_legal, unlock-held}
 
 -- an acquisition counts one more
@@ -66,13 +65,15 @@ owed_to n h = sum_by owed_by (seats_of n h)
 -- an entry changes what is owed to its own seat
 pub owed-step : (n : ℕ) (x : Entry) (h : List Entry) → IsSane (x ∷ h) → 0 < x.seat.0 → x.seat.0 ≤ n
     → owed_to n (x ∷ h) + owed_by (seat_of h x.seat.0) ≡ owed_to n h + owed_by (seat_after (locks_of h) x (seat_of h x.seat.0))
-owed-step n x h sane some within =
-    let e = sum_by-set owed_by (seats_of n h) (x.seat.0 - 1) (seat_of (x ∷ h) x.seat.0) no_seat
-    (let len : x.seat.0 - 1 < length (seats_of n h) = omega (arith, length-map-range_with_len (seat_of h) 1 n) in len) in
-    let f = ap (λ ss. sum_by owed_by ss) (seats_of-set n x h sane some within) in
-    let g = ap owed_by (get_or-seats_of n x.seat.0 h no_seat some within) in
-    let k = ap owed_by (seat-own x h sane) in
-    omega (arith, e, f, g, k)
+owed-step n x h sane some within = sum-step owed_by n x h sane some within
+
+-- a call that does nothing to the locks of its seat may change its request
+pub owed-quiet : (n t : ℕ) (c : Call) (r : Reply) (h : List Entry) → IsSane (entry t c r ∷ h) → 0 < t → t ≤ n → act c r ≡ Nothing
+    → owed_to n (entry t c r ∷ h) + owed_for (pending t h) ≡ owed_to n h + owed_for (pending_after c (pending t h))
+owed-quiet n t c r h sane some within quiet =
+    let e = owed-step n (entry t c r) h sane some within in
+    let f = ap owed_by (seat_after-quiet (locks_of h) t c r (seat_of h t) quiet) in
+    omega (arith, e, f)
 
 pub owed-init : (n t : ℕ) (lock : NewLock) (r : Reply) (h : List Entry) → IsSane (entry t (Init lock) r ∷ h) → 0 < t → t ≤ n
     → owed_to n (entry t (Init lock) r ∷ h) ≡ owed_to n h
@@ -94,10 +95,42 @@ owed-note n t l q h sane some within asked =
     (chain false t h) (chain true t h) (stands-chain false t l.0 h sane.1) (stands-chain true t l.0 h sane.1) in
     omega (arith, e, f, g)
 
-pub owed-unlock : (n t : ℕ) (l : LockNo) (m : Mode) (r : Reply) (h : List Entry) → IsSane (entry t (Unlock l m) r ∷ h) → 0 < t → t ≤ n → is_held t l.0 h ≡ true
-    → owed_to n (entry t (Unlock l m) r ∷ h) + 1 ≡ owed_to n h
-owed-unlock n t l m r h sane some within is =
-    let e = owed-step n (entry t (Unlock l m) r) h sane some within in
+-- a try that is recorded owes its release
+pub owed-try : (n t : ℕ) (l : LockNo) (m : Mode) (site : Site) (h : List Entry) → IsSane (entry t (NoteTry l m site) Recorded ∷ h) → 0 < t → t ≤ n
+    → owed_to n (entry t (NoteTry l m site) Recorded ∷ h) ≡ owed_to n h + 1
+owed-try n t l m site h sane some within =
+    let e = owed-step n (entry t (NoteTry l m site) Recorded) h sane some within in
+    let g = both_noted (is_spin_lock (locks_of h) l.0) l.0 m site
+    (chain false t h) (chain true t h) (stands-chain false t l.0 h sane.1) (stands-chain true t l.0 h sane.1) in
+    omega (arith, e, g)
+
+-- what a request that ends without being recorded gives back
+pub owed-unnoted : (n t : ℕ) (l : LockNo) (r : Reply) (q : Request) (h : List Entry) → IsSane (entry t (Note l) r ∷ h) → 0 < t → t ≤ n → act (Note l) r ≡ Nothing
+    → pending t h ≡ Some q → owed_to n (entry t (Note l) r ∷ h) + 2 ≡ owed_to n h
+owed-unnoted n t l r q h sane some within quiet asked =
+    let e = owed-quiet n t (Note l) r h sane some within quiet in
+    let f : owed_for (pending t h) ≡ 2 = ap owed_for asked in
+    omega (arith, e, f)
+
+pub owed-give_up : (n t : ℕ) (l : LockNo) (r : Reply) (q : Request) (h : List Entry) → IsSane (entry t (GiveUp l) r ∷ h) → 0 < t → t ≤ n
+    → pending t h ≡ Some q → owed_to n (entry t (GiveUp l) r ∷ h) + 2 ≡ owed_to n h
+owed-give_up n t l r q h sane some within asked =
+    let e = owed-quiet n t (GiveUp l) r h sane some within refl in
+    let f : owed_for (pending t h) ≡ 2 = ap owed_for asked in
+    omega (arith, e, f)
+
+-- a call that leaves the request and the locks leaves what is owed
+pub owed-same : (n t : ℕ) (c : Call) (r : Reply) (h : List Entry) → IsSane (entry t c r ∷ h) → 0 < t → t ≤ n → act c r ≡ Nothing
+    → pending_after c (pending t h) ≡ pending t h → owed_to n (entry t c r ∷ h) ≡ owed_to n h
+owed-same n t c r h sane some within quiet keeps =
+    let e = owed-quiet n t c r h sane some within quiet in
+    let f = ap owed_for keeps in
+    omega (arith, e, f)
+
+pub owed-unlock : (n t : ℕ) (l : LockNo) (m : Mode) (h : List Entry) → IsSane (entry t (Unlock l m) Unlocked ∷ h) → 0 < t → t ≤ n → is_held t l.0 h ≡ true
+    → owed_to n (entry t (Unlock l m) Unlocked ∷ h) + 1 ≡ owed_to n h
+owed-unlock n t l m h sane some within is =
+    let e = owed-step n (entry t (Unlock l m) Unlocked) h sane some within in
     let own : is_of_kind (is_spin_lock (locks_of h) l.0) (locks_of h) l.0 ≡ true = own_kind (is_spin_lock (locks_of h) l.0) h l.0 refl in
     let here : find (is_of l.0) (cond (is_spin_lock (locks_of h) l.0) (chain true t h) (chain false t h)) ≡ Some (instance t h l.0)
     = ap (λ c. find (is_of l.0) c) (one_chain (is_spin_lock (locks_of h) l.0) t h)
@@ -124,34 +157,58 @@ idle-none (Some q) is = absurd (true≢false is)
 abbrev HasRest : Start → List Entry → Type 0
 HasRest start h = length h + owed_to start.sizes.seats h ≤ start.sizes.log
 
+note_rest : (start : Start) (h : List Entry) (t : ℕ) (l : LockNo) (r : Reply) (q : Request) → IsSane (entry t (Note l) r ∷ h) → (0 < t) × (t ≤ start.sizes.seats)
+    → pending t h ≡ Some q → HasRest start h → HasRest start (entry t (Note l) r ∷ h)
+note_rest start h t l Recorded q sane within asked rest = omega (arith, rest, owed-note start.sizes.seats t l q h sane within.0 within.1 asked)
+note_rest start h t l r q sane within asked rest = omega (arith, rest, owed-unnoted start.sizes.seats t l r q h sane within.0 within.1 refl asked)
+
+try_rest : (start : Start) (h : List Entry) (t : ℕ) (l : LockNo) (m : Mode) (site : Site) (r : Reply) → IsSane (entry t (NoteTry l m site) r ∷ h)
+    → (0 < t) × (t ≤ start.sizes.seats) → length h + owed_to start.sizes.seats h + 2 ≤ start.sizes.log → HasRest start (entry t (NoteTry l m site) r ∷ h)
+try_rest start h t l m site Recorded sane within room = omega (arith, room, owed-try start.sizes.seats t l m site h sane within.0 within.1)
+try_rest start h t l m site r sane within room = omega (arith, room, owed-same start.sizes.seats t (NoteTry l m site) r h sane within.0 within.1 refl refl)
+
+unlock_rest : (start : Start) (h : List Entry) (t : ℕ) (l : LockNo) (m : Mode) (r : Reply) → r ≡ Unlocked → IsSane (entry t (Unlock l m) r ∷ h)
+    → (0 < t) × (t ≤ start.sizes.seats) → is_held t l.0 h ≡ true → HasRest start h → HasRest start (entry t (Unlock l m) r ∷ h)
+unlock_rest start h t l m Unlocked same sane within is rest = omega (arith, rest, owed-unlock start.sizes.seats t l m h sane within.0 within.1 is)
+unlock_rest start h t l m r same sane within is rest = (cc)
+
 rest_by : (start : Start) (files : List (List ℕ)) (h : List Entry) (t : ℕ) (c : Call) (r : Reply) → IsSane (entry t c r ∷ h)
-    → answer_of (story_after start files h) t c ≡ Ok r → HasRest start h → HasRest start (entry t c r ∷ h)
-rest_by start files h t (Init lock) r sane ok rest =
+    → answer_of (story_after start files h) t c ≡ Ok r → is_logged r ≡ true → HasRest start h → HasRest start (entry t c r ∷ h)
+rest_by start files h t (Init lock) r sane ok kept rest =
     let a = init_accepted (state_of (story_after start files h)) t lock r ok in
     let within = seat-within start files h t a.seat in
     let room = leb-true _ _ a.room in
     omega (arith, room, owed-init start.sizes.seats t lock r h sane within.0 within.1)
-rest_by start files h t (Check q) r sane ok rest =
+rest_by start files h t (Check q) r sane ok kept rest =
     let a = check_accepted (state_of (story_after start files h)) t q r ok in
     let within = seat-within start files h t a.seat in
     let room = leb-true _ _ a.room in
     let idle = idle-none (pending t h) (ap is_some (sym (pending-state start files h t a.seat)) ∙ a.idle) in
     omega (arith, room, owed-check start.sizes.seats t q r h sane within.0 within.1 idle)
-rest_by start files h t (Note l) r sane ok rest =
+rest_by start files h t (Note l) r sane ok kept rest =
     let a = note_accepted (state_of (story_after start files h)) t l.0 r ok in
+    let asked = asked-lock l.0 (pending t h) (ap (λ o. is_for l.0 o) (sym (pending-state start files h t a.seat)) ∙ a.asked) in
+    note_rest start h t l r asked.0 sane (seat-within start files h t a.seat) asked.1 rest
+rest_by start files h t (NoteTry l m site) r sane ok kept rest =
+    let a = try_accepted (state_of (story_after start files h)) t l.0 m site r ok in
+    let room = leb-true _ _ a.room in
+    try_rest start h t l m site r sane (seat-within start files h t a.seat) (omega (arith, room))
+rest_by start files h t (GiveUp l) r sane ok kept rest =
+    let a = give_up_accepted (state_of (story_after start files h)) t l.0 r ok in
     let within = seat-within start files h t a.seat in
     let asked = asked-lock l.0 (pending t h) (ap (λ o. is_for l.0 o) (sym (pending-state start files h t a.seat)) ∙ a.asked) in
-    let sane' = subst (λ q. IsSane (entry t (Note l) q ∷ h)) a.reply sane in
-    let e = owed-note start.sizes.seats t l asked.0 h sane' within.0 within.1 asked.1 in
-    subst (λ q. HasRest start (entry t (Note l) q ∷ h)) (sym a.reply) (let le : HasRest start (entry t (Note l) Recorded ∷ h) = omega (arith, rest, e) in le)
-rest_by start files h t (Unlock l m) r sane ok rest =
-    let a = unlock_accepted (state_of (story_after start files h)) t l.0 m r ok in
+    omega (arith, rest, owed-give_up start.sizes.seats t l r asked.0 h sane within.0 within.1 asked.1)
+rest_by start files h t (Unlock l m) r sane ok kept rest =
+    let a = unlock_accepted (state_of (story_after start files h)) t l.0 m r ok kept in
+    unlock_rest start h t l m r a.reply sane (seat-within start files h t a.seat) (unlock-held start files h t l.0 m r sane.1 a).0 rest
+rest_by start files h t (SetWatch w) r sane ok kept rest =
+    let a = watch_accepted (state_of (story_after start files h)) t w r ok in
     let within = seat-within start files h t a.seat in
-    let is = unlock-held start files h t l.0 m r sane.1 a in
-    omega (arith, rest, owed-unlock start.sizes.seats t l m r h sane within.0 within.1 is.0)
+    let room = leb-true _ _ a.room in
+    omega (arith, room, owed-same start.sizes.seats t (SetWatch w) r h sane within.0 within.1 refl refl)
 
 -- used and owed entries never pass the log's limit
 pub few_legal : (start : Start) (files : List (List ℕ)) (h : List Entry) → IsLegal start files h → length h + owed_to start.sizes.seats h ≤ start.sizes.log
 few_legal start files [] legal = omega (arith, owed_to-nil start.sizes.seats)
 few_legal start files (e ∷ h) legal =
-    rest_by start files h e.seat.0 e.call e.reply (sane_legal start files (e ∷ h) legal) legal.0 (few_legal start files h legal.1)
+    rest_by start files h e.seat.0 e.call e.reply (sane_legal start files (e ∷ h) legal) legal.0 legal.1 (few_legal start files h legal.2)

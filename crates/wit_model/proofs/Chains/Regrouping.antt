@@ -75,9 +75,9 @@ module _ {X : Type 0} where
       by false is = (h.0, (omega arith, tt))
   short-joined x (g ∷ g' ∷ gs) h = (h.0, short-joined x (g' ∷ gs) h.1)
 
-  fewer : (stays : X → Bool) (g : List X) → length (filter stays g) ≤ length g
-  fewer stays [] = omega arith
-  fewer stays (x ∷ g) = by (stays x) (fewer stays g)
+  pub filter-shorter : (stays : X → Bool) (g : List X) → length (filter stays g) ≤ length g
+  filter-shorter stays [] = omega arith
+  filter-shorter stays (x ∷ g) = by (stays x) (filter-shorter stays g)
     where
       by : (b : Bool) → length (filter stays g) ≤ length g → length (cond b (x ∷ filter stays g) (filter stays g)) ≤ suc (length g)
       by true ih = omega (arith, ih)
@@ -85,7 +85,7 @@ module _ {X : Type 0} where
 
   short-filter : (stays : X → Bool) (gs : List (List X)) → AreShort gs → AreShort (map (filter stays) gs)
   short-filter stays [] h = tt
-  short-filter stays (g ∷ gs) h = (omega (arith, h.0, fewer stays g), short-filter stays gs h.1)
+  short-filter stays (g ∷ gs) h = (omega (arith, h.0, filter-shorter stays g), short-filter stays gs h.1)
 
   short-filled : (gs : List (List X)) → AreShort gs → AreShort (filter is_filled gs)
   short-filled [] h = tt
@@ -132,7 +132,7 @@ pub seat_groups-cons : (k : Bool) (t : ℕ) (x : Entry) (h : List Entry) → sea
 unfolding seat_groups
 seat_groups-cons k t x h = refl
 
-seat_groups-nil : (k : Bool) (t : ℕ) → seat_groups k t [] ≡ []
+pub seat_groups-nil : (k : Bool) (t : ℕ) → seat_groups k t [] ≡ []
 unfolding seat_groups
 seat_groups-nil k t = refl
 
@@ -218,7 +218,7 @@ pub groups-joined : (k : Bool) (t : ℕ) (h : List Entry) → IsSane h → flat 
 groups-joined k t [] sane = ap flat (seat_groups-nil k t)
 groups-joined k t (x ∷ h) sane = ap flat (seat_groups-cons k t x h) ∙ step k t x h sane (effect t x h sane) (groups-joined k t h sane.1)
 
-flat-map : {X Y : Type 0} (f : X → Y) (gs : List (List X)) → flat (map (map f) gs) ≡ map f (flat gs)
+pub flat-map : {X Y : Type 0} (f : X → Y) (gs : List (List X)) → flat (map (map f) gs) ≡ map f (flat gs)
 flat-map f [] = refl
 flat-map f (g ∷ gs) = ap (λ ys. map f g ++ ys) (flat-map f gs) ∙ sym (map-append f g (flat gs))
 

@@ -1,20 +1,23 @@
 -- What the acceptance of a call says: each fault's absence, and the reply.
-use Rattle.std.proofs.Common.{◌≡◌, ℕ, ◌+◌, Bool, true, false, not, ◌&&◌, cond, eqb, nat_le, length, Option, Some, None, Result, Ok, Err, refl, sym}
+use Rattle.std.proofs.Common.{◌≡◌, ℕ, ◌+◌, Bool, true, false, not, ◌&&◌, cond, eqb, nat_le, length, is_some, Option, Some, None, Result, Ok, Err, refl, ap, sym, ◌∙◌}
 use Rattle.std.proofs.lemmas.Bool.{eqb-true, false≢true}
 use Rattle.wit_model.specs.declared.faults.Fault.{Fault}
 use Rattle.wit_model.specs.declared.faults.Fault.TheVariants.{LogFull}
 use Rattle.wit_model.specs.declared.locks.Mode.{Mode}
+use Rattle.wit_model.specs.declared.locks.Watch.{Watch}
+use Rattle.wit_model.specs.declared.locks.Site.{Site}
 use Rattle.wit_model.specs.declared.locks.Instance.{Instance}
 use Rattle.wit_model.specs.declared.calls.NewLock.{NewLock}
 use Rattle.wit_model.specs.declared.calls.Request.{Request}
 use Rattle.wit_model.specs.declared.calls.Reply.{Reply}
-use Rattle.wit_model.specs.declared.calls.Reply.TheVariants.{Made, Recorded, Unlocked}
+use Rattle.wit_model.specs.declared.calls.Reply.TheVariants.{Made, Done, Recorded, Exhausted, Unrecorded, Unlocked}
 use Rattle.wit_model.specs.Rules.Names.{is_name}
+use Rattle.wit_model.specs.Rules.History.{is_on, is_off}
 use Rattle.wit_model.specs.Rules.Types.{type_name_of, is_enrolled, is_otherwise}
 use Rattle.wit_model.specs.Rules.Locks.{lock_at}
 use Rattle.wit_model.specs.Rules.State.{State, seat_at, is_seat, has_room}
 use Rattle.wit_model.specs.Rules.Verdict.{is_exclusive, verdict}
-use Rattle.wit_model.specs.Rules.Step.{chain_for, held_by, is_pending, is_for, is_good_name, is_not_yet, is_shareable, is_deepest, with_room, released, step_init, step_check, step_note, step_unlock}
+use Rattle.wit_model.specs.Rules.Step.{held_by, is_pending, is_for, is_good_name, is_not_yet, is_shareable, is_too_deep, with_room, is_exhausted, recorded, released, let_go, step_init, step_check, step_note, step_note_try, step_give_up, step_unlock, step_set_watch, is_logged}
 use Rattle.wit_model.specs.Rules.Numbers.{is_given, is_number}
 
 -- a fault that doesn't apply is passed by
@@ -43,15 +46,15 @@ pub record CheckAccepted (s : State) (t : ℕ) (q : Request) (r : Reply) : Type 
   pub file : is_number s.files q.site.file.0 ≡ true
   pub mode : (not (is_exclusive q.mode) && not (is_shareable (lock_at s.known.locks q.lock.0).made.class)) ≡ false
   pub idle : is_pending s t ≡ false
-  pub shallow : is_deepest (held_by s t q.lock.0) ≡ false
+  pub shallow : is_too_deep s t q.lock.0 ≡ false
   pub verdict : verdict s.known s.watch (seat_at s t) q ≡ Ok r
   pub room : has_room s 3 ≡ true
 
-roomy : (s : State) (v : Result Reply Fault) (r : Reply) → with_room s v ≡ Ok r → (v ≡ Ok r) × (has_room s 3 ≡ true)
-roomy s (Err f) r ok = (cc)
-roomy s (Ok a) r ok = go (has_room s 3) refl ok
+roomy : (s : State) (n : ℕ) (v : Result Reply Fault) (r : Reply) → with_room s n v ≡ Ok r → (v ≡ Ok r) × (has_room s n ≡ true)
+roomy s n (Err f) r ok = (cc)
+roomy s n (Ok a) r ok = go (has_room s n) refl ok
   where
-    go : (b : Bool) → has_room s 3 ≡ b → cond b (Ok a) (Err LogFull) ≡ Ok r → (◌≡◌ {A = Result Reply Fault} (Ok a) (Ok r)) × (has_room s 3 ≡ true)
+    go : (b : Bool) → has_room s n ≡ b → cond b (Ok a) (Err LogFull) ≡ Ok r → (◌≡◌ {A = Result Reply Fault} (Ok a) (Ok r)) × (has_room s n ≡ true)
     go true is same = (same, is)
     go false is same = (cc)
 
@@ -62,18 +65,66 @@ check_accepted s t q r ok =
     let c = passed_not (is_number s.files q.site.file.0) _ _ r b.1 in
     let d = passed (not (is_exclusive q.mode) && not (is_shareable (lock_at s.known.locks q.lock.0).made.class)) _ _ r c.1 in
     let e = passed (is_pending s t) _ _ r d.1 in
-    let f = passed (is_deepest (held_by s t q.lock.0)) _ _ r e.1 in
-    let g = roomy s (verdict s.known s.watch (seat_at s t) q) r f.1 in
+    let f = passed (is_too_deep s t q.lock.0) _ _ r e.1 in
+    let g = roomy s 3 (verdict s.known s.watch (seat_at s t) q) r f.1 in
     record { seat = a.0; lock = b.0; file = c.0; mode = d.0; idle = e.0; shallow = f.0; verdict = g.0; room = g.1 }
+
+-- what is recorded: nothing at Off, and no lock that is new where its chunk is wanting
+recorded_by : (off held none : Bool) → cond {A = Reply} off Unrecorded (cond held Recorded (cond none Exhausted Recorded)) ≡ Recorded
+    → (off ≡ false) × (held ≡ false → none ≡ false)
+recorded_by true held none is = (cc)
+recorded_by false true none is = (refl, λ no. absurd (false≢true (sym no)))
+recorded_by false false true is = (cc)
+recorded_by false false false is = (refl, λ no. refl)
+
+pub recorded_on : (s : State) (t l : ℕ) → recorded s t l ≡ Recorded → is_off s.watch ≡ false
+recorded_on s t l is = (recorded_by (is_off s.watch) (is_some (held_by s t l)) (is_exhausted s t l) is).0
+
+pub recorded_room : (s : State) (t l : ℕ) → recorded s t l ≡ Recorded → is_some (held_by s t l) ≡ false → is_exhausted s t l ≡ false
+recorded_room s t l is new = (recorded_by (is_off s.watch) (is_some (held_by s t l)) (is_exhausted s t l) is).1 new
 
 pub record NoteAccepted (s : State) (t l : ℕ) (r : Reply) : Type 0 where
   pub seat : is_seat s t ≡ true
   pub lock : is_given s.known.locks l ≡ true
   pub asked : is_for l (seat_at s t).pending ≡ true
-  pub reply : r ≡ Recorded
+  pub reply : r ≡ recorded s t l
 
 pub note_accepted : (s : State) (t l : ℕ) (r : Reply) → step_note s t l ≡ Ok r → NoteAccepted s t l r
 note_accepted s t l r ok =
+    let a = passed_not (is_seat s t) _ _ r ok in
+    let b = passed_not (is_given s.known.locks l) _ _ r a.1 in
+    let c = passed_not (is_for l (seat_at s t).pending) _ _ r b.1 in
+    record { seat = a.0; lock = b.0; asked = c.0; reply = sym (same_reply c.1) }
+
+pub record TryAccepted (s : State) (t l : ℕ) (m : Mode) (site : Site) (r : Reply) : Type 0 where
+  pub seat : is_seat s t ≡ true
+  pub lock : is_given s.known.locks l ≡ true
+  pub file : is_number s.files site.file.0 ≡ true
+  pub mode : (not (is_exclusive m) && not (is_shareable (lock_at s.known.locks l).made.class)) ≡ false
+  pub idle : is_pending s t ≡ false
+  pub shallow : is_too_deep s t l ≡ false
+  pub room : has_room s 2 ≡ true
+  pub reply : r ≡ recorded s t l
+
+pub try_accepted : (s : State) (t l : ℕ) (m : Mode) (site : Site) (r : Reply) → step_note_try s t l m site ≡ Ok r → TryAccepted s t l m site r
+try_accepted s t l m site r ok =
+    let a = passed_not (is_seat s t) _ _ r ok in
+    let b = passed_not (is_given s.known.locks l) _ _ r a.1 in
+    let c = passed_not (is_number s.files site.file.0) _ _ r b.1 in
+    let d = passed (not (is_exclusive m) && not (is_shareable (lock_at s.known.locks l).made.class)) _ _ r c.1 in
+    let e = passed (is_pending s t) _ _ r d.1 in
+    let f = passed (is_too_deep s t l) _ _ r e.1 in
+    let g = roomy s 2 (Ok (recorded s t l)) r f.1 in
+    record { seat = a.0; lock = b.0; file = c.0; mode = d.0; idle = e.0; shallow = f.0; room = g.1; reply = sym (same_reply g.0) }
+
+pub record GiveUpAccepted (s : State) (t l : ℕ) (r : Reply) : Type 0 where
+  pub seat : is_seat s t ≡ true
+  pub lock : is_given s.known.locks l ≡ true
+  pub asked : is_for l (seat_at s t).pending ≡ true
+  pub reply : r ≡ Done
+
+pub give_up_accepted : (s : State) (t l : ℕ) (r : Reply) → step_give_up s t l ≡ Ok r → GiveUpAccepted s t l r
+give_up_accepted s t l r ok =
     let a = passed_not (is_seat s t) _ _ r ok in
     let b = passed_not (is_given s.known.locks l) _ _ r a.1 in
     let c = passed_not (is_for l (seat_at s t).pending) _ _ r b.1 in
@@ -85,7 +136,6 @@ pub record UnlockAccepted (s : State) (t l : ℕ) (m : Mode) (r : Reply) : Type 
   pub idle : is_pending s t ≡ false
   pub instance : Instance
   pub held : held_by s t l ≡ Some instance
-  pub release : released m (Some instance) ≡ Ok r
   pub reply : r ≡ Unlocked
 
 unlocked_reply : (m : Mode) (i : Instance) (r : Reply) → released m (Some i) ≡ Ok r → r ≡ Unlocked
@@ -95,18 +145,46 @@ unlocked_reply m i r ok =
     let c = passed (eqb i.count 0 && i.norelease) _ _ r b.1 in
     sym (same_reply c.1)
 
-unlock_held : (s : State) (t l : ℕ) (m : Mode) (r : Reply) (o : Option Instance) → is_seat s t ≡ true → is_given s.known.locks l ≡ true → is_pending s t ≡ false
-    → held_by s t l ≡ o → released m o ≡ Ok r → UnlockAccepted s t l m r
-unlock_held s t l m r None seat lock idle is ok = (cc)
-unlock_held s t l m r (Some i) seat lock idle is ok =
-    record { seat = seat; lock = lock; idle = idle; instance = i; held = is; release = ok; reply = unlocked_reply m i r ok }
+-- an accepted release that is logged finds the lock
+held_on : (m : Mode) (o : Option Instance) (r : Reply) → released m o ≡ Ok r → (i : Instance) × (o ≡ Some i) × (r ≡ Unlocked)
+held_on m None r ok = (cc)
+held_on m (Some i) r ok = (i, refl, unlocked_reply m i r ok)
 
-pub unlock_accepted : (s : State) (t l : ℕ) (m : Mode) (r : Reply) → step_unlock s t l m ≡ Ok r → UnlockAccepted s t l m r
-unlock_accepted s t l m r ok =
+held_below : (o : Option Instance) (r : Reply) → is_logged r ≡ true → let_go o ≡ Ok r → (i : Instance) × (o ≡ Some i) × (r ≡ Unlocked)
+held_below None r kept ok = absurd (false≢true (ap is_logged (same_reply ok) ∙ kept))
+held_below (Some i) r kept ok = (i, refl, sym (same_reply ok))
+
+release_found : (on : Bool) (m : Mode) (o : Option Instance) (r : Reply) → is_logged r ≡ true → cond on (released m o) (let_go o) ≡ Ok r
+    → (i : Instance) × (o ≡ Some i) × (r ≡ Unlocked)
+release_found true m o r kept ok = held_on m o r ok
+release_found false m o r kept ok = held_below o r kept ok
+
+pub unlock_accepted : (s : State) (t l : ℕ) (m : Mode) (r : Reply) → step_unlock s t l m ≡ Ok r → is_logged r ≡ true → UnlockAccepted s t l m r
+unlock_accepted s t l m r ok kept =
     let a = passed_not (is_seat s t) _ _ r ok in
     let b = passed_not (is_given s.known.locks l) _ _ r a.1 in
     let c = passed (is_pending s t) _ _ r b.1 in
-    unlock_held s t l m r (held_by s t l) a.0 b.0 c.0 refl c.1
+    let d = release_found (is_on s.watch) m (held_by s t l) r kept c.1 in
+    record { seat = a.0; lock = b.0; idle = c.0; instance = d.0; held = d.1; reply = d.2 }
+
+-- the seat of a release is known, also where it is passed over
+pub unlock_seat : (s : State) (t l : ℕ) (m : Mode) (r : Reply) → step_unlock s t l m ≡ Ok r → is_seat s t ≡ true
+unlock_seat s t l m r ok = (passed_not (is_seat s t) _ _ r ok).0
+
+pub record WatchAccepted (s : State) (t : ℕ) (w : Watch) (r : Reply) : Type 0 where
+  pub seat : is_seat s t ≡ true
+  pub idle : is_pending s t ≡ false
+  pub level : (is_off s.watch && not (is_off w)) ≡ false
+  pub room : has_room s 1 ≡ true
+  pub reply : r ≡ Done
+
+pub watch_accepted : (s : State) (t : ℕ) (w : Watch) (r : Reply) → step_set_watch s t w ≡ Ok r → WatchAccepted s t w r
+watch_accepted s t w r ok =
+    let a = passed_not (is_seat s t) _ _ r ok in
+    let b = passed (is_pending s t) _ _ r a.1 in
+    let c = passed (is_off s.watch && not (is_off w)) _ _ r b.1 in
+    let d = passed_not (has_room s 1) _ _ r c.1 in
+    record { seat = a.0; idle = b.0; level = c.0; room = d.0; reply = sym (same_reply d.1) }
 
 pub record InitAccepted (s : State) (t : ℕ) (lock : NewLock) (r : Reply) : Type 0 where
   pub seat : is_seat s t ≡ true

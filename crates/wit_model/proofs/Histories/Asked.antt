@@ -7,14 +7,14 @@ use Rattle.wit_model.specs.declared.faults.Fault.{Fault}
 use Rattle.wit_model.specs.declared.faults.Fault.TheVariants.{UnknownSeat, UnknownLock, NotRequested}
 use Rattle.wit_model.specs.declared.calls.Request.{Request}
 use Rattle.wit_model.specs.declared.calls.Call.{Call}
-use Rattle.wit_model.specs.declared.calls.Call.TheVariants.{Init, Check, Note, Unlock}
+use Rattle.wit_model.specs.declared.calls.Call.TheVariants.{Check, Note, GiveUp}
 use Rattle.wit_model.specs.declared.calls.Reply.{Reply}
-use Rattle.wit_model.specs.declared.calls.Reply.TheVariants.{Recorded}
+use Rattle.wit_model.specs.declared.calls.Reply.TheVariants.{Done}
 use Rattle.wit_model.specs.declared.calls.Entry.{Entry}
 use Rattle.wit_model.specs.Rules.Locks.{made_among}
 use Rattle.wit_model.specs.Rules.History.{pending, pending_after}
 use Rattle.wit_model.specs.Rules.State.{Start, Story, state_of, seat_of, seats_of, seat_at, is_seat, types_of, typed_locks}
-use Rattle.wit_model.specs.Rules.Step.{is_for, answer_of, story_after, logged, IsLegal}
+use Rattle.wit_model.specs.Rules.Step.{is_for, recorded, answer_of, story_after, logged, IsLegal}
 use Rattle.wit_model.specs.Rules.Numbers.{is_given}
 use Rattle.wit_model.proofs.Chains.Seats.{entry}
 use Rattle.wit_model.proofs.Orders.TypedLocks.{length-typed, made-known, known-made}
@@ -43,13 +43,13 @@ good-later start x h t q g = record { seat = g.seat; lock = made-later start x h
 asks_own : (start : Start) (files : List (List ℕ)) (h : List Entry) (t : ℕ) (c : Call) (r : Reply) → answer_of (story_after start files h) t c ≡ Ok r
     → Asks start h t (pending t h) → Asks start (entry t c r ∷ h) t (pending_after c (pending t h))
 unfolding Asks
-asks_own start files h t (Init lock) r ok asks = λ q is. good-later start (entry t (Init lock) r) h t q (asks q is)
 asks_own start files h t (Check p) r ok asks = λ q is.
     let a = check_accepted (state_of (story_after start files h)) t p r ok in
     subst (λ (k : Request). IsGood start (entry t (Check p) r ∷ h) t k) (same-request p q is)
     (good-later start (entry t (Check p) r) h t p (record { seat = seat-within start files h t a.seat; lock = a.lock }))
 asks_own start files h t (Note l) r ok asks = λ q is. absurd (cc)
-asks_own start files h t (Unlock l m) r ok asks = λ q is. good-later start (entry t (Unlock l m) r) h t q (asks q is)
+asks_own start files h t (GiveUp l) r ok asks = λ q is. absurd (cc)
+asks_own start files h t c r ok asks = λ q is. good-later start (entry t c r) h t q (asks q is)
 
 asks_by : (start : Start) (files : List (List ℕ)) (h : List Entry) (t : ℕ) (x : Entry) → answer_of (story_after start files h) x.seat.0 x.call ≡ Ok x.reply
     → Asks start h t (pending t h) → Asks start (x ∷ h) t (pending t (x ∷ h))
@@ -66,37 +66,59 @@ asks_by start files h t x ok asks =
 asks_legal : (start : Start) (files : List (List ℕ)) (h : List Entry) (t : ℕ) → IsLegal start files h → Asks start h t (pending t h)
 unfolding Asks
 asks_legal start files [] t legal = λ q is. absurd (cc)
-asks_legal start files (x ∷ h) t legal = asks_by start files h t x legal.0 (asks_legal start files h t legal.1)
+asks_legal start files (x ∷ h) t legal = asks_by start files h t x legal.0 (asks_legal start files h t legal.2)
 
--- a pending request's seat is known, and its lock was made
-pub asked-seat : (start : Start) (files : List (List ℕ)) (h : List Entry) (t : ℕ) (q : Request) → IsLegal start files h → pending t h ≡ Some q
-    → is_seat (state_of (story_after start files h)) t ≡ true
-unfolding Asks
-asked-seat start files h t q legal is =
-    let g = asks_legal start files h t legal q is in
-    and_from _ _ (lt-ltb 0 t g.seat.0) (le-leb t (length (seats_of start.sizes.seats h)) (omega (arith, g.seat.1, length-map-range_with_len (seat_of h) 1 start.sizes.seats)))
+-- the answer to a call that a pending request allows
+wanted_by : (a b c : Bool) (r : Reply) → a ≡ true → b ≡ true → c ≡ true
+    → cond {A = Result Reply Fault} (not a) (Err UnknownSeat) (cond (not b) (Err UnknownLock) (cond (not c) (Err NotRequested) (Ok r))) ≡ Ok r
+wanted_by a b c r isa isb isc = rw (isa, isb, isc) refl
 
-pub asked-made : (start : Start) (files : List (List ℕ)) (h : List Entry) (t : ℕ) (q : Request) → IsLegal start files h → pending t h ≡ Some q
-    → is_given (typed_locks start h) q.lock.0 ≡ true
-unfolding Asks
-asked-made start files h t q legal is = (asks_legal start files h t legal q is).lock
+module _ (start : Start) (files : List (List ℕ)) (h : List Entry) (t : ℕ) (q : Request) (good : IsGood start h t q) (is : pending t h ≡ Some q) where
+  asking-seat : is_seat (state_of (story_after start files h)) t ≡ true
+  asking-seat =
+      and_from _ _ (lt-ltb 0 t good.seat.0)
+      (le-leb t (length (seats_of start.sizes.seats h)) (omega (arith, good.seat.1, length-map-range_with_len (seat_of h) 1 start.sizes.seats)))
 
-note_by : (a b c : Bool) → a ≡ true → b ≡ true → c ≡ true
-    → cond {A = Result Reply Fault} (not a) (Err UnknownSeat) (cond (not b) (Err UnknownLock) (cond (not c) (Err NotRequested) (Ok Recorded))) ≡ Ok Recorded
-note_by a b c isa isb isc = rw (isa, isb, isc) refl
+  wanted : (r : Reply)
+      → cond {A = Result Reply Fault} (not (is_seat (state_of (story_after start files h)) t)) (Err UnknownSeat)
+      (cond (not (is_given (typed_locks start h) q.lock.0)) (Err UnknownLock)
+      (cond (not (is_for q.lock.0 (seat_at (state_of (story_after start files h)) t).pending)) (Err NotRequested) (Ok r))) ≡ Ok r
+  wanted r =
+      wanted_by (is_seat (state_of (story_after start files h)) t) (is_given (typed_locks start h) q.lock.0)
+      (is_for q.lock.0 (seat_at (state_of (story_after start files h)) t).pending) r
+      asking-seat good.lock (ap (λ o. is_for q.lock.0 o) (pending-state start files h t asking-seat ∙ is) ∙ eq-eqb q.lock.0 q.lock.0 refl)
 
--- the note of a pending request is accepted
-pub note_pending : (start : Start) (files : List (List ℕ)) (h : List Entry) (t : ℕ) (q : Request) → IsLegal start files h → pending t h ≡ Some q
-    → answer_of (story_after start files h) t (Note q.lock) ≡ Ok Recorded
-note_pending start files h t q legal is =
-    let seat = asked-seat start files h t q legal is in
-    note_by (is_seat (state_of (story_after start files h)) t) (is_given (typed_locks start h) q.lock.0) (is_for q.lock.0 (seat_at (state_of (story_after start files h)) t).pending)
-    seat (asked-made start files h t q legal is)
-    (ap (λ o. is_for q.lock.0 o) (pending-state start files h t seat ∙ is) ∙ eq-eqb q.lock.0 q.lock.0 refl)
+  note_good : answer_of (story_after start files h) t (Note q.lock) ≡ Ok (recorded (state_of (story_after start files h)) t q.lock.0)
+  note_good = wanted (recorded (state_of (story_after start files h)) t q.lock.0)
+
+  give_up_good : answer_of (story_after start files h) t (GiveUp q.lock) ≡ Ok Done
+  give_up_good = wanted Done
+
+module _ (start : Start) (files : List (List ℕ)) (h : List Entry) (t : ℕ) (q : Request) (legal : IsLegal start files h) (is : pending t h ≡ Some q) where
+  asked-good : IsGood start h t q
+  unfolding Asks
+  asked-good = asks_legal start files h t legal q is
+
+  -- a pending request's seat is known, and its lock was made
+  pub asked-seat : is_seat (state_of (story_after start files h)) t ≡ true
+  asked-seat = asking-seat start files h t q asked-good is
+
+  pub asked-made : is_given (typed_locks start h) q.lock.0 ≡ true
+  asked-made = asked-good.lock
+
+  -- its note is accepted
+  pub note_pending : answer_of (story_after start files h) t (Note q.lock) ≡ Ok (recorded (state_of (story_after start files h)) t q.lock.0)
+  note_pending = note_good start files h t q asked-good is
+
+  -- and so is its being given up
+  pub give_up_pending : answer_of (story_after start files h) t (GiveUp q.lock) ≡ Ok Done
+  give_up_pending = give_up_good start files h t q asked-good is
 
 -- and at once after its check
 pub note_checked : (s : Story) (t : ℕ) (q : Request) (r : Reply) → IsLegal s.start s.files s.history → answer_of s t (Check q) ≡ Ok r
-    → answer_of (logged s t (Check q) r) t (Note q.lock) ≡ Ok Recorded
+    → answer_of (logged s t (Check q) r) t (Note q.lock) ≡ Ok (recorded (state_of (logged s t (Check q) r)) t q.lock.0)
+unfolding Asks
 note_checked s t q r legal ok =
-    note_pending s.start s.files (entry t (Check q) r ∷ s.history) t q (ok, legal)
-    (let own : pending t (entry t (Check q) r ∷ s.history) ≡ Some q = rw (eq-eqb t t refl) refl in own)
+    let own : pending t (entry t (Check q) r ∷ s.history) ≡ Some q = rw (eq-eqb t t refl) refl in
+    note_good s.start s.files (entry t (Check q) r ∷ s.history) t q
+    (asks_own s.start s.files s.history t (Check q) r ok (asks_legal s.start s.files s.history t legal) q refl) own

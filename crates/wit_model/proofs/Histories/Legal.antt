@@ -1,26 +1,29 @@
 -- A legal history is sane; and what is read of its state.
-use Rattle.std.proofs.Common.{◌≡◌, ℕ, ◌<◌, ◌≤◌, Bool, true, false, ◌&&◌, cond, List, [], ◌∷◌, length, find, Some, Ok, refl, ap, ap₂, sym, ◌∙◌, subst, arith}
-use Rattle.std.proofs.lemmas.Bool.{and_parts, ltb-true, leb-true}
+use Rattle.std.proofs.Common.{◌≡◌, ℕ, ◌<◌, ◌≤◌, Bool, true, false, not, ◌&&◌, cond, List, [], ◌∷◌, length, find, Some, Ok, refl, ap, ap₂, sym, ◌∙◌, arith}
+use Rattle.std.proofs.lemmas.Bool.{and_parts, ltb-true, leb-true, false≢true}
 use Rattle.std.proofs.lemmas.List.FromFn.{length-map-range_with_len}
 use Rattle.wit_model.specs.declared.locks.Mode.{Mode}
-use Rattle.wit_model.specs.declared.locks.LockNo.{LockNo}
+use Rattle.wit_model.specs.declared.locks.Watch.{Watch}
+use Rattle.wit_model.specs.declared.locks.Watch.TheVariants.{Off}
 use Rattle.wit_model.specs.declared.locks.Instance.{Instance}
 use Rattle.wit_model.specs.declared.calls.Call.{Call}
-use Rattle.wit_model.specs.declared.calls.Call.TheVariants.{Init, Check, Note, Unlock}
+use Rattle.wit_model.specs.declared.calls.Call.TheVariants.{Init, Check, Note, NoteTry, GiveUp, Unlock, SetWatch}
 use Rattle.wit_model.specs.declared.calls.Reply.{Reply}
+use Rattle.wit_model.specs.declared.calls.Reply.TheVariants.{Recorded, Exhausted, Unlocked}
 use Rattle.wit_model.specs.declared.calls.Entry.{Entry}
 use Rattle.wit_model.specs.Rules.Locks.{locks_of, is_spin_lock, is_of_kind}
-use Rattle.wit_model.specs.Rules.History.{act, is_held, chain, instance, pending}
+use Rattle.wit_model.specs.Rules.History.{act, is_held, chain, instance, pending, is_off, watch_after, watch_of}
+use Rattle.wit_model.specs.Rules.SeatGroups.{seat_groups}
 use Rattle.wit_model.specs.Rules.State.{Start, State, Seat, state_of, seat_of, seats_of, seat_at, is_seat, no_seat}
 use Rattle.wit_model.specs.Rules.Verdict.{is_of}
-use Rattle.wit_model.specs.Rules.Step.{chain_for, held_by, step, answer_of, story_after, IsLegal}
+use Rattle.wit_model.specs.Rules.Step.{chain_for, groups_for, held_by, step, answer_of, story_after, IsLegal}
 use Rattle.wit_model.proofs.Chains.Sane.{IsFit, IsSane}
 use Rattle.wit_model.proofs.Chains.HeldLocks.{num-of_held}
 use Rattle.wit_model.proofs.Chains.Found.{if_some, found}
 use Rattle.wit_model.proofs.Numbered.{with_number-or}
 use Rattle.wit_model.proofs.Chains.Seats.{get_or-seats_of}
 use Rattle.wit_model.proofs.Orders.TypedLocks.{spin_at, made-known}
-use Rattle.wit_model.proofs.Histories.Accepted.{check_accepted, NoteAccepted, note_accepted, UnlockAccepted, unlock_accepted, init_accepted}
+use Rattle.wit_model.proofs.Histories.Accepted.{check_accepted, note_accepted, try_accepted, give_up_accepted, UnlockAccepted, unlock_accepted, unlock_seat, watch_accepted, init_accepted}
 
 -- a known seat is within the sizes
 pub seat-within : (start : Start) (files : List (List ℕ)) (h : List Entry) (t : ℕ) → is_seat (state_of (story_after start files h)) t ≡ true
@@ -50,6 +53,17 @@ pub chain_for-state : (start : Start) (files : List (List ℕ)) (h : List Entry)
 chain_for-state start files h t l is =
     ap₂ (λ (b : Bool) (s : Seat). cond b s.spin s.sleep) (spin_at start h l) (seat_at-state start files h t is) ∙ one_chain (is_spin_lock (locks_of h) l) t h
 
+pub one_groups : (k : Bool) (t : ℕ) (h : List Entry) → cond k (seat_of h t).spin_groups (seat_of h t).sleep_groups ≡ seat_groups k t h
+one_groups true t h = refl
+one_groups false t h = refl
+
+-- the groups in which it lies
+pub groups_for-state : (start : Start) (files : List (List ℕ)) (h : List Entry) (t l : ℕ) → is_seat (state_of (story_after start files h)) t ≡ true
+    → groups_for (state_of (story_after start files h)) t l ≡ seat_groups (is_spin_lock (locks_of h) l) t h
+groups_for-state start files h t l is =
+    ap₂ (λ (b : Bool) (s : Seat). cond b s.spin_groups s.sleep_groups) (spin_at start h l) (seat_at-state start files h t is)
+    ∙ one_groups (is_spin_lock (locks_of h) l) t h
+
 pub own_kind : (k : Bool) (h : List Entry) (l : ℕ) → is_spin_lock (locks_of h) l ≡ k → is_of_kind k (locks_of h) l ≡ true
 own_kind true h l is = is
 own_kind false h l is = rw is refl
@@ -76,34 +90,63 @@ pub unlock-held : (start : Start) (files : List (List ℕ)) (h : List Entry) (t 
 unlock-held start files h t l m r sane a =
     some-held (is_held t l h) (instance t h l) a.instance (sym (held_by-state start files h t l a.seat sane) ∙ a.held)
 
-note-fit : (start : Start) (files : List (List ℕ)) (h : List Entry) (t : ℕ) (l : LockNo) (r : Reply)
-    → NoteAccepted (state_of (story_after start files h)) t l.0 r → IsFit (act (Note l) r) t h
-note-fit start files h t l r a = subst (λ q. IsFit (act (Note l) q) t h) (sym a.reply) (made-known start h l.0 a.lock)
-
 call-fit : (start : Start) (files : List (List ℕ)) (h : List Entry) (t : ℕ) (c : Call) (r : Reply) → IsSane h
     → answer_of (story_after start files h) t c ≡ Ok r → IsFit (act c r) t h
-call-fit start files h t (Init lock) r sane ok = tt
-call-fit start files h t (Check q) r sane ok = tt
-call-fit start files h t (Note l) r sane ok = note-fit start files h t l r (note_accepted (state_of (story_after start files h)) t l.0 r ok)
-call-fit start files h t (Unlock l m) r sane ok =
-    num-of_held t l.0 h (unlock-held start files h t l.0 m r sane (unlock_accepted (state_of (story_after start files h)) t l.0 m r ok)).0
+call-fit start files h t (Note l) Recorded sane ok = made-known start h l.0 (note_accepted (state_of (story_after start files h)) t l.0 Recorded ok).lock
+call-fit start files h t (NoteTry l m site) Recorded sane ok = made-known start h l.0 (try_accepted (state_of (story_after start files h)) t l.0 m site Recorded ok).lock
+call-fit start files h t (Unlock l m) Unlocked sane ok =
+    num-of_held t l.0 h (unlock-held start files h t l.0 m Unlocked sane (unlock_accepted (state_of (story_after start files h)) t l.0 m Unlocked ok refl)).0
+call-fit start files h t c r sane ok = tt
 
 pub sane_legal : (start : Start) (files : List (List ℕ)) (h : List Entry) → IsLegal start files h → IsSane h
 sane_legal start files [] legal = tt
 sane_legal start files (e ∷ h) legal =
-    (call-fit start files h e.seat.0 e.call e.reply (sane_legal start files h legal.1) legal.0, sane_legal start files h legal.1)
+    (call-fit start files h e.seat.0 e.call e.reply (sane_legal start files h legal.2) legal.0, sane_legal start files h legal.2)
 
 -- an accepted call extends a legal history to a sane one
 pub sane_more : (start : Start) (files : List (List ℕ)) (h : List Entry) (x : Entry) → IsLegal start files h
     → answer_of (story_after start files h) x.seat.0 x.call ≡ Ok x.reply → IsSane (x ∷ h)
-sane_more start files h x legal ok = sane_legal start files (x ∷ h) (ok, legal)
+sane_more start files h x legal ok =
+    let sane = sane_legal start files h legal in
+    (call-fit start files h x.seat.0 x.call x.reply sane ok, sane)
 
 -- the seat of an accepted call is known
 call-seat : (s : State) (t : ℕ) (c : Call) (r : Reply) → step s t c ≡ Ok r → is_seat s t ≡ true
 call-seat s t (Init lock) r ok = (init_accepted s t lock r ok).seat
 call-seat s t (Check q) r ok = (check_accepted s t q r ok).seat
 call-seat s t (Note l) r ok = (note_accepted s t l.0 r ok).seat
-call-seat s t (Unlock l m) r ok = (unlock_accepted s t l.0 m r ok).seat
+call-seat s t (NoteTry l m site) r ok = (try_accepted s t l.0 m site r ok).seat
+call-seat s t (GiveUp l) r ok = (give_up_accepted s t l.0 r ok).seat
+call-seat s t (Unlock l m) r ok = unlock_seat s t l.0 m r ok
+call-seat s t (SetWatch w) r ok = (watch_accepted s t w r ok).seat
 
 pub seat_accepted : (s : State) (t : ℕ) (c : Call) (r : Reply) → step s t c ≡ Ok r → is_seat s t ≡ true
 seat_accepted s t c r ok = call-seat s t c r ok
+
+watched-call : (s : State) (t : ℕ) (c : Call) (r : Reply) → step s t c ≡ Ok r → is_off (watch_after c r s.watch) ≡ false → is_off s.watch ≡ false
+watched-call s t (SetWatch w) r ok some =
+    sym (ap (λ b. is_off s.watch && not b) some ∙ alone (is_off s.watch)) ∙ (watch_accepted s t w r ok).level
+  where
+    alone : (b : Bool) → (b && true) ≡ b
+    alone true = refl
+    alone false = refl
+watched-call s t c Exhausted ok some = absurd (false≢true (sym some))
+watched-call s t c r ok some = some
+
+-- what is watched after an accepted call was watched before it
+pub watched-before : (start : Start) (files : List (List ℕ)) (h : List Entry) (x : Entry) → answer_of (story_after start files h) x.seat.0 x.call ≡ Ok x.reply
+    → is_off (watch_of (x ∷ h)) ≡ false → is_off (watch_of h) ≡ false
+watched-before start files h x ok some = watched-call (state_of (story_after start files h)) x.seat.0 x.call x.reply ok some
+
+off_from : (w : Watch) → is_off w ≡ true → w ≡ Off
+off_from Off is = refl
+off_from w is = (cc)
+
+-- where nothing was watched, nothing is
+pub off-stays : (start : Start) (files : List (List ℕ)) (h : List Entry) (x : Entry) → answer_of (story_after start files h) x.seat.0 x.call ≡ Ok x.reply
+    → watch_of h ≡ Off → watch_of (x ∷ h) ≡ Off
+off-stays start files h x ok off = off_from (watch_of (x ∷ h)) (go (is_off (watch_of (x ∷ h))) refl)
+  where
+    go : (b : Bool) → is_off (watch_of (x ∷ h)) ≡ b → is_off (watch_of (x ∷ h)) ≡ true
+    go true is = is
+    go false is = absurd (false≢true (sym (watched-before start files h x ok is) ∙ ap is_off off))

@@ -15,14 +15,14 @@ use Rattle.wit_model.specs.declared.calls.Conflict.{Conflict}
 use Rattle.wit_model.specs.declared.calls.Doubling.{Doubling}
 use Rattle.wit_model.specs.declared.calls.Request.{Request}
 use Rattle.wit_model.specs.declared.calls.Call.{Call}
-use Rattle.wit_model.specs.declared.calls.Call.TheVariants.{Init, Check, Note, Unlock}
+use Rattle.wit_model.specs.declared.calls.Call.TheVariants.{Init, Check}
 use Rattle.wit_model.specs.declared.calls.Reply.{Reply}
 use Rattle.wit_model.specs.declared.calls.Reply.TheVariants.{Pass, Adopted, Silent, Duplicate, Reversal}
 use Rattle.wit_model.specs.declared.calls.Entry.{Entry}
 use Rattle.wit_model.specs.Rules.Types.{LockType, class_of, is_spin, is_enrolled, type_number, enrolled, enrolled_all, listed_types, type_name_of, types_after}
 use Rattle.wit_model.specs.Rules.Locks.{locks_of, has_flag, lock_at}
 use Rattle.wit_model.specs.Rules.Orders.{is_adoption_of, is_direct, is_before, is_found, adopted_once, listed_pairs, listed_orders}
-use Rattle.wit_model.specs.Rules.History.{is_held, chain}
+use Rattle.wit_model.specs.Rules.History.{is_held, chain, watch_of}
 use Rattle.wit_model.specs.Rules.State.{Start, Known, Seat, seat_at, known_of, state_of, types_of, typed_locks, orders_of}
 use Rattle.wit_model.specs.Rules.Verdict.{type_held, has_type_of, place_of, place_asked, doubled, violates, is_blessed, conflict, reported, chain_asked, basis_of, asked_of, verdict}
 use Rattle.wit_model.specs.Rules.Step.{answer_of, story_after, IsLegal}
@@ -233,9 +233,7 @@ more-listed (e ∷ list) types = omega (arith, more-enrolled e.1 e.0 types, more
 
 more-types : (c : Call) (types : List LockType) → length types ≤ length (types_after c types)
 more-types (Init lock) types = more-enrolled (type_name_of lock) lock.class types
-more-types (Check q) types = omega arith
-more-types (Note l) types = omega arith
-more-types (Unlock l m) types = omega arith
+more-types _ types = omega arith
 
 among_once : (n a b : ℕ) (orders : List Adoption) → AreAmong n orders → IsNumber n a → IsNumber n b → AreAmong n (adopted_once a b Listed orders)
 among_once n a b orders all parent child = go (is_direct orders a b)
@@ -276,7 +274,7 @@ among_by start files h t c r legal ok all = among_more (length (types_of start h
 
 among_legal : (start : Start) (files : List (List ℕ)) (h : List Entry) → IsLegal start files h → AreAmong (length (types_of start h)) (orders_of start h)
 among_legal start files [] legal = among_lists start.lists [] [] among_none
-among_legal start files (x ∷ h) legal = among_by start files h x.seat.0 x.call x.reply legal.1 legal.0 (among_legal start files h legal.1)
+among_legal start files (x ∷ h) legal = among_by start files h x.seat.0 x.call x.reply legal.2 legal.0 (among_legal start files h legal.2)
 
 -- adopted orders are between known types
 pub orders-among : (start : Start) (files : List (List ℕ)) (h : List Entry) → IsLegal start files h

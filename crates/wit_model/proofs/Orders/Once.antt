@@ -49,4 +49,4 @@ distinct_by start files h t c r ok all = all
 -- no order is adopted twice
 pub distinct_legal : (start : Start) (files : List (List ℕ)) (h : List Entry) → IsLegal start files h → AreDistinct (orders_of start h)
 distinct_legal start files [] legal = distinct_lists start.lists [] [] tt
-distinct_legal start files (x ∷ h) legal = distinct_by start files h x.seat.0 x.call x.reply legal.0 (distinct_legal start files h legal.1)
+distinct_legal start files (x ∷ h) legal = distinct_by start files h x.seat.0 x.call x.reply legal.0 (distinct_legal start files h legal.2)

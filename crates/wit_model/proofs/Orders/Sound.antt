@@ -178,4 +178,4 @@ sound_by start files h t c r legal ok sound = sound
 pub sound_legal : (start : Start) (files : List (List ℕ)) (h : List Entry) → IsSound (orders_of start []) → IsLegal start files h → IsSound (orders_of start h)
 sound_legal start files [] sound legal = sound
 sound_legal start files (x ∷ h) sound legal =
-    sound_by start files h x.seat.0 x.call x.reply legal.1 legal.0 (sound_legal start files h sound legal.1)
+    sound_by start files h x.seat.0 x.call x.reply legal.2 legal.0 (sound_legal start files h sound legal.2)

@@ -5,7 +5,7 @@ use Rattle.std.proofs.lemmas.List.{map-append}
 use Rattle.std.proofs.Math.ListN.{length-map}
 use Rattle.wit_model.specs.declared.calls.NewLock.{NewLock}
 use Rattle.wit_model.specs.declared.calls.Call.{Call}
-use Rattle.wit_model.specs.declared.calls.Call.TheVariants.{Init, Check, Note, Unlock}
+use Rattle.wit_model.specs.declared.calls.Call.TheVariants.{Init}
 use Rattle.wit_model.specs.declared.calls.Entry.{Entry}
 use Rattle.wit_model.specs.Rules.Types.{LockType, is_spin}
 use Rattle.wit_model.specs.Rules.Locks.{Lock, made, locks_of, lock_of, lock_at, unknown_lock, made_among, is_spin_lock}
@@ -19,9 +19,7 @@ made_of k = k.made
 among-made : (types : List LockType) (c : Call) → map made_of (made_among types c) ≡ made c
 unfolding made_of
 among-made types (Init lock) = refl
-among-made types (Check q) = refl
-among-made types (Note l) = refl
-among-made types (Unlock l m) = refl
+among-made types _ = refl
 
 -- without their types' numbers they are the locks as they were made
 pub typed-made : (start : Start) (h : List Entry) → map (λ (k : Lock). k.made) (typed_locks start h) ≡ locks_of h

@@ -9,16 +9,13 @@ use Rattle.std.proofs.Math.Seq.{get_or-append_seam}
 use Rattle.std.proofs.lemmas.List.Folds.{list_any-append, list_any_at}
 use Rattle.wit_model.specs.declared.locks.Class.{Class}
 use Rattle.wit_model.specs.declared.locks.Class.TheVariants.{Sx}
-use Rattle.wit_model.specs.declared.locks.LockNo.{LockNo}
-use Rattle.wit_model.specs.declared.locks.Mode.{Mode}
 use Rattle.wit_model.specs.declared.calls.NewLock.{NewLock}
-use Rattle.wit_model.specs.declared.calls.Request.{Request}
 use Rattle.wit_model.specs.declared.calls.Call.{Call}
-use Rattle.wit_model.specs.declared.calls.Call.TheVariants.{Init, Check, Note, Unlock}
+use Rattle.wit_model.specs.declared.calls.Call.TheVariants.{Init}
 use Rattle.wit_model.specs.declared.calls.Reply.{Reply}
 use Rattle.wit_model.specs.declared.calls.Entry.{Entry}
 use Rattle.wit_model.specs.Rules.Types.{LockType, is_named, is_enrolled, is_same_class, type_number, enrolled, type_name_of, types_after}
-use Rattle.wit_model.specs.Rules.Locks.{Lock, has_flag, made_among, unknown_lock, lock_at}
+use Rattle.wit_model.specs.Rules.Locks.{Lock, made_among, unknown_lock, lock_at}
 use Rattle.wit_model.specs.Rules.State.{Start, state_of, types_of, typed_locks}
 use Rattle.wit_model.specs.Rules.Step.{answer_of, story_after, IsLegal}
 use Rattle.wit_model.proofs.Numbered.{with_number-or, with_number-stays}
@@ -98,25 +95,16 @@ number-itself name class types = go (is_enrolled name types) refl
 -- an enrolled name stays enrolled, with its number
 pub known-stays : (name : List ℕ) (c : Call) (types : List LockType) → is_enrolled name types ≡ true → is_enrolled name (types_after c types) ≡ true
 known-stays name (Init lock) types is = enrolled-stays name (type_name_of lock) lock.class types is
-known-stays name (Check q) types is = is
-known-stays name (Note l) types is = is
-known-stays name (Unlock l m) types is = is
+known-stays name _ types is = is
 
 pub number-stays : (name : List ℕ) (c : Call) (types : List LockType) → is_enrolled name types ≡ true → type_number name (types_after c types) ≡ type_number name types
 number-stays name (Init lock) types is = number-enrolled name (type_name_of lock) lock.class types is
-number-stays name (Check q) types is = refl
-number-stays name (Note l) types is = refl
-number-stays name (Unlock l m) types is = refl
+number-stays name _ types is = refl
 
--- the locks that an entry doesn't make stay
-pub typed-check : (start : Start) (h : List Entry) (t : ℕ) (q : Request) (r : Reply) → typed_locks start (entry t (Check q) r ∷ h) ≡ typed_locks start h
-typed-check start h t q r = append-nil (typed_locks start h)
-
-pub typed-note : (start : Start) (h : List Entry) (t : ℕ) (l : LockNo) (r : Reply) → typed_locks start (entry t (Note l) r ∷ h) ≡ typed_locks start h
-typed-note start h t l r = append-nil (typed_locks start h)
-
-pub typed-unlock : (start : Start) (h : List Entry) (t : ℕ) (l : LockNo) (m : Mode) (r : Reply) → typed_locks start (entry t (Unlock l m) r ∷ h) ≡ typed_locks start h
-typed-unlock start h t l m r = append-nil (typed_locks start h)
+-- a call that makes no lock leaves the locks
+pub typed-same : (start : Start) (h : List Entry) (t : ℕ) (c : Call) (r : Reply) → made_among (types_of start h) c ≡ []
+    → typed_locks start (entry t c r ∷ h) ≡ typed_locks start h
+typed-same start h t c r none = ap (λ ls. typed_locks start h ++ ls) none ∙ append-nil (typed_locks start h)
 
 -- a lock that was made is the same in a longer history
 pub lock-stays : (start : Start) (x : Entry) (h : List Entry) (l : ℕ) → 0 < l → l ≤ length (typed_locks start h)
@@ -156,9 +144,7 @@ typed_more start t (Init lock) r h all = λ i lt.
     ∙ get_or-append_seam (typed_locks start h) (record { type_no = record { 0 = type_number (type_name_of lock) (types_of start h) }; made = lock }) [] unknown_lock))
     (typed-new lock (types_of start h)))
     (cases_lt i (length (typed_locks start h)))
-typed_more start t (Check q) r h all = subst (λ ls. (i : ℕ) → i < length ls → IsTyped (types_of start h) (get_or ls i unknown_lock)) (sym (typed-check start h t q r)) all
-typed_more start t (Note l) r h all = subst (λ ls. (i : ℕ) → i < length ls → IsTyped (types_of start h) (get_or ls i unknown_lock)) (sym (typed-note start h t l r)) all
-typed_more start t (Unlock l m) r h all = subst (λ ls. (i : ℕ) → i < length ls → IsTyped (types_of start h) (get_or ls i unknown_lock)) (sym (typed-unlock start h t l m r)) all
+typed_more start t c r h all = subst (λ ls. (i : ℕ) → i < length ls → IsTyped (types_of start h) (get_or ls i unknown_lock)) (sym (typed-same start h t c r refl)) all
 
 typed_all : (start : Start) (h : List Entry) → AreTyped start h
 unfolding AreTyped
@@ -185,27 +171,23 @@ types_by : (start : Start) (files : List (List ℕ)) (h : List Entry) (t : ℕ) 
     → length (types_of start h) ≤ start.sizes.types → length (types_of start (entry t c r ∷ h)) ≤ start.sizes.types
 types_by start files h t (Init lock) r ok le =
     length-enrolled (type_name_of lock) lock.class (types_of start h) start.sizes.types (init_accepted (state_of (story_after start files h)) t lock r ok).types le
-types_by start files h t (Check q) r ok le = le
-types_by start files h t (Note l) r ok le = le
-types_by start files h t (Unlock l m) r ok le = le
+types_by start files h t c r ok le = le
 
 pub types_legal : (start : Start) (files : List (List ℕ)) (h : List Entry) → length (types_of start []) ≤ start.sizes.types → IsLegal start files h
     → length (types_of start h) ≤ start.sizes.types
 types_legal start files [] le legal = le
-types_legal start files (x ∷ h) le legal = types_by start files h x.seat.0 x.call x.reply legal.0 (types_legal start files h le legal.1)
+types_legal start files (x ∷ h) le legal = types_by start files h x.seat.0 x.call x.reply legal.0 (types_legal start files h le legal.2)
 
 locks_by : (start : Start) (files : List (List ℕ)) (h : List Entry) (t : ℕ) (c : Call) (r : Reply) → answer_of (story_after start files h) t c ≡ Ok r
     → length (typed_locks start h) ≤ start.sizes.locks → length (typed_locks start (entry t c r ∷ h)) ≤ start.sizes.locks
 locks_by start files h t (Init lock) r ok le =
     let lt = leb-false _ _ (init_accepted (state_of (story_after start files h)) t lock r ok).locks in
     omega (arith, lt, length-append (typed_locks start h) (made_among (types_of start h) (Init lock)))
-locks_by start files h t (Check q) r ok le = omega (arith, le, ap length (typed-check start h t q r))
-locks_by start files h t (Note l) r ok le = omega (arith, le, ap length (typed-note start h t l r))
-locks_by start files h t (Unlock l m) r ok le = omega (arith, le, ap length (typed-unlock start h t l m r))
+locks_by start files h t c r ok le = omega (arith, le, ap length (typed-same start h t c r refl))
 
 pub locks_legal : (start : Start) (files : List (List ℕ)) (h : List Entry) → IsLegal start files h → length (typed_locks start h) ≤ start.sizes.locks
 locks_legal start files [] legal = omega arith
-locks_legal start files (x ∷ h) legal = locks_by start files h x.seat.0 x.call x.reply legal.0 (locks_legal start files h legal.1)
+locks_legal start files (x ∷ h) legal = locks_by start files h x.seat.0 x.call x.reply legal.0 (locks_legal start files h legal.2)
 
 -- no two locks have one type
 AreApart : List Lock → Type 0
@@ -248,14 +230,12 @@ apart_by start files h t (Init lock) r ok apart =
     let fresh = built_fresh (is_same_class lock.class Sx) (bytes_eq (type_name_of lock) (codes "Giant"))
     (list_any (λ (other : Lock). eqb other.type_no.0 (type_number (type_name_of lock) (types_of start h))) (typed_locks start h)) built in
     apart_push (typed_locks start h) (record { type_no = record { 0 = type_number (type_name_of lock) (types_of start h) }; made = lock }) apart fresh
-apart_by start files h t (Check q) r ok apart = subst AreApart (sym (typed-check start h t q r)) apart
-apart_by start files h t (Note l) r ok apart = subst AreApart (sym (typed-note start h t l r)) apart
-apart_by start files h t (Unlock l m) r ok apart = subst AreApart (sym (typed-unlock start h t l m r)) apart
+apart_by start files h t c r ok apart = subst AreApart (sym (typed-same start h t c r refl)) apart
 
 apart_all : (start : Start) (files : List (List ℕ)) (h : List Entry) → IsLegal start files h → AreApart (typed_locks start h)
 unfolding AreApart
 apart_all start files [] legal = λ i j lti ltj same. absurd (omega arith)
-apart_all start files (x ∷ h) legal = apart_by start files h x.seat.0 x.call x.reply legal.0 (apart_all start files h legal.1)
+apart_all start files (x ∷ h) legal = apart_by start files h x.seat.0 x.call x.reply legal.0 (apart_all start files h legal.2)
 
 -- in a legal history two locks have two types
 pub types-apart : (start : Start) (files : List (List ℕ)) (h : List Entry) (l m : ℕ) → IsLegal start files h

@@ -8,9 +8,9 @@ use Rattle.wit_model.specs.declared.locks.Watch.TheVariants.{Off, On}
 use Rattle.wit_model.specs.declared.locks.Site.{Site}
 use Rattle.wit_model.specs.declared.locks.Instance.{Instance}
 use Rattle.wit_model.specs.declared.calls.Call.{Call}
-use Rattle.wit_model.specs.declared.calls.Call.TheVariants.{Check, Note, Unlock}
+use Rattle.wit_model.specs.declared.calls.Call.TheVariants.{Check, Note, NoteTry, GiveUp, Unlock, SetWatch}
 use Rattle.wit_model.specs.declared.calls.Reply.{Reply}
-use Rattle.wit_model.specs.declared.calls.Reply.TheVariants.{Reversal, Duplicate, Recorded}
+use Rattle.wit_model.specs.declared.calls.Reply.TheVariants.{Reversal, Duplicate, Recorded, Exhausted, Unlocked}
 use Rattle.wit_model.specs.declared.calls.Request.{Request}
 use Rattle.wit_model.specs.declared.calls.Entry.{Entry}
 use Rattle.wit_model.specs.Rules.Locks.{locks_of, is_of_kind}
@@ -30,7 +30,8 @@ pub data Act : Type 0 where
 
 abbrev pub act : Call → Reply → Act
 act (Note l) Recorded = Records l.0
-act (Unlock l m) reply = Releases l.0
+act (NoteTry l m s) Recorded = Records l.0
+act (Unlock l m) Unlocked = Releases l.0
 act _ _ = Nothing
 
 -- what an entry does to the locks that seat t holds
@@ -70,16 +71,18 @@ place t l (e ∷ h) = if rises t l e h then length h else place t l h
 abbrev pub pending_after : Call → Option Request → Option Request
 pending_after (Check q) p = Some q
 pending_after (Note l) p = None
+pending_after (GiveUp l) p = None
 pending_after _ p = p
 
--- t's request that passed its check and is not yet noted
+-- t's request that passed its check and is neither noted nor given up
 abbrev pub pending : ℕ → List Entry → Option Request
 pending t [] = None
 pending t (e ∷ h) = if e.seat.0 == t then pending_after e.call (pending t h) else pending t h
 
--- the mode and the site of an acquisition: those of its request
+-- the mode and the site of an acquisition: those of its request, or of the try
 abbrev pub asked_mode : Call → Option Request → Mode
 asked_mode (Note l) (Some q) = q.mode
+asked_mode (NoteTry l m s) p = m
 asked_mode _ _ = Exclusive
 
 abbrev pub no_site : Site
@@ -87,6 +90,7 @@ no_site = record { file = record { 0 = 0 }; line = 0 }
 
 abbrev pub asked_site : Call → Option Request → Site
 asked_site (Note l) (Some q) = q.site
+asked_site (NoteTry l m s) p = s
 asked_site _ _ = no_site
 
 abbrev pub turned : ℕ → Act → Mode → Mode
@@ -147,8 +151,10 @@ abbrev pub is_off : Watch → Bool
 is_off Off = true
 is_off _ = false
 
--- how much is watched: everything, as long as no call turns it down
+-- how much is watched: everything, until a call sets another level; nothing, once the chunks were exhausted
 abbrev pub watch_after : Call → Reply → Watch → Watch
+watch_after (SetWatch level) reply watch = level
+watch_after call Exhausted watch = Off
 watch_after call reply watch = watch
 
 abbrev pub watch_of : List Entry → Watch
@@ -158,6 +164,7 @@ watch_of (e ∷ h) = watch_after e.call e.reply (watch_of h)
 abbrev pub is_report : Reply → Bool
 is_report (Reversal c) = true
 is_report (Duplicate d) = true
+is_report Exhausted = true
 is_report _ = false
 
 -- how many reports are in a history

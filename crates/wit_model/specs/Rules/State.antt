@@ -1,5 +1,5 @@
 -- The state of a verifier: what its rules speak of, taken over its history.
-use Rattle.std.specs.Prelude.{ℕ, ◌+◌, Bool, true, false, nat_le, List, [], ◌∷◌, ◌++◌, Option, None, Some, map, length, unwrap_or, sum_by, if◌then◌else◌}
+use Rattle.std.specs.Prelude.{ℕ, ◌+◌, ◌-◌, Bool, true, false, nat_le, List, [], ◌∷◌, ◌++◌, Option, None, Some, map, length, unwrap_or, sum_by, if◌then◌else◌}
 use Rattle.std.specs.List.{range_with_len}
 use Rattle.wit_model.specs.declared.locks.Class.{Class}
 use Rattle.wit_model.specs.declared.locks.TypeNo.{TypeNo}
@@ -16,6 +16,7 @@ use Rattle.wit_model.specs.Rules.Types.{LockType, listed_types, types_from}
 use Rattle.wit_model.specs.Rules.Locks.{Lock, made_among, lock_at}
 use Rattle.wit_model.specs.Rules.Orders.{listed_orders, orders_from, found_once}
 use Rattle.wit_model.specs.Rules.History.{chain, pending, watch_of}
+use Rattle.wit_model.specs.Rules.SeatGroups.{seat_groups}
 
 -- what a verifier is made with: its sizes, static lists of types in order, and pairs of type names that may be
 -- taken in either order
@@ -35,14 +36,22 @@ pub record Story : Type 0 where
 abbrev pub fresh : Start → Story
 fresh start = record { start = start; history = []; files = [] }
 
--- what a seat holds, of each kind oldest first, and what it has asked for
+-- what a seat holds, of each kind oldest first, the groups in which these locks lie, and what it has asked for
 pub record Seat : Type 0 where
   pub sleep : List Instance
   pub spin : List Instance
+  pub sleep_groups : List (List ℕ)
+  pub spin_groups : List (List ℕ)
   pub pending : Option Request
 
 abbrev pub seat_of : List Entry → ℕ → Seat
-seat_of h t = record { sleep = chain false t h; spin = chain true t h; pending = pending t h }
+seat_of h t = record {
+  sleep = chain false t h;
+  spin = chain true t h;
+  sleep_groups = seat_groups false t h;
+  spin_groups = seat_groups true t h;
+  pending = pending t h;
+}
 
 -- the first n seats
 abbrev pub seats_of : ℕ → List Entry → List Seat
@@ -109,7 +118,7 @@ state_of s = record {
 }
 
 abbrev pub no_seat : Seat
-no_seat = record { sleep = []; spin = []; pending = None }
+no_seat = record { sleep = []; spin = []; sleep_groups = []; spin_groups = []; pending = None }
 
 -- the seat with this number
 abbrev pub seat_among : List Seat → ℕ → Seat
@@ -121,6 +130,10 @@ seat_at s t = seat_among s.seats t
 -- what a seat holds of one kind: the spin kind is `true`
 abbrev pub chain_in : Bool → Seat → List Instance
 chain_in spin s = if spin then s.spin else s.sleep
+
+-- the groups in which these locks lie
+abbrev pub groups_in : Bool → Seat → List (List ℕ)
+groups_in spin s = if spin then s.spin_groups else s.sleep_groups
 
 abbrev pub is_seat : State → ℕ → Bool
 is_seat s t = is_given s.seats t
@@ -141,6 +154,14 @@ owed_by s = recorded_in s.sleep + recorded_in s.spin + owed_for s.pending
 -- those of all seats
 abbrev pub owed : State → ℕ
 owed s = sum_by owed_by s.seats
+
+-- the chunks of a seat: one for each of its groups
+abbrev pub chunks_of : Seat → ℕ
+chunks_of s = length s.sleep_groups + length s.spin_groups
+
+-- the chunks that no seat has
+abbrev pub free : State → ℕ
+free s = s.sizes.chunks - sum_by chunks_of s.seats
 
 -- whether the log has room for n entries beside those that are owed
 abbrev pub has_room : State → ℕ → Bool

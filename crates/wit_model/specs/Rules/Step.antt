@@ -4,29 +4,37 @@ use Rattle.std.specs.Prelude.{ℕ, ◌+◌, ◌≡◌, Bool, true, false, not, �
 use Rattle.std.specs.List.{list_any}
 use Rattle.std.specs.Str.{bytes_eq}
 use Rattle.wit_model.specs.declared.faults.Fault.{Fault}
-use Rattle.wit_model.specs.declared.faults.Fault.TheVariants.{UnknownSeat, UnknownLock, ClassMismatch, TypesFull, LocksFull, RecursionTooDeep, NotLocked, SharedUnlock, ExclusiveUnlock, ForbiddenUnlock, Pending, NotRequested, LogFull, BadName, ModeNotAllowed, UnknownFile, NotYet}
+use Rattle.wit_model.specs.declared.faults.Fault.TheVariants.{UnknownSeat, UnknownLock, ClassMismatch, TypesFull, LocksFull, RecursionTooDeep, NotLocked, SharedUnlock, ExclusiveUnlock, ForbiddenUnlock, Pending, NotRequested, LogFull, BadName, WatchOff, ModeNotAllowed, UnknownFile, NotYet}
 use Rattle.wit_model.specs.declared.locks.Class.{Class}
 use Rattle.wit_model.specs.declared.locks.Class.TheVariants.{Rw, Sx}
 use Rattle.wit_model.specs.declared.locks.Mode.{Mode}
+use Rattle.wit_model.specs.declared.locks.Watch.{Watch}
+use Rattle.wit_model.specs.declared.locks.Site.{Site}
 use Rattle.wit_model.specs.declared.locks.Instance.{Instance}
 use Rattle.wit_model.specs.declared.calls.NewLock.{NewLock}
 use Rattle.wit_model.specs.declared.calls.Request.{Request}
 use Rattle.wit_model.specs.declared.calls.Call.{Call}
-use Rattle.wit_model.specs.declared.calls.Call.TheVariants.{Init, Check, Note, Unlock}
+use Rattle.wit_model.specs.declared.calls.Call.TheVariants.{Init, Check, Note, NoteTry, GiveUp, Unlock, SetWatch}
 use Rattle.wit_model.specs.declared.calls.Reply.{Reply}
-use Rattle.wit_model.specs.declared.calls.Reply.TheVariants.{Made, Recorded, Unlocked}
+use Rattle.wit_model.specs.declared.calls.Reply.TheVariants.{Made, Done, Recorded, Exhausted, Unrecorded, Unlocked, Ignored}
 use Rattle.wit_model.specs.declared.calls.Entry.{Entry}
 use Rattle.wit_model.specs.Rules.Names.{is_name}
 use Rattle.wit_model.specs.Rules.Numbers.{is_number, is_given}
 use Rattle.wit_model.specs.Rules.Refusals.{IsRefusal}
 use Rattle.wit_model.specs.Rules.Types.{type_name_of, type_number, is_enrolled, is_otherwise, is_same_class, is_spin}
 use Rattle.wit_model.specs.Rules.Locks.{Lock, lock_at}
-use Rattle.wit_model.specs.Rules.State.{Start, Story, State, state_of, seat_at, is_seat, has_room}
+use Rattle.wit_model.specs.Rules.Groups.{opens}
+use Rattle.wit_model.specs.Rules.History.{is_on, is_off}
+use Rattle.wit_model.specs.Rules.State.{Start, Story, State, state_of, seat_at, groups_in, is_seat, free, has_room}
 use Rattle.wit_model.specs.Rules.Verdict.{is_exclusive, is_of, chain_of_kind, verdict}
 
 -- the chain of the lock's kind
 abbrev pub chain_for : State → ℕ → ℕ → List Instance
 chain_for s t l = chain_of_kind s.known (seat_at s t) l
+
+-- the groups in which it lies
+abbrev pub groups_for : State → ℕ → ℕ → List (List ℕ)
+groups_for s t l = groups_in (is_spin (lock_at s.known.locks l).made.class) (seat_at s t)
 
 -- the lock as the seat holds it
 abbrev pub held_by : State → ℕ → ℕ → Option Instance
@@ -78,11 +86,16 @@ abbrev pub is_deepest : Option Instance → Bool
 is_deepest None = false
 is_deepest (Some i) = i.count == 65535
 
--- a verdict that isn't a fault needs room for the check, its note and its unlock
-abbrev pub with_room : State → Result Reply Fault → Result Reply Fault
-with_room s (Err fault) = Err fault
-with_room s (Ok reply) = if has_room s 3 then Ok reply else Err LogFull
+-- whether one more acquisition of the lock would be recorded and is one too many
+abbrev pub is_too_deep : State → ℕ → ℕ → Bool
+is_too_deep s t l = not (is_off s.watch) && is_deepest (held_by s t l)
 
+-- an answer that isn't a fault needs room for this many entries: the call's own and those that must be able to follow it
+abbrev pub with_room : State → ℕ → Result Reply Fault → Result Reply Fault
+with_room s n (Err fault) = Err fault
+with_room s n (Ok reply) = if has_room s n then Ok reply else Err LogFull
+
+-- a check needs room for itself, its note and its unlock
 abbrev pub step_check : State → ℕ → Request → Result Reply Fault
 step_check s t q =
     if not (is_seat s t) then Err UnknownSeat
@@ -90,17 +103,47 @@ step_check s t q =
     else if not (is_number s.files q.site.file.0) then Err UnknownFile
     else if not (is_exclusive q.mode) && not (is_shareable (lock_at s.known.locks q.lock.0).made.class) then Err ModeNotAllowed
     else if is_pending s t then Err Pending
-    else if is_deepest (held_by s t q.lock.0) then Err RecursionTooDeep
-    else with_room s (verdict s.known s.watch (seat_at s t) q)
+    else if is_too_deep s t q.lock.0 then Err RecursionTooDeep
+    else with_room s 3 (verdict s.known s.watch (seat_at s t) q)
+
+-- whether the lock would lie in a new chunk, and none is free
+abbrev pub is_exhausted : State → ℕ → ℕ → Bool
+is_exhausted s t l = opens (groups_for s t l) && (free s == 0)
+
+-- what is recorded of an acquisition
+abbrev pub recorded : State → ℕ → ℕ → Reply
+recorded s t l =
+    if is_off s.watch then Unrecorded
+    else if is_some (held_by s t l) then Recorded
+    else if is_exhausted s t l then Exhausted
+    else Recorded
 
 abbrev pub step_note : State → ℕ → ℕ → Result Reply Fault
 step_note s t l =
     if not (is_seat s t) then Err UnknownSeat
     else if not (is_given s.known.locks l) then Err UnknownLock
     else if not (is_for l (seat_at s t).pending) then Err NotRequested
-    else Ok Recorded
+    else Ok (recorded s t l)
 
--- a release in this mode of a lock held so; None where it isn't held
+-- a try is no request: no order is checked, nor how the lock is held. It needs room for itself and its unlock
+abbrev pub step_note_try : State → ℕ → ℕ → Mode → Site → Result Reply Fault
+step_note_try s t l m site =
+    if not (is_seat s t) then Err UnknownSeat
+    else if not (is_given s.known.locks l) then Err UnknownLock
+    else if not (is_number s.files site.file.0) then Err UnknownFile
+    else if not (is_exclusive m) && not (is_shareable (lock_at s.known.locks l).made.class) then Err ModeNotAllowed
+    else if is_pending s t then Err Pending
+    else if is_too_deep s t l then Err RecursionTooDeep
+    else with_room s 2 (Ok (recorded s t l))
+
+abbrev pub step_give_up : State → ℕ → ℕ → Result Reply Fault
+step_give_up s t l =
+    if not (is_seat s t) then Err UnknownSeat
+    else if not (is_given s.known.locks l) then Err UnknownLock
+    else if not (is_for l (seat_at s t).pending) then Err NotRequested
+    else Ok Done
+
+-- a release in this mode of a lock held so, where everything is watched; None where it isn't held
 abbrev pub released : Mode → Option Instance → Result Reply Fault
 released m None = Err NotLocked
 released m (Some i) =
@@ -109,19 +152,37 @@ released m (Some i) =
     else if (i.count == 0) && i.norelease then Err ForbiddenUnlock
     else Ok Unlocked
 
+-- where less is watched, a release is judged by nothing, and passed over where the lock isn't held
+abbrev pub let_go : Option Instance → Result Reply Fault
+let_go None = Ok Ignored
+let_go (Some i) = Ok Unlocked
+
 abbrev pub step_unlock : State → ℕ → ℕ → Mode → Result Reply Fault
 step_unlock s t l m =
     if not (is_seat s t) then Err UnknownSeat
     else if not (is_given s.known.locks l) then Err UnknownLock
     else if is_pending s t then Err Pending
-    else released m (held_by s t l)
+    else if is_on s.watch then released m (held_by s t l)
+    else let_go (held_by s t l)
+
+-- nothing is watched again once nothing was
+abbrev pub step_set_watch : State → ℕ → Watch → Result Reply Fault
+step_set_watch s t watch =
+    if not (is_seat s t) then Err UnknownSeat
+    else if is_pending s t then Err Pending
+    else if is_off s.watch && not (is_off watch) then Err WatchOff
+    else if not (has_room s 1) then Err LogFull
+    else Ok Done
 
 -- the answer to a call of seat t
 abbrev pub step : State → ℕ → Call → Result Reply Fault
 step s t (Init lock) = step_init s t lock
 step s t (Check q) = step_check s t q
 step s t (Note l) = step_note s t l.0
+step s t (NoteTry l m site) = step_note_try s t l.0 m site
+step s t (GiveUp l) = step_give_up s t l.0
 step s t (Unlock l m) = step_unlock s t l.0 m
+step s t (SetWatch watch) = step_set_watch s t watch
 
 abbrev pub answer_of : Story → ℕ → Call → Result Reply Fault
 answer_of story t call = step (state_of story) t call
@@ -129,21 +190,31 @@ answer_of story t call = step (state_of story) t call
 abbrev pub story_after : Start → List (List ℕ) → List Entry → Story
 story_after start files h = record { start = start; history = h; files = files }
 
--- each entry's reply is the answer after the entries before it
+-- a call that is passed over isn't logged
+abbrev pub is_logged : Reply → Bool
+is_logged Ignored = false
+is_logged _ = true
+
+-- each entry's reply is the answer after the entries before it, and one that is logged
 abbrev pub IsLegal : Start → List (List ℕ) → List Entry → Type 0
 IsLegal start files [] = Unit {0}
-IsLegal start files (e ∷ h) = (answer_of (story_after start files h) e.seat.0 e.call ≡ Ok e.reply) × IsLegal start files h
+IsLegal start files (e ∷ h) =
+    (answer_of (story_after start files h) e.seat.0 e.call ≡ Ok e.reply) × (is_logged e.reply ≡ true) × IsLegal start files h
 
 -- the story with one more entry
 abbrev pub logged : Story → ℕ → Call → Reply → Story
 logged s t call reply = record s { history = record { seat = record { 0 = t }; call = call; reply = reply } ∷ s.history }
 
--- an accepted call gets the step's reply and is logged with it; a refused one gets the step's fault and changes nothing
+-- the story after an accepted call
+abbrev pub grown : Story → ℕ → Call → Reply → Story
+grown s t call reply = if is_logged reply then logged s t call reply else s
+
+-- an accepted call gets the step's reply and is logged with it, unless it is passed over; a refused one gets the step's fault and changes nothing
 abbrev pub Answers : Story → ℕ → Call → Result Reply Fault → Story → Type 0
-Answers old t call (Ok reply) new = (answer_of old t call ≡ Ok reply) × (new ≡ logged old t call reply)
+Answers old t call (Ok reply) new = (answer_of old t call ≡ Ok reply) × (new ≡ grown old t call reply)
 Answers old t call (Err fault) new = (answer_of old t call ≡ Err fault) × (new ≡ old)
 
 -- the same, where a growth may be refused in place of an acceptance: then too nothing changes
 abbrev pub AnswersOrFails : Story → ℕ → Call → Result Reply Fault → Story → Type 0
-AnswersOrFails old t call (Ok reply) new = (answer_of old t call ≡ Ok reply) × (new ≡ logged old t call reply)
+AnswersOrFails old t call (Ok reply) new = (answer_of old t call ≡ Ok reply) × (new ≡ grown old t call reply)
 AnswersOrFails old t call (Err fault) new = IsRefusal (answer_of old t call) fault × (new ≡ old)
