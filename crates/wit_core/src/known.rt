@@ -153,7 +153,7 @@ impl Known {
     {
         self.locks.reserve(1)?;
         self.lock_types.reserve(1)?;
-        let type_no = self.names.enroll(made.type_name(), made.class)?;
+        let type_no = self.names.enroll_name(made.type_name(), made.class)?;
         self.locks.push_reserved(Lock { type_no, made });
         self.lock_types.push_reserved(type_no);
         Ok(())

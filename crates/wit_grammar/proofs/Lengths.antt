@@ -6,13 +6,15 @@ use Rattle.std.proofs.lemmas.Bool.{and_parts, leb-true}
 use Rattle.std.proofs.lemmas.Fmt.{length-decimal-le}
 use Rattle.std.proofs.lemmas.List.{length-append}
 use Rattle.wit_model.specs.declared.lines.Line.{Line}
-use Rattle.wit_model.specs.declared.lines.Line.TheVariants.{Header, Order, Bless, Init, Check, Lock, Unlock}
+use Rattle.wit_model.specs.declared.lines.Line.TheVariants.{Header, Order, Bless, Init, Check, Lock, Try, GiveUp, Unlock, Watch}
 use Rattle.wit_model.specs.declared.locks.Class.{Class}
 use Rattle.wit_model.specs.declared.locks.Class.TheVariants.{SleepMutex, SpinMutex, Rw, Sx}
 use Rattle.wit_model.specs.declared.locks.Mode.{Mode}
 use Rattle.wit_model.specs.declared.locks.Mode.TheVariants.{Shared, Exclusive}
+use Rattle.wit_model.specs.declared.locks.Watch as level
+use Rattle.wit_model.specs.declared.locks.Watch.TheVariants.{On, Quiet, Off}
 use Rattle.wit_model.specs.Rules.Names.{is_name, is_file_name}
-use Rattle.wit_model.specs.Trace.Spelling.{class_text, mode_text, lock_letters, op_letters, chosen_letters, flags_text, site_text, quoted, joined, type_field, spelling, IsSpellable}
+use Rattle.wit_model.specs.Trace.Spelling.{class_text, mode_text, level_text, lock_letters, op_letters, chosen_letters, flags_text, site_text, quoted, joined, type_field, spelling, IsSpellable}
 
 -- a field that takes little of a line
 abbrev IsShort : List ℕ → Type 0
@@ -41,6 +43,11 @@ class-short Sx = omega arith
 mode-short : (mode : Mode) → IsShort (mode_text mode)
 mode-short Shared = omega arith
 mode-short Exclusive = omega arith
+
+level-short : (watch : level.Watch) → IsShort (level_text watch)
+level-short On = omega arith
+level-short Quiet = omega arith
+level-short Off = omega arith
 
 either-le : (odd : Bool) (letter n : ℕ) (word : List ℕ) → length word ≤ n → length (cond odd (letter ∷ word) word) ≤ suc n
 either-le true letter n word h = omega arith
@@ -88,7 +95,10 @@ spelling-le (Bless a b) (p0, p1) = line-le (codes "bless") (quoted a ∷ quoted 
 spelling-le (Init seat lock) (p0, p1) = init-le seat.0 lock.class lock.flags.0 lock.name lock.type_name p0 p1.1 p1.2
 spelling-le (Check s l m o f n) (p0, p1, p2, p3, p4) = line-le (codes "check") (decimal s.0 ∷ decimal l.0 ∷ mode_text m ∷ flags_text op_letters o.0 ∷ site_text f n ∷ []) (omega arith) (omega arith) (number-short s.0 (omega arith), (number-short l.0 p1, (mode-short m, (flags-short op_letters o.0 (omega arith), (site-short f n p3 p4, tt)))))
 spelling-le (Lock s l) (p0, p1) = line-le (codes "lock") (decimal s.0 ∷ decimal l.0 ∷ []) (omega arith) (omega arith) (number-short s.0 (omega arith), (number-short l.0 p1, tt))
+spelling-le (Try s l m f n) (p0, p1, p2, p3) = line-le (codes "try") (decimal s.0 ∷ decimal l.0 ∷ mode_text m ∷ site_text f n ∷ []) (omega arith) (omega arith) (number-short s.0 (omega arith), (number-short l.0 p1, (mode-short m, (site-short f n p2 p3, tt))))
+spelling-le (GiveUp s l) (p0, p1) = line-le (codes "giveup") (decimal s.0 ∷ decimal l.0 ∷ []) (omega arith) (omega arith) (number-short s.0 (omega arith), (number-short l.0 p1, tt))
 spelling-le (Unlock s l m) (p0, p1) = line-le (codes "unlock") (decimal s.0 ∷ decimal l.0 ∷ mode_text m ∷ []) (omega arith) (omega arith) (number-short s.0 (omega arith), (number-short l.0 p1, (mode-short m, tt)))
+spelling-le (Watch s w) p0 = line-le (codes "watch") (decimal s.0 ∷ level_text w ∷ []) (omega arith) (omega arith) (number-short s.0 (omega arith), (level-short w, tt))
 
 -- a line of another kind
 pub spelled-le : (line : Line) → IsSpellable line → ((list : List (Class × List ℕ)) → line ≡ Order list → ⊥) → length (spelling line) ≤ 4096
@@ -98,4 +108,7 @@ spelled-le (Bless a b) spellable other = spelling-le (Bless a b) spellable
 spelled-le (Init seat lock) spellable other = spelling-le (Init seat lock) spellable
 spelled-le (Check s l m o f n) spellable other = spelling-le (Check s l m o f n) spellable
 spelled-le (Lock s l) spellable other = spelling-le (Lock s l) spellable
+spelled-le (Try s l m f n) spellable other = spelling-le (Try s l m f n) spellable
+spelled-le (GiveUp s l) spellable other = spelling-le (GiveUp s l) spellable
 spelled-le (Unlock s l m) spellable other = spelling-le (Unlock s l m) spellable
+spelled-le (Watch s w) spellable other = spelling-le (Watch s w) spellable

@@ -3,7 +3,7 @@ use Rattle.std.specs.Prelude.{◌≡◌, ◌≢◌, ◌<◌, ◌≤◌, ℕ, Lis
 use Rattle.wit_model.specs.declared.faults.Fault.{Fault}
 use Rattle.wit_model.specs.declared.faults.Fault.TheVariants.{OutOfMemory}
 use Rattle.wit_model.specs.declared.lines.Line.{Line}
-use Rattle.wit_model.specs.declared.lines.Line.TheVariants.{Check, Lock, Unlock}
+use Rattle.wit_model.specs.declared.lines.Line.TheVariants.{Check, Lock, Try, GiveUp, Unlock}
 use Rattle.wit_model.specs.declared.lines.Cause.{Cause}
 use Rattle.wit_model.specs.declared.lines.Cause.TheVariants.{Long, Syntax, Cut, Limit}
 use Rattle.wit_model.specs.declared.lines.Cause.TheVariants as why
@@ -33,6 +33,8 @@ Finds view None read = Unit {0}
 abbrev pub as_line : LockLine → Line
 as_line (lock_line.Check seat lock mode ops file line) = Check seat lock mode ops file.now line
 as_line (lock_line.Lock seat lock) = Lock seat lock
+as_line (lock_line.Try seat lock mode file line) = Try seat lock mode file.now line
+as_line (lock_line.GiveUp seat lock) = GiveUp seat lock
 as_line (lock_line.Unlock seat lock mode) = Unlock seat lock mode
 
 -- the bytes spell no line

@@ -1,7 +1,7 @@
 //! Lines that make a call on a lock.
 
 ghost use Rattle.std.specs.Prelude.{◌≡◌, IfOk};
-ghost use Rattle.wit_model.specs.Trace.Reading.{check_of, note_of, unlock_of, line_of};
+ghost use Rattle.wit_model.specs.Trace.Reading.{check_of, note_of, try_of, give_up_of, unlock_of, line_of};
 ghost use Rattle.wit_grammar.specs.Lines.{Finds, Gives, as_line};
 
 use crate::errors::LineError;
@@ -26,6 +26,19 @@ pub enum LockLine<'a> {
         seat: SeatNo,
         lock: LockNo,
     },
+    /// `try`: a lock was acquired without waiting, at a line of a file.
+    Try {
+        seat: SeatNo,
+        lock: LockNo,
+        mode: Mode,
+        file: &'a str,
+        line: u32,
+    },
+    /// `giveup`: the lock asked for wasn't acquired.
+    GiveUp {
+        seat: SeatNo,
+        lock: LockNo,
+    },
     /// `unlock`: a lock is released, as one held in this mode.
     Unlock {
         seat: SeatNo,
@@ -45,6 +58,8 @@ pub fn parse_lock_line(bytes: &[u8]) -> Option<LockLine<'_>>
         b"check" => check(rest).ok(),
         b"lock" => lock(rest).ok(),
         b"unlock" => unlock(rest).ok(),
+        b"try" => try_lock(rest).ok(),
+        b"giveup" => give_up(rest).ok(),
         _ => None,
     }
 }
@@ -70,6 +85,20 @@ pub fn owned(alloc: Global, line: LockLine<'_>) -> Result<Line, AllocError>
             line,
         }),
         LockLine::Lock { seat, lock } => Ok(Line::Lock { seat, lock }),
+        LockLine::Try {
+            seat,
+            lock,
+            mode,
+            file,
+            line,
+        } => Ok(Line::Try {
+            seat,
+            lock,
+            mode,
+            file: FileName::new(alloc, file)?,
+            line,
+        }),
+        LockLine::GiveUp { seat, lock } => Ok(Line::GiveUp { seat, lock }),
         LockLine::Unlock { seat, lock, mode } => Ok(Line::Unlock { seat, lock, mode }),
     }
 }
@@ -108,6 +137,38 @@ pub fn lock(bytes: &[u8]) -> Result<LockLine<'_>, LineError>
         return Err(LineError::SYNTAX);
     }
     Ok(LockLine::Lock { seat, lock })
+}
+
+#[tactic(auto, unfolding(wit_model::specs::Trace::Reading::try_of))]
+pub fn try_lock(bytes: &[u8]) -> Result<LockLine<'_>, LineError>
+    ensures { Gives as_line result (try_of bytes.now) }
+{
+    let (seat, rest) = numbers::seat(bytes)?;
+    let (lock, rest) = numbers::lock(rest)?;
+    let (mode, rest) = words::mode(rest)?;
+    let (file, line, rest) = names::site(rest)?;
+    if !rest.is_empty() {
+        return Err(LineError::SYNTAX);
+    }
+    Ok(LockLine::Try {
+        seat,
+        lock,
+        mode,
+        file,
+        line,
+    })
+}
+
+#[tactic(auto, unfolding(wit_model::specs::Trace::Reading::give_up_of))]
+pub fn give_up(bytes: &[u8]) -> Result<LockLine<'_>, LineError>
+    ensures { Gives as_line result (give_up_of bytes.now) }
+{
+    let (seat, rest) = numbers::seat(bytes)?;
+    let (lock, rest) = numbers::lock(rest)?;
+    if !rest.is_empty() {
+        return Err(LineError::SYNTAX);
+    }
+    Ok(LockLine::GiveUp { seat, lock })
 }
 
 #[tactic(auto, unfolding(wit_model::specs::Trace::Reading::unlock_of))]

@@ -2,14 +2,15 @@
 
 ghost use Rattle.std.specs.Prelude.{◌≡◌, ◌++◌, ◌∷◌, IfOk, IfErr, OnOk};
 ghost use Rattle.std.specs.Fmt.{decimal};
-ghost use Rattle.wit_model.specs.Trace.Spelling.{class_text, mode_text, chosen_letters, flags_text, quoted, site_text, joined, lock_fields, list_fields, spelling};
-ghost use Rattle.wit_model.specs.declared.lines.Line.TheVariants.{Header, Order, Bless, Init, Check, Lock, Unlock};
+ghost use Rattle.wit_model.specs.Trace.Spelling.{class_text, mode_text, level_text, chosen_letters, flags_text, quoted, site_text, joined, lock_fields, list_fields, spelling};
+ghost use Rattle.wit_model.specs.declared.lines.Line.TheVariants.{Header, Order, Bless, Init, Check, Lock, Try, GiveUp, Unlock};
+ghost use Rattle.wit_model.specs.declared.lines.Line.TheVariants as lines;
 ghost use Rattle.wit_grammar.specs.Lines.{IsSpelled};
 ghost use Rattle.wit_model.specs.declared.faults.Fault.TheVariants.{OutOfMemory};
 
 use std::alloc::{AllocError, Global};
 use wit_model::{
-    Class, Fault, FileName, Line, LockNo, Mode, Name, NewLock, OpFlags, SeatNo, TypeList,
+    Class, Fault, FileName, Line, LockNo, Mode, Name, NewLock, OpFlags, SeatNo, TypeList, Watch,
 };
 
 /// The spelling of a line, without a line feed.
@@ -46,7 +47,16 @@ fn spell(alloc: Global, line: &Line) -> Result<Vec<u8>, AllocError>
             line,
         } => spell_check(alloc, *seat, *lock, *mode, *ops, file, *line),
         Line::Lock { seat, lock } => spell_lock(alloc, *seat, *lock),
+        Line::Try {
+            seat,
+            lock,
+            mode,
+            file,
+            line,
+        } => spell_try(alloc, *seat, *lock, *mode, file, *line),
+        Line::GiveUp { seat, lock } => spell_give_up(alloc, *seat, *lock),
         Line::Unlock { seat, lock, mode } => spell_unlock(alloc, *seat, *lock, *mode),
+        Line::Watch { seat, watch } => spell_watch(alloc, *seat, *watch),
     }
 }
 
@@ -123,6 +133,33 @@ fn spell_lock(alloc: Global, seat: SeatNo, lock: LockNo) -> Result<Vec<u8>, Allo
     Ok(out)
 }
 
+fn spell_try(
+    alloc: Global,
+    seat: SeatNo,
+    lock: LockNo,
+    mode: Mode,
+    file: &FileName,
+    line: u32,
+) -> Result<Vec<u8>, AllocError>
+    ensures { IfOk result (λ bytes. bytes.items ≡ spelling (Try seat lock mode file.now line)) }
+{
+    let mut out = Vec::from_slice(alloc, b"try")?;
+    put_number(alloc, &mut out, u32::from(seat.0))?;
+    put_number(alloc, &mut out, lock.0)?;
+    put_word(&mut out, mode_text(mode))?;
+    put_site(alloc, &mut out, file, line)?;
+    Ok(out)
+}
+
+fn spell_give_up(alloc: Global, seat: SeatNo, lock: LockNo) -> Result<Vec<u8>, AllocError>
+    ensures { IfOk result (λ bytes. bytes.items ≡ spelling (GiveUp seat lock)) }
+{
+    let mut out = Vec::from_slice(alloc, b"giveup")?;
+    put_number(alloc, &mut out, u32::from(seat.0))?;
+    put_number(alloc, &mut out, lock.0)?;
+    Ok(out)
+}
+
 fn spell_unlock(
     alloc: Global,
     seat: SeatNo,
@@ -135,6 +172,15 @@ fn spell_unlock(
     put_number(alloc, &mut out, u32::from(seat.0))?;
     put_number(alloc, &mut out, lock.0)?;
     put_word(&mut out, mode_text(mode))?;
+    Ok(out)
+}
+
+fn spell_watch(alloc: Global, seat: SeatNo, watch: Watch) -> Result<Vec<u8>, AllocError>
+    ensures { IfOk result (λ bytes. bytes.items ≡ spelling (lines.Watch seat watch)) }
+{
+    let mut out = Vec::from_slice(alloc, b"watch")?;
+    put_number(alloc, &mut out, u32::from(seat.0))?;
+    put_word(&mut out, level_text(watch))?;
     Ok(out)
 }
 
@@ -247,5 +293,15 @@ fn mode_text(mode: Mode) -> &'static [u8]
     match mode {
         Mode::Shared => b"s",
         Mode::Exclusive => b"x",
+    }
+}
+
+fn level_text(watch: Watch) -> &'static [u8]
+    ensures { result.now ≡ level_text watch }
+{
+    match watch {
+        Watch::On => b"1",
+        Watch::Quiet => b"0",
+        Watch::Off => b"-1",
     }
 }

@@ -77,8 +77,24 @@ fn is_spellable(line: &Line) -> bool
             let (_seat, _lock, _line) = (seat.0, lock.0, *line);
             ops.0 < 8 && FileName::accepts(file.as_str())
         }
-        Line::Lock { seat, lock } | Line::Unlock { seat, lock, .. } => {
+        Line::Try {
+            seat,
+            lock,
+            file,
+            line,
+            ..
+        } => {
+            let (_seat, _lock, _line) = (seat.0, lock.0, *line);
+            FileName::accepts(file.as_str())
+        }
+        Line::Lock { seat, lock }
+        | Line::GiveUp { seat, lock }
+        | Line::Unlock { seat, lock, .. } => {
             let (_seat, _lock) = (seat.0, lock.0);
+            true
+        }
+        Line::Watch { seat, .. } => {
+            let _seat = seat.0;
             true
         }
     }

@@ -38,7 +38,16 @@ lock 65535 4294967295$
 lock 1 1111111111$
 unlock 1 2 s$
 unlock 0 0 x$
-unlock 65535 4294967295 x"#;
+unlock 65535 4294967295 x$
+try 1 2 x a.c:3$
+try 0 0 s ::0$
+try 65535 4294967295 s a:b:4294967295$
+giveup 1 2$
+giveup 0 0$
+giveup 65535 4294967295$
+watch 1 1$
+watch 0 0$
+watch 65535 -1"#;
 
 /// Rows that are no lines.
 const BAD: &str = r#" $
@@ -147,7 +156,50 @@ init 1 MTX - "a"$
 init 1 mt - "a"$
 init 1 mutex - "a"$
 init 65536 mtx - "a"$
-init 01 mtx - "a""#;
+init 01 mtx - "a"$
+try$
+try 1 2 x$
+try 1 2 x $
+try 1 2 a.c:3$
+try 1 2 x - a.c:3$
+try 1 2 x n a.c:3$
+try 1 2 X a.c:3$
+try 1 2 x a.c$
+try 1 2 x a.c:03$
+try 1 2 x a.c:4294967296$
+try 1 2 x a.c:3 $
+try 1 2 x  a.c:3$
+try 65536 2 x a.c:3$
+try 1 4294967296 x a.c:3$
+tries 1 2 x a.c:3$
+giveup$
+giveup 1$
+giveup 1 2 $
+giveup 1 2 x$
+giveup 1 02$
+giveup 65536 2$
+giveup 1 4294967296$
+give 1 2$
+giveups 1 2$
+watch$
+watch 1$
+watch 1 $
+watch 1 2$
+watch 1 00$
+watch 1 01$
+watch 1 -0$
+watch 1 +1$
+watch 1 -2$
+watch 1 --1$
+watch 1 - 1$
+watch 1 -$
+watch 1 10$
+watch 1 x$
+watch 1 1 $
+watch 1  1$
+watch 1 1 1$
+watch 65536 1$
+watches 1 1"#;
 
 /// Rows that are no `order` and no `bless`.
 const BAD_PRELUDE: &str = r#"order$
@@ -272,6 +324,12 @@ fn single_bytes(rt: HostRuntime) -> Result<(), Fail> {
         ("init 1 mtx - \"a\" \"", "\"", 0x20, 0x7e),
         ("order mtx \"a", "b\"", 0x20, 0x7e),
         ("check 1 2 x - a", "c:3", 0x21, 0x7e),
+        ("try 1 2 x a", "c:3", 0x21, 0x7e),
+        ("try 1 2 x", "a.c:3", b' ', b' '),
+        ("giveup 1 2", "", b'0', b'9'),
+        ("watch 1 ", "", b'0', b'1'),
+        ("watch 1 ", "1", b'-', b'-'),
+        ("watch 1", "1", b' ', b' '),
         ("lock 1 2", "", b'0', b'9'),
         ("lock 1 ", "", b'0', b'9'),
         ("lock", "1 2", b' ', b' '),
@@ -322,6 +380,7 @@ fn lengths_of_names(rt: HostRuntime) -> Result<(), Fail> {
         ("bless \"", 63, "\" \"B\""),
         ("bless \"A\" \"", 63, "\""),
         ("check 1 2 x - ", 255, ":3"),
+        ("try 1 2 x ", 255, ":3"),
     ];
     for (before, most, behind) in rows {
         assert_eq!(rt;
@@ -404,7 +463,13 @@ check 7 8 s f ::4294967295 = Check { seat: SeatNo(7), lock: LockNo(8), mode: Sha
 check 7 8 s ndf a.c:1:9 = Check { seat: SeatNo(7), lock: LockNo(8), mode: Shared, ops: OpFlags(7), file: FileName { text: "a.c:1" }, line: 9 }
 lock 1 2 = Lock { seat: SeatNo(1), lock: LockNo(2) }
 unlock 1 2 s = Unlock { seat: SeatNo(1), lock: LockNo(2), mode: Shared }
-unlock 1 2 x = Unlock { seat: SeatNo(1), lock: LockNo(2), mode: Exclusive }"#;
+unlock 1 2 x = Unlock { seat: SeatNo(1), lock: LockNo(2), mode: Exclusive }
+try 7 8 x a.c:9 = Try { seat: SeatNo(7), lock: LockNo(8), mode: Exclusive, file: FileName { text: "a.c" }, line: 9 }
+try 7 8 s a:b:0 = Try { seat: SeatNo(7), lock: LockNo(8), mode: Shared, file: FileName { text: "a:b" }, line: 0 }
+giveup 1 2 = GiveUp { seat: SeatNo(1), lock: LockNo(2) }
+watch 7 1 = Watch { seat: SeatNo(7), watch: On }
+watch 7 0 = Watch { seat: SeatNo(7), watch: Quiet }
+watch 7 -1 = Watch { seat: SeatNo(7), watch: Off }"#;
 
 /// Whether a row's line is read as what stands behind it.
 fn is_read(alloc: Global, row: &str) -> Result<bool, AllocError> {
@@ -431,14 +496,23 @@ fn is_lock_spelled(
     name: &str,
     type_name: Option<&str>,
 ) -> Result<bool, AllocError> {
+    // What is no name can't stand in a line.
+    let Some(name) = Name::new(alloc, name)? else {
+        return Ok(false);
+    };
     let type_name = match type_name {
         None => None,
-        Some(text) => Some(Name::new(alloc, text)?),
+        Some(text) => {
+            let Some(type_name) = Name::new(alloc, text)? else {
+                return Ok(false);
+            };
+            Some(type_name)
+        }
     };
     let lock = NewLock {
         class: Class::SleepMutex,
         flags: LockFlags(flags),
-        name: Name::new(alloc, name)?,
+        name,
         type_name,
     };
     Ok(spelled(&Line::Init {
@@ -456,19 +530,25 @@ fn is_list_spelled(
 ) -> Result<bool, AllocError> {
     let mut list = TypeList::new(alloc);
     for _ in 0..times {
-        list.push(Class::SleepMutex, Name::new(alloc, name)?)?;
+        let Some(name) = Name::new(alloc, name)? else {
+            return Ok(false);
+        };
+        list.push(Class::SleepMutex, name)?;
     }
     if let Some(name) = last {
-        list.push(Class::Rw, Name::new(alloc, name)?)?;
+        let Some(name) = Name::new(alloc, name)? else {
+            return Ok(false);
+        };
+        list.push(Class::Rw, name)?;
     }
     Ok(spelled(&Line::Order { list }))
 }
 
 fn is_pair_spelled(alloc: Global, first: &str, second: &str) -> Result<bool, AllocError> {
-    Ok(spelled(&Line::Bless {
-        first: Name::new(alloc, first)?,
-        second: Name::new(alloc, second)?,
-    }))
+    let (Some(first), Some(second)) = (Name::new(alloc, first)?, Name::new(alloc, second)?) else {
+        return Ok(false);
+    };
+    Ok(spelled(&Line::Bless { first, second }))
 }
 
 fn is_request_spelled(alloc: Global, ops: u8, file: &str) -> Result<bool, AllocError> {
@@ -477,6 +557,16 @@ fn is_request_spelled(alloc: Global, ops: u8, file: &str) -> Result<bool, AllocE
         lock: LockNo(8),
         mode: Mode::Shared,
         ops: OpFlags(ops),
+        file: FileName::new(alloc, file)?,
+        line: 9,
+    }))
+}
+
+fn is_try_spelled(alloc: Global, file: &str) -> Result<bool, AllocError> {
+    Ok(spelled(&Line::Try {
+        seat: SeatNo(7),
+        lock: LockNo(8),
+        mode: Mode::Shared,
         file: FileName::new(alloc, file)?,
         line: 9,
     }))
@@ -508,6 +598,9 @@ fn spelled_locks(rt: HostRuntime) -> Result<(), Fail> {
             want,
             "at {ops}, {file}"
         );
+    }
+    for (file, want) in [("a.c", true), ("", false), ("a b", false), ("é", false)] {
+        assert_eq!(rt; is_try_spelled(rt.alloc(), file)?, want, "at {file}");
     }
     Ok(())
 }

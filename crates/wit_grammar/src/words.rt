@@ -1,12 +1,12 @@
 //! The words of a line: each reader gives a value and the bytes after it.
 
 ghost use Rattle.std.specs.Prelude.{◌≡◌, ◌≤◌, ◌<◌, ◌^◌, length, IfSome};
-ghost use Rattle.wit_model.specs.Trace.Reading.{after, byte_place, until, class_of, mode_of, bits_of, flags_of, word_at, field_at, fixed_at};
+ghost use Rattle.wit_model.specs.Trace.Reading.{after, byte_place, until, class_of, mode_of, level_of, bits_of, flags_of, word_at, field_at, fixed_at};
 ghost use Rattle.wit_grammar.specs.Lines.{Gives};
 
 use crate::errors::LineError;
 use memchr::memchr;
-use wit_model::{Class, Mode};
+use wit_model::{Class, Mode, Watch};
 
 /// The bytes after the one that must stand first.
 #[inline(always)]
@@ -95,6 +95,20 @@ pub fn mode(bytes: &[u8]) -> Result<(Mode, &[u8]), LineError>
     match word {
         b"s" => Ok((Mode::Shared, rest)),
         b"x" => Ok((Mode::Exclusive, rest)),
+        _ => Err(LineError::SYNTAX),
+    }
+}
+
+/// A watch level.
+#[tactic(auto, unfolding(wit_model::specs::Trace::Reading::level_of))]
+pub fn level(bytes: &[u8]) -> Result<(Watch, &[u8]), LineError>
+    ensures { Gives (λ x. (x.0, x.1.now)) result (field_at level_of bytes.now) }
+{
+    let (word, rest) = word(bytes)?;
+    match word {
+        b"1" => Ok((Watch::On, rest)),
+        b"0" => Ok((Watch::Quiet, rest)),
+        b"-1" => Ok((Watch::Off, rest)),
         _ => Err(LineError::SYNTAX),
     }
 }

@@ -15,7 +15,9 @@ mod sizes;
 mod type_lists;
 
 pub use boxes::Boxed;
-pub use calls::{Adoption, Call, Conflict, Entry, Heading, LockAt, NewLock, Reply, Request};
+pub use calls::{
+    Adoption, Asked, Call, Conflict, Doubling, Entry, Heading, LockAt, NewLock, Reply, Request,
+};
 pub use faults::Fault;
 pub use flags::{LockFlags, OpFlags};
 pub use lines::{Cause, Line, View};

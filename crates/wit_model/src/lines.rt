@@ -3,7 +3,7 @@
 use crate::calls::NewLock;
 use crate::faults::Fault;
 use crate::flags::OpFlags;
-use crate::locks::{LockNo, Mode, SeatNo};
+use crate::locks::{LockNo, Mode, SeatNo, Watch};
 use crate::names::{FileName, Name};
 use crate::type_lists::TypeList;
 
@@ -45,11 +45,29 @@ pub enum Line {
         seat: SeatNo,
         lock: LockNo,
     },
+    /// `try`: a lock was acquired without waiting, at a line of a file.
+    Try {
+        seat: SeatNo,
+        lock: LockNo,
+        mode: Mode,
+        file: FileName,
+        line: u32,
+    },
+    /// `giveup`: the lock asked for wasn't acquired.
+    GiveUp {
+        seat: SeatNo,
+        lock: LockNo,
+    },
     /// `unlock`: a lock is released, as one held in this mode.
     Unlock {
         seat: SeatNo,
         lock: LockNo,
         mode: Mode,
+    },
+    /// `watch`: how much the verifier is to do from here on.
+    Watch {
+        seat: SeatNo,
+        watch: Watch,
     },
 }
 

@@ -9,15 +9,16 @@ use Rattle.std.proofs.lemmas.List.{length-append}
 use Rattle.std.proofs.lemmas.Option.{cond_some}
 use Rattle.std.proofs.lemmas.Slice.Eq.{bytes_eq-Decides}
 use Rattle.wit_model.specs.declared.lines.Line.{Line}
-use Rattle.wit_model.specs.declared.lines.Line.TheVariants.{Header, Order, Bless, Init, Check, Lock, Unlock}
+use Rattle.wit_model.specs.declared.lines.Line.TheVariants.{Header, Order, Bless, Init, Check, Lock, Try, GiveUp, Unlock, Watch}
 use Rattle.wit_model.specs.declared.locks.Class.{Class}
 use Rattle.wit_model.specs.declared.locks.Mode.{Mode}
+use Rattle.wit_model.specs.declared.locks.Watch as level
 use Rattle.wit_model.specs.Rules.Names.{is_name, is_name_byte, is_file_name}
-use Rattle.wit_model.specs.Trace.Spelling.{class_text, mode_text, lock_letters, op_letters, flags_text, site_text, quoted, joined, list_fields, spelling, IsSpellable, Spells}
-use Rattle.wit_model.specs.Trace.Reading.{◌>>=◌, after, until, accepted, class_of, mode_of, flags_of, site_of, field_at, behind, quoted_at, optional, both, whole, one_or_more, count_at, seat_at, lock_at, type_at, list_of, header_of, order_of, bless_of, init_of, check_of, note_of, unlock_of, read_as, kinds, line_of}
+use Rattle.wit_model.specs.Trace.Spelling.{class_text, mode_text, level_text, lock_letters, op_letters, flags_text, site_text, quoted, joined, list_fields, spelling, IsSpellable, Spells}
+use Rattle.wit_model.specs.Trace.Reading.{◌>>=◌, after, until, accepted, class_of, mode_of, level_of, flags_of, site_of, field_at, behind, quoted_at, optional, both, whole, one_or_more, count_at, seat_at, lock_at, type_at, list_of, header_of, order_of, bless_of, init_of, check_of, note_of, try_of, give_up_of, unlock_of, watch_of, read_as, kinds, line_of}
 use Rattle.wit_model.proofs.Spelling.Codecs.{IsCodec, IsLast, FitsIfAny, Lacks, Lacks-all, Ends, bind_some, some_is, chosen, until_end, until_whole, after_some, print_field, print_behind, print_both, print_optional, field_codec, behind_codec, both_codec, optional_codec, whole_again, made_takes}
 use Rattle.wit_model.proofs.Spelling.Repeats.{print_each, AllFit, one_or_more_codec}
-use Rattle.wit_model.proofs.Spelling.Words.{number_word, class_word, mode_word, flags_word, site_word}
+use Rattle.wit_model.proofs.Spelling.Words.{number_word, class_word, mode_word, level_word, flags_word, site_word}
 
 -- ---- names
 
@@ -81,6 +82,9 @@ lock_codec = field_codec (number_word (2 ^ 32) (omega arith))
 
 mode_codec : IsCodec (print_field mode_text) (field_at mode_of) (λ mode. Unit {0}) (Ends 32)
 mode_codec = field_codec mode_word
+
+level_codec : IsCodec (print_field level_text) (field_at level_of) (λ watch. Unit {0}) (Ends 32)
+level_codec = field_codec level_word
 
 class_codec : IsCodec (print_field class_text) (field_at class_of) (λ class. Unit {0}) (Ends 32)
 class_codec = field_codec class_word
@@ -226,6 +230,23 @@ note_takes : (rest : List ℕ) (line : Line) → note_of rest ≡ Some line → 
 unfolding note_of
 note_takes = kind_takes note_codec note_make (codes "lock") (λ x fits. (refl, (fits.0, fits.1)))
 
+abbrev try_make : (ℕ × (ℕ × (Mode × (List ℕ × ℕ)))) → Line
+try_make x = Try (record { 0 = x.0 }) (record { 0 = x.1.0 }) x.1.1.0 x.1.1.1.0 x.1.1.1.1
+
+try_codec : IsCodec (print_both (print_field decimal) (print_both (print_field decimal) (print_both (print_field mode_text) (print_field (λ x. site_text x.0 x.1))))) (both seat_at (both lock_at (both (field_at mode_of) (field_at site_of)))) (λ x. IsBelow (2 ^ 16) x.0 × (IsBelow (2 ^ 32) x.1.0 × (Unit {0} × (IsTrue (is_file_name x.1.1.1.0) × IsBelow (2 ^ 32) x.1.1.1.1)))) (Ends 32)
+try_codec = both_codec seat_codec (both_codec lock_codec (both_codec mode_codec site_codec))
+
+try_takes : (rest : List ℕ) (line : Line) → try_of rest ≡ Some line → Spells (codes "try" ++ rest) line
+unfolding try_of
+try_takes = kind_takes try_codec try_make (codes "try") (λ x fits. (refl, (fits.0, fits.1.0, fits.1.1.1.0, fits.1.1.1.1)))
+
+abbrev give_up_make : (ℕ × ℕ) → Line
+give_up_make x = GiveUp (record { 0 = x.0 }) (record { 0 = x.1 })
+
+give_up_takes : (rest : List ℕ) (line : Line) → give_up_of rest ≡ Some line → Spells (codes "giveup" ++ rest) line
+unfolding give_up_of
+give_up_takes = kind_takes note_codec give_up_make (codes "giveup") (λ x fits. (refl, (fits.0, fits.1)))
+
 abbrev unlock_make : (ℕ × (ℕ × Mode)) → Line
 unlock_make x = Unlock (record { 0 = x.0 }) (record { 0 = x.1.0 }) x.1.1
 
@@ -235,6 +256,16 @@ unlock_codec = both_codec seat_codec (both_codec lock_codec mode_codec)
 unlock_takes : (rest : List ℕ) (line : Line) → unlock_of rest ≡ Some line → Spells (codes "unlock" ++ rest) line
 unfolding unlock_of
 unlock_takes = kind_takes unlock_codec unlock_make (codes "unlock") (λ x fits. (refl, (fits.0, fits.1.0)))
+
+abbrev watch_make : (ℕ × level.Watch) → Line
+watch_make x = Watch (record { 0 = x.0 }) x.1
+
+watch_codec : IsCodec (print_both (print_field decimal) (print_field level_text)) (both seat_at (field_at level_of)) (λ x. IsBelow (2 ^ 16) x.0 × Unit {0}) (Ends 32)
+watch_codec = both_codec seat_codec level_codec
+
+watch_takes : (rest : List ℕ) (line : Line) → watch_of rest ≡ Some line → Spells (codes "watch" ++ rest) line
+unfolding watch_of
+watch_takes = kind_takes watch_codec watch_make (codes "watch") (λ x fits. (refl, fits.0))
 
 -- each way of reading a rest finds what its keyword and the rest spell
 abbrev AreKinds : List (List ℕ × (List ℕ → Option Line)) → Type 0
@@ -253,7 +284,7 @@ pub line_takes : (bytes : List ℕ) (line : Line) → line_of bytes ≡ Some lin
 unfolding line_of
 line_takes bytes line e =
     subst (λ (b : List ℕ). Spells b line) (sym (until_whole 32 bytes))
-    (read_as_takes kinds (check_takes, (note_takes, (unlock_takes, (init_takes, (order_takes, (bless_takes, (header_takes, tt))))))) (until 32 bytes).0 (until 32 bytes).1 line e)
+    (read_as_takes kinds (check_takes, (note_takes, (unlock_takes, (try_takes, (give_up_takes, (watch_takes, (init_takes, (order_takes, (bless_takes, (header_takes, tt)))))))))) (until 32 bytes).0 (until 32 bytes).1 line e)
 
 init_again : (seat : ℕ) (class : Class) (flags : ℕ) (name : List ℕ) (type_name : Option (List ℕ)) → seat < 2 ^ 16 → flags < 4 → IsTrue (is_name name) → FitsIfAny (λ name. IsTrue (is_name name)) type_name
     → line_of (spelling (init_make (seat, (class, (flags, (name, type_name)))))) ≡ Some (init_make (seat, (class, (flags, (name, type_name)))))
@@ -267,14 +298,17 @@ fits_if_any (Some name) h = h
 
 -- what is spelled so is read
 pub line_again : (line : Line) → IsSpellable line → line_of (spelling line) ≡ Some line
-unfolding header_of bless_of init_of check_of note_of unlock_of
+unfolding header_of bless_of init_of check_of note_of try_of give_up_of unlock_of watch_of
 line_again (Header s t l c) (p0, p1, p2, p3) = keyword_again (codes "witness-trace") _ (refl, (refl, (refl, (refl, (refl, (refl, (refl, (refl, (refl, (refl, (refl, (refl, (refl, tt))))))))))))) refl ∙ kind_again header_codec tt header_make (s, (t, (l, c))) (p0, (p1, (p2, p3)))
 line_again (Order list) (p0, p1) = order_again list p0 p1
 line_again (Bless a b) (p0, p1) = keyword_again (codes "bless") _ (refl, (refl, (refl, (refl, (refl, tt))))) refl ∙ kind_again bless_codec tt bless_make (a, b) (p0, p1)
 line_again (Init seat lock) (p0, p1) = init_again seat.0 lock.class lock.flags.0 lock.name lock.type_name p0 p1.0 p1.1 (fits_if_any lock.type_name p1.2)
 line_again (Check s l m o f n) (p0, p1, p2, p3, p4) = keyword_again (codes "check") _ (refl, (refl, (refl, (refl, (refl, tt))))) refl ∙ kind_again check_codec tt check_make (s.0, (l.0, (m, (o.0, (f, n))))) (p0, (p1, (tt, (p2, (p3, p4)))))
 line_again (Lock s l) (p0, p1) = keyword_again (codes "lock") _ (refl, (refl, (refl, (refl, tt)))) refl ∙ kind_again note_codec tt note_make (s.0, l.0) (p0, p1)
+line_again (Try s l m f n) (p0, p1, p2, p3) = keyword_again (codes "try") _ (refl, (refl, (refl, tt))) refl ∙ kind_again try_codec tt try_make (s.0, (l.0, (m, (f, n)))) (p0, (p1, (tt, (p2, p3))))
+line_again (GiveUp s l) (p0, p1) = keyword_again (codes "giveup") _ (refl, (refl, (refl, (refl, (refl, (refl, tt)))))) refl ∙ kind_again note_codec tt give_up_make (s.0, l.0) (p0, p1)
 line_again (Unlock s l m) (p0, p1) = keyword_again (codes "unlock") _ (refl, (refl, (refl, (refl, (refl, (refl, tt)))))) refl ∙ kind_again unlock_codec tt unlock_make (s.0, (l.0, m)) (p0, (p1, tt))
+line_again (Watch s w) p0 = keyword_again (codes "watch") _ (refl, (refl, (refl, (refl, (refl, tt))))) refl ∙ kind_again watch_codec tt watch_make (s.0, w) (p0, tt)
 
 -- nothing else is read of the bytes that spell a line
 pub spelled_again : (bytes : List ℕ) (line : Line) → Spells bytes line → line_of bytes ≡ Some line

@@ -13,13 +13,15 @@ use Rattle.std.proofs.lemmas.Nat.{pow_pos}
 use Rattle.std.proofs.lemmas.Option.{cond_some}
 use Rattle.std.proofs.lemmas.Slice.Eq.{bytes_eq-Decides}
 use Rattle.std.proofs.lemmas.Str.Parse.{IsNumeralModel, numerals_by_value}
-use Rattle.wit_model.specs.Trace.Reading.{◌>>=◌, is_numeral, number_of, class_of, mode_of, bits_of, flags_of, accepted, parted_before, parted_at_last, site_of}
-use Rattle.wit_model.specs.Trace.Spelling.{class_text, mode_text, chosen_letters, flags_text, site_text}
+use Rattle.wit_model.specs.Trace.Reading.{◌>>=◌, is_numeral, number_of, class_of, mode_of, level_of, bits_of, flags_of, accepted, parted_before, parted_at_last, site_of}
+use Rattle.wit_model.specs.Trace.Spelling.{class_text, mode_text, level_text, chosen_letters, flags_text, site_text}
 use Rattle.wit_model.specs.Rules.Names.{is_file_name, is_file_byte}
 use Rattle.wit_model.specs.declared.locks.Class.{Class}
 use Rattle.wit_model.specs.declared.locks.Class.TheVariants.{SleepMutex, SpinMutex, Rw, Sx}
 use Rattle.wit_model.specs.declared.locks.Mode.{Mode}
 use Rattle.wit_model.specs.declared.locks.Mode.TheVariants.{Shared, Exclusive}
+use Rattle.wit_model.specs.declared.locks.Watch.{Watch}
+use Rattle.wit_model.specs.declared.locks.Watch.TheVariants.{On, Quiet, Off}
 use Rattle.wit_model.proofs.Spelling.Codecs.{IsWord, Lacks, Lacks-all, Lacks-append, bind_some, some_is, chosen, named_takes}
 
 -- ---- numbers
@@ -110,6 +112,24 @@ mode_word = record {
     mode_again : (mode : Mode) → mode_of (mode_text mode) ≡ Some mode
     mode_again Shared = refl
     mode_again Exclusive = refl
+
+pub level_word : IsWord level_text level_of (λ watch. Unit {0})
+unfolding level_of
+level_word = record {
+  plain = λ watch fits. level_plain watch;
+  again = λ watch fits. level_again watch;
+  takes = λ word watch e. (named_takes level_text ((level_text On, On) ∷ (level_text Quiet, Quiet) ∷ (level_text Off, Off) ∷ []) (refl, (refl, (refl, tt))) word watch e, tt);
+}
+  where
+    level_plain : (watch : Watch) → Lacks 32 (level_text watch)
+    level_plain On = (refl, tt)
+    level_plain Quiet = (refl, tt)
+    level_plain Off = (refl, (refl, tt))
+
+    level_again : (watch : Watch) → level_of (level_text watch) ≡ Some watch
+    level_again On = refl
+    level_again Quiet = refl
+    level_again Off = refl
 
 -- ---- letters
 

@@ -5,13 +5,15 @@ use Rattle.std.specs.Char.{is_ascii_digit}
 use Rattle.std.specs.Str.{bytes_eq}
 use Rattle.std.specs.Str.Parse.{digits_value}
 use Rattle.wit_model.specs.declared.lines.Line.{Line}
-use Rattle.wit_model.specs.declared.lines.Line.TheVariants.{Header, Order, Bless, Init, Check, Lock, Unlock}
+use Rattle.wit_model.specs.declared.lines.Line.TheVariants.{Header, Order, Bless, Init, Check, Lock, Try, GiveUp, Unlock, Watch}
 use Rattle.wit_model.specs.declared.locks.Class.{Class}
 use Rattle.wit_model.specs.declared.locks.Class.TheVariants.{SleepMutex, SpinMutex, Rw, Sx}
 use Rattle.wit_model.specs.declared.locks.Mode.{Mode}
 use Rattle.wit_model.specs.declared.locks.Mode.TheVariants.{Shared, Exclusive}
+use Rattle.wit_model.specs.declared.locks.Watch as level
+use Rattle.wit_model.specs.declared.locks.Watch.TheVariants.{On, Quiet, Off}
 use Rattle.wit_model.specs.Rules.Names.{is_name, is_file_name}
-use Rattle.wit_model.specs.Trace.Spelling.{Spells, class_text, mode_text, lock_letters, op_letters}
+use Rattle.wit_model.specs.Trace.Spelling.{Spells, class_text, mode_text, level_text, lock_letters, op_letters}
 
 infixl 10 ◌>>=◌
 abbrev pub ◌>>=◌ : {A B : Type 0} → Option A → (A → Option B) → Option B
@@ -63,6 +65,9 @@ class_of = named ((class_text SleepMutex, SleepMutex) ∷ (class_text SpinMutex,
 
 unfoldable pub mode_of : List ℕ → Option Mode
 mode_of = named ((mode_text Shared, Shared) ∷ (mode_text Exclusive, Exclusive) ∷ [])
+
+unfoldable pub level_of : List ℕ → Option level.Watch
+level_of = named ((level_text On, On) ∷ (level_text Quiet, Quiet) ∷ (level_text Off, Off) ∷ [])
 
 -- the bits of letters that stand in order, none twice
 abbrev pub bits_of : List ℕ → List ℕ → Option ℕ
@@ -162,8 +167,17 @@ check_of bytes = whole (both seat_at (both lock_at (both (field_at mode_of) (bot
 unfoldable pub note_of : List ℕ → Option Line
 note_of bytes = whole (both seat_at lock_at) bytes >>= λ x. Some (Lock (record { 0 = x.0 }) (record { 0 = x.1 }))
 
+unfoldable pub try_of : List ℕ → Option Line
+try_of bytes = whole (both seat_at (both lock_at (both (field_at mode_of) (field_at site_of)))) bytes >>= λ x. Some (Try (record { 0 = x.0 }) (record { 0 = x.1.0 }) x.1.1.0 x.1.1.1.0 x.1.1.1.1)
+
+unfoldable pub give_up_of : List ℕ → Option Line
+give_up_of bytes = whole (both seat_at lock_at) bytes >>= λ x. Some (GiveUp (record { 0 = x.0 }) (record { 0 = x.1 }))
+
 unfoldable pub unlock_of : List ℕ → Option Line
 unlock_of bytes = whole (both seat_at (both lock_at (field_at mode_of))) bytes >>= λ x. Some (Unlock (record { 0 = x.0 }) (record { 0 = x.1.0 }) x.1.1)
+
+unfoldable pub watch_of : List ℕ → Option Line
+watch_of bytes = whole (both seat_at (field_at level_of)) bytes >>= λ x. Some (Watch (record { 0 = x.0 }) x.1)
 
 -- what the first entry with this word makes of the rest
 abbrev pub read_as : List (List ℕ × (List ℕ → Option Line)) → List ℕ → List ℕ → Option Line
@@ -172,7 +186,7 @@ read_as (kind ∷ kinds) word rest = if bytes_eq word kind.0 then kind.1 rest el
 
 -- each first word, and how the rest is read
 abbrev pub kinds : List (List ℕ × (List ℕ → Option Line))
-kinds = (codes "check", check_of) ∷ (codes "lock", note_of) ∷ (codes "unlock", unlock_of) ∷ (codes "init", init_of) ∷ (codes "order", order_of) ∷ (codes "bless", bless_of) ∷ (codes "witness-trace", header_of) ∷ []
+kinds = (codes "check", check_of) ∷ (codes "lock", note_of) ∷ (codes "unlock", unlock_of) ∷ (codes "try", try_of) ∷ (codes "giveup", give_up_of) ∷ (codes "watch", watch_of) ∷ (codes "init", init_of) ∷ (codes "order", order_of) ∷ (codes "bless", bless_of) ∷ (codes "witness-trace", header_of) ∷ []
 
 -- a line
 unfoldable pub line_of : List ℕ → Option Line

@@ -3,12 +3,14 @@ use Rattle.std.specs.Prelude.{◌≡◌, ℕ, ◌%◌, ◌/◌, ◌^◌, ◌<◌
 use Rattle.std.specs.Fmt.{decimal}
 use Rattle.std.specs.List.{list_all}
 use Rattle.wit_model.specs.declared.lines.Line.{Line}
-use Rattle.wit_model.specs.declared.lines.Line.TheVariants.{Header, Order, Bless, Init, Check, Lock, Unlock}
+use Rattle.wit_model.specs.declared.lines.Line.TheVariants.{Header, Order, Bless, Init, Check, Lock, Try, GiveUp, Unlock, Watch}
 use Rattle.wit_model.specs.declared.calls.NewLock.{NewLock}
 use Rattle.wit_model.specs.declared.locks.Class.{Class}
 use Rattle.wit_model.specs.declared.locks.Class.TheVariants.{SleepMutex, SpinMutex, Rw, Sx}
 use Rattle.wit_model.specs.declared.locks.Mode.{Mode}
 use Rattle.wit_model.specs.declared.locks.Mode.TheVariants.{Shared, Exclusive}
+use Rattle.wit_model.specs.declared.locks.Watch as level
+use Rattle.wit_model.specs.declared.locks.Watch.TheVariants.{On, Quiet, Off}
 use Rattle.wit_model.specs.Rules.Names.{is_name, is_file_name}
 
 -- a class
@@ -22,6 +24,12 @@ class_text Sx = codes "sx"
 abbrev pub mode_text : Mode → List ℕ
 mode_text Shared = codes "s"
 mode_text Exclusive = codes "x"
+
+-- how much the verifier does: the numbers of the sysctl debug.witness.watch of witness(4)
+abbrev pub level_text : level.Watch → List ℕ
+level_text On = codes "1"
+level_text Quiet = codes "0"
+level_text Off = codes "-1"
 
 -- the letters of the flags of a lock, and of a request, from the lowest bit on
 abbrev pub lock_letters : List ℕ
@@ -74,7 +82,10 @@ spelling (Bless first second) = codes "bless" ++ joined (quoted first ∷ quoted
 spelling (Init seat lock) = codes "init" ++ joined (decimal seat.0 ∷ lock_fields lock)
 spelling (Check seat lock mode ops file line) = codes "check" ++ joined (decimal seat.0 ∷ decimal lock.0 ∷ mode_text mode ∷ flags_text op_letters ops.0 ∷ site_text file line ∷ [])
 spelling (Lock seat lock) = codes "lock" ++ joined (decimal seat.0 ∷ decimal lock.0 ∷ [])
+spelling (Try seat lock mode file line) = codes "try" ++ joined (decimal seat.0 ∷ decimal lock.0 ∷ mode_text mode ∷ site_text file line ∷ [])
+spelling (GiveUp seat lock) = codes "giveup" ++ joined (decimal seat.0 ∷ decimal lock.0 ∷ [])
 spelling (Unlock seat lock mode) = codes "unlock" ++ joined (decimal seat.0 ∷ decimal lock.0 ∷ mode_text mode ∷ [])
+spelling (Watch seat watch) = codes "watch" ++ joined (decimal seat.0 ∷ level_text watch ∷ [])
 
 -- a lock that can be written: known flags, and true names
 abbrev pub IsSpellableLock : NewLock → Type 0
@@ -92,7 +103,10 @@ IsSpellable (Bless first second) = IsTrue (is_name first) × IsTrue (is_name sec
 IsSpellable (Init seat lock) = (seat.0 < 2 ^ 16) × IsSpellableLock lock
 IsSpellable (Check seat lock mode ops file line) = (seat.0 < 2 ^ 16) × (lock.0 < 2 ^ 32) × (ops.0 < 8) × IsTrue (is_file_name file) × (line < 2 ^ 32)
 IsSpellable (Lock seat lock) = (seat.0 < 2 ^ 16) × (lock.0 < 2 ^ 32)
+IsSpellable (Try seat lock mode file line) = (seat.0 < 2 ^ 16) × (lock.0 < 2 ^ 32) × IsTrue (is_file_name file) × (line < 2 ^ 32)
+IsSpellable (GiveUp seat lock) = (seat.0 < 2 ^ 16) × (lock.0 < 2 ^ 32)
 IsSpellable (Unlock seat lock mode) = (seat.0 < 2 ^ 16) × (lock.0 < 2 ^ 32)
+IsSpellable (Watch seat watch) = seat.0 < 2 ^ 16
 
 -- the bytes spell the line
 abbrev pub Spells : List ℕ → Line → Type 0

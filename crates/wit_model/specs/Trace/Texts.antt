@@ -1,5 +1,5 @@
 -- The texts of reports.
-use Rattle.std.specs.Prelude.{ℕ, List, [], ◌∷◌, ◌++◌, Option, None, Some, find, length, unwrap_or, codes}
+use Rattle.std.specs.Prelude.{ℕ, List, [], ◌∷◌, ◌++◌, Option, None, Some, length, unwrap_or, codes}
 use Rattle.std.specs.Fmt.{decimal}
 use Rattle.wit_model.specs.declared.locks.Class.{Class}
 use Rattle.wit_model.specs.declared.locks.Class.TheVariants.{SleepMutex, SpinMutex, Rw, Sx}
@@ -7,7 +7,6 @@ use Rattle.wit_model.specs.declared.locks.Lock.{Lock}
 use Rattle.wit_model.specs.declared.locks.Site.{Site}
 use Rattle.wit_model.specs.declared.locks.Origin.{Origin}
 use Rattle.wit_model.specs.declared.locks.Origin.TheVariants.{Listed, Defined, At}
-use Rattle.wit_model.specs.declared.calls.Adoption.{Adoption}
 use Rattle.wit_model.specs.declared.calls.Heading.{Heading}
 use Rattle.wit_model.specs.declared.calls.Heading.TheVariants.{Order, Sleepable, Giant}
 use Rattle.wit_model.specs.declared.calls.LockAt.{LockAt}
@@ -17,7 +16,7 @@ use Rattle.wit_model.specs.declared.calls.Reply.TheVariants.{Reversal}
 use Rattle.wit_model.specs.Rules.Numbers.{with_number}
 use Rattle.wit_model.specs.Rules.Types.{type_name_of, name_of}
 use Rattle.wit_model.specs.Rules.Locks.{lock_at}
-use Rattle.wit_model.specs.Rules.Orders.{is_adoption_of}
+use Rattle.wit_model.specs.Rules.Orders.{origin_of}
 use Rattle.wit_model.specs.Trace.Paths.{path}
 use Rattle.wit_model.specs.Trace.Spelling.{quoted}
 use Rattle.wit_model.specs.Rules.State.{Known}
@@ -61,20 +60,17 @@ conflict_lines locks files c (Some older) =
     lock_line locks files (codes "1st") older ++ (lock_line locks files (codes "2nd") c.held ++ lock_line locks files (codes "3rd") c.asked)
 
 -- where an order comes from
-abbrev pub origin_words : List (List ℕ) → Option Adoption → List ℕ
+abbrev pub origin_words : List (List ℕ) → Option Origin → List ℕ
 origin_words files None = []
-origin_words files (Some o) = by_origin files o.origin
-  where
-    by_origin : List (List ℕ) → Origin → List ℕ
-    by_origin files Listed = codes "listed"
-    by_origin files Defined = codes "defined"
-    by_origin files (At site) = site_words files site
+origin_words files (Some Listed) = codes "listed"
+origin_words files (Some Defined) = codes "defined"
+origin_words files (Some (At site)) = site_words files site
 
 -- a direct order, as a line: "TYPE" -> "TYPE" @ ORIGIN
 abbrev pub order_line : Known → List (List ℕ) → ℕ → ℕ → List ℕ
 order_line k files a b =
     line (codes " " ∷ quoted (name_of a k.types) ∷ codes " -> " ∷ quoted (name_of b k.types) ∷ codes " @ "
-    ∷ origin_words files (find (is_adoption_of a b) k.orders) ∷ [])
+    ∷ origin_words files (origin_of a b k.orders) ∷ [])
 
 -- the orders between neighbours of a path
 abbrev pub order_lines : Known → List (List ℕ) → List ℕ → List ℕ

@@ -59,7 +59,7 @@ fn make_call(verifier: &mut Verifier, line: Line) -> Result<Reply, LineError>
 {
     match line {
         Line::Header { .. } | Line::Order { .. } | Line::Bless { .. } => Err(LineError::SYNTAX),
-        Line::Init { seat, lock } => make_lock(verifier, seat, &lock),
+        Line::Init { seat, lock } => Ok(Reply::Made(verifier.make(seat, lock)?)),
         Line::Check {
             seat,
             lock,
@@ -111,22 +111,5 @@ pub fn call_on_lock(verifier: &mut Verifier, line: LockLine<'_>) -> Result<Reply
         }
         LockLine::Lock { seat, lock } => Ok(verifier.note(seat, lock)?),
         LockLine::Unlock { seat, lock, mode } => Ok(verifier.unlock(seat, lock, mode)?),
-    }
-}
-
-fn make_lock(verifier: &mut Verifier, seat: SeatNo, lock: &NewLock) -> Result<Reply, LineError>
-    ensures { Calls (makes verifier.old seat.0 (Init lock.now)) verifier.old verifier.new result }
-{
-    let type_name = given_type(lock);
-    let number = verifier.init(seat, lock.name.as_str(), type_name, lock.class, lock.flags)?;
-    Ok(Reply::Made(number))
-}
-
-fn given_type(lock: &NewLock) -> Option<&str>
-    ensures { option_copied result ≡ lock.now.type_name }
-{
-    match &lock.type_name {
-        Some(name) => Some(name.as_str()),
-        None => None,
     }
 }
