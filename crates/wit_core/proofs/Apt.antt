@@ -24,11 +24,11 @@ use Rattle.wit_core.specs.Kept.{IsKept, start_in, history_in, story_in}
 use Rattle.wit_core.proofs.Keeping.{types_few}
 
 module _ (v : Inside) (k : IsKept v) where
-  known-is : v.known.known ≡ known_of (start_in v) (history_in v)
+  pub known-is : v.known.known ≡ known_of (start_in v) (history_in v)
   known-is = ap (λ (s : State). s.known) k.state
 
   -- a known type's number is one of the matrix's
-  number : (t : ℕ) → IsNumber (length (types_of (start_in v) (history_in v))) t → IsNumber v.known.most_types t
+  pub number : (t : ℕ) → IsNumber (length (types_of (start_in v) (history_in v))) t → IsNumber v.known.most_types t
   number t is =
       let few = types_few v k in
       let same = ap (λ (x : Known). length x.types) known-is in
