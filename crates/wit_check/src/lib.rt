@@ -3,8 +3,12 @@
 
 mod again;
 mod answers;
+mod basis;
+mod duplicates;
+mod held;
+mod orders;
+mod reversals;
 mod rules;
 
 pub use answers::Verdict;
 pub use rules::verdict;
-
