@@ -1,85 +1,293 @@
--- Seats in a row, one of which is written.
-use Rattle.std.proofs.Common.{◌≡◌, ℕ, ◌+◌, ◌-◌, ◌<◌, true, false, List, [], ◌∷◌, Option, Some, None, length, map, set, get_or, is_some, refl, sym, ap, ap₂, ◌∙◌, subst, arith}
-use Rattle.std.specs.List.{All, AllByRecursion, range_with_len}
-use Rattle.std.proofs.lemmas.List.Elements.{recursion_from_All}
-use Rattle.std.proofs.lemmas.Bool.{true≢false}
-use Rattle.std.proofs.lemmas.List.{map-set, get_or-map, length-map, length-set, get_or-set_same}
-use Rattle.std.proofs.lemmas.Option.{slice_get-get_or}
-use Rattle.std.proofs.Math.Seq.{map-set_same}
-use Rattle.wit_model.specs.Rules.Numbers.{with_number, IsGiven}
-use Rattle.wit_model.specs.Rules.State.{no_seat, seat_among, seat_of, seats_of}
-use Rattle.wit_model.specs.Rules.State as model
-use Rattle.wit_model.proofs.Numbered.{with_number-or, with_number-at}
-use Rattle.wit_core.specs.declared.seats.Seat.{Seat}
-use Rattle.wit_core.specs.Seats.{Row, seat_view, is_spacious, HasSpace, HasRoom, changed}
-use Rattle.wit_core.specs.Seated.{row_in}
-use Rattle.wit_core.specs.declared.seats.Seats.TheInside.{Inside}
+-- Seats by their lists and requests, of which one is written.
+use Rattle.std.proofs.Common.{◌≡◌, ℕ, zero, suc, ◌+◌, ◌-◌, ◌*◌, ◌<◌, ◌≤◌, Bool, true, false, not, ◌&&◌, cond, eqb, List, [], ◌∷◌, Option, Some, None, length, map, set, get_or, drop, find, position, sum_by, is_some, unwrap_or, nat_lt, nat_le, replicate, refl, sym, ap, ap₂, ◌∙◌, subst, arith}
+use Rattle.std.specs.List.{range_with_len, slice_get}
+use Rattle.std.proofs.lemmas.Bool.{and_parts, lt-ltb, ltb-true, leb-true}
+use Rattle.std.proofs.lemmas.Option.{slice_get-get_or, slice_get_past}
+use Rattle.std.proofs.lemmas.List.{length-set, length-replicate, length-drop, get_or_default, get_or-set_same, get_or-set_other, get_or-replicate, get_or_past, nil_from_length}
+use Rattle.std.proofs.lemmas.List.FromFn.{length-map-range_with_len, get_or-map-range_with_len}
+use Rattle.std.proofs.lemmas.List.Sums.{sum_by-cons, sum_by-drop_more}
+use Rattle.wit_model.specs.declared.locks.Instance.{Instance}
 use Rattle.wit_model.specs.declared.calls.Request.{Request}
+use Rattle.wit_model.specs.Rules.Chunks.{Chunks, IsList, IsPlaced, IsNew, groups_of, chain_of, set_groups}
+use Rattle.wit_model.specs.Rules.Groups.{flat, opens}
+use Rattle.wit_model.specs.Rules.Numbers.{with_number, is_given, IsGiven}
+use Rattle.wit_model.specs.Rules.Verdict.{is_of}
+use Rattle.wit_model.proofs.Numbered.{with_number-or, with_number-none}
+use Rattle.wit_model.proofs.Chains.Stands.{found-at, found-nowhere}
+use Rattle.wit_held.specs.Chains.{recorded, forgotten, is_unrecorded, after_record, after_forget}
+use Rattle.wit_core.specs.Seats.{Seat, Row, no_seat, idle_row, seat_in, groups_in, locks_in, chunks_of, free_in, with_seat, asking, in_groups, acquired, released, has_no_room, after_acquired, list_of, HoldFor}
+use Rattle.wit_core.specs.Seated.{seat_by, seats_by, row_in, AreSeated}
+use Rattle.wit_core.specs.declared.seats.Seats.TheInside.{Inside}
 
--- the seat with a number is changed
-pub map-changed : (seats : List Seat) (t : ℕ) (old new : Seat) (change : model.Seat → model.Seat)
-    → t - 1 < length seats → old ≡ get_or seats (t - 1) old → seat_view new ≡ change (seat_view old)
-    → map seat_view (set seats (t - 1) new) ≡ changed t change (map seat_view seats)
-map-changed seats t old new change lt read e =
-    map-set seat_view seats (t - 1) new
-    ∙ ap (set (map seat_view seats) (t - 1)) (e ∙ (ap (λ s. change (seat_view s)) read ∙ ap change (sym (get_or-map seat_view seats (t - 1) old no_seat lt))))
+-- lists that differ at one place
+map-but : {X : Type 0} (f g : ℕ → X) (j : ℕ) → ((t : ℕ) → 0 < t → (j ≡ t → ⊥) → f t ≡ g t) → (a n : ℕ) → j < a → map f (range_with_len a n) ≡ map g (range_with_len a n)
+map-but f g j same a zero lt = refl
+map-but f g j same a (suc n) lt =
+    ap₂ (λ x xs. x ∷ xs) (same a (omega (arith, lt)) (λ (e : j ≡ a). let no : ⊥ = omega (arith, e, lt) in no)) (map-but f g j same (a + 1) n (omega (arith, lt)))
 
--- it stays as the rules see it
-pub map-same : (seats : List Seat) (place : ℕ) (old new : Seat) → old ≡ get_or seats place old → seat_view new ≡ seat_view old
-    → map seat_view (set seats place new) ≡ map seat_view seats
-map-same seats place old new read e = map-set_same seat_view seats place new old (e ∙ ap seat_view read)
+map-one : {X : Type 0} (f g : ℕ → X) (j : ℕ) → ((t : ℕ) → 0 < t → (j ≡ t → ⊥) → f t ≡ g t) → (a n i : ℕ) → 0 < a → a + i ≡ j → i < n
+    → map f (range_with_len a n) ≡ set (map g (range_with_len a n)) i (f j)
+map-one f g j same a zero i some at lt = absurd (omega (arith, lt))
+map-one f g j same a (suc n) zero some at lt =
+    let here : a ≡ j = omega (arith, at) in ap₂ (λ x xs. x ∷ xs) (ap f here) (map-but f g j same (a + 1) n (omega (arith, at)))
+map-one f g j same a (suc n) (suc i) some at lt =
+    ap₂ (λ x xs. x ∷ xs) (same a some (λ (e : j ≡ a). let no : ⊥ = omega (arith, e, at) in no))
+    (map-one f g j same (a + 1) n i (omega (arith, some)) (omega (arith, at)) (omega (arith, lt)))
 
--- the seat that is read is the one with the number
-pub read-among : (seats : List Seat) (t : ℕ) (old : Seat) → IsGiven (map seat_view seats) t → old ≡ get_or seats (t - 1) old
-    → seat_view old ≡ seat_among (map seat_view seats) t
-read-among seats t old given read =
-    ap seat_view read
-    ∙ sym (get_or-map seat_view seats (t - 1) old no_seat (omega (arith, given.0, given.1, length-map seats seat_view)))
-    ∙ sym (with_number-or (map seat_view seats) t no_seat given.0)
+map-alike : {X : Type 0} (f : ℕ → X) (x : X) → ((t : ℕ) → f t ≡ x) → (a n : ℕ) → map f (range_with_len a n) ≡ replicate n x
+map-alike f x alike a zero = refl
+map-alike f x alike a (suc n) = ap₂ (λ y ys. y ∷ ys) (alike a) (map-alike f x alike (a + 1) n)
 
-seats_alike : (seats : List Seat) (n : ℕ) → length seats ≡ n → AllByRecursion (λ s. seat_view s ≡ no_seat) seats → (a : ℕ)
-    → map seat_view seats ≡ map (seat_of []) (range_with_len a n)
-seats_alike [] n count all a = ap (λ m. map (seat_of []) (range_with_len a m)) count
-seats_alike (s ∷ seats) n count all a =
-    ap₂ (λ x xs. x ∷ xs) all.0 (seats_alike seats (length seats) refl all.1 (a + 1)) ∙ ap (λ m. map (seat_of []) (range_with_len a m)) count
+get_or-nils : {X : Type 0} (n i : ℕ) (x : X) → get_or (replicate n x) i x ≡ x
+get_or-nils zero i x = refl
+get_or-nils (suc n) zero x = refl
+get_or-nils (suc n) (suc i) x = get_or-nils n i x
 
--- seats that hold nothing are those of no history
-pub seats-free : (seats : List Seat) (n : ℕ) → length seats ≡ n → All (λ s. seat_view s ≡ no_seat) seats → map seat_view seats ≡ seats_of n []
-seats-free seats n count all = seats_alike seats n count (recursion_from_All (λ s. seat_view s ≡ no_seat) seats all) 1
+-- two seats have four lists
+lists-apart : (t u : ℕ) (a b : Bool) → 0 < t → 0 < u → (t ≡ u → ⊥) → list_of a u - 1 ≡ list_of b t - 1 → ⊥
+lists-apart t u true true some some' other e = other (omega (arith, e, some, some'))
+lists-apart t u true false some some' other e = other (omega (arith, e, some, some'))
+lists-apart t u false true some some' other e = other (omega (arith, e, some, some'))
+lists-apart t u false false some some' other e = other (omega (arith, e, some, some'))
 
--- there is room at a seat once some was made there
-pub space-to : (seats : List Seat) (t : ℕ) (new : Seat) → IsGiven (map seat_view seats) t → HasSpace new
-    → with_number (map is_spacious (set seats (t - 1) new)) t ≡ Some true
-space-to seats t new given space =
-    let lt : t - 1 < length seats = omega (arith, given.0, given.1, length-map seats seat_view) in
-    let len : t - 1 < length (set seats (t - 1) new) = omega (arith, lt, length-set seats (t - 1) new) in
-    let len' : t - 1 < length (map is_spacious (set seats (t - 1) new)) = omega (arith, len, length-map (set seats (t - 1) new) is_spacious) in
-    with_number-at (map is_spacious (set seats (t - 1) new)) t given.0
-    ∙ slice_get-get_or (map is_spacious (set seats (t - 1) new)) (t - 1) false len'
-    ∙ ap (λ b. Some b) (get_or-map is_spacious (set seats (t - 1) new) (t - 1) new false len
-    ∙ (ap is_spacious (get_or-set_same seats (t - 1) new new lt) ∙ space))
+kinds-apart : (t : ℕ) → 0 < t → list_of true t - 1 ≡ list_of false t - 1 → ⊥
+kinds-apart t some e = omega (arith, e, some)
 
--- the seat that a method writes, by what its caller sees
-module _ (o : Inside) (r : Row) (seen : row_in o ≡ r) (t : ℕ) (given : IsGiven r.seats t) (old : Seat) (read : old ≡ get_or o.row.items (t - 1) old) where
-  given-in : IsGiven (map seat_view o.row.items) t
-  given-in = subst (λ (x : Row). IsGiven x.seats t) (sym seen) given
+abbrev seat_with : List (List Instance) → List (List Instance) → Option Request → Seat
+seat_with sleep spin p = record { sleep = sleep; spin = spin; pending = p }
 
-  pub within-row : t - 1 < length o.row.items
-  within-row = let g = given-in in omega (arith, g.0, g.1, length-map o.row.items seat_view)
+module _ (c : Chunks) (ps : List (Option Request)) where
+  pub seats-count : length (seats_by c ps) ≡ length ps
+  seats-count = length-map-range_with_len (seat_by c ps) 1 (length ps)
 
-  pub view-now : seat_view old ≡ seat_among r.seats t
-  view-now = read-among o.row.items t old given-in read ∙ ap (λ (x : Row). seat_among x.seats t) seen
+  pub given-by : (t : ℕ) → IsGiven (seats_by c ps) t → IsGiven ps t
+  given-by t given = (given.0, omega (arith, given.1, seats-count))
 
-  pub changed-now : (new : Seat) (change : model.Seat → model.Seat) → seat_view new ≡ change (seat_view old)
-      → map seat_view (set o.row.items (t - 1) new) ≡ changed t change r.seats
-  changed-now new change e = map-changed o.row.items t old new change within-row read e ∙ ap (λ (x : Row). changed t change x.seats) seen
+  pub seat-is : (t : ℕ) → IsGiven (seats_by c ps) t → (d : Seat) → get_or (seats_by c ps) (t - 1) d ≡ seat_by c ps t
+  seat-is t given d =
+      let g = given-by t given in
+      get_or-map-range_with_len (seat_by c ps) 1 (length ps) (t - 1) t d (omega (arith, g.0, g.1)) (omega (arith, g.0))
 
-  pub same-now : (new : Seat) → seat_view new ≡ seat_view old → map seat_view (set o.row.items (t - 1) new) ≡ r.seats
-  same-now new e = map-same o.row.items (t - 1) old new read e ∙ ap (λ (x : Row). x.seats) seen
+  pub groups-is : (spin : Bool) (t : ℕ) → groups_in spin (seat_by c ps t) ≡ groups_of c (list_of spin t)
+  groups-is true t = refl
+  groups-is false t = refl
 
-  pub space-made : (new : Seat) → HasSpace new → with_number (map is_spacious (set o.row.items (t - 1) new)) t ≡ Some true
-  space-made new space = space-to o.row.items t new given-in space
+  -- other seats than this one are the same
+  seats-one : (c' : Chunks) (ps' : List (Option Request)) (t : ℕ) → IsGiven ps t → length ps' ≡ length ps
+      → ((u : ℕ) → 0 < u → (t ≡ u → ⊥) → seat_by c' ps' u ≡ seat_by c ps u) → seats_by c' ps' ≡ set (seats_by c ps) (t - 1) (seat_by c' ps' t)
+  seats-one c' ps' t given len same =
+      ap (λ n. map (seat_by c' ps') (range_with_len 1 n)) len
+      ∙ map-one (seat_by c' ps') (seat_by c ps) t same 1 (length ps) (t - 1) (omega arith) (omega (arith, given.0)) (omega (arith, given.0, given.1))
 
-  -- a seat that asks for nothing needs no room
-  pub idle-now : (new : Seat) → (seat_among r.seats t).pending ≡ None → new.pending ≡ old.pending → HasRoom new
-  idle-now new idle same = λ some. absurd (true≢false (sym some ∙ ap (λ (p : Option Request). is_some p) (same ∙ (ap (λ (x : model.Seat). x.pending) view-now ∙ idle))))
+  -- a request is written
+  pub request-set : (t : ℕ) (p : Option Request) → IsGiven (seats_by c ps) t
+      → seats_by c (set ps (t - 1) p) ≡ set (seats_by c ps) (t - 1) (asking p (get_or (seats_by c ps) (t - 1) no_seat))
+  request-set t p given =
+      let g = given-by t given in
+      seats-one c (set ps (t - 1) p) t g (length-set ps (t - 1) p)
+      (λ u some other. ap (seat_with (groups_of c (list_of false u)) (groups_of c (list_of true u)))
+      (get_or-set_other ps (t - 1) (u - 1) p None (λ (e : u - 1 ≡ t - 1). other (omega (arith, e, some, g.0)))))
+      ∙ ap (set (seats_by c ps) (t - 1))
+      (ap (seat_with (groups_of c (list_of false t)) (groups_of c (list_of true t))) (get_or-set_same ps (t - 1) p None (omega (arith, g.0, g.1)))
+      ∙ ap (asking p) (sym (seat-is t given no_seat)))
+
+  module _ (pair : length c.groups ≡ 2 * length ps) where
+    pub list-given : (t : ℕ) (spin : Bool) → IsGiven (seats_by c ps) t → IsList c (list_of spin t)
+    list-given t true given = let g = given-by t given in (omega (arith, g.0), omega (arith, g.1, pair))
+    list-given t false given = let g = given-by t given in (omega (arith, g.0), omega (arith, g.1, pair))
+
+    -- a list is written
+    module _ (t : ℕ) (given : IsGiven (seats_by c ps) t) (c' : Chunks) (gs : List (List Instance)) where
+      written-other : (spin : Bool) (u : ℕ) (kind : Bool) → (list_of kind u - 1 ≡ list_of spin t - 1 → ⊥) → c'.groups ≡ set_groups c (list_of spin t) gs
+          → groups_of c' (list_of kind u) ≡ groups_of c (list_of kind u)
+      written-other spin u kind apart is =
+          ap (λ gss. get_or gss (list_of kind u - 1) []) is ∙ get_or-set_other c.groups (list_of spin t - 1) (list_of kind u - 1) gs [] apart
+
+      written-here : (spin : Bool) → c'.groups ≡ set_groups c (list_of spin t) gs → groups_of c' (list_of spin t) ≡ gs
+      written-here spin is =
+          let l = list-given t spin given in
+          ap (λ gss. get_or gss (list_of spin t - 1) []) is ∙ get_or-set_same c.groups (list_of spin t - 1) gs [] (omega (arith, l.0, l.1))
+
+      seat-written : (spin : Bool) → c'.groups ≡ set_groups c (list_of spin t) gs → seat_by c' ps t ≡ in_groups spin (λ old. gs) (seat_by c ps t)
+      seat-written true is =
+          ap₂ (λ a b. seat_with a b (get_or ps (t - 1) None)) (written-other true t false (λ e. kinds-apart t given.0 (sym e)) is) (written-here true is)
+      seat-written false is =
+          ap₂ (λ a b. seat_with a b (get_or ps (t - 1) None)) (written-here false is) (written-other false t true (kinds-apart t given.0) is)
+
+      pub list-set : (spin : Bool) → c'.groups ≡ set_groups c (list_of spin t) gs
+          → seats_by c' ps ≡ set (seats_by c ps) (t - 1) (in_groups spin (λ old. gs) (seat_by c ps t))
+      list-set spin is =
+          seats-one c' ps t (given-by t given) refl
+          (λ u some other. ap₂ (λ a b. seat_with a b (get_or ps (u - 1) None))
+          (written-other spin u false (lists-apart t u false spin given.0 some other) is)
+          (written-other spin u true (lists-apart t u true spin given.0 some other) is))
+          ∙ ap (set (seats_by c ps) (t - 1)) (seat-written spin is)
+
+    -- the groups of all lists are those of all seats
+    halves : (k n : ℕ) → length c.groups ≡ 2 * (k + n)
+        → sum_by length (drop (2 * k) c.groups) ≡ sum_by chunks_of (map (seat_by c ps) (range_with_len (k + 1) n))
+    halves k zero len = ap (sum_by length) (nil_from_length (drop (2 * k) c.groups) (omega (arith, length-drop (2 * k) c.groups, len)))
+    halves k (suc n) len =
+        let one = sum_by-drop_more length c.groups (2 * k) [] (omega (arith, len)) in
+        let two = sum_by-drop_more length c.groups (2 * k + 1) [] (omega (arith, len)) in
+        let rest = halves (k + 1) n (omega (arith, len)) in
+        let next : 2 * k + 1 + 1 ≡ 2 * (k + 1) = omega arith in
+        let left = ap (λ m. sum_by length (drop m c.groups)) next in
+        let here = sum_by-cons chunks_of (seat_by c ps (k + 1)) (map (seat_by c ps) (range_with_len (k + 1 + 1) n)) in
+        let low : list_of false (k + 1) - 1 ≡ 2 * k = omega arith in
+        let high : list_of true (k + 1) - 1 ≡ 2 * k + 1 = omega arith in
+        let low_is = ap (λ m. length (get_or c.groups m [])) low in
+        let high_is = ap (λ m. length (get_or c.groups m [])) high in
+        omega (arith, one, two, rest, left, here, low_is, high_is)
+
+    pub free-by : IsPlaced c → length c.unused ≡ c.size - sum_by chunks_of (seats_by c ps)
+    free-by placed =
+        let sum = halves 0 (length ps) (omega (arith, pair)) in
+        let all = placed.all in
+        omega (arith, sum, all)
+
+-- what a method reads, by what its caller sees
+module _ (o : Inside) (r : Row) (seen : row_in o ≡ r) where
+  count-now : length r.seats ≡ length o.requests.items
+  count-now = sym (ap (λ (x : Row). length x.seats) seen) ∙ seats-count o.lists o.requests.items
+
+  pub is_seat-now : (t n : ℕ) → n ≡ length o.requests.items → 0 < t → nat_le t n ≡ is_given r.seats t
+  is_seat-now t n len some = sym (ap (λ m. nat_lt 0 t && nat_le t m) (count-now ∙ sym len) ∙ ap (λ b. b && nat_le t n) (lt-ltb 0 t some))
+
+  pub given-tested : (t : ℕ) → is_given r.seats t ≡ true → IsGiven r.seats t
+  given-tested t is =
+      let parts = and_parts (nat_lt 0 t) (nat_le t (length r.seats)) is in
+      let some = ltb-true 0 t parts.0 in
+      let within = leb-true t (length r.seats) parts.1 in
+      (omega (arith, some), omega (arith, within))
+
+  pub no_request-now : (t : ℕ) → is_given r.seats t ≡ false → None ≡ (seat_in r t).pending
+  no_request-now t none = sym (ap (λ (s : Option Seat). (unwrap_or s no_seat).pending) (with_number-none r.seats t none))
+
+  module _ (k : AreSeated o) (t : ℕ) (given : IsGiven r.seats t) where
+    given-in : IsGiven (seats_by o.lists o.requests.items) t
+    given-in = subst (λ (x : Row). IsGiven x.seats t) (sym seen) given
+
+    pub within-row : t - 1 < length o.requests.items
+    within-row = let g = given-in in omega (arith, g.0, g.1, seats-count o.lists o.requests.items)
+
+    pub number-now : (0 < t) × (t ≤ 256)
+    number-now = let g = given-in in (g.0, omega (arith, g.1, seats-count o.lists o.requests.items, k.few))
+
+    pub seat-now : seat_in r t ≡ seat_by o.lists o.requests.items t
+    seat-now =
+        ap (λ (x : Row). seat_in x t) (sym seen) ∙ with_number-or (seats_by o.lists o.requests.items) t no_seat given.0
+        ∙ seat-is o.lists o.requests.items t given-in no_seat
+
+    pub request-now : (p : Option Request) → p ≡ get_or o.requests.items (t - 1) p → p ≡ (seat_in r t).pending
+    request-now p is =
+        is ∙ get_or_default o.requests.items (t - 1) p None within-row ∙ sym (ap (λ (s : Seat). s.pending) seat-now)
+
+    module _ (list : ℕ) (spin : Bool) (is : list ≡ list_of spin t) where
+      pub list-now : IsList o.lists list
+      list-now = subst (IsList o.lists) (sym is) (list-given o.lists o.requests.items k.lists t spin given-in)
+
+      groups-now : groups_of o.lists list ≡ groups_in spin (seat_in r t)
+      groups-now = ap (groups_of o.lists) is ∙ sym (groups-is o.lists o.requests.items spin t) ∙ ap (groups_in spin) (sym seat-now)
+
+      pub chain-now : chain_of o.lists list ≡ locks_in spin (seat_in r t)
+      chain-now = ap flat groups-now
+
+      pub found-now : (l i : ℕ) (d : Instance) → Some i ≡ position (is_of l) (chain_of o.lists list) → d ≡ get_or (chain_of o.lists list) i d
+          → Some d ≡ find (is_of l) (locks_in spin (seat_in r t))
+      found-now l i d at held = ap Some held ∙ sym (found-at l (chain_of o.lists list) i d (sym at)) ∙ ap (find (is_of l)) chain-now
+
+      pub nowhere-now : (l : ℕ) → None ≡ position (is_of l) (chain_of o.lists list) → None ≡ find (is_of l) (locks_in spin (seat_in r t))
+      nowhere-now l at = sym (found-nowhere l (chain_of o.lists list) (sym at)) ∙ ap (find (is_of l)) chain-now
+
+      pub item-now : (i : ℕ) (d : Instance) → i < length (chain_of o.lists list) → d ≡ get_or (chain_of o.lists list) i d
+          → Some d ≡ slice_get (locks_in spin (seat_in r t)) i
+      item-now i d lt held =
+          ap Some held ∙ sym (slice_get-get_or (chain_of o.lists list) i d lt) ∙ ap (λ c. slice_get c i) chain-now
+
+      pub beyond-now : (i : ℕ) → length (chain_of o.lists list) ≤ i → None ≡ slice_get (locks_in spin (seat_in r t)) i
+      beyond-now i past = sym (slice_get_past (chain_of o.lists list) i past) ∙ ap (λ c. slice_get c i) chain-now
+
+  pub free-now : AreSeated o → length o.lists.unused ≡ free_in r
+  free-now k = free-by o.lists o.requests.items k.lists k.placed ∙ ap free_in seen
+
+  pub holds-now : AreSeated o → HoldFor r o.lists
+  holds-now k = record {
+    groups = λ t spin given. groups-now k t given (list_of spin t) spin refl;
+    lists = k.lists ∙ ap (λ n. 2 * n) (sym count-now);
+    size = ap (λ (x : Row). x.chunks) seen;
+    placed = k.placed;
+  }
+
+abbrev pub row : List Seat → ℕ → Row
+row seats chunks = record { seats = seats; chunks = chunks }
+
+-- what a method leaves, by what its caller sees
+module _ (o : Inside) (r : Row) (seen : row_in o ≡ r) (k : AreSeated o) (t : ℕ) (given : IsGiven r.seats t) where
+  pub asked-now : (p : Option Request) → row (seats_by o.lists (set o.requests.items (t - 1) p)) o.lists.size ≡ with_seat t (asking p) r
+  asked-now p =
+      ap (λ ss. row ss o.lists.size) (request-set o.lists o.requests.items t p (given-in o r seen k t given)) ∙ ap (with_seat t (asking p)) seen
+
+  module _ (list : ℕ) (spin : Bool) (is : list ≡ list_of spin t) (c : Chunks) (size : c.size ≡ o.lists.size) where
+    written-now : (change : List (List Instance) → List (List Instance)) → c.groups ≡ set_groups o.lists list (change (groups_of o.lists list))
+        → row (seats_by c o.requests.items) c.size ≡ with_seat t (in_groups spin change) r
+    written-now change groups =
+        let at : c.groups ≡ set_groups o.lists (list_of spin t) (change (groups_of o.lists (list_of spin t))) =
+        groups ∙ ap (λ n. set_groups o.lists n (change (groups_of o.lists n))) is in
+        ap₂ row
+        (list-set o.lists o.requests.items k.lists t (given-in o r seen k t given) c (change (groups_of o.lists (list_of spin t))) spin at
+        ∙ ap (set (seats_by o.lists o.requests.items) (t - 1))
+        (same spin ∙ ap (in_groups spin change) (sym (seat-is o.lists o.requests.items t (given-in o r seen k t given) no_seat))))
+        size
+        ∙ ap (with_seat t (in_groups spin change)) seen
+      where
+        same : (b : Bool) → in_groups b (λ old. change (groups_of o.lists (list_of b t))) (seat_by o.lists o.requests.items t) ≡ in_groups b change (seat_by o.lists o.requests.items t)
+        same true = refl
+        same false = refl
+
+    -- a release
+    pub forgotten-now : (l : ℕ) → c.groups ≡ after_forget o.lists list l → row (seats_by c o.requests.items) c.size ≡ with_seat t (released spin l) r
+    forgotten-now l groups = written-now (forgotten l) groups
+
+    -- an acquisition
+    pub room-now : (l : ℕ) → is_unrecorded o.lists list l ≡ has_no_room r t spin l
+    room-now l =
+        ap₂ (λ gs n. not (is_some (find (is_of l) (flat gs))) && (opens gs && eqb n 0))
+        (groups-now o r seen k t given list spin is) (free-now o r seen k)
+
+    unrecorded-now : c.groups ≡ o.lists.groups → row (seats_by c o.requests.items) c.size ≡ r
+    unrecorded-now groups = ap₂ (λ gss n. row (seats_by (record o.lists { groups = gss }) o.requests.items) n) groups size ∙ seen
+
+    pub recorded-now : (i : Instance) → c.groups ≡ after_record o.lists list i → row (seats_by c o.requests.items) c.size ≡ after_acquired t spin i r
+    recorded-now i groups = go (is_unrecorded o.lists list i.lock.0) refl
+      where
+        go : (b : Bool) → is_unrecorded o.lists list i.lock.0 ≡ b → row (seats_by c o.requests.items) c.size ≡ after_acquired t spin i r
+        go true full =
+            unrecorded-now (groups ∙ ap (λ b. cond b o.lists.groups (set_groups o.lists list (recorded i (groups_of o.lists list)))) full)
+            ∙ sym (ap (λ b. cond b r (with_seat t (acquired spin i) r)) (sym (room-now i.lock.0) ∙ full))
+        go false room =
+            written-now (recorded i) (groups ∙ ap (λ b. cond b o.lists.groups (set_groups o.lists list (recorded i (groups_of o.lists list)))) room)
+            ∙ sym (ap (λ b. cond b r (with_seat t (acquired spin i) r)) (sym (room-now i.lock.0) ∙ room))
+
+-- new seats
+module _ (seats chunks lists : ℕ) (count : lists ≡ 2 * seats) (c : Chunks) (ps : List (Option Request)) (new : IsNew chunks lists c) (none : ps ≡ replicate seats None) where
+  ps-length : length ps ≡ seats
+  ps-length = ap length none ∙ length-replicate seats None
+
+  no_groups : (list : ℕ) → groups_of c list ≡ []
+  no_groups list = ap (λ gss. get_or gss (list - 1) []) new.groups ∙ get_or-nils lists (list - 1) []
+
+  seat-idle : (t : ℕ) → seat_by c ps t ≡ no_seat
+  seat-idle t =
+      ap₂ (λ a b. seat_with a b (get_or ps (t - 1) None)) (no_groups (list_of false t)) (no_groups (list_of true t))
+      ∙ ap (seat_with [] []) (ap (λ qs. get_or qs (t - 1) None) none ∙ get_or-nils seats (t - 1) None)
+
+  pub row-idle : row (seats_by c ps) c.size ≡ idle_row seats chunks
+  row-idle =
+      ap₂ row (ap (λ n. map (seat_by c ps) (range_with_len 1 n)) ps-length ∙ map-alike (seat_by c ps) no_seat seat-idle 1 seats) new.size
+
+  pub idle-lists : length c.groups ≡ 2 * length ps
+  idle-lists = ap length new.groups ∙ length-replicate lists [] ∙ count ∙ ap (λ n. 2 * n) (sym ps-length)
+
+  pub idle-few : seats ≤ 256 → length ps ≤ 256
+  idle-few few = omega (arith, few, ps-length)

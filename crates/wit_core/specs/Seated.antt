@@ -1,12 +1,27 @@
--- What the seats keep.
-use Rattle.std.specs.Prelude.{map}
-use Rattle.std.specs.List.{All}
-use Rattle.wit_core.specs.Seats.{Row, seat_view, is_spacious, HasRoom}
+-- Seats as their callers see them, and what they keep.
+use Rattle.std.specs.Prelude.{ℕ, true, false, ◌*◌, ◌≡◌, ◌≤◌, List, Option, None, length, map, get_or, ◌-◌}
+use Rattle.std.specs.List.{range_with_len}
+use Rattle.wit_model.specs.declared.calls.Request.{Request}
+use Rattle.wit_model.specs.Rules.Chunks.{Chunks, IsPlaced, groups_of}
+use Rattle.wit_core.specs.Seats.{Seat, Row, list_of}
 use Rattle.wit_core.specs.declared.seats.Seats.TheInside.{Inside}
 
-abbrev pub row_in : Inside → Row
-row_in s = record { seats = map seat_view s.row.items; spaces = map is_spacious s.row.items }
+-- a seat by its lists and its request
+abbrev pub seat_by : Chunks → List (Option Request) → ℕ → Seat
+seat_by c requests t = record {
+  sleep = groups_of c (list_of false t);
+  spin = groups_of c (list_of true t);
+  pending = get_or requests (t - 1) None;
+}
 
--- while a request is pending, there is room for its note
-abbrev pub AllHaveRoom : Inside → Type 0
-AllHaveRoom s = All HasRoom s.row.items
+abbrev pub seats_by : Chunks → List (Option Request) → List Seat
+seats_by c requests = map (seat_by c requests) (range_with_len 1 (length requests))
+
+abbrev pub row_in : Inside → Row
+row_in s = record { seats = seats_by s.lists s.requests.items; chunks = s.lists.size }
+
+-- each seat has its two lists, and each chunk stands once
+pub record AreSeated (s : Inside) : Type 0 where
+  pub few : length s.requests.items ≤ 256
+  pub lists : length s.lists.groups ≡ 2 * length s.requests.items
+  pub placed : IsPlaced s.lists

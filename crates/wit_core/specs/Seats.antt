@@ -1,105 +1,87 @@
--- The seats of the program as the rules see them, and what a request, an acquisition and a release leave of one.
-use Rattle.std.specs.Prelude.{ℕ, ◌+◌, ◌-◌, ◌<◌, ◌≡◌, Bool, true, false, List, [], ◌∷◌, ◌++◌, Option, None, Some, is_some, vec_len, nat_lt, ◌&&◌, length, get_or, set, if◌then◌else◌}
-use Rattle.std.specs.List.{position, remove}
-use Rattle.wit_model.specs.declared.locks.Mode.TheVariants.{Exclusive}
-use Rattle.wit_model.specs.Rules.History.{no_site}
-use Rattle.std.specs.Vec.{vec_capacity}
-use Rattle.wit_model.specs.declared.locks.LockNo.{LockNo}
-use Rattle.wit_model.specs.declared.locks.Site.{Site}
-use Rattle.wit_model.specs.Rules.Numbers.{with_number}
-use Rattle.wit_model.specs.Rules.Verdict.{is_of}
+-- The seats with the groups of locks that they hold, and what a request, an acquisition and a release leave of one.
+use Rattle.std.specs.Prelude.{ℕ, ◌+◌, ◌-◌, ◌*◌, ◌≡◌, ◌==◌, ◌&&◌, Bool, not, List, [], Option, None, is_some, length, find, replicate, unwrap_or, get_or, set, sum_by, if◌then◌else◌}
 use Rattle.wit_model.specs.declared.locks.Instance.{Instance}
 use Rattle.wit_model.specs.declared.calls.Request.{Request}
-use Rattle.wit_model.specs.Rules.State as model
-use Rattle.wit_core.specs.declared.seats.Seat.{Seat}
+use Rattle.wit_model.specs.Rules.Chunks.{Chunks, IsPlaced, groups_of}
+use Rattle.wit_model.specs.Rules.Groups.{flat, opens}
+use Rattle.wit_model.specs.Rules.Numbers.{with_number, IsGiven}
+use Rattle.wit_model.specs.Rules.Verdict.{is_of}
+use Rattle.wit_held.specs.Chains.{recorded, forgotten}
 
--- the seats, and for each of them whether there is room for one more lock of either kind
+-- the groups in which a seat holds locks of each kind, oldest first, and what it has asked for
+pub record Seat : Type 0 where
+  pub sleep : List (List Instance)
+  pub spin : List (List Instance)
+  pub pending : Option Request
+
+abbrev pub no_seat : Seat
+no_seat = record { sleep = []; spin = []; pending = None }
+
+-- the seats by number from 1, and how many chunks there are for what they hold
 pub record Row : Type 0 where
-  pub seats : List model.Seat
-  pub spaces : List Bool
+  pub seats : List Seat
+  pub chunks : ℕ
 
--- there is room for one more lock of the seat with this number
-abbrev pub HasSpaceFor : Row → ℕ → Type 0
-HasSpaceFor row t = with_number row.spaces t ≡ Some true
+-- so many seats that hold nothing and ask for nothing
+abbrev pub idle_row : ℕ → ℕ → Row
+idle_row seats chunks = record { seats = replicate seats no_seat; chunks = chunks }
 
-abbrev pub seat_view : Seat → model.Seat
-seat_view s = record { sleep = s.sleep.items; spin = s.spin.items; pending = s.pending }
+-- the seat with this number
+abbrev pub seat_in : Row → ℕ → Seat
+seat_in row t = unwrap_or (with_number row.seats t) no_seat
 
--- whether both chains have room for one more
-abbrev pub is_spacious : Seat → Bool
-is_spacious s = nat_lt (vec_len s.sleep) (vec_capacity s.sleep) && nat_lt (vec_len s.spin) (vec_capacity s.spin)
+abbrev pub groups_in : Bool → Seat → List (List Instance)
+groups_in spin s = if spin then s.spin else s.sleep
 
-abbrev pub HasSpace : Seat → Type 0
-HasSpace s = is_spacious s ≡ true
+-- what a seat holds of one kind, oldest first
+abbrev pub locks_in : Bool → Seat → List Instance
+locks_in spin s = flat (groups_in spin s)
 
--- while a request is pending, there is room for its note
-abbrev pub HasRoom : Seat → Type 0
-HasRoom s = is_some s.pending ≡ true → HasSpace s
+-- the chunks of a seat: one for each group
+abbrev pub chunks_of : Seat → ℕ
+chunks_of s = length s.sleep + length s.spin
 
--- stands for no held lock
-abbrev pub no_instance : Instance
-no_instance = record { lock = record { 0 = 0 }; mode = Exclusive; norelease = false; count = 0; site = no_site }
+-- the chunks that no seat has
+abbrev pub free_in : Row → ℕ
+free_in row = row.chunks - sum_by chunks_of row.seats
 
--- acquired once more, at this site
-abbrev pub recursed : Site → Instance → Instance
-recursed site i = record i { count = i.count + 1; site = site }
+-- the row where the seat with this number is changed so
+abbrev pub with_seat : ℕ → (Seat → Seat) → Row → Row
+with_seat t change row = record row { seats = set row.seats (t - 1) (change (get_or row.seats (t - 1) no_seat)) }
 
--- released once
-abbrev pub fewer : Instance → Instance
-fewer i = record i { count = i.count - 1 }
+-- a seat that asks for this, or for nothing
+abbrev pub asking : Option Request → Seat → Seat
+asking request s = record s { pending = request }
 
--- the lock stands at one place at most
-abbrev pub IsOnce : ℕ → List Instance → Type 0
-IsOnce l chain = (i j : ℕ) (d : Instance) → i < length chain → j < length chain
-    → is_of l (get_or chain i d) ≡ true → is_of l (get_or chain j d) ≡ true → i ≡ j
-
--- the count of the lock at this place can rise
-abbrev pub CanRise : List Instance → Option ℕ → Type 0
-CanRise chain None = Unit {0}
-CanRise chain (Some p) = (d : Instance) → (get_or chain p d).count < 65535
-
--- the lock's recursion count can rise
-abbrev pub IsShallow : ℕ → List Instance → Type 0
-IsShallow l chain = CanRise chain (position (is_of l) chain)
-
-abbrev pub acquired_at : Instance → List Instance → Option ℕ → List Instance
-acquired_at i chain None = chain ++ i ∷ []
-acquired_at i chain (Some p) = set chain p (recursed i.site (get_or chain p i))
-
--- a chain after an acquisition: the lock's count rises, or it goes to the end
-abbrev pub with_acquired : Instance → List Instance → List Instance
-with_acquired i chain = acquired_at i chain (position (is_of i.lock.0) chain)
-
-abbrev pub released_once : List Instance → ℕ → Instance → List Instance
-released_once chain p i = if nat_lt 0 i.count then set chain p (fewer i) else remove chain p
-
--- a chain after a release of the lock at this place: its count falls, or it goes out where it has none
-abbrev pub with_released : ℕ → List Instance → List Instance
-with_released p chain = released_once chain p (get_or chain p no_instance)
-
--- a seat where the chain of one kind is changed so
-abbrev pub in_chain : Bool → (List Instance → List Instance) → model.Seat → model.Seat
-in_chain spin change s = record s {
+abbrev pub in_groups : Bool → (List (List Instance) → List (List Instance)) → Seat → Seat
+in_groups spin change s = record s {
   sleep = if spin then s.sleep else change s.sleep;
   spin = if spin then change s.spin else s.spin;
 }
 
--- a seat after the acquisition that it asked for
-abbrev pub noted_in : Bool → Instance → model.Seat → model.Seat
-noted_in spin i s = record (in_chain spin (with_acquired i) s) { pending = None }
+-- a seat after it acquired a lock of this kind, and after it released one
+abbrev pub acquired : Bool → Instance → Seat → Seat
+acquired spin i s = in_groups spin (recorded i) s
 
--- a seat after a release of the lock of this kind at this place
-abbrev pub unlocked_in : Bool → ℕ → model.Seat → model.Seat
-unlocked_in spin p s = in_chain spin (with_released p) s
+abbrev pub released : Bool → ℕ → Seat → Seat
+released spin l s = in_groups spin (forgotten l) s
 
--- a seat once it has asked for a lock
-abbrev pub asked_in : Request → model.Seat → model.Seat
-asked_in q s = record s { pending = Some q }
+-- whether an acquisition finds no room: the seat doesn't hold the lock, it would open a group, and no chunk is free
+abbrev pub has_no_room : Row → ℕ → Bool → ℕ → Bool
+has_no_room row t spin l =
+    not (is_some (find (is_of l) (locks_in spin (seat_in row t)))) && (opens (groups_in spin (seat_in row t)) && (free_in row == 0))
 
--- the seats where the one with this number is changed so
-abbrev pub changed : ℕ → (model.Seat → model.Seat) → List model.Seat → List model.Seat
-changed t change seats = set seats (t - 1) (change (get_or seats (t - 1) model.no_seat))
+-- the row after an acquisition
+abbrev pub after_acquired : ℕ → Bool → Instance → Row → Row
+after_acquired t spin i row = if has_no_room row t spin i.lock.0 then row else with_seat t (acquired spin i) row
 
--- a new acquisition of a lock, as its request has it
-abbrev pub taken_by : LockNo → Request → Instance
-taken_by l q = record { lock = l; mode = q.mode; norelease = false; count = 0; site = q.site }
+-- the list of the locks of one kind that a seat holds: of the sleep kind, then of the spin kind
+abbrev pub list_of : Bool → ℕ → ℕ
+list_of spin t = if spin then 2 * t else 2 * t - 1
+
+-- the lists of these chunks hold what the seats hold, and each chunk stands once
+pub record HoldFor (row : Row) (c : Chunks) : Type 0 where
+  pub groups : (t : ℕ) (spin : Bool) → IsGiven row.seats t → groups_of c (list_of spin t) ≡ groups_in spin (seat_in row t)
+  pub lists : length c.groups ≡ 2 * length row.seats
+  pub size : c.size ≡ row.chunks
+  pub placed : IsPlaced c

@@ -2,6 +2,9 @@
 //! then come changes that can't fail, the log's entry last.
 
 mod check;
+mod give_up;
 mod init;
 mod note;
+mod note_try;
+mod set_watch;
 mod unlock;

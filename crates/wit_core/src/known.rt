@@ -139,7 +139,7 @@ impl Known {
         ensures memory { IfErr result (λ e. e ≡ OutOfMemory) }
     {
         self.locks.reserve(1)?;
-        let type_no = self.names.enroll(made.type_name(), made.class)?;
+        let type_no = self.names.enroll_name(made.type_name(), made.class)?;
         self.locks.push_reserved(Lock { type_no, made });
         Ok(())
     }

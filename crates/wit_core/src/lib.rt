@@ -1,6 +1,7 @@
 //! The verifier of lock orders, and its log.
 #![tactic(auto)]
 
+mod acquiring;
 mod calls;
 mod known;
 mod lists;

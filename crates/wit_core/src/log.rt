@@ -94,12 +94,16 @@ impl Log {
         self.entries.push_reserved(entry);
     }
 
-    /// Enters a call to which its entry was owed. It takes no memory.
-    pub fn push_owed(&mut self, entry: Entry)
-        requires { 0 < self.old.owed }
-        ensures { self.new ≡ record self.old { history = entry ∷ self.old.history; owed = self.old.owed - 1 } }
+    /// Enters a call to which its entry was owed, and after which so many more aren't owed any longer. It takes no memory.
+    pub fn push_owed(&mut self, entry: Entry, dropped: u32)
+        requires { dropped < self.old.owed }
+        ensures { self.new ≡ record self.old {
+          history = entry ∷ self.old.history;
+          owed = self.old.owed - (dropped + 1);
+          spare = self.old.spare + dropped;
+        } }
     {
-        self.owed -= 1;
+        self.owed -= dropped + 1;
         self.push(entry, 0);
     }
 }
@@ -107,5 +111,8 @@ impl Log {
 fn is_report(reply: &Reply) -> bool
     ensures { result ≡ is_report reply.now }
 {
-    matches!(reply, Reply::Reversal(_))
+    matches!(
+        reply,
+        Reply::Reversal(_) | Reply::Duplicate(_) | Reply::Exhausted
+    )
 }

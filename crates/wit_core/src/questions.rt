@@ -1,22 +1,20 @@
 //! What the answers ask of a verifier, in the words of the rules.
 
-ghost use Rattle.std.specs.Prelude.{◌≡◌, ◌<◌, ◌+◌, ◌&&◌, ◌==◌, ℕ, true, None, not, is_some, IfSome, length, nat_le, find, position};
-ghost use Rattle.std.specs.List.{list_any, last_or};
-ghost use Rattle.std.specs.Option.{option_map};
-ghost use Rattle.wit_model.specs.declared.locks.Instance.{Instance};
+ghost use Rattle.std.specs.Prelude.{◌≡◌, ◌<◌, ◌+◌, ◌&&◌, ◌==◌, true, Some, not, is_some, IfSome, IfOk, IfErr, OnOk, length, nat_le};
+ghost use Rattle.std.specs.List.{list_any};
 ghost use Rattle.wit_model.specs.Rules.Locks.{lock_at};
 ghost use Rattle.wit_model.specs.Rules.Numbers.{is_given, is_number};
 ghost use Rattle.wit_model.specs.Rules.State.{state_of, seat_at, is_seat, has_room};
-ghost use Rattle.wit_model.specs.Rules.Step.{chain_for, held_by, is_not_yet};
+ghost use Rattle.wit_model.specs.Rules.Step.{held_by, is_not_yet, is_too_deep};
 ghost use Rattle.wit_model.specs.Rules.Types.{is_otherwise, is_enrolled, type_number};
-ghost use Rattle.wit_model.specs.Rules.Verdict.{is_of, verdict};
-ghost use Rattle.wit_core.specs.Verdict.{replied, shallow};
+ghost use Rattle.wit_core.specs.Replies.{before_acquiring, before_answering, Admits, Refuses};
 
 use crate::known::class_of;
 use crate::names::{is_enrolled, type_number};
-use crate::verdict::{Verdict, newest};
 use crate::verifier::Verifier;
-use wit_model::{Class, Fault, FileNo, Instance, Lock, LockNo, Request, SeatNo, TypeNo};
+use wit_model::{
+    Class, Fault, FileNo, Instance, Lock, LockNo, Mode, Request, SeatNo, Site, TypeNo,
+};
 
 impl Verifier {
     pub(crate) fn is_seat(&self, seat: SeatNo) -> bool
@@ -26,7 +24,7 @@ impl Verifier {
     }
 
     // What a seat has asked for.
-    pub(crate) fn pending(&self, seat: SeatNo) -> Option<Request>
+    pub(crate) fn request(&self, seat: SeatNo) -> Option<Request>
         ensures { result ≡ (seat_at (state_of self.now) seat.0).pending }
     {
         self.seats.pending(seat)
@@ -52,31 +50,27 @@ impl Verifier {
         0 < file.0 && file.0 as usize <= self.known.names().files()
     }
 
-    // A lock as a seat holds it, with its place.
-    pub(crate) fn held(&self, seat: SeatNo, lock: LockNo) -> Option<(usize, Instance)>
+    // A lock as a seat holds it.
+    pub(crate) fn held(&self, seat: SeatNo, lock: LockNo) -> Option<Instance>
         requires { is_seat (state_of self.now) seat.0 ≡ true }
-        ensures place { option_map (λ (f : ℕ × Instance). f.0) result ≡ position (is_of lock.0) (chain_for (state_of self.now) seat.0 lock.0) }
-        ensures held { option_map (λ (f : ℕ × Instance). f.1) result ≡ held_by (state_of self.now) seat.0 lock.0 }
+        ensures { result ≡ held_by (state_of self.now) seat.0 lock.0 }
     {
         let spin = self.class_of_lock(lock).is_spin();
         self.seats.find(seat, spin, lock)
     }
 
-    pub(crate) fn verdict(&self, seat: SeatNo, request: Request) -> Result<Verdict, Fault>
-        ensures { replied result ≡ shallow (held_by (state_of self.now) seat.0 request.lock.0)
-            (verdict (state_of self.now).known (seat_at (state_of self.now) seat.0) request) }
+    // Whether one more acquisition of a lock would be recorded, and is one too many.
+    fn is_too_deep(&self, seat: SeatNo, lock: LockNo) -> bool
+        requires { is_seat (state_of self.now) seat.0 ≡ true }
+        ensures { result ≡ is_too_deep (state_of self.now) seat.0 lock.0 }
     {
-        let spin = self.class_of_lock(request.lock).is_spin();
-        let under_spin = !spin && self.holds_spin(seat);
-        self.known
-            .verdict(request, under_spin, self.seats.chain(seat, spin))
-    }
-
-    // Whether a seat holds a spin lock.
-    fn holds_spin(&self, seat: SeatNo) -> bool
-        ensures { result ≡ is_some (last_or None (seat_at (state_of self.now) seat.0).spin) }
-    {
-        newest(self.seats.chain(seat, true)).is_some()
+        if self.watch().is_off() {
+            return false;
+        }
+        match self.held(seat, lock) {
+            Some(held) => held.count == 65535,
+            None => false,
+        }
     }
 
     // Whether the log has room for this many entries beside those that are owed.
@@ -84,6 +78,60 @@ impl Verifier {
         ensures { result ≡ has_room (state_of self.now) more }
     {
         self.log.has_room(more)
+    }
+}
+
+// What stands before the answers of several calls.
+impl Verifier {
+    // The faults of a call that asks for a lock, or tries it.
+    pub(crate) fn admits(
+        &self,
+        seat: SeatNo,
+        lock: LockNo,
+        mode: Mode,
+        site: Site,
+    ) -> Result<(), Fault>
+        ensures ok { OnOk result (Admits (before_acquiring (state_of self.now) seat.0 lock.0 mode site)) }
+        ensures seat { OnOk result (is_seat (state_of self.now) seat.0 ≡ true) }
+        ensures err { IfErr result (Refuses (before_acquiring (state_of self.now) seat.0 lock.0 mode site)) }
+    {
+        if !self.is_seat(seat) {
+            return Err(Fault::UnknownSeat);
+        }
+        if !self.is_made(lock) {
+            return Err(Fault::UnknownLock);
+        }
+        if !self.is_file(site.file) {
+            return Err(Fault::UnknownFile);
+        }
+        if !mode.is_exclusive() && !self.class_of_lock(lock).is_shareable() {
+            return Err(Fault::ModeNotAllowed);
+        }
+        if self.request(seat).is_some() {
+            return Err(Fault::Pending);
+        }
+        if self.is_too_deep(seat, lock) {
+            return Err(Fault::RecursionTooDeep);
+        }
+        Ok(())
+    }
+
+    // The request for this lock that is answered.
+    pub(crate) fn asked(&self, seat: SeatNo, lock: LockNo) -> Result<Request, Fault>
+        ensures ok { OnOk result (Admits (before_answering (state_of self.now) seat.0 lock.0)) }
+        ensures request { IfOk result (λ q. (seat_at (state_of self.now) seat.0).pending ≡ Some q) }
+        ensures err { IfErr result (Refuses (before_answering (state_of self.now) seat.0 lock.0)) }
+    {
+        if !self.is_seat(seat) {
+            return Err(Fault::UnknownSeat);
+        }
+        if !self.is_made(lock) {
+            return Err(Fault::UnknownLock);
+        }
+        match self.request(seat) {
+            Some(request) if request.lock.0 == lock.0 => Ok(request),
+            _ => Err(Fault::NotRequested),
+        }
     }
 }
 

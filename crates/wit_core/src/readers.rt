@@ -1,19 +1,59 @@
 //! What a verifier tells of itself, apart from its log.
 
-ghost use Rattle.std.specs.Prelude.{◌≡◌, length, IfSome, IfOk, IfErr};
-ghost use Rattle.std.specs.Option.{option_copied};
+ghost use Rattle.std.specs.Prelude.{◌≡◌, length, slice_get, IfSome, IfOk, IfErr};
+ghost use Rattle.std.specs.Option.{option_copied, option_map};
+ghost use Rattle.wit_model.specs.declared.calls.Request.{Request};
 ghost use Rattle.wit_model.specs.declared.faults.Fault.TheVariants.{OutOfMemory};
 ghost use Rattle.wit_model.specs.Rules.Numbers.{with_number};
 ghost use Rattle.wit_model.specs.Rules.Orders.{Before, origin_of};
-ghost use Rattle.wit_model.specs.Rules.State.{known_of, orders_of, types_of, typed_locks};
+ghost use Rattle.wit_model.specs.Rules.State.{state_of, seat_at, chain_in, free, known_of, orders_of, types_of, typed_locks};
 ghost use Rattle.wit_model.specs.Trace.Paths.{path, path_numbers};
 ghost use Rattle.wit_matrix.specs.Relation.{LeadsBy};
+ghost use Rattle.wit_core.specs.Held.{HoldAll};
 ghost use Rattle.wit_core.specs.Numbered.{lock_name, lock_type, type_name, type_class, relation};
 
 use crate::known::lock_with;
 use crate::names::is_type;
+use crate::seats::Chunked;
 use crate::verifier::Verifier;
-use wit_model::{Class, Fault, FileNo, LockNo, Origin, TypeNo};
+use wit_model::{Class, Fault, FileNo, Instance, LockNo, Mode, Origin, SeatNo, TypeNo};
+
+/// What the seats hold; `None` for a seat that there isn't.
+impl Verifier {
+    /// The lock that a seat has asked for, and the mode: from its accepted `check` to its `note` or `give_up`.
+    pub fn pending(&self, seat: SeatNo) -> Option<(LockNo, Mode)>
+        ensures { result ≡ option_map (λ (q : Request). (q.lock, q.mode)) (seat_at (state_of self.now) seat.0).pending }
+    {
+        let request = self.request(seat)?;
+        Some((request.lock, request.mode))
+    }
+
+    /// The lock of one kind that a seat holds at this place, counted from the oldest, 0; `None` beyond the newest.
+    pub fn chain_at(&self, seat: SeatNo, spin: bool, place: usize) -> Option<Instance>
+        ensures { result ≡ slice_get (chain_in spin (seat_at (state_of self.now) seat.0)) place }
+    {
+        if self.is_seat(seat) {
+            self.seats.at(seat, spin, place)
+        } else {
+            None
+        }
+    }
+
+    /// How many chunks no seat has.
+    pub fn free_chunks(&self) -> usize
+        ensures { result ≡ free (state_of self.now) }
+    {
+        self.seats.free_chunks()
+    }
+
+    /// The lists of chunks in which the seats hold their locks: that of the sleep kind of seat s is number 2s - 1, that of the spin
+    /// kind 2s. Each chunk stands once in one of the lists or among the free ones.
+    pub fn chunks(&self) -> &Chunked
+        ensures { HoldAll self.now result.now }
+    {
+        self.seats.lists()
+    }
+}
 
 /// What is known by number; `None` for a number that was never given.
 impl Verifier {

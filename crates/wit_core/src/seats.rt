@@ -1,79 +1,26 @@
 //! The seats: what each holds, and what it has asked for.
 
-ghost use Rattle.std.specs.Prelude.{◌≡◌, ◌<◌, [], true, vec_len, length, map, find, position, is_some, OnOk, IfSome, IfNone, IfOk, None, ℕ};
-ghost use Rattle.std.specs.List.{All};
-ghost use Rattle.std.specs.Option.{option_map};
-ghost use Rattle.std.specs.Vec.{vec_capacity};
-ghost use Rattle.wit_model.specs.declared.locks.Instance.{Instance};
-ghost use Rattle.wit_model.specs.Rules.Numbers.{is_given, with_number, IsGiven};
-ghost use Rattle.wit_model.specs.Rules.State.{no_seat, seat_among, chain_in, seats_of};
+ghost use Rattle.std.specs.Prelude.{◌≡◌, not, find, slice_get, replicate, IfOk, IfErr, None, Some};
+ghost use Rattle.wit_model.specs.declared.faults.Fault.TheVariants.{OutOfMemory};
+ghost use Rattle.wit_model.specs.Rules.Numbers.{is_given, IsGiven, IsNumber};
 ghost use Rattle.wit_model.specs.Rules.Verdict.{is_of};
-ghost use Rattle.wit_core.specs.Seats.{IsOnce, IsShallow, with_acquired, with_released, seat_view, HasRoom, HasSpace, HasSpaceFor, changed, asked_in, noted_in, unlocked_in};
+ghost use Rattle.wit_held.specs.Chains.{IsOnce, IsShallow};
+ghost use Rattle.wit_core.specs.Seats.{idle_row, seat_in, locks_in, free_in, with_seat, asking, released, has_no_room, after_acquired, list_of, HoldFor};
 
 use std::alloc::{AllocError, Global};
 use std::marker::Model;
-use wit_model::{Instance, LockNo, Request, SeatNo};
+use wit_held::{VecLists, forget, record};
+use wit_model::chunks::Lists;
+use wit_model::{Fault, Instance, LockNo, Request, SeatNo};
 
-/// What a seat holds, of each kind oldest first, and what it has asked for.
-#[derive(Drop)]
-struct Seat {
-    sleep: Vec<Instance>,
-    spin: Vec<Instance>,
-    pending: Option<Request>,
-}
+/// The lists in which the seats hold their locks.
+pub type Chunked = VecLists;
 
-impl Seat {
-    // Makes room for one more lock of either kind.
-    fn make_room(&mut self) -> Result<(), AllocError>
-        ensures view { seat_view self.new ≡ seat_view self.old }
-        ensures ok { OnOk result (HasSpace self.new) }
-        ensures room { HasSpace self.old → HasSpace self.new }
-    {
-        self.sleep.reserve(1)?;
-        self.spin.reserve(1)
-    }
-
-    // The held locks of one kind.
-    fn chain(&self, spin: bool) -> &[Instance]
-        ensures { result.now ≡ chain_in spin (seat_view self.now) }
-    {
-        if spin { &self.spin } else { &self.sleep }
-    }
-
-    // Records the acquisition of a lock of this kind, which was asked for.
-    fn note(&mut self, spin: bool, taken: Instance)
-        requires room { HasSpace self.old }
-        requires once { IsOnce taken.lock.0 (chain_in spin (seat_view self.old)) }
-        requires shallow { IsShallow taken.lock.0 (chain_in spin (seat_view self.old)) }
-        ensures view { seat_view self.new ≡ noted_in spin taken (seat_view self.old) }
-        ensures room { HasRoom self.new }
-    {
-        if spin {
-            record(&mut self.spin, taken);
-        } else {
-            record(&mut self.sleep, taken);
-        }
-        self.pending = None;
-    }
-
-    // Takes the release of the lock of this kind at this place back.
-    fn release(&mut self, spin: bool, place: usize)
-        requires { place < length (chain_in spin (seat_view self.old)) }
-        ensures view { seat_view self.new ≡ unlocked_in spin place (seat_view self.old) }
-        ensures pending { self.new.pending ≡ self.old.pending }
-    {
-        if spin {
-            release(&mut self.spin, place);
-        } else {
-            release(&mut self.sleep, place);
-        }
-    }
-}
-
-/// The seats, by number from 1.
+/// The seats, by number from 1. Each has two lists of held locks, one a kind, and what it has asked for.
 #[derive(Drop)]
 pub struct Seats {
-    row: Vec<Seat>,
+    lists: Chunked,
+    requests: Vec<Option<Request>>,
 }
 
 impl Model for Seats {
@@ -81,23 +28,28 @@ impl Model for Seats {
 
     ghost Value = { Row };
 
-    ghost use Rattle.wit_core.specs.Seated.{row_in, AllHaveRoom};
+    ghost use Rattle.wit_core.specs.Seated.{row_in, AreSeated};
 
     ghost view = { row_in };
 
-    ghost invariant = { AllHaveRoom };
+    ghost invariant = { AreSeated };
 }
 
 impl Seats {
-    /// So many seats, which hold nothing.
+    /// So many seats, which hold nothing and have asked for nothing, and so many chunks for the locks that they will hold. All the
+    /// room that the other calls will need is taken here.
     ///
     /// # Errors
-    /// Want of memory alone.
-    pub fn new(alloc: Global, count: u32) -> Result<Seats, AllocError>
-        ensures { IfOk result (λ s. s.seats ≡ seats_of count []) }
+    /// `OutOfMemory` alone.
+    pub fn new(alloc: Global, seats: u32, chunks: u32) -> Result<Seats, Fault>
+        requires seats { IsNumber 256 seats }
+        requires chunks { IsNumber 65536 chunks }
+        ensures ok { IfOk result (λ s. s ≡ idle_row seats chunks) }
+        ensures err { IfErr result (λ e. e ≡ OutOfMemory) }
     {
         Ok(Seats {
-            row: free_seats(alloc, count)?,
+            lists: VecLists::new(alloc, chunks, 2 * seats as u16)?,
+            requests: no_requests(alloc, seats)?,
         })
     }
 
@@ -105,161 +57,119 @@ impl Seats {
     pub fn is_seat(&self, seat: SeatNo) -> bool
         ensures { result ≡ is_given self.now.seats seat.0 }
     {
-        0 < seat.0 && seat.0 as usize <= self.row.len()
+        0 < seat.0 && seat.0 as usize <= self.requests.len()
     }
 
     /// What a seat has asked for.
     pub fn pending(&self, seat: SeatNo) -> Option<Request>
-        ensures { result ≡ (seat_among self.now.seats seat.0).pending }
+        ensures { result ≡ (seat_in self.now seat.0).pending }
     {
-        match seat_with(&self.row, seat) {
-            Some(seat) => seat.pending,
+        if self.is_seat(seat) {
+            self.requests[seat.0 as usize - 1]
+        } else {
+            None
+        }
+    }
+
+    /// The lists: that of the sleep kind of seat s is number 2s - 1, that of the spin kind 2s. Each chunk stands once in one of
+    /// them or among the free ones.
+    pub fn lists(&self) -> &Chunked
+        ensures { HoldFor self.now result.now }
+    {
+        &self.lists
+    }
+
+    /// How many chunks are free.
+    pub fn free_chunks(&self) -> usize
+        ensures { result ≡ free_in self.now }
+    {
+        self.lists.free_chunks()
+    }
+
+    /// A lock as a seat holds it.
+    pub fn find(&self, seat: SeatNo, spin: bool, lock: LockNo) -> Option<Instance>
+        requires { IsGiven self.now.seats seat.0 }
+        ensures { result ≡ find (is_of lock.0) (locks_in spin (seat_in self.now seat.0)) }
+    {
+        let lists = &self.lists;
+        let list = list_of(seat, spin);
+        match lists.find(list, lock) {
+            Some(place) => Some(lists.at(list, place)),
             None => None,
         }
     }
 
-    /// The locks of one kind that a seat holds, oldest first.
-    pub fn chain(&self, seat: SeatNo, spin: bool) -> &[Instance]
-        ensures { result.now ≡ chain_in spin (seat_among self.now.seats seat.0) }
+    /// The lock of one kind that a seat holds at this place, counted from the oldest, 0.
+    pub fn at(&self, seat: SeatNo, spin: bool, place: usize) -> Option<Instance>
+        requires { IsGiven self.now.seats seat.0 }
+        ensures { result ≡ slice_get (locks_in spin (seat_in self.now seat.0)) place }
     {
-        match seat_with(&self.row, seat) {
-            Some(seat) => seat.chain(spin),
-            None => &[],
-        }
-    }
-
-    /// A lock of this kind as a seat holds it, with its place; the newest are looked at first.
-    pub fn find(&self, seat: SeatNo, spin: bool, lock: LockNo) -> Option<(usize, Instance)>
-        requires { IsOnce lock.0 (chain_in spin (seat_among self.now.seats seat.0)) }
-        ensures place { option_map (λ (f : ℕ × Instance). f.0) result ≡ position (is_of lock.0) (chain_in spin (seat_among self.now.seats seat.0)) }
-        ensures held { option_map (λ (f : ℕ × Instance). f.1) result ≡ find (is_of lock.0) (chain_in spin (seat_among self.now.seats seat.0)) }
-    {
-        let chain = self.chain(seat, spin);
-        match find_lock(chain, lock) {
-            Some(place) => Some((place, chain[place])),
-            None => None,
+        let lists = &self.lists;
+        let list = list_of(seat, spin);
+        if place < lists.len(list) {
+            Some(lists.at(list, place))
+        } else {
+            None
         }
     }
 }
 
+/// What changes a seat. Nothing here takes memory.
 impl Seats {
-    /// Makes room for one more lock of either kind that a seat holds.
-    ///
-    /// # Errors
-    /// Want of memory alone.
-    pub fn make_room(&mut self, seat: SeatNo) -> Result<(), AllocError>
-        requires { IsGiven self.old.seats seat.0 }
-        ensures seats { self.new.seats ≡ self.old.seats }
-        ensures ok { OnOk result (HasSpaceFor self.new seat.0) }
-    {
-        let seat = &mut self.row[seat.0 as usize - 1];
-        seat.make_room()
-    }
-
     /// A seat asks for a lock.
     pub fn ask(&mut self, seat: SeatNo, request: Request)
-        requires seat { IsGiven self.old.seats seat.0 }
-        requires space { HasSpaceFor self.old seat.0 }
-        ensures { self.new.seats ≡ changed seat.0 (asked_in request) self.old.seats }
+        requires { IsGiven self.old.seats seat.0 }
+        ensures { self.new ≡ with_seat seat.0 (asking (Some request)) self.old }
     {
-        let seat = &mut self.row[seat.0 as usize - 1];
-        seat.pending = Some(request);
+        self.requests[seat.0 as usize - 1] = Some(request);
     }
 
-    /// A seat acquires the lock of this kind that it asked for. It takes no memory.
-    pub fn note(&mut self, seat: SeatNo, spin: bool, taken: Instance)
-        requires seat { IsGiven self.old.seats seat.0 }
-        requires pending { is_some (seat_among self.old.seats seat.0).pending ≡ true }
-        requires once { IsOnce taken.lock.0 (chain_in spin (seat_among self.old.seats seat.0)) }
-        requires shallow { IsShallow taken.lock.0 (chain_in spin (seat_among self.old.seats seat.0)) }
-        ensures { self.new.seats ≡ changed seat.0 (noted_in spin taken) self.old.seats }
+    /// A seat asks for nothing any more.
+    pub fn clear(&mut self, seat: SeatNo)
+        requires { IsGiven self.old.seats seat.0 }
+        ensures { self.new ≡ with_seat seat.0 (asking None) self.old }
     {
-        let seat = &mut self.row[seat.0 as usize - 1];
-        seat.note(spin, taken);
+        self.requests[seat.0 as usize - 1] = None;
     }
 
-    /// A seat that asks for nothing releases the lock of this kind at this place.
-    pub fn release(&mut self, seat: SeatNo, spin: bool, place: usize)
+    /// A seat acquires a lock of this kind: `wit_held::record` in its list. False, and nothing is changed, where that needs a chunk
+    /// and none is free.
+    pub fn record(&mut self, seat: SeatNo, spin: bool, taken: Instance) -> bool
         requires seat { IsGiven self.old.seats seat.0 }
-        requires idle { (seat_among self.old.seats seat.0).pending ≡ None }
-        requires place { place < length (chain_in spin (seat_among self.old.seats seat.0)) }
-        ensures { self.new.seats ≡ changed seat.0 (unlocked_in spin place) self.old.seats }
+        requires once { IsOnce taken.lock.0 (locks_in spin (seat_in self.old seat.0)) }
+        requires shallow { IsShallow taken.lock.0 (locks_in spin (seat_in self.old seat.0)) }
+        ensures result { result ≡ not (has_no_room self.old seat.0 spin taken.lock.0) }
+        ensures seats { self.new ≡ after_acquired seat.0 spin taken self.old }
     {
-        let seat = &mut self.row[seat.0 as usize - 1];
-        seat.release(spin, place);
+        record(&mut self.lists, list_of(seat, spin), taken)
+    }
+
+    /// A seat releases a lock of this kind: `wit_held::forget` in its list.
+    pub fn forget(&mut self, seat: SeatNo, spin: bool, lock: LockNo)
+        requires seat { IsGiven self.old.seats seat.0 }
+        requires once { IsOnce lock.0 (locks_in spin (seat_in self.old seat.0)) }
+        ensures { self.new ≡ with_seat seat.0 (released spin lock.0) self.old }
+    {
+        forget(&mut self.lists, list_of(seat, spin), lock);
     }
 }
 
-// So many seats that hold nothing.
-fn free_seats(alloc: Global, count: u32) -> Result<Vec<Seat>, AllocError>
-    ensures count { IfOk result (λ v. length v.items ≡ count) }
-    ensures free { IfOk result (λ v. All (λ s. seat_view s ≡ no_seat) v.items) }
-    ensures room { IfOk result (λ v. All HasRoom v.items) }
+// The list of the locks of one kind that a seat holds.
+fn list_of(seat: SeatNo, spin: bool) -> u16
+    requires { IsNumber 256 seat.0 }
+    ensures { result ≡ list_of spin seat.0 }
 {
-    let mut seats = Vec::new(alloc);
-    for _seat in 0..count {
-        seats.push(Seat {
-            sleep: Vec::new(alloc),
-            spin: Vec::new(alloc),
-            pending: None,
-        })?;
-    }
-    Ok(seats)
+    let last = 2 * seat.0;
+    if spin { last } else { last - 1 }
 }
 
-// The seat with this number.
-fn seat_with(row: &[Seat], seat: SeatNo) -> Option<&Seat>
-    ensures found { IfSome result (λ s. seat_among (map seat_view row.now) seat.0 ≡ seat_view s.now) }
-    ensures none { IfNone result (seat_among (map seat_view row.now) seat.0 ≡ no_seat) }
+// So many seats that have asked for nothing.
+fn no_requests(alloc: Global, seats: u32) -> Result<Vec<Option<Request>>, AllocError>
+    ensures { IfOk result (λ v. v.items ≡ replicate seats None) }
 {
-    if seat.0 == 0 {
-        return None;
+    let mut requests = Vec::new(alloc);
+    for _seat in 0..seats {
+        requests.push(None)?;
     }
-    row.get(seat.0 as usize - 1)
-}
-
-// Records an acquisition: once more where the lock is there, else at the end.
-fn record(chain: &mut Vec<Instance>, taken: Instance)
-    requires room { vec_len chain.old < vec_capacity chain.old }
-    requires once { IsOnce taken.lock.0 chain.old.items }
-    requires shallow { IsShallow taken.lock.0 chain.old.items }
-    ensures items { chain.new.items ≡ with_acquired taken chain.old.items }
-    ensures capacity { vec_capacity chain.new ≡ vec_capacity chain.old }
-{
-    match find_lock(chain, taken.lock) {
-        Some(place) => {
-            let held = &mut chain[place];
-            held.count += 1;
-            held.site = taken.site;
-        }
-        None => chain.push_reserved(taken),
-    }
-}
-
-// Takes a release back: once less, or the lock goes out.
-fn release(chain: &mut Vec<Instance>, place: usize)
-    requires { place < length chain.old.items }
-    ensures items { chain.new.items ≡ with_released place chain.old.items }
-    ensures capacity { vec_capacity chain.new ≡ vec_capacity chain.old }
-{
-    if chain[place].count > 0 {
-        let held = &mut chain[place];
-        held.count -= 1;
-    } else {
-        let _released = chain.remove(place);
-    }
-}
-
-// Where a lock stands in a chain; the newest are looked at first, since what was acquired last is mostly released first.
-fn find_lock(chain: &[Instance], lock: LockNo) -> Option<usize>
-    requires { IsOnce lock.0 chain.now }
-    ensures place { result ≡ position (is_of lock.0) chain.now }
-    ensures within { IfSome result (λ i. i < length chain.now) }
-{
-    for place in (0..chain.len()).rev() {
-        if chain[place].lock.0 == lock.0 {
-            return Some(place);
-        }
-    }
-    None
+    Ok(requests)
 }

@@ -29,6 +29,7 @@ pub struct Verifier {
     lists: Vec<Vec<(Class, String)>>,
     pub(crate) known: Known,
     pub(crate) seats: Seats,
+    pub(crate) watch: Watch,
     pub(crate) log: Log,
 }
 
@@ -41,6 +42,7 @@ impl Drop for Verifier {
             lists: _,
             known: _,
             seats: _,
+            watch: _,
             log: _,
         } = self;
     }
@@ -85,13 +87,14 @@ impl Verifier {
         let mut known = Known::new(alloc, types)?;
         known.enter_lists(types, &lists)?;
         known.bless_all(&blessed)?;
-        let seats = Seats::new(alloc, limits.seats())?;
+        let seats = Seats::new(alloc, limits.seats(), limits.chunks())?;
         Ok(Verifier {
             alloc,
             limits,
             lists,
             known,
             seats,
+            watch: Watch::On,
             log: Log::new(alloc, limits.log()),
         })
     }
@@ -125,11 +128,11 @@ impl Verifier {
         self.log.reports()
     }
 
-    /// How much is watched.
+    /// How much is watched: all at the start.
     pub fn watch(&self) -> Watch
         ensures { result ≡ watch_of self.now.history }
     {
-        Watch::On
+        self.watch
     }
 
     /// The adopted orders with their origins, oldest first. None stands twice, and by them no type is before itself.

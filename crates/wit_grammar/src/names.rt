@@ -31,10 +31,10 @@ fn name_of(alloc: Global, bytes: &[u8]) -> Result<Name, LineError>
     let Ok(text) = str::from_utf8(bytes) else {
         return Err(LineError::SYNTAX);
     };
-    if !Name::accepts(text) {
-        return Err(LineError::SYNTAX);
+    match Name::new(alloc, text)? {
+        Some(name) => Ok(name),
+        None => Err(LineError::SYNTAX),
     }
-    Ok(Name::new(alloc, text)?)
 }
 
 #[inline(always)]

@@ -496,14 +496,23 @@ fn is_lock_spelled(
     name: &str,
     type_name: Option<&str>,
 ) -> Result<bool, AllocError> {
+    // What is no name can't stand in a line.
+    let Some(name) = Name::new(alloc, name)? else {
+        return Ok(false);
+    };
     let type_name = match type_name {
         None => None,
-        Some(text) => Some(Name::new(alloc, text)?),
+        Some(text) => {
+            let Some(type_name) = Name::new(alloc, text)? else {
+                return Ok(false);
+            };
+            Some(type_name)
+        }
     };
     let lock = NewLock {
         class: Class::SleepMutex,
         flags: LockFlags(flags),
-        name: Name::new(alloc, name)?,
+        name,
         type_name,
     };
     Ok(spelled(&Line::Init {
@@ -521,19 +530,25 @@ fn is_list_spelled(
 ) -> Result<bool, AllocError> {
     let mut list = TypeList::new(alloc);
     for _ in 0..times {
-        list.push(Class::SleepMutex, Name::new(alloc, name)?)?;
+        let Some(name) = Name::new(alloc, name)? else {
+            return Ok(false);
+        };
+        list.push(Class::SleepMutex, name)?;
     }
     if let Some(name) = last {
-        list.push(Class::Rw, Name::new(alloc, name)?)?;
+        let Some(name) = Name::new(alloc, name)? else {
+            return Ok(false);
+        };
+        list.push(Class::Rw, name)?;
     }
     Ok(spelled(&Line::Order { list }))
 }
 
 fn is_pair_spelled(alloc: Global, first: &str, second: &str) -> Result<bool, AllocError> {
-    Ok(spelled(&Line::Bless {
-        first: Name::new(alloc, first)?,
-        second: Name::new(alloc, second)?,
-    }))
+    let (Some(first), Some(second)) = (Name::new(alloc, first)?, Name::new(alloc, second)?) else {
+        return Ok(false);
+    };
+    Ok(spelled(&Line::Bless { first, second }))
 }
 
 fn is_request_spelled(alloc: Global, ops: u8, file: &str) -> Result<bool, AllocError> {

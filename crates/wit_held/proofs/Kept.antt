@@ -1,10 +1,10 @@
 -- What is read of lists on vectors, and what a call keeps.
-use Rattle.std.proofs.Common.{◌≡◌, ℕ, ◌-◌, ◌^◌, ◌<◌, ◌≤◌, true, false, not, eqb, List, [], ◌∷◌, ◌++◌, length, map, set, get_or, Some, slice_get, vec_len, ap, ap₂, sym, ◌∙◌, subst, ◌⊎◌, inl, inr, arith}
+use Rattle.std.proofs.Common.{◌≡◌, ℕ, ◌-◌, ◌^◌, ◌<◌, ◌≤◌, true, false, not, eqb, List, [], ◌∷◌, ◌++◌, length, map, set, get_or, Some, slice_get, vec_len, refl, ap, ap₂, sym, ◌∙◌, subst, ◌⊎◌, inl, inr, arith}
 use Rattle.std.specs.List.{remove}
 use Rattle.std.specs.Vec.{vec_capacity}
 use Rattle.std.specs.declared.vec.Vec.{Vec}
 use Rattle.std.proofs.lemmas.Bool.{and_left, not-true, not-false, cond-true}
-use Rattle.std.proofs.lemmas.List.{length-append, length-set, get_or-map, get_or_default}
+use Rattle.std.proofs.lemmas.List.{length-append, length-map, length-set, get_or-map, get_or_default}
 use Rattle.wit_model.specs.declared.locks.Instance.{Instance}
 use Rattle.wit_model.specs.Rules.Groups.{flat, joined, opens, replaced_at, removed_at, AreTidy}
 use Rattle.wit_model.specs.Rules.Chunks.{Chunks, IsList, groups_of, chain_of, set_groups, is_refused, pushed}
@@ -42,6 +42,17 @@ module _ {A : Type 0} (v : Inside A) (value : Chunks) (is : chunks_in v ≡ valu
   pub the-places : (l : Vec ℕ A) (ps : List ℕ) → l ≡ get_or v.lists.items (list - 1) l → ps ≡ l.items → ps ≡ get_or (places_of v.lists.items) (list - 1) []
   the-places l ps read e = e ∙ sym (row-read v.lists.items (list - 1) l in-vec read)
 
+  -- its groups
+  pub groups-are : groups_at (rows_of v.chunks.items) (get_or (places_of v.lists.items) (list - 1) []) ≡ groups_of value list
+  groups-are = sym (groups-shown (rows_of v.chunks.items) (places_of v.lists.items) (list - 1) in-lists) ∙ ap (λ c. groups_of c list) is
+
+  pub groups-many : (l : Vec ℕ A) → l ≡ get_or v.lists.items (list - 1) l → vec_len l ≡ length (groups_of value list)
+  groups-many l read =
+      let places = the-places l l.items read refl in
+      let many : length (groups_at (rows_of v.chunks.items) (get_or (places_of v.lists.items) (list - 1) [])) ≡ length (get_or (places_of v.lists.items) (list - 1) []) =
+      length-map (get_or (places_of v.lists.items) (list - 1) []) (row (rows_of v.chunks.items)) in
+      omega (arith, l.ok.0, ap length places, many, ap length groups-are)
+
   -- what it holds
   pub chain-is : flat (groups_at (rows_of v.chunks.items) (get_or (places_of v.lists.items) (list - 1) [])) ≡ chain_of value list
   chain-is = ap flat (sym (groups-shown (rows_of v.chunks.items) (places_of v.lists.items) (list - 1) in-lists)) ∙ ap (λ c. chain_of c list) is
@@ -57,6 +68,12 @@ module _ {A : Type 0} (v : Inside A) (value : Chunks) (is : chunks_in v ≡ valu
 
     pub read-chain : flat (groups_at (rows_of cs) ps) ≡ chain_of value list
     read-chain = ap₂ (λ ds qs. flat (groups_at (rows_of ds) qs)) c-is p-is ∙ chain-is
+
+    pub read-groups : groups_at (rows_of cs) ps ≡ groups_of value list
+    read-groups = ap₂ (λ ds qs. groups_at (rows_of ds) qs) c-is p-is ∙ groups-are
+
+    pub read-index : (index : ℕ) → index < length (groups_of value list) → index < length ps
+    read-index index lt = omega (arith, lt, ap length read-groups, length-map ps (row (rows_of cs)))
 
     pub read-tidy : AreTidy (groups_at (rows_of cs) ps)
     read-tidy =

@@ -130,6 +130,19 @@ pub fn read<A: Allocator>(places: &[u16], chunks: &[Vec<Instance, A>], place: us
     chunk[index]
 }
 
+/// What one of a list's chunks holds.
+pub fn lend<'a, A: Allocator>(
+    places: &[u16],
+    chunks: &'a [Vec<Instance, A>],
+    index: usize,
+) -> &'a [Instance]
+    requires chunks { AreWithin (length chunks.now) places.now }
+    requires index { index < length places.now }
+    ensures { result.now ≡ slice_index_or (groups_at (rows_of chunks.now) places.now) index [] }
+{
+    &chunks[places[index] as usize]
+}
+
 /// The newest lock of a list, of which no chunk but an only one is empty.
 pub fn newest<A: Allocator>(places: &[u16], chunks: &[Vec<Instance, A>]) -> Option<Instance>
     requires chunks { AreWithin (length chunks.now) places.now }

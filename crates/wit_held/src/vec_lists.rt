@@ -7,7 +7,7 @@ ghost use Rattle.wit_model.specs.Rules.Numbers.{IsNumber};
 
 use crate::fresh::{empty_rows, numbers_below};
 use crate::rows::{
-    CHUNK, add, count, find, locate, newest, open_chunk, put, read, take_chunk, take_out, write,
+    CHUNK, add, count, find, lend, locate, newest, open_chunk, put, read, take_chunk, take_out, write,
 };
 use std::alloc::{AllocError, Allocator, Global};
 use std::marker::Model;
@@ -113,6 +113,14 @@ impl<A: Allocator> Lists for VecLists<A> {
 
     fn last(&self, list: u16) -> Option<Instance> {
         newest(&self.lists[list as usize - 1], &self.chunks)
+    }
+
+    fn groups(&self, list: u16) -> usize {
+        self.lists[list as usize - 1].len()
+    }
+
+    fn group(&self, list: u16, index: usize) -> &[Instance] {
+        lend(&self.lists[list as usize - 1], &self.chunks, index)
     }
 
     fn replace(&mut self, list: u16, place: usize, instance: Instance) {

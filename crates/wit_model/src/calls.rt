@@ -1,12 +1,13 @@
 //! The calls of a verifier, their replies, and the entries of its log.
 
-ghost use Rattle.std.specs.Prelude.{◌≡◌};
+ghost use Rattle.std.specs.Prelude.{◌≡◌, IfOk};
 ghost use Rattle.wit_model.specs.Rules.Types.{type_name_of};
 
 use crate::boxes::Boxed;
 use crate::flags::{LockFlags, OpFlags};
 use crate::locks::{Class, LockNo, Mode, Origin, SeatNo, Site, TypeNo, Watch};
 use crate::names::Name;
+use std::alloc::{AllocError, Global};
 
 /// What a new lock is to be: the arguments of `lock_init` in witness(4)'s interface.
 #[derive(Debug, Drop)]
@@ -20,13 +21,33 @@ pub struct NewLock {
 
 impl NewLock {
     /// The name under which it takes part in orders.
-    pub fn type_name(&self) -> &str
+    pub fn type_name(&self) -> &Name
         ensures { result.now ≡ type_name_of self.now }
     {
         match &self.type_name {
-            Some(name) => name.as_str(),
-            None => self.name.as_str(),
+            Some(name) => name,
+            None => &self.name,
         }
+    }
+
+    /// The same once more.
+    ///
+    /// # Errors
+    /// Want of memory alone.
+    pub fn copy(&self, alloc: Global) -> Result<NewLock, AllocError>
+        ensures { IfOk result (λ l. l ≡ self.now) }
+    {
+        let name = self.name.copy(alloc)?;
+        let type_name = match &self.type_name {
+            Some(type_name) => Some(type_name.copy(alloc)?),
+            None => None,
+        };
+        Ok(NewLock {
+            class: self.class,
+            flags: self.flags,
+            name,
+            type_name,
+        })
     }
 }
 
@@ -37,6 +58,20 @@ pub struct Request {
     pub site: Site,
     pub mode: Mode,
     pub ops: OpFlags,
+}
+
+/// A request as it is judged, with what is known of the lock.
+#[derive(Clone, Copy, Debug, PartialEq, Eq, Hash)]
+pub struct Asked {
+    pub lock: LockNo,
+    /// The lock's type.
+    pub type_no: TypeNo,
+    /// What the lock allows.
+    pub flags: LockFlags,
+    pub mode: Mode,
+    /// What the request allows.
+    pub ops: OpFlags,
+    pub site: Site,
 }
 
 /// A call that the log keeps.

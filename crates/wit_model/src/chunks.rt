@@ -1,6 +1,6 @@
 //! Lists of held locks in chunks.
 
-ghost use Rattle.std.specs.Prelude.{◌≡◌, ◌<◌, ◌-◌, false, not, length, position, slice_get, IfSome};
+ghost use Rattle.std.specs.Prelude.{◌≡◌, ◌<◌, ◌-◌, false, [], not, length, position, slice_get, IfSome};
 ghost use Rattle.std.specs.List.{slice_index_or};
 ghost use Rattle.wit_model.specs.Rules.Verdict.{is_of};
 ghost use Rattle.wit_model.specs.Rules.Groups.{replaced_at, removed_at};
@@ -48,6 +48,17 @@ pub trait Lists {
     fn last(&self, list: u16) -> Option<Instance>
         requires list { IsList (chunks self.now) list }
         ensures { result ≡ slice_get (chain_of (chunks self.now) list) (length (chain_of (chunks self.now) list) - 1) };
+
+    /// How many chunks a list has.
+    fn groups(&self, list: u16) -> usize
+        requires list { IsList (chunks self.now) list }
+        ensures { result ≡ length (groups_of (chunks self.now) list) };
+
+    /// What one of a list's chunks holds, oldest lock first. The chunks count from the oldest, 0.
+    fn group(&self, list: u16, index: usize) -> &[Instance]
+        requires list { IsList (chunks self.now) list }
+        requires index { index < length (groups_of (chunks self.now) list) }
+        ensures { result.now ≡ slice_index_or (groups_of (chunks self.now) list) index [] };
 
     /// Writes another instance over the one at a place.
     fn replace(&mut self, list: u16, place: usize, instance: Instance)

@@ -16,7 +16,7 @@ mod type_lists;
 
 pub use boxes::Boxed;
 pub use calls::{
-    Adoption, Call, Conflict, Doubling, Entry, Heading, LockAt, NewLock, Reply, Request,
+    Adoption, Asked, Call, Conflict, Doubling, Entry, Heading, LockAt, NewLock, Reply, Request,
 };
 pub use faults::Fault;
 pub use flags::{LockFlags, OpFlags};

@@ -1,13 +1,13 @@
 //! Names of locks, of their types and of source files.
 
-ghost use Rattle.std.specs.Prelude.{◌≡◌, IfOk, string_bytes};
+ghost use Rattle.std.specs.Prelude.{◌≡◌, true, IfOk, Some, None, string_bytes, if◌then◌else◌};
 ghost use Rattle.std.specs.List.{list_all};
 ghost use Rattle.wit_model.specs.Rules.Names.{is_name, is_file_name, is_name_byte, is_file_byte};
 
 use std::alloc::{AllocError, Global};
 use std::marker::Model;
 
-/// The name of a lock or of a type: 1 to 63 bytes, each from 0x20 to 0x7e, without `"`.
+/// The name of a lock or of a type: 1 to 63 bytes, each from 0x20 to 0x7e, without `"`. Who has one needn't test it.
 #[derive(Debug, Drop)]
 pub struct Name {
     text: String,
@@ -19,17 +19,36 @@ impl Model for Name {
     ghost Value = { List ℕ };
 
     ghost view = { λ n. string_bytes n.text };
+
+    ghost use Rattle.std.specs.Prelude.{◌≡◌, true};
+    ghost use Rattle.wit_model.specs.Rules.Names.{is_name};
+
+    ghost invariant = { λ n. is_name (string_bytes n.text) ≡ true };
 }
 
 impl Name {
     /// The greatest length in bytes.
     pub const MOST: usize = 63;
 
-    /// The name with these bytes.
+    /// The name with this text: `None` exactly where it is no name.
     ///
     /// # Errors
     /// Want of memory alone.
-    pub fn new(alloc: Global, text: &str) -> Result<Name, AllocError>
+    pub fn new(alloc: Global, text: &str) -> Result<Option<Name>, AllocError>
+        ensures { IfOk result (λ n. n ≡ if is_name text.now then Some text.now else None) }
+    {
+        if !Name::accepts(text) {
+            return Ok(None);
+        }
+        Ok(Some(Name::tested(alloc, text)?))
+    }
+
+    /// The name with this text, which was tested.
+    ///
+    /// # Errors
+    /// Want of memory alone.
+    pub fn tested(alloc: Global, text: &str) -> Result<Name, AllocError>
+        requires { is_name text.now ≡ true }
         ensures { IfOk result (λ n. n ≡ text.now) }
     {
         Ok(Name {
@@ -39,9 +58,20 @@ impl Name {
 
     /// Its text.
     pub fn as_str(&self) -> &str
-        ensures { result.now ≡ self.now }
+        ensures text { result.now ≡ self.now }
+        ensures good { is_name self.now ≡ true }
     {
         self.text.as_str()
+    }
+
+    /// The same name once more.
+    ///
+    /// # Errors
+    /// Want of memory alone.
+    pub fn copy(&self, alloc: Global) -> Result<Name, AllocError>
+        ensures { IfOk result (λ n. n ≡ self.now) }
+    {
+        Name::tested(alloc, self.as_str())
     }
 
     /// Its text, for good.

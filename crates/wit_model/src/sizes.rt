@@ -57,6 +57,7 @@ impl Limits {
     /// How many seats.
     pub fn seats(&self) -> u32
         ensures value { result ≡ self.now.seats }
+        ensures positive { 0 < result }
         ensures within { result ≤ 256 }
     {
         self.seats
@@ -82,6 +83,7 @@ impl Limits {
     /// How many chunks of held locks.
     pub fn chunks(&self) -> u32
         ensures value { result ≡ self.now.chunks }
+        ensures positive { 0 < result }
         ensures within { result ≤ 65536 }
     {
         self.chunks

@@ -84,7 +84,27 @@ impl Table {
         ensures absent { IfErr result (λ e. e ≡ OutOfMemory → is_enrolled name.now self.old.types ≡ false) }
         ensures unchanged { OnErr result (self.new ≡ self.old) }
     {
+        if !Name::accepts(name) {
+            return Err(Fault::BadName);
+        }
         enroll_in(self.alloc, &mut self.types, self.most_types, name, class)
+    }
+
+    /// As `enroll`, for a name that was tested.
+    ///
+    /// # Errors
+    /// In this order: `ClassMismatch` where the name is known with another class; `TypesFull` where it is new and no
+    /// number is left; `OutOfMemory`, only where it is new.
+    pub fn enroll_name(&mut self, name: &Name, class: Class) -> Result<TypeNo, Fault>
+        ensures ok { IfOk result (λ t. enroll_answer name.now class self.old.most_types self.old.types ≡ Ok t.0) }
+        ensures number { IfOk result (λ t. t.0 ≡ type_number name.now self.old.types) }
+        ensures given { IfOk result (λ t. IsGiven self.new.types t.0) }
+        ensures enrolled { OnOk result (self.new ≡ with_type self.old name.now class) }
+        ensures err { IfErr result (IsRefusal (enroll_answer name.now class self.old.most_types self.old.types)) }
+        ensures absent { IfErr result (λ e. e ≡ OutOfMemory → is_enrolled name.now self.old.types ≡ false) }
+        ensures unchanged { OnErr result (self.new ≡ self.old) }
+    {
+        enroll_in(self.alloc, &mut self.types, self.most_types, name.as_str(), class)
     }
 
     /// The number of the type with this name; `None` exactly where no type has it.
@@ -238,11 +258,12 @@ fn add_pair(
     a: &str,
     b: &str,
 ) -> Result<(), AllocError>
+    requires { are_names a.now b.now ≡ true }
     ensures ok { OnOk result (pairs.new.items ≡ pairs.old.items ++ (a.now, b.now) ∷ []) }
     ensures err { OnErr result (pairs.new.items ≡ pairs.old.items) }
 {
-    let first = Name::new(alloc, a)?;
-    let second = Name::new(alloc, b)?;
+    let first = Name::tested(alloc, a)?;
+    let second = Name::tested(alloc, b)?;
     pairs.push((first, second))?;
     Ok(())
 }

@@ -1,6 +1,7 @@
 //! Types by name, in order of first appearance.
 
-ghost use Rattle.std.specs.Prelude.{◌≡◌, ◌≤◌, ◌<◌, ◌+◌, ◌-◌, ◌++◌, [], ◌∷◌, false, length, is_some, slice_get, slice_set, slice_index, IfSome, IfNone, IfOk, IfErr, OnOk, OnErr, Some, Ok};
+ghost use Rattle.std.specs.Prelude.{◌≡◌, ◌≤◌, ◌<◌, ◌+◌, ◌-◌, ◌++◌, [], ◌∷◌, true, false, length, is_some, slice_get, slice_set, slice_index, IfSome, IfNone, IfOk, IfErr, OnOk, OnErr, Some, Ok};
+ghost use Rattle.wit_model.specs.Rules.Names.{is_name};
 ghost use Rattle.wit_model.specs.Rules.Types.{is_enrolled, is_otherwise, type_number, enrolled};
 ghost use Rattle.wit_model.specs.Rules.Numbers.{IsGiven};
 ghost use Rattle.wit_model.specs.declared.faults.Fault.TheVariants.{OutOfMemory};
@@ -10,7 +11,7 @@ ghost use Rattle.wit_table.specs.Rows.{types_in, live_in};
 
 use indexmap::IndexMap;
 use std::alloc::{AllocError, Global};
-use wit_model::{Class, Fault, Name, TypeNo};
+use wit_model::{Class, Fault, TypeNo};
 
 /// What is kept of a type beside its name.
 #[derive(Clone, Copy, Debug)]
@@ -20,10 +21,10 @@ pub struct TypeRow {
     pub live: u32,
 }
 
-/// Enrols a type where its name is new, and gives its number: `Table::enroll`.
+/// Enrols a type where its name is new, and gives its number: `Table::enroll` for a name that was tested.
 ///
 /// # Errors
-/// In this order: `BadName`, `ClassMismatch`, `TypesFull`, `OutOfMemory`; the types are then as before.
+/// In this order: `ClassMismatch`, `TypesFull`, `OutOfMemory`; the types are then as before.
 pub fn enroll_in(
     alloc: Global,
     types: &mut IndexMap<String, TypeRow>,
@@ -33,6 +34,7 @@ pub fn enroll_in(
 ) -> Result<TypeNo, Fault>
     requires few { length (types_in types.old.entries) ≤ most }
     requires most { most ≤ 1023 }
+    requires good { is_name name.now ≡ true }
     ensures ok { IfOk result (λ t. enroll_answer name.now class most (types_in types.old.entries) ≡ Ok t.0) }
     ensures number { IfOk result (λ t. t.0 ≡ type_number name.now (types_in types.old.entries)) }
     ensures given { IfOk result (λ t. IsGiven (types_in types.new.entries) t.0) }
@@ -42,9 +44,6 @@ pub fn enroll_in(
     ensures live { OnOk result (live_in types.new.entries ≡ live_after name.now (types_in types.old.entries) (live_in types.old.entries)) }
     ensures unchanged { OnErr result (types.new.entries ≡ types.old.entries) }
 {
-    if !Name::accepts(name) {
-        return Err(Fault::BadName);
-    }
     if is_otherwise(types, name, class) {
         return Err(Fault::ClassMismatch);
     }

@@ -47,10 +47,6 @@ pub if_ok : {T E : Type 0} (P Q : T → Type 0) (r : Result T E) → ((x : T) �
 if_ok P Q (Err e) each h = tt
 if_ok P Q (Ok x) each h = each x h
 
--- a lock's fields by themselves make the lock
-pub named_lock : (lock : NewLock) (name : List ℕ) (type_name : Option (List ℕ)) → name ≡ lock.name → type_name ≡ lock.type_name → new_lock name type_name lock.class lock.flags ≡ lock
-named_lock lock name type_name named typed = ap₂ (λ n k. new_lock n k lock.class lock.flags) named typed
-
 -- a call that was answered
 pub call_made : (s new : Story) (t : ℕ) (c : Call) (reply : Reply) → AnswersOrFails s t c (Ok reply) new → output.makes s t c ≡ output.Goes (output.Reading new) (output.told new reply)
 call_made s new t c reply answers = rw answers.0 (ap (λ (x : Story). output.Goes (output.Reading x) (output.told x reply)) (sym answers.1))

@@ -1,10 +1,11 @@
 //! `init`: a lock is made.
 
-ghost use Rattle.std.specs.Prelude.{◌≡◌, Ok, IfOk, IfErr, OnOk, OnErr, unwrap_or};
+ghost use Rattle.std.specs.Prelude.{◌≡◌, true, Ok, IfOk, IfErr, OnOk, OnErr, unwrap_or};
 ghost use Rattle.std.specs.Option.{option_copied};
 ghost use Rattle.wit_model.specs.declared.calls.Call.TheVariants.{Init};
 ghost use Rattle.wit_model.specs.declared.calls.Reply.TheVariants.{Made};
 ghost use Rattle.wit_model.specs.declared.faults.Fault.TheVariants.{OutOfMemory};
+ghost use Rattle.wit_model.specs.Rules.Names.{is_name};
 ghost use Rattle.wit_model.specs.Rules.State.{state_of};
 ghost use Rattle.wit_model.specs.Rules.Step.{AnswersOrFails, answer_of, logged, step_typed, is_good_name};
 ghost use Rattle.wit_core.specs.Replies.{new_lock, made_reply};
@@ -35,9 +36,37 @@ impl Verifier {
     {
         let number = self.answer_init(seat, name, type_name, class, flags)?;
         let made = new_lock(self.alloc, name, type_name, class, flags)?;
-        let copy = boxed_lock(self.alloc, name, type_name, class, flags)?;
+        let copy = Boxed::new(self.alloc, made.copy(self.alloc)?)?;
         self.enter_init(seat, number, made, copy)?;
         Ok(number)
+    }
+
+    /// As `init`, for names that were tested: each `Name` is one.
+    ///
+    /// # Errors
+    /// Those of `init`, but for `BadName`.
+    pub fn make(&mut self, seat: SeatNo, lock: NewLock) -> Result<LockNo, Fault>
+        ensures { AnswersOrFails self.old seat.0 (Init lock) (made_reply result) self.new }
+    {
+        let number = self.answer_make(seat, &lock)?;
+        let copy = Boxed::new(self.alloc, lock.copy(self.alloc)?)?;
+        self.enter_init(seat, number, lock, copy)?;
+        Ok(number)
+    }
+
+    fn answer_make(&self, seat: SeatNo, lock: &NewLock) -> Result<LockNo, Fault>
+        ensures { made_reply result ≡ answer_of self.now seat.0 (Init lock.now) }
+    {
+        if !self.is_seat(seat) {
+            return Err(Fault::UnknownSeat);
+        }
+        if self.pending(seat).is_some() {
+            return Err(Fault::Pending);
+        }
+        // Reading a name shows that it is one.
+        let _name = lock.name.as_str();
+        let type_name = lock.type_name().as_str();
+        self.answer_typed(type_name, lock.class)
     }
 
     // The number of the new lock.
@@ -49,13 +78,15 @@ impl Verifier {
         class: Class,
         flags: LockFlags,
     ) -> Result<LockNo, Fault>
-        ensures { made_reply result ≡ answer_of self.now seat.0
+        ensures answer { made_reply result ≡ answer_of self.now seat.0
             (Init (new_lock name.now (option_copied type_name.entry) class flags)) }
+        ensures name { OnOk result (is_name name.now ≡ true) }
+        ensures type_name { OnOk result (is_good_name (option_copied type_name.entry) ≡ true) }
     {
         if !self.is_seat(seat) {
             return Err(Fault::UnknownSeat);
         }
-        if self.pending(seat).is_some() {
+        if self.request(seat).is_some() {
             return Err(Fault::Pending);
         }
         if !Name::accepts(name) || !is_good_name(type_name) {
@@ -118,15 +149,17 @@ fn new_lock(
     class: Class,
     flags: LockFlags,
 ) -> Result<NewLock, AllocError>
+    requires name { is_name name.now ≡ true }
+    requires type_name { is_good_name (option_copied type_name) ≡ true }
     ensures { IfOk result (λ l. l ≡ new_lock name.now (option_copied type_name.entry) class flags) }
 {
-    let name = Name::new(alloc, name)?;
+    let name = Name::tested(alloc, name)?;
     match type_name {
         Some(type_name) => Ok(NewLock {
             class,
             flags,
             name,
-            type_name: Some(Name::new(alloc, type_name)?),
+            type_name: Some(Name::tested(alloc, type_name)?),
         }),
         None => Ok(NewLock {
             class,
@@ -135,18 +168,6 @@ fn new_lock(
             type_name: None,
         }),
     }
-}
-
-fn boxed_lock(
-    alloc: Global,
-    name: &str,
-    type_name: Option<&str>,
-    class: Class,
-    flags: LockFlags,
-) -> Result<Boxed<NewLock>, AllocError>
-    ensures { IfOk result (λ l. l ≡ new_lock name.now (option_copied type_name.entry) class flags) }
-{
-    Boxed::new(alloc, new_lock(alloc, name, type_name, class, flags)?)
 }
 
 fn is_good_name(name: Option<&str>) -> bool

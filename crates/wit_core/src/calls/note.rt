@@ -2,16 +2,19 @@
 
 ghost use Rattle.std.specs.Prelude.{◌≡◌, Some, Ok, IfOk};
 ghost use Rattle.wit_model.specs.declared.calls.Call.TheVariants.{Note};
-ghost use Rattle.wit_model.specs.declared.calls.Reply.TheVariants.{Recorded};
 ghost use Rattle.wit_model.specs.Rules.State.{state_of, seat_at};
-ghost use Rattle.wit_model.specs.Rules.Step.{Answers, answer_of, logged};
+ghost use Rattle.wit_model.specs.Rules.Step.{Answers, answer_of, logged, recorded};
+ghost use Rattle.wit_core.specs.Acquiring.{reply_to};
 ghost use Rattle.wit_core.specs.Replies.{done_reply};
 
+use crate::acquiring::{Acquisition, acquire};
 use crate::verifier::Verifier;
 use wit_model::{Call, Entry, Fault, Instance, LockNo, Reply, Request, SeatNo};
 
 impl Verifier {
-    /// Records that the lock asked for was acquired: WITNESS's `lock`. It takes no memory.
+    /// Tells that the lock asked for was acquired: WITNESS's `lock`. It is `Recorded`; or `Unrecorded` where nothing is watched any
+    /// more; or `Exhausted`, a report that comes once, where no chunk is free for it: it isn't recorded then, and nothing is watched
+    /// from now on. It takes no memory.
     ///
     /// # Errors
     /// In this order: `UnknownSeat`; `UnknownLock`; `NotRequested` where the seat has no request for the lock.
@@ -19,31 +22,23 @@ impl Verifier {
         ensures { Answers self.old seat.0 (Note lock) result self.new }
     {
         let request = self.answer_note(seat, lock)?;
-        self.enter_note(seat, lock, request);
-        Ok(Reply::Recorded)
+        Ok(self.enter_note(seat, lock, request).reply())
     }
 
-    // The request that is recorded.
+    // The request that is noted.
     fn answer_note(&self, seat: SeatNo, lock: LockNo) -> Result<Request, Fault>
-        ensures answer { done_reply Recorded result ≡ answer_of self.now seat.0 (Note lock) }
+        ensures answer { done_reply (recorded (state_of self.now) seat.0 lock.0) result ≡ answer_of self.now seat.0 (Note lock) }
         ensures request { IfOk result (λ q. (seat_at (state_of self.now) seat.0).pending ≡ Some q) }
     {
-        if !self.is_seat(seat) {
-            return Err(Fault::UnknownSeat);
-        }
-        if !self.is_made(lock) {
-            return Err(Fault::UnknownLock);
-        }
-        match self.pending(seat) {
-            Some(request) if request.lock.0 == lock.0 => Ok(request),
-            _ => Err(Fault::NotRequested),
-        }
+        let request = self.asked(seat, lock)?;
+        Ok(request)
     }
 
-    fn enter_note(&mut self, seat: SeatNo, lock: LockNo, request: Request)
-        requires accepted { answer_of self.old seat.0 (Note lock) ≡ Ok Recorded }
+    fn enter_note(&mut self, seat: SeatNo, lock: LockNo, request: Request) -> Acquisition
+        requires accepted { answer_of self.old seat.0 (Note lock) ≡ Ok (recorded (state_of self.old) seat.0 lock.0) }
         requires request { (seat_at (state_of self.old) seat.0).pending ≡ Some request }
-        ensures { self.new ≡ logged self.old seat.0 (Note lock) Recorded }
+        ensures result { reply_to result ≡ recorded (state_of self.old) seat.0 lock.0 }
+        ensures entered { self.new ≡ logged self.old seat.0 (Note lock) (reply_to result) }
     {
         let spin = self.class_of_lock(lock).is_spin();
         let taken = Instance {
@@ -53,11 +48,14 @@ impl Verifier {
             count: 0,
             site: request.site,
         };
-        self.seats.note(seat, spin, taken);
-        self.log.push_owed(Entry {
+        let acquisition = acquire(&mut self.seats, &mut self.watch, seat, spin, taken);
+        self.seats.clear(seat);
+        let entry = Entry {
             seat,
             call: Call::Note(lock),
-            reply: Reply::Recorded,
-        });
+            reply: acquisition.reply(),
+        };
+        self.log.push_owed(entry, 1 - acquisition.owed());
+        acquisition
     }
 }

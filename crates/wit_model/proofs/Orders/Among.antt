@@ -1,6 +1,6 @@
 -- Orders are between known types, and so is what a verdict tells.
-use Rattle.std.proofs.Common.{◌≡◌, ℕ, ◌≤◌, Bool, true, false, ◌||◌, cond, eqb, List, [], ◌∷◌, ◌++◌, length, reverse, find, Option, Some, None, Result, Ok, refl, ap, sym, ◌∙◌, subst, arith, length-append, ⊎_elim, inl, inr}
-use Rattle.std.specs.List.{list_all}
+use Rattle.std.proofs.Common.{◌≡◌, ℕ, ◌≤◌, Bool, true, false, not, ◌&&◌, ◌||◌, cond, eqb, List, [], ◌∷◌, ◌++◌, length, reverse, find, Option, Some, None, Result, Ok, refl, ap, sym, ◌∙◌, subst, arith, length-append, ⊎_elim, inl, inr}
+use Rattle.std.specs.List.{list_all, last_or}
 use Rattle.std.proofs.lemmas.Bool.{and_parts, and_from, or_cases, eqb-true, false≢true}
 use Rattle.std.proofs.lemmas.List.{reverse-append}
 use Rattle.std.proofs.lemmas.List.Folds.{list_all-append}
@@ -12,29 +12,30 @@ use Rattle.wit_model.specs.declared.locks.Instance.{Instance}
 use Rattle.wit_model.specs.declared.locks.Origin.TheVariants.{Listed, At}
 use Rattle.wit_model.specs.declared.calls.Adoption.{Adoption}
 use Rattle.wit_model.specs.declared.calls.Conflict.{Conflict}
+use Rattle.wit_model.specs.declared.calls.Doubling.{Doubling}
 use Rattle.wit_model.specs.declared.calls.Request.{Request}
 use Rattle.wit_model.specs.declared.calls.Call.{Call}
 use Rattle.wit_model.specs.declared.calls.Call.TheVariants.{Init, Check}
 use Rattle.wit_model.specs.declared.calls.Reply.{Reply}
-use Rattle.wit_model.specs.declared.calls.Reply.TheVariants.{Pass, Adopted, Silent, Reversal}
+use Rattle.wit_model.specs.declared.calls.Reply.TheVariants.{Pass, Adopted, Silent, Duplicate, Reversal}
 use Rattle.wit_model.specs.declared.calls.Entry.{Entry}
-use Rattle.wit_model.specs.Rules.Types.{LockType, is_enrolled, type_number, enrolled, enrolled_all, listed_types, type_name_of, types_after}
-use Rattle.wit_model.specs.Rules.Locks.{locks_of, lock_at, is_spin_lock}
+use Rattle.wit_model.specs.Rules.Types.{LockType, class_of, is_spin, is_enrolled, type_number, enrolled, enrolled_all, listed_types, type_name_of, types_after}
+use Rattle.wit_model.specs.Rules.Locks.{locks_of, has_flag, lock_at}
 use Rattle.wit_model.specs.Rules.Orders.{is_adoption_of, is_direct, is_before, is_found, adopted_once, listed_pairs, listed_orders}
 use Rattle.wit_model.specs.Rules.History.{is_held, chain, watch_of}
 use Rattle.wit_model.specs.Rules.State.{Start, Known, Seat, seat_at, known_of, state_of, types_of, typed_locks, orders_of}
-use Rattle.wit_model.specs.Rules.Verdict.{type_in, violates, is_blessed, conflict, reported, chain_of_kind, verdict}
+use Rattle.wit_model.specs.Rules.Verdict.{type_held, has_type_of, place_of, place_asked, doubled, violates, is_blessed, conflict, reported, chain_asked, basis_of, asked_of, verdict}
 use Rattle.wit_model.specs.Rules.Step.{answer_of, story_after, IsLegal}
 use Rattle.wit_model.specs.Rules.Numbers.{is_given, IsGiven, IsNumber}
 use Rattle.wit_model.proofs.Chains.Held.{made_sane}
 use Rattle.wit_model.proofs.Chains.Seats.{entry}
 use Rattle.wit_model.proofs.Orders.TypedLocks.{length-typed, made-known}
 use Rattle.wit_model.proofs.Orders.Types.{number-known, typed_made}
-use Rattle.wit_model.proofs.Histories.Accepted.{same_reply, CheckAccepted, check_accepted}
-use Rattle.wit_model.proofs.Histories.Legal.{chain_for-state, sane_legal}
+use Rattle.wit_model.proofs.Histories.Accepted.{passed, same_reply, CheckAccepted, check_accepted}
+use Rattle.wit_model.proofs.Histories.Legal.{sane_legal}
 use Rattle.wit_model.proofs.Orders.Started.{all-enrolled}
-use Rattle.wit_model.proofs.Orders.Ruled.{Says, ruled}
-use Rattle.wit_model.proofs.Orders.Sound.{taught, chain-held}
+use Rattle.wit_model.proofs.Orders.Ruled.{Says, Passed, Learnt, Doubled, Broken, ruled}
+use Rattle.wit_model.proofs.Orders.Sound.{taught, chain-held, last_whole, type-held, chain-judged}
 
 made-type : (start : Start) (h : List Entry) (l : ℕ) → IsGiven (locks_of h) l → IsNumber (length (types_of start h)) (lock_at (typed_locks start h) l).type_no.0
 made-type start h l is =
@@ -83,68 +84,122 @@ all-find p r (x ∷ c) i all is = go (r x) is (and_parts (p x) (list_all p c) al
 found-last : (p r : Instance → Bool) (c : List Instance) (i : Instance) → list_all p c ≡ true → find r (reverse c) ≡ Some i → p i ≡ true
 found-last p r c i all is = all-find p r (reverse c) i (all-reverse p c all) is
 
+-- the last of a chain has what all have
+all-last : (p : Instance → Bool) (c : List Instance) (i : Instance) → list_all p c ≡ true → last_or None c ≡ Some i → p i ≡ true
+all-last p c i all is =
+    let s = last_whole c i is in
+    let parts = and_parts (list_all p s.0) (list_all p (i ∷ [])) (sym (list_all-append p s.0 (i ∷ [])) ∙ subst (λ d. list_all p d ≡ true) s.1 all) in
+    (and_parts (p i) true parts.1).0
+
 -- the pair of types that a reply tells of a violation
 abbrev pair_of : Known → Reply → Option (TypeNo × TypeNo)
 pair_of k (Silent a b) = Some (a, b)
-pair_of k (Reversal x) = Some (type_in k x.held.lock.0, type_in k x.asked.lock.0)
+pair_of k (Reversal x) = Some ((lock_at k.locks x.held.lock.0).type_no, (lock_at k.locks x.asked.lock.0).type_no)
+pair_of k (Duplicate d) = Some ((lock_at k.locks d.asked.lock.0).type_no, (lock_at k.locks d.asked.lock.0).type_no)
 pair_of k _ = None
 
--- the violating lock that a told pair comes from
+-- the held lock that a told pair comes from
 record IsTold (k : Known) (q : Request) (c : List Instance) (p : TypeNo × TypeNo) : Type 0 where
   held : Instance
-  violation : find (violates k q) (reverse c) ≡ Some held
-  pair : (type_in k held.lock.0, type_in k q.lock.0) ≡ p
+  of_chain : (has : Instance → Bool) → list_all has c ≡ true → has held ≡ true
+  pair : ((lock_at k.locks held.lock.0).type_no, (lock_at k.locks q.lock.0).type_no) ≡ p
 
 tells_this : (k : Known) (r s : Reply) (o p : TypeNo × TypeNo) → pair_of k r ≡ Some o → ◌≡◌ {A = Result Reply Fault} (Ok r) (Ok s) → pair_of k s ≡ Some p → o ≡ p
 tells_this k r s o p one ok is =
     let e : ◌≡◌ {A = Option (TypeNo × TypeNo)} (Some o) (Some p) = sym one ∙ (ap (λ r'. pair_of k r') (same_reply ok) ∙ is) in cc
 
-reported_told : (k : Known) (q : Request) (c : List Instance) (i : Instance) (r : Reply) (p : TypeNo × TypeNo) → reported k q c i ≡ Ok r → pair_of k r ≡ Some p
-    → (type_in k i.lock.0, type_in k q.lock.0) ≡ p
-reported_told k q c i r p ok is = go (is_found k.found (type_in k i.lock.0).0 (type_in k q.lock.0).0 || is_blessed k (type_in k i.lock.0).0 (type_in k q.lock.0).0) ok
-  where
-    go : (f : Bool) → cond {A = Result Reply Fault} f (Ok (Silent (type_in k i.lock.0) (type_in k q.lock.0))) (Ok (Reversal (conflict k q c i))) ≡ Ok r
-        → (type_in k i.lock.0, type_in k q.lock.0) ≡ p
-    go true same = tells_this k (Silent (type_in k i.lock.0) (type_in k q.lock.0)) r (type_in k i.lock.0, type_in k q.lock.0) p refl same is
-    go false same = tells_this k (Reversal (conflict k q c i)) r (type_in k i.lock.0, type_in k q.lock.0) p refl same is
+-- a pair of types as the ruling names it, and as the locks have it
+pair-held : (k : Known) (q : Request) (i : Instance)
+    → ◌≡◌ {A = TypeNo × TypeNo} (type_held (basis_of k) i, (lock_at k.locks q.lock.0).type_no) ((lock_at k.locks i.lock.0).type_no, (lock_at k.locks q.lock.0).type_no)
+pair-held k q i = ap (λ (n : TypeNo). (n, (lock_at k.locks q.lock.0).type_no)) (type-held k i)
 
-told : (k : Known) (watch : Watch) (seat : Seat) (q : Request) (r : Reply) (p : TypeNo × TypeNo) → verdict k watch seat q ≡ Ok r → pair_of k r ≡ Some p → IsTold k q (chain_of_kind k seat q.lock.0) p
-told k watch seat q r p ok is = go (ruled k watch seat q r ok)
+reported_told : (k : Known) (q : Request) (c : List Instance) (i : Instance) (r : Reply) (p : TypeNo × TypeNo) → reported (basis_of k) (asked_of k q) c i ≡ Ok r → pair_of k r ≡ Some p
+    → ((lock_at k.locks i.lock.0).type_no, (lock_at k.locks q.lock.0).type_no) ≡ p
+reported_told k q c i r p ok is =
+    go (is_found k.found (type_held (basis_of k) i).0 (lock_at k.locks q.lock.0).type_no.0 || is_blessed (basis_of k) (type_held (basis_of k) i) (lock_at k.locks q.lock.0).type_no) ok
   where
+    go : (f : Bool)
+        → cond {A = Result Reply Fault} f (Ok (Silent (type_held (basis_of k) i) (lock_at k.locks q.lock.0).type_no)) (Ok (Reversal (conflict (basis_of k) (asked_of k q) c i))) ≡ Ok r
+        → ((lock_at k.locks i.lock.0).type_no, (lock_at k.locks q.lock.0).type_no) ≡ p
+    go true same =
+        sym (pair-held k q i)
+        ∙ tells_this k (Silent (type_held (basis_of k) i) (lock_at k.locks q.lock.0).type_no) r (type_held (basis_of k) i, (lock_at k.locks q.lock.0).type_no) p refl same is
+    go false same =
+        tells_this k (Reversal (conflict (basis_of k) (asked_of k q) c i)) r ((lock_at k.locks i.lock.0).type_no, (lock_at k.locks q.lock.0).type_no) p refl same is
+
+doubled_told : (k : Known) (q : Request) (i : Instance) (r : Reply) (p : TypeNo × TypeNo) → has_type_of (basis_of k) (asked_of k q) i ≡ true
+    → doubled (basis_of k) (asked_of k q) i ≡ Ok r → pair_of k r ≡ Some p → ((lock_at k.locks i.lock.0).type_no, (lock_at k.locks q.lock.0).type_no) ≡ p
+doubled_told k q i r p same ok is =
+    ap (λ (n : TypeNo). (n, asked)) twice
+    ∙ go (has_flag (lock_at k.locks q.lock.0).made.flags.0 0x02 || has_flag q.ops.0 0x02) (is_found k.found asked.0 asked.0) ok
+  where
+    asked : TypeNo
+    asked = (lock_at k.locks q.lock.0).type_no
+
+    twice : (lock_at k.locks i.lock.0).type_no ≡ asked
+    twice = sym (type-held k i) ∙ ap (λ n. record { 0 = n }) (eqb-true (type_held (basis_of k) i).0 asked.0 same)
+
+    go : (allowed f : Bool)
+        → cond {A = Result Reply Fault} allowed (Ok Pass) (cond f (Ok (Silent asked asked)) (Ok (Duplicate (record { last = place_of i; asked = place_asked (asked_of k q) })))) ≡ Ok r
+        → (asked, asked) ≡ p
+    go true f told = let e : ◌≡◌ {A = Option (TypeNo × TypeNo)} None (Some p) = ap (λ r'. pair_of k r') (same_reply told) ∙ is in cc
+    go false true told = tells_this k (Silent asked asked) r (asked, asked) p refl told is
+    go false false told = tells_this k (Duplicate (record { last = place_of i; asked = place_asked (asked_of k q) })) r (asked, asked) p refl told is
+
+told : (k : Known) (watch : Watch) (seat : Seat) (q : Request) (r : Reply) (p : TypeNo × TypeNo) → verdict k watch seat q ≡ Ok r → pair_of k r ≡ Some p
+    → IsTold k q (chain_asked (basis_of k) seat.sleep seat.spin (asked_of k q)) p
+told k watch seat q r p ok is = go (ruled (basis_of k) watch seat.sleep seat.spin (asked_of k q) r ok)
+  where
+    c : List Instance
+    c = chain_asked (basis_of k) seat.sleep seat.spin (asked_of k q)
+
     none : (s : Reply) → r ≡ s → pair_of k s ≡ None → ⊥
     none s same untold = let e : ◌≡◌ {A = Option (TypeNo × TypeNo)} None (Some p) = sym untold ∙ (ap (λ r'. pair_of k r') (sym same) ∙ is) in cc
 
-    go : Says k q (chain_of_kind k seat q.lock.0) r → IsTold k q (chain_of_kind k seat q.lock.0) p
-    go (inl passes) = absurd (none Pass passes refl)
-    go (inr (inl l)) = absurd (none (Adopted (type_in k l.last.lock.0) (type_in k q.lock.0)) l.reply refl)
-    go (inr (inr broken)) = record {
+    go : Says (basis_of k) watch (asked_of k q) c r → IsTold k q c p
+    go (Passed passes why) = absurd (none Pass passes refl)
+    go (Learnt l) = absurd (none (Adopted (type_held (basis_of k) l.last) (lock_at k.locks q.lock.0).type_no) l.reply refl)
+    go (Doubled d) = record {
+      held = d.last;
+      of_chain = λ has all. all-last has c d.last all d.behind.is_last;
+      pair = doubled_told k q d.last r p d.same d.reply is;
+    }
+    go (Broken broken) = record {
       held = broken.held;
-      violation = broken.violation;
-      pair = reported_told k q (chain_of_kind k seat q.lock.0) broken.held r p broken.reply is;
+      of_chain = λ has all. found-last has (violates (basis_of k) (asked_of k q)) c broken.held all broken.violation;
+      pair = reported_told k q c broken.held r p broken.reply is;
     }
 
 told-known : (start : Start) (files : List (List ℕ)) (h : List Entry) (t : ℕ) (q : Request) (r : Reply) (p : TypeNo × TypeNo) → IsLegal start files h
     → CheckAccepted (state_of (story_after start files h)) t q r → pair_of (known_of start h) r ≡ Some p
     → IsNumber (length (types_of start h)) p.0.0 × IsNumber (length (types_of start h)) p.1.0
 told-known start files h t q r p legal accepted is =
-    let l = told (known_of start h) (watch_of h) (seat_at (state_of (story_after start files h)) t) q r p accepted.verdict is in
+    let s = state_of (story_after start files h) in
+    let l = told (known_of start h) s.watch (seat_at s t) q r p accepted.verdict is in
+    let kind = is_spin (class_of (lock_at (typed_locks start h) q.lock.0).type_no.0 (types_of start h)) in
     let held : is_held t l.held.lock.0 h ≡ true =
-    found-last (λ (i : Instance). is_held t i.lock.0 h) (violates (known_of start h) q) (chain (is_spin_lock (locks_of h) q.lock.0) t h) l.held
-    (chain-held (is_spin_lock (locks_of h) q.lock.0) t h)
-    (subst (λ c. find (violates (known_of start h) q) (reverse c) ≡ Some l.held) (chain_for-state start files h t q.lock.0 accepted.seat) l.violation) in
+    l.of_chain (λ (i : Instance). is_held t i.lock.0 h)
+    (subst (λ c. list_all (λ (i : Instance). is_held t i.lock.0 h) c ≡ true) (sym (chain-judged start files h t q accepted.seat)) (chain-held kind t h)) in
     subst (λ (p' : TypeNo × TypeNo). IsNumber (length (types_of start h)) p'.0.0 × IsNumber (length (types_of start h)) p'.1.0) l.pair
     (made-type start h l.held.lock.0 (made_sane t l.held.lock.0 h (sane_legal start files h legal) held), lock-type start h q.lock.0 accepted.lock)
 
--- the pair that a silent check, or a reversal, tells is of known types
+-- the pair that a silent check, a duplicate or a reversal tells is of known types
 pub silent-known : (start : Start) (files : List (List ℕ)) (h : List Entry) (t : ℕ) (q : Request) (a b : TypeNo) → IsLegal start files h
     → CheckAccepted (state_of (story_after start files h)) t q (Silent a b) → IsNumber (length (types_of start h)) a.0 × IsNumber (length (types_of start h)) b.0
 silent-known start files h t q a b legal accepted = told-known start files h t q (Silent a b) (a, b) legal accepted refl
+
+pub duplicate-known : (start : Start) (files : List (List ℕ)) (h : List Entry) (t : ℕ) (q : Request) (d : Doubling) → IsLegal start files h
+    → CheckAccepted (state_of (story_after start files h)) t q (Duplicate d)
+    → IsNumber (length (types_of start h)) (lock_at (typed_locks start h) d.asked.lock.0).type_no.0
+duplicate-known start files h t q d legal accepted =
+    (told-known start files h t q (Duplicate d)
+    ((lock_at (typed_locks start h) d.asked.lock.0).type_no, (lock_at (typed_locks start h) d.asked.lock.0).type_no) legal accepted refl).1
 
 pub reversal-known : (start : Start) (files : List (List ℕ)) (h : List Entry) (t : ℕ) (q : Request) (x : Conflict) → IsLegal start files h
     → CheckAccepted (state_of (story_after start files h)) t q (Reversal x)
     → IsNumber (length (types_of start h)) (lock_at (typed_locks start h) x.held.lock.0).type_no.0 × IsNumber (length (types_of start h)) (lock_at (typed_locks start h) x.asked.lock.0).type_no.0
 reversal-known start files h t q x legal accepted =
-    told-known start files h t q (Reversal x) (type_in (known_of start h) x.held.lock.0, type_in (known_of start h) x.asked.lock.0) legal accepted refl
+    told-known start files h t q (Reversal x) ((lock_at (typed_locks start h) x.held.lock.0).type_no, (lock_at (typed_locks start h) x.asked.lock.0).type_no) legal accepted refl
 
 -- orders between n types
 AreAmong : ℕ → List Adoption → Type 0

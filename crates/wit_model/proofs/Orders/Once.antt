@@ -12,6 +12,7 @@ use Rattle.wit_model.specs.declared.calls.Entry.{Entry}
 use Rattle.wit_model.specs.Rules.Types.{LockType, type_number, enrolled_all}
 use Rattle.wit_model.specs.Rules.Orders.{is_direct, AreDistinct, adopted_once, listed_pairs, listed_orders}
 use Rattle.wit_model.specs.Rules.State.{Start, seat_at, known_of, state_of, orders_of}
+use Rattle.wit_model.specs.Rules.Verdict.{basis_of, asked_of}
 use Rattle.wit_model.specs.Rules.Step.{answer_of, story_after, IsLegal}
 use Rattle.wit_model.proofs.Chains.Seats.{entry}
 use Rattle.wit_model.proofs.Histories.Accepted.{check_accepted}
@@ -40,8 +41,9 @@ distinct_by : (start : Start) (files : List (List ℕ)) (h : List Entry) (t : �
     → AreDistinct (orders_of start h) → AreDistinct (orders_of start (entry t c r ∷ h))
 distinct_by start files h t (Check q) (Adopted a b) ok all =
     let s = state_of (story_after start files h) in
-    let l = learnt (known_of start h) s.watch (seat_at s t) q a b (check_accepted s t q (Adopted a b) ok).verdict in
-    (ap₂ (λ (x y : TypeNo). is_direct (orders_of start h) x.0 y.0) (sym l.parent) (sym l.child) ∙ l.new, all)
+    let l =
+    learnt (basis_of (known_of start h)) s.watch (seat_at s t).sleep (seat_at s t).spin (asked_of (known_of start h) q) a b (check_accepted s t q (Adopted a b) ok).verdict in
+    (ap₂ (λ (x y : TypeNo). is_direct (orders_of start h) x.0 y.0) (sym l.parent) (sym l.child) ∙ l.is_new.new, all)
 distinct_by start files h t c r ok all = all
 
 -- no order is adopted twice

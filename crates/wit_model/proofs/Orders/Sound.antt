@@ -1,35 +1,36 @@
 -- An order is learnt only where it turns none round: so no type is ever before itself.
-use Rattle.std.proofs.Common.{◌≡◌, ℕ, Bool, true, false, ◌&&◌, ◌||◌, cond, List, [], ◌∷◌, ◌++◌, reverse, find, map, Option, Some, None, Result, Ok, refl, ap, sym, ◌∙◌, subst, arith, inl, inr}
+use Rattle.std.proofs.Common.{◌≡◌, ℕ, Bool, true, false, not, ◌&&◌, ◌||◌, cond, List, [], ◌∷◌, ◌++◌, reverse, find, map, Option, Some, None, Result, Ok, refl, ap, sym, ◌∙◌, subst, arith}
 use Rattle.std.specs.List.{list_all, last_or}
-use Rattle.std.proofs.lemmas.Bool.{and_parts, eq-eqb, true≢false}
-use Rattle.std.proofs.lemmas.List.{reverse-append}
+use Rattle.std.proofs.lemmas.Bool.{and_parts, eq-eqb, true≢false, not-true}
 use Rattle.std.proofs.lemmas.List.Folds.{list_all-append}
 use Rattle.wit_model.specs.declared.faults.Fault.{Fault}
 use Rattle.wit_model.specs.declared.locks.TypeNo.{TypeNo}
 use Rattle.wit_model.specs.declared.locks.Watch.{Watch}
 use Rattle.wit_model.specs.declared.locks.Instance.{Instance}
 use Rattle.wit_model.specs.declared.locks.Origin.TheVariants.{At}
+use Rattle.wit_model.specs.declared.calls.Asked.{Asked}
 use Rattle.wit_model.specs.declared.calls.Request.{Request}
 use Rattle.wit_model.specs.declared.calls.Call.{Call}
 use Rattle.wit_model.specs.declared.calls.Call.TheVariants.{Check}
 use Rattle.wit_model.specs.declared.calls.Reply.{Reply}
-use Rattle.wit_model.specs.declared.calls.Reply.TheVariants.{Adopted, Silent, Reversal}
+use Rattle.wit_model.specs.declared.calls.Reply.TheVariants.{Pass, Adopted, Silent, Duplicate, Reversal}
 use Rattle.wit_model.specs.declared.calls.Entry.{Entry}
-use Rattle.wit_model.specs.Rules.Locks.{locks_of, has_flag, is_spin_lock, is_of_kind}
-use Rattle.wit_model.specs.Rules.Orders.{is_direct, is_before, is_found, IsSound}
-use Rattle.wit_model.specs.Rules.History.{is_held, held_of, chain, instance, watch_of}
-use Rattle.wit_model.specs.Rules.State.{Start, Known, Seat, seat_at, known_of, state_of, orders_of}
-use Rattle.wit_model.specs.Rules.Verdict.{is_of, type_in, violates, is_blessed, conflict, reported, chain_of_kind, verdict}
-use Rattle.wit_model.specs.Rules.Step.{chain_for, answer_of, story_after, IsLegal}
+use Rattle.wit_model.specs.Rules.Types.{is_spin, class_of}
+use Rattle.wit_model.specs.Rules.Locks.{Lock, locks_of, has_flag, lock_at, unknown_lock, is_of_kind}
+use Rattle.wit_model.specs.Rules.Orders.{is_before, is_found, IsSound}
+use Rattle.wit_model.specs.Rules.History.{is_held, held_of, chain, instance}
+use Rattle.wit_model.specs.Rules.State.{Start, Known, Seat, seat_at, is_seat, known_of, state_of, types_of, typed_locks, orders_of}
+use Rattle.wit_model.specs.Rules.Verdict.{Basis, type_held, is_sleepable, is_giant, place_of, place_asked, doubled, violates, is_blessed, conflict, reported, is_learnt, chain_asked, ruling, basis_of, asked_of}
+use Rattle.wit_model.specs.Rules.Step.{answer_of, story_after, IsLegal}
 use Rattle.wit_model.specs.Rules.Numbers.{IsGiven}
+use Rattle.wit_model.proofs.Numbered.{with_number-or-map}
 use Rattle.wit_model.proofs.Orders.Paths.{sound_adopt}
-use Rattle.wit_model.proofs.Orders.Ruled.{Says, ruled}
+use Rattle.wit_model.proofs.Orders.Ruled.{IsNew, Says, Passed, Learnt, Doubled, Broken, ruled}
 use Rattle.wit_model.proofs.Chains.Held.{made_sane, held_of-all}
 use Rattle.wit_model.proofs.Chains.Seats.{entry}
-use Rattle.wit_model.proofs.Orders.TypedLocks.{length-typed, made-known}
-use Rattle.wit_model.proofs.Orders.Types.{types-apart}
+use Rattle.wit_model.proofs.Orders.TypedLocks.{made-known}
 use Rattle.wit_model.proofs.Histories.Accepted.{CheckAccepted, check_accepted}
-use Rattle.wit_model.proofs.Histories.Legal.{chain_for-state, sane_legal}
+use Rattle.wit_model.proofs.Histories.Legal.{seat_at-state, one_chain, sane_legal}
 
 last_front : (d : Instance) (c : List Instance) (x : Instance) → last_or (Some d) c ≡ Some x → (front : List Instance) × (d ∷ c ≡ front ++ x ∷ [])
 last_front d [] x is = ([], ap (λ j. j ∷ []) (let e : d ≡ x = cc in e))
@@ -40,51 +41,46 @@ pub last_whole : (c : List Instance) (x : Instance) → last_or None c ≡ Some 
 last_whole [] x is = (cc)
 last_whole (i ∷ c) x is = last_front i c x is
 
-cond-none : {X : Type 0} (b : Bool) (x : X) (o : Option X) → cond b (Some x) o ≡ None → (b ≡ false) × (o ≡ None)
-cond-none true x o is = (cc)
-cond-none false x o is = (refl, is)
-
-find-last : (p : Instance → Bool) (front : List Instance) (x : Instance) → find p (front ++ x ∷ []) ≡ None → p x ≡ false
-find-last p [] x is = (cond-none (p x) x None is).0
-find-last p (y ∷ front) x is = find-last p front x (cond-none (p y) y (find p (front ++ x ∷ [])) is).1
-
-find-first : (p : Instance → Bool) (front : List Instance) (x : Instance) → find p (reverse (front ++ x ∷ [])) ≡ None → p x ≡ false
-find-first p front x is = (cond-none (p x) x (find p (reverse front)) (sym (ap (λ c. find p c) (reverse-append front (x ∷ []))) ∙ is)).0
-
 -- what a learnt order says of the chain
-pub record IsLearnt (k : Known) (q : Request) (c : List Instance) (p child' : TypeNo) : Type 0 where
+pub record IsLearnt (g : Basis) (q : Asked) (c : List Instance) (p child' : TypeNo) : Type 0 where
   pub last : Instance
-  pub is_last : last_or None c ≡ Some last
-  pub free : find (is_of q.lock.0) c ≡ None
-  pub new : is_direct k.orders (type_in k last.lock.0).0 (type_in k q.lock.0).0 ≡ false
-  pub orderly : find (violates k q) (reverse c) ≡ None
-  pub allowed : has_flag q.ops.0 0x01 ≡ true
-  pub parent : type_in k last.lock.0 ≡ p
-  pub child : type_in k q.lock.0 ≡ child'
+  pub is_new : IsNew g q c last
+  pub orderly : find (violates g q) (reverse c) ≡ None
+  pub allowed : is_learnt g q last ≡ true
+  pub parent : type_held g last ≡ p
+  pub child : q.type_no ≡ child'
 
-reported_teaches_nothing : (k : Known) (q : Request) (c : List Instance) (i : Instance) (a b : TypeNo) → reported k q c i ≡ Ok (Adopted a b) → ⊥
-reported_teaches_nothing k q c i a b ok = go (is_found k.found (type_in k i.lock.0).0 (type_in k q.lock.0).0 || is_blessed k (type_in k i.lock.0).0 (type_in k q.lock.0).0) ok
+reported_teaches_nothing : (g : Basis) (q : Asked) (c : List Instance) (i : Instance) (a b : TypeNo) → reported g q c i ≡ Ok (Adopted a b) → ⊥
+reported_teaches_nothing g q c i a b ok = go (is_found g.found (type_held g i).0 q.type_no.0 || is_blessed g (type_held g i) q.type_no) ok
   where
-    go : (f : Bool) → cond {A = Result Reply Fault} f (Ok (Silent (type_in k i.lock.0) (type_in k q.lock.0))) (Ok (Reversal (conflict k q c i))) ≡ Ok (Adopted a b) → ⊥
+    go : (f : Bool) → cond {A = Result Reply Fault} f (Ok (Silent (type_held g i) q.type_no)) (Ok (Reversal (conflict g q c i))) ≡ Ok (Adopted a b) → ⊥
     go true same = (cc)
     go false same = (cc)
 
-pub learnt : (k : Known) (watch : Watch) (seat : Seat) (q : Request) (a b : TypeNo) → verdict k watch seat q ≡ Ok (Adopted a b) → IsLearnt k q (chain_of_kind k seat q.lock.0) a b
-learnt k watch seat q a b ok = go (ruled k watch seat q (Adopted a b) ok)
+doubled_teaches_nothing : (g : Basis) (q : Asked) (i : Instance) (a b : TypeNo) → doubled g q i ≡ Ok (Adopted a b) → ⊥
+doubled_teaches_nothing g q i a b ok = go (has_flag q.flags.0 0x02 || has_flag q.ops.0 0x02) (is_found g.found q.type_no.0 q.type_no.0) ok
   where
-    go : Says k q (chain_of_kind k seat q.lock.0) (Adopted a b) → IsLearnt k q (chain_of_kind k seat q.lock.0) a b
-    go (inl passes) = (cc)
-    go (inr (inl l)) = record {
+    go : (allowed f : Bool) → cond {A = Result Reply Fault} allowed (Ok Pass) (cond f (Ok (Silent q.type_no q.type_no)) (Ok (Duplicate (record { last = place_of i; asked = place_asked q })))) ≡ Ok (Adopted a b) → ⊥
+    go true f same = (cc)
+    go false true same = (cc)
+    go false false same = (cc)
+
+pub learnt : (g : Basis) (watch : Watch) (sleep spin : List Instance) (q : Asked) (a b : TypeNo) → ruling g watch sleep spin q ≡ Ok (Adopted a b)
+    → IsLearnt g q (chain_asked g sleep spin q) a b
+learnt g watch sleep spin q a b ok = go (ruled g watch sleep spin q (Adopted a b) ok)
+  where
+    go : Says g watch q (chain_asked g sleep spin q) (Adopted a b) → IsLearnt g q (chain_asked g sleep spin q) a b
+    go (Passed passes why) = (cc)
+    go (Doubled d) = absurd (doubled_teaches_nothing g q d.last a b d.reply)
+    go (Broken broken) = absurd (reported_teaches_nothing g q (chain_asked g sleep spin q) broken.held a b broken.reply)
+    go (Learnt l) = record {
       last = l.last;
-      is_last = l.is_last;
-      free = l.free;
-      new = l.new;
+      is_new = l.is_new;
       orderly = l.orderly;
       allowed = l.allowed;
-      parent = (let e : a ≡ type_in k l.last.lock.0 = (let same = l.reply in cc) in sym e);
-      child = (let e : b ≡ type_in k q.lock.0 = (let same = l.reply in cc) in sym e);
+      parent = (let e : a ≡ type_held g l.last = (let same = l.reply in cc) in sym e);
+      child = (let e : b ≡ q.type_no = (let same = l.reply in cc) in sym e);
     }
-    go (inr (inr broken)) = absurd (reported_teaches_nothing k q (chain_of_kind k seat q.lock.0) broken.held a b broken.reply)
 
 through : (t : ℕ) (h : List Entry) (k : Bool) (ls : List ℕ) → list_all (λ l. is_held t l h && is_of_kind k (locks_of h) l) ls ≡ true
     → list_all (λ (i : Instance). is_held t i.lock.0 h) (map (instance t h) ls) ≡ true
@@ -109,47 +105,60 @@ last-held k t h x is =
     all-last (λ (i : Instance). is_held t i.lock.0 h) s.0 x (subst (λ c. list_all (λ (i : Instance). is_held t i.lock.0 h) c ≡ true) s.1 (chain-held k t h))
 
 -- a learnt order isn't turned round, and its types differ
-learnt-orderly : (k : Known) (q : Request) (c : List Instance) (a b : TypeNo) → IsLearnt k q c a b → is_before k.orders b.0 a.0 ≡ false
-learnt-orderly k q c a b l =
-    let s = last_whole c l.last l.is_last in
-    subst (λ (x : TypeNo). is_before k.orders b.0 x.0 ≡ false) l.parent
-    (subst (λ (x : TypeNo). is_before k.orders x.0 (type_in k l.last.lock.0).0 ≡ false) l.child
-    (find-first (violates k q) s.0 l.last (subst (λ d. find (violates k q) (reverse d) ≡ None) s.1 l.orderly)))
+learnt-orderly : (g : Basis) (q : Asked) (c : List Instance) (a b : TypeNo) → IsLearnt g q c a b → is_before g.orders b.0 a.0 ≡ false
+learnt-orderly g q c a b l =
+    let parts =
+    and_parts (has_flag q.ops.0 0x01 && not (is_giant g (type_held g l.last) && is_sleepable g q.type_no)) (not (is_before g.orders q.type_no.0 (type_held g l.last).0)) l.allowed in
+    subst (λ (x : TypeNo). is_before g.orders b.0 x.0 ≡ false) l.parent
+    (subst (λ (x : TypeNo). is_before g.orders x.0 (type_held g l.last).0 ≡ false) l.child (not-true (is_before g.orders q.type_no.0 (type_held g l.last).0) parts.1))
 
-learnt-free : (k : Known) (q : Request) (c : List Instance) (a b : TypeNo) → (l : IsLearnt k q c a b) → l.last.lock.0 ≡ q.lock.0 → ⊥
-learnt-free k q c a b l same =
-    let s = last_whole c l.last l.is_last in
-    true≢false (sym (eq-eqb l.last.lock.0 q.lock.0 same) ∙ find-last (is_of q.lock.0) s.0 l.last (subst (λ d. find (is_of q.lock.0) d ≡ None) s.1 l.free))
+learnt-apart : (g : Basis) (q : Asked) (c : List Instance) (a b : TypeNo) → IsLearnt g q c a b → a.0 ≡ b.0 → ⊥
+learnt-apart g q c a b l same =
+    true≢false
+    (sym (eq-eqb (type_held g l.last).0 q.type_no.0 (ap (λ (n : TypeNo). n.0) l.parent ∙ same ∙ sym (ap (λ (n : TypeNo). n.0) l.child)))
+    ∙ l.is_new.apart)
+
+-- the type of a held lock, by what a verifier knows
+pub type-held : (k : Known) (i : Instance) → type_held (basis_of k) i ≡ (lock_at k.locks i.lock.0).type_no
+type-held k i = with_number-or-map (λ (l : Lock). l.type_no) k.locks i.lock.0 unknown_lock
+
+-- the chain that a seat's request is judged by
+pub chain-judged : (start : Start) (files : List (List ℕ)) (h : List Entry) (t : ℕ) (q : Request) → is_seat (state_of (story_after start files h)) t ≡ true
+    → chain_asked (basis_of (known_of start h)) (seat_at (state_of (story_after start files h)) t).sleep (seat_at (state_of (story_after start files h)) t).spin (asked_of (known_of start h) q)
+    ≡ chain (is_spin (class_of (lock_at (typed_locks start h) q.lock.0).type_no.0 (types_of start h))) t h
+chain-judged start files h t q is =
+    ap (λ (s : Seat). chain_asked (basis_of (known_of start h)) s.sleep s.spin (asked_of (known_of start h) q)) (seat_at-state start files h t is)
+    ∙ one_chain (is_spin (class_of (lock_at (typed_locks start h) q.lock.0).type_no.0 (types_of start h))) t h
 
 -- what a check that teaches an order says of it: which made locks are of its types, that these differ, and that the child isn't before the parent
 pub record IsTaught (start : Start) (h : List Entry) (q : Request) (a b : TypeNo) : Type 0 where
   pub last : ℕ
   pub was : IsGiven (locks_of h) last
   pub asks : IsGiven (locks_of h) q.lock.0
-  pub parent : type_in (known_of start h) last ≡ a
-  pub child : type_in (known_of start h) q.lock.0 ≡ b
+  pub parent : (lock_at (typed_locks start h) last).type_no ≡ a
+  pub child : (lock_at (typed_locks start h) q.lock.0).type_no ≡ b
   pub apart : a.0 ≡ b.0 → ⊥
   pub orderly : is_before (orders_of start h) b.0 a.0 ≡ false
 
 pub taught : (start : Start) (files : List (List ℕ)) (h : List Entry) (t : ℕ) (q : Request) (a b : TypeNo) → IsLegal start files h
     → CheckAccepted (state_of (story_after start files h)) t q (Adopted a b) → IsTaught start h q a b
 taught start files h t q a b legal accepted =
-    let sane = sane_legal start files h legal in
-    let l = learnt (known_of start h) (watch_of h) (seat_at (state_of (story_after start files h)) t) q a b accepted.verdict in
-    let held : is_held t l.last.lock.0 h ≡ true = last-held (is_spin_lock (locks_of h) q.lock.0) t h l.last
-    (subst (λ c. last_or None c ≡ Some l.last) (chain_for-state start files h t q.lock.0 accepted.seat) l.is_last) in
-    let was = made_sane t l.last.lock.0 h sane held in
-    let asks = made-known start h q.lock.0 accepted.lock in
+    let s = state_of (story_after start files h) in
+    let g = basis_of (known_of start h) in
+    let asked = asked_of (known_of start h) q in
+    let c = chain_asked g (seat_at s t).sleep (seat_at s t).spin asked in
+    let kind = is_spin (class_of (lock_at (typed_locks start h) q.lock.0).type_no.0 (types_of start h)) in
+    let l = learnt g s.watch (seat_at s t).sleep (seat_at s t).spin asked a b accepted.verdict in
+    let held : is_held t l.last.lock.0 h ≡ true =
+    last-held kind t h l.last (subst (λ c. last_or None c ≡ Some l.last) (chain-judged start files h t q accepted.seat) l.is_new.behind.is_last) in
     record {
       last = l.last.lock.0;
-      was = was;
-      asks = asks;
-      parent = l.parent;
+      was = made_sane t l.last.lock.0 h (sane_legal start files h legal) held;
+      asks = made-known start h q.lock.0 accepted.lock;
+      parent = sym (type-held (known_of start h) l.last) ∙ l.parent;
       child = l.child;
-      apart = λ (same : a.0 ≡ b.0). learnt-free (known_of start h) q (chain_for (state_of (story_after start files h)) t q.lock.0) a b l
-          (types-apart start files h l.last.lock.0 q.lock.0 legal was.0 (omega (arith, was.1, length-typed start h)) asks.0 (omega (arith, asks.1, length-typed start h))
-          (ap (λ (n : TypeNo). n.0) l.parent ∙ same ∙ sym (ap (λ (n : TypeNo). n.0) l.child)));
-      orderly = learnt-orderly (known_of start h) q (chain_for (state_of (story_after start files h)) t q.lock.0) a b l;
+      apart = learnt-apart g asked c a b l;
+      orderly = learnt-orderly g asked c a b l;
     }
 
 sound_check : (start : Start) (files : List (List ℕ)) (h : List Entry) (t : ℕ) (q : Request) (a b : TypeNo) → IsLegal start files h

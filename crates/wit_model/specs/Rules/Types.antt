@@ -47,6 +47,10 @@ no_type = record { name = []; class = SleepMutex }
 abbrev pub name_of : ℕ → List LockType → List ℕ
 name_of number types = (unwrap_or (with_number types number) no_type).name
 
+-- its class
+abbrev pub class_of : ℕ → List LockType → Class
+class_of number types = (unwrap_or (with_number types number) no_type).class
+
 -- the types once this name is enrolled: a known name stays where it is
 abbrev pub enrolled : List ℕ → Class → List LockType → List LockType
 enrolled name class types = if is_enrolled name types then types else types ++ record { name = name; class = class } ∷ []

@@ -1,89 +1,75 @@
 -- The verdict of a check: WITNESS compares the requested lock with the held ones (witness(4); the comments of
 -- witness_checkorder in subr_witness.c). The first rule that applies decides.
-use Rattle.std.specs.Prelude.{ℕ, Bool, true, false, not, ◌&&◌, ◌||◌, ◌==◌, List, [], ◌∷◌, Option, None, Some, is_some, is_none, Result, Ok, Err, reverse, find, if◌then◌else◌}
+use Rattle.std.specs.Prelude.{ℕ, Bool, true, false, not, ◌&&◌, ◌||◌, ◌==◌, List, [], ◌∷◌, Option, None, Some, is_some, is_none, unwrap_or, Result, Ok, Err, codes, map, reverse, find, if◌then◌else◌}
 use Rattle.std.specs.List.{list_any, last_or, before_first}
 use Rattle.std.specs.Option.{option_map}
 use Rattle.std.specs.Str.{bytes_eq}
 use Rattle.wit_model.specs.declared.faults.Fault.{Fault}
 use Rattle.wit_model.specs.declared.faults.Fault.TheVariants.{SleepUnderSpin, SharedOfExclusive, ExclusiveOfShared, Recursed}
+use Rattle.wit_model.specs.declared.locks.Class.TheVariants.{SleepMutex, Sx}
 use Rattle.wit_model.specs.declared.locks.Mode.{Mode}
 use Rattle.wit_model.specs.declared.locks.Mode.TheVariants.{Shared, Exclusive}
 use Rattle.wit_model.specs.declared.locks.Watch.{Watch}
 use Rattle.wit_model.specs.declared.locks.Instance.{Instance}
 use Rattle.wit_model.specs.declared.locks.TypeNo.{TypeNo}
-use Rattle.wit_model.specs.declared.calls.Heading.TheVariants.{Order}
+use Rattle.wit_model.specs.declared.calls.Adoption.{Adoption}
+use Rattle.wit_model.specs.declared.calls.Heading.{Heading}
+use Rattle.wit_model.specs.declared.calls.Heading.TheVariants as heading
 use Rattle.wit_model.specs.declared.calls.LockAt.{LockAt}
 use Rattle.wit_model.specs.declared.calls.Conflict.{Conflict}
+use Rattle.wit_model.specs.declared.calls.Doubling.{Doubling}
 use Rattle.wit_model.specs.declared.calls.Reply.{Reply}
-use Rattle.wit_model.specs.declared.calls.Reply.TheVariants.{Pass, Adopted, Silent, Reversal}
+use Rattle.wit_model.specs.declared.calls.Reply.TheVariants.{Pass, Adopted, Silent, Duplicate, Reversal}
 use Rattle.wit_model.specs.declared.calls.Request.{Request}
-use Rattle.wit_model.specs.Rules.History.{is_on}
-use Rattle.wit_model.specs.Rules.Types.{name_of, is_spin}
-use Rattle.wit_model.specs.Rules.Locks.{has_flag, lock_at}
+use Rattle.wit_model.specs.declared.calls.Asked.{Asked}
+use Rattle.wit_model.specs.Rules.Numbers.{with_number}
+use Rattle.wit_model.specs.Rules.Types.{LockType, name_of, class_of, is_same_class, is_spin}
+use Rattle.wit_model.specs.Rules.Locks.{Lock, has_flag, lock_at}
 use Rattle.wit_model.specs.Rules.Orders.{is_direct, is_before, is_found}
+use Rattle.wit_model.specs.Rules.History.{is_on}
 use Rattle.wit_model.specs.Rules.State.{Known, Seat, chain_in}
+
+-- what a verdict rests on: the types, the type of each lock by the lock's number, the adopted orders, the pairs of types found in
+-- violation, and the pairs of type names that may be taken in either order
+pub record Basis : Type 0 where
+  pub types : List LockType
+  pub lock_types : List TypeNo
+  pub orders : List Adoption
+  pub found : List (TypeNo × TypeNo)
+  pub blessed : List (List ℕ × List ℕ)
 
 abbrev pub is_exclusive : Mode → Bool
 is_exclusive Exclusive = true
 is_exclusive Shared = false
 
+-- ---- held locks and types
+
 -- whether this is a held acquisition of the lock
 abbrev pub is_of : ℕ → Instance → Bool
 is_of l i = i.lock.0 == l
 
--- the type of a lock, by its number
-abbrev pub type_in : Known → ℕ → TypeNo
-type_in k l = (lock_at k.locks l).type_no
+-- the type of a held lock
+abbrev pub type_held : Basis → Instance → TypeNo
+type_held g i = unwrap_or (with_number g.lock_types i.lock.0) (record { 0 = 0 })
 
--- a held lock that is asked for again: the modes must agree, and the lock has to be recursable where it is exclusive.
--- Flags of a request: 0x04 the caller doesn't hold the lock; of a lock: 0x01 recursable
-abbrev pub again : Known → Request → Instance → Result Reply Fault
-again k q i =
-    if is_exclusive i.mode && not (is_exclusive q.mode) then Err SharedOfExclusive
-    else if not (is_exclusive i.mode) && is_exclusive q.mode then Err ExclusiveOfShared
-    else if has_flag q.ops.0 0x04 then Err Recursed
-    else if is_exclusive i.mode && not (has_flag (lock_at k.locks q.lock.0).made.flags.0 0x01) then Err Recursed
-    else Ok Pass
+abbrev pub has_type_of : Basis → Asked → Instance → Bool
+has_type_of g q i = (type_held g i).0 == q.type_no.0
 
--- whether a held lock violates the known order: the requested type is before the held one's
-abbrev pub violates : Known → Request → Instance → Bool
-violates k q i = is_before k.orders (type_in k q.lock.0).0 (type_in k i.lock.0).0
+-- the holder of such a lock may sleep (sx(9))
+abbrev pub is_sleepable : Basis → TypeNo → Bool
+is_sleepable g t = is_same_class (class_of t.0 g.types) Sx
 
-abbrev pub has_type_of : Known → Request → Instance → Bool
-has_type_of k q i = (type_in k i.lock.0).0 == (type_in k q.lock.0).0
+-- Giant is the mutex of that name (locking(9))
+abbrev pub is_giant : Basis → TypeNo → Bool
+is_giant g t = is_same_class (class_of t.0 g.types) SleepMutex && bytes_eq (name_of t.0 g.types) (codes "Giant")
 
 abbrev pub place_of : Instance → LockAt
 place_of i = record { lock = i.lock; site = i.site }
 
-abbrev pub place_if : Option Instance → Option LockAt
-place_if None = None
-place_if (Some i) = Some (place_of i)
+abbrev pub place_asked : Asked → LockAt
+place_asked q = record { lock = q.lock; site = q.site }
 
--- what is told of a reversal: the violating held lock, the newest held lock of the requested type among those older
--- than it, and the requested lock
-abbrev pub conflict : Known → Request → List Instance → Instance → Conflict
-conflict k q chain i = record {
-  heading = Order;
-  held = place_of i;
-  older = place_if (find (has_type_of k q) (reverse (before_first (is_of i.lock.0) chain)));
-  asked = record { lock = q.lock; site = q.site };
-}
-
-abbrev pub is_named_pair : List ℕ → List ℕ → List ℕ × List ℕ → Bool
-is_named_pair a b p = (bytes_eq p.0 a && bytes_eq p.1 b) || (bytes_eq p.0 b && bytes_eq p.1 a)
-
--- whether these types may be taken in either order: the "blessed" pairs of subr_witness.c
-abbrev pub is_blessed : Known → ℕ → ℕ → Bool
-is_blessed k a b = list_any (is_named_pair (name_of a k.types) (name_of b k.types)) k.blessed
-
--- a violation is reported, once for a pair of types, and never where the pair is blessed
-abbrev pub reported : Known → Request → List Instance → Instance → Result Reply Fault
-reported k q chain i =
-    if is_found k.found (type_in k i.lock.0).0 (type_in k q.lock.0).0 || is_blessed k (type_in k i.lock.0).0 (type_in k q.lock.0).0
-    then Ok (Silent (type_in k i.lock.0) (type_in k q.lock.0))
-    else Ok (Reversal (conflict k q chain i))
-
--- ---- the rules: each has an answer, or leaves it to the next
+-- ---- each rule has an answer, or leaves it to the next
 
 abbrev pub Rule : Type 0
 Rule = Option (Result Reply Fault)
@@ -97,50 +83,150 @@ decided [] = Ok Pass
 decided (None ∷ rules) = decided rules
 decided (Some answer ∷ rules) = answer
 
--- not everything is watched
-abbrev pub is_unwatched : Watch → Rule
-is_unwatched watch = when (not (is_on watch)) (Ok Pass)
+-- 1: not everything is watched
+abbrev pub isnt_watched : Watch → Rule
+isnt_watched watch = when (not (is_on watch)) (Ok Pass)
 
--- a spin lock is held, and a lock of the sleep kind asked for
-abbrev pub sleeps_under_spin : Known → Seat → Request → Rule
-sleeps_under_spin k seat q = when (not (is_spin (lock_at k.locks q.lock.0).made.class) && is_some (last_or None seat.spin)) (Err SleepUnderSpin)
+-- 2: a spin lock is held, and a lock of the sleep kind asked for
+abbrev pub sleeps_under_spin : Basis → List Instance → Asked → Rule
+sleeps_under_spin g spin q = when (not (is_spin (class_of q.type_no.0 g.types)) && is_some (last_or None spin)) (Err SleepUnderSpin)
 
--- no lock of its kind is held
+-- 3: no lock of its kind is held
 abbrev pub holds_nothing : Option Instance → Rule
 holds_nothing last = when (is_none last) (Ok Pass)
 
--- the lock itself is held
-abbrev pub holds_it : Known → Request → List Instance → Rule
-holds_it k q chain = option_map (again k q) (find (is_of q.lock.0) chain)
+-- a held lock that is asked for again: the modes must agree, and the lock has to be recursable where it is exclusive.
+-- Flags of a request: 0x04 the caller doesn't hold the lock; of a lock: 0x01 recursable
+abbrev pub again : Asked → Instance → Result Reply Fault
+again q i =
+    if is_exclusive i.mode && not (is_exclusive q.mode) then Err SharedOfExclusive
+    else if not (is_exclusive i.mode) && is_exclusive q.mode then Err ExclusiveOfShared
+    else if has_flag q.ops.0 0x04 then Err Recursed
+    else if is_exclusive i.mode && not (has_flag q.flags.0 0x01) then Err Recursed
+    else Ok Pass
 
--- its order behind the last held lock is a direct one
-abbrev pub follows : Known → Request → Option Instance → Rule
-follows k q None = None
-follows k q (Some last) = when (is_direct k.orders (type_in k last.lock.0).0 (type_in k q.lock.0).0) (Ok Pass)
+-- 4: the lock itself is held
+abbrev pub holds_it : List Instance → Asked → Rule
+holds_it chain q = option_map (again q) (find (is_of q.lock.0) chain)
 
--- a held lock violates the order: the newest one that does
-abbrev pub breaks_order : Known → Request → List Instance → Rule
-breaks_order k q chain = option_map (reported k q chain) (find (violates k q) (reverse chain))
+-- two locks of one type: reported once for a type, and never where the lock, or the request, allows it (0x02)
+abbrev pub doubled : Basis → Asked → Instance → Result Reply Fault
+doubled g q last =
+    if has_flag q.flags.0 0x02 || has_flag q.ops.0 0x02 then Ok Pass
+    else if is_found g.found q.type_no.0 q.type_no.0 then Ok (Silent q.type_no q.type_no)
+    else Ok (Duplicate (record { last = place_of last; asked = place_asked q }))
 
--- the order behind the last held lock is learnt, where the request allows it (0x01)
-abbrev pub teaches : Known → Request → Option Instance → Rule
-teaches k q None = None
-teaches k q (Some last) = when (has_flag q.ops.0 0x01) (Ok (Adopted (type_in k last.lock.0) (type_in k q.lock.0)))
+-- 5: the last held lock is of its type
+abbrev pub doubles : Basis → Option Instance → Asked → Rule
+doubles g None q = None
+doubles g (Some last) q = when (has_type_of g q last) (doubled g q last)
+
+-- 6: its order behind the last held lock is a direct one
+abbrev pub follows : Basis → Option Instance → Asked → Rule
+follows g None q = None
+follows g (Some last) q = when (is_direct g.orders (type_held g last).0 q.type_no.0) (Ok Pass)
+
+-- which order a held lock's type breaks, where a lock of the first type is asked for. Giant is let go while its holder sleeps: so it may
+-- stand before a sleepable lock, and behind one
+abbrev pub breach : Basis → TypeNo → TypeNo → Option Heading
+breach g asked held =
+    if is_giant g asked && is_sleepable g held then None
+    else if is_sleepable g asked && is_giant g held then None
+    else if is_sleepable g asked && not (is_sleepable g held) then Some heading.Sleepable
+    else if is_giant g asked && not (is_sleepable g held) then Some heading.Giant
+    else if is_before g.orders asked.0 held.0 then Some heading.Order
+    else None
+
+abbrev pub violates : Basis → Asked → Instance → Bool
+violates g q i = is_some (breach g q.type_no (type_held g i))
+
+-- what is told of a reversal: the violating held lock, the newest held lock of the requested type among those older
+-- than it, and the requested lock
+abbrev pub conflict : Basis → Asked → List Instance → Instance → Conflict
+conflict g q chain i = record {
+  heading = unwrap_or (breach g q.type_no (type_held g i)) heading.Order;
+  held = place_of i;
+  older = option_map place_of (find (has_type_of g q) (reverse (before_first (is_of i.lock.0) chain)));
+  asked = place_asked q;
+}
+
+abbrev pub is_named_pair : List ℕ → List ℕ → List ℕ × List ℕ → Bool
+is_named_pair a b p = (bytes_eq p.0 a && bytes_eq p.1 b) || (bytes_eq p.0 b && bytes_eq p.1 a)
+
+-- whether these types may be taken in either order: the "blessed" pairs of subr_witness.c
+abbrev pub is_blessed : Basis → TypeNo → TypeNo → Bool
+is_blessed g a b = list_any (is_named_pair (name_of a.0 g.types) (name_of b.0 g.types)) g.blessed
+
+-- 8: a violation is reported, once for a pair of types, and never where the pair is blessed
+abbrev pub reported : Basis → Asked → List Instance → Instance → Result Reply Fault
+reported g q chain i =
+    if is_found g.found (type_held g i).0 q.type_no.0 || is_blessed g (type_held g i) q.type_no then Ok (Silent (type_held g i) q.type_no)
+    else Ok (Reversal (conflict g q chain i))
+
+-- 7: a held lock violates the order: the newest one that does
+abbrev pub breaks_order : Basis → List Instance → Asked → Rule
+breaks_order g chain q = option_map (reported g q chain) (find (violates g q) (reverse chain))
+
+-- whether the order behind the last held lock may be learnt: the request allows it (0x01), it isn't that of a sleepable lock behind Giant,
+-- and it turns no order round
+abbrev pub is_learnt : Basis → Asked → Instance → Bool
+is_learnt g q last =
+    has_flag q.ops.0 0x01
+    && not (is_giant g (type_held g last) && is_sleepable g q.type_no)
+    && not (is_before g.orders q.type_no.0 (type_held g last).0)
+
+-- 9: the order behind the last held lock is learnt
+abbrev pub teaches : Basis → Option Instance → Asked → Rule
+teaches g None q = None
+teaches g (Some last) q = when (is_learnt g q last) (Ok (Adopted (type_held g last) q.type_no))
+
+-- ---- the rules in their order, where these are the spin locks that the seat holds, its locks of the requested kind, oldest
+-- first, and the last of these
+
+abbrev pub rules : Basis → Watch → List Instance → List Instance → Option Instance → Asked → List Rule
+rules g watch spin chain last q =
+    isnt_watched watch
+    ∷ sleeps_under_spin g spin q
+    ∷ holds_nothing last
+    ∷ holds_it chain q
+    ∷ doubles g last q
+    ∷ follows g last q
+    ∷ breaks_order g chain q
+    ∷ teaches g last q
+    ∷ []
+
+-- the one of a seat's two chains, of the sleep kind and of the spin kind, that a request is judged by
+abbrev pub chain_asked : Basis → List Instance → List Instance → Asked → List Instance
+chain_asked g sleep spin q = if is_spin (class_of q.type_no.0 g.types) then spin else sleep
+
+-- the ruling on a request of a seat that holds these locks of the sleep kind and of the spin kind
+abbrev pub ruling : Basis → Watch → List Instance → List Instance → Asked → Result Reply Fault
+ruling g watch sleep spin q = decided (rules g watch spin (chain_asked g sleep spin q) (last_or None (chain_asked g sleep spin q)) q)
+
+-- ---- the verdict is the ruling over what a verifier knows
+
+abbrev pub basis_of : Known → Basis
+basis_of k = record {
+  types = k.types;
+  lock_types = map (λ (l : Lock). l.type_no) k.locks;
+  orders = k.orders;
+  found = k.found;
+  blessed = k.blessed;
+}
+
+abbrev pub asked_of : Known → Request → Asked
+asked_of k q = record {
+  lock = q.lock;
+  type_no = (lock_at k.locks q.lock.0).type_no;
+  flags = (lock_at k.locks q.lock.0).made.flags;
+  mode = q.mode;
+  ops = q.ops;
+  site = q.site;
+}
+
+abbrev pub verdict : Known → Watch → Seat → Request → Result Reply Fault
+verdict k watch seat q = ruling (basis_of k) watch seat.sleep seat.spin (asked_of k q)
 
 -- the seat's chain of the lock's kind, oldest first
 abbrev pub chain_of_kind : Known → Seat → ℕ → List Instance
 chain_of_kind k seat l = chain_in (is_spin (lock_at k.locks l).made.class) seat
-
--- what is asked of a seat's chain, by which of its locks is the last
-abbrev pub over : Known → Request → List Instance → Option Instance → List Rule
-over k q chain last =
-    holds_nothing last
-    ∷ holds_it k q chain
-    ∷ follows k q last
-    ∷ breaks_order k q chain
-    ∷ teaches k q last
-    ∷ []
-
-abbrev pub verdict : Known → Watch → Seat → Request → Result Reply Fault
-verdict k watch seat q =
-    decided (is_unwatched watch ∷ sleeps_under_spin k seat q ∷ over k q (chain_of_kind k seat q.lock.0) (last_or None (chain_of_kind k seat q.lock.0)))

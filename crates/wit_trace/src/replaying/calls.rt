@@ -1,10 +1,8 @@
 //! The calls that lines make.
 
 ghost use Rattle.std.specs.Prelude.{◌≡◌, IfOk};
-ghost use Rattle.std.specs.Option.{option_copied};
-ghost use Rattle.wit_model.specs.declared.calls.Call.TheVariants.{Init};
 ghost use Rattle.wit_model.specs.declared.lines.Line.TheVariants.{Check, Try};
-ghost use Rattle.wit_model.specs.Trace.Output.{Reading, calls, makes, told};
+ghost use Rattle.wit_model.specs.Trace.Output.{Reading, calls, told};
 ghost use Rattle.wit_grammar.specs.Lines.{as_line};
 ghost use Rattle.wit_trace.specs.Replays.{Calls, GoesWith, Passes};
 
@@ -12,7 +10,7 @@ use crate::stream::machine::Step;
 use std::alloc::{AllocError, Global};
 use wit_core::Verifier;
 use wit_grammar::{LineError, LockLine};
-use wit_model::{Line, LockNo, Mode, NewLock, OpFlags, Reply, SeatNo, Site};
+use wit_model::{Line, LockNo, Mode, OpFlags, Reply, SeatNo, Site};
 use wit_report::report_text;
 
 /// A line behind the prelude makes its call, and tells of it; one with a site enters its file first.
@@ -62,7 +60,7 @@ fn make_call(verifier: &mut Verifier, line: Line) -> Result<Reply, LineError>
 {
     match line {
         Line::Header { .. } | Line::Order { .. } | Line::Bless { .. } => Err(LineError::SYNTAX),
-        Line::Init { seat, lock } => make_lock(verifier, seat, &lock),
+        Line::Init { seat, lock } => Ok(Reply::Made(verifier.make(seat, lock)?)),
         Line::Check {
             seat,
             lock,
@@ -143,21 +141,4 @@ fn try_at(
 {
     let file = verifier.file(file)?;
     Ok(verifier.note_try(seat, lock, mode, Site { file, line })?)
-}
-
-fn make_lock(verifier: &mut Verifier, seat: SeatNo, lock: &NewLock) -> Result<Reply, LineError>
-    ensures { Calls (makes verifier.old seat.0 (Init lock.now)) verifier.old verifier.new result }
-{
-    let type_name = given_type(lock);
-    let number = verifier.init(seat, lock.name.as_str(), type_name, lock.class, lock.flags)?;
-    Ok(Reply::Made(number))
-}
-
-fn given_type(lock: &NewLock) -> Option<&str>
-    ensures { option_copied result ≡ lock.now.type_name }
-{
-    match &lock.type_name {
-        Some(name) => Some(name.as_str()),
-        None => None,
-    }
 }

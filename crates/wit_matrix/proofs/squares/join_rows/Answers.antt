@@ -6,21 +6,6 @@ use Rattle.wit_matrix.proofs.squares.join_rows.Goals.{then-is_to_join, else-is_t
 use Rattle.wit_matrix.proofs.squares.join_rows.Goals as goal
 use Rattle.wit_model.specs.Rules.Numbers.{IsNumber}
 
-pub loop-row-init : goal.loop-row-init
-loop-row-init c = record {
-  positive = omega arith;
-  square = c.requires.square;
-  joined = rows_start c.args.n c.args.mirror.now c.args.first.0 c.args.source.0 c.args.words.now;
-}
-
-pub join_row-requires-clause-apart : goal.join_row-requires-clause-apart
-join_row-requires-clause-apart c = λ same.
-    true≢false
-    (sym (subst (λ k. reaches c.args.n c.args.mirror.now c.args.first.0 k ≡ true) same
-    (and_parts (reaches c.args.n c.args.mirror.now c.args.first.0 c.next_row-next.result) (not (has c.args.n c.loop-row.words c.next_row-next.result c.args.source.0))
-    (sym c.is_to_join.ensures ∙ c.if-is_to_join.true)).0)
-    ∙ c.requires.apart)
-
 pub loop-row-preserved : goal.loop-row-preserved
 loop-row-preserved c =
     let here : IsNumber c.args.n c.next_row-next.result =

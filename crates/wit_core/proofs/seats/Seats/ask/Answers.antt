@@ -1,9 +1,10 @@
-use Rattle.std.proofs.Common.{refl}
-use Rattle.wit_core.specs.Seats.{asked_in}
-use Rattle.wit_core.proofs.SeatRows.{changed-now}
+use Rattle.std.proofs.Common.{Some, arith}
+use Rattle.wit_core.proofs.SeatRows.{within-row, asked-now}
 use Rattle.wit_core.proofs.seats.Seats.ask.Goals as goal
 
+pub index_mut-requires : goal.index_mut-requires
+index_mut-requires c =
+    let lt = within-row c.self.inside c.args.self.now c.self.view_is c.self.invariant c.args.seat.0 c.requires in omega (arith, lt, c.self.inside.requests.ok.0)
+
 pub returns : goal.returns
-returns c =
-    changed-now c.self.inside c.args.self.now c.self.view_is c.args.seat.0 c.requires.seat c.index_mut-seat.result.now c.index_mut-seat.ensures.value
-    _ (asked_in c.args.request) refl
+returns c = asked-now c.self.inside c.args.self.now c.self.view_is c.self.invariant c.args.seat.0 c.requires (Some c.args.request)

@@ -23,8 +23,3 @@ loop-step-preserved c =
       way_on c.args.self.now.orders c.args.self.now.size c.args.from.0 c.args.to.0 c.loop-step._step c.loop-step.way.items c.push.new.self.items c.loop-step.at c.in-Some.next.0
           c.loop-step.invariant.1 (omega (arith, size)) c.in_ok-push.ensures.items (ne_eqb c.loop-step.at.0 c.args.to.0 c.if-at-to.false) (sym c.in-Some.ensures.value),
     )
-
-pub returns : goal.returns
-returns c =
-    let size : c.self.inside.size ≡ c.args.self.now.size = ap (λ (m : Relation). m.size) c.self.view_is in
-    way_over c.args.self.now.orders c.args.self.now.size c.args.from.0 c.args.to.0 c.loop-step._step c.loop-step.way.items c.loop-step.at.0 (omega (arith, size)) c.loop-step.invariant.1

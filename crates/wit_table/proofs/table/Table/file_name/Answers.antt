@@ -12,6 +12,3 @@ returns-clause-number c =
 pub returns-clause-good : goal.returns-clause-good
 returns-clause-good c =
     All-at (λ (f : List ℕ). is_file_name f ≡ true) (texts c.self.inside.files.keys) _ _ c.self.invariant.file_names c.file_at.ensures
-
-pub returns-clause-name : goal.returns-clause-name
-returns-clause-name c = rw (← c.self.view_is) (with_number-at (texts c.self.inside.files.keys) c.args.file.0 c.requires.0 ∙ c.file_at.ensures)

@@ -13,6 +13,3 @@ pub returns-clause-good : goal.returns-clause-good
 returns-clause-good c =
     let has = c.name_at.ensures in
     ap is_name has.2 ∙ All-at (λ (t : LockType). is_name t.name ≡ true) (types_in c.self.inside.types.entries) _ has.0 c.self.invariant.names has.1
-
-pub returns-clause-name : goal.returns-clause-name
-returns-clause-name c = rw (← c.self.view_is) (name-numbered _ c.args.number.0 _ c.requires.0 c.name_at.ensures)

@@ -1,0 +1,30 @@
+//! A held lock that is asked for again.
+
+ghost use Rattle.std.specs.Prelude.{◌≡◌};
+ghost use Rattle.wit_model.specs.Rules.Verdict.{again};
+ghost use Rattle.wit_check.specs.Answers.{answer_of};
+
+use crate::answers::Verdict;
+use bitflags::Flags;
+use wit_model::{Asked, Fault, Instance, LockFlags, OpFlags};
+
+/// The modes have to agree, and a lock held exclusive has to be recursable.
+pub fn again(request: Asked, held: Instance) -> Verdict
+    ensures { answer_of result ≡ again request held }
+{
+    let wanted = request.mode.is_exclusive();
+    let exclusive = held.mode.is_exclusive();
+    if exclusive && !wanted {
+        return Verdict::Fault(Fault::SharedOfExclusive);
+    }
+    if !exclusive && wanted {
+        return Verdict::Fault(Fault::ExclusiveOfShared);
+    }
+    if request.ops.contains(OpFlags::FRESH) {
+        return Verdict::Fault(Fault::Recursed);
+    }
+    if exclusive && !request.flags.contains(LockFlags::RECURSABLE) {
+        return Verdict::Fault(Fault::Recursed);
+    }
+    Verdict::Pass
+}

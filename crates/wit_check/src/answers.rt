@@ -1,0 +1,21 @@
+//! What a verdict can be.
+
+use wit_model::{Conflict, Doubling, Fault, TypeNo};
+
+/// The verdict of a check.
+#[derive(Clone, Copy, Debug, PartialEq, Eq)]
+pub enum Verdict {
+    /// Nothing to say.
+    Pass,
+    /// The order of these types, the last held lock's and the requested one's, is to be adopted.
+    Adopt(TypeNo, TypeNo),
+    /// The request breaks the order of these types, the held one and the requested one, and nothing is said of it: that was reported before,
+    /// or the pair is blessed. Where both are one type, a second lock of a type that was found doubled is asked for.
+    Silent(TypeNo, TypeNo),
+    /// A second lock of a type is asked for: to be reported.
+    Duplicate(Doubling),
+    /// The request breaks an order: to be reported.
+    Reversal(Conflict),
+    /// The request is refused.
+    Fault(Fault),
+}

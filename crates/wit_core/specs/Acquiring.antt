@@ -1,0 +1,42 @@
+-- What becomes of an acquisition.
+use Rattle.std.specs.Prelude.{ℕ, Bool, false, if◌then◌else◌}
+use Rattle.wit_model.specs.declared.locks.Instance.{Instance}
+use Rattle.wit_model.specs.declared.locks.LockNo.{LockNo}
+use Rattle.wit_model.specs.declared.locks.Mode.{Mode}
+use Rattle.wit_model.specs.declared.locks.Site.{Site}
+use Rattle.wit_model.specs.declared.locks.Watch.{Watch}
+use Rattle.wit_model.specs.declared.locks.Watch.TheVariants.{Off}
+use Rattle.wit_model.specs.declared.calls.Reply.{Reply}
+use Rattle.wit_model.specs.declared.calls.Reply.TheVariants as reply
+use Rattle.wit_model.specs.Rules.History.{is_off}
+use Rattle.wit_core.specs.declared.acquiring.Acquisition.{Acquisition}
+use Rattle.wit_core.specs.declared.acquiring.Acquisition.TheVariants.{Recorded, Exhausted, Unrecorded}
+use Rattle.wit_core.specs.Seats.{Row, with_seat, acquired, has_no_room}
+
+abbrev pub reply_to : Acquisition → Reply
+reply_to Recorded = reply.Recorded
+reply_to Exhausted = reply.Exhausted
+reply_to Unrecorded = reply.Unrecorded
+
+-- the log owes the release of what is recorded
+abbrev pub owed_to : Acquisition → ℕ
+owed_to Recorded = 1
+owed_to Exhausted = 0
+owed_to Unrecorded = 0
+
+-- what becomes of an acquisition by this seat
+abbrev pub acquisition : Watch → Row → ℕ → Bool → ℕ → Acquisition
+acquisition watch row t spin l = if is_off watch then Unrecorded else if has_no_room row t spin l then Exhausted else Recorded
+
+-- how much is watched then, and what the seats hold
+abbrev pub watch_then : Acquisition → Watch → Watch
+watch_then Exhausted watch = Off
+watch_then _ watch = watch
+
+abbrev pub row_then : Acquisition → ℕ → Bool → Instance → Row → Row
+row_then Recorded t spin i row = with_seat t (acquired spin i) row
+row_then _ t spin i row = row
+
+-- a new acquisition of a lock
+abbrev pub taken : LockNo → Mode → Site → Instance
+taken l m site = record { lock = l; mode = m; norelease = false; count = 0; site = site }
