@@ -93,6 +93,7 @@ impl Verifier {
     ) -> Result<(), Fault>
         ensures ok { OnOk result (Admits (before_acquiring (state_of self.now) seat.0 lock.0 mode site)) }
         ensures seat { OnOk result (is_seat (state_of self.now) seat.0 ≡ true) }
+        ensures lock { OnOk result (is_given (state_of self.now).known.locks lock.0 ≡ true) }
         ensures err { IfErr result (Refuses (before_acquiring (state_of self.now) seat.0 lock.0 mode site)) }
     {
         if !self.is_seat(seat) {

@@ -60,7 +60,7 @@ impl Verifier {
         if !self.is_seat(seat) {
             return Err(Fault::UnknownSeat);
         }
-        if self.pending(seat).is_some() {
+        if self.request(seat).is_some() {
             return Err(Fault::Pending);
         }
         // Reading a name shows that it is one.
