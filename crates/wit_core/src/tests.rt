@@ -104,7 +104,7 @@ const FULL_LOG: [(Step, Answer); 7] = [
 ];
 
 /// Four calls are accepted, those after them refused, but for the last but one.
-const FAULTS: [(Step, Answer); 20] = [
+const FAULTS: [(Step, Answer); 18] = [
     (Step::Init("a", None), Answer::Made(1)),
     (Step::Init("b", None), Answer::Made(2)),
     (Step::Check(1, 1, 1), Answer::Pass),
@@ -120,8 +120,6 @@ const FAULTS: [(Step, Answer); 20] = [
     (Step::Unlock(2, 1), Answer::Refused(Fault::NotLocked)),
     (Step::Init("", None), Answer::Refused(Fault::BadName)),
     (Step::Init("c", Some("\"")), Answer::Refused(Fault::BadName)),
-    (Step::Init("c", Some("a")), Answer::Refused(Fault::NotYet)),
-    (Step::Init("Giant", None), Answer::Refused(Fault::NotYet)),
     (
         Step::Rw("c", Some("a")),
         Answer::Refused(Fault::ClassMismatch),

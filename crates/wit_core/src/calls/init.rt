@@ -22,7 +22,7 @@ impl Verifier {
     /// # Errors
     /// In this order: `UnknownSeat`; `Pending` where the seat has a request; `BadName` where a name isn't one;
     /// `ClassMismatch` where its type is known with another class; `TypesFull` and `LocksFull` where no number
-    /// is left; `NotYet` for what isn't built yet; `LogFull`; `OutOfMemory`.
+    /// is left; `LogFull`; `OutOfMemory`.
     pub fn init(
         &mut self,
         seat: SeatNo,
@@ -108,9 +108,6 @@ impl Verifier {
         let Some(number) = self.next_lock() else {
             return Err(Fault::LocksFull);
         };
-        if self.is_not_yet(type_name, class) {
-            return Err(Fault::NotYet);
-        }
         if !self.has_room(1) {
             return Err(Fault::LogFull);
         }

@@ -130,7 +130,7 @@ typed_at start h i lt =
 
 -- what came before the last entry of a legal history is legal
 rest_legal : (start : Start) (files : List (List ℕ)) (x : Entry) (h : List Entry) → IsLegal start files (x ∷ h) → IsLegal start files h
-rest_legal start files x h legal = legal.1
+rest_legal start files x h legal = legal.2
 
 AreClassed : Start → List Entry → Type 0
 AreClassed start h = (i : ℕ) → i < length (typed_locks start h) → IsClassed (types_of start h) (get_or (typed_locks start h) i unknown_lock)
