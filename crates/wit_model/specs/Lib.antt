@@ -2,3 +2,4 @@ pub mod GroupLaws
 pub mod Laws
 pub mod Rules
 pub mod Trace
+pub mod VerdictLaws

@@ -13,6 +13,7 @@ mod locks;
 mod names;
 mod sizes;
 mod type_lists;
+pub mod verdict_laws;
 
 pub use boxes::Boxed;
 pub use calls::{

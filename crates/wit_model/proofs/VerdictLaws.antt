@@ -1,0 +1,4 @@
+-- Laws of the verdict of a check.
+pub mod Classes
+pub mod Judged
+pub mod Told

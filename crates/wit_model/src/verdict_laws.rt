@@ -1,0 +1,29 @@
+//! Laws of the verdict of a check: what its replies say of the orders between lock types. Each function is a theorem, and does nothing.
+
+ghost use Rattle.wit_model.specs.VerdictLaws.{
+  OrdersAreAdoptedOnce,
+  ReversalsAreOfHeldLocks,
+  ReversalsBreakOrders,
+  DuplicatesAreOfOneType,
+  PairsAreReportedOnce,
+};
+
+/// No order between two lock types is adopted twice, those of static lists included.
+pub fn law_orders_adopted_once()
+    ensures { OrdersAreAdoptedOnce }
+{}
+
+/// A reversal means what its heading says. It names a lock that the seat holds and the lock that it asks for; and where its heading is
+/// the plain one, a path of orders adopted until then leads from the requested lock's type to the held lock's, so that both orders
+/// have been seen: the "lock order reversal" of witness(4).
+pub fn law_reversal_breaks_order()
+    ensures held { ReversalsAreOfHeldLocks }
+    ensures order { ReversalsBreakOrders }
+{}
+
+/// No pair of lock types is reported twice, in whichever order and whether as a reversal or as a duplicate, which is of two locks of one
+/// type.
+pub fn law_pairs_reported_once()
+    ensures once { PairsAreReportedOnce }
+    ensures duplicate { DuplicatesAreOfOneType }
+{}
