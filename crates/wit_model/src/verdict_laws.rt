@@ -6,6 +6,8 @@ ghost use Rattle.wit_model.specs.VerdictLaws.{
   ReversalsBreakOrders,
   DuplicatesAreOfOneType,
   PairsAreReportedOnce,
+  PassedIsDirect,
+  PassedPassesOn,
 };
 
 /// No order between two lock types is adopted twice, those of static lists included.
@@ -26,4 +28,14 @@ pub fn law_reversal_breaks_order()
 pub fn law_pairs_reported_once()
     ensures once { PairsAreReportedOnce }
     ensures duplicate { DuplicatesAreOfOneType }
+{}
+
+/// A request needs to be checked once. Where everything is watched and a request for a lock that its seat doesn't hold, which may teach
+/// an order and allows no second lock of a type, passed or taught its order behind a last held lock of its kind, that order is a
+/// direct one from then on: whoever asks, whenever, for a lock of that type while his last held lock of its kind is of that other type,
+/// passes, if no fault refuses the check, and teaches nothing. So a recorder may leave such a check out. Giant together with a sleepable
+/// lock is excepted: these two may be taken in either order, and no order between them is learnt.
+pub fn law_passed_passes_on()
+    ensures direct { PassedIsDirect }
+    ensures later { PassedPassesOn }
 {}

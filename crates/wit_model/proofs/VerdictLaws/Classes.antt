@@ -1,7 +1,8 @@
--- A lock's type has the lock's class.
+-- A lock's type has the lock's class, and the name under which the lock takes part in orders.
 use Rattle.std.proofs.Common.{◌≡◌, ℕ, ◌+◌, ◌-◌, ◌<◌, ◌≤◌, Bool, true, false, not, ◌&&◌, cond, List, [], ◌∷◌, ◌++◌, length, get_or, Ok, refl, ap, sym, ◌∙◌, subst, arith, append-nil, length-append}
 use Rattle.std.specs.List.{list_all, list_any, position_or_len}
 use Rattle.std.proofs.lemmas.Bool.{and_parts, and_from, ltb-true, leb-true, lt-ltb, le-leb, true_from_ne_false, true≢false, false≢true, not-false}
+use Rattle.std.proofs.lemmas.Slice.Eq.{bytes_eq-Decides}
 use Rattle.std.proofs.lemmas.List.Sums.{passes_at_first}
 use Rattle.std.proofs.lemmas.List.Folds.{list_all-append, list_all_at, list_any_at}
 use Rattle.std.proofs.Math.Seq.{get_or-append_seam}
@@ -13,7 +14,7 @@ use Rattle.wit_model.specs.declared.calls.Call.TheVariants.{Init}
 use Rattle.wit_model.specs.declared.calls.Reply.{Reply}
 use Rattle.wit_model.specs.declared.calls.Entry.{Entry}
 use Rattle.wit_model.specs.Rules.Numbers.{is_number, is_given, IsNumber}
-use Rattle.wit_model.specs.Rules.Types.{LockType, is_same_class, is_spin, is_named, is_enrolled, is_otherwise, type_number, type_name_of, class_of, enrolled, types_after}
+use Rattle.wit_model.specs.Rules.Types.{LockType, is_same_class, is_spin, is_named, is_enrolled, is_otherwise, type_number, type_name_of, class_of, name_of, enrolled, types_after}
 use Rattle.wit_model.specs.Rules.Locks.{Lock, locks_of, lock_of, lock_at, made_among, unknown_lock, is_spin_lock}
 use Rattle.wit_model.specs.Rules.State.{Start, state_of, types_of, typed_locks}
 use Rattle.wit_model.specs.Rules.Step.{answer_of, story_after, IsLegal}
@@ -22,7 +23,7 @@ use Rattle.wit_model.proofs.Lists.{list_all-both}
 use Rattle.wit_model.proofs.Chains.Seats.{entry}
 use Rattle.wit_model.proofs.Histories.Accepted.{init_accepted}
 use Rattle.wit_model.proofs.Orders.TypedLocks.{lock_at-made}
-use Rattle.wit_model.proofs.Orders.Types.{place-within, number-known, number-new, typed-same}
+use Rattle.wit_model.proofs.Orders.Types.{place-within, number-known, number-new, typed-same, typed_made}
 
 same_class : (a b : Class) → is_same_class a b ≡ true → a ≡ b
 same_class SleepMutex SleepMutex is = refl
@@ -158,3 +159,19 @@ type-class start files h l legal given =
 pub type-kind : (start : Start) (files : List (List ℕ)) (h : List Entry) (l : ℕ) → IsLegal start files h → is_given (typed_locks start h) l ≡ true
     → is_spin (class_of (lock_at (typed_locks start h) l).type_no.0 (types_of start h)) ≡ is_spin_lock (locks_of h) l
 type-kind start files h l legal given = ap is_spin (type-class start files h l legal given)
+
+named-there : (name : List ℕ) (types : List LockType) → is_enrolled name types ≡ true → name_of (type_number name types) types ≡ name
+named-there name types known =
+    let at : ℕ = position_or_len (is_named name) types in
+    ap (λ (t : LockType). t.name) (with_number-or types (at + 1) no_type (omega arith))
+    ∙ ap (λ n. (get_or types n no_type).name) (let e : at + 1 - 1 ≡ at = omega arith in e)
+    ∙ (bytes_eq-Decides (get_or types at no_type).name name).0 (passes_at_first (is_named name) types no_type (place-within (is_named name) types known))
+
+-- the name of a made lock's type is the lock's type name
+pub type-name : (start : Start) (h : List Entry) (l : ℕ) → is_given (typed_locks start h) l ≡ true
+    → name_of (lock_at (typed_locks start h) l).type_no.0 (types_of start h) ≡ type_name_of (lock_of (locks_of h) l)
+type-name start h l given =
+    let within = and_parts _ _ given in
+    let is = typed_made start h l (ltb-true 0 l within.0) (leb-true l (length (typed_locks start h)) within.1) in
+    let made = (lock_at (typed_locks start h) l).made in
+    ap (λ n. name_of n (types_of start h)) is.number ∙ named-there (type_name_of made) (types_of start h) is.known ∙ ap type_name_of (lock_at-made start h l)

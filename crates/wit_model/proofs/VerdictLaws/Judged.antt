@@ -5,7 +5,7 @@ use Rattle.wit_model.specs.declared.calls.Request.{Request}
 use Rattle.wit_model.specs.declared.calls.Call.{Call}
 use Rattle.wit_model.specs.declared.calls.Call.TheVariants.{Init, Check, Note, NoteTry, GiveUp, Unlock, SetWatch}
 use Rattle.wit_model.specs.declared.calls.Reply.{Reply}
-use Rattle.wit_model.specs.declared.calls.Reply.TheVariants.{Done, Recorded, Exhausted, Unrecorded, Reversal, Duplicate}
+use Rattle.wit_model.specs.declared.calls.Reply.TheVariants.{Done, Recorded, Exhausted, Unrecorded, Silent, Reversal, Duplicate}
 use Rattle.wit_model.specs.declared.calls.Entry.{Entry}
 use Rattle.wit_model.specs.Rules.Locks.{locks_of, is_spin_lock}
 use Rattle.wit_model.specs.Rules.History.{is_off, chain, watch_of}
@@ -40,6 +40,7 @@ chain-of_kind start files e h q legal asks =
 abbrev pub is_told : Reply → Bool
 is_told (Reversal x) = true
 is_told (Duplicate d) = true
+is_told (Silent a b) = true
 is_told _ = false
 
 untold : (r s : Reply) → r ≡ s → is_told s ≡ false → is_told r ≡ true → ⊥
