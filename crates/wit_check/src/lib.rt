@@ -12,3 +12,6 @@ mod rules;
 
 pub use answers::Verdict;
 pub use rules::verdict;
+
+#[cfg(test)]
+mod tests;
