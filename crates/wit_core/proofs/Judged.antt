@@ -99,17 +99,25 @@ module _ (v : Inside) (k : IsKept v) (s : Story) (seen : story_in v ≡ s) where
         chain-of-list spin ∙ locks-told v k (story_in v) refl t spin
         ∙ ap (λ x. chain_in spin x) (seat_at-state (start_in v) v.known.files (history_in v) t seat-before) ∙ one_chain spin t (history_in v)
 
+    made-typed : (types : List TypeNo) → types ≡ map (λ (l : Lock). l.type_no) v.known.known.locks → (l : ℕ) → IsGiven (locks_of (history_in v)) l → IsGiven types l
+    made-typed types are l made =
+        let a = ap length are in
+        let b = length-map v.known.known.locks (λ (l : Lock). l.type_no) in
+        let c = ap length locks-are in
+        let d = length-typed (start_in v) (history_in v) in
+        (made.0, omega (arith, made.1, a, b, c, d))
+
     pub judgeable : (types : List TypeNo) → types ≡ map (λ (l : Lock). l.type_no) v.known.known.locks → (spin : Bool) → IsJudgeable types (chain_of c (list_of spin t))
-    judgeable types are spin = subst (IsJudgeable types) (sym (chain-now spin)) (record {
-      once = λ l. (let one = stands-chain spin t l (history_in v) sane in omega (arith, one, stands-filter l (chain spin t (history_in v))));
-      typed = All-from_recursion (λ (i : Instance). IsGiven types i.lock.0) (chain spin t (history_in v))
-          (all-of (λ (i : Instance). is_held t i.lock.0 (history_in v)) (λ (i : Instance). IsGiven types i.lock.0)
-          (λ i held. (let made = made_sane t i.lock.0 (history_in v) sane held in
-          (made.0, omega (arith, made.1, ap length are, length-map v.known.known.locks (λ (l : Lock). l.type_no), ap length locks-are, length-typed (start_in v) (history_in v)))))
-          (chain spin t (history_in v)) (chain-held spin t (history_in v)));
-    })
-      where
-        sane = sane_legal (start_in v) v.known.files (history_in v) k.legal
+    judgeable types are spin =
+        let sane = sane_legal (start_in v) v.known.files (history_in v) k.legal in
+        let one = λ (l : ℕ). stands-chain spin t l (history_in v) sane in
+        subst (IsJudgeable types) (sym (chain-now spin)) (record {
+          once = λ l. omega (arith, one l, stands-filter l (chain spin t (history_in v)));
+          typed = All-from_recursion (λ (i : Instance). IsGiven types i.lock.0) (chain spin t (history_in v))
+              (all-of (λ (i : Instance). is_held t i.lock.0 (history_in v)) (λ (i : Instance). IsGiven types i.lock.0)
+              (λ i held. made-typed types are i.lock.0 (made_sane t i.lock.0 (history_in v) sane held))
+              (chain spin t (history_in v)) (chain-held spin t (history_in v)));
+        })
 
     -- the ruling over the table and the matrix is the rules' verdict
     pub verdict-told : (names : Names) (relation : Relation) (types : List TypeNo) (watch : Watch) (q : Request) (type_no : TypeNo) (flags : LockFlags)

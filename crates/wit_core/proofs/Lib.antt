@@ -13,3 +13,4 @@ pub mod Relating
 pub mod SeatRows
 pub mod Steps
 pub mod Taught
+pub mod Told
