@@ -13,5 +13,5 @@ returns-in-Check c =
 pub returns-in-Try : goal.returns-in-Try
 returns-in-Try c =
     let v = c.args.verifier.now in
-    rw c.in-Try.is (subst (λ n. Calls (calls v (Try c.in-Try.seat c.in-Try.lock c.in-Try.mode n c.in-Try.line)) v c.try_at.new.verifier c.try_at.result) c.as_str-2.ensures
+    rw c.in-Try.is (subst (λ n. Calls (calls v (Try c.in-Try.seat c.in-Try.lock c.in-Try.mode n c.in-Try.line)) v c.try_at.new.verifier c.try_at.result) c.as_str-in-Try.ensures
     c.try_at.ensures)
