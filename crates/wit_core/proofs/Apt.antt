@@ -7,20 +7,15 @@ use Rattle.wit_model.specs.declared.faults.Fault.TheVariants.{OutOfMemory}
 use Rattle.wit_model.specs.declared.locks.TypeNo.{TypeNo}
 use Rattle.wit_model.specs.declared.locks.LockType.{LockType}
 use Rattle.wit_model.specs.declared.calls.Adoption.{Adoption}
-use Rattle.wit_model.specs.declared.calls.Request.{Request}
-use Rattle.wit_model.specs.declared.calls.Call.TheVariants.{Check}
 use Rattle.wit_model.specs.Rules.Numbers.{is_given, IsNumber}
 use Rattle.wit_model.specs.Rules.Orders.{is_direct, is_before, Before}
 use Rattle.wit_model.proofs.Orders.Paths.{before_from_test}
-use Rattle.wit_model.specs.declared.locks.Lock.{Lock}
-use Rattle.wit_model.specs.Rules.Locks.{lock_at}
 use Rattle.wit_model.specs.Trace.Paths.{path, path_numbers}
-use Rattle.wit_model.specs.Rules.State.{State, Known, state_of, known_of, types_of, typed_locks, orders_of}
-use Rattle.wit_model.specs.Rules.Step.{answer_of}
+use Rattle.wit_model.specs.Rules.State.{State, Known, known_of, types_of, orders_of}
 use Rattle.wit_model.proofs.Orders.Among.{orders-among}
 use Rattle.wit_matrix.specs.Relation.{OrdersAmong, LeadsBy}
 use Rattle.wit_core.specs.declared.verifier.Verifier.TheInside.{Inside}
-use Rattle.wit_core.specs.Kept.{IsKept, start_in, history_in, story_in}
+use Rattle.wit_core.specs.Kept.{IsKept, start_in, history_in}
 use Rattle.wit_core.proofs.Keeping.{types_few}
 
 module _ (v : Inside) (k : IsKept v) where

@@ -58,7 +58,7 @@ use Rattle.wit_core.specs.Listed.{all_listed, pairs_of}
 use Rattle.wit_core.specs.Seats.{Row, no_seat, idle_row, seat_in, locks_in, with_seat, asking, acquired, released}
 use Rattle.wit_core.proofs.Entering.{IsBegun}
 use Rattle.wit_core.proofs.Keeping.{seat_in_range, Leaves, same_story}
-use Rattle.wit_core.proofs.Now.{now, seat-given, chain-now, once-now, acquisition-told}
+use Rattle.wit_core.proofs.Now.{seat-given, chain-now, once-now, acquisition-told}
 use Rattle.wit_core.proofs.Steps.{same_state, same_locks, known-same, seat-twice, in-row, seats-quiet, seats-same, seats-note, seats-try, seats-unlock}
 
 -- a lock's kind, by the locks and by the history

@@ -1,13 +1,13 @@
 -- The lists hold what the seats hold after the history.
-use Rattle.std.proofs.Common.{◌≡◌, ℕ, ◌+◌, ◌*◌, ◌<◌, ◌≤◌, Bool, true, false, List, [], ◌∷◌, ◌++◌, length, map, refl, sym, ap, ap₂, ◌∙◌, subst, arith, append_assoc}
+use Rattle.std.proofs.Common.{◌≡◌, ℕ, ◌*◌, Bool, true, false, List, [], ◌∷◌, ◌++◌, length, map, refl, sym, ap, ap₂, ◌∙◌, subst, arith}
 use Rattle.std.proofs.lemmas.List.{length-map}
 use Rattle.std.proofs.lemmas.List.FromFn.{length-map-range_with_len}
 use Rattle.wit_model.specs.declared.locks.Instance.{Instance}
 use Rattle.wit_model.specs.declared.calls.Entry.{Entry}
-use Rattle.wit_model.specs.Rules.Chunks.{Chunks, groups_of}
+use Rattle.wit_model.specs.Rules.Chunks.{Chunks}
 use Rattle.wit_model.specs.Rules.Groups.{flat}
 use Rattle.wit_model.specs.Rules.History.{chain, instance}
-use Rattle.wit_model.specs.Rules.Numbers.{IsNumber, IsGiven}
+use Rattle.wit_model.specs.Rules.Numbers.{IsNumber}
 use Rattle.wit_model.specs.Rules.SeatGroups.{seat_groups, held_groups}
 use Rattle.wit_model.specs.Rules.State.{Story, State, state_of, seat_of}
 use Rattle.wit_model.specs.Rules.State as model

@@ -1,5 +1,5 @@
 -- What the verdict on a request needs, and that it is the rules' verdict.
-use Rattle.std.proofs.Common.{◌≡◌, ℕ, zero, suc, ◌+◌, ◌-◌, ◌*◌, ◌<◌, ◌≤◌, Bool, true, false, List, [], ◌∷◌, Option, None, Some, Result, Ok, length, map, get_or, nat_lt, nat_le, unwrap_or, refl, sym, ap, ap₂, ◌∙◌, subst, arith}
+use Rattle.std.proofs.Common.{◌≡◌, ℕ, ◌+◌, ◌-◌, ◌*◌, ◌≤◌, Bool, true, false, List, [], ◌∷◌, length, map, get_or, refl, sym, ap, ap₂, ◌∙◌, subst, arith}
 use Rattle.std.specs.List.{All, AllByRecursion, list_all}
 use Rattle.std.proofs.lemmas.Bool.{and_parts, and_from, lt-ltb, le-leb}
 use Rattle.std.proofs.lemmas.List.{length-map, get_or_default}
@@ -18,7 +18,7 @@ use Rattle.wit_model.specs.Rules.History.{chain, is_held}
 use Rattle.wit_model.specs.Rules.Locks.{locks_of, lock_at, unknown_lock}
 use Rattle.wit_model.specs.Rules.Numbers.{is_given, IsGiven, IsNumber}
 use Rattle.wit_model.specs.Rules.State.{Story, State, Known, state_of, types_of, typed_locks, seat_at, chain_in, is_seat}
-use Rattle.wit_model.specs.Rules.Verdict.{Basis, ruling, basis_of, asked_of, verdict}
+use Rattle.wit_model.specs.Rules.Verdict.{Basis, ruling, basis_of, verdict}
 use Rattle.wit_model.proofs.Chains.Held.{made_sane}
 use Rattle.wit_model.proofs.Chains.Stands.{stands-chain}
 use Rattle.wit_model.proofs.Histories.Legal.{seat_at-state, one_chain, sane_legal}
@@ -31,10 +31,9 @@ use Rattle.wit_table.specs.Known.{Names}
 use Rattle.wit_matrix.specs.Relation.{Relation, HasSameOrders, HasSameFound}
 use Rattle.wit_matrix.proofs.Settled.{same_before}
 use Rattle.wit_check.specs.Bases.{basis, AreTypes}
-use Rattle.wit_check.specs.Held.{sleep_chain, spin_chain, IsTyped, IsJudgeable}
+use Rattle.wit_check.specs.Held.{sleep_chain, spin_chain, IsJudgeable}
 use Rattle.wit_core.specs.declared.verifier.Verifier.TheInside.{Inside}
-use Rattle.wit_core.specs.Held.{seat_view}
-use Rattle.wit_core.specs.Kept.{IsKept, start_in, history_in, story_in, state_in}
+use Rattle.wit_core.specs.Kept.{IsKept, start_in, history_in, story_in}
 use Rattle.wit_core.specs.Seats.{seat_in, locks_in, list_of, HoldFor}
 use Rattle.wit_core.proofs.Apt.{known-is}
 use Rattle.wit_core.proofs.HeldSeats.{stands-filter}
@@ -45,7 +44,6 @@ use Rattle.wit_core.proofs.Now.{now, seat-given, locks-told, view-is}
 all-of : {X : Type 0} (p : X → Bool) (P : X → Type 0) → ((x : X) → p x ≡ true → P x) → (xs : List X) → list_all p xs ≡ true → AllByRecursion P xs
 all-of p P from [] all = tt
 all-of p P from (x ∷ xs) all = let parts = and_parts (p x) (list_all p xs) all in (from x parts.0, all-of p P from xs parts.1)
-
 
 module _ (v : Inside) (k : IsKept v) (s : Story) (seen : story_in v ≡ s) where
   locks-are : v.known.known.locks ≡ typed_locks (start_in v) (history_in v)
@@ -125,7 +123,7 @@ module _ (v : Inside) (k : IsKept v) (s : Story) (seen : story_in v ≡ s) where
         → types ≡ map (λ (l : Lock). l.type_no) v.known.known.locks → watch ≡ v.watch
         → type_no ≡ (lock_at v.known.known.locks q.lock.0).type_no → flags ≡ (lock_at v.known.known.locks q.lock.0).made.flags
         → ruling (basis names relation types) watch (sleep_chain c t) (spin_chain c t)
-          (record { lock = q.lock; type_no = type_no; flags = flags; mode = q.mode; ops = q.ops; site = q.site })
+        (record { lock = q.lock; type_no = type_no; flags = flags; mode = q.mode; ops = q.ops; site = q.site })
         ≡ verdict (state_of s).known (state_of s).watch (seat_at (state_of s) t) q
     verdict-told names relation types watch q type_no flags same_types same_blessed direct pairs are watches type_is flags_are =
         same-ruling (basis names relation types) v.known.known.orders v.known.known.found direct (same_before relation.orders v.known.known.orders direct) pairs

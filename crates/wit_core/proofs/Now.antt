@@ -1,20 +1,16 @@
 -- What a verifier's parts say of the state that its story has now.
-use Rattle.std.proofs.Common.{◌≡◌, ℕ, ◌-◌, ◌<◌, ◌≤◌, Bool, true, false, not, ◌&&◌, cond, eqb, nat_lt, nat_le, List, length, map, find, get_or, unwrap_or, Option, Some, None, is_some, refl, sym, ap, ap₂, ◌∙◌, subst, arith}
-use Rattle.std.specs.List.{slice_get, range_with_len}
+use Rattle.std.proofs.Common.{◌≡◌, ℕ, Bool, true, false, not, ◌&&◌, cond, eqb, nat_lt, nat_le, length, map, find, unwrap_or, Option, None, is_some, refl, sym, ap, ap₂, ◌∙◌, subst, arith}
+use Rattle.std.specs.List.{slice_get}
 use Rattle.std.proofs.lemmas.Bool.{and_parts, ltb-true, leb-true}
 use Rattle.std.proofs.lemmas.List.{length-map}
-use Rattle.std.proofs.lemmas.List.FromFn.{length-map-range_with_len}
-use Rattle.wit_model.specs.declared.locks.Instance.{Instance}
-use Rattle.wit_model.specs.declared.calls.Request.{Request}
-use Rattle.wit_model.specs.declared.calls.Reply.{Reply}
 use Rattle.wit_model.specs.declared.calls.Reply.TheVariants as reply
-use Rattle.wit_model.specs.Rules.Groups.{flat, opens}
+use Rattle.wit_model.specs.Rules.Groups.{opens}
 use Rattle.wit_model.specs.Rules.History.{is_off, chain}
 use Rattle.wit_model.specs.Rules.Locks.{locks_of, lock_at, is_spin_lock}
 use Rattle.wit_model.specs.Rules.Numbers.{is_given, IsGiven}
 use Rattle.wit_model.specs.Rules.State.{Story, State, state_of, seat_of, is_seat, seat_at, seat_among, chain_in, groups_in, free}
 use Rattle.wit_model.specs.Rules.State as model
-use Rattle.wit_model.specs.Rules.Step.{chain_for, groups_for, held_by, is_exhausted, recorded}
+use Rattle.wit_model.specs.Rules.Step.{chain_for, groups_for, recorded}
 use Rattle.wit_model.specs.Rules.Types.{is_spin}
 use Rattle.wit_model.specs.Rules.Verdict.{is_of}
 use Rattle.wit_model.proofs.Numbered.{with_number-or-map, with_number-none}

@@ -10,7 +10,7 @@ use Rattle.wit_model.specs.declared.faults.Fault.{Fault}
 use Rattle.wit_model.specs.declared.faults.Fault.TheVariants.{OutOfMemory}
 use Rattle.wit_model.specs.declared.locks.Origin.{Origin}
 use Rattle.wit_model.specs.declared.locks.TypeNo.{TypeNo}
-use Rattle.wit_model.specs.Rules.Orders.{is_direct, is_before, is_adoption_of, origin_of, IsPath, IsSound}
+use Rattle.wit_model.specs.Rules.Orders.{is_direct, is_before, is_adoption_of, IsPath, IsSound}
 use Rattle.wit_model.specs.Rules.Numbers.{IsNumber, is_number}
 use Rattle.wit_model.specs.Trace.Paths.{path, path_numbers}
 use Rattle.wit_model.proofs.Orders.Paths.{before_from_test}
@@ -81,12 +81,12 @@ pub related-adopted : (old new : Inside) (order : Adoption) → IsRelated old �
 related-adopted old new order k follows pushed found adopts entered =
     let newest : reverse new.adopted.items ≡ order ∷ reverse old.adopted.items = ap reverse pushed ∙ reverse-append old.adopted.items (order ∷ []) in
     record {
-  orders = rw newest (adopted_by old.matrix.orders (reverse old.adopted.items) new.matrix.orders order k.orders adopts.orders);
-  found = rw found (λ a b. adopts.found a b ∙ k.found a b);
-  orders_among = rw (newest, adopts.size) (among-adopted old.matrix.size (reverse old.adopted.items) order k.orders_among follows.parent follows.child);
-  found_among = rw (found, adopts.size) k.found_among;
-  origins = rw newest (origins-adopted old.origins.entries new.origins.entries (reverse old.adopted.items) order k.origins entered);
-}
+      orders = rw newest (adopted_by old.matrix.orders (reverse old.adopted.items) new.matrix.orders order k.orders adopts.orders);
+      found = rw found (λ a b. adopts.found a b ∙ k.found a b);
+      orders_among = rw (newest, adopts.size) (among-adopted old.matrix.size (reverse old.adopted.items) order k.orders_among follows.parent follows.child);
+      found_among = rw (found, adopts.size) k.found_among;
+      origins = rw newest (origins-adopted old.origins.entries new.origins.entries (reverse old.adopted.items) order k.origins entered);
+    }
 
 module _ (o : Inside) (k : IsRelated o) (now : Relation) (seen : relation_in o ≡ now) where
   pub before-by : (a b : ℕ) → is_before o.matrix.orders a b ≡ is_before now.orders a b

@@ -1,5 +1,5 @@
 -- The state after each accepted call.
-use Rattle.std.proofs.Common.{◌≡◌, ℕ, ◌+◌, ◌-◌, ◌<◌, ◌≤◌, Bool, List, [], ◌∷◌, ◌++◌, Option, None, Some, length, map, set, get_or, refl, sym, ap, ◌∙◌, arith, append-nil}
+use Rattle.std.proofs.Common.{◌≡◌, ℕ, ◌-◌, ◌<◌, ◌≤◌, Bool, List, [], ◌∷◌, ◌++◌, Option, None, Some, length, map, set, get_or, refl, sym, ap, ◌∙◌, arith}
 use Rattle.std.proofs.lemmas.List.FromFn.{length-map-range_with_len}
 use Rattle.std.proofs.lemmas.List.{set-get_or, set-set, get_or-set_same, map-set, get_or-map, length-map}
 use Rattle.wit_model.specs.declared.locks.LockNo.{LockNo}
@@ -8,10 +8,9 @@ use Rattle.wit_model.specs.declared.locks.Site.{Site}
 use Rattle.wit_model.specs.declared.locks.Watch.{Watch}
 use Rattle.wit_model.specs.declared.locks.Lock.{Lock}
 use Rattle.wit_model.specs.declared.calls.Call.{Call}
-use Rattle.wit_model.specs.declared.calls.Call.TheVariants.{Init, Check, Note, NoteTry, GiveUp, Unlock, SetWatch}
+use Rattle.wit_model.specs.declared.calls.Call.TheVariants.{Note, NoteTry, Unlock}
 use Rattle.wit_model.specs.declared.calls.Reply.{Reply}
-use Rattle.wit_model.specs.declared.calls.Reply.TheVariants.{Made, Recorded, Exhausted, Unrecorded, Unlocked, Done}
-use Rattle.wit_model.specs.declared.calls.NewLock.{NewLock}
+use Rattle.wit_model.specs.declared.calls.Reply.TheVariants.{Recorded, Unlocked}
 use Rattle.wit_model.specs.declared.calls.Request.{Request}
 use Rattle.wit_model.specs.declared.calls.Entry.{Entry}
 use Rattle.wit_model.specs.Rules.Locks.{locks_of, is_spin_lock}
@@ -19,16 +18,14 @@ use Rattle.wit_model.specs.Rules.Locks.{made_among}
 use Rattle.wit_model.specs.Rules.Orders.{adopted}
 use Rattle.wit_model.specs.Rules.Types.{types_after}
 use Rattle.wit_model.specs.Rules.Sizes.{Sizes}
-use Rattle.wit_model.specs.Rules.History.{Nothing, act, pending, pending_after, watch_of, watch_after}
+use Rattle.wit_model.specs.Rules.History.{Nothing, act, pending, pending_after}
 use Rattle.wit_model.specs.Rules.State.{Start, State, Known, state_of, known_of, seat_of, seats_of, types_of, typed_locks, orders_of, found_of, found_after}
 use Rattle.wit_model.specs.Rules.State as model
-use Rattle.wit_model.specs.Rules.Step.{story_after}
 use Rattle.wit_model.proofs.Chains.Sane.{IsSane}
 use Rattle.wit_model.proofs.Chains.Seats.{entry, seat_after, seat_after-quiet, seat_after-note, seat_after-try, seat_after-unlock, seats_of-entry, get_or-seats_of}
 use Rattle.wit_model.proofs.Orders.Types.{typed-same}
 use Rattle.wit_core.specs.Acquiring.{taken}
 use Rattle.wit_core.specs.Held.{seat_view}
-use Rattle.wit_core.specs.Known.{learnt, with_lock}
 use Rattle.wit_core.specs.Seats.{Seat, Row, no_seat, with_seat, asking, acquired, released}
 use Rattle.wit_core.proofs.HeldSeats.{acquired-view, released-view}
 

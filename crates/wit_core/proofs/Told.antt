@@ -1,6 +1,5 @@
 -- The reply that tells a verdict.
-use Rattle.std.proofs.Common.{◌≡◌, true, Result, Ok, Err, refl, sym, ap, ◌∙◌, subst}
-use Rattle.wit_model.specs.declared.faults.Fault.{Fault}
+use Rattle.std.proofs.Common.{◌≡◌, true, Ok, sym, ap, ◌∙◌}
 use Rattle.wit_model.specs.declared.locks.Watch.{Watch}
 use Rattle.wit_model.specs.declared.calls.Call.TheVariants.{Check}
 use Rattle.wit_model.specs.declared.calls.Reply.{Reply}

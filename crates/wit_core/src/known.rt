@@ -14,7 +14,8 @@ use crate::orders::Orders;
 use std::alloc::{AllocError, Global};
 use std::marker::Model;
 use wit_model::{
-    Adoption, Class, Fault, FileNo, Lock, LockFlags, LockNo, NewLock, Origin, Reply, Request, TypeNo,
+    Adoption, Class, Fault, FileNo, Lock, LockFlags, LockNo, NewLock, Origin, Reply, Request,
+    TypeNo,
 };
 use wit_table::Table;
 

@@ -161,10 +161,7 @@ const EXHAUSTED: [(Step, Answer); 29] = [
     (Step::Note(1, 6), Answer::Exhausted),
     (Step::Unlock(1, 6), Answer::Ignored),
     (Step::Unlock(1, 5), Answer::Unlocked),
-    (
-        Step::Watch(1, Watch::On),
-        Answer::Refused(Fault::WatchOff),
-    ),
+    (Step::Watch(1, Watch::On), Answer::Refused(Fault::WatchOff)),
     (Step::Watch(1, Watch::Off), Answer::Done),
     (Step::Try(1, 5, 7), Answer::Unrecorded),
     (Step::Check(1, 5, 7), Answer::Pass),
@@ -196,10 +193,7 @@ const TRIES: [(Step, Answer); 20] = [
     (Step::Check(1, 4, 7), Answer::Silent(2, 2)),
     (Step::GiveUp(1, 4), Answer::Done),
     (Step::Try(1, 3, 8), Answer::Recorded),
-    (
-        Step::Check(1, 1, 9),
-        Answer::Refused(Fault::SleepUnderSpin),
-    ),
+    (Step::Check(1, 1, 9), Answer::Refused(Fault::SleepUnderSpin)),
 ];
 
 /// Where less is watched, no order is checked, and what is held is recorded still.
