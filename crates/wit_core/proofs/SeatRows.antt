@@ -213,6 +213,7 @@ module _ (o : Inside) (r : Row) (seen : row_in o ≡ r) where
 
   pub holds-now : AreSeated o → HoldFor r o.lists
   holds-now k = record {
+    few = omega (arith, k.few, count-now);
     groups = λ t spin given. groups-now k t given (list_of spin t) spin refl;
     lists = k.lists ∙ ap (λ n. 2 * n) (sym count-now);
     size = ap (λ (x : Row). x.chunks) seen;

@@ -5,7 +5,7 @@ ghost use Rattle.wit_model.specs.declared.faults.Fault.TheVariants.{OutOfMemory}
 ghost use Rattle.wit_model.specs.Rules.Orders.{is_direct, is_before, is_found, found_once, origin_of, cell};
 ghost use Rattle.wit_model.specs.Rules.Numbers.{IsNumber, is_number};
 ghost use Rattle.wit_model.specs.Trace.Paths.{path, path_numbers};
-ghost use Rattle.wit_matrix.specs.Relation.{OrdersAmong, LeadsBy};
+ghost use Rattle.wit_matrix.specs.Relation.{HasSameOrders, HasSameFound, OrdersAmong, LeadsBy};
 ghost use Rattle.wit_core.specs.Following.{CanFollow};
 
 use indexmap::IndexMap;
@@ -55,6 +55,15 @@ impl Orders {
             matrix: Matrix::new(alloc, types as u16)?,
             origins: IndexMap::new(alloc),
         })
+    }
+
+    /// The same orders and pairs as a matrix, which may have them in another order.
+    pub fn matrix(&self) -> &Matrix
+        ensures orders { HasSameOrders result.now.orders self.now.orders }
+        ensures found { HasSameFound result.now.found self.now.found }
+        ensures size { result.now.size ≡ self.now.size }
+    {
+        &self.matrix
     }
 
     // Whether there may be types with these numbers.

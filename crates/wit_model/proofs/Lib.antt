@@ -4,3 +4,4 @@ pub mod Lists
 pub mod Numbered
 pub mod Orders
 pub mod Spelling
+pub mod VerdictLaws

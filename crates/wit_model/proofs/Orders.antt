@@ -4,7 +4,6 @@ pub mod Classes
 pub mod Once
 pub mod Paths
 pub mod Reads
-pub mod Reported
 pub mod Ruled
 pub mod Sound
 pub mod Started

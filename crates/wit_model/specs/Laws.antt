@@ -1,10 +1,10 @@
 -- Laws: what holds of every legal history.
-use Rattle.std.specs.Prelude.{ℕ, ◌≡◌, ◌↔◌, true, List, [], ◌∷◌, ◌++◌, None, Some, Ok, IsOk}
+use Rattle.std.specs.Prelude.{ℕ, ◌≡◌, ◌≤◌, ◌↔◌, Bool, true, false, List, [], ◌∷◌, ◌++◌, count_by, None, Some, Ok, IsOk}
 use Rattle.wit_model.specs.declared.calls.Adoption.{Adoption}
 use Rattle.wit_model.specs.declared.calls.Request.{Request}
 use Rattle.wit_model.specs.declared.calls.Call.TheVariants.{Check, Note, GiveUp}
 use Rattle.wit_model.specs.declared.calls.Reply.{Reply}
-use Rattle.wit_model.specs.declared.calls.Reply.TheVariants.{Done}
+use Rattle.wit_model.specs.declared.calls.Reply.TheVariants.{Done, Exhausted}
 use Rattle.wit_model.specs.declared.locks.Watch.TheVariants.{Off}
 use Rattle.wit_model.specs.declared.calls.Entry.{Entry}
 use Rattle.wit_model.specs.Rules.Orders.{Before, is_before, IsSound}
@@ -45,6 +45,15 @@ CheckedIsNoted =
 abbrev pub OffIsForGood : Type 0
 OffIsForGood =
     (start : Start) (files : List (List ℕ)) (e : Entry) (h : List Entry) → IsLegal start files (e ∷ h) → watch_of h ≡ Off → watch_of (e ∷ h) ≡ Off
+
+abbrev pub is_exhaustion : Reply → Bool
+is_exhaustion Exhausted = true
+is_exhaustion _ = false
+
+-- that no chunk is free is told once at most
+abbrev pub IsExhaustedOnce : Type 0
+IsExhaustedOnce =
+    (start : Start) (files : List (List ℕ)) (h : List Entry) → IsLegal start files h → count_by (λ (e : Entry). is_exhaustion e.reply) h ≤ 1
 
 -- a history stays legal where more files are named
 abbrev pub FilesMayGrow : Type 0

@@ -1,50 +1,127 @@
--- Laws of what a check reports and learns.
-use Rattle.std.specs.Prelude.{ℕ, ◌≡◌, Bool, false, List, [], ◌∷◌, ◌++◌}
+-- Laws of the verdict of a check: what its replies say of the orders between types.
+use Rattle.std.specs.Prelude.{ℕ, ◌<◌, ◌≡◌, ◌⊎◌, Bool, true, false, ◌&&◌, ◌||◌, List, [], ◌∷◌, ◌++◌, Option, None, Some}
+use Rattle.std.specs.List.{last_or}
 use Rattle.wit_model.specs.declared.locks.TypeNo.{TypeNo}
-use Rattle.wit_model.specs.declared.calls.Call.{Call}
-use Rattle.wit_model.specs.declared.calls.Call.TheVariants.{Check}
+use Rattle.wit_model.specs.declared.locks.Class.TheVariants.{Sx}
+use Rattle.wit_model.specs.declared.locks.Watch.TheVariants.{On}
+use Rattle.wit_model.specs.declared.calls.NewLock.{NewLock}
+use Rattle.wit_model.specs.declared.calls.Heading.TheVariants as heading
 use Rattle.wit_model.specs.declared.calls.Conflict.{Conflict}
-use Rattle.wit_model.specs.declared.calls.Entry.{Entry}
-use Rattle.wit_model.specs.declared.calls.Heading.TheVariants.{Order}
-use Rattle.wit_model.specs.declared.calls.Reply.{Reply}
-use Rattle.wit_model.specs.declared.calls.Reply.TheVariants.{Duplicate, Reversal}
+use Rattle.wit_model.specs.declared.calls.Doubling.{Doubling}
 use Rattle.wit_model.specs.declared.calls.Request.{Request}
-use Rattle.wit_model.specs.Rules.Locks.{Lock, lock_at}
-use Rattle.wit_model.specs.Rules.Orders.{Before, is_found, AreDistinct}
+use Rattle.wit_model.specs.declared.calls.Call.TheVariants.{Check}
+use Rattle.wit_model.specs.declared.calls.Reply.{Reply}
+use Rattle.wit_model.specs.declared.calls.Reply.TheVariants.{Pass, Adopted, Reversal, Duplicate}
+use Rattle.wit_model.specs.declared.calls.Entry.{Entry}
+use Rattle.wit_model.specs.Rules.Types.{is_same_class}
+use Rattle.wit_model.specs.Rules.Locks.{Lock, locks_of, lock_of, lock_at, has_flag, is_spin_lock}
+use Rattle.wit_model.specs.Rules.Orders.{Before, AreDistinct, is_direct, is_found}
+use Rattle.wit_model.specs.Rules.History.{num, is_held, held_of, watch_of}
 use Rattle.wit_model.specs.Rules.State.{Start, typed_locks, orders_of}
+use Rattle.wit_model.specs.Rules.Start.{start_fault}
 use Rattle.wit_model.specs.Rules.Step.{IsLegal}
+use Rattle.wit_model.specs.Rules.Ahead.{lock_type, IsAhead}
+use Rattle.wit_model.specs.Rules.Clean.{is_giant_lock, is_clean}
 
--- the type of a lock, by its number
-abbrev pub type_at : Start → List Entry → ℕ → TypeNo
-type_at start h l = (lock_at (typed_locks start h) l).type_no
+-- ---- adoptions
 
--- where a request breaks a known order, that order is known: a path of adopted orders leads from its type to the held one's
-abbrev pub ReversalsHavePaths : Type 0
-ReversalsHavePaths =
-    (start : Start) (files : List (List ℕ)) (e : Entry) (h : List Entry) (q : Request) (x : Conflict)
-    → IsLegal start files (e ∷ h) → e.call ≡ Check q → e.reply ≡ Reversal x → x.heading ≡ Order
-    → Before (orders_of start h) (type_at start h x.asked.lock.0).0 (type_at start h x.held.lock.0).0
-
--- the pair of types that a check reports: of a duplicate, one type twice
-abbrev pub reported_by : Start → List Entry → Call → Reply → List (TypeNo × TypeNo)
-reported_by start h (Check q) (Reversal x) = (type_at start h x.held.lock.0, type_at start h x.asked.lock.0) ∷ []
-reported_by start h (Check q) (Duplicate d) = (type_at start h d.last.lock.0, type_at start h d.asked.lock.0) ∷ []
-reported_by start h _ _ = []
-
--- those of a history, newest first
-abbrev pub reported_in : Start → List Entry → List (TypeNo × TypeNo)
-reported_in start [] = []
-reported_in start (e ∷ h) = reported_by start h e.call e.reply ++ reported_in start h
-
--- no unordered pair stands twice
-abbrev pub AreReportedOnce : List (TypeNo × TypeNo) → Type 0
-AreReportedOnce [] = Unit {0}
-AreReportedOnce (p ∷ pairs) = (is_found pairs p.0.0 p.1.0 ≡ false) × AreReportedOnce pairs
-
--- each unordered pair of types is reported once
-abbrev pub PairsAreReportedOnce : Type 0
-PairsAreReportedOnce = (start : Start) (files : List (List ℕ)) (h : List Entry) → IsLegal start files h → AreReportedOnce (reported_in start h)
-
--- no order is adopted twice
+-- no order stands twice after a legal history, those of static lists included
 abbrev pub OrdersAreAdoptedOnce : Type 0
 OrdersAreAdoptedOnce = (start : Start) (files : List (List ℕ)) (h : List Entry) → IsLegal start files h → AreDistinct (orders_of start h)
+
+-- ---- reports
+
+-- a reversal is told of a lock that the seat holds, and of the one that it asks for
+abbrev pub ReversalsAreOfHeldLocks : Type 0
+ReversalsAreOfHeldLocks =
+    (start : Start) (files : List (List ℕ)) (e : Entry) (h : List Entry) (x : Conflict)
+    → IsLegal start files (e ∷ h) → e.reply ≡ Reversal x
+    → (is_held e.seat.0 x.held.lock.0 h ≡ true) × (q : Request) × (e.call ≡ Check q) × (x.asked.lock ≡ q.lock)
+
+-- a plain reversal is told only where the requested lock's type is before the held one's, by the orders adopted until then
+abbrev pub ReversalsBreakOrders : Type 0
+ReversalsBreakOrders =
+    (start : Start) (files : List (List ℕ)) (e : Entry) (h : List Entry) (x : Conflict)
+    → IsLegal start files (e ∷ h) → e.reply ≡ Reversal x → x.heading ≡ heading.Order
+    → Before (orders_of start h) (lock_type start h x.asked.lock.0) (lock_type start h x.held.lock.0)
+
+-- the two locks of a duplicate are of one type
+abbrev pub DuplicatesAreOfOneType : Type 0
+DuplicatesAreOfOneType =
+    (start : Start) (files : List (List ℕ)) (e : Entry) (h : List Entry) (d : Doubling)
+    → IsLegal start files (e ∷ h) → e.reply ≡ Duplicate d → lock_type start h d.last.lock.0 ≡ lock_type start h d.asked.lock.0
+
+-- the types of the held lock and of the requested one that a report names
+abbrev pub reported_pair : List Lock → Reply → List (TypeNo × TypeNo)
+reported_pair locks (Reversal x) = ((lock_at locks x.held.lock.0).type_no, (lock_at locks x.asked.lock.0).type_no) ∷ []
+reported_pair locks (Duplicate d) = ((lock_at locks d.last.lock.0).type_no, (lock_at locks d.asked.lock.0).type_no) ∷ []
+reported_pair locks _ = []
+
+-- those of all reports of a history, newest first
+abbrev pub reported_pairs : Start → List Entry → List (TypeNo × TypeNo)
+reported_pairs start [] = []
+reported_pairs start (e ∷ h) = reported_pair (typed_locks start h) e.reply ++ reported_pairs start h
+
+-- no unordered pair stands twice
+abbrev pub AreUnlike : List (TypeNo × TypeNo) → Type 0
+AreUnlike [] = Unit {0}
+AreUnlike (p ∷ pairs) = (is_found pairs p.0.0 p.1.0 ≡ false) × AreUnlike pairs
+
+-- no unordered pair of types is reported twice in a legal history
+abbrev pub PairsAreReportedOnce : Type 0
+PairsAreReportedOnce = (start : Start) (files : List (List ℕ)) (h : List Entry) → IsLegal start files h → AreUnlike (reported_pairs start h)
+
+-- ---- requests that passed
+
+-- the last lock that a seat holds of the kind of lock l
+abbrev pub last_of_kind : ℕ → ℕ → List Entry → Option ℕ
+last_of_kind t l h = last_or None (held_of (is_spin_lock (locks_of h) l) t h)
+
+-- an entry after h asks for a lock of type b, and the last lock of its kind that its seat holds is of type a
+pub record AsksBehind (start : Start) (h : List Entry) (e : Entry) (a b : ℕ) : Type 0 where
+  pub request : Request
+  pub asks : e.call ≡ Check request
+  pub last : ℕ
+  pub is_last : last_of_kind e.seat.0 request.lock.0 h ≡ Some last
+  pub parent : lock_type start h last ≡ a
+  pub child : lock_type start h request.lock.0 ≡ b
+
+abbrev pub is_sleepable_lock : NewLock → Bool
+is_sleepable_lock lock = is_same_class lock.class Sx
+
+-- Giant and a sleepable lock: Giant is let go while its holder sleeps, so they may be taken in either order
+abbrev pub is_with_giant : NewLock → NewLock → Bool
+is_with_giant a b = (is_giant_lock a && is_sleepable_lock b) || (is_sleepable_lock a && is_giant_lock b)
+
+-- such a request passed, or taught its order, where all rules were to be met: everything was watched, the seat didn't hold the lock, an
+-- order might be learnt (0x01), no second lock of one type was allowed (0x02), and it isn't about Giant and a sleepable lock
+pub record HasPassed (start : Start) (h : List Entry) (e : Entry) (a b : ℕ) : Type 0 where
+  pub behind : AsksBehind start h e a b
+  pub passed : (e.reply ≡ Pass) ⊎ (e.reply ≡ Adopted (record { 0 = a }) (record { 0 = b }))
+  pub on : watch_of h ≡ On
+  pub unheld : is_held e.seat.0 behind.request.lock.0 h ≡ false
+  pub teaches : has_flag behind.request.ops.0 0x01 ≡ true
+  pub single : a ≡ b → (has_flag (lock_of (locks_of h) behind.request.lock.0).flags.0 0x02 || has_flag behind.request.ops.0 0x02) ≡ false
+  pub bound : is_with_giant (lock_of (locks_of h) behind.last) (lock_of (locks_of h) behind.request.lock.0) ≡ false
+
+-- its order is then a direct one
+abbrev pub PassedIsDirect : Type 0
+PassedIsDirect =
+    (start : Start) (files : List (List ℕ)) (e : Entry) (h : List Entry) (a b : ℕ)
+    → IsLegal start files (e ∷ h) → HasPassed start h e a b → is_direct (orders_of start (e ∷ h)) a b ≡ true
+
+-- and whoever asks for a lock of that type behind one of that type later, passes, if no fault refuses the check
+abbrev pub PassedPassesOn : Type 0
+PassedPassesOn =
+    (start : Start) (files : List (List ℕ)) (next : Entry) (later : List Entry) (e : Entry) (h : List Entry) (a b : ℕ)
+    → start_fault start ≡ None → IsLegal start files (next ∷ later ++ e ∷ h)
+    → HasPassed start h e a b → AsksBehind start (later ++ e ∷ h) next a b → next.reply ≡ Pass
+
+-- ---- clean histories
+
+-- after a clean history's check for a lock that its seat didn't hold, each lock that it holds is to be taken before that
+abbrev pub HeldComeFirst : Type 0
+HeldComeFirst =
+    (start : Start) (files : List (List ℕ)) (e : Entry) (h : List Entry) (q : Request) (l : ℕ)
+    → start.blessed ≡ [] → IsLegal start files (e ∷ h) → is_clean (e ∷ h) ≡ true
+    → e.call ≡ Check q → num e.seat.0 q.lock.0 h ≡ 0 → 0 < num e.seat.0 l h → IsAhead start (e ∷ h) l q.lock.0

@@ -9,6 +9,7 @@ ghost use Rattle.wit_model.specs.Laws.{
   PendingIsGivenUp,
   CheckedIsNoted,
   OffIsForGood,
+  IsExhaustedOnce,
   FilesMayGrow,
 };
 
@@ -32,6 +33,11 @@ pub fn law_note_after_check()
 /// Once nothing is watched, nothing is ever watched again.
 pub fn law_off_is_for_good()
     ensures { OffIsForGood }
+{}
+
+/// That the chunks are exhausted is told once at most.
+pub fn law_exhausted_once()
+    ensures { IsExhaustedOnce }
 {}
 
 /// A history stays legal where more files are named.

@@ -1,22 +1,41 @@
-//! Laws of what a check reports and learns. Each function is a theorem, and does nothing.
+//! Laws of the verdict of a check: what its replies say of the orders between lock types. Each function is a theorem, and does nothing.
 
 ghost use Rattle.wit_model.specs.VerdictLaws.{
-  ReversalsHavePaths,
-  PairsAreReportedOnce,
   OrdersAreAdoptedOnce,
+  ReversalsAreOfHeldLocks,
+  ReversalsBreakOrders,
+  DuplicatesAreOfOneType,
+  PairsAreReportedOnce,
+  PassedIsDirect,
+  PassedPassesOn,
 };
 
-/// A reversal of a known order is one: where it is reported, a path of adopted orders leads from the requested lock's type to the held one's.
-pub fn law_reversals_have_paths()
-    ensures { ReversalsHavePaths }
-{}
-
-/// Each unordered pair of types is reported once, a duplicate's type paired with itself.
-pub fn law_reported_once()
-    ensures { PairsAreReportedOnce }
-{}
-
-/// No order is adopted twice.
-pub fn law_adopted_once()
+/// No order between two lock types is adopted twice, those of static lists included.
+pub fn law_orders_adopted_once()
     ensures { OrdersAreAdoptedOnce }
+{}
+
+/// A reversal means what its heading says. It names a lock that the seat holds and the lock that it asks for; and where its heading is
+/// the plain one, a path of orders adopted until then leads from the requested lock's type to the held lock's, so that both orders
+/// have been seen: the "lock order reversal" of witness(4).
+pub fn law_reversal_breaks_order()
+    ensures held { ReversalsAreOfHeldLocks }
+    ensures order { ReversalsBreakOrders }
+{}
+
+/// No pair of lock types is reported twice, in whichever order and whether as a reversal or as a duplicate, which is of two locks of one
+/// type.
+pub fn law_pairs_reported_once()
+    ensures once { PairsAreReportedOnce }
+    ensures duplicate { DuplicatesAreOfOneType }
+{}
+
+/// A request needs to be checked once. Where everything is watched and a request for a lock that its seat doesn't hold, which may teach
+/// an order and allows no second lock of a type, passed or taught its order behind a last held lock of its kind, that order is a
+/// direct one from then on: whoever asks, whenever, for a lock of that type while his last held lock of its kind is of that other type,
+/// passes, if no fault refuses the check, and teaches nothing. So a recorder may leave such a check out. Giant together with a sleepable
+/// lock is excepted: these two may be taken in either order, and no order between them is learnt.
+pub fn law_passed_passes_on()
+    ensures direct { PassedIsDirect }
+    ensures later { PassedPassesOn }
 {}

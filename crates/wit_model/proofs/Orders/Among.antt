@@ -81,7 +81,7 @@ all-find p r (x ∷ c) i all is = go (r x) is (and_parts (p x) (list_all p c) al
     go true same parts ih = subst (λ j. p j ≡ true) (let e : x ≡ i = cc in e) parts.0
     go false same parts ih = ih parts.1 same
 
-found-last : (p r : Instance → Bool) (c : List Instance) (i : Instance) → list_all p c ≡ true → find r (reverse c) ≡ Some i → p i ≡ true
+pub found-last : (p r : Instance → Bool) (c : List Instance) (i : Instance) → list_all p c ≡ true → find r (reverse c) ≡ Some i → p i ≡ true
 found-last p r c i all is = all-find p r (reverse c) i (all-reverse p c all) is
 
 -- the last of a chain has what all have

@@ -11,8 +11,9 @@ use Rattle.wit_model.specs.declared.calls.Heading.{Heading}
 use Rattle.wit_model.specs.declared.calls.Heading.TheVariants.{Order, Sleepable, Giant}
 use Rattle.wit_model.specs.declared.calls.LockAt.{LockAt}
 use Rattle.wit_model.specs.declared.calls.Conflict.{Conflict}
+use Rattle.wit_model.specs.declared.calls.Doubling.{Doubling}
 use Rattle.wit_model.specs.declared.calls.Reply.{Reply}
-use Rattle.wit_model.specs.declared.calls.Reply.TheVariants.{Reversal}
+use Rattle.wit_model.specs.declared.calls.Reply.TheVariants.{Reversal, Duplicate, Exhausted}
 use Rattle.wit_model.specs.Rules.Numbers.{with_number}
 use Rattle.wit_model.specs.Rules.Types.{type_name_of, name_of}
 use Rattle.wit_model.specs.Rules.Locks.{lock_at}
@@ -59,6 +60,10 @@ conflict_lines locks files c None = lock_line locks files (codes "1st") c.held +
 conflict_lines locks files c (Some older) =
     lock_line locks files (codes "1st") older ++ (lock_line locks files (codes "2nd") c.held ++ lock_line locks files (codes "3rd") c.asked)
 
+-- the two locks of one type: the last held one, and the requested one
+abbrev pub doubling_lines : List Lock → List (List ℕ) → Doubling → List ℕ
+doubling_lines locks files d = lock_line locks files (codes "1st") d.last ++ lock_line locks files (codes "2nd") d.asked
+
 -- where an order comes from
 abbrev pub origin_words : List (List ℕ) → Option Origin → List ℕ
 origin_words files None = []
@@ -88,4 +93,7 @@ abbrev pub report_text : Known → List (List ℕ) → Reply → List ℕ
 report_text k files (Reversal c) =
     line (heading_words c.heading ∷ []) ++ conflict_lines k.locks files c c.older
     ++ established k files (path k.orders (length k.types) (lock_at k.locks c.asked.lock.0).type_no.0 (lock_at k.locks c.held.lock.0).type_no.0)
+report_text k files (Duplicate d) =
+    line (codes "acquiring duplicate lock of same type: " ∷ quoted (type_name_of (lock_at k.locks d.asked.lock.0).made) ∷ []) ++ doubling_lines k.locks files d
+report_text k files Exhausted = line (codes "witness exhausted" ∷ [])
 report_text k files _ = []

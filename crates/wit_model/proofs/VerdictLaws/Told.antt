@@ -1,0 +1,269 @@
+-- What a reversal and a duplicate tell, and that no pair of types is told of twice.
+use Rattle.std.proofs.Common.{◌≡◌, ◌⊎◌, ℕ, Bool, true, false, not, ◌&&◌, ◌||◌, cond, List, [], ◌∷◌, ◌++◌, Option, None, Some, Result, Ok, is_some, unwrap_or, find, reverse, refl, ap, ap₂, sym, ◌∙◌, subst, inl, inr, ⊎_elim}
+use Rattle.std.proofs.lemmas.Bool.{false≢true, true≢false, or_parts, or_cases, or_left, or_right, eqb-true, false_from_ne_true}
+use Rattle.wit_model.specs.declared.faults.Fault.{Fault}
+use Rattle.wit_model.specs.declared.locks.TypeNo.{TypeNo}
+use Rattle.wit_model.specs.declared.locks.Watch.{Watch}
+use Rattle.wit_model.specs.declared.locks.Instance.{Instance}
+use Rattle.wit_model.specs.declared.calls.Asked.{Asked}
+use Rattle.wit_model.specs.declared.calls.Heading.{Heading}
+use Rattle.wit_model.specs.declared.calls.Heading.TheVariants as heading
+use Rattle.wit_model.specs.declared.calls.Conflict.{Conflict}
+use Rattle.wit_model.specs.declared.calls.Doubling.{Doubling}
+use Rattle.wit_model.specs.declared.calls.Request.{Request}
+use Rattle.wit_model.specs.declared.calls.Call.TheVariants.{Check}
+use Rattle.wit_model.specs.declared.calls.Reply.{Reply}
+use Rattle.wit_model.specs.declared.calls.Reply.TheVariants.{Pass, Silent, Reversal, Duplicate}
+use Rattle.wit_model.specs.declared.calls.Entry.{Entry}
+use Rattle.wit_model.specs.Rules.Locks.{Lock, locks_of, lock_at, has_flag, is_spin_lock}
+use Rattle.wit_model.specs.Rules.Orders.{Before, is_before, is_pair_of, is_found, found_once}
+use Rattle.wit_model.specs.Rules.History.{is_held, chain, watch_of}
+use Rattle.wit_model.specs.Rules.State.{Start, known_of, typed_locks, orders_of, found_after, found_of}
+use Rattle.wit_model.specs.Rules.Verdict.{Basis, type_held, has_type_of, is_sleepable, is_giant, place_of, place_asked, doubled, breach, violates, is_blessed, conflict, reported, basis_of, asked_of}
+use Rattle.wit_model.specs.Rules.Step.{IsLegal}
+use Rattle.wit_model.specs.Rules.Ahead.{lock_type}
+use Rattle.wit_model.specs.VerdictLaws.{reported_pair, reported_pairs, AreUnlike}
+use Rattle.wit_model.proofs.Histories.Accepted.{same_reply}
+use Rattle.wit_model.proofs.Orders.Paths.{before_from_test}
+use Rattle.wit_model.proofs.Orders.Ruled.{IsBehind, Says, Passed, Learnt, Doubled, Broken}
+use Rattle.wit_model.proofs.Orders.Sound.{type-held, chain-held}
+use Rattle.wit_model.proofs.Orders.Among.{found-last}
+use Rattle.wit_model.proofs.VerdictLaws.Judged.{chain-of_kind, told-asked}
+
+-- ---- what the ruling says of a reversal
+
+-- a reversal is of a violating lock of the chain, and of a pair of types that wasn't found before
+record IsReversal (g : Basis) (q : Asked) (c : List Instance) (x : Conflict) : Type 0 where
+  held : Instance
+  violation : find (violates g q) (reverse c) ≡ Some held
+  fresh : is_found g.found (type_held g held).0 q.type_no.0 ≡ false
+  is : conflict g q c held ≡ x
+
+same-conflict : (a b : Conflict) → ◌≡◌ {A = Result Reply Fault} (Ok (Reversal a)) (Ok (Reversal b)) → a ≡ b
+same-conflict a b ok = let e : ◌≡◌ {A = Reply} (Reversal a) (Reversal b) = same_reply ok in cc
+
+reversal-broken : (g : Basis) (q : Asked) (c : List Instance) (x : Conflict) (i : Instance) → find (violates g q) (reverse c) ≡ Some i
+    → reported g q c i ≡ Ok (Reversal x) → IsReversal g q c x
+reversal-broken g q c x i violation told = go (is_found g.found (type_held g i).0 q.type_no.0) (is_blessed g (type_held g i) q.type_no) refl told
+  where
+    go : (f b : Bool) → is_found g.found (type_held g i).0 q.type_no.0 ≡ f
+        → cond {A = Result Reply Fault} (f || b) (Ok (Silent (type_held g i) q.type_no)) (Ok (Reversal (conflict g q c i))) ≡ Ok (Reversal x) → IsReversal g q c x
+    go true b is same = (cc)
+    go false true is same = (cc)
+    go false false is same = record { held = i; violation = violation; fresh = is; is = same-conflict (conflict g q c i) x same }
+
+doubled-no_reversal : (g : Basis) (q : Asked) (i : Instance) (x : Conflict) → doubled g q i ≡ Ok (Reversal x) → ⊥
+doubled-no_reversal g q i x ok = go (has_flag q.flags.0 0x02 || has_flag q.ops.0 0x02) (is_found g.found q.type_no.0 q.type_no.0) ok
+  where
+    go : (allowed f : Bool) → cond {A = Result Reply Fault} allowed (Ok Pass) (cond f (Ok (Silent q.type_no q.type_no)) (Ok (Duplicate (record { last = place_of i; asked = place_asked q })))) ≡ Ok (Reversal x) → ⊥
+    go true f same = (cc)
+    go false true same = (cc)
+    go false false same = (cc)
+
+says-reversal : (g : Basis) (w : Watch) (q : Asked) (c : List Instance) (x : Conflict) → Says g w q c (Reversal x) → IsReversal g q c x
+says-reversal g w q c x (Passed passes why) = (cc)
+says-reversal g w q c x (Learnt l) = let e = l.reply in (cc)
+says-reversal g w q c x (Doubled d) = absurd (doubled-no_reversal g q d.last x d.reply)
+says-reversal g w q c x (Broken b) = reversal-broken g q c x b.held b.violation b.reply
+
+-- ---- and of a duplicate
+
+record IsDuplicate (g : Basis) (q : Asked) (c : List Instance) (d : Doubling) : Type 0 where
+  last : Instance
+  same : has_type_of g q last ≡ true
+  fresh : is_found g.found q.type_no.0 q.type_no.0 ≡ false
+  is : record { last = place_of last; asked = place_asked q } ≡ d
+
+same-doubling : (a b : Doubling) → ◌≡◌ {A = Result Reply Fault} (Ok (Duplicate a)) (Ok (Duplicate b)) → a ≡ b
+same-doubling a b ok = let e : ◌≡◌ {A = Reply} (Duplicate a) (Duplicate b) = same_reply ok in cc
+
+duplicate-doubled : (g : Basis) (q : Asked) (c : List Instance) (d : Doubling) (i : Instance) → has_type_of g q i ≡ true → doubled g q i ≡ Ok (Duplicate d) → IsDuplicate g q c d
+duplicate-doubled g q c d i same ok = go (has_flag q.flags.0 0x02 || has_flag q.ops.0 0x02) (is_found g.found q.type_no.0 q.type_no.0) refl ok
+  where
+    go : (allowed f : Bool) → is_found g.found q.type_no.0 q.type_no.0 ≡ f
+        → cond {A = Result Reply Fault} allowed (Ok Pass) (cond f (Ok (Silent q.type_no q.type_no)) (Ok (Duplicate (record { last = place_of i; asked = place_asked q })))) ≡ Ok (Duplicate d)
+        → IsDuplicate g q c d
+    go true f is told = (cc)
+    go false true is told = (cc)
+    go false false is told = record { last = i; same = same; fresh = is; is = same-doubling (record { last = place_of i; asked = place_asked q }) d told }
+
+reported-no_duplicate : (g : Basis) (q : Asked) (c : List Instance) (i : Instance) (d : Doubling) → reported g q c i ≡ Ok (Duplicate d) → ⊥
+reported-no_duplicate g q c i d ok = go (is_found g.found (type_held g i).0 q.type_no.0 || is_blessed g (type_held g i) q.type_no) ok
+  where
+    go : (f : Bool) → cond {A = Result Reply Fault} f (Ok (Silent (type_held g i) q.type_no)) (Ok (Reversal (conflict g q c i))) ≡ Ok (Duplicate d) → ⊥
+    go true same = (cc)
+    go false same = (cc)
+
+says-duplicate : (g : Basis) (w : Watch) (q : Asked) (c : List Instance) (d : Doubling) → Says g w q c (Duplicate d) → IsDuplicate g q c d
+says-duplicate g w q c d (Passed passes why) = (cc)
+says-duplicate g w q c d (Learnt l) = let e = l.reply in (cc)
+says-duplicate g w q c d (Doubled b) = duplicate-doubled g q c d b.last b.same b.reply
+says-duplicate g w q c d (Broken b) = absurd (reported-no_duplicate g q c b.held d b.reply)
+
+-- ---- a plain heading is that of an order which is violated
+
+plain-breach : (a b c d e : Bool) → let o : Option Heading = cond a None (cond b None (cond c (Some heading.Sleepable) (cond d (Some heading.Giant) (cond e (Some heading.Order) None)))) in
+    is_some o ≡ true → unwrap_or o heading.Order ≡ heading.Order → e ≡ true
+plain-breach true b c d e some plain = absurd (false≢true some)
+plain-breach false true c d e some plain = absurd (false≢true some)
+plain-breach false false true d e some plain = (cc)
+plain-breach false false false true e some plain = (cc)
+plain-breach false false false false true some plain = refl
+plain-breach false false false false false some plain = absurd (false≢true some)
+
+breach-plain : (g : Basis) (asked held : TypeNo) → is_some (breach g asked held) ≡ true → unwrap_or (breach g asked held) heading.Order ≡ heading.Order
+    → is_before g.orders asked.0 held.0 ≡ true
+breach-plain g asked held some plain =
+    plain-breach (is_giant g asked && is_sleepable g held) (is_sleepable g asked && is_giant g held) (is_sleepable g asked && not (is_sleepable g held))
+    (is_giant g asked && not (is_sleepable g held)) (is_before g.orders asked.0 held.0) some plain
+
+-- what is found passes the test
+found-passes : (p : Instance → Bool) (c : List Instance) (i : Instance) → find p c ≡ Some i → p i ≡ true
+found-passes p [] i is = (cc)
+found-passes p (x ∷ c) i is = go (p x) refl is (found-passes p c i)
+  where
+    go : (b : Bool) → p x ≡ b → cond b (Some x) (find p c) ≡ Some i → (find p c ≡ Some i → p i ≡ true) → p i ≡ true
+    go true here same ih = subst (λ j. p j ≡ true) (let e : x ≡ i = cc in e) here
+    go false here same ih = ih same
+
+-- ---- the laws
+
+module _ (start : Start) (files : List (List ℕ)) (e : Entry) (h : List Entry) (legal : IsLegal start files (e ∷ h)) where
+  judged : (q : Request) → e.call ≡ Check q → (r : Reply) → e.reply ≡ r
+      → Says (basis_of (known_of start h)) (watch_of h) (asked_of (known_of start h) q) (chain (is_spin_lock (locks_of h) q.lock.0) e.seat.0 h) r
+  judged q asks r is =
+      subst (λ r'. Says (basis_of (known_of start h)) (watch_of h) (asked_of (known_of start h) q) (chain (is_spin_lock (locks_of h) q.lock.0) e.seat.0 h) r') is
+      (chain-of_kind start files e h q legal asks)
+
+  asked-reversal : (x : Conflict) → e.reply ≡ Reversal x → (q : Request) × (e.call ≡ Check q)
+  asked-reversal x is = told-asked start files e h legal (rw is refl)
+
+  asked-duplicate : (d : Doubling) → e.reply ≡ Duplicate d → (q : Request) × (e.call ≡ Check q)
+  asked-duplicate d is = told-asked start files e h legal (rw is refl)
+
+  as-reversal : (q : Request) → e.call ≡ Check q → (x : Conflict) → e.reply ≡ Reversal x
+      → IsReversal (basis_of (known_of start h)) (asked_of (known_of start h) q) (chain (is_spin_lock (locks_of h) q.lock.0) e.seat.0 h) x
+  as-reversal q asks x is =
+      says-reversal (basis_of (known_of start h)) (watch_of h) (asked_of (known_of start h) q) (chain (is_spin_lock (locks_of h) q.lock.0) e.seat.0 h) x (judged q asks (Reversal x) is)
+
+  as-duplicate : (q : Request) → e.call ≡ Check q → (d : Doubling) → e.reply ≡ Duplicate d
+      → IsDuplicate (basis_of (known_of start h)) (asked_of (known_of start h) q) (chain (is_spin_lock (locks_of h) q.lock.0) e.seat.0 h) d
+  as-duplicate q asks d is =
+      says-duplicate (basis_of (known_of start h)) (watch_of h) (asked_of (known_of start h) q) (chain (is_spin_lock (locks_of h) q.lock.0) e.seat.0 h) d (judged q asks (Duplicate d) is)
+
+  pub reversal-held : (x : Conflict) → e.reply ≡ Reversal x → (is_held e.seat.0 x.held.lock.0 h ≡ true) × (q : Request) × (e.call ≡ Check q) × (x.asked.lock ≡ q.lock)
+  reversal-held x is =
+      let a = asked-reversal x is in
+      let b = as-reversal a.0 a.1 x is in
+      let kind = is_spin_lock (locks_of h) a.0.lock.0 in
+      (subst (λ (y : Conflict). is_held e.seat.0 y.held.lock.0 h ≡ true) b.is
+      (found-last (λ (i : Instance). is_held e.seat.0 i.lock.0 h) (violates (basis_of (known_of start h)) (asked_of (known_of start h) a.0)) (chain kind e.seat.0 h) b.held
+      (chain-held kind e.seat.0 h) b.violation),
+      a.0, a.1, ap (λ (y : Conflict). y.asked.lock) (sym b.is))
+
+  pub reversal-order : (x : Conflict) → e.reply ≡ Reversal x → x.heading ≡ heading.Order
+      → Before (orders_of start h) (lock_type start h x.asked.lock.0) (lock_type start h x.held.lock.0)
+  reversal-order x is plain =
+      let a = asked-reversal x is in
+      let b = as-reversal a.0 a.1 x is in
+      let g = basis_of (known_of start h) in
+      let q = asked_of (known_of start h) a.0 in
+      let before = breach-plain g q.type_no (type_held g b.held) (found-passes (violates g q) _ b.held b.violation) (ap (λ (y : Conflict). y.heading) b.is ∙ plain) in
+      subst (λ (y : Conflict). Before (orders_of start h) (lock_type start h y.asked.lock.0) (lock_type start h y.held.lock.0)) b.is
+      (before_from_test (orders_of start h) (lock_type start h a.0.lock.0) (lock_type start h b.held.lock.0)
+      (ap (λ (n : TypeNo). is_before (orders_of start h) (lock_type start h a.0.lock.0) n.0) (sym (type-held (known_of start h) b.held)) ∙ before))
+
+  pub duplicate-one : (d : Doubling) → e.reply ≡ Duplicate d → lock_type start h d.last.lock.0 ≡ lock_type start h d.asked.lock.0
+  duplicate-one d is =
+      let a = asked-duplicate d is in
+      let b = as-duplicate a.0 a.1 d is in
+      subst (λ (y : Doubling). lock_type start h y.last.lock.0 ≡ lock_type start h y.asked.lock.0) b.is
+      (ap (λ (n : TypeNo). n.0) (sym (type-held (known_of start h) b.last)) ∙ eqb-true _ _ b.same)
+
+  -- the pair that a report names wasn't found before
+  reversal-fresh : (x : Conflict) → e.reply ≡ Reversal x → is_found (found_of start h) (lock_type start h x.held.lock.0) (lock_type start h x.asked.lock.0) ≡ false
+  reversal-fresh x is =
+      let a = asked-reversal x is in
+      let b = as-reversal a.0 a.1 x is in
+      subst (λ (y : Conflict). is_found (found_of start h) (lock_type start h y.held.lock.0) (lock_type start h y.asked.lock.0) ≡ false) b.is
+      (ap (λ (n : TypeNo). is_found (found_of start h) n.0 (lock_type start h a.0.lock.0)) (sym (type-held (known_of start h) b.held)) ∙ b.fresh)
+
+  duplicate-fresh : (d : Doubling) → e.reply ≡ Duplicate d → is_found (found_of start h) (lock_type start h d.asked.lock.0) (lock_type start h d.asked.lock.0) ≡ false
+  duplicate-fresh d is =
+      let a = asked-duplicate d is in
+      let b = as-duplicate a.0 a.1 d is in
+      subst (λ (y : Doubling). is_found (found_of start h) (lock_type start h y.asked.lock.0) (lock_type start h y.asked.lock.0) ≡ false) b.is b.fresh
+
+-- ---- the reported pairs were all found
+
+found-stays : (p q : TypeNo) (pairs : List (TypeNo × TypeNo)) (a b : ℕ) → is_found pairs a b ≡ true → is_found (found_once p q pairs) a b ≡ true
+found-stays p q pairs a b is = go (is_found pairs p.0 q.0)
+  where
+    go : (f : Bool) → is_found (cond f pairs ((p, q) ∷ pairs)) a b ≡ true
+    go true = is
+    go false = or_right (is_pair_of a b (p, q)) (is_found pairs a b) is
+
+found-fresh : (p q : TypeNo) (pairs : List (TypeNo × TypeNo)) → is_found pairs p.0 q.0 ≡ false → found_once p q pairs ≡ (p, q) ∷ pairs
+found-fresh p q pairs fresh = ap (λ f. cond f pairs ((p, q) ∷ pairs)) fresh
+
+-- each reported pair was found
+AreFound : List (TypeNo × TypeNo) → List (TypeNo × TypeNo) → Type 0
+AreFound told found = (a b : ℕ) → is_found told a b ≡ true → is_found found a b ≡ true
+
+find-more : (p : TypeNo × TypeNo) (told found : List (TypeNo × TypeNo)) → AreFound told found → AreFound (p ∷ told) (p ∷ found)
+unfolding AreFound
+find-more p told found all a b is =
+    ⊎_elim
+    (λ here. or_left (is_pair_of a b p) (is_found found a b) here)
+    (λ there. or_right (is_pair_of a b p) (is_found found a b) (all a b there))
+    (or_cases (is_pair_of a b p) (is_found told a b) is)
+
+find-same : (p : TypeNo × TypeNo) (told found : List (TypeNo × TypeNo)) → AreFound told found → is_found found p.0.0 p.1.0 ≡ false → is_found told p.0.0 p.1.0 ≡ false
+unfolding AreFound
+find-same p told found all fresh = false_from_ne_true (is_found told p.0.0 p.1.0) (λ is. true≢false (sym (all p.0.0 p.1.0 is) ∙ fresh))
+
+-- the pair that a report names wasn't found before
+IsFresh : Start → List Entry → Reply → Type 0
+IsFresh start h (Reversal x) = is_found (found_of start h) (lock_type start h x.held.lock.0) (lock_type start h x.asked.lock.0) ≡ false
+IsFresh start h (Duplicate d) =
+    (is_found (found_of start h) (lock_type start h d.asked.lock.0) (lock_type start h d.asked.lock.0) ≡ false)
+    × (lock_type start h d.last.lock.0 ≡ lock_type start h d.asked.lock.0)
+IsFresh start h _ = Unit {0}
+
+fresh_by : (start : Start) (files : List (List ℕ)) (e : Entry) (h : List Entry) → IsLegal start files (e ∷ h) → (r : Reply) → e.reply ≡ r → IsFresh start h r
+unfolding IsFresh
+fresh_by start files e h legal (Reversal x) is = reversal-fresh start files e h legal x is
+fresh_by start files e h legal (Duplicate d) is = (duplicate-fresh start files e h legal d is, duplicate-one start files e h legal d is)
+fresh_by start files e h legal _ is = tt
+
+AreOnce : List (TypeNo × TypeNo) → List (TypeNo × TypeNo) → Type 0
+AreOnce told found = AreFound told found × AreUnlike told
+
+once_more : (p : TypeNo × TypeNo) (told found : List (TypeNo × TypeNo)) → is_found found p.0.0 p.1.0 ≡ false → AreOnce told found
+    → AreOnce (p ∷ told) (found_once p.0 p.1 found)
+unfolding AreOnce
+once_more p told found fresh all =
+    (subst (λ ps. AreFound (p ∷ told) ps) (sym (found-fresh p.0 p.1 found fresh)) (find-more p told found all.0), (find-same p told found all.0 fresh, all.1))
+
+once_by : (start : Start) (h : List Entry) (r : Reply) (told : List (TypeNo × TypeNo)) → IsFresh start h r → AreOnce told (found_of start h)
+    → AreOnce (reported_pair (typed_locks start h) r ++ told) (found_after (typed_locks start h) r (found_of start h))
+unfolding IsFresh AreOnce AreFound
+once_by start h (Reversal x) told fresh all =
+    once_more ((lock_at (typed_locks start h) x.held.lock.0).type_no, (lock_at (typed_locks start h) x.asked.lock.0).type_no) told (found_of start h) fresh all
+once_by start h (Duplicate d) told fresh all =
+    let asked : TypeNo = (lock_at (typed_locks start h) d.asked.lock.0).type_no in
+    subst (λ (n : TypeNo). AreOnce ((n, asked) ∷ told) (found_once asked asked (found_of start h))) (ap (λ n. record { 0 = n }) (sym fresh.1))
+    (once_more (asked, asked) told (found_of start h) fresh.0 all)
+once_by start h (Silent a b) told fresh all = (λ c d is. found-stays a b (found_of start h) c d (all.0 c d is), all.1)
+once_by start h _ told fresh all = all
+
+once_all : (start : Start) (files : List (List ℕ)) (h : List Entry) → IsLegal start files h → AreOnce (reported_pairs start h) (found_of start h)
+unfolding AreOnce AreFound
+once_all start files [] legal = (λ a b is. is, tt)
+once_all start files (e ∷ h) legal =
+    once_by start h e.reply (reported_pairs start h) (fresh_by start files e h legal e.reply refl) (once_all start files h legal.2)
+
+-- no unordered pair of types is reported twice
+pub reported-once : (start : Start) (files : List (List ℕ)) (h : List Entry) → IsLegal start files h → AreUnlike (reported_pairs start h)
+unfolding AreOnce
+reported-once start files h legal = (once_all start files h legal).1

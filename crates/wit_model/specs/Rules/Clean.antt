@@ -1,0 +1,32 @@
+-- A clean history: nothing was reported, and each check was free to learn its order.
+use Rattle.std.specs.Prelude.{Bool, true, false, not, ◌&&◌, List, codes}
+use Rattle.std.specs.List.{list_all}
+use Rattle.std.specs.Str.{bytes_eq}
+use Rattle.wit_model.specs.declared.locks.Class.TheVariants.{SleepMutex}
+use Rattle.wit_model.specs.declared.calls.NewLock.{NewLock}
+use Rattle.wit_model.specs.declared.calls.Call.{Call}
+use Rattle.wit_model.specs.declared.calls.Call.TheVariants.{Init, Check, NoteTry, SetWatch}
+use Rattle.wit_model.specs.declared.calls.Entry.{Entry}
+use Rattle.wit_model.specs.Rules.Types.{type_name_of, is_same_class}
+use Rattle.wit_model.specs.Rules.Locks.{has_flag}
+use Rattle.wit_model.specs.Rules.History.{is_on, is_report}
+
+-- Giant is the mutex of that type (locking(9))
+abbrev pub is_giant_lock : NewLock → Bool
+is_giant_lock lock = is_same_class lock.class SleepMutex && bytes_eq (type_name_of lock) (codes "Giant")
+
+-- no lock is Giant or allows a second one of its type (0x02); each check may teach an order (0x01) and allows no second lock of a type
+-- (0x02); nothing is tried; and everything is watched
+abbrev pub is_clean_call : Call → Bool
+is_clean_call (Init lock) = not (has_flag lock.flags.0 0x02) && not (is_giant_lock lock)
+is_clean_call (Check q) = has_flag q.ops.0 0x01 && not (has_flag q.ops.0 0x02)
+is_clean_call (NoteTry l m s) = false
+is_clean_call (SetWatch level) = is_on level
+is_clean_call _ = true
+
+abbrev pub is_clean_entry : Entry → Bool
+is_clean_entry e = is_clean_call e.call && not (is_report e.reply)
+
+-- whether a history is clean, where no pair of type names is blessed at its start
+abbrev pub is_clean : List Entry → Bool
+is_clean h = list_all is_clean_entry h
