@@ -148,7 +148,8 @@ fn one_lock_held(rt: HostRuntime) -> Result<(), Fail> {
     for (first, second, ops, expected) in cases() {
         let mut lists = VecLists::new(rt.alloc(), 1, 2)?;
         assert!(rt; lists.push(1, held(first)));
-        let type_no = lock_types.get(second as usize - 1).copied().unwrap_or(TypeNo(0));
+        let place = (second as usize).saturating_sub(1);
+        let type_no = lock_types.get(place).copied().unwrap_or(TypeNo(0));
         let request = Asked {
             lock: LockNo(second),
             type_no,
