@@ -87,12 +87,11 @@ fn is_spellable(line: &Line) -> bool
             let (_seat, _lock, _line) = (seat.0, lock.0, *line);
             FileName::accepts(file.as_str())
         }
-        Line::Lock { seat, lock }
-        | Line::GiveUp { seat, lock }
-        | Line::Unlock { seat, lock, .. } => {
-            let (_seat, _lock) = (seat.0, lock.0);
-            true
-        }
+        Line::Lock { seat, lock } | Line::GiveUp { seat, lock } | Line::Unlock { seat, lock, .. } =>
+            {
+                let (_seat, _lock) = (seat.0, lock.0);
+                true
+            }
         Line::Watch { seat, .. } => {
             let _seat = seat.0;
             true

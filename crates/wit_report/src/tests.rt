@@ -5,8 +5,8 @@ use std::alloc::{AllocError, Global};
 use std::test::Fail;
 use wit_core::{StartError, Verifier};
 use wit_model::{
-    Boxed, Class, Conflict, Doubling, Fault, FileNo, Heading, Limits, LockAt, LockFlags, LockNo, Mode, OpFlags,
-    Reply, SeatNo, Site,
+    Boxed, Class, Conflict, Doubling, Fault, FileNo, Heading, Limits, LockAt, LockFlags, LockNo,
+    Mode, OpFlags, Reply, SeatNo, Site,
 };
 
 fn start(alloc: Global) -> Result<Verifier, StartError> {

@@ -106,8 +106,18 @@ const LEVEL_ROWS: [LevelRow; 18] = [
         "line 5: F11 NotLocked|",
         BAD_TRACE,
     ),
-    (4, "watch 1 -1|watch 2 -1|watch 1 0|", "line 4: F30 WatchOff|", BAD_TRACE),
-    (4, "watch 1 1|watch 1 0|watch 2 0|watch 1 1|watch 1 -1|", "", NOTHING_REPORTED),
+    (
+        4,
+        "watch 1 -1|watch 2 -1|watch 1 0|",
+        "line 4: F30 WatchOff|",
+        BAD_TRACE,
+    ),
+    (
+        4,
+        "watch 1 1|watch 1 0|watch 2 0|watch 1 1|watch 1 -1|",
+        "",
+        NOTHING_REPORTED,
+    ),
 ];
 
 fn level_row_agrees(alloc: Global, row: &LevelRow) -> Result<bool, AllocError> {
