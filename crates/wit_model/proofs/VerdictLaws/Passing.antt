@@ -157,6 +157,9 @@ module _ (start : Start) (files : List (List ℕ)) (e : Entry) (h : List Entry) 
   type-last : (type_held g last).0 ≡ a
   type-last = ap (λ (n : TypeNo). n.0) (type-held (known_of start h) last) ∙ behind.parent
 
+  pub type-of_last : (i : Instance) → last_or None (chain kind e.seat.0 h) ≡ Some i → type_held g i ≡ (lock_at (typed_locks start h) behind.last).type_no
+  type-of_last i is = ap (λ (j : Instance). type_held g j) (same-last (chain kind e.seat.0 h) i last is is-last) ∙ type-held (known_of start h) last
+
   direct-last : (i : Instance) → last_or None (chain kind e.seat.0 h) ≡ Some i → is_direct g.orders (type_held g i).0 q.type_no.0 ≡ is_direct (orders_of start h) a b
   direct-last i is =
       ap₂ (λ x y. is_direct (orders_of start h) x y)
@@ -198,11 +201,6 @@ module _ (start : Start) (files : List (List ℕ)) (e : Entry) (h : List Entry) 
       found (kind start files e h a b legal has.behind) e.seat.0 has.behind.request.lock.0 h (sane_legal start files h legal.2)
       ∙ ap (λ held. if_some (held && is_of_kind (kind start files e h a b legal has.behind) (locks_of h) has.behind.request.lock.0) (instance e.seat.0 h has.behind.request.lock.0)) has.unheld
 
-  type-of_last : (i : Instance) → last_or None held_before ≡ Some i → type_held basis i ≡ (lock_at (typed_locks start h) has.behind.last).type_no
-  type-of_last i is =
-      ap (λ (j : Instance). type_held basis j) (same-last held_before i (last start files e h a b legal has.behind) is (is-last start files e h a b legal has.behind))
-      ∙ type-held (known_of start h) (last start files e h a b legal has.behind)
-
   bound-types : (i : Instance) → last_or None held_before ≡ Some i
       → ((is_giant basis (type_held basis i) && is_sleepable basis asked.type_no) || (is_sleepable basis (type_held basis i) && is_giant basis asked.type_no)) ≡ false
   bound-types i is =
@@ -210,10 +208,10 @@ module _ (start : Start) (files : List (List ℕ)) (e : Entry) (h : List Entry) 
       let asks = (checked start files e h has.behind.request legal has.behind.asks).lock in
       ap₂ (λ x y. x || y)
       (ap₂ (λ x y. x && y)
-      (ap (λ n. is_giant basis n) (type-of_last i is) ∙ giant-lock start files h has.behind.last legal.2 was)
+      (ap (λ n. is_giant basis n) (type-of_last start files e h a b legal has.behind i is) ∙ giant-lock start files h has.behind.last legal.2 was)
       (sleepable-lock start files h has.behind.request.lock.0 legal.2 asks))
       (ap₂ (λ x y. x && y)
-      (ap (λ n. is_sleepable basis n) (type-of_last i is) ∙ sleepable-lock start files h has.behind.last legal.2 was)
+      (ap (λ n. is_sleepable basis n) (type-of_last start files e h a b legal has.behind i is) ∙ sleepable-lock start files h has.behind.last legal.2 was)
       (giant-lock start files h has.behind.request.lock.0 legal.2 asks))
       ∙ has.bound
 
