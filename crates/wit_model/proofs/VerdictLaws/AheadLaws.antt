@@ -17,7 +17,7 @@ use Rattle.wit_model.specs.Rules.Numbers.{IsGiven}
 use Rattle.wit_model.specs.Rules.Types.{is_spin, class_of}
 use Rattle.wit_model.specs.Rules.Locks.{made, locks_of, is_spin_lock, is_of_kind}
 use Rattle.wit_model.specs.Rules.Orders.{Before, is_before}
-use Rattle.wit_model.specs.Rules.History.{num, is_held, is_on, held, held_of, chain, watch_of}
+use Rattle.wit_model.specs.Rules.History.{num, is_held, is_on, held, held_of, chain, instance, watch_of}
 use Rattle.wit_model.specs.Rules.State.{Start, Seat, known_of, state_of, seat_at, types_of, typed_locks, orders_of}
 use Rattle.wit_model.specs.Rules.Start.{start_fault}
 use Rattle.wit_model.specs.Rules.Verdict.{Basis, is_of, decided, isnt_watched, sleeps_under_spin, holds_nothing, holds_it, doubles, follows, breaks_order, teaches, when, rules, chain_asked, ruling, basis_of, asked_of}
@@ -97,12 +97,12 @@ module _ (start : Start) (files : List (List ℕ)) (unblessed : start.blessed �
   spin-first spins = true_from_ne_false (is_spin_lock (locks_of h) q.lock.0) (λ sleeps.
       let a = checked start files e h q legal asks in
       let s = state_of (story_after start files h) in
-      let there : find (is_of l) (chain true e.seat.0 h) ≡ if_some true _
-      = found true e.seat.0 l h (sane_legal start files h legal.2) ∙ ap₂ (λ x y. if_some (x && y) _) is_held-l spins in
+      let there : find (is_of l) (chain true e.seat.0 h) ≡ if_some true (instance e.seat.0 h l)
+      = found true e.seat.0 l h (sane_legal start files h legal.2) ∙ ap₂ (λ x y. if_some (x && y) (instance e.seat.0 h l)) is_held-l spins in
       let none : is_some (last_or None (seat_at s e.seat.0).spin) ≡ false
       = sleep-passes (basis_of (known_of start h)) (watch_of h) (seat_at s e.seat.0).sleep (seat_at s e.seat.0).spin (asked_of (known_of start h) q) e.reply
       (ap is_on (watch-clean h (clean-parts e h clean).1.1)) (type-kind start files h q.lock.0 legal.2 a.lock ∙ sleeps) a.verdict in
-      true≢false (sym (last-some (is_of l) (chain true e.seat.0 h) _ there)
+      true≢false (sym (last-some (is_of l) (chain true e.seat.0 h) (instance e.seat.0 h l) there)
       ∙ (ap (λ (seat : Seat). is_some (last_or None seat.spin)) (sym (seat_at-state start files h e.seat.0 a.seat)) ∙ none)))
 
   same-kind : is_spin_lock (locks_of h) l ≡ is_spin_lock (locks_of h) q.lock.0 → leads start (e ∷ h) l q.lock.0 ≡ true
