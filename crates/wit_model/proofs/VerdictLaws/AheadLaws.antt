@@ -1,9 +1,8 @@
 -- Which lock is to be taken before which: by what checks, what stays so, and that it comes round to no lock.
-use Rattle.std.proofs.Common.{◌≡◌, ℕ, ◌<◌, ◌≤◌, Bool, true, false, not, ◌&&◌, cond, eqb, nat_lt, is_some, List, [], ◌∷◌, ◌++◌, map, length, length-append, find, Option, None, Some, Result, Ok, Err, refl, ap, ap₂, sym, ◌∙◌, subst, inl, inr, arith}
-use Rattle.std.specs.List.{list_all, list_any, last_or}
-use Rattle.std.proofs.lemmas.Bool.{and_parts, and_from, true≢false, false≢true, false_from_ne_true, true_from_ne_false, lt-ltb, eqb-true}
+use Rattle.std.proofs.Common.{◌≡◌, ℕ, ◌<◌, Bool, true, false, not, ◌&&◌, eqb, is_some, List, [], ◌∷◌, length-append, find, None, Some, Ok, Err, refl, ap, ap₂, sym, ◌∙◌, arith}
+use Rattle.std.specs.List.{list_any, last_or}
+use Rattle.std.proofs.lemmas.Bool.{true≢false, false≢true, true_from_ne_false, eqb-true}
 use Rattle.std.proofs.lemmas.Map.Views.{any-filter_same}
-use Rattle.wit_model.specs.declared.faults.Fault.{Fault}
 use Rattle.wit_model.specs.declared.faults.Fault.TheVariants.{SleepUnderSpin}
 use Rattle.wit_model.specs.declared.locks.Watch.{Watch}
 use Rattle.wit_model.specs.declared.locks.Instance.{Instance}
@@ -16,11 +15,10 @@ use Rattle.wit_model.specs.declared.calls.Entry.{Entry}
 use Rattle.wit_model.specs.Rules.Numbers.{IsGiven}
 use Rattle.wit_model.specs.Rules.Types.{is_spin, class_of}
 use Rattle.wit_model.specs.Rules.Locks.{made, locks_of, is_spin_lock, is_of_kind}
-use Rattle.wit_model.specs.Rules.Orders.{Before, is_before}
 use Rattle.wit_model.specs.Rules.History.{num, is_held, is_on, held, held_of, chain, instance, watch_of}
-use Rattle.wit_model.specs.Rules.State.{Start, Seat, known_of, state_of, seat_at, types_of, typed_locks, orders_of}
+use Rattle.wit_model.specs.Rules.State.{Start, Seat, known_of, state_of, seat_at, orders_of}
 use Rattle.wit_model.specs.Rules.Start.{start_fault}
-use Rattle.wit_model.specs.Rules.Verdict.{Basis, is_of, decided, isnt_watched, sleeps_under_spin, holds_nothing, holds_it, doubles, follows, breaks_order, teaches, when, rules, chain_asked, ruling, basis_of, asked_of}
+use Rattle.wit_model.specs.Rules.Verdict.{Basis, is_of, decided, holds_nothing, holds_it, doubles, follows, breaks_order, teaches, when, chain_asked, ruling, basis_of, asked_of}
 use Rattle.wit_model.specs.Rules.Step.{story_after, IsLegal}
 use Rattle.wit_model.specs.Rules.Ahead.{lock_type, IsAhead}
 use Rattle.wit_model.specs.Rules.Clean.{is_clean}
@@ -36,7 +34,7 @@ use Rattle.wit_model.proofs.VerdictLaws.Classes.{type-kind}
 use Rattle.wit_model.proofs.VerdictLaws.Judged.{checked}
 use Rattle.wit_model.proofs.VerdictLaws.Quiet.{clean-parts, watch-clean}
 use Rattle.wit_model.proofs.VerdictLaws.Rises.{in_all}
-use Rattle.wit_model.proofs.VerdictLaws.Rising.{leads, type-stays, leads-stays, before-checked}
+use Rattle.wit_model.proofs.VerdictLaws.Rising.{leads, leads-stays, before-checked}
 
 -- ---- no sleep lock passes under a spin lock
 

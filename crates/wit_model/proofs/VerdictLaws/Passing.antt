@@ -1,8 +1,8 @@
 -- A request that passed where all rules were to be met has a direct order behind the last held lock, and by it passes from then on.
-use Rattle.std.proofs.Common.{◌≡◌, ◌⊎◌, ℕ, Bool, true, false, not, ◌&&◌, ◌||◌, cond, eqb, List, [], ◌∷◌, ◌++◌, map, Option, None, Some, Result, Ok, is_some, find, reverse, refl, ap, ap₂, sym, ◌∙◌, subst, inl, inr, ⊎_elim, codes}
-use Rattle.std.specs.List.{list_any, last_or}
+use Rattle.std.proofs.Common.{◌≡◌, ℕ, Bool, true, false, not, ◌&&◌, ◌||◌, cond, eqb, List, [], ◌∷◌, ◌++◌, map, Option, None, Some, Result, Ok, is_some, find, reverse, refl, ap, ap₂, sym, ◌∙◌, subst, ⊎_elim, codes}
+use Rattle.std.specs.List.{last_or}
 use Rattle.std.specs.Str.{bytes_eq}
-use Rattle.std.proofs.lemmas.Bool.{false≢true, true≢false, or_left, or_right, and_parts, and_from, eq-eqb, eqb-true}
+use Rattle.std.proofs.lemmas.Bool.{true≢false, or_left, or_right, and_parts, and_from, eq-eqb, eqb-true}
 use Rattle.std.proofs.lemmas.List.{reverse-append}
 use Rattle.std.proofs.lemmas.List.Folds.{list_any-append}
 use Rattle.wit_model.specs.declared.faults.Fault.{Fault}
@@ -12,33 +12,28 @@ use Rattle.wit_model.specs.declared.locks.TypeNo.{TypeNo}
 use Rattle.wit_model.specs.declared.locks.Instance.{Instance}
 use Rattle.wit_model.specs.declared.calls.Asked.{Asked}
 use Rattle.wit_model.specs.declared.calls.NewLock.{NewLock}
-use Rattle.wit_model.specs.declared.calls.Adoption.{Adoption}
 use Rattle.wit_model.specs.declared.calls.Heading.{Heading}
 use Rattle.wit_model.specs.declared.calls.Heading.TheVariants as heading
-use Rattle.wit_model.specs.declared.calls.Request.{Request}
-use Rattle.wit_model.specs.declared.calls.Call.{Call}
 use Rattle.wit_model.specs.declared.calls.Call.TheVariants.{Check}
 use Rattle.wit_model.specs.declared.calls.Reply.{Reply}
 use Rattle.wit_model.specs.declared.calls.Reply.TheVariants.{Pass, Adopted, Silent, Reversal, Duplicate}
 use Rattle.wit_model.specs.declared.calls.Entry.{Entry}
 use Rattle.wit_model.specs.Rules.Numbers.{is_given}
-use Rattle.wit_model.specs.Rules.Types.{is_same_class, type_name_of}
+use Rattle.wit_model.specs.Rules.Types.{is_same_class}
 use Rattle.wit_model.specs.Rules.Locks.{locks_of, lock_of, lock_at, has_flag, is_spin_lock, is_of_kind}
 use Rattle.wit_model.specs.Rules.Orders.{is_adoption_of, is_direct, is_before, is_found, IsSound, adopted}
-use Rattle.wit_model.specs.Rules.History.{is_on, is_held, held_of, chain, instance, watch_of}
-use Rattle.wit_model.specs.Rules.State.{Start, known_of, types_of, typed_locks, orders_of}
+use Rattle.wit_model.specs.Rules.History.{is_on, held_of, chain, instance, watch_of}
+use Rattle.wit_model.specs.Rules.State.{Start, known_of, typed_locks, orders_of}
 use Rattle.wit_model.specs.Rules.Start.{start_fault}
-use Rattle.wit_model.specs.Rules.Verdict.{Basis, type_held, has_type_of, is_sleepable, is_giant, place_of, place_asked, doubled, breach, violates, is_blessed, conflict, reported, is_learnt, basis_of, asked_of}
+use Rattle.wit_model.specs.Rules.Verdict.{Basis, type_held, has_type_of, is_sleepable, is_giant, place_of, place_asked, doubled, violates, is_blessed, conflict, reported, is_learnt, basis_of, asked_of}
 use Rattle.wit_model.specs.Rules.Step.{IsLegal}
-use Rattle.wit_model.specs.Rules.Ahead.{lock_type}
 use Rattle.wit_model.specs.Rules.Clean.{is_giant_lock}
-use Rattle.wit_model.specs.VerdictLaws.{AsksBehind, HasPassed, is_sleepable_lock, is_with_giant}
+use Rattle.wit_model.specs.VerdictLaws.{AsksBehind, HasPassed, is_sleepable_lock}
 use Rattle.wit_model.proofs.Chains.Found.{if_some, found}
 use Rattle.wit_model.proofs.Chains.Held.{made_sane}
-use Rattle.wit_model.proofs.Histories.Accepted.{same_reply}
 use Rattle.wit_model.proofs.Histories.Legal.{sane_legal}
 use Rattle.wit_model.proofs.Orders.Paths.{direct-before}
-use Rattle.wit_model.proofs.Orders.Ruled.{Says, Passed, Learnt, Doubled, Broken, Cause, Unwatched, Empty, Recursion, Known, Untaught}
+use Rattle.wit_model.proofs.Orders.Ruled.{Says, Passed, Learnt, Doubled, Broken, Unwatched, Empty, Recursion, Known, Untaught}
 use Rattle.wit_model.proofs.Orders.Sound.{last_whole, type-held, last-held, sound_legal}
 use Rattle.wit_model.proofs.Orders.Started.{sound_started}
 use Rattle.wit_model.proofs.Orders.TypedLocks.{known-made, lock_at-made}

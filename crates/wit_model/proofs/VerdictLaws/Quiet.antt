@@ -1,5 +1,5 @@
 -- In a clean history everything is watched, no violation was found, no lock is special, and each check behind a held lock met all rules.
-use Rattle.std.proofs.Common.{◌≡◌, ◌⊎◌, ℕ, ◌-◌, ◌<◌, ◌≤◌, Bool, true, false, not, ◌&&◌, ◌||◌, cond, List, [], ◌∷◌, ◌++◌, length, get_or, unwrap_or, None, Some, Result, Ok, refl, ap, ap₂, sym, ◌∙◌, subst, inl, inr, ⊎_elim, nat_lt}
+use Rattle.std.proofs.Common.{◌≡◌, ◌⊎◌, ℕ, ◌-◌, ◌<◌, ◌≤◌, Bool, true, false, not, ◌&&◌, ◌||◌, cond, List, [], ◌∷◌, length, get_or, None, Some, Result, Ok, refl, ap, sym, ◌∙◌, subst, inl, inr, ⊎_elim, nat_lt}
 use Rattle.std.specs.List.{list_all, last_or}
 use Rattle.std.proofs.lemmas.Bool.{and_parts, and_from, and_left, and_right, or_from, true≢false, false≢true, not-true, true_from_ne_false, cases_lt, ltb-true}
 use Rattle.std.proofs.lemmas.List.{get_or_past}
@@ -17,7 +17,6 @@ use Rattle.wit_model.specs.declared.calls.Call.TheVariants.{Init, Check, SetWatc
 use Rattle.wit_model.specs.declared.calls.Reply.{Reply}
 use Rattle.wit_model.specs.declared.calls.Reply.TheVariants.{Pass, Adopted, Silent, Reversal, Duplicate, Exhausted}
 use Rattle.wit_model.specs.declared.calls.Entry.{Entry}
-use Rattle.wit_model.specs.Rules.Numbers.{with_number}
 use Rattle.wit_model.specs.Rules.Locks.{made, locks_of, lock_of, no_lock, has_flag, is_spin_lock}
 use Rattle.wit_model.specs.Rules.Orders.{is_found}
 use Rattle.wit_model.specs.Rules.History.{is_on, is_held, held_of, chain, watch_after, watch_of, is_report}
@@ -26,7 +25,7 @@ use Rattle.wit_model.specs.Rules.Verdict.{Basis, type_held, place_of, place_aske
 use Rattle.wit_model.specs.Rules.Step.{IsLegal}
 use Rattle.wit_model.specs.Rules.Ahead.{lock_type}
 use Rattle.wit_model.specs.Rules.Clean.{is_giant_lock, is_clean_call, is_clean_entry, is_clean}
-use Rattle.wit_model.specs.VerdictLaws.{AsksBehind, HasPassed, is_sleepable_lock, is_with_giant}
+use Rattle.wit_model.specs.VerdictLaws.{AsksBehind, HasPassed, is_sleepable_lock}
 use Rattle.wit_model.proofs.Numbered.{with_number-or}
 use Rattle.wit_model.proofs.Histories.Accepted.{same_reply}
 use Rattle.wit_model.proofs.Orders.Ruled.{Says, Passed, Learnt, Doubled, Broken}

@@ -1,9 +1,9 @@
 -- Lists of locks in which each is related to all behind it.
-use Rattle.std.proofs.Common.{◌≡◌, ℕ, Bool, true, false, ◌&&◌, cond, eqb, List, [], ◌∷◌, ◌++◌, filter, Option, None, Some, refl, ap, sym, ◌∙◌, subst, ⊎_elim}
+use Rattle.std.proofs.Common.{◌≡◌, ℕ, Bool, true, false, ◌&&◌, cond, eqb, List, [], ◌∷◌, ◌++◌, filter, None, Some, refl, ◌∙◌, subst, ⊎_elim}
 use Rattle.std.specs.List.{list_all, list_any, last_or}
 use Rattle.std.proofs.lemmas.Bool.{and_parts, and_from, or_cases, eqb-true, false≢true}
 use Rattle.std.proofs.lemmas.List.Folds.{list_all-append}
-use Rattle.wit_model.proofs.Lists.{list_all-filter, list_all-both}
+use Rattle.wit_model.proofs.Lists.{list_all-filter}
 
 -- each element is related to all behind it
 abbrev pub rises : (ℕ → ℕ → Bool) → List ℕ → Bool

@@ -1,6 +1,6 @@
 -- In a clean history each seat's locks of a kind rise: of two held ones the older one's type is before the newer one's. And what a seat
 -- asks for is behind all that it holds.
-use Rattle.std.proofs.Common.{◌≡◌, ℕ, ◌<◌, ◌≤◌, Bool, true, false, not, ◌&&◌, ◌||◌, cond, eqb, is_some, List, [], ◌∷◌, ◌++◌, length, filter, Option, None, Some, Ok, refl, ap, ap₂, sym, ◌∙◌, subst, inl, inr, arith, append-nil, nat_lt}
+use Rattle.std.proofs.Common.{◌≡◌, ℕ, Bool, true, false, ◌&&◌, ◌||◌, cond, eqb, is_some, List, [], ◌∷◌, ◌++◌, length, filter, Option, None, Some, Ok, refl, ap, ap₂, sym, ◌∙◌, subst, inl, inr, arith, append-nil, nat_lt}
 use Rattle.std.specs.List.{list_all, last_or}
 use Rattle.std.proofs.lemmas.Bool.{and_parts, and_from, or_left, true≢false, false≢true, not-true, eq-eqb, lt-ltb, le-leb, ltb-true, leb-true}
 use Rattle.std.proofs.lemmas.Bool.Decides.{eqb_tells}
@@ -17,7 +17,7 @@ use Rattle.wit_model.specs.Rules.Numbers.{is_given, IsGiven}
 use Rattle.wit_model.specs.Rules.Locks.{locks_of, is_spin_lock, is_of_kind}
 use Rattle.wit_model.specs.Rules.Orders.{is_before, adopted}
 use Rattle.wit_model.specs.Rules.History.{Act, Nothing, Records, Releases, act, act_by, is_held, held, held_of, pending, pending_after}
-use Rattle.wit_model.specs.Rules.State.{Start, State, state_of, seat_at, is_seat, typed_locks, orders_of}
+use Rattle.wit_model.specs.Rules.State.{Start, state_of, seat_at, is_seat, orders_of}
 use Rattle.wit_model.specs.Rules.Step.{is_pending, answer_of, story_after, is_logged, IsLegal}
 use Rattle.wit_model.specs.Rules.Ahead.{lock_type}
 use Rattle.wit_model.specs.Rules.Clean.{is_clean_call, is_clean}
@@ -26,7 +26,7 @@ use Rattle.wit_model.proofs.Chains.Sane.{IsSane, IsFit, fit_by}
 use Rattle.wit_model.proofs.Chains.Acts.{num-step}
 use Rattle.wit_model.proofs.Chains.Effects.{is_not, Effect, Same, New, Gone, effect, held-same}
 use Rattle.wit_model.proofs.Chains.Held.{held-all, held_of-all, made_sane, kind-stays, kinds-stay}
-use Rattle.wit_model.proofs.Histories.Accepted.{asked-lock, same-request, check_accepted, init_accepted, note_accepted, try_accepted, unlock_accepted, watch_accepted}
+use Rattle.wit_model.proofs.Histories.Accepted.{asked-lock, same-request, init_accepted, note_accepted, try_accepted, unlock_accepted, watch_accepted}
 use Rattle.wit_model.proofs.Histories.Asked.{asked-made}
 use Rattle.wit_model.proofs.Histories.Legal.{pending-state, sane_legal}
 use Rattle.wit_model.proofs.Orders.Paths.{direct-before, test_from_before, is_before-trans}
