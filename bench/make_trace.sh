@@ -10,8 +10,9 @@
 #   wide      every pair of 512 types is adopted, neighbours last
 #   random    orders among 1,023 types in a random sequence, each from the lower number to the higher
 #   reports   a chain of 256 types, and then reversals whose established orders are paths of up to 255 steps
-# A second word asks for another number of rounds, or for the shortest path in `reports`. Only `reports` has
-# anything to report.
+#   steps     a chain of 1,023 types, and then reversals whose established orders are paths of 100 to 109 steps
+# A second word asks for another number of rounds, or for the shortest path in `reports` and the longest in `steps`.
+# Only these two have anything to report.
 name=${1:?which trace?}
 exec awk -v name="$name" -v rounds="${2:-0}" '
     function times(usual) {
@@ -124,6 +125,15 @@ exec awk -v name="$name" -v rounds="${2:-0}" '
             for (lock = 1; lock + distance <= 256; lock++)
                 pair(lock + distance, lock)
     }
+    function steps(lock, distance) {
+        header(1, 1023, 1023)
+        mutexes(1023)
+        for (lock = 1; lock < 1023; lock++)
+            pair(lock, lock + 1)
+        for (distance = 100; distance <= times(109); distance++)
+            for (lock = 1; lock + distance <= 1023; lock++)
+                pair(lock + distance, lock)
+    }
     BEGIN {
         if (name == "hot") {
             header(2, 8, 8)
@@ -145,6 +155,8 @@ exec awk -v name="$name" -v rounds="${2:-0}" '
             random()
         else if (name == "reports")
             reports()
+        else if (name == "steps")
+            steps()
         else {
             print "make_trace: no trace is called " name > "/dev/stderr"
             exit 2

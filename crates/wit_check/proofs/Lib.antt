@@ -1,1 +1,4 @@
-
+pub mod Chunks
+pub mod Last
+pub mod Looking
+pub mod Ruling

@@ -1,3 +1,5 @@
 pub mod Answers
 pub mod Bases
+pub mod Behind
 pub mod Held
+pub mod Looks

@@ -3,8 +3,15 @@
 
 mod again;
 mod answers;
+mod basis;
+mod duplicates;
+mod held;
+mod orders;
+mod reversals;
 mod rules;
 
 pub use answers::Verdict;
 pub use rules::verdict;
 
+#[cfg(test)]
+mod tests;

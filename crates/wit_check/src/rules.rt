@@ -1,18 +1,25 @@
 //! The rules in their order.
 
-ghost use Rattle.std.specs.Prelude.{◌≡◌, ◌*◌, ◌≤◌, length, Some};
+ghost use Rattle.std.specs.Prelude.{◌≡◌, ◌*◌, ◌≤◌, length, None, Some, is_some};
 ghost use Rattle.std.specs.List.{last_or};
 ghost use Rattle.wit_model.specs.Rules.Numbers.{IsNumber, IsGiven};
 ghost use Rattle.wit_model.specs.Rules.Chunks.{IsList, chain_of};
-ghost use Rattle.wit_model.specs.Rules.Verdict.{ruling};
+ghost use Rattle.wit_model.specs.Rules.Verdict.{decided, ruling};
 ghost use Rattle.wit_check.specs.Answers.{answer_of};
 ghost use Rattle.wit_check.specs.Bases.{basis, AreTypes};
+ghost use Rattle.wit_check.specs.Behind.{over};
 ghost use Rattle.wit_check.specs.Held.{sleep_chain, spin_chain, IsJudgeable};
 
+use crate::again::again;
 use crate::answers::Verdict;
+use crate::basis::Basis;
+use crate::duplicates::doubled;
+use crate::held::{held_lock, look};
+use crate::orders::learnt;
+use crate::reversals::reported;
 use wit_matrix::Matrix;
 use wit_model::chunks::Lists;
-use wit_model::{Asked, SeatNo, TypeNo, Watch};
+use wit_model::{Asked, Fault, Instance, SeatNo, TypeNo, Watch};
 use wit_table::Table;
 
 /// The verdict of a check: the first of WITNESS's rules that applies decides (witness(4); `witness_checkorder` in subr_witness.c).
@@ -41,5 +48,61 @@ pub fn verdict<L: Lists>(
     ensures { answer_of result ≡ ruling (basis types.now matrix.now lock_types.now) watch
         (sleep_chain (L.chunks lists.now) seat.0) (spin_chain (L.chunks lists.now) seat.0) request }
 {
-    Verdict::Pass
+    if !watch.is_on() {
+        return Verdict::Pass;
+    }
+    let basis = Basis {
+        types,
+        matrix,
+        lock_types,
+    };
+    let spin = basis.class_of(request.type_no).is_spin();
+    if !spin && holds_spin(lists, seat) {
+        return Verdict::Fault(Fault::SleepUnderSpin);
+    }
+    let list = if spin { 2 * seat.0 } else { 2 * seat.0 - 1 };
+    match lists.last(list) {
+        Some(last) => behind(&basis, lists, list, request, last),
+        None => Verdict::Pass,
+    }
+}
+
+// Whether the seat holds a spin lock.
+fn holds_spin<L: Lists>(lists: &L, seat: SeatNo) -> bool
+    requires seat { IsNumber 256 seat.0 }
+    requires lists { IsList (L.chunks lists.now) (2 * seat.0) }
+    ensures { result ≡ is_some (last_or None (spin_chain (L.chunks lists.now) seat.0)) }
+{
+    lists.last(2 * seat.0).is_some()
+}
+
+// A lock is asked for behind others.
+fn behind<L: Lists>(
+    basis: &Basis,
+    lists: &L,
+    list: u16,
+    request: Asked,
+    last: Instance,
+) -> Verdict
+    requires list { IsList (L.chunks lists.now) list }
+    requires chain { IsJudgeable basis.now.lock_types (chain_of (L.chunks lists.now) list) }
+    requires last { last_or None (chain_of (L.chunks lists.now) list) ≡ Some last }
+    requires asked { IsGiven basis.now.types request.type_no.0 }
+    ensures { answer_of result ≡ decided (over basis.now (chain_of (L.chunks lists.now) list) last request) }
+{
+    let parent = basis.type_held(last);
+    let is_double = parent.0 == request.type_no.0;
+    if is_double || basis.is_direct(parent, request.type_no) {
+        return match held_lock(lists, list, request.lock) {
+            Some(held) => again(request, held),
+            None if is_double => doubled(basis, request, last),
+            None => Verdict::Pass,
+        };
+    }
+    let seen = look(basis, lists, list, request);
+    match (seen.held, seen.broken) {
+        (Some(held), _) => again(request, held),
+        (None, Some(broken)) => reported(basis, request, broken, seen.older),
+        (None, None) => learnt(basis, request, last),
+    }
 }

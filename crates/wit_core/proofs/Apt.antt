@@ -7,33 +7,23 @@ use Rattle.wit_model.specs.declared.faults.Fault.TheVariants.{OutOfMemory}
 use Rattle.wit_model.specs.declared.locks.TypeNo.{TypeNo}
 use Rattle.wit_model.specs.declared.locks.LockType.{LockType}
 use Rattle.wit_model.specs.declared.calls.Adoption.{Adoption}
-use Rattle.wit_model.specs.declared.calls.Request.{Request}
-use Rattle.wit_model.specs.declared.calls.Call.TheVariants.{Check}
 use Rattle.wit_model.specs.Rules.Numbers.{is_given, IsNumber}
 use Rattle.wit_model.specs.Rules.Orders.{is_direct, is_before, Before}
 use Rattle.wit_model.proofs.Orders.Paths.{before_from_test}
-use Rattle.wit_model.specs.declared.locks.Lock.{Lock}
-use Rattle.wit_model.specs.Rules.Locks.{lock_at}
 use Rattle.wit_model.specs.Trace.Paths.{path, path_numbers}
-use Rattle.wit_model.specs.Rules.State.{State, Known, state_of, known_of, types_of, typed_locks, orders_of}
-use Rattle.wit_model.specs.Rules.Step.{answer_of}
-use Rattle.wit_model.proofs.Histories.Accepted.{check_accepted}
-use Rattle.wit_model.proofs.Orders.Among.{adopted-orderly, silent-known, reversal-known, orders-among}
+use Rattle.wit_model.specs.Rules.State.{State, Known, known_of, types_of, orders_of}
+use Rattle.wit_model.proofs.Orders.Among.{orders-among}
 use Rattle.wit_matrix.specs.Relation.{OrdersAmong, LeadsBy}
 use Rattle.wit_core.specs.declared.verifier.Verifier.TheInside.{Inside}
-use Rattle.wit_core.specs.declared.verdict.Verdict.{Verdict}
-use Rattle.wit_core.specs.declared.verdict.Verdict.TheVariants.{Pass, Adopt, Silent, Reversal}
-use Rattle.wit_core.specs.Verdict.{reply_of}
-use Rattle.wit_core.specs.Known.{IsApt}
-use Rattle.wit_core.specs.Kept.{IsKept, start_in, history_in, story_in}
+use Rattle.wit_core.specs.Kept.{IsKept, start_in, history_in}
 use Rattle.wit_core.proofs.Keeping.{types_few}
 
 module _ (v : Inside) (k : IsKept v) where
-  known-is : v.known.known ≡ known_of (start_in v) (history_in v)
+  pub known-is : v.known.known ≡ known_of (start_in v) (history_in v)
   known-is = ap (λ (s : State). s.known) k.state
 
   -- a known type's number is one of the matrix's
-  number : (t : ℕ) → IsNumber (length (types_of (start_in v) (history_in v))) t → IsNumber v.known.most_types t
+  pub number : (t : ℕ) → IsNumber (length (types_of (start_in v) (history_in v))) t → IsNumber v.known.most_types t
   number t is =
       let few = types_few v k in
       let same = ap (λ (x : Known). length x.types) known-is in
@@ -73,24 +63,3 @@ module _ (v : Inside) (k : IsKept v) where
   wanting-kept os a b (Ok p) is told = tt
   wanting-kept os a b (Err fault) is told =
       (told.0, before_from_test (orders_of (start_in v) (history_in v)) a b (sym (ap (λ ps. is_before ps a b) (is ∙ ap (λ (x : Known). x.orders) known-is)) ∙ told.1))
-
-  -- what an accepted check's verdict teaches can be learnt
-  pub apt : (t : ℕ) (q : Request) (verdict : Verdict) → answer_of (story_in v) t (Check q) ≡ Ok (reply_of verdict) → IsApt v.known.most_types v.known.known verdict
-  apt t q Pass ok = tt
-  apt t q (Adopt p c) ok =
-      let o = adopted-orderly (start_in v) v.known.files (history_in v) t q p c k.legal (check_accepted (state_of (story_in v)) t q _ ok) in
-      record {
-        parent = number p.0 o.parent;
-        child = number c.0 o.child;
-        apart = o.apart;
-        orderly = ap (λ (x : Known). is_before x.orders c.0 p.0) known-is ∙ o.orderly;
-      }
-  apt t q (Silent a b) ok =
-      let o = silent-known (start_in v) v.known.files (history_in v) t q a b k.legal (check_accepted (state_of (story_in v)) t q _ ok) in
-      (number a.0 o.0, number b.0 o.1)
-  apt t q (Reversal x) ok =
-      let o = reversal-known (start_in v) v.known.files (history_in v) t q x k.legal (check_accepted (state_of (story_in v)) t q _ ok) in
-      let locks : v.known.known.locks ≡ typed_locks (start_in v) (history_in v) = ap (λ (y : Known). y.locks) known-is in (
-        subst (λ (ls : List Lock). IsNumber v.known.most_types (lock_at ls x.held.lock.0).type_no.0) (sym locks) (number _ o.0),
-        subst (λ (ls : List Lock). IsNumber v.known.most_types (lock_at ls x.asked.lock.0).type_no.0) (sym locks) (number _ o.1),
-      )

@@ -1,59 +1,65 @@
 -- What each accepted call needs of a verifier's parts, and what it leaves of them.
-use Rattle.std.proofs.Common.{◌≡◌, ℕ, ◌+◌, ◌-◌, ◌<◌, ◌≤◌, ◌&&◌, Bool, true, false, cond, List, [], ◌∷◌, ◌++◌, Option, None, Some, Ok, Err, Result, IsOk, IfOk, IfErr, OnOk, OnErr, String, length, find, unwrap_or, get_or, refl, sym, ap, ◌∙◌, subst, arith, is_some}
-use Rattle.std.specs.List.{position}
-use Rattle.std.proofs.lemmas.List.FromFn.{length-map-range_with_len}
+use Rattle.std.proofs.Common.{◌≡◌, ℕ, zero, suc, ◌+◌, ◌-◌, ◌<◌, ◌≤◌, ◌&&◌, Bool, true, false, cond, List, [], ◌∷◌, ◌++◌, Option, None, Some, Ok, Err, Result, IsOk, IfOk, IfErr, OnOk, OnErr, String, length, map, find, replicate, unwrap_or, get_or, sum_by, refl, sym, ap, ap₂, ◌∙◌, subst, arith, is_some, append-nil}
+use Rattle.std.specs.List.{range_with_len}
+use Rattle.std.specs.Global.{Vec, Global}
 use Rattle.std.proofs.lemmas.Bool.{and_parts, leb-true, true≢false}
+use Rattle.std.proofs.lemmas.List.{length-set}
 use Rattle.wit_model.specs.declared.faults.Fault.{Fault}
 use Rattle.wit_model.specs.declared.faults.Fault.TheVariants.{OutOfMemory}
+use Rattle.wit_model.specs.declared.locks.Class.{Class}
 use Rattle.wit_model.specs.declared.locks.Instance.{Instance}
 use Rattle.wit_model.specs.declared.locks.LockNo.{LockNo}
 use Rattle.wit_model.specs.declared.locks.FileNo.{FileNo}
 use Rattle.wit_model.specs.declared.locks.Mode.{Mode}
+use Rattle.wit_model.specs.declared.locks.Site.{Site}
+use Rattle.wit_model.specs.declared.locks.Watch.{Watch}
+use Rattle.wit_model.specs.declared.locks.Watch.TheVariants.{On}
 use Rattle.wit_model.specs.declared.calls.NewLock.{NewLock}
 use Rattle.wit_model.specs.declared.calls.Request.{Request}
 use Rattle.wit_model.specs.declared.calls.Call.{Call}
-use Rattle.wit_model.specs.declared.calls.Call.TheVariants.{Init, Check, Note, Unlock}
+use Rattle.wit_model.specs.declared.calls.Call.TheVariants.{Init, Check, Note, NoteTry, GiveUp, Unlock, SetWatch}
 use Rattle.wit_model.specs.declared.calls.Reply.{Reply}
-use Rattle.wit_model.specs.declared.calls.Reply.TheVariants.{Made, Recorded, Unlocked}
+use Rattle.wit_model.specs.declared.calls.Reply.TheVariants.{Made, Unlocked, Done}
+use Rattle.wit_model.specs.declared.calls.Reply.TheVariants as reply
 use Rattle.wit_model.specs.declared.calls.Entry.{Entry}
 use Rattle.wit_model.specs.Rules.Sizes.{Sizes}
 use Rattle.wit_model.specs.Rules.Names.{is_name}
+use Rattle.wit_model.specs.Rules.Numbers.{IsGiven}
 use Rattle.wit_model.specs.Rules.Types.{is_spin, type_name_of}
 use Rattle.wit_model.specs.Rules.Locks.{locks_of, lock_at, is_spin_lock}
-use Rattle.wit_model.specs.Rules.History.{is_held, pending, watch_of}
+use Rattle.wit_model.specs.Rules.History.{is_held, pending, watch_of, watch_after, is_off}
 use Rattle.wit_model.specs.Rules.Refusals.{IsRefusal}
-use Rattle.wit_model.specs.declared.locks.Watch.TheVariants.{On}
 use Rattle.wit_model.specs.Rules.Start.{start_fault}
 use Rattle.wit_model.specs.Rules.Files.{is_known_file, file_answer, files_after, NamesFile}
-use Rattle.wit_table.specs.Known.{enroll_answer}
-use Rattle.wit_model.specs.Rules.State.{Start, Story, fresh, State, Known, types_of, state_of, seat_of, seats_of, owed, has_room, seat_at, seat_among, chain_in}
-use Rattle.wit_model.specs.Rules.Step.{answer_of, is_good_name, chain_for, IsLegal}
+use Rattle.wit_model.specs.Rules.State.{Start, Story, fresh, State, Known, types_of, known_of, typed_locks, state_of, seat_of, seats_of, owed_by, owed, has_room, seat_at}
+use Rattle.wit_model.specs.Rules.Step.{answer_of, is_good_name, is_for, is_logged, held_by, recorded, IsLegal}
 use Rattle.wit_model.specs.Rules.Verdict.{is_of}
 use Rattle.wit_model.proofs.Chains.Sane.{IsSane}
-use Rattle.wit_model.proofs.Histories.Accepted.{init_accepted, note_accepted, check_accepted, unlock_accepted}
+use Rattle.wit_model.proofs.Chains.Regrouping.{seat_groups-nil}
 use Rattle.wit_model.proofs.Chains.Seats.{entry}
-use Rattle.wit_model.proofs.Chains.Owed.{owed_to, owed_to-nil, owed-init, owed-check, owed-note, owed-unlock}
-use Rattle.wit_model.proofs.Histories.Legal.{sane_more, pending-state, unlock-held, one_chain, chain_for-state}
-use Rattle.wit_model.proofs.Orders.TypedLocks.{spin_at}
+use Rattle.wit_model.proofs.Chains.Owed.{owed_to, owed_to-nil, owed-init, owed-check, owed-note, owed-unnoted, owed-try, owed-same, owed-give_up, owed-unlock}
+use Rattle.wit_model.proofs.Chains.Depth.{note-count, try-count}
+use Rattle.wit_model.proofs.Histories.Accepted.{asked-lock, init_accepted, note_accepted, try_accepted, give_up_accepted, check_accepted, unlock_accepted, watch_accepted}
+use Rattle.wit_model.proofs.Histories.Legal.{seat_accepted, sane_more, pending-state, unlock-held}
 use Rattle.wit_model.proofs.Histories.NamedFiles.{legal-named}
-use Rattle.wit_model.proofs.Chains.Depth.{note-count}
-use Rattle.wit_model.proofs.Chains.Stands.{found-at}
+use Rattle.wit_model.proofs.Orders.TypedLocks.{spin_at}
+use Rattle.wit_table.specs.Known.{enroll_answer}
+use Rattle.wit_held.specs.Chains.{IsOnce, IsShallow, CanRise}
 use Rattle.wit_core.specs.declared.verifier.Verifier.TheInside.{Inside}
-use Rattle.wit_core.specs.declared.verdict.Verdict.{Verdict}
-use Rattle.wit_core.specs.Verdict.{reply_of}
-use Rattle.std.specs.Global.{Vec, Global}
-use Rattle.wit_model.specs.declared.locks.Class.{Class}
-use Rattle.wit_core.specs.Known.{Facts, learnt, with_lock, IsAdmitted}
-use Rattle.wit_core.specs.Listed.{all_listed, pairs_of}
+use Rattle.wit_core.specs.declared.acquiring.Acquisition.{Acquisition}
+use Rattle.wit_core.specs.declared.acquiring.Acquisition.TheVariants.{Recorded, Exhausted, Unrecorded}
+use Rattle.wit_core.specs.Acquiring.{reply_to, owed_after, acquisition, watch_then, row_then, taken}
 use Rattle.wit_core.specs.Fresh.{start_of}
-use Rattle.wit_core.specs.Seats.{changed, asked_in, noted_in, unlocked_in, taken_by, CanRise, IsShallow, IsOnce}
+use Rattle.wit_core.specs.Held.{seat_view}
 use Rattle.wit_core.specs.Journal.{Journal}
 use Rattle.wit_core.specs.Kept.{IsKept, start_in, history_in, story_in, state_in}
+use Rattle.wit_core.specs.Known.{Facts, learnt, with_lock, IsAdmitted}
+use Rattle.wit_core.specs.Listed.{all_listed, pairs_of}
+use Rattle.wit_core.specs.Seats.{Row, no_seat, idle_row, seat_in, locks_in, with_seat, asking, acquired, released}
 use Rattle.wit_core.proofs.Entering.{IsBegun}
-use Rattle.wit_core.proofs.Steps.{same_state, state-init, state-check, state-note, state-unlock}
-use Rattle.wit_core.proofs.Keeping.{seat_in, Leaves, same_story}
-use Rattle.wit_core.proofs.Now.{chain_now, once_now}
-use Rattle.wit_model.specs.Rules.Numbers.{IsGiven}
+use Rattle.wit_core.proofs.Keeping.{seat_in_range, Leaves, same_story}
+use Rattle.wit_core.proofs.Now.{seat-given, chain-now, once-now, acquisition-told}
+use Rattle.wit_core.proofs.Steps.{same_state, same_locks, known-same, seat-twice, in-row, seats-quiet, seats-same, seats-note, seats-try, seats-unlock}
 
 -- a lock's kind, by the locks and by the history
 spin_same : (v : Inside) (l : ℕ) (spin : Bool) → spin ≡ is_spin (lock_at (state_of (story_in v)).known.locks l).made.class → spin ≡ is_spin_lock (locks_of (history_in v)) l
@@ -63,12 +69,27 @@ none_from : (o : Option Request) → is_some o ≡ false → o ≡ None
 none_from None e = refl
 none_from (Some q) e = absurd (true≢false e)
 
-can_rise : (l : ℕ) (c : List Instance) → ((i : Instance) → find (is_of l) c ≡ Some i → i.count + 1 ≤ 65535) → IsShallow l c
-can_rise l c bound = go (position (is_of l) c) refl
-  where
-    go : (o : Option ℕ) → position (is_of l) c ≡ o → CanRise c o
-    go None e = tt
-    go (Some p) e = λ d. let few = bound (get_or c p d) (found-at l c p d e) in omega (arith, few)
+can_rise : (o : Option Instance) → ((i : Instance) → o ≡ Some i → i.count + 1 ≤ 65535) → CanRise o
+can_rise None bound = tt
+can_rise (Some i) bound = let few = bound i refl in omega (arith, few)
+
+pub owed-few : (a : Acquisition) → owed_after a ≤ 1
+owed-few Recorded = omega arith
+owed-few Exhausted = omega arith
+owed-few Unrecorded = omega arith
+
+-- a reply to an acquisition is logged
+pub reply-logged : (a : Acquisition) → is_logged (reply_to a) ≡ true
+reply-logged Recorded = refl
+reply-logged Exhausted = refl
+reply-logged Unrecorded = refl
+
+-- the seats stand under their numbers after an acquisition too
+pub given-then : (a : Acquisition) (t n : ℕ) (spin : Bool) (i : Instance) (row : Row) → IsGiven row.seats t → IsGiven (row_then a n spin i row).seats t
+given-then Recorded t n spin i row given =
+    (given.0, omega (arith, given.1, length-set row.seats (n - 1) (acquired spin i (get_or row.seats (n - 1) no_seat))))
+given-then Exhausted t n spin i row given = given
+given-then Unrecorded t n spin i row given = given
 
 -- the type name of a lock with good names is a name
 type-named : (lock : NewLock) → (is_name lock.name && is_good_name lock.type_name) ≡ true → is_name (type_name_of lock) ≡ true
@@ -86,92 +107,195 @@ module _ (v : Inside) (k : IsKept v) (s : Story) (seen : story_in v ≡ s) where
   sane_next t call reply ok = sane_more (start_in v) v.known.files (history_in v) (entry t call reply) k.legal (accepted t call reply ok)
 
   within : (t : ℕ) (call : Call) (reply : Reply) → answer_of s t call ≡ Ok reply → (0 < t) × (t ≤ v.limits.seats)
-  within t call reply ok = seat_in v t call reply k (accepted t call reply ok)
+  within t call reply ok = seat_in_range v t call reply k (accepted t call reply ok)
 
   owed_now : v.log.owed ≡ owed_to v.limits.seats (history_in v)
   owed_now = k.owed ∙ ap owed k.state
 
   -- the seat of an accepted call is given
   pub given : (t : ℕ) (call : Call) (reply : Reply) → answer_of s t call ≡ Ok reply → IsGiven v.seats.seats t
-  given t call reply ok =
-      let count = ap (λ (x : State). length x.seats) k.state ∙ length-map-range_with_len (seat_of (history_in v)) 1 v.limits.seats in
-      let in_row = within t call reply ok in
-      (in_row.0, omega (arith, in_row.1, count))
+  given t call reply ok = seat-given v k s seen t (seat_accepted (state_of s) t call reply ok)
+
+  known-now : v.known.known ≡ known_of (start_in v) (history_in v)
+  known-now = ap (λ (x : State). x.known) k.state
+
+  seats-now : map seat_view v.seats.seats ≡ seats_of v.limits.seats (history_in v)
+  seats-now = ap (λ (x : State). x.seats) k.state
+
+  watch-now : v.watch ≡ watch_of (history_in v)
+  watch-now = ap (λ (x : State). x.watch) k.state
+
+  -- what an entry leaves, part by part
+  left-by : (t : ℕ) (call : Call) (reply : Reply) (known : Known) (row : Row) (watch : Watch) (owes : ℕ)
+      → known ≡ known_of (start_in v) (entry t call reply ∷ history_in v) → map seat_view row.seats ≡ seats_of v.limits.seats (entry t call reply ∷ history_in v)
+      → watch ≡ watch_of (entry t call reply ∷ history_in v) → owes ≡ owed_to v.limits.seats (entry t call reply ∷ history_in v) → row.chunks ≡ v.seats.chunks
+      → Leaves v t call reply known row watch owes
+  left-by t call reply known row watch owes knows rows watches sum size = record {
+    state = same_state v.limits _ _ _ _ _ _ _ _ _ _ refl knows rows watches (omega arith);
+    owed = sum ∙ ap (sum_by owed_by) (sym rows);
+    chunks = size;
+  }
+
+  kind-now : (l : ℕ) (spin : Bool) → spin ≡ is_spin (lock_at (state_of s).known.locks l).made.class → spin ≡ is_spin_lock (locks_of (history_in v)) l
+  kind-now l spin kind = spin_same v l spin (kind ∙ ap (λ (x : Story). is_spin (lock_at (state_of x).known.locks l).made.class) (sym seen))
 
   -- a request that is pending now was so after the history
-  wants : (t : ℕ) (l : LockNo) (q : Request) → answer_of s t (Note l) ≡ Ok Recorded → (seat_at (state_of s) t).pending ≡ Some q → pending t (history_in v) ≡ Some q
-  wants t l q ok asked =
-      sym (pending-state (start_in v) v.known.files (history_in v) t (note_accepted (state_of (story_in v)) t l.0 Recorded (accepted t (Note l) Recorded ok)).seat)
+  wants : (t : ℕ) (call : Call) (reply : Reply) (q : Request) → answer_of s t call ≡ Ok reply → (seat_at (state_of s) t).pending ≡ Some q → pending t (history_in v) ≡ Some q
+  wants t call reply q ok asked =
+      sym (pending-state (start_in v) v.known.files (history_in v) t (seat_accepted (state_of (story_in v)) t call reply (accepted t call reply ok)))
       ∙ (ap (λ (x : Story). (seat_at (state_of x) t).pending) seen ∙ asked)
 
-  pub note_owed : (t : ℕ) (l : LockNo) (q : Request) → answer_of s t (Note l) ≡ Ok Recorded → (seat_at (state_of s) t).pending ≡ Some q → 0 < v.log.owed
-  note_owed t l q ok asked =
-      let in_row = within t (Note l) Recorded ok in
-      let less = owed-note v.limits.seats t l q (history_in v) (sane_next t (Note l) Recorded ok) in_row.0 in_row.1 (wants t l q ok asked) in
-      let sum = owed_now in
-      omega (arith, less, sum)
+  -- ---- an acquisition
+  module _ (t : ℕ) (l : LockNo) (spin : Bool) (kind : spin ≡ is_spin (lock_at (state_of s).known.locks l.0).made.class) where
+    -- its reply is the rules'
+    pub reply-told : (a : Acquisition) → a ≡ acquisition v.watch v.seats t spin l.0 → reply_to a ≡ recorded (state_of s) t l.0
+    reply-told a is = ap reply_to is ∙ acquisition-told v k s seen t l.0 spin kind
 
-  pub note_once : (t : ℕ) (l : LockNo) (spin : Bool) → answer_of s t (Note l) ≡ Ok Recorded → spin ≡ is_spin (lock_at (state_of s).known.locks l.0).made.class
-      → IsOnce l.0 (chain_in spin (seat_among v.seats.seats t))
-  note_once t l spin ok kind =
-      subst (IsOnce l.0) (sym (chain_now v k s seen t l.0 spin kind)) (once_now v k s seen t l.0 (note_accepted (state_of s) t l.0 Recorded ok).seat)
+    -- the lock stands once, and its count can rise
+    pub acquire_once : (call : Call) (reply : Reply) → answer_of s t call ≡ Ok reply → IsOnce l.0 (locks_in spin (seat_in v.seats t))
+    acquire_once call reply ok = once-now v k s seen t l.0 spin kind (seat_accepted (state_of s) t call reply ok)
 
-  pub note_shallow : (t : ℕ) (l : LockNo) (spin : Bool) → answer_of s t (Note l) ≡ Ok Recorded → spin ≡ is_spin (lock_at (state_of s).known.locks l.0).made.class
-      → IsShallow l.0 (chain_in spin (seat_among v.seats.seats t))
-  note_shallow t l spin ok kind =
-      subst (IsShallow l.0) (sym (chain_now v k s seen t l.0 spin kind))
-      (can_rise l.0 _ (λ i is. note-count (start_in v) v.known.files (history_in v) t l.0 Recorded i k.legal
-      (note_accepted (state_of (story_in v)) t l.0 Recorded (accepted t (Note l) Recorded ok)) (ap (λ (x : Story). find (is_of l.0) (chain_for (state_of x) t l.0)) seen ∙ is)))
+    held-then : (i : Instance) → find (is_of l.0) (locks_in spin (seat_in v.seats t)) ≡ Some i → held_by (state_of (story_in v)) t l.0 ≡ Some i
+    held-then i is =
+        ap (λ (x : Story). held_by (state_of x) t l.0) seen ∙ ap (find (is_of l.0)) (sym (chain-now v k s seen t l.0 spin kind)) ∙ is
 
-  pub leaves_note : (t : ℕ) (l : LockNo) (q : Request) (spin : Bool) → answer_of s t (Note l) ≡ Ok Recorded → (seat_at (state_of s) t).pending ≡ Some q
-      → spin ≡ is_spin (lock_at (state_of s).known.locks l.0).made.class
-      → Leaves v t (Note l) Recorded v.known.known (changed t (noted_in spin (taken_by l q)) v.seats.seats) (v.log.owed - 1)
-  leaves_note t l q spin ok asked kind =
-      let sane = sane_next t (Note l) Recorded ok in
-      let in_row = within t (Note l) Recorded ok in
-      let G : Bool → State → State = λ b x. record x { seats = changed t (noted_in b (taken_by l q)) x.seats; used = x.used + 1 } in
-      let same : spin ≡ is_spin_lock (locks_of (history_in v)) l.0 = spin_same v l.0 spin (kind ∙ ap (λ (x : Story). is_spin (lock_at (state_of x).known.locks l.0).made.class) (sym seen)) in
-      let next = ap (G spin) k.state ∙ (ap (λ b. G b (state_of (story_in v))) same
-      ∙ sym (state-note (start_in v) v.known.files (history_in v) t l q sane in_row.0 in_row.1 (wants t l q ok asked))) in
-      let less = owed-note v.limits.seats t l q (history_in v) sane in_row.0 in_row.1 (wants t l q ok asked) in
-      let sum = owed_now in
-      let after = ap owed next in
-      record { state = next; owed = omega (arith, less, sum, after) }
+    pub note_shallow : (reply : Reply) → answer_of s t (Note l) ≡ Ok reply → is_off v.watch ≡ false → IsShallow l.0 (locks_in spin (seat_in v.seats t))
+    note_shallow reply ok some =
+        can_rise (find (is_of l.0) (locks_in spin (seat_in v.seats t)))
+        (λ i is. note-count (start_in v) v.known.files (history_in v) t l.0 reply i k.legal
+        (note_accepted (state_of (story_in v)) t l.0 reply (accepted t (Note l) reply ok)) (ap is_off (sym watch-now) ∙ some) (held-then i is))
 
-  -- what a release finds
-  release_held : (t : ℕ) (l : LockNo) (m : Mode) → answer_of s t (Unlock l m) ≡ Ok Unlocked → is_held t l.0 (history_in v) ≡ true
-  release_held t l m ok =
-      (unlock-held (start_in v) v.known.files (history_in v) t l.0 m Unlocked (sane_next t (Unlock l m) Unlocked ok).1
-      (unlock_accepted (state_of (story_in v)) t l.0 m Unlocked (accepted t (Unlock l m) Unlocked ok))).0
+    pub try_shallow : (m : Mode) (site : Site) (reply : Reply) → answer_of s t (NoteTry l m site) ≡ Ok reply → is_off v.watch ≡ false
+        → IsShallow l.0 (locks_in spin (seat_in v.seats t))
+    try_shallow m site reply ok some =
+        can_rise (find (is_of l.0) (locks_in spin (seat_in v.seats t)))
+        (λ i is. try-count (start_in v) v.known.files (history_in v) t l.0 m site reply i k.legal
+        (try_accepted (state_of (story_in v)) t l.0 m site reply (accepted t (NoteTry l m site) reply ok)) (ap is_off (sym watch-now) ∙ some) (held-then i is))
 
-  pub unlock_owed : (t : ℕ) (l : LockNo) (m : Mode) → answer_of s t (Unlock l m) ≡ Ok Unlocked → 0 < v.log.owed
-  unlock_owed t l m ok =
-      let in_row = within t (Unlock l m) Unlocked ok in
-      let less = owed-unlock v.limits.seats t l m Unlocked (history_in v) (sane_next t (Unlock l m) Unlocked ok) in_row.0 in_row.1 (release_held t l m ok) in
-      let sum = owed_now in
-      omega (arith, less, sum)
+    module _ (q : Request) (asked : (seat_at (state_of s) t).pending ≡ Some q) where
+      pub note_owed : (a : Acquisition) → answer_of s t (Note l) ≡ Ok (reply_to a) → 1 - owed_after a < v.log.owed
+      note_owed a ok = go a ok
+        where
+          go : (b : Acquisition) → answer_of s t (Note l) ≡ Ok (reply_to b) → 1 - owed_after b < v.log.owed
+          go Recorded at =
+              let in_row = within t (Note l) reply.Recorded at in
+              let less = owed-note v.limits.seats t l q (history_in v) (sane_next t (Note l) reply.Recorded at) in_row.0 in_row.1 (wants t (Note l) reply.Recorded q at asked) in
+              omega (arith, less, owed_now)
+          go Exhausted at =
+              let in_row = within t (Note l) reply.Exhausted at in
+              let less = owed-unnoted v.limits.seats t l reply.Exhausted q (history_in v) (sane_next t (Note l) reply.Exhausted at) in_row.0 in_row.1 refl (wants t (Note l) reply.Exhausted q at asked) in
+              omega (arith, less, owed_now)
+          go Unrecorded at =
+              let in_row = within t (Note l) reply.Unrecorded at in
+              let less = owed-unnoted v.limits.seats t l reply.Unrecorded q (history_in v) (sane_next t (Note l) reply.Unrecorded at) in_row.0 in_row.1 refl (wants t (Note l) reply.Unrecorded q at asked) in
+              omega (arith, less, owed_now)
 
-  pub leaves_unlock : (t : ℕ) (l : LockNo) (m : Mode) (spin : Bool) (p : ℕ) → answer_of s t (Unlock l m) ≡ Ok Unlocked
-      → position (is_of l.0) (chain_for (state_of s) t l.0) ≡ Some p → spin ≡ is_spin (lock_at (state_of s).known.locks l.0).made.class
-      → Leaves v t (Unlock l m) Unlocked v.known.known (changed t (unlocked_in spin p) v.seats.seats) (v.log.owed - 1)
-  leaves_unlock t l m spin p ok at kind =
-      let sane = sane_next t (Unlock l m) Unlocked ok in
-      let in_row = within t (Unlock l m) Unlocked ok in
-      let start = start_in v in
-      let files = v.known.files in
-      let h = history_in v in
-      let G : Bool → State → State = λ b x. record x { seats = changed t (unlocked_in b p) x.seats; used = x.used + 1 } in
-      let same : spin ≡ is_spin_lock (locks_of h) l.0 = spin_same v l.0 spin (kind ∙ ap (λ (x : Story). is_spin (lock_at (state_of x).known.locks l.0).made.class) (sym seen)) in
-      let here : position (is_of l.0) (chain_in (is_spin_lock (locks_of h) l.0) (seat_of h t)) ≡ Some p =
-      ap (position (is_of l.0)) (one_chain (is_spin_lock (locks_of h) l.0) t h
-      ∙ sym (chain_for-state start files h t l.0 (unlock_accepted (state_of (story_in v)) t l.0 m Unlocked (accepted t (Unlock l m) Unlocked ok)).seat))
-      ∙ (ap (λ (x : Story). position (is_of l.0) (chain_for (state_of x) t l.0)) seen ∙ at) in
-      let next = ap (G spin) k.state ∙ (ap (λ b. G b (state_of (story_in v))) same ∙ sym (state-unlock start files h t l m p sane in_row.0 in_row.1 here)) in
-      let less = owed-unlock v.limits.seats t l m Unlocked h sane in_row.0 in_row.1 (release_held t l m ok) in
-      let sum = owed_now in
-      let after = ap owed next in
-      record { state = next; owed = omega (arith, less, sum, after) }
+      pub leaves_note : (a : Acquisition) → answer_of s t (Note l) ≡ Ok (reply_to a)
+          → Leaves v t (Note l) (reply_to a) v.known.known (with_seat t (asking None) (row_then a t spin (taken l q.mode q.site) v.seats)) (watch_then a v.watch)
+          (v.log.owed - (1 - owed_after a + 1))
+      leaves_note Recorded ok =
+          let sane = sane_next t (Note l) reply.Recorded ok in
+          let in_row = within t (Note l) reply.Recorded ok in
+          let less = owed-note v.limits.seats t l q (history_in v) sane in_row.0 in_row.1 (wants t (Note l) reply.Recorded q ok asked) in
+          left-by t (Note l) reply.Recorded _ _ _ _
+          (known-now ∙ known-same (start_in v) (history_in v) t (Note l) reply.Recorded refl refl refl refl)
+          (ap (λ (r : Row). map seat_view r.seats) (seat-twice v.seats t (asking None) (acquired spin (taken l q.mode q.site)) (in-row (start_in v) v.known.files (history_in v) v.seats seats-now t in_row.0 in_row.1))
+          ∙ seats-note (start_in v) v.known.files (history_in v) v.seats seats-now t in_row.0 in_row.1 l spin (kind-now l.0 spin kind) q sane (wants t (Note l) reply.Recorded q ok asked))
+          watch-now (omega (arith, less, owed_now)) refl
+      leaves_note Exhausted ok =
+          let sane = sane_next t (Note l) reply.Exhausted ok in
+          let in_row = within t (Note l) reply.Exhausted ok in
+          let less = owed-unnoted v.limits.seats t l reply.Exhausted q (history_in v) sane in_row.0 in_row.1 refl (wants t (Note l) reply.Exhausted q ok asked) in
+          left-by t (Note l) reply.Exhausted _ _ _ _
+          (known-now ∙ known-same (start_in v) (history_in v) t (Note l) reply.Exhausted refl refl refl refl)
+          (seats-quiet (start_in v) v.known.files (history_in v) v.seats seats-now t in_row.0 in_row.1 (Note l) reply.Exhausted None sane refl refl)
+          refl (omega (arith, less, owed_now)) refl
+      leaves_note Unrecorded ok =
+          let sane = sane_next t (Note l) reply.Unrecorded ok in
+          let in_row = within t (Note l) reply.Unrecorded ok in
+          let less = owed-unnoted v.limits.seats t l reply.Unrecorded q (history_in v) sane in_row.0 in_row.1 refl (wants t (Note l) reply.Unrecorded q ok asked) in
+          left-by t (Note l) reply.Unrecorded _ _ _ _
+          (known-now ∙ known-same (start_in v) (history_in v) t (Note l) reply.Unrecorded refl refl refl refl)
+          (seats-quiet (start_in v) v.known.files (history_in v) v.seats seats-now t in_row.0 in_row.1 (Note l) reply.Unrecorded None sane refl refl)
+          watch-now (omega (arith, less, owed_now)) refl
 
+    pub leaves_try : (m : Mode) (site : Site) (a : Acquisition) → answer_of s t (NoteTry l m site) ≡ Ok (reply_to a)
+        → Leaves v t (NoteTry l m site) (reply_to a) v.known.known (row_then a t spin (taken l m site) v.seats) (watch_then a v.watch) (v.log.owed + owed_after a)
+    leaves_try m site Recorded ok =
+        let sane = sane_next t (NoteTry l m site) reply.Recorded ok in
+        let in_row = within t (NoteTry l m site) reply.Recorded ok in
+        let more = owed-try v.limits.seats t l m site (history_in v) sane in_row.0 in_row.1 in
+        left-by t (NoteTry l m site) reply.Recorded _ _ _ _
+        (known-now ∙ known-same (start_in v) (history_in v) t (NoteTry l m site) reply.Recorded refl refl refl refl)
+        (seats-try (start_in v) v.known.files (history_in v) v.seats seats-now t in_row.0 in_row.1 l spin (kind-now l.0 spin kind) m site sane)
+        watch-now (omega (arith, more, owed_now)) refl
+    leaves_try m site Exhausted ok =
+        let sane = sane_next t (NoteTry l m site) reply.Exhausted ok in
+        let in_row = within t (NoteTry l m site) reply.Exhausted ok in
+        let same = owed-same v.limits.seats t (NoteTry l m site) reply.Exhausted (history_in v) sane in_row.0 in_row.1 refl refl in
+        left-by t (NoteTry l m site) reply.Exhausted _ _ _ _
+        (known-now ∙ known-same (start_in v) (history_in v) t (NoteTry l m site) reply.Exhausted refl refl refl refl)
+        (seats-same (start_in v) v.known.files (history_in v) v.seats seats-now t in_row.0 in_row.1 (NoteTry l m site) reply.Exhausted sane refl refl)
+        refl (omega (arith, same, owed_now)) refl
+    leaves_try m site Unrecorded ok =
+        let sane = sane_next t (NoteTry l m site) reply.Unrecorded ok in
+        let in_row = within t (NoteTry l m site) reply.Unrecorded ok in
+        let same = owed-same v.limits.seats t (NoteTry l m site) reply.Unrecorded (history_in v) sane in_row.0 in_row.1 refl refl in
+        left-by t (NoteTry l m site) reply.Unrecorded _ _ _ _
+        (known-now ∙ known-same (start_in v) (history_in v) t (NoteTry l m site) reply.Unrecorded refl refl refl refl)
+        (seats-same (start_in v) v.known.files (history_in v) v.seats seats-now t in_row.0 in_row.1 (NoteTry l m site) reply.Unrecorded sane refl refl)
+        watch-now (omega (arith, same, owed_now)) refl
+
+    -- ---- a release
+    release_held : (m : Mode) → answer_of s t (Unlock l m) ≡ Ok Unlocked → is_held t l.0 (history_in v) ≡ true
+    release_held m ok =
+        (unlock-held (start_in v) v.known.files (history_in v) t l.0 m Unlocked (sane_next t (Unlock l m) Unlocked ok).1
+        (unlock_accepted (state_of (story_in v)) t l.0 m Unlocked (accepted t (Unlock l m) Unlocked ok) refl)).0
+
+    pub unlock_owed : (m : Mode) → answer_of s t (Unlock l m) ≡ Ok Unlocked → 0 < v.log.owed
+    unlock_owed m ok =
+        let in_row = within t (Unlock l m) Unlocked ok in
+        let less = owed-unlock v.limits.seats t l m (history_in v) (sane_next t (Unlock l m) Unlocked ok) in_row.0 in_row.1 (release_held m ok) in
+        omega (arith, less, owed_now)
+
+    pub leaves_unlock : (m : Mode) → answer_of s t (Unlock l m) ≡ Ok Unlocked
+        → Leaves v t (Unlock l m) Unlocked v.known.known (with_seat t (released spin l.0) v.seats) v.watch (v.log.owed - (0 + 1))
+    leaves_unlock m ok =
+        let sane = sane_next t (Unlock l m) Unlocked ok in
+        let in_row = within t (Unlock l m) Unlocked ok in
+        let less = owed-unlock v.limits.seats t l m (history_in v) sane in_row.0 in_row.1 (release_held m ok) in
+        left-by t (Unlock l m) Unlocked _ _ _ _
+        (known-now ∙ known-same (start_in v) (history_in v) t (Unlock l m) Unlocked refl refl refl refl)
+        (seats-unlock (start_in v) v.known.files (history_in v) v.seats seats-now t in_row.0 in_row.1 l spin (kind-now l.0 spin kind) m sane)
+        watch-now (omega (arith, less, owed_now)) refl
+
+  -- ---- a request that is given up
+  asked-now : (t : ℕ) (l : LockNo) → answer_of s t (GiveUp l) ≡ Ok Done → (q : Request) × (pending t (history_in v) ≡ Some q)
+  asked-now t l ok =
+      let a = give_up_accepted (state_of (story_in v)) t l.0 Done (accepted t (GiveUp l) Done ok) in
+      let p = asked-lock l.0 (pending t (history_in v)) (ap (is_for l.0) (sym (pending-state (start_in v) v.known.files (history_in v) t a.seat)) ∙ a.asked) in
+      (p.0, p.1)
+
+  pub give_up_owed : (t : ℕ) (l : LockNo) → answer_of s t (GiveUp l) ≡ Ok Done → 1 < v.log.owed
+  give_up_owed t l ok =
+      let in_row = within t (GiveUp l) Done ok in
+      let asked = asked-now t l ok in
+      let less = owed-give_up v.limits.seats t l Done asked.0 (history_in v) (sane_next t (GiveUp l) Done ok) in_row.0 in_row.1 asked.1 in
+      omega (arith, less, owed_now)
+
+  pub leaves_give_up : (t : ℕ) (l : LockNo) → answer_of s t (GiveUp l) ≡ Ok Done
+      → Leaves v t (GiveUp l) Done v.known.known (with_seat t (asking None) v.seats) v.watch (v.log.owed - (1 + 1))
+  leaves_give_up t l ok =
+      let sane = sane_next t (GiveUp l) Done ok in
+      let in_row = within t (GiveUp l) Done ok in
+      let asked = asked-now t l ok in
+      let less = owed-give_up v.limits.seats t l Done asked.0 (history_in v) sane in_row.0 in_row.1 asked.1 in
+      left-by t (GiveUp l) Done _ _ _ _
+      (known-now ∙ known-same (start_in v) (history_in v) t (GiveUp l) Done refl refl refl refl)
+      (seats-quiet (start_in v) v.known.files (history_in v) v.seats seats-now t in_row.0 in_row.1 (GiveUp l) Done None sane refl refl)
+      watch-now (omega (arith, less, owed_now)) refl
+
+  -- ---- calls for which room is asked
   -- room in the log, of which some may have been reserved
   room_left : (more : ℕ) (log : Journal) → has_room (state_of (story_in v)) (more + 1) ≡ true → log ≡ record v.log { spare = log.spare }
       → length log.history + log.owed + more < log.limit
@@ -186,19 +310,38 @@ module _ (v : Inside) (k : IsKept v) (s : Story) (seen : story_in v ≡ s) where
       → length log.history + log.owed + 2 < log.limit
   check_room t q r log ok same = room_left 2 log (check_accepted (state_of (story_in v)) t q r (accepted t (Check q) r ok)).room same
 
-  pub leaves_check : (t : ℕ) (q : Request) (verdict : Verdict) → answer_of s t (Check q) ≡ Ok (reply_of verdict)
-      → Leaves v t (Check q) (reply_of verdict) (learnt v.known.known q (reply_of verdict)) (changed t (asked_in q) v.seats.seats) (v.log.owed + 2)
-  leaves_check t q verdict ok =
-      let sane = sane_next t (Check q) (reply_of verdict) ok in
-      let in_row = within t (Check q) (reply_of verdict) ok in
-      let G : State → State = λ x. record x { known = learnt x.known q (reply_of verdict); seats = changed t (asked_in q) x.seats; used = x.used + 1 } in
-      let next = ap G k.state ∙ sym (state-check (start_in v) v.known.files (history_in v) t q verdict sane in_row.0 in_row.1) in
-      let at = check_accepted (state_of (story_in v)) t q (reply_of verdict) (accepted t (Check q) (reply_of verdict) ok) in
+  pub leaves_check : (t : ℕ) (q : Request) (r : Reply) → answer_of s t (Check q) ≡ Ok r → ((w : Watch) → watch_after (Check q) r w ≡ w)
+      → Leaves v t (Check q) r (learnt v.known.known q r) (with_seat t (asking (Some q)) v.seats) v.watch (v.log.owed + 2)
+  leaves_check t q r ok keeps =
+      let sane = sane_next t (Check q) r ok in
+      let in_row = within t (Check q) r ok in
+      let at = check_accepted (state_of (story_in v)) t q r (accepted t (Check q) r ok) in
       let idle = none_from _ (sym (ap (λ (o : Option Request). is_some o) (pending-state (start_in v) v.known.files (history_in v) t at.seat)) ∙ at.idle) in
-      let more = owed-check v.limits.seats t q (reply_of verdict) (history_in v) sane in_row.0 in_row.1 idle in
-      let sum = owed_now in
-      let after = ap owed next in
-      record { state = next; owed = omega (arith, more, sum, after) }
+      let more = owed-check v.limits.seats t q r (history_in v) sane in_row.0 in_row.1 idle in
+      left-by t (Check q) r _ _ _ _
+      (ap (λ (x : Known). learnt x q r) known-now ∙ sym (same_locks (learnt (known_of (start_in v) (history_in v)) q r) _ (append-nil (typed_locks (start_in v) (history_in v)))))
+      (seats-quiet (start_in v) v.known.files (history_in v) v.seats seats-now t in_row.0 in_row.1 (Check q) r (Some q) sane refl refl)
+      (watch-now ∙ sym (keeps (watch_of (history_in v)))) (omega (arith, more, owed_now)) refl
+
+  pub try_room : (t : ℕ) (l : LockNo) (m : Mode) (site : Site) (a : Acquisition) (log : Journal) → answer_of s t (NoteTry l m site) ≡ Ok (reply_to a)
+      → log ≡ record v.log { spare = log.spare } → length log.history + log.owed + owed_after a < log.limit
+  try_room t l m site a log ok same =
+      let room = room_left 1 log (try_accepted (state_of (story_in v)) t l.0 m site (reply_to a) (accepted t (NoteTry l m site) (reply_to a) ok)).room same in
+      omega (arith, room, owed-few a)
+
+  pub watch_room : (t : ℕ) (w : Watch) (log : Journal) → answer_of s t (SetWatch w) ≡ Ok Done → log ≡ record v.log { spare = log.spare }
+      → length log.history + log.owed + 0 < log.limit
+  watch_room t w log ok same = room_left 0 log (watch_accepted (state_of (story_in v)) t w Done (accepted t (SetWatch w) Done ok)).room same
+
+  pub leaves_watch : (t : ℕ) (w : Watch) → answer_of s t (SetWatch w) ≡ Ok Done → Leaves v t (SetWatch w) Done v.known.known v.seats w (v.log.owed + 0)
+  leaves_watch t w ok =
+      let sane = sane_next t (SetWatch w) Done ok in
+      let in_row = within t (SetWatch w) Done ok in
+      let same = owed-same v.limits.seats t (SetWatch w) Done (history_in v) sane in_row.0 in_row.1 refl refl in
+      left-by t (SetWatch w) Done _ _ _ _
+      (known-now ∙ known-same (start_in v) (history_in v) t (SetWatch w) Done refl refl refl refl)
+      (seats-same (start_in v) v.known.files (history_in v) v.seats seats-now t in_row.0 in_row.1 (SetWatch w) Done sane refl refl)
+      refl (omega (arith, same, owed_now)) refl
 
   pub init_room : (t : ℕ) (lock : NewLock) (number : LockNo) (log : Journal) → answer_of s t (Init lock) ≡ Ok (Made number) → log ≡ record v.log { spare = log.spare }
       → length log.history + log.owed + 0 < log.limit
@@ -214,21 +357,27 @@ module _ (v : Inside) (k : IsKept v) (s : Story) (seen : story_in v ≡ s) where
       (rw (type-named lock at.names, at.class, at.types) refl))
 
   pub leaves_init : (t : ℕ) (lock : NewLock) (number : LockNo) → answer_of s t (Init lock) ≡ Ok (Made number)
-      → Leaves v t (Init lock) (Made number) (with_lock v.known.known lock) v.seats.seats (v.log.owed + 0)
+      → Leaves v t (Init lock) (Made number) (with_lock v.known.known lock) v.seats v.watch (v.log.owed + 0)
   leaves_init t lock number ok =
       let sane = sane_next t (Init lock) (Made number) ok in
       let in_row = within t (Init lock) (Made number) ok in
-      let G : State → State = λ x. record x { known = with_lock x.known lock; used = x.used + 1 } in
-      let next = ap G k.state ∙ sym (state-init (start_in v) v.known.files (history_in v) t lock number sane in_row.0 in_row.1) in
       let same = owed-init v.limits.seats t lock (Made number) (history_in v) sane in_row.0 in_row.1 in
-      let sum = owed_now in
-      let after = ap owed next in
-      record { state = next; owed = omega (arith, same, sum, after) }
+      left-by t (Init lock) (Made number) _ _ _ _
+      (ap (λ (x : Known). with_lock x lock) known-now)
+      (seats-same (start_in v) v.known.files (history_in v) v.seats seats-now t in_row.0 in_row.1 (Init lock) (Made number) sane refl refl)
+      watch-now (omega (arith, same, owed_now)) refl
+
+-- seats that hold nothing are those of no history
+seats-idle : (a n : ℕ) → map seat_view (replicate n no_seat) ≡ map (seat_of []) (range_with_len a n)
+seats-idle a zero = refl
+seats-idle a (suc n) =
+    ap₂ (λ s ss. s ∷ ss) (sym (ap₂ (λ gs hs. record (seat_view no_seat) { sleep_groups = gs; spin_groups = hs }) (seat_groups-nil false a) (seat_groups-nil true a)))
+    (seats-idle (a + 1) n)
 
 -- a new verifier
 module _ (v : Inside) (sizes : Sizes) (lists : List (Vec (Class × String Global))) (blessed : List (String Global × String Global))
     (limits : v.limits ≡ sizes) (same_lists : v.lists.items ≡ lists) (begun : IsBegun sizes (all_listed lists) (pairs_of blessed) v.known)
-    (seats : v.seats.seats ≡ seats_of sizes.seats []) (log : v.log ≡ record { limit = sizes.log; history = []; owed = 0; spare = v.log.spare }) where
+    (seats : v.seats ≡ idle_row sizes.seats sizes.chunks) (watch : v.watch ≡ On) (log : v.log ≡ record { limit = sizes.log; history = []; owed = 0; spare = v.log.spare }) where
   start_begun : start_in v ≡ start_of sizes lists blessed
   start_begun =
       ap (λ (x : Sizes). record (start_in v) { sizes = x }) limits
@@ -247,8 +396,8 @@ module _ (v : Inside) (sizes : Sizes) (lists : List (Vec (Class × String Global
   state_begun : state_in v ≡ state_of (fresh (start_of sizes lists blessed))
   state_begun =
       ap (λ (x : Sizes). record (state_in v) { sizes = x }) limits
-      ∙ same_state sizes _ _ _ _ _ _ _ _ (ap (λ (l : List (List ℕ)). length l) no_files) (begun.known)
-      seats (ap (λ (l : Journal). length l.history) log)
+      ∙ same_state sizes _ _ _ _ _ _ _ _ _ _ (ap (λ (l : List (List ℕ)). length l) no_files) (begun.known)
+      (ap (λ (r : Row). map seat_view r.seats) seats ∙ seats-idle 1 sizes.seats) watch (ap (λ (l : Journal). length l.history) log)
 
   pub kept_begun : start_fault (start_of sizes lists blessed) ≡ None → IsKept v
   kept_begun accepted =
@@ -260,6 +409,7 @@ module _ (v : Inside) (sizes : Sizes) (lists : List (Vec (Class × String Global
         owed = ap (λ (l : Journal). l.owed) log ∙ sym owes;
         limit = ap (λ (l : Journal). l.limit) log ∙ ap (λ (x : Sizes). x.log) (sym limits);
         types = (begun.types ∙ sym (ap (λ (x : Sizes). x.types) limits));
+        chunks = ap (λ (r : Row). r.chunks) seats ∙ sym (ap (λ (x : Sizes). x.chunks) limits);
       }
 
 -- a verifier that knows this
@@ -296,10 +446,6 @@ kept_file v name (Ok f) new k entered same =
       owed = k.owed;
       limit = k.limit;
       types = k.types;
+      chunks = k.chunks;
     })
 kept_file v name (Err fault) new k entered same = subst (λ n. IsKept (with_known v n)) (sym same) k
-
--- watching is on as long as no call turns it down
-pub watch_on : (h : List Entry) → On ≡ watch_of h
-watch_on [] = refl
-watch_on (e ∷ h) = watch_on h

@@ -1,10 +1,11 @@
 -- What the invariant of a verifier gives, and how each call keeps it.
-use Rattle.std.proofs.Common.{◌≡◌, ℕ, ◌+◌, ◌<◌, ◌≤◌, List, ◌∷◌, None, Ok, length, sum_by, sym, ap, ◌∙◌, subst, arith}
+use Rattle.std.proofs.Common.{◌≡◌, ℕ, ◌+◌, ◌-◌, ◌<◌, ◌≤◌, true, List, ◌∷◌, None, Ok, length, map, sum_by, sym, ap, ◌∙◌, subst, arith}
 use Rattle.wit_model.specs.declared.calls.Call.{Call}
 use Rattle.wit_model.specs.declared.calls.Reply.{Reply}
 use Rattle.wit_model.specs.declared.calls.Entry.{Entry}
-use Rattle.wit_model.specs.Rules.State.{Start, Story, State, Known, Seat, state_of, owed_by, orders_of}
-use Rattle.wit_model.specs.Rules.Step.{answer_of, story_after, logged, IsLegal}
+use Rattle.wit_model.specs.declared.locks.Watch.{Watch}
+use Rattle.wit_model.specs.Rules.State.{Start, Story, State, Known, state_of, owed_by, orders_of}
+use Rattle.wit_model.specs.Rules.Step.{answer_of, story_after, logged, is_logged, IsLegal}
 use Rattle.wit_model.proofs.Chains.Seats.{entry}
 use Rattle.wit_model.proofs.Orders.Types.{types_legal}
 use Rattle.wit_model.proofs.Histories.Legal.{seat-within, seat_accepted}
@@ -15,6 +16,7 @@ use Rattle.wit_model.specs.Rules.Start.{start_fault}
 use Rattle.wit_model.specs.Rules.Orders.{AreDistinct, IsSound}
 use Rattle.wit_core.specs.declared.verifier.Verifier.TheInside.{Inside}
 use Rattle.wit_core.specs.Known.{Facts}
+use Rattle.wit_core.specs.Held.{seat_view}
 use Rattle.wit_core.specs.Seats.{Row}
 use Rattle.wit_core.proofs.Steps.{state, same_state}
 use Rattle.wit_core.specs.Journal.{Journal}
@@ -28,18 +30,19 @@ types_few v k =
     omega (arith, few, same)
 
 -- an accepted call's seat is one of the verifier's
-pub seat_in : (v : Inside) (t : ℕ) (call : Call) (r : Reply) → IsKept v → answer_of (story_in v) t call ≡ Ok r → (0 < t) × (t ≤ v.limits.seats)
-seat_in v t call r k ok = seat-within (start_in v) v.known.files (history_in v) t (seat_accepted (state_of (story_in v)) t call r ok)
+pub seat_in_range : (v : Inside) (t : ℕ) (call : Call) (r : Reply) → IsKept v → answer_of (story_in v) t call ≡ Ok r → (0 < t) × (t ≤ v.limits.seats)
+seat_in_range v t call r k ok = seat-within (start_in v) v.known.files (history_in v) t (seat_accepted (state_of (story_in v)) t call r ok)
 
 -- a verifier with these parts
-abbrev pub with_parts : Inside → Facts → Row → Journal → Inside
-with_parts v known seats log = record v { known = known; seats = seats; log = log }
+abbrev pub with_parts : Inside → Facts → Row → Watch → Journal → Inside
+with_parts v known seats watch log = record v { known = known; seats = seats; watch = watch; log = log }
 
--- what an accepted call leaves: this is known, the seats are these, and so much is owed
-pub record Leaves (v : Inside) (t : ℕ) (call : Call) (reply : Reply) (known : Known) (seats : List Seat) (owes : ℕ) : Type 0 where
-  pub state : state v.limits (length v.known.files) known seats (length (history_in v) + 1)
+-- what an accepted call leaves: this is known, the seats are these, so much is watched, and so much is owed
+pub record Leaves (v : Inside) (t : ℕ) (call : Call) (reply : Reply) (known : Known) (row : Row) (watch : Watch) (owes : ℕ) : Type 0 where
+  pub state : state v.limits (length v.known.files) known (map seat_view row.seats) watch (length (history_in v) + 1)
       ≡ state_of (story_after (start_in v) v.known.files (entry t call reply ∷ history_in v))
-  pub owed : owes ≡ sum_by owed_by seats
+  pub owed : owes ≡ sum_by owed_by (map seat_view row.seats)
+  pub chunks : row.chunks ≡ v.seats.chunks
 
 -- a log that was given room, and then an entry
 pub log_after : (old room new : Journal) (e : Entry) (more spare : ℕ) → room ≡ record old { spare = room.spare }
@@ -48,6 +51,17 @@ pub log_after : (old room new : Journal) (e : Entry) (more spare : ℕ) → room
 log_after old room new e more spare same is =
     is ∙ ap (λ (l : Journal). record l { history = e ∷ l.history; owed = l.owed + more; spare = spare }) same
 
+-- a log with the entry of an acquisition: one that was asked for, and one that was tried
+abbrev pub noted_log : Journal → ℕ → Call → Reply → ℕ → Journal
+noted_log log t call reply owes = record log {
+  history = entry t call reply ∷ log.history;
+  owed = log.owed - (1 - owes + 1);
+  spare = log.spare + (1 - owes);
+}
+
+abbrev pub tried_log : Journal → ℕ → ℕ → Call → Reply → ℕ → Journal
+tried_log log spare t call reply owes = record log { history = entry t call reply ∷ log.history; owed = log.owed + owes; spare = spare - (owes + 1) }
+
 -- a story by its parts
 abbrev pub story : Start → List (List ℕ) → List Entry → Story
 story start files h = record { start = start; history = h; files = files }
@@ -55,12 +69,12 @@ story start files h = record { start = start; history = h; files = files }
 pub same_story : (s s' : Start) (f f' : List (List ℕ)) (h h' : List Entry) → s ≡ s' → f ≡ f' → h ≡ h' → story s f h ≡ story s' f' h'
 same_story s s' f f' h h' es ef eh = ap (λ x. story x f h) es ∙ (ap (λ x. story s' x h) ef ∙ ap (λ x. story s' f' x) eh)
 
-module _ (v : Inside) (t : ℕ) (call : Call) (reply : Reply) (known : Known) (seats : List Seat) (owes : ℕ) (new_known : Facts) (new_seats : Row) (new_log : Journal) (spare : ℕ)
-    (left : Leaves v t call reply known seats owes)
-    (knows : new_known ≡ record v.known { known = known }) (row : new_seats.seats ≡ seats)
+module _ (v : Inside) (t : ℕ) (call : Call) (reply : Reply) (known : Known) (row : Row) (watch : Watch) (owes : ℕ) (new_known : Facts) (new_seats : Row) (new_watch : Watch) (new_log : Journal) (spare : ℕ)
+    (left : Leaves v t call reply known row watch owes)
+    (knows : new_known ≡ record v.known { known = known }) (rows : new_seats ≡ row) (watches : new_watch ≡ watch)
     (log : new_log ≡ record v.log { history = entry t call reply ∷ v.log.history; owed = owes; spare = spare }) where
   -- the verifier is seen as its story with the entry
-  pub story_entered : story_in (with_parts v new_known new_seats new_log) ≡ logged (story_in v) t call reply
+  pub story_entered : story_in (with_parts v new_known new_seats new_watch new_log) ≡ logged (story_in v) t call reply
   story_entered =
       same_story _ _ _ _ _ _
       (ap (λ (b : List (List ℕ × List ℕ)). record (start_in v) { blessed = b })
@@ -68,19 +82,22 @@ module _ (v : Inside) (t : ℕ) (call : Call) (reply : Reply) (known : Known) (s
       (ap (λ (f : Facts). f.files) knows) (ap (λ (l : Journal). l.history) log)
 
   -- and keeps its invariant
-  pub kept_entered : IsKept v → answer_of (story_in v) t call ≡ Ok reply → IsKept (with_parts v new_known new_seats new_log)
-  kept_entered k ok =
+  pub kept_entered : IsKept v → is_logged reply ≡ true → answer_of (story_in v) t call ≡ Ok reply → IsKept (with_parts v new_known new_seats new_watch new_log)
+  kept_entered k kept ok =
       let same = story_entered in
-      let here : state_in (with_parts v new_known new_seats new_log) ≡ state v.limits (length v.known.files) known seats (length (history_in v) + 1) =
-      same_state v.limits _ _ _ _ _ _ _ _ (ap (λ (f : Facts). length f.files) knows) (ap (λ (f : Facts). f.known) knows) row
+      let seats : map seat_view new_seats.seats ≡ map seat_view row.seats = ap (λ (r : Row). map seat_view r.seats) rows in
+      let here : state_in (with_parts v new_known new_seats new_watch new_log)
+      ≡ state v.limits (length v.known.files) known (map seat_view row.seats) watch (length (history_in v) + 1) =
+      same_state v.limits _ _ _ _ _ _ _ _ _ _ (ap (λ (f : Facts). length f.files) knows) (ap (λ (f : Facts). f.known) knows) seats watches
       (ap (λ (l : Journal). length l.history) log ∙ omega arith) in
       record {
         started = subst (λ (s : Story). start_fault s.start ≡ None) (sym same) k.started;
-        legal = subst (λ (s : Story). IsLegal s.start s.files s.history) (sym same) (ok, k.legal);
+        legal = subst (λ (s : Story). IsLegal s.start s.files s.history) (sym same) (ok, kept, k.legal);
         state = here ∙ left.state ∙ ap state_of (sym same);
-        owed = ap (λ (l : Journal). l.owed) log ∙ left.owed ∙ ap (sum_by owed_by) (sym row);
+        owed = ap (λ (l : Journal). l.owed) log ∙ left.owed ∙ ap (sum_by owed_by) (sym seats);
         limit = ap (λ (l : Journal). l.limit) log ∙ k.limit;
         types = ap (λ (f : Facts). f.most_types) knows ∙ k.types;
+        chunks = ap (λ (r : Row). r.chunks) rows ∙ left.chunks ∙ k.chunks;
       }
 
 -- no type is before itself

@@ -1,47 +1,124 @@
 -- What a verifier's parts say of the state that its story has now.
-use Rattle.std.proofs.Common.{◌≡◌, ℕ, ◌<◌, ◌≤◌, Bool, true, List, [], ◌∷◌, length, get_or, zero, suc, refl, sym, ap, ap₂, ◌∙◌, subst, arith}
-use Rattle.wit_model.specs.declared.locks.Instance.{Instance}
+use Rattle.std.proofs.Common.{◌≡◌, ℕ, Bool, true, false, not, ◌&&◌, cond, eqb, nat_lt, nat_le, length, map, find, unwrap_or, Option, None, is_some, refl, sym, ap, ap₂, ◌∙◌, subst, arith}
+use Rattle.std.specs.List.{slice_get}
+use Rattle.std.proofs.lemmas.Bool.{and_parts, ltb-true, leb-true}
+use Rattle.std.proofs.lemmas.List.{length-map}
+use Rattle.wit_model.specs.declared.calls.Reply.TheVariants as reply
+use Rattle.wit_model.specs.Rules.Groups.{opens}
+use Rattle.wit_model.specs.Rules.History.{is_off, chain}
 use Rattle.wit_model.specs.Rules.Locks.{locks_of, lock_at, is_spin_lock}
-use Rattle.wit_model.specs.Rules.State.{Story, State, state_of, is_seat, seat_at, seat_among, chain_in}
-use Rattle.wit_model.specs.Rules.Step.{chain_for}
+use Rattle.wit_model.specs.Rules.Numbers.{is_given, IsGiven}
+use Rattle.wit_model.specs.Rules.State.{Story, State, state_of, seat_of, is_seat, seat_at, seat_among, chain_in, groups_in, free}
+use Rattle.wit_model.specs.Rules.State as model
+use Rattle.wit_model.specs.Rules.Step.{chain_for, groups_for, recorded}
 use Rattle.wit_model.specs.Rules.Types.{is_spin}
 use Rattle.wit_model.specs.Rules.Verdict.{is_of}
-use Rattle.wit_model.proofs.Chains.Held.{one_if}
-use Rattle.wit_model.proofs.Chains.Stands.{stands, stands-chain}
+use Rattle.wit_model.proofs.Numbered.{with_number-or-map, with_number-none}
+use Rattle.wit_model.proofs.Chains.Stands.{stands-chain}
 use Rattle.wit_model.proofs.Histories.Legal.{sane_legal, chain_for-state}
+use Rattle.wit_held.specs.Chains.{IsOnce}
 use Rattle.wit_core.specs.declared.verifier.Verifier.TheInside.{Inside}
+use Rattle.wit_core.specs.declared.acquiring.Acquisition.TheVariants.{Recorded, Exhausted, Unrecorded}
+use Rattle.wit_core.specs.Acquiring.{acquisition, reply_to}
+use Rattle.wit_core.specs.Held.{numbers, seat_view}
 use Rattle.wit_core.specs.Kept.{IsKept, start_in, history_in, story_in, state_in}
-use Rattle.wit_core.specs.Seats.{IsOnce}
+use Rattle.wit_core.specs.Seats.{Seat, Row, no_seat, seat_in, locks_in, free_in, has_no_room}
+use Rattle.wit_core.specs.Seats as seats
+use Rattle.wit_core.proofs.HeldSeats.{opens-numbers, chunks-viewed, stands-filter}
 
-nowhere : (l : ℕ) (c : List Instance) → stands l c ≡ 0 → (i : ℕ) (d : Instance) → i < length c → is_of l (get_or c i d) ≡ true → ⊥
-unfolding stands
-nowhere l [] none i d lt is = omega (arith, lt)
-nowhere l (x ∷ c) none zero d lt is = let e : one_if (is_of l x) ≡ 1 = ap one_if is in omega (arith, e, none)
-nowhere l (x ∷ c) none (suc i) d lt is = nowhere l c (omega (arith, none)) i d (omega (arith, lt)) is
+-- a row's seats as the rules see them
+abbrev pub view_at : Row → ℕ → model.Seat
+view_at row t = seat_among (map seat_view row.seats) t
 
--- a lock that stands once stands at one place
-pub once_from : (l : ℕ) (c : List Instance) → stands l c ≤ 1 → IsOnce l c
-unfolding stands
-once_from l [] one i j d lt lt' is is' = absurd (omega (arith, lt))
-once_from l (x ∷ c) one zero zero d lt lt' is is' = refl
-once_from l (x ∷ c) one zero (suc j) d lt lt' is is' =
-    let e : one_if (is_of l x) ≡ 1 = ap one_if is in absurd (nowhere l c (omega (arith, e, one)) j d (omega (arith, lt')) is')
-once_from l (x ∷ c) one (suc i) zero d lt lt' is is' =
-    let e : one_if (is_of l x) ≡ 1 = ap one_if is' in absurd (nowhere l c (omega (arith, e, one)) i d (omega (arith, lt)) is)
-once_from l (x ∷ c) one (suc i) (suc j) d lt lt' is is' =
-    ap suc (once_from l c (omega (arith, one)) i j d (omega (arith, lt)) (omega (arith, lt')) is is')
+pub view-is : (row : Row) (t : ℕ) → view_at row t ≡ seat_view (seat_in row t)
+view-is row t = with_number-or-map seat_view row.seats t no_seat
+
+chain-in : (spin : Bool) (s : Seat) → chain_in spin (seat_view s) ≡ locks_in spin s
+chain-in true s = refl
+chain-in false s = refl
+
+groups-in : (spin : Bool) (s : Seat) → groups_in spin (seat_view s) ≡ numbers (seats.groups_in spin s)
+groups-in true s = refl
+groups-in false s = refl
+
+-- one more acquisition, by what is known of the lock and the chunks
+told_by : (off held opened none : Bool)
+    → reply_to (cond off Unrecorded (cond (not held && (opened && none)) Exhausted Recorded))
+    ≡ cond off reply.Unrecorded (cond held reply.Recorded (cond (opened && none) reply.Exhausted reply.Recorded))
+told_by true held opened none = refl
+told_by false true opened none = refl
+told_by false false true true = refl
+told_by false false true false = refl
+told_by false false false none = refl
 
 module _ (v : Inside) (k : IsKept v) (s : Story) (seen : story_in v ≡ s) where
   pub now : state_in v ≡ state_of s
   now = k.state ∙ ap state_of seen
 
-  -- the chain of a lock's kind
-  pub chain_now : (t l : ℕ) (spin : Bool) → spin ≡ is_spin (lock_at (state_of s).known.locks l).made.class
-      → chain_in spin (seat_among v.seats.seats t) ≡ chain_for (state_of s) t l
-  chain_now t l spin e = ap₂ chain_in e (ap (λ (x : State). seat_at x t) now)
+  -- the seats
+  count : length v.seats.seats ≡ length (state_of s).seats
+  count = sym (length-map v.seats.seats seat_view) ∙ ap (λ (x : State). length x.seats) now
 
-  pub once_now : (t l : ℕ) → is_seat (state_of s) t ≡ true → IsOnce l (chain_for (state_of s) t l)
-  once_now t l is =
-      subst (λ (x : Story). IsOnce l (chain_for (state_of x) t l)) seen
-      (subst (IsOnce l) (sym (chain_for-state (start_in v) v.known.files (history_in v) t l (subst (λ (x : Story). is_seat (state_of x) t ≡ true) (sym seen) is)))
-      (once_from l _ (stands-chain (is_spin_lock (locks_of (history_in v)) l) t l (history_in v) (sane_legal (start_in v) v.known.files (history_in v) k.legal))))
+  pub seat-told : (t : ℕ) → is_given v.seats.seats t ≡ is_seat (state_of s) t
+  seat-told t = ap (λ n. nat_lt 0 t && nat_le t n) count
+
+  pub seat-given : (t : ℕ) → is_seat (state_of s) t ≡ true → IsGiven v.seats.seats t
+  seat-given t is =
+      let parts = and_parts (nat_lt 0 t) (nat_le t (length (state_of s).seats)) is in
+      let some = ltb-true 0 t parts.0 in
+      let within = leb-true t (length (state_of s).seats) parts.1 in
+      (omega (arith, some), omega (arith, within, count))
+
+  seat-now : (t : ℕ) → seat_view (seat_in v.seats t) ≡ seat_at (state_of s) t
+  seat-now t = sym (view-is v.seats t) ∙ ap (λ (x : State). seat_at x t) now
+
+  pub request-told : (t : ℕ) → (seat_in v.seats t).pending ≡ (seat_at (state_of s) t).pending
+  request-told t = ap (λ (x : model.Seat). x.pending) (seat-now t)
+
+  pub locks-told : (t : ℕ) (spin : Bool) → locks_in spin (seat_in v.seats t) ≡ chain_in spin (seat_at (state_of s) t)
+  locks-told t spin = sym (chain-in spin (seat_in v.seats t)) ∙ ap (chain_in spin) (seat-now t)
+
+  pub free-told : free_in v.seats ≡ free (state_of s)
+  free-told =
+      let sum = chunks-viewed v.seats.seats in
+      let size = k.chunks in
+      let same : free (state_in v) ≡ free_in v.seats = omega (arith, sum, size) in
+      sym same ∙ ap free now
+
+  -- the chain of a lock's kind
+  module _ (t l : ℕ) (spin : Bool) (kind : spin ≡ is_spin (lock_at (state_of s).known.locks l).made.class) where
+    pub chain-now : locks_in spin (seat_in v.seats t) ≡ chain_for (state_of s) t l
+    chain-now = locks-told t spin ∙ ap (λ b. chain_in b (seat_at (state_of s) t)) kind
+
+    groups-now : numbers (seats.groups_in spin (seat_in v.seats t)) ≡ groups_for (state_of s) t l
+    groups-now =
+        sym (groups-in spin (seat_in v.seats t)) ∙ ap (groups_in spin) (seat-now t) ∙ ap (λ b. groups_in b (seat_at (state_of s) t)) kind
+
+    pub once-now : is_seat (state_of s) t ≡ true → IsOnce l (locks_in spin (seat_in v.seats t))
+    once-now is =
+        let in_history = subst (λ (x : Story). is_seat (state_of x) t ≡ true) (sym seen) is in
+        let once = stands-chain (is_spin_lock (locks_of (history_in v)) l) t l (history_in v) (sane_legal (start_in v) v.known.files (history_in v) k.legal) in
+        subst (IsOnce l) (sym chain-now)
+        (subst (λ (x : Story). IsOnce l (chain_for (state_of x) t l)) seen
+        (subst (IsOnce l) (sym (chain_for-state (start_in v) v.known.files (history_in v) t l in_history))
+        (omega (arith, once, stands-filter l (chain (is_spin_lock (locks_of (history_in v)) l) t (history_in v))))))
+
+    -- what becomes of an acquisition
+    pub acquisition-told : reply_to (acquisition v.watch v.seats t spin l) ≡ recorded (state_of s) t l
+    acquisition-told =
+        told_by (is_off v.watch) (is_some (find (is_of l) (locks_in spin (seat_in v.seats t)))) (opens (seats.groups_in spin (seat_in v.seats t))) (eqb (free_in v.seats) 0)
+        ∙ ap (λ w. cond (is_off w) reply.Unrecorded
+        (cond (is_some (find (is_of l) (locks_in spin (seat_in v.seats t)))) reply.Recorded
+        (cond (opens (seats.groups_in spin (seat_in v.seats t)) && eqb (free_in v.seats) 0) reply.Exhausted reply.Recorded)))
+        (ap (λ (x : State). x.watch) now)
+        ∙ ap₂ (λ b c. cond (is_off (state_of s).watch) reply.Unrecorded (cond b reply.Recorded (cond c reply.Exhausted reply.Recorded)))
+        (ap (λ c. is_some (find (is_of l) c)) chain-now)
+        (ap₂ (λ o n. o && eqb n 0) (sym (opens-numbers (seats.groups_in spin (seat_in v.seats t))) ∙ ap opens groups-now) free-told)
+
+-- a seat that there isn't holds nothing
+pub nothing-held : (s : Story) (t : ℕ) (spin : Bool) (i : ℕ) → is_seat (state_of s) t ≡ false → None ≡ slice_get (chain_in spin (seat_at (state_of s) t)) i
+nothing-held s t spin i none = by spin ∙ sym (ap (λ (o : Option model.Seat). slice_get (chain_in spin (unwrap_or o model.no_seat)) i) (with_number-none (state_of s).seats t none))
+  where
+    by : (b : Bool) → None ≡ slice_get (chain_in b model.no_seat) i
+    by true = refl
+    by false = refl

@@ -1,20 +1,25 @@
 -- Orders by their matrix.
-use Rattle.std.proofs.Common.{◌≡◌, ℕ, Bool, true, false, ◌&&◌, List, [], ◌∷◌, reverse, Option, None, Some, Result, Ok, Err, IfSome, IfOk, IfErr, refl, ap, sym, ◌∙◌, subst}
+use Rattle.std.proofs.Common.{◌≡◌, ℕ, Bool, true, false, cond, eqb, ◌&&◌, List, [], ◌∷◌, ◌++◌, reverse, find, Option, None, Some, Result, Ok, Err, IfSome, IfOk, IfErr, refl, ap, sym, ◌∙◌, subst, ⊎_elim}
 use Rattle.std.specs.Global.{Vec}
-use Rattle.std.proofs.lemmas.Bool.{and_from, le-leb, lt-ltb, true≢false}
+use Rattle.std.specs.Map.{lookup}
+use Rattle.std.specs.Option.{option_map}
+use Rattle.std.proofs.lemmas.List.{reverse-append}
+use Rattle.std.proofs.lemmas.Bool.{and_from, and_parts, or_cases, eqb-true, le-leb, lt-ltb, true≢false}
 use Rattle.wit_model.specs.declared.calls.Adoption.{Adoption}
 use Rattle.wit_model.specs.declared.faults.Fault.{Fault}
 use Rattle.wit_model.specs.declared.faults.Fault.TheVariants.{OutOfMemory}
+use Rattle.wit_model.specs.declared.locks.Origin.{Origin}
 use Rattle.wit_model.specs.declared.locks.TypeNo.{TypeNo}
-use Rattle.wit_model.specs.Rules.Orders.{is_before, IsPath, IsSound}
+use Rattle.wit_model.specs.Rules.Orders.{is_direct, is_before, is_adoption_of, IsPath, IsSound}
 use Rattle.wit_model.specs.Rules.Numbers.{IsNumber, is_number}
 use Rattle.wit_model.specs.Trace.Paths.{path, path_numbers}
 use Rattle.wit_model.proofs.Orders.Paths.{before_from_test}
-use Rattle.wit_matrix.specs.Relation.{Relation, OrdersAmong, HasSameOrders, LeadsBy}
+use Rattle.wit_matrix.specs.Relation.{Relation, OrdersAmong, HasSameOrders, Adopts, LeadsBy}
 use Rattle.wit_matrix.proofs.Settled.{same_before, same_sound}
-use Rattle.wit_matrix.proofs.Callers.{same_path}
+use Rattle.wit_matrix.proofs.Callers.{adopted_by, same_path}
 use Rattle.wit_core.specs.declared.orders.Orders.TheInside.{Inside}
-use Rattle.wit_core.specs.Related.{relation_in, IsRelated}
+use Rattle.wit_core.specs.Following.{CanFollow}
+use Rattle.wit_core.specs.Related.{relation_in, is_pair, HaveOrigins, IsRelated}
 
 path-ends : (n : ℕ) (os : List Adoption) → OrdersAmong n os → (a : ℕ) (way : List ℕ) (b : ℕ) → IsPath os a way b → IsNumber n a × IsNumber n b
 path-ends n os among a [] b p = among a b p
@@ -46,6 +51,42 @@ same_way os ps same a (v ∷ way) b p = (sym (same a v) ∙ p.0, same_way os ps 
 pub wanting-told : {X : Type 0} (answer : Result X Fault) (T : Type 0) → IfErr answer (λ e. e ≡ OutOfMemory) → T → IfErr answer (λ e. (e ≡ OutOfMemory) × T)
 wanting-told (Ok x) T told is = tt
 wanting-told (Err fault) T told is = (told, is)
+
+-- orders stay among some types with one more that is between two of them
+among-adopted : (n : ℕ) (os : List Adoption) (order : Adoption) → OrdersAmong n os → IsNumber n order.parent.0 → IsNumber n order.child.0 → OrdersAmong n (order ∷ os)
+among-adopted n os order among parent child a b is =
+    ⊎_elim
+    (λ here.
+    let same = and_parts (eqb order.parent.0 a) (eqb order.child.0 b) here in
+    (subst (IsNumber n) (eqb-true order.parent.0 a same.0) parent, subst (IsNumber n) (eqb-true order.child.0 b same.1) child))
+    (among a b)
+    (or_cases (is_adoption_of a b order) (is_direct os a b) is)
+
+-- the origins with that of one more order
+origins-adopted : (old new : List ((TypeNo × TypeNo) × Origin)) (os : List Adoption) (order : Adoption) → HaveOrigins old os
+    → ((p : TypeNo × TypeNo) → lookup (is_pair p) new ≡ cond (is_pair (order.parent, order.child) p) (Some order.origin) (lookup (is_pair p) old)) → HaveOrigins new (order ∷ os)
+origins-adopted old new os order have entered a b =
+    entered (a, b)
+    ∙ ap (cond (is_adoption_of a.0 b.0 order) (Some order.origin)) (have a b)
+    ∙ newest (is_adoption_of a.0 b.0 order) (find (is_adoption_of a.0 b.0) os)
+  where
+    newest : (is : Bool) (older : Option Adoption) → cond is (Some order.origin) (option_map (λ (x : Adoption). x.origin) older) ≡ option_map (λ (x : Adoption). x.origin) (cond is (Some order) older)
+    newest true older = refl
+    newest false older = refl
+
+-- what is kept once one more order is adopted
+pub related-adopted : (old new : Inside) (order : Adoption) → IsRelated old → CanFollow old.matrix.size (reverse old.adopted.items) order.parent.0 order.child.0
+    → new.adopted.items ≡ old.adopted.items ++ order ∷ [] → new.found ≡ old.found → Adopts old.matrix order.parent.0 order.child.0 new.matrix
+    → ((p : TypeNo × TypeNo) → lookup (is_pair p) new.origins.entries ≡ cond (is_pair (order.parent, order.child) p) (Some order.origin) (lookup (is_pair p) old.origins.entries)) → IsRelated new
+related-adopted old new order k follows pushed found adopts entered =
+    let newest : reverse new.adopted.items ≡ order ∷ reverse old.adopted.items = ap reverse pushed ∙ reverse-append old.adopted.items (order ∷ []) in
+    record {
+      orders = rw newest (adopted_by old.matrix.orders (reverse old.adopted.items) new.matrix.orders order k.orders adopts.orders);
+      found = rw found (λ a b. adopts.found a b ∙ k.found a b);
+      orders_among = rw (newest, adopts.size) (among-adopted old.matrix.size (reverse old.adopted.items) order k.orders_among follows.parent follows.child);
+      found_among = rw (found, adopts.size) k.found_among;
+      origins = rw newest (origins-adopted old.origins.entries new.origins.entries (reverse old.adopted.items) order k.origins entered);
+    }
 
 module _ (o : Inside) (k : IsRelated o) (now : Relation) (seen : relation_in o ≡ now) where
   pub before-by : (a b : ℕ) → is_before o.matrix.orders a b ≡ is_before now.orders a b

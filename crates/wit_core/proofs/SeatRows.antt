@@ -3,14 +3,14 @@ use Rattle.std.proofs.Common.{◌≡◌, ℕ, zero, suc, ◌+◌, ◌-◌, ◌*�
 use Rattle.std.specs.List.{range_with_len, slice_get}
 use Rattle.std.proofs.lemmas.Bool.{and_parts, lt-ltb, ltb-true, leb-true}
 use Rattle.std.proofs.lemmas.Option.{slice_get-get_or, slice_get_past}
-use Rattle.std.proofs.lemmas.List.{length-set, length-replicate, length-drop, get_or_default, get_or-set_same, get_or-set_other, get_or-replicate, get_or_past, nil_from_length}
+use Rattle.std.proofs.lemmas.List.{length-set, length-replicate, length-drop, get_or_default, get_or-set_same, get_or-set_other, nil_from_length}
 use Rattle.std.proofs.lemmas.List.FromFn.{length-map-range_with_len, get_or-map-range_with_len}
 use Rattle.std.proofs.lemmas.List.Sums.{sum_by-cons, sum_by-drop_more}
 use Rattle.wit_model.specs.declared.locks.Instance.{Instance}
 use Rattle.wit_model.specs.declared.calls.Request.{Request}
 use Rattle.wit_model.specs.Rules.Chunks.{Chunks, IsList, IsPlaced, IsNew, groups_of, chain_of, set_groups}
 use Rattle.wit_model.specs.Rules.Groups.{flat, opens}
-use Rattle.wit_model.specs.Rules.Numbers.{with_number, is_given, IsGiven}
+use Rattle.wit_model.specs.Rules.Numbers.{is_given, IsGiven}
 use Rattle.wit_model.specs.Rules.Verdict.{is_of}
 use Rattle.wit_model.proofs.Numbered.{with_number-or, with_number-none}
 use Rattle.wit_model.proofs.Chains.Stands.{found-at, found-nowhere}
@@ -213,6 +213,7 @@ module _ (o : Inside) (r : Row) (seen : row_in o ≡ r) where
 
   pub holds-now : AreSeated o → HoldFor r o.lists
   holds-now k = record {
+    few = omega (arith, k.few, count-now);
     groups = λ t spin given. groups-now k t given (list_of spin t) spin refl;
     lists = k.lists ∙ ap (λ n. 2 * n) (sym count-now);
     size = ap (λ (x : Row). x.chunks) seen;

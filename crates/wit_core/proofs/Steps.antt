@@ -1,138 +1,127 @@
 -- The state after each accepted call.
-use Rattle.std.proofs.Common.{◌≡◌, ℕ, ◌+◌, ◌-◌, ◌<◌, ◌≤◌, Bool, true, false, not, cond, List, ◌∷◌, Option, None, Some, length, set, get_or, find, refl, sym, ap, ◌∙◌, arith, append-nil, nat_lt}
-use Rattle.std.specs.List.{position}
-use Rattle.std.proofs.lemmas.List.{set-get_or}
-use Rattle.std.proofs.lemmas.Bool.{ltb-true, ltb-false}
-use Rattle.wit_model.specs.declared.locks.Instance.{Instance}
+use Rattle.std.proofs.Common.{◌≡◌, ℕ, ◌-◌, ◌<◌, ◌≤◌, Bool, List, [], ◌∷◌, ◌++◌, Option, None, Some, length, map, set, get_or, refl, sym, ap, ◌∙◌, arith}
+use Rattle.std.proofs.lemmas.List.FromFn.{length-map-range_with_len}
+use Rattle.std.proofs.lemmas.List.{set-get_or, set-set, get_or-set_same, map-set, get_or-map, length-map}
 use Rattle.wit_model.specs.declared.locks.LockNo.{LockNo}
 use Rattle.wit_model.specs.declared.locks.Mode.{Mode}
-use Rattle.wit_model.specs.declared.calls.Call.TheVariants.{Init, Check, Note, Unlock}
-use Rattle.wit_model.specs.declared.calls.Reply.TheVariants.{Made, Recorded, Unlocked}
-use Rattle.wit_model.specs.declared.calls.NewLock.{NewLock}
+use Rattle.wit_model.specs.declared.locks.Site.{Site}
+use Rattle.wit_model.specs.declared.locks.Watch.{Watch}
+use Rattle.wit_model.specs.declared.locks.Lock.{Lock}
+use Rattle.wit_model.specs.declared.calls.Call.{Call}
+use Rattle.wit_model.specs.declared.calls.Call.TheVariants.{Note, NoteTry, Unlock}
+use Rattle.wit_model.specs.declared.calls.Reply.{Reply}
+use Rattle.wit_model.specs.declared.calls.Reply.TheVariants.{Recorded, Unlocked}
 use Rattle.wit_model.specs.declared.calls.Request.{Request}
 use Rattle.wit_model.specs.declared.calls.Entry.{Entry}
-use Rattle.wit_model.specs.declared.locks.Lock.{Lock}
 use Rattle.wit_model.specs.Rules.Locks.{locks_of, is_spin_lock}
+use Rattle.wit_model.specs.Rules.Locks.{made_among}
+use Rattle.wit_model.specs.Rules.Orders.{adopted}
+use Rattle.wit_model.specs.Rules.Types.{types_after}
 use Rattle.wit_model.specs.Rules.Sizes.{Sizes}
-use Rattle.wit_model.specs.Rules.History.{pending}
-use Rattle.wit_model.specs.Rules.State.{Start, State, Known, Seat, state_of, known_of, seat_of, seats_of, chain_in, typed_locks, no_seat}
-use Rattle.wit_model.specs.Rules.Step.{story_after}
-use Rattle.wit_model.specs.Rules.Verdict.{is_of}
+use Rattle.wit_model.specs.Rules.History.{Nothing, act, pending, pending_after}
+use Rattle.wit_model.specs.Rules.State.{Start, State, Known, state_of, known_of, seat_of, seats_of, types_of, typed_locks, orders_of, found_of, found_after}
+use Rattle.wit_model.specs.Rules.State as model
 use Rattle.wit_model.proofs.Chains.Sane.{IsSane}
-use Rattle.wit_model.proofs.Chains.After.{noted, unlocked}
-use Rattle.wit_model.proofs.Chains.Seats.{entry, seat_after, seat_after-init, seat_after-check, seat_after-note, seat_after-unlock, seats_of-entry, get_or-seats_of}
-use Rattle.wit_model.proofs.Chains.Stands.{stands, stands-chain}
-use Rattle.wit_model.proofs.Chains.Edits.{noted-again, noted-new, unlocked-fewer, unlocked-gone}
-use Rattle.wit_core.specs.declared.verdict.Verdict.{Verdict}
-use Rattle.wit_core.specs.Verdict.{reply_of}
-use Rattle.wit_core.specs.Known.{learnt, with_lock}
-use Rattle.wit_core.specs.Seats.{with_acquired, acquired_at, with_released, released_once, no_instance, changed, asked_in, noted_in, unlocked_in, taken_by}
+use Rattle.wit_model.proofs.Chains.Seats.{entry, seat_after, seat_after-quiet, seat_after-note, seat_after-try, seat_after-unlock, seats_of-entry, get_or-seats_of}
+use Rattle.wit_model.proofs.Orders.Types.{typed-same}
+use Rattle.wit_core.specs.Acquiring.{taken}
+use Rattle.wit_core.specs.Held.{seat_view}
+use Rattle.wit_core.specs.Seats.{Seat, Row, no_seat, with_seat, asking, acquired, released}
+use Rattle.wit_core.proofs.HeldSeats.{acquired-view, released-view}
 
 -- a state by its parts
-abbrev pub state : Sizes → ℕ → Known → List Seat → ℕ → State
-state sizes files known seats used = record { sizes = sizes; files = files; known = known; seats = seats; used = used }
+abbrev pub state : Sizes → ℕ → Known → List model.Seat → Watch → ℕ → State
+state sizes files known seats watch used = record { sizes = sizes; files = files; known = known; seats = seats; watch = watch; used = used }
 
-pub same_state : (sizes : Sizes) (f f' : ℕ) (k k' : Known) (ss ss' : List Seat) (u u' : ℕ) → f ≡ f' → k ≡ k' → ss ≡ ss' → u ≡ u'
-    → state sizes f k ss u ≡ state sizes f' k' ss' u'
-same_state sizes f f' k k' ss ss' u u' ef ek es eu =
-    ap (λ x. state sizes x k ss u) ef ∙ (ap (λ x. state sizes f' x ss u) ek ∙ (ap (λ x. state sizes f' k' x u) es ∙ ap (λ x. state sizes f' k' ss' x) eu))
+pub same_state : (sizes : Sizes) (f f' : ℕ) (k k' : Known) (ss ss' : List model.Seat) (w w' : Watch) (u u' : ℕ) → f ≡ f' → k ≡ k' → ss ≡ ss' → w ≡ w' → u ≡ u'
+    → state sizes f k ss w u ≡ state sizes f' k' ss' w' u'
+same_state sizes f f' k k' ss ss' w w' u u' ef ek es ew eu =
+    ap (λ x. state sizes x k ss w u) ef ∙ (ap (λ x. state sizes f' x ss w u) ek
+    ∙ (ap (λ x. state sizes f' k' x w u) es ∙ (ap (λ x. state sizes f' k' ss' x u) ew ∙ ap (λ x. state sizes f' k' ss' w' x) eu)))
 
-same_locks : (k : Known) (locks : List Lock) → locks ≡ k.locks → record k { locks = locks } ≡ k
+pub same_locks : (k : Known) (locks : List Lock) → locks ≡ k.locks → record k { locks = locks } ≡ k
 same_locks k locks e = ap (λ (ls : List Lock). record k { locks = ls }) e
 
--- the seat of an entry after it
-seats-entry : (n : ℕ) (x : Entry) (h : List Entry) (change : Seat → Seat) → IsSane (x ∷ h) → 0 < x.seat.0 → x.seat.0 ≤ n
-    → seat_after (locks_of h) x (seat_of h x.seat.0) ≡ change (seat_of h x.seat.0)
-    → seats_of n (x ∷ h) ≡ changed x.seat.0 change (seats_of n h)
-seats-entry n x h change sane some within e =
-    let same = get_or-seats_of n x.seat.0 h no_seat some within in
-    seats_of-entry n x h sane some within no_seat
-    ∙ ap (set (seats_of n h) (x.seat.0 - 1)) (ap (seat_after (locks_of h) x) same ∙ (e ∙ ap change (sym same)))
+-- a seat that is changed twice
+pub seat-twice : (row : Row) (t : ℕ) (f g : Seat → Seat) → t - 1 < length row.seats → with_seat t f (with_seat t g row) ≡ with_seat t (λ s. f (g s)) row
+seat-twice row t f g lt =
+    ap (λ ss. record row { seats = ss })
+    (ap (λ s. set (set row.seats (t - 1) (g (get_or row.seats (t - 1) no_seat))) (t - 1) (f s))
+    (get_or-set_same row.seats (t - 1) (g (get_or row.seats (t - 1) no_seat)) no_seat lt)
+    ∙ set-set row.seats (t - 1) (g (get_or row.seats (t - 1) no_seat)) (f (g (get_or row.seats (t - 1) no_seat))))
 
-used-entry : (x : Entry) (h : List Entry) → length (x ∷ h) ≡ length h + 1
-used-entry x h = omega arith
+-- what is added to the state by a call that makes no lock and teaches nothing
+module _ (start : Start) (files : List (List ℕ)) (h : List Entry) (row : Row) (same : map seat_view row.seats ≡ seats_of start.sizes.seats h) (t : ℕ) (some : 0 < t) (within : t ≤ start.sizes.seats) where
+  pub in-row : t - 1 < length row.seats
+  in-row =
+      let count : length row.seats ≡ start.sizes.seats =
+      sym (length-map row.seats seat_view) ∙ ap length same ∙ length-map-range_with_len (seat_of h) 1 start.sizes.seats in
+      omega (arith, some, within, count)
 
-pub state-init : (start : Start) (files : List (List ℕ)) (h : List Entry) (t : ℕ) (lock : NewLock) (number : LockNo) → IsSane (entry t (Init lock) (Made number) ∷ h)
-    → 0 < t → t ≤ start.sizes.seats
-    → state_of (story_after start files (entry t (Init lock) (Made number) ∷ h))
-    ≡ record (state_of (story_after start files h)) { known = with_lock (known_of start h) lock; used = length h + 1 }
-state-init start files h t lock number sane some within =
-    same_state start.sizes (length files) (length files) _ _ _ _ _ _ refl refl
-    (seats_of-entry start.sizes.seats (entry t (Init lock) (Made number)) h sane some within no_seat
-    ∙ (ap (set (seats_of start.sizes.seats h) (t - 1)) (seat_after-init (locks_of h) t lock (Made number) (get_or (seats_of start.sizes.seats h) (t - 1) no_seat)) ∙ set-get_or (seats_of start.sizes.seats h) (t - 1) no_seat))
-    (used-entry (entry t (Init lock) (Made number)) h)
+  abbrev here : Seat
+  here = get_or row.seats (t - 1) no_seat
 
-pub state-check : (start : Start) (files : List (List ℕ)) (h : List Entry) (t : ℕ) (q : Request) (v : Verdict) → IsSane (entry t (Check q) (reply_of v) ∷ h)
-    → 0 < t → t ≤ start.sizes.seats
-    → state_of (story_after start files (entry t (Check q) (reply_of v) ∷ h))
-    ≡ record (state_of (story_after start files h)) {
-      known = learnt (known_of start h) q (reply_of v);
-      seats = changed t (asked_in q) (seats_of start.sizes.seats h);
-      used = length h + 1;
-    }
-state-check start files h t q v sane some within =
-    same_state start.sizes (length files) (length files) _ _ _ _ _ _ refl (same_locks (learnt (known_of start h) q (reply_of v)) _ (append-nil (typed_locks start h)))
-    (seats-entry start.sizes.seats (entry t (Check q) (reply_of v)) h (asked_in q) sane some within (seat_after-check (locks_of h) t q (reply_of v) (seat_of h t)))
-    (used-entry (entry t (Check q) (reply_of v)) h)
+  here-is : seat_view here ≡ seat_of h t
+  here-is =
+      sym (get_or-map seat_view row.seats (t - 1) no_seat (seat_view no_seat) in-row)
+      ∙ ap (λ ss. get_or ss (t - 1) (seat_view no_seat)) same ∙ get_or-seats_of start.sizes.seats t h (seat_view no_seat) some within
 
--- the chain after an acquisition, and after a release
-recorded-is : (l : LockNo) (q : Request) (c : List Instance) → stands l.0 c ≤ 1 → with_acquired (taken_by l q) c ≡ noted l.0 q.mode q.site c (find (is_of l.0) c)
-recorded-is l q c one = go (position (is_of l.0) c) refl
-  where
-    go : (o : Option ℕ) → position (is_of l.0) c ≡ o → with_acquired (taken_by l q) c ≡ noted l.0 q.mode q.site c (find (is_of l.0) c)
-    go None e = ap (acquired_at (taken_by l q) c) e ∙ sym (noted-new l.0 q.mode q.site c e)
-    go (Some p) e = ap (acquired_at (taken_by l q) c) e ∙ sym (noted-again l.0 q.mode q.site c p (taken_by l q) e one)
+  pub request-is : (p : Option Request) → pending t h ≡ p → here.pending ≡ p
+  request-is p is = ap (λ (s : model.Seat). s.pending) here-is ∙ is
 
-released-is : (l p : ℕ) (c : List Instance) → position (is_of l) c ≡ Some p → stands l c ≤ 1 → with_released p c ≡ unlocked l c (find (is_of l) c)
-released-is l p c e one = count (nat_lt 0 (get_or c p no_instance).count) refl
-  where
-    count : (b : Bool) → nat_lt 0 (get_or c p no_instance).count ≡ b → released_once c p (get_or c p no_instance) ≡ unlocked l c (find (is_of l) c)
-    count true up = rw up (sym (unlocked-fewer l c p no_instance e one (ltb-true 0 (get_or c p no_instance).count up)))
-    count false none = rw none (sym (unlocked-gone l c p no_instance e one (let z = ltb-false 0 (get_or c p no_instance).count none in omega arith)))
+  -- the seat of the entry is changed as the rules say
+  pub seats-after : (call : Call) (reply : Reply) (change : Seat → Seat) → IsSane (entry t call reply ∷ h)
+      → seat_view (change here) ≡ seat_after (locks_of h) (entry t call reply) (seat_view here)
+      → map seat_view (with_seat t change row).seats ≡ seats_of start.sizes.seats (entry t call reply ∷ h)
+  seats-after call reply change sane is =
+      map-set seat_view row.seats (t - 1) (change here)
+      ∙ ap (set (map seat_view row.seats) (t - 1)) (is ∙ ap (seat_after (locks_of h) (entry t call reply)) (here-is ∙ sym (get_or-seats_of start.sizes.seats t h (seat_view no_seat) some within)))
+      ∙ ap (λ ss. set ss (t - 1) (seat_after (locks_of h) (entry t call reply) (get_or (seats_of start.sizes.seats h) (t - 1) (seat_view no_seat)))) same
+      ∙ sym (seats_of-entry start.sizes.seats (entry t call reply) h sane some within (seat_view no_seat))
 
-seat : List Instance → List Instance → Option Request → Seat
-seat sleep spin p = record { sleep = sleep; spin = spin; pending = p }
+  -- an entry that does nothing to the locks of its seat
+  pub seats-quiet : (call : Call) (reply : Reply) (p : Option Request) → IsSane (entry t call reply ∷ h) → act call reply ≡ Nothing → pending_after call (pending t h) ≡ p
+      → map seat_view (with_seat t (asking p) row).seats ≡ seats_of start.sizes.seats (entry t call reply ∷ h)
+  seats-quiet call reply p sane quiet asks =
+      seats-after call reply (asking p) sane
+      (ap (λ (o : Option Request). record (seat_view here) { pending = o }) (sym asks ∙ ap (pending_after call) (sym (request-is (pending t h) refl)))
+      ∙ sym (seat_after-quiet (locks_of h) t call reply (seat_view here) quiet))
 
-noted_seat : (b : Bool) (l : LockNo) (q : Request) (s : Seat) → stands l.0 s.sleep ≤ 1 → stands l.0 s.spin ≤ 1
-    → seat (cond (not b) (noted l.0 q.mode q.site s.sleep (find (is_of l.0) s.sleep)) s.sleep) (cond b (noted l.0 q.mode q.site s.spin (find (is_of l.0) s.spin)) s.spin) None
-    ≡ noted_in b (taken_by l q) s
-unfolding seat
-noted_seat true l q s one two = ap (λ c. seat s.sleep c None) (sym (recorded-is l q s.spin two))
-noted_seat false l q s one two = ap (λ c. seat c s.spin None) (sym (recorded-is l q s.sleep one))
+  -- one that leaves the seat
+  pub seats-same : (call : Call) (reply : Reply) → IsSane (entry t call reply ∷ h) → act call reply ≡ Nothing → pending_after call (pending t h) ≡ pending t h
+      → map seat_view row.seats ≡ seats_of start.sizes.seats (entry t call reply ∷ h)
+  seats-same call reply sane quiet keeps =
+      ap (map seat_view) (sym (set-get_or row.seats (t - 1) no_seat))
+      ∙ ap (λ p. map seat_view (with_seat t (asking p) row).seats) (request-is (pending t h) refl)
+      ∙ seats-quiet call reply (pending t h) sane quiet keeps
 
-unlocked_seat : (b : Bool) (l p : ℕ) (s : Seat) → position (is_of l) (chain_in b s) ≡ Some p → stands l s.sleep ≤ 1 → stands l s.spin ≤ 1
-    → seat (cond (not b) (unlocked l s.sleep (find (is_of l) s.sleep)) s.sleep) (cond b (unlocked l s.spin (find (is_of l) s.spin)) s.spin) s.pending
-    ≡ unlocked_in b p s
-unfolding seat
-unlocked_seat true l p s at one two = ap (λ c. seat s.sleep c s.pending) (sym (released-is l p s.spin at two))
-unlocked_seat false l p s at one two = ap (λ c. seat c s.spin s.pending) (sym (released-is l p s.sleep at one))
+  module _ (l : LockNo) (spin : Bool) (kind : spin ≡ is_spin_lock (locks_of h) l.0) where
+    pub seats-note : (q : Request) → IsSane (entry t (Note l) Recorded ∷ h) → pending t h ≡ Some q
+        → map seat_view (with_seat t (λ s. asking None (acquired spin (taken l q.mode q.site) s)) row).seats ≡ seats_of start.sizes.seats (entry t (Note l) Recorded ∷ h)
+    seats-note q sane asked =
+        seats-after (Note l) Recorded (λ s. asking None (acquired spin (taken l q.mode q.site) s)) sane
+        (acquired-view (locks_of h) l q.mode q.site None spin here kind ∙ sym (seat_after-note (locks_of h) t l q (seat_view here) (request-is (Some q) asked)))
 
-pub state-note : (start : Start) (files : List (List ℕ)) (h : List Entry) (t : ℕ) (l : LockNo) (q : Request) → IsSane (entry t (Note l) Recorded ∷ h)
-    → 0 < t → t ≤ start.sizes.seats → pending t h ≡ Some q
-    → state_of (story_after start files (entry t (Note l) Recorded ∷ h))
-    ≡ record (state_of (story_after start files h)) {
-      seats = changed t (noted_in (is_spin_lock (locks_of h) l.0) (taken_by l q)) (seats_of start.sizes.seats h);
-      used = length h + 1;
-    }
-unfolding seat
-state-note start files h t l q sane some within asked =
-    same_state start.sizes (length files) (length files) _ _ _ _ _ _ refl (same_locks (known_of start h) _ (append-nil (typed_locks start h)))
-    (seats-entry start.sizes.seats (entry t (Note l) Recorded) h (noted_in (is_spin_lock (locks_of h) l.0) (taken_by l q)) sane some within
-    (seat_after-note (locks_of h) t l q (seat_of h t) asked
-    ∙ noted_seat (is_spin_lock (locks_of h) l.0) l q (seat_of h t) (stands-chain false t l.0 h sane.1) (stands-chain true t l.0 h sane.1)))
-    (used-entry (entry t (Note l) Recorded) h)
+    pub seats-try : (m : Mode) (site : Site) → IsSane (entry t (NoteTry l m site) Recorded ∷ h)
+        → map seat_view (with_seat t (acquired spin (taken l m site)) row).seats ≡ seats_of start.sizes.seats (entry t (NoteTry l m site) Recorded ∷ h)
+    seats-try m site sane =
+        seats-after (NoteTry l m site) Recorded (acquired spin (taken l m site)) sane
+        (acquired-view (locks_of h) l m site here.pending spin here kind ∙ sym (seat_after-try (locks_of h) t l m site (seat_view here)))
 
-pub state-unlock : (start : Start) (files : List (List ℕ)) (h : List Entry) (t : ℕ) (l : LockNo) (m : Mode) (p : ℕ) → IsSane (entry t (Unlock l m) Unlocked ∷ h)
-    → 0 < t → t ≤ start.sizes.seats → position (is_of l.0) (chain_in (is_spin_lock (locks_of h) l.0) (seat_of h t)) ≡ Some p
-    → state_of (story_after start files (entry t (Unlock l m) Unlocked ∷ h))
-    ≡ record (state_of (story_after start files h)) {
-      seats = changed t (unlocked_in (is_spin_lock (locks_of h) l.0) p) (seats_of start.sizes.seats h);
-      used = length h + 1;
-    }
-unfolding seat
-state-unlock start files h t l m p sane some within at =
-    same_state start.sizes (length files) (length files) _ _ _ _ _ _ refl (same_locks (known_of start h) _ (append-nil (typed_locks start h)))
-    (seats-entry start.sizes.seats (entry t (Unlock l m) Unlocked) h (unlocked_in (is_spin_lock (locks_of h) l.0) p) sane some within
-    (seat_after-unlock (locks_of h) t l m Unlocked (seat_of h t)
-    ∙ unlocked_seat (is_spin_lock (locks_of h) l.0) l.0 p (seat_of h t) at (stands-chain false t l.0 h sane.1) (stands-chain true t l.0 h sane.1)))
-    (used-entry (entry t (Unlock l m) Unlocked) h)
+    pub seats-unlock : (m : Mode) → IsSane (entry t (Unlock l m) Unlocked ∷ h)
+        → map seat_view (with_seat t (released spin l.0) row).seats ≡ seats_of start.sizes.seats (entry t (Unlock l m) Unlocked ∷ h)
+    seats-unlock m sane =
+        seats-after (Unlock l m) Unlocked (released spin l.0) sane
+        (released-view (locks_of h) l.0 spin here kind ∙ sym (seat_after-unlock (locks_of h) t l m (seat_view here)))
+
+-- what is known after a call that makes no lock and teaches nothing
+pub known-same : (start : Start) (h : List Entry) (t : ℕ) (call : Call) (r : Reply) (makes : types_after call (types_of start h) ≡ types_of start h)
+    → made_among (types_of start h) call ≡ [] → adopted call r ≡ [] → found_after (typed_locks start h) r (found_of start h) ≡ found_of start h
+    → known_of start h ≡ known_of start (entry t call r ∷ h)
+known-same start h t call r types locks orders found =
+    sym
+    (ap (λ ts. record { types = ts; locks = typed_locks start (entry t call r ∷ h); orders = adopted call r ++ orders_of start h; found = found_after (typed_locks start h) r (found_of start h); blessed = start.blessed }) types
+    ∙ ap (λ ls. record { types = types_of start h; locks = ls; orders = adopted call r ++ orders_of start h; found = found_after (typed_locks start h) r (found_of start h); blessed = start.blessed })
+    (typed-same start h t call r locks)
+    ∙ ap (λ os. record { types = types_of start h; locks = typed_locks start h; orders = os ++ orders_of start h; found = found_after (typed_locks start h) r (found_of start h); blessed = start.blessed }) orders
+    ∙ ap (λ fs. record { types = types_of start h; locks = typed_locks start h; orders = orders_of start h; found = fs; blessed = start.blessed }) found)

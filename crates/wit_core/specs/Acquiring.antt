@@ -19,10 +19,10 @@ reply_to Exhausted = reply.Exhausted
 reply_to Unrecorded = reply.Unrecorded
 
 -- the log owes the release of what is recorded
-abbrev pub owed_to : Acquisition → ℕ
-owed_to Recorded = 1
-owed_to Exhausted = 0
-owed_to Unrecorded = 0
+abbrev pub owed_after : Acquisition → ℕ
+owed_after Recorded = 1
+owed_after Exhausted = 0
+owed_after Unrecorded = 0
 
 -- what becomes of an acquisition by this seat
 abbrev pub acquisition : Watch → Row → ℕ → Bool → ℕ → Acquisition

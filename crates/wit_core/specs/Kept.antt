@@ -1,10 +1,11 @@
 -- A verifier as its callers see it, and what ties its parts to its history.
-use Rattle.std.specs.Prelude.{◌≡◌, List, None, length}
+use Rattle.std.specs.Prelude.{◌≡◌, List, None, map, length}
 use Rattle.wit_model.specs.declared.calls.Entry.{Entry}
 use Rattle.wit_model.specs.Rules.State.{Start, Story, State, state_of, owed}
 use Rattle.wit_model.specs.Rules.Start.{start_fault}
 use Rattle.wit_model.specs.Rules.Step.{IsLegal}
 use Rattle.wit_core.specs.declared.verifier.Verifier.TheInside.{Inside}
+use Rattle.wit_core.specs.Held.{seat_view}
 use Rattle.wit_core.specs.Listed.{all_listed}
 
 abbrev pub start_in : Inside → Start
@@ -21,12 +22,13 @@ state_in v = record {
   sizes = v.limits;
   files = length v.known.files;
   known = v.known.known;
-  seats = v.seats.seats;
+  seats = map seat_view v.seats.seats;
+  watch = v.watch;
   used = length v.log.history;
 }
 
 -- the start is accepted, the log is a legal history, the parts are its state, the log owes what the rules say, and the limits of the
--- log and of types are the start's
+-- log, of types and of chunks are the start's
 pub record IsKept (v : Inside) : Type 0 where
   pub started : start_fault (start_in v) ≡ None
   pub legal : IsLegal (start_in v) v.known.files (history_in v)
@@ -34,3 +36,4 @@ pub record IsKept (v : Inside) : Type 0 where
   pub owed : v.log.owed ≡ owed (state_in v)
   pub limit : v.log.limit ≡ v.limits.log
   pub types : v.known.most_types ≡ v.limits.types
+  pub chunks : v.seats.chunks ≡ v.limits.chunks

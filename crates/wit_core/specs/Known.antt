@@ -3,6 +3,7 @@ use Rattle.std.specs.Prelude.{ℕ, List, [], ◌++◌, IsOk}
 use Rattle.wit_model.specs.declared.calls.Call.TheVariants.{Init, Check}
 use Rattle.wit_model.specs.declared.calls.NewLock.{NewLock}
 use Rattle.wit_model.specs.declared.calls.Reply.{Reply}
+use Rattle.wit_model.specs.declared.calls.Reply.TheVariants.{Adopted, Silent, Duplicate, Reversal}
 use Rattle.wit_model.specs.declared.calls.Request.{Request}
 use Rattle.wit_model.specs.Rules.Types.{types_after, type_name_of}
 use Rattle.wit_model.specs.Rules.Locks.{lock_at, made_among}
@@ -10,8 +11,6 @@ use Rattle.wit_model.specs.Rules.Orders.{adopted}
 use Rattle.wit_model.specs.Rules.State.{Known, found_after}
 use Rattle.wit_model.specs.Rules.Numbers.{IsNumber}
 use Rattle.wit_table.specs.Known.{enroll_answer}
-use Rattle.wit_core.specs.declared.verdict.Verdict.{Verdict}
-use Rattle.wit_core.specs.declared.verdict.Verdict.TheVariants.{Pass, Adopt, Silent, Reversal}
 use Rattle.wit_core.specs.Following.{CanFollow}
 
 -- what is known, the files that were named, and how many types there may be
@@ -27,12 +26,13 @@ nothing = record { types = []; locks = []; orders = []; found = []; blessed = []
 abbrev pub IsAdmitted : Facts → NewLock → Type 0
 IsAdmitted f lock = IsOk (enroll_answer (type_name_of lock) lock.class f.most_types f.known.types)
 
--- what a verdict teaches is an order that can be adopted among n types, or a pair of them
-abbrev pub IsApt : ℕ → Known → Verdict → Type 0
-IsApt n k Pass = Unit {0}
-IsApt n k (Adopt p c) = CanFollow n k.orders p.0 c.0
+-- what a reply teaches is an order that can be adopted among n types, or a pair of them
+abbrev pub IsApt : ℕ → Known → Reply → Type 0
+IsApt n k (Adopted p c) = CanFollow n k.orders p.0 c.0
 IsApt n k (Silent a b) = IsNumber n a.0 × IsNumber n b.0
+IsApt n k (Duplicate d) = IsNumber n (lock_at k.locks d.asked.lock.0).type_no.0
 IsApt n k (Reversal c) = IsNumber n (lock_at k.locks c.held.lock.0).type_no.0 × IsNumber n (lock_at k.locks c.asked.lock.0).type_no.0
+IsApt n k _ = Unit {0}
 
 -- what is known once a request was answered so
 abbrev pub learnt : Known → Request → Reply → Known

@@ -1,5 +1,7 @@
+pub mod Acquiring
 pub mod Following
 pub mod Fresh
+pub mod Held
 pub mod Journal
 pub mod Kept
 pub mod Known

@@ -1,5 +1,6 @@
 -- What is known as its callers see it.
-use Rattle.std.specs.Prelude.{◌≡◌}
+use Rattle.std.specs.Prelude.{◌≡◌, map}
+use Rattle.wit_model.specs.declared.locks.Lock.{Lock}
 use Rattle.wit_core.specs.Known.{Facts}
 use Rattle.wit_core.specs.declared.known.Known.TheInside.{Inside}
 
@@ -16,7 +17,8 @@ facts_in k = record {
   most_types = k.names.most_types;
 }
 
--- there may be orders between all types that there may be, and all numbers of files
+-- there may be orders between all types that there may be, and all numbers of files; and the types of the locks are theirs
 pub record IsSized (k : Inside) : Type 0 where
   pub orders : k.orders.size ≡ k.names.most_types
   pub files : k.names.most_files ≡ 65535
+  pub typed : k.lock_types.items ≡ map (λ (l : Lock). l.type_no) k.locks.items

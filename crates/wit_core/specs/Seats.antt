@@ -1,5 +1,5 @@
 -- The seats with the groups of locks that they hold, and what a request, an acquisition and a release leave of one.
-use Rattle.std.specs.Prelude.{ℕ, ◌+◌, ◌-◌, ◌*◌, ◌≡◌, ◌==◌, ◌&&◌, Bool, not, List, [], Option, None, is_some, length, find, replicate, unwrap_or, get_or, set, sum_by, if◌then◌else◌}
+use Rattle.std.specs.Prelude.{ℕ, ◌+◌, ◌-◌, ◌*◌, ◌≡◌, ◌≤◌, ◌==◌, ◌&&◌, Bool, not, List, [], Option, None, is_some, length, find, replicate, unwrap_or, get_or, set, sum_by, if◌then◌else◌}
 use Rattle.wit_model.specs.declared.locks.Instance.{Instance}
 use Rattle.wit_model.specs.declared.calls.Request.{Request}
 use Rattle.wit_model.specs.Rules.Chunks.{Chunks, IsPlaced, groups_of}
@@ -79,8 +79,9 @@ after_acquired t spin i row = if has_no_room row t spin i.lock.0 then row else w
 abbrev pub list_of : Bool → ℕ → ℕ
 list_of spin t = if spin then 2 * t else 2 * t - 1
 
--- the lists of these chunks hold what the seats hold, and each chunk stands once
+-- the lists of these chunks hold what the seats hold, 256 at most, and each chunk stands once
 pub record HoldFor (row : Row) (c : Chunks) : Type 0 where
+  pub few : length row.seats ≤ 256
   pub groups : (t : ℕ) (spin : Bool) → IsGiven row.seats t → groups_of c (list_of spin t) ≡ groups_in spin (seat_in row t)
   pub lists : length c.groups ≡ 2 * length row.seats
   pub size : c.size ≡ row.chunks

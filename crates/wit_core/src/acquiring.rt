@@ -5,7 +5,7 @@ ghost use Rattle.wit_model.specs.Rules.Numbers.{IsGiven};
 ghost use Rattle.wit_held.specs.Chains.{IsOnce, IsShallow};
 ghost use Rattle.wit_model.specs.Rules.History.{is_off};
 ghost use Rattle.wit_core.specs.Seats.{seat_in, locks_in};
-ghost use Rattle.wit_core.specs.Acquiring.{reply_to, owed_to, acquisition, watch_then, row_then};
+ghost use Rattle.wit_core.specs.Acquiring.{reply_to, owed_after, acquisition, watch_then, row_then};
 
 use crate::seats::Seats;
 use wit_model::{Instance, Reply, SeatNo, Watch};
@@ -35,7 +35,7 @@ impl Acquisition {
 
     /// How many entries the log owes for it: that of its release.
     pub fn owed(self) -> u32
-        ensures { result ≡ owed_to self }
+        ensures { result ≡ owed_after self }
     {
         match self {
             Acquisition::Recorded => 1,

@@ -1,21 +1,21 @@
 //! What is known of types, locks and orders.
 
-ghost use Rattle.std.specs.Prelude.{◌≡◌, ◌<◌, ◌≤◌, [], false, Ok, OnOk, OnErr, IfOk, IfErr};
+ghost use Rattle.std.specs.Prelude.{◌≡◌, ◌<◌, ◌≤◌, [], false, map, Ok, OnOk, OnErr, IfOk, IfErr};
 ghost use Rattle.std.specs.Option.{option_copied};
 ghost use Rattle.wit_model.specs.declared.faults.Fault.TheVariants.{OutOfMemory};
+ghost use Rattle.wit_model.specs.declared.locks.Lock.{Lock};
 ghost use Rattle.wit_model.specs.Rules.Files.{is_known_file, file_answer, files_after};
 ghost use Rattle.wit_model.specs.Rules.Locks.{lock_at};
 ghost use Rattle.wit_model.specs.Rules.Numbers.{with_number};
 ghost use Rattle.wit_model.specs.Rules.Refusals.{IsRefusal};
 ghost use Rattle.wit_core.specs.Known.{nothing, learnt, with_lock, IsApt, IsAdmitted};
-ghost use Rattle.wit_core.specs.Verdict.{reply_of};
 
 use crate::orders::Orders;
-use crate::verdict::Verdict;
 use std::alloc::{AllocError, Global};
 use std::marker::Model;
 use wit_model::{
-    Adoption, Class, Fault, FileNo, Lock, LockFlags, LockNo, NewLock, Origin, Request, TypeNo,
+    Adoption, Class, Fault, FileNo, Lock, LockFlags, LockNo, NewLock, Origin, Reply, Request,
+    TypeNo,
 };
 use wit_table::Table;
 
@@ -28,6 +28,8 @@ pub struct Known {
     /// The types, the source files, and the pairs of type names that may be taken in either order.
     pub names: Table,
     pub locks: Vec<Lock>,
+    /// The type of each lock, in the order of the locks.
+    pub lock_types: Vec<TypeNo>,
     pub orders: Orders,
 }
 
@@ -57,6 +59,7 @@ impl Known {
         Ok(Known {
             names: Table::new(alloc, types, MOST_FILES)?,
             locks: Vec::new(alloc),
+            lock_types: Vec::new(alloc),
             orders: Orders::new(alloc, types)?,
         })
     }
@@ -75,6 +78,13 @@ impl Known {
         ensures { result.now ≡ self.now.known.locks }
     {
         &self.locks
+    }
+
+    /// The type of each lock, in the order of the locks' numbers.
+    pub fn lock_types(&self) -> &[TypeNo]
+        ensures { result.now ≡ map (λ (l : Lock). l.type_no) self.now.known.locks }
+    {
+        &self.lock_types
     }
 
     /// The orders and the pairs found in violation.
@@ -102,29 +112,33 @@ impl Known {
         self.names.file(name)
     }
 
-    /// Learns what the verdict on a request tells: the order behind the last held lock, or a pair of types found in
-    /// violation.
+    /// Learns what the reply to a request tells: the order behind the last held lock, or a pair of types found in violation.
     ///
     /// # Errors
     /// Want of memory alone; nothing is learnt then.
-    pub fn learn(&mut self, request: Request, verdict: Verdict) -> Result<(), AllocError>
-        requires { IsApt self.old.most_types self.old.known verdict }
-        ensures ok { OnOk result (self.new ≡ record self.old { known = learnt self.old.known request (reply_of verdict) }) }
+    pub fn learn(&mut self, request: Request, reply: &Reply) -> Result<(), AllocError>
+        requires { IsApt self.old.most_types self.old.known reply.now }
+        ensures ok { OnOk result (self.new ≡ record self.old { known = learnt self.old.known request reply.now }) }
         ensures err { OnErr result (self.new ≡ self.old) }
     {
-        match verdict {
-            Verdict::Pass => Ok(()),
-            Verdict::Adopt(parent, child) => self.orders.adopt(Adoption {
-                parent,
-                child,
+        match reply {
+            Reply::Adopted(parent, child) => self.orders.adopt(Adoption {
+                parent: *parent,
+                child: *child,
                 origin: Origin::At(request.site),
             }),
-            Verdict::Silent(held, asked) => self.orders.find(held, asked),
-            Verdict::Reversal(conflict) => {
+            Reply::Silent(held, asked) => self.orders.find(*held, *asked),
+            Reply::Duplicate(doubling) => {
+                let asked = type_of(&self.locks, doubling.get().asked.lock);
+                self.orders.find(asked, asked)
+            }
+            Reply::Reversal(conflict) => {
+                let conflict = conflict.get();
                 let held = type_of(&self.locks, conflict.held.lock);
                 let asked = type_of(&self.locks, conflict.asked.lock);
                 self.orders.find(held, asked)
             }
+            _ => Ok(()),
         }
     }
 
@@ -139,8 +153,10 @@ impl Known {
         ensures memory { IfErr result (λ e. e ≡ OutOfMemory) }
     {
         self.locks.reserve(1)?;
+        self.lock_types.reserve(1)?;
         let type_no = self.names.enroll_name(made.type_name(), made.class)?;
         self.locks.push_reserved(Lock { type_no, made });
+        self.lock_types.push_reserved(type_no);
         Ok(())
     }
 }

@@ -11,7 +11,6 @@ mod orders;
 mod questions;
 mod readers;
 mod seats;
-mod verdict;
 mod verifier;
 
 pub use lists::StartError;

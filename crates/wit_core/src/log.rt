@@ -103,7 +103,8 @@ impl Log {
           spare = self.old.spare + dropped;
         } }
     {
-        self.owed -= dropped + 1;
+        self.owed -= dropped;
+        self.owed -= 1;
         self.push(entry, 0);
     }
 }

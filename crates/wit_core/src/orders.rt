@@ -2,16 +2,17 @@
 
 ghost use Rattle.std.specs.Prelude.{◌≡◌, ◌<◌, ◌≤◌, ◌&&◌, ◌∷◌, ℕ, true, [], IfSome, OnOk, OnErr, IfOk, IfErr, reverse};
 ghost use Rattle.wit_model.specs.declared.faults.Fault.TheVariants.{OutOfMemory};
-ghost use Rattle.wit_model.specs.Rules.Orders.{is_direct, is_before, is_found, found_once, cell};
+ghost use Rattle.wit_model.specs.Rules.Orders.{is_direct, is_before, is_found, found_once, origin_of, cell};
 ghost use Rattle.wit_model.specs.Rules.Numbers.{IsNumber, is_number};
 ghost use Rattle.wit_model.specs.Trace.Paths.{path, path_numbers};
-ghost use Rattle.wit_matrix.specs.Relation.{OrdersAmong, LeadsBy};
+ghost use Rattle.wit_matrix.specs.Relation.{HasSameOrders, HasSameFound, OrdersAmong, LeadsBy};
 ghost use Rattle.wit_core.specs.Following.{CanFollow};
 
+use indexmap::IndexMap;
 use std::alloc::{AllocError, Global};
 use std::marker::Model;
 use wit_matrix::Matrix;
-use wit_model::{Adoption, Fault, TypeNo};
+use wit_model::{Adoption, Fault, Origin, TypeNo};
 
 /// The orders that were adopted, and the pairs of types that were found in violation, for up to a number of types.
 /// A type beyond that number is before none, and none before it.
@@ -19,8 +20,10 @@ use wit_model::{Adoption, Fault, TypeNo};
 pub struct Orders {
     adopted: Vec<Adoption>,
     found: Vec<(TypeNo, TypeNo)>,
-    /// The same, as a relation of each type to each, which answers every question.
+    /// The same, as a relation of each type to each, which answers every question but one.
     matrix: Matrix,
+    /// Where the order of each adopted pair comes from.
+    origins: IndexMap<(TypeNo, TypeNo), Origin>,
 }
 
 impl Model for Orders {
@@ -50,7 +53,17 @@ impl Orders {
             adopted: Vec::new(alloc),
             found: Vec::new(alloc),
             matrix: Matrix::new(alloc, types as u16)?,
+            origins: IndexMap::new(alloc),
         })
+    }
+
+    /// The same orders and pairs as a matrix, which may have them in another order.
+    pub fn matrix(&self) -> &Matrix
+        ensures orders { HasSameOrders result.now.orders self.now.orders }
+        ensures found { HasSameFound result.now.found self.now.found }
+        ensures size { result.now.size ≡ self.now.size }
+    {
+        &self.matrix
     }
 
     // Whether there may be types with these numbers.
@@ -66,6 +79,14 @@ impl Orders {
         ensures { result ≡ is_direct self.now.orders a.0 b.0 }
     {
         self.covers(a, b) && self.matrix.direct(a, b)
+    }
+
+    /// Where the direct order from a to b comes from; `None` where there is none. The number of orders doesn't matter
+    /// to how long it takes.
+    pub fn origin(&self, a: TypeNo, b: TypeNo) -> Option<Origin>
+        ensures { result ≡ origin_of a.0 b.0 self.now.orders }
+    {
+        self.origins.get(&(a, b)).copied()
     }
 
     /// Whether a path of adopted orders leads from a to b.
@@ -128,7 +149,10 @@ impl Orders {
         ensures ok { OnOk result (self.new ≡ record self.old { orders = order ∷ self.old.orders }) }
         ensures err { OnErr result (self.new ≡ self.old) }
     {
-        self.adopted.push(order)?;
+        self.adopted.reserve(1)?;
+        self.origins
+            .insert((order.parent, order.child), order.origin)?;
+        self.adopted.push_reserved(order);
         self.matrix.adopt(order.parent, order.child);
         Ok(())
     }

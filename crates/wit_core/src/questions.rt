@@ -5,7 +5,7 @@ ghost use Rattle.std.specs.List.{list_any};
 ghost use Rattle.wit_model.specs.Rules.Locks.{lock_at};
 ghost use Rattle.wit_model.specs.Rules.Numbers.{is_given, is_number};
 ghost use Rattle.wit_model.specs.Rules.State.{state_of, seat_at, is_seat, has_room};
-ghost use Rattle.wit_model.specs.Rules.Step.{held_by, is_not_yet, is_too_deep};
+ghost use Rattle.wit_model.specs.Rules.Step.{held_by, is_too_deep};
 ghost use Rattle.wit_model.specs.Rules.Types.{is_otherwise, is_enrolled, type_number};
 ghost use Rattle.wit_core.specs.Replies.{before_acquiring, before_answering, Admits, Refuses};
 
@@ -93,6 +93,7 @@ impl Verifier {
     ) -> Result<(), Fault>
         ensures ok { OnOk result (Admits (before_acquiring (state_of self.now) seat.0 lock.0 mode site)) }
         ensures seat { OnOk result (is_seat (state_of self.now) seat.0 ≡ true) }
+        ensures lock { OnOk result (is_given (state_of self.now).known.locks lock.0 ≡ true) }
         ensures err { IfErr result (Refuses (before_acquiring (state_of self.now) seat.0 lock.0 mode site)) }
     {
         if !self.is_seat(seat) {
@@ -164,29 +165,4 @@ impl Verifier {
         }
         Some(LockNo(locks as u32 + 1))
     }
-
-    // What isn't built yet.
-    pub(crate) fn is_not_yet(&self, type_name: &str, class: Class) -> bool
-        ensures { result ≡ is_not_yet (state_of self.now) type_name.now class }
-    {
-        class.is(Class::Sx) || type_name == "Giant" || self.has_type(type_name)
-    }
-
-    // Whether a lock of the type with this name was made.
-    fn has_type(&self, type_name: &str) -> bool
-        ensures { result ≡ list_any (λ lock. lock.type_no.0 == type_number type_name.now (state_of self.now).known.types)
-            (state_of self.now).known.locks }
-    {
-        has_type(
-            self.known.locks(),
-            type_number(self.known.names(), type_name),
-        )
-    }
-}
-
-// Whether a lock of the type with this number was made.
-fn has_type(locks: &[Lock], number: TypeNo) -> bool
-    ensures { result ≡ list_any (λ lock. lock.type_no.0 == number.0) locks.now }
-{
-    locks.iter().any(|lock| lock.type_no.0 == number.0)
 }

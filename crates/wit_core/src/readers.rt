@@ -5,7 +5,7 @@ ghost use Rattle.std.specs.Option.{option_copied, option_map};
 ghost use Rattle.wit_model.specs.declared.calls.Request.{Request};
 ghost use Rattle.wit_model.specs.declared.faults.Fault.TheVariants.{OutOfMemory};
 ghost use Rattle.wit_model.specs.Rules.Numbers.{with_number};
-ghost use Rattle.wit_model.specs.Rules.Orders.{Before};
+ghost use Rattle.wit_model.specs.Rules.Orders.{Before, origin_of};
 ghost use Rattle.wit_model.specs.Rules.State.{state_of, seat_at, chain_in, free, known_of, orders_of, types_of, typed_locks};
 ghost use Rattle.wit_model.specs.Trace.Paths.{path, path_numbers};
 ghost use Rattle.wit_matrix.specs.Relation.{LeadsBy};
@@ -16,7 +16,7 @@ use crate::known::lock_with;
 use crate::names::is_type;
 use crate::seats::Chunked;
 use crate::verifier::Verifier;
-use wit_model::{Class, Fault, FileNo, Instance, LockNo, Mode, SeatNo, TypeNo};
+use wit_model::{Class, Fault, FileNo, Instance, LockNo, Mode, Origin, SeatNo, TypeNo};
 
 /// What the seats hold; `None` for a seat that there isn't.
 impl Verifier {
@@ -113,6 +113,13 @@ impl Verifier {
         ensures { result ≡ length (types_of self.now.start self.now.history) }
     {
         self.known.names().len()
+    }
+
+    /// Where the direct order from one type to another comes from; `None` where it wasn't adopted.
+    pub fn origin(&self, parent: TypeNo, child: TypeNo) -> Option<Origin>
+        ensures { result ≡ origin_of parent.0 child.0 (orders_of self.now.start self.now.history) }
+    {
+        self.known.orders().origin(parent, child)
     }
 
     /// The path of adopted orders from one type to another that goes each time to the least type: `None` where

@@ -13,10 +13,15 @@ use wit_model::{
 enum Step {
     Init(&'static str, Option<&'static str>),
     Rw(&'static str, Option<&'static str>),
+    Spin(&'static str),
+    Recursable(&'static str),
     Check(u16, u32, u32),
     Share(u16, u32, u32),
     Note(u16, u32),
+    Try(u16, u32, u32),
+    GiveUp(u16, u32),
     Unlock(u16, u32),
+    Watch(u16, Watch),
 }
 
 /// What a call is answered, by the numbers of locks and types.
@@ -28,8 +33,14 @@ enum Answer {
     Silent(u16, u16),
     /// The held lock with its line, and the requested one with its line.
     Reversal(u32, u32, u32, u32),
+    /// The same of two locks of one type.
+    Duplicate(u32, u32, u32, u32),
     Recorded,
+    Exhausted,
+    Unrecorded,
     Unlocked,
+    Done,
+    Ignored,
     Refused(Fault),
 }
 
@@ -104,7 +115,7 @@ const FULL_LOG: [(Step, Answer); 7] = [
 ];
 
 /// Four calls are accepted, those after them refused, but for the last but one.
-const FAULTS: [(Step, Answer); 20] = [
+const FAULTS: [(Step, Answer); 18] = [
     (Step::Init("a", None), Answer::Made(1)),
     (Step::Init("b", None), Answer::Made(2)),
     (Step::Check(1, 1, 1), Answer::Pass),
@@ -120,14 +131,80 @@ const FAULTS: [(Step, Answer); 20] = [
     (Step::Unlock(2, 1), Answer::Refused(Fault::NotLocked)),
     (Step::Init("", None), Answer::Refused(Fault::BadName)),
     (Step::Init("c", Some("\"")), Answer::Refused(Fault::BadName)),
-    (Step::Init("c", Some("a")), Answer::Refused(Fault::NotYet)),
-    (Step::Init("Giant", None), Answer::Refused(Fault::NotYet)),
     (
         Step::Rw("c", Some("a")),
         Answer::Refused(Fault::ClassMismatch),
     ),
     (Step::Check(1, 2, 2), Answer::Adopted(1, 2)),
     (Step::Unlock(1, 1), Answer::Refused(Fault::Pending)),
+];
+
+/// The only chunk holds five locks. With the sixth, watching ends for good, and what is held stays so.
+const EXHAUSTED: [(Step, Answer); 29] = [
+    (Step::Init("a", None), Answer::Made(1)),
+    (Step::Init("b", None), Answer::Made(2)),
+    (Step::Init("c", None), Answer::Made(3)),
+    (Step::Init("d", None), Answer::Made(4)),
+    (Step::Init("e", None), Answer::Made(5)),
+    (Step::Init("f", None), Answer::Made(6)),
+    (Step::Check(1, 1, 1), Answer::Pass),
+    (Step::Note(1, 1), Answer::Recorded),
+    (Step::Check(1, 2, 2), Answer::Adopted(1, 2)),
+    (Step::Note(1, 2), Answer::Recorded),
+    (Step::Check(1, 3, 3), Answer::Adopted(2, 3)),
+    (Step::Note(1, 3), Answer::Recorded),
+    (Step::Check(1, 4, 4), Answer::Adopted(3, 4)),
+    (Step::Note(1, 4), Answer::Recorded),
+    (Step::Check(1, 5, 5), Answer::Adopted(4, 5)),
+    (Step::Note(1, 5), Answer::Recorded),
+    (Step::Check(1, 6, 6), Answer::Adopted(5, 6)),
+    (Step::Note(1, 6), Answer::Exhausted),
+    (Step::Unlock(1, 6), Answer::Ignored),
+    (Step::Unlock(1, 5), Answer::Unlocked),
+    (Step::Watch(1, Watch::On), Answer::Refused(Fault::WatchOff)),
+    (Step::Watch(1, Watch::Off), Answer::Done),
+    (Step::Try(1, 5, 7), Answer::Unrecorded),
+    (Step::Check(1, 5, 7), Answer::Pass),
+    (Step::Note(1, 5), Answer::Unrecorded),
+    (Step::Check(2, 1, 8), Answer::Pass),
+    (Step::GiveUp(2, 2), Answer::Refused(Fault::NotRequested)),
+    (Step::GiveUp(2, 1), Answer::Done),
+    (Step::Check(2, 1, 9), Answer::Pass),
+];
+
+/// Tries are recorded as they come: none is checked, and the next request stands behind the last one.
+const TRIES: [(Step, Answer); 20] = [
+    (Step::Init("a", None), Answer::Made(1)),
+    (Step::Recursable("b"), Answer::Made(2)),
+    (Step::Spin("c"), Answer::Made(3)),
+    (Step::Init("d", Some("b")), Answer::Made(4)),
+    (Step::Check(1, 2, 1), Answer::Pass),
+    (Step::Note(1, 2), Answer::Recorded),
+    (Step::Try(1, 1, 2), Answer::Recorded),
+    (Step::Check(1, 2, 3), Answer::Pass),
+    (Step::Note(1, 2), Answer::Recorded),
+    (Step::Check(1, 4, 4), Answer::Adopted(1, 2)),
+    (Step::GiveUp(1, 4), Answer::Done),
+    (Step::Try(1, 4, 5), Answer::Recorded),
+    (Step::Unlock(1, 1), Answer::Unlocked),
+    (Step::Unlock(1, 4), Answer::Unlocked),
+    (Step::Check(1, 4, 6), Answer::Duplicate(2, 3, 4, 6)),
+    (Step::GiveUp(1, 4), Answer::Done),
+    (Step::Check(1, 4, 7), Answer::Silent(2, 2)),
+    (Step::GiveUp(1, 4), Answer::Done),
+    (Step::Try(1, 3, 8), Answer::Recorded),
+    (Step::Check(1, 1, 9), Answer::Refused(Fault::SleepUnderSpin)),
+];
+
+/// Where less is watched, no order is checked, and what is held is recorded still.
+const QUIET: [(Step, Answer); 7] = [
+    (Step::Watch(1, Watch::Quiet), Answer::Done),
+    (Step::Check(2, 1, 4), Answer::Pass),
+    (Step::Note(2, 1), Answer::Recorded),
+    (Step::Unlock(2, 1), Answer::Unlocked),
+    (Step::Unlock(2, 1), Answer::Ignored),
+    (Step::Watch(1, Watch::On), Answer::Done),
+    (Step::Check(2, 1, 5), Answer::Reversal(2, 3, 1, 5)),
 ];
 
 /// Two locks of a static list, taken the other way round.
@@ -230,10 +307,10 @@ fn pairs_of(alloc: Global, text: &str) -> Option<Vec<(String, String)>> {
     Some(pairs)
 }
 
-/// A verifier for up to 4 seats, 30 types and 30 locks.
+/// A verifier for up to 30 locks, and so many seats, types, chunks and entries of the log.
 fn start(
     alloc: Global,
-    limits: (u32, u32, u32),
+    limits: (u32, u32, u32, u32),
     lists: &str,
     pairs: &str,
 ) -> Result<Verifier, StartError> {
@@ -241,8 +318,8 @@ fn start(
         list: 0,
         fault: Fault::OutOfMemory,
     };
-    let (seats, types, log) = limits;
-    let limits = Limits::new(seats, types, 30, 4, log).ok_or(unmade)?;
+    let (seats, types, chunks, log) = limits;
+    let limits = Limits::new(seats, types, 30, chunks, log).ok_or(unmade)?;
     let lists = lists_of(alloc, lists).ok_or(unmade)?;
     let pairs = pairs_of(alloc, pairs).ok_or(unmade)?;
     Verifier::new(alloc, limits, lists, pairs)
@@ -250,11 +327,23 @@ fn start(
 
 fn call(verifier: &mut Verifier, step: Step) -> Result<Reply, Fault> {
     match step {
-        Step::Init(name, type_name) => init(verifier, name, type_name, Class::SleepMutex),
-        Step::Rw(name, type_name) => init(verifier, name, type_name, Class::Rw),
+        Step::Init(name, type_name) => {
+            init(verifier, name, type_name, Class::SleepMutex, LockFlags(0))
+        }
+        Step::Rw(name, type_name) => init(verifier, name, type_name, Class::Rw, LockFlags(0)),
+        Step::Spin(name) => init(verifier, name, None, Class::SpinMutex, LockFlags(0)),
+        Step::Recursable(name) => {
+            let flags = LockFlags::RECURSABLE;
+            init(verifier, name, None, Class::SleepMutex, flags)
+        }
         Step::Check(seat, lock, line) => check(verifier, seat, lock, Mode::Exclusive, line),
         Step::Share(seat, lock, line) => check(verifier, seat, lock, Mode::Shared, line),
         Step::Note(seat, lock) => verifier.note(SeatNo(seat), LockNo(lock)),
+        Step::Try(seat, lock, line) => {
+            verifier.note_try(SeatNo(seat), LockNo(lock), Mode::Exclusive, site(line))
+        }
+        Step::GiveUp(seat, lock) => verifier.give_up(SeatNo(seat), LockNo(lock)),
+        Step::Watch(seat, watch) => verifier.set_watch(SeatNo(seat), watch),
         Step::Unlock(seat, lock) => verifier.unlock(SeatNo(seat), LockNo(lock), Mode::Exclusive),
     }
 }
@@ -264,8 +353,9 @@ fn init(
     name: &str,
     type_name: Option<&str>,
     class: Class,
+    flags: LockFlags,
 ) -> Result<Reply, Fault> {
-    let lock = verifier.init(SeatNo(1), name, type_name, class, LockFlags(0))?;
+    let lock = verifier.init(SeatNo(1), name, type_name, class, flags)?;
     Ok(Reply::Made(lock))
 }
 
@@ -276,11 +366,15 @@ fn check(
     mode: Mode,
     line: u32,
 ) -> Result<Reply, Fault> {
-    let site = Site {
+    let ops = OpFlags::NEWORDER;
+    verifier.check(SeatNo(seat), LockNo(lock), mode, ops, site(line))
+}
+
+fn site(line: u32) -> Site {
+    Site {
         file: FileNo(1),
         line,
-    };
-    verifier.check(SeatNo(seat), LockNo(lock), mode, OpFlags::NEWORDER, site)
+    }
 }
 
 fn answer_of(reply: &Reply) -> Answer {
@@ -293,8 +387,16 @@ fn answer_of(reply: &Reply) -> Answer {
             let (held, asked) = (conflict.get().held, conflict.get().asked);
             Answer::Reversal(held.lock.0, held.site.line, asked.lock.0, asked.site.line)
         }
+        Reply::Duplicate(doubling) => {
+            let (last, asked) = (doubling.get().last, doubling.get().asked);
+            Answer::Duplicate(last.lock.0, last.site.line, asked.lock.0, asked.site.line)
+        }
         Reply::Recorded => Answer::Recorded,
+        Reply::Exhausted => Answer::Exhausted,
+        Reply::Unrecorded => Answer::Unrecorded,
         Reply::Unlocked => Answer::Unlocked,
+        Reply::Done => Answer::Done,
+        Reply::Ignored => Answer::Ignored,
     }
 }
 
@@ -379,7 +481,7 @@ fn program(
     lists: &str,
     steps: &[(Step, Answer)],
 ) -> Result<(Option<(usize, Answer)>, Counts), Fail> {
-    let mut verifier = start(alloc, (2, 8, log), lists, "")?;
+    let mut verifier = start(alloc, (2, 8, 4, log), lists, "")?;
     let _number = file(&mut verifier, "f")?;
     let other = other_answer(&mut verifier, steps);
     Ok((other, counts_of(&verifier)))
@@ -406,13 +508,43 @@ fn programs(rt: HostRuntime) -> Result<(), Fail> {
     assert_eq!(rt; done, (None, make_counts(5, 1, 0)));
     let done = program(alloc, 64, "mtx:A mtx:B; mtx:B rw:C", &AGAINST_A_LIST)?;
     assert_eq!(rt; done, (None, make_counts(5, 2, 1)));
+    let done = program(alloc, 64, "", &TRIES)?;
+    assert_eq!(rt; done, (None, make_counts(19, 1, 1)));
+    Ok(())
+}
+
+#[test]
+fn exhaustion(rt: HostRuntime) -> Result<(), Fail> {
+    let mut verifier = start(rt.alloc(), (2, 8, 1, 64), "", "")?;
+    let _number = file(&mut verifier, "f")?;
+    assert_eq!(rt; other_answer(&mut verifier, &EXHAUSTED), None);
+    assert_eq!(rt; counts_of(&verifier), make_counts(26, 5, 1));
+    assert_eq!(rt; verifier.watch(), Watch::Off);
+    assert_eq!(rt; verifier.free_chunks(), 0);
+    let asked = Some((LockNo(1), Mode::Exclusive));
+    assert_eq!(rt; verifier.pending(SeatNo(2)), asked);
+    for place in 0..5 {
+        let held = verifier.chain_at(SeatNo(1), false, place);
+        let expected = if place < 4 { place as u32 + 1 } else { 0 };
+        assert_eq!(rt; held.map(|h| h.lock.0).unwrap_or(0), expected);
+    }
+    Ok(())
+}
+
+#[test]
+fn quiet(rt: HostRuntime) -> Result<(), Fail> {
+    let mut verifier = start(rt.alloc(), (2, 8, 4, 64), "", "")?;
+    let _number = file(&mut verifier, "f")?;
+    assert_eq!(rt; other_answer(&mut verifier, &REVERSAL[..10]), None);
+    assert_eq!(rt; other_answer(&mut verifier, &QUIET), None);
+    assert_eq!(rt; counts_of(&verifier), make_counts(16, 1, 1));
     Ok(())
 }
 
 #[test]
 fn blessed_pairs(rt: HostRuntime) -> Result<(), Fail> {
     for pairs in ["A B", "B A"] {
-        let mut verifier = start(rt.alloc(), (2, 8, 64), "", pairs)?;
+        let mut verifier = start(rt.alloc(), (2, 8, 4, 64), "", pairs)?;
         verifier.file("f")?;
         assert_eq!(rt; other_answer(&mut verifier, &REVERSAL[..10]), None);
         let silent = Answer::Silent(2, 1);
@@ -429,7 +561,7 @@ fn blessed_pairs(rt: HostRuntime) -> Result<(), Fail> {
 // Locks beyond the first twenty, and seats beyond the second, are taken as the first are.
 #[test]
 fn many_locks_and_seats(rt: HostRuntime) -> Result<(), Fail> {
-    let mut verifier = start(rt.alloc(), (4, 30, 1000), "", "")?;
+    let mut verifier = start(rt.alloc(), (4, 30, 9, 1000), "", "")?;
     verifier.file("f")?;
     let mut locks = Vec::new(rt.alloc());
     for (number, name) in NAMES {
@@ -464,7 +596,7 @@ fn many_locks_and_seats(rt: HostRuntime) -> Result<(), Fail> {
 
 #[test]
 fn numbers(rt: HostRuntime) -> Result<(), Fail> {
-    let mut verifier = start(rt.alloc(), (2, 8, 64), "mtx:AB sx:CDE", "")?;
+    let mut verifier = start(rt.alloc(), (2, 8, 4, 64), "mtx:AB sx:CDE", "")?;
     assert_eq!(rt; verifier.watch(), Watch::On);
     verifier.file("long.c")?;
     let made = ask(&mut verifier, Step::Init("a", Some("AB")));
@@ -500,14 +632,14 @@ fn numbers(rt: HostRuntime) -> Result<(), Fail> {
 fn refused_starts(rt: HostRuntime) -> Result<(), Fail> {
     let alloc = rt.alloc();
     for (types, lists, list, fault) in REFUSED {
-        let error = start(alloc, (2, types, 64), lists, "").err();
+        let error = start(alloc, (2, types, 4, 64), lists, "").err();
         assert_eq!(rt; error, Some(StartError { list, fault }), "at {lists}");
     }
     for accepted in ["mtx:A mtx:B; mtx:A mtx:B", "mtx:A; mtx:A; spin:S", ""] {
-        let error = start(alloc, (2, 2, 64), accepted, "").err();
+        let error = start(alloc, (2, 2, 4, 64), accepted, "").err();
         assert_eq!(rt; error, None, "at {accepted}");
     }
-    let error = start(alloc, (2, 8, 64), "mtx:A", "A ").err();
+    let error = start(alloc, (2, 8, 4, 64), "mtx:A", "A ").err();
     let (list, fault) = (0, Fault::BadName);
     assert_eq!(rt; error, Some(StartError { list, fault }));
     Ok(())
@@ -517,11 +649,11 @@ fn refused_starts(rt: HostRuntime) -> Result<(), Fail> {
 #[test]
 fn want_of_memory_at_the_start(rt: HostRuntime) -> Result<(), Fail> {
     let lists = "mtx:A mtx:B; mtx:B mtx:C";
-    let mut verifier = start(rt.alloc(), (2, 8, 64), lists, "A C");
+    let mut verifier = start(rt.alloc(), (2, 8, 4, 64), lists, "A C");
     if let Err(error) = &verifier {
         assert_eq!(rt; error.fault, Fault::OutOfMemory);
         assert!(rt; error.list <= 2);
-        verifier = start(rt.alloc(), (2, 8, 64), lists, "A C");
+        verifier = start(rt.alloc(), (2, 8, 4, 64), lists, "A C");
     }
     assert_eq!(rt; verifier?.orders().len(), 2);
     Ok(())

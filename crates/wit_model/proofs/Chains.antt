@@ -10,7 +10,9 @@ pub mod Free
 pub mod GroupSteps
 pub mod Grouping
 pub mod Held
+pub mod HeldGroups
 pub mod HeldLocks
+pub mod Numbers
 pub mod Owed
 pub mod Regrouping
 pub mod Sane

@@ -1,7 +1,9 @@
 -- Lock types and the orders between them.
 pub mod Among
+pub mod Classes
 pub mod Once
 pub mod Paths
+pub mod Reads
 pub mod Ruled
 pub mod Sound
 pub mod Started

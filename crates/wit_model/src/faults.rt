@@ -79,8 +79,6 @@ pub enum Fault {
     FilesFull,
     /// The site's file was never named.
     UnknownFile,
-    /// This isn't built yet: a class other than `SleepMutex`, a recursable lock, `Giant`, or a second lock of a type.
-    NotYet,
 }
 
 impl Fault {
@@ -122,7 +120,6 @@ impl Fault {
             Fault::ModeNotAllowed => "F31 ModeNotAllowed",
             Fault::FilesFull => "F32 FilesFull",
             Fault::UnknownFile => "F33 UnknownFile",
-            Fault::NotYet => "F34 NotYet",
         }
     }
 }

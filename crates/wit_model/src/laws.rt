@@ -6,7 +6,10 @@ ghost use Rattle.wit_model.specs.Laws.{
   OrdersStaySound,
   TestFindsPaths,
   PendingIsNoted,
+  PendingIsGivenUp,
   CheckedIsNoted,
+  OffIsForGood,
+  IsExhaustedOnce,
   FilesMayGrow,
 };
 
@@ -20,10 +23,21 @@ pub fn law_before_is_path()
     ensures { TestFindsPaths }
 {}
 
-/// A request that passed its check can be noted, as long as it is pending.
+/// The note of a request that passed its check is accepted as long as it is pending, and so is its being given up.
 pub fn law_note_after_check()
     ensures pending { PendingIsNoted }
+    ensures given_up { PendingIsGivenUp }
     ensures at_once { CheckedIsNoted }
+{}
+
+/// Once nothing is watched, nothing is ever watched again.
+pub fn law_off_is_for_good()
+    ensures { OffIsForGood }
+{}
+
+/// That the chunks are exhausted is told once at most.
+pub fn law_exhausted_once()
+    ensures { IsExhaustedOnce }
 {}
 
 /// A history stays legal where more files are named.

@@ -16,7 +16,7 @@ use Rattle.wit_model.specs.declared.locks.LockType.{LockType}
 use Rattle.wit_model.specs.declared.locks.Lock.{Lock}
 use Rattle.wit_model.specs.declared.calls.NewLock.{NewLock}
 use Rattle.wit_model.specs.declared.calls.Call.{Call}
-use Rattle.wit_model.specs.declared.calls.Call.TheVariants.{Init, Check, Note, Unlock}
+use Rattle.wit_model.specs.declared.calls.Call.TheVariants.{Init}
 use Rattle.wit_model.specs.declared.calls.Reply.{Reply}
 use Rattle.wit_model.specs.declared.calls.Entry.{Entry}
 use Rattle.wit_model.specs.Rules.Types.{is_named, is_enrolled, is_otherwise, is_same_class, type_number, enrolled, type_name_of, types_after}
@@ -25,7 +25,7 @@ use Rattle.wit_model.specs.Rules.State.{Start, state_of, types_of, typed_locks}
 use Rattle.wit_model.specs.Rules.Step.{answer_of, story_after, IsLegal}
 use Rattle.wit_model.proofs.Chains.Seats.{entry}
 use Rattle.wit_model.proofs.Histories.Accepted.{init_accepted}
-use Rattle.wit_model.proofs.Orders.Types.{IsTyped, typed_made, typed-check, typed-note, typed-unlock}
+use Rattle.wit_model.proofs.Orders.Types.{IsTyped, typed_made, typed-same}
 use Rattle.wit_model.specs.Rules.Numbers.{with_number}
 use Rattle.wit_model.proofs.Numbered.{with_number-at, with_number-or}
 use Rattle.wit_core.specs.Numbered.{lock_type, type_class, type_name}
@@ -115,14 +115,12 @@ types_by start files h t (Init lock) r ok all = λ i lt.
     ∙ get_or-append_seam (typed_locks start h) (record { type_no = record { 0 = type_number (type_name_of lock) (types_of start h) }; made = lock }) [] unknown_lock))
     (type-new (types_of start h) lock (init_accepted (state_of (story_after start files h)) t lock r ok).class))
     (cases_lt i (length (typed_locks start h)))
-types_by start files h t (Check q) r ok all = subst (λ ls. (i : ℕ) → i < length ls → HasType (types_of start h) (get_or ls i unknown_lock).made) (sym (typed-check start h t q r)) all
-types_by start files h t (Note l) r ok all = subst (λ ls. (i : ℕ) → i < length ls → HasType (types_of start h) (get_or ls i unknown_lock).made) (sym (typed-note start h t l r)) all
-types_by start files h t (Unlock l m) r ok all = subst (λ ls. (i : ℕ) → i < length ls → HasType (types_of start h) (get_or ls i unknown_lock).made) (sym (typed-unlock start h t l m r)) all
+types_by start files h t c r ok all = subst (λ ls. (i : ℕ) → i < length ls → HasType (types_of start h) (get_or ls i unknown_lock).made) (sym (typed-same start h t c r refl)) all
 
 types_all : (start : Start) (files : List (List ℕ)) (h : List Entry) → IsLegal start files h → HaveTypes (types_of start h) (typed_locks start h)
 unfolding HaveTypes
 types_all start files [] legal = λ i lt. absurd (omega arith)
-types_all start files (x ∷ h) legal = types_by start files h x.seat.0 x.call x.reply legal.0 (types_all start files h legal.1)
+types_all start files (x ∷ h) legal = types_by start files h x.seat.0 x.call x.reply legal.0 (types_all start files h legal.2)
 
 -- what stands under a number has a number that was given
 number-within : {X : Type 0} (xs : List X) (n : ℕ) (x : X) → with_number xs n ≡ Some x → (0 < n) × (n ≤ length xs)

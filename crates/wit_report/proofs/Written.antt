@@ -1,11 +1,11 @@
 -- Pieces written one behind another make a text.
-use Rattle.std.proofs.Common.{◌≡◌, ℕ, ◌+◌, ◌<◌, List, [], ◌∷◌, ◌++◌, length, get_or, drop, Option, Some, find, ap, sym, ◌∙◌, append_assoc, codes}
+use Rattle.std.proofs.Common.{◌≡◌, ℕ, ◌+◌, ◌<◌, List, [], ◌∷◌, ◌++◌, length, get_or, drop, Option, Some, ap, sym, ◌∙◌, append_assoc, codes}
 use Rattle.std.proofs.lemmas.List.{at_drop_more}
 use Rattle.wit_model.specs.declared.locks.TypeNo.{TypeNo}
 use Rattle.wit_model.specs.declared.locks.Lock.{Lock}
 use Rattle.wit_model.specs.declared.calls.LockAt.{LockAt}
 use Rattle.wit_model.specs.Rules.Types.{name_of, type_name_of}
-use Rattle.wit_model.specs.Rules.Orders.{is_adoption_of}
+use Rattle.wit_model.specs.Rules.Orders.{origin_of}
 use Rattle.wit_model.specs.Rules.Locks.{lock_at}
 use Rattle.wit_model.specs.Rules.State.{Known}
 use Rattle.wit_model.specs.Trace.Spelling.{quoted}
@@ -15,10 +15,10 @@ use Rattle.wit_model.specs.Trace.Paths.{type_numbers}
 -- pieces written one behind another make a line
 pub order-written : {t1 t2 t3 t4 t5 t6 t7 : List ℕ} (t : List ℕ) (k : Known) (files : List (List ℕ)) (a b : ℕ)
     → t1 ≡ t ++ codes " " → t2 ≡ t1 ++ quoted (name_of a k.types) → t3 ≡ t2 ++ codes " -> " → t4 ≡ t3 ++ quoted (name_of b k.types) → t5 ≡ t4 ++ codes " @ "
-    → t6 ≡ t5 ++ origin_words files (find (is_adoption_of a b) k.orders) → t7 ≡ t6 ++ 10 ∷ [] → t7 ≡ t ++ order_line k files a b
+    → t6 ≡ t5 ++ origin_words files (origin_of a b k.orders) → t7 ≡ t6 ++ 10 ∷ [] → t7 ≡ t ++ order_line k files a b
 order-written t k files a b e1 e2 e3 e4 e5 e6 e7 =
     behind7 t (codes " ") (quoted (name_of a k.types)) (codes " -> ") (quoted (name_of b k.types)) (codes " @ ")
-    (origin_words files (find (is_adoption_of a b) k.orders)) (10 ∷ []) e1 e2 e3 e4 e5 e6 e7
+    (origin_words files (origin_of a b k.orders)) (10 ∷ []) e1 e2 e3 e4 e5 e6 e7
   where
     behind7 : {u1 u2 u3 u4 u5 u6 u7 : List ℕ} (u p1 p2 p3 p4 p5 p6 p7 : List ℕ) → u1 ≡ u ++ p1 → u2 ≡ u1 ++ p2 → u3 ≡ u2 ++ p3 → u4 ≡ u3 ++ p4 → u5 ≡ u4 ++ p5 → u6 ≡ u5 ++ p6 → u7 ≡ u6 ++ p7
         → u7 ≡ u ++ (p1 ++ (p2 ++ (p3 ++ (p4 ++ (p5 ++ (p6 ++ p7))))))

@@ -36,7 +36,7 @@ pub fn put_locks(
 }
 
 // A lock at a place, as a line behind its rank.
-fn put_lock(
+pub fn put_lock(
     text: &mut String,
     alloc: Global,
     verifier: &Verifier,
@@ -90,7 +90,7 @@ pub fn type_number(verifier: &Verifier, lock: LockNo) -> TypeNo
     }
 }
 
-fn type_name(verifier: &Verifier, lock: LockNo) -> &str
+pub fn type_name(verifier: &Verifier, lock: LockNo) -> &str
     ensures { result.now ≡ type_name_of (lock_at (typed_locks verifier.now.start verifier.now.history) lock.0).made }
 {
     // In a legal log, a lock's type has its type name and its class.

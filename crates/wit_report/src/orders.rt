@@ -1,7 +1,6 @@
 //! The path by which an order is established, a line a step.
 
-ghost use Rattle.std.specs.Prelude.{◌≡◌, ◌∷◌, ◌++◌, length, find, reverse, string_bytes, OnOk};
-ghost use Rattle.wit_model.specs.Rules.Orders.{is_adoption_of};
+ghost use Rattle.std.specs.Prelude.{◌≡◌, ◌∷◌, ◌++◌, length, string_bytes, OnOk};
 ghost use Rattle.wit_model.specs.Rules.State.{known_of, orders_of, types_of};
 ghost use Rattle.wit_model.specs.Rules.Types.{name_of};
 ghost use Rattle.wit_model.specs.Trace.Paths.{path, type_numbers};
@@ -10,7 +9,7 @@ ghost use Rattle.wit_model.specs.Trace.Texts.{origin_words, order_line, order_li
 use crate::pieces::{put_quoted, put_site};
 use std::alloc::{AllocError, Global};
 use wit_core::Verifier;
-use wit_model::{Adoption, Origin, TypeNo};
+use wit_model::{Origin, TypeNo};
 
 // The path by which the order from one type to another is established.
 pub fn put_established(
@@ -85,7 +84,7 @@ fn put_order(
     text.push_str(" -> ")?;
     put_quoted(text, type_words(verifier, child))?;
     text.push_str(" @ ")?;
-    put_origin(text, alloc, verifier, adoption_of(verifier, parent, child))?;
+    put_origin(text, alloc, verifier, verifier.origin(parent, child))?;
     text.push('\n')?;
     Ok(())
 }
@@ -103,33 +102,14 @@ fn put_origin(
     text: &mut String,
     alloc: Global,
     verifier: &Verifier,
-    order: Option<Adoption>,
+    origin: Option<Origin>,
 ) -> Result<(), AllocError>
-    ensures { OnOk result (string_bytes text.new ≡ string_bytes text.old ++ origin_words verifier.now.files order) }
+    ensures { OnOk result (string_bytes text.new ≡ string_bytes text.old ++ origin_words verifier.now.files origin) }
 {
-    let Some(order) = order else {
-        return Ok(());
-    };
-    match order.origin {
-        Origin::Listed => text.push_str("listed"),
-        Origin::Defined => text.push_str("defined"),
-        Origin::At(site) => put_site(text, alloc, verifier, site),
+    match origin {
+        None => Ok(()),
+        Some(Origin::Listed) => text.push_str("listed"),
+        Some(Origin::Defined) => text.push_str("defined"),
+        Some(Origin::At(site)) => put_site(text, alloc, verifier, site),
     }
-}
-
-fn adoption_of(verifier: &Verifier, parent: TypeNo, child: TypeNo) -> Option<Adoption>
-    ensures { result ≡ find (is_adoption_of parent.0 child.0) (orders_of verifier.now.start verifier.now.history) }
-{
-    newest_adoption(verifier.orders(), parent, child)
-}
-
-// Of orders that stand oldest first.
-fn newest_adoption(orders: &[Adoption], parent: TypeNo, child: TypeNo) -> Option<Adoption>
-    ensures { result ≡ find (is_adoption_of parent.0 child.0) (reverse orders.now) }
-{
-    orders
-        .iter()
-        .rev()
-        .copied()
-        .find(|o| o.parent.0 == parent.0 && o.child.0 == child.0)
 }

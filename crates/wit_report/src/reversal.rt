@@ -1,8 +1,7 @@
 //! The text of a reversal.
 
-ghost use Rattle.std.specs.Prelude.{◌≡◌, string_bytes, IfOk, IfErr};
+ghost use Rattle.std.specs.Prelude.{◌≡◌, string_bytes, IfOk};
 ghost use Rattle.wit_model.specs.declared.calls.Reply.TheVariants.{Reversal};
-ghost use Rattle.wit_model.specs.declared.faults.Fault.TheVariants.{OutOfMemory};
 ghost use Rattle.wit_model.specs.Trace.Output.{told};
 ghost use Rattle.wit_model.specs.Trace.Texts.{heading_words};
 
@@ -10,27 +9,11 @@ use crate::locks::{put_locks, type_number};
 use crate::orders::put_established;
 use std::alloc::{AllocError, Global};
 use wit_core::Verifier;
-use wit_model::{Conflict, Fault, Heading, Reply};
-
-/// The text of a reply's report, as things stand once the reply was given; empty where it reports nothing.
-/// A number that was never given stands for an empty name, and a lock under it for a sleep mutex.
-///
-/// # Errors
-/// `OutOfMemory` alone.
-#[inline(always)]
-pub fn report_text(alloc: Global, verifier: &Verifier, reply: &Reply) -> Result<String, Fault>
-    ensures ok { IfOk result (λ text. string_bytes text ≡ told verifier.now reply.now) }
-    ensures err { IfErr result (λ e. e ≡ OutOfMemory) }
-{
-    match reply {
-        Reply::Reversal(conflict) => Ok(reversal_text(alloc, verifier, conflict.get())?),
-        _ => Ok(String::new(alloc)),
-    }
-}
+use wit_model::{Conflict, Heading};
 
 #[cold]
 #[inline(never)]
-fn reversal_text(
+pub fn reversal_text(
     alloc: Global,
     verifier: &Verifier,
     conflict: &Conflict,

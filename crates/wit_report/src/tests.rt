@@ -1,11 +1,12 @@
-//! The text of a reversal, call by call.
+//! The texts of replies.
 
 use crate::report_text;
-use std::alloc::Global;
+use std::alloc::{AllocError, Global};
 use std::test::Fail;
 use wit_core::{StartError, Verifier};
 use wit_model::{
-    Class, Fault, FileNo, Limits, LockFlags, LockNo, Mode, OpFlags, Reply, SeatNo, Site,
+    Boxed, Class, Conflict, Doubling, Fault, FileNo, Heading, Limits, LockAt, LockFlags, LockNo, Mode, OpFlags,
+    Reply, SeatNo, Site,
 };
 
 fn start(alloc: Global) -> Result<Verifier, StartError> {
@@ -69,5 +70,76 @@ fn reversals(rt: HostRuntime) -> Result<(), Fail> {
     assert_eq!(rt; text.as_str(), expected);
     let text = text_of(alloc, &verifier, &Reply::Recorded)?;
     assert_eq!(rt; text.as_str(), "");
+    Ok(())
+}
+
+fn at(lock: u32, line: u32) -> LockAt {
+    LockAt {
+        lock: LockNo(lock),
+        site: Site {
+            file: FileNo(1),
+            line,
+        },
+    }
+}
+
+fn reversal(
+    alloc: Global,
+    heading: Heading,
+    older: Option<LockAt>,
+    held: LockAt,
+    asked: LockAt,
+) -> Result<Reply, AllocError> {
+    Ok(Reply::Reversal(Boxed::new(
+        alloc,
+        Conflict {
+            heading,
+            held,
+            older,
+            asked,
+        },
+    )?))
+}
+
+fn duplicate(alloc: Global, last: LockAt, asked: LockAt) -> Result<Reply, AllocError> {
+    Ok(Reply::Duplicate(Boxed::new(alloc, Doubling { last, asked })?))
+}
+
+// Behind the order from A to B, replies of each kind. No lock has number 9.
+#[test]
+fn texts(rt: HostRuntime) -> Result<(), Fail> {
+    let alloc = rt.alloc();
+    let mut verifier = start(alloc)?;
+    make_locks(&mut verifier)?;
+    take(&mut verifier, 1, 1, 1)?;
+    take(&mut verifier, 1, 2, 2)?;
+    let rows = [
+        (
+            reversal(alloc, Heading::Sleepable, None, at(2, 3), at(1, 4))?,
+            "lock order reversal: (sleepable after non-sleepable)\n 1st \"b\" (B, sleep mutex) @ f:3\n 2nd \"a\" (A, sleep mutex) @ f:4\nestablished order:\n \"A\" -> \"B\" @ f:2\n",
+        ),
+        (
+            reversal(alloc, Heading::Giant, None, at(1, 3), at(2, 4))?,
+            "lock order reversal: (Giant after non-sleepable)\n 1st \"a\" (A, sleep mutex) @ f:3\n 2nd \"b\" (B, sleep mutex) @ f:4\n",
+        ),
+        (
+            reversal(alloc, Heading::Order, Some(at(1, 5)), at(2, 6), at(1, 7))?,
+            "lock order reversal:\n 1st \"a\" (A, sleep mutex) @ f:5\n 2nd \"b\" (B, sleep mutex) @ f:6\n 3rd \"a\" (A, sleep mutex) @ f:7\nestablished order:\n \"A\" -> \"B\" @ f:2\n",
+        ),
+        (
+            duplicate(alloc, at(1, 8), at(2, 4294967295))?,
+            "acquiring duplicate lock of same type: \"B\"\n 1st \"a\" (A, sleep mutex) @ f:8\n 2nd \"b\" (B, sleep mutex) @ f:4294967295\n",
+        ),
+        (
+            duplicate(alloc, at(9, 1), at(9, 2))?,
+            "acquiring duplicate lock of same type: \"\"\n 1st \"\" (, sleep mutex) @ f:1\n 2nd \"\" (, sleep mutex) @ f:2\n",
+        ),
+        (Reply::Exhausted, "witness exhausted\n"),
+        (Reply::Pass, ""),
+    ];
+    for (reply, expected) in &rows {
+        let text = text_of(alloc, &verifier, reply)?;
+        assert_eq!(rt; text.as_str(), *expected);
+    }
     Ok(())
 }

@@ -10,18 +10,16 @@ use Rattle.wit_model.specs.declared.calls.Call.{Call}
 use Rattle.wit_model.specs.declared.calls.Call.TheVariants as call
 use Rattle.wit_model.specs.declared.calls.NewLock.{NewLock}
 use Rattle.wit_model.specs.declared.calls.Reply.{Reply}
-use Rattle.wit_model.specs.declared.calls.Request.{Request}
 use Rattle.wit_model.specs.declared.faults.Fault.{Fault}
 use Rattle.wit_model.specs.declared.flags.OpFlags.{OpFlags}
 use Rattle.wit_model.specs.declared.lines.Line.{Line}
-use Rattle.wit_model.specs.declared.lines.Line.TheVariants.{Check}
 use Rattle.wit_model.specs.declared.lines.Cause.{Cause}
 use Rattle.wit_model.specs.declared.lines.Cause.TheVariants as why
 use Rattle.wit_model.specs.declared.locks.FileNo.{FileNo}
 use Rattle.wit_model.specs.declared.locks.LockNo.{LockNo}
 use Rattle.wit_model.specs.declared.locks.Mode.{Mode}
 use Rattle.wit_model.specs.declared.locks.SeatNo.{SeatNo}
-use Rattle.wit_model.specs.Rules.Files.{NamesFile}
+use Rattle.wit_model.specs.Rules.Files.{naming_answer, NamesFile}
 use Rattle.wit_model.specs.Rules.Start.{start_fault}
 use Rattle.wit_model.specs.Rules.State.{Story}
 use Rattle.wit_model.specs.Rules.Refusals.{IsRefusal}
@@ -71,21 +69,27 @@ fails_from (output.Goes q text) old mid new fault (Err (Bad cause)) same refuses
 fails_from (output.Bad why) old mid new fault (Err (Bad cause)) same refuses fails =
     (fails.0, λ bad. fails.1 bad ∙ ap (λ h. output.summed (output.Reading (record old { history = h })) bad) same)
 
-module _ (old mid new : Story) (seat : SeatNo) (lock : LockNo) (mode : Mode) (ops : OpFlags) (name : List ℕ) (line : ℕ) (f : FileNo) (names : NamesFile old name (Ok f) mid) where
-  abbrev asked : Request
-  asked = record { lock = lock; site = record { file = f; line = line }; mode = mode; ops = ops }
+-- the calls of lines with a site, once their file has a number
+abbrev pub check_at : LockNo → Mode → OpFlags → ℕ → ℕ → Call
+check_at lock mode ops line n = call.Check (record { lock = lock; site = record { file = record { 0 = n }; line = line }; mode = mode; ops = ops })
+
+abbrev pub try_at : LockNo → Mode → ℕ → ℕ → Call
+try_at lock mode line n = call.NoteTry lock mode (record { file = record { 0 = n }; line = line })
+
+module _ (old mid new : Story) (seat : SeatNo) (name : List ℕ) (make : ℕ → Call) (f : FileNo) (names : NamesFile old name (Ok f) mid) where
+  abbrev due : output.Outcome
+  due = output.at_file old (λ s n. output.makes s seat.0 (make n)) name (naming_answer old name)
 
   -- a file was entered, then its call made
-  pub check_made : (reply : Reply) → AnswersOrFails mid seat.0 (call.Check asked) (Ok reply) new
-      → output.calls old (Check seat lock mode ops name line) ≡ output.Goes (output.Reading new) (output.told new reply)
-  check_made reply answers =
-      rw names.0 (subst (λ (s : Story). output.makes s seat.0 (call.Check asked) ≡ output.Goes (output.Reading new) (output.told new reply)) names.1 (call_made mid new seat.0 (call.Check asked) reply answers))
+  pub made_at : (reply : Reply) → AnswersOrFails mid seat.0 (make f.0) (Ok reply) new → due ≡ output.Goes (output.Reading new) (output.told new reply)
+  made_at reply answers =
+      rw names.0 (subst (λ (s : Story). output.makes s seat.0 (make f.0) ≡ output.Goes (output.Reading new) (output.told new reply)) names.1 (call_made mid new seat.0 (make f.0) reply answers))
 
   -- a file was entered, then its call refused
-  pub check_refused : (fault : Fault) (r : Result Reply LineError) → AnswersOrFails mid seat.0 (call.Check asked) (Err fault) new → IsErrAnd r (Refuses fault) → Calls (output.calls old (Check seat lock mode ops name line)) old new r
-  check_refused fault r answers refuses =
-      rw names.0 (subst (λ (s : Story). Calls (output.makes s seat.0 (call.Check asked)) old new r) names.1
-      (fails_from _ old mid new fault r (ap (λ (s : Story). s.history) names.1) refuses (call_refused mid new seat.0 (call.Check asked) fault r answers refuses)))
+  pub refused_at_file : (fault : Fault) (r : Result Reply LineError) → AnswersOrFails mid seat.0 (make f.0) (Err fault) new → IsErrAnd r (Refuses fault) → Calls due old new r
+  refused_at_file fault r answers refuses =
+      rw names.0 (subst (λ (s : Story). Calls (output.makes s seat.0 (make f.0)) old new r) names.1
+      (fails_from _ old mid new fault r (ap (λ (s : Story). s.history) names.1) refuses (call_refused mid new seat.0 (make f.0) fault r answers refuses)))
 
 -- a line's text, and what follows it
 told_after : (w : output.Outcome) (p q : output.Progress) (n : ℕ) (text : List ℕ) (next : output.Progress → output.Written) (more : List ℕ) (summary : Summary) → GoesOnWith w q text

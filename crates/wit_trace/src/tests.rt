@@ -3,6 +3,7 @@
 mod ends;
 mod fakes;
 mod flushes;
+mod levels;
 mod limits;
 mod rows;
 mod streams;

@@ -1,26 +1,32 @@
 //! `check`: a seat asks for a lock.
 
-ghost use Rattle.std.specs.Prelude.{◌≡◌, Ok, IfOk, OnErr, true, find};
+ghost use Rattle.std.specs.Prelude.{◌≡◌, true, IfOk, IfErr, Ok};
 ghost use Rattle.wit_model.specs.declared.calls.Call.TheVariants.{Check};
-ghost use Rattle.wit_model.specs.Rules.State.{state_of};
+ghost use Rattle.wit_model.specs.Rules.Numbers.{is_given};
+ghost use Rattle.wit_model.specs.Rules.Refusals.{IsRefusal};
+ghost use Rattle.wit_model.specs.Rules.State.{state_of, seat_at, is_seat};
 ghost use Rattle.wit_model.specs.Rules.Step.{AnswersOrFails, answer_of, logged};
-ghost use Rattle.wit_core.specs.Verdict.{replied, reply_of};
+ghost use Rattle.wit_model.specs.Rules.Verdict.{verdict};
+ghost use Rattle.wit_core.specs.Verdict.{told, replied};
 
-use crate::verdict::Verdict;
+use crate::known::{flags_of, type_of};
 use crate::verifier::Verifier;
-use std::alloc::AllocError;
-use wit_model::{Call, Entry, Fault, LockNo, Mode, OpFlags, Reply, Request, SeatNo, Site};
+use std::alloc::Global;
+use wit_check::{Verdict, verdict};
+use wit_model::{
+    Asked, Boxed, Call, Entry, Fault, LockNo, Mode, OpFlags, Reply, Request, SeatNo, Site,
+};
 
 impl Verifier {
-    /// Asks whether a lock may be acquired here: WITNESS's `checkorder`. Its request is then pending until it is
-    /// noted. The answer is `Pass`, `Adopted` where the order behind the last held lock was learnt, `Silent`
-    /// where the request breaks an order that was reported before or may be broken, and `Reversal` where it
-    /// breaks another.
+    /// Asks whether a lock may be acquired here: WITNESS's `checkorder`. Its request is then pending until it is noted or given up.
+    /// The answer is `Pass`; `Adopted` where the order behind the last held lock was learnt; `Duplicate` where that lock has the
+    /// requested type, and `Reversal` where the request breaks an order, which are reports; or `Silent` where that was reported
+    /// before or is allowed. Where not everything is watched it is always `Pass`.
     ///
     /// # Errors
     /// In this order: `UnknownSeat`; `UnknownLock`; `UnknownFile`; `ModeNotAllowed` for a mutex asked for shared;
-    /// `Pending`; `RecursionTooDeep`; `SleepUnderSpin` for a lock of the sleep kind where the seat holds a spin
-    /// lock; `SharedOfExclusive`, `ExclusiveOfShared` and `Recursed` for a lock that the seat holds; `LogFull`;
+    /// `Pending`; `RecursionTooDeep`; where everything is watched, `SleepUnderSpin` for a lock of the sleep kind where the seat holds
+    /// a spin lock, and `SharedOfExclusive`, `ExclusiveOfShared` and `Recursed` for a lock that the seat holds; `LogFull`;
     /// `OutOfMemory`.
     pub fn check(
         &mut self,
@@ -40,34 +46,48 @@ impl Verifier {
             ops,
         };
         let verdict = self.answer_check(seat, request)?;
-        let reply = self.enter_check(seat, request, verdict)?;
-        Ok(reply)
+        self.enter_check(seat, request, verdict)
     }
 
     fn answer_check(&self, seat: SeatNo, request: Request) -> Result<Verdict, Fault>
         ensures { replied result ≡ answer_of self.now seat.0 (Check request) }
     {
-        if !self.is_seat(seat) {
-            return Err(Fault::UnknownSeat);
+        self.admits(seat, request.lock, request.mode, request.site)?;
+        let verdict = self.verdict(seat, request);
+        if let Verdict::Fault(fault) = verdict {
+            return Err(fault);
         }
-        if !self.is_made(request.lock) {
-            return Err(Fault::UnknownLock);
-        }
-        if !self.is_file(request.site.file) {
-            return Err(Fault::UnknownFile);
-        }
-        let class = self.class_of_lock(request.lock);
-        if !request.mode.is_exclusive() && !class.is_shareable() {
-            return Err(Fault::ModeNotAllowed);
-        }
-        if self.pending(seat).is_some() {
-            return Err(Fault::Pending);
-        }
-        let verdict = self.verdict(seat, request)?;
         if !self.has_room(3) {
             return Err(Fault::LogFull);
         }
         Ok(verdict)
+    }
+
+    // The verdict on the request of a seat for a lock that was made.
+    fn verdict(&self, seat: SeatNo, request: Request) -> Verdict
+        requires seat { is_seat (state_of self.now) seat.0 ≡ true }
+        requires lock { is_given (state_of self.now).known.locks request.lock.0 ≡ true }
+        ensures { told result ≡ verdict (state_of self.now).known (state_of self.now).watch (seat_at (state_of self.now) seat.0) request }
+    {
+        let known = &self.known;
+        let locks = known.locks();
+        let asked = Asked {
+            lock: request.lock,
+            type_no: type_of(locks, request.lock),
+            flags: flags_of(locks, request.lock),
+            mode: request.mode,
+            ops: request.ops,
+            site: request.site,
+        };
+        verdict(
+            known.names(),
+            known.orders().matrix(),
+            self.seats.lists(),
+            seat,
+            known.lock_types(),
+            self.watch,
+            asked,
+        )
     }
 
     // Enters a request and what its verdict tells; the reply tells the same.
@@ -76,16 +96,14 @@ impl Verifier {
         seat: SeatNo,
         request: Request,
         verdict: Verdict,
-    ) -> Result<Reply, AllocError>
-        requires { answer_of self.old seat.0 (Check request) ≡ Ok (reply_of verdict) }
-        ensures ok { IfOk result (λ reply. (reply ≡ reply_of verdict) × (self.new ≡ logged self.old seat.0 (Check request) (reply_of verdict))) }
-        ensures err { OnErr result (self.new ≡ self.old) }
+    ) -> Result<Reply, Fault>
+        requires { answer_of self.old seat.0 (Check request) ≡ told verdict }
+        ensures { AnswersOrFails self.old seat.0 (Check request) result self.new }
     {
-        let reply = verdict.reply(self.alloc)?;
-        let kept = verdict.reply(self.alloc)?;
+        let reply = reply_to(self.alloc, verdict)?;
+        let kept = reply_to(self.alloc, verdict)?;
         self.log.reserve(3)?;
-        self.seats.make_room(seat)?;
-        self.known.learn(request, verdict)?;
+        self.known.learn(request, &reply)?;
         self.seats.ask(seat, request);
         let entry = Entry {
             seat,
@@ -94,5 +112,20 @@ impl Verifier {
         };
         self.log.push(entry, 2);
         Ok(reply)
+    }
+}
+
+// The reply that tells a verdict; its fault, or want of memory, where it has none.
+fn reply_to(alloc: Global, verdict: Verdict) -> Result<Reply, Fault>
+    ensures ok { IfOk result (λ reply. told verdict ≡ Ok reply) }
+    ensures err { IfErr result (IsRefusal (told verdict)) }
+{
+    match verdict {
+        Verdict::Pass => Ok(Reply::Pass),
+        Verdict::Adopt(parent, child) => Ok(Reply::Adopted(parent, child)),
+        Verdict::Silent(held, asked) => Ok(Reply::Silent(held, asked)),
+        Verdict::Duplicate(doubling) => Ok(Reply::Duplicate(Boxed::new(alloc, doubling)?)),
+        Verdict::Reversal(conflict) => Ok(Reply::Reversal(Boxed::new(alloc, conflict)?)),
+        Verdict::Fault(fault) => Err(fault),
     }
 }

@@ -22,7 +22,7 @@ impl Verifier {
     /// # Errors
     /// In this order: `UnknownSeat`; `Pending` where the seat has a request; `BadName` where a name isn't one;
     /// `ClassMismatch` where its type is known with another class; `TypesFull` and `LocksFull` where no number
-    /// is left; `NotYet` for what isn't built yet; `LogFull`; `OutOfMemory`.
+    /// is left; `LogFull`; `OutOfMemory`.
     pub fn init(
         &mut self,
         seat: SeatNo,
@@ -60,7 +60,7 @@ impl Verifier {
         if !self.is_seat(seat) {
             return Err(Fault::UnknownSeat);
         }
-        if self.pending(seat).is_some() {
+        if self.request(seat).is_some() {
             return Err(Fault::Pending);
         }
         // Reading a name shows that it is one.
@@ -108,9 +108,6 @@ impl Verifier {
         let Some(number) = self.next_lock() else {
             return Err(Fault::LocksFull);
         };
-        if self.is_not_yet(type_name, class) {
-            return Err(Fault::NotYet);
-        }
         if !self.has_room(1) {
             return Err(Fault::LogFull);
         }

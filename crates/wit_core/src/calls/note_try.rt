@@ -56,8 +56,8 @@ impl Verifier {
         ensures entered { IfOk result (λ a. self.new ≡ logged self.old seat.0 (NoteTry lock mode site) (reply_to a)) }
         ensures err { OnErr result (self.new ≡ self.old) }
     {
-        self.log.reserve(2)?;
         let spin = self.class_of_lock(lock).is_spin();
+        self.log.reserve(2)?;
         let taken = Instance {
             lock,
             mode,

@@ -17,7 +17,7 @@ use Rattle.wit_model.specs.Rules.Types.{type_name_of, is_enrolled, is_otherwise}
 use Rattle.wit_model.specs.Rules.Locks.{lock_at}
 use Rattle.wit_model.specs.Rules.State.{State, seat_at, is_seat, has_room}
 use Rattle.wit_model.specs.Rules.Verdict.{is_exclusive, verdict}
-use Rattle.wit_model.specs.Rules.Step.{held_by, is_pending, is_for, is_good_name, is_not_yet, is_shareable, is_too_deep, with_room, is_exhausted, recorded, released, let_go, step_init, step_check, step_note, step_note_try, step_give_up, step_unlock, step_set_watch, is_logged}
+use Rattle.wit_model.specs.Rules.Step.{held_by, is_pending, is_for, is_good_name, is_shareable, is_too_deep, with_room, is_exhausted, recorded, released, let_go, step_init, step_check, step_note, step_note_try, step_give_up, step_unlock, step_set_watch, is_logged}
 use Rattle.wit_model.specs.Rules.Numbers.{is_given, is_number}
 
 -- a fault that doesn't apply is passed by
@@ -193,7 +193,6 @@ pub record InitAccepted (s : State) (t : ℕ) (lock : NewLock) (r : Reply) : Typ
   pub class : is_otherwise (type_name_of lock) lock.class s.known.types ≡ false
   pub types : (not (is_enrolled (type_name_of lock) s.known.types) && nat_le s.sizes.types (length s.known.types)) ≡ false
   pub locks : nat_le s.sizes.locks (length s.known.locks) ≡ false
-  pub built : is_not_yet s (type_name_of lock) lock.class ≡ false
   pub room : has_room s 1 ≡ true
   pub reply : r ≡ Made (record { 0 = length s.known.locks + 1 })
 
@@ -205,6 +204,5 @@ init_accepted s t lock r ok =
     let d = passed (is_otherwise (type_name_of lock) lock.class s.known.types) _ _ r c.1 in
     let e = passed (not (is_enrolled (type_name_of lock) s.known.types) && nat_le s.sizes.types (length s.known.types)) _ _ r d.1 in
     let f = passed (nat_le s.sizes.locks (length s.known.locks)) _ _ r e.1 in
-    let g = passed (is_not_yet s (type_name_of lock) lock.class) _ _ r f.1 in
-    let i = passed_not (has_room s 1) _ _ r g.1 in
-    record { seat = a.0; idle = b.0; names = c.0; class = d.0; types = e.0; locks = f.0; built = g.0; room = i.0; reply = sym (same_reply i.1) }
+    let g = passed_not (has_room s 1) _ _ r f.1 in
+    record { seat = a.0; idle = b.0; names = c.0; class = d.0; types = e.0; locks = f.0; room = g.0; reply = sym (same_reply g.1) }

@@ -3,6 +3,8 @@ use Rattle.std.proofs.Common.{◌≡◌, ℕ, ◌<◌, ◌≤◌, Bool, true, fa
 use Rattle.std.proofs.lemmas.Bool.{and_parts, ltb-true, leb-true, false≢true}
 use Rattle.std.proofs.lemmas.List.FromFn.{length-map-range_with_len}
 use Rattle.wit_model.specs.declared.locks.Mode.{Mode}
+use Rattle.wit_model.specs.declared.locks.Watch.{Watch}
+use Rattle.wit_model.specs.declared.locks.Watch.TheVariants.{Off}
 use Rattle.wit_model.specs.declared.locks.Instance.{Instance}
 use Rattle.wit_model.specs.declared.calls.Call.{Call}
 use Rattle.wit_model.specs.declared.calls.Call.TheVariants.{Init, Check, Note, NoteTry, GiveUp, Unlock, SetWatch}
@@ -135,3 +137,16 @@ watched-call s t c r ok some = some
 pub watched-before : (start : Start) (files : List (List ℕ)) (h : List Entry) (x : Entry) → answer_of (story_after start files h) x.seat.0 x.call ≡ Ok x.reply
     → is_off (watch_of (x ∷ h)) ≡ false → is_off (watch_of h) ≡ false
 watched-before start files h x ok some = watched-call (state_of (story_after start files h)) x.seat.0 x.call x.reply ok some
+
+off_from : (w : Watch) → is_off w ≡ true → w ≡ Off
+off_from Off is = refl
+off_from w is = (cc)
+
+-- where nothing was watched, nothing is
+pub off-stays : (start : Start) (files : List (List ℕ)) (h : List Entry) (x : Entry) → answer_of (story_after start files h) x.seat.0 x.call ≡ Ok x.reply
+    → watch_of h ≡ Off → watch_of (x ∷ h) ≡ Off
+off-stays start files h x ok off = off_from (watch_of (x ∷ h)) (go (is_off (watch_of (x ∷ h))) refl)
+  where
+    go : (b : Bool) → is_off (watch_of (x ∷ h)) ≡ b → is_off (watch_of (x ∷ h)) ≡ true
+    go true is = is
+    go false is = absurd (false≢true (sym (watched-before start files h x ok is) ∙ ap is_off off))

@@ -123,7 +123,7 @@ doubled-no_pass g q i single ok = go (has_flag q.flags.0 0x02 || has_flag q.ops.
 module _ (start : Start) (files : List (List ℕ)) (h : List Entry) (l : ℕ) (legal : IsLegal start files h) (given : is_given (typed_locks start h) l ≡ true) where
   giant-lock : is_giant (basis_of (known_of start h)) (lock_at (typed_locks start h) l).type_no ≡ is_giant_lock (lock_of (locks_of h) l)
   giant-lock =
-      ap₂ (λ (name : List ℕ) (class : Class). bytes_eq name (codes "Giant") && is_same_class class SleepMutex) (type-name start h l given) (type-class start files h l legal given)
+      ap₂ (λ (name : List ℕ) (class : Class). is_same_class class SleepMutex && bytes_eq name (codes "Giant")) (type-name start h l given) (type-class start files h l legal given)
 
   sleepable-lock : is_sleepable (basis_of (known_of start h)) (lock_at (typed_locks start h) l).type_no ≡ is_sleepable_lock (lock_of (locks_of h) l)
   sleepable-lock = ap (λ class. is_same_class class Sx) (type-class start files h l legal given)

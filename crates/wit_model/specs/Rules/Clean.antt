@@ -13,7 +13,7 @@ use Rattle.wit_model.specs.Rules.History.{is_on, is_report}
 
 -- Giant is the mutex of that type (locking(9))
 abbrev pub is_giant_lock : NewLock → Bool
-is_giant_lock lock = bytes_eq (type_name_of lock) (codes "Giant") && is_same_class lock.class SleepMutex
+is_giant_lock lock = is_same_class lock.class SleepMutex && bytes_eq (type_name_of lock) (codes "Giant")
 
 -- no lock is Giant or allows a second one of its type (0x02); each check may teach an order (0x01) and allows no second lock of a type
 -- (0x02); nothing is tried; and everything is watched

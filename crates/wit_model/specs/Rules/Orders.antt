@@ -1,7 +1,8 @@
 -- Orders between lock types: witness "keeps track of the order in which locks are acquired with respect to each other" (witness(4)).
 -- Lists of adoptions are newest first.
-use Rattle.std.specs.Prelude.{ℕ, ◌+◌, ◌≡◌, Bool, true, false, ◌&&◌, ◌||◌, ◌==◌, List, [], ◌∷◌, ◌++◌, if◌then◌else◌}
+use Rattle.std.specs.Prelude.{ℕ, ◌+◌, ◌≡◌, Bool, true, false, ◌&&◌, ◌||◌, ◌==◌, List, [], ◌∷◌, ◌++◌, Option, find, if◌then◌else◌}
 use Rattle.std.specs.List.{list_any}
+use Rattle.std.specs.Option.{option_map}
 use Rattle.wit_model.specs.declared.locks.Origin.{Origin}
 use Rattle.wit_model.specs.declared.locks.Origin.TheVariants.{Listed, At}
 use Rattle.wit_model.specs.declared.locks.Class.{Class}
@@ -20,6 +21,10 @@ is_adoption_of a b o = (o.parent.0 == a) && (o.child.0 == b)
 -- whether the order from a to b was adopted as a direct one
 abbrev pub is_direct : List Adoption → ℕ → ℕ → Bool
 is_direct orders a b = list_any (is_adoption_of a b) orders
+
+-- where the direct order from a to b comes from, where there is one
+abbrev pub origin_of : ℕ → ℕ → List Adoption → Option Origin
+origin_of a b orders = option_map (λ (o : Adoption). o.origin) (find (is_adoption_of a b) orders)
 
 -- from a by these types to b, each step an adopted order
 abbrev pub IsPath : List Adoption → ℕ → List ℕ → ℕ → Type 0

@@ -4,7 +4,7 @@ use Rattle.std.specs.Prelude.{ℕ, ◌+◌, ◌≡◌, Bool, true, false, not, �
 use Rattle.std.specs.List.{list_any}
 use Rattle.std.specs.Str.{bytes_eq}
 use Rattle.wit_model.specs.declared.faults.Fault.{Fault}
-use Rattle.wit_model.specs.declared.faults.Fault.TheVariants.{UnknownSeat, UnknownLock, ClassMismatch, TypesFull, LocksFull, RecursionTooDeep, NotLocked, SharedUnlock, ExclusiveUnlock, ForbiddenUnlock, Pending, NotRequested, LogFull, BadName, WatchOff, ModeNotAllowed, UnknownFile, NotYet}
+use Rattle.wit_model.specs.declared.faults.Fault.TheVariants.{UnknownSeat, UnknownLock, ClassMismatch, TypesFull, LocksFull, RecursionTooDeep, NotLocked, SharedUnlock, ExclusiveUnlock, ForbiddenUnlock, Pending, NotRequested, LogFull, BadName, WatchOff, ModeNotAllowed, UnknownFile}
 use Rattle.wit_model.specs.declared.locks.Class.{Class}
 use Rattle.wit_model.specs.declared.locks.Class.TheVariants.{Rw, Sx}
 use Rattle.wit_model.specs.declared.locks.Mode.{Mode}
@@ -52,19 +52,12 @@ abbrev pub is_good_name : Option (List ℕ) → Bool
 is_good_name None = true
 is_good_name (Some name) = is_name name
 
--- what isn't built yet: an sx lock, Giant, and a second lock of a type
-abbrev pub is_not_yet : State → List ℕ → Class → Bool
-is_not_yet s type_name class =
-    is_same_class class Sx || (bytes_eq type_name (codes "Giant")
-    || list_any (λ (lock : Lock). lock.type_no.0 == type_number type_name s.known.types) s.known.locks)
-
 -- the answer to `init` for a lock of the type with this name, where the seat asks for nothing and the names are good
 abbrev pub step_typed : State → List ℕ → Class → Result Reply Fault
 step_typed s type_name class =
     if is_otherwise type_name class s.known.types then Err ClassMismatch
     else if not (is_enrolled type_name s.known.types) && nat_le s.sizes.types (length s.known.types) then Err TypesFull
     else if nat_le s.sizes.locks (length s.known.locks) then Err LocksFull
-    else if is_not_yet s type_name class then Err NotYet
     else if not (has_room s 1) then Err LogFull
     else Ok (Made (record { 0 = length s.known.locks + 1 }))
 

@@ -61,7 +61,7 @@ is_sleepable g t = is_same_class (class_of t.0 g.types) Sx
 
 -- Giant is the mutex of that name (locking(9))
 abbrev pub is_giant : Basis → TypeNo → Bool
-is_giant g t = bytes_eq (name_of t.0 g.types) (codes "Giant") && is_same_class (class_of t.0 g.types) SleepMutex
+is_giant g t = is_same_class (class_of t.0 g.types) SleepMutex && bytes_eq (name_of t.0 g.types) (codes "Giant")
 
 abbrev pub place_of : Instance → LockAt
 place_of i = record { lock = i.lock; site = i.site }

@@ -4,7 +4,7 @@ use Rattle.std.specs.Fmt.{decimal}
 use Rattle.std.specs.Str.{bytes_eq}
 use Rattle.wit_model.specs.declared.faults.Fault.{Fault}
 use Rattle.wit_model.specs.declared.lines.Line.{Line}
-use Rattle.wit_model.specs.declared.lines.Line.TheVariants.{Header, Order, Bless, Init, Check, Lock, Unlock}
+use Rattle.wit_model.specs.declared.lines.Line.TheVariants.{Header, Order, Bless, Init, Check, Lock, Try, GiveUp, Unlock, Watch}
 use Rattle.wit_model.specs.declared.lines.Cause as cause
 use Rattle.wit_model.specs.declared.lines.Cause.TheVariants as why
 use Rattle.wit_model.specs.declared.locks.Class.{Class}
@@ -19,8 +19,9 @@ use Rattle.wit_model.specs.Rules.Sizes.{Sizes, sizes_of, are_within}
 use Rattle.wit_model.specs.Rules.Numbers.{with_number}
 use Rattle.wit_model.specs.Rules.Start.{start_fault}
 use Rattle.wit_model.specs.Rules.State.{Start, Story, fresh, known_of}
-use Rattle.wit_model.specs.Rules.Step.{answer_of, logged}
+use Rattle.wit_model.specs.Rules.Step.{answer_of, grown}
 use Rattle.wit_model.specs.Trace.Texts.{report_text}
+use Rattle.wit_model.specs.Trace.Texts as texts
 
 -- a prelude so far: how the verifier is to start, and the number of each list's line
 pub record Prelude : Type 0 where
@@ -73,9 +74,9 @@ reached p line = Ok p
 abbrev pub told : Story → Reply → List ℕ
 told s reply = report_text (known_of s.start s.history) s.files reply
 
--- a call is made: its reply is logged and told, or the line is bad
+-- a call is made: its reply is told, and logged unless the call was passed over; or the line is bad
 abbrev pub called : Story → ℕ → Call → Result Reply Fault → Outcome
-called s t call (Ok reply) = Goes (Reading (logged s t call reply)) (told (logged s t call reply) reply)
+called s t call (Ok reply) = Goes (Reading (grown s t call reply)) (told (grown s t call reply) reply)
 called s t call (Err fault) = Bad (why.Fault fault)
 
 abbrev pub makes : Story → ℕ → Call → Outcome
@@ -100,7 +101,11 @@ calls s (Init seat lock) = makes s seat.0 (call.Init lock)
 calls s (Check seat lock mode ops file line) =
     at_file s (λ s' n. makes s' seat.0 (call.Check (record { lock = lock; site = record { file = record { 0 = n }; line = line }; mode = mode; ops = ops }))) file (naming_answer s file)
 calls s (Lock seat lock) = makes s seat.0 (call.Note lock)
+calls s (Try seat lock mode file line) =
+    at_file s (λ s' n. makes s' seat.0 (call.NoteTry lock mode (record { file = record { 0 = n }; line = line }))) file (naming_answer s file)
+calls s (GiveUp seat lock) = makes s seat.0 (call.GiveUp lock)
 calls s (Unlock seat lock mode) = makes s seat.0 (call.Unlock lock mode)
+calls s (Watch seat watch) = makes s seat.0 (call.SetWatch watch)
 calls s _ = Bad why.Syntax
 
 -- a line in its place, with its number
@@ -129,7 +134,7 @@ cause_text (why.Fault fault) = fault_text fault
 
 -- the text of a bad line, by its number
 abbrev pub bad_text : ℕ → cause.Cause → List ℕ
-bad_text n cause = codes "line " ++ (decimal n ++ (codes ": " ++ (cause_text cause ++ 10 ∷ [])))
+bad_text n cause = texts.line (codes "line " ∷ decimal n ∷ codes ": " ∷ cause_text cause ∷ [])
 
 -- what a replay comes to: the calls logged, the reports among them, and the bad line that ended it
 pub record Total : Type 0 where

@@ -1,5 +1,5 @@
 -- The texts of reports.
-use Rattle.std.specs.Prelude.{ℕ, List, [], ◌∷◌, ◌++◌, Option, None, Some, find, length, unwrap_or, codes}
+use Rattle.std.specs.Prelude.{ℕ, List, [], ◌∷◌, ◌++◌, Option, None, Some, length, unwrap_or, codes}
 use Rattle.std.specs.Fmt.{decimal}
 use Rattle.wit_model.specs.declared.locks.Class.{Class}
 use Rattle.wit_model.specs.declared.locks.Class.TheVariants.{SleepMutex, SpinMutex, Rw, Sx}
@@ -7,17 +7,17 @@ use Rattle.wit_model.specs.declared.locks.Lock.{Lock}
 use Rattle.wit_model.specs.declared.locks.Site.{Site}
 use Rattle.wit_model.specs.declared.locks.Origin.{Origin}
 use Rattle.wit_model.specs.declared.locks.Origin.TheVariants.{Listed, Defined, At}
-use Rattle.wit_model.specs.declared.calls.Adoption.{Adoption}
 use Rattle.wit_model.specs.declared.calls.Heading.{Heading}
 use Rattle.wit_model.specs.declared.calls.Heading.TheVariants.{Order, Sleepable, Giant}
 use Rattle.wit_model.specs.declared.calls.LockAt.{LockAt}
 use Rattle.wit_model.specs.declared.calls.Conflict.{Conflict}
+use Rattle.wit_model.specs.declared.calls.Doubling.{Doubling}
 use Rattle.wit_model.specs.declared.calls.Reply.{Reply}
-use Rattle.wit_model.specs.declared.calls.Reply.TheVariants.{Reversal}
+use Rattle.wit_model.specs.declared.calls.Reply.TheVariants.{Reversal, Duplicate, Exhausted}
 use Rattle.wit_model.specs.Rules.Numbers.{with_number}
 use Rattle.wit_model.specs.Rules.Types.{type_name_of, name_of}
 use Rattle.wit_model.specs.Rules.Locks.{lock_at}
-use Rattle.wit_model.specs.Rules.Orders.{is_adoption_of}
+use Rattle.wit_model.specs.Rules.Orders.{origin_of}
 use Rattle.wit_model.specs.Trace.Paths.{path}
 use Rattle.wit_model.specs.Trace.Spelling.{quoted}
 use Rattle.wit_model.specs.Rules.State.{Known}
@@ -60,21 +60,22 @@ conflict_lines locks files c None = lock_line locks files (codes "1st") c.held +
 conflict_lines locks files c (Some older) =
     lock_line locks files (codes "1st") older ++ (lock_line locks files (codes "2nd") c.held ++ lock_line locks files (codes "3rd") c.asked)
 
+-- the two locks of one type: the last held one, and the requested one
+abbrev pub doubling_lines : List Lock → List (List ℕ) → Doubling → List ℕ
+doubling_lines locks files d = lock_line locks files (codes "1st") d.last ++ lock_line locks files (codes "2nd") d.asked
+
 -- where an order comes from
-abbrev pub origin_words : List (List ℕ) → Option Adoption → List ℕ
+abbrev pub origin_words : List (List ℕ) → Option Origin → List ℕ
 origin_words files None = []
-origin_words files (Some o) = by_origin files o.origin
-  where
-    by_origin : List (List ℕ) → Origin → List ℕ
-    by_origin files Listed = codes "listed"
-    by_origin files Defined = codes "defined"
-    by_origin files (At site) = site_words files site
+origin_words files (Some Listed) = codes "listed"
+origin_words files (Some Defined) = codes "defined"
+origin_words files (Some (At site)) = site_words files site
 
 -- a direct order, as a line: "TYPE" -> "TYPE" @ ORIGIN
 abbrev pub order_line : Known → List (List ℕ) → ℕ → ℕ → List ℕ
 order_line k files a b =
     line (codes " " ∷ quoted (name_of a k.types) ∷ codes " -> " ∷ quoted (name_of b k.types) ∷ codes " @ "
-    ∷ origin_words files (find (is_adoption_of a b) k.orders) ∷ [])
+    ∷ origin_words files (origin_of a b k.orders) ∷ [])
 
 -- the orders between neighbours of a path
 abbrev pub order_lines : Known → List (List ℕ) → List ℕ → List ℕ
@@ -92,4 +93,7 @@ abbrev pub report_text : Known → List (List ℕ) → Reply → List ℕ
 report_text k files (Reversal c) =
     line (heading_words c.heading ∷ []) ++ conflict_lines k.locks files c c.older
     ++ established k files (path k.orders (length k.types) (lock_at k.locks c.asked.lock.0).type_no.0 (lock_at k.locks c.held.lock.0).type_no.0)
+report_text k files (Duplicate d) =
+    line (codes "acquiring duplicate lock of same type: " ∷ quoted (type_name_of (lock_at k.locks d.asked.lock.0).made) ∷ []) ++ doubling_lines k.locks files d
+report_text k files Exhausted = line (codes "witness exhausted" ∷ [])
 report_text k files _ = []

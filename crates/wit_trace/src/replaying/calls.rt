@@ -1,9 +1,8 @@
 //! The calls that lines make.
 
 ghost use Rattle.std.specs.Prelude.{◌≡◌, IfOk};
-ghost use Rattle.std.specs.Option.{option_copied};
-ghost use Rattle.wit_model.specs.declared.calls.Call.TheVariants.{Init};
-ghost use Rattle.wit_model.specs.Trace.Output.{Reading, calls, makes, told};
+ghost use Rattle.wit_model.specs.declared.lines.Line.TheVariants.{Check, Try};
+ghost use Rattle.wit_model.specs.Trace.Output.{Reading, calls, told};
 ghost use Rattle.wit_grammar.specs.Lines.{as_line};
 ghost use Rattle.wit_trace.specs.Replays.{Calls, GoesWith, Passes};
 
@@ -11,7 +10,7 @@ use crate::stream::machine::Step;
 use std::alloc::{AllocError, Global};
 use wit_core::Verifier;
 use wit_grammar::{LineError, LockLine};
-use wit_model::{Line, NewLock, Reply, SeatNo, Site};
+use wit_model::{Line, LockNo, Mode, OpFlags, Reply, SeatNo, Site};
 use wit_report::report_text;
 
 /// A line behind the prelude makes its call, and tells of it; one with a site enters its file first.
@@ -35,7 +34,9 @@ pub fn told_step(alloc: Global, verifier: &Verifier, reply: Reply) -> Result<Ste
 {
     match reply {
         // Nothing else has a text.
-        Reply::Reversal(_) => Ok(Step::Goes(told(alloc, verifier, &reply)?)),
+        Reply::Reversal(_) | Reply::Duplicate(_) | Reply::Exhausted => {
+            Ok(Step::Goes(told(alloc, verifier, &reply)?))
+        }
         _ => Ok(Step::Goes(Vec::new(alloc))),
     }
 }
@@ -67,25 +68,18 @@ fn make_call(verifier: &mut Verifier, line: Line) -> Result<Reply, LineError>
             ops,
             file,
             line,
-        } => {
-            let file = file.as_str();
-            call_on_lock(
-                verifier,
-                LockLine::Check {
-                    seat,
-                    lock,
-                    mode,
-                    ops,
-                    file,
-                    line,
-                },
-            )
-        }
-        Line::Lock { seat, lock } => call_on_lock(verifier, LockLine::Lock { seat, lock }),
-        Line::Unlock { seat, lock, mode } => call_on_lock(
-            verifier,
-            LockLine::Unlock { seat, lock, mode },
-        ),
+        } => check_at(verifier, seat, lock, mode, ops, file.as_str(), line),
+        Line::Lock { seat, lock } => Ok(verifier.note(seat, lock)?),
+        Line::Try {
+            seat,
+            lock,
+            mode,
+            file,
+            line,
+        } => try_at(verifier, seat, lock, mode, file.as_str(), line),
+        Line::GiveUp { seat, lock } => Ok(verifier.give_up(seat, lock)?),
+        Line::Unlock { seat, lock, mode } => Ok(verifier.unlock(seat, lock, mode)?),
+        Line::Watch { seat, watch } => Ok(verifier.set_watch(seat, watch)?),
     }
 }
 
@@ -105,11 +99,46 @@ pub fn call_on_lock(verifier: &mut Verifier, line: LockLine<'_>) -> Result<Reply
             ops,
             file,
             line,
-        } => {
-            let file = verifier.file(file)?;
-            Ok(verifier.check(seat, lock, mode, ops, Site { file, line })?)
-        }
+        } => check_at(verifier, seat, lock, mode, ops, file, line),
         LockLine::Lock { seat, lock } => Ok(verifier.note(seat, lock)?),
+        LockLine::Try {
+            seat,
+            lock,
+            mode,
+            file,
+            line,
+        } => try_at(verifier, seat, lock, mode, file, line),
+        LockLine::GiveUp { seat, lock } => Ok(verifier.give_up(seat, lock)?),
         LockLine::Unlock { seat, lock, mode } => Ok(verifier.unlock(seat, lock, mode)?),
     }
+}
+
+#[inline(always)]
+fn check_at(
+    verifier: &mut Verifier,
+    seat: SeatNo,
+    lock: LockNo,
+    mode: Mode,
+    ops: OpFlags,
+    file: &str,
+    line: u32,
+) -> Result<Reply, LineError>
+    ensures { Calls (calls verifier.old (Check seat lock mode ops file.now line)) verifier.old verifier.new result }
+{
+    let file = verifier.file(file)?;
+    Ok(verifier.check(seat, lock, mode, ops, Site { file, line })?)
+}
+
+fn try_at(
+    verifier: &mut Verifier,
+    seat: SeatNo,
+    lock: LockNo,
+    mode: Mode,
+    file: &str,
+    line: u32,
+) -> Result<Reply, LineError>
+    ensures { Calls (calls verifier.old (Try seat lock mode file.now line)) verifier.old verifier.new result }
+{
+    let file = verifier.file(file)?;
+    Ok(verifier.note_try(seat, lock, mode, Site { file, line })?)
 }

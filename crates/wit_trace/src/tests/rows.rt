@@ -203,19 +203,20 @@ init 0 mtx - "a"| => line 2: F1 UnknownSeat
 init 3 mtx - "a"| => line 2: F1 UnknownSeat
 check 3 1 x n f:1| => line 2: F1 UnknownSeat
 lock 3 1| => line 2: F1 UnknownSeat
+try 3 1 x f:1| => line 2: F1 UnknownSeat
+giveup 3 1| => line 2: F1 UnknownSeat
+watch 0 1| => line 2: F1 UnknownSeat
+watch 3 1| => line 2: F1 UnknownSeat
 unlock 3 1 x| => line 2: F1 UnknownSeat
 check 1 1 x n f:1| => line 2: F2 UnknownLock
 lock 1 1| => line 2: F2 UnknownLock
+try 1 1 x f:1| => line 2: F2 UnknownLock
+giveup 1 1| => line 2: F2 UnknownLock
 unlock 1 1 x| => line 2: F2 UnknownLock
 init 1 mtx - "a"|lock 1 0| => line 3: F2 UnknownLock
 init 1 mtx - "a"|lock 1 2| => line 3: F2 UnknownLock
 init 1 mtx - "a"|init 1 rw - "b" "a"| => line 3: F3 ClassMismatch
 init 1 mtx - "a"|init 1 spin - "a"| => line 3: F3 ClassMismatch
-init 1 mtx - "a"|init 1 mtx - "b" "a"| => line 3: F34 NotYet
-init 1 mtx - "a"|init 1 mtx - "a"| => line 3: F34 NotYet
-init 1 mtx - "a"|init 1 mtx - "Giant"| => line 3: F34 NotYet
-init 1 mtx - "a"|init 1 mtx - "b" "Giant"| => line 3: F34 NotYet
-init 1 mtx - "a"|init 1 sx - "b"| => line 3: F34 NotYet
 init 1 rw - "a"|check 1 1 x n f:1|lock 1 1|check 1 1 s n f:2| => line 5: F7 SharedOfExclusive
 init 1 rw - "a"|check 1 1 s n f:1|lock 1 1|check 1 1 x n f:2| => line 5: F8 ExclusiveOfShared
 init 1 rw - "a"|check 1 1 x n f:1|lock 1 1|unlock 1 1 s| => line 5: F12 SharedUnlock
@@ -231,6 +232,20 @@ init 1 mtx - "a"|check 1 1 s n f:1| => line 3: F31 ModeNotAllowed
 init 1 mtx - "a"|check 1 1 x n f:1|init 1 mtx - "b"| => line 4: F24 Pending
 init 1 mtx - "a"|check 1 1 x n f:1|check 1 1 x n f:2| => line 4: F24 Pending
 init 1 mtx - "a"|check 1 1 x n f:1|unlock 1 1 x| => line 4: F24 Pending
+init 1 mtx - "a"|try 1 1 s f:1| => line 3: F31 ModeNotAllowed
+init 1 mtx - "a"|check 1 1 x n f:1|try 1 1 s f:2| => line 4: F31 ModeNotAllowed
+init 1 mtx - "a"|check 1 1 x n f:1|try 1 1 x f:2| => line 4: F24 Pending
+init 1 mtx - "a"|check 1 1 x n f:1|watch 1 0| => line 4: F24 Pending
+init 1 mtx - "a"|giveup 1 1| => line 3: F25 NotRequested
+init 1 mtx - "a"|check 1 1 x n f:1|giveup 2 1| => line 4: F25 NotRequested
+init 1 mtx - "a"|check 1 1 x n f:1|giveup 1 1|lock 1 1| => line 5: F25 NotRequested
+init 1 mtx - "a"|check 1 1 x n f:1|giveup 1 1|giveup 1 1| => line 5: F25 NotRequested
+watch 1 -1|watch 1 1| => line 3: F30 WatchOff
+watch 1 -1|watch 2 0| => line 3: F30 WatchOff
+watch 1 2| => line 2: syntax
+watch 1 00| => line 2: syntax
+watch 1 -0| => line 2: syntax
+watch 1 +1| => line 2: syntax
 init 1 mtx - "a"|check 1 1 x n f:1|lock 2 1| => line 4: F25 NotRequested
 init 1 mtx - "a"|check 1 1 x n f:1|lock 1 1|lock 1 1| => line 5: F25 NotRequested
 init 1 mtx - "a"|check 1 1 x n f:1|lock 1 1|check 1 1 x n f:2| => line 5: F9 Recursed
@@ -325,7 +340,7 @@ fn whole_traces(rt: HostRuntime) -> Result<(), Fail> {
 }
 
 /// The bytes of a text, where `|` stands for a line feed and `^` for a tab.
-fn marked(alloc: Global, text: &str) -> Result<Vec<u8>, AllocError> {
+pub fn marked(alloc: Global, text: &str) -> Result<Vec<u8>, AllocError> {
     let mut bytes = Vec::new(alloc);
     for byte in text.as_bytes() {
         let byte = match byte {

@@ -1,0 +1,62 @@
+-- The last chunks of a list, one more at each step.
+use Rattle.std.proofs.Common.{◌≡◌, ℕ, zero, suc, ◌+◌, ◌-◌, ◌<◌, Bool, true, false, List, [], ◌∷◌, ◌++◌, Option, None, Some, is_some, length, drop, get_or, find, reverse, refl, ap, sym, ◌∙◌, subst, arith}
+use Rattle.std.specs.List.{All}
+use Rattle.std.specs.Option.{option_or}
+use Rattle.std.proofs.lemmas.List.{drop_more, reverse-append, get_or_append_left, length-append}
+use Rattle.std.proofs.lemmas.List.Elements.{All-drop}
+use Rattle.std.proofs.lemmas.List.Folds.{find-append}
+use Rattle.std.proofs.Math.Seq.{drop-append_seam}
+use Rattle.wit_model.specs.Rules.Groups.{flat}
+
+module _ {X : Type 0} (P : X → Type 0) where
+  all-left : (xs ys : List X) → All P (xs ++ ys) → All P xs
+  all-left xs ys all = λ k d lt. subst P (get_or_append_left xs ys d k lt) (all k d (omega (arith, lt, length-append xs ys)))
+
+  all-right : (xs ys : List X) → All P (xs ++ ys) → All P ys
+  all-right xs ys all = subst (All P) (drop-append_seam xs ys) (All-drop P (length xs) (xs ++ ys) all)
+
+  -- what all of a list have, all of one of its chunks have
+  pub all-in-chunk : (gs : List (List X)) (i : ℕ) → i < length gs → All P (flat gs) → All P (get_or gs i [])
+  all-in-chunk [] i lt all = absurd (omega arith)
+  all-in-chunk (g ∷ gs) zero lt all = all-left g (flat gs) all
+  all-in-chunk (g ∷ gs) (suc i) lt all = all-in-chunk gs i (omega arith) (all-right g (flat gs) all)
+
+-- the last chunks, and one before them
+pub chunk-more : {X : Type 0} (gs : List (List X)) (i n : ℕ) → i < length gs → n ≡ i + 1 → flat (drop i gs) ≡ get_or gs i [] ++ flat (drop n gs)
+chunk-more gs i n lt next = ap flat (drop_more gs i [] lt) ∙ ap (λ k. get_or gs i [] ++ flat (drop k gs)) (sym next)
+
+-- the newest that passes
+pub newest-more : {X : Type 0} (p : X → Bool) (gs : List (List X)) (i n : ℕ) → i < length gs → n ≡ i + 1
+    → find p (reverse (flat (drop i gs))) ≡ option_or (find p (reverse (flat (drop n gs)))) (find p (reverse (get_or gs i [])))
+newest-more p gs i n lt next =
+    ap (λ c. find p (reverse c)) (chunk-more gs i n lt next) ∙ ap (find p) (reverse-append (get_or gs i []) (flat (drop n gs)))
+    ∙ find-append p (reverse (flat (drop n gs))) (reverse (get_or gs i []))
+
+-- where it is in the last chunks, it is the newest of all
+pub newest-of-all : {X : Type 0} (p : X → Bool) (gs : List (List X)) (n : ℕ) (x : X) → find p (reverse (flat (drop n gs))) ≡ Some x → find p (reverse (flat gs)) ≡ Some x
+newest-of-all p [] zero x is = is
+newest-of-all p [] (suc n) x is = is
+newest-of-all p (g ∷ gs) zero x is = is
+newest-of-all p (g ∷ gs) (suc n) x is =
+    ap (find p) (reverse-append g (flat gs)) ∙ find-append p (reverse (flat gs)) (reverse g) ∙ ap (λ o. option_or o (find p (reverse g))) (newest-of-all p gs n x is)
+
+module _ {X : Type 0} (p : X → Bool) (gs : List (List X)) (i n : ℕ) (chunk : List X) (found : Option X) (lt : i < length gs) (next : n ≡ i + 1) (is : chunk ≡ get_or gs i [])
+    (sees : found ≡ find p (reverse chunk)) (newer : find p (reverse (flat (drop n gs))) ≡ None) where
+  here : find p (reverse (flat (drop i gs))) ≡ found
+  here = newest-more p gs i n lt next ∙ ap (λ o. option_or o (find p (reverse (get_or gs i [])))) newer ∙ ap (λ (g : List X). find p (reverse g)) (sym is) ∙ sym sees
+
+  -- none is newer, and one is in this chunk
+  pub found-here : is_some found ≡ true → found ≡ find p (reverse (flat gs))
+  found-here some = go found some here
+    where
+      go : (o : Option X) → is_some o ≡ true → find p (reverse (flat (drop i gs))) ≡ o → o ≡ find p (reverse (flat gs))
+      go (Some x) some at = sym (newest-of-all p gs i x at)
+      go None some at = (cc)
+
+  -- nor is one in this chunk
+  pub none-here : is_some found ≡ false → find p (reverse (flat (drop i gs))) ≡ None
+  none-here none = go found none here
+    where
+      go : (o : Option X) → is_some o ≡ false → find p (reverse (flat (drop i gs))) ≡ o → find p (reverse (flat (drop i gs))) ≡ None
+      go (Some x) none at = (cc)
+      go None none at = at

@@ -1,0 +1,63 @@
+-- The rules from the fourth on, each where the ones before it don't apply.
+use Rattle.std.proofs.Common.{◌≡◌, Bool, true, false, not, ◌&&◌, cond, List, [], ◌∷◌, Option, None, Some, is_some, Result, Ok, Err, find, reverse, refl, ap, sym, ◌∙◌}
+use Rattle.std.specs.List.{last_or}
+use Rattle.wit_model.specs.declared.faults.Fault.{Fault}
+use Rattle.wit_model.specs.declared.faults.Fault.TheVariants.{SleepUnderSpin}
+use Rattle.wit_model.specs.declared.locks.Watch.{Watch}
+use Rattle.wit_model.specs.declared.locks.Instance.{Instance}
+use Rattle.wit_model.specs.declared.calls.Asked.{Asked}
+use Rattle.wit_model.specs.declared.calls.Reply.{Reply}
+use Rattle.wit_model.specs.declared.calls.Reply.TheVariants.{Pass}
+use Rattle.wit_model.specs.Rules.Types.{is_spin, class_of}
+use Rattle.wit_model.specs.Rules.Orders.{is_direct}
+use Rattle.wit_model.specs.Rules.History.{is_on}
+use Rattle.wit_model.specs.Rules.Verdict.{Basis, is_of, type_held, has_type_of, again, doubled, violates, reported, decided, teaches, chain_asked, ruling}
+use Rattle.wit_check.specs.Behind.{over}
+
+module _ (g : Basis) (c : List Instance) (last : Instance) (q : Asked) where
+  pub again-decides : (i : Instance) → find (is_of q.lock.0) c ≡ Some i → again q i ≡ decided (over g c last q)
+  again-decides i is = rw is refl
+
+  module _ (free : find (is_of q.lock.0) c ≡ None) where
+    pub double-decides : has_type_of g q last ≡ true → doubled g q last ≡ decided (over g c last q)
+    double-decides same = rw (free, same) refl
+
+    module _ (apart : has_type_of g q last ≡ false) where
+      pub direct-decides : is_direct g.orders (type_held g last).0 q.type_no.0 ≡ true → ◌≡◌ {A = Result Reply Fault} (Ok Pass) (decided (over g c last q))
+      direct-decides direct = rw (free, apart, direct) refl
+
+      module _ (new : is_direct g.orders (type_held g last).0 q.type_no.0 ≡ false) where
+        pub violation-decides : (i : Instance) → find (violates g q) (reverse c) ≡ Some i → reported g q c i ≡ decided (over g c last q)
+        violation-decides i is = rw (free, apart, new, is) refl
+
+        pub learning-decides : find (violates g q) (reverse c) ≡ None → decided (teaches g (Some last) q ∷ []) ≡ decided (over g c last q)
+        learning-decides none = rw (free, apart, new, none) refl
+
+-- the chain that a request is judged by
+module _ (g : Basis) (sleep spin : List Instance) (q : Asked) where
+  pub spin-asked : is_spin (class_of q.type_no.0 g.types) ≡ true → spin ≡ chain_asked g sleep spin q
+  spin-asked is = rw is refl
+
+  pub sleep-asked : is_spin (class_of q.type_no.0 g.types) ≡ false → sleep ≡ chain_asked g sleep spin q
+  sleep-asked is = rw is refl
+
+-- no spin lock is in the way: none is held, or one is asked for
+pub none-held : (kind held : Bool) → held ≡ false → (not kind && held) ≡ false
+none-held true held none = refl
+none-held false held none = none
+
+pub of-spin : (kind held : Bool) → kind ≡ true → (not kind && held) ≡ false
+of-spin kind held is = rw is refl
+
+module _ (g : Basis) (watch : Watch) (sleep spin : List Instance) (q : Asked) (on : is_on watch ≡ true) where
+  pub spin-decides : is_spin (class_of q.type_no.0 g.types) ≡ false → is_some (last_or None spin) ≡ true
+      → ◌≡◌ {A = Result Reply Fault} (Err SleepUnderSpin) (ruling g watch sleep spin q)
+  spin-decides sleeps some = rw (on, sleeps, some) refl
+
+  module _ (calm : (not (is_spin (class_of q.type_no.0 g.types)) && is_some (last_or None spin)) ≡ false) where
+    pub nothing-decides : last_or None (chain_asked g sleep spin q) ≡ None → ◌≡◌ {A = Result Reply Fault} (Ok Pass) (ruling g watch sleep spin q)
+    nothing-decides none = rw (on, calm, none) refl
+
+    pub chain-decides : (last : Instance) → last_or None (chain_asked g sleep spin q) ≡ Some last
+        → decided (over g (chain_asked g sleep spin q) last q) ≡ ruling g watch sleep spin q
+    chain-decides last is = rw (on, calm, is) refl

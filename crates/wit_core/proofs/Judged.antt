@@ -1,0 +1,142 @@
+-- What the verdict on a request needs, and that it is the rules' verdict.
+use Rattle.std.proofs.Common.{◌≡◌, ℕ, ◌+◌, ◌-◌, ◌*◌, ◌≤◌, Bool, true, false, List, [], ◌∷◌, length, map, get_or, refl, sym, ap, ap₂, ◌∙◌, subst, arith}
+use Rattle.std.specs.List.{All, AllByRecursion, list_all}
+use Rattle.std.proofs.lemmas.Bool.{and_parts, and_from, lt-ltb, le-leb}
+use Rattle.std.proofs.lemmas.List.{length-map, get_or_default}
+use Rattle.std.proofs.lemmas.List.Elements.{All-map, All-from_recursion}
+use Rattle.wit_model.specs.declared.flags.LockFlags.{LockFlags}
+use Rattle.wit_model.specs.declared.locks.Instance.{Instance}
+use Rattle.wit_model.specs.declared.locks.Lock.{Lock}
+use Rattle.wit_model.specs.declared.locks.LockType.{LockType}
+use Rattle.wit_model.specs.declared.locks.TypeNo.{TypeNo}
+use Rattle.wit_model.specs.declared.locks.Watch.{Watch}
+use Rattle.wit_model.specs.declared.calls.Asked.{Asked}
+use Rattle.wit_model.specs.declared.calls.Request.{Request}
+use Rattle.wit_model.specs.Rules.Chunks.{Chunks, IsList, chain_of}
+use Rattle.wit_model.specs.Rules.Groups.{flat}
+use Rattle.wit_model.specs.Rules.History.{chain, is_held}
+use Rattle.wit_model.specs.Rules.Locks.{locks_of, lock_at, unknown_lock}
+use Rattle.wit_model.specs.Rules.Numbers.{is_given, IsGiven, IsNumber}
+use Rattle.wit_model.specs.Rules.State.{Story, State, Known, state_of, types_of, typed_locks, seat_at, chain_in, is_seat}
+use Rattle.wit_model.specs.Rules.Verdict.{Basis, ruling, basis_of, verdict}
+use Rattle.wit_model.proofs.Chains.Held.{made_sane}
+use Rattle.wit_model.proofs.Chains.Stands.{stands-chain}
+use Rattle.wit_model.proofs.Histories.Legal.{seat_at-state, one_chain, sane_legal}
+use Rattle.wit_model.proofs.Numbered.{with_number-or}
+use Rattle.wit_model.proofs.Orders.Among.{lock-type}
+use Rattle.wit_model.proofs.Orders.Reads.{same-ruling}
+use Rattle.wit_model.proofs.Orders.Sound.{chain-held}
+use Rattle.wit_model.proofs.Orders.TypedLocks.{length-typed}
+use Rattle.wit_table.specs.Known.{Names}
+use Rattle.wit_matrix.specs.Relation.{Relation, HasSameOrders, HasSameFound}
+use Rattle.wit_matrix.proofs.Settled.{same_before}
+use Rattle.wit_check.specs.Bases.{basis, AreTypes}
+use Rattle.wit_check.specs.Held.{sleep_chain, spin_chain, IsJudgeable}
+use Rattle.wit_core.specs.declared.verifier.Verifier.TheInside.{Inside}
+use Rattle.wit_core.specs.Kept.{IsKept, start_in, history_in, story_in}
+use Rattle.wit_core.specs.Seats.{seat_in, locks_in, list_of, HoldFor}
+use Rattle.wit_core.proofs.Apt.{known-is}
+use Rattle.wit_core.proofs.HeldSeats.{stands-filter}
+use Rattle.wit_core.proofs.Keeping.{types_few}
+use Rattle.wit_core.proofs.Now.{now, seat-given, locks-told, view-is}
+
+-- a test that each passes, as a fact of each
+all-of : {X : Type 0} (p : X → Bool) (P : X → Type 0) → ((x : X) → p x ≡ true → P x) → (xs : List X) → list_all p xs ≡ true → AllByRecursion P xs
+all-of p P from [] all = tt
+all-of p P from (x ∷ xs) all = let parts = and_parts (p x) (list_all p xs) all in (from x parts.0, all-of p P from xs parts.1)
+
+module _ (v : Inside) (k : IsKept v) (s : Story) (seen : story_in v ≡ s) where
+  locks-are : v.known.known.locks ≡ typed_locks (start_in v) (history_in v)
+  locks-are = ap (λ (x : Known). x.locks) (known-is v k)
+
+  types-are : v.known.known.types ≡ types_of (start_in v) (history_in v)
+  types-are = ap (λ (x : Known). x.types) (known-is v k)
+
+  -- a lock that was made has a known type
+  pub type-given : (l : ℕ) → is_given v.known.known.locks l ≡ true → IsGiven v.known.known.types (lock_at v.known.known.locks l).type_no.0
+  type-given l is =
+      subst (λ (x : Known). IsGiven x.types (lock_at x.locks l).type_no.0) (sym (known-is v k))
+      (lock-type (start_in v) (history_in v) l (subst (λ (x : Known). is_given x.locks l ≡ true) (known-is v k) is))
+
+  pub asked-given : (l : ℕ) → is_given (state_of s).known.locks l ≡ true → IsGiven v.known.known.types (lock_at v.known.known.locks l).type_no.0
+  asked-given l is = type-given l (subst (λ (x : State). is_given x.known.locks l ≡ true) (sym (now v k s seen)) is)
+
+  -- so has each lock's place
+  pub types-given : (names : Names) (types : List TypeNo) → names.types ≡ v.known.known.types → types ≡ map (λ (l : Lock). l.type_no) v.known.known.locks → AreTypes names types
+  types-given names types same is =
+      subst (λ ts. All (λ (t : TypeNo). IsGiven ts t.0) types) (sym same)
+      (subst (All (λ (t : TypeNo). IsGiven v.known.known.types t.0)) (sym is)
+      (All-map (λ (t : TypeNo). IsGiven v.known.known.types t.0) (λ (l : Lock). l.type_no) v.known.known.locks
+      (λ i d lt. subst (λ (l : Lock). IsGiven v.known.known.types l.type_no.0)
+      (with_number-or v.known.known.locks (i + 1) unknown_lock (omega arith)
+      ∙ ap (λ n. get_or v.known.known.locks n unknown_lock) (let e : i + 1 - 1 ≡ i = omega arith in e)
+      ∙ get_or_default v.known.known.locks i unknown_lock d lt)
+      (type-given (i + 1) (and_from _ _ (lt-ltb 0 (i + 1) (omega arith)) (le-leb (i + 1) (length v.known.known.locks) (omega (arith, lt))))))))
+
+  pub matrix-sized : (size : ℕ) → size ≡ v.known.most_types → length v.known.known.types ≤ size
+  matrix-sized size is = let few = types_few v k in let most = k.types in omega (arith, is, few, most)
+
+  module _ (t : ℕ) (is : is_seat (state_of s) t ≡ true) (c : Chunks) (holds : HoldFor v.seats c) where
+    given : IsGiven v.seats.seats t
+    given = seat-given v k s seen t is
+
+    pub seat-within : IsNumber 256 t
+    seat-within = (given.0, omega (arith, given.1, holds.few))
+
+    pub list-within : IsList c (2 * t)
+    list-within = (omega (arith, given.0), omega (arith, given.1, holds.lists))
+
+    seat-before : is_seat (state_of (story_in v)) t ≡ true
+    seat-before = subst (λ (x : Story). is_seat (state_of x) t ≡ true) (sym seen) is
+
+    chain-of-list : (spin : Bool) → chain_of c (list_of spin t) ≡ locks_in spin (seat_in v.seats t)
+    chain-of-list spin = ap flat (holds.groups t spin given)
+
+    chain-now : (spin : Bool) → chain_of c (list_of spin t) ≡ chain spin t (history_in v)
+    chain-now spin =
+        chain-of-list spin ∙ locks-told v k (story_in v) refl t spin
+        ∙ ap (λ x. chain_in spin x) (seat_at-state (start_in v) v.known.files (history_in v) t seat-before) ∙ one_chain spin t (history_in v)
+
+    made-typed : (types : List TypeNo) → types ≡ map (λ (l : Lock). l.type_no) v.known.known.locks → (l : ℕ) → IsGiven (locks_of (history_in v)) l → IsGiven types l
+    made-typed types are l made =
+        let a = ap length are in
+        let b = length-map v.known.known.locks (λ (l : Lock). l.type_no) in
+        let c = ap length locks-are in
+        let d = length-typed (start_in v) (history_in v) in
+        (made.0, omega (arith, made.1, a, b, c, d))
+
+    pub judgeable : (types : List TypeNo) → types ≡ map (λ (l : Lock). l.type_no) v.known.known.locks → (spin : Bool) → IsJudgeable types (chain_of c (list_of spin t))
+    judgeable types are spin =
+        let sane = sane_legal (start_in v) v.known.files (history_in v) k.legal in
+        let one = λ (l : ℕ). stands-chain spin t l (history_in v) sane in
+        subst (IsJudgeable types) (sym (chain-now spin)) (record {
+          once = λ l. omega (arith, one l, stands-filter l (chain spin t (history_in v)));
+          typed = All-from_recursion (λ (i : Instance). IsGiven types i.lock.0) (chain spin t (history_in v))
+              (all-of (λ (i : Instance). is_held t i.lock.0 (history_in v)) (λ (i : Instance). IsGiven types i.lock.0)
+              (λ i held. made-typed types are i.lock.0 (made_sane t i.lock.0 (history_in v) sane held))
+              (chain spin t (history_in v)) (chain-held spin t (history_in v)));
+        })
+
+    -- the ruling over the table and the matrix is the rules' verdict
+    pub verdict-told : (names : Names) (relation : Relation) (types : List TypeNo) (watch : Watch) (q : Request) (type_no : TypeNo) (flags : LockFlags)
+        → names.types ≡ v.known.known.types → names.blessed ≡ v.known.known.blessed → HasSameOrders relation.orders v.known.known.orders → HasSameFound relation.found v.known.known.found
+        → types ≡ map (λ (l : Lock). l.type_no) v.known.known.locks → watch ≡ v.watch
+        → type_no ≡ (lock_at v.known.known.locks q.lock.0).type_no → flags ≡ (lock_at v.known.known.locks q.lock.0).made.flags
+        → ruling (basis names relation types) watch (sleep_chain c t) (spin_chain c t)
+        (record { lock = q.lock; type_no = type_no; flags = flags; mode = q.mode; ops = q.ops; site = q.site })
+        ≡ verdict (state_of s).known (state_of s).watch (seat_at (state_of s) t) q
+    verdict-told names relation types watch q type_no flags same_types same_blessed direct pairs are watches type_is flags_are =
+        same-ruling (basis names relation types) v.known.known.orders v.known.known.found direct (same_before relation.orders v.known.known.orders direct) pairs
+        watch (sleep_chain c t) (spin_chain c t) (asked type_no flags)
+        ∙ ap₂ (λ ts bs. ruling (with_lists ts types bs) watch (sleep_chain c t) (spin_chain c t) (asked type_no flags)) same_types same_blessed
+        ∙ ap₂ (λ ls w. ruling (with_lists v.known.known.types ls v.known.known.blessed) w (sleep_chain c t) (spin_chain c t) (asked type_no flags)) are watches
+        ∙ ap₂ (λ sl sp. ruling (basis_of v.known.known) v.watch sl sp (asked type_no flags)) (chain-of-list false) (chain-of-list true)
+        ∙ ap₂ (λ n fs. ruling (basis_of v.known.known) v.watch (locks_in false (seat_in v.seats t)) (locks_in true (seat_in v.seats t)) (asked n fs)) type_is flags_are
+        ∙ ap (λ x. verdict v.known.known v.watch x q) (sym (view-is v.seats t))
+        ∙ ap (λ (x : State). verdict x.known x.watch (seat_at x t) q) (now v k s seen)
+      where
+        asked : TypeNo → LockFlags → Asked
+        asked n fs = record { lock = q.lock; type_no = n; flags = fs; mode = q.mode; ops = q.ops; site = q.site }
+
+        with_lists : List LockType → List TypeNo → List (List ℕ × List ℕ) → Basis
+        with_lists ts ls bs = record { types = ts; lock_types = ls; orders = v.known.known.orders; found = v.known.known.found; blessed = bs }

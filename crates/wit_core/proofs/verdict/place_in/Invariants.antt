@@ -1,7 +1,0 @@
-use Rattle.std.proofs.Common.{◌≡◌, ◌<◌, ℕ, false, get_or}
-use Rattle.wit_model.specs.declared.locks.Instance.{Instance}
-use Rattle.wit_model.specs.Rules.Verdict.{is_of}
-use Rattle.wit_core.proofs.verdict.place_in.Given as goal
-
-abbrev pub invariant-loop-place : goal.invariant-loop-place
-invariant-loop-place l = (k : ℕ) (d : Instance) → k < l.place → is_of l.lock.0 (get_or l.chain k d) ≡ false

@@ -1,0 +1,89 @@
+-- A ruling reads of the orders which are direct and which types are before which, and of the found pairs which are found.
+use Rattle.std.proofs.Common.{◌≡◌, ℕ, Bool, not, ◌&&◌, ◌||◌, cond, List, [], ◌∷◌, Option, None, Some, is_some, Result, Ok, find, reverse, unwrap_or, refl, ap, ap₂, ◌∙◌}
+use Rattle.std.specs.List.{last_or, before_first}
+use Rattle.std.specs.Option.{option_map}
+use Rattle.wit_model.specs.declared.faults.Fault.{Fault}
+use Rattle.wit_model.specs.declared.locks.TypeNo.{TypeNo}
+use Rattle.wit_model.specs.declared.locks.Watch.{Watch}
+use Rattle.wit_model.specs.declared.locks.Instance.{Instance}
+use Rattle.wit_model.specs.declared.calls.Adoption.{Adoption}
+use Rattle.wit_model.specs.declared.calls.Asked.{Asked}
+use Rattle.wit_model.specs.declared.calls.Conflict.{Conflict}
+use Rattle.wit_model.specs.declared.calls.Heading.{Heading}
+use Rattle.wit_model.specs.declared.calls.Heading.TheVariants as heading
+use Rattle.wit_model.specs.declared.calls.Reply.{Reply}
+use Rattle.wit_model.specs.declared.calls.Reply.TheVariants.{Pass, Adopted, Silent, Duplicate, Reversal}
+use Rattle.wit_model.specs.Rules.Locks.{has_flag}
+use Rattle.wit_model.specs.Rules.Orders.{is_direct, is_before, is_found}
+use Rattle.wit_model.specs.Rules.Verdict.{Basis, Rule, is_of, type_held, has_type_of, is_sleepable, is_giant, is_blessed, place_of, place_asked, breach, violates, conflict, reported, doubled, doubles, follows, breaks_order, teaches, is_learnt, when, decided, isnt_watched, sleeps_under_spin, holds_nothing, holds_it, chain_asked, ruling}
+
+find-same : {X : Type 0} (p r : X → Bool) → ((x : X) → p x ≡ r x) → (xs : List X) → find p xs ≡ find r xs
+find-same p r same [] = refl
+find-same p r same (x ∷ xs) = ap₂ (λ b o. cond b (Some x) o) (same x) (find-same p r same xs)
+
+module _ (g : Basis) (orders : List Adoption) (found : List (TypeNo × TypeNo)) (direct : (a b : ℕ) → is_direct g.orders a b ≡ is_direct orders a b)
+    (before : (a b : ℕ) → is_before g.orders a b ≡ is_before orders a b) (pairs : (a b : ℕ) → is_found g.found a b ≡ is_found found a b) where
+  abbrev other : Basis
+  other = record g { orders = orders; found = found }
+
+  breach-same : (a h : TypeNo) → breach g a h ≡ breach other a h
+  breach-same a h =
+      ap (λ b. cond (is_giant g a && is_sleepable g h) None
+      (cond (is_sleepable g a && is_giant g h) None
+      (cond (is_sleepable g a && not (is_sleepable g h)) (Some heading.Sleepable)
+      (cond (is_giant g a && not (is_sleepable g h)) (Some heading.Giant) (cond b (Some heading.Order) None))))) (before a.0 h.0)
+
+  conflict-same : (q : Asked) (c : List Instance) (i : Instance) → conflict g q c i ≡ conflict other q c i
+  conflict-same q c i =
+      ap (λ (o : Option Heading). record {
+        heading = unwrap_or o heading.Order;
+        held = place_of i;
+        older = option_map place_of (find (has_type_of g q) (reverse (before_first (is_of i.lock.0) c)));
+        asked = place_asked q;
+      }) (breach-same q.type_no (type_held g i))
+
+  reported-same : (q : Asked) (c : List Instance) (i : Instance) → reported g q c i ≡ reported other q c i
+  reported-same q c i =
+      ap₂ (λ (b : Bool) (x : Conflict). cond {A = Result Reply Fault} (b || is_blessed g (type_held g i) q.type_no) (Ok (Silent (type_held g i) q.type_no)) (Ok (Reversal x)))
+      (pairs (type_held g i).0 q.type_no.0) (conflict-same q c i)
+
+  doubles-same : (last : Option Instance) (q : Asked) → doubles g last q ≡ doubles other last q
+  doubles-same None q = refl
+  doubles-same (Some i) q =
+      ap (λ b. when (has_type_of g q i) (cond (has_flag q.flags.0 0x02 || has_flag q.ops.0 0x02) (Ok Pass)
+      (cond b (Ok (Silent q.type_no q.type_no)) (Ok (Duplicate (record { last = place_of i; asked = place_asked q })))))) (pairs q.type_no.0 q.type_no.0)
+
+  follows-same : (last : Option Instance) (q : Asked) → follows g last q ≡ follows other last q
+  follows-same None q = refl
+  follows-same (Some i) q = ap (λ b. when b (Ok Pass)) (direct (type_held g i).0 q.type_no.0)
+
+  map-same : (q : Asked) (c : List Instance) (o : Option Instance) → option_map (reported g q c) o ≡ option_map (reported other q c) o
+  map-same q c None = refl
+  map-same q c (Some i) = ap Some (reported-same q c i)
+
+  breaks-same : (c : List Instance) (q : Asked) → breaks_order g c q ≡ breaks_order other c q
+  breaks-same c q =
+      ap (option_map (reported g q c)) (find-same (violates g q) (violates other q) (λ i. ap is_some (breach-same q.type_no (type_held g i))) (reverse c))
+      ∙ map-same q c (find (violates other q) (reverse c))
+
+  teaches-same : (last : Option Instance) (q : Asked) → teaches g last q ≡ teaches other last q
+  teaches-same None q = refl
+  teaches-same (Some i) q =
+      ap (λ b. when (has_flag q.ops.0 0x01 && not (is_giant g (type_held g i) && is_sleepable g q.type_no) && not b) (Ok (Adopted (type_held g i) q.type_no)))
+      (before q.type_no.0 (type_held g i).0)
+
+  module _ (watch : Watch) (spin c : List Instance) (last : Option Instance) (q : Asked) where
+    with-rules : Rule → Rule → Rule → Rule → Result Reply Fault
+    with-rules a b d e =
+        decided (isnt_watched watch ∷ sleeps_under_spin g spin q ∷ holds_nothing last ∷ holds_it c q ∷ a ∷ b ∷ d ∷ e ∷ [])
+
+    rules-same : with-rules (doubles g last q) (follows g last q) (breaks_order g c q) (teaches g last q)
+        ≡ with-rules (doubles other last q) (follows other last q) (breaks_order other c q) (teaches other last q)
+    rules-same =
+        ap₂ (λ a b. with-rules a b (breaks_order g c q) (teaches g last q)) (doubles-same last q) (follows-same last q)
+        ∙ ap₂ (λ d e. with-rules (doubles other last q) (follows other last q) d e) (breaks-same c q) (teaches-same last q)
+
+  -- the ruling over other lists of the same orders and pairs
+  pub same-ruling : (watch : Watch) (sleep spin : List Instance) (q : Asked) → ruling g watch sleep spin q ≡ ruling other watch sleep spin q
+  unfolding with-rules
+  same-ruling watch sleep spin q = rules-same watch spin (chain_asked g sleep spin q) (last_or None (chain_asked g sleep spin q)) q
