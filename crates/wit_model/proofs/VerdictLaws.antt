@@ -1,5 +1,9 @@
 -- Laws of the verdict of a check.
+pub mod AheadLaws
 pub mod Classes
 pub mod Judged
 pub mod Passing
+pub mod Quiet
+pub mod Rises
+pub mod Rising
 pub mod Told

@@ -119,9 +119,23 @@ PassedPassesOn =
 
 -- ---- clean histories
 
--- after a clean history's check for a lock that its seat didn't hold, each lock that it holds is to be taken before that
+-- after a clean history's check of a lock that its seat doesn't hold, each lock that it holds is ahead of that one
 abbrev pub HeldComeFirst : Type 0
 HeldComeFirst =
     (start : Start) (files : List (List ℕ)) (e : Entry) (h : List Entry) (q : Request) (l : ℕ)
     → start.blessed ≡ [] → IsLegal start files (e ∷ h) → is_clean (e ∷ h) ≡ true
     → e.call ≡ Check q → num e.seat.0 q.lock.0 h ≡ 0 → 0 < num e.seat.0 l h → IsAhead start (e ∷ h) l q.lock.0
+
+-- a lock that is ahead of another stays so
+abbrev pub AheadStays : Type 0
+AheadStays = (start : Start) (e : Entry) (h : List Entry) (a b : ℕ) → IsAhead start h a b → IsAhead start (e ∷ h) a b
+
+-- what is ahead of a lock is ahead of all that this one is ahead of
+abbrev pub AheadJoins : Type 0
+AheadJoins = (start : Start) (h : List Entry) (a b c : ℕ) → IsAhead start h a b → IsAhead start h b c → IsAhead start h a c
+
+-- no lock is ahead of itself after a legal history of an accepted start
+abbrev pub NoneIsAheadOfItself : Type 0
+NoneIsAheadOfItself =
+    (start : Start) (files : List (List ℕ)) (h : List Entry) (a : ℕ)
+    → start_fault start ≡ None → IsLegal start files h → IsAhead start h a a → ⊥

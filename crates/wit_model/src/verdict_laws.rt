@@ -8,6 +8,10 @@ ghost use Rattle.wit_model.specs.VerdictLaws.{
   PairsAreReportedOnce,
   PassedIsDirect,
   PassedPassesOn,
+  HeldComeFirst,
+  AheadStays,
+  AheadJoins,
+  NoneIsAheadOfItself,
 };
 
 /// No order between two lock types is adopted twice, those of static lists included.
@@ -38,4 +42,20 @@ pub fn law_pairs_reported_once()
 pub fn law_passed_passes_on()
     ensures direct { PassedIsDirect }
     ensures later { PassedPassesOn }
+{}
+
+/// In a clean run a seat takes its locks in one order. Where nothing was reported, everything was watched, each check might teach an
+/// order, and nothing is excepted (no try, no second lock of a type allowed, no Giant, no blessed pair), each check of a lock that its
+/// seat doesn't hold leaves every lock that it holds ahead of that one: those of its kind by a path of adopted orders between their
+/// types, and a spin lock only of spin locks. WITNESS compares with the last held lock alone, and yet this is true of all of them.
+pub fn law_held_come_first()
+    ensures { HeldComeFirst }
+{}
+
+/// "Ahead" is an order of locks: once one is ahead of another it stays so, what is ahead of a lock is ahead of all that this one is ahead
+/// of, and no lock is ever ahead of itself.
+pub fn law_ahead_is_order()
+    ensures stays { AheadStays }
+    ensures joins { AheadJoins }
+    ensures sound { NoneIsAheadOfItself }
 {}

@@ -1,7 +1,7 @@
 -- A lock's type has the lock's class, and the name under which the lock takes part in orders.
-use Rattle.std.proofs.Common.{◌≡◌, ℕ, ◌+◌, ◌-◌, ◌<◌, ◌≤◌, Bool, true, false, not, ◌&&◌, cond, List, [], ◌∷◌, ◌++◌, length, get_or, Ok, refl, ap, sym, ◌∙◌, subst, arith, append-nil, length-append}
-use Rattle.std.specs.List.{list_all, list_any, position_or_len}
-use Rattle.std.proofs.lemmas.Bool.{and_parts, and_from, ltb-true, leb-true, lt-ltb, le-leb, true_from_ne_false, true≢false, false≢true, not-false}
+use Rattle.std.proofs.Common.{◌≡◌, ℕ, ◌+◌, ◌-◌, Bool, true, false, not, ◌&&◌, cond, List, [], ◌∷◌, ◌++◌, length, get_or, Ok, refl, ap, sym, ◌∙◌, subst, arith, append-nil, length-append}
+use Rattle.std.specs.List.{list_all, position_or_len}
+use Rattle.std.proofs.lemmas.Bool.{and_parts, and_from, ltb-true, leb-true, lt-ltb, le-leb, true_from_ne_false, true≢false, false≢true}
 use Rattle.std.proofs.lemmas.Slice.Eq.{bytes_eq-Decides}
 use Rattle.std.proofs.lemmas.List.Sums.{passes_at_first}
 use Rattle.std.proofs.lemmas.List.Folds.{list_all-append, list_all_at, list_any_at}
@@ -14,7 +14,7 @@ use Rattle.wit_model.specs.declared.calls.Call.TheVariants.{Init}
 use Rattle.wit_model.specs.declared.calls.Reply.{Reply}
 use Rattle.wit_model.specs.declared.calls.Entry.{Entry}
 use Rattle.wit_model.specs.Rules.Numbers.{is_number, is_given, IsNumber}
-use Rattle.wit_model.specs.Rules.Types.{LockType, is_same_class, is_spin, is_named, is_enrolled, is_otherwise, type_number, type_name_of, class_of, name_of, enrolled, types_after}
+use Rattle.wit_model.specs.Rules.Types.{LockType, is_same_class, is_spin, is_named, is_enrolled, is_otherwise, type_number, type_name_of, class_of, name_of, types_after}
 use Rattle.wit_model.specs.Rules.Locks.{Lock, locks_of, lock_of, lock_at, made_among, unknown_lock, is_spin_lock}
 use Rattle.wit_model.specs.Rules.State.{Start, state_of, types_of, typed_locks}
 use Rattle.wit_model.specs.Rules.Step.{answer_of, story_after, IsLegal}

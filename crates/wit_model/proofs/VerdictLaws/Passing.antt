@@ -1,8 +1,8 @@
 -- A request that passed where all rules were to be met has a direct order behind the last held lock, and by it passes from then on.
-use Rattle.std.proofs.Common.{◌≡◌, ◌⊎◌, ℕ, Bool, true, false, not, ◌&&◌, ◌||◌, cond, eqb, List, [], ◌∷◌, ◌++◌, map, Option, None, Some, Result, Ok, is_some, find, reverse, refl, ap, ap₂, sym, ◌∙◌, subst, inl, inr, ⊎_elim, codes}
-use Rattle.std.specs.List.{list_any, last_or}
+use Rattle.std.proofs.Common.{◌≡◌, ℕ, Bool, true, false, not, ◌&&◌, ◌||◌, cond, eqb, List, [], ◌∷◌, ◌++◌, map, Option, None, Some, Result, Ok, is_some, find, reverse, refl, ap, ap₂, sym, ◌∙◌, subst, ⊎_elim, codes}
+use Rattle.std.specs.List.{last_or}
 use Rattle.std.specs.Str.{bytes_eq}
-use Rattle.std.proofs.lemmas.Bool.{false≢true, true≢false, or_left, or_right, and_parts, and_from, eq-eqb, eqb-true}
+use Rattle.std.proofs.lemmas.Bool.{true≢false, or_left, or_right, and_parts, and_from, eq-eqb, eqb-true}
 use Rattle.std.proofs.lemmas.List.{reverse-append}
 use Rattle.std.proofs.lemmas.List.Folds.{list_any-append}
 use Rattle.wit_model.specs.declared.faults.Fault.{Fault}
@@ -12,33 +12,28 @@ use Rattle.wit_model.specs.declared.locks.TypeNo.{TypeNo}
 use Rattle.wit_model.specs.declared.locks.Instance.{Instance}
 use Rattle.wit_model.specs.declared.calls.Asked.{Asked}
 use Rattle.wit_model.specs.declared.calls.NewLock.{NewLock}
-use Rattle.wit_model.specs.declared.calls.Adoption.{Adoption}
 use Rattle.wit_model.specs.declared.calls.Heading.{Heading}
 use Rattle.wit_model.specs.declared.calls.Heading.TheVariants as heading
-use Rattle.wit_model.specs.declared.calls.Request.{Request}
-use Rattle.wit_model.specs.declared.calls.Call.{Call}
 use Rattle.wit_model.specs.declared.calls.Call.TheVariants.{Check}
 use Rattle.wit_model.specs.declared.calls.Reply.{Reply}
 use Rattle.wit_model.specs.declared.calls.Reply.TheVariants.{Pass, Adopted, Silent, Reversal, Duplicate}
 use Rattle.wit_model.specs.declared.calls.Entry.{Entry}
 use Rattle.wit_model.specs.Rules.Numbers.{is_given}
-use Rattle.wit_model.specs.Rules.Types.{is_same_class, type_name_of}
+use Rattle.wit_model.specs.Rules.Types.{is_same_class}
 use Rattle.wit_model.specs.Rules.Locks.{locks_of, lock_of, lock_at, has_flag, is_spin_lock, is_of_kind}
 use Rattle.wit_model.specs.Rules.Orders.{is_adoption_of, is_direct, is_before, is_found, IsSound, adopted}
-use Rattle.wit_model.specs.Rules.History.{is_on, is_held, held_of, chain, instance, watch_of}
-use Rattle.wit_model.specs.Rules.State.{Start, known_of, types_of, typed_locks, orders_of}
+use Rattle.wit_model.specs.Rules.History.{is_on, held_of, chain, instance, watch_of}
+use Rattle.wit_model.specs.Rules.State.{Start, known_of, typed_locks, orders_of}
 use Rattle.wit_model.specs.Rules.Start.{start_fault}
-use Rattle.wit_model.specs.Rules.Verdict.{Basis, type_held, has_type_of, is_sleepable, is_giant, place_of, place_asked, doubled, breach, violates, is_blessed, conflict, reported, is_learnt, basis_of, asked_of}
+use Rattle.wit_model.specs.Rules.Verdict.{Basis, type_held, has_type_of, is_sleepable, is_giant, place_of, place_asked, doubled, violates, is_blessed, conflict, reported, is_learnt, basis_of, asked_of}
 use Rattle.wit_model.specs.Rules.Step.{IsLegal}
-use Rattle.wit_model.specs.Rules.Ahead.{lock_type}
 use Rattle.wit_model.specs.Rules.Clean.{is_giant_lock}
-use Rattle.wit_model.specs.VerdictLaws.{AsksBehind, HasPassed, is_sleepable_lock, is_with_giant}
+use Rattle.wit_model.specs.VerdictLaws.{AsksBehind, HasPassed, is_sleepable_lock}
 use Rattle.wit_model.proofs.Chains.Found.{if_some, found}
 use Rattle.wit_model.proofs.Chains.Held.{made_sane}
-use Rattle.wit_model.proofs.Histories.Accepted.{same_reply}
 use Rattle.wit_model.proofs.Histories.Legal.{sane_legal}
 use Rattle.wit_model.proofs.Orders.Paths.{direct-before}
-use Rattle.wit_model.proofs.Orders.Ruled.{Says, Passed, Learnt, Doubled, Broken, Cause, Unwatched, Empty, Recursion, Known, Untaught}
+use Rattle.wit_model.proofs.Orders.Ruled.{Says, Passed, Learnt, Doubled, Broken, Unwatched, Empty, Recursion, Known, Untaught}
 use Rattle.wit_model.proofs.Orders.Sound.{last_whole, type-held, last-held, sound_legal}
 use Rattle.wit_model.proofs.Orders.Started.{sound_started}
 use Rattle.wit_model.proofs.Orders.TypedLocks.{known-made, lock_at-made}
@@ -157,6 +152,9 @@ module _ (start : Start) (files : List (List ℕ)) (e : Entry) (h : List Entry) 
   type-last : (type_held g last).0 ≡ a
   type-last = ap (λ (n : TypeNo). n.0) (type-held (known_of start h) last) ∙ behind.parent
 
+  pub type-of_last : (i : Instance) → last_or None (chain kind e.seat.0 h) ≡ Some i → type_held g i ≡ (lock_at (typed_locks start h) behind.last).type_no
+  type-of_last i is = ap (λ (j : Instance). type_held g j) (same-last (chain kind e.seat.0 h) i last is is-last) ∙ type-held (known_of start h) last
+
   direct-last : (i : Instance) → last_or None (chain kind e.seat.0 h) ≡ Some i → is_direct g.orders (type_held g i).0 q.type_no.0 ≡ is_direct (orders_of start h) a b
   direct-last i is =
       ap₂ (λ x y. is_direct (orders_of start h) x y)
@@ -198,11 +196,6 @@ module _ (start : Start) (files : List (List ℕ)) (e : Entry) (h : List Entry) 
       found (kind start files e h a b legal has.behind) e.seat.0 has.behind.request.lock.0 h (sane_legal start files h legal.2)
       ∙ ap (λ held. if_some (held && is_of_kind (kind start files e h a b legal has.behind) (locks_of h) has.behind.request.lock.0) (instance e.seat.0 h has.behind.request.lock.0)) has.unheld
 
-  type-of_last : (i : Instance) → last_or None held_before ≡ Some i → type_held basis i ≡ (lock_at (typed_locks start h) has.behind.last).type_no
-  type-of_last i is =
-      ap (λ (j : Instance). type_held basis j) (same-last held_before i (last start files e h a b legal has.behind) is (is-last start files e h a b legal has.behind))
-      ∙ type-held (known_of start h) (last start files e h a b legal has.behind)
-
   bound-types : (i : Instance) → last_or None held_before ≡ Some i
       → ((is_giant basis (type_held basis i) && is_sleepable basis asked.type_no) || (is_sleepable basis (type_held basis i) && is_giant basis asked.type_no)) ≡ false
   bound-types i is =
@@ -210,10 +203,10 @@ module _ (start : Start) (files : List (List ℕ)) (e : Entry) (h : List Entry) 
       let asks = (checked start files e h has.behind.request legal has.behind.asks).lock in
       ap₂ (λ x y. x || y)
       (ap₂ (λ x y. x && y)
-      (ap (λ n. is_giant basis n) (type-of_last i is) ∙ giant-lock start files h has.behind.last legal.2 was)
+      (ap (λ n. is_giant basis n) (type-of_last start files e h a b legal has.behind i is) ∙ giant-lock start files h has.behind.last legal.2 was)
       (sleepable-lock start files h has.behind.request.lock.0 legal.2 asks))
       (ap₂ (λ x y. x && y)
-      (ap (λ n. is_sleepable basis n) (type-of_last i is) ∙ sleepable-lock start files h has.behind.last legal.2 was)
+      (ap (λ n. is_sleepable basis n) (type-of_last start files e h a b legal has.behind i is) ∙ sleepable-lock start files h has.behind.last legal.2 was)
       (giant-lock start files h has.behind.request.lock.0 legal.2 asks))
       ∙ has.bound
 

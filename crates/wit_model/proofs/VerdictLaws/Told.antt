@@ -1,6 +1,6 @@
 -- What a reversal and a duplicate tell, and that no pair of types is told of twice.
-use Rattle.std.proofs.Common.{◌≡◌, ◌⊎◌, ℕ, Bool, true, false, not, ◌&&◌, ◌||◌, cond, List, [], ◌∷◌, ◌++◌, Option, None, Some, Result, Ok, is_some, unwrap_or, find, reverse, refl, ap, ap₂, sym, ◌∙◌, subst, inl, inr, ⊎_elim}
-use Rattle.std.proofs.lemmas.Bool.{false≢true, true≢false, or_parts, or_cases, or_left, or_right, eqb-true, false_from_ne_true}
+use Rattle.std.proofs.Common.{◌≡◌, ℕ, Bool, true, false, not, ◌&&◌, ◌||◌, cond, List, [], ◌∷◌, ◌++◌, Option, None, Some, Result, Ok, is_some, unwrap_or, find, reverse, refl, ap, sym, ◌∙◌, subst, ⊎_elim}
+use Rattle.std.proofs.lemmas.Bool.{false≢true, true≢false, or_cases, or_left, or_right, eqb-true, false_from_ne_true}
 use Rattle.wit_model.specs.declared.faults.Fault.{Fault}
 use Rattle.wit_model.specs.declared.locks.TypeNo.{TypeNo}
 use Rattle.wit_model.specs.declared.locks.Watch.{Watch}
@@ -15,7 +15,7 @@ use Rattle.wit_model.specs.declared.calls.Call.TheVariants.{Check}
 use Rattle.wit_model.specs.declared.calls.Reply.{Reply}
 use Rattle.wit_model.specs.declared.calls.Reply.TheVariants.{Pass, Silent, Reversal, Duplicate}
 use Rattle.wit_model.specs.declared.calls.Entry.{Entry}
-use Rattle.wit_model.specs.Rules.Locks.{Lock, locks_of, lock_at, has_flag, is_spin_lock}
+use Rattle.wit_model.specs.Rules.Locks.{locks_of, lock_at, has_flag, is_spin_lock}
 use Rattle.wit_model.specs.Rules.Orders.{Before, is_before, is_pair_of, is_found, found_once}
 use Rattle.wit_model.specs.Rules.History.{is_held, chain, watch_of}
 use Rattle.wit_model.specs.Rules.State.{Start, known_of, typed_locks, orders_of, found_after, found_of}
@@ -25,7 +25,7 @@ use Rattle.wit_model.specs.Rules.Ahead.{lock_type}
 use Rattle.wit_model.specs.VerdictLaws.{reported_pair, reported_pairs, AreUnlike}
 use Rattle.wit_model.proofs.Histories.Accepted.{same_reply}
 use Rattle.wit_model.proofs.Orders.Paths.{before_from_test}
-use Rattle.wit_model.proofs.Orders.Ruled.{IsBehind, Says, Passed, Learnt, Doubled, Broken}
+use Rattle.wit_model.proofs.Orders.Ruled.{Says, Passed, Learnt, Doubled, Broken}
 use Rattle.wit_model.proofs.Orders.Sound.{type-held, chain-held}
 use Rattle.wit_model.proofs.Orders.Among.{found-last}
 use Rattle.wit_model.proofs.VerdictLaws.Judged.{chain-of_kind, told-asked}
@@ -155,11 +155,14 @@ module _ (start : Start) (files : List (List ℕ)) (e : Entry) (h : List Entry) 
   reversal-held x is =
       let a = asked-reversal x is in
       let b = as-reversal a.0 a.1 x is in
-      let kind = is_spin_lock (locks_of h) a.0.lock.0 in
-      (subst (λ (y : Conflict). is_held e.seat.0 y.held.lock.0 h ≡ true) b.is
-      (found-last (λ (i : Instance). is_held e.seat.0 i.lock.0 h) (violates (basis_of (known_of start h)) (asked_of (known_of start h) a.0)) (chain kind e.seat.0 h) b.held
-      (chain-held kind e.seat.0 h) b.violation),
-      a.0, a.1, ap (λ (y : Conflict). y.asked.lock) (sym b.is))
+      let kind = is_spin_lock (locks_of h) a.0.lock.0 in (
+        subst (λ (y : Conflict). is_held e.seat.0 y.held.lock.0 h ≡ true) b.is
+            (found-last (λ (i : Instance). is_held e.seat.0 i.lock.0 h) (violates (basis_of (known_of start h)) (asked_of (known_of start h) a.0)) (chain kind e.seat.0 h) b.held
+            (chain-held kind e.seat.0 h) b.violation),
+        a.0,
+        a.1,
+        ap (λ (y : Conflict). y.asked.lock) (sym b.is),
+      )
 
   pub reversal-order : (x : Conflict) → e.reply ≡ Reversal x → x.heading ≡ heading.Order
       → Before (orders_of start h) (lock_type start h x.asked.lock.0) (lock_type start h x.held.lock.0)
