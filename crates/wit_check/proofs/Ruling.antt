@@ -1,5 +1,5 @@
 -- The rules from the fourth on, each where the ones before it don't apply.
-use Rattle.std.proofs.Common.{◌≡◌, Bool, true, false, not, ◌&&◌, cond, List, [], ◌∷◌, Option, None, Some, is_some, Result, Ok, Err, find, reverse, refl, ap, sym, ◌∙◌}
+use Rattle.std.proofs.Common.{◌≡◌, Bool, true, false, not, ◌&&◌, List, [], ◌∷◌, None, Some, is_some, Result, Ok, Err, find, reverse, refl}
 use Rattle.std.specs.List.{last_or}
 use Rattle.wit_model.specs.declared.faults.Fault.{Fault}
 use Rattle.wit_model.specs.declared.faults.Fault.TheVariants.{SleepUnderSpin}

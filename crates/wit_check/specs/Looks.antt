@@ -1,5 +1,5 @@
 -- One look through a chain, newest lock first.
-use Rattle.std.specs.Prelude.{ℕ, Bool, ◌&&◌, List, [], ◌∷◌, None, Some, is_some, is_none, if◌then◌else◌}
+use Rattle.std.specs.Prelude.{◌&&◌, List, [], ◌∷◌, None, Some, is_some, is_none, if◌then◌else◌}
 use Rattle.wit_model.specs.declared.locks.Instance.{Instance}
 use Rattle.wit_model.specs.declared.locks.TypeNo.{TypeNo}
 use Rattle.wit_model.specs.declared.calls.Asked.{Asked}

@@ -15,12 +15,7 @@ use wit_model::{Asked, Conflict, Heading, Instance};
 
 /// Reported once for a pair of types, and never where the pair is blessed. `older` is the newest lock of the requested type among those older than
 /// the one that violates the order.
-pub fn reported(
-    basis: &Basis,
-    request: Asked,
-    broken: Instance,
-    older: Option<Instance>,
-) -> Verdict
+pub fn reported(basis: &Basis, request: Asked, broken: Instance, older: Option<Instance>) -> Verdict
     requires held { IsGiven basis.now.lock_types broken.lock.0 }
     requires asked { IsGiven basis.now.types request.type_no.0 }
     ensures { (chain : List Instance) → older ≡ find (has_type_of basis.now request) (reverse (before_first (is_of broken.lock.0) chain))

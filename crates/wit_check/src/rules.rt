@@ -77,13 +77,7 @@ fn holds_spin<L: Lists>(lists: &L, seat: SeatNo) -> bool
 }
 
 // A lock is asked for behind others.
-fn behind<L: Lists>(
-    basis: &Basis,
-    lists: &L,
-    list: u16,
-    request: Asked,
-    last: Instance,
-) -> Verdict
+fn behind<L: Lists>(basis: &Basis, lists: &L, list: u16, request: Asked, last: Instance) -> Verdict
     requires list { IsList (L.chunks lists.now) list }
     requires chain { IsJudgeable basis.now.lock_types (chain_of (L.chunks lists.now) list) }
     requires last { last_or None (chain_of (L.chunks lists.now) list) ≡ Some last }

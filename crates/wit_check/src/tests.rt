@@ -108,15 +108,7 @@ fn told(
         return None;
     }
     let seat = SeatNo(1);
-    Some(verdict(
-        types,
-        matrix,
-        lists,
-        seat,
-        lock_types,
-        Watch::On,
-        request,
-    ))
+    Some(verdict(types, matrix, lists, seat, lock_types, Watch::On, request))
 }
 
 /// A lock that is held, another that is asked for, and what is told.

@@ -1,4 +1,4 @@
-use Rattle.std.proofs.Common.{◌-◌, List, ap, ap₂, sym, ◌∙◌, subst, arith}
+use Rattle.std.proofs.Common.{◌-◌, List, ap₂, sym, ◌∙◌, subst, arith}
 use Rattle.wit_model.specs.declared.locks.Instance.{Instance}
 use Rattle.wit_model.specs.Rules.Chunks.{groups_of}
 use Rattle.wit_model.specs.Rules.Numbers.{IsGiven}

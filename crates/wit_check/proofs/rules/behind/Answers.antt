@@ -42,8 +42,8 @@ returns-in-None-2 g c =
     (ap (λ (t : TypeNo). eqb t.0 c.args.request.type_no.0) (sym c.type_held-parent.ensures.value) ∙ ne_eqb c.type_held-parent.result.0 c.args.request.type_no.0 c.if-is_double-2.false)
     (ap (λ (t : TypeNo). is_direct c.args.basis.now.orders t.0 c.args.request.type_no.0) (sym c.type_held-parent.ensures.value)
     ∙ elim c.then-is_double.branch [
-      then-is_double-via-then-is_double w ↦ absurd (c.if-is_double-2.false w.if-is_double.true)
-    | then-is_double-via-else-is_double+then-is_direct w ↦ sym w.is_direct.ensures ∙ w.if-is_direct.true
+      | then-is_double-via-then-is_double w ↦ absurd (c.if-is_double-2.false w.if-is_double.true)
+      | then-is_double-via-else-is_double+then-is_direct w ↦ sym w.is_direct.ensures ∙ w.if-is_direct.true
     ])
 
 pub returns-in-Some-default : goal.returns-in-Some-default

@@ -1,4 +1,4 @@
-use Rattle.std.proofs.Common.{◌≡◌, Bool, not, ◌&&◌, false, List, None, is_some, ap, sym, ◌∙◌, subst}
+use Rattle.std.proofs.Common.{◌≡◌, not, ◌&&◌, false, List, None, is_some, ap, sym, ◌∙◌}
 use Rattle.std.specs.List.{last_or}
 use Rattle.wit_model.specs.declared.locks.Instance.{Instance}
 use Rattle.wit_model.specs.Rules.Chunks.{chain_of}
@@ -23,13 +23,13 @@ pub returns-in-Some : goal.returns-in-Some
 returns-in-Some g c =
     let calm : (not (is_spin (class_of c.args.request.type_no.0 c.args.types.now.types)) && is_some (last_or None (spin_chain (g.L.Lists.chunks c.args.lists.now) c.args.seat.0))) ≡ false =
     elim c.else-not-spin.branch [
-      else-not-spin-via-then-not-spin+else-holds_spin w ↦ none-held (is_spin (class_of c.args.request.type_no.0 c.args.types.now.types)) (is_some (last_or None (spin_chain (g.L.Lists.chunks c.args.lists.now) c.args.seat.0))) (sym w.holds_spin.ensures ∙ w.if-holds_spin.false)
-    | else-not-spin-via-else-not-spin w ↦ of-spin (is_spin (class_of c.args.request.type_no.0 c.args.types.now.types)) (is_some (last_or None (spin_chain (g.L.Lists.chunks c.args.lists.now) c.args.seat.0))) (sym (c.is_spin-spin.ensures ∙ ap is_spin c.class_of.ensures) ∙ w.if-not-spin.false)
+      | else-not-spin-via-then-not-spin+else-holds_spin w ↦ none-held (is_spin (class_of c.args.request.type_no.0 c.args.types.now.types)) (is_some (last_or None (spin_chain (g.L.Lists.chunks c.args.lists.now) c.args.seat.0))) (sym w.holds_spin.ensures ∙ w.if-holds_spin.false)
+      | else-not-spin-via-else-not-spin w ↦ of-spin (is_spin (class_of c.args.request.type_no.0 c.args.types.now.types)) (is_some (last_or None (spin_chain (g.L.Lists.chunks c.args.lists.now) c.args.seat.0))) (sym (c.is_spin-spin.ensures ∙ ap is_spin c.class_of.ensures) ∙ w.if-not-spin.false)
     ] in
     let chain : chain_of (g.L.Lists.chunks c.args.lists.now) c.if-spin.list ≡ chain_asked (basis c.args.types.now c.args.matrix.now c.args.lock_types.now) (sleep_chain (g.L.Lists.chunks c.args.lists.now) c.args.seat.0) (spin_chain (g.L.Lists.chunks c.args.lists.now) c.args.seat.0) c.args.request =
     elim c.if-spin.branch [
-      then-spin w ↦ ap (chain_of (g.L.Lists.chunks c.args.lists.now)) w.list-is ∙ spin-asked (basis c.args.types.now c.args.matrix.now c.args.lock_types.now) (sleep_chain (g.L.Lists.chunks c.args.lists.now) c.args.seat.0) (spin_chain (g.L.Lists.chunks c.args.lists.now) c.args.seat.0) c.args.request (sym (c.is_spin-spin.ensures ∙ ap is_spin c.class_of.ensures) ∙ w.if-spin.true)
-    | else-spin w ↦ ap (chain_of (g.L.Lists.chunks c.args.lists.now)) w.list-is ∙ sleep-asked (basis c.args.types.now c.args.matrix.now c.args.lock_types.now) (sleep_chain (g.L.Lists.chunks c.args.lists.now) c.args.seat.0) (spin_chain (g.L.Lists.chunks c.args.lists.now) c.args.seat.0) c.args.request (sym (c.is_spin-spin.ensures ∙ ap is_spin c.class_of.ensures) ∙ w.if-spin.false)
+      | then-spin w ↦ ap (chain_of (g.L.Lists.chunks c.args.lists.now)) w.list-is ∙ spin-asked (basis c.args.types.now c.args.matrix.now c.args.lock_types.now) (sleep_chain (g.L.Lists.chunks c.args.lists.now) c.args.seat.0) (spin_chain (g.L.Lists.chunks c.args.lists.now) c.args.seat.0) c.args.request (sym (c.is_spin-spin.ensures ∙ ap is_spin c.class_of.ensures) ∙ w.if-spin.true)
+      | else-spin w ↦ ap (chain_of (g.L.Lists.chunks c.args.lists.now)) w.list-is ∙ sleep-asked (basis c.args.types.now c.args.matrix.now c.args.lock_types.now) (sleep_chain (g.L.Lists.chunks c.args.lists.now) c.args.seat.0) (spin_chain (g.L.Lists.chunks c.args.lists.now) c.args.seat.0) c.args.request (sym (c.is_spin-spin.ensures ∙ ap is_spin c.class_of.ensures) ∙ w.if-spin.false)
     ] in
     c.behind.ensures
     ∙ ap (λ (e : List Instance). decided (over (basis c.args.types.now c.args.matrix.now c.args.lock_types.now) e c.in-Some.last c.args.request)) chain
@@ -40,13 +40,13 @@ pub returns-in-None : goal.returns-in-None
 returns-in-None g c =
     let calm : (not (is_spin (class_of c.args.request.type_no.0 c.args.types.now.types)) && is_some (last_or None (spin_chain (g.L.Lists.chunks c.args.lists.now) c.args.seat.0))) ≡ false =
     elim c.else-not-spin.branch [
-      else-not-spin-via-then-not-spin+else-holds_spin w ↦ none-held (is_spin (class_of c.args.request.type_no.0 c.args.types.now.types)) (is_some (last_or None (spin_chain (g.L.Lists.chunks c.args.lists.now) c.args.seat.0))) (sym w.holds_spin.ensures ∙ w.if-holds_spin.false)
-    | else-not-spin-via-else-not-spin w ↦ of-spin (is_spin (class_of c.args.request.type_no.0 c.args.types.now.types)) (is_some (last_or None (spin_chain (g.L.Lists.chunks c.args.lists.now) c.args.seat.0))) (sym (c.is_spin-spin.ensures ∙ ap is_spin c.class_of.ensures) ∙ w.if-not-spin.false)
+      | else-not-spin-via-then-not-spin+else-holds_spin w ↦ none-held (is_spin (class_of c.args.request.type_no.0 c.args.types.now.types)) (is_some (last_or None (spin_chain (g.L.Lists.chunks c.args.lists.now) c.args.seat.0))) (sym w.holds_spin.ensures ∙ w.if-holds_spin.false)
+      | else-not-spin-via-else-not-spin w ↦ of-spin (is_spin (class_of c.args.request.type_no.0 c.args.types.now.types)) (is_some (last_or None (spin_chain (g.L.Lists.chunks c.args.lists.now) c.args.seat.0))) (sym (c.is_spin-spin.ensures ∙ ap is_spin c.class_of.ensures) ∙ w.if-not-spin.false)
     ] in
     let chain : chain_of (g.L.Lists.chunks c.args.lists.now) c.if-spin.list ≡ chain_asked (basis c.args.types.now c.args.matrix.now c.args.lock_types.now) (sleep_chain (g.L.Lists.chunks c.args.lists.now) c.args.seat.0) (spin_chain (g.L.Lists.chunks c.args.lists.now) c.args.seat.0) c.args.request =
     elim c.if-spin.branch [
-      then-spin w ↦ ap (chain_of (g.L.Lists.chunks c.args.lists.now)) w.list-is ∙ spin-asked (basis c.args.types.now c.args.matrix.now c.args.lock_types.now) (sleep_chain (g.L.Lists.chunks c.args.lists.now) c.args.seat.0) (spin_chain (g.L.Lists.chunks c.args.lists.now) c.args.seat.0) c.args.request (sym (c.is_spin-spin.ensures ∙ ap is_spin c.class_of.ensures) ∙ w.if-spin.true)
-    | else-spin w ↦ ap (chain_of (g.L.Lists.chunks c.args.lists.now)) w.list-is ∙ sleep-asked (basis c.args.types.now c.args.matrix.now c.args.lock_types.now) (sleep_chain (g.L.Lists.chunks c.args.lists.now) c.args.seat.0) (spin_chain (g.L.Lists.chunks c.args.lists.now) c.args.seat.0) c.args.request (sym (c.is_spin-spin.ensures ∙ ap is_spin c.class_of.ensures) ∙ w.if-spin.false)
+      | then-spin w ↦ ap (chain_of (g.L.Lists.chunks c.args.lists.now)) w.list-is ∙ spin-asked (basis c.args.types.now c.args.matrix.now c.args.lock_types.now) (sleep_chain (g.L.Lists.chunks c.args.lists.now) c.args.seat.0) (spin_chain (g.L.Lists.chunks c.args.lists.now) c.args.seat.0) c.args.request (sym (c.is_spin-spin.ensures ∙ ap is_spin c.class_of.ensures) ∙ w.if-spin.true)
+      | else-spin w ↦ ap (chain_of (g.L.Lists.chunks c.args.lists.now)) w.list-is ∙ sleep-asked (basis c.args.types.now c.args.matrix.now c.args.lock_types.now) (sleep_chain (g.L.Lists.chunks c.args.lists.now) c.args.seat.0) (spin_chain (g.L.Lists.chunks c.args.lists.now) c.args.seat.0) c.args.request (sym (c.is_spin-spin.ensures ∙ ap is_spin c.class_of.ensures) ∙ w.if-spin.false)
     ] in
     nothing-decides (basis c.args.types.now c.args.matrix.now c.args.lock_types.now) c.args.watch (sleep_chain (g.L.Lists.chunks c.args.lists.now) c.args.seat.0) (spin_chain (g.L.Lists.chunks c.args.lists.now) c.args.seat.0) c.args.request (sym c.is_on.ensures ∙ c.if-not-is_on.false) calm
     (ap (λ (e : List Instance). last_or None e) (sym chain) ∙ sym (at-the-end (chain_of (g.L.Lists.chunks c.args.lists.now) c.if-spin.list)) ∙ sym c.last.ensures ∙ c.in-None.is)
