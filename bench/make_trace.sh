@@ -19,7 +19,7 @@ exec awk -v name="$name" -v rounds="${2:-0}" '
         return rounds > 0 ? rounds : usual
     }
     function header(seats, types, locks) {
-        print "witness-trace 1 seats " seats " types " types " locks " locks " chunks 4"
+        print "witness-trace 1 seats " seats " types " types " locks " locks " chunks 1024"
     }
     function mutexes(count, lock) {
         for (lock = 1; lock <= count; lock++)
