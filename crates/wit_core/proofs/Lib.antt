@@ -9,6 +9,7 @@ pub mod Judged
 pub mod Keeping
 pub mod Listing
 pub mod Now
+pub mod Owing
 pub mod Relating
 pub mod SeatRows
 pub mod Steps

@@ -57,6 +57,13 @@ impl Log {
         self.reports
     }
 
+    /// How many entries are owed.
+    pub fn owed(&self) -> u32
+        ensures { result ≡ self.now.owed }
+    {
+        self.owed
+    }
+
     /// Whether there may be this many entries more, beside those that are owed.
     pub fn has_room(&self, more: u32) -> bool
         ensures { result ≡ nat_le (length self.now.history + self.now.owed + more) self.now.limit }
