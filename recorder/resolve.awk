@@ -19,7 +19,7 @@ function clean(text, most) {
 
 # What stands in the C++ library and does nothing but lock.
 function is_wrapper(name, file) {
-    return file ~ /\/include\/c\+\+\// || name ~ /^([A-Za-z_ ]+ )?(std|__gnu_cxx)::/ || name ~ /^__gthread/ \
+    return file ~ /\/c\+\+\/[0-9]/ || name ~ /^([A-Za-z_ ]+ )?(std|__gnu_cxx)::/ || name ~ /^__gthread/ \
         || name ~ /^__glibcxx_rwlock/
 }
 
