@@ -70,7 +70,7 @@ static bool is_wrapper(const char *name, uint64_t size)
             return true;
     if (strstr(name, "__gthread_") || strstr(name, "__glibcxx_rwlock") || strstr(name, "__gnu_cxx"))
         return true;
-    if (size > WRAPPER_BYTES || ends_with(name, "clock") || ends_with(name, "block"))
+    if (size > WRAPPER_BYTES || ends_with(name, "unlock") || ends_with(name, "clock") || ends_with(name, "block"))
         return false;
     for (size_t i = 0; i < sizeof ends / sizeof *ends; i++)
         if (ends_with(name, ends[i]))

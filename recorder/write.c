@@ -20,8 +20,8 @@
  * request passes and adopts nothing. That an order once direct stays so, and that a request behind it passes, is the law
  * of the verdict that carries this (rule 4; the verifier never takes an order back). Was it written, then it stands
  * behind the same chain and the same orders in both, so both have the same answer: an order adopted in both, or the first
- * report in both. A held lock that is written late was asked for before behind the chain that stands before it, or behind
- * one with the same last type: its order is direct, it passes too. After the first report this no longer
+ * report in both. A held lock that is written late passes and adopts nothing: either it was asked for behind the same last
+ * type, so that its order is direct, or it is written as a try, which isn't judged. After the first report this no longer
  * holds: a request that was a reversal adopts nothing, so one behind the same last type may be a reversal of another
  * pair later. The condensed stream may lack such later reports, never the first.
  */
@@ -103,7 +103,10 @@ static void write_try(int stream, const struct thread *thread, const struct held
     end_call(stream);
 }
 
-/* Writes what the thread holds and the stream doesn't have yet, oldest first. The thread has a seat. */
+/*
+ * Writes what the thread holds and the stream doesn't have yet, oldest first. The thread has a seat. Where the lock that
+ * was held before it is released by now, a lock is written as after a try: it wasn't asked for behind this chain.
+ */
 static void write_chain(int stream, struct thread *thread)
 {
     for (uint32_t i = 0; i < thread->count; i++) {
@@ -117,7 +120,7 @@ static void write_chain(int stream, struct thread *thread)
         held->written |= bit(stream);
         stands(stream, thread, held->lock);
         for (uint32_t count = stream == FULL ? held->count : 1; count > 0; count--) {
-            if (held->tried) {
+            if (held->tried || (i > 0 && held->behind != held[-1].type)) {
                 write_try(stream, thread, held);
             } else {
                 write_check(stream, thread, number, held->mode, held->place);
