@@ -20,9 +20,16 @@ struct node {
 /* The chain that no node stands for, since the tree is full. What is asked for behind it is always new. */
 #define NODE_UNKNOWN UINT32_MAX
 
+/* Room for a chain that is longer than most. */
+struct block {
+    struct block *next; /* among those that no thread has */
+    struct held held[HELD_MOST];
+};
+
 _Atomic uint32_t lost_total;
 static struct node *nodes;
 static uint32_t nodes_made;
+static struct block *free_blocks;
 
 bool chains_made(void)
 {
@@ -95,18 +102,15 @@ static uint32_t node_needed(uint32_t parent, uint32_t type)
     return node;
 }
 
-/* The chain of all that the thread holds: 0 is the empty one. */
-static inline uint32_t last_node(const struct thread *thread)
+/* The chain of all that the thread holds, 0 for the empty one. Most chains are never asked for: they get no node. */
+static inline uint32_t last_node(struct thread *thread)
 {
-    return thread->count == 0 ? 0 : thread->held[thread->count - 1].node;
-}
-
-static void renew_nodes(struct thread *thread, uint32_t from)
-{
-    for (uint32_t i = from; i < thread->count; i++) {
-        uint32_t parent = i == 0 ? 0 : thread->held[i - 1].node;
-        thread->held[i].node = node_needed(parent, thread->held[i].type);
-    }
+    uint32_t at = thread->count;
+    while (at > 0 && thread->held[at - 1].node == 0)
+        at--;
+    for (; at < thread->count; at++)
+        thread->held[at].node = node_needed(at == 0 ? 0 : thread->held[at - 1].node, thread->held[at].type);
+    return at == 0 ? 0 : thread->held[at - 1].node;
 }
 
 static inline struct held *held_of(struct thread *thread, const struct lock *lock)
@@ -117,14 +121,57 @@ static inline struct held *held_of(struct thread *thread, const struct lock *loc
     return NULL;
 }
 
+/* The same by the lock's address. What is held and isn't lost has its record still. */
+static inline struct held *held_at(struct thread *thread, const void *address)
+{
+    for (uint32_t i = thread->count; i-- > 0;)
+        if (atomic_load_explicit(&thread->held[i].lock->address, memory_order_relaxed) == (uintptr_t)address)
+            return &thread->held[i];
+    return NULL;
+}
+
+/* The thread has the block until its chain is empty. */
+COLD static bool room_made(struct thread *thread)
+{
+    if (thread->room == HELD_MOST || !recorder_enters())
+        return false;
+    struct block *block = free_blocks;
+    if (block)
+        free_blocks = block->next;
+    else
+        block = table(sizeof *block);
+    recorder_leaves();
+    if (!block)
+        return false;
+    memcpy(block->held, thread->held, thread->count * sizeof *thread->held);
+    thread->held = block->held;
+    thread->room = HELD_MOST;
+    return true;
+}
+
+COLD static void give_room_back(struct thread *thread)
+{
+    struct block *block = (struct block *)((char *)thread->held - offsetof(struct block, held));
+    if (!recorder_enters())
+        return;
+    block->next = free_blocks;
+    free_blocks = block;
+    recorder_leaves();
+    thread->held = thread->few;
+    thread->room = HELD_FEW;
+}
+
 static void take_out(struct thread *thread, struct held *held)
 {
     uint32_t at = (uint32_t)(held - thread->held);
     thread->count--;
-    if (LIKELY(at == thread->count))
-        return;
-    memmove(held, held + 1, (thread->count - at) * sizeof *held);
-    renew_nodes(thread, at);
+    if (UNLIKELY(at != thread->count)) {
+        memmove(held, held + 1, (thread->count - at) * sizeof *held);
+        for (uint32_t i = at; i < thread->count; i++)
+            thread->held[i].node = 0;
+    }
+    if (UNLIKELY(thread->count == 0) && UNLIKELY(thread->room == HELD_MOST))
+        give_room_back(thread);
 }
 
 /* Takes out what the thread holds by its chain alone: another thread released it, or it was made anew. */
@@ -176,8 +223,9 @@ static void consider(struct request *request)
             request->again_refused = request->patient = true;
         return;
     }
+    request->parent = last_node(request->thread);
     if (!writes_all) {
-        request->node = node_of(last_node(request->thread), request->lock->type->number);
+        request->node = node_of(request->parent, request->lock->type->number);
         request->patient = request->node != 0 && node_is_requested(request->node);
         if (LIKELY(request->patient))
             return;
@@ -219,31 +267,17 @@ COLD void request_waits(struct request *request)
         write_request(request);
 }
 
-COLD static bool room_made(struct thread *thread)
-{
-    if (thread->room == HELD_MOST)
-        return false;
-    struct held *more = table(HELD_MOST * sizeof *more);
-    if (!more)
-        return false;
-    memcpy(more, thread->held, thread->count * sizeof *more);
-    thread->held = more;
-    thread->room = HELD_MOST;
-    return true;
-}
-
-static void add_held(struct request *request)
+static inline void add_held(struct request *request)
 {
     struct thread *thread = request->thread;
     if (UNLIKELY(thread->count == thread->room) && !room_made(thread)) {
         if (request->pending)
             write_given_up(request);
         count_missed_outside(MISSED_HELD);
+        thread->unseen++;
         return;
     }
     uint32_t type = request->lock->type->number;
-    if (request->node == 0)
-        request->node = node_needed(last_node(thread), type);
     struct held *held = &thread->held[thread->count];
     held->lock = request->lock;
     held->lost = atomic_load_explicit(&request->lock->lost, memory_order_relaxed);
@@ -271,11 +305,11 @@ void request_ends(struct request *request, bool got)
         request->node = 0;
         request->tried = true;
     }
-    if (!got) {
+    if (LIKELY(got && !request->again)) {
+        add_held(request);
+    } else if (!got) {
         if (request->pending)
             write_given_up(request);
-    } else if (LIKELY(!request->again)) {
-        add_held(request);
     } else {
         request->again->count++;
         request->again->place = request->place;
@@ -287,10 +321,15 @@ void request_ends(struct request *request, bool got)
 
 static inline void released(struct thread *thread, struct held *held)
 {
+    if (LIKELY(held + 1 == thread->held + thread->count && held->count == 1 && !held->written
+            && thread->room == HELD_FEW)) {
+        thread->count--;
+        return;
+    }
     bool whole = held->count == 1;
-    if (UNLIKELY(held->written))
+    if (held->written)
         write_unlock(thread, held, whole);
-    if (LIKELY(whole))
+    if (whole)
         take_out(thread, held);
     else
         held->count--;
@@ -302,11 +341,13 @@ void release_begins(const void *address)
     struct thread *thread = &self;
     if (UNLIKELY(!opens(thread)))
         return;
-    struct lock *lock = lock_at(address);
-    struct held *held = lock ? held_of(thread, lock) : NULL;
+    struct held *held = held_at(thread, address);
     if (LIKELY(held != NULL)) {
         released(thread, held);
+    } else if (thread->unseen) {
+        thread->unseen--;
     } else {
+        struct lock *lock = lock_at(address);
         count_missed_outside(MISSED_RELEASES);
         if (lock && lock->loses)
             lock_given_up(lock);
@@ -320,15 +361,14 @@ bool wait_begins(struct request *request, const void *address, struct caller cal
     struct thread *thread = &self;
     if (UNLIKELY(!opens(thread)))
         return false;
-    struct lock *lock = lock_at(address);
-    struct held *held = lock ? held_of(thread, lock) : NULL;
+    struct held *held = held_at(thread, address);
     if (!held) {
         shuts(thread);
         return false;
     }
     memset(request, 0, sizeof *request);
     request->thread = thread;
-    request->lock = lock;
+    request->lock = held->lock;
     request->place = place_of(caller);
     request->mode = EXCLUSIVE;
     released(thread, held);
@@ -359,6 +399,6 @@ void chains_forked(void)
     for (uint32_t i = 0; i < thread->count; i++) {
         struct held *held = &thread->held[i];
         held->written = 0;
-        held->node = node_made(i == 0 ? 0 : thread->held[i - 1].node, held->type);
+        held->node = 0;
     }
 }

@@ -11,9 +11,9 @@
 #include <malloc.h>
 #include <string.h>
 
-enum { BUCKETS = 1 << 18, PIECE = 8, TYPE_BUCKETS = 1 << 12, ANCHORS = 1 << 8 };
+enum { TYPE_BUCKETS = 1 << 12, ANCHORS = 1 << 8 };
 
-static _Atomic(struct lock *) *buckets;
+_Atomic(struct lock *) *lock_buckets;
 static struct lock *locks;
 static struct lock *free_locks;
 static uint32_t locks_taken;
@@ -29,25 +29,10 @@ static struct {
 
 bool locks_made(void)
 {
-    buckets = table(BUCKETS * sizeof *buckets);
+    lock_buckets = table(LOCK_BUCKETS * sizeof *lock_buckets);
     locks = table(LOCKS_ALIVE * sizeof *locks);
     types = table((TYPES_MET + 1) * sizeof *types);
-    return buckets && locks && types;
-}
-
-/* Pieces that are neighbours have buckets that are neighbours; heaps of threads are apart by a power of two. */
-static _Atomic(struct lock *) *bucket_of(uintptr_t address)
-{
-    uintptr_t piece = address >> PIECE;
-    return &buckets[(piece ^ (piece >> 18) * 0x9e37) % BUCKETS];
-}
-
-struct lock *lock_at(const void *address)
-{
-    struct lock *lock = atomic_load_explicit(bucket_of((uintptr_t)address), memory_order_acquire);
-    while (lock && atomic_load_explicit(&lock->address, memory_order_relaxed) != (uintptr_t)address)
-        lock = atomic_load_explicit(&lock->next, memory_order_acquire);
-    return lock;
+    return lock_buckets && locks && types;
 }
 
 static struct type *type_of(const struct type *wanted)
@@ -73,7 +58,7 @@ static struct type *type_of(const struct type *wanted)
 /* The record is no longer that of its lock: whoever holds it by its chain has lost it. */
 static void forget(struct lock *lock)
 {
-    _Atomic(struct lock *) *link = bucket_of(atomic_load(&lock->address));
+    _Atomic(struct lock *) *link = lock_bucket(atomic_load(&lock->address));
     while (atomic_load(link) != lock)
         link = &atomic_load(link)->next;
     atomic_store(link, atomic_load(&lock->next));
@@ -122,7 +107,7 @@ static struct lock *add(const void *address, const struct type *wanted)
     memset(lock->holders, 0, sizeof lock->holders);
     if (!type->anchor)
         atomic_fetch_add(&locks_in_memory, 1);
-    _Atomic(struct lock *) *bucket = bucket_of((uintptr_t)address);
+    _Atomic(struct lock *) *bucket = lock_bucket((uintptr_t)address);
     atomic_store(&lock->next, atomic_load(bucket));
     atomic_store(&lock->address, (uintptr_t)address);
     atomic_store_explicit(bucket, lock, memory_order_release);
@@ -202,8 +187,8 @@ void lock_gone(const void *address)
 /* A lock in the block, from the piece on that *at stands in, NULL where there is none. */
 static struct lock *lock_in(uintptr_t *at, uintptr_t end)
 {
-    for (; *at < end; *at = ((*at >> PIECE) + 1) << PIECE) {
-        struct lock *lock = atomic_load_explicit(bucket_of(*at), memory_order_acquire);
+    for (; *at < end; *at = (*at / LOCK_PIECE + 1) * LOCK_PIECE) {
+        struct lock *lock = atomic_load_explicit(lock_bucket(*at), memory_order_acquire);
         for (; lock; lock = atomic_load_explicit(&lock->next, memory_order_acquire)) {
             uintptr_t address = atomic_load_explicit(&lock->address, memory_order_relaxed);
             if (address >= *at && address < end)

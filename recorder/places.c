@@ -21,35 +21,13 @@ struct stack {
     struct caller frames[FRAMES];
 };
 
-static struct place *places;
+struct place *places;
 static uint32_t places_met;
 
 bool places_made(void)
 {
     places = table(PLACES * sizeof *places);
     return places != NULL;
-}
-
-struct place *place_at(uint32_t number)
-{
-    return &places[number - 1];
-}
-
-static inline uint32_t place_slot(uintptr_t pc)
-{
-    return (uint32_t)((pc * 0x9e3779b97f4a7c15u) >> 40) % PLACES;
-}
-
-/* The number of the place, 0 where it wasn't met. */
-static inline uint32_t find(uintptr_t pc)
-{
-    for (uint32_t slot = place_slot(pc);; slot = (slot + 1) % PLACES) {
-        uintptr_t found = atomic_load_explicit(&places[slot].pc, memory_order_acquire);
-        if (found == pc)
-            return slot + 1;
-        if (found == 0)
-            return 0;
-    }
 }
 
 static bool ends_with(const char *name, const char *end)
@@ -80,7 +58,7 @@ static bool is_wrapper(const char *name, uint64_t size)
 
 static void add(struct caller frame, int32_t step)
 {
-    uint32_t number = find(frame.pc);
+    uint32_t number = place_at_pc(frame.pc);
     if (number) {
         if (place_at(number)->step != step)
             place_at(number)->step = STEP_VARIES;
@@ -157,7 +135,7 @@ static bool follow(struct caller caller, uint32_t wanted, uint32_t *found, uint3
     uintptr_t pc = caller.pc, stack = caller.stack;
     *count = 0;
     for (uint32_t frames = 0; frames < FRAMES - 1; frames++) {
-        uint32_t number = find(pc);
+        uint32_t number = place_at_pc(pc);
         if (!number)
             return false;
         const struct place *place = place_at(number);
@@ -182,22 +160,19 @@ static uint32_t callers(struct caller caller, uint32_t wanted, uint32_t *found)
         unwind(caller, &stack);
         count = 0;
         for (uint32_t i = 0; i < stack.count && count < wanted; i++) {
-            uint32_t number = find(stack.frames[i].pc);
+            uint32_t number = place_at_pc(stack.frames[i].pc);
             if (number && !place_at(number)->wrapper)
                 found[count++] = number;
         }
     }
     if (count == 0)
-        found[count++] = find(caller.pc);
+        found[count++] = place_at_pc(caller.pc);
     return count;
 }
 
-/* The number of the first caller that isn't a wrapper; 0 where there are too many places. */
-uint32_t place_of(struct caller caller)
+uint32_t first_caller(struct caller caller)
 {
-    uint32_t number = find(caller.pc);
-    if (LIKELY(number != 0) && LIKELY(!place_at(number)->wrapper))
-        return number;
+    uint32_t number;
     callers(caller, 1, &number);
     return number;
 }

@@ -103,7 +103,7 @@ struct held {
     uint32_t type;
     uint32_t behind;  /* the type of the lock before it when it was acquired, 0 for none */
     uint32_t place;
-    uint32_t node;    /* of the chain up to this lock */
+    uint32_t node;    /* of the chain up to this lock; 0 where it wasn't looked for */
     uint32_t count;   /* acquisitions not yet released */
     uint8_t mode;
     uint8_t tried;
@@ -118,6 +118,7 @@ struct thread {
     uint32_t count;
     uint32_t room;
     uint32_t lost_seen;
+    uint32_t unseen;  /* acquisitions that the chain had no room for */
     struct held *held;
     uint32_t seat[STREAMS];      /* 0 for none */
     uint32_t last_seat[STREAMS];
@@ -131,7 +132,8 @@ struct request {
     struct lock *lock;
     struct held *again; /* where the thread holds the lock already */
     uint32_t place;
-    uint32_t node;      /* of the chain with the lock, 0 where it isn't known yet */
+    uint32_t parent;    /* the node of what is held */
+    uint32_t node;      /* of the chain with the lock; 0 where it wasn't looked for */
     uint8_t mode;
     bool tried;
     bool patient;       /* not written though it may block: to be written after a second */
@@ -206,7 +208,27 @@ void chains_forked(void);
 
 /* locks.c */
 bool locks_made(void);
-struct lock *lock_at(const void *address);
+/*
+ * Locks are chained by the piece of memory that they are in. Pieces that are neighbours have buckets that are neighbours;
+ * the heaps of threads are apart by a power of two.
+ */
+enum { LOCK_BUCKETS = 1 << 18, LOCK_PIECE = 1 << 8 };
+extern _Atomic(struct lock *) *lock_buckets;
+
+static inline _Atomic(struct lock *) *lock_bucket(uintptr_t address)
+{
+    uintptr_t piece = address / LOCK_PIECE;
+    return &lock_buckets[(piece ^ (piece >> 18) * 0x9e37) % LOCK_BUCKETS];
+}
+
+static inline struct lock *lock_at(const void *address)
+{
+    struct lock *lock = atomic_load_explicit(lock_bucket((uintptr_t)address), memory_order_acquire);
+    while (lock && atomic_load_explicit(&lock->address, memory_order_relaxed) != (uintptr_t)address)
+        lock = atomic_load_explicit(&lock->next, memory_order_acquire);
+    return lock;
+}
+
 struct lock *lock_met(const void *address, enum class class, struct caller caller);
 void lock_made(const void *address, enum class class, struct caller caller);
 void lock_gone(const void *address);
@@ -215,9 +237,40 @@ void lock_given_up(struct lock *lock);
 
 /* places.c */
 bool places_made(void);
-uint32_t place_of(struct caller caller);
+extern struct place *places;
+
+static inline uint32_t place_slot(uintptr_t pc)
+{
+    return (uint32_t)((pc * 0x9e3779b97f4a7c15u) >> 40) % PLACES;
+}
+
+/* The number of the place, 0 where it wasn't met. */
+static inline uint32_t place_at_pc(uintptr_t pc)
+{
+    for (uint32_t slot = place_slot(pc);; slot = (slot + 1) % PLACES) {
+        uintptr_t found = atomic_load_explicit(&places[slot].pc, memory_order_acquire);
+        if (found == pc)
+            return slot + 1;
+        if (found == 0)
+            return 0;
+    }
+}
+
+static inline struct place *place_at(uint32_t number)
+{
+    return &places[number - 1];
+}
+
+uint32_t first_caller(struct caller caller);
+
+/* The number of the first caller that isn't a wrapper; 0 where there are too many places. */
+static inline uint32_t place_of(struct caller caller)
+{
+    uint32_t number = place_at_pc(caller.pc);
+    return LIKELY(number != 0) && LIKELY(!place_at(number)->wrapper) ? number : first_caller(caller);
+}
+
 uint32_t places_of(struct caller caller, uint32_t places[DEPTH_MOST]);
-struct place *place_at(uint32_t number);
 
 /* objects.c */
 uint32_t object_of(uintptr_t address, bool look); /* 0 for none; looks for new objects where it is told to */

@@ -15,15 +15,17 @@
  *   - acquiring again what the thread holds (rule 3);
  * and it writes what a thread holds, in the order of its chain, before the first request that it does write. By
  * induction over the requests of the full stream: as long as nothing was reported, both have adopted the same orders in
- * the same order. Take the next request. Was it left out as one asked for before behind the same chain, then that
- * one was written, passed, and left the order (last held type, requested type) adopted: rule 4 finds it known, so the
- * request passes and adopts nothing. That an order once direct stays so, and that a request behind it passes, is the law
- * of the verdict that carries this (rule 4; the verifier never takes an order back). Was it written, then it stands
- * behind the same chain and the same orders in both, so both have the same answer: an order adopted in both, or the first
- * report in both. A held lock that is written late passes and adopts nothing: either it was asked for behind the same last
- * type, so that its order is direct, or it is written as a try, which isn't judged. After the first report this no longer
- * holds: a request that was a reversal adopts nothing, so one behind the same last type may be a reversal of another
- * pair later. The condensed stream may lack such later reports, never the first.
+ * the same order. Take the next request.
+ *   - Was it left out as one asked for before behind the same chain, then that one was written, and passed or taught its
+ *     order. By the law of the verdict PassedPassesOn (crates/wit_model/specs/VerdictLaws.antt) whoever asks for that
+ *     type behind the same last type passes from then on: so this request passes, and adopts nothing. (Two locks of a
+ *     type whose duplicates are all right pass each time, too, and adopt nothing.)
+ *   - Was it written, then it stands behind the same chain and the same orders in both. So both have the same answer: it
+ *     passes, adopts the same order, or is the first report in both.
+ * A held lock that is written late passes and adopts nothing: either it was asked for behind the same last type, and the
+ * same law holds, or it is written as a try, which isn't judged. After the first report this no longer holds: a request
+ * that was a reversal adopts nothing, so one behind the same last type may be a reversal of another pair later. The
+ * condensed stream may lack such later reports, never the first.
  */
 #include "recorder.h"
 
@@ -156,8 +158,7 @@ COLD void write_request(struct request *request)
         return;
     bool nested = thread->count != 0;
     if (writes[CONDENSED]) {
-        uint32_t parent = nested ? thread->held[thread->count - 1].node : 0;
-        request->node = node_made(parent, request->lock->type->number);
+        request->node = node_made(request->parent, request->lock->type->number);
         if (nested && (request->patient || !node_is_requested(request->node))) {
             if (write_behind_chain(CONDENSED, request))
                 node_set_requested(request->node);
