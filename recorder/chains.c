@@ -282,7 +282,6 @@ static inline void add_held(struct request *request)
     held->lock = request->lock;
     held->lost = atomic_load_explicit(&request->lock->lost, memory_order_relaxed);
     held->type = type;
-    held->behind = thread->count == 0 ? 0 : held[-1].type;
     held->place = request->place;
     held->node = request->node;
     held->count = 1;

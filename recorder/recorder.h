@@ -101,7 +101,6 @@ struct held {
     struct lock *lock;
     uint32_t lost;    /* the lock's count when it was acquired */
     uint32_t type;
-    uint32_t behind;  /* the type of the lock before it when it was acquired, 0 for none */
     uint32_t place;
     uint32_t node;    /* of the chain up to this lock; 0 where it wasn't looked for */
     uint32_t count;   /* acquisitions not yet released */

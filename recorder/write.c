@@ -22,10 +22,12 @@
  *     type whose duplicates are all right pass each time, too, and adopt nothing.)
  *   - Was it written, then it stands behind the same chain and the same orders in both. So both have the same answer: it
  *     passes, adopts the same order, or is the first report in both.
- * A held lock that is written late passes and adopts nothing: either it was asked for behind the same last type, and the
- * same law holds, or it is written as a try, which isn't judged. After the first report this no longer holds: a request
- * that was a reversal adopts nothing, so one behind the same last type may be a reversal of another pair later. The
- * condensed stream may lack such later reports, never the first.
+ * A held lock that is written late adopts nothing: either its type was asked for before behind the chain that it is
+ * written behind, and the same law holds, or it is written as a try, which isn't judged.
+ *
+ * After the first report this is so but for one thing: a request that was a reversal adopts nothing and is one again
+ * behind the same chain, but by orders adopted since then it may be one of another pair of types. So the condensed
+ * stream may lack later reports, never the first.
  */
 #include "recorder.h"
 
@@ -106,8 +108,8 @@ static void write_try(int stream, const struct thread *thread, const struct held
 }
 
 /*
- * Writes what the thread holds and the stream doesn't have yet, oldest first. The thread has a seat. Where the lock that
- * was held before it is released by now, a lock is written as after a try: it wasn't asked for behind this chain.
+ * Writes what the thread holds and the stream doesn't have yet, oldest first. The thread has a seat. What isn't known to
+ * be asked for behind this chain, since a lock before it is released by now, is written as after a try.
  */
 static void write_chain(int stream, struct thread *thread)
 {
@@ -122,7 +124,7 @@ static void write_chain(int stream, struct thread *thread)
         held->written |= bit(stream);
         stands(stream, thread, held->lock);
         for (uint32_t count = stream == FULL ? held->count : 1; count > 0; count--) {
-            if (held->tried || (i > 0 && held->behind != held[-1].type)) {
+            if (held->tried || (i > 0 && (stream == FULL || !node_is_requested(held->node)))) {
                 write_try(stream, thread, held);
             } else {
                 write_check(stream, thread, number, held->mode, held->place);
