@@ -9,11 +9,12 @@
  */
 #include "recorder.h"
 
+#include <stdlib.h>
 #include <string.h>
 #include <strings.h>
 #include <unwind.h>
 
-enum { FRAMES = 24, WRAPPER_BYTES = 256 };
+enum { FRAMES = 24, WRAPPER_BYTES = 256, WORD_MOST = 64 };
 
 struct stack {
     struct caller wanted; /* the first frame to be kept */
@@ -36,23 +37,52 @@ static bool ends_with(const char *name, const char *end)
     return length >= wanted && strcasecmp(name + length - wanted, end) == 0;
 }
 
+/* The last word of a C++ name: `lock` of Mutex::lock, `Mutex` of Mutex's constructor; any other name as it is. */
+static void last_word(const char *name, char word[WORD_MOST])
+{
+    const char *at = name, *last = name;
+    size_t length = strlen(name);
+    if (strncmp(name, "_Z", 2) == 0) {
+        at += strcspn(name, "0123456789");
+        while (*at >= '1' && *at <= '9') {
+            char *behind;
+            size_t stated = strtoul(at, &behind, 10);
+            if (stated > strlen(behind))
+                break;
+            last = behind;
+            length = stated;
+            at = behind + stated;
+        }
+    }
+    if (length >= WORD_MOST)
+        length = 0;
+    memcpy(word, last, length);
+    word[length] = '\0';
+}
+
 /* By the name of a function and its size: C++'s own, or one that does something with a lock and little else. */
 static bool is_wrapper(const char *name, uint64_t size)
 {
-    static const char *const own[] = {"_ZNSt", "_ZNKSt", "_ZSt", "__gthread_"};
-    static const char *const ends[] = {"mutex_enter", "mutexenter", "mutex_acquire", "lock_acquire", "mutex_init",
-        "lock_init", "mutexinit", "lockinit", "mutex_create", "mutex_new", "mutex_alloc", "cond_wait", "condwait",
-        "cond_timedwait", "lock"};
+    static const char *const own[] = {"_ZNSt", "_ZNKSt", "_ZSt"};
+    static const char *const within[] = {"__gthread_", "__glibcxx_rwlock", "__gnu_cxx"};
+    static const char *const others[] = {"unlock", "clock", "block"};
+    static const char *const ends[] = {"lock", "mutex", "monitor", "mutex_enter", "mutexenter", "mutex_acquire",
+        "lock_acquire", "mutex_init", "lock_init", "mutexinit", "lockinit", "mutex_create", "mutex_new", "mutex_alloc",
+        "cond_wait", "condwait", "cond_timedwait"};
+    char word[WORD_MOST];
     for (size_t i = 0; i < sizeof own / sizeof *own; i++)
         if (strncmp(name, own[i], strlen(own[i])) == 0)
             return true;
-    if (strstr(name, "__gthread_") || strstr(name, "__glibcxx_rwlock") || strstr(name, "__gnu_cxx"))
-        return true;
-    if (size > WRAPPER_BYTES || ends_with(name, "unlock") || ends_with(name, "clock") || ends_with(name, "block"))
-        return false;
-    for (size_t i = 0; i < sizeof ends / sizeof *ends; i++)
-        if (ends_with(name, ends[i]))
+    for (size_t i = 0; i < sizeof within / sizeof *within; i++)
+        if (strstr(name, within[i]))
             return true;
+    last_word(name, word);
+    for (size_t i = 0; i < sizeof others / sizeof *others; i++)
+        if (ends_with(word, others[i]))
+            return false;
+    for (size_t i = 0; i < sizeof ends / sizeof *ends; i++)
+        if (ends_with(word, ends[i]))
+            return size <= WRAPPER_BYTES;
     return false;
 }
 
@@ -78,7 +108,10 @@ static void add(struct caller frame, int32_t step)
     if (place->object) {
         place->offset = object_offset(place->object, frame.pc);
         place->name = object_symbol(place->object, frame.pc - 1, true, &from, &size);
-        place->wrapper = *place->name && is_wrapper(place->name, size);
+        if (*place->name) {
+            place->within = frame.pc - from;
+            place->wrapper = is_wrapper(place->name, size);
+        }
     }
     places_met++;
     atomic_store_explicit(&place->pc, frame.pc, memory_order_release);

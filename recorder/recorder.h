@@ -69,6 +69,7 @@ struct place {
     bool wrapper;      /* the function's only work is to lock */
     uint64_t offset;   /* the address as the object's file counts it */
     const char *name;  /* of the function, or empty */
+    uint64_t within;   /* the address as the function counts it */
     struct marks marks;
 };
 enum { STEP_LAST = 0, STEP_VARIES = -1 };

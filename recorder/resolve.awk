@@ -23,9 +23,18 @@ function is_wrapper(name, file) {
         || name ~ /^__glibcxx_rwlock/
 }
 
+# A function's name without what it takes.
+function short(name) {
+    if (name !~ /operator/)
+        sub(/\(.*/, "", name)
+    return name
+}
+
 # One frame of an address, innermost first: the first that isn't a wrapper is its line, else the last one.
 function frame(key, name, line) {
     sub(/ \(discriminator.*/, "", line)
+    if (name != "??")
+        name_of[key] = short(name)
     if (line ~ /^\?\?/ || line ~ /:(\?|0)$/ || found[key])
         return
     line_of[key] = line
@@ -58,18 +67,25 @@ function site(place,   text, key, line) {
     return text ":" line
 }
 
+# The function of a place, as the source names it where addr2line knows it.
+function function_name(place,   key) {
+    key = object_of[place] " " offset_of[place]
+    return key in name_of ? name_of[key] : function_of[place]
+}
+
 function unknown(place,   text) {
     text = base(path_of[object_of[place]]) "+0x" offset_of[place]
-    return function_of[place] == "-" ? text : text "(" function_of[place] ")"
+    return function_of[place] == "-" ? text : text "(" function_name(place) ")"
 }
 
 # What a place gives to the name of a type: shorter than a site.
-function step(place,   key, text) {
+function step(place,   key) {
     key = object_of[place] " " offset_of[place]
     if (key in line_of)
         return base(line_of[key])
-    text = function_of[place]
-    return text == "-" ? unknown(place) : text "+0x" offset_of[place]
+    if (function_of[place] == "-")
+        return unknown(place)
+    return function_name(place) "+0x" within_of[place]
 }
 
 function variable(object, offset, name, within) {
@@ -175,7 +191,7 @@ kind == "names" { if (split($0, pair, "\t") == 2) demangled[pair[1]] = pair[2]; 
 pass == 1 { count(); next }
 FNR == 1 { header() }
 $1 == "object" { path_of[$2] = substr($0, length($2) + 9); next }
-$1 == "place" { object_of[$2] = $3; offset_of[$2] = $4; function_of[$2] = $5; next }
+$1 == "place" { object_of[$2] = $3; offset_of[$2] = $4; function_of[$2] = $5; within_of[$2] = $6; next }
 $1 == "type" { type[$2] = type_name(); next }
 $1 == "init" { print init_line(); next }
 $1 == "check" { print $1, $2, $3, $4, $5, site($6); next }

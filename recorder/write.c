@@ -275,7 +275,7 @@ static void write_object(int stream, uint32_t object)
     stream_append(stream, false);
 }
 
-/* `place NUMBER OBJECT OFFSET FUNCTION`, with the last byte of the call in place of the return address. */
+/* `place NUMBER OBJECT OFFSET FUNCTION OFFSET-IN-FUNCTION`: of the call's last byte, not of the return address. */
 void write_place(int stream, uint32_t place)
 {
     const struct place *written = place_at(place);
@@ -285,6 +285,7 @@ void write_place(int stream, uint32_t place)
     put_number(stream, written->object);
     put_hexadecimal(stream, (written->object ? written->offset : written->pc) - 1);
     put_name(stream, written->name);
+    put_hexadecimal(stream, *written->name ? written->within - 1 : 0);
     put_text(stream, "\n");
     stream_append(stream, false);
 }
