@@ -55,8 +55,22 @@ static struct type *type_of(const struct type *wanted)
     return type;
 }
 
-/* The record is no longer that of its lock: whoever holds it by its chain has lost it. */
-static void forget(struct lock *lock)
+/* Who holds the lock by its chain finds out at its next call. */
+void lock_given_up(struct lock *lock)
+{
+    atomic_fetch_add(&lock->lost, 1);
+    atomic_fetch_add(&lost_total, 1);
+}
+
+/* A mutex shows whether it is held, as long as its memory is there. */
+static bool is_free(const struct lock *lock)
+{
+    const pthread_mutex_t *mutex = (const void *)atomic_load(&lock->address);
+    return lock->type->class == MUTEX && mutex->__data.__lock == 0;
+}
+
+/* The record is no longer that of its lock: who holds it by its chain has lost it. */
+static void forget(struct lock *lock, bool nobody_holds)
 {
     _Atomic(struct lock *) *link = lock_bucket(atomic_load(&lock->address));
     while (atomic_load(link) != lock)
@@ -67,16 +81,10 @@ static void forget(struct lock *lock)
     atomic_store(&lock->address, 0);
     for (int stream = 0; stream < STREAMS; stream++)
         lock_number_given_back(stream, lock);
-    lock_given_up(lock);
+    if (!nobody_holds)
+        lock_given_up(lock);
     atomic_store(&lock->next, free_locks);
     free_locks = lock;
-}
-
-/* Who holds the lock by its chain finds out at its next call. */
-void lock_given_up(struct lock *lock)
-{
-    atomic_fetch_add(&lock->lost, 1);
-    atomic_fetch_add(&lost_total, 1);
 }
 
 static void read_kind(struct lock *lock, const void *address, enum class class)
@@ -161,7 +169,7 @@ void lock_made(const void *address, enum class class, struct caller caller)
     if (recorder_enters()) {
         struct lock *before = lock_at(address);
         if (before)
-            forget(before);
+            forget(before, false);
         wanted.anchor = anchor_of((uintptr_t)address);
         add(address, &wanted);
         recorder_leaves();
@@ -178,7 +186,7 @@ void lock_gone(const void *address)
     if (lock_at(address) && recorder_enters()) {
         struct lock *lock = lock_at(address);
         if (lock)
-            forget(lock);
+            forget(lock, is_free(lock));
         recorder_leaves();
     }
     self.state = OPEN;
@@ -212,7 +220,7 @@ void locks_freed(const void *block)
     if (recorder_enters()) {
         struct lock *lock;
         while ((lock = lock_in(&at, end)) != NULL)
-            forget(lock);
+            forget(lock, is_free(lock));
         recorder_leaves();
     }
     self.state = OPEN;

@@ -10,6 +10,7 @@
 #include <dlfcn.h>
 #include <errno.h>
 #include <fcntl.h>
+#include <signal.h>
 #include <stdio.h>
 #include <stdlib.h>
 #include <string.h>
@@ -61,8 +62,9 @@ static const struct {
 
 static pthread_mutex_t mutex = PTHREAD_MUTEX_INITIALIZER;
 static _Atomic bool recording;
-/* Of the thread that is inside. */
+/* Of the thread that is inside: what it had outside. */
 static int errno_outside, cancellation_outside;
+static sigset_t signals_outside;
 /* A byte that is 1 here and 0 in a child that came about without fork's handlers. */
 static volatile char *alive;
 static __thread bool forks;
@@ -137,8 +139,8 @@ COLD bool thread_opens(struct thread *thread)
 }
 
 /*
- * False where this process records no more: then nothing may be touched. Inside, no thread is cancelled, and the
- * program's errno is kept.
+ * False where this process records no more: then nothing may be touched. Inside, a thread isn't cancelled, no handler of
+ * the program runs in it (it may leave by a jump and never come back), and the program's errno is kept.
  */
 bool recorder_enters(void)
 {
@@ -148,18 +150,24 @@ bool recorder_enters(void)
     if (!atomic_load(&recording))
         return false;
     int cancellation;
+    sigset_t all, signals;
+    sigfillset(&all);
+    pthread_sigmask(SIG_BLOCK, &all, &signals);
     pthread_setcancelstate(PTHREAD_CANCEL_DISABLE, &cancellation);
     real.mutex_lock(&mutex);
     errno_outside = before;
     cancellation_outside = cancellation;
+    signals_outside = signals;
     return true;
 }
 
 void recorder_leaves(void)
 {
     int before = errno_outside, cancellation = cancellation_outside;
+    sigset_t signals = signals_outside;
     real.mutex_unlock(&mutex);
     pthread_setcancelstate(cancellation, NULL);
+    pthread_sigmask(SIG_SETMASK, &signals, NULL);
     errno = before;
 }
 
