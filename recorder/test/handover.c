@@ -4,6 +4,7 @@
 static pthread_mutex_t baton = PTHREAD_MUTEX_INITIALIZER;
 static pthread_mutex_t pool = PTHREAD_MUTEX_INITIALIZER;
 static pthread_mutex_t journal = PTHREAD_MUTEX_INITIALIZER;
+static pthread_mutex_t table = PTHREAD_MUTEX_INITIALIZER;
 
 static void *unlock(void *unused)
 {
@@ -11,6 +12,28 @@ static void *unlock(void *unused)
     pthread_mutex_unlock(&baton);
     pthread_mutex_unlock(&journal);
     return unused;
+}
+
+static void *reverse(void *unused)
+{
+    pthread_mutex_lock(&table);
+    pthread_mutex_lock(&baton);
+    pthread_mutex_unlock(&baton);
+    pthread_mutex_unlock(&table);
+    return unused;
+}
+
+/* What another thread has unlocked by then isn't held: no order begins with it. */
+static void lose(void)
+{
+    pthread_t thread;
+    pthread_mutex_lock(&baton);
+    pthread_create(&thread, NULL, unlock, NULL);
+    pthread_join(thread, NULL);
+    pthread_mutex_lock(&table);
+    pthread_mutex_unlock(&table);
+    pthread_create(&thread, NULL, reverse, NULL);
+    pthread_join(thread, NULL);
 }
 
 int main(void)
@@ -30,5 +53,6 @@ int main(void)
         pthread_mutex_unlock(&baton);
         pthread_mutex_unlock(&pool);
     }
+    lose();
     return 0;
 }

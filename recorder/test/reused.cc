@@ -1,5 +1,5 @@
-// Objects of three classes whose mutexes come to lie at the same addresses, in opposite orders of addresses but not of
-// classes. C++ has no call that makes or destroys a std::mutex.
+// Objects of two classes that change places: their mutexes are taken in opposite orders of addresses, but not of classes.
+// C++ has no call that makes or destroys a std::mutex.
 #include <cstdio>
 #include <mutex>
 
@@ -26,11 +26,11 @@ int main()
     Buffer *buffer = new Buffer;
     both(*page, *buffer);
     void *at_page = page, *at_buffer = buffer;
-    delete page;
     delete buffer;
+    delete page;
     buffer = new Buffer;
     page = new Page;
-    reused = (void *)page == at_page || (void *)buffer == at_page || (void *)buffer == at_buffer;
+    reused = (void *)page == at_buffer && (void *)buffer == at_page;
     both(*page, *buffer);
     delete page;
     delete buffer;
