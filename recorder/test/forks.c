@@ -1,4 +1,5 @@
 /* Children that come about while other threads lock, and lock themselves. */
+#define _DEFAULT_SOURCE
 #include <pthread.h>
 #include <stdatomic.h>
 #include <sys/wait.h>
@@ -17,6 +18,7 @@ static void *commit(void *unused)
         pthread_mutex_lock(&journal);
         pthread_mutex_unlock(&journal);
         pthread_mutex_unlock(&pool);
+        usleep(10);
     }
     return unused;
 }
@@ -27,7 +29,7 @@ int main(void)
     int failed = 0;
     for (int i = 0; i < 3; i++)
         pthread_create(&threads[i], NULL, commit, NULL);
-    for (int i = 0; i < 20; i++) {
+    for (int i = 0; i < 6; i++) {
         int status;
         pthread_mutex_lock(&own);
         pid_t child = fork();

@@ -1,4 +1,4 @@
-/* A handler that takes locks, run thousands of times in the midst of a thread that does nothing else. */
+/* A handler that takes locks, run hundreds of times in the midst of a thread that does nothing else. */
 #include <pthread.h>
 #include <signal.h>
 #include <string.h>
@@ -29,7 +29,7 @@ int main(void)
     action.sa_flags = SA_RESTART;
     sigaction(SIGALRM, &action, NULL);
     setitimer(ITIMER_REAL, &every, NULL);
-    while (ticks < 3000) {
+    while (ticks < 500) {
         pthread_mutex_lock(&pool);
         pthread_mutex_lock(&journal);
         pthread_mutex_unlock(&journal);
