@@ -5,7 +5,7 @@
  * Any other that doesn't get its lock at once waits for a second by the call with a time limit; then it is written as
  * pending, and goes on to the real call. So a program that hangs has its circle in the trace.
  */
-#include "recorder.h"
+#include "quick.h"
 
 #include <errno.h>
 
@@ -44,7 +44,7 @@ COLD static int wait_patiently(struct request *request, const struct way *way, v
     return way->lock(address);
 }
 
-static inline int acquire(const struct way *way, void *address, struct caller caller)
+static int acquire_slowly(const struct way *way, void *address, struct caller caller)
 {
     struct request request;
     if (UNLIKELY(!request_begins(&request, address, way->class, way->mode, caller, false)))
@@ -54,6 +54,25 @@ static inline int acquire(const struct way *way, void *address, struct caller ca
         answer = wait_patiently(&request, way, address);
     request_ends(&request, is_got(answer));
     return answer;
+}
+
+static inline int acquire(const struct way *way, void *address, struct caller caller)
+{
+    struct quick quick;
+    if (UNLIKELY(!quick_begins(&quick, address, caller.pc)))
+        return acquire_slowly(way, address, caller);
+    bool nested = quick.thread->count != 0;
+    int answer = nested ? way->try(address) : way->lock(address);
+    if (LIKELY(is_got(answer)))
+        quick_got(&quick, way->mode);
+    goes_outside(quick.thread);
+    return UNLIKELY(nested && answer == EBUSY) ? acquire_slowly(way, address, caller) : answer;
+}
+
+static inline void release(const void *address)
+{
+    if (UNLIKELY(!quick_released(address)))
+        release_begins(address);
 }
 
 static inline int acquire_at_once(const struct way *way, void *address, struct caller caller)
@@ -168,7 +187,7 @@ EXPORT int pthread_mutex_clocklock(pthread_mutex_t *mutex, clockid_t clock, cons
 
 EXPORT int pthread_mutex_unlock(pthread_mutex_t *mutex)
 {
-    release_begins(mutex);
+    release(mutex);
     return real.mutex_unlock(mutex);
 }
 
@@ -224,7 +243,7 @@ EXPORT int pthread_rwlock_clockwrlock(pthread_rwlock_t *lock, clockid_t clock, c
 
 EXPORT int pthread_rwlock_unlock(pthread_rwlock_t *lock)
 {
-    release_begins(lock);
+    release(lock);
     return real.rwlock_unlock(lock);
 }
 
@@ -250,7 +269,7 @@ EXPORT int pthread_spin_trylock(pthread_spinlock_t *lock)
 
 EXPORT int pthread_spin_unlock(pthread_spinlock_t *lock)
 {
-    release_begins((const void *)lock);
+    release((const void *)lock);
     return real.spin_unlock(lock);
 }
 
@@ -312,7 +331,7 @@ EXPORT int mtx_timedlock(mtx_t *restrict mutex, const struct timespec *restrict 
 
 EXPORT int mtx_unlock(mtx_t *mutex)
 {
-    release_begins(mutex);
+    release(mutex);
     return c11(real.mutex_unlock((pthread_mutex_t *)mutex));
 }
 
@@ -336,6 +355,57 @@ EXPORT int cnd_wait(cnd_t *condition, mtx_t *mutex)
 EXPORT int cnd_timedwait(cnd_t *restrict condition, mtx_t *restrict mutex, const struct timespec *restrict limit)
 {
     WAIT(mutex, real.cond_timedwait((pthread_cond_t *)condition, (pthread_mutex_t *)mutex, limit), c11);
+}
+
+/* As long as the program has no handlers of signals, none is kept out of the recorder. */
+static void handler_comes(handler *given)
+{
+    start();
+    if (given != SIG_DFL && given != SIG_IGN && given != SIG_HOLD)
+        atomic_store(&has_handlers, true);
+}
+
+EXPORT int sigaction(int number, const struct sigaction *restrict action, struct sigaction *restrict before)
+{
+    handler_comes(action ? action->sa_handler : SIG_DFL);
+    return real.sigaction(number, action, before);
+}
+
+EXPORT handler *signal(int number, handler *given)
+{
+    handler_comes(given);
+    return real.signal(number, given);
+}
+
+EXPORT handler *bsd_signal(int number, handler *given)
+{
+    handler_comes(given);
+    return real.signal(number, given);
+}
+
+EXPORT handler *ssignal(int number, handler *given)
+{
+    handler_comes(given);
+    return real.signal(number, given);
+}
+
+/* What signal is in a program that keeps to POSIX or C alone. */
+EXPORT handler *__sysv_signal(int number, handler *given)
+{
+    handler_comes(given);
+    return real.sysv_signal(number, given);
+}
+
+EXPORT handler *sysv_signal(int number, handler *given)
+{
+    handler_comes(given);
+    return real.sysv_signal(number, given);
+}
+
+EXPORT handler *sigset(int number, handler *given)
+{
+    handler_comes(given);
+    return real.sigset(number, given);
 }
 
 EXPORT void free(void *block)

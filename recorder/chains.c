@@ -6,19 +6,11 @@
  * request that leads to such a node tells nothing new, and costs no line: write.c says why. The tree is read without
  * the mutex, and a node never moves.
  */
-#include "recorder.h"
+#include "quick.h"
 
 #include <errno.h>
 #include <string.h>
 #include <sys/mman.h>
-
-struct node {
-    _Atomic uint64_t key; /* parent and type; 0 where there is no node */
-    _Atomic uint32_t requested;
-};
-
-/* The chain that no node stands for, since the tree is full. What is asked for behind it is always new. */
-#define NODE_UNKNOWN UINT32_MAX
 
 /* Room for a chain that is longer than most. */
 struct block {
@@ -27,7 +19,7 @@ struct block {
 };
 
 _Atomic uint32_t lost_total;
-static struct node *nodes;
+struct node *nodes;
 static uint32_t nodes_made;
 static struct block *free_blocks;
 
@@ -35,36 +27,6 @@ bool chains_made(void)
 {
     nodes = table(NODES * sizeof *nodes);
     return nodes != NULL;
-}
-
-static uint64_t node_key(uint32_t parent, uint32_t type)
-{
-    return (uint64_t)parent << 32 | type;
-}
-
-static uint32_t node_slot(uint64_t key)
-{
-    return (uint32_t)((key * 0x9e3779b97f4a7c15u) >> 40) % NODES;
-}
-
-/* The node of a chain and a type behind it, 0 where there is none yet. */
-static inline uint32_t node_of(uint32_t parent, uint32_t type)
-{
-    uint64_t key = node_key(parent, type);
-    if (parent == NODE_UNKNOWN)
-        return NODE_UNKNOWN;
-    for (uint32_t slot = node_slot(key);; slot = (slot + 1) % NODES) {
-        uint64_t found = atomic_load_explicit(&nodes[slot].key, memory_order_acquire);
-        if (found == key)
-            return slot + 1;
-        if (found == 0)
-            return 0;
-    }
-}
-
-bool node_is_requested(uint32_t node)
-{
-    return node != NODE_UNKNOWN && atomic_load_explicit(&nodes[node - 1].requested, memory_order_acquire);
 }
 
 void node_set_requested(uint32_t node)
@@ -108,20 +70,16 @@ static inline uint32_t last_node(struct thread *thread)
     uint32_t at = thread->count;
     while (at > 0 && thread->held[at - 1].node == 0)
         at--;
-    for (; at < thread->count; at++)
-        thread->held[at].node = node_needed(at == 0 ? 0 : thread->held[at - 1].node, thread->held[at].type);
+    for (; at < thread->count; at++) {
+        struct held *held = &thread->held[at];
+        held->node = node_needed(at == 0 ? 0 : held[-1].node, held->type);
+        if (at == 0)
+            atomic_store_explicit(&held->lock->type->root, held->node, memory_order_relaxed);
+    }
     return at == 0 ? 0 : thread->held[at - 1].node;
 }
 
-static inline struct held *held_of(struct thread *thread, const struct lock *lock)
-{
-    for (uint32_t i = thread->count; i-- > 0;)
-        if (thread->held[i].lock == lock)
-            return &thread->held[i];
-    return NULL;
-}
-
-/* The same by the lock's address. What is held and isn't lost has its record still. */
+/* As held_of, by the lock's address. What is held and isn't lost has its record still. */
 static inline struct held *held_at(struct thread *thread, const void *address)
 {
     for (uint32_t i = thread->count; i-- > 0;)
@@ -188,22 +146,16 @@ COLD static void drop_lost(struct thread *thread)
     }
 }
 
-/* False where this call isn't recorded. Else the thread is inside the recorder until it is shut again. */
+/* False where this call isn't recorded. Else the thread is inside the recorder. */
 static inline bool opens(struct thread *thread)
 {
-    if (UNLIKELY(thread->state != OPEN) && !thread_opens(thread))
+    if (thread->state != OPEN && !thread_opens(thread))
         return false;
     thread->state = BUSY;
     atomic_signal_fence(memory_order_seq_cst);
     if (UNLIKELY(thread->lost_seen != atomic_load_explicit(&lost_total, memory_order_relaxed)))
         drop_lost(thread);
     return true;
-}
-
-static inline void shuts(struct thread *thread)
-{
-    atomic_signal_fence(memory_order_seq_cst);
-    thread->state = OPEN;
 }
 
 /* A lock that is held may be asked for again: a recursive mutex, and a rwlock that is held shared, shared. */
@@ -241,7 +193,7 @@ bool request_begins(struct request *request, const void *address, enum class cla
         return false;
     struct lock *lock = lock_at(address);
     if (UNLIKELY(!lock) && !(lock = lock_met(address, class, caller))) {
-        shuts(thread);
+        goes_outside(thread);
         return false;
     }
     request->thread = thread;
@@ -277,17 +229,8 @@ static inline void add_held(struct request *request)
         thread->unseen++;
         return;
     }
-    uint32_t type = request->lock->type->number;
-    struct held *held = &thread->held[thread->count];
-    held->lock = request->lock;
-    held->lost = atomic_load_explicit(&request->lock->lost, memory_order_relaxed);
-    held->type = type;
-    held->place = request->place;
-    held->node = request->node;
-    held->count = 1;
-    held->mode = request->mode;
+    struct held *held = held_filled(thread, request->lock, request->place, request->node, request->mode);
     held->tried = request->tried;
-    held->written = 0;
     if (request->pending || (writes_all && request->tried))
         write_acquired(request, held);
     thread->count++;
@@ -315,16 +258,11 @@ void request_ends(struct request *request, bool got)
         if (writes_all)
             write_acquired(request, request->again);
     }
-    shuts(thread);
+    goes_outside(thread);
 }
 
-static inline void released(struct thread *thread, struct held *held)
+static void released(struct thread *thread, struct held *held)
 {
-    if (LIKELY(held + 1 == thread->held + thread->count && held->count == 1 && !held->written
-            && thread->room == HELD_FEW)) {
-        thread->count--;
-        return;
-    }
     bool whole = held->count == 1;
     if (held->written)
         write_unlock(thread, held, whole);
@@ -351,7 +289,7 @@ void release_begins(const void *address)
         if (lock && lock->loses)
             lock_given_up(lock);
     }
-    shuts(thread);
+    goes_outside(thread);
 }
 
 /* The thread is about to wait for a condition, and gives up the mutex. False where it isn't known to hold it. */
@@ -362,7 +300,7 @@ bool wait_begins(struct request *request, const void *address, struct caller cal
         return false;
     struct held *held = held_at(thread, address);
     if (!held) {
-        shuts(thread);
+        goes_outside(thread);
         return false;
     }
     memset(request, 0, sizeof *request);

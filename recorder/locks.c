@@ -48,7 +48,7 @@ static struct type *type_of(const struct type *wanted)
     if (types_met == TYPES_MET)
         return NULL;
     struct type *type = &types[++types_met];
-    *type = *wanted;
+    memcpy(type, wanted, sizeof *type);
     type->number = types_met;
     type->next = *bucket;
     *bucket = type;
@@ -67,6 +67,13 @@ static bool is_free(const struct lock *lock)
 {
     const pthread_mutex_t *mutex = (const void *)atomic_load(&lock->address);
     return lock->type->class == MUTEX && mutex->__data.__lock == 0;
+}
+
+/* The child's tree of chains is empty. */
+void locks_forked(void)
+{
+    for (uint32_t i = 1; i <= types_met; i++)
+        atomic_store(&types[i].root, 0);
 }
 
 /* The record is no longer that of its lock: who holds it by its chain has lost it. */

@@ -4,7 +4,7 @@
  *
  *   calls.c     the interposed calls of pthread, C11 and the C library
  *   start.c     the real functions behind them, the start, fork
- *   chains.c    what each thread holds, and the tree of chains of types
+ *   chains.c    what each thread holds, and the tree of chains of types; quick.h, where nothing is to be written
  *   locks.c     the locks at their addresses, and their types
  *   places.c    the callers of a call; objects.c finds their object and name
  *   seats.c     seats, and the numbers of types, locks and places in a stream
@@ -19,6 +19,7 @@
 #define RECORDER_H
 
 #include <pthread.h>
+#include <signal.h>
 #include <stdatomic.h>
 #include <stdbool.h>
 #include <stddef.h>
@@ -81,6 +82,7 @@ struct type {
     uintptr_t address; /* of the first lock of the type */
     uint32_t places[DEPTH_MOST];
     struct type *next; /* in its bucket */
+    _Atomic uint32_t root; /* the node of a chain of this type alone; 0 where it wasn't looked for */
     struct marks marks;
     uint32_t made[STREAMS];       /* locks of the type that have a number */
     uint32_t free_number[STREAMS]; /* the first number given back, 0 for none */
@@ -146,6 +148,7 @@ struct request {
 enum missed { MISSED_SEATS, MISSED_TYPES, MISSED_LOCKS, MISSED_HELD, MISSED_LOG, MISSED_RELEASES, MISSED_AGAIN, MISSES };
 
 /* start.c */
+typedef void handler(int);
 struct real {
     int (*mutex_init)(pthread_mutex_t *, const pthread_mutexattr_t *);
     int (*mutex_destroy)(pthread_mutex_t *);
@@ -174,6 +177,10 @@ struct real {
     int (*cond_timedwait)(pthread_cond_t *, pthread_mutex_t *, const struct timespec *);
     int (*cond_clockwait)(pthread_cond_t *, pthread_mutex_t *, clockid_t, const struct timespec *);
     int (*c11_init)(mtx_t *, int);
+    int (*sigaction)(int, const struct sigaction *, struct sigaction *);
+    handler *(*signal)(int, handler *);
+    handler *(*sysv_signal)(int, handler *);
+    handler *(*sigset)(int, handler *);
     void (*free)(void *);
 };
 extern struct real real;
@@ -183,6 +190,7 @@ extern bool writes_all; /* a line for every call: the full stream is written */
 extern uint32_t depth;  /* how many callers name a type */
 extern uint32_t life;   /* how many forks lie between the recorded program's start and this process */
 extern bool watches_free;
+extern _Atomic bool has_handlers; /* the program was given a handler of signals */
 
 void start(void);
 bool thread_opens(struct thread *thread);
@@ -201,7 +209,6 @@ void request_waits(struct request *request);
 void release_begins(const void *address);
 bool wait_begins(struct request *request, const void *address, struct caller caller);
 void wait_ends(struct request *request, int answer);
-bool node_is_requested(uint32_t node);
 void node_set_requested(uint32_t node);
 uint32_t node_made(uint32_t parent, uint32_t type);
 void chains_forked(void);
@@ -230,6 +237,7 @@ static inline struct lock *lock_at(const void *address)
 }
 
 struct lock *lock_met(const void *address, enum class class, struct caller caller);
+void locks_forked(void);
 void lock_made(const void *address, enum class class, struct caller caller);
 void lock_gone(const void *address);
 void locks_freed(const void *block);

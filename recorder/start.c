@@ -10,7 +10,6 @@
 #include <dlfcn.h>
 #include <errno.h>
 #include <fcntl.h>
-#include <signal.h>
 #include <stdio.h>
 #include <stdlib.h>
 #include <string.h>
@@ -24,6 +23,7 @@ bool writes_all;
 uint32_t depth = 2;
 uint32_t life = 1;
 bool watches_free;
+_Atomic bool has_handlers;
 
 static const struct {
     size_t offset;
@@ -58,6 +58,10 @@ static const struct {
     {offsetof(struct real, cond_timedwait), "pthread_cond_timedwait", "GLIBC_2.3.2"},
     {offsetof(struct real, cond_clockwait), "pthread_cond_clockwait", NULL},
     {offsetof(struct real, c11_init), "mtx_init", NULL},
+    {offsetof(struct real, sigaction), "sigaction", NULL},
+    {offsetof(struct real, signal), "signal", NULL},
+    {offsetof(struct real, sysv_signal), "__sysv_signal", NULL},
+    {offsetof(struct real, sigset), "sigset", NULL},
 };
 
 static pthread_mutex_t mutex = PTHREAD_MUTEX_INITIALIZER;
@@ -65,6 +69,7 @@ static _Atomic bool recording;
 /* Of the thread that is inside: what it had outside. */
 static int errno_outside, cancellation_outside;
 static sigset_t signals_outside;
+static bool signals_wait;
 /* A byte that is 1 here and 0 in a child that came about without fork's handlers. */
 static volatile char *alive;
 static __thread bool forks;
@@ -140,7 +145,7 @@ COLD bool thread_opens(struct thread *thread)
 
 /*
  * False where this process records no more: then nothing may be touched. Inside, a thread isn't cancelled, no handler of
- * the program runs in it (it may leave by a jump and never come back), and the program's errno is kept.
+ * the program runs in it (it may leave by a jump, or wait for another thread), and the program's errno is kept.
  */
 bool recorder_enters(void)
 {
@@ -151,23 +156,32 @@ bool recorder_enters(void)
         return false;
     int cancellation;
     sigset_t all, signals;
-    sigfillset(&all);
-    pthread_sigmask(SIG_BLOCK, &all, &signals);
+    bool wait = atomic_load_explicit(&has_handlers, memory_order_relaxed);
+    if (wait) {
+        sigfillset(&all);
+        pthread_sigmask(SIG_BLOCK, &all, &signals);
+    }
     pthread_setcancelstate(PTHREAD_CANCEL_DISABLE, &cancellation);
     real.mutex_lock(&mutex);
     errno_outside = before;
     cancellation_outside = cancellation;
-    signals_outside = signals;
+    signals_wait = wait;
+    if (wait)
+        signals_outside = signals;
     return true;
 }
 
 void recorder_leaves(void)
 {
     int before = errno_outside, cancellation = cancellation_outside;
-    sigset_t signals = signals_outside;
+    sigset_t signals;
+    bool wait = signals_wait;
+    if (wait)
+        signals = signals_outside;
     real.mutex_unlock(&mutex);
     pthread_setcancelstate(cancellation, NULL);
-    pthread_sigmask(SIG_SETMASK, &signals, NULL);
+    if (wait)
+        pthread_sigmask(SIG_SETMASK, &signals, NULL);
     errno = before;
 }
 
@@ -194,6 +208,7 @@ static void fork_ends_in_child(void)
     life++;
     seats_forked();
     streams_forked();
+    locks_forked();
     chains_forked();
     recorder_leaves();
 }

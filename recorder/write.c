@@ -29,7 +29,7 @@
  * behind the same chain, but by orders adopted since then it may be one of another pair of types. So the condensed
  * stream may lack later reports, never the first.
  */
-#include "recorder.h"
+#include "quick.h"
 
 /* What the seats may owe the log at most: all locks that they hold, and a request for each seat. */
 #define OWED_MOST (SEATS * (HELD_MOST + 2))
