@@ -1,7 +1,7 @@
 #!/bin/sh
-# Measures what the recorder costs: the nanoseconds of processor time that a pair of lock and unlock takes in a loop that
-# does nothing else, plain, recorded, recorded with --full and under helgrind (where valgrind is installed), and each as
-# a ratio to the plain one. The least of RUNS runs each (5), in turn, so that all meet the same machine.
+# Measures what the recorder costs: the nanoseconds of processor time that a pair of lock and unlock takes in a loop
+# that does nothing else, plain, recorded, recorded with --full and under helgrind (where valgrind is installed), and
+# each as a ratio to the plain one. The least of RUNS runs each (5), in turn, so that all meet the same machine.
 set -eu
 here=$(dirname "$(readlink -f "$0")")
 recorder=$here/../recorder

@@ -252,7 +252,7 @@ void request_ends(struct request *request, bool got)
     } else if (!got) {
         if (request->pending)
             write_given_up(request);
-    } else {
+    } else if (may_recur(request->again, request)) {
         request->again->count++;
         request->again->place = request->place;
         if (writes_all)

@@ -2,9 +2,9 @@
  * The locks at their addresses, and their types.
  *
  * A type is where its locks come from. A lock with an init call: that call's callers and, where the lock stands in a
- * variable of an object, the variable. A lock without one, as a static initialiser makes it: its address where it stands
- * in an object, else the callers of its first use. Records are found by their address without the mutex: they are
- * chained by pieces of memory, so that a freed block finds the locks that were in it.
+ * variable of an object, the variable. A lock without one, as a static initialiser makes it: its address where it
+ * stands in an object, else the callers of its first use. Records are found by their address without the mutex: they
+ * are chained by pieces of memory, so that a freed block finds the locks that were in it.
  */
 #include "recorder.h"
 

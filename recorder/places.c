@@ -129,7 +129,7 @@ static _Unwind_Reason_Code keep_frame(struct _Unwind_Context *context, void *arg
     return stack->count == FRAMES ? _URC_END_OF_STACK : _URC_NO_REASON;
 }
 
-/* Where the return address into a frame stands, a word below its stack pointer: as on x86-64, and looked at, not believed. */
+/* The return address into a frame stands a word below its stack pointer on x86-64. That is looked at, not believed. */
 static uintptr_t return_address(uintptr_t stack)
 {
     uintptr_t address;

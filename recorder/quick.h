@@ -1,6 +1,6 @@
 /*
- * The way that nearly all calls take: of a thread that holds nothing, or whose request is known behind what it holds. It
- * writes nothing and touches nothing that threads share but to read it. Any other call takes the long way, in chains.c.
+ * The way that nearly all calls take: of a thread that holds nothing, or whose request is known behind what it holds.
+ * It writes nothing, and what threads share it only reads. Any other call takes the long way, in chains.c.
  */
 #ifndef QUICK_H
 #define QUICK_H
@@ -72,8 +72,8 @@ static inline struct held *held_filled(struct thread *thread, struct lock *lock,
 }
 
 /*
- * Goes inside the recorder, from where a handler of signals sees nothing half done: its calls aren't recorded. False where
- * the thread is inside already, or its chain may have what it has lost.
+ * Goes inside the recorder, from where a handler of signals sees nothing half done: its calls aren't recorded. False
+ * where the thread is inside already, or its chain may have what it has lost.
  */
 static inline bool goes_inside(struct thread *thread)
 {

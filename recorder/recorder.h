@@ -145,7 +145,16 @@ struct request {
 };
 
 /* What didn't fit, or can't be written: counted in the first line of each stream. */
-enum missed { MISSED_SEATS, MISSED_TYPES, MISSED_LOCKS, MISSED_HELD, MISSED_LOG, MISSED_RELEASES, MISSED_AGAIN, MISSES };
+enum missed {
+    MISSED_SEATS,
+    MISSED_TYPES,
+    MISSED_LOCKS,
+    MISSED_HELD,
+    MISSED_LOG,
+    MISSED_RELEASES,
+    MISSED_AGAIN,
+    MISSES
+};
 
 /* start.c */
 typedef void handler(int);
@@ -216,8 +225,8 @@ void chains_forked(void);
 /* locks.c */
 bool locks_made(void);
 /*
- * Locks are chained by the piece of memory that they are in. Pieces that are neighbours have buckets that are neighbours;
- * the heaps of threads are apart by a power of two.
+ * Locks are chained by the piece of memory that they are in. Pieces that are neighbours have buckets that are
+ * neighbours; the heaps of threads are apart by a power of two.
  */
 enum { LOCK_BUCKETS = 1 << 18, LOCK_PIECE = 1 << 8 };
 extern _Atomic(struct lock *) *lock_buckets;

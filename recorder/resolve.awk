@@ -5,6 +5,9 @@
 #   kind=record    the recorder's file: twice, to count first (pass=1) and to write then (pass=2)
 # Variable: directory, which is left out at the head of the names of source files.
 
+# Giant is the kernel's own lock, with rules that no program's has.
+BEGIN { taken["Giant"] = 1 }
+
 function base(path) {
     sub(/.*\//, "", path)
     return path

@@ -111,7 +111,7 @@ void start(void)
 {
     static _Atomic bool begun;
     int before = errno;
-    if (atomic_exchange(&begun, true))
+    if (atomic_load_explicit(&begun, memory_order_relaxed) || atomic_exchange(&begun, true))
         return;
     self.state = BUSY;
     find_real_functions();
@@ -144,8 +144,8 @@ COLD bool thread_opens(struct thread *thread)
 }
 
 /*
- * False where this process records no more: then nothing may be touched. Inside, a thread isn't cancelled, no handler of
- * the program runs in it (it may leave by a jump, or wait for another thread), and the program's errno is kept.
+ * False where this process records no more: then nothing may be touched. Inside, a thread isn't cancelled, no handler
+ * of the program runs in it (it may leave by a jump, or wait for another thread), and the program's errno is kept.
  */
 bool recorder_enters(void)
 {

@@ -2,26 +2,27 @@
  * The lines of a stream.
  *
  * Why the lines are a legal history of what the program did. Each line is written in one critical section of the
- * recorder's mutex: `check` before the real call; `lock` or `giveup` after it returned; `try` after a success; `unlock`
- * before the real release. So a thread's lines come in its program's order, nothing of it stands between its `check` and
- * the line that ends it, and of two exclusive holdings of a lock the `unlock` of the first comes before the `lock` or
- * `try` of the second. A seat is lent to one thread at a time, and it is empty when it goes to the next. What a trace
- * would end at isn't written: asking anew for a mutex that isn't recursive, unlocking what the thread doesn't hold, a
- * lock in a mode other than the one it is held in.
+ * recorder's mutex: `check` before the real call (after it, where a wait for a condition gets its mutex back); `lock`
+ * or `giveup` after it returned; `try` after a success; `unlock` before the real release. What a thread holds is
+ * written late, but while it is held. So a thread's lines come in its program's order, nothing of it stands between
+ * its `check` and the line that ends it, and of two exclusive holdings of a lock the `unlock` of the first comes
+ * before the `lock` or `try` of the second. A seat is lent to one thread at a time, and it is empty when it goes to
+ * the next. What a trace would end at isn't written: asking anew for a mutex that isn't recursive, unlocking what the
+ * thread doesn't hold, a lock in a mode other than the one it is held in.
  *
  * Why the condensed stream of a clean run is clean exactly where the full one is. It leaves out
- *   - a request of a thread that holds nothing: it passes and adopts nothing (docs/RULES.md, Acquiring, rule 2);
+ *   - a request of a thread that holds nothing: it passes and adopts nothing (docs/RULES.md, Acquiring);
  *   - a request behind a chain of held types behind which the same type was asked for before;
- *   - acquiring again what the thread holds (rule 3);
+ *   - acquiring again what the thread holds: so does that;
  * and it writes what a thread holds, in the order of its chain, before the first request that it does write. By
- * induction over the requests of the full stream: as long as nothing was reported, both have adopted the same orders in
- * the same order. Take the next request.
- *   - Was it left out as one asked for before behind the same chain, then that one was written, and passed or taught its
- *     order. By the law of the verdict PassedPassesOn (crates/wit_model/specs/VerdictLaws.antt) whoever asks for that
- *     type behind the same last type passes from then on: so this request passes, and adopts nothing. (Two locks of a
- *     type whose duplicates are all right pass each time, too, and adopt nothing.)
- *   - Was it written, then it stands behind the same chain and the same orders in both. So both have the same answer: it
- *     passes, adopts the same order, or is the first report in both.
+ * induction over the requests of the full stream: as long as nothing was reported, both have adopted the same orders
+ * in the same order. Take the next request.
+ *   - Was it left out as one asked for before behind the same chain, then that one was written, and passed or taught
+ *     its order. By the law of the verdict PassedPassesOn (crates/wit_model/specs/VerdictLaws.antt) whoever asks for
+ *     that type behind the same last type passes from then on: so this request passes, and adopts nothing. (Two locks
+ *     of a type whose duplicates are all right pass each time, too, and adopt nothing.)
+ *   - Was it written, then it stands behind the same chain and the same orders in both. So both have the same answer:
+ *     it passes, adopts the same order, or is the first report in both.
  * A held lock that is written late adopts nothing: either its type was asked for before behind the chain that it is
  * written behind, and the same law holds, or it is written as a try, which isn't judged.
  *
@@ -108,8 +109,8 @@ static void write_try(int stream, const struct thread *thread, const struct held
 }
 
 /*
- * Writes what the thread holds and the stream doesn't have yet, oldest first. The thread has a seat. What isn't known to
- * be asked for behind this chain, since a lock before it is released by now, is written as after a try.
+ * Writes what the thread holds and the stream doesn't have yet, oldest first. The thread has a seat. What isn't known
+ * to be asked for behind this chain, since a lock before it is released by now, is written as after a try.
  */
 static void write_chain(int stream, struct thread *thread)
 {

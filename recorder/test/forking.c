@@ -1,4 +1,4 @@
-/* A child has a trace of its own, in which it holds what its parent's thread held; orders of the parent aren't known. */
+/* A child has a trace of its own, in which it holds what its parent's thread held, and knows no orders. */
 #include <pthread.h>
 #include <stdlib.h>
 #include <sys/wait.h>

@@ -1,5 +1,5 @@
 /*
- * pairs DEPTH THREADS ROUNDS: each thread takes so many locks, one inside the other, and releases them, again and again.
+ * pairs DEPTH THREADS ROUNDS: each thread takes so many locks, one inside the other, and releases them, over and over.
  * It writes the nanoseconds of processor time that a pair of lock and unlock takes. Each thread has its own locks.
  */
 #include <pthread.h>

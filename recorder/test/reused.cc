@@ -1,5 +1,5 @@
-// Objects of two classes that change places: their mutexes are taken in opposite orders of addresses, but not of classes.
-// C++ has no call that makes or destroys a std::mutex.
+// Objects of two classes that change places: their mutexes are taken in opposite orders of addresses, but not of
+// classes. C++ has no call that makes or destroys a std::mutex.
 #include <cstdio>
 #include <mutex>
 
