@@ -38,7 +38,9 @@ for shape in "1 1" "2 1" "1 4" "2 4"; do
     for way in $ways; do
         : >"$folder/$way"
     done
-    for run in $(seq "${RUNS:-5}"); do
+    runs=0
+    while [ "$runs" -lt "${RUNS:-5}" ]; do
+        runs=$((runs + 1))
         for way in $ways; do
             once "$way" ${shape% *} ${shape#* } >>"$folder/$way"
         done

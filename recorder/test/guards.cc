@@ -11,6 +11,11 @@ static void ship()
     std::shared_lock<std::shared_mutex> second(customers);
 }
 
+static void count()
+{
+    std::unique_lock<std::shared_mutex> only(customers);
+}
+
 static void bill()
 {
     std::unique_lock<std::shared_mutex> first(customers);
@@ -20,6 +25,7 @@ static void bill()
 int main()
 {
     ship();
+    count();
     bill();
     return 0;
 }
