@@ -1,0 +1,419 @@
+/*
+ * The interposed calls. Each makes the real call once and answers what it answers.
+ *
+ * A request that is written before it blocks, and one by a thread that holds nothing, goes straight to the real call.
+ * Any other that doesn't get its lock at once waits for a second by the call with a time limit; then it is written as
+ * pending, and goes on to the real call. So a program that hangs has its circle in the trace.
+ */
+#include "quick.h"
+
+#include <errno.h>
+
+#define EXPORT __attribute__((visibility("default")))
+#define CALLER ((struct caller){(uintptr_t)__builtin_return_address(0), (uintptr_t)__builtin_dwarf_cfa()})
+
+/* The three ways to ask for a lock. */
+struct way {
+    enum class class;
+    enum mode mode;
+    int (*lock)(void *);
+    int (*try)(void *);
+    int (*timed)(void *, const struct timespec *);
+};
+
+static bool is_got(int answer)
+{
+    return answer == 0 || answer == EOWNERDEAD;
+}
+
+static struct timespec a_second_from_now(void)
+{
+    struct timespec now;
+    clock_gettime(CLOCK_REALTIME, &now);
+    now.tv_sec++;
+    return now;
+}
+
+COLD static int wait_patiently(struct request *request, const struct way *way, void *address)
+{
+    struct timespec limit = a_second_from_now();
+    int answer = way->timed(address, &limit);
+    if (answer != ETIMEDOUT)
+        return answer;
+    request_waits(request);
+    return way->lock(address);
+}
+
+static int acquire_slowly(const struct way *way, void *address, struct caller caller)
+{
+    struct request request;
+    if (UNLIKELY(!request_begins(&request, address, way->class, way->mode, caller, false)))
+        return way->lock(address);
+    int answer = request.patient ? way->try(address) : way->lock(address);
+    if (UNLIKELY(request.patient && answer == EBUSY))
+        answer = wait_patiently(&request, way, address);
+    request_ends(&request, is_got(answer));
+    return answer;
+}
+
+static inline int acquire(const struct way *way, void *address, struct caller caller)
+{
+    struct quick quick;
+    if (UNLIKELY(!quick_begins(&quick, address, caller.pc)))
+        return acquire_slowly(way, address, caller);
+    bool nested = quick.thread->count != 0;
+    int answer = nested ? way->try(address) : way->lock(address);
+    if (LIKELY(is_got(answer)))
+        quick_got(&quick, way->mode);
+    goes_outside(quick.thread);
+    return UNLIKELY(nested && answer == EBUSY) ? acquire_slowly(way, address, caller) : answer;
+}
+
+static inline void release(const void *address)
+{
+    if (UNLIKELY(!quick_released(address)))
+        release_begins(address);
+}
+
+static inline int acquire_at_once(const struct way *way, void *address, struct caller caller)
+{
+    struct request request;
+    if (UNLIKELY(!request_begins(&request, address, way->class, way->mode, caller, true)))
+        return way->try(address);
+    int answer = way->try(address);
+    request_ends(&request, is_got(answer));
+    return answer;
+}
+
+static int mutex_lock(void *mutex) { return real.mutex_lock(mutex); }
+static int mutex_try(void *mutex) { return real.mutex_trylock(mutex); }
+static int mutex_timed(void *mutex, const struct timespec *limit) { return real.mutex_timedlock(mutex, limit); }
+static int read_lock(void *lock) { return real.rwlock_rdlock(lock); }
+static int read_try(void *lock) { return real.rwlock_tryrdlock(lock); }
+static int read_timed(void *lock, const struct timespec *limit) { return real.rwlock_timedrdlock(lock, limit); }
+static int write_lock(void *lock) { return real.rwlock_wrlock(lock); }
+static int write_try(void *lock) { return real.rwlock_trywrlock(lock); }
+static int write_timed(void *lock, const struct timespec *limit) { return real.rwlock_timedwrlock(lock, limit); }
+static int spin_lock(void *lock) { return real.spin_lock(lock); }
+static int spin_try(void *lock) { return real.spin_trylock(lock); }
+
+/* Spin locks have no such call: here it is a loop of tries. */
+static int spin_timed(void *lock, const struct timespec *limit)
+{
+    for (;;) {
+        for (int tries = 0; tries < 1000; tries++)
+            if (real.spin_trylock(lock) == 0)
+                return 0;
+        struct timespec now;
+        clock_gettime(CLOCK_REALTIME, &now);
+        if (now.tv_sec > limit->tv_sec || (now.tv_sec == limit->tv_sec && now.tv_nsec >= limit->tv_nsec))
+            return ETIMEDOUT;
+    }
+}
+
+static const struct way mutex_way = {MUTEX, EXCLUSIVE, mutex_lock, mutex_try, mutex_timed};
+static const struct way read_way = {RWLOCK, SHARED, read_lock, read_try, read_timed};
+static const struct way write_way = {RWLOCK, EXCLUSIVE, write_lock, write_try, write_timed};
+static const struct way spin_way = {SPIN, EXCLUSIVE, spin_lock, spin_try, spin_timed};
+
+/* POSIX's calls answer as they are answered. */
+static int posix(int answer)
+{
+    return answer;
+}
+
+/* C11's locks are POSIX's under other names, in the C libraries that have both: only the answers differ. */
+static int c11(int answer)
+{
+    switch (answer) {
+    case 0: return thrd_success;
+    case ENOMEM: return thrd_nomem;
+    case ETIMEDOUT: return thrd_timedout;
+    case EBUSY: return thrd_busy;
+    default: return thrd_error;
+    }
+}
+
+/* A request with the program's own time limit: CALL is the real one. */
+#define ACQUIRE_TIMED(way, address, call, answered)                                                        \
+    do {                                                                                                   \
+        struct request request;                                                                            \
+        bool begun = request_begins(&request, address, (way).class, (way).mode, CALLER, false);            \
+        int answer = (call);                                                                               \
+        if (begun)                                                                                         \
+            request_ends(&request, is_got(answer));                                                        \
+        return answered(answer);                                                                           \
+    } while (0)
+
+/* A call that makes or destroys a lock: CALL is the real one, DONE what follows where it succeeds. */
+#define AFTER_SUCCESS(call, done)                                                                          \
+    do {                                                                                                   \
+        start();                                                                                           \
+        int answer = (call);                                                                               \
+        if (answer == 0)                                                                                   \
+            done;                                                                                          \
+        return answer;                                                                                     \
+    } while (0)
+
+EXPORT int pthread_mutex_init(pthread_mutex_t *mutex, const pthread_mutexattr_t *attributes)
+{
+    AFTER_SUCCESS(real.mutex_init(mutex, attributes), lock_made(mutex, MUTEX, CALLER));
+}
+
+EXPORT int pthread_mutex_destroy(pthread_mutex_t *mutex)
+{
+    AFTER_SUCCESS(real.mutex_destroy(mutex), lock_gone(mutex));
+}
+
+EXPORT int pthread_mutex_lock(pthread_mutex_t *mutex)
+{
+    return acquire(&mutex_way, mutex, CALLER);
+}
+
+EXPORT int pthread_mutex_trylock(pthread_mutex_t *mutex)
+{
+    return acquire_at_once(&mutex_way, mutex, CALLER);
+}
+
+EXPORT int pthread_mutex_timedlock(pthread_mutex_t *mutex, const struct timespec *limit)
+{
+    ACQUIRE_TIMED(mutex_way, mutex, real.mutex_timedlock(mutex, limit), posix);
+}
+
+EXPORT int pthread_mutex_clocklock(pthread_mutex_t *mutex, clockid_t clock, const struct timespec *limit)
+{
+    ACQUIRE_TIMED(mutex_way, mutex, real.mutex_clocklock(mutex, clock, limit), posix);
+}
+
+EXPORT int pthread_mutex_unlock(pthread_mutex_t *mutex)
+{
+    release(mutex);
+    return real.mutex_unlock(mutex);
+}
+
+EXPORT int pthread_rwlock_init(pthread_rwlock_t *lock, const pthread_rwlockattr_t *attributes)
+{
+    AFTER_SUCCESS(real.rwlock_init(lock, attributes), lock_made(lock, RWLOCK, CALLER));
+}
+
+EXPORT int pthread_rwlock_destroy(pthread_rwlock_t *lock)
+{
+    AFTER_SUCCESS(real.rwlock_destroy(lock), lock_gone(lock));
+}
+
+EXPORT int pthread_rwlock_rdlock(pthread_rwlock_t *lock)
+{
+    return acquire(&read_way, lock, CALLER);
+}
+
+EXPORT int pthread_rwlock_tryrdlock(pthread_rwlock_t *lock)
+{
+    return acquire_at_once(&read_way, lock, CALLER);
+}
+
+EXPORT int pthread_rwlock_timedrdlock(pthread_rwlock_t *lock, const struct timespec *limit)
+{
+    ACQUIRE_TIMED(read_way, lock, real.rwlock_timedrdlock(lock, limit), posix);
+}
+
+EXPORT int pthread_rwlock_clockrdlock(pthread_rwlock_t *lock, clockid_t clock, const struct timespec *limit)
+{
+    ACQUIRE_TIMED(read_way, lock, real.rwlock_clockrdlock(lock, clock, limit), posix);
+}
+
+EXPORT int pthread_rwlock_wrlock(pthread_rwlock_t *lock)
+{
+    return acquire(&write_way, lock, CALLER);
+}
+
+EXPORT int pthread_rwlock_trywrlock(pthread_rwlock_t *lock)
+{
+    return acquire_at_once(&write_way, lock, CALLER);
+}
+
+EXPORT int pthread_rwlock_timedwrlock(pthread_rwlock_t *lock, const struct timespec *limit)
+{
+    ACQUIRE_TIMED(write_way, lock, real.rwlock_timedwrlock(lock, limit), posix);
+}
+
+EXPORT int pthread_rwlock_clockwrlock(pthread_rwlock_t *lock, clockid_t clock, const struct timespec *limit)
+{
+    ACQUIRE_TIMED(write_way, lock, real.rwlock_clockwrlock(lock, clock, limit), posix);
+}
+
+EXPORT int pthread_rwlock_unlock(pthread_rwlock_t *lock)
+{
+    release(lock);
+    return real.rwlock_unlock(lock);
+}
+
+EXPORT int pthread_spin_init(pthread_spinlock_t *lock, int shared)
+{
+    AFTER_SUCCESS(real.spin_init(lock, shared), lock_made((const void *)lock, SPIN, CALLER));
+}
+
+EXPORT int pthread_spin_destroy(pthread_spinlock_t *lock)
+{
+    AFTER_SUCCESS(real.spin_destroy(lock), lock_gone((const void *)lock));
+}
+
+EXPORT int pthread_spin_lock(pthread_spinlock_t *lock)
+{
+    return acquire(&spin_way, (void *)lock, CALLER);
+}
+
+EXPORT int pthread_spin_trylock(pthread_spinlock_t *lock)
+{
+    return acquire_at_once(&spin_way, (void *)lock, CALLER);
+}
+
+EXPORT int pthread_spin_unlock(pthread_spinlock_t *lock)
+{
+    release((const void *)lock);
+    return real.spin_unlock(lock);
+}
+
+/* A wait for a condition: it may end by the thread's cancellation, and has the mutex again then too. */
+struct wait {
+    struct request request;
+    bool recorded;
+    int answer;
+};
+
+static void end_wait(void *wait_over)
+{
+    struct wait *wait = wait_over;
+    if (wait->recorded)
+        wait_ends(&wait->request, wait->answer);
+}
+
+#define WAIT(mutex, call, answered)                                                                        \
+    do {                                                                                                   \
+        struct wait wait = {.answer = 0};                                                                  \
+        start();                                                                                           \
+        wait.recorded = wait_begins(&wait.request, mutex, CALLER);                                         \
+        pthread_cleanup_push(end_wait, &wait);                                                             \
+        wait.answer = (call);                                                                              \
+        pthread_cleanup_pop(1);                                                                            \
+        return answered(wait.answer);                                                                      \
+    } while (0)
+
+EXPORT int pthread_cond_wait(pthread_cond_t *condition, pthread_mutex_t *mutex)
+{
+    WAIT(mutex, real.cond_wait(condition, mutex), posix);
+}
+
+EXPORT int pthread_cond_timedwait(pthread_cond_t *condition, pthread_mutex_t *mutex, const struct timespec *limit)
+{
+    WAIT(mutex, real.cond_timedwait(condition, mutex, limit), posix);
+}
+
+EXPORT int pthread_cond_clockwait(pthread_cond_t *condition, pthread_mutex_t *mutex, clockid_t clock,
+    const struct timespec *limit)
+{
+    WAIT(mutex, real.cond_clockwait(condition, mutex, clock, limit), posix);
+}
+
+EXPORT int mtx_lock(mtx_t *mutex)
+{
+    return c11(acquire(&mutex_way, mutex, CALLER));
+}
+
+EXPORT int mtx_trylock(mtx_t *mutex)
+{
+    return c11(acquire_at_once(&mutex_way, mutex, CALLER));
+}
+
+EXPORT int mtx_timedlock(mtx_t *restrict mutex, const struct timespec *restrict limit)
+{
+    ACQUIRE_TIMED(mutex_way, mutex, real.mutex_timedlock((pthread_mutex_t *)mutex, limit), c11);
+}
+
+EXPORT int mtx_unlock(mtx_t *mutex)
+{
+    release(mutex);
+    return c11(real.mutex_unlock((pthread_mutex_t *)mutex));
+}
+
+EXPORT int mtx_init(mtx_t *mutex, int kind)
+{
+    AFTER_SUCCESS(real.c11_init(mutex, kind), lock_made(mutex, MUTEX, CALLER));
+}
+
+EXPORT void mtx_destroy(mtx_t *mutex)
+{
+    start();
+    real.mutex_destroy((pthread_mutex_t *)mutex);
+    lock_gone(mutex);
+}
+
+EXPORT int cnd_wait(cnd_t *condition, mtx_t *mutex)
+{
+    WAIT(mutex, real.cond_wait((pthread_cond_t *)condition, (pthread_mutex_t *)mutex), c11);
+}
+
+EXPORT int cnd_timedwait(cnd_t *restrict condition, mtx_t *restrict mutex, const struct timespec *restrict limit)
+{
+    WAIT(mutex, real.cond_timedwait((pthread_cond_t *)condition, (pthread_mutex_t *)mutex, limit), c11);
+}
+
+/* As long as the program has no handlers of signals, none is kept out of the recorder. */
+static void handler_comes(handler *given)
+{
+    start();
+    if (given != SIG_DFL && given != SIG_IGN && given != SIG_HOLD)
+        atomic_store(&has_handlers, true);
+}
+
+EXPORT int sigaction(int number, const struct sigaction *restrict action, struct sigaction *restrict before)
+{
+    handler_comes(action ? action->sa_handler : SIG_DFL);
+    return real.sigaction(number, action, before);
+}
+
+EXPORT handler *signal(int number, handler *given)
+{
+    handler_comes(given);
+    return real.signal(number, given);
+}
+
+EXPORT handler *bsd_signal(int number, handler *given)
+{
+    handler_comes(given);
+    return real.signal(number, given);
+}
+
+EXPORT handler *ssignal(int number, handler *given)
+{
+    handler_comes(given);
+    return real.signal(number, given);
+}
+
+/* What signal is in a program that keeps to POSIX or C alone. */
+EXPORT handler *__sysv_signal(int number, handler *given)
+{
+    handler_comes(given);
+    return real.sysv_signal(number, given);
+}
+
+EXPORT handler *sysv_signal(int number, handler *given)
+{
+    handler_comes(given);
+    return real.sysv_signal(number, given);
+}
+
+EXPORT handler *sigset(int number, handler *given)
+{
+    handler_comes(given);
+    return real.sigset(number, given);
+}
+
+EXPORT void free(void *block)
+{
+    if (UNLIKELY(!real.free))
+        start();
+    if (block && real.free) {
+        locks_freed(block);
+        real.free(block);
+    }
+}

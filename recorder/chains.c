@@ -1,0 +1,341 @@
+/*
+ * What each thread holds, oldest first, and the tree of chains.
+ *
+ * A node of the tree stands for a chain of types: its parent is the chain without the last. A node is marked as
+ * requested once its last type was asked for behind its parent, by a call that may block, and the stream has it. A
+ * request that leads to such a node tells nothing new, and costs no line: write.c says why. The tree is read without
+ * the mutex, and a node never moves.
+ */
+#include "quick.h"
+
+#include <errno.h>
+#include <string.h>
+#include <sys/mman.h>
+
+/* Room for a chain that is longer than most. */
+struct block {
+    struct block *next; /* among those that no thread has */
+    struct held held[HELD_MOST];
+};
+
+_Atomic uint32_t lost_total;
+struct node *nodes;
+static uint32_t nodes_made;
+static struct block *free_blocks;
+
+bool chains_made(void)
+{
+    nodes = table(NODES * sizeof *nodes);
+    return nodes != NULL;
+}
+
+void node_set_requested(uint32_t node)
+{
+    if (node != NODE_UNKNOWN)
+        atomic_store_explicit(&nodes[node - 1].requested, 1, memory_order_release);
+}
+
+/* As node_of, and makes the node; under the mutex. */
+uint32_t node_made(uint32_t parent, uint32_t type)
+{
+    uint32_t node = node_of(parent, type);
+    if (node != 0)
+        return node;
+    if (nodes_made >= NODES / 4 * 3)
+        return NODE_UNKNOWN;
+    uint64_t key = node_key(parent, type);
+    uint32_t slot = node_slot(key);
+    while (atomic_load_explicit(&nodes[slot].key, memory_order_relaxed) != 0)
+        slot = (slot + 1) % NODES;
+    nodes_made++;
+    atomic_store_explicit(&nodes[slot].key, key, memory_order_release);
+    return slot + 1;
+}
+
+static uint32_t node_needed(uint32_t parent, uint32_t type)
+{
+    uint32_t node = node_of(parent, type);
+    if (LIKELY(node != 0))
+        return node;
+    if (!recorder_enters())
+        return NODE_UNKNOWN;
+    node = node_made(parent, type);
+    recorder_leaves();
+    return node;
+}
+
+/* The chain of all that the thread holds, 0 for the empty one. Most chains are never asked for: they get no node. */
+static inline uint32_t last_node(struct thread *thread)
+{
+    uint32_t at = thread->count;
+    while (at > 0 && thread->held[at - 1].node == 0)
+        at--;
+    for (; at < thread->count; at++) {
+        struct held *held = &thread->held[at];
+        held->node = node_needed(at == 0 ? 0 : held[-1].node, held->type);
+        if (at == 0)
+            atomic_store_explicit(&held->lock->type->root, held->node, memory_order_relaxed);
+    }
+    return at == 0 ? 0 : thread->held[at - 1].node;
+}
+
+/* As held_of, by the lock's address. What is held and isn't lost has its record still. */
+static inline struct held *held_at(struct thread *thread, const void *address)
+{
+    for (uint32_t i = thread->count; i-- > 0;)
+        if (atomic_load_explicit(&thread->held[i].lock->address, memory_order_relaxed) == (uintptr_t)address)
+            return &thread->held[i];
+    return NULL;
+}
+
+/* The thread has the block until its chain is empty. */
+COLD static bool room_made(struct thread *thread)
+{
+    if (thread->room == HELD_MOST || !recorder_enters())
+        return false;
+    struct block *block = free_blocks;
+    if (block)
+        free_blocks = block->next;
+    else
+        block = table(sizeof *block);
+    recorder_leaves();
+    if (!block)
+        return false;
+    memcpy(block->held, thread->held, thread->count * sizeof *thread->held);
+    thread->held = block->held;
+    thread->room = HELD_MOST;
+    return true;
+}
+
+COLD static void give_room_back(struct thread *thread)
+{
+    struct block *block = (struct block *)((char *)thread->held - offsetof(struct block, held));
+    if (!recorder_enters())
+        return;
+    block->next = free_blocks;
+    free_blocks = block;
+    recorder_leaves();
+    thread->held = thread->few;
+    thread->room = HELD_FEW;
+}
+
+static void take_out(struct thread *thread, struct held *held)
+{
+    uint32_t at = (uint32_t)(held - thread->held);
+    thread->count--;
+    if (UNLIKELY(at != thread->count)) {
+        memmove(held, held + 1, (thread->count - at) * sizeof *held);
+        for (uint32_t i = at; i < thread->count; i++)
+            thread->held[i].node = 0;
+    }
+    if (UNLIKELY(thread->count == 0) && UNLIKELY(thread->room == HELD_MOST))
+        give_room_back(thread);
+}
+
+/* Takes out what the thread holds by its chain alone: another thread released it, or it was made anew. */
+COLD static void drop_lost(struct thread *thread)
+{
+    thread->lost_seen = atomic_load(&lost_total);
+    for (uint32_t i = thread->count; i-- > 0;) {
+        struct held *held = &thread->held[i];
+        if (held->lost == atomic_load(&held->lock->lost))
+            continue;
+        if (held->written)
+            write_unlock(thread, held, true);
+        take_out(thread, held);
+    }
+}
+
+/* False where this call isn't recorded. Else the thread is inside the recorder. */
+static inline bool opens(struct thread *thread)
+{
+    if (thread->state != OPEN && !thread_opens(thread))
+        return false;
+    thread->state = BUSY;
+    atomic_signal_fence(memory_order_seq_cst);
+    if (UNLIKELY(thread->lost_seen != atomic_load_explicit(&lost_total, memory_order_relaxed)))
+        drop_lost(thread);
+    return true;
+}
+
+/* A lock that is held may be asked for again: a recursive mutex, and a rwlock that is held shared, shared. */
+static bool may_recur(const struct held *held, const struct request *request)
+{
+    return request->mode == SHARED ? held->mode == SHARED
+                                   : held->mode == EXCLUSIVE && request->lock->recursive;
+}
+
+/* Whether a request that may block, by a thread that holds something, has to be written; and writes it then. */
+static void consider(struct request *request)
+{
+    if (request->again) {
+        if (may_recur(request->again, request))
+            write_again(request, request->again);
+        else
+            request->again_refused = request->patient = true;
+        return;
+    }
+    request->parent = last_node(request->thread);
+    if (!writes_all) {
+        request->node = node_of(request->parent, request->lock->type->number);
+        request->patient = request->node != 0 && node_is_requested(request->node);
+        if (LIKELY(request->patient))
+            return;
+    }
+    write_request(request);
+}
+
+bool request_begins(struct request *request, const void *address, enum class class, enum mode mode,
+    struct caller caller, bool tried)
+{
+    struct thread *thread = &self;
+    if (UNLIKELY(!opens(thread)))
+        return false;
+    struct lock *lock = lock_at(address);
+    if (UNLIKELY(!lock) && !(lock = lock_met(address, class, caller))) {
+        goes_outside(thread);
+        return false;
+    }
+    request->thread = thread;
+    request->lock = lock;
+    request->again = held_of(thread, lock);
+    request->place = place_of(caller);
+    request->node = 0;
+    request->mode = mode;
+    request->tried = tried;
+    request->patient = request->again_refused = false;
+    request->pending = 0;
+    if (!tried && (thread->count != 0 || writes_all))
+        consider(request);
+    return true;
+}
+
+/* A patient request has waited for a second: now it is written, so that the trace shows a circle where there is one. */
+COLD void request_waits(struct request *request)
+{
+    if (request->again_refused)
+        count_missed_outside(MISSED_AGAIN);
+    else if (!request->again)
+        write_request(request);
+}
+
+static inline void add_held(struct request *request)
+{
+    struct thread *thread = request->thread;
+    if (UNLIKELY(thread->count == thread->room) && !room_made(thread)) {
+        if (request->pending)
+            write_given_up(request);
+        count_missed_outside(MISSED_HELD);
+        thread->unseen++;
+        return;
+    }
+    struct held *held = held_filled(thread, request->lock, request->place, request->node, request->mode);
+    held->tried = request->tried;
+    if (request->pending || (writes_all && request->tried))
+        write_acquired(request, held);
+    thread->count++;
+}
+
+/* The call has returned, with the lock or without. */
+void request_ends(struct request *request, bool got)
+{
+    struct thread *thread = request->thread;
+    if (UNLIKELY(request->again != NULL) && got && request->again_refused) {
+        /* The lock was given up by another thread while this one waited. */
+        drop_lost(thread);
+        request->again = held_of(thread, request->lock);
+        request->node = 0;
+        request->tried = true;
+    }
+    if (LIKELY(got && !request->again)) {
+        add_held(request);
+    } else if (!got) {
+        if (request->pending)
+            write_given_up(request);
+    } else if (may_recur(request->again, request)) {
+        request->again->count++;
+        request->again->place = request->place;
+        if (writes_all)
+            write_acquired(request, request->again);
+    }
+    goes_outside(thread);
+}
+
+static void released(struct thread *thread, struct held *held)
+{
+    bool whole = held->count == 1;
+    if (held->written)
+        write_unlock(thread, held, whole);
+    if (whole)
+        take_out(thread, held);
+    else
+        held->count--;
+}
+
+/* The thread is about to release the lock, whichever call it uses. */
+void release_begins(const void *address)
+{
+    struct thread *thread = &self;
+    if (UNLIKELY(!opens(thread)))
+        return;
+    struct held *held = held_at(thread, address);
+    if (LIKELY(held != NULL)) {
+        released(thread, held);
+    } else if (thread->unseen) {
+        thread->unseen--;
+    } else {
+        struct lock *lock = lock_at(address);
+        count_missed_outside(MISSED_RELEASES);
+        if (lock && lock->loses)
+            lock_given_up(lock);
+    }
+    goes_outside(thread);
+}
+
+/* The thread is about to wait for a condition, and gives up the mutex. False where it isn't known to hold it. */
+bool wait_begins(struct request *request, const void *address, struct caller caller)
+{
+    struct thread *thread = &self;
+    if (UNLIKELY(!opens(thread)))
+        return false;
+    struct held *held = held_at(thread, address);
+    if (!held) {
+        goes_outside(thread);
+        return false;
+    }
+    memset(request, 0, sizeof *request);
+    request->thread = thread;
+    request->lock = held->lock;
+    request->place = place_of(caller);
+    request->mode = EXCLUSIVE;
+    released(thread, held);
+    return true;
+}
+
+/*
+ * The wait is over and the thread has the mutex again, so its request is written only now. Where the call was refused,
+ * the mutex was never given up: it wasn't asked for, and is put back as after a try.
+ */
+void wait_ends(struct request *request, int answer)
+{
+    struct thread *thread = request->thread;
+    request->again = held_of(thread, request->lock);
+    request->tried = !(answer == 0 || answer == ETIMEDOUT || answer == EOWNERDEAD);
+    if (!request->tried && (thread->count != 0 || writes_all))
+        consider(request);
+    request_ends(request, answer != ENOTRECOVERABLE);
+}
+
+void chains_forked(void)
+{
+    struct thread *thread = &self;
+    madvise(nodes, NODES * sizeof *nodes, MADV_DONTNEED);
+    nodes_made = 0;
+    for (int stream = 0; stream < STREAMS; stream++)
+        thread->seat[stream] = thread->last_seat[stream] = thread->written[stream] = 0;
+    for (uint32_t i = 0; i < thread->count; i++) {
+        struct held *held = &thread->held[i];
+        held->written = 0;
+        held->node = 0;
+    }
+}

@@ -1,0 +1,234 @@
+/*
+ * The locks at their addresses, and their types.
+ *
+ * A type is where its locks come from. A lock with an init call: that call's callers and, where the lock stands in a
+ * variable of an object, the variable. A lock without one, as a static initialiser makes it: its address where it
+ * stands in an object, else the callers of its first use. Records are found by their address without the mutex: they
+ * are chained by pieces of memory, so that a freed block finds the locks that were in it.
+ */
+#include "recorder.h"
+
+#include <malloc.h>
+#include <string.h>
+
+enum { TYPE_BUCKETS = 1 << 12, ANCHORS = 1 << 8 };
+
+_Atomic(struct lock *) *lock_buckets;
+static struct lock *locks;
+static struct lock *free_locks;
+static uint32_t locks_taken;
+static _Atomic uint32_t locks_in_memory; /* those that free has to look for */
+
+static struct type *types;
+static uint32_t types_met;
+static struct type *type_buckets[TYPE_BUCKETS];
+/* For variables whose locks are made again and again: where the variable begins. */
+static struct {
+    uintptr_t address, from;
+} anchors[ANCHORS];
+
+bool locks_made(void)
+{
+    lock_buckets = table(LOCK_BUCKETS * sizeof *lock_buckets);
+    locks = table(LOCKS_ALIVE * sizeof *locks);
+    types = table((TYPES_MET + 1) * sizeof *types);
+    return lock_buckets && locks && types;
+}
+
+static struct type *type_of(const struct type *wanted)
+{
+    uint64_t hash = wanted->anchor + wanted->class;
+    for (uint32_t i = 0; i < DEPTH_MOST; i++)
+        hash = (hash ^ wanted->places[i]) * 0x9e3779b97f4a7c15u;
+    struct type **bucket = &type_buckets[(hash >> 40) % TYPE_BUCKETS];
+    for (struct type *type = *bucket; type; type = type->next)
+        if (type->anchor == wanted->anchor && type->class == wanted->class
+            && memcmp(type->places, wanted->places, sizeof type->places) == 0)
+            return type;
+    if (types_met == TYPES_MET)
+        return NULL;
+    struct type *type = &types[++types_met];
+    memcpy(type, wanted, sizeof *type);
+    type->number = types_met;
+    type->next = *bucket;
+    *bucket = type;
+    return type;
+}
+
+/* Who holds the lock by its chain finds out at its next call. */
+void lock_given_up(struct lock *lock)
+{
+    atomic_fetch_add(&lock->lost, 1);
+    atomic_fetch_add(&lost_total, 1);
+}
+
+/* A mutex shows whether it is held, as long as its memory is there. */
+static bool is_free(const struct lock *lock)
+{
+    const pthread_mutex_t *mutex = (const void *)atomic_load(&lock->address);
+    return lock->type->class == MUTEX && mutex->__data.__lock == 0;
+}
+
+/* The child's tree of chains is empty. */
+void locks_forked(void)
+{
+    for (uint32_t i = 1; i <= types_met; i++)
+        atomic_store(&types[i].root, 0);
+}
+
+/* The record is no longer that of its lock: who holds it by its chain has lost it. */
+static void forget(struct lock *lock, bool nobody_holds)
+{
+    _Atomic(struct lock *) *link = lock_bucket(atomic_load(&lock->address));
+    while (atomic_load(link) != lock)
+        link = &atomic_load(link)->next;
+    atomic_store(link, atomic_load(&lock->next));
+    if (!lock->type->anchor)
+        atomic_fetch_sub(&locks_in_memory, 1);
+    atomic_store(&lock->address, 0);
+    for (int stream = 0; stream < STREAMS; stream++)
+        lock_number_given_back(stream, lock);
+    if (!nobody_holds)
+        lock_given_up(lock);
+    atomic_store(&lock->next, free_locks);
+    free_locks = lock;
+}
+
+static void read_kind(struct lock *lock, const void *address, enum class class)
+{
+    int kind = class == MUTEX ? ((const pthread_mutex_t *)address)->__data.__kind : 0;
+    bool robust = kind & 16;
+    lock->recursive = class == MUTEX && (kind & 3) == PTHREAD_MUTEX_RECURSIVE_NP;
+    lock->loses = class == SPIN
+        || (class == MUTEX && !robust
+            && ((kind & 3) == PTHREAD_MUTEX_TIMED_NP || (kind & 3) == PTHREAD_MUTEX_ADAPTIVE_NP));
+}
+
+static struct lock *add(const void *address, const struct type *wanted)
+{
+    struct type *type = type_of(wanted);
+    struct lock *lock = free_locks;
+    if (!type || (!lock && locks_taken == LOCKS_ALIVE)) {
+        count_missed_all(type ? MISSED_LOCKS : MISSED_TYPES);
+        return NULL;
+    }
+    if (lock)
+        free_locks = atomic_load(&lock->next);
+    else
+        lock = &locks[locks_taken++];
+    lock->type = type;
+    read_kind(lock, address, wanted->class);
+    memset(&lock->marks, 0, sizeof lock->marks);
+    memset(lock->holders, 0, sizeof lock->holders);
+    if (!type->anchor)
+        atomic_fetch_add(&locks_in_memory, 1);
+    _Atomic(struct lock *) *bucket = lock_bucket((uintptr_t)address);
+    atomic_store(&lock->next, atomic_load(bucket));
+    atomic_store(&lock->address, (uintptr_t)address);
+    atomic_store_explicit(bucket, lock, memory_order_release);
+    return lock;
+}
+
+/* A lock at its first use: its record, or NULL where it can't be recorded. */
+COLD struct lock *lock_met(const void *address, enum class class, struct caller caller)
+{
+    struct type wanted = {.class = class, .address = (uintptr_t)address};
+    uint32_t places[DEPTH_MOST] = {0};
+    /* This comes before the search for the lock's object, since it looks for objects that are new. */
+    places_of(caller, places);
+    if (!recorder_enters())
+        return NULL;
+    struct lock *lock = lock_at(address);
+    if (!lock) {
+        if (object_of((uintptr_t)address, false))
+            wanted.anchor = (uintptr_t)address;
+        else
+            memcpy(wanted.places, places, sizeof places);
+        lock = add(address, &wanted);
+    }
+    recorder_leaves();
+    return lock;
+}
+
+static uintptr_t anchor_of(uintptr_t address)
+{
+    uint32_t object = object_of(address, false);
+    if (!object)
+        return 0;
+    uint32_t slot = (uint32_t)(address >> 3) % ANCHORS;
+    if (anchors[slot].address != address) {
+        uint64_t size;
+        anchors[slot].address = address;
+        if (!*object_symbol(object, address, false, &anchors[slot].from, &size))
+            anchors[slot].from = address;
+    }
+    return anchors[slot].from;
+}
+
+/* An init call has made a lock there. */
+void lock_made(const void *address, enum class class, struct caller caller)
+{
+    if (self.state != OPEN && !thread_opens(&self))
+        return;
+    self.state = BUSY;
+    struct type wanted = {.class = class, .address = (uintptr_t)address};
+    places_of(caller, wanted.places);
+    if (recorder_enters()) {
+        struct lock *before = lock_at(address);
+        if (before)
+            forget(before, false);
+        wanted.anchor = anchor_of((uintptr_t)address);
+        add(address, &wanted);
+        recorder_leaves();
+    }
+    self.state = OPEN;
+}
+
+/* The lock there was destroyed. */
+void lock_gone(const void *address)
+{
+    if (self.state != OPEN && !thread_opens(&self))
+        return;
+    self.state = BUSY;
+    if (lock_at(address) && recorder_enters()) {
+        struct lock *lock = lock_at(address);
+        if (lock)
+            forget(lock, is_free(lock));
+        recorder_leaves();
+    }
+    self.state = OPEN;
+}
+
+/* A lock in the block, from the piece on that *at stands in, NULL where there is none. */
+static struct lock *lock_in(uintptr_t *at, uintptr_t end)
+{
+    for (; *at < end; *at = (*at / LOCK_PIECE + 1) * LOCK_PIECE) {
+        struct lock *lock = atomic_load_explicit(lock_bucket(*at), memory_order_acquire);
+        for (; lock; lock = atomic_load_explicit(&lock->next, memory_order_acquire)) {
+            uintptr_t address = atomic_load_explicit(&lock->address, memory_order_relaxed);
+            if (address >= *at && address < end)
+                return lock;
+        }
+    }
+    return NULL;
+}
+
+/* The block is about to be freed, and the locks in it with it. */
+void locks_freed(const void *block)
+{
+    if (LIKELY(atomic_load_explicit(&locks_in_memory, memory_order_relaxed) == 0) || !watches_free)
+        return;
+    uintptr_t at = (uintptr_t)block, end = at + malloc_usable_size((void *)block);
+    if (LIKELY(!lock_in(&at, end)))
+        return;
+    if (self.state != OPEN && !thread_opens(&self))
+        return;
+    self.state = BUSY;
+    if (recorder_enters()) {
+        struct lock *lock;
+        while ((lock = lock_in(&at, end)) != NULL)
+            forget(lock, is_free(lock));
+        recorder_leaves();
+    }
+    self.state = OPEN;
+}

@@ -1,0 +1,333 @@
+/*
+ * The recorder: an object for LD_PRELOAD that writes what a program does with its locks, in lines from which
+ * `recorder/resolve` makes a trace. This file has what its parts share:
+ *
+ *   calls.c     the interposed calls of pthread, C11 and the C library
+ *   start.c     the real functions behind them, the start, fork
+ *   chains.c    what each thread holds, and the tree of chains of types; quick.h, where nothing is to be written
+ *   locks.c     the locks at their addresses, and their types
+ *   places.c    the callers of a call; objects.c finds their object and name
+ *   seats.c     seats, and the numbers of types, locks and places in a stream
+ *   write.c     the lines, and why they are a legal history
+ *   stream.c    the files that the lines stand in
+ *
+ * All that threads share is changed under the recorder's one mutex (recorder_enters, recorder_leaves), and nearly
+ * all of it is read without. Nothing here takes memory but by mmap, and no lock of the C library is waited for
+ * under the mutex.
+ */
+#ifndef RECORDER_H
+#define RECORDER_H
+
+#include <pthread.h>
+#include <signal.h>
+#include <stdatomic.h>
+#include <stdbool.h>
+#include <stddef.h>
+#include <stdint.h>
+#include <threads.h>
+#include <time.h>
+
+#define LIKELY(condition) __builtin_expect(!!(condition), 1)
+#define UNLIKELY(condition) __builtin_expect(!!(condition), 0)
+#define COLD __attribute__((cold, noinline))
+
+/* A stream is one file of lines. A run writes the condensed one, the full one or, to compare them, both. */
+enum { CONDENSED, FULL, STREAMS };
+
+/* The limits of a trace; the recorder has no use for chunks. */
+enum { SEATS = 256, TYPES = 1023, LOCKS = 65536 };
+#define LOG_LIMIT 16777216u
+
+/* The recorder's own limits: locks alive, types met, places, nodes of the tree of chains, locks that a thread holds. */
+#define LOCKS_ALIVE (1u << 20)
+#define TYPES_MET (1u << 16)
+#define PLACES (1u << 16)
+#define NODES (1u << 18)
+#define HELD_MOST 512u
+#define HELD_FEW 8u
+#define DEPTH_MOST 4u
+
+enum class { MUTEX, RWLOCK, SPIN };
+enum mode { SHARED, EXCLUSIVE };
+
+/* The number of a thing in each stream, 0 before it has one. A forked child begins a life with none. */
+struct marks {
+    uint32_t life;
+    uint32_t number[STREAMS];
+};
+
+/* Where a call comes from: its return address, and the stack pointer of the caller. */
+struct caller {
+    uintptr_t pc;
+    uintptr_t stack;
+};
+
+/* A return address that was met. */
+struct place {
+    _Atomic uintptr_t pc;
+    int32_t step;      /* from the caller's stack pointer to that of its own caller; or one of the two below */
+    uint16_t object;   /* the number of the object, 0 where there is none */
+    bool wrapper;      /* the function's only work is to lock */
+    uint64_t offset;   /* the address as the object's file counts it */
+    const char *name;  /* of the function, or empty */
+    uint64_t within;   /* the address as the function counts it */
+    struct marks marks;
+};
+enum { STEP_LAST = 0, STEP_VARIES = -1 };
+
+struct type {
+    uint32_t number;
+    enum class class;
+    uintptr_t anchor;  /* of a lock that stands in an object: the lock, or the variable that it is in; else 0 */
+    uintptr_t address; /* of the first lock of the type */
+    uint32_t places[DEPTH_MOST];
+    struct type *next; /* in its bucket */
+    _Atomic uint32_t root; /* the node of a chain of this type alone; 0 where it wasn't looked for */
+    struct marks marks;
+    uint32_t made[STREAMS];       /* locks of the type that have a number */
+    uint32_t free_number[STREAMS]; /* the first number given back, 0 for none */
+};
+
+struct lock {
+    _Atomic uintptr_t address; /* 0 where the record is free */
+    _Atomic(struct lock *) next; /* in its bucket, or among the free records */
+    struct type *type;
+    _Atomic uint32_t lost;     /* how often it was given up by other means than an unlock of its holder */
+    bool recursive;
+    bool loses;                /* an unlock by another thread than the holder succeeds */
+    struct marks marks;
+    uint32_t holders[STREAMS]; /* acquisitions written and not yet unlocked, and requests pending */
+};
+
+/* A lock that a thread holds. */
+struct held {
+    struct lock *lock;
+    uint32_t lost;    /* the lock's count when it was acquired */
+    uint32_t type;
+    uint32_t place;
+    uint32_t node;    /* of the chain up to this lock; 0 where it wasn't looked for */
+    uint32_t count;   /* acquisitions not yet released */
+    uint8_t mode;
+    uint8_t tried;
+    uint8_t written;  /* a bit for each stream */
+    uint32_t number[STREAMS];
+};
+
+enum state { UNREADY, OPEN, BUSY };
+
+struct thread {
+    volatile int state;
+    uint32_t count;
+    uint32_t room;
+    uint32_t lost_seen;
+    uint32_t unseen;  /* acquisitions that the chain had no room for */
+    struct held *held;
+    uint32_t seat[STREAMS];      /* 0 for none */
+    uint32_t last_seat[STREAMS];
+    uint32_t written[STREAMS];   /* locks in the chain, and requests, that stand in the stream */
+    struct held few[HELD_FEW];
+};
+
+/* A request from its check to its end. */
+struct request {
+    struct thread *thread;
+    struct lock *lock;
+    struct held *again; /* where the thread holds the lock already */
+    uint32_t place;
+    uint32_t parent;    /* the node of what is held */
+    uint32_t node;      /* of the chain with the lock; 0 where it wasn't looked for */
+    uint8_t mode;
+    bool tried;
+    bool patient;       /* not written though it may block: to be written after a second */
+    bool again_refused; /* the thread holds the lock, and it isn't one to be acquired again */
+    uint8_t pending;    /* a bit for each stream */
+    uint32_t number[STREAMS];
+};
+
+/* What didn't fit, or can't be written: counted in the first line of each stream. */
+enum missed {
+    MISSED_SEATS,
+    MISSED_TYPES,
+    MISSED_LOCKS,
+    MISSED_HELD,
+    MISSED_LOG,
+    MISSED_RELEASES,
+    MISSED_AGAIN,
+    MISSES
+};
+
+/* start.c */
+typedef void handler(int);
+struct real {
+    int (*mutex_init)(pthread_mutex_t *, const pthread_mutexattr_t *);
+    int (*mutex_destroy)(pthread_mutex_t *);
+    int (*mutex_lock)(pthread_mutex_t *);
+    int (*mutex_trylock)(pthread_mutex_t *);
+    int (*mutex_timedlock)(pthread_mutex_t *, const struct timespec *);
+    int (*mutex_clocklock)(pthread_mutex_t *, clockid_t, const struct timespec *);
+    int (*mutex_unlock)(pthread_mutex_t *);
+    int (*rwlock_init)(pthread_rwlock_t *, const pthread_rwlockattr_t *);
+    int (*rwlock_destroy)(pthread_rwlock_t *);
+    int (*rwlock_rdlock)(pthread_rwlock_t *);
+    int (*rwlock_tryrdlock)(pthread_rwlock_t *);
+    int (*rwlock_timedrdlock)(pthread_rwlock_t *, const struct timespec *);
+    int (*rwlock_clockrdlock)(pthread_rwlock_t *, clockid_t, const struct timespec *);
+    int (*rwlock_wrlock)(pthread_rwlock_t *);
+    int (*rwlock_trywrlock)(pthread_rwlock_t *);
+    int (*rwlock_timedwrlock)(pthread_rwlock_t *, const struct timespec *);
+    int (*rwlock_clockwrlock)(pthread_rwlock_t *, clockid_t, const struct timespec *);
+    int (*rwlock_unlock)(pthread_rwlock_t *);
+    int (*spin_init)(pthread_spinlock_t *, int);
+    int (*spin_destroy)(pthread_spinlock_t *);
+    int (*spin_lock)(pthread_spinlock_t *);
+    int (*spin_trylock)(pthread_spinlock_t *);
+    int (*spin_unlock)(pthread_spinlock_t *);
+    int (*cond_wait)(pthread_cond_t *, pthread_mutex_t *);
+    int (*cond_timedwait)(pthread_cond_t *, pthread_mutex_t *, const struct timespec *);
+    int (*cond_clockwait)(pthread_cond_t *, pthread_mutex_t *, clockid_t, const struct timespec *);
+    int (*c11_init)(mtx_t *, int);
+    int (*sigaction)(int, const struct sigaction *, struct sigaction *);
+    handler *(*signal)(int, handler *);
+    handler *(*sysv_signal)(int, handler *);
+    handler *(*sigset)(int, handler *);
+    void (*free)(void *);
+};
+extern struct real real;
+extern __thread struct thread self __attribute__((tls_model("initial-exec")));
+extern bool writes[STREAMS];
+extern bool writes_all; /* a line for every call: the full stream is written */
+extern uint32_t depth;  /* how many callers name a type */
+extern uint32_t life;   /* how many forks lie between the recorded program's start and this process */
+extern bool watches_free;
+extern _Atomic bool has_handlers; /* the program was given a handler of signals */
+
+void start(void);
+bool thread_opens(struct thread *thread);
+bool recorder_enters(void);
+void recorder_leaves(void);
+void *table(size_t bytes);
+
+/* chains.c */
+extern _Atomic uint32_t lost_total;
+
+bool chains_made(void);
+bool request_begins(struct request *request, const void *address, enum class class, enum mode mode,
+    struct caller caller, bool tried);
+void request_ends(struct request *request, bool got);
+void request_waits(struct request *request);
+void release_begins(const void *address);
+bool wait_begins(struct request *request, const void *address, struct caller caller);
+void wait_ends(struct request *request, int answer);
+void node_set_requested(uint32_t node);
+uint32_t node_made(uint32_t parent, uint32_t type);
+void chains_forked(void);
+
+/* locks.c */
+bool locks_made(void);
+/*
+ * Locks are chained by the piece of memory that they are in. Pieces that are neighbours have buckets that are
+ * neighbours; the heaps of threads are apart by a power of two.
+ */
+enum { LOCK_BUCKETS = 1 << 18, LOCK_PIECE = 1 << 8 };
+extern _Atomic(struct lock *) *lock_buckets;
+
+static inline _Atomic(struct lock *) *lock_bucket(uintptr_t address)
+{
+    uintptr_t piece = address / LOCK_PIECE;
+    return &lock_buckets[(piece ^ (piece >> 18) * 0x9e37) % LOCK_BUCKETS];
+}
+
+static inline struct lock *lock_at(const void *address)
+{
+    struct lock *lock = atomic_load_explicit(lock_bucket((uintptr_t)address), memory_order_acquire);
+    while (lock && atomic_load_explicit(&lock->address, memory_order_relaxed) != (uintptr_t)address)
+        lock = atomic_load_explicit(&lock->next, memory_order_acquire);
+    return lock;
+}
+
+struct lock *lock_met(const void *address, enum class class, struct caller caller);
+void locks_forked(void);
+void lock_made(const void *address, enum class class, struct caller caller);
+void lock_gone(const void *address);
+void locks_freed(const void *block);
+void lock_given_up(struct lock *lock);
+
+/* places.c */
+bool places_made(void);
+extern struct place *places;
+
+static inline uint32_t place_slot(uintptr_t pc)
+{
+    return (uint32_t)((pc * 0x9e3779b97f4a7c15u) >> 40) % PLACES;
+}
+
+/* The number of the place, 0 where it wasn't met. */
+static inline uint32_t place_at_pc(uintptr_t pc)
+{
+    for (uint32_t slot = place_slot(pc);; slot = (slot + 1) % PLACES) {
+        uintptr_t found = atomic_load_explicit(&places[slot].pc, memory_order_acquire);
+        if (found == pc)
+            return slot + 1;
+        if (found == 0)
+            return 0;
+    }
+}
+
+static inline struct place *place_at(uint32_t number)
+{
+    return &places[number - 1];
+}
+
+uint32_t first_caller(struct caller caller);
+
+/* The number of the first caller that isn't a wrapper; 0 where there are too many places. */
+static inline uint32_t place_of(struct caller caller)
+{
+    uint32_t number = place_at_pc(caller.pc);
+    return LIKELY(number != 0) && LIKELY(!place_at(number)->wrapper) ? number : first_caller(caller);
+}
+
+uint32_t places_of(struct caller caller, uint32_t places[DEPTH_MOST]);
+
+/* objects.c */
+uint32_t object_of(uintptr_t address, bool look); /* 0 for none; looks for new objects where it is told to */
+uint64_t object_offset(uint32_t object, uintptr_t address);
+const char *object_path(uint32_t object);
+struct marks *object_marks(uint32_t object);
+/* The name of the function or variable there, or an empty one; *from is where it begins, and *size how long it is. */
+const char *object_symbol(uint32_t object, uintptr_t address, bool function, uintptr_t *from, uint64_t *size);
+
+/* seats.c */
+bool seat_taken(int stream, struct thread *thread);
+void seat_given_back(int stream, struct thread *thread);
+uint32_t lock_number(int stream, struct thread *thread, struct lock *lock);
+void lock_number_given_back(int stream, struct lock *lock);
+uint32_t place_number(int stream, uint32_t place);
+uint32_t *mark(struct marks *marks, int stream);
+void seats_forked(void);
+
+/* write.c */
+void write_request(struct request *request);
+void write_acquired(struct request *request, struct held *held);
+void write_again(struct request *request, struct held *held);
+void write_given_up(struct request *request);
+void write_unlock(struct thread *thread, struct held *held, bool whole);
+void write_place(int stream, uint32_t place);
+void write_type(int stream, struct type *type);
+void write_init(int stream, struct thread *thread, struct lock *lock);
+
+/* stream.c */
+void put_text(int stream, const char *text);
+void put_number(int stream, uint64_t number);      /* behind a space, as the next two */
+void put_hexadecimal(int stream, uint64_t number);
+void put_name(int stream, const char *name);
+void stream_append(int stream, bool is_entry);
+bool stream_opens(int stream);
+uint32_t stream_entries(int stream);
+void count_missed(int stream, enum missed what);
+void count_missed_all(enum missed what);
+void count_missed_outside(enum missed what);
+bool streams_made(void);
+void streams_forked(void);
+
+#endif

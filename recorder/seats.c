@@ -1,0 +1,130 @@
+/*
+ * Seats, and the numbers that types, locks and places have in a stream. All of it is under the mutex.
+ *
+ * A seat is lent to a thread while the stream has something that the thread holds or asks for: a seat with nothing
+ * held and nothing pending is as good as new. So a thread that ends has nothing to give back, and the seats of a trace
+ * are those that were busy at once. The number of a lock that is gone is used again for a lock of the same type.
+ */
+#include "recorder.h"
+
+/* The number of what didn't fit; it was counted. */
+#define NUMBER_NONE UINT32_MAX
+
+static uint64_t seats_lent[STREAMS][SEATS / 64];
+static uint32_t types_numbered[STREAMS];
+static uint32_t locks_numbered[STREAMS];
+/* Behind each number that was given back, the next one of the same type. */
+static uint32_t next_free[STREAMS][LOCKS + 1];
+
+uint32_t *mark(struct marks *marks, int stream)
+{
+    if (marks->life != life)
+        *marks = (struct marks){.life = life};
+    return &marks->number[stream];
+}
+
+static bool is_lent(int stream, uint32_t seat)
+{
+    return seats_lent[stream][(seat - 1) / 64] >> (seat - 1) % 64 & 1;
+}
+
+bool seat_taken(int stream, struct thread *thread)
+{
+    uint32_t seat = thread->last_seat[stream];
+    if (thread->seat[stream])
+        return true;
+    if (seat == 0 || is_lent(stream, seat))
+        for (seat = 1; seat <= SEATS && is_lent(stream, seat); seat++)
+            ;
+    if (seat > SEATS) {
+        count_missed(stream, MISSED_SEATS);
+        return false;
+    }
+    seats_lent[stream][(seat - 1) / 64] |= (uint64_t)1 << (seat - 1) % 64;
+    thread->seat[stream] = thread->last_seat[stream] = seat;
+    return true;
+}
+
+/* Gives the seat back where nothing of the thread stands in the stream any longer. */
+void seat_given_back(int stream, struct thread *thread)
+{
+    uint32_t seat = thread->seat[stream];
+    if (seat == 0 || thread->written[stream] != 0)
+        return;
+    seats_lent[stream][(seat - 1) / 64] &= ~((uint64_t)1 << (seat - 1) % 64);
+    thread->seat[stream] = 0;
+}
+
+static bool type_is_numbered(int stream, struct type *type)
+{
+    if (type->marks.life != life)
+        for (int each = 0; each < STREAMS; each++)
+            type->made[each] = type->free_number[each] = 0;
+    uint32_t *number = mark(&type->marks, stream);
+    if (*number == 0) {
+        if (types_numbered[stream] == TYPES) {
+            count_missed(stream, MISSED_TYPES);
+            *number = NUMBER_NONE;
+        } else {
+            *number = ++types_numbered[stream];
+            write_type(stream, type);
+        }
+    }
+    return *number != NUMBER_NONE;
+}
+
+/* The number of the lock, 0 where it has none in this stream. The thread has a seat and nothing pending. */
+uint32_t lock_number(int stream, struct thread *thread, struct lock *lock)
+{
+    uint32_t *number = mark(&lock->marks, stream);
+    struct type *type = lock->type;
+    if (*number == 0) {
+        if (!type_is_numbered(stream, type)) {
+            *number = NUMBER_NONE;
+        } else if (type->free_number[stream]) {
+            *number = type->free_number[stream];
+            type->free_number[stream] = next_free[stream][*number];
+        } else if (locks_numbered[stream] == LOCKS) {
+            count_missed(stream, MISSED_LOCKS);
+            *number = NUMBER_NONE;
+        } else {
+            *number = ++locks_numbered[stream];
+            type->made[stream]++;
+            write_init(stream, thread, lock);
+        }
+    }
+    return *number == NUMBER_NONE ? 0 : *number;
+}
+
+/* The lock is gone. Its number is free, unless the stream still has it held or asked for. */
+void lock_number_given_back(int stream, struct lock *lock)
+{
+    uint32_t number = *mark(&lock->marks, stream);
+    if (number == 0 || number == NUMBER_NONE || lock->holders[stream] != 0)
+        return;
+    next_free[stream][number] = lock->type->free_number[stream];
+    lock->type->free_number[stream] = number;
+}
+
+/* The number of the place, which stands in the stream from then on. */
+uint32_t place_number(int stream, uint32_t place)
+{
+    if (place == 0)
+        return 0;
+    uint32_t *number = mark(&place_at(place)->marks, stream);
+    if (*number == 0) {
+        *number = place;
+        write_place(stream, place);
+    }
+    return place;
+}
+
+/* The child's streams have nothing of the parent's. */
+void seats_forked(void)
+{
+    for (int stream = 0; stream < STREAMS; stream++) {
+        for (uint32_t i = 0; i < SEATS / 64; i++)
+            seats_lent[stream][i] = 0;
+        types_numbered[stream] = locks_numbered[stream] = 0;
+    }
+}

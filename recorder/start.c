@@ -1,0 +1,248 @@
+/*
+ * The real functions behind the interposed ones, the start of the recorder, its mutex, and what a fork does.
+ *
+ * The recorder may be entered before its constructor has run, by the constructors of other objects: so the first call
+ * of all starts it, whichever it is. A call that comes while its thread is inside the recorder (from a signal handler,
+ * or from the C library on the recorder's behalf) is passed on and not recorded.
+ */
+#include "recorder.h"
+
+#include <dlfcn.h>
+#include <errno.h>
+#include <fcntl.h>
+#include <stdio.h>
+#include <stdlib.h>
+#include <string.h>
+#include <sys/mman.h>
+#include <unistd.h>
+
+struct real real;
+__thread struct thread self __attribute__((tls_model("initial-exec")));
+bool writes[STREAMS];
+bool writes_all;
+uint32_t depth = 2;
+uint32_t life = 1;
+bool watches_free;
+_Atomic bool has_handlers;
+
+static const struct {
+    size_t offset;
+    const char *name;
+    const char *version; /* where an object has several: the one that programs of today are linked to */
+} functions[] = {
+    {offsetof(struct real, mutex_lock), "pthread_mutex_lock", NULL},
+    {offsetof(struct real, mutex_trylock), "pthread_mutex_trylock", NULL},
+    {offsetof(struct real, mutex_unlock), "pthread_mutex_unlock", NULL},
+    {offsetof(struct real, free), "free", NULL},
+    {offsetof(struct real, mutex_init), "pthread_mutex_init", NULL},
+    {offsetof(struct real, mutex_destroy), "pthread_mutex_destroy", NULL},
+    {offsetof(struct real, mutex_timedlock), "pthread_mutex_timedlock", NULL},
+    {offsetof(struct real, mutex_clocklock), "pthread_mutex_clocklock", NULL},
+    {offsetof(struct real, rwlock_init), "pthread_rwlock_init", NULL},
+    {offsetof(struct real, rwlock_destroy), "pthread_rwlock_destroy", NULL},
+    {offsetof(struct real, rwlock_rdlock), "pthread_rwlock_rdlock", NULL},
+    {offsetof(struct real, rwlock_tryrdlock), "pthread_rwlock_tryrdlock", NULL},
+    {offsetof(struct real, rwlock_timedrdlock), "pthread_rwlock_timedrdlock", NULL},
+    {offsetof(struct real, rwlock_clockrdlock), "pthread_rwlock_clockrdlock", NULL},
+    {offsetof(struct real, rwlock_wrlock), "pthread_rwlock_wrlock", NULL},
+    {offsetof(struct real, rwlock_trywrlock), "pthread_rwlock_trywrlock", NULL},
+    {offsetof(struct real, rwlock_timedwrlock), "pthread_rwlock_timedwrlock", NULL},
+    {offsetof(struct real, rwlock_clockwrlock), "pthread_rwlock_clockwrlock", NULL},
+    {offsetof(struct real, rwlock_unlock), "pthread_rwlock_unlock", NULL},
+    {offsetof(struct real, spin_init), "pthread_spin_init", NULL},
+    {offsetof(struct real, spin_destroy), "pthread_spin_destroy", NULL},
+    {offsetof(struct real, spin_lock), "pthread_spin_lock", NULL},
+    {offsetof(struct real, spin_trylock), "pthread_spin_trylock", NULL},
+    {offsetof(struct real, spin_unlock), "pthread_spin_unlock", NULL},
+    {offsetof(struct real, cond_wait), "pthread_cond_wait", "GLIBC_2.3.2"},
+    {offsetof(struct real, cond_timedwait), "pthread_cond_timedwait", "GLIBC_2.3.2"},
+    {offsetof(struct real, cond_clockwait), "pthread_cond_clockwait", NULL},
+    {offsetof(struct real, c11_init), "mtx_init", NULL},
+    {offsetof(struct real, sigaction), "sigaction", NULL},
+    {offsetof(struct real, signal), "signal", NULL},
+    {offsetof(struct real, sysv_signal), "__sysv_signal", NULL},
+    {offsetof(struct real, sigset), "sigset", NULL},
+};
+
+static pthread_mutex_t mutex = PTHREAD_MUTEX_INITIALIZER;
+static _Atomic bool recording;
+/* Of the thread that is inside: what it had outside. */
+static int errno_outside, cancellation_outside;
+static sigset_t signals_outside;
+static bool signals_wait;
+/* A byte that is 1 here and 0 in a child that came about without fork's handlers. */
+static volatile char *alive;
+static __thread bool forks;
+
+static void find_real_functions(void)
+{
+    for (size_t i = 0; i < sizeof functions / sizeof *functions; i++) {
+        void *found = NULL;
+        if (functions[i].version)
+            found = dlvsym(RTLD_NEXT, functions[i].name, functions[i].version);
+        if (!found)
+            found = dlsym(RTLD_NEXT, functions[i].name);
+        memcpy((char *)&real + functions[i].offset, &found, sizeof found);
+    }
+}
+
+/* Memory of zeros, of which only what is touched is taken. Without it the recorder stays off. */
+void *table(size_t bytes)
+{
+    void *memory = mmap(NULL, bytes, PROT_READ | PROT_WRITE, MAP_PRIVATE | MAP_ANONYMOUS | MAP_NORESERVE, -1, 0);
+    return memory == MAP_FAILED ? NULL : memory;
+}
+
+static bool settings_read(void)
+{
+    const char *streams = getenv("RECORDER_STREAMS");
+    const char *frames = getenv("RECORDER_DEPTH");
+    if (!getenv("RECORDER_DIRECTORY"))
+        return false;
+    writes[FULL] = streams && (strcmp(streams, "full") == 0 || strcmp(streams, "both") == 0);
+    writes[CONDENSED] = !streams || strcmp(streams, "full") != 0;
+    writes_all = writes[FULL];
+    if (frames && frames[0] >= '1' && frames[0] <= '0' + (int)DEPTH_MOST && frames[1] == '\0')
+        depth = (uint32_t)(frames[0] - '0');
+    return true;
+}
+
+void start(void)
+{
+    static _Atomic bool begun;
+    int before = errno;
+    if (atomic_load_explicit(&begun, memory_order_relaxed) || atomic_exchange(&begun, true))
+        return;
+    self.state = BUSY;
+    find_real_functions();
+    if (settings_read() && locks_made() && places_made() && chains_made() && streams_made()) {
+        alive = table(4096);
+        if (alive) {
+            *alive = 1;
+            madvise((void *)alive, 4096, MADV_WIPEONFORK);
+            atomic_store(&recording, true);
+        }
+    }
+    self.state = UNREADY;
+    errno = before;
+}
+
+/* Makes the thread ready at its first call. False where it is inside the recorder already, or nothing is recorded. */
+COLD bool thread_opens(struct thread *thread)
+{
+    if (thread->state == BUSY)
+        return false;
+    start();
+    if (!atomic_load(&recording))
+        return false;
+    if (!thread->held) {
+        thread->held = thread->few;
+        thread->room = HELD_FEW;
+    }
+    thread->state = OPEN;
+    return true;
+}
+
+/*
+ * False where this process records no more: then nothing may be touched. Inside, a thread isn't cancelled, no handler
+ * of the program runs in it (it may leave by a jump, or wait for another thread), and the program's errno is kept.
+ */
+bool recorder_enters(void)
+{
+    int before = errno;
+    if (!*alive)
+        atomic_store(&recording, false);
+    if (!atomic_load(&recording))
+        return false;
+    int cancellation;
+    sigset_t all, signals;
+    bool wait = atomic_load_explicit(&has_handlers, memory_order_relaxed);
+    if (wait) {
+        sigfillset(&all);
+        pthread_sigmask(SIG_BLOCK, &all, &signals);
+    }
+    pthread_setcancelstate(PTHREAD_CANCEL_DISABLE, &cancellation);
+    real.mutex_lock(&mutex);
+    errno_outside = before;
+    cancellation_outside = cancellation;
+    signals_wait = wait;
+    if (wait)
+        signals_outside = signals;
+    return true;
+}
+
+void recorder_leaves(void)
+{
+    int before = errno_outside, cancellation = cancellation_outside;
+    sigset_t signals;
+    bool wait = signals_wait;
+    if (wait)
+        signals = signals_outside;
+    real.mutex_unlock(&mutex);
+    pthread_setcancelstate(cancellation, NULL);
+    if (wait)
+        pthread_sigmask(SIG_SETMASK, &signals, NULL);
+    errno = before;
+}
+
+/* A fork waits until nobody is inside the recorder, so that the child finds whole tables. */
+static void fork_begins(void)
+{
+    forks = atomic_load(&recording) && self.state != BUSY && recorder_enters();
+}
+
+static void fork_ends_in_parent(void)
+{
+    if (forks)
+        recorder_leaves();
+}
+
+/* The child begins a trace of its own, in which its one thread holds what it held, and nothing is known. */
+static void fork_ends_in_child(void)
+{
+    if (!forks) {
+        atomic_store(&recording, false);
+        return;
+    }
+    *alive = 1;
+    life++;
+    seats_forked();
+    streams_forked();
+    locks_forked();
+    chains_forked();
+    recorder_leaves();
+}
+
+/* Leaves a file by which record tells a program without nested requests from one that the recorder wasn't in. */
+static void say_started(void)
+{
+    char path[512];
+    const char *directory = getenv("RECORDER_DIRECTORY");
+    if (snprintf(path, sizeof path, "%s/started", directory) < (int)sizeof path) {
+        int file = open(path, O_WRONLY | O_CREAT | O_CLOEXEC, 0600);
+        if (file >= 0)
+            close(file);
+    }
+}
+
+/* That free and malloc_usable_size are of one object: else sizes can't be believed. */
+static bool sizes_are_known(void)
+{
+    Dl_info of_free, of_size;
+    void *size = dlsym(RTLD_DEFAULT, "malloc_usable_size");
+    void *given = dlsym(RTLD_NEXT, "free");
+    return size && given && dladdr(size, &of_size) && dladdr(given, &of_free)
+        && of_size.dli_fbase == of_free.dli_fbase;
+}
+
+__attribute__((constructor)) static void loaded(void)
+{
+    start();
+    if (!atomic_load(&recording))
+        return;
+    self.state = BUSY;
+    say_started();
+    watches_free = sizes_are_known();
+    pthread_atfork(fork_begins, fork_ends_in_parent, fork_ends_in_child);
+    self.state = UNREADY;
+}

@@ -1,0 +1,339 @@
+/*
+ * The lines of a stream.
+ *
+ * Why the lines are a legal history of what the program did. Each line is written in one critical section of the
+ * recorder's mutex: `check` before the real call (after it, where a wait for a condition gets its mutex back); `lock`
+ * or `giveup` after it returned; `try` after a success; `unlock` before the real release. What a thread holds is
+ * written late, but while it is held. So a thread's lines come in its program's order, nothing of it stands between
+ * its `check` and the line that ends it, and of two exclusive holdings of a lock the `unlock` of the first comes
+ * before the `lock` or `try` of the second. A seat is lent to one thread at a time, and it is empty when it goes to
+ * the next. What a trace would end at isn't written: asking anew for a mutex that isn't recursive, unlocking what the
+ * thread doesn't hold, a lock in a mode other than the one it is held in.
+ *
+ * Why the condensed stream of a clean run is clean exactly where the full one is. It leaves out
+ *   - a request of a thread that holds nothing: it passes and adopts nothing (docs/RULES.md, Acquiring);
+ *   - a request behind a chain of held types behind which the same type was asked for before;
+ *   - acquiring again what the thread holds: so does that;
+ * and it writes what a thread holds, in the order of its chain, before the first request that it does write. By
+ * induction over the requests of the full stream: as long as nothing was reported, both have adopted the same orders
+ * in the same order. Take the next request.
+ *   - Was it left out as one asked for before behind the same chain, then that one was written, and passed or taught
+ *     its order. By the law of the verdict PassedPassesOn (crates/wit_model/specs/VerdictLaws.antt) whoever asks for
+ *     that type behind the same last type passes from then on: so this request passes, and adopts nothing. (Two locks
+ *     of a type whose duplicates are all right pass each time, too, and adopt nothing.)
+ *   - Was it written, then it stands behind the same chain and the same orders in both. So both have the same answer:
+ *     it passes, adopts the same order, or is the first report in both.
+ * A held lock that is written late adopts nothing: either its type was asked for before behind the chain that it is
+ * written behind, and the same law holds, or it is written as a try, which isn't judged.
+ *
+ * After the first report this is so but for one thing: a request that was a reversal adopts nothing and is one again
+ * behind the same chain, but by orders adopted since then it may be one of another pair of types. So the condensed
+ * stream may lack later reports, never the first.
+ */
+#include "quick.h"
+
+/* What the seats may owe the log at most: all locks that they hold, and a request for each seat. */
+#define OWED_MOST (SEATS * (HELD_MOST + 2))
+
+static uint32_t bit(int stream)
+{
+    return 1u << stream;
+}
+
+/* The stream has the lock held or asked for by the thread. */
+static void stands(int stream, struct thread *thread, struct lock *lock)
+{
+    thread->written[stream]++;
+    lock->holders[stream]++;
+}
+
+static void stands_no_more(int stream, struct thread *thread, struct lock *lock)
+{
+    thread->written[stream]--;
+    lock->holders[stream]--;
+    seat_given_back(stream, thread);
+}
+
+static bool has_room(int stream)
+{
+    if (!writes[stream] || !stream_opens(stream))
+        return false;
+    if (stream_entries(stream) < LOG_LIMIT - OWED_MOST)
+        return true;
+    count_missed(stream, MISSED_LOG);
+    return false;
+}
+
+/* A line of a call: its word, the seat, the lock and, where they are wanted, the mode and the place. */
+static void write_call(int stream, const char *word, const struct thread *thread, uint32_t lock)
+{
+    put_text(stream, word);
+    put_number(stream, thread->seat[stream]);
+    put_number(stream, lock);
+}
+
+static void end_call(int stream)
+{
+    put_text(stream, "\n");
+    stream_append(stream, true);
+}
+
+static void put_mode(int stream, uint8_t mode)
+{
+    put_text(stream, mode == SHARED ? " s" : " x");
+}
+
+static void write_check(int stream, const struct thread *thread, uint32_t lock, uint8_t mode, uint32_t place)
+{
+    uint32_t site = place_number(stream, place);
+    write_call(stream, "check", thread, lock);
+    put_mode(stream, mode);
+    put_text(stream, " n");
+    put_number(stream, site);
+    end_call(stream);
+}
+
+static void write_lock(int stream, const struct thread *thread, uint32_t lock)
+{
+    write_call(stream, "lock", thread, lock);
+    end_call(stream);
+}
+
+static void write_try(int stream, const struct thread *thread, const struct held *held)
+{
+    uint32_t site = place_number(stream, held->place);
+    write_call(stream, "try", thread, held->number[stream]);
+    put_mode(stream, held->mode);
+    put_number(stream, site);
+    end_call(stream);
+}
+
+/*
+ * Writes what the thread holds and the stream doesn't have yet, oldest first. The thread has a seat. What isn't known
+ * to be asked for behind this chain, since a lock before it is released by now, is written as after a try.
+ */
+static void write_chain(int stream, struct thread *thread)
+{
+    for (uint32_t i = 0; i < thread->count; i++) {
+        struct held *held = &thread->held[i];
+        if (held->written & bit(stream))
+            continue;
+        uint32_t number = lock_number(stream, thread, held->lock);
+        if (number == 0)
+            continue;
+        held->number[stream] = number;
+        held->written |= bit(stream);
+        stands(stream, thread, held->lock);
+        for (uint32_t count = stream == FULL ? held->count : 1; count > 0; count--) {
+            if (held->tried || (i > 0 && (stream == FULL || !node_is_requested(held->node)))) {
+                write_try(stream, thread, held);
+            } else {
+                write_check(stream, thread, number, held->mode, held->place);
+                write_lock(stream, thread, number);
+            }
+        }
+    }
+}
+
+/* Writes the request behind what the thread holds. False where it doesn't fit. */
+static bool write_behind_chain(int stream, struct request *request)
+{
+    struct thread *thread = request->thread;
+    if (!has_room(stream) || !seat_taken(stream, thread))
+        return false;
+    write_chain(stream, thread);
+    uint32_t number = lock_number(stream, thread, request->lock);
+    if (number != 0) {
+        write_check(stream, thread, number, request->mode, request->place);
+        request->number[stream] = number;
+        request->pending |= bit(stream);
+        stands(stream, thread, request->lock);
+    }
+    seat_given_back(stream, thread);
+    return number != 0;
+}
+
+/* Before the real call. The condensed stream has it where it is new, or waits for long. */
+COLD void write_request(struct request *request)
+{
+    struct thread *thread = request->thread;
+    if (!recorder_enters())
+        return;
+    bool nested = thread->count != 0;
+    if (writes[CONDENSED]) {
+        request->node = node_made(request->parent, request->lock->type->number);
+        if (nested && (request->patient || !node_is_requested(request->node))) {
+            if (write_behind_chain(CONDENSED, request))
+                node_set_requested(request->node);
+        } else {
+            request->patient = nested;
+        }
+    }
+    if (writes[FULL] && !(request->pending & bit(FULL)))
+        write_behind_chain(FULL, request);
+    recorder_leaves();
+}
+
+/* Before the real call, where the thread holds the lock already: the full stream alone has it. */
+void write_again(struct request *request, struct held *held)
+{
+    if (!(held->written & bit(FULL)) || !recorder_enters())
+        return;
+    write_check(FULL, request->thread, held->number[FULL], request->mode, request->place);
+    request->number[FULL] = held->number[FULL];
+    request->pending |= bit(FULL);
+    stands(FULL, request->thread, request->lock);
+    recorder_leaves();
+}
+
+/* A try is written where every call is; the condensed stream has it once something is asked for behind it. */
+static void write_tried(struct request *request, struct held *held)
+{
+    struct thread *thread = request->thread;
+    if (held->written & bit(FULL)) {
+        write_try(FULL, thread, held);
+        return;
+    }
+    if (request->again || !has_room(FULL) || !seat_taken(FULL, thread))
+        return;
+    write_chain(FULL, thread);
+    held->number[FULL] = lock_number(FULL, thread, request->lock);
+    if (held->number[FULL] != 0) {
+        held->written |= bit(FULL);
+        stands(FULL, thread, request->lock);
+        write_try(FULL, thread, held);
+    }
+    seat_given_back(FULL, thread);
+}
+
+/* After the real call, which got the lock. What is held isn't in the chain yet, unless it is acquired again. */
+COLD void write_acquired(struct request *request, struct held *held)
+{
+    if (!recorder_enters())
+        return;
+    for (int stream = 0; stream < STREAMS; stream++) {
+        if (!(request->pending & bit(stream)))
+            continue;
+        write_lock(stream, request->thread, request->number[stream]);
+        if (held->written & bit(stream)) {
+            stands_no_more(stream, request->thread, request->lock);
+        } else {
+            held->written |= bit(stream);
+            held->number[stream] = request->number[stream];
+        }
+    }
+    if (writes[FULL] && request->tried)
+        write_tried(request, held);
+    recorder_leaves();
+}
+
+/* After the real call, which didn't get the lock. */
+COLD void write_given_up(struct request *request)
+{
+    if (!recorder_enters())
+        return;
+    for (int stream = 0; stream < STREAMS; stream++) {
+        if (!(request->pending & bit(stream)))
+            continue;
+        write_call(stream, "giveup", request->thread, request->number[stream]);
+        end_call(stream);
+        stands_no_more(stream, request->thread, request->lock);
+    }
+    request->pending = 0;
+    recorder_leaves();
+}
+
+/* Before the real release: of one acquisition, or of all of them. */
+COLD void write_unlock(struct thread *thread, struct held *held, bool whole)
+{
+    if (!recorder_enters())
+        return;
+    for (int stream = 0; stream < STREAMS; stream++) {
+        if (!(held->written & bit(stream)))
+            continue;
+        uint32_t lines = stream == FULL ? (whole ? held->count : 1) : whole;
+        for (; lines > 0; lines--) {
+            write_call(stream, "unlock", thread, held->number[stream]);
+            put_mode(stream, held->mode);
+            end_call(stream);
+        }
+        if (whole)
+            stands_no_more(stream, thread, held->lock);
+    }
+    recorder_leaves();
+}
+
+static void write_object(int stream, uint32_t object)
+{
+    uint32_t *written = object ? mark(object_marks(object), stream) : NULL;
+    if (!written || *written)
+        return;
+    *written = 1;
+    put_text(stream, "object");
+    put_number(stream, object);
+    put_name(stream, object_path(object));
+    put_text(stream, "\n");
+    stream_append(stream, false);
+}
+
+/* `place NUMBER OBJECT OFFSET FUNCTION OFFSET-IN-FUNCTION`: of the call's last byte, not of the return address. */
+void write_place(int stream, uint32_t place)
+{
+    const struct place *written = place_at(place);
+    write_object(stream, written->object);
+    put_text(stream, "place");
+    put_number(stream, place);
+    put_number(stream, written->object);
+    put_hexadecimal(stream, (written->object ? written->offset : written->pc) - 1);
+    put_name(stream, written->name);
+    put_hexadecimal(stream, *written->name ? written->within - 1 : 0);
+    put_text(stream, "\n");
+    stream_append(stream, false);
+}
+
+/* OBJECT OFFSET-IN-FILE VARIABLE OFFSET-IN-VARIABLE of a lock that stands in an object. */
+static void put_variable(int stream, uint32_t object, uintptr_t address)
+{
+    uintptr_t from = address;
+    uint64_t size;
+    const char *name = object_symbol(object, address, false, &from, &size);
+    put_number(stream, object);
+    put_hexadecimal(stream, object_offset(object, address));
+    put_name(stream, name);
+    put_hexadecimal(stream, address - from);
+}
+
+/* `type NUMBER variable` and the variable of its first lock, or `type NUMBER made`; then the places that name it. */
+void write_type(int stream, struct type *type)
+{
+    uint32_t object = type->anchor ? object_of(type->anchor, false) : 0;
+    write_object(stream, object);
+    for (uint32_t i = 0; i < DEPTH_MOST; i++)
+        place_number(stream, type->places[i]);
+    put_text(stream, "type");
+    put_number(stream, *mark(&type->marks, stream));
+    put_text(stream, object ? " variable" : " made");
+    if (object)
+        put_variable(stream, object, type->address);
+    for (uint32_t i = 0; i < DEPTH_MOST && type->places[i]; i++)
+        put_number(stream, type->places[i]);
+    put_text(stream, "\n");
+    stream_append(stream, false);
+}
+
+/* `init SEAT CLASS FLAGS TYPE`, the lock's number among those of its type, and the variable that it stands in. */
+void write_init(int stream, struct thread *thread, struct lock *lock)
+{
+    struct type *type = lock->type;
+    uintptr_t address = atomic_load(&lock->address);
+    uint32_t object = type->anchor ? object_of(address, false) : 0;
+    put_text(stream, "init");
+    put_number(stream, thread->seat[stream]);
+    put_text(stream, type->class == RWLOCK ? " rw " : " mtx ");
+    put_text(stream, lock->recursive ? "r" : "-");
+    put_number(stream, *mark(&type->marks, stream));
+    put_number(stream, type->made[stream]);
+    if (object)
+        put_variable(stream, object, address);
+    end_call(stream);
+}
