@@ -1,18 +1,17 @@
 -- How much the log owes for one held lock.
-use Rattle.std.proofs.Common.{◌≡◌, ℕ, zero, suc, ◌+◌, ◌-◌, ◌<◌, ◌≤◌, Bool, true, false, not, ◌&&◌, cond, nat_lt, List, [], ◌∷◌, Option, None, Some, find, get_or, length, sum_by, unwrap_or, refl, sym, ap, ◌∙◌, subst, arith}
+use Rattle.std.proofs.Common.{◌≡◌, ℕ, zero, suc, ◌+◌, ◌-◌, ◌≤◌, Bool, true, false, not, ◌&&◌, cond, nat_lt, List, [], ◌∷◌, Option, None, Some, find, sum_by, unwrap_or, refl, ap, arith}
 use Rattle.std.specs.List.{slice_get}
 use Rattle.std.proofs.lemmas.Bool.{eqb-true, false≢true}
 use Rattle.std.proofs.lemmas.List.Sums.{sum_by-cons}
 use Rattle.wit_model.specs.declared.locks.Instance.{Instance}
 use Rattle.wit_model.specs.Rules.History.{is_off}
 use Rattle.wit_model.specs.Rules.Locks.{lock_at}
-use Rattle.wit_model.specs.Rules.Numbers.{with_number}
 use Rattle.wit_model.specs.Rules.State.{Story, State, Seat, state_of, seat_at, no_seat, chain_in, recorded_in, owed_by, owed}
 use Rattle.wit_model.specs.Rules.Step.{held_by, is_deepest, is_too_deep}
 use Rattle.wit_model.specs.Rules.Types.{is_spin}
 use Rattle.wit_model.specs.Rules.Verdict.{is_of}
 use Rattle.wit_core.specs.declared.verifier.Verifier.TheInside.{Inside}
-use Rattle.wit_core.specs.Kept.{IsKept, story_in, state_in}
+use Rattle.wit_core.specs.Kept.{IsKept, story_in}
 use Rattle.wit_core.proofs.Now.{now}
 
 -- what is found in a list counts in its sum
