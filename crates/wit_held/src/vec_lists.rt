@@ -7,7 +7,8 @@ ghost use Rattle.wit_model.specs.Rules.Numbers.{IsNumber};
 
 use crate::fresh::{empty_rows, numbers_below};
 use crate::rows::{
-    CHUNK, add, count, find, lend, locate, newest, open_chunk, put, read, take_chunk, take_out, write,
+    CHUNK, add, count, find, lend, locate, newest, open_chunk, put, read, take_chunk, take_out,
+    write,
 };
 use std::alloc::{AllocError, Allocator, Global};
 use std::marker::Model;

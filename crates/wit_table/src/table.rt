@@ -104,7 +104,13 @@ impl Table {
         ensures absent { IfErr result (λ e. e ≡ OutOfMemory → is_enrolled name.now self.old.types ≡ false) }
         ensures unchanged { OnErr result (self.new ≡ self.old) }
     {
-        enroll_in(self.alloc, &mut self.types, self.most_types, name.as_str(), class)
+        enroll_in(
+            self.alloc,
+            &mut self.types,
+            self.most_types,
+            name.as_str(),
+            class,
+        )
     }
 
     /// The number of the type with this name; `None` exactly where no type has it.
