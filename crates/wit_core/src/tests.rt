@@ -172,6 +172,22 @@ const EXHAUSTED: [(Step, Answer); 29] = [
     (Step::Check(2, 1, 9), Answer::Pass),
 ];
 
+/// Behind five locks in one chunk a sixth opens another. It is let go with two of the others, and a seventh joins those that are left.
+const GIVEN_BACK: [(Step, Answer); 12] = [
+    (Step::Init("g", None), Answer::Made(7)),
+    (Step::Check(1, 6, 6), Answer::Adopted(5, 6)),
+    (Step::Note(1, 6), Answer::Recorded),
+    (Step::Unlock(1, 1), Answer::Unlocked),
+    (Step::Unlock(1, 3), Answer::Unlocked),
+    (Step::Unlock(1, 6), Answer::Unlocked),
+    (Step::Check(1, 7, 7), Answer::Adopted(5, 7)),
+    (Step::Note(1, 7), Answer::Recorded),
+    (Step::Unlock(1, 2), Answer::Unlocked),
+    (Step::Unlock(1, 4), Answer::Unlocked),
+    (Step::Unlock(1, 5), Answer::Unlocked),
+    (Step::Unlock(1, 7), Answer::Unlocked),
+];
+
 /// Tries are recorded as they come: none is checked, and the next request stands behind the last one.
 const TRIES: [(Step, Answer); 20] = [
     (Step::Init("a", None), Answer::Made(1)),
@@ -528,6 +544,22 @@ fn exhaustion(rt: HostRuntime) -> Result<(), Fail> {
         let expected = if place < 4 { place as u32 + 1 } else { 0 };
         assert_eq!(rt; held.map(|h| h.lock.0).unwrap_or(0), expected);
     }
+    Ok(())
+}
+
+#[test]
+fn chunks_given_back(rt: HostRuntime) -> Result<(), Fail> {
+    let mut verifier = start(rt.alloc(), (2, 8, 4, 64), "", "")?;
+    let _number = file(&mut verifier, "f")?;
+    assert_eq!(rt; other_answer(&mut verifier, &EXHAUSTED[..16]), None);
+    assert_eq!(rt; other_answer(&mut verifier, &GIVEN_BACK[..8]), None);
+    for (place, lock) in [2, 4, 5, 7, 0].iter().enumerate() {
+        let held = verifier.chain_at(SeatNo(1), false, place);
+        assert_eq!(rt; held.map(|h| h.lock.0).unwrap_or(0), *lock);
+    }
+    assert_eq!(rt; verifier.free_chunks(), 3);
+    assert_eq!(rt; other_answer(&mut verifier, &GIVEN_BACK[8..]), None);
+    assert_eq!(rt; verifier.free_chunks(), 3);
     Ok(())
 }
 

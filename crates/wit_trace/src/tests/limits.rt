@@ -76,9 +76,9 @@ fn put_report(text: &mut String, alloc: Global, asked: u16, held: u16) -> Result
     Ok(())
 }
 
-/// 400 locks of 400 types, made by 256 seats, each of which takes one.
+/// 400 locks of 400 types, made by 256 seats, each of which takes one, with a chunk for each seat.
 fn put_seats(trace: &mut String, alloc: Global) -> Result<(), AllocError> {
-    trace.push_str("witness-trace 1 seats 256 types 400 locks 400 chunks 1\n")?;
+    trace.push_str("witness-trace 1 seats 256 types 400 locks 400 chunks 256\n")?;
     for lock in 1..401 {
         put_lock(trace, alloc, lock % 256 + 1, lock)?;
     }
