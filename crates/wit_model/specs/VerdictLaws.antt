@@ -1,5 +1,5 @@
 -- Laws of the verdict of a check: what its replies say of the orders between types.
-use Rattle.std.specs.Prelude.{ℕ, ◌<◌, ◌≡◌, ◌⊎◌, Bool, true, false, ◌&&◌, ◌||◌, List, [], ◌∷◌, ◌++◌, Option, None, Some}
+use Rattle.std.specs.Prelude.{ℕ, ◌<◌, ◌≡◌, ◌⊎◌, Bool, true, false, ◌&&◌, ◌||◌, List, [], ◌∷◌, ◌++◌, Option, None, Some, Ok}
 use Rattle.std.specs.List.{last_or}
 use Rattle.wit_model.specs.declared.locks.TypeNo.{TypeNo}
 use Rattle.wit_model.specs.declared.locks.Class.TheVariants.{Sx}
@@ -13,12 +13,14 @@ use Rattle.wit_model.specs.declared.calls.Call.TheVariants.{Check}
 use Rattle.wit_model.specs.declared.calls.Reply.{Reply}
 use Rattle.wit_model.specs.declared.calls.Reply.TheVariants.{Pass, Adopted, Reversal, Duplicate}
 use Rattle.wit_model.specs.declared.calls.Entry.{Entry}
+use Rattle.wit_model.specs.Rules.Numbers.{IsGiven}
 use Rattle.wit_model.specs.Rules.Types.{is_same_class}
 use Rattle.wit_model.specs.Rules.Locks.{Lock, locks_of, lock_of, lock_at, has_flag, is_spin_lock}
 use Rattle.wit_model.specs.Rules.Orders.{Before, AreDistinct, is_direct, is_found}
 use Rattle.wit_model.specs.Rules.History.{num, is_held, held_of, watch_of}
-use Rattle.wit_model.specs.Rules.State.{Start, typed_locks, orders_of}
+use Rattle.wit_model.specs.Rules.State.{Start, known_of, seat_of, typed_locks, orders_of}
 use Rattle.wit_model.specs.Rules.Start.{start_fault}
+use Rattle.wit_model.specs.Rules.Verdict.{verdict}
 use Rattle.wit_model.specs.Rules.Step.{IsLegal}
 use Rattle.wit_model.specs.Rules.Ahead.{lock_type, IsAhead}
 use Rattle.wit_model.specs.Rules.Clean.{is_giant_lock, is_clean}
@@ -109,6 +111,16 @@ abbrev pub PassedIsDirect : Type 0
 PassedIsDirect =
     (start : Start) (files : List (List ℕ)) (e : Entry) (h : List Entry) (a b : ℕ)
     → IsLegal start files (e ∷ h) → HasPassed start h e a b → is_direct (orders_of start (e ∷ h)) a b ≡ true
+
+-- a request behind the last held lock by a direct order is judged to pass, unless the seat holds the lock, or a spin lock where that is of
+-- the sleep kind
+abbrev pub DirectPasses : Type 0
+DirectPasses =
+    (start : Start) (files : List (List ℕ)) (h : List Entry) (t : ℕ) (q : Request) (last : ℕ)
+    → start_fault start ≡ None → IsLegal start files h → IsGiven (locks_of h) q.lock.0
+    → last_of_kind t q.lock.0 h ≡ Some last → is_direct (orders_of start h) (lock_type start h last) (lock_type start h q.lock.0) ≡ true
+    → is_held t q.lock.0 h ≡ false → (is_spin_lock (locks_of h) q.lock.0 ≡ false → held_of true t h ≡ [])
+    → verdict (known_of start h) (watch_of h) (seat_of h t) q ≡ Ok Pass
 
 -- and whoever asks for a lock of that type behind one of that type later, passes, if no fault refuses the check
 abbrev pub PassedPassesOn : Type 0

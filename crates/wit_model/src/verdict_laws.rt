@@ -7,6 +7,7 @@ ghost use Rattle.wit_model.specs.VerdictLaws.{
   DuplicatesAreOfOneType,
   PairsAreReportedOnce,
   PassedIsDirect,
+  DirectPasses,
   PassedPassesOn,
   HeldComeFirst,
   AheadStays,
@@ -37,10 +38,12 @@ pub fn law_pairs_reported_once()
 /// A request needs to be checked once. Where everything is watched and a request for a lock that its seat doesn't hold, which may teach
 /// an order and allows no second lock of a type, passed or taught its order behind a last held lock of its kind, that order is a
 /// direct one from then on: whoever asks, whenever, for a lock of that type while his last held lock of its kind is of that other type,
-/// passes, if no fault refuses the check, and teaches nothing. So a recorder may leave such a check out. Giant together with a sleepable
-/// lock is excepted: these two may be taken in either order, and no order between them is learnt.
+/// passes, if no fault refuses the check, and teaches nothing. So a recorder may leave such a check out, where the seat doesn't hold the
+/// lock, nor a spin lock if that is of the sleep kind: no rule then refuses it. Giant together with a sleepable lock is excepted: these
+/// two may be taken in either order, and no order between them is learnt.
 pub fn law_passed_passes_on()
     ensures direct { PassedIsDirect }
+    ensures judged { DirectPasses }
     ensures later { PassedPassesOn }
 {}
 
