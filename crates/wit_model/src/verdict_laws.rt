@@ -10,6 +10,7 @@ ghost use Rattle.wit_model.specs.VerdictLaws.{
   DirectPasses,
   PassedPassesOn,
   HeldComeFirst,
+  TwoMutexesAreClean,
   AheadStays,
   AheadJoins,
   NoneIsAheadOfItself,
@@ -50,9 +51,11 @@ pub fn law_passed_passes_on()
 /// In a clean run a seat takes its locks in one order. Where nothing was reported, everything was watched, each check might teach an
 /// order, and nothing is excepted (no try, no second lock of a type allowed, no Giant, no blessed pair), each check of a lock that its
 /// seat doesn't hold leaves every lock that it holds ahead of that one: those of its kind by a path of adopted orders between their
-/// types, and a spin lock only of spin locks. WITNESS compares with the last held lock alone, and yet this is true of all of them.
+/// types, and a spin lock only of spin locks. WITNESS compares with the last held lock alone, and yet this is true of all of them. Two
+/// mutexes of which one is asked for under the other are such a run.
 pub fn law_held_come_first()
-    ensures { HeldComeFirst }
+    ensures ahead { HeldComeFirst }
+    ensures met { TwoMutexesAreClean }
 {}
 
 /// "Ahead" is an order of locks: once one is ahead of another it stays so, what is ahead of a lock is ahead of all that this one is ahead
