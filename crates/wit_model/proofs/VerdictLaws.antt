@@ -1,6 +1,7 @@
 -- Laws of the verdict of a check.
 pub mod AheadLaws
 pub mod Classes
+pub mod Direct
 pub mod Judged
 pub mod Passing
 pub mod Quiet

@@ -1,24 +1,28 @@
 -- Laws of the verdict of a check: what its replies say of the orders between types.
-use Rattle.std.specs.Prelude.{ℕ, ◌<◌, ◌≡◌, ◌⊎◌, Bool, true, false, ◌&&◌, ◌||◌, List, [], ◌∷◌, ◌++◌, Option, None, Some}
+use Rattle.std.specs.Prelude.{ℕ, ◌<◌, ◌≡◌, ◌⊎◌, Bool, true, false, ◌&&◌, ◌||◌, List, [], ◌∷◌, ◌++◌, Option, None, Some, Ok, codes}
 use Rattle.std.specs.List.{last_or}
 use Rattle.wit_model.specs.declared.locks.TypeNo.{TypeNo}
-use Rattle.wit_model.specs.declared.locks.Class.TheVariants.{Sx}
+use Rattle.wit_model.specs.declared.locks.Class.TheVariants.{SleepMutex, Sx}
+use Rattle.wit_model.specs.declared.locks.Mode.TheVariants.{Exclusive}
 use Rattle.wit_model.specs.declared.locks.Watch.TheVariants.{On}
 use Rattle.wit_model.specs.declared.calls.NewLock.{NewLock}
 use Rattle.wit_model.specs.declared.calls.Heading.TheVariants as heading
 use Rattle.wit_model.specs.declared.calls.Conflict.{Conflict}
 use Rattle.wit_model.specs.declared.calls.Doubling.{Doubling}
 use Rattle.wit_model.specs.declared.calls.Request.{Request}
-use Rattle.wit_model.specs.declared.calls.Call.TheVariants.{Check}
+use Rattle.wit_model.specs.declared.calls.Call.{Call}
+use Rattle.wit_model.specs.declared.calls.Call.TheVariants.{Init, Check, Note}
 use Rattle.wit_model.specs.declared.calls.Reply.{Reply}
-use Rattle.wit_model.specs.declared.calls.Reply.TheVariants.{Pass, Adopted, Reversal, Duplicate}
+use Rattle.wit_model.specs.declared.calls.Reply.TheVariants.{Made, Pass, Adopted, Reversal, Duplicate, Recorded}
 use Rattle.wit_model.specs.declared.calls.Entry.{Entry}
+use Rattle.wit_model.specs.Rules.Numbers.{IsGiven}
 use Rattle.wit_model.specs.Rules.Types.{is_same_class}
 use Rattle.wit_model.specs.Rules.Locks.{Lock, locks_of, lock_of, lock_at, has_flag, is_spin_lock}
 use Rattle.wit_model.specs.Rules.Orders.{Before, AreDistinct, is_direct, is_found}
 use Rattle.wit_model.specs.Rules.History.{num, is_held, held_of, watch_of}
-use Rattle.wit_model.specs.Rules.State.{Start, typed_locks, orders_of}
+use Rattle.wit_model.specs.Rules.State.{Start, known_of, seat_of, typed_locks, orders_of}
 use Rattle.wit_model.specs.Rules.Start.{start_fault}
+use Rattle.wit_model.specs.Rules.Verdict.{verdict}
 use Rattle.wit_model.specs.Rules.Step.{IsLegal}
 use Rattle.wit_model.specs.Rules.Ahead.{lock_type, IsAhead}
 use Rattle.wit_model.specs.Rules.Clean.{is_giant_lock, is_clean}
@@ -110,6 +114,16 @@ PassedIsDirect =
     (start : Start) (files : List (List ℕ)) (e : Entry) (h : List Entry) (a b : ℕ)
     → IsLegal start files (e ∷ h) → HasPassed start h e a b → is_direct (orders_of start (e ∷ h)) a b ≡ true
 
+-- a request behind the last held lock by a direct order is judged to pass, unless the seat holds the lock, or a spin lock where that is of
+-- the sleep kind
+abbrev pub DirectPasses : Type 0
+DirectPasses =
+    (start : Start) (files : List (List ℕ)) (h : List Entry) (t : ℕ) (q : Request) (last : ℕ)
+    → start_fault start ≡ None → IsLegal start files h → IsGiven (locks_of h) q.lock.0
+    → last_of_kind t q.lock.0 h ≡ Some last → is_direct (orders_of start h) (lock_type start h last) (lock_type start h q.lock.0) ≡ true
+    → is_held t q.lock.0 h ≡ false → (is_spin_lock (locks_of h) q.lock.0 ≡ false → held_of true t h ≡ [])
+    → verdict (known_of start h) (watch_of h) (seat_of h t) q ≡ Ok Pass
+
 -- and whoever asks for a lock of that type behind one of that type later, passes, if no fault refuses the check
 abbrev pub PassedPassesOn : Type 0
 PassedPassesOn =
@@ -139,3 +153,31 @@ abbrev pub NoneIsAheadOfItself : Type 0
 NoneIsAheadOfItself =
     (start : Start) (files : List (List ℕ)) (h : List Entry) (a : ℕ)
     → start_fault start ≡ None → IsLegal start files h → IsAhead start h a a → ⊥
+
+-- ---- a history of which the last law says something
+
+abbrev small : Start
+small = record { sizes = record { seats = 1; types = 2; locks = 2; chunks = 1; log = 8 }; lists = []; blessed = [] }
+
+abbrev mutex : List ℕ → Call
+mutex name = Init (record { class = SleepMutex; flags = record { 0 = 0 }; name = name; type_name = None })
+
+abbrev request : ℕ → Request
+request l = record { lock = record { 0 = l }; site = record { file = record { 0 = 1 }; line = 1 }; mode = Exclusive; ops = record { 0 = 0x01 } }
+
+abbrev by_one : Call → Reply → Entry
+by_one call reply = record { seat = record { 0 = 1 }; call = call; reply = reply }
+
+-- the only seat makes two mutexes, takes the first, and asks for the second; newest first
+abbrev two_mutexes : List Entry
+two_mutexes =
+    by_one (Check (request 2)) (Adopted (record { 0 = 1 }) (record { 0 = 2 }))
+    ∷ by_one (Note (record { 0 = 1 })) Recorded
+    ∷ by_one (Check (request 1)) Pass
+    ∷ by_one (mutex (codes "b")) (Made (record { 0 = 2 }))
+    ∷ by_one (mutex (codes "a")) (Made (record { 0 = 1 }))
+    ∷ []
+
+-- that is a clean history
+abbrev pub TwoMutexesAreClean : Type 0
+TwoMutexesAreClean = (start_fault small ≡ None) × (IsLegal small (codes "main.c" ∷ []) two_mutexes × (is_clean two_mutexes ≡ true))

@@ -46,7 +46,7 @@ last-map_from : (f : ℕ → Instance) (d : ℕ) (ls : List ℕ) (l : ℕ) → l
 last-map_from f d [] l is = ap (λ n. Some (f n)) (let e : d ≡ l = cc in e)
 last-map_from f d (m ∷ ls) l is = last-map_from f m ls l is
 
-last-map : (f : ℕ → Instance) (ls : List ℕ) (l : ℕ) → last_or None ls ≡ Some l → last_or None (map f ls) ≡ Some (f l)
+pub last-map : (f : ℕ → Instance) (ls : List ℕ) (l : ℕ) → last_or None ls ≡ Some l → last_or None (map f ls) ≡ Some (f l)
 last-map f [] l is = (cc)
 last-map f (m ∷ ls) l is = last-map_from f m ls l is
 

@@ -1,3 +1,4 @@
+use Rattle.wit_model.proofs.VerdictLaws.Direct.{direct-judged}
 use Rattle.wit_model.proofs.VerdictLaws.Passing.{passed-is_direct, passed-on}
 use Rattle.wit_model.proofs.verdict_laws.law_passed_passes_on.Goals as goal
 
@@ -6,3 +7,6 @@ returns-clause-direct c = passed-is_direct
 
 pub returns-clause-later : goal.returns-clause-later
 returns-clause-later c = passed-on
+
+pub returns-clause-judged : goal.returns-clause-judged
+returns-clause-judged c = direct-judged
