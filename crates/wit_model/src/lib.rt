@@ -1,6 +1,7 @@
 //! What a lock order verifier speaks of: its types, and in `specs/` the definitions of its rules.
 #![tactic(auto)]
 
+mod assertions;
 mod boxes;
 mod calls;
 pub mod chunks;
@@ -15,12 +16,13 @@ mod sizes;
 mod type_lists;
 pub mod verdict_laws;
 
+pub use assertions::AssertAnswer;
 pub use boxes::Boxed;
 pub use calls::{
     Adoption, Asked, Call, Conflict, Doubling, Entry, Heading, LockAt, NewLock, Reply, Request,
 };
 pub use faults::Fault;
-pub use flags::{LockFlags, OpFlags};
+pub use flags::{LockAssert, LockFlags, OpFlags, WarnFlags};
 pub use lines::{Cause, Line, View};
 pub use locks::{
     Class, FileNo, Instance, Lock, LockNo, LockType, Mode, Origin, SeatNo, Site, TypeNo, Watch,
