@@ -10,7 +10,7 @@ use Rattle.wit_model.specs.declared.locks.Instance.{Instance}
 use Rattle.wit_model.specs.declared.calls.NewLock.{NewLock}
 use Rattle.wit_model.specs.declared.calls.Request.{Request}
 use Rattle.wit_model.specs.declared.calls.Call.{Call}
-use Rattle.wit_model.specs.declared.calls.Call.TheVariants.{Init, Check, Note, NoteTry, GiveUp, Unlock, SetWatch}
+use Rattle.wit_model.specs.declared.calls.Call.TheVariants.{Init, Check, Note, NoteTry, GiveUp, Unlock}
 use Rattle.wit_model.specs.declared.calls.Reply.{Reply}
 use Rattle.wit_model.specs.declared.calls.Reply.TheVariants.{Recorded, Unlocked}
 use Rattle.wit_model.specs.declared.calls.Entry.{Entry}
@@ -26,7 +26,7 @@ use Rattle.wit_model.proofs.Chains.Changes.{at, is_other}
 use Rattle.wit_model.proofs.Chains.After.{recursed, fewer, noted, unlocked, part_after}
 use Rattle.wit_model.proofs.Chains.Seats.{seat_after, sum-step, entry, seat_after-quiet}
 use Rattle.wit_model.proofs.Chains.Stands.{stands, stands-chain, sum-changed, sum-removed}
-use Rattle.wit_model.proofs.Histories.Accepted.{asked-lock, check_accepted, note_accepted, try_accepted, give_up_accepted, unlock_accepted, watch_accepted, init_accepted, is_plain, plain_accepted}
+use Rattle.wit_model.proofs.Histories.Accepted.{asked-lock, check_accepted, note_accepted, try_accepted, give_up_accepted, unlock_accepted, init_accepted, is_plain, plain_accepted}
 use Rattle.wit_model.proofs.Histories.Legal.{one_chain, own_kind, seat-within, pending-state, sane_legal, unlock-held, plain-even, plain-keeps}
 use Rattle.wit_model.proofs.Chains.Acts.{is_even}
 

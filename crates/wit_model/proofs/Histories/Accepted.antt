@@ -1,6 +1,6 @@
 -- What the acceptance of a call says: each fault's absence, and the reply.
 use Rattle.std.proofs.Common.{◌≡◌, ℕ, ◌+◌, Bool, true, false, not, ◌&&◌, cond, eqb, nat_le, nat_lt, length, is_some, Option, Some, None, Result, Ok, Err, refl, ap, sym, ◌∙◌}
-use Rattle.std.proofs.lemmas.Bool.{eqb-true, false≢true, true≢false, and_parts, not-true}
+use Rattle.std.proofs.lemmas.Bool.{eqb-true, false≢true, and_parts, not-true}
 use Rattle.wit_model.specs.declared.faults.Fault.{Fault}
 use Rattle.wit_model.specs.declared.faults.Fault.TheVariants.{LogFull, NotLocked, KindMismatch, SameType, WrongOrder}
 use Rattle.wit_model.specs.declared.locks.Mode.{Mode}
@@ -24,8 +24,8 @@ use Rattle.wit_model.specs.Rules.Verdict.{is_exclusive, verdict}
 use Rattle.wit_model.specs.Rules.Step.{held_by, is_pending, is_for, is_good_name, is_shareable, is_too_deep, with_room, is_exhausted, recorded, released, let_go, step_init, step_check, step_note, step_note_try, step_give_up, step_unlock, step_set_watch, step, is_logged}
 use Rattle.wit_model.specs.Rules.Numbers.{is_given, is_number}
 use Rattle.wit_model.specs.Rules.Questions.{class_at, with_entry}
-use Rattle.wit_model.specs.Rules.Turning.{is_upgradable, upgraded, downgraded, unless_held, mark_answer, step_turn, step_upgrade, step_downgrade, step_mark}
-use Rattle.wit_model.specs.Rules.Defining.{are_of_two_kinds, defining, define, step_define}
+use Rattle.wit_model.specs.Rules.Turning.{is_upgradable, upgraded, downgraded, mark_answer, step_turn, step_upgrade, step_downgrade, step_mark}
+use Rattle.wit_model.specs.Rules.Defining.{are_of_two_kinds, define, step_define}
 use Rattle.wit_model.specs.Rules.Destroying.{is_used, step_destroy}
 
 -- a fault that doesn't apply is passed by

@@ -1,7 +1,7 @@
 -- How many locks of a type are live after an entry: one more where a lock of it is made, one fewer where one is destroyed.
-use Rattle.std.proofs.Common.{◌≡◌, ℕ, zero, suc, ◌+◌, ◌-◌, ◌<◌, ◌≤◌, Bool, true, false, not, ◌&&◌, ◌||◌, cond, eqb, List, [], ◌∷◌, ◌++◌, length, map, count_by, sum_by, refl, ap, ap₂, sym, ◌∙◌, subst, inl, inr, arith, length-append, Ok, ⊎_elim, nat_lt, nat_le}
+use Rattle.std.proofs.Common.{◌≡◌, ℕ, zero, suc, ◌+◌, ◌-◌, ◌<◌, ◌≤◌, Bool, true, false, not, ◌&&◌, ◌||◌, cond, eqb, List, [], ◌∷◌, ◌++◌, length, count_by, refl, ap, ap₂, sym, ◌∙◌, subst, inl, inr, arith, length-append, Ok, ⊎_elim, nat_lt, nat_le}
 use Rattle.std.specs.List.{range_with_len}
-use Rattle.std.proofs.lemmas.Bool.{eq-eqb, ne_eqb, leb-true, ltb-true, and_parts, eqb-true, or_cases, false≢true}
+use Rattle.std.proofs.lemmas.Bool.{ne_eqb, leb-true, ltb-true, and_parts, eqb-true, or_cases, false≢true}
 use Rattle.std.proofs.lemmas.Bool.Decides.{eqb_tells}
 use Rattle.std.proofs.lemmas.List.{get_or_push}
 use Rattle.std.proofs.lemmas.List.Sums.{sum_by-cons}

@@ -8,14 +8,14 @@ use Rattle.wit_model.specs.declared.locks.Site.{Site}
 use Rattle.wit_model.specs.declared.locks.LockNo.{LockNo}
 use Rattle.wit_model.specs.declared.calls.Request.{Request}
 use Rattle.wit_model.specs.declared.calls.Call.{Call}
-use Rattle.wit_model.specs.declared.calls.Call.TheVariants.{Init, Check, Note, NoteTry, GiveUp, Unlock, SetWatch}
+use Rattle.wit_model.specs.declared.calls.Call.TheVariants.{Init, Check, Note, NoteTry, GiveUp, Unlock}
 use Rattle.wit_model.specs.declared.calls.Reply.{Reply}
 use Rattle.wit_model.specs.declared.calls.Entry.{Entry}
 use Rattle.wit_model.specs.Rules.Locks.{lock_at}
 use Rattle.wit_model.specs.Rules.State.{Start, State, state_of, seat_at, is_seat, is_live}
 use Rattle.wit_model.specs.Rules.Verdict.{is_exclusive, verdict}
 use Rattle.wit_model.specs.Rules.Step.{is_pending, is_shareable, is_too_deep, with_room, recorded, answer_of, story_after, IsLegal}
-use Rattle.wit_model.specs.Rules.Numbers.{is_given, is_number}
+use Rattle.wit_model.specs.Rules.Numbers.{is_number}
 use Rattle.wit_model.proofs.Histories.Accepted.{check_accepted, try_accepted}
 
 -- the answer to a check, where the file is known or not

@@ -1,7 +1,7 @@
 -- A lock that a seat holds or asks for isn't destroyed.
-use Rattle.std.proofs.Common.{◌≡◌, ◌⊎◌, ℕ, zero, suc, ◌+◌, ◌-◌, ◌<◌, ◌≤◌, Bool, true, false, not, ◌&&◌, ◌||◌, cond, eqb, List, [], ◌∷◌, ◌++◌, map, find, Option, Some, None, is_some, Ok, refl, ap, ap₂, sym, ◌∙◌, subst, inl, inr, ⊎_elim, arith, nat_lt}
+use Rattle.std.proofs.Common.{◌≡◌, ◌⊎◌, ℕ, zero, suc, ◌+◌, ◌-◌, ◌<◌, ◌≤◌, Bool, true, false, ◌&&◌, ◌||◌, cond, eqb, List, [], ◌∷◌, ◌++◌, map, find, Option, Some, is_some, Ok, refl, ap, ap₂, sym, ◌∙◌, subst, inl, inr, ⊎_elim, arith, nat_lt}
 use Rattle.std.specs.List.{list_any, range_with_len}
-use Rattle.std.proofs.lemmas.Bool.{eq-eqb, eqb-true, true≢false, false≢true, or_cases, or_from, and_from, or_left, or_right}
+use Rattle.std.proofs.lemmas.Bool.{eqb-true, true≢false, false≢true, or_cases, or_from, or_left, or_right}
 use Rattle.std.proofs.lemmas.Bool.Decides.{eqb_tells}
 use Rattle.wit_model.specs.declared.locks.Instance.{Instance}
 use Rattle.wit_model.specs.declared.calls.Request.{Request}
@@ -12,15 +12,12 @@ use Rattle.wit_model.specs.declared.calls.Reply.TheVariants.{Recorded, Unlocked}
 use Rattle.wit_model.specs.declared.calls.Entry.{Entry}
 use Rattle.wit_model.specs.Rules.Locks.{locks_of, destroyed_of, is_destroyed, is_spin_lock, is_of_kind, destroyed_by}
 use Rattle.wit_model.specs.Rules.History.{Act, Nothing, Records, Releases, act, act_by, is_held, chain, pending, pending_after, instance, num}
-use Rattle.wit_model.specs.Rules.State.{Start, State, Seat, state_of, seat_of, seats_of, is_seat, is_live}
+use Rattle.wit_model.specs.Rules.State.{Start, State, Seat, state_of, seat_of, is_seat, is_live}
 use Rattle.wit_model.specs.Rules.Verdict.{is_of}
-use Rattle.wit_model.specs.Rules.Step.{is_for, step, is_logged, answer_of, story_after, IsLegal}
-use Rattle.wit_model.specs.Rules.Destroying.{uses, is_used}
+use Rattle.wit_model.specs.Rules.Step.{is_for, step, answer_of, story_after, IsLegal}
+use Rattle.wit_model.specs.Rules.Destroying.{uses}
 use Rattle.wit_model.proofs.Chains.Sane.{IsSane}
 use Rattle.wit_model.proofs.Chains.Found.{if_some, found}
-use Rattle.wit_model.proofs.Chains.Effects.{Effect, Same, New, Gone, effect}
-use Rattle.wit_model.proofs.Chains.Seats.{act-own, act-other}
-use Rattle.wit_model.proofs.Orders.TypedLocks.{known-made}
 use Rattle.wit_model.proofs.Histories.Accepted.{live-undestroyed, check_accepted, note_accepted, try_accepted, destroy_accepted}
 use Rattle.wit_model.proofs.Histories.Legal.{seat-within, own_kind, sane_legal, plain-unrecorded}
 use Rattle.wit_model.specs.declared.locks.LockNo.{LockNo}

@@ -1,5 +1,5 @@
 -- Orders are between known types, and so is what a verdict tells.
-use Rattle.std.proofs.Common.{◌≡◌, ℕ, ◌≤◌, Bool, true, false, not, ◌&&◌, ◌||◌, cond, eqb, List, [], ◌∷◌, ◌++◌, length, reverse, find, Option, Some, None, Result, Ok, refl, ap, sym, ◌∙◌, subst, arith, length-append, ⊎_elim, inl, inr}
+use Rattle.std.proofs.Common.{◌≡◌, ℕ, ◌≤◌, Bool, true, false, ◌||◌, cond, eqb, List, [], ◌∷◌, ◌++◌, length, reverse, find, Option, Some, None, Result, Ok, refl, ap, sym, ◌∙◌, subst, arith, length-append, ⊎_elim}
 use Rattle.std.specs.List.{list_all, last_or}
 use Rattle.std.proofs.lemmas.Bool.{and_parts, and_from, or_cases, eqb-true, false≢true}
 use Rattle.std.proofs.lemmas.List.{reverse-append}
@@ -22,7 +22,7 @@ use Rattle.wit_model.specs.declared.calls.Entry.{Entry}
 use Rattle.wit_model.specs.Rules.Types.{LockType, class_of, is_spin, is_enrolled, type_number, enrolled, enrolled_all, listed_types, type_name_of, types_after}
 use Rattle.wit_model.specs.Rules.Locks.{locks_of, has_flag, lock_at}
 use Rattle.wit_model.specs.Rules.Orders.{is_adoption_of, is_direct, is_before, is_found, adopted_once, listed_pairs, listed_orders}
-use Rattle.wit_model.specs.Rules.History.{is_held, chain, watch_of}
+use Rattle.wit_model.specs.Rules.History.{is_held}
 use Rattle.wit_model.specs.Rules.State.{Start, Known, Seat, seat_at, known_of, state_of, types_of, typed_locks, orders_of}
 use Rattle.wit_model.specs.Rules.Verdict.{type_held, has_type_of, place_of, place_asked, doubled, violates, is_blessed, conflict, reported, chain_asked, basis_of, asked_of, verdict}
 use Rattle.wit_model.specs.Rules.Step.{answer_of, story_after, IsLegal}
@@ -31,7 +31,7 @@ use Rattle.wit_model.proofs.Chains.Held.{made_sane}
 use Rattle.wit_model.proofs.Chains.Seats.{entry}
 use Rattle.wit_model.proofs.Orders.TypedLocks.{length-typed, made-known}
 use Rattle.wit_model.proofs.Orders.Types.{number-known, typed_made}
-use Rattle.wit_model.proofs.Histories.Accepted.{passed, same_reply, live-given, CheckAccepted, check_accepted, DefineAccepted, define_accepted}
+use Rattle.wit_model.proofs.Histories.Accepted.{same_reply, live-given, CheckAccepted, check_accepted, DefineAccepted, define_accepted}
 use Rattle.wit_model.proofs.Histories.Legal.{sane_legal}
 use Rattle.wit_model.proofs.Orders.Defined.{define_adopted}
 use Rattle.wit_model.proofs.Orders.Started.{all-enrolled}

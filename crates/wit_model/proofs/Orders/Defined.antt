@@ -1,5 +1,5 @@
 -- What an order that is defined by a call says of its types.
-use Rattle.std.proofs.Common.{◌≡◌, ℕ, Bool, true, false, cond, eqb, List, Result, Ok, Err, refl, ap, sym, ◌∙◌, ap₂}
+use Rattle.std.proofs.Common.{◌≡◌, Bool, true, false, cond, eqb, List, Result, Ok, Err, refl, ap, sym, ◌∙◌, ap₂}
 use Rattle.std.proofs.lemmas.Bool.{eqb-false}
 use Rattle.wit_model.specs.declared.faults.Fault.{Fault}
 use Rattle.wit_model.specs.declared.faults.Fault.TheVariants.{KindMismatch, SameType, WrongOrder}

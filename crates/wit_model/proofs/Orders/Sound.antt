@@ -1,5 +1,5 @@
 -- An order is learnt only where it turns none round: so no type is ever before itself.
-use Rattle.std.proofs.Common.{◌≡◌, ℕ, Bool, true, false, not, ◌&&◌, ◌||◌, cond, List, [], ◌∷◌, ◌++◌, reverse, find, map, Option, Some, None, Result, Ok, refl, ap, sym, ◌∙◌, subst, arith}
+use Rattle.std.proofs.Common.{◌≡◌, ℕ, Bool, true, false, not, ◌&&◌, ◌||◌, cond, List, [], ◌∷◌, ◌++◌, reverse, find, map, Some, None, Result, Ok, refl, ap, sym, ◌∙◌, subst}
 use Rattle.std.specs.List.{list_all, last_or}
 use Rattle.std.proofs.lemmas.Bool.{and_parts, eq-eqb, true≢false, not-true}
 use Rattle.std.proofs.lemmas.List.Folds.{list_all-append}

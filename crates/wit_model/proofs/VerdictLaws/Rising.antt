@@ -9,7 +9,7 @@ use Rattle.wit_model.specs.declared.calls.Adoption.{Adoption}
 use Rattle.wit_model.specs.declared.calls.NewLock.{NewLock}
 use Rattle.wit_model.specs.declared.calls.Request.{Request}
 use Rattle.wit_model.specs.declared.calls.Call.{Call}
-use Rattle.wit_model.specs.declared.calls.Call.TheVariants.{Init, Check, Note, NoteTry, GiveUp, Unlock, SetWatch, DefineOrder, Downgrade, NoRelease, ReleaseOk, Upgrade}
+use Rattle.wit_model.specs.declared.calls.Call.TheVariants.{Init, Check, Note, NoteTry, GiveUp, Unlock, DefineOrder, Downgrade, NoRelease, ReleaseOk, Upgrade}
 use Rattle.wit_model.specs.declared.calls.Reply.{Reply}
 use Rattle.wit_model.specs.declared.calls.Reply.TheVariants.{Adopted, Recorded, Unlocked}
 use Rattle.wit_model.specs.declared.calls.Entry.{Entry}
@@ -26,7 +26,7 @@ use Rattle.wit_model.proofs.Chains.Sane.{IsSane, IsFit, fit_by}
 use Rattle.wit_model.proofs.Chains.Acts.{num-step}
 use Rattle.wit_model.proofs.Chains.Effects.{is_not, Effect, Same, New, Gone, effect, held-same}
 use Rattle.wit_model.proofs.Chains.Held.{held-all, held_of-all, made_sane, kind-stays, kinds-stay}
-use Rattle.wit_model.proofs.Histories.Accepted.{asked-lock, same-request, init_accepted, note_accepted, try_accepted, unlock_accepted, watch_accepted, plain_accepted}
+use Rattle.wit_model.proofs.Histories.Accepted.{asked-lock, same-request, init_accepted, note_accepted, try_accepted, unlock_accepted, plain_accepted}
 use Rattle.wit_model.proofs.Histories.Asked.{asked-made}
 use Rattle.wit_model.proofs.Histories.Legal.{pending-state, sane_legal, plain-unrecorded}
 use Rattle.wit_model.proofs.Orders.Paths.{direct-before, test_from_before, is_before-trans}

@@ -1,8 +1,6 @@
 -- What a verifier answers to a call, and which histories are legal. In each call the faults stand in the order in
 -- which they apply; want of memory is never among them.
-use Rattle.std.specs.Prelude.{ℕ, ◌+◌, ◌≡◌, Bool, true, false, not, ◌&&◌, ◌||◌, ◌==◌, nat_le, List, [], ◌∷◌, Option, None, Some, Result, Ok, Err, find, length, codes, is_some, if◌then◌else◌}
-use Rattle.std.specs.List.{list_any}
-use Rattle.std.specs.Str.{bytes_eq}
+use Rattle.std.specs.Prelude.{ℕ, ◌+◌, ◌≡◌, Bool, true, false, not, ◌&&◌, ◌==◌, nat_le, List, [], ◌∷◌, Option, None, Some, Result, Ok, Err, length, is_some, if◌then◌else◌}
 use Rattle.wit_model.specs.declared.faults.Fault.{Fault}
 use Rattle.wit_model.specs.declared.faults.Fault.TheVariants.{UnknownSeat, UnknownLock, ClassMismatch, TypesFull, LocksFull, RecursionTooDeep, NotLocked, SharedUnlock, ExclusiveUnlock, ForbiddenUnlock, Pending, NotRequested, LogFull, BadName, WatchOff, ModeNotAllowed, UnknownFile}
 use Rattle.wit_model.specs.declared.locks.Class.{Class}
@@ -21,8 +19,8 @@ use Rattle.wit_model.specs.declared.calls.Entry.{Entry}
 use Rattle.wit_model.specs.Rules.Names.{is_name}
 use Rattle.wit_model.specs.Rules.Numbers.{is_number}
 use Rattle.wit_model.specs.Rules.Refusals.{IsRefusal}
-use Rattle.wit_model.specs.Rules.Types.{type_name_of, type_number, is_enrolled, is_otherwise, is_same_class, is_spin}
-use Rattle.wit_model.specs.Rules.Locks.{Lock, lock_at}
+use Rattle.wit_model.specs.Rules.Types.{type_name_of, is_enrolled, is_otherwise}
+use Rattle.wit_model.specs.Rules.Locks.{lock_at}
 use Rattle.wit_model.specs.Rules.Groups.{opens}
 use Rattle.wit_model.specs.Rules.History.{is_on, is_off}
 use Rattle.wit_model.specs.Rules.State.{Start, Story, State, state_of, seat_at, is_seat, is_live, free, has_room}
