@@ -16,7 +16,7 @@ use Rattle.wit_model.specs.declared.locks.Mode.{Mode}
 use Rattle.wit_model.specs.declared.locks.Watch as level
 use Rattle.wit_model.specs.Rules.Names.{is_name, is_name_byte, is_file_name}
 use Rattle.wit_model.specs.Trace.Spelling.{class_text, mode_text, level_text, lock_letters, op_letters, assert_letters, warn_letters, number_if_any, flags_text, site_text, quoted, joined, list_fields, spelling, IsNamed, IsSpellable, Spells}
-use Rattle.wit_model.specs.Trace.Reading.{◌>>=◌, after, until, accepted, class_of, mode_of, level_of, flags_of, site_of, field_at, behind, quoted_at, optional, both, whole, one_or_more, count_at, seat_at, lock_at, type_at, list_of, header_of, order_of, bless_of, init_of, check_of, note_of, try_of, give_up_of, unlock_of, destroy_of, upgrade_of, downgrade_of, no_release_of, release_ok_of, assert_of, lock_if_any, warn_of, define_of, watch_of, read_as, kinds, line_of}
+use Rattle.wit_model.specs.Trace.Reading.{◌>>=◌, after, until, accepted, class_of, mode_of, level_of, flags_of, site_of, field_at, behind, quoted_at, optional, both, whole, one_or_more, count_at, seat_at, lock_at, type_at, list_of, header_of, order_of, bless_of, init_of, check_of, note_of, try_of, give_up_of, unlock_of, destroy_of, upgrade_of, downgrade_of, no_release_of, release_ok_of, assert_of, lock_if_any, warn_of, define_of, watch_of, read_as, plain_kinds, kinds, line_of}
 use Rattle.wit_model.proofs.Spelling.Codecs.{IsCodec, IsLast, FitsIfAny, Lacks, Lacks-all, Ends, bind_some, some_is, chosen, until_end, until_whole, after_some, print_field, print_behind, print_both, print_optional, field_codec, behind_codec, both_codec, optional_codec, whole_again, made_takes}
 use Rattle.wit_model.proofs.Spelling.Repeats.{print_each, AllFit, one_or_more_codec}
 use Rattle.wit_model.proofs.Spelling.Words.{number_word, class_word, mode_word, level_word, flags_word, site_word}
@@ -327,7 +327,7 @@ lock_again : (lock : Option LockNo) → IfSome lock IsNamed → lock_if_any (num
 lock_again None named = refl
 lock_again (Some lock) named = rw (ne_eqb lock.0 0 (λ none. absurd (omega (arith, named.0)))) refl
 
-number-lt : (lock : Option LockNo) → IfSome lock IsNamed → number_if_any lock < 2 ^ 32
+pub number-lt : (lock : Option LockNo) → IfSome lock IsNamed → number_if_any lock < 2 ^ 32
 number-lt None named = omega arith
 number-lt (Some lock) named = named.1
 
@@ -336,7 +336,7 @@ unfolding warn_of
 warn_takes = kind_takes warn_codec warn_make (codes "warn") (λ x fits. (ap (λ (n : ℕ). codes "warn" ++ print_field decimal x.0 (print_field decimal n (print_field (flags_text warn_letters) x.1.1 []))) (sym (number_named x.1.0)), (fits.0, named_if_any x.1.0 fits.1.0, fits.1.1)))
 
 warn_again : (seat : ℕ) (lock : Option LockNo) (flags : ℕ) → seat < 2 ^ 16 → IfSome lock IsNamed → flags < 4 → line_of (spelling (Warn (record { 0 = seat }) lock (record { 0 = flags }))) ≡ Some (Warn (record { 0 = seat }) lock (record { 0 = flags }))
-unfolding warn_of
+unfolding plain_kinds warn_of
 warn_again seat lock flags p q r =
     keyword_again (codes "warn") _ (refl, (refl, (refl, (refl, tt)))) refl
     ∙ kind_again warn_codec tt warn_make (seat, (number_if_any lock, flags)) (p, (number-lt lock q, r))
@@ -376,10 +376,10 @@ read_as_takes (kind ∷ others) all word rest line e =
 
 -- what is read is spelled so
 pub line_takes : (bytes : List ℕ) (line : Line) → line_of bytes ≡ Some line → Spells bytes line
-unfolding line_of
+unfolding line_of plain_kinds
 line_takes bytes line e =
     subst (λ (b : List ℕ). Spells b line) (sym (until_whole 32 bytes))
-    (read_as_takes kinds (check_takes, (note_takes, (unlock_takes, (try_takes, (give_up_takes, (watch_takes, (init_takes, (order_takes, (bless_takes, (header_takes, (destroy_takes, (upgrade_takes, (downgrade_takes, (no_release_takes, (release_ok_takes, (assert_takes, (warn_takes, (define_takes, tt)))))))))))))))))) (until 32 bytes).0 (until 32 bytes).1 line e)
+    (read_as_takes kinds (check_takes, (note_takes, (unlock_takes, (try_takes, (give_up_takes, (init_takes, (order_takes, (bless_takes, (header_takes, (destroy_takes, (upgrade_takes, (downgrade_takes, (no_release_takes, (release_ok_takes, (assert_takes, (warn_takes, (define_takes, (watch_takes, tt)))))))))))))))))) (until 32 bytes).0 (until 32 bytes).1 line e)
 
 init_again : (seat : ℕ) (class : Class) (flags : ℕ) (name : List ℕ) (type_name : Option (List ℕ)) → seat < 2 ^ 16 → flags < 4 → IsTrue (is_name name) → FitsIfAny (λ name. IsTrue (is_name name)) type_name
     → line_of (spelling (init_make (seat, (class, (flags, (name, type_name)))))) ≡ Some (init_make (seat, (class, (flags, (name, type_name)))))
@@ -393,7 +393,7 @@ fits_if_any (Some name) h = h
 
 -- what is spelled so is read
 pub line_again : (line : Line) → IsSpellable line → line_of (spelling line) ≡ Some line
-unfolding header_of bless_of init_of check_of note_of try_of give_up_of unlock_of destroy_of upgrade_of downgrade_of no_release_of release_ok_of assert_of define_of watch_of
+unfolding plain_kinds header_of bless_of init_of check_of note_of try_of give_up_of unlock_of destroy_of upgrade_of downgrade_of no_release_of release_ok_of assert_of define_of watch_of
 line_again (Header s t l c) (p0, p1, p2, p3) = keyword_again (codes "witness-trace") _ (refl, (refl, (refl, (refl, (refl, (refl, (refl, (refl, (refl, (refl, (refl, (refl, (refl, tt))))))))))))) refl ∙ kind_again header_codec tt header_make (s, (t, (l, c))) (p0, (p1, (p2, p3)))
 line_again (Order list) (p0, p1) = order_again list p0 p1
 line_again (Bless a b) (p0, p1) = keyword_again (codes "bless") _ (refl, (refl, (refl, (refl, (refl, tt))))) refl ∙ kind_again bless_codec tt bless_make (a, b) (p0, p1)

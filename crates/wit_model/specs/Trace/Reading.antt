@@ -213,9 +213,12 @@ abbrev pub read_as : List (List ℕ × (List ℕ → Option Line)) → List ℕ 
 read_as [] word rest = None
 read_as (kind ∷ kinds) word rest = if bytes_eq word kind.0 then kind.1 rest else read_as kinds word rest
 
--- each first word, and how the rest is read
+-- each first word, and how the rest is read: first those of a seat with locks, flags or a level and no text
+unfoldable pub plain_kinds : List (List ℕ × (List ℕ → Option Line))
+plain_kinds = (codes "destroy", destroy_of) ∷ (codes "upgrade", upgrade_of) ∷ (codes "downgrade", downgrade_of) ∷ (codes "norelease", no_release_of) ∷ (codes "releaseok", release_ok_of) ∷ (codes "assert", assert_of) ∷ (codes "warn", warn_of) ∷ (codes "define", define_of) ∷ (codes "watch", watch_of) ∷ []
+
 abbrev pub kinds : List (List ℕ × (List ℕ → Option Line))
-kinds = (codes "check", check_of) ∷ (codes "lock", note_of) ∷ (codes "unlock", unlock_of) ∷ (codes "try", try_of) ∷ (codes "giveup", give_up_of) ∷ (codes "watch", watch_of) ∷ (codes "init", init_of) ∷ (codes "order", order_of) ∷ (codes "bless", bless_of) ∷ (codes "witness-trace", header_of) ∷ (codes "destroy", destroy_of) ∷ (codes "upgrade", upgrade_of) ∷ (codes "downgrade", downgrade_of) ∷ (codes "norelease", no_release_of) ∷ (codes "releaseok", release_ok_of) ∷ (codes "assert", assert_of) ∷ (codes "warn", warn_of) ∷ (codes "define", define_of) ∷ []
+kinds = (codes "check", check_of) ∷ (codes "lock", note_of) ∷ (codes "unlock", unlock_of) ∷ (codes "try", try_of) ∷ (codes "giveup", give_up_of) ∷ (codes "init", init_of) ∷ (codes "order", order_of) ∷ (codes "bless", bless_of) ∷ (codes "witness-trace", header_of) ∷ plain_kinds
 
 -- a line
 unfoldable pub line_of : List ℕ → Option Line
