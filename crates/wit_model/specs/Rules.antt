@@ -2,6 +2,7 @@
 pub mod Ahead
 pub mod Assertions
 pub mod Chunks
+pub mod Circles
 pub mod Clean
 pub mod Defining
 pub mod Destroying
