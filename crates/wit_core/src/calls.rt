@@ -2,6 +2,7 @@
 //! then come changes that can't fail, the log's entry last.
 
 mod check;
+mod define_order;
 mod destroy;
 mod give_up;
 mod init;
