@@ -16,3 +16,5 @@ pub mod SeatRows
 pub mod Steps
 pub mod Taught
 pub mod Told
+pub mod Turning
+pub mod Warned

@@ -230,7 +230,7 @@ module _ (o : Inside) (r : Row) (seen : row_in o ≡ r) (k : AreSeated o) (t : �
       ap (λ ss. row ss o.lists.size) (request-set o.lists o.requests.items t p (given-in o r seen k t given)) ∙ ap (with_seat t (asking p)) seen
 
   module _ (list : ℕ) (spin : Bool) (is : list ≡ list_of spin t) (c : Chunks) (size : c.size ≡ o.lists.size) where
-    written-now : (change : List (List Instance) → List (List Instance)) → c.groups ≡ set_groups o.lists list (change (groups_of o.lists list))
+    pub written-now : (change : List (List Instance) → List (List Instance)) → c.groups ≡ set_groups o.lists list (change (groups_of o.lists list))
         → row (seats_by c o.requests.items) c.size ≡ with_seat t (in_groups spin change) r
     written-now change groups =
         let at : c.groups ≡ set_groups o.lists (list_of spin t) (change (groups_of o.lists (list_of spin t))) =

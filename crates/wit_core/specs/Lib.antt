@@ -14,4 +14,5 @@ pub mod Remembered
 pub mod Replies
 pub mod Seated
 pub mod Seats
+pub mod Turning
 pub mod Verdict

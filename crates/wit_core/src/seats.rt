@@ -1,17 +1,22 @@
 //! The seats: what each holds, and what it has asked for.
 
-ghost use Rattle.std.specs.Prelude.{◌≡◌, not, find, slice_get, replicate, IfOk, IfErr, None, Some};
+ghost use Rattle.std.specs.Prelude.{◌≡◌, true, false, not, find, slice_get, replicate, IfOk, IfErr, None, Some};
 ghost use Rattle.wit_model.specs.declared.faults.Fault.TheVariants.{OutOfMemory};
 ghost use Rattle.wit_model.specs.Rules.Numbers.{is_given, IsGiven, IsNumber};
+ghost use Rattle.wit_model.specs.Rules.Assertions.{assertion};
 ghost use Rattle.wit_model.specs.Rules.Verdict.{is_of};
-ghost use Rattle.wit_held.specs.Chains.{IsOnce, IsShallow};
+ghost use Rattle.wit_held.specs.Chains.{IsOnce, IsShallow, in_mode};
+ghost use Rattle.wit_held.specs.Marks.{marked};
 ghost use Rattle.wit_core.specs.Seats.{idle_row, seat_in, locks_in, free_in, with_seat, asking, released, has_no_room, after_acquired, list_of, HoldFor};
+ghost use Rattle.wit_core.specs.Turning.{changed};
 
 use std::alloc::{AllocError, Global};
 use std::marker::Model;
-use wit_held::{VecLists, forget, record};
+use wit_held::{VecLists, assert_is, forget, norelease, record, releaseok, set_mode};
 use wit_model::chunks::Lists;
-use wit_model::{Fault, Instance, LockNo, Request, SeatNo};
+use wit_model::{
+    AssertAnswer, Fault, Instance, LockAssert, LockNo, Mode, Request, SeatNo, Watch,
+};
 
 /// The lists in which the seats hold their locks.
 pub type Chunked = VecLists;
@@ -114,6 +119,23 @@ impl Seats {
     }
 }
 
+impl Seats {
+    /// What an assertion about a lock of this kind comes to: `wit_held::assert_is` in its list.
+    pub fn assert_is(
+        &self,
+        seat: SeatNo,
+        spin: bool,
+        lock: LockNo,
+        watch: Watch,
+        flags: LockAssert,
+    ) -> AssertAnswer
+        requires { IsGiven self.now.seats seat.0 }
+        ensures { result ≡ assertion watch flags (find (is_of lock.0) (locks_in spin (seat_in self.now seat.0))) }
+    {
+        assert_is(&self.lists, list_of(seat, spin), lock, watch, flags)
+    }
+}
+
 /// What changes a seat. Nothing here takes memory.
 impl Seats {
     /// A seat asks for a lock.
@@ -151,6 +173,36 @@ impl Seats {
         ensures { self.new ≡ with_seat seat.0 (released spin lock.0) self.old }
     {
         forget(&mut self.lists, list_of(seat, spin), lock);
+    }
+}
+
+/// What changes how a seat holds a lock: its place, its count and its site stay.
+impl Seats {
+    /// A lock of this kind is held in another mode: `wit_held::set_mode` in its list.
+    pub fn turn(&mut self, seat: SeatNo, spin: bool, lock: LockNo, mode: Mode)
+        requires seat { IsGiven self.old.seats seat.0 }
+        requires once { IsOnce lock.0 (locks_in spin (seat_in self.old seat.0)) }
+        ensures { self.new ≡ with_seat seat.0 (changed spin lock.0 (in_mode mode)) self.old }
+    {
+        set_mode(&mut self.lists, list_of(seat, spin), lock, mode);
+    }
+
+    /// A lock of this kind must not be released: `wit_held::norelease` in its list.
+    pub fn forbid(&mut self, seat: SeatNo, spin: bool, lock: LockNo)
+        requires seat { IsGiven self.old.seats seat.0 }
+        requires once { IsOnce lock.0 (locks_in spin (seat_in self.old seat.0)) }
+        ensures { self.new ≡ with_seat seat.0 (changed spin lock.0 (marked true)) self.old }
+    {
+        norelease(&mut self.lists, list_of(seat, spin), lock);
+    }
+
+    /// A lock of this kind may be released: `wit_held::releaseok` in its list.
+    pub fn allow(&mut self, seat: SeatNo, spin: bool, lock: LockNo)
+        requires seat { IsGiven self.old.seats seat.0 }
+        requires once { IsOnce lock.0 (locks_in spin (seat_in self.old seat.0)) }
+        ensures { self.new ≡ with_seat seat.0 (changed spin lock.0 (marked false)) self.old }
+    {
+        releaseok(&mut self.lists, list_of(seat, spin), lock);
     }
 }
 
