@@ -1,8 +1,8 @@
 -- What each accepted call needs of a verifier's parts, and what it leaves of them.
-use Rattle.std.proofs.Common.{◌≡◌, ℕ, zero, suc, ◌+◌, ◌-◌, ◌<◌, ◌≤◌, ◌&&◌, Bool, true, false, cond, List, [], ◌∷◌, ◌++◌, Option, None, Some, Ok, Err, Result, IsOk, IfOk, IfErr, OnOk, OnErr, String, length, map, find, replicate, unwrap_or, get_or, sum_by, refl, sym, ap, ap₂, ◌∙◌, subst, arith, is_some, append-nil, length-append}
+use Rattle.std.proofs.Common.{◌≡◌, ℕ, zero, suc, ◌+◌, ◌-◌, ◌<◌, ◌≤◌, ◌&&◌, set, Bool, true, false, cond, List, [], ◌∷◌, ◌++◌, Option, None, Some, Ok, Err, Result, IsOk, IfOk, IfErr, OnOk, OnErr, String, length, map, find, replicate, unwrap_or, get_or, sum_by, refl, sym, ap, ap₂, ◌∙◌, subst, arith, is_some, append-nil, length-append}
 use Rattle.std.specs.List.{range_with_len}
 use Rattle.std.specs.Global.{Vec, Global}
-use Rattle.std.proofs.lemmas.Bool.{and_parts, leb-true, true≢false}
+use Rattle.std.proofs.lemmas.Bool.{and_parts, leb-true, leb-false, true≢false}
 use Rattle.std.proofs.lemmas.List.{length-set}
 use Rattle.wit_model.specs.declared.faults.Fault.{Fault}
 use Rattle.wit_model.specs.declared.faults.Fault.TheVariants.{OutOfMemory}
@@ -17,14 +17,14 @@ use Rattle.wit_model.specs.declared.locks.Watch.TheVariants.{On}
 use Rattle.wit_model.specs.declared.calls.NewLock.{NewLock}
 use Rattle.wit_model.specs.declared.calls.Request.{Request}
 use Rattle.wit_model.specs.declared.calls.Call.{Call}
-use Rattle.wit_model.specs.declared.calls.Call.TheVariants.{Init, Check, Note, NoteTry, GiveUp, Unlock, SetWatch}
+use Rattle.wit_model.specs.declared.calls.Call.TheVariants.{Init, Check, Note, NoteTry, GiveUp, Unlock, SetWatch, Destroy}
 use Rattle.wit_model.specs.declared.calls.Reply.{Reply}
 use Rattle.wit_model.specs.declared.calls.Reply.TheVariants.{Made, Unlocked, Done}
 use Rattle.wit_model.specs.declared.calls.Reply.TheVariants as reply
 use Rattle.wit_model.specs.declared.calls.Entry.{Entry}
 use Rattle.wit_model.specs.Rules.Sizes.{Sizes}
 use Rattle.wit_model.specs.Rules.Names.{is_name}
-use Rattle.wit_model.specs.Rules.Numbers.{IsGiven}
+use Rattle.wit_model.specs.Rules.Numbers.{IsGiven, with_changed}
 use Rattle.wit_model.specs.Rules.Types.{is_spin, type_name_of}
 use Rattle.wit_model.specs.Rules.Locks.{locks_of, lock_at, is_spin_lock, destroyed_of, is_destroyed, made_among}
 use Rattle.wit_model.specs.Rules.History.{is_held, pending, watch_of, watch_after, is_off}
@@ -39,7 +39,7 @@ use Rattle.wit_model.proofs.Chains.Regrouping.{seat_groups-nil}
 use Rattle.wit_model.proofs.Chains.Seats.{entry}
 use Rattle.wit_model.proofs.Chains.Owed.{owed_to, owed_to-nil, owed-init, owed-check, owed-note, owed-unnoted, owed-try, owed-same, owed-give_up, owed-unlock}
 use Rattle.wit_model.proofs.Chains.Depth.{note-count, try-count}
-use Rattle.wit_model.proofs.Histories.Accepted.{asked-lock, init_accepted, note_accepted, try_accepted, give_up_accepted, check_accepted, unlock_accepted, watch_accepted}
+use Rattle.wit_model.proofs.Histories.Accepted.{asked-lock, init_accepted, note_accepted, try_accepted, give_up_accepted, check_accepted, unlock_accepted, watch_accepted, destroy_accepted, is_plain, plain_accepted}
 use Rattle.wit_model.proofs.Histories.Legal.{seat_accepted, sane_more, pending-state, unlock-held}
 use Rattle.wit_model.proofs.Histories.NamedFiles.{legal-named}
 use Rattle.wit_model.proofs.Orders.TypedLocks.{spin_at}
@@ -58,11 +58,13 @@ use Rattle.wit_core.specs.Listed.{all_listed, pairs_of}
 use Rattle.wit_core.specs.Seats.{Row, no_seat, idle_row, seat_in, locks_in, with_seat, asking, acquired, released}
 use Rattle.wit_core.proofs.Entering.{IsBegun}
 use Rattle.wit_core.proofs.Keeping.{seat_in_range, Leaves, same_story}
-use Rattle.wit_core.proofs.Now.{seat-given, chain-now, once-now, acquisition-told}
+use Rattle.wit_core.proofs.Now.{seat-given, chain-now, once-now, acquisition-told, live-now}
 use Rattle.wit_core.proofs.Steps.{same_state, same_locks, known-same, seat-twice, in-row, seats-quiet, seats-same, seats-note, seats-try, seats-unlock}
-use Rattle.wit_core.proofs.Living.{flags-made}
-use Rattle.wit_core.specs.Live.{live_flags}
+use Rattle.wit_core.proofs.Living.{flags-made, flag-within, flags-destroyed, length-flags}
+use Rattle.wit_core.specs.Live.{live_flags, is_flagged}
 use Rattle.wit_model.proofs.Histories.Live.{next-undestroyed}
+use Rattle.wit_core.proofs.Judged.{asked-given}
+use Rattle.wit_model.proofs.Numbered.{with_changed-at}
 
 -- a lock's kind, by the locks and by the history
 spin_same : (v : Inside) (l : ℕ) (spin : Bool) → spin ≡ is_spin (lock_at (state_of (story_in v)).known.locks l).made.class → spin ≡ is_spin_lock (locks_of (history_in v)) l
@@ -343,6 +345,33 @@ module _ (v : Inside) (k : IsKept v) (s : Story) (seen : story_in v ≡ s) where
       let room = room_left 1 log (try_accepted (state_of (story_in v)) t l.0 m site (reply_to a) (accepted t (NoteTry l m site) (reply_to a) ok)).room same in
       omega (arith, room, owed-few a)
 
+  -- the room of a call that leaves requests and acquisitions
+  pub plain_room : (t : ℕ) (call : Call) (r : Reply) (log : Journal) → is_plain call ≡ true → is_logged r ≡ true → answer_of s t call ≡ Ok r
+      → log ≡ record v.log { spare = log.spare } → length log.history + log.owed + 0 < log.limit
+  plain_room t call r log plain kept ok same = room_left 0 log (plain_accepted (state_of (story_in v)) t call r plain (accepted t call r ok) kept).room same
+
+  -- a lock that is destroyed
+  pub destroyed_live : (t : ℕ) (l : LockNo) → answer_of s t (Destroy l) ≡ Ok Done → is_flagged v.known.live l.0 ≡ true
+  destroyed_live t l ok = live-now v k s seen l.0 ∙ (destroy_accepted (state_of s) t l.0 Done ok).live
+
+  pub destroyed_typed : (t : ℕ) (l : LockNo) → answer_of s t (Destroy l) ≡ Ok Done → IsGiven v.known.known.types (lock_at v.known.known.locks l.0).type_no.0
+  destroyed_typed t l ok = asked-given v k s seen l.0 (destroy_accepted (state_of s) t l.0 Done ok).lock
+
+  pub leaves_destroy : (t : ℕ) (l : LockNo) → answer_of s t (Destroy l) ≡ Ok Done
+      → Leaves v t (Destroy l) Done v.known.known (with_changed v.known.live l.0 false) v.seats v.watch (v.log.owed + 0)
+  leaves_destroy t l ok =
+      let sane = sane_next t (Destroy l) Done ok in
+      let in_row = within t (Destroy l) Done ok in
+      let same = owed-same v.limits.seats t (Destroy l) Done (history_in v) sane in_row.0 in_row.1 refl refl in
+      let made = flag-within v.known.live l.0 (destroyed_live t l ok) in
+      let size : length v.known.live ≡ length v.known.known.locks = ap length k.live ∙ length-flags (length v.known.known.locks) (destroyed_of (history_in v)) in
+      left-by t (Destroy l) Done _ _ _ _ _
+      (known-now ∙ known-same (start_in v) (history_in v) t (Destroy l) Done refl refl refl refl)
+      (with_changed-at v.known.live l.0 false made.0 ∙ ap (λ bs. set bs (l.0 - 1) false) k.live
+      ∙ flags-destroyed (length v.known.known.locks) l.0 (destroyed_of (history_in v)) made.0 (omega (arith, made.1, size)))
+      (seats-same (start_in v) v.known.files (history_in v) v.seats seats-now t in_row.0 in_row.1 (Destroy l) Done sane refl refl)
+      watch-now (omega (arith, same, owed_now)) refl
+
   pub watch_room : (t : ℕ) (w : Watch) (log : Journal) → answer_of s t (SetWatch w) ≡ Ok Done → log ≡ record v.log { spare = log.spare }
       → length log.history + log.owed + 0 < log.limit
   watch_room t w log ok same = room_left 0 log (watch_accepted (state_of (story_in v)) t w Done (accepted t (SetWatch w) Done ok)).room same
@@ -367,6 +396,14 @@ module _ (v : Inside) (k : IsKept v) (s : Story) (seen : story_in v ≡ s) where
   pub init_room : (t : ℕ) (lock : NewLock) (number : LockNo) (log : Journal) → answer_of s t (Init lock) ≡ Ok (Made number) → log ≡ record v.log { spare = log.spare }
       → length log.history + log.owed + 0 < log.limit
   init_room t lock number log ok same = room_left 0 log (init_accepted (state_of (story_in v)) t lock (Made number) (accepted t (Init lock) (Made number) ok)).room same
+
+  -- there are fewer locks than there may be
+  pub init_few : (t : ℕ) (lock : NewLock) (number : LockNo) → answer_of s t (Init lock) ≡ Ok (Made number) → length v.known.known.locks < v.limits.locks
+  init_few t lock number ok =
+      let at = init_accepted (state_of (story_in v)) t lock (Made number) (accepted t (Init lock) (Made number) ok) in
+      let few = leb-false v.limits.locks (length (typed_locks (start_in v) (history_in v))) at.locks in
+      let same = ap (λ (x : Known). length x.locks) known-now in
+      omega (arith, few, same)
 
   -- what an init needs: a type that is known or can be enrolled
   pub admitted : (t : ℕ) (lock : NewLock) (number : LockNo) → answer_of s t (Init lock) ≡ Ok (Made number) → IsAdmitted v.known lock

@@ -5,9 +5,13 @@ ghost use Rattle.wit_model.specs.declared.faults.Fault.TheVariants.{OutOfMemory}
 ghost use Rattle.wit_model.specs.Rules.Numbers.{is_given, IsGiven, IsNumber};
 ghost use Rattle.wit_model.specs.Rules.Assertions.{assertion};
 ghost use Rattle.wit_model.specs.Rules.Verdict.{is_of};
+ghost use Rattle.wit_model.specs.Rules.Step.{is_for};
+ghost use Rattle.wit_model.specs.Rules.Destroying.{uses};
+ghost use Rattle.std.specs.List.{list_any};
 ghost use Rattle.wit_held.specs.Chains.{IsOnce, IsShallow, in_mode};
 ghost use Rattle.wit_held.specs.Marks.{marked};
-ghost use Rattle.wit_core.specs.Seats.{idle_row, seat_in, locks_in, free_in, with_seat, asking, released, has_no_room, after_acquired, list_of, HoldFor};
+ghost use Rattle.wit_core.specs.Held.{seat_view};
+ghost use Rattle.wit_core.specs.Seats.{Seat, idle_row, seat_in, locks_in, free_in, with_seat, asking, released, has_no_room, after_acquired, list_of, HoldFor};
 ghost use Rattle.wit_core.specs.Turning.{changed};
 
 use std::alloc::{AllocError, Global};
@@ -102,6 +106,33 @@ impl Seats {
             Some(place) => Some(lists.at(list, place)),
             None => None,
         }
+    }
+
+    /// Whether a seat holds a lock or asks for it.
+    fn uses(&self, seat: SeatNo, lock: LockNo) -> bool
+        requires { IsGiven self.now.seats seat.0 }
+        ensures { result ≡ uses lock.0 (seat_view (seat_in self.now seat.0)) }
+    {
+        if self.find(seat, false, lock).is_some() {
+            return true;
+        }
+        if self.find(seat, true, lock).is_some() {
+            return true;
+        }
+        is_for(lock, self.pending(seat))
+    }
+
+    /// Whether some seat holds a lock or asks for it.
+    pub fn is_used(&self, lock: LockNo) -> bool
+        ensures { result ≡ list_any (λ (s : Seat). uses lock.0 (seat_view s)) self.now.seats }
+    {
+        for place in 0..self.requests.len() {
+            let seat = SeatNo(place as u16 + 1);
+            if self.uses(seat, lock) {
+                return true;
+            }
+        }
+        false
     }
 
     /// The lock of one kind that a seat holds at this place, counted from the oldest, 0.
@@ -203,6 +234,16 @@ impl Seats {
         ensures { self.new ≡ with_seat seat.0 (changed spin lock.0 (marked false)) self.old }
     {
         releaseok(&mut self.lists, list_of(seat, spin), lock);
+    }
+}
+
+// Whether a request is for this lock.
+fn is_for(lock: LockNo, request: Option<Request>) -> bool
+    ensures { result ≡ is_for lock.0 request }
+{
+    match request {
+        Some(request) => request.lock.0 == lock.0,
+        None => false,
     }
 }
 
