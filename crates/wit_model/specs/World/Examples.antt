@@ -1,0 +1,76 @@
+-- Three small worlds of two threads and two mutexes.
+use Rattle.std.specs.Prelude.{ℕ, List, [], ◌∷◌, ◌++◌, Option, None, Some, reverse, codes}
+use Rattle.wit_model.specs.declared.locks.Class.TheVariants.{SleepMutex}
+use Rattle.wit_model.specs.declared.locks.Mode.TheVariants.{Exclusive}
+use Rattle.wit_model.specs.declared.locks.Site.{Site}
+use Rattle.wit_model.specs.declared.calls.Heading.TheVariants as heading
+use Rattle.wit_model.specs.declared.calls.Request.{Request}
+use Rattle.wit_model.specs.declared.calls.Call.{Call}
+use Rattle.wit_model.specs.declared.calls.Call.TheVariants.{Init, Check, Note, Unlock}
+use Rattle.wit_model.specs.declared.calls.Reply.{Reply}
+use Rattle.wit_model.specs.declared.calls.Reply.TheVariants.{Made, Pass, Adopted, Reversal, Recorded, Unlocked}
+use Rattle.wit_model.specs.Rules.State.{Start}
+use Rattle.wit_model.specs.World.Deeds.{Deed, Logged, Take, Free}
+
+abbrev pub small : Start
+small = record { sizes = record { seats = 2; types = 8; locks = 16; chunks = 4; log = 16777216 }; lists = []; blessed = [] }
+
+-- the only file named
+abbrev pub files : List (List ℕ)
+files = codes "f" ∷ []
+
+abbrev by : ℕ → Call → Reply → Deed
+by t call reply = Logged (record { seat = record { 0 = t }; call = call; reply = reply })
+
+-- thread 1 makes a mutex of the type of this name
+abbrev makes : List ℕ → List ℕ → ℕ → List Deed
+makes name type_name l =
+    by 1 (Init (record { class = SleepMutex; flags = record { 0 = 0 }; name = name; type_name = Some type_name })) (Made (record { 0 = l })) ∷ []
+
+abbrev at_line : ℕ → Site
+at_line line = record { file = record { 0 = 1 }; line = line }
+
+-- t asks for lock l, and is answered so
+abbrev asks : ℕ → ℕ → ℕ → Reply → List Deed
+asks t l line reply =
+    by t (Check (record { lock = record { 0 = l }; site = at_line line; mode = Exclusive; ops = record { 0 = 0x01 } })) reply ∷ []
+
+-- it asks for it and gets it
+abbrev locks : ℕ → ℕ → ℕ → Reply → List Deed
+locks t l line reply = asks t l line reply ++ Take t l Exclusive ∷ by t (Note (record { 0 = l })) Recorded ∷ []
+
+abbrev unlocks : ℕ → ℕ → List Deed
+unlocks t l = by t (Unlock (record { 0 = l }) Exclusive) Unlocked ∷ Free t l ∷ []
+
+-- the order from the first lock's type to the second one's is learnt
+abbrev learns : Reply
+learns = Adopted (record { 0 = 1 }) (record { 0 = 2 })
+
+-- the first lock is asked for at line 4 under the second one, which was taken at line 3
+abbrev reverses : Reply
+reverses = Reversal (record {
+  heading = heading.Order;
+  held = record { lock = record { 0 = 2 }; site = at_line 3 };
+  older = None;
+  asked = record { lock = record { 0 = 1 }; site = at_line 4 };
+})
+
+-- one thread after the other: the first takes a and under it b, and frees both; then the second takes b, and asks for a
+abbrev pub in_turn : List Deed
+in_turn =
+    reverse (makes (codes "a") (codes "A") 1 ++ makes (codes "b") (codes "B") 2
+    ++ locks 1 1 1 Pass ++ locks 1 2 2 learns ++ unlocks 1 2 ++ unlocks 1 1
+    ++ locks 2 2 3 Pass ++ asks 2 1 4 reverses)
+
+-- the same deeds crossed: the first has a and the second b when each asks for the other's
+abbrev pub crossed : List Deed
+crossed =
+    reverse (makes (codes "a") (codes "A") 1 ++ makes (codes "b") (codes "B") 2
+    ++ locks 1 1 1 Pass ++ locks 2 2 3 Pass ++ asks 1 2 2 learns ++ asks 2 1 4 reverses)
+
+-- both take a, and under it b, and free both
+abbrev pub agreed : List Deed
+agreed =
+    reverse (makes (codes "A") (codes "A") 1 ++ makes (codes "B") (codes "B") 2
+    ++ locks 1 1 1 Pass ++ locks 1 2 2 learns ++ unlocks 1 2 ++ unlocks 1 1
+    ++ locks 2 1 3 Pass ++ locks 2 2 4 Pass ++ unlocks 2 2 ++ unlocks 2 1)
