@@ -1,5 +1,5 @@
 -- Three small worlds of two threads and two mutexes.
-use Rattle.std.specs.Prelude.{ℕ, List, [], ◌∷◌, ◌++◌, Option, None, Some, reverse, codes}
+use Rattle.std.specs.Prelude.{ℕ, List, [], ◌∷◌, ◌++◌, None, Some, reverse, codes}
 use Rattle.wit_model.specs.declared.locks.Class.TheVariants.{SleepMutex}
 use Rattle.wit_model.specs.declared.locks.Mode.TheVariants.{Exclusive}
 use Rattle.wit_model.specs.declared.locks.Site.{Site}
@@ -30,10 +30,12 @@ makes name type_name l =
 abbrev at_line : ℕ → Site
 at_line line = record { file = record { 0 = 1 }; line = line }
 
+abbrev pub request : ℕ → ℕ → Request
+request l line = record { lock = record { 0 = l }; site = at_line line; mode = Exclusive; ops = record { 0 = 0x01 } }
+
 -- t asks for lock l, and is answered so
 abbrev asks : ℕ → ℕ → ℕ → Reply → List Deed
-asks t l line reply =
-    by t (Check (record { lock = record { 0 = l }; site = at_line line; mode = Exclusive; ops = record { 0 = 0x01 } })) reply ∷ []
+asks t l line reply = by t (Check (request l line)) reply ∷ []
 
 -- it asks for it and gets it
 abbrev locks : ℕ → ℕ → ℕ → Reply → List Deed

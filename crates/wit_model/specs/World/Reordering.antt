@@ -4,7 +4,6 @@ use Rattle.wit_model.specs.declared.calls.Call.{Call}
 use Rattle.wit_model.specs.declared.calls.Call.TheVariants.{Check}
 use Rattle.wit_model.specs.declared.calls.Reply.{Reply}
 use Rattle.wit_model.specs.declared.calls.Reply.TheVariants.{Pass}
-use Rattle.wit_model.specs.declared.calls.Entry.{Entry}
 use Rattle.wit_model.specs.Rules.State.{Start}
 use Rattle.wit_model.specs.World.Deeds.{Deed, Logged, own}
 use Rattle.wit_model.specs.World.Steps.{IsWorld}

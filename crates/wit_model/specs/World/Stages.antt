@@ -13,7 +13,7 @@ use Rattle.wit_model.specs.declared.calls.Call.{Call}
 use Rattle.wit_model.specs.declared.calls.Call.TheVariants.{Check, Note, NoteTry, GiveUp, Unlock}
 use Rattle.wit_model.specs.Rules.History.{num, is_held}
 use Rattle.wit_model.specs.Rules.Verdict.{is_exclusive}
-use Rattle.wit_model.specs.World.Deeds.{Deed, Logged, Take, TryTake, Free, RawUp, RawDown, log_of, shares}
+use Rattle.wit_model.specs.World.Deeds.{Deed, Logged, Take, TryTake, RawUp, log_of, shares}
 
 -- where a thread stands in its latest sequence
 pub data Stage : Type 0 where

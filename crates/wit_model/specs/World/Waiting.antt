@@ -1,5 +1,5 @@
 -- Which thread waits for which, by the shares that threads have, whatever is recorded of them.
-use Rattle.std.specs.Prelude.{ℕ, ◌<◌, ◌≡◌, Bool, true, false, ◌||◌, List}
+use Rattle.std.specs.Prelude.{ℕ, ◌<◌, ◌≡◌, true, false, ◌||◌, List}
 use Rattle.wit_model.specs.declared.calls.Request.{Request}
 use Rattle.wit_model.specs.Rules.History.{is_held}
 use Rattle.wit_model.specs.Rules.Verdict.{is_exclusive}
