@@ -1,15 +1,18 @@
 -- Laws of worlds: where a run reported nothing, no reordering of its threads' deeds reaches a deadlock.
-use Rattle.std.specs.Prelude.{ℕ, ◌<◌, ◌≡◌, true, false, List, [], ◌∷◌, None}
+use Rattle.std.specs.Prelude.{ℕ, ◌<◌, ◌≡◌, true, false, List, [], ◌∷◌, ◌++◌, None}
+use Rattle.wit_model.specs.declared.calls.Request.{Request}
 use Rattle.wit_model.specs.declared.calls.Entry.{Entry}
+use Rattle.wit_model.specs.Rules.History.{is_held, own_entries}
 use Rattle.wit_model.specs.Rules.State.{Start, state_of}
 use Rattle.wit_model.specs.Rules.Start.{start_fault}
 use Rattle.wit_model.specs.Rules.Verdict.{is_exclusive}
 use Rattle.wit_model.specs.Rules.Step.{story_after, IsLegal}
 use Rattle.wit_model.specs.Rules.Circles.{IsRecordCircle}
 use Rattle.wit_model.specs.Rules.Clean.{is_clean}
-use Rattle.wit_model.specs.World.Deeds.{Deed, log_of, shares, raw_mode}
-use Rattle.wit_model.specs.World.Steps.{IsWorld}
-use Rattle.wit_model.specs.World.Waiting.{IsDeadlock}
+use Rattle.wit_model.specs.World.Deeds.{Deed, own, log_of, shares, raw_mode}
+use Rattle.wit_model.specs.World.Stages.{Asked, stage}
+use Rattle.wit_model.specs.World.Steps.{admits, IsWorld}
+use Rattle.wit_model.specs.World.Waiting.{IsWaiting, IsDeadlock}
 use Rattle.wit_model.specs.World.Reordering.{IsReordering}
 use Rattle.wit_model.specs.World.Examples.{small, files, in_turn, crossed, agreed}
 
@@ -45,6 +48,36 @@ abbrev pub ExclusiveIsAlone : Type 0
 ExclusiveIsAlone =
     (start : Start) (files : List (List ℕ)) (w : List Deed) (t u l : ℕ)
     → IsWorld start files w → (u ≡ t → ⊥) → 0 < shares t l w → 0 < shares u l w → is_exclusive (raw_mode t l w) ≡ false
+
+-- who waits for another can't have the lock
+abbrev pub WaitersAreBarred : Type 0
+WaitersAreBarred =
+    (start : Start) (files : List (List ℕ)) (w : List Deed) (t u : ℕ) (x : IsWaiting w t u)
+    → IsWorld start files w → admits start.sizes.seats x.request.lock.0 x.request.mode w ≡ false
+
+-- and who can't have a lock that it asks for, and of which it has nothing itself, waits for another
+abbrev pub BarredOnesWait : Type 0
+BarredOnesWait =
+    (threads : ℕ) (w : List Deed) (t : ℕ) (q : Request)
+    → stage t (own t w) ≡ Asked q → is_held t q.lock.0 (log_of w) ≡ false → shares t q.lock.0 w ≡ 0
+    → admits threads q.lock.0 q.mode w ≡ false → (u : ℕ) × IsWaiting w t u
+
+-- no thread alone is a deadlock
+abbrev pub DeadlocksTakeTwo : Type 0
+DeadlocksTakeTwo = (w : List Deed) (t : ℕ) → IsDeadlock w (t ∷ []) → ⊥
+
+-- the run itself reorders it, and so does each of its moments
+abbrev pub MomentsReorder : Type 0
+MomentsReorder =
+    (start : Start) (files : List (List ℕ)) (later w : List Deed) → IsWorld start files (later ++ w) → IsReordering start w (later ++ w)
+
+-- the log of a world is a legal history
+abbrev pub WorldsAreLegal : Type 0
+WorldsAreLegal = (start : Start) (files : List (List ℕ)) (w : List Deed) → IsWorld start files w → IsLegal start files (log_of w)
+
+-- and of a thread's own deeds it has that thread's entries
+abbrev pub OwnDeedsAreLogged : Type 0
+OwnDeedsAreLogged = (t : ℕ) (w : List Deed) → log_of (own t w) ≡ own_entries t (log_of w)
 
 -- a clean legal history leaves no circle of the record
 abbrev pub CleanRecordsHaveNoCircle : Type 0

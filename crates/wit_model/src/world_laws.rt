@@ -9,6 +9,12 @@ ghost use Rattle.wit_model.specs.WorldLaws.{
   AgreedIsWorld,
   AgreedIsClean,
   ExclusiveIsAlone,
+  WaitersAreBarred,
+  BarredOnesWait,
+  DeadlocksTakeTwo,
+  MomentsReorder,
+  WorldsAreLegal,
+  OwnDeedsAreLogged,
   CleanRecordsHaveNoCircle,
 };
 
@@ -35,6 +41,25 @@ pub fn law_clean_run()
 /// In every world who has a lock exclusively has it alone.
 pub fn law_exclusive_alone()
     ensures { ExclusiveIsAlone }
+{}
+
+/// To wait is to be barred from a lock by another thread's share of it: who waits can't have the lock as things stand, and who can't have
+/// a lock that it asked for, and of which it has no share itself, waits for another. So a deadlock is of two threads at least.
+pub fn law_waiting_is_barred()
+    ensures barred { WaitersAreBarred }
+    ensures waits { BarredOnesWait }
+    ensures two { DeadlocksTakeTwo }
+{}
+
+/// A run is a reordering of itself, and so is each of its moments.
+pub fn law_run_reorders_itself()
+    ensures { MomentsReorder }
+{}
+
+/// The log of a world is a legal history, of which each thread's entries are those of its own steps.
+pub fn law_world_is_legal()
+    ensures legal { WorldsAreLegal }
+    ensures own { OwnDeedsAreLogged }
 {}
 
 /// A clean log leaves no circle of the record, whatever threads do: what a seat holds while it asks for a lock is to be taken before

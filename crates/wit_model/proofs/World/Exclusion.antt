@@ -33,10 +33,10 @@ some-not : (n : ℕ) → eqb n 0 ≡ true → 0 < n → ⊥
 some-not n is some = let none = eqb-true n 0 is in omega arith
 
 module _ (threads x l : ℕ) (w : List Deed) (seat : is_number threads x ≡ true) (some : 0 < shares x l w) where
-  none-had : admits threads l Exclusive w ≡ true → ⊥
+  pub none-had : admits threads l Exclusive w ≡ true → ⊥
   none-had admitted = some-not (shares x l w) (one_thread (λ t. eqb (shares t l w) 0) threads x admitted seat) some
 
-  shared-had : admits threads l Shared w ≡ true → is_exclusive (raw_mode x l w) ≡ false
+  pub shared-had : admits threads l Shared w ≡ true → is_exclusive (raw_mode x l w) ≡ false
   shared-had admitted =
       ⊎_elim (λ none. absurd (some-not (shares x l w) none some)) (λ shared. not-true (is_exclusive (raw_mode x l w)) shared)
       (or_cases (eqb (shares x l w) 0) (not (is_exclusive (raw_mode x l w))) (one_thread (λ t. eqb (shares t l w) 0 || not (is_exclusive (raw_mode t l w))) threads x admitted seat))
@@ -79,7 +79,7 @@ module _ (start : Start) (files : List (List ℕ)) where
   seat-step (RawUp u m) w can t l was some = was some
   seat-step (RawDown u m) w can t l was some = was some
 
-  has_seat : (w : List Deed) → IsWorld start files w → (t l : ℕ) → 0 < shares t l w → is_number start.sizes.seats t ≡ true
+  pub has_seat : (w : List Deed) → IsWorld start files w → (t l : ℕ) → 0 < shares t l w → is_number start.sizes.seats t ≡ true
   has_seat [] world t l some = absurd (omega arith)
   has_seat (d ∷ w) world t l some = seat-step d w world.0 t l (has_seat w world.1 t l) some
 
