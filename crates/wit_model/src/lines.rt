@@ -2,7 +2,7 @@
 
 use crate::calls::NewLock;
 use crate::faults::Fault;
-use crate::flags::OpFlags;
+use crate::flags::{LockAssert, OpFlags, WarnFlags};
 use crate::locks::{LockNo, Mode, SeatNo, Watch};
 use crate::names::{FileName, Name};
 use crate::type_lists::TypeList;
@@ -63,6 +63,49 @@ pub enum Line {
         seat: SeatNo,
         lock: LockNo,
         mode: Mode,
+    },
+    /// `destroy`: a lock is done with.
+    Destroy {
+        seat: SeatNo,
+        lock: LockNo,
+    },
+    /// `upgrade`: a lock held shared becomes held exclusively.
+    Upgrade {
+        seat: SeatNo,
+        lock: LockNo,
+    },
+    /// `downgrade`: a lock held exclusively becomes held shared.
+    Downgrade {
+        seat: SeatNo,
+        lock: LockNo,
+    },
+    /// `norelease`: a held lock isn't to be released.
+    NoRelease {
+        seat: SeatNo,
+        lock: LockNo,
+    },
+    /// `releaseok`: a held lock may be released again.
+    ReleaseOk {
+        seat: SeatNo,
+        lock: LockNo,
+    },
+    /// `assert`: something is asserted of a lock.
+    Assert {
+        seat: SeatNo,
+        lock: LockNo,
+        asserted: LockAssert,
+    },
+    /// `warn`: no lock should be held, or none but this one.
+    Warn {
+        seat: SeatNo,
+        lock: Option<LockNo>,
+        flags: WarnFlags,
+    },
+    /// `define`: locks of the first one's type are acquired before those of the second one's.
+    Define {
+        seat: SeatNo,
+        first: LockNo,
+        second: LockNo,
     },
     /// `watch`: how much the verifier is to do from here on.
     Watch {

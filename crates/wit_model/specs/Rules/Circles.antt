@@ -1,8 +1,11 @@
 -- Circles of seats that wait for one another: a deadlock, where each waits for what the next one holds.
-use Rattle.std.specs.Prelude.{ℕ, ◌≡◌, Bool, true, false, not, ◌&&◌, ◌||◌, ◌==◌, nat_le, List, [], ◌∷◌, Option, None, Some, is_none}
+use Rattle.std.specs.Prelude.{ℕ, ◌≡◌, Bool, true, false, not, ◌&&◌, ◌||◌, ◌==◌, nat_le, List, [], ◌∷◌, Option, None, Some, is_none, map}
+use Rattle.std.specs.Global.{Vec}
 use Rattle.std.specs.List.{list_all}
+use Rattle.std.specs.Option.{option_map}
 use Rattle.wit_model.specs.declared.locks.Mode.{Mode}
 use Rattle.wit_model.specs.declared.locks.Instance.{Instance}
+use Rattle.wit_model.specs.declared.locks.SeatNo.{SeatNo}
 use Rattle.wit_model.specs.declared.calls.Request.{Request}
 use Rattle.wit_model.specs.Rules.State.{State, seat_at}
 use Rattle.wit_model.specs.Rules.Step.{held_by}
@@ -47,3 +50,15 @@ Waits s t u = waits_for s t u ≡ true
 -- a circle of the record
 abbrev pub IsRecordCircle : State → List ℕ → Type 0
 IsRecordCircle s seats = IsCircle (Waits s) seats
+
+-- what can be told of circles: one that starts with its least seat, or none exactly where there is none
+abbrev pub TellsCircle : State → Option (List ℕ) → Type 0
+TellsCircle s None = (seats : List ℕ) → IsRecordCircle s seats → ⊥
+TellsCircle s (Some seats) = IsRecordCircle s seats × (starts_with_least seats ≡ true)
+
+abbrev pub seat_numbers : List SeatNo → List ℕ
+seat_numbers seats = map (λ (t : SeatNo). t.0) seats
+
+-- the numbers of the seats, where there are any
+abbrev pub circle_numbers : Option (Vec SeatNo) → Option (List ℕ)
+circle_numbers c = option_map (λ (v : Vec SeatNo). seat_numbers v.items) c
