@@ -14,7 +14,7 @@ use Rattle.wit_model.specs.World.Stages.{Asked, stage}
 use Rattle.wit_model.specs.World.Steps.{admits, IsWorld}
 use Rattle.wit_model.specs.World.Waiting.{IsWaiting, IsDeadlock}
 use Rattle.wit_model.specs.World.Reordering.{IsReordering}
-use Rattle.wit_model.specs.World.Examples.{small, files, in_turn, crossed, agreed}
+use Rattle.wit_model.specs.World.Examples.{small, files, in_turn, crossed, agreed, varied}
 
 -- no reordering of a world whose log is clean has a deadlock, over an accepted start that blesses no pair
 abbrev pub CleanRunsNeverDeadlock : Type 0
@@ -42,6 +42,10 @@ AgreedIsWorld = (start_fault small ≡ None) × IsWorld small files agreed
 
 abbrev pub AgreedIsClean : Type 0
 AgreedIsClean = (small.blessed ≡ []) × (is_clean (log_of agreed) ≡ true)
+
+-- a world in which each sequence comes
+abbrev pub VariedIsWorld : Type 0
+VariedIsWorld = (start_fault small ≡ None) × IsWorld small files varied
 
 -- of two threads that have shares of a lock neither has it exclusively
 abbrev pub ExclusiveIsAlone : Type 0

@@ -8,6 +8,7 @@ ghost use Rattle.wit_model.specs.WorldLaws.{
   CrossedDeadlocks,
   AgreedIsWorld,
   AgreedIsClean,
+  VariedIsWorld,
   ExclusiveIsAlone,
   WaitersAreBarred,
   BarredOnesWait,
@@ -36,6 +37,11 @@ pub fn law_circle_reached()
 pub fn law_clean_run()
     ensures run { AgreedIsWorld }
     ensures clean { AgreedIsClean }
+{}
+
+/// Every sequence of steps can be done: here is a world with each.
+pub fn law_sequences_run()
+    ensures { VariedIsWorld }
 {}
 
 /// In every world who has a lock exclusively has it alone.

@@ -7,18 +7,18 @@ use Rattle.wit_model.specs.declared.locks.Mode.{Mode}
 use Rattle.wit_model.specs.declared.locks.Watch.TheVariants.{On}
 use Rattle.wit_model.specs.declared.calls.Request.{Request}
 use Rattle.wit_model.specs.declared.calls.Call.{Call}
-use Rattle.wit_model.specs.declared.calls.Call.TheVariants.{Check, Note, NoteTry, GiveUp, Unlock}
+use Rattle.wit_model.specs.declared.calls.Call.TheVariants.{Check, Note, NoteTry, GiveUp, Unlock, Upgrade, Downgrade, NoRelease, ReleaseOk}
 use Rattle.wit_model.specs.declared.calls.Reply.{Reply}
 use Rattle.wit_model.specs.declared.calls.Reply.TheVariants.{Recorded, Exhausted, Unrecorded, Unlocked}
 use Rattle.wit_model.specs.declared.calls.Entry.{Entry}
-use Rattle.wit_model.specs.Rules.History.{act, act_by, num, is_held, is_off, is_report, watch_of}
+use Rattle.wit_model.specs.Rules.History.{Act, act, act_by, num, is_held, is_off, is_report, watch_of}
 use Rattle.wit_model.specs.Rules.State.{Start, state_of}
 use Rattle.wit_model.specs.Rules.Step.{is_exhausted, held_by, recorded, answer_of, story_after, is_logged, IsLegal}
 use Rattle.wit_model.specs.Rules.Clean.{is_clean_call, is_clean}
 use Rattle.wit_model.specs.World.Deeds.{Deed, Logged, Take, TryTake, Free, RawUp, RawDown, thread_of, own, log_of, are_these, shares}
-use Rattle.wit_model.specs.World.Stages.{Stage, Over, Asked, Taken, Tried, Forgot, Raised, Lowered, stage_logged, stage_after, stage, is_over, may_take, may_note, may_give_up, may_free, may_lower, may_call}
+use Rattle.wit_model.specs.World.Stages.{Stage, Over, Asked, Taken, Tried, Forgot, Raised, Lowered, stage_logged, stage_after, stage, is_over, may_take, may_note, may_give_up, may_upgrade, may_free, may_lower, may_call}
 use Rattle.wit_model.specs.World.Steps.{CanDo, IsWorld}
-use Rattle.wit_model.proofs.Chains.Acts.{num_after, num-step, num-nil}
+use Rattle.wit_model.proofs.Chains.Acts.{num_after, num-step, is_even, num_after-even, upgrade-even, downgrade-even, norelease-even, releaseok-even}
 use Rattle.wit_model.proofs.Histories.Accepted.{note_accepted, unlock_accepted}
 use Rattle.wit_model.proofs.Histories.Legal.{sane_legal}
 use Rattle.wit_model.proofs.VerdictLaws.Quiet.{clean-parts, watch-clean}
@@ -76,6 +76,10 @@ due-noting l m held (Forgot k has_fewer) is = absurd (false≢true is)
 due-noting l m held (Raised k) is = absurd (false≢true is)
 due-noting l m held (Lowered k) is = absurd (false≢true is)
 
+due-upgrading : (l m : ℕ) (g : Stage) → may_upgrade m g ≡ true → due l g ≡ 0
+due-upgrading l m (Raised k) is = refl
+due-upgrading l m _ is = absurd (false≢true is)
+
 due-giving_up : (l m : ℕ) (g : Stage) → may_give_up m g ≡ true → due l g ≡ 0
 due-giving_up l m (Asked q) is = refl
 due-giving_up l m _ is = absurd (false≢true is)
@@ -132,6 +136,10 @@ module _ (start : Start) (files : List (List ℕ)) (t l : ℕ) (w : List Deed) w
   g = stage t (own t w)
 
   module _ (was : Covers l n s g) where
+    -- an act that records and releases nothing
+    even : (a : Act) (after : Stage) → is_even a ≡ true → s ≤ n → due l after ≡ 0 → Covers l (num_after a l n) s after
+    even a after is le none = subst (λ k. Covers l k s after) (sym (num_after-even a l n is)) (settled l n s after le none)
+
     -- a logged call of the thread itself
     entry-covers : (c : Call) (r : Reply) → ((m : LockNo) → c ≡ Note m → r ≡ Recorded) → ((m : LockNo) (mode : Mode) → c ≡ Unlock m mode → r ≡ Unlocked)
         → is_clean_call c ≡ true → may_call t c (own t w) ≡ true → Covers l (num_after (act c r) l n) s (stage_logged t c (own t w))
@@ -149,6 +157,10 @@ module _ (start : Start) (files : List (List ℕ)) (t l : ℕ) (w : List Deed) w
     entry-covers (Check q) r notes unlocks clean may = settled l n s (Asked q) (was.at_end may) refl
     entry-covers (NoteTry m mode site) r notes unlocks clean may = absurd (false≢true clean)
     entry-covers (GiveUp m) r notes unlocks clean may = settled l n s Over (nothing-due l n s g (due-giving_up l m.0 g may) was) refl
+    entry-covers (Upgrade m) r notes unlocks clean may = even (act (Upgrade m) r) Over (upgrade-even m r) (nothing-due l n s g (due-upgrading l m.0 g may) was) refl
+    entry-covers (Downgrade m) r notes unlocks clean may = even (act (Downgrade m) r) (Lowered m.0) (downgrade-even m r) (was.at_end may) refl
+    entry-covers (NoRelease m) r notes unlocks clean may = even (act (NoRelease m) r) Over (norelease-even m r) (was.at_end may) refl
+    entry-covers (ReleaseOk m) r notes unlocks clean may = even (act (ReleaseOk m) r) Over (releaseok-even m r) (was.at_end may) refl
     entry-covers c r notes unlocks clean may = settled l n s Over (was.at_end may) refl
 
     got-covers : (m : ℕ) (after : Stage) → due l after ≡ cond (eqb m l) 1 0 → is_over after ≡ false → s ≤ n → Covers l n (cond (are_these t l t m) (s + 1) s) after

@@ -4,7 +4,7 @@ use Rattle.std.proofs.lemmas.Bool.{cases_Bool}
 use Rattle.std.proofs.lemmas.List.Sums.{sum_by-cons}
 use Rattle.wit_model.specs.declared.calls.Request.{Request}
 use Rattle.wit_model.specs.declared.calls.Call.{Call}
-use Rattle.wit_model.specs.declared.calls.Call.TheVariants.{Check, Unlock}
+use Rattle.wit_model.specs.declared.calls.Call.TheVariants.{Check, DefineOrder, Unlock}
 use Rattle.wit_model.specs.declared.calls.Reply.{Reply}
 use Rattle.wit_model.specs.declared.calls.Entry.{Entry}
 use Rattle.wit_model.specs.Rules.History.{Nothing, act, act_by, is_record, is_release, records, releases, num}
@@ -101,6 +101,7 @@ kept_entry e = record { seat = e.seat; call = e.call; reply = kept_reply e.call 
 
 act-kept : (c : Call) (r : Reply) → act c (kept_reply c r) ≡ act c r
 act-kept (Check q) r = refl
+act-kept (DefineOrder a b) r = refl
 act-kept c r = refl
 
 act_by-kept : (t : ℕ) (e : Entry) → act_by t (kept_entry e) ≡ act_by t e

@@ -1,16 +1,17 @@
 -- Another order of the same threads' deeds, as other luck or another scheduler might have given it.
 use Rattle.std.specs.Prelude.{ℕ, ◌≡◌, List, ◌++◌, map}
 use Rattle.wit_model.specs.declared.calls.Call.{Call}
-use Rattle.wit_model.specs.declared.calls.Call.TheVariants.{Check}
+use Rattle.wit_model.specs.declared.calls.Call.TheVariants.{Check, DefineOrder}
 use Rattle.wit_model.specs.declared.calls.Reply.{Reply}
 use Rattle.wit_model.specs.declared.calls.Reply.TheVariants.{Pass}
 use Rattle.wit_model.specs.Rules.State.{Start}
 use Rattle.wit_model.specs.World.Deeds.{Deed, Logged, own}
 use Rattle.wit_model.specs.World.Steps.{IsWorld}
 
--- which order a check teaches or breaks depends on what others did before it: a thread doesn't look at that
+-- which order a check teaches or breaks, and whether a defined one was known, depends on what others did before: a thread doesn't look at that
 abbrev pub kept_reply : Call → Reply → Reply
 kept_reply (Check q) reply = Pass
+kept_reply (DefineOrder a b) reply = Pass
 kept_reply _ reply = reply
 
 -- a deed as its thread sees it
@@ -22,7 +23,7 @@ kept d = d
 abbrev pub IsBeginning : List Deed → List Deed → Type 0
 IsBeginning first whole = (later : List Deed) × (whole ≡ later ++ first)
 
--- the world v reorders the deeds of w: each thread's deeds in v are a beginning of its deeds in w, with the same replies save those of checks.
+-- the world v reorders the deeds of w: each thread's deeds in v are a beginning of its deeds in w, with the same replies save those.
 -- The run itself is a reordering of it, and so is each of its moments
 pub record IsReordering (start : Start) (v w : List Deed) : Type 0 where
   pub files : List (List ℕ)

@@ -3,14 +3,15 @@
 -- a check, then the lock is taken and noted, or the request is given up; a lock that it holds by the record is noted without being taken;
 -- a try that gets the lock, then its note, or the lock is freed, as where that note is refused;
 -- an unlock, then the lock is freed, which is left out only where more acquisitions were recorded than it has shares;
--- a lock is turned exclusive, then back, as where the note of it is refused;
+-- a lock is turned exclusive, then its upgrade is logged, or it is turned back, as where that is refused;
+-- a downgrade, then the lock is turned shared;
 -- any other logged call.
 use Rattle.std.specs.Prelude.{ℕ, Bool, true, false, not, ◌&&◌, ◌==◌, nat_lt, List, [], ◌∷◌}
 use Rattle.wit_model.specs.declared.locks.Mode.{Mode}
 use Rattle.wit_model.specs.declared.locks.Mode.TheVariants.{Shared, Exclusive}
 use Rattle.wit_model.specs.declared.calls.Request.{Request}
 use Rattle.wit_model.specs.declared.calls.Call.{Call}
-use Rattle.wit_model.specs.declared.calls.Call.TheVariants.{Check, Note, NoteTry, GiveUp, Unlock}
+use Rattle.wit_model.specs.declared.calls.Call.TheVariants.{Check, Note, NoteTry, GiveUp, Unlock, Upgrade, Downgrade}
 use Rattle.wit_model.specs.Rules.History.{num, is_held}
 use Rattle.wit_model.specs.Rules.Verdict.{is_exclusive}
 use Rattle.wit_model.specs.World.Deeds.{Deed, Logged, Take, TryTake, RawUp, log_of, shares}
@@ -29,12 +30,13 @@ pub data Stage : Type 0 where
   Forgot : (lock : ℕ) (has_fewer : Bool) → Stage
   -- its lock was turned exclusive
   Raised : (lock : ℕ) → Stage
-  -- it is logged that its lock is shared from now on
+  -- its downgrade is logged
   Lowered : (lock : ℕ) → Stage
 
 abbrev pub stage_logged : ℕ → Call → List Deed → Stage
 stage_logged t (Check q) before = Asked q
 stage_logged t (Unlock l mode) before = Forgot l.0 (nat_lt (shares t l.0 before) (num t l.0 (log_of before)))
+stage_logged t (Downgrade l) before = Lowered l.0
 stage_logged t _ before = Over
 
 abbrev pub stage_after : ℕ → Deed → List Deed → Stage
@@ -78,6 +80,10 @@ abbrev pub may_give_up : ℕ → Stage → Bool
 may_give_up l (Asked q) = q.lock.0 == l
 may_give_up l _ = false
 
+abbrev pub may_upgrade : ℕ → Stage → Bool
+may_upgrade l (Raised m) = m == l
+may_upgrade l _ = false
+
 abbrev pub may_free : ℕ → Stage → Bool
 may_free l (Tried m mode) = m == l
 may_free l (Forgot m has_fewer) = m == l
@@ -93,4 +99,5 @@ abbrev pub may_call : ℕ → Call → List Deed → Bool
 may_call t (Note l) before = may_note l.0 (is_held t l.0 (log_of before)) (stage t before)
 may_call t (NoteTry l mode site) before = may_note_try l.0 mode (stage t before)
 may_call t (GiveUp l) before = may_give_up l.0 (stage t before)
+may_call t (Upgrade l) before = may_upgrade l.0 (stage t before)
 may_call t _ before = is_over (stage t before)
