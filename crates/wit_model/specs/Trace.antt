@@ -4,3 +4,4 @@ pub mod Paths
 pub mod Reading
 pub mod Spelling
 pub mod Texts
+pub mod Views
