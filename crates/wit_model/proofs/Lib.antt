@@ -5,3 +5,4 @@ pub mod Numbered
 pub mod Orders
 pub mod Spelling
 pub mod VerdictLaws
+pub mod Waits
