@@ -4,12 +4,14 @@ use Rattle.std.specs.Fmt.{decimal}
 use Rattle.std.specs.Str.{bytes_eq}
 use Rattle.wit_model.specs.declared.faults.Fault.{Fault}
 use Rattle.wit_model.specs.declared.lines.Line.{Line}
-use Rattle.wit_model.specs.declared.lines.Line.TheVariants.{Header, Order, Bless, Init, Check, Lock, Try, GiveUp, Unlock, Watch}
+use Rattle.wit_model.specs.declared.lines.Line.TheVariants.{Header, Order, Bless, Init, Check, Lock, Try, GiveUp, Unlock, Destroy, Upgrade, Downgrade, NoRelease, ReleaseOk, Assert, Warn, Define, Watch}
 use Rattle.wit_model.specs.declared.lines.View as view
 use Rattle.wit_model.specs.declared.lines.View.TheVariants.{Reports, Graph, Locks, Circle}
 use Rattle.wit_model.specs.declared.lines.Cause as cause
 use Rattle.wit_model.specs.declared.lines.Cause.TheVariants as why
 use Rattle.wit_model.specs.declared.locks.Class.{Class}
+use Rattle.wit_model.specs.declared.locks.Instance.{Instance}
+use Rattle.wit_model.specs.declared.assertions.AssertAnswer.{AssertAnswer}
 use Rattle.wit_model.specs.declared.calls.Call.{Call}
 use Rattle.wit_model.specs.declared.calls.Call.TheVariants as call
 use Rattle.wit_model.specs.declared.calls.Reply.{Reply}
@@ -20,12 +22,14 @@ use Rattle.wit_model.specs.Trace.Reading.{line_of}
 use Rattle.wit_model.specs.Rules.Sizes.{Sizes, sizes_of, are_within}
 use Rattle.wit_model.specs.Rules.Numbers.{with_number}
 use Rattle.wit_model.specs.Rules.Start.{start_fault}
+use Rattle.wit_model.specs.Rules.Assertions.{step_assert}
 use Rattle.wit_model.specs.Rules.Circles.{TellsCircle}
-use Rattle.wit_model.specs.Rules.State.{Start, Story, fresh, known_of, state_of}
+use Rattle.wit_model.specs.Rules.Warnings.{warned, step_warn}
+use Rattle.wit_model.specs.Rules.State.{Start, Story, fresh, known_of, state_of, typed_locks}
 use Rattle.wit_model.specs.Rules.Step.{answer_of, grown}
 use Rattle.wit_model.specs.Trace.Texts.{report_text}
 use Rattle.wit_model.specs.Trace.Texts as texts
-use Rattle.wit_model.specs.Trace.Views.{graph_text, all_locks_text, circle_text}
+use Rattle.wit_model.specs.Trace.Views.{graph_text, all_locks_text, circle_text, assert_text, warn_text}
 
 -- a prelude so far: how the verifier is to start, and the number of each list's line
 pub record Prelude : Type 0 where
@@ -100,6 +104,21 @@ longest_line = 4096
 abbrev pub log_limit : ℕ
 log_limit = 16777216
 
+-- a call that isn't logged is answered, and this is told of it: what says something counts as a report
+abbrev pub remarks : Story → ℕ → List ℕ → Outcome
+remarks s n [] = Goes (Reading s n) []
+remarks s n (b ∷ text) = Goes (Reading s (n + 1)) (b ∷ text)
+
+-- an assertion about a lock, by its answer
+abbrev pub asserts : Story → ℕ → ℕ → Result AssertAnswer Fault → Outcome
+asserts s n l (Ok answer) = remarks s n (assert_text (typed_locks s.start s.history) l answer)
+asserts s n l (Err fault) = Bad (why.Fault fault)
+
+-- a warning of these locks, where the call isn't refused
+abbrev pub warns : Story → ℕ → List Instance → Result ℕ Fault → Outcome
+warns s n counted (Ok count) = remarks s n (warn_text (typed_locks s.start s.history) s.files counted)
+warns s n counted (Err fault) = Bad (why.Fault fault)
+
 -- a line behind the prelude makes its call
 abbrev pub calls : Story → ℕ → Line → Outcome
 calls s n (Init seat lock) = makes s n seat.0 (call.Init lock)
@@ -110,6 +129,14 @@ calls s n (Try seat lock mode file line) =
     at_file s (λ s' f. makes s' n seat.0 (call.NoteTry lock mode (record { file = record { 0 = f }; line = line }))) file (naming_answer s file)
 calls s n (GiveUp seat lock) = makes s n seat.0 (call.GiveUp lock)
 calls s n (Unlock seat lock mode) = makes s n seat.0 (call.Unlock lock mode)
+calls s n (Destroy seat lock) = makes s n seat.0 (call.Destroy lock)
+calls s n (Upgrade seat lock) = makes s n seat.0 (call.Upgrade lock)
+calls s n (Downgrade seat lock) = makes s n seat.0 (call.Downgrade lock)
+calls s n (NoRelease seat lock) = makes s n seat.0 (call.NoRelease lock)
+calls s n (ReleaseOk seat lock) = makes s n seat.0 (call.ReleaseOk lock)
+calls s n (Assert seat lock flags) = asserts s n lock.0 (step_assert (state_of s) seat.0 lock.0 flags)
+calls s n (Warn seat lock flags) = warns s n (warned (state_of s) seat.0 lock flags) (step_warn (state_of s) seat.0 lock flags)
+calls s n (Define seat first second) = makes s n seat.0 (call.DefineOrder first second)
 calls s n (Watch seat watch) = makes s n seat.0 (call.SetWatch watch)
 calls s n _ = Bad why.Syntax
 

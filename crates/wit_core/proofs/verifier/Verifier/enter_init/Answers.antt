@@ -14,7 +14,7 @@ push-requires-clause-room c = init_room c.self.inside c.self.invariant c.args.se
 
 pub invariant_of-self-2 : goal.invariant_of-self-2
 invariant_of-self-2 c =
-    kept_entered c.self.inside c.args.seat.0 _ _ _ _ _ _ c.add_lock.new.self c.self.inside.seats c.self.inside.watch c.push.new.self _
+    kept_entered c.self.inside c.args.seat.0 _ _ _ _ _ _ _ c.add_lock.new.self c.self.inside.seats c.self.inside.watch c.push.new.self _
     (leaves_init c.self.inside c.self.invariant c.args.self.now c.self.view_is c.args.seat.0 c.args.made c.args.number c.requires.accepted)
     c.in_ok-add_lock.ensures.ok refl refl
     (subst (λ x. c.push.new.self ≡ record c.self.inside.log {
