@@ -1,6 +1,9 @@
+pub mod Asserting
 pub mod Emptiness
 pub mod HeldLock
 pub mod Kept
+pub mod Marking
+pub mod Passing
 pub mod Placing
 pub mod Recording
 pub mod Settled

@@ -1,3 +1,5 @@
 pub mod Chains
 pub mod Kept
+pub mod Marks
 pub mod Rows
+pub mod Warned
