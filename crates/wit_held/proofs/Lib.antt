@@ -1,6 +1,7 @@
 pub mod Emptiness
 pub mod HeldLock
 pub mod Kept
+pub mod Newest
 pub mod Placing
 pub mod Recording
 pub mod Settled

@@ -4,9 +4,10 @@
 mod chains;
 mod fresh;
 mod rows;
+mod spots;
 mod vec_lists;
 
-pub use chains::{forget, mode, record, recursion, set_mode};
+pub use chains::{forget, held, mode, record, recursion, set_mode};
 pub use vec_lists::VecLists;
 
 #[cfg(test)]
