@@ -3,12 +3,11 @@ use Rattle.std.specs.Prelude.{ℕ, ◌<◌, ◌≡◌, true, false, List, [], �
 use Rattle.wit_model.specs.declared.calls.Request.{Request}
 use Rattle.wit_model.specs.declared.calls.Entry.{Entry}
 use Rattle.wit_model.specs.Rules.History.{is_held, own_entries}
-use Rattle.wit_model.specs.Rules.State.{Start, state_of}
+use Rattle.wit_model.specs.Rules.State.{Start}
 use Rattle.wit_model.specs.Rules.Start.{start_fault}
 use Rattle.wit_model.specs.Rules.Verdict.{is_exclusive}
 use Rattle.wit_model.specs.Rules.Step.{story_after, IsLegal}
-use Rattle.wit_model.specs.Rules.Circles.{IsRecordCircle}
-use Rattle.wit_model.specs.Rules.Clean.{is_clean}
+use Rattle.wit_model.specs.Rules.Clean.{is_clean, CleanMeansNoCircle}
 use Rattle.wit_model.specs.World.Deeds.{Deed, own, log_of, shares, raw_mode}
 use Rattle.wit_model.specs.World.Stages.{Asked, stage}
 use Rattle.wit_model.specs.World.Steps.{admits, IsWorld}
@@ -86,6 +85,5 @@ OwnDeedsAreLogged = (t : ℕ) (w : List Deed) → log_of (own t w) ≡ own_entri
 -- a clean legal history leaves no circle of the record
 abbrev pub CleanRecordsHaveNoCircle : Type 0
 CleanRecordsHaveNoCircle =
-    (start : Start) (files : List (List ℕ)) (h : List Entry) (seats : List ℕ)
-    → start_fault start ≡ None → start.blessed ≡ []
-    → IsLegal start files h → is_clean h ≡ true → IsRecordCircle (state_of (story_after start files h)) seats → ⊥
+    (start : Start) (files : List (List ℕ)) (h : List Entry)
+    → start_fault start ≡ None → IsLegal start files h → CleanMeansNoCircle (story_after start files h)
