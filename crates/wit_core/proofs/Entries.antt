@@ -2,7 +2,7 @@
 use Rattle.std.proofs.Common.{◌≡◌, ℕ, zero, suc, ◌+◌, ◌-◌, ◌<◌, ◌≤◌, ◌&&◌, Bool, true, false, cond, List, [], ◌∷◌, ◌++◌, Option, None, Some, Ok, Err, Result, IsOk, IfOk, IfErr, OnOk, OnErr, String, length, map, find, replicate, unwrap_or, get_or, sum_by, refl, sym, ap, ap₂, ◌∙◌, subst, arith, is_some, append-nil, length-append}
 use Rattle.std.specs.List.{range_with_len}
 use Rattle.std.specs.Global.{Vec, Global}
-use Rattle.std.proofs.lemmas.Bool.{and_parts, leb-true, true≢false}
+use Rattle.std.proofs.lemmas.Bool.{and_parts, leb-true, leb-false, true≢false}
 use Rattle.std.proofs.lemmas.List.{length-set}
 use Rattle.wit_model.specs.declared.faults.Fault.{Fault}
 use Rattle.wit_model.specs.declared.faults.Fault.TheVariants.{OutOfMemory}
@@ -367,6 +367,14 @@ module _ (v : Inside) (k : IsKept v) (s : Story) (seen : story_in v ≡ s) where
   pub init_room : (t : ℕ) (lock : NewLock) (number : LockNo) (log : Journal) → answer_of s t (Init lock) ≡ Ok (Made number) → log ≡ record v.log { spare = log.spare }
       → length log.history + log.owed + 0 < log.limit
   init_room t lock number log ok same = room_left 0 log (init_accepted (state_of (story_in v)) t lock (Made number) (accepted t (Init lock) (Made number) ok)).room same
+
+  -- there are fewer locks than there may be
+  pub init_few : (t : ℕ) (lock : NewLock) (number : LockNo) → answer_of s t (Init lock) ≡ Ok (Made number) → length v.known.known.locks < v.limits.locks
+  init_few t lock number ok =
+      let at = init_accepted (state_of (story_in v)) t lock (Made number) (accepted t (Init lock) (Made number) ok) in
+      let few = leb-false v.limits.locks (length (typed_locks (start_in v) (history_in v))) at.locks in
+      let same = ap (λ (x : Known). length x.locks) known-now in
+      omega (arith, few, same)
 
   -- what an init needs: a type that is known or can be enrolled
   pub admitted : (t : ℕ) (lock : NewLock) (number : LockNo) → answer_of s t (Init lock) ≡ Ok (Made number) → IsAdmitted v.known lock

@@ -14,7 +14,7 @@ use Rattle.wit_model.specs.Rules.Locks.{lock_at, unknown_lock, is_destroyed}
 use Rattle.wit_model.specs.Rules.Numbers.{is_given, IsGiven, with_number}
 use Rattle.wit_model.specs.Rules.State.{is_live_of, live_among}
 use Rattle.wit_model.proofs.Numbered.{with_number-or, with_number-none, with_changed-at}
-use Rattle.wit_table.specs.Known.{Names, with_type, live_of, with_live}
+use Rattle.wit_table.specs.Known.{Names, no_names, with_type, live_of, with_live}
 use Rattle.wit_core.specs.Live.{live_flags, is_flagged, live_count}
 
 -- ---- the flags
@@ -103,6 +103,11 @@ number-extended xs t =
     (λ (some : 0 < t). with_number-or (xs ++ 0 ∷ []) t 0 some ∙ get_or-extended xs (t - 1) ∙ sym (with_number-or xs t 0 some))
     (λ (none : t ≤ 0). (let e = le-ltb 0 t none in rw e refl))
     (cases_lt 0 t)
+
+-- where there are no types nothing is counted
+pub none-counted : (types files t : ℕ) → live_of (no_names types files) t ≡ 0
+none-counted types files t =
+    ⊎_elim (λ (some : 0 < t). with_number-or [] t 0 some) (λ (none : t ≤ 0). (let zero-t = le-ltb 0 t none in rw zero-t refl)) (cases_lt 0 t)
 
 -- a type that is enrolled leaves the counts
 pub live_of-enrolled : (n : Names) (name : List ℕ) (class : Class) (t : ℕ) → live_of (with_type n name class) t ≡ live_of n t

@@ -1,5 +1,5 @@
 -- What a verifier's parts say of the state that its story has now.
-use Rattle.std.proofs.Common.{◌≡◌, ℕ, Bool, true, false, not, ◌&&◌, cond, eqb, nat_lt, nat_le, length, map, find, unwrap_or, Option, None, is_some, refl, sym, ap, ap₂, ◌∙◌, subst, arith}
+use Rattle.std.proofs.Common.{◌≡◌, ℕ, Bool, true, false, not, ◌&&◌, cond, eqb, nat_lt, nat_le, length, map, find, unwrap_or, Option, Some, None, is_some, refl, sym, ap, ap₂, ◌∙◌, subst, arith}
 use Rattle.std.specs.List.{slice_get}
 use Rattle.std.proofs.lemmas.Bool.{and_parts, ltb-true, leb-true}
 use Rattle.std.proofs.lemmas.List.{length-map}
@@ -26,7 +26,7 @@ use Rattle.wit_core.specs.Seats.{Seat, Row, no_seat, seat_in, locks_in, free_in,
 use Rattle.wit_core.specs.Seats as seats
 use Rattle.wit_core.proofs.HeldSeats.{opens-numbers, chunks-viewed, stands-filter}
 use Rattle.wit_core.proofs.Living.{count-told, flag-is}
-use Rattle.wit_core.specs.Live.{is_flagged, live_count}
+use Rattle.wit_core.specs.Live.{is_flagged, live_count, live_told}
 
 -- a row's seats as the rules see them
 abbrev pub view_at : Row → ℕ → model.Seat
@@ -95,14 +95,16 @@ module _ (v : Inside) (k : IsKept v) (s : Story) (seen : story_in v ≡ s) where
       ∙ ap (λ (x : State). is_live x l) now
 
   -- how many locks of a type are
-  pub live-counted : (t : ℕ) → live_count v.known.known.locks v.known.live t ≡ live (state_of s) t
+  live-counted : (t : ℕ) → live_count v.known.known.locks v.known.live t ≡ live (state_of s) t
   live-counted t =
       ap (λ bs. live_count v.known.known.locks bs t) k.live
       ∙ count-told v.known.known.locks (destroyed_of (history_in v)) t
       ∙ ap (λ (x : State). live x t) now
 
-  pub type-told : (t : ℕ) → is_given v.known.known.types t ≡ is_given (state_of s).known.types t
-  type-told t = ap (λ (x : State). is_given x.known.types t) now
+  pub live-told : (t : ℕ) → is_given v.known.known.types t ≡ true → Some (live_count v.known.known.locks v.known.live t) ≡ live_told (state_of s) t
+  live-told t given =
+      ap Some (live-counted t)
+      ∙ sym (ap (λ b. cond b (Some (live (state_of s) t)) None) (sym (ap (λ (x : State). is_given x.known.types t) now) ∙ given))
 
   -- the chain of a lock's kind
   module _ (t l : ℕ) (spin : Bool) (kind : spin ≡ is_spin (lock_at (state_of s).known.locks l).made.class) where
