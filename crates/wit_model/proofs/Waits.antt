@@ -1,16 +1,15 @@
 -- Of any state a circle that starts with its least seat can be told, or that there is none.
-use Rattle.std.proofs.Common.{◌≡◌, ℕ, zero, suc, ◌<◌, ◌≤◌, ◌+◌, Bool, true, false, cond, not, ◌&&◌, ◌||◌, eqb, leb, List, [], ◌∷◌, length, Option, None, Some, find, refl, sym, ap, subst, ◌∙◌, inl, inr, ◌⊎◌, ⊎_elim, arith, unwrap_or}
+use Rattle.std.proofs.Common.{◌≡◌, ℕ, zero, suc, ◌<◌, ◌≤◌, Bool, true, false, cond, ◌&&◌, eqb, leb, List, [], ◌∷◌, length, Option, None, Some, find, refl, sym, ap, subst, ◌∙◌, inl, inr, ◌⊎◌, ⊎_elim, arith, unwrap_or}
 use Rattle.std.specs.List.{list_all}
-use Rattle.std.specs.Option.{is_none}
 use Rattle.std.proofs.lemmas.Bool.{and_parts, and_from, or_cases, or_left, or_right, eqb-true, eq-eqb, leb-true, leb-false, cases_Bool, false≢true}
 use Rattle.wit_model.specs.declared.calls.Adoption.{Adoption}
 use Rattle.wit_model.specs.declared.calls.Request.{Request}
 use Rattle.wit_model.specs.declared.locks.Instance.{Instance}
 use Rattle.wit_model.specs.declared.locks.Origin.TheVariants.{Listed}
-use Rattle.wit_model.specs.Rules.Circles.{IsQueue, IsCircle, Waits, waits_for, is_kept_by, is_barred, IsRecordCircle, starts_with_least, TellsCircle}
+use Rattle.wit_model.specs.Rules.Circles.{IsQueue, IsCircle, waits_for, is_kept_by, starts_with_least, TellsCircle}
 use Rattle.wit_model.specs.Rules.Numbers.{is_given}
-use Rattle.wit_model.specs.Rules.Orders.{is_adoption_of, is_direct, IsPath, Before, is_before}
-use Rattle.wit_model.specs.Rules.State.{State, Seat, no_seat, seat_at, seat_among}
+use Rattle.wit_model.specs.Rules.Orders.{is_direct, IsPath, Before, is_before}
+use Rattle.wit_model.specs.Rules.State.{State, Seat, no_seat, seat_at}
 use Rattle.wit_model.specs.Rules.Step.{held_by}
 use Rattle.wit_model.specs.Rules.Verdict.{is_of}
 use Rattle.wit_model.proofs.Numbered.{with_number-none}

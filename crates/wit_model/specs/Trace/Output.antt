@@ -104,10 +104,14 @@ longest_line = 4096
 abbrev pub log_limit : ℕ
 log_limit = 16777216
 
--- a call that isn't logged is answered, and this is told of it: what says something counts as a report
+-- a text that says something is one report
+abbrev pub said : List ℕ → ℕ
+said [] = 0
+said (b ∷ text) = 1
+
+-- a call that isn't logged is answered, and this is told of it
 abbrev pub remarks : Story → ℕ → List ℕ → Outcome
-remarks s n [] = Goes (Reading s n) []
-remarks s n (b ∷ text) = Goes (Reading s (n + 1)) (b ∷ text)
+remarks s n text = Goes (Reading s (n + said text)) text
 
 -- an assertion about a lock, by its answer
 abbrev pub asserts : Story → ℕ → ℕ → Result AssertAnswer Fault → Outcome
