@@ -19,8 +19,9 @@ ghost use Rattle.wit_model.specs.WorldLaws.{
   CleanRecordsHaveNoCircle,
 };
 
-/// Where a run reported nothing, no reordering of its threads' steps reaches a circle of threads that wait for one another's locks:
-/// WITNESS sees a deadlock before it happens, from locks that were taken one after the other.
+/// Where a run reported nothing, no reordering of its threads' steps reaches a circle of threads that wait for one another's locks. That
+/// is why witness(4) verifies "that a lock is not being acquired in the wrong order": a deadlock shows in the orders before it happens,
+/// in runs in which the locks were taken one after the other.
 pub fn law_no_circle()
     ensures { CleanRunsNeverDeadlock }
 {}
@@ -39,12 +40,13 @@ pub fn law_clean_run()
     ensures clean { AgreedIsClean }
 {}
 
-/// Every sequence of steps can be done: here is a world with each.
+/// Every sequence of steps can be done: here is a world with each, of a lock that is taken shared and exclusively, recursed, turned both
+/// ways, tried, given up and destroyed.
 pub fn law_sequences_run()
     ensures { VariedIsWorld }
 {}
 
-/// In every world who has a lock exclusively has it alone.
+/// In every world who has a lock exclusively has it alone, as a mutex of mutex(9), and a writer of rwlock(9) or sx(9).
 pub fn law_exclusive_alone()
     ensures { ExclusiveIsAlone }
 {}

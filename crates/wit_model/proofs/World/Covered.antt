@@ -1,28 +1,26 @@
 -- In a clean world a thread has recorded all shares that it has, but for one while it is in the midst of a sequence.
-use Rattle.std.proofs.Common.{◌≡◌, ℕ, ◌+◌, ◌-◌, ◌<◌, ◌≤◌, Bool, true, false, ◌&&◌, cond, eqb, nat_lt, is_some, List, [], ◌∷◌, Ok, refl, ap, ap₂, sym, ◌∙◌, subst, inl, inr, arith}
-use Rattle.std.proofs.lemmas.Bool.{cases_Bool, eqb-true, eq-eqb, ltb-true, false≢true, true≢false}
+use Rattle.std.proofs.Common.{◌≡◌, ℕ, ◌+◌, ◌-◌, ◌≤◌, Bool, true, false, cond, eqb, nat_lt, is_some, List, [], ◌∷◌, Ok, refl, ap, ap₂, sym, ◌∙◌, subst, inl, inr, arith}
+use Rattle.std.proofs.lemmas.Bool.{eqb-true, eq-eqb, ltb-true, false≢true, true≢false}
 use Rattle.std.proofs.lemmas.Bool.Decides.{eqb_tells}
 use Rattle.wit_model.specs.declared.locks.LockNo.{LockNo}
 use Rattle.wit_model.specs.declared.locks.Mode.{Mode}
-use Rattle.wit_model.specs.declared.locks.Watch.TheVariants.{On}
-use Rattle.wit_model.specs.declared.calls.Request.{Request}
 use Rattle.wit_model.specs.declared.calls.Call.{Call}
 use Rattle.wit_model.specs.declared.calls.Call.TheVariants.{Check, Note, NoteTry, GiveUp, Unlock, Upgrade, Downgrade, NoRelease, ReleaseOk}
 use Rattle.wit_model.specs.declared.calls.Reply.{Reply}
 use Rattle.wit_model.specs.declared.calls.Reply.TheVariants.{Recorded, Exhausted, Unrecorded, Unlocked}
 use Rattle.wit_model.specs.declared.calls.Entry.{Entry}
-use Rattle.wit_model.specs.Rules.History.{Act, act, act_by, num, is_held, is_off, is_report, watch_of}
+use Rattle.wit_model.specs.Rules.History.{Act, act, num, is_held, is_off, is_report, watch_of}
 use Rattle.wit_model.specs.Rules.State.{Start, state_of}
-use Rattle.wit_model.specs.Rules.Step.{is_exhausted, held_by, recorded, answer_of, story_after, is_logged, IsLegal}
+use Rattle.wit_model.specs.Rules.Step.{is_exhausted, held_by, answer_of, story_after, IsLegal}
 use Rattle.wit_model.specs.Rules.Clean.{is_clean_call, is_clean}
 use Rattle.wit_model.specs.World.Deeds.{Deed, Logged, Take, TryTake, Free, RawUp, RawDown, thread_of, own, log_of, are_these, shares}
-use Rattle.wit_model.specs.World.Stages.{Stage, Over, Asked, Taken, Tried, Forgot, Raised, Lowered, stage_logged, stage_after, stage, is_over, may_take, may_note, may_give_up, may_upgrade, may_free, may_lower, may_call}
-use Rattle.wit_model.specs.World.Steps.{CanDo, IsWorld}
+use Rattle.wit_model.specs.World.Stages.{Stage, Over, Asked, Taken, Tried, Forgot, Raised, Lowered, stage_logged, stage, is_over, may_take, may_note, may_give_up, may_upgrade, may_free, may_lower, may_call}
+use Rattle.wit_model.specs.World.Steps.{IsWorld}
 use Rattle.wit_model.proofs.Chains.Acts.{num_after, num-step, is_even, num_after-even, upgrade-even, downgrade-even, norelease-even, releaseok-even}
 use Rattle.wit_model.proofs.Histories.Accepted.{note_accepted, unlock_accepted}
 use Rattle.wit_model.proofs.Histories.Legal.{sane_legal}
 use Rattle.wit_model.proofs.VerdictLaws.Quiet.{clean-parts, watch-clean}
-use Rattle.wit_model.proofs.World.Own.{own-mine, own-other, shares-other, shares-own, num-own, act-mine, act-other}
+use Rattle.wit_model.proofs.World.Own.{own-mine, own-other, shares-other, shares-own, num-own, act-mine}
 
 -- the log of a world is a legal history
 pub legal_world : (start : Start) (files : List (List ℕ)) (w : List Deed) → IsWorld start files w → IsLegal start files (log_of w)

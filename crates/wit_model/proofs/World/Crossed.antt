@@ -1,10 +1,10 @@
 -- The worlds of two threads of which the one reorders the other, and reaches a deadlock.
-use Rattle.std.proofs.Common.{◌≡◌, ℕ, ◌<◌, Bool, true, false, eqb, List, [], ◌∷◌, map, take, refl, ap, sym, ◌∙◌, subst, inl, inr, arith}
+use Rattle.std.proofs.Common.{◌≡◌, ℕ, [], map, take, refl, ap, sym, ◌∙◌, subst, inl, inr, arith}
 use Rattle.std.proofs.lemmas.Bool.Decides.{eqb_tells}
 use Rattle.wit_model.specs.declared.calls.Request.{Request}
 use Rattle.wit_model.specs.Rules.History.{num}
 use Rattle.wit_model.specs.World.Deeds.{own, shares}
-use Rattle.wit_model.specs.World.Stages.{Stage, Over, Asked, stage}
+use Rattle.wit_model.specs.World.Stages.{Over, Asked, stage}
 use Rattle.wit_model.specs.World.Waiting.{IsWaiting}
 use Rattle.wit_model.specs.World.Reordering.{kept, IsBeginning}
 use Rattle.wit_model.specs.World.Examples.{request, in_turn, crossed}

@@ -1,23 +1,21 @@
 -- Where a run reported nothing, no reordering of it reaches a deadlock: what a thread has when it asks for a lock is ahead of that lock, in
 -- the run's own log, and ahead comes round to no lock.
-use Rattle.std.proofs.Common.{◌≡◌, ℕ, ◌<◌, ◌≤◌, Bool, true, false, ◌&&◌, eqb, List, [], ◌∷◌, ◌++◌, map, None, refl, ap, sym, ◌∙◌, subst, inl, inr, arith}
+use Rattle.std.proofs.Common.{◌≡◌, ℕ, ◌<◌, true, List, [], ◌∷◌, ◌++◌, map, None, refl, ap, sym, ◌∙◌, subst, inl, inr, arith}
 use Rattle.std.proofs.lemmas.Bool.{eq-eqb}
 use Rattle.std.proofs.lemmas.Bool.Decides.{eqb_tells}
 use Rattle.wit_model.specs.declared.calls.Request.{Request}
-use Rattle.wit_model.specs.declared.calls.Call.{Call}
 use Rattle.wit_model.specs.declared.calls.Call.TheVariants.{Check}
 use Rattle.wit_model.specs.declared.calls.Entry.{Entry}
-use Rattle.wit_model.specs.Rules.History.{Nothing, act, act_by, num, is_held}
+use Rattle.wit_model.specs.Rules.History.{Nothing, act, num}
 use Rattle.wit_model.specs.Rules.State.{Start}
 use Rattle.wit_model.specs.Rules.Start.{start_fault}
-use Rattle.wit_model.specs.Rules.Circles.{IsCircle}
 use Rattle.wit_model.specs.Rules.Ahead.{IsAhead}
 use Rattle.wit_model.specs.Rules.Clean.{is_clean}
 use Rattle.wit_model.specs.World.Deeds.{Deed, Logged, Take, TryTake, Free, RawUp, RawDown, thread_of, own, log_of, shares}
-use Rattle.wit_model.specs.World.Stages.{Stage, Over, Asked, stage, is_over, may_call}
+use Rattle.wit_model.specs.World.Stages.{Stage, Asked, stage, is_over, may_call}
 use Rattle.wit_model.specs.World.Steps.{IsWorld}
 use Rattle.wit_model.specs.World.Waiting.{IsWaiting, IsDeadlock}
-use Rattle.wit_model.specs.World.Reordering.{kept, IsBeginning, IsReordering}
+use Rattle.wit_model.specs.World.Reordering.{kept, IsReordering}
 use Rattle.wit_model.proofs.Chains.Acts.{num-step}
 use Rattle.wit_model.proofs.Chains.HeldLocks.{num-of_free}
 use Rattle.wit_model.proofs.Histories.Legal.{sane_legal}
