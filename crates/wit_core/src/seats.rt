@@ -1,6 +1,6 @@
 //! The seats: what each holds, and what it has asked for.
 
-ghost use Rattle.std.specs.Prelude.{◌≡◌, true, false, not, find, slice_get, replicate, IfOk, IfErr, None, Some};
+ghost use Rattle.std.specs.Prelude.{◌≡◌, true, false, not, find, is_some, slice_get, replicate, IfOk, IfErr, None, Some};
 ghost use Rattle.wit_model.specs.declared.faults.Fault.TheVariants.{OutOfMemory};
 ghost use Rattle.wit_model.specs.Rules.Numbers.{is_given, IsGiven, IsNumber};
 ghost use Rattle.wit_model.specs.Rules.Assertions.{assertion};
@@ -16,7 +16,9 @@ ghost use Rattle.wit_core.specs.Turning.{changed};
 
 use std::alloc::{AllocError, Global};
 use std::marker::Model;
-use wit_held::{VecLists, assert_is, forget, norelease, record, releaseok, set_mode};
+use wit_held::{
+    VecLists, assert_is, forget, held, norelease, record, recursion, releaseok, set_mode,
+};
 use wit_model::chunks::Lists;
 use wit_model::{
     AssertAnswer, Fault, Instance, LockAssert, LockNo, Mode, Request, SeatNo, Watch,
@@ -95,17 +97,13 @@ impl Seats {
         self.lists.free_chunks()
     }
 
-    /// A lock as a seat holds it.
+    /// A lock as a seat holds it, once at most: `wit_held::held` in its list.
     pub fn find(&self, seat: SeatNo, spin: bool, lock: LockNo) -> Option<Instance>
-        requires { IsGiven self.now.seats seat.0 }
+        requires seat { IsGiven self.now.seats seat.0 }
+        requires once { IsOnce lock.0 (locks_in spin (seat_in self.now seat.0)) }
         ensures { result ≡ find (is_of lock.0) (locks_in spin (seat_in self.now seat.0)) }
     {
-        let lists = &self.lists;
-        let list = list_of(seat, spin);
-        match lists.find(list, lock) {
-            Some(place) => Some(lists.at(list, place)),
-            None => None,
-        }
+        held(&self.lists, list_of(seat, spin), lock)
     }
 
     /// Whether a seat holds a lock or asks for it.
@@ -113,13 +111,21 @@ impl Seats {
         requires { IsGiven self.now.seats seat.0 }
         ensures { result ≡ uses lock.0 (seat_view (seat_in self.now seat.0)) }
     {
-        if self.find(seat, false, lock).is_some() {
+        if self.holds(seat, false, lock) {
             return true;
         }
-        if self.find(seat, true, lock).is_some() {
+        if self.holds(seat, true, lock) {
             return true;
         }
         is_for(lock, self.pending(seat))
+    }
+
+    // Whether a seat holds a lock of this kind.
+    fn holds(&self, seat: SeatNo, spin: bool, lock: LockNo) -> bool
+        requires { IsGiven self.now.seats seat.0 }
+        ensures { result ≡ is_some (find (is_of lock.0) (locks_in spin (seat_in self.now seat.0))) }
+    {
+        recursion(&self.lists, list_of(seat, spin), lock).is_some()
     }
 
     /// Whether some seat holds a lock or asks for it.
