@@ -117,30 +117,30 @@ module _ (v : Inside) (k : IsKept v) (s : Story) (seen : story_in v ≡ s) where
   pub accepted : (t : ℕ) (call : Call) (reply : Reply) → answer_of s t call ≡ Ok reply → answer_of (story_in v) t call ≡ Ok reply
   accepted t call reply ok = subst (λ (x : Story). answer_of x t call ≡ Ok reply) (sym seen) ok
 
-  sane_next : (t : ℕ) (call : Call) (reply : Reply) → answer_of s t call ≡ Ok reply → IsSane (entry t call reply ∷ history_in v)
+  pub sane_next : (t : ℕ) (call : Call) (reply : Reply) → answer_of s t call ≡ Ok reply → IsSane (entry t call reply ∷ history_in v)
   sane_next t call reply ok = sane_more (start_in v) v.known.files (history_in v) (entry t call reply) k.legal (accepted t call reply ok)
 
-  within : (t : ℕ) (call : Call) (reply : Reply) → answer_of s t call ≡ Ok reply → (0 < t) × (t ≤ v.limits.seats)
+  pub within : (t : ℕ) (call : Call) (reply : Reply) → answer_of s t call ≡ Ok reply → (0 < t) × (t ≤ v.limits.seats)
   within t call reply ok = seat_in_range v t call reply k (accepted t call reply ok)
 
-  owed_now : v.log.owed ≡ owed_to v.limits.seats (history_in v)
+  pub owed_now : v.log.owed ≡ owed_to v.limits.seats (history_in v)
   owed_now = k.owed ∙ ap owed k.state
 
   -- the seat of an accepted call is given
   pub given : (t : ℕ) (call : Call) (reply : Reply) → answer_of s t call ≡ Ok reply → IsGiven v.seats.seats t
   given t call reply ok = seat-given v k s seen t (seat_accepted (state_of s) t call reply ok)
 
-  known-now : v.known.known ≡ known_of (start_in v) (history_in v)
+  pub known-now : v.known.known ≡ known_of (start_in v) (history_in v)
   known-now = ap (λ (x : State). x.known) k.state
 
-  seats-now : map seat_view v.seats.seats ≡ seats_of v.limits.seats (history_in v)
+  pub seats-now : map seat_view v.seats.seats ≡ seats_of v.limits.seats (history_in v)
   seats-now = ap (λ (x : State). x.seats) k.state
 
-  watch-now : v.watch ≡ watch_of (history_in v)
+  pub watch-now : v.watch ≡ watch_of (history_in v)
   watch-now = ap (λ (x : State). x.watch) k.state
 
   -- what an entry leaves, part by part
-  left-by : (t : ℕ) (call : Call) (reply : Reply) (known : Known) (live : List Bool) (row : Row) (watch : Watch) (owes : ℕ)
+  pub left-by : (t : ℕ) (call : Call) (reply : Reply) (known : Known) (live : List Bool) (row : Row) (watch : Watch) (owes : ℕ)
       → known ≡ known_of (start_in v) (entry t call reply ∷ history_in v)
       → live ≡ live_flags (length known.locks) (destroyed_of (entry t call reply ∷ history_in v)) → map seat_view row.seats ≡ seats_of v.limits.seats (entry t call reply ∷ history_in v)
       → watch ≡ watch_of (entry t call reply ∷ history_in v) → owes ≡ owed_to v.limits.seats (entry t call reply ∷ history_in v) → row.chunks ≡ v.seats.chunks
@@ -152,7 +152,7 @@ module _ (v : Inside) (k : IsKept v) (s : Story) (seen : story_in v ≡ s) where
     chunks = size;
   }
 
-  kind-now : (l : ℕ) (spin : Bool) → spin ≡ is_spin (lock_at (state_of s).known.locks l).made.class → spin ≡ is_spin_lock (locks_of (history_in v)) l
+  pub kind-now : (l : ℕ) (spin : Bool) → spin ≡ is_spin (lock_at (state_of s).known.locks l).made.class → spin ≡ is_spin_lock (locks_of (history_in v)) l
   kind-now l spin kind = spin_same v l spin (kind ∙ ap (λ (x : Story). is_spin (lock_at (state_of x).known.locks l).made.class) (sym seen))
 
   -- a request that is pending now was so after the history
@@ -321,7 +321,7 @@ module _ (v : Inside) (k : IsKept v) (s : Story) (seen : story_in v ≡ s) where
 
   -- ---- calls for which room is asked
   -- room in the log, of which some may have been reserved
-  room_left : (more : ℕ) (log : Journal) → has_room (state_of (story_in v)) (more + 1) ≡ true → log ≡ record v.log { spare = log.spare }
+  pub room_left : (more : ℕ) (log : Journal) → has_room (state_of (story_in v)) (more + 1) ≡ true → log ≡ record v.log { spare = log.spare }
       → length log.history + log.owed + more < log.limit
   room_left more log room same =
       let few = leb-true _ _ room in

@@ -112,7 +112,7 @@ module _ (v : Inside) (k : IsKept v) (s : Story) (seen : story_in v ≡ s) where
     seat-before : is_seat (state_of (story_in v)) t ≡ true
     seat-before = subst (λ (x : Story). is_seat (state_of x) t ≡ true) (sym seen) is
 
-    chain-of-list : (spin : Bool) → chain_of c (list_of spin t) ≡ locks_in spin (seat_in v.seats t)
+    pub chain-of-list : (spin : Bool) → chain_of c (list_of spin t) ≡ locks_in spin (seat_in v.seats t)
     chain-of-list spin = ap flat (holds.groups t spin given)
 
     chain-now : (spin : Bool) → chain_of c (list_of spin t) ≡ chain spin t (history_in v)

@@ -1,5 +1,6 @@
 -- Seats by their lists and requests, of which one is written.
 use Rattle.std.proofs.Common.{◌||◌, ◌≡◌, ℕ, zero, suc, ◌+◌, ◌-◌, ◌*◌, ◌<◌, ◌≤◌, Bool, true, false, not, ◌&&◌, cond, eqb, List, [], ◌∷◌, Option, Some, None, length, map, set, get_or, drop, find, position, sum_by, is_some, unwrap_or, nat_lt, nat_le, replicate, refl, sym, ap, ap₂, ◌∙◌, subst, arith}
+use Rattle.std.specs.Option.{option_map}
 use Rattle.std.specs.List.{range_with_len, slice_get, list_any}
 use Rattle.std.proofs.lemmas.Bool.{and_parts, lt-ltb, ltb-true, leb-true}
 use Rattle.std.proofs.lemmas.Option.{slice_get-get_or, slice_get_past}
@@ -13,7 +14,6 @@ use Rattle.wit_model.specs.Rules.Groups.{flat, opens}
 use Rattle.wit_model.specs.Rules.Numbers.{is_given, IsGiven}
 use Rattle.wit_model.specs.Rules.Verdict.{is_of}
 use Rattle.wit_model.proofs.Numbered.{with_number-or, with_number-none}
-use Rattle.wit_model.proofs.Chains.Stands.{found-at, found-nowhere}
 use Rattle.wit_held.specs.Chains.{recorded, forgotten, is_unrecorded, after_record, after_forget}
 use Rattle.wit_core.specs.Seats.{Seat, Row, no_seat, idle_row, seat_in, groups_in, locks_in, chunks_of, free_in, with_seat, asking, in_groups, acquired, released, has_no_room, after_acquired, list_of, HoldFor}
 use Rattle.wit_core.specs.Seated.{seat_by, seats_by, row_in, AreSeated}
@@ -196,13 +196,6 @@ module _ (o : Inside) (r : Row) (seen : row_in o ≡ r) where
       pub chain-now : chain_of o.lists list ≡ locks_in spin (seat_in r t)
       chain-now = ap flat groups-now
 
-      pub found-now : (l i : ℕ) (d : Instance) → Some i ≡ position (is_of l) (chain_of o.lists list) → d ≡ get_or (chain_of o.lists list) i d
-          → Some d ≡ find (is_of l) (locks_in spin (seat_in r t))
-      found-now l i d at held = ap Some held ∙ sym (found-at l (chain_of o.lists list) i d (sym at)) ∙ ap (find (is_of l)) chain-now
-
-      pub nowhere-now : (l : ℕ) → None ≡ position (is_of l) (chain_of o.lists list) → None ≡ find (is_of l) (locks_in spin (seat_in r t))
-      nowhere-now l at = sym (found-nowhere l (chain_of o.lists list) (sym at)) ∙ ap (find (is_of l)) chain-now
-
       pub item-now : (i : ℕ) (d : Instance) → i < length (chain_of o.lists list) → d ≡ get_or (chain_of o.lists list) i d
           → Some d ≡ slice_get (locks_in spin (seat_in r t)) i
       item-now i d lt held =
@@ -233,7 +226,7 @@ module _ (o : Inside) (r : Row) (seen : row_in o ≡ r) (k : AreSeated o) (t : �
       ap (λ ss. row ss o.lists.size) (request-set o.lists o.requests.items t p (given-in o r seen k t given)) ∙ ap (with_seat t (asking p)) seen
 
   module _ (list : ℕ) (spin : Bool) (is : list ≡ list_of spin t) (c : Chunks) (size : c.size ≡ o.lists.size) where
-    written-now : (change : List (List Instance) → List (List Instance)) → c.groups ≡ set_groups o.lists list (change (groups_of o.lists list))
+    pub written-now : (change : List (List Instance) → List (List Instance)) → c.groups ≡ set_groups o.lists list (change (groups_of o.lists list))
         → row (seats_by c o.requests.items) c.size ≡ with_seat t (in_groups spin change) r
     written-now change groups =
         let at : c.groups ≡ set_groups o.lists (list_of spin t) (change (groups_of o.lists (list_of spin t))) =
@@ -307,20 +300,24 @@ any-found l (i ∷ c) = go (is_of l i) (any-found l c)
     go false same = same
 
 module _ (l : ℕ) (s : Seat) where
-  held-any : (spin : Bool) (o : Option Instance) → o ≡ find (is_of l) (locks_in spin s) → (b : Bool) → b ≡ is_some o → list_any (is_of l) (locks_in spin s) ≡ b
-  held-any spin o found b is = any-found l (locks_in spin s) ∙ sym (is ∙ ap is_some found)
+  held-any : (spin b : Bool) → b ≡ is_some (find (is_of l) (locks_in spin s)) → list_any (is_of l) (locks_in spin s) ≡ b
+  held-any spin b is = any-found l (locks_in spin s) ∙ sym is
 
-  pub used-sleep : (o : Option Instance) → o ≡ find (is_of l) (locks_in false s) → (b : Bool) → b ≡ is_some o → b ≡ true → true ≡ uses l (seat_view s)
-  used-sleep o found b is held = sym (rw (held-any false o found b is ∙ held) refl)
+  pub used-sleep : (b : Bool) → b ≡ is_some (find (is_of l) (locks_in false s)) → b ≡ true → true ≡ uses l (seat_view s)
+  used-sleep b is held = sym (rw (held-any false b is ∙ held) refl)
 
-  pub used-spin : (o p : Option Instance) → o ≡ find (is_of l) (locks_in false s) → (a : Bool) → a ≡ is_some o → a ≡ false
-      → p ≡ find (is_of l) (locks_in true s) → (b : Bool) → b ≡ is_some p → b ≡ true → true ≡ uses l (seat_view s)
-  used-spin o p found a is none found' b is' held = sym (rw (held-any false o found a is ∙ none, held-any true p found' b is' ∙ held) refl)
+  module _ (a b : Bool) (is : a ≡ is_some (find (is_of l) (locks_in false s))) (none : a ≡ false) (is' : b ≡ is_some (find (is_of l) (locks_in true s))) where
+    pub used-spin : b ≡ true → true ≡ uses l (seat_view s)
+    used-spin held = sym (rw (held-any false a is ∙ none, held-any true b is' ∙ held) refl)
 
-  pub used-asked : (o p : Option Instance) → o ≡ find (is_of l) (locks_in false s) → (a : Bool) → a ≡ is_some o → a ≡ false
-      → p ≡ find (is_of l) (locks_in true s) → (b : Bool) → b ≡ is_some p → b ≡ false → (c : Bool) (q : Option Request) → q ≡ s.pending → c ≡ is_for l q → c ≡ uses l (seat_view s)
-  used-asked o p found a is none found' b is' none' c q asks for =
-      for ∙ ap (is_for l) asks ∙ sym (rw (held-any false o found a is ∙ none, held-any true p found' b is' ∙ none') refl)
+    pub used-asked : b ≡ false → (c : Bool) (q : Option Request) → q ≡ s.pending → c ≡ is_for l q → c ≡ uses l (seat_view s)
+    used-asked none' c q asks for =
+        for ∙ ap (is_for l) asks ∙ sym (rw (held-any false a is ∙ none, held-any true b is' ∙ none') refl)
+
+-- a lock is held where it has a count
+pub counted-found : {X : Type 0} (f : Instance → X) (o : Option Instance) → is_some (option_map f o) ≡ is_some o
+counted-found f None = refl
+counted-found f (Some i) = refl
 
 pub seat-at : (r : Row) (i : ℕ) → seat_in r (i + 1) ≡ get_or r.seats i no_seat
 seat-at r i =

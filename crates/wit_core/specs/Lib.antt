@@ -13,6 +13,8 @@ pub mod Numbered
 pub mod Related
 pub mod Remembered
 pub mod Replies
+pub mod Searching
 pub mod Seated
 pub mod Seats
+pub mod Turning
 pub mod Verdict

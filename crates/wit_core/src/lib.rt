@@ -3,6 +3,7 @@
 
 mod acquiring;
 mod calls;
+mod circle;
 mod defining;
 mod known;
 mod lists;

@@ -3,6 +3,7 @@ pub mod Emptiness
 pub mod HeldLock
 pub mod Kept
 pub mod Marking
+pub mod Newest
 pub mod Passing
 pub mod Placing
 pub mod Recording

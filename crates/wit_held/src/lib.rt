@@ -6,11 +6,12 @@ mod chains;
 mod fresh;
 mod marks;
 mod rows;
+mod spots;
 mod vec_lists;
 mod warnings;
 
 pub use assertions::assert_is;
-pub use chains::{forget, mode, record, recursion, set_mode};
+pub use chains::{forget, held, mode, record, recursion, set_mode};
 pub use marks::{norelease, releaseok};
 pub use vec_lists::VecLists;
 pub use warnings::{LockTypes, warn_count};

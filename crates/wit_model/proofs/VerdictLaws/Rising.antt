@@ -154,7 +154,7 @@ module _ (start : Start) (files : List (List ℕ)) (h : List Entry) (t : ℕ) wh
   not-idle q seat idle is = true≢false (sym (ap (λ (o : Option Request). is_some o) (pending-state start files h t seat ∙ is)) ∙ idle)
 
   -- what a seat's own call leaves pending is what it asks for
-  asks-now : (c : Call) (r : Reply) (q : Request) → answer_of (story_after start files h) t c ≡ Ok r → is_logged r ≡ true → pending_after c (pending t h) ≡ Some q → c ≡ Check q
+  pub asks-now : (c : Call) (r : Reply) (q : Request) → answer_of (story_after start files h) t c ≡ Ok r → is_logged r ≡ true → pending_after c (pending t h) ≡ Some q → c ≡ Check q
   asks-now (Check p) r q ok kept is = ap Check (same-request p q is)
   asks-now (Note l) r q ok kept is = (cc)
   asks-now (GiveUp l) r q ok kept is = (cc)

@@ -174,3 +174,7 @@ is_report _ = false
 -- how many reports are in a history
 abbrev pub reports_of : List Entry → ℕ
 reports_of h = count_by (λ (e : Entry). is_report e.reply) h
+
+-- the entries of seat t
+abbrev pub own_entries : ℕ → List Entry → List Entry
+own_entries t h = filter (λ (e : Entry). e.seat.0 == t) h
