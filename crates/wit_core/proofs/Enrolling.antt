@@ -25,6 +25,7 @@ use Rattle.wit_core.specs.Following.{CanFollow}
 use Rattle.wit_core.specs.Listed.{entry_of, listed, CanBeEnrolled, CanBeAdopted, KeepsRest}
 use Rattle.wit_core.proofs.Listing.{item-at, two-at, length-one, enroll-step}
 use Rattle.wit_core.proofs.Going.{more-types}
+use Rattle.wit_core.proofs.Living.{live_of-enrolled}
 
 -- once the types of an accepted list are enrolled, its orders can be adopted
 pub can-adopt : (most : ℕ) (types : List LockType) (orders : List Adoption) (list : List (Class × List ℕ)) → list_fault most types orders list ≡ None
@@ -136,7 +137,7 @@ module _ (list : List (Class × String Global)) (i : ℕ) (a : Class × String G
 
   pub rest-step : (old next : Names) → next ≡ with_type names name a.0 → KeepsRest old names → KeepsRest old next
   rest-step old next is kept =
-      subst (KeepsRest old) (sym is) (record { files = kept.files; blessed = kept.blessed; most_types = kept.most_types; most_files = kept.most_files })
+      subst (KeepsRest old) (sym is) (record { files = kept.files; blessed = kept.blessed; most_types = kept.most_types; most_files = kept.most_files; live = λ t. live_of-enrolled names name a.0 t ∙ kept.live t })
 
 -- the loop over neighbours
 module _ (types : List LockType) (list : List (Class × String Global)) (i j : ℕ) (a b : Class × String Global) (p c : ℕ) (orders : List Adoption)

@@ -124,13 +124,14 @@ start-unmade start fault out = inr (out, (omega arith, any (start_fault start)))
 -- what is known before anything has happened
 pub record IsBegun (sizes : Sizes) (lists : List (List (Class × List ℕ))) (blessed : List (List ℕ × List ℕ)) (k : Facts) : Type 0 where
   pub known : k.known ≡ with_lists (record nothing { blessed = blessed }) lists
+  pub live : k.live ≡ []
   pub files : k.files ≡ []
   pub types : k.most_types ≡ sizes.types
 
 -- what `new` finds once the lists are entered, and where they are refused
 module _ (sizes : Sizes) (most : ℕ) (lists passed_lists : List (Vec (Class × String Global))) (blessed passed_pairs : List (String Global × String Global)) (old : Facts)
     (most_is : most ≡ sizes.types) (lists_are : passed_lists ≡ lists) (pairs_are : passed_pairs ≡ blessed)
-    (old_is : old ≡ record { known = nothing; files = []; most_types = most }) where
+    (old_is : old ≡ record { known = nothing; live = []; files = []; most_types = most }) where
   same-answer : lists_fault most 1 (all_listed passed_lists) old.known.types old.known.orders ≡ lists_fault sizes.types 1 (all_listed lists) [] []
   same-answer =
       ap (λ m. lists_fault m 1 (all_listed passed_lists) old.known.types old.known.orders) most_is
@@ -166,12 +167,13 @@ module _ (sizes : Sizes) (most : ℕ) (lists passed_lists : List (Vec (Class × 
       → new ≡ record entered { known = record entered.known { blessed = entered.known.blessed ++ pairs_of passed_pairs } }
       → IsBegun sizes (all_listed lists) (pairs_of blessed) new
   is-begun entered new entered_is new_is =
-      let here : entered ≡ record { known = with_lists nothing (all_listed lists); files = []; most_types = most } =
+      let here : entered ≡ record { known = with_lists nothing (all_listed lists); live = []; files = []; most_types = most } =
       entered_is ∙ (ap (λ ls. record old { known = with_lists old.known (all_listed ls) }) lists_are
       ∙ ap (λ (k : Facts). record k { known = with_lists k.known (all_listed lists) }) old_is) in
       subst (IsBegun sizes (all_listed lists) (pairs_of blessed)) (sym new_is) (record {
         known = ap (λ (k : Facts). record k.known { blessed = k.known.blessed ++ pairs_of passed_pairs }) here
             ∙ ap (λ ps. with_lists (record nothing { blessed = pairs_of ps }) (all_listed lists)) pairs_are;
+        live = ap (λ (k : Facts). k.live) here;
         files = ap (λ (k : Facts). k.files) here;
         types = ap (λ (k : Facts). k.most_types) here ∙ most_is;
       })

@@ -1,8 +1,8 @@
 -- What each accepted call needs of a verifier's parts, and what it leaves of them.
-use Rattle.std.proofs.Common.{◌≡◌, ℕ, zero, suc, ◌+◌, ◌-◌, ◌<◌, ◌≤◌, ◌&&◌, Bool, true, false, cond, List, [], ◌∷◌, ◌++◌, Option, None, Some, Ok, Err, Result, IsOk, IfOk, IfErr, OnOk, OnErr, String, length, map, find, replicate, unwrap_or, get_or, sum_by, refl, sym, ap, ap₂, ◌∙◌, subst, arith, is_some, append-nil}
+use Rattle.std.proofs.Common.{◌≡◌, ℕ, zero, suc, ◌+◌, ◌-◌, ◌<◌, ◌≤◌, ◌&&◌, Bool, true, false, cond, List, [], ◌∷◌, ◌++◌, Option, None, Some, Ok, Err, Result, IsOk, IfOk, IfErr, OnOk, OnErr, String, length, map, find, replicate, unwrap_or, get_or, sum_by, refl, sym, ap, ap₂, ◌∙◌, subst, arith, is_some, append-nil, length-append}
 use Rattle.std.specs.List.{range_with_len}
 use Rattle.std.specs.Global.{Vec, Global}
-use Rattle.std.proofs.lemmas.Bool.{and_parts, leb-true, true≢false}
+use Rattle.std.proofs.lemmas.Bool.{and_parts, leb-true, leb-false, true≢false}
 use Rattle.std.proofs.lemmas.List.{length-set}
 use Rattle.wit_model.specs.declared.faults.Fault.{Fault}
 use Rattle.wit_model.specs.declared.faults.Fault.TheVariants.{OutOfMemory}
@@ -26,7 +26,7 @@ use Rattle.wit_model.specs.Rules.Sizes.{Sizes}
 use Rattle.wit_model.specs.Rules.Names.{is_name}
 use Rattle.wit_model.specs.Rules.Numbers.{IsGiven}
 use Rattle.wit_model.specs.Rules.Types.{is_spin, type_name_of}
-use Rattle.wit_model.specs.Rules.Locks.{locks_of, lock_at, is_spin_lock}
+use Rattle.wit_model.specs.Rules.Locks.{locks_of, lock_at, is_spin_lock, destroyed_of, is_destroyed, made_among}
 use Rattle.wit_model.specs.Rules.History.{is_held, pending, watch_of, watch_after, is_off}
 use Rattle.wit_model.specs.Rules.Refusals.{IsRefusal}
 use Rattle.wit_model.specs.Rules.Start.{start_fault}
@@ -60,6 +60,9 @@ use Rattle.wit_core.proofs.Entering.{IsBegun}
 use Rattle.wit_core.proofs.Keeping.{seat_in_range, Leaves, same_story}
 use Rattle.wit_core.proofs.Now.{seat-given, chain-now, once-now, acquisition-told}
 use Rattle.wit_core.proofs.Steps.{same_state, same_locks, known-same, seat-twice, in-row, seats-quiet, seats-same, seats-note, seats-try, seats-unlock}
+use Rattle.wit_core.proofs.Living.{flags-made}
+use Rattle.wit_core.specs.Live.{live_flags}
+use Rattle.wit_model.proofs.Histories.Live.{next-undestroyed}
 
 -- a lock's kind, by the locks and by the history
 spin_same : (v : Inside) (l : ℕ) (spin : Bool) → spin ≡ is_spin (lock_at (state_of (story_in v)).known.locks l).made.class → spin ≡ is_spin_lock (locks_of (history_in v)) l
@@ -126,12 +129,14 @@ module _ (v : Inside) (k : IsKept v) (s : Story) (seen : story_in v ≡ s) where
   watch-now = ap (λ (x : State). x.watch) k.state
 
   -- what an entry leaves, part by part
-  left-by : (t : ℕ) (call : Call) (reply : Reply) (known : Known) (row : Row) (watch : Watch) (owes : ℕ)
-      → known ≡ known_of (start_in v) (entry t call reply ∷ history_in v) → map seat_view row.seats ≡ seats_of v.limits.seats (entry t call reply ∷ history_in v)
+  left-by : (t : ℕ) (call : Call) (reply : Reply) (known : Known) (live : List Bool) (row : Row) (watch : Watch) (owes : ℕ)
+      → known ≡ known_of (start_in v) (entry t call reply ∷ history_in v)
+      → live ≡ live_flags (length known.locks) (destroyed_of (entry t call reply ∷ history_in v)) → map seat_view row.seats ≡ seats_of v.limits.seats (entry t call reply ∷ history_in v)
       → watch ≡ watch_of (entry t call reply ∷ history_in v) → owes ≡ owed_to v.limits.seats (entry t call reply ∷ history_in v) → row.chunks ≡ v.seats.chunks
-      → Leaves v t call reply known row watch owes
-  left-by t call reply known row watch owes knows rows watches sum size = record {
-    state = same_state v.limits _ _ _ _ _ _ _ _ _ _ refl knows rows watches (omega arith);
+      → Leaves v t call reply known live row watch owes
+  left-by t call reply known live row watch owes knows lives rows watches sum size = record {
+    state = same_state v.limits _ _ _ _ _ _ _ _ _ _ _ _ refl knows refl rows watches (omega arith);
+    flags = lives;
     owed = sum ∙ ap (sum_by owed_by) (sym rows);
     chunks = size;
   }
@@ -191,14 +196,15 @@ module _ (v : Inside) (k : IsKept v) (s : Story) (seen : story_in v ≡ s) where
               omega (arith, less, owed_now)
 
       pub leaves_note : (a : Acquisition) → answer_of s t (Note l) ≡ Ok (reply_to a)
-          → Leaves v t (Note l) (reply_to a) v.known.known (with_seat t (asking None) (row_then a t spin (taken l q.mode q.site) v.seats)) (watch_then a v.watch)
+          → Leaves v t (Note l) (reply_to a) v.known.known v.known.live (with_seat t (asking None) (row_then a t spin (taken l q.mode q.site) v.seats)) (watch_then a v.watch)
           (v.log.owed - (1 - owed_after a + 1))
       leaves_note Recorded ok =
           let sane = sane_next t (Note l) reply.Recorded ok in
           let in_row = within t (Note l) reply.Recorded ok in
           let less = owed-note v.limits.seats t l q (history_in v) sane in_row.0 in_row.1 (wants t (Note l) reply.Recorded q ok asked) in
-          left-by t (Note l) reply.Recorded _ _ _ _
+          left-by t (Note l) reply.Recorded _ _ _ _ _
           (known-now ∙ known-same (start_in v) (history_in v) t (Note l) reply.Recorded refl refl refl refl)
+          k.live
           (ap (λ (r : Row). map seat_view r.seats) (seat-twice v.seats t (asking None) (acquired spin (taken l q.mode q.site)) (in-row (start_in v) v.known.files (history_in v) v.seats seats-now t in_row.0 in_row.1))
           ∙ seats-note (start_in v) v.known.files (history_in v) v.seats seats-now t in_row.0 in_row.1 l spin (kind-now l.0 spin kind) q sane (wants t (Note l) reply.Recorded q ok asked))
           watch-now (omega (arith, less, owed_now)) refl
@@ -206,43 +212,48 @@ module _ (v : Inside) (k : IsKept v) (s : Story) (seen : story_in v ≡ s) where
           let sane = sane_next t (Note l) reply.Exhausted ok in
           let in_row = within t (Note l) reply.Exhausted ok in
           let less = owed-unnoted v.limits.seats t l reply.Exhausted q (history_in v) sane in_row.0 in_row.1 refl (wants t (Note l) reply.Exhausted q ok asked) in
-          left-by t (Note l) reply.Exhausted _ _ _ _
+          left-by t (Note l) reply.Exhausted _ _ _ _ _
           (known-now ∙ known-same (start_in v) (history_in v) t (Note l) reply.Exhausted refl refl refl refl)
+          k.live
           (seats-quiet (start_in v) v.known.files (history_in v) v.seats seats-now t in_row.0 in_row.1 (Note l) reply.Exhausted None sane refl refl)
           refl (omega (arith, less, owed_now)) refl
       leaves_note Unrecorded ok =
           let sane = sane_next t (Note l) reply.Unrecorded ok in
           let in_row = within t (Note l) reply.Unrecorded ok in
           let less = owed-unnoted v.limits.seats t l reply.Unrecorded q (history_in v) sane in_row.0 in_row.1 refl (wants t (Note l) reply.Unrecorded q ok asked) in
-          left-by t (Note l) reply.Unrecorded _ _ _ _
+          left-by t (Note l) reply.Unrecorded _ _ _ _ _
           (known-now ∙ known-same (start_in v) (history_in v) t (Note l) reply.Unrecorded refl refl refl refl)
+          k.live
           (seats-quiet (start_in v) v.known.files (history_in v) v.seats seats-now t in_row.0 in_row.1 (Note l) reply.Unrecorded None sane refl refl)
           watch-now (omega (arith, less, owed_now)) refl
 
     pub leaves_try : (m : Mode) (site : Site) (a : Acquisition) → answer_of s t (NoteTry l m site) ≡ Ok (reply_to a)
-        → Leaves v t (NoteTry l m site) (reply_to a) v.known.known (row_then a t spin (taken l m site) v.seats) (watch_then a v.watch) (v.log.owed + owed_after a)
+        → Leaves v t (NoteTry l m site) (reply_to a) v.known.known v.known.live (row_then a t spin (taken l m site) v.seats) (watch_then a v.watch) (v.log.owed + owed_after a)
     leaves_try m site Recorded ok =
         let sane = sane_next t (NoteTry l m site) reply.Recorded ok in
         let in_row = within t (NoteTry l m site) reply.Recorded ok in
         let more = owed-try v.limits.seats t l m site (history_in v) sane in_row.0 in_row.1 in
-        left-by t (NoteTry l m site) reply.Recorded _ _ _ _
+        left-by t (NoteTry l m site) reply.Recorded _ _ _ _ _
         (known-now ∙ known-same (start_in v) (history_in v) t (NoteTry l m site) reply.Recorded refl refl refl refl)
+        k.live
         (seats-try (start_in v) v.known.files (history_in v) v.seats seats-now t in_row.0 in_row.1 l spin (kind-now l.0 spin kind) m site sane)
         watch-now (omega (arith, more, owed_now)) refl
     leaves_try m site Exhausted ok =
         let sane = sane_next t (NoteTry l m site) reply.Exhausted ok in
         let in_row = within t (NoteTry l m site) reply.Exhausted ok in
         let same = owed-same v.limits.seats t (NoteTry l m site) reply.Exhausted (history_in v) sane in_row.0 in_row.1 refl refl in
-        left-by t (NoteTry l m site) reply.Exhausted _ _ _ _
+        left-by t (NoteTry l m site) reply.Exhausted _ _ _ _ _
         (known-now ∙ known-same (start_in v) (history_in v) t (NoteTry l m site) reply.Exhausted refl refl refl refl)
+        k.live
         (seats-same (start_in v) v.known.files (history_in v) v.seats seats-now t in_row.0 in_row.1 (NoteTry l m site) reply.Exhausted sane refl refl)
         refl (omega (arith, same, owed_now)) refl
     leaves_try m site Unrecorded ok =
         let sane = sane_next t (NoteTry l m site) reply.Unrecorded ok in
         let in_row = within t (NoteTry l m site) reply.Unrecorded ok in
         let same = owed-same v.limits.seats t (NoteTry l m site) reply.Unrecorded (history_in v) sane in_row.0 in_row.1 refl refl in
-        left-by t (NoteTry l m site) reply.Unrecorded _ _ _ _
+        left-by t (NoteTry l m site) reply.Unrecorded _ _ _ _ _
         (known-now ∙ known-same (start_in v) (history_in v) t (NoteTry l m site) reply.Unrecorded refl refl refl refl)
+        k.live
         (seats-same (start_in v) v.known.files (history_in v) v.seats seats-now t in_row.0 in_row.1 (NoteTry l m site) reply.Unrecorded sane refl refl)
         watch-now (omega (arith, same, owed_now)) refl
 
@@ -259,13 +270,14 @@ module _ (v : Inside) (k : IsKept v) (s : Story) (seen : story_in v ≡ s) where
         omega (arith, less, owed_now)
 
     pub leaves_unlock : (m : Mode) → answer_of s t (Unlock l m) ≡ Ok Unlocked
-        → Leaves v t (Unlock l m) Unlocked v.known.known (with_seat t (released spin l.0) v.seats) v.watch (v.log.owed - (0 + 1))
+        → Leaves v t (Unlock l m) Unlocked v.known.known v.known.live (with_seat t (released spin l.0) v.seats) v.watch (v.log.owed - (0 + 1))
     leaves_unlock m ok =
         let sane = sane_next t (Unlock l m) Unlocked ok in
         let in_row = within t (Unlock l m) Unlocked ok in
         let less = owed-unlock v.limits.seats t l m (history_in v) sane in_row.0 in_row.1 (release_held m ok) in
-        left-by t (Unlock l m) Unlocked _ _ _ _
+        left-by t (Unlock l m) Unlocked _ _ _ _ _
         (known-now ∙ known-same (start_in v) (history_in v) t (Unlock l m) Unlocked refl refl refl refl)
+        k.live
         (seats-unlock (start_in v) v.known.files (history_in v) v.seats seats-now t in_row.0 in_row.1 l spin (kind-now l.0 spin kind) m sane)
         watch-now (omega (arith, less, owed_now)) refl
 
@@ -284,14 +296,15 @@ module _ (v : Inside) (k : IsKept v) (s : Story) (seen : story_in v ≡ s) where
       omega (arith, less, owed_now)
 
   pub leaves_give_up : (t : ℕ) (l : LockNo) → answer_of s t (GiveUp l) ≡ Ok Done
-      → Leaves v t (GiveUp l) Done v.known.known (with_seat t (asking None) v.seats) v.watch (v.log.owed - (1 + 1))
+      → Leaves v t (GiveUp l) Done v.known.known v.known.live (with_seat t (asking None) v.seats) v.watch (v.log.owed - (1 + 1))
   leaves_give_up t l ok =
       let sane = sane_next t (GiveUp l) Done ok in
       let in_row = within t (GiveUp l) Done ok in
       let asked = asked-now t l ok in
       let less = owed-give_up v.limits.seats t l Done asked.0 (history_in v) sane in_row.0 in_row.1 asked.1 in
-      left-by t (GiveUp l) Done _ _ _ _
+      left-by t (GiveUp l) Done _ _ _ _ _
       (known-now ∙ known-same (start_in v) (history_in v) t (GiveUp l) Done refl refl refl refl)
+      k.live
       (seats-quiet (start_in v) v.known.files (history_in v) v.seats seats-now t in_row.0 in_row.1 (GiveUp l) Done None sane refl refl)
       watch-now (omega (arith, less, owed_now)) refl
 
@@ -311,15 +324,16 @@ module _ (v : Inside) (k : IsKept v) (s : Story) (seen : story_in v ≡ s) where
   check_room t q r log ok same = room_left 2 log (check_accepted (state_of (story_in v)) t q r (accepted t (Check q) r ok)).room same
 
   pub leaves_check : (t : ℕ) (q : Request) (r : Reply) → answer_of s t (Check q) ≡ Ok r → ((w : Watch) → watch_after (Check q) r w ≡ w)
-      → Leaves v t (Check q) r (learnt v.known.known q r) (with_seat t (asking (Some q)) v.seats) v.watch (v.log.owed + 2)
+      → Leaves v t (Check q) r (learnt v.known.known q r) v.known.live (with_seat t (asking (Some q)) v.seats) v.watch (v.log.owed + 2)
   leaves_check t q r ok keeps =
       let sane = sane_next t (Check q) r ok in
       let in_row = within t (Check q) r ok in
       let at = check_accepted (state_of (story_in v)) t q r (accepted t (Check q) r ok) in
       let idle = none_from _ (sym (ap (λ (o : Option Request). is_some o) (pending-state (start_in v) v.known.files (history_in v) t at.seat)) ∙ at.idle) in
       let more = owed-check v.limits.seats t q r (history_in v) sane in_row.0 in_row.1 idle in
-      left-by t (Check q) r _ _ _ _
+      left-by t (Check q) r _ _ _ _ _
       (ap (λ (x : Known). learnt x q r) known-now ∙ sym (same_locks (learnt (known_of (start_in v) (history_in v)) q r) _ (append-nil (typed_locks (start_in v) (history_in v)))))
+      k.live
       (seats-quiet (start_in v) v.known.files (history_in v) v.seats seats-now t in_row.0 in_row.1 (Check q) r (Some q) sane refl refl)
       (watch-now ∙ sym (keeps (watch_of (history_in v)))) (omega (arith, more, owed_now)) refl
 
@@ -333,19 +347,34 @@ module _ (v : Inside) (k : IsKept v) (s : Story) (seen : story_in v ≡ s) where
       → length log.history + log.owed + 0 < log.limit
   watch_room t w log ok same = room_left 0 log (watch_accepted (state_of (story_in v)) t w Done (accepted t (SetWatch w) Done ok)).room same
 
-  pub leaves_watch : (t : ℕ) (w : Watch) → answer_of s t (SetWatch w) ≡ Ok Done → Leaves v t (SetWatch w) Done v.known.known v.seats w (v.log.owed + 0)
+  pub leaves_watch : (t : ℕ) (w : Watch) → answer_of s t (SetWatch w) ≡ Ok Done → Leaves v t (SetWatch w) Done v.known.known v.known.live v.seats w (v.log.owed + 0)
   leaves_watch t w ok =
       let sane = sane_next t (SetWatch w) Done ok in
       let in_row = within t (SetWatch w) Done ok in
       let same = owed-same v.limits.seats t (SetWatch w) Done (history_in v) sane in_row.0 in_row.1 refl refl in
-      left-by t (SetWatch w) Done _ _ _ _
+      left-by t (SetWatch w) Done _ _ _ _ _
       (known-now ∙ known-same (start_in v) (history_in v) t (SetWatch w) Done refl refl refl refl)
+      k.live
       (seats-same (start_in v) v.known.files (history_in v) v.seats seats-now t in_row.0 in_row.1 (SetWatch w) Done sane refl refl)
       refl (omega (arith, same, owed_now)) refl
+
+  -- the next lock to be made isn't destroyed
+  next-fresh : is_destroyed (destroyed_of (history_in v)) (length v.known.known.locks + 1) ≡ false
+  next-fresh =
+      ap (λ (x : Known). is_destroyed (destroyed_of (history_in v)) (length x.locks + 1)) known-now
+      ∙ next-undestroyed (start_in v) v.known.files (history_in v) k.legal
 
   pub init_room : (t : ℕ) (lock : NewLock) (number : LockNo) (log : Journal) → answer_of s t (Init lock) ≡ Ok (Made number) → log ≡ record v.log { spare = log.spare }
       → length log.history + log.owed + 0 < log.limit
   init_room t lock number log ok same = room_left 0 log (init_accepted (state_of (story_in v)) t lock (Made number) (accepted t (Init lock) (Made number) ok)).room same
+
+  -- there are fewer locks than there may be
+  pub init_few : (t : ℕ) (lock : NewLock) (number : LockNo) → answer_of s t (Init lock) ≡ Ok (Made number) → length v.known.known.locks < v.limits.locks
+  init_few t lock number ok =
+      let at = init_accepted (state_of (story_in v)) t lock (Made number) (accepted t (Init lock) (Made number) ok) in
+      let few = leb-false v.limits.locks (length (typed_locks (start_in v) (history_in v))) at.locks in
+      let same = ap (λ (x : Known). length x.locks) known-now in
+      omega (arith, few, same)
 
   -- what an init needs: a type that is known or can be enrolled
   pub admitted : (t : ℕ) (lock : NewLock) (number : LockNo) → answer_of s t (Init lock) ≡ Ok (Made number) → IsAdmitted v.known lock
@@ -357,13 +386,16 @@ module _ (v : Inside) (k : IsKept v) (s : Story) (seen : story_in v ≡ s) where
       (rw (type-named lock at.names, at.class, at.types) refl))
 
   pub leaves_init : (t : ℕ) (lock : NewLock) (number : LockNo) → answer_of s t (Init lock) ≡ Ok (Made number)
-      → Leaves v t (Init lock) (Made number) (with_lock v.known.known lock) v.seats v.watch (v.log.owed + 0)
+      → Leaves v t (Init lock) (Made number) (with_lock v.known.known lock) (v.known.live ++ true ∷ []) v.seats v.watch (v.log.owed + 0)
   leaves_init t lock number ok =
       let sane = sane_next t (Init lock) (Made number) ok in
       let in_row = within t (Init lock) (Made number) ok in
       let same = owed-init v.limits.seats t lock (Made number) (history_in v) sane in_row.0 in_row.1 in
-      left-by t (Init lock) (Made number) _ _ _ _
+      left-by t (Init lock) (Made number) _ _ _ _ _
       (ap (λ (x : Known). with_lock x lock) known-now)
+      (ap (λ bs. bs ++ true ∷ []) k.live
+      ∙ sym (flags-made (length v.known.known.locks) (v.known.known.locks ++ made_among v.known.known.types (Init lock)) (destroyed_of (history_in v))
+      (length-append v.known.known.locks (made_among v.known.known.types (Init lock))) next-fresh))
       (seats-same (start_in v) v.known.files (history_in v) v.seats seats-now t in_row.0 in_row.1 (Init lock) (Made number) sane refl refl)
       watch-now (omega (arith, same, owed_now)) refl
 
@@ -396,7 +428,7 @@ module _ (v : Inside) (sizes : Sizes) (lists : List (Vec (Class × String Global
   state_begun : state_in v ≡ state_of (fresh (start_of sizes lists blessed))
   state_begun =
       ap (λ (x : Sizes). record (state_in v) { sizes = x }) limits
-      ∙ same_state sizes _ _ _ _ _ _ _ _ _ _ (ap (λ (l : List (List ℕ)). length l) no_files) (begun.known)
+      ∙ same_state sizes _ _ _ _ _ _ _ _ _ _ _ _ (ap (λ (l : List (List ℕ)). length l) no_files) (begun.known) (ap destroyed_of no_history)
       (ap (λ (r : Row). map seat_view r.seats) seats ∙ seats-idle 1 sizes.seats) watch (ap (λ (l : Journal). length l.history) log)
 
   pub kept_begun : start_fault (start_of sizes lists blessed) ≡ None → IsKept v
@@ -406,6 +438,7 @@ module _ (v : Inside) (sizes : Sizes) (lists : List (Vec (Class × String Global
         started = subst (λ (s : Start). start_fault s ≡ None) (sym start_begun) accepted;
         legal = subst (λ (s : Story). IsLegal s.start s.files s.history) (sym story_begun) tt;
         state = state_begun ∙ ap state_of (sym story_begun);
+        live = begun.live ∙ sym (ap₂ (λ (x : Known) h. live_flags (length x.locks) (destroyed_of h)) begun.known no_history);
         owed = ap (λ (l : Journal). l.owed) log ∙ sym owes;
         limit = ap (λ (l : Journal). l.limit) log ∙ ap (λ (x : Sizes). x.log) (sym limits);
         types = (begun.types ∙ sym (ap (λ (x : Sizes). x.types) limits));
@@ -443,6 +476,7 @@ kept_file v name (Ok f) new k entered same =
       started = k.started;
       legal = files_legal (start_in v) (history_in v) v.known.files name k.legal;
       state = ap (λ (s : State). record s { files = length (files_after name v.known.files) }) k.state;
+      live = k.live;
       owed = k.owed;
       limit = k.limit;
       types = k.types;

@@ -1,5 +1,5 @@
 -- What the invariant of a verifier gives, and how each call keeps it.
-use Rattle.std.proofs.Common.{◌≡◌, ℕ, ◌+◌, ◌-◌, ◌<◌, ◌≤◌, true, List, ◌∷◌, None, Ok, length, map, sum_by, sym, ap, ◌∙◌, subst, arith}
+use Rattle.std.proofs.Common.{◌≡◌, ℕ, ◌+◌, ◌-◌, ◌<◌, ◌≤◌, true, List, ◌∷◌, None, Ok, length, map, sum_by, sym, ap, ◌∙◌, subst, arith, Bool, ap₂}
 use Rattle.wit_model.specs.declared.calls.Call.{Call}
 use Rattle.wit_model.specs.declared.calls.Reply.{Reply}
 use Rattle.wit_model.specs.declared.calls.Entry.{Entry}
@@ -21,6 +21,8 @@ use Rattle.wit_core.specs.Seats.{Row}
 use Rattle.wit_core.proofs.Steps.{state, same_state}
 use Rattle.wit_core.specs.Journal.{Journal}
 use Rattle.wit_core.specs.Kept.{IsKept, start_in, history_in, story_in, state_in}
+use Rattle.wit_model.specs.Rules.Locks.{destroyed_of}
+use Rattle.wit_core.specs.Live.{live_flags}
 
 -- types are within their limit
 pub types_few : (v : Inside) → IsKept v → length v.known.known.types ≤ v.limits.types
@@ -37,10 +39,11 @@ seat_in_range v t call r k ok = seat-within (start_in v) v.known.files (history_
 abbrev pub with_parts : Inside → Facts → Row → Watch → Journal → Inside
 with_parts v known seats watch log = record v { known = known; seats = seats; watch = watch; log = log }
 
--- what an accepted call leaves: this is known, the seats are these, so much is watched, and so much is owed
-pub record Leaves (v : Inside) (t : ℕ) (call : Call) (reply : Reply) (known : Known) (row : Row) (watch : Watch) (owes : ℕ) : Type 0 where
-  pub state : state v.limits (length v.known.files) known (map seat_view row.seats) watch (length (history_in v) + 1)
+-- what an accepted call leaves: this is known, these locks are live, the seats are these, so much is watched, and so much is owed
+pub record Leaves (v : Inside) (t : ℕ) (call : Call) (reply : Reply) (known : Known) (live : List Bool) (row : Row) (watch : Watch) (owes : ℕ) : Type 0 where
+  pub state : state v.limits (length v.known.files) known (destroyed_of (entry t call reply ∷ history_in v)) (map seat_view row.seats) watch (length (history_in v) + 1)
       ≡ state_of (story_after (start_in v) v.known.files (entry t call reply ∷ history_in v))
+  pub flags : live ≡ live_flags (length known.locks) (destroyed_of (entry t call reply ∷ history_in v))
   pub owed : owes ≡ sum_by owed_by (map seat_view row.seats)
   pub chunks : row.chunks ≡ v.seats.chunks
 
@@ -69,9 +72,9 @@ story start files h = record { start = start; history = h; files = files }
 pub same_story : (s s' : Start) (f f' : List (List ℕ)) (h h' : List Entry) → s ≡ s' → f ≡ f' → h ≡ h' → story s f h ≡ story s' f' h'
 same_story s s' f f' h h' es ef eh = ap (λ x. story x f h) es ∙ (ap (λ x. story s' x h) ef ∙ ap (λ x. story s' f' x) eh)
 
-module _ (v : Inside) (t : ℕ) (call : Call) (reply : Reply) (known : Known) (row : Row) (watch : Watch) (owes : ℕ) (new_known : Facts) (new_seats : Row) (new_watch : Watch) (new_log : Journal) (spare : ℕ)
-    (left : Leaves v t call reply known row watch owes)
-    (knows : new_known ≡ record v.known { known = known }) (rows : new_seats ≡ row) (watches : new_watch ≡ watch)
+module _ (v : Inside) (t : ℕ) (call : Call) (reply : Reply) (known : Known) (live : List Bool) (row : Row) (watch : Watch) (owes : ℕ) (new_known : Facts) (new_seats : Row) (new_watch : Watch) (new_log : Journal) (spare : ℕ)
+    (left : Leaves v t call reply known live row watch owes)
+    (knows : new_known ≡ record v.known { known = known; live = live }) (rows : new_seats ≡ row) (watches : new_watch ≡ watch)
     (log : new_log ≡ record v.log { history = entry t call reply ∷ v.log.history; owed = owes; spare = spare }) where
   -- the verifier is seen as its story with the entry
   pub story_entered : story_in (with_parts v new_known new_seats new_watch new_log) ≡ logged (story_in v) t call reply
@@ -87,13 +90,16 @@ module _ (v : Inside) (t : ℕ) (call : Call) (reply : Reply) (known : Known) (r
       let same = story_entered in
       let seats : map seat_view new_seats.seats ≡ map seat_view row.seats = ap (λ (r : Row). map seat_view r.seats) rows in
       let here : state_in (with_parts v new_known new_seats new_watch new_log)
-      ≡ state v.limits (length v.known.files) known (map seat_view row.seats) watch (length (history_in v) + 1) =
-      same_state v.limits _ _ _ _ _ _ _ _ _ _ (ap (λ (f : Facts). length f.files) knows) (ap (λ (f : Facts). f.known) knows) seats watches
+      ≡ state v.limits (length v.known.files) known (destroyed_of (entry t call reply ∷ history_in v)) (map seat_view row.seats) watch (length (history_in v) + 1) =
+      same_state v.limits _ _ _ _ _ _ _ _ _ _ _ _ (ap (λ (f : Facts). length f.files) knows) (ap (λ (f : Facts). f.known) knows)
+      (ap (λ (l : Journal). destroyed_of l.history) log) seats watches
       (ap (λ (l : Journal). length l.history) log ∙ omega arith) in
       record {
         started = subst (λ (s : Story). start_fault s.start ≡ None) (sym same) k.started;
         legal = subst (λ (s : Story). IsLegal s.start s.files s.history) (sym same) (ok, kept, k.legal);
         state = here ∙ left.state ∙ ap state_of (sym same);
+        live = ap (λ (f : Facts). f.live) knows ∙ left.flags
+            ∙ ap₂ (λ (f : Facts) (l : Journal). live_flags (length f.known.locks) (destroyed_of l.history)) (sym knows) (sym log);
         owed = ap (λ (l : Journal). l.owed) log ∙ left.owed ∙ ap (sum_by owed_by) (sym seats);
         limit = ap (λ (l : Journal). l.limit) log ∙ k.limit;
         types = ap (λ (f : Facts). f.most_types) knows ∙ k.types;

@@ -8,6 +8,7 @@ pub mod Holding
 pub mod Judged
 pub mod Keeping
 pub mod Listing
+pub mod Living
 pub mod Now
 pub mod Owing
 pub mod Queues

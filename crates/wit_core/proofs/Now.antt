@@ -1,14 +1,14 @@
 -- What a verifier's parts say of the state that its story has now.
-use Rattle.std.proofs.Common.{◌≡◌, ℕ, Bool, true, false, not, ◌&&◌, cond, eqb, nat_lt, nat_le, length, map, find, unwrap_or, Option, None, is_some, refl, sym, ap, ap₂, ◌∙◌, subst, arith}
+use Rattle.std.proofs.Common.{◌≡◌, ℕ, Bool, true, false, not, ◌&&◌, cond, eqb, nat_lt, nat_le, length, map, find, unwrap_or, Option, Some, None, is_some, refl, sym, ap, ap₂, ◌∙◌, subst, arith}
 use Rattle.std.specs.List.{slice_get}
 use Rattle.std.proofs.lemmas.Bool.{and_parts, ltb-true, leb-true}
 use Rattle.std.proofs.lemmas.List.{length-map}
 use Rattle.wit_model.specs.declared.calls.Reply.TheVariants as reply
 use Rattle.wit_model.specs.Rules.Groups.{opens}
 use Rattle.wit_model.specs.Rules.History.{is_off, chain}
-use Rattle.wit_model.specs.Rules.Locks.{locks_of, lock_at, is_spin_lock}
+use Rattle.wit_model.specs.Rules.Locks.{locks_of, lock_at, is_spin_lock, destroyed_of}
 use Rattle.wit_model.specs.Rules.Numbers.{is_given, IsGiven}
-use Rattle.wit_model.specs.Rules.State.{Story, State, state_of, seat_of, is_seat, seat_at, seat_among, chain_in, groups_in, free}
+use Rattle.wit_model.specs.Rules.State.{Story, State, state_of, live, seat_of, is_seat, seat_at, seat_among, chain_in, groups_in, free, is_live}
 use Rattle.wit_model.specs.Rules.State as model
 use Rattle.wit_model.specs.Rules.Step.{chain_for, groups_for, recorded}
 use Rattle.wit_model.specs.Rules.Types.{is_spin}
@@ -25,6 +25,8 @@ use Rattle.wit_core.specs.Kept.{IsKept, start_in, history_in, story_in, state_in
 use Rattle.wit_core.specs.Seats.{Seat, Row, no_seat, seat_in, locks_in, free_in, has_no_room}
 use Rattle.wit_core.specs.Seats as seats
 use Rattle.wit_core.proofs.HeldSeats.{opens-numbers, chunks-viewed, stands-filter}
+use Rattle.wit_core.proofs.Living.{count-told, flag-is}
+use Rattle.wit_core.specs.Live.{is_flagged, live_count, live_told}
 
 -- a row's seats as the rules see them
 abbrev pub view_at : Row → ℕ → model.Seat
@@ -84,6 +86,25 @@ module _ (v : Inside) (k : IsKept v) (s : Story) (seen : story_in v ≡ s) where
       let size = k.chunks in
       let same : free (state_in v) ≡ free_in v.seats = omega (arith, sum, size) in
       sym same ∙ ap free now
+
+  -- whether a lock is live
+  pub live-now : (l : ℕ) → is_flagged v.known.live l ≡ is_live (state_of s) l
+  live-now l =
+      ap (λ bs. is_flagged bs l) k.live
+      ∙ flag-is (length v.known.known.locks) l (destroyed_of (history_in v))
+      ∙ ap (λ (x : State). is_live x l) now
+
+  -- how many locks of a type are
+  live-counted : (t : ℕ) → live_count v.known.known.locks v.known.live t ≡ live (state_of s) t
+  live-counted t =
+      ap (λ bs. live_count v.known.known.locks bs t) k.live
+      ∙ count-told v.known.known.locks (destroyed_of (history_in v)) t
+      ∙ ap (λ (x : State). live x t) now
+
+  pub live-told : (t : ℕ) → is_given v.known.known.types t ≡ true → Some (live_count v.known.known.locks v.known.live t) ≡ live_told (state_of s) t
+  live-told t given =
+      ap Some (live-counted t)
+      ∙ sym (ap (λ b. cond b (Some (live (state_of s) t)) None) (sym (ap (λ (x : State). is_given x.known.types t) now) ∙ given))
 
   -- the chain of a lock's kind
   module _ (t l : ℕ) (spin : Bool) (kind : spin ≡ is_spin (lock_at (state_of s).known.locks l).made.class) where

@@ -30,14 +30,16 @@ use Rattle.wit_core.specs.Seats.{Seat, Row, no_seat, with_seat, asking, acquired
 use Rattle.wit_core.proofs.HeldSeats.{acquired-view, released-view}
 
 -- a state by its parts
-abbrev pub state : Sizes → ℕ → Known → List model.Seat → Watch → ℕ → State
-state sizes files known seats watch used = record { sizes = sizes; files = files; known = known; seats = seats; watch = watch; used = used }
+abbrev pub state : Sizes → ℕ → Known → List ℕ → List model.Seat → Watch → ℕ → State
+state sizes files known destroyed seats watch used =
+    record { sizes = sizes; files = files; known = known; destroyed = destroyed; seats = seats; watch = watch; used = used }
 
-pub same_state : (sizes : Sizes) (f f' : ℕ) (k k' : Known) (ss ss' : List model.Seat) (w w' : Watch) (u u' : ℕ) → f ≡ f' → k ≡ k' → ss ≡ ss' → w ≡ w' → u ≡ u'
-    → state sizes f k ss w u ≡ state sizes f' k' ss' w' u'
-same_state sizes f f' k k' ss ss' w w' u u' ef ek es ew eu =
-    ap (λ x. state sizes x k ss w u) ef ∙ (ap (λ x. state sizes f' x ss w u) ek
-    ∙ (ap (λ x. state sizes f' k' x w u) es ∙ (ap (λ x. state sizes f' k' ss' x u) ew ∙ ap (λ x. state sizes f' k' ss' w' x) eu)))
+pub same_state : (sizes : Sizes) (f f' : ℕ) (k k' : Known) (d d' : List ℕ) (ss ss' : List model.Seat) (w w' : Watch) (u u' : ℕ)
+    → f ≡ f' → k ≡ k' → d ≡ d' → ss ≡ ss' → w ≡ w' → u ≡ u' → state sizes f k d ss w u ≡ state sizes f' k' d' ss' w' u'
+same_state sizes f f' k k' d d' ss ss' w w' u u' ef ek ed es ew eu =
+    ap (λ x. state sizes x k d ss w u) ef ∙ (ap (λ x. state sizes f' x d ss w u) ek
+    ∙ (ap (λ x. state sizes f' k' x ss w u) ed ∙ (ap (λ x. state sizes f' k' d' x w u) es
+    ∙ (ap (λ x. state sizes f' k' d' ss' x u) ew ∙ ap (λ x. state sizes f' k' d' ss' w' x) eu))))
 
 pub same_locks : (k : Known) (locks : List Lock) → locks ≡ k.locks → record k { locks = locks } ≡ k
 same_locks k locks e = ap (λ (ls : List Lock). record k { locks = ls }) e

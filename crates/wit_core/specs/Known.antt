@@ -1,5 +1,5 @@
 -- What a verifier knows, and what its calls add to it.
-use Rattle.std.specs.Prelude.{ℕ, List, [], ◌++◌, IsOk}
+use Rattle.std.specs.Prelude.{ℕ, Bool, List, [], ◌++◌, IsOk}
 use Rattle.wit_model.specs.declared.calls.Call.TheVariants.{Init, Check}
 use Rattle.wit_model.specs.declared.calls.NewLock.{NewLock}
 use Rattle.wit_model.specs.declared.calls.Reply.{Reply}
@@ -13,9 +13,10 @@ use Rattle.wit_model.specs.Rules.Numbers.{IsNumber}
 use Rattle.wit_table.specs.Known.{enroll_answer}
 use Rattle.wit_core.specs.Following.{CanFollow}
 
--- what is known, the files that were named, and how many types there may be
+-- what is known, whether each lock is live, the files that were named, and how many types there may be
 pub record Facts : Type 0 where
   pub known : Known
+  pub live : List Bool
   pub files : List (List ℕ)
   pub most_types : ℕ
 

@@ -6,6 +6,7 @@ pub mod Journal
 pub mod Kept
 pub mod Known
 pub mod Listed
+pub mod Live
 pub mod Logged
 pub mod Numbered
 pub mod Related

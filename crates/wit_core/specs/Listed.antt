@@ -13,7 +13,7 @@ use Rattle.wit_model.specs.Rules.Types.{is_enrolled, type_number, enrolled_all, 
 use Rattle.wit_model.specs.Rules.Orders.{is_before, listed_pairs, listed_orders}
 use Rattle.wit_model.specs.Rules.State.{Known}
 use Rattle.wit_model.specs.Rules.Start.{is_misclassed, has_twin, turns_round, IsAcceptedTo}
-use Rattle.wit_table.specs.Known.{Names}
+use Rattle.wit_table.specs.Known.{Names, live_of}
 
 abbrev pub entry_of : Class × String Global → Class × List ℕ
 entry_of entry = (entry.0, string_bytes entry.1)
@@ -72,9 +72,10 @@ pub record CanBeAdopted (types : List LockType) (orders : List Adoption) (list :
   pub apart : has_twin list ≡ false
   pub forward : turns_round types orders list ≡ false
 
--- only types have changed
+-- only types have changed, and new ones have no live lock
 pub record KeepsRest (old new : Names) : Type 0 where
   pub files : new.files ≡ old.files
   pub blessed : new.blessed ≡ old.blessed
   pub most_types : new.most_types ≡ old.most_types
   pub most_files : new.most_files ≡ old.most_files
+  pub live : (t : ℕ) → live_of new t ≡ live_of old t

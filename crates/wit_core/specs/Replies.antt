@@ -11,8 +11,8 @@ use Rattle.wit_model.specs.declared.calls.NewLock.{NewLock}
 use Rattle.wit_model.specs.declared.calls.Reply.{Reply}
 use Rattle.wit_model.specs.declared.calls.Reply.TheVariants.{Made, Unlocked, Ignored}
 use Rattle.wit_model.specs.Rules.Locks.{lock_at}
-use Rattle.wit_model.specs.Rules.Numbers.{is_given, is_number}
-use Rattle.wit_model.specs.Rules.State.{State, seat_at, is_seat}
+use Rattle.wit_model.specs.Rules.Numbers.{is_number}
+use Rattle.wit_model.specs.Rules.State.{State, seat_at, is_seat, is_live}
 use Rattle.wit_model.specs.Rules.Step.{is_pending, is_for, is_shareable, is_too_deep}
 use Rattle.wit_model.specs.Rules.Verdict.{is_exclusive}
 
@@ -37,7 +37,7 @@ release_reply (Err f) = Err f
 abbrev pub before_acquiring : State → ℕ → ℕ → Mode → Site → Result Reply Fault → Result Reply Fault
 before_acquiring s t l m site rest =
     if not (is_seat s t) then Err UnknownSeat
-    else if not (is_given s.known.locks l) then Err UnknownLock
+    else if not (is_live s l) then Err UnknownLock
     else if not (is_number s.files site.file.0) then Err UnknownFile
     else if not (is_exclusive m) && not (is_shareable (lock_at s.known.locks l).made.class) then Err ModeNotAllowed
     else if is_pending s t then Err Pending
@@ -48,7 +48,7 @@ before_acquiring s t l m site rest =
 abbrev pub before_answering : State → ℕ → ℕ → Result Reply Fault → Result Reply Fault
 before_answering s t l rest =
     if not (is_seat s t) then Err UnknownSeat
-    else if not (is_given s.known.locks l) then Err UnknownLock
+    else if not (is_live s l) then Err UnknownLock
     else if not (is_for l (seat_at s t).pending) then Err NotRequested
     else rest
 

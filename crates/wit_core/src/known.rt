@@ -1,13 +1,14 @@
 //! What is known of types, locks and orders.
 
-ghost use Rattle.std.specs.Prelude.{◌≡◌, ◌<◌, ◌≤◌, [], false, map, Ok, OnOk, OnErr, IfOk, IfErr};
+ghost use Rattle.std.specs.Prelude.{◌≡◌, ◌<◌, ◌≤◌, ◌++◌, [], ◌∷◌, true, false, map, length, Ok, OnOk, OnErr, IfOk, IfErr};
 ghost use Rattle.std.specs.Option.{option_copied};
 ghost use Rattle.wit_model.specs.declared.faults.Fault.TheVariants.{OutOfMemory};
 ghost use Rattle.wit_model.specs.declared.locks.Lock.{Lock};
 ghost use Rattle.wit_model.specs.Rules.Files.{is_known_file, file_answer, files_after};
 ghost use Rattle.wit_model.specs.Rules.Locks.{lock_at};
-ghost use Rattle.wit_model.specs.Rules.Numbers.{with_number};
+ghost use Rattle.wit_model.specs.Rules.Numbers.{with_number, with_changed, IsGiven};
 ghost use Rattle.wit_model.specs.Rules.Refusals.{IsRefusal};
+ghost use Rattle.wit_core.specs.Live.{is_flagged, live_count};
 ghost use Rattle.wit_core.specs.Known.{nothing, learnt, with_lock, IsApt, IsAdmitted};
 
 use crate::orders::Orders;
@@ -30,6 +31,8 @@ pub struct Known {
     pub locks: Vec<Lock>,
     /// The type of each lock, in the order of the locks.
     pub lock_types: Vec<TypeNo>,
+    /// Whether each lock is live, in the order of the locks: no more once it is destroyed.
+    pub live: Vec<bool>,
     pub orders: Orders,
 }
 
@@ -53,13 +56,14 @@ impl Known {
     pub fn new(alloc: Global, types: u32) -> Result<Known, Fault>
         requires positive { 0 < types }
         requires within { types ≤ 1023 }
-        ensures ok { IfOk result (λ k. k ≡ record { known = nothing; files = []; most_types = types }) }
+        ensures ok { IfOk result (λ k. k ≡ record { known = nothing; live = []; files = []; most_types = types }) }
         ensures err { IfErr result (λ e. e ≡ OutOfMemory) }
     {
         Ok(Known {
             names: Table::new(alloc, types, MOST_FILES)?,
             locks: Vec::new(alloc),
             lock_types: Vec::new(alloc),
+            live: Vec::new(alloc),
             orders: Orders::new(alloc, types)?,
         })
     }
@@ -85,6 +89,27 @@ impl Known {
         ensures { result.now ≡ map (λ (l : Lock). l.type_no) self.now.known.locks }
     {
         &self.lock_types
+    }
+
+    /// Whether a lock is live.
+    pub fn is_live(&self, lock: LockNo) -> bool
+        ensures { result ≡ is_flagged self.now.live lock.0 }
+    {
+        if lock.0 == 0 {
+            return false;
+        }
+        match self.live.get(lock.0 as usize - 1) {
+            Some(live) => *live,
+            None => false,
+        }
+    }
+
+    /// How many locks of a type are live.
+    pub fn live(&self, number: TypeNo) -> u32
+        requires { IsGiven self.now.known.types number.0 }
+        ensures { result ≡ live_count self.now.known.locks self.now.live number.0 }
+    {
+        self.names.live(number)
     }
 
     /// The orders and the pairs found in violation.
@@ -142,22 +167,42 @@ impl Known {
         }
     }
 
-    /// Enters a lock whose type is known or can be enrolled, and its type where that is new.
+    /// Enters a live lock whose type is known or can be enrolled, and its type where that is new. The type has fewer than 65,536 live
+    /// locks.
     ///
     /// # Errors
     /// `OutOfMemory` alone; nothing is entered then.
     pub fn add_lock(&mut self, made: NewLock) -> Result<(), Fault>
-        requires { IsAdmitted self.old made }
-        ensures ok { OnOk result (self.new ≡ record self.old { known = with_lock self.old.known made }) }
+        requires admitted { IsAdmitted self.old made }
+        requires few { length self.old.known.locks < 65536 }
+        ensures ok { OnOk result (self.new ≡ record self.old { known = with_lock self.old.known made; live = self.old.live ++ true ∷ [] }) }
         ensures err { OnErr result (self.new ≡ self.old) }
         ensures memory { IfErr result (λ e. e ≡ OutOfMemory) }
     {
         self.locks.reserve(1)?;
         self.lock_types.reserve(1)?;
+        self.live.reserve(1)?;
         let type_no = self.names.enroll_name(made.type_name(), made.class)?;
         self.locks.push_reserved(Lock { type_no, made });
         self.lock_types.push_reserved(type_no);
+        self.live.push_reserved(true);
+        // Called for its clause that each type has a count.
+        let _types = self.names.len();
+        self.names.retain(type_no);
         Ok(())
+    }
+
+    /// Takes a live lock of a known type from the live ones. Its number, name and type stay.
+    pub fn destroy(&mut self, lock: LockNo)
+        requires live { is_flagged self.old.live lock.0 ≡ true }
+        requires typed { IsGiven self.old.known.types (lock_at self.old.known.locks lock.0).type_no.0 }
+        ensures { self.new ≡ record self.old { live = with_changed self.old.live lock.0 false } }
+    {
+        let type_no = type_of(&self.locks, lock);
+        // Called for its clause that each type has a count.
+        let _types = self.names.len();
+        self.names.release(type_no);
+        self.live[lock.0 as usize - 1] = false;
     }
 }
 

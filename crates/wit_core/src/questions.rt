@@ -3,8 +3,8 @@
 ghost use Rattle.std.specs.Prelude.{◌≡◌, ◌<◌, ◌+◌, ◌&&◌, ◌==◌, true, Some, not, is_some, IfSome, IfOk, IfErr, OnOk, length, nat_le};
 ghost use Rattle.std.specs.List.{list_any};
 ghost use Rattle.wit_model.specs.Rules.Locks.{lock_at};
-ghost use Rattle.wit_model.specs.Rules.Numbers.{is_given, is_number};
-ghost use Rattle.wit_model.specs.Rules.State.{state_of, seat_at, is_seat, has_room};
+ghost use Rattle.wit_model.specs.Rules.Numbers.{is_number};
+ghost use Rattle.wit_model.specs.Rules.State.{state_of, seat_at, is_seat, is_live, has_room};
 ghost use Rattle.wit_model.specs.Rules.Step.{held_by, is_too_deep};
 ghost use Rattle.wit_model.specs.Rules.Types.{is_otherwise, is_enrolled, type_number};
 ghost use Rattle.wit_core.specs.Replies.{before_acquiring, before_answering, Admits, Refuses};
@@ -30,11 +30,11 @@ impl Verifier {
         self.seats.pending(seat)
     }
 
-    // Whether a lock was made under this number.
-    pub(crate) fn is_made(&self, lock: LockNo) -> bool
-        ensures { result ≡ is_given (state_of self.now).known.locks lock.0 }
+    // Whether a lock was made under this number and isn't destroyed.
+    pub(crate) fn is_live(&self, lock: LockNo) -> bool
+        ensures { result ≡ is_live (state_of self.now) lock.0 }
     {
-        0 < lock.0 && lock.0 as usize <= self.known.locks().len()
+        self.known.is_live(lock)
     }
 
     pub(crate) fn class_of_lock(&self, lock: LockNo) -> Class
@@ -97,13 +97,13 @@ impl Verifier {
     ) -> Result<(), Fault>
         ensures ok { OnOk result (Admits (before_acquiring (state_of self.now) seat.0 lock.0 mode site)) }
         ensures seat { OnOk result (is_seat (state_of self.now) seat.0 ≡ true) }
-        ensures lock { OnOk result (is_given (state_of self.now).known.locks lock.0 ≡ true) }
+        ensures lock { OnOk result (is_live (state_of self.now) lock.0 ≡ true) }
         ensures err { IfErr result (Refuses (before_acquiring (state_of self.now) seat.0 lock.0 mode site)) }
     {
         if !self.is_seat(seat) {
             return Err(Fault::UnknownSeat);
         }
-        if !self.is_made(lock) {
+        if !self.is_live(lock) {
             return Err(Fault::UnknownLock);
         }
         if !self.is_file(site.file) {
@@ -130,7 +130,7 @@ impl Verifier {
         if !self.is_seat(seat) {
             return Err(Fault::UnknownSeat);
         }
-        if !self.is_made(lock) {
+        if !self.is_live(lock) {
             return Err(Fault::UnknownLock);
         }
         match self.request(seat) {

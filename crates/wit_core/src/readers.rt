@@ -10,6 +10,7 @@ ghost use Rattle.wit_model.specs.Rules.State.{state_of, seat_at, chain_in, free,
 ghost use Rattle.wit_model.specs.Trace.Paths.{path, path_numbers};
 ghost use Rattle.wit_matrix.specs.Relation.{LeadsBy};
 ghost use Rattle.wit_core.specs.Held.{HoldAll};
+ghost use Rattle.wit_core.specs.Live.{live_told};
 ghost use Rattle.wit_core.specs.Numbered.{lock_name, lock_type, type_name, type_class, relation};
 
 use crate::known::lock_with;
@@ -122,6 +123,18 @@ impl Verifier {
         ensures few { result ≤ 1023 }
     {
         self.known.names().len()
+    }
+
+    /// How many locks of a type are live: made and not destroyed.
+    pub fn live(&self, number: TypeNo) -> Option<u32>
+        ensures { result ≡ live_told (state_of self.now) number.0 }
+    {
+        let known = &self.known;
+        if is_type(known.names(), number) {
+            Some(known.live(number))
+        } else {
+            None
+        }
     }
 
     /// Whether the order from one type to another was adopted.

@@ -6,7 +6,8 @@ use Rattle.std.proofs.lemmas.Bool.{and_parts, leb-true}
 use Rattle.std.proofs.lemmas.Fmt.{length-decimal-le}
 use Rattle.std.proofs.lemmas.List.{length-append}
 use Rattle.wit_model.specs.declared.lines.Line.{Line}
-use Rattle.wit_model.specs.declared.lines.Line.TheVariants.{Header, Order, Bless, Init, Check, Lock, Try, GiveUp, Unlock, Watch}
+use Rattle.wit_model.specs.declared.lines.Line.TheVariants.{Header, Order, Bless, Init, Check, Lock, Try, GiveUp, Unlock, Destroy, Upgrade, Downgrade, NoRelease, ReleaseOk, Assert, Warn, Define, Watch}
+use Rattle.wit_model.proofs.Spelling.Laws.{number-lt}
 use Rattle.wit_model.specs.declared.locks.Class.{Class}
 use Rattle.wit_model.specs.declared.locks.Class.TheVariants.{SleepMutex, SpinMutex, Rw, Sx}
 use Rattle.wit_model.specs.declared.locks.Mode.{Mode}
@@ -14,7 +15,7 @@ use Rattle.wit_model.specs.declared.locks.Mode.TheVariants.{Shared, Exclusive}
 use Rattle.wit_model.specs.declared.locks.Watch as level
 use Rattle.wit_model.specs.declared.locks.Watch.TheVariants.{On, Quiet, Off}
 use Rattle.wit_model.specs.Rules.Names.{is_name, is_file_name}
-use Rattle.wit_model.specs.Trace.Spelling.{class_text, mode_text, level_text, lock_letters, op_letters, chosen_letters, flags_text, site_text, quoted, joined, type_field, spelling, IsSpellable}
+use Rattle.wit_model.specs.Trace.Spelling.{class_text, mode_text, level_text, lock_letters, op_letters, assert_letters, warn_letters, number_if_any, chosen_letters, flags_text, site_text, quoted, joined, type_field, spelling, IsNamed, IsSpellable}
 
 -- a field that takes little of a line
 abbrev IsShort : List ℕ → Type 0
@@ -83,6 +84,9 @@ init-le : (seat : ℕ) (class : Class) (flags : ℕ) (name : List ℕ) (type_nam
 init-le seat class flags name None p q r = line-le (codes "init") (decimal seat ∷ class_text class ∷ flags_text lock_letters flags ∷ quoted name ∷ []) (omega arith) (omega arith) (number-short seat (omega arith), (class-short class, (flags-short lock_letters flags (omega arith), (name-short name q, tt))))
 init-le seat class flags name (Some t) p q r = line-le (codes "init") (decimal seat ∷ class_text class ∷ flags_text lock_letters flags ∷ quoted name ∷ quoted t ∷ []) (omega arith) (omega arith) (number-short seat (omega arith), (class-short class, (flags-short lock_letters flags (omega arith), (name-short name q, (name-short t r, tt)))))
 
+pair-le : (keyword : List ℕ) (seat lock : ℕ) → length keyword ≤ 13 → seat < 2 ^ 16 → lock < 2 ^ 32 → length (keyword ++ joined (decimal seat ∷ decimal lock ∷ [])) ≤ 4096
+pair-le keyword seat lock small p q = line-le keyword (decimal seat ∷ decimal lock ∷ []) small (omega arith) (number-short seat (omega arith), (number-short lock q, tt))
+
 -- a line of few fields has a spelling of at most 4,096 bytes; a list may have more
 abbrev pub IsShortOrList : Line → Type 0
 IsShortOrList (Order list) = Unit {0}
@@ -94,10 +98,18 @@ spelling-le (Order list) spellable = tt
 spelling-le (Bless a b) (p0, p1) = line-le (codes "bless") (quoted a ∷ quoted b ∷ []) (omega arith) (omega arith) (name-short a p0, (name-short b p1, tt))
 spelling-le (Init seat lock) (p0, p1) = init-le seat.0 lock.class lock.flags.0 lock.name lock.type_name p0 p1.1 p1.2
 spelling-le (Check s l m o f n) (p0, p1, p2, p3, p4) = line-le (codes "check") (decimal s.0 ∷ decimal l.0 ∷ mode_text m ∷ flags_text op_letters o.0 ∷ site_text f n ∷ []) (omega arith) (omega arith) (number-short s.0 (omega arith), (number-short l.0 p1, (mode-short m, (flags-short op_letters o.0 (omega arith), (site-short f n p3 p4, tt)))))
-spelling-le (Lock s l) (p0, p1) = line-le (codes "lock") (decimal s.0 ∷ decimal l.0 ∷ []) (omega arith) (omega arith) (number-short s.0 (omega arith), (number-short l.0 p1, tt))
+spelling-le (Lock s l) (p0, p1) = pair-le (codes "lock") s.0 l.0 (omega arith) p0 p1
 spelling-le (Try s l m f n) (p0, p1, p2, p3) = line-le (codes "try") (decimal s.0 ∷ decimal l.0 ∷ mode_text m ∷ site_text f n ∷ []) (omega arith) (omega arith) (number-short s.0 (omega arith), (number-short l.0 p1, (mode-short m, (site-short f n p2 p3, tt))))
-spelling-le (GiveUp s l) (p0, p1) = line-le (codes "giveup") (decimal s.0 ∷ decimal l.0 ∷ []) (omega arith) (omega arith) (number-short s.0 (omega arith), (number-short l.0 p1, tt))
+spelling-le (GiveUp s l) (p0, p1) = pair-le (codes "giveup") s.0 l.0 (omega arith) p0 p1
 spelling-le (Unlock s l m) (p0, p1) = line-le (codes "unlock") (decimal s.0 ∷ decimal l.0 ∷ mode_text m ∷ []) (omega arith) (omega arith) (number-short s.0 (omega arith), (number-short l.0 p1, (mode-short m, tt)))
+spelling-le (Destroy s l) (p0, p1) = pair-le (codes "destroy") s.0 l.0 (omega arith) p0 p1
+spelling-le (Upgrade s l) (p0, p1) = pair-le (codes "upgrade") s.0 l.0 (omega arith) p0 p1
+spelling-le (Downgrade s l) (p0, p1) = pair-le (codes "downgrade") s.0 l.0 (omega arith) p0 p1
+spelling-le (NoRelease s l) (p0, p1) = pair-le (codes "norelease") s.0 l.0 (omega arith) p0 p1
+spelling-le (ReleaseOk s l) (p0, p1) = pair-le (codes "releaseok") s.0 l.0 (omega arith) p0 p1
+spelling-le (Assert s l a) (p0, p1, p2) = line-le (codes "assert") (decimal s.0 ∷ decimal l.0 ∷ flags_text assert_letters a.0 ∷ []) (omega arith) (omega arith) (number-short s.0 (omega arith), (number-short l.0 p1, (flags-short assert_letters a.0 (omega arith), tt)))
+spelling-le (Warn s l f) (p0, p1, p2) = line-le (codes "warn") (decimal s.0 ∷ decimal (number_if_any l) ∷ flags_text warn_letters f.0 ∷ []) (omega arith) (omega arith) (number-short s.0 (omega arith), (number-short (number_if_any l) (number-lt l p1), (flags-short warn_letters f.0 (omega arith), tt)))
+spelling-le (Define s a b) (p0, p1, p2) = line-le (codes "define") (decimal s.0 ∷ decimal a.0 ∷ decimal b.0 ∷ []) (omega arith) (omega arith) (number-short s.0 (omega arith), (number-short a.0 p1, (number-short b.0 p2, tt)))
 spelling-le (Watch s w) p0 = line-le (codes "watch") (decimal s.0 ∷ level_text w ∷ []) (omega arith) (omega arith) (number-short s.0 (omega arith), (level-short w, tt))
 
 -- a line of another kind
@@ -111,4 +123,12 @@ spelled-le (Lock s l) spellable other = spelling-le (Lock s l) spellable
 spelled-le (Try s l m f n) spellable other = spelling-le (Try s l m f n) spellable
 spelled-le (GiveUp s l) spellable other = spelling-le (GiveUp s l) spellable
 spelled-le (Unlock s l m) spellable other = spelling-le (Unlock s l m) spellable
+spelled-le (Destroy s l) spellable other = spelling-le (Destroy s l) spellable
+spelled-le (Upgrade s l) spellable other = spelling-le (Upgrade s l) spellable
+spelled-le (Downgrade s l) spellable other = spelling-le (Downgrade s l) spellable
+spelled-le (NoRelease s l) spellable other = spelling-le (NoRelease s l) spellable
+spelled-le (ReleaseOk s l) spellable other = spelling-le (ReleaseOk s l) spellable
+spelled-le (Assert s l a) spellable other = spelling-le (Assert s l a) spellable
+spelled-le (Warn s l f) spellable other = spelling-le (Warn s l f) spellable
+spelled-le (Define s a b) spellable other = spelling-le (Define s a b) spellable
 spelled-le (Watch s w) spellable other = spelling-le (Watch s w) spellable

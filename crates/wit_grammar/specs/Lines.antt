@@ -3,7 +3,7 @@ use Rattle.std.specs.Prelude.{◌≡◌, ◌≢◌, ◌<◌, ◌≤◌, ℕ, Lis
 use Rattle.wit_model.specs.declared.faults.Fault.{Fault}
 use Rattle.wit_model.specs.declared.faults.Fault.TheVariants.{OutOfMemory}
 use Rattle.wit_model.specs.declared.lines.Line.{Line}
-use Rattle.wit_model.specs.declared.lines.Line.TheVariants.{Check, Lock, Try, GiveUp, Unlock}
+use Rattle.wit_model.specs.declared.lines.Line.TheVariants.{Header, Order, Bless, Check, Lock, Try, GiveUp, Unlock}
 use Rattle.wit_model.specs.declared.lines.Cause.{Cause}
 use Rattle.wit_model.specs.declared.lines.Cause.TheVariants.{Long, Syntax, Cut, Limit}
 use Rattle.wit_model.specs.declared.lines.Cause.TheVariants as why
@@ -52,6 +52,13 @@ IsWhyBad bytes (why.Fault f) = ⊥
 abbrev pub IsWhy : List ℕ → LineError → Type 0
 IsWhy bytes Memory = Unit {0}
 IsWhy bytes (Bad cause) = IsWhyBad bytes cause
+
+-- a line that stands before the calls
+abbrev pub IsPrelude : Line → Type 0
+IsPrelude (Header seats types locks chunks) = Unit {0}
+IsPrelude (Order list) = Unit {0}
+IsPrelude (Bless first second) = Unit {0}
+IsPrelude _ = ⊥
 
 -- the line has a spelling, of at most 4,096 bytes
 abbrev pub IsSpelled : Line → Type 0

@@ -6,6 +6,7 @@ mod lock_lines;
 mod names;
 mod numbers;
 mod parse;
+mod plain_lines;
 mod print;
 mod spellable;
 mod words;

@@ -4,12 +4,13 @@ ghost use Rattle.std.specs.Prelude.{◌≡◌, ◌≤◌, ◌<◌, ◌↔◌, le
 ghost use Rattle.wit_model.specs.declared.lines.Line.{Line};
 ghost use Rattle.wit_model.specs.declared.lines.Cause.TheVariants.{Long};
 ghost use Rattle.wit_model.specs.Trace.Spelling.{Spells};
-ghost use Rattle.wit_model.specs.Trace.Reading.{header_of, order_of, bless_of, init_of, watch_of, line_of};
+ghost use Rattle.wit_model.specs.Trace.Reading.{header_of, order_of, bless_of, init_of, line_of};
 ghost use Rattle.wit_grammar.specs.declared.errors.LineError.TheVariants.{Bad};
 ghost use Rattle.wit_grammar.specs.Lines.{Gives, IsWhy};
 
 use crate::errors::LineError;
 use crate::lock_lines::{check, give_up, lock, owned, try_lock, unlock};
+use crate::plain_lines::plain_line;
 use crate::{names, numbers, words};
 use std::alloc::Global;
 use wit_model::{Cause, Line, LockFlags, NewLock};
@@ -56,8 +57,6 @@ fn line(alloc: Global, bytes: &[u8]) -> Result<Line, LineError>
     } else if keyword == b"giveup".as_slice() {
         let line = give_up(rest)?;
         Ok(owned(alloc, line)?)
-    } else if keyword == b"watch".as_slice() {
-        watch(rest)
     } else if keyword == b"init".as_slice() {
         init(alloc, rest)
     } else if keyword == b"order".as_slice() {
@@ -67,7 +66,7 @@ fn line(alloc: Global, bytes: &[u8]) -> Result<Line, LineError>
     } else if keyword == b"witness-trace".as_slice() {
         header(rest)
     } else {
-        Err(LineError::SYNTAX)
+        plain_line(keyword, rest)
     }
 }
 
@@ -131,16 +130,4 @@ fn init(alloc: Global, bytes: &[u8]) -> Result<Line, LineError>
         type_name,
     };
     Ok(Line::Init { seat, lock })
-}
-
-#[tactic(auto, unfolding(wit_model::specs::Trace::Reading::watch_of))]
-fn watch(bytes: &[u8]) -> Result<Line, LineError>
-    ensures { Gives (λ l. l) result (watch_of bytes.now) }
-{
-    let (seat, rest) = numbers::seat(bytes)?;
-    let (watch, rest) = words::level(rest)?;
-    if !rest.is_empty() {
-        return Err(LineError::SYNTAX);
-    }
-    Ok(Line::Watch { seat, watch })
 }

@@ -1,16 +1,17 @@
 //! Printing a line.
 
-ghost use Rattle.std.specs.Prelude.{◌≡◌, ◌++◌, ◌∷◌, IfOk, IfErr, OnOk};
+ghost use Rattle.std.specs.Prelude.{◌≡◌, [], ◌++◌, ◌∷◌, IfOk, IfErr, OnOk};
 ghost use Rattle.std.specs.Fmt.{decimal};
-ghost use Rattle.wit_model.specs.Trace.Spelling.{class_text, mode_text, level_text, chosen_letters, flags_text, quoted, site_text, joined, lock_fields, list_fields, spelling};
-ghost use Rattle.wit_model.specs.declared.lines.Line.TheVariants.{Header, Order, Bless, Init, Check, Lock, Try, GiveUp, Unlock};
+ghost use Rattle.wit_model.specs.Trace.Spelling.{class_text, mode_text, level_text, number_if_any, chosen_letters, flags_text, quoted, site_text, joined, lock_fields, list_fields, spelling};
+ghost use Rattle.wit_model.specs.declared.lines.Line.TheVariants.{Header, Order, Bless, Init, Check, Try, Unlock, Assert, Warn, Define};
 ghost use Rattle.wit_model.specs.declared.lines.Line.TheVariants as lines;
-ghost use Rattle.wit_grammar.specs.Lines.{IsSpelled};
+ghost use Rattle.wit_grammar.specs.Lines.{IsPrelude, IsSpelled};
 ghost use Rattle.wit_model.specs.declared.faults.Fault.TheVariants.{OutOfMemory};
 
 use std::alloc::{AllocError, Global};
 use wit_model::{
-    Class, Fault, FileName, Line, LockNo, Mode, Name, NewLock, OpFlags, SeatNo, TypeList, Watch,
+    Class, Fault, FileName, Line, LockAssert, LockNo, Mode, Name, NewLock, OpFlags, SeatNo,
+    TypeList, WarnFlags, Watch,
 };
 
 /// The spelling of a line, without a line feed.
@@ -29,14 +30,7 @@ fn spell(alloc: Global, line: &Line) -> Result<Vec<u8>, AllocError>
     ensures { IfOk result (λ bytes. bytes.items ≡ spelling line.now) }
 {
     match line {
-        Line::Header {
-            seats,
-            types,
-            locks,
-            chunks,
-        } => spell_header(alloc, *seats, *types, *locks, *chunks),
-        Line::Order { list } => spell_order(alloc, list),
-        Line::Bless { first, second } => spell_bless(alloc, first, second),
+        Line::Header { .. } | Line::Order { .. } | Line::Bless { .. } => spell_prelude(alloc, line),
         Line::Init { seat, lock } => spell_init(alloc, *seat, lock),
         Line::Check {
             seat,
@@ -46,7 +40,7 @@ fn spell(alloc: Global, line: &Line) -> Result<Vec<u8>, AllocError>
             file,
             line,
         } => spell_check(alloc, *seat, *lock, *mode, *ops, file, *line),
-        Line::Lock { seat, lock } => spell_lock(alloc, *seat, *lock),
+        Line::Lock { seat, lock } => spell_pair(alloc, b"lock", *seat, *lock),
         Line::Try {
             seat,
             lock,
@@ -54,9 +48,43 @@ fn spell(alloc: Global, line: &Line) -> Result<Vec<u8>, AllocError>
             file,
             line,
         } => spell_try(alloc, *seat, *lock, *mode, file, *line),
-        Line::GiveUp { seat, lock } => spell_give_up(alloc, *seat, *lock),
+        Line::GiveUp { seat, lock } => spell_pair(alloc, b"giveup", *seat, *lock),
         Line::Unlock { seat, lock, mode } => spell_unlock(alloc, *seat, *lock, *mode),
+        Line::Destroy { seat, lock } => spell_pair(alloc, b"destroy", *seat, *lock),
+        Line::Upgrade { seat, lock } => spell_pair(alloc, b"upgrade", *seat, *lock),
+        Line::Downgrade { seat, lock } => spell_pair(alloc, b"downgrade", *seat, *lock),
+        Line::NoRelease { seat, lock } => spell_pair(alloc, b"norelease", *seat, *lock),
+        Line::ReleaseOk { seat, lock } => spell_pair(alloc, b"releaseok", *seat, *lock),
+        Line::Assert {
+            seat,
+            lock,
+            asserted,
+        } => spell_assert(alloc, *seat, *lock, *asserted),
+        Line::Warn { seat, lock, flags } => spell_warn(alloc, *seat, *lock, *flags),
+        Line::Define {
+            seat,
+            first,
+            second,
+        } => spell_define(alloc, *seat, *first, *second),
         Line::Watch { seat, watch } => spell_watch(alloc, *seat, *watch),
+    }
+}
+
+/// The lines before the calls.
+fn spell_prelude(alloc: Global, line: &Line) -> Result<Vec<u8>, AllocError>
+    requires { IsPrelude line.now }
+    ensures { IfOk result (λ bytes. bytes.items ≡ spelling line.now) }
+{
+    match line {
+        Line::Header {
+            seats,
+            types,
+            locks,
+            chunks,
+        } => spell_header(alloc, *seats, *types, *locks, *chunks),
+        Line::Order { list } => spell_order(alloc, list),
+        Line::Bless { first, second } => spell_bless(alloc, first, second),
+        _ => unreachable!(),
     }
 }
 
@@ -124,10 +152,17 @@ fn spell_check(
     Ok(out)
 }
 
-fn spell_lock(alloc: Global, seat: SeatNo, lock: LockNo) -> Result<Vec<u8>, AllocError>
-    ensures { IfOk result (λ bytes. bytes.items ≡ spelling (Lock seat lock)) }
+/// A line of a seat and a lock alone.
+fn spell_pair(
+    alloc: Global,
+    keyword: &[u8],
+    seat: SeatNo,
+    lock: LockNo,
+) -> Result<Vec<u8>, AllocError>
+    ensures { IfOk result (λ bytes. bytes.items
+        ≡ keyword.now ++ joined (decimal seat.0 ∷ decimal lock.0 ∷ [])) }
 {
-    let mut out = Vec::from_slice(alloc, b"lock")?;
+    let mut out = Vec::from_slice(alloc, keyword)?;
     put_number(alloc, &mut out, u32::from(seat.0))?;
     put_number(alloc, &mut out, lock.0)?;
     Ok(out)
@@ -151,15 +186,6 @@ fn spell_try(
     Ok(out)
 }
 
-fn spell_give_up(alloc: Global, seat: SeatNo, lock: LockNo) -> Result<Vec<u8>, AllocError>
-    ensures { IfOk result (λ bytes. bytes.items ≡ spelling (GiveUp seat lock)) }
-{
-    let mut out = Vec::from_slice(alloc, b"giveup")?;
-    put_number(alloc, &mut out, u32::from(seat.0))?;
-    put_number(alloc, &mut out, lock.0)?;
-    Ok(out)
-}
-
 fn spell_unlock(
     alloc: Global,
     seat: SeatNo,
@@ -172,6 +198,51 @@ fn spell_unlock(
     put_number(alloc, &mut out, u32::from(seat.0))?;
     put_number(alloc, &mut out, lock.0)?;
     put_word(&mut out, mode_text(mode))?;
+    Ok(out)
+}
+
+fn spell_assert(
+    alloc: Global,
+    seat: SeatNo,
+    lock: LockNo,
+    asserted: LockAssert,
+) -> Result<Vec<u8>, AllocError>
+    ensures { IfOk result (λ bytes. bytes.items ≡ spelling (Assert seat lock asserted)) }
+{
+    let mut out = Vec::from_slice(alloc, b"assert")?;
+    put_number(alloc, &mut out, u32::from(seat.0))?;
+    put_number(alloc, &mut out, lock.0)?;
+    put_flags(&mut out, b"ulsxrn", asserted.0)?;
+    Ok(out)
+}
+
+fn spell_warn(
+    alloc: Global,
+    seat: SeatNo,
+    lock: Option<LockNo>,
+    flags: WarnFlags,
+) -> Result<Vec<u8>, AllocError>
+    ensures { IfOk result (λ bytes. bytes.items ≡ spelling (Warn seat lock flags)) }
+{
+    let mut out = Vec::from_slice(alloc, b"warn")?;
+    put_number(alloc, &mut out, u32::from(seat.0))?;
+    put_number(alloc, &mut out, number_if_any(lock))?;
+    put_flags(&mut out, b"gs", flags.0)?;
+    Ok(out)
+}
+
+fn spell_define(
+    alloc: Global,
+    seat: SeatNo,
+    first: LockNo,
+    second: LockNo,
+) -> Result<Vec<u8>, AllocError>
+    ensures { IfOk result (λ bytes. bytes.items ≡ spelling (Define seat first second)) }
+{
+    let mut out = Vec::from_slice(alloc, b"define")?;
+    put_number(alloc, &mut out, u32::from(seat.0))?;
+    put_number(alloc, &mut out, first.0)?;
+    put_number(alloc, &mut out, second.0)?;
     Ok(out)
 }
 
@@ -274,6 +345,16 @@ fn put_site(alloc: Global, out: &mut Vec<u8>, file: &FileName, line: u32) -> Res
     out.push(b':')?;
     let text = line.to_string(alloc)?;
     out.extend_from_slice(text.as_bytes())
+}
+
+/// The number of a lock, 0 where none is named.
+fn number_if_any(lock: Option<LockNo>) -> u32
+    ensures { result ≡ number_if_any lock }
+{
+    match lock {
+        None => 0,
+        Some(lock) => lock.0,
+    }
 }
 
 pub fn class_text(class: Class) -> &'static [u8]

@@ -1,15 +1,15 @@
 //! Whether a line can be printed.
 
-ghost use Rattle.std.specs.Prelude.{◌≡◌, ◌≤◌, List, ℕ, ◌↔◌, length, IsTrue, IfSome};
+ghost use Rattle.std.specs.Prelude.{◌≡◌, ◌≤◌, ◌<◌, ◌^◌, List, ℕ, ◌↔◌, length, IsTrue, IfSome};
 ghost use Rattle.std.specs.List.{list_all};
-ghost use Rattle.wit_model.specs.Rules.Names.{is_name};
-ghost use Rattle.wit_model.specs.Trace.Spelling.{joined, list_fields, spelling, IsSpellableLock, IsSpellableList, IsSpellable};
+ghost use Rattle.wit_model.specs.Rules.Names.{is_name, is_file_name};
+ghost use Rattle.wit_model.specs.Trace.Spelling.{joined, list_fields, spelling, IsSpellableLock, IsSpellableList, IsNamed, IsSpellable};
 ghost use Rattle.wit_model.specs.declared.locks.Class.{Class};
-ghost use Rattle.wit_grammar.specs.Lines.{IsSpelled};
+ghost use Rattle.wit_grammar.specs.Lines.{IsPrelude, IsSpelled};
 
 use crate::parse::LONGEST;
 use crate::print::class_text;
-use wit_model::{Class, FileName, Line, Name, NewLock};
+use wit_model::{Class, FileName, Line, LockNo, Name, NewLock, SeatNo};
 
 /// Whether the line has a spelling of at most 4,096 bytes.
 pub fn spelled(line: &Line) -> bool
@@ -47,25 +47,9 @@ fn are_within(types: &[(Class, Name)], most: usize) -> bool
 fn is_spellable(line: &Line) -> bool
     ensures { IsTrue result ↔ IsSpellable line.now }
 {
-    // A number's type keeps it in its range, and a read shows that.
     match line {
-        Line::Header {
-            seats,
-            types,
-            locks,
-            chunks,
-        } => {
-            let _counts = [*seats, *types, *locks, *chunks];
-            true
-        }
-        Line::Order { list } => is_spellable_list(list.types()),
-        Line::Bless { first, second } => {
-            Name::accepts(first.as_str()) && Name::accepts(second.as_str())
-        }
-        Line::Init { seat, lock } => {
-            let _seat = seat.0;
-            is_spellable_lock(lock)
-        }
+        Line::Header { .. } | Line::Order { .. } | Line::Bless { .. } => is_spellable_prelude(line),
+        Line::Init { seat, lock } => is_seat(*seat) && is_spellable_lock(lock),
         Line::Check {
             seat,
             lock,
@@ -73,30 +57,89 @@ fn is_spellable(line: &Line) -> bool
             file,
             line,
             ..
-        } => {
-            let (_seat, _lock, _line) = (seat.0, lock.0, *line);
-            ops.0 < 8 && FileName::accepts(file.as_str())
-        }
+        } => are_seat_and_lock(*seat, *lock) && ops.0 < 8 && is_spellable_site(file, *line),
+        Line::Lock { seat, lock } => are_seat_and_lock(*seat, *lock),
         Line::Try {
             seat,
             lock,
             file,
             line,
             ..
+        } => are_seat_and_lock(*seat, *lock) && is_spellable_site(file, *line),
+        Line::GiveUp { seat, lock } => are_seat_and_lock(*seat, *lock),
+        Line::Unlock { seat, lock, .. } => are_seat_and_lock(*seat, *lock),
+        Line::Destroy { seat, lock } => are_seat_and_lock(*seat, *lock),
+        Line::Upgrade { seat, lock } => are_seat_and_lock(*seat, *lock),
+        Line::Downgrade { seat, lock } => are_seat_and_lock(*seat, *lock),
+        Line::NoRelease { seat, lock } => are_seat_and_lock(*seat, *lock),
+        Line::ReleaseOk { seat, lock } => are_seat_and_lock(*seat, *lock),
+        Line::Assert {
+            seat,
+            lock,
+            asserted,
+        } => are_seat_and_lock(*seat, *lock) && asserted.0 < 64,
+        Line::Warn { seat, lock, flags } => is_seat(*seat) && is_named_if_any(*lock) && flags.0 < 4,
+        Line::Define {
+            seat,
+            first,
+            second,
+        } => are_seat_and_lock(*seat, *first) && are_seat_and_lock(*seat, *second),
+        Line::Watch { seat, .. } => is_seat(*seat),
+    }
+}
+
+/// The lines before the calls.
+fn is_spellable_prelude(line: &Line) -> bool
+    requires { IsPrelude line.now }
+    ensures { IsTrue result ↔ IsSpellable line.now }
+{
+    match line {
+        Line::Header {
+            seats,
+            types,
+            locks,
+            chunks,
         } => {
-            let (_seat, _lock, _line) = (seat.0, lock.0, *line);
-            FileName::accepts(file.as_str())
-        }
-        Line::Lock { seat, lock } | Line::GiveUp { seat, lock } | Line::Unlock { seat, lock, .. } =>
-            {
-                let (_seat, _lock) = (seat.0, lock.0);
-                true
-            }
-        Line::Watch { seat, .. } => {
-            let _seat = seat.0;
+            // A number's type keeps it in its range, and a read shows that.
+            let _counts = [*seats, *types, *locks, *chunks];
             true
         }
+        Line::Order { list } => is_spellable_list(list.types()),
+        Line::Bless { first, second } => {
+            Name::accepts(first.as_str()) && Name::accepts(second.as_str())
+        }
+        _ => unreachable!(),
     }
+}
+
+/// Any: the numbers' types keep them in their ranges.
+fn is_seat(_seat: SeatNo) -> bool
+    ensures { IsTrue result ↔ (_seat.0 < 2 ^ 16) }
+{
+    true
+}
+
+/// Any, as `is_seat`.
+fn are_seat_and_lock(_seat: SeatNo, _lock: LockNo) -> bool
+    ensures { IsTrue result ↔ ((_seat.0 < 2 ^ 16) × (_lock.0 < 2 ^ 32)) }
+{
+    true
+}
+
+/// 0 names no lock.
+fn is_named_if_any(lock: Option<LockNo>) -> bool
+    ensures { IsTrue result ↔ IfSome lock IsNamed }
+{
+    match lock {
+        None => true,
+        Some(lock) => lock.0 > 0,
+    }
+}
+
+fn is_spellable_site(file: &FileName, _line: u32) -> bool
+    ensures { IsTrue result ↔ (IsTrue (is_file_name file.now) × (_line < 2 ^ 32)) }
+{
+    FileName::accepts(file.as_str())
 }
 
 fn is_spellable_list(types: &[(Class, Name)]) -> bool

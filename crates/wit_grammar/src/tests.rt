@@ -4,7 +4,8 @@ use crate::{LineError, parse_line, print_line, spelled};
 use std::alloc::{AllocError, Global};
 use std::test::Fail;
 use wit_model::{
-    Cause, Class, FileName, Line, LockFlags, LockNo, Mode, Name, NewLock, OpFlags, SeatNo, TypeList,
+    Cause, Class, FileName, Line, LockAssert, LockFlags, LockNo, Mode, Name, NewLock, OpFlags,
+    SeatNo, TypeList, WarnFlags,
 };
 
 /// Lines, one a row; a row ends with `$`, the last one aside.
@@ -47,11 +48,88 @@ giveup 0 0$
 giveup 65535 4294967295$
 watch 1 1$
 watch 0 0$
-watch 65535 -1"#;
+watch 65535 -1$
+destroy 1 2$
+destroy 65535 4294967295$
+upgrade 1 2$
+upgrade 0 0$
+downgrade 1 2$
+downgrade 65535 4294967295$
+norelease 1 2$
+norelease 0 0$
+releaseok 1 2$
+releaseok 65535 4294967295$
+assert 1 2 -$
+assert 0 0 u$
+assert 1 2 lr$
+assert 1 2 sn$
+assert 1 2 x$
+assert 65535 4294967295 ulsxrn$
+warn 1 0 -$
+warn 0 1 g$
+warn 1 2 s$
+warn 65535 4294967295 gs$
+define 1 2 3$
+define 0 0 0$
+define 65535 4294967295 4294967295"#;
 
 /// Rows that are no lines.
 const BAD: &str = r#" $
-destroy 1 1$
+destroy$
+destroy 1$
+destroy 1 $
+destroy 1 2 $
+destroy 1 2 3$
+destroy 01 2$
+destroy 1 02$
+destroy 65536 2$
+destroyed 1 2$
+upgrade 1$
+upgrade 1 2 x$
+upgrade 1 4294967296$
+downgrade 1$
+downgrade 1 2 s$
+downgrade 1 00$
+down 1 2$
+norelease 1$
+norelease 1 2 -$
+no release 1 2$
+releaseok 1$
+releaseok 1  2$
+release 1 2$
+assert 1 2$
+assert 1 2 $
+assert 1 - l$
+assert 1 2 lu$
+assert 1 2 sl$
+assert 1 2 xs$
+assert 1 2 rx$
+assert 1 2 nr$
+assert 1 2 uu$
+assert 1 2 nn$
+assert 1 2 l-$
+assert 1 2 L$
+assert 1 2 d$
+assert 1 2 l $
+assert 1 2 l r$
+warn 1 2$
+warn 1 g$
+warn 1 - g$
+warn 1 00 g$
+warn 1 02 g$
+warn 1 2 sg$
+warn 1 2 gg$
+warn 1 2 ss$
+warn 1 2 G$
+warn 1 2 g $
+warn 1 4294967296 g$
+define 1 2$
+define 1 2 $
+define 1 2 03$
+define 1 02 3$
+define 1 2 3 4$
+define 1 2 4294967296$
+define 1 4294967296 3$
 loc 1 2$
 locks 1 2$
 LOCK 1 2$
@@ -330,6 +408,10 @@ fn single_bytes(rt: HostRuntime) -> Result<(), Fail> {
         ("watch 1 ", "", b'0', b'1'),
         ("watch 1 ", "1", b'-', b'-'),
         ("watch 1", "1", b' ', b' '),
+        ("destroy 1 2", "", b'0', b'9'),
+        ("upgrade 1", "2", b' ', b' '),
+        ("assert 1 2", "l", b' ', b' '),
+        ("define 1 2", "3", b' ', b' '),
         ("lock 1 2", "", b'0', b'9'),
         ("lock 1 ", "", b'0', b'9'),
         ("lock", "1 2", b' ', b' '),
@@ -469,7 +551,23 @@ try 7 8 s a:b:0 = Try { seat: SeatNo(7), lock: LockNo(8), mode: Shared, file: Fi
 giveup 1 2 = GiveUp { seat: SeatNo(1), lock: LockNo(2) }
 watch 7 1 = Watch { seat: SeatNo(7), watch: On }
 watch 7 0 = Watch { seat: SeatNo(7), watch: Quiet }
-watch 7 -1 = Watch { seat: SeatNo(7), watch: Off }"#;
+watch 7 -1 = Watch { seat: SeatNo(7), watch: Off }
+destroy 1 2 = Destroy { seat: SeatNo(1), lock: LockNo(2) }
+upgrade 1 2 = Upgrade { seat: SeatNo(1), lock: LockNo(2) }
+downgrade 1 2 = Downgrade { seat: SeatNo(1), lock: LockNo(2) }
+norelease 1 2 = NoRelease { seat: SeatNo(1), lock: LockNo(2) }
+releaseok 1 2 = ReleaseOk { seat: SeatNo(1), lock: LockNo(2) }
+assert 1 2 - = Assert { seat: SeatNo(1), lock: LockNo(2), asserted: LockAssert(0) }
+assert 1 2 u = Assert { seat: SeatNo(1), lock: LockNo(2), asserted: LockAssert(1) }
+assert 1 2 l = Assert { seat: SeatNo(1), lock: LockNo(2), asserted: LockAssert(2) }
+assert 1 2 s = Assert { seat: SeatNo(1), lock: LockNo(2), asserted: LockAssert(4) }
+assert 1 2 x = Assert { seat: SeatNo(1), lock: LockNo(2), asserted: LockAssert(8) }
+assert 1 2 r = Assert { seat: SeatNo(1), lock: LockNo(2), asserted: LockAssert(16) }
+assert 1 2 n = Assert { seat: SeatNo(1), lock: LockNo(2), asserted: LockAssert(32) }
+warn 1 0 - = Warn { seat: SeatNo(1), lock: None, flags: WarnFlags(0) }
+warn 1 2 g = Warn { seat: SeatNo(1), lock: Some(LockNo(2)), flags: WarnFlags(1) }
+warn 1 2 s = Warn { seat: SeatNo(1), lock: Some(LockNo(2)), flags: WarnFlags(2) }
+define 1 2 3 = Define { seat: SeatNo(1), first: LockNo(2), second: LockNo(3) }"#;
 
 /// Whether a row's line is read as what stands behind it.
 fn is_read(alloc: Global, row: &str) -> Result<bool, AllocError> {
@@ -570,6 +668,44 @@ fn is_try_spelled(alloc: Global, file: &str) -> Result<bool, AllocError> {
         file: FileName::new(alloc, file)?,
         line: 9,
     }))
+}
+
+fn is_assertion_spelled(flags: u8) -> bool {
+    spelled(&Line::Assert {
+        seat: SeatNo(7),
+        lock: LockNo(8),
+        asserted: LockAssert(flags),
+    })
+}
+
+fn is_warning_spelled(lock: Option<u32>, flags: u8) -> bool {
+    spelled(&Line::Warn {
+        seat: SeatNo(7),
+        lock: lock.map(LockNo),
+        flags: WarnFlags(flags),
+    })
+}
+
+// Lock 0 is how a line names none.
+#[test]
+fn spelled_flags(rt: HostRuntime) {
+    for (flags, want) in [(0, true), (63, true), (64, false), (255, false)] {
+        assert_eq!(rt; is_assertion_spelled(flags), want, "at {flags}");
+    }
+    for (lock, flags, want) in [
+        (None, 0, true),
+        (Some(0), 0, false),
+        (Some(1), 3, true),
+        (Some(u32::MAX), 3, true),
+        (Some(1), 4, false),
+        (None, 255, false),
+    ] {
+        assert_eq!(rt;
+            is_warning_spelled(lock, flags),
+            want,
+            "at {lock:?}, {flags}"
+        );
+    }
 }
 
 #[test]

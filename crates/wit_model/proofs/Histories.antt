@@ -3,4 +3,6 @@ pub mod Accepted
 pub mod Asked
 pub mod Exhaustion
 pub mod Legal
+pub mod Live
 pub mod NamedFiles
+pub mod Used

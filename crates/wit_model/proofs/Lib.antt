@@ -5,3 +5,5 @@ pub mod Numbered
 pub mod Orders
 pub mod Spelling
 pub mod VerdictLaws
+pub mod World
+pub mod Waits

@@ -1,5 +1,5 @@
 -- Laws: what holds of every legal history.
-use Rattle.std.specs.Prelude.{ℕ, ◌≡◌, ◌≤◌, ◌↔◌, Bool, true, false, List, [], ◌∷◌, ◌++◌, count_by, None, Some, Ok, IsOk}
+use Rattle.std.specs.Prelude.{ℕ, ◌≡◌, ◌≤◌, ◌↔◌, Bool, true, false, ◌||◌, List, [], ◌∷◌, ◌++◌, count_by, None, Some, Ok, IsOk}
 use Rattle.wit_model.specs.declared.calls.Adoption.{Adoption}
 use Rattle.wit_model.specs.declared.calls.Request.{Request}
 use Rattle.wit_model.specs.declared.calls.Call.TheVariants.{Check, Note, GiveUp}
@@ -8,10 +8,10 @@ use Rattle.wit_model.specs.declared.calls.Reply.TheVariants.{Done, Exhausted}
 use Rattle.wit_model.specs.declared.locks.Watch.TheVariants.{Off}
 use Rattle.wit_model.specs.declared.calls.Entry.{Entry}
 use Rattle.wit_model.specs.Rules.Orders.{Before, is_before, IsSound}
-use Rattle.wit_model.specs.Rules.History.{pending, watch_of}
-use Rattle.wit_model.specs.Rules.State.{Start, Story, orders_of}
+use Rattle.wit_model.specs.Rules.History.{is_held, pending, watch_of}
+use Rattle.wit_model.specs.Rules.State.{Start, Story, state_of, is_seat, is_live, orders_of}
 use Rattle.wit_model.specs.Rules.Start.{start_fault}
-use Rattle.wit_model.specs.Rules.Step.{answer_of, logged, IsLegal}
+use Rattle.wit_model.specs.Rules.Step.{is_for, answer_of, logged, IsLegal}
 
 -- no type is before itself after a legal history, where its start is accepted
 abbrev pub OrdersStaySound : Type 0
@@ -40,6 +40,12 @@ abbrev pub CheckedIsNoted : Type 0
 CheckedIsNoted =
     (s : Story) (t : ℕ) (q : Request) (r : Reply)
     → IsLegal s.start s.files s.history → answer_of s t (Check q) ≡ Ok r → IsOk (answer_of (logged s t (Check q) r) t (Note q.lock))
+
+-- a lock that a seat holds or asks for was made and isn't destroyed
+abbrev pub UsedLocksAreLive : Type 0
+UsedLocksAreLive =
+    (s : Story) (t l : ℕ) → IsLegal s.start s.files s.history → is_seat (state_of s) t ≡ true
+    → (is_held t l s.history || is_for l (pending t s.history)) ≡ true → is_live (state_of s) l ≡ true
 
 -- where nothing is watched, nothing is ever watched again
 abbrev pub OffIsForGood : Type 0

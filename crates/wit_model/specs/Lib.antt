@@ -3,3 +3,5 @@ pub mod Laws
 pub mod Rules
 pub mod Trace
 pub mod VerdictLaws
+pub mod World
+pub mod WorldLaws

@@ -1,8 +1,11 @@
 -- The rules of lock orders: what is held, which orders are known, and what each call is answered.
 pub mod Ahead
+pub mod Assertions
 pub mod Chunks
 pub mod Circles
 pub mod Clean
+pub mod Defining
+pub mod Destroying
 pub mod Faults
 pub mod Files
 pub mod Groups
@@ -11,11 +14,14 @@ pub mod Locks
 pub mod Names
 pub mod Numbers
 pub mod Orders
+pub mod Questions
 pub mod Refusals
 pub mod SeatGroups
 pub mod Sizes
 pub mod Start
 pub mod State
 pub mod Step
+pub mod Turning
 pub mod Types
 pub mod Verdict
+pub mod Warnings

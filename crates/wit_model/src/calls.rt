@@ -91,6 +91,18 @@ pub enum Call {
     Unlock(LockNo, Mode),
     /// This much is watched from now on.
     SetWatch(Watch),
+    /// A lock is no more: `lock_destroy` in witness(4)'s interface.
+    Destroy(LockNo),
+    /// A lock held shared is held exclusively from now on, as by `rw_try_upgrade` of rwlock(9).
+    Upgrade(LockNo),
+    /// A lock held exclusively is held shared from now on, as by `rw_downgrade` of rwlock(9).
+    Downgrade(LockNo),
+    /// A held lock must not be released: `witness_norelease` of subr_witness.c.
+    NoRelease(LockNo),
+    /// It may be released again: `witness_releaseok` of subr_witness.c.
+    ReleaseOk(LockNo),
+    /// The first lock's type is before the second one's: `witness_defineorder` of subr_witness.c.
+    DefineOrder(LockNo, LockNo),
 }
 
 /// Which rule a reversal breaks.
@@ -157,6 +169,8 @@ pub enum Reply {
     Unrecorded,
     /// The release is recorded.
     Unlocked,
+    /// The order is a direct one already.
+    Known,
     /// The call is passed over, since not everything is watched. The log holds no such answer.
     Ignored,
 }

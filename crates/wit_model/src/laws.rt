@@ -8,6 +8,7 @@ ghost use Rattle.wit_model.specs.Laws.{
   PendingIsNoted,
   PendingIsGivenUp,
   CheckedIsNoted,
+  UsedLocksAreLive,
   OffIsForGood,
   IsExhaustedOnce,
   FilesMayGrow,
@@ -28,6 +29,11 @@ pub fn law_note_after_check()
     ensures pending { PendingIsNoted }
     ensures given_up { PendingIsGivenUp }
     ensures at_once { CheckedIsNoted }
+{}
+
+/// No lock that a seat holds or asks for is destroyed.
+pub fn law_used_locks_live()
+    ensures { UsedLocksAreLive }
 {}
 
 /// Once nothing is watched, nothing is ever watched again.

@@ -15,6 +15,7 @@ mod names;
 mod sizes;
 mod type_lists;
 pub mod verdict_laws;
+pub mod world_laws;
 
 pub use assertions::AssertAnswer;
 pub use boxes::Boxed;

@@ -2,7 +2,7 @@
 
 use crate::calls::NewLock;
 use crate::faults::Fault;
-use crate::flags::OpFlags;
+use crate::flags::{LockAssert, OpFlags, WarnFlags};
 use crate::locks::{LockNo, Mode, SeatNo, Watch};
 use crate::names::{FileName, Name};
 use crate::type_lists::TypeList;
@@ -64,6 +64,49 @@ pub enum Line {
         lock: LockNo,
         mode: Mode,
     },
+    /// `destroy`: a lock is done with.
+    Destroy {
+        seat: SeatNo,
+        lock: LockNo,
+    },
+    /// `upgrade`: a lock held shared becomes held exclusively.
+    Upgrade {
+        seat: SeatNo,
+        lock: LockNo,
+    },
+    /// `downgrade`: a lock held exclusively becomes held shared.
+    Downgrade {
+        seat: SeatNo,
+        lock: LockNo,
+    },
+    /// `norelease`: a held lock isn't to be released.
+    NoRelease {
+        seat: SeatNo,
+        lock: LockNo,
+    },
+    /// `releaseok`: a held lock may be released again.
+    ReleaseOk {
+        seat: SeatNo,
+        lock: LockNo,
+    },
+    /// `assert`: something is asserted of a lock.
+    Assert {
+        seat: SeatNo,
+        lock: LockNo,
+        asserted: LockAssert,
+    },
+    /// `warn`: no lock should be held, or none but this one.
+    Warn {
+        seat: SeatNo,
+        lock: Option<LockNo>,
+        flags: WarnFlags,
+    },
+    /// `define`: locks of the first one's type are acquired before those of the second one's.
+    Define {
+        seat: SeatNo,
+        first: LockNo,
+        second: LockNo,
+    },
     /// `watch`: how much the verifier is to do from here on.
     Watch {
         seat: SeatNo,
@@ -89,6 +132,12 @@ pub enum Cause {
 /// What a replay writes.
 #[derive(Clone, Copy, Debug, PartialEq, Eq, Hash)]
 pub enum View {
-    /// The texts of reports, as they come.
+    /// The texts of reports, failed assertions and warnings, as they come.
     Reports,
+    /// The direct orders of lock types, after the whole trace.
+    Graph,
+    /// The held locks of all seats, after the whole trace.
+    Locks,
+    /// A circle of seats that wait for one another, after the whole trace, or that there is none.
+    Circle,
 }

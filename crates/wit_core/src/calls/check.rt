@@ -2,9 +2,8 @@
 
 ghost use Rattle.std.specs.Prelude.{◌≡◌, true, IfOk, IfErr, Ok};
 ghost use Rattle.wit_model.specs.declared.calls.Call.TheVariants.{Check};
-ghost use Rattle.wit_model.specs.Rules.Numbers.{is_given};
 ghost use Rattle.wit_model.specs.Rules.Refusals.{IsRefusal};
-ghost use Rattle.wit_model.specs.Rules.State.{state_of, seat_at, is_seat};
+ghost use Rattle.wit_model.specs.Rules.State.{state_of, seat_at, is_seat, is_live};
 ghost use Rattle.wit_model.specs.Rules.Step.{AnswersOrFails, answer_of, logged};
 ghost use Rattle.wit_model.specs.Rules.Verdict.{verdict};
 ghost use Rattle.wit_core.specs.Verdict.{told, replied};
@@ -63,10 +62,10 @@ impl Verifier {
         Ok(verdict)
     }
 
-    // The verdict on the request of a seat for a lock that was made.
+    // The verdict on the request of a seat for a live lock.
     fn verdict(&self, seat: SeatNo, request: Request) -> Verdict
         requires seat { is_seat (state_of self.now) seat.0 ≡ true }
-        requires lock { is_given (state_of self.now).known.locks request.lock.0 ≡ true }
+        requires lock { is_live (state_of self.now) request.lock.0 ≡ true }
         ensures { told result ≡ verdict (state_of self.now).known (state_of self.now).watch (seat_at (state_of self.now) seat.0) request }
     {
         let known = &self.known;

@@ -127,6 +127,8 @@ impl Verifier {
         ensures err { OnErr result (self.new ≡ self.old) }
         ensures memory { IfErr result (λ e. e ≡ OutOfMemory) }
     {
+        // Called for its clause that there are never more than 65,536 locks.
+        let _most = self.limits.locks();
         self.log.reserve(1)?;
         self.known.add_lock(made)?;
         let entry = Entry {

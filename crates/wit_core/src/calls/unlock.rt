@@ -35,7 +35,7 @@ impl Verifier {
         if !self.is_seat(seat) {
             return Err(Fault::UnknownSeat);
         }
-        if !self.is_made(lock) {
+        if !self.is_live(lock) {
             return Err(Fault::UnknownLock);
         }
         if self.request(seat).is_some() {

@@ -1,9 +1,14 @@
 -- How many acquisitions an entry leaves.
-use Rattle.std.proofs.Common.{◌≡◌, ℕ, ◌+◌, ◌-◌, ◌<◌, ◌≤◌, true, false, cond, eqb, List, [], ◌∷◌, count_by, refl, ap, ◌∙◌, subst, inl, inr, arith}
+use Rattle.std.proofs.Common.{◌≡◌, ℕ, ◌+◌, ◌-◌, ◌<◌, ◌≤◌, Bool, true, false, cond, eqb, List, [], ◌∷◌, count_by, refl, ap, ◌∙◌, subst, inl, inr, arith}
+use Rattle.std.proofs.lemmas.Bool.{false≢true}
 use Rattle.std.proofs.lemmas.Bool.Decides.{eqb_tells}
 use Rattle.std.proofs.lemmas.List.Sums.{sum_by-cons}
+use Rattle.wit_model.specs.declared.locks.LockNo.{LockNo}
+use Rattle.wit_model.specs.declared.calls.Call.TheVariants.{Upgrade, Downgrade, NoRelease, ReleaseOk}
+use Rattle.wit_model.specs.declared.calls.Reply.{Reply}
+use Rattle.wit_model.specs.declared.calls.Reply.TheVariants.{Done}
 use Rattle.wit_model.specs.declared.calls.Entry.{Entry}
-use Rattle.wit_model.specs.Rules.History.{Act, Nothing, Records, Releases, Turns, Marks, act_by, is_record, is_release, records, releases, num}
+use Rattle.wit_model.specs.Rules.History.{Act, Nothing, Records, Releases, Turns, Marks, act, act_by, is_record, is_release, records, releases, num}
 use Rattle.wit_model.proofs.Chains.Sane.{IsFit, IsSane, fit_by}
 
 recorded-cons : (t l : ℕ) (x : Entry) (h : List Entry) (a : Act) → act_by t x ≡ a
@@ -88,3 +93,38 @@ num-step t l x h (Releases m) is sane =
 pub num-nil : (t l : ℕ) → num t l [] ≡ 0
 unfolding num
 num-nil t l = refl
+
+-- an act that leaves all acquisitions
+abbrev pub is_even : Act → Bool
+is_even (Records l) = false
+is_even (Releases l) = false
+is_even _ = true
+
+pub num_after-even : (a : Act) (l n : ℕ) → is_even a ≡ true → num_after a l n ≡ n
+num_after-even Nothing l n even = refl
+num_after-even (Turns m new) l n even = refl
+num_after-even (Marks m new) l n even = refl
+num_after-even a l n even = absurd (false≢true even)
+
+pub fit-even : (a : Act) (t : ℕ) (h : List Entry) → is_even a ≡ true → IsFit a t h
+fit-even Nothing t h even = tt
+fit-even (Turns m new) t h even = tt
+fit-even (Marks m new) t h even = tt
+fit-even a t h even = absurd (false≢true even)
+
+-- calls that turn or mark a lock leave them, whatever they are answered
+pub upgrade-even : (l : LockNo) (r : Reply) → is_even (act (Upgrade l) r) ≡ true
+upgrade-even l Done = refl
+upgrade-even l r = refl
+
+pub downgrade-even : (l : LockNo) (r : Reply) → is_even (act (Downgrade l) r) ≡ true
+downgrade-even l Done = refl
+downgrade-even l r = refl
+
+pub norelease-even : (l : LockNo) (r : Reply) → is_even (act (NoRelease l) r) ≡ true
+norelease-even l Done = refl
+norelease-even l r = refl
+
+pub releaseok-even : (l : LockNo) (r : Reply) → is_even (act (ReleaseOk l) r) ≡ true
+releaseok-even l Done = refl
+releaseok-even l r = refl

@@ -7,7 +7,7 @@ use Rattle.wit_model.specs.declared.locks.Site.{Site}
 use Rattle.wit_model.specs.declared.locks.Instance.{Instance}
 use Rattle.wit_model.specs.declared.calls.Request.{Request}
 use Rattle.wit_model.specs.declared.calls.Call.{Call}
-use Rattle.wit_model.specs.declared.calls.Call.TheVariants.{Check, Note, NoteTry, GiveUp, Unlock}
+use Rattle.wit_model.specs.declared.calls.Call.TheVariants.{Check, Note, NoteTry, GiveUp, Unlock, Downgrade, NoRelease, ReleaseOk, Upgrade}
 use Rattle.wit_model.specs.declared.calls.Reply.{Reply}
 use Rattle.wit_model.specs.declared.calls.Reply.TheVariants.{Recorded, Unlocked}
 use Rattle.wit_model.specs.declared.calls.Entry.{Entry}
@@ -15,7 +15,7 @@ use Rattle.wit_model.specs.Rules.History.{Nothing, Records, Releases, act, num, 
 use Rattle.wit_model.specs.Rules.State.{Start, state_of, is_seat}
 use Rattle.wit_model.specs.Rules.Step.{held_by, is_for, is_deepest, is_too_deep, answer_of, story_after, IsLegal}
 use Rattle.wit_model.proofs.Chains.Sane.{IsSane}
-use Rattle.wit_model.proofs.Chains.Acts.{num-step, num-nil}
+use Rattle.wit_model.proofs.Chains.Acts.{num-step, num-nil, downgrade-even, is_even, norelease-even, num_after-even, releaseok-even, upgrade-even}
 use Rattle.wit_model.proofs.Chains.HeldLocks.{num-of_free}
 use Rattle.wit_model.proofs.Chains.Found.{if_some}
 use Rattle.wit_model.proofs.Chains.Seats.{entry, act-own, act-other}
@@ -66,11 +66,11 @@ idle-none (Some q) is = absurd (false≢true (sym is))
 
 module _ (start : Start) (files : List (List ℕ)) (h : List Entry) (t : ℕ) (c : Call) (r : Reply) (sane : IsSane h) (ok : answer_of (story_after start files h) t c ≡ Ok r)
     (shallow : IsShallow t h) where
-  -- an entry of the seat's own that does nothing to its locks
-  shallow-quiet : act c r ≡ Nothing → ((q : Request) → pending_after c (pending t h) ≡ Some q → is_off (watch_of h) ≡ false → num t q.lock.0 h ≤ 65535)
+  -- an entry of the seat's own that leaves its acquisitions
+  shallow-quiet : is_even (act c r) ≡ true → ((q : Request) → pending_after c (pending t h) ≡ Some q → is_off (watch_of h) ≡ false → num t q.lock.0 h ≤ 65535)
       → IsShallow t (entry t c r ∷ h)
   shallow-quiet quiet few =
-      let same = λ (l : ℕ). num-step t l (entry t c r) h Nothing (act-own (entry t c r) ∙ quiet) sane in
+      let same = λ (l : ℕ). num-step t l (entry t c r) h (act c r) (act-own (entry t c r)) sane ∙ num_after-even (act c r) l (num t l h) quiet in
       record {
         bound = λ l. (let e = same l in let b = shallow.bound l in omega arith);
         asked = λ q is some. (let e = same q.lock.0 in
@@ -78,11 +78,11 @@ module _ (start : Start) (files : List (List ℕ)) (h : List Entry) (t : ℕ) (c
       }
 
   -- one that keeps the request
-  shallow-keeps : act c r ≡ Nothing → pending_after c (pending t h) ≡ pending t h → IsShallow t (entry t c r ∷ h)
+  shallow-keeps : is_even (act c r) ≡ true → pending_after c (pending t h) ≡ pending t h → IsShallow t (entry t c r ∷ h)
   shallow-keeps quiet keeps = shallow-quiet quiet (λ q is some. shallow.asked q (sym keeps ∙ is) some)
 
   -- one that leaves none
-  shallow-none : act c r ≡ Nothing → pending_after c (pending t h) ≡ None → IsShallow t (entry t c r ∷ h)
+  shallow-none : is_even (act c r) ≡ true → pending_after c (pending t h) ≡ None → IsShallow t (entry t c r ∷ h)
   shallow-none quiet none = shallow-quiet quiet (λ q is some. absurd (let no : ◌≡◌ {A = Option Request} None (Some q) = sym none ∙ is in cc))
 
   -- one that records an acquisition
@@ -137,6 +137,10 @@ shallow-own start files h t (NoteTry l m site) Recorded sane ok shallow =
     (idle-none (pending t h) (ap is_some (sym (pending-state start files h t a.seat)) ∙ a.idle))
 shallow-own start files h t (GiveUp l) r sane ok shallow = shallow-none start files h t (GiveUp l) r sane ok shallow refl refl
 shallow-own start files h t (Unlock l m) Unlocked sane ok shallow = shallow-fewer start files h t (Unlock l m) Unlocked sane ok shallow l.0 refl refl
+shallow-own start files h t (Upgrade l) r sane ok shallow = shallow-keeps start files h t (Upgrade l) r sane ok shallow (upgrade-even l r) refl
+shallow-own start files h t (Downgrade l) r sane ok shallow = shallow-keeps start files h t (Downgrade l) r sane ok shallow (downgrade-even l r) refl
+shallow-own start files h t (NoRelease l) r sane ok shallow = shallow-keeps start files h t (NoRelease l) r sane ok shallow (norelease-even l r) refl
+shallow-own start files h t (ReleaseOk l) r sane ok shallow = shallow-keeps start files h t (ReleaseOk l) r sane ok shallow (releaseok-even l r) refl
 shallow-own start files h t c r sane ok shallow = shallow-keeps start files h t c r sane ok shallow refl refl
 
 shallow_more : (start : Start) (files : List (List ℕ)) (h : List Entry) (t : ℕ) (x : Entry) → IsSane h

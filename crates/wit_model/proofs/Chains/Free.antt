@@ -9,7 +9,7 @@ use Rattle.wit_model.specs.declared.locks.Mode.{Mode}
 use Rattle.wit_model.specs.declared.locks.Instance.{Instance}
 use Rattle.wit_model.specs.declared.calls.NewLock.{NewLock}
 use Rattle.wit_model.specs.declared.calls.Call.{Call}
-use Rattle.wit_model.specs.declared.calls.Call.TheVariants.{Note, NoteTry, Unlock}
+use Rattle.wit_model.specs.declared.calls.Call.TheVariants.{Note, NoteTry, Unlock, Downgrade, NoRelease, ReleaseOk, Upgrade}
 use Rattle.wit_model.specs.declared.calls.Reply.{Reply}
 use Rattle.wit_model.specs.declared.calls.Reply.TheVariants.{Recorded, Unlocked}
 use Rattle.wit_model.specs.declared.calls.Entry.{Entry}
@@ -26,7 +26,7 @@ use Rattle.wit_model.proofs.Chains.Regrouping.{filter-shorter, seat_groups-nil}
 use Rattle.wit_model.proofs.Chains.GroupSteps.{entered, withdrawn, groups_after}
 use Rattle.wit_model.proofs.Chains.Seats.{sum-step}
 use Rattle.wit_model.proofs.Histories.Accepted.{recorded_room, note_accepted, try_accepted}
-use Rattle.wit_model.proofs.Histories.Legal.{seat-within, one_chain, one_groups, chain_for-state, groups_for-state, sane_legal, seat_accepted}
+use Rattle.wit_model.proofs.Histories.Legal.{seat-within, one_chain, one_groups, chain_for-state, groups_for-state, sane_legal, seat_accepted, plain-unrecorded}
 
 module _ {X : Type 0} where
   pub length-joined : (x : X) (gs : List (List X)) → length (joined x gs) ≡ length gs + cond (opens gs) 1 0
@@ -118,6 +118,10 @@ records-recorded s t (Note k) Recorded l ok acts =
 records-recorded s t (NoteTry k m site) Recorded l ok acts =
     subst (λ j. recorded s t j ≡ Recorded) (let same : k.0 ≡ l = cc in same) (sym (try_accepted s t k.0 m site Recorded ok).reply)
 records-recorded s t (Unlock k m) r l ok acts = absurd (unlock_records k m r l acts)
+records-recorded s t (Upgrade k) r l ok acts = absurd (plain-unrecorded (Upgrade k) r l refl acts)
+records-recorded s t (Downgrade k) r l ok acts = absurd (plain-unrecorded (Downgrade k) r l refl acts)
+records-recorded s t (NoRelease k) r l ok acts = absurd (plain-unrecorded (NoRelease k) r l refl acts)
+records-recorded s t (ReleaseOk k) r l ok acts = absurd (plain-unrecorded (ReleaseOk k) r l refl acts)
 records-recorded s t c r l ok acts = absurd (nothing_records l acts)
 
 room_by : (held opens none : Bool) (chunks most : ℕ) → (held ≡ false → (opens && none) ≡ false) → (none ≡ false → chunks + 1 ≤ most) → chunks ≤ most

@@ -1,7 +1,7 @@
 -- The log entries that are owed, after an entry; and that the log never runs out of room for them.
 use Rattle.std.proofs.Common.{◌≡◌, ℕ, zero, suc, ◌+◌, ◌<◌, ◌≤◌, Bool, true, false, not, ◌&&◌, cond, nat_lt, List, [], ◌∷◌, length, map, filter, find, sum_by, Option, Some, None, is_some, Ok, refl, ap, ap₂, sym, ◌∙◌, arith}
 use Rattle.std.specs.List.{range_with_len}
-use Rattle.std.proofs.lemmas.Bool.{ltb-true, ltb-false, leb-true, true≢false}
+use Rattle.std.proofs.lemmas.Bool.{ltb-true, ltb-false, leb-true, true≢false, false≢true}
 use Rattle.std.proofs.lemmas.List.Sums.{sum_by-cons, sum_by_push}
 use Rattle.wit_model.specs.declared.locks.LockNo.{LockNo}
 use Rattle.wit_model.specs.declared.locks.Mode.{Mode}
@@ -10,24 +10,25 @@ use Rattle.wit_model.specs.declared.locks.Instance.{Instance}
 use Rattle.wit_model.specs.declared.calls.NewLock.{NewLock}
 use Rattle.wit_model.specs.declared.calls.Request.{Request}
 use Rattle.wit_model.specs.declared.calls.Call.{Call}
-use Rattle.wit_model.specs.declared.calls.Call.TheVariants.{Init, Check, Note, NoteTry, GiveUp, Unlock, SetWatch}
+use Rattle.wit_model.specs.declared.calls.Call.TheVariants.{Init, Check, Note, NoteTry, GiveUp, Unlock}
 use Rattle.wit_model.specs.declared.calls.Reply.{Reply}
 use Rattle.wit_model.specs.declared.calls.Reply.TheVariants.{Recorded, Unlocked}
 use Rattle.wit_model.specs.declared.calls.Entry.{Entry}
 use Rattle.wit_model.specs.Rules.Locks.{locks_of, is_spin_lock, is_of_kind}
-use Rattle.wit_model.specs.Rules.History.{Nothing, act, chain, pending, pending_after, is_held, instance, asked_mode, asked_site}
+use Rattle.wit_model.specs.Rules.History.{Nothing, act, chain, pending, pending_after, is_held, instance, asked_mode, asked_site, Act, Marks, Turns}
 use Rattle.wit_model.specs.Rules.State.{Start, seat_of, seats_of, state_of, recorded_in, owed_for, owed_by}
 use Rattle.wit_model.specs.Rules.Verdict.{is_of}
 use Rattle.wit_model.specs.Rules.Step.{is_for, is_logged, answer_of, story_after, IsLegal}
 use Rattle.wit_model.proofs.Chains.Sane.{IsSane}
-use Rattle.wit_model.proofs.Chains.HeldLocks.{taken}
+use Rattle.wit_model.proofs.Chains.HeldLocks.{taken, changed}
 use Rattle.wit_model.proofs.Chains.Found.{if_some, found}
 use Rattle.wit_model.proofs.Chains.Changes.{at, is_other}
-use Rattle.wit_model.proofs.Chains.After.{recursed, fewer, noted, unlocked}
+use Rattle.wit_model.proofs.Chains.After.{recursed, fewer, noted, unlocked, part_after}
 use Rattle.wit_model.proofs.Chains.Seats.{seat_after, sum-step, entry, seat_after-quiet}
 use Rattle.wit_model.proofs.Chains.Stands.{stands, stands-chain, sum-changed, sum-removed}
-use Rattle.wit_model.proofs.Histories.Accepted.{asked-lock, check_accepted, note_accepted, try_accepted, give_up_accepted, unlock_accepted, watch_accepted, init_accepted}
-use Rattle.wit_model.proofs.Histories.Legal.{one_chain, own_kind, seat-within, pending-state, sane_legal, unlock-held}
+use Rattle.wit_model.proofs.Histories.Accepted.{asked-lock, check_accepted, note_accepted, try_accepted, give_up_accepted, unlock_accepted, init_accepted, is_plain, plain_accepted}
+use Rattle.wit_model.proofs.Histories.Legal.{one_chain, own_kind, seat-within, pending-state, sane_legal, unlock-held, plain-even, plain-keeps}
+use Rattle.wit_model.proofs.Chains.Acts.{is_even}
 
 -- an acquisition counts one more
 pub recorded-noted : (l : ℕ) (m : Mode) (s : Site) (c : List Instance) (o : Option Instance) → find (is_of l) c ≡ o → stands l c ≤ 1
@@ -74,6 +75,41 @@ owed-quiet n t c r h sane some within quiet =
     let e = owed-step n (entry t c r) h sane some within in
     let f = ap owed_by (seat_after-quiet (locks_of h) t c r (seat_of h t) quiet) in
     omega (arith, e, f)
+
+count-even : (f : Instance → Instance) → ((i : Instance) → (f i).count ≡ i.count) → (l : ℕ) (c : List Instance) → recorded_in (map (at l f) c) ≡ recorded_in c
+count-even f same l [] = refl
+count-even f same l (i ∷ c) =
+    let a = sum_by-cons (λ (j : Instance). j.count + 1) (at l f i) (map (at l f) c) in
+    let b = sum_by-cons (λ (j : Instance). j.count + 1) i c in
+    omega (arith, a, b, here (is_of l i), count-even f same l c)
+  where
+    here : (b : Bool) → (cond b (f i) i).count ≡ i.count
+    here true = same i
+    here false = refl
+
+either-count : (b : Bool) (c d : List Instance) → recorded_in c ≡ recorded_in d → recorded_in (cond b c d) ≡ recorded_in d
+either-count true c d same = same
+either-count false c d same = refl
+
+part-even : (k : Bool) (ls : List NewLock) (a : Act) (m : Mode) (s : Site) (c : List Instance) → is_even a ≡ true → recorded_in (part_after k ls a m s c) ≡ recorded_in c
+part-even k ls Nothing m s c even = refl
+part-even k ls (Turns l new) m s c even =
+    either-count (is_of_kind k ls l) (map (at l (changed (Turns l new) s)) c) c (count-even (changed (Turns l new) s) (λ i. refl) l c)
+part-even k ls (Marks l new) m s c even =
+    either-count (is_of_kind k ls l) (map (at l (changed (Marks l new) s)) c) c (count-even (changed (Marks l new) s) (λ i. refl) l c)
+part-even k ls a m s c even = absurd (false≢true even)
+
+-- a call that leaves the request and the acquisitions leaves what is owed
+pub owed-even : (n t : ℕ) (c : Call) (r : Reply) (h : List Entry) → IsSane (entry t c r ∷ h) → 0 < t → t ≤ n → is_even (act c r) ≡ true
+    → pending_after c (pending t h) ≡ pending t h → owed_to n (entry t c r ∷ h) ≡ owed_to n h
+owed-even n t c r h sane some within even keeps =
+    let e = owed-step n (entry t c r) h sane some within in
+    let m = asked_mode c (pending t h) in
+    let s = asked_site c (pending t h) in
+    let f = part-even false (locks_of h) (act c r) m s (chain false t h) even in
+    let g = part-even true (locks_of h) (act c r) m s (chain true t h) even in
+    let p = ap owed_for keeps in
+    omega (arith, e, f, g, p)
 
 pub owed-init : (n t : ℕ) (lock : NewLock) (r : Reply) (h : List Entry) → IsSane (entry t (Init lock) r ∷ h) → 0 < t → t ≤ n
     → owed_to n (entry t (Init lock) r ∷ h) ≡ owed_to n h
@@ -172,6 +208,14 @@ unlock_rest : (start : Start) (h : List Entry) (t : ℕ) (l : LockNo) (m : Mode)
 unlock_rest start h t l m Unlocked same sane within is rest = omega (arith, rest, owed-unlock start.sizes.seats t l m h sane within.0 within.1 is)
 unlock_rest start h t l m r same sane within is rest = (cc)
 
+plain_rest : (start : Start) (files : List (List ℕ)) (h : List Entry) (t : ℕ) (c : Call) (r : Reply) → is_plain c ≡ true → IsSane (entry t c r ∷ h)
+    → answer_of (story_after start files h) t c ≡ Ok r → is_logged r ≡ true → HasRest start (entry t c r ∷ h)
+plain_rest start files h t c r plain sane ok kept =
+    let a = plain_accepted (state_of (story_after start files h)) t c r plain ok kept in
+    let within = seat-within start files h t a.seat in
+    let room = leb-true _ _ a.room in
+    omega (arith, room, owed-even start.sizes.seats t c r h sane within.0 within.1 (plain-even c r plain) (plain-keeps c (pending t h) plain))
+
 rest_by : (start : Start) (files : List (List ℕ)) (h : List Entry) (t : ℕ) (c : Call) (r : Reply) → IsSane (entry t c r ∷ h)
     → answer_of (story_after start files h) t c ≡ Ok r → is_logged r ≡ true → HasRest start h → HasRest start (entry t c r ∷ h)
 rest_by start files h t (Init lock) r sane ok kept rest =
@@ -201,11 +245,7 @@ rest_by start files h t (GiveUp l) r sane ok kept rest =
 rest_by start files h t (Unlock l m) r sane ok kept rest =
     let a = unlock_accepted (state_of (story_after start files h)) t l.0 m r ok kept in
     unlock_rest start h t l m r a.reply sane (seat-within start files h t a.seat) (unlock-held start files h t l.0 m r sane.1 a).0 rest
-rest_by start files h t (SetWatch w) r sane ok kept rest =
-    let a = watch_accepted (state_of (story_after start files h)) t w r ok in
-    let within = seat-within start files h t a.seat in
-    let room = leb-true _ _ a.room in
-    omega (arith, room, owed-same start.sizes.seats t (SetWatch w) r h sane within.0 within.1 refl refl)
+rest_by start files h t c r sane ok kept rest = plain_rest start files h t c r refl sane ok kept
 
 -- used and owed entries never pass the log's limit
 pub few_legal : (start : Start) (files : List (List ℕ)) (h : List Entry) → IsLegal start files h → length h + owed_to start.sizes.seats h ≤ start.sizes.log

@@ -17,10 +17,11 @@ use Rattle.wit_model.specs.declared.locks.Mode.{Mode}
 use Rattle.wit_model.specs.declared.locks.Site.{Site}
 use Rattle.wit_model.specs.Rules.Locks.{locks_of, is_spin_lock}
 use Rattle.wit_model.specs.Rules.Verdict.{is_of}
-use Rattle.wit_model.specs.Rules.History.{Act, Nothing, act, act_by, chain, pending, pending_after, asked_mode, asked_site}
+use Rattle.wit_model.specs.Rules.History.{Act, Nothing, act, act_by, chain, pending, pending_after, asked_mode, asked_site, Marks, Turns}
 use Rattle.wit_model.specs.Rules.SeatGroups.{seat_groups}
 use Rattle.wit_model.specs.Rules.State.{Seat, seat_of, seats_of, no_seat}
 use Rattle.wit_model.proofs.Chains.Sane.{IsSane}
+use Rattle.wit_model.proofs.Chains.Changes.{at}
 use Rattle.wit_model.proofs.Chains.After.{noted, unlocked, part_after, chain-step}
 use Rattle.wit_model.proofs.Chains.GroupSteps.{entered, withdrawn, groups_after, groups-step}
 
@@ -158,3 +159,32 @@ pub seat_after-unlock : (ls : List NewLock) (t : ℕ) (l : LockNo) (m : Mode) (s
       pending = s.pending;
     }
 seat_after-unlock ls t l m s = refl
+
+-- a seat that holds this lock otherwise
+abbrev pub reheld : List NewLock → ℕ → (Instance → Instance) → Seat → Seat
+reheld ls l f s = record s {
+  sleep = cond (not (is_spin_lock ls l)) (map (at l f) s.sleep) s.sleep;
+  spin = cond (is_spin_lock ls l) (map (at l f) s.spin) s.spin;
+}
+
+-- in another mode
+abbrev pub with_mode : Mode → Instance → Instance
+with_mode m i = record i { mode = m }
+
+pub seat_after-turn : (ls : List NewLock) (t : ℕ) (c : Call) (r : Reply) (l : ℕ) (m : Mode) (s : Seat) → act c r ≡ Turns l m → pending_after c s.pending ≡ s.pending
+    → seat_after ls (entry t c r) s ≡ reheld ls l (with_mode m) s
+unfolding make
+seat_after-turn ls t c r l m s acts keeps =
+    ap₂ (λ a p. make (part_after false ls a (asked_mode c s.pending) (asked_site c s.pending) s.sleep) (part_after true ls a (asked_mode c s.pending) (asked_site c s.pending) s.spin)
+    (groups_after false ls a s.sleep s.sleep_groups) (groups_after true ls a s.spin s.spin_groups) p) acts keeps
+
+-- with another mark
+abbrev pub with_mark : Bool → Instance → Instance
+with_mark b i = record i { norelease = b }
+
+pub seat_after-mark : (ls : List NewLock) (t : ℕ) (c : Call) (r : Reply) (l : ℕ) (b : Bool) (s : Seat) → act c r ≡ Marks l b → pending_after c s.pending ≡ s.pending
+    → seat_after ls (entry t c r) s ≡ reheld ls l (with_mark b) s
+unfolding make
+seat_after-mark ls t c r l b s acts keeps =
+    ap₂ (λ a p. make (part_after false ls a (asked_mode c s.pending) (asked_site c s.pending) s.sleep) (part_after true ls a (asked_mode c s.pending) (asked_site c s.pending) s.spin)
+    (groups_after false ls a s.sleep s.sleep_groups) (groups_after true ls a s.spin s.spin_groups) p) acts keeps

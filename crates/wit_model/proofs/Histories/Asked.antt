@@ -1,6 +1,6 @@
 -- A pending request was accepted: its note is accepted too.
-use Rattle.std.proofs.Common.{◌≡◌, ℕ, ◌<◌, ◌≤◌, Bool, true, not, cond, List, [], ◌∷◌, length, length-append, Option, Some, Result, Ok, Err, refl, ap, sym, ◌∙◌, subst, inl, inr, arith}
-use Rattle.std.proofs.lemmas.Bool.{eq-eqb, and_from, lt-ltb, le-leb}
+use Rattle.std.proofs.Common.{◌≡◌, ℕ, ◌<◌, ◌≤◌, Bool, true, not, cond, List, [], ◌∷◌, length, length-append, Option, Some, Result, Ok, Err, refl, ap, sym, ◌∙◌, subst, inl, inr, arith, false, ⊎_elim}
+use Rattle.std.proofs.lemmas.Bool.{eq-eqb, and_from, lt-ltb, le-leb, or_cases, or_right}
 use Rattle.std.proofs.lemmas.Bool.Decides.{eqb_tells}
 use Rattle.std.proofs.lemmas.List.FromFn.{length-map-range_with_len}
 use Rattle.wit_model.specs.declared.faults.Fault.{Fault}
@@ -11,15 +11,17 @@ use Rattle.wit_model.specs.declared.calls.Call.TheVariants.{Check, Note, GiveUp}
 use Rattle.wit_model.specs.declared.calls.Reply.{Reply}
 use Rattle.wit_model.specs.declared.calls.Reply.TheVariants.{Done}
 use Rattle.wit_model.specs.declared.calls.Entry.{Entry}
-use Rattle.wit_model.specs.Rules.Locks.{made_among}
-use Rattle.wit_model.specs.Rules.History.{pending, pending_after}
-use Rattle.wit_model.specs.Rules.State.{Start, Story, state_of, seat_of, seats_of, seat_at, is_seat, types_of, typed_locks}
+use Rattle.wit_model.specs.Rules.Locks.{made_among, destroyed_of, is_destroyed}
+use Rattle.wit_model.specs.Rules.History.{pending, pending_after, is_held}
+use Rattle.wit_model.specs.Rules.State.{Start, Story, state_of, seat_of, seats_of, seat_at, is_seat, types_of, typed_locks, is_live}
 use Rattle.wit_model.specs.Rules.Step.{is_for, recorded, answer_of, story_after, logged, IsLegal}
 use Rattle.wit_model.specs.Rules.Numbers.{is_given}
 use Rattle.wit_model.proofs.Chains.Seats.{entry}
 use Rattle.wit_model.proofs.Orders.TypedLocks.{length-typed, made-known, known-made}
-use Rattle.wit_model.proofs.Histories.Accepted.{same-request, check_accepted}
-use Rattle.wit_model.proofs.Histories.Legal.{seat-within, pending-state}
+use Rattle.wit_model.proofs.Histories.Accepted.{same-request, check_accepted, asked-lock, live-undestroyed}
+use Rattle.wit_model.proofs.Histories.Legal.{seat-within, pending-state, sane_legal}
+use Rattle.wit_model.proofs.Chains.Held.{made_sane}
+use Rattle.wit_model.proofs.Histories.Used.{used-undestroyed, uses_after}
 
 -- the request's seat is known, and its lock was made
 record IsGood (start : Start) (h : List Entry) (t : ℕ) (q : Request) : Type 0 where
@@ -73,20 +75,24 @@ wanted_by : (a b c : Bool) (r : Reply) → a ≡ true → b ≡ true → c ≡ t
     → cond {A = Result Reply Fault} (not a) (Err UnknownSeat) (cond (not b) (Err UnknownLock) (cond (not c) (Err NotRequested) (Ok r))) ≡ Ok r
 wanted_by a b c r isa isb isc = rw (isa, isb, isc) refl
 
-module _ (start : Start) (files : List (List ℕ)) (h : List Entry) (t : ℕ) (q : Request) (good : IsGood start h t q) (is : pending t h ≡ Some q) where
+known-seat : (start : Start) (files : List (List ℕ)) (h : List Entry) (t : ℕ) → (0 < t) × (t ≤ start.sizes.seats) → is_seat (state_of (story_after start files h)) t ≡ true
+known-seat start files h t seat =
+    and_from _ _ (lt-ltb 0 t seat.0)
+    (le-leb t (length (seats_of start.sizes.seats h)) (omega (arith, seat.1, length-map-range_with_len (seat_of h) 1 start.sizes.seats)))
+
+module _ (start : Start) (files : List (List ℕ)) (h : List Entry) (t : ℕ) (q : Request) (good : IsGood start h t q) (is : pending t h ≡ Some q)
+    (live : is_live (state_of (story_after start files h)) q.lock.0 ≡ true) where
   asking-seat : is_seat (state_of (story_after start files h)) t ≡ true
-  asking-seat =
-      and_from _ _ (lt-ltb 0 t good.seat.0)
-      (le-leb t (length (seats_of start.sizes.seats h)) (omega (arith, good.seat.1, length-map-range_with_len (seat_of h) 1 start.sizes.seats)))
+  asking-seat = known-seat start files h t good.seat
 
   wanted : (r : Reply)
       → cond {A = Result Reply Fault} (not (is_seat (state_of (story_after start files h)) t)) (Err UnknownSeat)
-      (cond (not (is_given (typed_locks start h) q.lock.0)) (Err UnknownLock)
+      (cond (not (is_live (state_of (story_after start files h)) q.lock.0)) (Err UnknownLock)
       (cond (not (is_for q.lock.0 (seat_at (state_of (story_after start files h)) t).pending)) (Err NotRequested) (Ok r))) ≡ Ok r
   wanted r =
-      wanted_by (is_seat (state_of (story_after start files h)) t) (is_given (typed_locks start h) q.lock.0)
+      wanted_by (is_seat (state_of (story_after start files h)) t) (is_live (state_of (story_after start files h)) q.lock.0)
       (is_for q.lock.0 (seat_at (state_of (story_after start files h)) t).pending) r
-      asking-seat good.lock (ap (λ o. is_for q.lock.0 o) (pending-state start files h t asking-seat ∙ is) ∙ eq-eqb q.lock.0 q.lock.0 refl)
+      asking-seat live (ap (λ o. is_for q.lock.0 o) (pending-state start files h t asking-seat ∙ is) ∙ eq-eqb q.lock.0 q.lock.0 refl)
 
   note_good : answer_of (story_after start files h) t (Note q.lock) ≡ Ok (recorded (state_of (story_after start files h)) t q.lock.0)
   note_good = wanted (recorded (state_of (story_after start files h)) t q.lock.0)
@@ -101,18 +107,27 @@ module _ (start : Start) (files : List (List ℕ)) (h : List Entry) (t : ℕ) (q
 
   -- a pending request's seat is known, and its lock was made
   pub asked-seat : is_seat (state_of (story_after start files h)) t ≡ true
-  asked-seat = asking-seat start files h t q asked-good is
+  asked-seat = known-seat start files h t asked-good.seat
 
   pub asked-made : is_given (typed_locks start h) q.lock.0 ≡ true
   asked-made = asked-good.lock
 
+  -- it isn't destroyed
+  asked-undestroyed : is_destroyed (destroyed_of h) q.lock.0 ≡ false
+  asked-undestroyed =
+      used-undestroyed start files h t q.lock.0 legal asked-seat
+      (or_right (is_held t q.lock.0 h) (is_for q.lock.0 (pending t h)) (ap (is_for q.lock.0) is ∙ eq-eqb q.lock.0 q.lock.0 refl))
+
+  pub asked-live : is_live (state_of (story_after start files h)) q.lock.0 ≡ true
+  asked-live = and_from (is_given (typed_locks start h) q.lock.0) (not (is_destroyed (destroyed_of h) q.lock.0)) asked-made (ap not asked-undestroyed)
+
   -- its note is accepted
   pub note_pending : answer_of (story_after start files h) t (Note q.lock) ≡ Ok (recorded (state_of (story_after start files h)) t q.lock.0)
-  note_pending = note_good start files h t q asked-good is
+  note_pending = note_good start files h t q asked-good is asked-live
 
   -- and so is its being given up
   pub give_up_pending : answer_of (story_after start files h) t (GiveUp q.lock) ≡ Ok Done
-  give_up_pending = give_up_good start files h t q asked-good is
+  give_up_pending = give_up_good start files h t q asked-good is asked-live
 
 -- and at once after its check
 pub note_checked : (s : Story) (t : ℕ) (q : Request) (r : Reply) → IsLegal s.start s.files s.history → answer_of s t (Check q) ≡ Ok r
@@ -120,5 +135,21 @@ pub note_checked : (s : Story) (t : ℕ) (q : Request) (r : Reply) → IsLegal s
 unfolding Asks
 note_checked s t q r legal ok =
     let own : pending t (entry t (Check q) r ∷ s.history) ≡ Some q = rw (eq-eqb t t refl) refl in
-    note_good s.start s.files (entry t (Check q) r ∷ s.history) t q
-    (asks_own s.start s.files s.history t (Check q) r ok (asks_legal s.start s.files s.history t legal) q refl) own
+    let a = check_accepted (state_of s) t q r ok in
+    let good = asks_own s.start s.files s.history t (Check q) r ok (asks_legal s.start s.files s.history t legal) q refl in
+    note_good s.start s.files (entry t (Check q) r ∷ s.history) t q good own
+    (and_from (is_given (typed_locks s.start (entry t (Check q) r ∷ s.history)) q.lock.0) (not (is_destroyed (destroyed_of s.history) q.lock.0)) good.lock
+    (ap not (live-undestroyed (state_of s) q.lock.0 a.live)))
+
+-- a lock that a seat holds or asks for is live
+pub used_live : (start : Start) (files : List (List ℕ)) (h : List Entry) (t l : ℕ) → IsLegal start files h → is_seat (state_of (story_after start files h)) t ≡ true
+    → uses_after t l h ≡ true → is_live (state_of (story_after start files h)) l ≡ true
+used_live start files h t l legal seat used =
+    and_from (is_given (typed_locks start h) l) (not (is_destroyed (destroyed_of h) l))
+    (⊎_elim (λ held. known-made start h l (made_sane t l h (sane_legal start files h legal) held)) asked (or_cases (is_held t l h) (is_for l (pending t h)) used))
+    (ap not (used-undestroyed start files h t l legal seat used))
+  where
+    asked : is_for l (pending t h) ≡ true → is_given (typed_locks start h) l ≡ true
+    asked is =
+        let p = asked-lock l (pending t h) is in
+        subst (λ k. is_given (typed_locks start h) k ≡ true) p.2 (asked-made start files h t p.0 legal p.1)

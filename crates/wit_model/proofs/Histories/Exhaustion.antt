@@ -19,7 +19,7 @@ use Rattle.wit_model.specs.Rules.State.{Start, State, state_of, seat_at}
 use Rattle.wit_model.specs.Rules.Verdict.{Basis, type_held, is_blessed, place_of, place_asked, conflict, doubled, reported, basis_of, asked_of, chain_asked}
 use Rattle.wit_model.specs.Rules.Step.{held_by, is_exhausted, recorded, step, is_logged, answer_of, story_after, IsLegal}
 use Rattle.wit_model.proofs.Orders.Ruled.{Says, Passed, Learnt, Doubled, Broken, ruled}
-use Rattle.wit_model.proofs.Histories.Accepted.{same_reply, check_accepted, note_accepted, try_accepted, give_up_accepted, unlock_accepted, watch_accepted, init_accepted}
+use Rattle.wit_model.proofs.Histories.Accepted.{same_reply, check_accepted, note_accepted, try_accepted, give_up_accepted, unlock_accepted, watch_accepted, init_accepted, is_plain_reply, plain_accepted}
 use Rattle.wit_model.proofs.Histories.Legal.{watched-before}
 
 -- a check never tells it
@@ -57,6 +57,10 @@ told_acquired s t l r same is = told_recorded (is_off s.watch) (is_some (held_by
 not_told : {P : Type 0} (r : Reply) → is_exhaustion r ≡ false → is_exhaustion r ≡ true → P
 not_told r plain is = absurd (false≢true (sym plain ∙ is))
 
+plain-told : (r : Reply) → is_plain_reply r ≡ true → is_exhaustion r ≡ false
+plain-told Exhausted plain = absurd (false≢true plain)
+plain-told r plain = refl
+
 told_watched : (s : State) (t : ℕ) (c : Call) (r : Reply) → step s t c ≡ Ok r → is_logged r ≡ true → is_exhaustion r ≡ true → is_off s.watch ≡ false
 told_watched s t (Init lock) r ok kept is = not_told r (ap is_exhaustion (init_accepted s t lock r ok).reply) is
 told_watched s t (Check q) r ok kept is =
@@ -67,7 +71,7 @@ told_watched s t (Note l) r ok kept is = told_acquired s t l.0 r (note_accepted 
 told_watched s t (NoteTry l m site) r ok kept is = told_acquired s t l.0 r (try_accepted s t l.0 m site r ok).reply is
 told_watched s t (GiveUp l) r ok kept is = not_told r (ap is_exhaustion (give_up_accepted s t l.0 r ok).reply) is
 told_watched s t (Unlock l m) r ok kept is = not_told r (ap is_exhaustion (unlock_accepted s t l.0 m r ok kept).reply) is
-told_watched s t (SetWatch w) r ok kept is = not_told r (ap is_exhaustion (watch_accepted s t w r ok).reply) is
+told_watched s t c r ok kept is = not_told r (plain-told r (plain_accepted s t c r refl ok kept).reply) is
 
 -- and nothing is watched afterwards
 told_off : (s : State) (t : ℕ) (c : Call) (r : Reply) → step s t c ≡ Ok r → is_exhaustion r ≡ true → is_off (watch_after c r s.watch) ≡ true

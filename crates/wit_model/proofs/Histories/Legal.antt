@@ -1,5 +1,5 @@
 -- A legal history is sane; and what is read of its state.
-use Rattle.std.proofs.Common.{◌≡◌, ℕ, ◌<◌, ◌≤◌, Bool, true, false, not, ◌&&◌, cond, List, [], ◌∷◌, length, find, Some, Ok, refl, ap, ap₂, sym, ◌∙◌, arith}
+use Rattle.std.proofs.Common.{◌≡◌, ℕ, ◌<◌, ◌≤◌, Bool, true, false, not, ◌&&◌, cond, List, [], ◌∷◌, length, find, Some, Ok, refl, ap, ap₂, sym, ◌∙◌, arith, Option}
 use Rattle.std.proofs.lemmas.Bool.{and_parts, ltb-true, leb-true, false≢true}
 use Rattle.std.proofs.lemmas.List.FromFn.{length-map-range_with_len}
 use Rattle.wit_model.specs.declared.locks.Mode.{Mode}
@@ -7,12 +7,12 @@ use Rattle.wit_model.specs.declared.locks.Watch.{Watch}
 use Rattle.wit_model.specs.declared.locks.Watch.TheVariants.{Off}
 use Rattle.wit_model.specs.declared.locks.Instance.{Instance}
 use Rattle.wit_model.specs.declared.calls.Call.{Call}
-use Rattle.wit_model.specs.declared.calls.Call.TheVariants.{Init, Check, Note, NoteTry, GiveUp, Unlock, SetWatch}
+use Rattle.wit_model.specs.declared.calls.Call.TheVariants.{Init, Check, Note, NoteTry, GiveUp, Unlock, SetWatch, DefineOrder, Destroy, Downgrade, NoRelease, ReleaseOk, Upgrade}
 use Rattle.wit_model.specs.declared.calls.Reply.{Reply}
 use Rattle.wit_model.specs.declared.calls.Reply.TheVariants.{Recorded, Exhausted, Unlocked}
 use Rattle.wit_model.specs.declared.calls.Entry.{Entry}
 use Rattle.wit_model.specs.Rules.Locks.{locks_of, is_spin_lock, is_of_kind}
-use Rattle.wit_model.specs.Rules.History.{act, is_held, chain, instance, pending, is_off, watch_after, watch_of}
+use Rattle.wit_model.specs.Rules.History.{act, is_held, chain, instance, pending, is_off, watch_after, watch_of, Records, pending_after}
 use Rattle.wit_model.specs.Rules.SeatGroups.{seat_groups}
 use Rattle.wit_model.specs.Rules.State.{Start, State, Seat, state_of, seat_of, seats_of, seat_at, is_seat, no_seat}
 use Rattle.wit_model.specs.Rules.Verdict.{is_of}
@@ -23,7 +23,9 @@ use Rattle.wit_model.proofs.Chains.Found.{if_some, found}
 use Rattle.wit_model.proofs.Numbered.{with_number-or}
 use Rattle.wit_model.proofs.Chains.Seats.{get_or-seats_of}
 use Rattle.wit_model.proofs.Orders.TypedLocks.{spin_at, made-known}
-use Rattle.wit_model.proofs.Histories.Accepted.{check_accepted, note_accepted, try_accepted, give_up_accepted, UnlockAccepted, unlock_accepted, unlock_seat, watch_accepted, init_accepted}
+use Rattle.wit_model.proofs.Histories.Accepted.{plain_seat, check_accepted, note_accepted, try_accepted, give_up_accepted, UnlockAccepted, unlock_accepted, unlock_seat, watch_accepted, init_accepted, is_plain}
+use Rattle.wit_model.specs.declared.calls.Request.{Request}
+use Rattle.wit_model.proofs.Chains.Acts.{downgrade-even, fit-even, is_even, norelease-even, releaseok-even, upgrade-even}
 
 -- a known seat is within the sizes
 pub seat-within : (start : Start) (files : List (List ℕ)) (h : List Entry) (t : ℕ) → is_seat (state_of (story_after start files h)) t ≡ true
@@ -96,6 +98,10 @@ call-fit start files h t (Note l) Recorded sane ok = made-known start h l.0 (not
 call-fit start files h t (NoteTry l m site) Recorded sane ok = made-known start h l.0 (try_accepted (state_of (story_after start files h)) t l.0 m site Recorded ok).lock
 call-fit start files h t (Unlock l m) Unlocked sane ok =
     num-of_held t l.0 h (unlock-held start files h t l.0 m Unlocked sane (unlock_accepted (state_of (story_after start files h)) t l.0 m Unlocked ok refl)).0
+call-fit start files h t (Upgrade l) r sane ok = fit-even (act (Upgrade l) r) t h (upgrade-even l r)
+call-fit start files h t (Downgrade l) r sane ok = fit-even (act (Downgrade l) r) t h (downgrade-even l r)
+call-fit start files h t (NoRelease l) r sane ok = fit-even (act (NoRelease l) r) t h (norelease-even l r)
+call-fit start files h t (ReleaseOk l) r sane ok = fit-even (act (ReleaseOk l) r) t h (releaseok-even l r)
 call-fit start files h t c r sane ok = tt
 
 pub sane_legal : (start : Start) (files : List (List ℕ)) (h : List Entry) → IsLegal start files h → IsSane h
@@ -118,7 +124,32 @@ call-seat s t (Note l) r ok = (note_accepted s t l.0 r ok).seat
 call-seat s t (NoteTry l m site) r ok = (try_accepted s t l.0 m site r ok).seat
 call-seat s t (GiveUp l) r ok = (give_up_accepted s t l.0 r ok).seat
 call-seat s t (Unlock l m) r ok = unlock_seat s t l.0 m r ok
-call-seat s t (SetWatch w) r ok = (watch_accepted s t w r ok).seat
+call-seat s t c r ok = plain_seat s t c r refl ok
+
+-- a call that leaves requests and acquisitions does so whatever it is answered
+pub plain-even : (c : Call) (r : Reply) → is_plain c ≡ true → is_even (act c r) ≡ true
+plain-even (SetWatch w) r plain = refl
+plain-even (Destroy l) r plain = refl
+plain-even (Upgrade l) r plain = upgrade-even l r
+plain-even (Downgrade l) r plain = downgrade-even l r
+plain-even (NoRelease l) r plain = norelease-even l r
+plain-even (ReleaseOk l) r plain = releaseok-even l r
+plain-even (DefineOrder a b) r plain = refl
+plain-even c r plain = absurd (false≢true plain)
+
+pub plain-keeps : (c : Call) (p : Option Request) → is_plain c ≡ true → pending_after c p ≡ p
+plain-keeps (SetWatch w) p plain = refl
+plain-keeps (Destroy l) p plain = refl
+plain-keeps (Upgrade l) p plain = refl
+plain-keeps (Downgrade l) p plain = refl
+plain-keeps (NoRelease l) p plain = refl
+plain-keeps (ReleaseOk l) p plain = refl
+plain-keeps (DefineOrder a b) p plain = refl
+plain-keeps c p plain = absurd (false≢true plain)
+
+-- it records nothing
+pub plain-unrecorded : (c : Call) (r : Reply) (l : ℕ) → is_plain c ≡ true → act c r ≡ Records l → ⊥
+plain-unrecorded c r l plain acts = false≢true (ap is_even (sym acts) ∙ plain-even c r plain)
 
 pub seat_accepted : (s : State) (t : ℕ) (c : Call) (r : Reply) → step s t c ≡ Ok r → is_seat s t ≡ true
 seat_accepted s t c r ok = call-seat s t c r ok

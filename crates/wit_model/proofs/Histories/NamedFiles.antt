@@ -8,21 +8,21 @@ use Rattle.wit_model.specs.declared.locks.Site.{Site}
 use Rattle.wit_model.specs.declared.locks.LockNo.{LockNo}
 use Rattle.wit_model.specs.declared.calls.Request.{Request}
 use Rattle.wit_model.specs.declared.calls.Call.{Call}
-use Rattle.wit_model.specs.declared.calls.Call.TheVariants.{Init, Check, Note, NoteTry, GiveUp, Unlock, SetWatch}
+use Rattle.wit_model.specs.declared.calls.Call.TheVariants.{Init, Check, Note, NoteTry, GiveUp, Unlock}
 use Rattle.wit_model.specs.declared.calls.Reply.{Reply}
 use Rattle.wit_model.specs.declared.calls.Entry.{Entry}
 use Rattle.wit_model.specs.Rules.Locks.{lock_at}
-use Rattle.wit_model.specs.Rules.State.{Start, State, state_of, seat_at, is_seat}
+use Rattle.wit_model.specs.Rules.State.{Start, State, state_of, seat_at, is_seat, is_live}
 use Rattle.wit_model.specs.Rules.Verdict.{is_exclusive, verdict}
 use Rattle.wit_model.specs.Rules.Step.{is_pending, is_shareable, is_too_deep, with_room, recorded, answer_of, story_after, IsLegal}
-use Rattle.wit_model.specs.Rules.Numbers.{is_given, is_number}
+use Rattle.wit_model.specs.Rules.Numbers.{is_number}
 use Rattle.wit_model.proofs.Histories.Accepted.{check_accepted, try_accepted}
 
 -- the answer to a check, where the file is known or not
 check_with : State → ℕ → Request → Bool → Result Reply Fault
 check_with s t q known =
     cond (not (is_seat s t)) (Err UnknownSeat)
-    (cond (not (is_given s.known.locks q.lock.0)) (Err UnknownLock)
+    (cond (not (is_live s q.lock.0)) (Err UnknownLock)
     (cond (not known) (Err UnknownFile)
     (cond (not (is_exclusive q.mode) && not (is_shareable (lock_at s.known.locks q.lock.0).made.class)) (Err ModeNotAllowed)
     (cond (is_pending s t) (Err Pending)
@@ -50,7 +50,7 @@ check-more start files more h t q r ok =
 try_with : State → ℕ → ℕ → Mode → Bool → Result Reply Fault
 try_with s t l m known =
     cond (not (is_seat s t)) (Err UnknownSeat)
-    (cond (not (is_given s.known.locks l)) (Err UnknownLock)
+    (cond (not (is_live s l)) (Err UnknownLock)
     (cond (not known) (Err UnknownFile)
     (cond (not (is_exclusive m) && not (is_shareable (lock_at s.known.locks l).made.class)) (Err ModeNotAllowed)
     (cond (is_pending s t) (Err Pending)
@@ -76,7 +76,7 @@ answer-more start files more h t (Note l) r ok = ok
 answer-more start files more h t (NoteTry l m site) r ok = try-more start files more h t l m site r ok
 answer-more start files more h t (GiveUp l) r ok = ok
 answer-more start files more h t (Unlock l m) r ok = ok
-answer-more start files more h t (SetWatch w) r ok = ok
+answer-more start files more h t c r ok = ok
 
 pub legal-more : (start : Start) (files more : List (List ℕ)) (h : List Entry) → IsLegal start files h → IsLegal start (files ++ more) h
 legal-more start files more [] legal = tt

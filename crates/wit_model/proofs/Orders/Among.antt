@@ -1,5 +1,5 @@
 -- Orders are between known types, and so is what a verdict tells.
-use Rattle.std.proofs.Common.{◌≡◌, ℕ, ◌≤◌, Bool, true, false, not, ◌&&◌, ◌||◌, cond, eqb, List, [], ◌∷◌, ◌++◌, length, reverse, find, Option, Some, None, Result, Ok, refl, ap, sym, ◌∙◌, subst, arith, length-append, ⊎_elim, inl, inr}
+use Rattle.std.proofs.Common.{◌≡◌, ℕ, ◌≤◌, Bool, true, false, ◌||◌, cond, eqb, List, [], ◌∷◌, ◌++◌, length, reverse, find, Option, Some, None, Result, Ok, refl, ap, sym, ◌∙◌, subst, arith, length-append, ⊎_elim}
 use Rattle.std.specs.List.{list_all, last_or}
 use Rattle.std.proofs.lemmas.Bool.{and_parts, and_from, or_cases, eqb-true, false≢true}
 use Rattle.std.proofs.lemmas.List.{reverse-append}
@@ -9,20 +9,20 @@ use Rattle.wit_model.specs.declared.locks.Class.{Class}
 use Rattle.wit_model.specs.declared.locks.TypeNo.{TypeNo}
 use Rattle.wit_model.specs.declared.locks.Watch.{Watch}
 use Rattle.wit_model.specs.declared.locks.Instance.{Instance}
-use Rattle.wit_model.specs.declared.locks.Origin.TheVariants.{Listed, At}
+use Rattle.wit_model.specs.declared.locks.Origin.TheVariants.{Listed, Defined, At}
 use Rattle.wit_model.specs.declared.calls.Adoption.{Adoption}
 use Rattle.wit_model.specs.declared.calls.Conflict.{Conflict}
 use Rattle.wit_model.specs.declared.calls.Doubling.{Doubling}
 use Rattle.wit_model.specs.declared.calls.Request.{Request}
 use Rattle.wit_model.specs.declared.calls.Call.{Call}
-use Rattle.wit_model.specs.declared.calls.Call.TheVariants.{Init, Check}
+use Rattle.wit_model.specs.declared.calls.Call.TheVariants.{Init, Check, DefineOrder}
 use Rattle.wit_model.specs.declared.calls.Reply.{Reply}
 use Rattle.wit_model.specs.declared.calls.Reply.TheVariants.{Pass, Adopted, Silent, Duplicate, Reversal}
 use Rattle.wit_model.specs.declared.calls.Entry.{Entry}
 use Rattle.wit_model.specs.Rules.Types.{LockType, class_of, is_spin, is_enrolled, type_number, enrolled, enrolled_all, listed_types, type_name_of, types_after}
 use Rattle.wit_model.specs.Rules.Locks.{locks_of, has_flag, lock_at}
 use Rattle.wit_model.specs.Rules.Orders.{is_adoption_of, is_direct, is_before, is_found, adopted_once, listed_pairs, listed_orders}
-use Rattle.wit_model.specs.Rules.History.{is_held, chain, watch_of}
+use Rattle.wit_model.specs.Rules.History.{is_held}
 use Rattle.wit_model.specs.Rules.State.{Start, Known, Seat, seat_at, known_of, state_of, types_of, typed_locks, orders_of}
 use Rattle.wit_model.specs.Rules.Verdict.{type_held, has_type_of, place_of, place_asked, doubled, violates, is_blessed, conflict, reported, chain_asked, basis_of, asked_of, verdict}
 use Rattle.wit_model.specs.Rules.Step.{answer_of, story_after, IsLegal}
@@ -31,8 +31,9 @@ use Rattle.wit_model.proofs.Chains.Held.{made_sane}
 use Rattle.wit_model.proofs.Chains.Seats.{entry}
 use Rattle.wit_model.proofs.Orders.TypedLocks.{length-typed, made-known}
 use Rattle.wit_model.proofs.Orders.Types.{number-known, typed_made}
-use Rattle.wit_model.proofs.Histories.Accepted.{passed, same_reply, CheckAccepted, check_accepted}
+use Rattle.wit_model.proofs.Histories.Accepted.{same_reply, live-given, CheckAccepted, check_accepted, DefineAccepted, define_accepted}
 use Rattle.wit_model.proofs.Histories.Legal.{sane_legal}
+use Rattle.wit_model.proofs.Orders.Defined.{define_adopted}
 use Rattle.wit_model.proofs.Orders.Started.{all-enrolled}
 use Rattle.wit_model.proofs.Orders.Ruled.{Says, Passed, Learnt, Doubled, Broken, ruled}
 use Rattle.wit_model.proofs.Orders.Sound.{taught, chain-held, last_whole, type-held, chain-judged}
@@ -63,6 +64,19 @@ adopted-orderly start files h t q a b legal accepted =
       child = subst (λ (x : TypeNo). IsNumber (length (types_of start h)) x.0) l.child (made-type start h q.lock.0 l.asks);
       apart = l.apart;
       orderly = l.orderly;
+    }
+
+-- so is one that a call defines
+pub defined-orderly : (start : Start) (files : List (List ℕ)) (h : List Entry) (t a b : ℕ) (p c : TypeNo)
+    → DefineAccepted (state_of (story_after start files h)) t a b (Adopted p c) → IsOrderly (length (types_of start h)) (orders_of start h) p.0 c.0
+defined-orderly start files h t a b p c accepted =
+    let s = state_of (story_after start files h) in
+    let d = define_adopted s.known.types s.known.orders (lock_at s.known.locks a).type_no (lock_at s.known.locks b).type_no p c accepted.answer in
+    record {
+      parent = subst (λ (x : TypeNo). IsNumber (length (types_of start h)) x.0) d.parent (lock-type start h a (live-given s a accepted.first));
+      child = subst (λ (x : TypeNo). IsNumber (length (types_of start h)) x.0) d.child (lock-type start h b (live-given s b accepted.second));
+      apart = d.apart;
+      orderly = d.orderly;
     }
 
 -- an element that is found from the end has what all have
@@ -270,6 +284,9 @@ among_by : (start : Start) (files : List (List ℕ)) (h : List Entry) (t : ℕ) 
 among_by start files h t (Check q) (Adopted a b) legal ok all =
     let o = adopted-orderly start files h t q a b legal (check_accepted (state_of (story_after start files h)) t q (Adopted a b) ok) in
     among_push (length (types_of start h)) (record { parent = a; child = b; origin = At q.site }) (orders_of start h) all o.parent o.child
+among_by start files h t (DefineOrder x y) (Adopted a b) legal ok all =
+    let o = defined-orderly start files h t x.0 y.0 a b (define_accepted (state_of (story_after start files h)) t x.0 y.0 (Adopted a b) ok refl) in
+    among_push (length (types_of start h)) (record { parent = a; child = b; origin = Defined }) (orders_of start h) all o.parent o.child
 among_by start files h t c r legal ok all = among_more (length (types_of start h)) (length (types_after c (types_of start h))) (orders_of start h) (more-types c (types_of start h)) all
 
 among_legal : (start : Start) (files : List (List ℕ)) (h : List Entry) → IsLegal start files h → AreAmong (length (types_of start h)) (orders_of start h)

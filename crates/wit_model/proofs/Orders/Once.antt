@@ -5,18 +5,20 @@ use Rattle.wit_model.specs.declared.locks.TypeNo.{TypeNo}
 use Rattle.wit_model.specs.declared.locks.Origin.TheVariants.{Listed}
 use Rattle.wit_model.specs.declared.calls.Adoption.{Adoption}
 use Rattle.wit_model.specs.declared.calls.Call.{Call}
-use Rattle.wit_model.specs.declared.calls.Call.TheVariants.{Check}
+use Rattle.wit_model.specs.declared.calls.Call.TheVariants.{Check, DefineOrder}
 use Rattle.wit_model.specs.declared.calls.Reply.{Reply}
 use Rattle.wit_model.specs.declared.calls.Reply.TheVariants.{Adopted}
 use Rattle.wit_model.specs.declared.calls.Entry.{Entry}
 use Rattle.wit_model.specs.Rules.Types.{LockType, type_number, enrolled_all}
+use Rattle.wit_model.specs.Rules.Locks.{lock_at}
 use Rattle.wit_model.specs.Rules.Orders.{is_direct, AreDistinct, adopted_once, listed_pairs, listed_orders}
 use Rattle.wit_model.specs.Rules.State.{Start, seat_at, known_of, state_of, orders_of}
 use Rattle.wit_model.specs.Rules.Verdict.{basis_of, asked_of}
 use Rattle.wit_model.specs.Rules.Step.{answer_of, story_after, IsLegal}
 use Rattle.wit_model.proofs.Chains.Seats.{entry}
-use Rattle.wit_model.proofs.Histories.Accepted.{check_accepted}
+use Rattle.wit_model.proofs.Histories.Accepted.{check_accepted, define_accepted}
 use Rattle.wit_model.proofs.Orders.Sound.{learnt}
+use Rattle.wit_model.proofs.Orders.Defined.{define_adopted}
 
 distinct_once : (a b : ℕ) (orders : List Adoption) → AreDistinct orders → AreDistinct (adopted_once a b Listed orders)
 distinct_once a b orders all = go (is_direct orders a b) refl
@@ -44,6 +46,10 @@ distinct_by start files h t (Check q) (Adopted a b) ok all =
     let l =
     learnt (basis_of (known_of start h)) s.watch (seat_at s t).sleep (seat_at s t).spin (asked_of (known_of start h) q) a b (check_accepted s t q (Adopted a b) ok).verdict in
     (ap₂ (λ (x y : TypeNo). is_direct (orders_of start h) x.0 y.0) (sym l.parent) (sym l.child) ∙ l.is_new.new, all)
+distinct_by start files h t (DefineOrder x y) (Adopted p c) ok all =
+    let s = state_of (story_after start files h) in
+    let d = define_accepted s t x.0 y.0 (Adopted p c) ok refl in
+    ((define_adopted s.known.types s.known.orders (lock_at s.known.locks x.0).type_no (lock_at s.known.locks y.0).type_no p c d.answer).new, all)
 distinct_by start files h t c r ok all = all
 
 -- no order is adopted twice

@@ -1,5 +1,5 @@
 -- An order is learnt only where it turns none round: so no type is ever before itself.
-use Rattle.std.proofs.Common.{◌≡◌, ℕ, Bool, true, false, not, ◌&&◌, ◌||◌, cond, List, [], ◌∷◌, ◌++◌, reverse, find, map, Option, Some, None, Result, Ok, refl, ap, sym, ◌∙◌, subst, arith}
+use Rattle.std.proofs.Common.{◌≡◌, ℕ, Bool, true, false, not, ◌&&◌, ◌||◌, cond, List, [], ◌∷◌, ◌++◌, reverse, find, map, Some, None, Result, Ok, refl, ap, sym, ◌∙◌, subst}
 use Rattle.std.specs.List.{list_all, last_or}
 use Rattle.std.proofs.lemmas.Bool.{and_parts, eq-eqb, true≢false, not-true}
 use Rattle.std.proofs.lemmas.List.Folds.{list_all-append}
@@ -7,11 +7,11 @@ use Rattle.wit_model.specs.declared.faults.Fault.{Fault}
 use Rattle.wit_model.specs.declared.locks.TypeNo.{TypeNo}
 use Rattle.wit_model.specs.declared.locks.Watch.{Watch}
 use Rattle.wit_model.specs.declared.locks.Instance.{Instance}
-use Rattle.wit_model.specs.declared.locks.Origin.TheVariants.{At}
+use Rattle.wit_model.specs.declared.locks.Origin.TheVariants.{Defined, At}
 use Rattle.wit_model.specs.declared.calls.Asked.{Asked}
 use Rattle.wit_model.specs.declared.calls.Request.{Request}
 use Rattle.wit_model.specs.declared.calls.Call.{Call}
-use Rattle.wit_model.specs.declared.calls.Call.TheVariants.{Check}
+use Rattle.wit_model.specs.declared.calls.Call.TheVariants.{Check, DefineOrder}
 use Rattle.wit_model.specs.declared.calls.Reply.{Reply}
 use Rattle.wit_model.specs.declared.calls.Reply.TheVariants.{Pass, Adopted, Silent, Duplicate, Reversal}
 use Rattle.wit_model.specs.declared.calls.Entry.{Entry}
@@ -25,11 +25,12 @@ use Rattle.wit_model.specs.Rules.Step.{answer_of, story_after, IsLegal}
 use Rattle.wit_model.specs.Rules.Numbers.{IsGiven}
 use Rattle.wit_model.proofs.Numbered.{with_number-or-map}
 use Rattle.wit_model.proofs.Orders.Paths.{sound_adopt}
+use Rattle.wit_model.proofs.Orders.Defined.{define_adopted}
 use Rattle.wit_model.proofs.Orders.Ruled.{IsNew, Says, Passed, Learnt, Doubled, Broken, ruled}
 use Rattle.wit_model.proofs.Chains.Held.{made_sane, held_of-all}
 use Rattle.wit_model.proofs.Chains.Seats.{entry}
 use Rattle.wit_model.proofs.Orders.TypedLocks.{made-known}
-use Rattle.wit_model.proofs.Histories.Accepted.{CheckAccepted, check_accepted}
+use Rattle.wit_model.proofs.Histories.Accepted.{CheckAccepted, check_accepted, define_accepted}
 use Rattle.wit_model.proofs.Histories.Legal.{seat_at-state, one_chain, sane_legal}
 
 last_front : (d : Instance) (c : List Instance) (x : Instance) → last_or (Some d) c ≡ Some x → (front : List Instance) × (d ∷ c ≡ front ++ x ∷ [])
@@ -172,6 +173,11 @@ sound_by : (start : Start) (files : List (List ℕ)) (h : List Entry) (t : ℕ) 
     → answer_of (story_after start files h) t c ≡ Ok r → IsSound (orders_of start h) → IsSound (orders_of start (entry t c r ∷ h))
 sound_by start files h t (Check q) (Adopted a b) legal ok sound =
     sound_check start files h t q a b legal (check_accepted (state_of (story_after start files h)) t q (Adopted a b) ok) sound
+sound_by start files h t (DefineOrder a b) (Adopted p c) legal ok sound =
+    let s = state_of (story_after start files h) in
+    let d = define_accepted s t a.0 b.0 (Adopted p c) ok refl in
+    let f = define_adopted s.known.types s.known.orders (lock_at s.known.locks a.0).type_no (lock_at s.known.locks b.0).type_no p c d.answer in
+    sound_adopt (record { parent = p; child = c; origin = Defined }) (orders_of start h) sound f.orderly f.apart
 sound_by start files h t c r legal ok sound = sound
 
 -- no type is ever before itself

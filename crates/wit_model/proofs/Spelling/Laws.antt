@@ -1,21 +1,22 @@
 -- The lines of a trace are printed and read alike.
-use Rattle.std.proofs.Common.{◌≡◌, ℕ, ◌^◌, ◌<◌, true, false, eqb, List, [], ◌∷◌, ◌++◌, length, Option, Some, None, refl, sym, ap, subst, ◌∙◌, append_assoc, arith, codes}
+use Rattle.std.proofs.Common.{◌≡◌, ℕ, ◌^◌, ◌<◌, inl, inr, true, false, eqb, List, [], ◌∷◌, ◌++◌, length, Option, Some, None, refl, sym, ap, subst, ◌∙◌, append_assoc, arith, codes}
 use Rattle.std.specs.Prelude.{IsTrue, IfSome}
 use Rattle.std.specs.Fmt.{decimal}
 use Rattle.std.specs.List.{list_all}
 use Rattle.std.specs.Str.{bytes_eq}
-use Rattle.std.proofs.lemmas.Bool.{and_parts, not-true, ne_eqb}
+use Rattle.std.proofs.lemmas.Bool.{and_parts, cases_eq, not-true, ne_eqb}
 use Rattle.std.proofs.lemmas.List.{length-append}
 use Rattle.std.proofs.lemmas.Option.{cond_some}
 use Rattle.std.proofs.lemmas.Slice.Eq.{bytes_eq-Decides}
 use Rattle.wit_model.specs.declared.lines.Line.{Line}
-use Rattle.wit_model.specs.declared.lines.Line.TheVariants.{Header, Order, Bless, Init, Check, Lock, Try, GiveUp, Unlock, Watch}
+use Rattle.wit_model.specs.declared.lines.Line.TheVariants.{Header, Order, Bless, Init, Check, Lock, Try, GiveUp, Unlock, Destroy, Upgrade, Downgrade, NoRelease, ReleaseOk, Assert, Warn, Define, Watch}
+use Rattle.wit_model.specs.declared.locks.LockNo.{LockNo}
 use Rattle.wit_model.specs.declared.locks.Class.{Class}
 use Rattle.wit_model.specs.declared.locks.Mode.{Mode}
 use Rattle.wit_model.specs.declared.locks.Watch as level
 use Rattle.wit_model.specs.Rules.Names.{is_name, is_name_byte, is_file_name}
-use Rattle.wit_model.specs.Trace.Spelling.{class_text, mode_text, level_text, lock_letters, op_letters, flags_text, site_text, quoted, joined, list_fields, spelling, IsSpellable, Spells}
-use Rattle.wit_model.specs.Trace.Reading.{◌>>=◌, after, until, accepted, class_of, mode_of, level_of, flags_of, site_of, field_at, behind, quoted_at, optional, both, whole, one_or_more, count_at, seat_at, lock_at, type_at, list_of, header_of, order_of, bless_of, init_of, check_of, note_of, try_of, give_up_of, unlock_of, watch_of, read_as, kinds, line_of}
+use Rattle.wit_model.specs.Trace.Spelling.{class_text, mode_text, level_text, lock_letters, op_letters, assert_letters, warn_letters, number_if_any, flags_text, site_text, quoted, joined, list_fields, spelling, IsNamed, IsSpellable, Spells}
+use Rattle.wit_model.specs.Trace.Reading.{◌>>=◌, after, until, accepted, class_of, mode_of, level_of, flags_of, site_of, field_at, behind, quoted_at, optional, both, whole, one_or_more, count_at, seat_at, lock_at, type_at, list_of, header_of, order_of, bless_of, init_of, check_of, note_of, try_of, give_up_of, unlock_of, destroy_of, upgrade_of, downgrade_of, no_release_of, release_ok_of, assert_of, lock_if_any, warn_of, define_of, watch_of, read_as, plain_kinds, kinds, line_of}
 use Rattle.wit_model.proofs.Spelling.Codecs.{IsCodec, IsLast, FitsIfAny, Lacks, Lacks-all, Ends, bind_some, some_is, chosen, until_end, until_whole, after_some, print_field, print_behind, print_both, print_optional, field_codec, behind_codec, both_codec, optional_codec, whole_again, made_takes}
 use Rattle.wit_model.proofs.Spelling.Repeats.{print_each, AllFit, one_or_more_codec}
 use Rattle.wit_model.proofs.Spelling.Words.{number_word, class_word, mode_word, level_word, flags_word, site_word}
@@ -94,6 +95,12 @@ lock_flags_codec = field_codec (flags_word lock_letters (record { distinct = ((r
 
 op_flags_codec : IsCodec (print_field (flags_text op_letters)) (field_at (flags_of op_letters)) (IsBelow 8) (Ends 32)
 op_flags_codec = field_codec (flags_word op_letters (record { distinct = ((refl, (refl, tt)), ((refl, tt), (tt, tt))); plain = (refl, (refl, (refl, tt))); no_dash = (refl, (refl, (refl, tt))) }))
+
+assert_flags_codec : IsCodec (print_field (flags_text assert_letters)) (field_at (flags_of assert_letters)) (IsBelow 64) (Ends 32)
+assert_flags_codec = field_codec (flags_word assert_letters (record { distinct = ((refl, (refl, (refl, (refl, (refl, tt))))), ((refl, (refl, (refl, (refl, tt)))), ((refl, (refl, (refl, tt))), ((refl, (refl, tt)), ((refl, tt), (tt, tt)))))); plain = (refl, (refl, (refl, (refl, (refl, (refl, tt)))))); no_dash = (refl, (refl, (refl, (refl, (refl, (refl, tt)))))) }))
+
+warn_flags_codec : IsCodec (print_field (flags_text warn_letters)) (field_at (flags_of warn_letters)) (IsBelow 4) (Ends 32)
+warn_flags_codec = field_codec (flags_word warn_letters (record { distinct = ((refl, tt), (tt, tt)); plain = (refl, (refl, tt)); no_dash = (refl, (refl, tt)) }))
 
 site_codec : IsCodec (print_field (λ x. site_text x.0 x.1)) (field_at site_of) (λ x. IsTrue (is_file_name x.0) × IsBelow (2 ^ 32) x.1) (Ends 32)
 site_codec = field_codec site_word
@@ -257,6 +264,94 @@ unlock_takes : (rest : List ℕ) (line : Line) → unlock_of rest ≡ Some line 
 unfolding unlock_of
 unlock_takes = kind_takes unlock_codec unlock_make (codes "unlock") (λ x fits. (refl, (fits.0, fits.1.0)))
 
+abbrev destroy_make : (ℕ × ℕ) → Line
+destroy_make x = Destroy (record { 0 = x.0 }) (record { 0 = x.1 })
+
+destroy_takes : (rest : List ℕ) (line : Line) → destroy_of rest ≡ Some line → Spells (codes "destroy" ++ rest) line
+unfolding destroy_of
+destroy_takes = kind_takes note_codec destroy_make (codes "destroy") (λ x fits. (refl, (fits.0, fits.1)))
+
+abbrev upgrade_make : (ℕ × ℕ) → Line
+upgrade_make x = Upgrade (record { 0 = x.0 }) (record { 0 = x.1 })
+
+upgrade_takes : (rest : List ℕ) (line : Line) → upgrade_of rest ≡ Some line → Spells (codes "upgrade" ++ rest) line
+unfolding upgrade_of
+upgrade_takes = kind_takes note_codec upgrade_make (codes "upgrade") (λ x fits. (refl, (fits.0, fits.1)))
+
+abbrev downgrade_make : (ℕ × ℕ) → Line
+downgrade_make x = Downgrade (record { 0 = x.0 }) (record { 0 = x.1 })
+
+downgrade_takes : (rest : List ℕ) (line : Line) → downgrade_of rest ≡ Some line → Spells (codes "downgrade" ++ rest) line
+unfolding downgrade_of
+downgrade_takes = kind_takes note_codec downgrade_make (codes "downgrade") (λ x fits. (refl, (fits.0, fits.1)))
+
+abbrev no_release_make : (ℕ × ℕ) → Line
+no_release_make x = NoRelease (record { 0 = x.0 }) (record { 0 = x.1 })
+
+no_release_takes : (rest : List ℕ) (line : Line) → no_release_of rest ≡ Some line → Spells (codes "norelease" ++ rest) line
+unfolding no_release_of
+no_release_takes = kind_takes note_codec no_release_make (codes "norelease") (λ x fits. (refl, (fits.0, fits.1)))
+
+abbrev release_ok_make : (ℕ × ℕ) → Line
+release_ok_make x = ReleaseOk (record { 0 = x.0 }) (record { 0 = x.1 })
+
+release_ok_takes : (rest : List ℕ) (line : Line) → release_ok_of rest ≡ Some line → Spells (codes "releaseok" ++ rest) line
+unfolding release_ok_of
+release_ok_takes = kind_takes note_codec release_ok_make (codes "releaseok") (λ x fits. (refl, (fits.0, fits.1)))
+
+abbrev assert_make : (ℕ × (ℕ × ℕ)) → Line
+assert_make x = Assert (record { 0 = x.0 }) (record { 0 = x.1.0 }) (record { 0 = x.1.1 })
+
+assert_codec : IsCodec (print_both (print_field decimal) (print_both (print_field decimal) (print_field (flags_text assert_letters)))) (both seat_at (both lock_at (field_at (flags_of assert_letters)))) (λ x. IsBelow (2 ^ 16) x.0 × (IsBelow (2 ^ 32) x.1.0 × IsBelow 64 x.1.1)) (Ends 32)
+assert_codec = both_codec seat_codec (both_codec lock_codec assert_flags_codec)
+
+assert_takes : (rest : List ℕ) (line : Line) → assert_of rest ≡ Some line → Spells (codes "assert" ++ rest) line
+unfolding assert_of
+assert_takes = kind_takes assert_codec assert_make (codes "assert") (λ x fits. (refl, (fits.0, fits.1.0, fits.1.1)))
+
+abbrev warn_make : (ℕ × (ℕ × ℕ)) → Line
+warn_make x = Warn (record { 0 = x.0 }) (lock_if_any x.1.0) (record { 0 = x.1.1 })
+
+warn_codec : IsCodec (print_both (print_field decimal) (print_both (print_field decimal) (print_field (flags_text warn_letters)))) (both seat_at (both lock_at (field_at (flags_of warn_letters)))) (λ x. IsBelow (2 ^ 16) x.0 × (IsBelow (2 ^ 32) x.1.0 × IsBelow 4 x.1.1)) (Ends 32)
+warn_codec = both_codec seat_codec (both_codec lock_codec warn_flags_codec)
+
+-- a number that names a lock, or none, is that lock's
+number_named : (n : ℕ) → number_if_any (lock_if_any n) ≡ n
+number_named n = elim (cases_eq n 0) [ inl none ↦ rw none refl | inr some ↦ rw (ne_eqb n 0 some) refl ]
+
+named_if_any : (n : ℕ) → n < 2 ^ 32 → IfSome (lock_if_any n) IsNamed
+named_if_any n small = elim (cases_eq n 0) [ inl none ↦ rw none tt | inr some ↦ rw (ne_eqb n 0 some) (omega arith, small) ]
+
+-- a lock that can be named is found by its number
+lock_again : (lock : Option LockNo) → IfSome lock IsNamed → lock_if_any (number_if_any lock) ≡ lock
+lock_again None named = refl
+lock_again (Some lock) named = rw (ne_eqb lock.0 0 (λ none. absurd (omega (arith, named.0)))) refl
+
+pub number-lt : (lock : Option LockNo) → IfSome lock IsNamed → number_if_any lock < 2 ^ 32
+number-lt None named = omega arith
+number-lt (Some lock) named = named.1
+
+warn_takes : (rest : List ℕ) (line : Line) → warn_of rest ≡ Some line → Spells (codes "warn" ++ rest) line
+unfolding warn_of
+warn_takes = kind_takes warn_codec warn_make (codes "warn") (λ x fits. (ap (λ (n : ℕ). codes "warn" ++ print_field decimal x.0 (print_field decimal n (print_field (flags_text warn_letters) x.1.1 []))) (sym (number_named x.1.0)), (fits.0, named_if_any x.1.0 fits.1.0, fits.1.1)))
+
+warn_again : (seat : ℕ) (lock : Option LockNo) (flags : ℕ) → seat < 2 ^ 16 → IfSome lock IsNamed → flags < 4 → line_of (spelling (Warn (record { 0 = seat }) lock (record { 0 = flags }))) ≡ Some (Warn (record { 0 = seat }) lock (record { 0 = flags }))
+unfolding plain_kinds warn_of
+warn_again seat lock flags p q r =
+    keyword_again (codes "warn") _ (refl, (refl, (refl, (refl, tt)))) refl
+    ∙ kind_again warn_codec tt warn_make (seat, (number_if_any lock, flags)) (p, (number-lt lock q, r))
+    ∙ ap (λ (l : Option LockNo). Some (Warn (record { 0 = seat }) l (record { 0 = flags }))) (lock_again lock q)
+
+abbrev define_make : (ℕ × (ℕ × ℕ)) → Line
+define_make x = Define (record { 0 = x.0 }) (record { 0 = x.1.0 }) (record { 0 = x.1.1 })
+
+define_codec : IsCodec (print_both (print_field decimal) (print_both (print_field decimal) (print_field decimal))) (both seat_at (both lock_at lock_at)) (λ x. IsBelow (2 ^ 16) x.0 × (IsBelow (2 ^ 32) x.1.0 × IsBelow (2 ^ 32) x.1.1)) (Ends 32)
+define_codec = both_codec seat_codec (both_codec lock_codec lock_codec)
+
+define_takes : (rest : List ℕ) (line : Line) → define_of rest ≡ Some line → Spells (codes "define" ++ rest) line
+unfolding define_of
+define_takes = kind_takes define_codec define_make (codes "define") (λ x fits. (refl, (fits.0, fits.1.0, fits.1.1)))
+
 abbrev watch_make : (ℕ × level.Watch) → Line
 watch_make x = Watch (record { 0 = x.0 }) x.1
 
@@ -281,10 +376,10 @@ read_as_takes (kind ∷ others) all word rest line e =
 
 -- what is read is spelled so
 pub line_takes : (bytes : List ℕ) (line : Line) → line_of bytes ≡ Some line → Spells bytes line
-unfolding line_of
+unfolding line_of plain_kinds
 line_takes bytes line e =
     subst (λ (b : List ℕ). Spells b line) (sym (until_whole 32 bytes))
-    (read_as_takes kinds (check_takes, (note_takes, (unlock_takes, (try_takes, (give_up_takes, (watch_takes, (init_takes, (order_takes, (bless_takes, (header_takes, tt)))))))))) (until 32 bytes).0 (until 32 bytes).1 line e)
+    (read_as_takes kinds (check_takes, (note_takes, (unlock_takes, (try_takes, (give_up_takes, (init_takes, (order_takes, (bless_takes, (header_takes, (destroy_takes, (upgrade_takes, (downgrade_takes, (no_release_takes, (release_ok_takes, (assert_takes, (warn_takes, (define_takes, (watch_takes, tt)))))))))))))))))) (until 32 bytes).0 (until 32 bytes).1 line e)
 
 init_again : (seat : ℕ) (class : Class) (flags : ℕ) (name : List ℕ) (type_name : Option (List ℕ)) → seat < 2 ^ 16 → flags < 4 → IsTrue (is_name name) → FitsIfAny (λ name. IsTrue (is_name name)) type_name
     → line_of (spelling (init_make (seat, (class, (flags, (name, type_name)))))) ≡ Some (init_make (seat, (class, (flags, (name, type_name)))))
@@ -298,7 +393,7 @@ fits_if_any (Some name) h = h
 
 -- what is spelled so is read
 pub line_again : (line : Line) → IsSpellable line → line_of (spelling line) ≡ Some line
-unfolding header_of bless_of init_of check_of note_of try_of give_up_of unlock_of watch_of
+unfolding plain_kinds header_of bless_of init_of check_of note_of try_of give_up_of unlock_of destroy_of upgrade_of downgrade_of no_release_of release_ok_of assert_of define_of watch_of
 line_again (Header s t l c) (p0, p1, p2, p3) = keyword_again (codes "witness-trace") _ (refl, (refl, (refl, (refl, (refl, (refl, (refl, (refl, (refl, (refl, (refl, (refl, (refl, tt))))))))))))) refl ∙ kind_again header_codec tt header_make (s, (t, (l, c))) (p0, (p1, (p2, p3)))
 line_again (Order list) (p0, p1) = order_again list p0 p1
 line_again (Bless a b) (p0, p1) = keyword_again (codes "bless") _ (refl, (refl, (refl, (refl, (refl, tt))))) refl ∙ kind_again bless_codec tt bless_make (a, b) (p0, p1)
@@ -308,6 +403,14 @@ line_again (Lock s l) (p0, p1) = keyword_again (codes "lock") _ (refl, (refl, (r
 line_again (Try s l m f n) (p0, p1, p2, p3) = keyword_again (codes "try") _ (refl, (refl, (refl, tt))) refl ∙ kind_again try_codec tt try_make (s.0, (l.0, (m, (f, n)))) (p0, (p1, (tt, (p2, p3))))
 line_again (GiveUp s l) (p0, p1) = keyword_again (codes "giveup") _ (refl, (refl, (refl, (refl, (refl, (refl, tt)))))) refl ∙ kind_again note_codec tt give_up_make (s.0, l.0) (p0, p1)
 line_again (Unlock s l m) (p0, p1) = keyword_again (codes "unlock") _ (refl, (refl, (refl, (refl, (refl, (refl, tt)))))) refl ∙ kind_again unlock_codec tt unlock_make (s.0, (l.0, m)) (p0, (p1, tt))
+line_again (Destroy s l) (p0, p1) = keyword_again (codes "destroy") _ (refl, (refl, (refl, (refl, (refl, (refl, (refl, tt))))))) refl ∙ kind_again note_codec tt destroy_make (s.0, l.0) (p0, p1)
+line_again (Upgrade s l) (p0, p1) = keyword_again (codes "upgrade") _ (refl, (refl, (refl, (refl, (refl, (refl, (refl, tt))))))) refl ∙ kind_again note_codec tt upgrade_make (s.0, l.0) (p0, p1)
+line_again (Downgrade s l) (p0, p1) = keyword_again (codes "downgrade") _ (refl, (refl, (refl, (refl, (refl, (refl, (refl, (refl, (refl, tt))))))))) refl ∙ kind_again note_codec tt downgrade_make (s.0, l.0) (p0, p1)
+line_again (NoRelease s l) (p0, p1) = keyword_again (codes "norelease") _ (refl, (refl, (refl, (refl, (refl, (refl, (refl, (refl, (refl, tt))))))))) refl ∙ kind_again note_codec tt no_release_make (s.0, l.0) (p0, p1)
+line_again (ReleaseOk s l) (p0, p1) = keyword_again (codes "releaseok") _ (refl, (refl, (refl, (refl, (refl, (refl, (refl, (refl, (refl, tt))))))))) refl ∙ kind_again note_codec tt release_ok_make (s.0, l.0) (p0, p1)
+line_again (Assert s l a) (p0, p1, p2) = keyword_again (codes "assert") _ (refl, (refl, (refl, (refl, (refl, (refl, tt)))))) refl ∙ kind_again assert_codec tt assert_make (s.0, (l.0, a.0)) (p0, (p1, p2))
+line_again (Warn s l f) (p0, p1, p2) = warn_again s.0 l f.0 p0 p1 p2
+line_again (Define s a b) (p0, p1, p2) = keyword_again (codes "define") _ (refl, (refl, (refl, (refl, (refl, (refl, tt)))))) refl ∙ kind_again define_codec tt define_make (s.0, (a.0, b.0)) (p0, (p1, p2))
 line_again (Watch s w) p0 = keyword_again (codes "watch") _ (refl, (refl, (refl, (refl, (refl, tt))))) refl ∙ kind_again watch_codec tt watch_make (s.0, w) (p0, tt)
 
 -- nothing else is read of the bytes that spell a line

@@ -3,7 +3,7 @@ use Rattle.std.proofs.Common.{◌≡◌, ℕ, Bool, true, false, cond, is_some, 
 use Rattle.std.proofs.lemmas.Bool.{true≢false}
 use Rattle.wit_model.specs.declared.calls.Request.{Request}
 use Rattle.wit_model.specs.declared.calls.Call.{Call}
-use Rattle.wit_model.specs.declared.calls.Call.TheVariants.{Init, Check, Note, NoteTry, GiveUp, Unlock, SetWatch}
+use Rattle.wit_model.specs.declared.calls.Call.TheVariants.{Init, Check, Note, NoteTry, GiveUp, Unlock}
 use Rattle.wit_model.specs.declared.calls.Reply.{Reply}
 use Rattle.wit_model.specs.declared.calls.Reply.TheVariants.{Recorded, Exhausted, Unrecorded, Silent, Reversal, Duplicate}
 use Rattle.wit_model.specs.declared.calls.Entry.{Entry}
@@ -12,7 +12,7 @@ use Rattle.wit_model.specs.Rules.History.{is_off, chain, watch_of}
 use Rattle.wit_model.specs.Rules.State.{Start, State, known_of, state_of, seat_at}
 use Rattle.wit_model.specs.Rules.Verdict.{basis_of, asked_of}
 use Rattle.wit_model.specs.Rules.Step.{held_by, is_exhausted, recorded, step, answer_of, story_after, is_logged, IsLegal}
-use Rattle.wit_model.proofs.Histories.Accepted.{CheckAccepted, check_accepted, init_accepted, note_accepted, try_accepted, give_up_accepted, unlock_accepted, watch_accepted}
+use Rattle.wit_model.proofs.Histories.Accepted.{CheckAccepted, check_accepted, init_accepted, note_accepted, try_accepted, give_up_accepted, unlock_accepted, is_plain_reply, plain_accepted}
 use Rattle.wit_model.proofs.Orders.Ruled.{Says, ruled}
 use Rattle.wit_model.proofs.Orders.Sound.{chain-judged}
 use Rattle.wit_model.proofs.VerdictLaws.Classes.{type-kind}
@@ -55,6 +55,12 @@ recorded-untold s t l = go (is_off s.watch) (is_some (held_by s t l)) (is_exhaus
     go false false true = refl
     go false false false = refl
 
+plain-untold : (r : Reply) → is_plain_reply r ≡ true → is_told r ≡ false
+plain-untold (Reversal x) plain = absurd (true≢false (sym plain))
+plain-untold (Duplicate d) plain = absurd (true≢false (sym plain))
+plain-untold (Silent a b) plain = absurd (true≢false (sym plain))
+plain-untold r plain = refl
+
 told-check : (s : State) (t : ℕ) (c : Call) (r : Reply) → step s t c ≡ Ok r → is_logged r ≡ true → is_told r ≡ true → (q : Request) × (c ≡ Check q)
 told-check s t (Check q) r ok kept is = (q, refl)
 told-check s t (Init lock) r ok kept is = absurd (untold r _ (init_accepted s t lock r ok).reply refl is)
@@ -62,7 +68,7 @@ told-check s t (Note l) r ok kept is = absurd (untold r _ (note_accepted s t l.0
 told-check s t (NoteTry l m site) r ok kept is = absurd (untold r _ (try_accepted s t l.0 m site r ok).reply (recorded-untold s t l.0) is)
 told-check s t (GiveUp l) r ok kept is = absurd (untold r _ (give_up_accepted s t l.0 r ok).reply refl is)
 told-check s t (Unlock l m) r ok kept is = absurd (untold r _ (unlock_accepted s t l.0 m r ok kept).reply refl is)
-told-check s t (SetWatch w) r ok kept is = absurd (untold r _ (watch_accepted s t w r ok).reply refl is)
+told-check s t c r ok kept is = absurd (true≢false (sym is ∙ plain-untold r (plain_accepted s t c r refl ok kept).reply))
 
 -- only a check is told of a violation
 pub told-asked : (start : Start) (files : List (List ℕ)) (e : Entry) (h : List Entry) → IsLegal start files (e ∷ h) → is_told e.reply ≡ true

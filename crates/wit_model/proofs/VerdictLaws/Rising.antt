@@ -9,7 +9,7 @@ use Rattle.wit_model.specs.declared.calls.Adoption.{Adoption}
 use Rattle.wit_model.specs.declared.calls.NewLock.{NewLock}
 use Rattle.wit_model.specs.declared.calls.Request.{Request}
 use Rattle.wit_model.specs.declared.calls.Call.{Call}
-use Rattle.wit_model.specs.declared.calls.Call.TheVariants.{Init, Check, Note, NoteTry, GiveUp, Unlock, SetWatch}
+use Rattle.wit_model.specs.declared.calls.Call.TheVariants.{Init, Check, Note, NoteTry, GiveUp, Unlock, DefineOrder, Downgrade, NoRelease, ReleaseOk, Upgrade}
 use Rattle.wit_model.specs.declared.calls.Reply.{Reply}
 use Rattle.wit_model.specs.declared.calls.Reply.TheVariants.{Adopted, Recorded, Unlocked}
 use Rattle.wit_model.specs.declared.calls.Entry.{Entry}
@@ -26,9 +26,9 @@ use Rattle.wit_model.proofs.Chains.Sane.{IsSane, IsFit, fit_by}
 use Rattle.wit_model.proofs.Chains.Acts.{num-step}
 use Rattle.wit_model.proofs.Chains.Effects.{is_not, Effect, Same, New, Gone, effect, held-same}
 use Rattle.wit_model.proofs.Chains.Held.{held-all, held_of-all, made_sane, kind-stays, kinds-stay}
-use Rattle.wit_model.proofs.Histories.Accepted.{asked-lock, same-request, init_accepted, note_accepted, try_accepted, unlock_accepted, watch_accepted}
+use Rattle.wit_model.proofs.Histories.Accepted.{asked-lock, same-request, init_accepted, note_accepted, try_accepted, unlock_accepted, plain_accepted}
 use Rattle.wit_model.proofs.Histories.Asked.{asked-made}
-use Rattle.wit_model.proofs.Histories.Legal.{pending-state, sane_legal}
+use Rattle.wit_model.proofs.Histories.Legal.{pending-state, sane_legal, plain-unrecorded}
 use Rattle.wit_model.proofs.Orders.Paths.{direct-before, test_from_before, is_before-trans}
 use Rattle.wit_model.proofs.Orders.TypedLocks.{length-typed, made-known}
 use Rattle.wit_model.proofs.Orders.Types.{lock-stays}
@@ -45,6 +45,8 @@ leads start h l m = is_before (orders_of start h) (lock_type start h l) (lock_ty
 
 before-adopted : (c : Call) (r : Reply) (os : List Adoption) (a b : ℕ) → is_before os a b ≡ true → is_before (adopted c r ++ os) a b ≡ true
 before-adopted (Check q) (Adopted p c) os a b is =
+    or_left (is_before os a b) ((eqb p.0 a || is_before os a p.0) && (eqb c.0 b || is_before os c.0 b)) is
+before-adopted (DefineOrder x y) (Adopted p c) os a b is =
     or_left (is_before os a b) ((eqb p.0 a || is_before os a p.0) && (eqb c.0 b || is_before os c.0 b)) is
 before-adopted c r os a b is = is
 
@@ -142,20 +144,24 @@ module _ (start : Start) (files : List (List ℕ)) (h : List Entry) (t : ℕ) wh
       let asks = asked-lock l.0 (seat_at (state_of (story_after start files h)) t).pending a.asked in
       (asks.0, sym (pending-state start files h t a.seat) ∙ asks.1, asks.2 ∙ (let e : l.0 ≡ m = cc in e))
   asked-before (Unlock l mode) Unlocked m ok clean acts = let e : ◌≡◌ {A = Act} (Releases l.0) (Records m) = acts in (cc)
+  asked-before (Upgrade l) r m ok clean acts = absurd (plain-unrecorded (Upgrade l) r m refl acts)
+  asked-before (Downgrade l) r m ok clean acts = absurd (plain-unrecorded (Downgrade l) r m refl acts)
+  asked-before (NoRelease l) r m ok clean acts = absurd (plain-unrecorded (NoRelease l) r m refl acts)
+  asked-before (ReleaseOk l) r m ok clean acts = absurd (plain-unrecorded (ReleaseOk l) r m refl acts)
   asked-before c r m ok clean acts = let e : ◌≡◌ {A = Act} Nothing (Records m) = acts in (cc)
 
   not-idle : (q : Request) → is_seat (state_of (story_after start files h)) t ≡ true → is_pending (state_of (story_after start files h)) t ≡ false → pending t h ≡ Some q → ⊥
   not-idle q seat idle is = true≢false (sym (ap (λ (o : Option Request). is_some o) (pending-state start files h t seat ∙ is)) ∙ idle)
 
   -- what a seat's own call leaves pending is what it asks for
-  asks-now : (c : Call) (r : Reply) (q : Request) → answer_of (story_after start files h) t c ≡ Ok r → is_logged r ≡ true → pending_after c (pending t h) ≡ Some q → c ≡ Check q
+  pub asks-now : (c : Call) (r : Reply) (q : Request) → answer_of (story_after start files h) t c ≡ Ok r → is_logged r ≡ true → pending_after c (pending t h) ≡ Some q → c ≡ Check q
   asks-now (Check p) r q ok kept is = ap Check (same-request p q is)
   asks-now (Note l) r q ok kept is = (cc)
   asks-now (GiveUp l) r q ok kept is = (cc)
   asks-now (Init lock) r q ok kept is = let a = init_accepted (state_of (story_after start files h)) t lock r ok in absurd (not-idle q a.seat a.idle is)
   asks-now (NoteTry l m site) r q ok kept is = let a = try_accepted (state_of (story_after start files h)) t l.0 m site r ok in absurd (not-idle q a.seat a.idle is)
   asks-now (Unlock l m) r q ok kept is = let a = unlock_accepted (state_of (story_after start files h)) t l.0 m r ok kept in absurd (not-idle q a.seat a.idle is)
-  asks-now (SetWatch w) r q ok kept is = let a = watch_accepted (state_of (story_after start files h)) t w r ok in absurd (not-idle q a.seat a.idle is)
+  asks-now c r q ok kept is = let a = plain_accepted (state_of (story_after start files h)) t c r refl ok kept in absurd (not-idle q a.seat a.idle is)
 
 -- ---- the two facts, kept together
 

@@ -1,5 +1,5 @@
 -- A clean history: nothing was reported, and each check was free to learn its order.
-use Rattle.std.specs.Prelude.{Bool, true, false, not, ◌&&◌, List, codes}
+use Rattle.std.specs.Prelude.{ℕ, ◌≡◌, Bool, true, false, not, ◌&&◌, List, [], codes}
 use Rattle.std.specs.List.{list_all}
 use Rattle.std.specs.Str.{bytes_eq}
 use Rattle.wit_model.specs.declared.locks.Class.TheVariants.{SleepMutex}
@@ -10,6 +10,8 @@ use Rattle.wit_model.specs.declared.calls.Entry.{Entry}
 use Rattle.wit_model.specs.Rules.Types.{type_name_of, is_same_class}
 use Rattle.wit_model.specs.Rules.Locks.{has_flag}
 use Rattle.wit_model.specs.Rules.History.{is_on, is_report}
+use Rattle.wit_model.specs.Rules.State.{Story, state_of}
+use Rattle.wit_model.specs.Rules.Circles.{IsRecordCircle}
 
 -- Giant is the mutex of that type (locking(9))
 abbrev pub is_giant_lock : NewLock → Bool
@@ -30,3 +32,7 @@ is_clean_entry e = is_clean_call e.call && not (is_report e.reply)
 -- whether a history is clean, where no pair of type names is blessed at its start
 abbrev pub is_clean : List Entry → Bool
 is_clean h = list_all is_clean_entry h
+
+-- where a story's history is clean, and it blesses no pair, no seats wait for one another in a circle
+abbrev pub CleanMeansNoCircle : Story → Type 0
+CleanMeansNoCircle s = s.start.blessed ≡ [] → is_clean s.history ≡ true → (seats : List ℕ) → IsRecordCircle (state_of s) seats → ⊥

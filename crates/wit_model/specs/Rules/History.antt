@@ -2,15 +2,15 @@
 -- One definition, `act`, says what an entry does to the locks that its seat holds, and it alone knows the calls.
 use Rattle.std.specs.Prelude.{ℕ, ◌-◌, Bool, true, false, not, ◌&&◌, ◌==◌, nat_lt, List, [], ◌∷◌, ◌++◌, Option, None, Some, map, filter, length, count_by, if◌then◌else◌}
 use Rattle.wit_model.specs.declared.locks.Mode.{Mode}
-use Rattle.wit_model.specs.declared.locks.Mode.TheVariants.{Exclusive}
+use Rattle.wit_model.specs.declared.locks.Mode.TheVariants.{Shared, Exclusive}
 use Rattle.wit_model.specs.declared.locks.Watch.{Watch}
 use Rattle.wit_model.specs.declared.locks.Watch.TheVariants.{Off, On}
 use Rattle.wit_model.specs.declared.locks.Site.{Site}
 use Rattle.wit_model.specs.declared.locks.Instance.{Instance}
 use Rattle.wit_model.specs.declared.calls.Call.{Call}
-use Rattle.wit_model.specs.declared.calls.Call.TheVariants.{Check, Note, NoteTry, GiveUp, Unlock, SetWatch}
+use Rattle.wit_model.specs.declared.calls.Call.TheVariants.{Check, Note, NoteTry, GiveUp, Unlock, SetWatch, Upgrade, Downgrade, NoRelease, ReleaseOk}
 use Rattle.wit_model.specs.declared.calls.Reply.{Reply}
-use Rattle.wit_model.specs.declared.calls.Reply.TheVariants.{Reversal, Duplicate, Recorded, Exhausted, Unlocked}
+use Rattle.wit_model.specs.declared.calls.Reply.TheVariants.{Done, Reversal, Duplicate, Recorded, Exhausted, Unlocked}
 use Rattle.wit_model.specs.declared.calls.Request.{Request}
 use Rattle.wit_model.specs.declared.calls.Entry.{Entry}
 use Rattle.wit_model.specs.Rules.Locks.{locks_of, is_of_kind}
@@ -32,6 +32,10 @@ abbrev pub act : Call → Reply → Act
 act (Note l) Recorded = Records l.0
 act (NoteTry l m s) Recorded = Records l.0
 act (Unlock l m) Unlocked = Releases l.0
+act (Upgrade l) Done = Turns l.0 Exclusive
+act (Downgrade l) Done = Turns l.0 Shared
+act (NoRelease l) Done = Marks l.0 true
+act (ReleaseOk l) Done = Marks l.0 false
 act _ _ = Nothing
 
 -- what an entry does to the locks that seat t holds
@@ -170,3 +174,7 @@ is_report _ = false
 -- how many reports are in a history
 abbrev pub reports_of : List Entry → ℕ
 reports_of h = count_by (λ (e : Entry). is_report e.reply) h
+
+-- the entries of seat t
+abbrev pub own_entries : ℕ → List Entry → List Entry
+own_entries t h = filter (λ (e : Entry). e.seat.0 == t) h

@@ -1,11 +1,12 @@
 -- The locks that were made. A lock's number is its place among them, from 1.
 use Rattle.std.specs.Prelude.{ℕ, Bool, true, false, not, ◌==◌, List, [], ◌∷◌, ◌++◌, None, unwrap_or}
+use Rattle.std.specs.List.{list_any}
 use Rattle.std.specs.Int.RustNames.{bit_and}
 use Rattle.wit_model.specs.declared.locks.Class.TheVariants.{SleepMutex}
 pub use Rattle.wit_model.specs.declared.locks.Lock.{Lock}
 use Rattle.wit_model.specs.declared.calls.NewLock.{NewLock}
 use Rattle.wit_model.specs.declared.calls.Call.{Call}
-use Rattle.wit_model.specs.declared.calls.Call.TheVariants.{Init}
+use Rattle.wit_model.specs.declared.calls.Call.TheVariants.{Init, Destroy}
 use Rattle.wit_model.specs.declared.calls.Entry.{Entry}
 use Rattle.wit_model.specs.Rules.Numbers.{with_number}
 use Rattle.wit_model.specs.Rules.Types.{LockType, type_number, type_name_of, is_spin}
@@ -22,6 +23,19 @@ made _ = []
 abbrev pub locks_of : List Entry → List NewLock
 locks_of [] = []
 locks_of (e ∷ h) = locks_of h ++ made e.call
+
+abbrev pub destroyed_by : Call → List ℕ
+destroyed_by (Destroy l) = l.0 ∷ []
+destroyed_by _ = []
+
+-- the numbers of the locks that were destroyed, newest first; a number is never used again
+abbrev pub destroyed_of : List Entry → List ℕ
+destroyed_of [] = []
+destroyed_of (e ∷ h) = destroyed_by e.call ++ destroyed_of h
+
+-- whether the lock is one of these
+abbrev pub is_destroyed : List ℕ → ℕ → Bool
+is_destroyed destroyed l = list_any (λ d. d == l) destroyed
 
 -- stands for a lock that was never made
 abbrev pub no_lock : NewLock

@@ -4,12 +4,12 @@ use Rattle.std.specs.Prelude.{ℕ, ◌+◌, ◌≡◌, Bool, true, false, ◌&&�
 use Rattle.std.specs.List.{list_any}
 use Rattle.std.specs.Option.{option_map}
 use Rattle.wit_model.specs.declared.locks.Origin.{Origin}
-use Rattle.wit_model.specs.declared.locks.Origin.TheVariants.{Listed, At}
+use Rattle.wit_model.specs.declared.locks.Origin.TheVariants.{Listed, Defined, At}
 use Rattle.wit_model.specs.declared.locks.Class.{Class}
 use Rattle.wit_model.specs.declared.locks.TypeNo.{TypeNo}
 use Rattle.wit_model.specs.declared.calls.Adoption.{Adoption}
 use Rattle.wit_model.specs.declared.calls.Call.{Call}
-use Rattle.wit_model.specs.declared.calls.Call.TheVariants.{Check}
+use Rattle.wit_model.specs.declared.calls.Call.TheVariants.{Check, DefineOrder}
 use Rattle.wit_model.specs.declared.calls.Reply.{Reply}
 use Rattle.wit_model.specs.declared.calls.Reply.TheVariants.{Adopted}
 use Rattle.wit_model.specs.declared.calls.Entry.{Entry}
@@ -93,6 +93,7 @@ listed_orders (list ∷ lists) types orders =
 
 abbrev pub adopted : Call → Reply → List Adoption
 adopted (Check q) (Adopted p c) = record { parent = p; child = c; origin = At q.site } ∷ []
+adopted (DefineOrder a b) (Adopted p c) = record { parent = p; child = c; origin = Defined } ∷ []
 adopted _ _ = []
 
 -- the orders after a history (newest entry first) that began with these

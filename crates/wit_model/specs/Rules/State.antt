@@ -1,5 +1,5 @@
 -- The state of a verifier: what its rules speak of, taken over its history.
-use Rattle.std.specs.Prelude.{ℕ, ◌+◌, ◌-◌, Bool, true, false, nat_le, List, [], ◌∷◌, ◌++◌, Option, None, Some, map, length, unwrap_or, sum_by, if◌then◌else◌}
+use Rattle.std.specs.Prelude.{ℕ, ◌+◌, ◌-◌, Bool, true, false, not, ◌&&◌, ◌==◌, nat_le, List, [], ◌∷◌, ◌++◌, Option, None, Some, map, length, count_by, unwrap_or, sum_by, if◌then◌else◌}
 use Rattle.std.specs.List.{range_with_len}
 use Rattle.wit_model.specs.declared.locks.Class.{Class}
 use Rattle.wit_model.specs.declared.locks.TypeNo.{TypeNo}
@@ -13,7 +13,7 @@ use Rattle.wit_model.specs.declared.calls.Entry.{Entry}
 use Rattle.wit_model.specs.Rules.Sizes.{Sizes}
 use Rattle.wit_model.specs.Rules.Numbers.{is_given, with_number}
 use Rattle.wit_model.specs.Rules.Types.{LockType, listed_types, types_from}
-use Rattle.wit_model.specs.Rules.Locks.{Lock, made_among, lock_at}
+use Rattle.wit_model.specs.Rules.Locks.{Lock, made_among, lock_at, destroyed_of, is_destroyed}
 use Rattle.wit_model.specs.Rules.Orders.{listed_orders, orders_from, found_once}
 use Rattle.wit_model.specs.Rules.History.{chain, pending, watch_of}
 use Rattle.wit_model.specs.Rules.SeatGroups.{seat_groups}
@@ -103,6 +103,7 @@ pub record State : Type 0 where
   pub sizes : Sizes
   pub files : ℕ
   pub known : Known
+  pub destroyed : List ℕ
   pub seats : List Seat
   pub watch : Watch
   pub used : ℕ
@@ -112,6 +113,7 @@ state_of s = record {
   sizes = s.start.sizes;
   files = length s.files;
   known = known_of s.start s.history;
+  destroyed = destroyed_of s.history;
   seats = seats_of s.start.sizes.seats s.history;
   watch = watch_of s.history;
   used = length s.history;
@@ -137,6 +139,22 @@ groups_in spin s = if spin then s.spin_groups else s.sleep_groups
 
 abbrev pub is_seat : State → ℕ → Bool
 is_seat s t = is_given s.seats t
+
+-- whether the lock was made and isn't destroyed
+abbrev pub is_live : State → ℕ → Bool
+is_live s l = is_given s.known.locks l && not (is_destroyed s.destroyed l)
+
+-- whether this is the number of a live lock of a type
+abbrev pub is_live_of : List Lock → List ℕ → ℕ → ℕ → Bool
+is_live_of locks destroyed t l = ((lock_at locks l).type_no.0 == t) && not (is_destroyed destroyed l)
+
+-- how many of these locks are of a type and not among the destroyed ones
+abbrev pub live_among : List Lock → List ℕ → ℕ → ℕ
+live_among locks destroyed t = count_by (is_live_of locks destroyed t) (range_with_len 1 (length locks))
+
+-- how many locks of a type are live
+abbrev pub live : State → ℕ → ℕ
+live s t = live_among s.known.locks s.destroyed t
 
 -- the acquisitions in a chain, recursions counted
 abbrev pub recorded_in : List Instance → ℕ

@@ -1,8 +1,6 @@
 -- What a verifier answers to a call, and which histories are legal. In each call the faults stand in the order in
 -- which they apply; want of memory is never among them.
-use Rattle.std.specs.Prelude.{ℕ, ◌+◌, ◌≡◌, Bool, true, false, not, ◌&&◌, ◌||◌, ◌==◌, nat_le, List, [], ◌∷◌, Option, None, Some, Result, Ok, Err, find, length, codes, is_some, if◌then◌else◌}
-use Rattle.std.specs.List.{list_any}
-use Rattle.std.specs.Str.{bytes_eq}
+use Rattle.std.specs.Prelude.{ℕ, ◌+◌, ◌≡◌, Bool, true, false, not, ◌&&◌, ◌==◌, nat_le, List, [], ◌∷◌, Option, None, Some, Result, Ok, Err, length, is_some, if◌then◌else◌}
 use Rattle.wit_model.specs.declared.faults.Fault.{Fault}
 use Rattle.wit_model.specs.declared.faults.Fault.TheVariants.{UnknownSeat, UnknownLock, ClassMismatch, TypesFull, LocksFull, RecursionTooDeep, NotLocked, SharedUnlock, ExclusiveUnlock, ForbiddenUnlock, Pending, NotRequested, LogFull, BadName, WatchOff, ModeNotAllowed, UnknownFile}
 use Rattle.wit_model.specs.declared.locks.Class.{Class}
@@ -14,39 +12,23 @@ use Rattle.wit_model.specs.declared.locks.Instance.{Instance}
 use Rattle.wit_model.specs.declared.calls.NewLock.{NewLock}
 use Rattle.wit_model.specs.declared.calls.Request.{Request}
 use Rattle.wit_model.specs.declared.calls.Call.{Call}
-use Rattle.wit_model.specs.declared.calls.Call.TheVariants.{Init, Check, Note, NoteTry, GiveUp, Unlock, SetWatch}
+use Rattle.wit_model.specs.declared.calls.Call.TheVariants.{Init, Check, Note, NoteTry, GiveUp, Unlock, SetWatch, Destroy, Upgrade, Downgrade, NoRelease, ReleaseOk, DefineOrder}
 use Rattle.wit_model.specs.declared.calls.Reply.{Reply}
 use Rattle.wit_model.specs.declared.calls.Reply.TheVariants.{Made, Done, Recorded, Exhausted, Unrecorded, Unlocked, Ignored}
 use Rattle.wit_model.specs.declared.calls.Entry.{Entry}
 use Rattle.wit_model.specs.Rules.Names.{is_name}
-use Rattle.wit_model.specs.Rules.Numbers.{is_number, is_given}
+use Rattle.wit_model.specs.Rules.Numbers.{is_number}
 use Rattle.wit_model.specs.Rules.Refusals.{IsRefusal}
-use Rattle.wit_model.specs.Rules.Types.{type_name_of, type_number, is_enrolled, is_otherwise, is_same_class, is_spin}
-use Rattle.wit_model.specs.Rules.Locks.{Lock, lock_at}
+use Rattle.wit_model.specs.Rules.Types.{type_name_of, is_enrolled, is_otherwise}
+use Rattle.wit_model.specs.Rules.Locks.{lock_at}
 use Rattle.wit_model.specs.Rules.Groups.{opens}
 use Rattle.wit_model.specs.Rules.History.{is_on, is_off}
-use Rattle.wit_model.specs.Rules.State.{Start, Story, State, state_of, seat_at, groups_in, is_seat, free, has_room}
-use Rattle.wit_model.specs.Rules.Verdict.{is_exclusive, is_of, chain_of_kind, verdict}
-
--- the chain of the lock's kind
-abbrev pub chain_for : State → ℕ → ℕ → List Instance
-chain_for s t l = chain_of_kind s.known (seat_at s t) l
-
--- the groups in which it lies
-abbrev pub groups_for : State → ℕ → ℕ → List (List ℕ)
-groups_for s t l = groups_in (is_spin (lock_at s.known.locks l).made.class) (seat_at s t)
-
--- the lock as the seat holds it
-abbrev pub held_by : State → ℕ → ℕ → Option Instance
-held_by s t l = find (is_of l) (chain_for s t l)
-
-abbrev pub is_pending : State → ℕ → Bool
-is_pending s t = is_some (seat_at s t).pending
-
--- whether the request is for this lock
-abbrev pub is_for : ℕ → Option Request → Bool
-is_for l None = false
-is_for l (Some q) = q.lock.0 == l
+use Rattle.wit_model.specs.Rules.State.{Start, Story, State, state_of, seat_at, is_seat, is_live, free, has_room}
+use Rattle.wit_model.specs.Rules.Verdict.{is_exclusive, verdict}
+pub use Rattle.wit_model.specs.Rules.Questions.{chain_for, groups_for, held_by, is_pending, is_for, with_room}
+use Rattle.wit_model.specs.Rules.Turning.{step_upgrade, step_downgrade, step_mark}
+use Rattle.wit_model.specs.Rules.Defining.{step_define}
+use Rattle.wit_model.specs.Rules.Destroying.{step_destroy}
 
 abbrev pub is_good_name : Option (List ℕ) → Bool
 is_good_name None = true
@@ -83,16 +65,11 @@ is_deepest (Some i) = i.count == 65535
 abbrev pub is_too_deep : State → ℕ → ℕ → Bool
 is_too_deep s t l = not (is_off s.watch) && is_deepest (held_by s t l)
 
--- an answer that isn't a fault needs room for this many entries: the call's own and those that must be able to follow it
-abbrev pub with_room : State → ℕ → Result Reply Fault → Result Reply Fault
-with_room s n (Err fault) = Err fault
-with_room s n (Ok reply) = if has_room s n then Ok reply else Err LogFull
-
 -- a check needs room for itself, its note and its unlock
 abbrev pub step_check : State → ℕ → Request → Result Reply Fault
 step_check s t q =
     if not (is_seat s t) then Err UnknownSeat
-    else if not (is_given s.known.locks q.lock.0) then Err UnknownLock
+    else if not (is_live s q.lock.0) then Err UnknownLock
     else if not (is_number s.files q.site.file.0) then Err UnknownFile
     else if not (is_exclusive q.mode) && not (is_shareable (lock_at s.known.locks q.lock.0).made.class) then Err ModeNotAllowed
     else if is_pending s t then Err Pending
@@ -114,7 +91,7 @@ recorded s t l =
 abbrev pub step_note : State → ℕ → ℕ → Result Reply Fault
 step_note s t l =
     if not (is_seat s t) then Err UnknownSeat
-    else if not (is_given s.known.locks l) then Err UnknownLock
+    else if not (is_live s l) then Err UnknownLock
     else if not (is_for l (seat_at s t).pending) then Err NotRequested
     else Ok (recorded s t l)
 
@@ -122,7 +99,7 @@ step_note s t l =
 abbrev pub step_note_try : State → ℕ → ℕ → Mode → Site → Result Reply Fault
 step_note_try s t l m site =
     if not (is_seat s t) then Err UnknownSeat
-    else if not (is_given s.known.locks l) then Err UnknownLock
+    else if not (is_live s l) then Err UnknownLock
     else if not (is_number s.files site.file.0) then Err UnknownFile
     else if not (is_exclusive m) && not (is_shareable (lock_at s.known.locks l).made.class) then Err ModeNotAllowed
     else if is_pending s t then Err Pending
@@ -132,7 +109,7 @@ step_note_try s t l m site =
 abbrev pub step_give_up : State → ℕ → ℕ → Result Reply Fault
 step_give_up s t l =
     if not (is_seat s t) then Err UnknownSeat
-    else if not (is_given s.known.locks l) then Err UnknownLock
+    else if not (is_live s l) then Err UnknownLock
     else if not (is_for l (seat_at s t).pending) then Err NotRequested
     else Ok Done
 
@@ -153,7 +130,7 @@ let_go (Some i) = Ok Unlocked
 abbrev pub step_unlock : State → ℕ → ℕ → Mode → Result Reply Fault
 step_unlock s t l m =
     if not (is_seat s t) then Err UnknownSeat
-    else if not (is_given s.known.locks l) then Err UnknownLock
+    else if not (is_live s l) then Err UnknownLock
     else if is_pending s t then Err Pending
     else if is_on s.watch then released m (held_by s t l)
     else let_go (held_by s t l)
@@ -176,6 +153,12 @@ step s t (NoteTry l m site) = step_note_try s t l.0 m site
 step s t (GiveUp l) = step_give_up s t l.0
 step s t (Unlock l m) = step_unlock s t l.0 m
 step s t (SetWatch watch) = step_set_watch s t watch
+step s t (Destroy l) = step_destroy s t l.0
+step s t (Upgrade l) = step_upgrade s t l.0
+step s t (Downgrade l) = step_downgrade s t l.0
+step s t (NoRelease l) = step_mark s t l.0
+step s t (ReleaseOk l) = step_mark s t l.0
+step s t (DefineOrder a b) = step_define s t a.0 b.0
 
 abbrev pub answer_of : Story → ℕ → Call → Result Reply Fault
 answer_of story t call = step (state_of story) t call

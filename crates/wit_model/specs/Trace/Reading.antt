@@ -5,7 +5,8 @@ use Rattle.std.specs.Char.{is_ascii_digit}
 use Rattle.std.specs.Str.{bytes_eq}
 use Rattle.std.specs.Str.Parse.{digits_value}
 use Rattle.wit_model.specs.declared.lines.Line.{Line}
-use Rattle.wit_model.specs.declared.lines.Line.TheVariants.{Header, Order, Bless, Init, Check, Lock, Try, GiveUp, Unlock, Watch}
+use Rattle.wit_model.specs.declared.lines.Line.TheVariants.{Header, Order, Bless, Init, Check, Lock, Try, GiveUp, Unlock, Destroy, Upgrade, Downgrade, NoRelease, ReleaseOk, Assert, Warn, Define, Watch}
+use Rattle.wit_model.specs.declared.locks.LockNo.{LockNo}
 use Rattle.wit_model.specs.declared.locks.Class.{Class}
 use Rattle.wit_model.specs.declared.locks.Class.TheVariants.{SleepMutex, SpinMutex, Rw, Sx}
 use Rattle.wit_model.specs.declared.locks.Mode.{Mode}
@@ -13,7 +14,7 @@ use Rattle.wit_model.specs.declared.locks.Mode.TheVariants.{Shared, Exclusive}
 use Rattle.wit_model.specs.declared.locks.Watch as level
 use Rattle.wit_model.specs.declared.locks.Watch.TheVariants.{On, Quiet, Off}
 use Rattle.wit_model.specs.Rules.Names.{is_name, is_file_name}
-use Rattle.wit_model.specs.Trace.Spelling.{Spells, class_text, mode_text, level_text, lock_letters, op_letters}
+use Rattle.wit_model.specs.Trace.Spelling.{Spells, class_text, mode_text, level_text, lock_letters, op_letters, assert_letters, warn_letters}
 
 infixl 10 ◌>>=◌
 abbrev pub ◌>>=◌ : {A B : Type 0} → Option A → (A → Option B) → Option B
@@ -176,6 +177,34 @@ give_up_of bytes = whole (both seat_at lock_at) bytes >>= λ x. Some (GiveUp (re
 unfoldable pub unlock_of : List ℕ → Option Line
 unlock_of bytes = whole (both seat_at (both lock_at (field_at mode_of))) bytes >>= λ x. Some (Unlock (record { 0 = x.0 }) (record { 0 = x.1.0 }) x.1.1)
 
+unfoldable pub destroy_of : List ℕ → Option Line
+destroy_of bytes = whole (both seat_at lock_at) bytes >>= λ x. Some (Destroy (record { 0 = x.0 }) (record { 0 = x.1 }))
+
+unfoldable pub upgrade_of : List ℕ → Option Line
+upgrade_of bytes = whole (both seat_at lock_at) bytes >>= λ x. Some (Upgrade (record { 0 = x.0 }) (record { 0 = x.1 }))
+
+unfoldable pub downgrade_of : List ℕ → Option Line
+downgrade_of bytes = whole (both seat_at lock_at) bytes >>= λ x. Some (Downgrade (record { 0 = x.0 }) (record { 0 = x.1 }))
+
+unfoldable pub no_release_of : List ℕ → Option Line
+no_release_of bytes = whole (both seat_at lock_at) bytes >>= λ x. Some (NoRelease (record { 0 = x.0 }) (record { 0 = x.1 }))
+
+unfoldable pub release_ok_of : List ℕ → Option Line
+release_ok_of bytes = whole (both seat_at lock_at) bytes >>= λ x. Some (ReleaseOk (record { 0 = x.0 }) (record { 0 = x.1 }))
+
+unfoldable pub assert_of : List ℕ → Option Line
+assert_of bytes = whole (both seat_at (both lock_at (field_at (flags_of assert_letters)))) bytes >>= λ x. Some (Assert (record { 0 = x.0 }) (record { 0 = x.1.0 }) (record { 0 = x.1.1 }))
+
+-- the lock with this number, none at 0
+abbrev pub lock_if_any : ℕ → Option LockNo
+lock_if_any n = if n == 0 then None else Some (record { 0 = n })
+
+unfoldable pub warn_of : List ℕ → Option Line
+warn_of bytes = whole (both seat_at (both lock_at (field_at (flags_of warn_letters)))) bytes >>= λ x. Some (Warn (record { 0 = x.0 }) (lock_if_any x.1.0) (record { 0 = x.1.1 }))
+
+unfoldable pub define_of : List ℕ → Option Line
+define_of bytes = whole (both seat_at (both lock_at lock_at)) bytes >>= λ x. Some (Define (record { 0 = x.0 }) (record { 0 = x.1.0 }) (record { 0 = x.1.1 }))
+
 unfoldable pub watch_of : List ℕ → Option Line
 watch_of bytes = whole (both seat_at (field_at level_of)) bytes >>= λ x. Some (Watch (record { 0 = x.0 }) x.1)
 
@@ -184,9 +213,12 @@ abbrev pub read_as : List (List ℕ × (List ℕ → Option Line)) → List ℕ 
 read_as [] word rest = None
 read_as (kind ∷ kinds) word rest = if bytes_eq word kind.0 then kind.1 rest else read_as kinds word rest
 
--- each first word, and how the rest is read
+-- each first word, and how the rest is read: first those of a seat with locks, flags or a level and no text
+unfoldable pub plain_kinds : List (List ℕ × (List ℕ → Option Line))
+plain_kinds = (codes "destroy", destroy_of) ∷ (codes "upgrade", upgrade_of) ∷ (codes "downgrade", downgrade_of) ∷ (codes "norelease", no_release_of) ∷ (codes "releaseok", release_ok_of) ∷ (codes "assert", assert_of) ∷ (codes "warn", warn_of) ∷ (codes "define", define_of) ∷ (codes "watch", watch_of) ∷ []
+
 abbrev pub kinds : List (List ℕ × (List ℕ → Option Line))
-kinds = (codes "check", check_of) ∷ (codes "lock", note_of) ∷ (codes "unlock", unlock_of) ∷ (codes "try", try_of) ∷ (codes "giveup", give_up_of) ∷ (codes "watch", watch_of) ∷ (codes "init", init_of) ∷ (codes "order", order_of) ∷ (codes "bless", bless_of) ∷ (codes "witness-trace", header_of) ∷ []
+kinds = (codes "check", check_of) ∷ (codes "lock", note_of) ∷ (codes "unlock", unlock_of) ∷ (codes "try", try_of) ∷ (codes "giveup", give_up_of) ∷ (codes "init", init_of) ∷ (codes "order", order_of) ∷ (codes "bless", bless_of) ∷ (codes "witness-trace", header_of) ∷ plain_kinds
 
 -- a line
 unfoldable pub line_of : List ℕ → Option Line

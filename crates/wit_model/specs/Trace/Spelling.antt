@@ -3,8 +3,9 @@ use Rattle.std.specs.Prelude.{◌≡◌, ℕ, ◌%◌, ◌/◌, ◌^◌, ◌<◌
 use Rattle.std.specs.Fmt.{decimal}
 use Rattle.std.specs.List.{list_all}
 use Rattle.wit_model.specs.declared.lines.Line.{Line}
-use Rattle.wit_model.specs.declared.lines.Line.TheVariants.{Header, Order, Bless, Init, Check, Lock, Try, GiveUp, Unlock, Watch}
+use Rattle.wit_model.specs.declared.lines.Line.TheVariants.{Header, Order, Bless, Init, Check, Lock, Try, GiveUp, Unlock, Destroy, Upgrade, Downgrade, NoRelease, ReleaseOk, Assert, Warn, Define, Watch}
 use Rattle.wit_model.specs.declared.calls.NewLock.{NewLock}
+use Rattle.wit_model.specs.declared.locks.LockNo.{LockNo}
 use Rattle.wit_model.specs.declared.locks.Class.{Class}
 use Rattle.wit_model.specs.declared.locks.Class.TheVariants.{SleepMutex, SpinMutex, Rw, Sx}
 use Rattle.wit_model.specs.declared.locks.Mode.{Mode}
@@ -31,12 +32,23 @@ level_text On = codes "1"
 level_text Quiet = codes "0"
 level_text Off = codes "-1"
 
--- the letters of the flags of a lock, and of a request, from the lowest bit on
+-- the letters of the flags of a lock, of a request, of an assertion and of a warning, from the lowest bit on
 abbrev pub lock_letters : List ℕ
 lock_letters = codes "rd"
 
 abbrev pub op_letters : List ℕ
 op_letters = codes "ndf"
+
+abbrev pub assert_letters : List ℕ
+assert_letters = codes "ulsxrn"
+
+abbrev pub warn_letters : List ℕ
+warn_letters = codes "gs"
+
+-- the number of a lock, 0 where none is named
+abbrev pub number_if_any : Option LockNo → ℕ
+number_if_any None = 0
+number_if_any (Some lock) = lock.0
 
 -- the letters whose bits are set, in their order
 abbrev pub chosen_letters : List ℕ → ℕ → List ℕ
@@ -85,6 +97,14 @@ spelling (Lock seat lock) = codes "lock" ++ joined (decimal seat.0 ∷ decimal l
 spelling (Try seat lock mode file line) = codes "try" ++ joined (decimal seat.0 ∷ decimal lock.0 ∷ mode_text mode ∷ site_text file line ∷ [])
 spelling (GiveUp seat lock) = codes "giveup" ++ joined (decimal seat.0 ∷ decimal lock.0 ∷ [])
 spelling (Unlock seat lock mode) = codes "unlock" ++ joined (decimal seat.0 ∷ decimal lock.0 ∷ mode_text mode ∷ [])
+spelling (Destroy seat lock) = codes "destroy" ++ joined (decimal seat.0 ∷ decimal lock.0 ∷ [])
+spelling (Upgrade seat lock) = codes "upgrade" ++ joined (decimal seat.0 ∷ decimal lock.0 ∷ [])
+spelling (Downgrade seat lock) = codes "downgrade" ++ joined (decimal seat.0 ∷ decimal lock.0 ∷ [])
+spelling (NoRelease seat lock) = codes "norelease" ++ joined (decimal seat.0 ∷ decimal lock.0 ∷ [])
+spelling (ReleaseOk seat lock) = codes "releaseok" ++ joined (decimal seat.0 ∷ decimal lock.0 ∷ [])
+spelling (Assert seat lock asserted) = codes "assert" ++ joined (decimal seat.0 ∷ decimal lock.0 ∷ flags_text assert_letters asserted.0 ∷ [])
+spelling (Warn seat lock flags) = codes "warn" ++ joined (decimal seat.0 ∷ decimal (number_if_any lock) ∷ flags_text warn_letters flags.0 ∷ [])
+spelling (Define seat first second) = codes "define" ++ joined (decimal seat.0 ∷ decimal first.0 ∷ decimal second.0 ∷ [])
 spelling (Watch seat watch) = codes "watch" ++ joined (decimal seat.0 ∷ level_text watch ∷ [])
 
 -- a lock that can be written: known flags, and true names
@@ -94,6 +114,10 @@ IsSpellableLock lock = (lock.flags.0 < 4) × IsTrue (is_name lock.name) × IfSom
 -- a list that can be written: one type or more, with true names
 abbrev pub IsSpellableList : List (Class × List ℕ) → Type 0
 IsSpellableList list = (0 < length list) × IsTrue (list_all (λ (entry : Class × List ℕ). is_name entry.1) list)
+
+-- a lock that a warning can name: 0 would name none
+abbrev pub IsNamed : LockNo → Type 0
+IsNamed lock = (0 < lock.0) × (lock.0 < 2 ^ 32)
 
 -- a line that can be written: numbers within their types, known flags, true names
 abbrev pub IsSpellable : Line → Type 0
@@ -106,6 +130,14 @@ IsSpellable (Lock seat lock) = (seat.0 < 2 ^ 16) × (lock.0 < 2 ^ 32)
 IsSpellable (Try seat lock mode file line) = (seat.0 < 2 ^ 16) × (lock.0 < 2 ^ 32) × IsTrue (is_file_name file) × (line < 2 ^ 32)
 IsSpellable (GiveUp seat lock) = (seat.0 < 2 ^ 16) × (lock.0 < 2 ^ 32)
 IsSpellable (Unlock seat lock mode) = (seat.0 < 2 ^ 16) × (lock.0 < 2 ^ 32)
+IsSpellable (Destroy seat lock) = (seat.0 < 2 ^ 16) × (lock.0 < 2 ^ 32)
+IsSpellable (Upgrade seat lock) = (seat.0 < 2 ^ 16) × (lock.0 < 2 ^ 32)
+IsSpellable (Downgrade seat lock) = (seat.0 < 2 ^ 16) × (lock.0 < 2 ^ 32)
+IsSpellable (NoRelease seat lock) = (seat.0 < 2 ^ 16) × (lock.0 < 2 ^ 32)
+IsSpellable (ReleaseOk seat lock) = (seat.0 < 2 ^ 16) × (lock.0 < 2 ^ 32)
+IsSpellable (Assert seat lock asserted) = (seat.0 < 2 ^ 16) × (lock.0 < 2 ^ 32) × (asserted.0 < 64)
+IsSpellable (Warn seat lock flags) = (seat.0 < 2 ^ 16) × IfSome lock IsNamed × (flags.0 < 4)
+IsSpellable (Define seat first second) = (seat.0 < 2 ^ 16) × (first.0 < 2 ^ 32) × (second.0 < 2 ^ 32)
 IsSpellable (Watch seat watch) = seat.0 < 2 ^ 16
 
 -- the bytes spell the line

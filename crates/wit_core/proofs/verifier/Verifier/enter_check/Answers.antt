@@ -20,7 +20,7 @@ push-requires-clause-room c = check_room c.self.inside c.self.invariant c.args.s
 
 pub invariant_of-self-2 : goal.invariant_of-self-2
 invariant_of-self-2 c =
-    kept_entered c.self.inside c.args.seat.0 (Check c.args.request) c.in_ok-reply.reply _ _ _ _ c.learn.new.self c.ask.new.self c.self.inside.watch c.push.new.self _
+    kept_entered c.self.inside c.args.seat.0 (Check c.args.request) c.in_ok-reply.reply _ _ _ _ _ c.learn.new.self c.ask.new.self c.self.inside.watch c.push.new.self _
     (leaves_check c.self.inside c.self.invariant c.args.self.now c.self.view_is c.args.seat.0 c.args.request c.in_ok-reply.reply (c.requires ∙ c.in_ok-reply.ensures.ok) (told-watch c.args.verdict c.in_ok-reply.reply c.args.request c.in_ok-reply.ensures.ok))
     c.in_ok-learn.ensures.ok c.ask.ensures refl
     (subst (λ x. c.push.new.self ≡ record c.self.inside.log {

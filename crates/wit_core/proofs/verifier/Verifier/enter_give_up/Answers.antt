@@ -13,6 +13,6 @@ push_owed-requires c = give_up_owed c.self.inside c.self.invariant c.args.self.n
 
 pub invariant_of-self : goal.invariant_of-self
 invariant_of-self c =
-    kept_entered c.self.inside c.args.seat.0 _ _ _ _ _ _ _ c.clear.new.self _ c.push_owed.new.self _
+    kept_entered c.self.inside c.args.seat.0 _ _ _ _ _ _ _ _ c.clear.new.self _ c.push_owed.new.self _
     (leaves_give_up c.self.inside c.self.invariant c.args.self.now c.self.view_is c.args.seat.0 c.args.lock c.requires)
     refl c.clear.ensures refl c.push_owed.ensures c.self.invariant refl (accepted c.self.inside c.self.invariant c.args.self.now c.self.view_is c.args.seat.0 (GiveUp c.args.lock) Done c.requires)

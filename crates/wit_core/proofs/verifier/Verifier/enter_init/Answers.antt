@@ -1,20 +1,25 @@
-use Rattle.std.proofs.Common.{◌≡◌, ◌+◌, ◌-◌, ◌∷◌, refl, subst}
+use Rattle.std.proofs.Common.{◌≡◌, ◌+◌, ◌-◌, ◌∷◌, refl, subst, arith}
 use Rattle.wit_model.specs.declared.calls.Call.TheVariants.{Init}
 use Rattle.wit_model.specs.declared.calls.Reply.TheVariants.{Made}
 use Rattle.wit_model.proofs.Chains.Seats.{entry}
 use Rattle.wit_core.proofs.Keeping.{kept_entered, log_after}
-use Rattle.wit_core.proofs.Entries.{accepted, admitted, init_room, leaves_init}
+use Rattle.wit_core.proofs.Entries.{accepted, admitted, init_few, init_room, leaves_init}
 use Rattle.wit_core.proofs.verifier.Verifier.enter_init.Goals as goal
 
-pub add_lock-requires : goal.add_lock-requires
-add_lock-requires c = admitted c.self.inside c.self.invariant c.args.self.now c.self.view_is c.args.seat.0 c.args.made c.args.number c.requires.accepted
+pub add_lock-requires-clause-few : goal.add_lock-requires-clause-few
+add_lock-requires-clause-few c =
+    let few = init_few c.self.inside c.self.invariant c.args.self.now c.self.view_is c.args.seat.0 c.args.made c.args.number c.requires.accepted in
+    omega (arith, few, c.locks-most.ensures.value, c.locks-most.ensures.within)
+
+pub add_lock-requires-clause-admitted : goal.add_lock-requires-clause-admitted
+add_lock-requires-clause-admitted c = admitted c.self.inside c.self.invariant c.args.self.now c.self.view_is c.args.seat.0 c.args.made c.args.number c.requires.accepted
 
 pub push-requires-clause-room : goal.push-requires-clause-room
 push-requires-clause-room c = init_room c.self.inside c.self.invariant c.args.self.now c.self.view_is c.args.seat.0 c.args.made c.args.number _ c.requires.accepted c.reserve.ensures.same
 
 pub invariant_of-self-2 : goal.invariant_of-self-2
 invariant_of-self-2 c =
-    kept_entered c.self.inside c.args.seat.0 _ _ _ _ _ _ c.add_lock.new.self c.self.inside.seats c.self.inside.watch c.push.new.self _
+    kept_entered c.self.inside c.args.seat.0 _ _ _ _ _ _ _ c.add_lock.new.self c.self.inside.seats c.self.inside.watch c.push.new.self _
     (leaves_init c.self.inside c.self.invariant c.args.self.now c.self.view_is c.args.seat.0 c.args.made c.args.number c.requires.accepted)
     c.in_ok-add_lock.ensures.ok refl refl
     (subst (λ x. c.push.new.self ≡ record c.self.inside.log {

@@ -32,7 +32,7 @@ push_owed-requires c =
 
 pub invariant_of-self : goal.invariant_of-self
 invariant_of-self c =
-    kept_entered c.self.inside c.args.seat.0 _ _ _ _ _ _ _ c.clear.new.self c.acquire-acquisition.new.watch c.push_owed.new.self _
+    kept_entered c.self.inside c.args.seat.0 _ _ _ _ _ _ _ _ c.clear.new.self c.acquire-acquisition.new.watch c.push_owed.new.self _
     (leaves_note c.self.inside c.self.invariant c.args.self.now c.self.view_is c.args.seat.0 c.args.lock c.is_spin-spin.result (c.is_spin-spin.ensures ∙ ap is_spin c.class_of_lock.ensures) c.args.request c.requires.request c.acquire-acquisition.result (c.requires.accepted ∙ ap (λ r. Ok r) (sym (reply-told c.self.inside c.self.invariant c.args.self.now c.self.view_is c.args.seat.0 c.args.lock c.is_spin-spin.result (c.is_spin-spin.ensures ∙ ap is_spin c.class_of_lock.ensures) c.acquire-acquisition.result c.acquire-acquisition.ensures.result))))
     refl (c.clear.ensures ∙ ap (with_seat c.args.seat.0 (asking None)) c.acquire-acquisition.ensures.seats) c.acquire-acquisition.ensures.watch
     (c.push_owed.ensures ∙ ap₂ (noted_log c.self.inside.log c.args.seat.0 (Note c.args.lock)) c.reply.ensures c.owed.ensures)

@@ -28,7 +28,7 @@ returns-clause-result c = reply-told c.self.inside c.self.invariant c.args.self.
 
 pub invariant_of-self-2 : goal.invariant_of-self-2
 invariant_of-self-2 c =
-    kept_entered c.self.inside c.args.seat.0 _ _ _ _ _ _ _ c.acquire-acquisition.new.seats c.acquire-acquisition.new.watch c.push.new.self _
+    kept_entered c.self.inside c.args.seat.0 _ _ _ _ _ _ _ _ c.acquire-acquisition.new.seats c.acquire-acquisition.new.watch c.push.new.self _
     (leaves_try c.self.inside c.self.invariant c.args.self.now c.self.view_is c.args.seat.0 c.args.lock c.is_spin-spin.result (c.is_spin-spin.ensures ∙ ap is_spin c.class_of_lock.ensures) c.args.mode c.args.site c.acquire-acquisition.result (c.requires ∙ ap (λ r. Ok r) (sym (reply-told c.self.inside c.self.invariant c.args.self.now c.self.view_is c.args.seat.0 c.args.lock c.is_spin-spin.result (c.is_spin-spin.ensures ∙ ap is_spin c.class_of_lock.ensures) c.acquire-acquisition.result c.acquire-acquisition.ensures.result))))
     refl c.acquire-acquisition.ensures.seats c.acquire-acquisition.ensures.watch
     (log_after c.self.inside.log c.reserve.new.self c.push.new.self _ _ _ c.reserve.ensures.same c.push.ensures

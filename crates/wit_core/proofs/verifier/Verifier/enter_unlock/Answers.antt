@@ -17,6 +17,6 @@ push_owed-requires c = unlock_owed c.self.inside c.self.invariant c.args.self.no
 
 pub invariant_of-self : goal.invariant_of-self
 invariant_of-self c =
-    kept_entered c.self.inside c.args.seat.0 _ _ _ _ _ _ _ c.forget.new.self _ c.push_owed.new.self _
+    kept_entered c.self.inside c.args.seat.0 _ _ _ _ _ _ _ _ c.forget.new.self _ c.push_owed.new.self _
     (leaves_unlock c.self.inside c.self.invariant c.args.self.now c.self.view_is c.args.seat.0 c.args.lock c.is_spin-spin.result (c.is_spin-spin.ensures ∙ ap is_spin c.class_of_lock.ensures) c.args.mode c.requires)
     refl c.forget.ensures refl c.push_owed.ensures c.self.invariant refl (accepted c.self.inside c.self.invariant c.args.self.now c.self.view_is c.args.seat.0 (Unlock c.args.lock c.args.mode) Unlocked c.requires)

@@ -10,7 +10,7 @@ push-requires-clause-room c = watch_room c.self.inside c.self.invariant c.args.s
 
 pub invariant_of-self-2 : goal.invariant_of-self-2
 invariant_of-self-2 c =
-    kept_entered c.self.inside c.args.seat.0 _ _ _ _ _ _ _ _ _ c.push.new.self _
+    kept_entered c.self.inside c.args.seat.0 _ _ _ _ _ _ _ _ _ _ c.push.new.self _
     (leaves_watch c.self.inside c.self.invariant c.args.self.now c.self.view_is c.args.seat.0 c.args.watch c.requires)
     refl refl refl (log_after c.self.inside.log c.reserve.new.self c.push.new.self _ 0 _ c.reserve.ensures.same c.push.ensures)
     c.self.invariant refl (accepted c.self.inside c.self.invariant c.args.self.now c.self.view_is c.args.seat.0 (SetWatch c.args.watch) Done c.requires)

@@ -1,7 +1,8 @@
 use Rattle.std.proofs.Common.{◌≡◌, [], refl, ap₂, subst, ◌∙◌}
+use Rattle.wit_core.specs.Fresh.{start_of}
 use Rattle.wit_core.specs.Seats.{idle_row}
 use Rattle.std.proofs.lemmas.Result.{err_from_is_err_and}
-use Rattle.wit_core.proofs.Entering.{lists-refused, pairs-refused, all-accepted, is-begun}
+use Rattle.wit_core.proofs.Entering.{start-unmade, lists-refused, pairs-refused, all-accepted, is-begun}
 use Rattle.wit_core.proofs.Entries.{kept_begun}
 use Rattle.wit_core.proofs.verifier.Verifier.new.Goals as goal
 
@@ -19,6 +20,11 @@ returns-in_err-bless_all-clause-err c =
     (pairs-refused c.args.limits c.types-types.result c.args.lists.items c.deref.result.now c.args.blessed.items c.deref-2.result.now c.in_ok-known.known
     c.types-types.ensures.value c.deref.ensures.value c.deref-2.ensures.value c.in_ok-known.ensures.ok
     _ c.in_ok-enter_lists.ensures.accepted c.in_err-bless_all.ensures.err)
+
+pub returns-in_err-seats-clause-err : goal.returns-in_err-seats-clause-err
+returns-in_err-seats-clause-err c =
+    let p = err_from_is_err_and c.from_residual-in_err-seats.result c.from_residual-in_err-seats.ensures.1 in
+    rw (p.1, p.2) (start-unmade (start_of c.args.limits c.args.lists.items c.args.blessed.items) _ c.in_err-seats.ensures.err)
 
 pub invariant_of-result : goal.invariant_of-result
 invariant_of-result c =

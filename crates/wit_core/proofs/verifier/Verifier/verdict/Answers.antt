@@ -3,7 +3,9 @@ use Rattle.wit_model.specs.declared.locks.Lock.{Lock}
 use Rattle.wit_model.specs.declared.locks.TypeNo.{TypeNo}
 use Rattle.wit_model.specs.Rules.Locks.{lock_at}
 use Rattle.wit_model.specs.Rules.Numbers.{IsGiven}
+use Rattle.wit_model.specs.Rules.State.{state_of}
 use Rattle.wit_model.specs.Rules.Orders.{is_direct, is_found}
+use Rattle.wit_model.proofs.Histories.Accepted.{live-given}
 use Rattle.wit_core.proofs.Judged.{asked-given, types-given, matrix-sized, seat-within, list-within, judgeable, verdict-told}
 use Rattle.wit_core.proofs.verifier.Verifier.verdict.Goals as goal
 
@@ -26,7 +28,7 @@ pub verdict-requires-clause-asked : goal.verdict-requires-clause-asked
 verdict-requires-clause-asked c =
     subst (λ ts. IsGiven ts c.type_of.result.0) (sym c.names.ensures.types)
     (subst (λ (n : TypeNo). IsGiven c.self.inside.known.known.types n.0) (sym (c.type_of.ensures ∙ ap (λ (ls : List Lock). (lock_at ls c.args.request.lock.0).type_no) c.locks-locks.ensures))
-    (asked-given c.self.inside c.self.invariant c.args.self.now c.self.view_is c.args.request.lock.0 c.requires.lock))
+    (asked-given c.self.inside c.self.invariant c.args.self.now c.self.view_is c.args.request.lock.0 (live-given (state_of c.args.self.now) c.args.request.lock.0 c.requires.lock)))
 
 pub verdict-requires-clause-sized : goal.verdict-requires-clause-sized
 verdict-requires-clause-sized c =

@@ -1,0 +1,239 @@
+-- In a clean world a thread has recorded all shares that it has, but for one while it is in the midst of a sequence.
+use Rattle.std.proofs.Common.{◌≡◌, ℕ, ◌+◌, ◌-◌, ◌≤◌, Bool, true, false, cond, eqb, nat_lt, is_some, List, [], ◌∷◌, Ok, refl, ap, ap₂, sym, ◌∙◌, subst, inl, inr, arith}
+use Rattle.std.proofs.lemmas.Bool.{eqb-true, eq-eqb, ltb-true, false≢true, true≢false}
+use Rattle.std.proofs.lemmas.Bool.Decides.{eqb_tells}
+use Rattle.wit_model.specs.declared.locks.LockNo.{LockNo}
+use Rattle.wit_model.specs.declared.locks.Mode.{Mode}
+use Rattle.wit_model.specs.declared.calls.Call.{Call}
+use Rattle.wit_model.specs.declared.calls.Call.TheVariants.{Check, Note, NoteTry, GiveUp, Unlock, Upgrade, Downgrade, NoRelease, ReleaseOk}
+use Rattle.wit_model.specs.declared.calls.Reply.{Reply}
+use Rattle.wit_model.specs.declared.calls.Reply.TheVariants.{Recorded, Exhausted, Unrecorded, Unlocked}
+use Rattle.wit_model.specs.declared.calls.Entry.{Entry}
+use Rattle.wit_model.specs.Rules.History.{Act, act, num, is_held, is_off, is_report, watch_of}
+use Rattle.wit_model.specs.Rules.State.{Start, state_of}
+use Rattle.wit_model.specs.Rules.Step.{is_exhausted, held_by, answer_of, story_after, IsLegal}
+use Rattle.wit_model.specs.Rules.Clean.{is_clean_call, is_clean}
+use Rattle.wit_model.specs.World.Deeds.{Deed, Logged, Take, TryTake, Free, RawUp, RawDown, thread_of, own, log_of, are_these, shares}
+use Rattle.wit_model.specs.World.Stages.{Stage, Over, Asked, Taken, Tried, Forgot, Raised, Lowered, stage_logged, stage, is_over, may_take, may_note, may_give_up, may_upgrade, may_free, may_lower, may_call}
+use Rattle.wit_model.specs.World.Steps.{IsWorld}
+use Rattle.wit_model.proofs.Chains.Acts.{num_after, num-step, is_even, num_after-even, upgrade-even, downgrade-even, norelease-even, releaseok-even}
+use Rattle.wit_model.proofs.Histories.Accepted.{note_accepted, unlock_accepted}
+use Rattle.wit_model.proofs.Histories.Legal.{sane_legal}
+use Rattle.wit_model.proofs.VerdictLaws.Quiet.{clean-parts, watch-clean}
+use Rattle.wit_model.proofs.World.Own.{own-mine, own-other, shares-other, shares-own, num-own, act-mine}
+
+-- the log of a world is a legal history
+pub legal_world : (start : Start) (files : List (List ℕ)) (w : List Deed) → IsWorld start files w → IsLegal start files (log_of w)
+legal_world start files [] world = tt
+legal_world start files (Logged e ∷ w) world = (world.0.0, world.0.1, legal_world start files w world.1)
+legal_world start files (Take u m mode ∷ w) world = legal_world start files w world.1
+legal_world start files (TryTake u m mode ∷ w) world = legal_world start files w world.1
+legal_world start files (Free u m ∷ w) world = legal_world start files w world.1
+legal_world start files (RawUp u m ∷ w) world = legal_world start files w world.1
+legal_world start files (RawDown u m ∷ w) world = legal_world start files w world.1
+
+-- what came before is clean too
+pub clean-before : (d : Deed) (w : List Deed) → is_clean (log_of (d ∷ w)) ≡ true → is_clean (log_of w) ≡ true
+clean-before (Logged e) w clean = (clean-parts e (log_of w) clean).1.1
+clean-before (Take u m mode) w clean = clean
+clean-before (TryTake u m mode) w clean = clean
+clean-before (Free u m) w clean = clean
+clean-before (RawUp u m) w clean = clean
+clean-before (RawDown u m) w clean = clean
+
+-- ---- the shares of a lock that are still to be recorded, or to be freed
+
+abbrev due : ℕ → Stage → ℕ
+due l (Taken m) = cond (eqb m l) 1 0
+due l (Tried m mode) = cond (eqb m l) 1 0
+due l (Forgot m has_fewer) = cond (eqb m l) 1 0
+due l _ = 0
+
+-- of n recorded acquisitions and s shares
+record Covers (l n s : ℕ) (g : Stage) : Type 0 where
+  all : s ≤ n + due l g
+  at_end : is_over g ≡ true → s ≤ n
+
+-- who isn't to record or free anything has recorded all
+settled : (l n s : ℕ) (g : Stage) → s ≤ n → due l g ≡ 0 → Covers l n s g
+settled l n s g le none = record { all = omega (arith, le, none); at_end = λ over. le }
+
+nothing-due : (l n s : ℕ) (g : Stage) → due l g ≡ 0 → Covers l n s g → s ≤ n
+nothing-due l n s g none c = let all = c.all in omega arith
+
+due-taking : (l m : ℕ) (mode : Mode) (held : Bool) (g : Stage) → may_take m mode held g ≡ true → due l g ≡ 0
+due-taking l m mode held (Asked q) is = refl
+due-taking l m mode held _ is = absurd (false≢true is)
+
+due-noting : (l m : ℕ) (held : Bool) (g : Stage) → may_note m held g ≡ true → due l g ≤ cond (eqb m l) 1 0
+due-noting l m held (Taken k) is = let same : due l (Taken k) ≡ cond (eqb m l) 1 0 = ap (λ j. cond (eqb j l) 1 0) (eqb-true k m is) in omega arith
+due-noting l m held (Asked q) is = omega arith
+due-noting l m held Over is = absurd (false≢true is)
+due-noting l m held (Tried k mode) is = absurd (false≢true is)
+due-noting l m held (Forgot k has_fewer) is = absurd (false≢true is)
+due-noting l m held (Raised k) is = absurd (false≢true is)
+due-noting l m held (Lowered k) is = absurd (false≢true is)
+
+due-upgrading : (l m : ℕ) (g : Stage) → may_upgrade m g ≡ true → due l g ≡ 0
+due-upgrading l m (Raised k) is = refl
+due-upgrading l m _ is = absurd (false≢true is)
+
+due-giving_up : (l m : ℕ) (g : Stage) → may_give_up m g ≡ true → due l g ≡ 0
+due-giving_up l m (Asked q) is = refl
+due-giving_up l m _ is = absurd (false≢true is)
+
+due-freeing : (l m : ℕ) (g : Stage) → may_free m g ≡ true → due l g ≡ cond (eqb m l) 1 0
+due-freeing l m (Tried k mode) is = ap (λ j. cond (eqb j l) 1 0) (eqb-true k m is)
+due-freeing l m (Forgot k has_fewer) is = ap (λ j. cond (eqb j l) 1 0) (eqb-true k m is)
+due-freeing l m _ is = absurd (false≢true is)
+
+due-lowering : (l m : ℕ) (g : Stage) → may_lower m g ≡ true → due l g ≡ 0
+due-lowering l m (Raised k) is = refl
+due-lowering l m (Lowered k) is = refl
+due-lowering l m _ is = absurd (false≢true is)
+
+-- ---- what each deed does to the two numbers
+
+noted : (b : Bool) (n s d : ℕ) → s ≤ n + d → d ≤ cond b 1 0 → s ≤ cond b (n + 1) n
+noted true n s d le few = omega arith
+noted false n s d le few = omega arith
+
+freed : (b : Bool) (n s d : ℕ) → s ≤ n + d → d ≡ cond b 1 0 → cond b (s - 1) s ≤ n
+freed true n s d le few = omega arith
+freed false n s d le few = omega arith
+
+got : (b : Bool) (n s : ℕ) → s ≤ n → cond b (s + 1) s ≤ n + cond b 1 0
+got true n s le = omega arith
+got false n s le = omega arith
+
+let_go : (b : Bool) (n s : ℕ) → s ≤ n → s ≤ cond b (n - 1) n + cond b 1 0
+let_go true n s le = omega arith
+let_go false n s le = omega arith
+
+fewer : (l m n s : ℕ) (has_fewer : Bool) → (m ≡ l → has_fewer ≡ nat_lt s n) → s ≤ n → has_fewer ≡ true → s ≤ cond (eqb m l) (n - 1) n
+fewer l m n s has_fewer is le less =
+    elim (eqb_tells m l) [
+      | inl here ↦ let lt = ltb-true s n (sym (is here.1) ∙ less) in rw here.0 (omega arith)
+      | inr there ↦ rw there.0 le
+    ]
+
+recorded-by : (off held none : Bool) (r : Reply) → off ≡ false → is_report r ≡ false → r ≡ cond off Unrecorded (cond held Recorded (cond none Exhausted Recorded)) → r ≡ Recorded
+recorded-by true held none r on quiet is = absurd (true≢false on)
+recorded-by false true none r on quiet is = is
+recorded-by false false true r on quiet is = absurd (true≢false (sym (ap is_report is) ∙ quiet))
+recorded-by false false false r on quiet is = is
+
+module _ (start : Start) (files : List (List ℕ)) (t l : ℕ) (w : List Deed) where
+  abbrev n : ℕ
+  n = num t l (log_of w)
+
+  abbrev s : ℕ
+  s = shares t l w
+
+  abbrev g : Stage
+  g = stage t (own t w)
+
+  module _ (was : Covers l n s g) where
+    -- an act that records and releases nothing
+    even : (a : Act) (after : Stage) → is_even a ≡ true → s ≤ n → due l after ≡ 0 → Covers l (num_after a l n) s after
+    even a after is le none = subst (λ k. Covers l k s after) (sym (num_after-even a l n is)) (settled l n s after le none)
+
+    -- a logged call of the thread itself
+    entry-covers : (c : Call) (r : Reply) → ((m : LockNo) → c ≡ Note m → r ≡ Recorded) → ((m : LockNo) (mode : Mode) → c ≡ Unlock m mode → r ≡ Unlocked)
+        → is_clean_call c ≡ true → may_call t c (own t w) ≡ true → Covers l (num_after (act c r) l n) s (stage_logged t c (own t w))
+    entry-covers (Note m) r notes unlocks clean may =
+        subst (λ (x : Reply). Covers l (num_after (act (Note m) x) l n) s Over) (sym (notes m refl))
+        (settled l (cond (eqb m.0 l) (n + 1) n) s Over (noted (eqb m.0 l) n s (due l g) was.all (due-noting l m.0 (is_held t m.0 (log_of (own t w))) g may)) refl)
+    entry-covers (Unlock m mode) r notes unlocks clean may =
+        subst (λ (x : Reply). Covers l (num_after (act (Unlock m mode) x) l n) s (stage_logged t (Unlock m mode) (own t w))) (sym (unlocks m mode refl))
+        (record {
+          all = let_go (eqb m.0 l) n s (was.at_end may);
+          at_end = fewer l m.0 n s (nat_lt (shares t m.0 (own t w)) (num t m.0 (log_of (own t w))))
+              (λ same. ap (λ k. nat_lt (shares t k (own t w)) (num t k (log_of (own t w)))) same ∙ ap₂ (λ a b. nat_lt a b) (shares-own t l w) (num-own t l w))
+              (was.at_end may);
+        })
+    entry-covers (Check q) r notes unlocks clean may = settled l n s (Asked q) (was.at_end may) refl
+    entry-covers (NoteTry m mode site) r notes unlocks clean may = absurd (false≢true clean)
+    entry-covers (GiveUp m) r notes unlocks clean may = settled l n s Over (nothing-due l n s g (due-giving_up l m.0 g may) was) refl
+    entry-covers (Upgrade m) r notes unlocks clean may = even (act (Upgrade m) r) Over (upgrade-even m r) (nothing-due l n s g (due-upgrading l m.0 g may) was) refl
+    entry-covers (Downgrade m) r notes unlocks clean may = even (act (Downgrade m) r) (Lowered m.0) (downgrade-even m r) (was.at_end may) refl
+    entry-covers (NoRelease m) r notes unlocks clean may = even (act (NoRelease m) r) Over (norelease-even m r) (was.at_end may) refl
+    entry-covers (ReleaseOk m) r notes unlocks clean may = even (act (ReleaseOk m) r) Over (releaseok-even m r) (was.at_end may) refl
+    entry-covers c r notes unlocks clean may = settled l n s Over (was.at_end may) refl
+
+    got-covers : (m : ℕ) (after : Stage) → due l after ≡ cond (eqb m l) 1 0 → is_over after ≡ false → s ≤ n → Covers l n (cond (are_these t l t m) (s + 1) s) after
+    got-covers m after dues unfinished le =
+        let mine : are_these t l t m ≡ eqb m l = rw (eq-eqb t t refl) refl in
+        record {
+          all = rw (mine, dues) (got (eqb m l) n s le);
+          at_end = λ over. absurd (false≢true (sym unfinished ∙ over));
+        }
+
+    free-covers : (m : ℕ) → may_free m g ≡ true → Covers l n (cond (are_these t l t m) (s - 1) s) Over
+    free-covers m may =
+        let mine : are_these t l t m ≡ eqb m l = rw (eq-eqb t t refl) refl in
+        settled l n (cond (are_these t l t m) (s - 1) s) Over (rw mine (freed (eqb m l) n s (due l g) was.all (due-freeing l m g may))) refl
+
+module _ (start : Start) (files : List (List ℕ)) where
+  CoversAll : ℕ → ℕ → List Deed → Type 0
+  CoversAll t l w = Covers l (num t l (log_of w)) (shares t l w) (stage t (own t w))
+
+  -- in a clean world a note is recorded
+  notes-recorded : (e : Entry) (w : List Deed) → IsWorld start files (Logged e ∷ w) → is_clean (log_of (Logged e ∷ w)) ≡ true
+      → (m : LockNo) → e.call ≡ Note m → e.reply ≡ Recorded
+  notes-recorded e w world clean m is =
+      let st = state_of (story_after start files (log_of w)) in
+      let ok : answer_of (story_after start files (log_of w)) e.seat.0 (Note m) ≡ Ok e.reply = ap (λ c. answer_of (story_after start files (log_of w)) e.seat.0 c) (sym is) ∙ world.0.0 in
+      let parts = clean-parts e (log_of w) clean in
+      recorded-by (is_off (watch_of (log_of w))) (is_some (held_by st e.seat.0 m.0)) (is_exhausted st e.seat.0 m.0) e.reply
+      (ap is_off (watch-clean (log_of w) parts.1.1)) parts.1.0 (note_accepted st e.seat.0 m.0 e.reply ok).reply
+
+  unlocks-recorded : (e : Entry) (w : List Deed) → IsWorld start files (Logged e ∷ w) → (m : LockNo) (mode : Mode) → e.call ≡ Unlock m mode → e.reply ≡ Unlocked
+  unlocks-recorded e w world m mode is =
+      let st = state_of (story_after start files (log_of w)) in
+      let ok : answer_of (story_after start files (log_of w)) e.seat.0 (Unlock m mode) ≡ Ok e.reply = ap (λ c. answer_of (story_after start files (log_of w)) e.seat.0 c) (sym is) ∙ world.0.0 in
+      (unlock_accepted st e.seat.0 m.0 mode e.reply ok world.0.1).reply
+
+  -- a deed of the thread itself
+  mine : (d : Deed) (w : List Deed) → IsWorld start files (d ∷ w) → is_clean (log_of (d ∷ w)) ≡ true → (l : ℕ) → CoversAll (thread_of d) l w
+      → Covers l (num (thread_of d) l (log_of (d ∷ w))) (shares (thread_of d) l (d ∷ w)) (stage (thread_of d) (d ∷ own (thread_of d) w))
+  unfolding CoversAll
+  mine (Logged e) w world clean l was =
+      let sane = sane_legal start files (e ∷ log_of w) (legal_world start files (Logged e ∷ w) world) in
+      let after = num-step e.seat.0 l e (log_of w) (act e.call e.reply) (act-mine e.seat.0 e (eq-eqb e.seat.0 e.seat.0 refl)) sane.1 in
+      subst (λ k. Covers l k (shares e.seat.0 l w) (stage_logged e.seat.0 e.call (own e.seat.0 w))) (sym after)
+      (entry-covers start files e.seat.0 l w was e.call e.reply (notes-recorded e w world clean) (unlocks-recorded e w world) (clean-parts e (log_of w) clean).0 world.0.2)
+  mine (Take u m mode) w world clean l was =
+      got-covers start files u l w was m (Taken m) refl refl
+      (nothing-due l (num u l (log_of w)) (shares u l w) (stage u (own u w)) (due-taking l m mode (is_held u m (log_of w)) (stage u (own u w)) world.0.1) was)
+  mine (TryTake u m mode) w world clean l was = got-covers start files u l w was m (Tried m mode) refl refl (was.at_end world.0.1)
+  mine (Free u m) w world clean l was = free-covers start files u l w was m world.0.0
+  mine (RawUp u m) w world clean l was = settled l (num u l (log_of w)) (shares u l w) (Raised m) (was.at_end world.0.0) refl
+  mine (RawDown u m) w world clean l was =
+      settled l (num u l (log_of w)) (shares u l w) Over
+      (nothing-due l (num u l (log_of w)) (shares u l w) (stage u (own u w)) (due-lowering l m (stage u (own u w)) world.0.0) was) refl
+
+  num-other : (t l : ℕ) (d : Deed) (w : List Deed) → eqb (thread_of d) t ≡ false → num t l (log_of (d ∷ w)) ≡ num t l (log_of w)
+  num-other t l d w is = sym (num-own t l (d ∷ w)) ∙ (ap (λ o. num t l (log_of o)) (own-other t d w is) ∙ num-own t l w)
+
+  covers-all : (w : List Deed) → IsWorld start files w → is_clean (log_of w) ≡ true → (t l : ℕ) → CoversAll t l w
+  unfolding CoversAll
+  covers-all [] world clean t l = settled l (num t l []) 0 Over (omega arith) refl
+  covers-all (d ∷ w) world clean t l =
+      let before = covers-all w world.1 (clean-before d w clean) in
+      elim (eqb_tells (thread_of d) t) [
+        | inl is ↦
+            subst (λ k. Covers l (num k l (log_of (d ∷ w))) (shares k l (d ∷ w)) (stage k (own k (d ∷ w)))) is.1
+            (subst (λ o. Covers l (num (thread_of d) l (log_of (d ∷ w))) (shares (thread_of d) l (d ∷ w)) (stage (thread_of d) o))
+            (sym (own-mine (thread_of d) d w (eq-eqb (thread_of d) (thread_of d) refl)))
+            (mine d w world clean l (before (thread_of d) l)))
+        | inr is ↦
+            subst (λ k. Covers l k (shares t l (d ∷ w)) (stage t (own t (d ∷ w)))) (sym (num-other t l d w is.0))
+            (subst (λ k. Covers l (num t l (log_of w)) k (stage t (own t (d ∷ w)))) (sym (shares-other t l d w is.0))
+            (subst (λ o. Covers l (num t l (log_of w)) (shares t l w) (stage t o)) (sym (own-other t d w is.0)) (before t l)))
+      ]
+
+  -- between its sequences a thread has no share that isn't recorded
+  pub covered : (w : List Deed) → IsWorld start files w → is_clean (log_of w) ≡ true → (t l : ℕ) → is_over (stage t (own t w)) ≡ true → shares t l w ≤ num t l (log_of w)
+  unfolding CoversAll
+  covered w world clean t l over = (covers-all w world clean t l).at_end over

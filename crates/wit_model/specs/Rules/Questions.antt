@@ -1,0 +1,47 @@
+-- What an answer asks of the state: the lock, the seat's hold of it, its request, and room in the log.
+use Rattle.std.specs.Prelude.{ℕ, Bool, false, ◌==◌, List, Option, None, Some, Result, Ok, Err, find, is_some, if◌then◌else◌}
+use Rattle.wit_model.specs.declared.faults.Fault.{Fault}
+use Rattle.wit_model.specs.declared.faults.Fault.TheVariants.{LogFull}
+use Rattle.wit_model.specs.declared.locks.Class.{Class}
+use Rattle.wit_model.specs.declared.locks.Instance.{Instance}
+use Rattle.wit_model.specs.declared.calls.Request.{Request}
+use Rattle.wit_model.specs.declared.calls.Reply.{Reply}
+use Rattle.wit_model.specs.declared.calls.Reply.TheVariants.{Ignored}
+use Rattle.wit_model.specs.Rules.Types.{is_spin}
+use Rattle.wit_model.specs.Rules.Locks.{lock_at}
+use Rattle.wit_model.specs.Rules.State.{State, seat_at, groups_in, has_room}
+use Rattle.wit_model.specs.Rules.Verdict.{is_of, chain_of_kind}
+
+-- the class of a lock
+abbrev pub class_at : State → ℕ → Class
+class_at s l = (lock_at s.known.locks l).made.class
+
+-- the chain of the lock's kind
+abbrev pub chain_for : State → ℕ → ℕ → List Instance
+chain_for s t l = chain_of_kind s.known (seat_at s t) l
+
+-- the groups in which it lies
+abbrev pub groups_for : State → ℕ → ℕ → List (List ℕ)
+groups_for s t l = groups_in (is_spin (lock_at s.known.locks l).made.class) (seat_at s t)
+
+-- the lock as the seat holds it
+abbrev pub held_by : State → ℕ → ℕ → Option Instance
+held_by s t l = find (is_of l) (chain_for s t l)
+
+abbrev pub is_pending : State → ℕ → Bool
+is_pending s t = is_some (seat_at s t).pending
+
+-- whether the request is for this lock
+abbrev pub is_for : ℕ → Option Request → Bool
+is_for l None = false
+is_for l (Some q) = q.lock.0 == l
+
+-- an answer that isn't a fault needs room for this many entries: the call's own and those that must be able to follow it
+abbrev pub with_room : State → ℕ → Result Reply Fault → Result Reply Fault
+with_room s n (Err fault) = Err fault
+with_room s n (Ok reply) = if has_room s n then Ok reply else Err LogFull
+
+-- a call that may be passed over needs room for its entry where it isn't
+abbrev pub with_entry : State → Result Reply Fault → Result Reply Fault
+with_entry s (Ok Ignored) = Ok Ignored
+with_entry s answer = with_room s 1 answer

@@ -1,0 +1,7 @@
+-- Worlds: threads that take, hold and free locks, and tell the verifier of it.
+pub mod Deeds
+pub mod Examples
+pub mod Reordering
+pub mod Stages
+pub mod Steps
+pub mod Waiting

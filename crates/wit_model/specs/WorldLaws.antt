@@ -1,0 +1,89 @@
+-- Laws of worlds: where a run reported nothing, no reordering of its threads' deeds reaches a deadlock.
+use Rattle.std.specs.Prelude.{ℕ, ◌<◌, ◌≡◌, true, false, List, [], ◌∷◌, ◌++◌, None}
+use Rattle.wit_model.specs.declared.calls.Request.{Request}
+use Rattle.wit_model.specs.declared.calls.Entry.{Entry}
+use Rattle.wit_model.specs.Rules.History.{is_held, own_entries}
+use Rattle.wit_model.specs.Rules.State.{Start}
+use Rattle.wit_model.specs.Rules.Start.{start_fault}
+use Rattle.wit_model.specs.Rules.Verdict.{is_exclusive}
+use Rattle.wit_model.specs.Rules.Step.{story_after, IsLegal}
+use Rattle.wit_model.specs.Rules.Clean.{is_clean, CleanMeansNoCircle}
+use Rattle.wit_model.specs.World.Deeds.{Deed, own, log_of, shares, raw_mode}
+use Rattle.wit_model.specs.World.Stages.{Asked, stage}
+use Rattle.wit_model.specs.World.Steps.{admits, IsWorld}
+use Rattle.wit_model.specs.World.Waiting.{IsWaiting, IsDeadlock}
+use Rattle.wit_model.specs.World.Reordering.{IsReordering}
+use Rattle.wit_model.specs.World.Examples.{small, files, in_turn, crossed, agreed, varied}
+
+-- no reordering of a world whose log is clean has a deadlock, over an accepted start that blesses no pair
+abbrev pub CleanRunsNeverDeadlock : Type 0
+CleanRunsNeverDeadlock =
+    (start : Start) (files : List (List ℕ)) (v w : List Deed) (threads : List ℕ)
+    → start_fault start ≡ None → start.blessed ≡ []
+    → IsWorld start files w → is_clean (log_of w) ≡ true → IsReordering start v w → IsDeadlock v threads → ⊥
+
+-- a world without a deadlock, and a reordering of it that has one
+abbrev pub InTurnIsWorld : Type 0
+InTurnIsWorld = (start_fault small ≡ None) × IsWorld small files in_turn
+
+abbrev pub InTurnHasNone : Type 0
+InTurnHasNone = (threads : List ℕ) → IsDeadlock in_turn threads → ⊥
+
+abbrev pub CrossedReorders : Type 0
+CrossedReorders = IsReordering small crossed in_turn
+
+abbrev pub CrossedDeadlocks : Type 0
+CrossedDeadlocks = IsDeadlock crossed (1 ∷ 2 ∷ [])
+
+-- a world whose log is clean
+abbrev pub AgreedIsWorld : Type 0
+AgreedIsWorld = (start_fault small ≡ None) × IsWorld small files agreed
+
+abbrev pub AgreedIsClean : Type 0
+AgreedIsClean = (small.blessed ≡ []) × (is_clean (log_of agreed) ≡ true)
+
+-- a world in which each sequence comes
+abbrev pub VariedIsWorld : Type 0
+VariedIsWorld = (start_fault small ≡ None) × IsWorld small files varied
+
+-- of two threads that have shares of a lock neither has it exclusively
+abbrev pub ExclusiveIsAlone : Type 0
+ExclusiveIsAlone =
+    (start : Start) (files : List (List ℕ)) (w : List Deed) (t u l : ℕ)
+    → IsWorld start files w → (u ≡ t → ⊥) → 0 < shares t l w → 0 < shares u l w → is_exclusive (raw_mode t l w) ≡ false
+
+-- who waits for another can't have the lock
+abbrev pub WaitersAreBarred : Type 0
+WaitersAreBarred =
+    (start : Start) (files : List (List ℕ)) (w : List Deed) (t u : ℕ) (x : IsWaiting w t u)
+    → IsWorld start files w → admits start.sizes.seats x.request.lock.0 x.request.mode w ≡ false
+
+-- and who can't have a lock that it asks for, and of which it has nothing itself, waits for another
+abbrev pub BarredOnesWait : Type 0
+BarredOnesWait =
+    (threads : ℕ) (w : List Deed) (t : ℕ) (q : Request)
+    → stage t (own t w) ≡ Asked q → is_held t q.lock.0 (log_of w) ≡ false → shares t q.lock.0 w ≡ 0
+    → admits threads q.lock.0 q.mode w ≡ false → (u : ℕ) × IsWaiting w t u
+
+-- no thread alone is a deadlock
+abbrev pub DeadlocksTakeTwo : Type 0
+DeadlocksTakeTwo = (w : List Deed) (t : ℕ) → IsDeadlock w (t ∷ []) → ⊥
+
+-- the run itself reorders it, and so does each of its moments
+abbrev pub MomentsReorder : Type 0
+MomentsReorder =
+    (start : Start) (files : List (List ℕ)) (later w : List Deed) → IsWorld start files (later ++ w) → IsReordering start w (later ++ w)
+
+-- the log of a world is a legal history
+abbrev pub WorldsAreLegal : Type 0
+WorldsAreLegal = (start : Start) (files : List (List ℕ)) (w : List Deed) → IsWorld start files w → IsLegal start files (log_of w)
+
+-- and of a thread's own deeds it has that thread's entries
+abbrev pub OwnDeedsAreLogged : Type 0
+OwnDeedsAreLogged = (t : ℕ) (w : List Deed) → log_of (own t w) ≡ own_entries t (log_of w)
+
+-- a clean legal history leaves no circle of the record
+abbrev pub CleanRecordsHaveNoCircle : Type 0
+CleanRecordsHaveNoCircle =
+    (start : Start) (files : List (List ℕ)) (h : List Entry)
+    → start_fault start ≡ None → IsLegal start files h → CleanMeansNoCircle (story_after start files h)
