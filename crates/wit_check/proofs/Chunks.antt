@@ -1,25 +1,9 @@
 -- The last chunks of a list, one more at each step.
-use Rattle.std.proofs.Common.{◌≡◌, ℕ, zero, suc, ◌+◌, ◌<◌, Bool, true, false, List, [], ◌∷◌, ◌++◌, Option, None, Some, is_some, length, drop, get_or, find, reverse, ap, sym, ◌∙◌, subst, arith}
-use Rattle.std.specs.List.{All}
+use Rattle.std.proofs.Common.{◌≡◌, ℕ, zero, suc, ◌+◌, ◌<◌, Bool, true, false, List, [], ◌∷◌, ◌++◌, Option, None, Some, is_some, length, drop, get_or, find, reverse, ap, sym, ◌∙◌}
 use Rattle.std.specs.Option.{option_or}
-use Rattle.std.proofs.lemmas.List.{drop_more, reverse-append, get_or_append_left, length-append}
-use Rattle.std.proofs.lemmas.List.Elements.{All-drop}
+use Rattle.std.proofs.lemmas.List.{drop_more, reverse-append}
 use Rattle.std.proofs.lemmas.List.Folds.{find-append}
-use Rattle.std.proofs.Math.Seq.{drop-append_seam}
 use Rattle.wit_model.specs.Rules.Groups.{flat}
-
-module _ {X : Type 0} (P : X → Type 0) where
-  all-left : (xs ys : List X) → All P (xs ++ ys) → All P xs
-  all-left xs ys all = λ k d lt. subst P (get_or_append_left xs ys d k lt) (all k d (omega (arith, lt, length-append xs ys)))
-
-  all-right : (xs ys : List X) → All P (xs ++ ys) → All P ys
-  all-right xs ys all = subst (All P) (drop-append_seam xs ys) (All-drop P (length xs) (xs ++ ys) all)
-
-  -- what all of a list have, all of one of its chunks have
-  pub all-in-chunk : (gs : List (List X)) (i : ℕ) → i < length gs → All P (flat gs) → All P (get_or gs i [])
-  all-in-chunk [] i lt all = absurd (omega arith)
-  all-in-chunk (g ∷ gs) zero lt all = all-left g (flat gs) all
-  all-in-chunk (g ∷ gs) (suc i) lt all = all-in-chunk gs i (omega arith) (all-right g (flat gs) all)
 
 -- the last chunks, and one before them
 pub chunk-more : {X : Type 0} (gs : List (List X)) (i n : ℕ) → i < length gs → n ≡ i + 1 → flat (drop i gs) ≡ get_or gs i [] ++ flat (drop n gs)

@@ -13,3 +13,21 @@ answer_of (verdict.Silent held asked) = Ok (reply.Silent held asked)
 answer_of (verdict.Duplicate d) = Ok (reply.Duplicate d)
 answer_of (verdict.Reversal c) = Ok (reply.Reversal c)
 answer_of (verdict.Fault fault) = Err fault
+
+-- the same where an order is defined: nothing is to be said of one that is known
+abbrev pub definition_of : Verdict → Result Reply Fault
+definition_of verdict.Pass = Ok reply.Known
+definition_of (verdict.Adopt p c) = Ok (reply.Adopted p c)
+definition_of (verdict.Silent held asked) = Ok (reply.Silent held asked)
+definition_of (verdict.Duplicate d) = Ok (reply.Duplicate d)
+definition_of (verdict.Reversal c) = Ok (reply.Reversal c)
+definition_of (verdict.Fault fault) = Err fault
+
+-- nothing but these can be said of it
+abbrev pub IsDefinition : Verdict → Type 0
+IsDefinition verdict.Pass = Unit {0}
+IsDefinition (verdict.Adopt p c) = Unit {0}
+IsDefinition (verdict.Silent held asked) = ⊥
+IsDefinition (verdict.Duplicate d) = ⊥
+IsDefinition (verdict.Reversal c) = ⊥
+IsDefinition (verdict.Fault fault) = Unit {0}

@@ -7,6 +7,7 @@ ghost use Rattle.wit_model.specs.Rules.Orders.{is_direct, is_before, is_found};
 ghost use Rattle.wit_model.specs.Rules.Verdict.{type_held, is_sleepable, is_giant, is_blessed};
 
 use std::marker::Model;
+use wit_held::LockTypes;
 use wit_matrix::Matrix;
 use wit_model::{Class, Instance, TypeNo};
 use wit_table::Table;
@@ -100,5 +101,17 @@ impl<'a> Basis<'a> {
     {
         self.types
             .blessed(self.types.name_of(a), self.types.name_of(b))
+    }
+}
+
+impl<'a> LockTypes for Basis<'a> {
+    ghost basis = { λ s. s };
+
+    fn type_is_giant(&self, held: Instance) -> bool {
+        self.is_giant(self.type_held(held))
+    }
+
+    fn type_is_sleepable(&self, held: Instance) -> bool {
+        self.is_sleepable(self.type_held(held))
     }
 }

@@ -4,6 +4,7 @@
 mod again;
 mod answers;
 mod basis;
+mod definitions;
 mod duplicates;
 mod held;
 mod orders;
@@ -11,6 +12,8 @@ mod reversals;
 mod rules;
 
 pub use answers::Verdict;
+pub use basis::Basis;
+pub use definitions::define;
 pub use rules::verdict;
 
 #[cfg(test)]

@@ -5,14 +5,14 @@ ghost use Rattle.wit_model.specs.Rules.Chunks.{IsList, chain_of};
 ghost use Rattle.wit_check.specs.Bases.{AreTypes};
 ghost use Rattle.wit_check.specs.Held.{IsJudgeable};
 
-use crate::{Verdict, verdict};
+use crate::{Basis, Verdict, define, verdict};
 use std::test::Fail;
-use wit_held::VecLists;
+use wit_held::{VecLists, warn_count};
 use wit_matrix::Matrix;
 use wit_model::chunks::Lists;
 use wit_model::{
-    Asked, Class, Conflict, Doubling, FileNo, Heading, Instance, LockAt, LockFlags, LockNo, Mode,
-    OpFlags, SeatNo, Site, TypeNo, Watch,
+    Asked, Class, Conflict, Doubling, Fault, FileNo, Heading, Instance, LockAt, LockFlags, LockNo,
+    Mode, OpFlags, SeatNo, Site, TypeNo, WarnFlags, Watch,
 };
 use wit_table::Table;
 
@@ -152,6 +152,115 @@ fn one_lock_held(rt: HostRuntime) -> Result<(), Fail> {
         };
         let answer = told(&types, &matrix, &lists, &lock_types, request);
         assert_eq!(rt; answer, Some(expected), "of {second} under {first}");
+    }
+    Ok(())
+}
+
+/// Of how many locks seat 1 is warned, which holds one lock of each kind at most; `None` where something doesn't fit.
+fn warned(
+    types: &Table,
+    matrix: &Matrix,
+    lists: &VecLists,
+    lock_types: &[TypeNo],
+    named: u32,
+    flags: WarnFlags,
+) -> Option<usize> {
+    if lists.lists() < 2 || !is_short(lists, 1, lock_types) {
+        return None;
+    }
+    if !are_types(types, lock_types) || types.len() > matrix.size() as usize {
+        return None;
+    }
+    let basis = Basis {
+        types,
+        matrix,
+        lock_types,
+    };
+    let named = Some(LockNo(named));
+    Some(warn_count(lists, &basis, SeatNo(1), Watch::On, named, flags))
+}
+
+/// The locks that are held, of the sleep kind and of the spin kind, the one that is named, and how many are counted.
+const WARNED: [(&'static [u32], &'static [u32], u32, WarnFlags, usize); 7] = [
+    (&[5], &[], 1, WarnFlags(0), 1),
+    (&[5], &[], 1, WarnFlags::GIANTOK, 0),
+    (&[4], &[], 1, WarnFlags::GIANTOK, 1),
+    (&[4], &[], 1, WarnFlags::SLEEPOK, 0),
+    (&[1], &[], 1, WarnFlags(0), 0),
+    (&[], &[2], 2, WarnFlags(0), 0),
+    (&[1], &[2], 2, WarnFlags(0), 2),
+];
+
+#[test]
+fn locks_counted(rt: HostRuntime) -> Result<(), Fail> {
+    let mut types = Table::new(rt.alloc(), 4, 1)?;
+    for (name, class) in TYPES {
+        let _number = types.enroll(name, class)?;
+    }
+    let matrix = Matrix::new(rt.alloc(), 4)?;
+    let lock_types = LOCK_TYPES.map(|number| TypeNo(number));
+    for (sleep, spin, named, flags, expected) in WARNED {
+        let mut lists = VecLists::new(rt.alloc(), 2, 2)?;
+        for lock in sleep {
+            assert!(rt; lists.push(1, held(*lock)));
+        }
+        for lock in spin {
+            assert!(rt; lists.push(2, held(*lock)));
+        }
+        let count = warned(&types, &matrix, &lists, &lock_types, named, flags);
+        assert_eq!(rt; count, Some(expected), "beside {named}");
+    }
+    Ok(())
+}
+
+/// Adopts an order; false where it may not be adopted.
+fn adopt(matrix: &mut Matrix, parent: u16, child: u16) -> bool {
+    let size = matrix.size();
+    if parent == 0 || parent > size || child == 0 || child > size || parent == child {
+        return false;
+    }
+    let (parent, child) = (TypeNo(parent), TypeNo(child));
+    if matrix.before(child, parent) {
+        return false;
+    }
+    matrix.adopt(parent, child);
+    true
+}
+
+/// What is told where an order is defined; `None` where something doesn't fit.
+fn defined(types: &Table, matrix: &Matrix, first: u16, second: u16) -> Option<Verdict> {
+    let known = types.len();
+    if first == 0 || first as usize > known || second == 0 || second as usize > known {
+        return None;
+    }
+    if known > matrix.size() as usize {
+        return None;
+    }
+    Some(define(types, matrix, TypeNo(first), TypeNo(second)))
+}
+
+#[test]
+fn orders_defined(rt: HostRuntime) -> Result<(), Fail> {
+    let mut types = Table::new(rt.alloc(), 4, 1)?;
+    for (name, class) in [
+        ("A", Class::SleepMutex),
+        ("B", Class::Rw),
+        ("C", Class::Sx),
+        ("D", Class::SpinMutex),
+    ] {
+        let _number = types.enroll(name, class)?;
+    }
+    let mut matrix = Matrix::new(rt.alloc(), 4)?;
+    assert!(rt; adopt(&mut matrix, 1, 2));
+    for (first, second, expected) in [
+        (1, 2, Verdict::Pass),
+        (2, 3, Verdict::Adopt(TypeNo(2), TypeNo(3))),
+        (2, 1, Verdict::Fault(Fault::WrongOrder)),
+        (4, 4, Verdict::Fault(Fault::SameType)),
+        (1, 4, Verdict::Fault(Fault::KindMismatch)),
+    ] {
+        let told = defined(&types, &matrix, first, second);
+        assert_eq!(rt; told, Some(expected), "of {second} behind {first}");
     }
     Ok(())
 }

@@ -12,8 +12,11 @@ pub mod Listing
 pub mod Living
 pub mod Now
 pub mod Owing
+pub mod Queues
+pub mod Reaching
 pub mod Relating
 pub mod SeatRows
 pub mod Steps
 pub mod Taught
 pub mod Told
+pub mod Waits

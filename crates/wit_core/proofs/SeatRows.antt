@@ -13,7 +13,6 @@ use Rattle.wit_model.specs.Rules.Groups.{flat, opens}
 use Rattle.wit_model.specs.Rules.Numbers.{is_given, IsGiven}
 use Rattle.wit_model.specs.Rules.Verdict.{is_of}
 use Rattle.wit_model.proofs.Numbered.{with_number-or, with_number-none}
-use Rattle.wit_model.proofs.Chains.Stands.{found-at, found-nowhere}
 use Rattle.wit_held.specs.Chains.{recorded, forgotten, is_unrecorded, after_record, after_forget}
 use Rattle.wit_core.specs.Seats.{Seat, Row, no_seat, idle_row, seat_in, groups_in, locks_in, chunks_of, free_in, with_seat, asking, in_groups, acquired, released, has_no_room, after_acquired, list_of, HoldFor}
 use Rattle.wit_core.specs.Seated.{seat_by, seats_by, row_in, AreSeated}
@@ -192,13 +191,6 @@ module _ (o : Inside) (r : Row) (seen : row_in o ≡ r) where
 
       pub chain-now : chain_of o.lists list ≡ locks_in spin (seat_in r t)
       chain-now = ap flat groups-now
-
-      pub found-now : (l i : ℕ) (d : Instance) → Some i ≡ position (is_of l) (chain_of o.lists list) → d ≡ get_or (chain_of o.lists list) i d
-          → Some d ≡ find (is_of l) (locks_in spin (seat_in r t))
-      found-now l i d at held = ap Some held ∙ sym (found-at l (chain_of o.lists list) i d (sym at)) ∙ ap (find (is_of l)) chain-now
-
-      pub nowhere-now : (l : ℕ) → None ≡ position (is_of l) (chain_of o.lists list) → None ≡ find (is_of l) (locks_in spin (seat_in r t))
-      nowhere-now l at = sym (found-nowhere l (chain_of o.lists list) (sym at)) ∙ ap (find (is_of l)) chain-now
 
       pub item-now : (i : ℕ) (d : Instance) → i < length (chain_of o.lists list) → d ≡ get_or (chain_of o.lists list) i d
           → Some d ≡ slice_get (locks_in spin (seat_in r t)) i

@@ -12,6 +12,7 @@ pub mod Numbered
 pub mod Related
 pub mod Remembered
 pub mod Replies
+pub mod Searching
 pub mod Seated
 pub mod Seats
 pub mod Verdict

@@ -3,6 +3,7 @@
 
 mod acquiring;
 mod calls;
+mod circle;
 mod known;
 mod lists;
 mod log;

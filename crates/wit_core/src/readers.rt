@@ -1,11 +1,11 @@
 //! What a verifier tells of itself, apart from its log.
 
-ghost use Rattle.std.specs.Prelude.{◌≡◌, length, slice_get, IfSome, IfOk, IfErr};
+ghost use Rattle.std.specs.Prelude.{◌≡◌, ◌≤◌, length, slice_get, IfSome, IfOk, IfErr};
 ghost use Rattle.std.specs.Option.{option_copied, option_map};
 ghost use Rattle.wit_model.specs.declared.calls.Request.{Request};
 ghost use Rattle.wit_model.specs.declared.faults.Fault.TheVariants.{OutOfMemory};
-ghost use Rattle.wit_model.specs.Rules.Numbers.{with_number};
-ghost use Rattle.wit_model.specs.Rules.Orders.{Before, origin_of};
+ghost use Rattle.wit_model.specs.Rules.Numbers.{with_number, IsNumber};
+ghost use Rattle.wit_model.specs.Rules.Orders.{Before, is_direct, origin_of};
 ghost use Rattle.wit_model.specs.Rules.State.{state_of, seat_at, chain_in, free, known_of, orders_of, types_of, typed_locks};
 ghost use Rattle.wit_model.specs.Trace.Paths.{path, path_numbers};
 ghost use Rattle.wit_matrix.specs.Relation.{LeadsBy};
@@ -21,6 +21,14 @@ use wit_model::{Class, Fault, FileNo, Instance, LockNo, Mode, Origin, SeatNo, Ty
 
 /// What the seats hold; `None` for a seat that there isn't.
 impl Verifier {
+    /// How many seats there are.
+    pub fn seats(&self) -> u16
+        ensures value { result ≡ self.now.start.sizes.seats }
+        ensures within { IsNumber 256 result }
+    {
+        self.limits.seats() as u16
+    }
+
     /// The lock that a seat has asked for, and the mode: from its accepted `check` to its `note` or `give_up`.
     pub fn pending(&self, seat: SeatNo) -> Option<(LockNo, Mode)>
         ensures { result ≡ option_map (λ (q : Request). (q.lock, q.mode)) (seat_at (state_of self.now) seat.0).pending }
@@ -111,7 +119,8 @@ impl Verifier {
 
     /// How many types are known.
     pub fn types(&self) -> usize
-        ensures { result ≡ length (types_of self.now.start self.now.history) }
+        ensures value { result ≡ length (types_of self.now.start self.now.history) }
+        ensures few { result ≤ 1023 }
     {
         self.known.names().len()
     }
@@ -126,6 +135,13 @@ impl Verifier {
         } else {
             None
         }
+    }
+
+    /// Whether the order from one type to another was adopted.
+    pub fn is_direct(&self, parent: TypeNo, child: TypeNo) -> bool
+        ensures { result ≡ is_direct (orders_of self.now.start self.now.history) parent.0 child.0 }
+    {
+        self.known.orders().is_direct(parent, child)
     }
 
     /// Where the direct order from one type to another comes from; `None` where it wasn't adopted.

@@ -9,7 +9,7 @@ ghost use Rattle.wit_core.specs.Seats.{idle_row, seat_in, locks_in, free_in, wit
 
 use std::alloc::{AllocError, Global};
 use std::marker::Model;
-use wit_held::{VecLists, forget, record};
+use wit_held::{VecLists, forget, held, record};
 use wit_model::chunks::Lists;
 use wit_model::{Fault, Instance, LockNo, Request, SeatNo};
 
@@ -86,17 +86,13 @@ impl Seats {
         self.lists.free_chunks()
     }
 
-    /// A lock as a seat holds it.
+    /// A lock as a seat holds it, once at most: `wit_held::held` in its list.
     pub fn find(&self, seat: SeatNo, spin: bool, lock: LockNo) -> Option<Instance>
-        requires { IsGiven self.now.seats seat.0 }
+        requires seat { IsGiven self.now.seats seat.0 }
+        requires once { IsOnce lock.0 (locks_in spin (seat_in self.now seat.0)) }
         ensures { result ≡ find (is_of lock.0) (locks_in spin (seat_in self.now seat.0)) }
     {
-        let lists = &self.lists;
-        let list = list_of(seat, spin);
-        match lists.find(list, lock) {
-            Some(place) => Some(lists.at(list, place)),
-            None => None,
-        }
+        held(&self.lists, list_of(seat, spin), lock)
     }
 
     /// The lock of one kind that a seat holds at this place, counted from the oldest, 0.

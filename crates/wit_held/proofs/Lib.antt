@@ -1,6 +1,10 @@
+pub mod Asserting
 pub mod Emptiness
 pub mod HeldLock
 pub mod Kept
+pub mod Marking
+pub mod Newest
+pub mod Passing
 pub mod Placing
 pub mod Recording
 pub mod Settled

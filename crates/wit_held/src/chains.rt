@@ -7,6 +7,7 @@ ghost use Rattle.wit_model.specs.Rules.Verdict.{is_of};
 ghost use Rattle.wit_model.specs.Rules.Chunks.{IsList, IsPlaced, chain_of};
 ghost use Rattle.wit_held.specs.Chains.{IsOnce, IsShallow, is_unrecorded, after_record, after_forget, after_turn};
 
+use crate::spots::{place_of, spot_of};
 use wit_model::chunks::Lists;
 use wit_model::{Instance, LockNo, Mode};
 
@@ -25,11 +26,12 @@ pub fn record<L: Lists>(lists: &mut L, list: u16, taken: Instance) -> bool
     ensures placed { IsPlaced (L.chunks lists.new) }
     ensures unchanged { result ≡ false → L.chunks lists.new ≡ L.chunks lists.old }
 {
-    match lists.find(list, taken.lock) {
-        Some(place) => {
-            let mut held = lists.at(list, place);
+    match spot_of(&*lists, list, taken.lock) {
+        Some(spot) => {
+            let mut held = spot.held;
             held.count += 1;
             held.site = taken.site;
+            let place = place_of(&*lists, list, spot);
             lists.replace(list, place, held);
             true
         }
@@ -46,9 +48,10 @@ pub fn forget<L: Lists>(lists: &mut L, list: u16, lock: LockNo)
     ensures size { (L.chunks lists.new).size ≡ (L.chunks lists.old).size }
     ensures placed { IsPlaced (L.chunks lists.old) → IsPlaced (L.chunks lists.new) }
 {
-    match lists.find(list, lock) {
-        Some(place) => {
-            let mut held = lists.at(list, place);
+    match spot_of(&*lists, list, lock) {
+        Some(spot) => {
+            let place = place_of(&*lists, list, spot);
+            let mut held = spot.held;
             if held.count > 0 {
                 held.count -= 1;
                 lists.replace(list, place, held);
@@ -58,6 +61,15 @@ pub fn forget<L: Lists>(lists: &mut L, list: u16, lock: LockNo)
         }
         None => {}
     }
+}
+
+/// A lock as a list holds it that holds it once at most; `None` where it doesn't. The list is looked through newest group first.
+pub fn held<L: Lists>(lists: &L, list: u16, lock: LockNo) -> Option<Instance>
+    requires list { IsList (L.chunks lists.now) list }
+    requires once { IsOnce lock.0 (chain_of (L.chunks lists.now) list) }
+    ensures { result ≡ find (is_of lock.0) (chain_of (L.chunks lists.now) list) }
+{
+    Some(spot_of(lists, list, lock)?.held)
 }
 
 // The oldest instance of a lock in a list.
@@ -96,10 +108,11 @@ pub fn set_mode<L: Lists>(lists: &mut L, list: u16, lock: LockNo, mode: Mode)
     ensures size { (L.chunks lists.new).size ≡ (L.chunks lists.old).size }
     ensures placed { IsPlaced (L.chunks lists.old) → IsPlaced (L.chunks lists.new) }
 {
-    match lists.find(list, lock) {
-        Some(place) => {
-            let mut held = lists.at(list, place);
+    match spot_of(&*lists, list, lock) {
+        Some(spot) => {
+            let mut held = spot.held;
             held.mode = mode;
+            let place = place_of(&*lists, list, spot);
             lists.replace(list, place, held);
         }
         None => {}

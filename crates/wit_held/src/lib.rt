@@ -1,13 +1,20 @@
 //! The lists of locks that the seats of a verifier hold: chunks on vectors, and what an acquisition and a release make of a list.
 #![tactic(auto)]
 
+mod assertions;
 mod chains;
 mod fresh;
+mod marks;
 mod rows;
+mod spots;
 mod vec_lists;
+mod warnings;
 
-pub use chains::{forget, mode, record, recursion, set_mode};
+pub use assertions::assert_is;
+pub use chains::{forget, held, mode, record, recursion, set_mode};
+pub use marks::{norelease, releaseok};
 pub use vec_lists::VecLists;
+pub use warnings::{LockTypes, warn_count};
 
 #[cfg(test)]
 mod tests;

@@ -188,8 +188,8 @@ pub fn find<A: Allocator>(
     None
 }
 
-// Where a chunk holds a lock.
-fn find_lock(held: &[Instance], lock: LockNo) -> Option<usize>
+/// The place in a chunk of the oldest instance of a lock.
+pub fn find_lock(held: &[Instance], lock: LockNo) -> Option<usize>
     ensures place { result ≡ position (is_of lock.0) held.now }
     ensures within { IfSome result (λ i. i < length held.now) }
 {

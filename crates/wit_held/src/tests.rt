@@ -2,13 +2,15 @@
 
 ghost use Rattle.std.specs.Prelude.{◌≡◌};
 
-use crate::{VecLists, forget, record, recursion, set_mode};
+use crate::{VecLists, assert_is, forget, norelease, record, recursion, releaseok, set_mode};
 use Call::{Free, Holds, Push, Refused, Take};
 use linked_list_allocator::LocalHeap;
 use std::alloc::{AllocError, Allocator, Global};
 use std::test::Fail;
 use wit_model::chunks::Lists;
-use wit_model::{Fault, FileNo, Instance, LockNo, Mode, Site};
+use wit_model::{
+    AssertAnswer, Fault, FileNo, Instance, LockAssert, LockNo, Mode, Site, Watch,
+};
 
 /// A call, or what the lists are to hold after it. Lists and locks stand by their numbers.
 #[derive(Clone, Copy)]
@@ -167,6 +169,25 @@ fn release(lists: &mut VecLists, list: u16, lock: LockNo) {
     }
 }
 
+/// Marks a lock in a list of at most one: whether it must not be released.
+fn mark(lists: &mut VecLists, list: u16, lock: LockNo, forbidden: bool) {
+    if list > 0 && list as usize <= lists.lists() && lists.len(list) <= 1 {
+        if forbidden {
+            norelease(lists, list, lock);
+        } else {
+            releaseok(lists, list, lock);
+        }
+    }
+}
+
+/// What an assertion of a lock comes to; `None` where there is no such list.
+fn asserted(lists: &VecLists, list: u16, lock: u32, flags: LockAssert) -> Option<AssertAnswer> {
+    if list == 0 || list as usize > lists.lists() {
+        return None;
+    }
+    Some(assert_is(lists, list, LockNo(lock), Watch::On, flags))
+}
+
 /// How the oldest lock of a list is held.
 fn oldest(lists: &VecLists, list: u16) -> Option<Instance> {
     if list == 0 || list as usize > lists.lists() || lists.len(list) == 0 {
@@ -287,6 +308,42 @@ fn acquired_twice(rt: HostRuntime) -> Result<(), Fail> {
     assert_eq!(rt; oldest(&lists, 1), Some(once));
     release(&mut lists, 1, LockNo(7));
     assert_eq!(rt; oldest(&lists, 1), None);
+    Ok(())
+}
+
+#[test]
+fn marks(rt: HostRuntime) -> Result<(), Fail> {
+    let mut lists = VecLists::new(rt.alloc(), 1, 1)?;
+    let free = held(7);
+    let mut kept = free;
+    kept.norelease = true;
+
+    assert!(rt; push(&mut lists, 1, 7));
+    mark(&mut lists, 1, LockNo(7), true);
+    assert_eq!(rt; oldest(&lists, 1), Some(kept));
+    mark(&mut lists, 1, LockNo(8), false);
+    assert_eq!(rt; oldest(&lists, 1), Some(kept));
+    mark(&mut lists, 1, LockNo(7), false);
+    assert_eq!(rt; oldest(&lists, 1), Some(free));
+    Ok(())
+}
+
+#[test]
+fn assertions(rt: HostRuntime) -> Result<(), Fail> {
+    let mut lists = VecLists::new(rt.alloc(), 1, 1)?;
+    assert!(rt; push(&mut lists, 1, 7));
+    for (lock, flags, answer) in [
+        (7, LockAssert::UNLOCKED, AssertAnswer::IsLocked),
+        (8, LockAssert::UNLOCKED, AssertAnswer::Holds),
+        (8, LockAssert::LOCKED, AssertAnswer::IsNotLocked),
+        (7, LockAssert::SLOCKED, AssertAnswer::IsExclusive),
+        (7, LockAssert(0x18), AssertAnswer::IsNotRecursed),
+        (7, LockAssert(0x28), AssertAnswer::Holds),
+        (7, LockAssert(0x03), AssertAnswer::Invalid),
+    ] {
+        let told = asserted(&lists, 1, lock, flags);
+        assert_eq!(rt; told, Some(answer), "of lock {lock}");
+    }
     Ok(())
 }
 

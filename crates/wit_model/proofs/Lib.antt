@@ -6,3 +6,4 @@ pub mod Orders
 pub mod Spelling
 pub mod VerdictLaws
 pub mod World
+pub mod Waits

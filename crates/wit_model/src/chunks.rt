@@ -1,6 +1,6 @@
 //! Lists of held locks in chunks.
 
-ghost use Rattle.std.specs.Prelude.{◌≡◌, ◌<◌, ◌-◌, false, [], not, length, position, slice_get, IfSome};
+ghost use Rattle.std.specs.Prelude.{◌≡◌, ◌<◌, ◌-◌, ◌^◌, false, [], not, length, position, slice_get, IfSome};
 ghost use Rattle.std.specs.List.{slice_index_or};
 ghost use Rattle.wit_model.specs.Rules.Verdict.{is_of};
 ghost use Rattle.wit_model.specs.Rules.Groups.{replaced_at, removed_at};
@@ -42,7 +42,8 @@ pub trait Lists {
     /// How many locks a list holds.
     fn len(&self, list: u16) -> usize
         requires list { IsList (chunks self.now) list }
-        ensures { result ≡ length (chain_of (chunks self.now) list) };
+        ensures value { result ≡ length (chain_of (chunks self.now) list) }
+        ensures few { result < 2 ^ 32 };
 
     /// The newest lock of a list: `None` where it holds none.
     fn last(&self, list: u16) -> Option<Instance>

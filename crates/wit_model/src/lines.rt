@@ -132,6 +132,12 @@ pub enum Cause {
 /// What a replay writes.
 #[derive(Clone, Copy, Debug, PartialEq, Eq, Hash)]
 pub enum View {
-    /// The texts of reports, as they come.
+    /// The texts of reports, failed assertions and warnings, as they come.
     Reports,
+    /// The direct orders of lock types, after the whole trace.
+    Graph,
+    /// The held locks of all seats, after the whole trace.
+    Locks,
+    /// A circle of seats that wait for one another, after the whole trace, or that there is none.
+    Circle,
 }

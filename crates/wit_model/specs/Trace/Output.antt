@@ -1,13 +1,17 @@
 -- What a replay writes for a trace, and what it sums up.
-use Rattle.std.specs.Prelude.{ℕ, ◌+◌, Bool, ◌||◌, nat_lt, List, [], ◌∷◌, ◌++◌, length, take, unwrap_or, Option, None, Some, Result, Ok, Err, codes, if◌then◌else◌}
+use Rattle.std.specs.Prelude.{◌≡◌, ℕ, ◌+◌, Bool, false, ◌||◌, nat_lt, List, [], ◌∷◌, ◌++◌, length, take, unwrap_or, Option, None, Some, is_some, Result, Ok, Err, codes, if◌then◌else◌}
 use Rattle.std.specs.Fmt.{decimal}
 use Rattle.std.specs.Str.{bytes_eq}
 use Rattle.wit_model.specs.declared.faults.Fault.{Fault}
 use Rattle.wit_model.specs.declared.lines.Line.{Line}
-use Rattle.wit_model.specs.declared.lines.Line.TheVariants.{Header, Order, Bless, Init, Check, Lock, Try, GiveUp, Unlock, Watch}
+use Rattle.wit_model.specs.declared.lines.Line.TheVariants.{Header, Order, Bless, Init, Check, Lock, Try, GiveUp, Unlock, Destroy, Upgrade, Downgrade, NoRelease, ReleaseOk, Assert, Warn, Define, Watch}
+use Rattle.wit_model.specs.declared.lines.View as view
+use Rattle.wit_model.specs.declared.lines.View.TheVariants.{Reports, Graph, Locks, Circle}
 use Rattle.wit_model.specs.declared.lines.Cause as cause
 use Rattle.wit_model.specs.declared.lines.Cause.TheVariants as why
 use Rattle.wit_model.specs.declared.locks.Class.{Class}
+use Rattle.wit_model.specs.declared.locks.Instance.{Instance}
+use Rattle.wit_model.specs.declared.assertions.AssertAnswer.{AssertAnswer}
 use Rattle.wit_model.specs.declared.calls.Call.{Call}
 use Rattle.wit_model.specs.declared.calls.Call.TheVariants as call
 use Rattle.wit_model.specs.declared.calls.Reply.{Reply}
@@ -18,23 +22,28 @@ use Rattle.wit_model.specs.Trace.Reading.{line_of}
 use Rattle.wit_model.specs.Rules.Sizes.{Sizes, sizes_of, are_within}
 use Rattle.wit_model.specs.Rules.Numbers.{with_number}
 use Rattle.wit_model.specs.Rules.Start.{start_fault}
-use Rattle.wit_model.specs.Rules.State.{Start, Story, fresh, known_of}
+use Rattle.wit_model.specs.Rules.Assertions.{step_assert}
+use Rattle.wit_model.specs.Rules.Circles.{TellsCircle}
+use Rattle.wit_model.specs.Rules.Warnings.{warned, step_warn}
+use Rattle.wit_model.specs.Rules.State.{Start, Story, fresh, known_of, state_of, typed_locks}
 use Rattle.wit_model.specs.Rules.Step.{answer_of, grown}
 use Rattle.wit_model.specs.Trace.Texts.{report_text}
 use Rattle.wit_model.specs.Trace.Texts as texts
+use Rattle.wit_model.specs.Trace.Views.{graph_text, all_locks_text, circle_text, assert_text, warn_text}
 
 -- a prelude so far: how the verifier is to start, and the number of each list's line
 pub record Prelude : Type 0 where
   pub start : Start
   pub lines : List ℕ
 
--- how far the reading is: before the header, in the prelude, or behind it, with the verifier's story
+-- how far the reading is: before the header, in the prelude, or behind it, with the verifier's story and the number of failed assertions
+-- and warnings that were told, which no log holds
 pub data Progress : Type 0 where
   Unstarted : Progress
   Opening : Prelude → Progress
-  Reading : Story → Progress
+  Reading : Story → ℕ → Progress
 
--- what becomes of a line: the reading goes on, having written a text; or the line is bad
+-- what becomes of a line: the reading goes on, having told a text; or the line is bad
 pub data Outcome : Type 0 where
   Goes : Progress → List ℕ → Outcome
   Bad : cause.Cause → Outcome
@@ -61,7 +70,7 @@ is_prelude line = bytes_eq (take 6 line) (codes "order ") || bytes_eq (take 6 li
 
 -- the lists are entered: one that is refused is bad at its own line
 abbrev pub opened : Prelude → Option (ℕ × Fault) → Result Progress BadLine
-opened p None = Ok (Reading (fresh p.start))
+opened p None = Ok (Reading (fresh p.start) 0)
 opened p (Some refused) = Err (unwrap_or (with_number p.lines refused.0) 0, why.Fault refused.1)
 
 -- where the reading stands when a line is looked at: before a line that doesn't begin as those of the prelude do, and at the
@@ -75,16 +84,16 @@ abbrev pub told : Story → Reply → List ℕ
 told s reply = report_text (known_of s.start s.history) s.files reply
 
 -- a call is made: its reply is told, and logged unless the call was passed over; or the line is bad
-abbrev pub called : Story → ℕ → Call → Result Reply Fault → Outcome
-called s t call (Ok reply) = Goes (Reading (grown s t call reply)) (told (grown s t call reply) reply)
-called s t call (Err fault) = Bad (why.Fault fault)
+abbrev pub called : Story → ℕ → ℕ → Call → Result Reply Fault → Outcome
+called s n t call (Ok reply) = Goes (Reading (grown s t call reply) n) (told (grown s t call reply) reply)
+called s n t call (Err fault) = Bad (why.Fault fault)
 
-abbrev pub makes : Story → ℕ → Call → Outcome
-makes s t call = called s t call (answer_of s t call)
+abbrev pub makes : Story → ℕ → ℕ → Call → Outcome
+makes s n t call = called s n t call (answer_of s t call)
 
 -- a line with a site enters its file first
 abbrev pub at_file : Story → (Story → ℕ → Outcome) → List ℕ → Result ℕ Fault → Outcome
-at_file s next file (Ok n) = next (record s { files = files_after file s.files }) n
+at_file s next file (Ok f) = next (record s { files = files_after file s.files }) f
 at_file s next file (Err fault) = Bad (why.Fault fault)
 
 -- how many bytes a line may have, without its line feed
@@ -95,18 +104,45 @@ longest_line = 4096
 abbrev pub log_limit : ℕ
 log_limit = 16777216
 
+-- a text that says something is one report
+abbrev pub said : List ℕ → ℕ
+said [] = 0
+said (b ∷ text) = 1
+
+-- a call that isn't logged is answered, and this is told of it
+abbrev pub remarks : Story → ℕ → List ℕ → Outcome
+remarks s n text = Goes (Reading s (n + said text)) text
+
+-- an assertion about a lock, by its answer
+abbrev pub asserts : Story → ℕ → ℕ → Result AssertAnswer Fault → Outcome
+asserts s n l (Ok answer) = remarks s n (assert_text (typed_locks s.start s.history) l answer)
+asserts s n l (Err fault) = Bad (why.Fault fault)
+
+-- a warning of these locks, where the call isn't refused
+abbrev pub warns : Story → ℕ → List Instance → Result ℕ Fault → Outcome
+warns s n counted (Ok count) = remarks s n (warn_text (typed_locks s.start s.history) s.files counted)
+warns s n counted (Err fault) = Bad (why.Fault fault)
+
 -- a line behind the prelude makes its call
-abbrev pub calls : Story → Line → Outcome
-calls s (Init seat lock) = makes s seat.0 (call.Init lock)
-calls s (Check seat lock mode ops file line) =
-    at_file s (λ s' n. makes s' seat.0 (call.Check (record { lock = lock; site = record { file = record { 0 = n }; line = line }; mode = mode; ops = ops }))) file (naming_answer s file)
-calls s (Lock seat lock) = makes s seat.0 (call.Note lock)
-calls s (Try seat lock mode file line) =
-    at_file s (λ s' n. makes s' seat.0 (call.NoteTry lock mode (record { file = record { 0 = n }; line = line }))) file (naming_answer s file)
-calls s (GiveUp seat lock) = makes s seat.0 (call.GiveUp lock)
-calls s (Unlock seat lock mode) = makes s seat.0 (call.Unlock lock mode)
-calls s (Watch seat watch) = makes s seat.0 (call.SetWatch watch)
-calls s _ = Bad why.Syntax
+abbrev pub calls : Story → ℕ → Line → Outcome
+calls s n (Init seat lock) = makes s n seat.0 (call.Init lock)
+calls s n (Check seat lock mode ops file line) =
+    at_file s (λ s' f. makes s' n seat.0 (call.Check (record { lock = lock; site = record { file = record { 0 = f }; line = line }; mode = mode; ops = ops }))) file (naming_answer s file)
+calls s n (Lock seat lock) = makes s n seat.0 (call.Note lock)
+calls s n (Try seat lock mode file line) =
+    at_file s (λ s' f. makes s' n seat.0 (call.NoteTry lock mode (record { file = record { 0 = f }; line = line }))) file (naming_answer s file)
+calls s n (GiveUp seat lock) = makes s n seat.0 (call.GiveUp lock)
+calls s n (Unlock seat lock mode) = makes s n seat.0 (call.Unlock lock mode)
+calls s n (Destroy seat lock) = makes s n seat.0 (call.Destroy lock)
+calls s n (Upgrade seat lock) = makes s n seat.0 (call.Upgrade lock)
+calls s n (Downgrade seat lock) = makes s n seat.0 (call.Downgrade lock)
+calls s n (NoRelease seat lock) = makes s n seat.0 (call.NoRelease lock)
+calls s n (ReleaseOk seat lock) = makes s n seat.0 (call.ReleaseOk lock)
+calls s n (Assert seat lock flags) = asserts s n lock.0 (step_assert (state_of s) seat.0 lock.0 flags)
+calls s n (Warn seat lock flags) = warns s n (warned (state_of s) seat.0 lock flags) (step_warn (state_of s) seat.0 lock flags)
+calls s n (Define seat first second) = makes s n seat.0 (call.DefineOrder first second)
+calls s n (Watch seat watch) = makes s n seat.0 (call.SetWatch watch)
+calls s n _ = Bad why.Syntax
 
 -- a line in its place, with its number
 abbrev pub entered : Progress → ℕ → Line → Outcome
@@ -114,7 +150,7 @@ entered Unstarted n (Header seats types locks chunks) =
     if are_within (sizes_of seats types locks chunks log_limit) then Goes (Opening (empty_prelude (sizes_of seats types locks chunks log_limit))) [] else Bad why.Limit
 entered (Opening p) n (Order list) = Goes (Opening (with_list p n list)) []
 entered (Opening p) n (Bless first second) = Goes (Opening (with_pair p first second)) []
-entered (Reading s) n line = calls s line
+entered (Reading s m) n line = calls s m line
 entered _ n line = Bad why.Syntax
 
 abbrev pub read_as : Progress → ℕ → Option Line → Outcome
@@ -136,43 +172,81 @@ cause_text (why.Fault fault) = fault_text fault
 abbrev pub bad_text : ℕ → cause.Cause → List ℕ
 bad_text n cause = texts.line (codes "line " ∷ decimal n ∷ codes ": " ∷ cause_text cause ∷ [])
 
--- what a replay comes to: the calls logged, the reports among them, and the bad line that ended it
+-- how a reading ends: all was read, and this is the story, with the number of failed assertions and warnings; or a line is bad
+pub data Ending : Type 0 where
+  AllRead : Story → ℕ → Ending
+  EndsBad : Progress → BadLine → Ending
+
+-- what a reading comes to: the texts told of its lines, one behind another, and how it ends
+pub record Course : Type 0 where
+  pub told : List ℕ
+  pub ending : Ending
+
+-- the reading ends at a bad line
+abbrev pub ends_bad : Progress → BadLine → Course
+ends_bad p bad = record { told = []; ending = EndsBad p bad }
+
+-- or after the last whole line, if the header came
+abbrev pub ends : Progress → ℕ → List ℕ → Course
+ends (Reading s m) n [] = record { told = []; ending = AllRead s m }
+ends p n [] = ends_bad p (n, why.Cut)
+ends p n (b ∷ tail) = ends_bad p (n, if nat_lt longest_line (length (b ∷ tail)) then why.Long else why.Cut)
+
+abbrev pub before : List ℕ → Course → Course
+before text c = record { told = text ++ c.told; ending = c.ending }
+
+-- what follows a line
+abbrev pub course_after : Progress → ℕ → Outcome → (Progress → Course) → Course
+course_after p n (Goes q text) next = before text (next q)
+course_after p n (Bad cause) next = ends_bad p (n, cause)
+
+-- what follows once the reading stands there, unless a list was refused
+abbrev pub course_at : Progress → Result Progress BadLine → (Progress → Course) → Course
+course_at p (Ok q) next = next q
+course_at p (Err bad) next = ends_bad p bad
+
+-- from here on, where the next line has number n, these whole lines and this unfinished one are to come
+abbrev pub course_from : Progress → ℕ → List (List ℕ) → List ℕ → Course
+course_from p n [] tail = course_at p (reached p tail) (λ q. ends q n tail)
+course_from p n (line ∷ lines) tail = course_at p (reached p line) (λ q. course_after q n (outcome q n line) (λ r. course_from r (n + 1) lines tail))
+
+-- ---- what is written
+
+-- of the texts that are told of lines only the first view shows any
+abbrev pub shown : view.View → List ℕ → List ℕ
+shown Reports told = told
+shown _ told = []
+
+-- what is shown of a story after the whole trace, and whether that is a circle. There may be more circles than one: any may be shown that
+-- starts with its least seat
+abbrev pub IsViewOf : view.View → Story → List ℕ → Bool → Type 0
+IsViewOf Reports s text circle = (text ≡ []) × (circle ≡ false)
+IsViewOf Graph s text circle = (text ≡ graph_text s) × (circle ≡ false)
+IsViewOf Locks s text circle = (text ≡ all_locks_text s) × (circle ≡ false)
+IsViewOf Circle s text circle = (seats : Option (List ℕ)) × TellsCircle (state_of s) seats × (text ≡ circle_text (state_of s) seats) × (circle ≡ is_some seats)
+
+-- what is shown at the end: of a bad line its text, whatever the view
+abbrev pub IsLast : view.View → Ending → List ℕ → Bool → Type 0
+IsLast v (EndsBad p bad) text circle = (text ≡ bad_text bad.0 bad.1) × (circle ≡ false)
+IsLast v (AllRead s m) text circle = IsViewOf v s text circle
+
+-- the text that a view shows of a reading, and whether it shows a circle
+pub record IsShown (v : view.View) (c : Course) (text : List ℕ) (circle : Bool) : Type 0 where
+  pub last : List ℕ
+  pub parts : text ≡ shown v c.told ++ last
+  pub ends : IsLast v c.ending last circle
+
+-- what a replay sums up: the calls logged; the reports among them, with the failed assertions and the warnings; and the bad line that
+-- ended the reading
 pub record Total : Type 0 where
   pub calls : ℕ
   pub reports : ℕ
   pub bad : Option BadLine
 
-pub record Written : Type 0 where
-  pub text : List ℕ
-  pub summed : Total
-
 abbrev pub summed : Progress → Option BadLine → Total
-summed (Reading s) bad = record { calls = length s.history; reports = reports_of s.history; bad = bad }
+summed (Reading s m) bad = record { calls = length s.history; reports = reports_of s.history + m; bad = bad }
 summed _ bad = record { calls = 0; reports = 0; bad = bad }
 
--- the reading ends at a bad line, or after the last whole line
-abbrev pub ends_bad : Progress → BadLine → Written
-ends_bad p bad = record { text = bad_text bad.0 bad.1; summed = summed p (Some bad) }
-
-abbrev pub ends : Progress → ℕ → List ℕ → Written
-ends Unstarted n [] = ends_bad Unstarted (n, why.Cut)
-ends p n [] = record { text = []; summed = summed p None }
-ends p n (b ∷ tail) = ends_bad p (n, if nat_lt longest_line (length (b ∷ tail)) then why.Long else why.Cut)
-
-abbrev pub before : List ℕ → Written → Written
-before text w = record { text = text ++ w.text; summed = w.summed }
-
--- what follows a line
-abbrev pub output_after : Progress → ℕ → Outcome → (Progress → Written) → Written
-output_after p n (Goes q text) next = before text (next q)
-output_after p n (Bad cause) next = ends_bad p (n, cause)
-
--- what follows once the reading stands there, unless a list was refused
-abbrev pub output_at : Progress → Result Progress BadLine → (Progress → Written) → Written
-output_at p (Ok q) next = next q
-output_at p (Err bad) next = ends_bad p bad
-
--- from here on, where the next line has number n, these whole lines and this unfinished one are to come
-abbrev pub output_from : Progress → ℕ → List (List ℕ) → List ℕ → Written
-output_from p n [] tail = output_at p (reached p tail) (λ q. ends q n tail)
-output_from p n (line ∷ lines) tail = output_at p (reached p line) (λ q. output_after q n (outcome q n line) (λ r. output_from r (n + 1) lines tail))
+abbrev pub total_of : Ending → Total
+total_of (AllRead s m) = summed (Reading s m) None
+total_of (EndsBad p bad) = summed p (Some bad)

@@ -2,10 +2,10 @@ use Rattle.std.proofs.Common.{◌-◌, List, ap₂, sym, ◌∙◌, subst, arith
 use Rattle.wit_model.specs.declared.locks.Instance.{Instance}
 use Rattle.wit_model.specs.Rules.Chunks.{groups_of}
 use Rattle.wit_model.specs.Rules.Numbers.{IsGiven}
+use Rattle.wit_held.proofs.Passing.{all-in-chunk}
 use Rattle.wit_check.specs.declared.held.Seen.{Seen}
 use Rattle.wit_check.specs.Held.{IsTyped}
 use Rattle.wit_check.specs.Looks.{nothing_seen, with_locks}
-use Rattle.wit_check.proofs.Chunks.{all-in-chunk}
 use Rattle.wit_check.proofs.Looking.{look-chunk}
 use Rattle.wit_check.proofs.held.look.Goals as goal
 

@@ -6,7 +6,7 @@ use Rattle.wit_held.proofs.tests.acquire.Goals as goal
 
 pub record-requires-clause-once : goal.record-requires-clause-once
 record-requires-clause-once c =
-    stands-short c.args.taken.lock.0 (chain_of c.args.lists.now c.args.list) (omega (arith, c.len.ensures, c.if-len-gt1.false))
+    stands-short c.args.taken.lock.0 (chain_of c.args.lists.now c.args.list) (omega (arith, c.len.ensures.value, c.if-len-gt1.false))
 
 pub record-requires-clause-shallow : goal.record-requires-clause-shallow
 record-requires-clause-shallow c =

@@ -4,4 +4,4 @@ use Rattle.wit_held.proofs.Recording.{stands-short}
 use Rattle.wit_held.proofs.tests.turn.Goals as goal
 
 pub set_mode-requires-clause-once : goal.set_mode-requires-clause-once
-set_mode-requires-clause-once c = stands-short c.args.lock.0 (chain_of c.args.lists.now c.args.list) (omega (arith, c.len.ensures, c.if-len-le1.true))
+set_mode-requires-clause-once c = stands-short c.args.lock.0 (chain_of c.args.lists.now c.args.list) (omega (arith, c.len.ensures.value, c.if-len-le1.true))

@@ -1,17 +1,17 @@
-use Rattle.wit_core.proofs.SeatRows.{number-now, list-now, found-now, nowhere-now}
+use Rattle.std.proofs.Common.{find, ap, sym, subst, ◌∙◌}
+use Rattle.wit_model.specs.Rules.Verdict.{is_of}
+use Rattle.wit_held.specs.Chains.{IsOnce}
+use Rattle.wit_core.proofs.SeatRows.{number-now, list-now, chain-now}
 use Rattle.wit_core.proofs.seats.Seats.find.Goals as goal
 
-pub list_of-list-requires : goal.list_of-list-requires
-list_of-list-requires c = number-now c.self.inside c.args.self.now c.self.view_is c.self.invariant c.args.seat.0 c.requires
+pub list_of-requires : goal.list_of-requires
+list_of-requires c = number-now c.self.inside c.args.self.now c.self.view_is c.self.invariant c.args.seat.0 c.requires.seat
 
-pub find-requires : goal.find-requires
-find-requires c = record {
-  list =
-      list-now c.self.inside c.args.self.now c.self.view_is c.self.invariant c.args.seat.0 c.requires c.list_of-list.result c.args.spin c.list_of-list.ensures;
-}
+pub held-requires-clause-list : goal.held-requires-clause-list
+held-requires-clause-list c = list-now c.self.inside c.args.self.now c.self.view_is c.self.invariant c.args.seat.0 c.requires.seat c.list_of.result c.args.spin c.list_of.ensures
 
-pub returns-in-Some : goal.returns-in-Some
-returns-in-Some c = found-now c.self.inside c.args.self.now c.self.view_is c.self.invariant c.args.seat.0 c.requires c.list_of-list.result c.args.spin c.list_of-list.ensures c.args.lock.0 c.in-Some.place c.at.result c.in-Some.ensures.place c.at.ensures
+pub held-requires-clause-once : goal.held-requires-clause-once
+held-requires-clause-once c = subst (IsOnce c.args.lock.0) (sym (chain-now c.self.inside c.args.self.now c.self.view_is c.self.invariant c.args.seat.0 c.requires.seat c.list_of.result c.args.spin c.list_of.ensures)) c.requires.once
 
-pub returns-in-None : goal.returns-in-None
-returns-in-None c = nowhere-now c.self.inside c.args.self.now c.self.view_is c.self.invariant c.args.seat.0 c.requires c.list_of-list.result c.args.spin c.list_of-list.ensures c.args.lock.0 c.in-None.ensures.place
+pub returns : goal.returns
+returns c = c.held.ensures ∙ ap (find (is_of c.args.lock.0)) (chain-now c.self.inside c.args.self.now c.self.view_is c.self.invariant c.args.seat.0 c.requires.seat c.list_of.result c.args.spin c.list_of.ensures)

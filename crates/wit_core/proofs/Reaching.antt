@@ -1,0 +1,350 @@
+-- The table of who waits for whom, and a search in it from one seat.
+use Rattle.std.proofs.Common.{◌≡◌, ℕ, ◌+◌, ◌-◌, ◌*◌, ◌<◌, ◌≤◌, Bool, true, false, cond, nat_lt, nat_le, List, [], ◌∷◌, ◌++◌, length, map, get_or, set, take, drop, replicate, Option, None, Some, unwrap_or, refl, sym, ap, ap₂, ◌∙◌, subst, ◌⊎◌, inl, inr, arith, length-append}
+use Rattle.std.specs.Global.{Vec}
+use Rattle.std.specs.List.{list_all, slice_get, sum_by}
+use Rattle.std.proofs.lemmas.Bool.{false≢true, cases_eq, ltb-true, le-leb}
+use Rattle.std.proofs.lemmas.List.{append-nil, take_all, drop_all, get_or_read, get_or_append_left, get_or-replicate, get_or-set_same, get_or-set_other, length-map, length-set, length-replicate, map-append, get_or-map}
+use Rattle.std.proofs.lemmas.List.Folds.{list_all-append, sum_by-replicate}
+use Rattle.std.proofs.lemmas.List.Sums.{sum_by-set}
+use Rattle.std.proofs.lemmas.Option.{slice_get_within}
+use Rattle.std.proofs.Math.Seq.{get_or-append_seam}
+use Rattle.wit_model.specs.declared.locks.SeatNo.{SeatNo}
+use Rattle.wit_model.specs.Rules.Circles.{IsQueue, IsCircle, starts_with_least, seat_numbers}
+use Rattle.wit_model.specs.Rules.Numbers.{with_number, IsNumber}
+use Rattle.wit_model.proofs.Numbered.{with_number-or}
+use Rattle.wit_core.specs.declared.circle.Reached.{Reached}
+use Rattle.wit_core.specs.Searching.{is_marked, rows_of, says, Says, IsTable, nobody, seat_in, next_in, IsTrail, IsReached, one_if_not, IsSearch, IsLater, AreMarked, Reaches, IsClosing, AreClosed, IsCircleFrom}
+use Rattle.wit_core.proofs.Queues.{queue_more, none_from}
+
+-- ---- marks
+
+pub marked-at : (marks : List Bool) (t : ℕ) → 0 < t → is_marked marks t ≡ get_or marks (t - 1) false
+unfolding is_marked
+marked-at marks t some = with_number-or marks t false some
+
+pub marked_within : (marks : List Bool) (t : ℕ) → is_marked marks t ≡ true → IsNumber (length marks) t
+unfolding is_marked
+marked_within marks t is = by (nat_lt 0 t) refl is
+  where
+    found : (o : Option Bool) → slice_get marks (t - 1) ≡ o → unwrap_or o false ≡ true → t - 1 < length marks
+    found None none is = absurd (false≢true is)
+    found (Some b) here is = slice_get_within marks (t - 1) b here
+
+    by : (b : Bool) → nat_lt 0 t ≡ b → unwrap_or (cond b (slice_get marks (t - 1)) None) false ≡ true → (0 < t) × (t ≤ length marks)
+    by false none is = absurd (false≢true is)
+    by true some is =
+        let up = ltb-true 0 t some in
+        let lt = found (slice_get marks (t - 1)) refl is in
+        (up, omega (arith, up, lt))
+
+marked-none : (n t : ℕ) → is_marked (replicate n false) t ≡ true → ⊥
+marked-none n t is =
+    let within = marked_within (replicate n false) t is in
+    let size = length-replicate n false in
+    false≢true
+    (sym (get_or-replicate n (t - 1) false false (omega (arith, within, size))) ∙ sym (marked-at (replicate n false) t within.0) ∙ is)
+
+-- one more is marked
+module _ (marks : List Bool) (i : ℕ) (lt : i < length marks) where
+  pub marked-set_same : (t : ℕ) → t ≡ i + 1 → is_marked (set marks i true) t ≡ true
+  marked-set_same t e =
+      let place : t - 1 ≡ i = omega (arith, e) in
+      marked-at (set marks i true) t (omega (arith, e)) ∙ ap (λ k. get_or (set marks i true) k false) place ∙ get_or-set_same marks i true false lt
+
+  marked-set_other : (t : ℕ) → 0 < t → (t ≡ i + 1 → ⊥) → is_marked (set marks i true) t ≡ is_marked marks t
+  marked-set_other t some apart =
+      marked-at (set marks i true) t some ∙ get_or-set_other marks i (t - 1) true false (λ e. apart (omega (arith, e, some))) ∙ sym (marked-at marks t some)
+
+  pub marked_before : (t : ℕ) → is_marked (set marks i true) t ≡ true → (t ≡ i + 1) ⊎ (is_marked marks t ≡ true)
+  marked_before t is =
+      let within = marked_within (set marks i true) t is in
+      elim (cases_eq t (i + 1)) [ inl e ↦ inl e | inr apart ↦ inr (sym (marked-set_other t within.0 apart) ∙ is) ]
+
+  pub marked_after : (t : ℕ) → is_marked marks t ≡ true → is_marked (set marks i true) t ≡ true
+  marked_after t is =
+      let within = marked_within marks t is in
+      elim (cases_eq t (i + 1)) [ inl e ↦ marked-set_same t e | inr apart ↦ marked-set_other t within.0 apart ∙ is ]
+
+-- ---- the table
+
+abbrev items : Vec Bool → List Bool
+items row = row.items
+
+pub rows-many : (rows : List (Vec Bool)) → length (rows_of rows) ≡ length rows
+rows-many rows = length-map rows items
+
+row-items : (rows : List (Vec Bool)) (i : ℕ) (row : Vec Bool) → i < length rows → row ≡ get_or rows i row → get_or (rows_of rows) i [] ≡ row.items
+row-items rows i row lt read = get_or-map items rows i row [] lt ∙ ap items (sym read)
+
+pub row-length : (rows : List (Vec Bool)) (i : ℕ) (row : Vec Bool) → IsTable (rows_of rows) → i < length rows → row ≡ get_or rows i row → row.len ≡ length rows
+row-length rows i row table lt read =
+    let many = rows-many rows in
+    let is = ap length (row-items rows i row lt read) in
+    let own = table i (omega (arith, lt, many)) in
+    omega (arith, row.ok.0, many, is, own)
+
+pub said : (rows : List (Vec Bool)) (t u : ℕ) (row : Vec Bool) (x : Bool) → IsTable (rows_of rows) → IsNumber (length rows) t → IsNumber (length rows) u
+    → row ≡ get_or rows (u - 1) row → x ≡ get_or row.items (t - 1) x → x ≡ says (rows_of rows) t u
+said rows t u row x table seat other read here =
+    let lt : u - 1 < length rows = omega (arith, other) in
+    let long = row-length rows (u - 1) row table lt read in
+    get_or_read row.items (t - 1) x (omega (arith, long, row.ok.0, seat)) here false
+    ∙ sym (marked-at row.items t seat.0)
+    ∙ sym (ap (λ marks. is_marked marks t) (with_number-or (rows_of rows) u [] other.0 ∙ row-items rows (u - 1) row lt read))
+
+says_within : (rows : List (List Bool)) (t u : ℕ) → IsTable rows → IsNumber (length rows) u → Says rows t u → t ≤ length rows
+says_within rows t u table other is =
+    let within = marked_within (unwrap_or (with_number rows u) []) t is in
+    let row = ap length (with_number-or rows u [] other.0) in
+    let long = table (u - 1) (omega (arith, other)) in
+    omega (arith, within, row, long)
+
+-- ---- a search begins
+
+begun : (rows : List (List Bool)) (first : ℕ) (r : Reached) → r.seat.0 ≡ first → IsNumber (length rows) first
+    → IsSearch rows first (r ∷ []) (set (replicate (length rows) false) (first - 1) true)
+begun rows first r seat number =
+    let n = length rows in
+    let size = length-replicate n false in
+    let lt : first - 1 < length (replicate n false) = omega (arith, size, number) in
+    let sum = sum_by-set one_if_not (replicate n false) (first - 1) true false lt in
+    let was = ap one_if_not (get_or-replicate n (first - 1) false false (omega (arith, number))) in
+    let all = sum_by-replicate one_if_not n false in
+    let long = length-set (replicate n false) (first - 1) true in
+    record {
+      trail = record {
+        some = omega arith;
+        start = seat;
+        seats = λ i within. let zero : 0 ≡ i = omega (arith, within) in subst (λ k. IsNumber n (seat_in (r ∷ []) k)) zero (subst (IsNumber n) (sym seat) number);
+        greater = λ i some within. absurd (omega (arith, some, within));
+        earlier = λ i some within. absurd (omega (arith, some, within));
+        waits = λ i some within. absurd (omega (arith, some, within));
+      };
+      size = long ∙ size;
+      own = marked-set_same (replicate n false) (first - 1) lt first (omega (arith, number));
+      marked =
+          λ t is. elim (marked_before (replicate n false) (first - 1) lt t is) [
+            | inl e ↦ (0, omega arith, let same : first ≡ t = omega (arith, e, number) in seat ∙ same)
+            | inr was ↦ absurd (marked-none n t was)
+          ];
+      left = omega (arith, sum, was, all, long, size);
+    }
+
+pub begins : (rows : List (Vec Bool)) (first : SeatNo) (reached : List Reached) (r : Reached) (seen marks : List Bool) → IsNumber (length rows) first.0 → r.seat ≡ first
+    → reached ≡ [] ++ r ∷ [] → seen ≡ replicate (length rows) false → marks ≡ set seen (first.0 - 1) true → IsSearch (rows_of rows) first.0 reached marks
+begins rows first reached r seen marks number seat is blank marked =
+    let many = rows-many rows in
+    subst (λ (xs : List Reached). IsSearch (rows_of rows) first.0 xs marks) (sym is)
+    (subst (IsSearch (rows_of rows) first.0 (r ∷ []))
+    (sym (marked ∙ ap (λ xs. set xs (first.0 - 1) true) (blank ∙ ap (λ n. replicate n false) (sym many))))
+    (begun (rows_of rows) first.0 r (ap (λ (s : SeatNo). s.0) seat) (number.0, omega (arith, number, many))))
+
+-- ---- one more seat is reached
+
+module _ (rows : List (List Bool)) (first : ℕ) (reached : List Reached) (seen : List Bool) (s : IsSearch rows first reached seen) (place : ℕ) (at : place < length reached) (r : Reached) (i : ℕ)
+    (seat : r.seat.0 ≡ i + 1) (next : r.next ≡ place) (behind : first ≤ i) (within : i < length rows) (unseen : get_or seen i false ≡ false) (waits : Says rows (i + 1) (seat_in reached place)) where
+  more : length (reached ++ r ∷ []) ≡ length reached + 1
+  more = length-append reached (r ∷ [])
+
+  same-seat : (j : ℕ) → j < length reached → seat_in (reached ++ r ∷ []) j ≡ seat_in reached j
+  same-seat j lt = ap (λ (x : Reached). x.seat.0) (get_or_append_left reached (r ∷ []) nobody j lt)
+
+  same-next : (j : ℕ) → j < length reached → next_in (reached ++ r ∷ []) j ≡ next_in reached j
+  same-next j lt = ap (λ (x : Reached). x.next) (get_or_append_left reached (r ∷ []) nobody j lt)
+
+  new-seat : (j : ℕ) → j ≡ length reached → seat_in (reached ++ r ∷ []) j ≡ i + 1
+  new-seat j e = ap (seat_in (reached ++ r ∷ [])) e ∙ ap (λ (x : Reached). x.seat.0) (get_or-append_seam reached r [] nobody) ∙ seat
+
+  new-next : (j : ℕ) → j ≡ length reached → next_in (reached ++ r ∷ []) j ≡ place
+  new-next j e = ap (next_in (reached ++ r ∷ [])) e ∙ ap (λ (x : Reached). x.next) (get_or-append_seam reached r [] nobody) ∙ next
+
+  older : (j : ℕ) → j < length (reached ++ r ∷ []) → (j ≡ length reached → ⊥) → j < length reached
+  older j lt apart = omega (arith, more, lt, apart)
+
+  trail_more : IsTrail rows first (reached ++ r ∷ [])
+  trail_more = record {
+    some = omega (arith, more);
+    start = same-seat 0 s.trail.some ∙ s.trail.start;
+    seats =
+        λ j lt. elim (cases_eq j (length reached)) [
+          | inl e ↦ subst (IsNumber (length rows)) (sym (new-seat j e)) (omega arith, omega (arith, within))
+          | inr apart ↦ subst (IsNumber (length rows)) (sym (same-seat j (older j lt apart))) (s.trail.seats j (older j lt apart))
+        ];
+    greater =
+        λ j some lt. elim (cases_eq j (length reached)) [
+          | inl e ↦ omega (arith, new-seat j e, behind)
+          | inr apart ↦ omega (arith, same-seat j (older j lt apart), s.trail.greater j some (older j lt apart))
+        ];
+    earlier =
+        λ j some lt. elim (cases_eq j (length reached)) [
+          | inl e ↦ omega (arith, new-next j e, at)
+          | inr apart ↦ omega (arith, same-next j (older j lt apart), s.trail.earlier j some (older j lt apart))
+        ];
+    waits =
+        λ j some lt. elim (cases_eq j (length reached)) [
+          | inl e ↦ ap₂ (says rows) (new-seat j e) (ap (seat_in (reached ++ r ∷ [])) (new-next j e) ∙ same-seat place at) ∙ waits
+          | inr apart ↦ let lower = s.trail.earlier j some (older j lt apart) in
+            ap₂ (says rows) (same-seat j (older j lt apart))
+            (ap (seat_in (reached ++ r ∷ [])) (same-next j (older j lt apart)) ∙ same-seat (next_in reached j) (omega (arith, lower, older j lt apart)))
+            ∙ s.trail.waits j some (older j lt apart)
+        ];
+  }
+
+  lt : i < length seen
+  lt = omega (arith, within, s.size)
+
+  pub search_more : IsSearch rows first (reached ++ r ∷ []) (set seen i true)
+  search_more =
+      let long = length-set seen i true in
+      let sum = sum_by-set one_if_not seen i true false lt in
+      let was = ap one_if_not unseen in
+      record {
+        trail = trail_more;
+        size = long ∙ s.size;
+        own = marked_after seen i lt first s.own;
+        marked =
+            λ t is. elim (marked_before seen i lt t is) [
+              | inl e ↦ (length reached, omega (arith, more), new-seat (length reached) refl ∙ sym e)
+              | inr was ↦ let found = s.marked t was in (found.0, omega (arith, more, found.1), same-seat found.0 found.1 ∙ found.2)
+            ];
+        left = omega (arith, more, long, sum, was, s.left);
+      }
+
+  pub later_more : IsLater reached (reached ++ r ∷ []) seen (set seen i true)
+  later_more = record { longer = omega (arith, more); same = same-seat; stays = marked_after seen i lt }
+
+-- ---- the search goes on with those that wait for the seat at a place
+
+pub reaches_none : (rows : List (List Bool)) (first place : ℕ) (reached : List Reached) (seen : List Bool) (n : ℕ) → n ≤ first
+    → IsSearch rows first reached seen → Reaches rows first place n reached reached seen seen
+reaches_none rows first place reached seen n none s = record {
+  search = s;
+  keeps = record { longer = omega arith; same = λ i lt. refl; stays = λ t is. is };
+  all = λ t above below is. absurd (omega (arith, none, above, below));
+}
+
+-- one more is looked at
+module _ (rows : List (List Bool)) (first place n : ℕ) (reached later : List Reached) (seen marks : List Bool) (r : Reaches rows first place n reached later seen marks) where
+  all-more : (next : List Bool) → ((t : ℕ) → is_marked marks t ≡ true → is_marked next t ≡ true) → (Says rows (n + 1) (seat_in reached place) → is_marked next (n + 1) ≡ true)
+      → AreMarked rows first (n + 1) (seat_in reached place) next
+  all-more next stays own =
+      λ t above below is. elim (cases_eq t (n + 1)) [
+        | inl e ↦ subst (λ k. is_marked next k ≡ true) (sym e) (own (subst (λ k. Says rows k (seat_in reached place)) e is))
+        | inr apart ↦ stays t (r.all t above (omega (arith, below, apart)) is)
+      ]
+
+  -- it was marked before, or it doesn't wait
+  pub reaches_same : (Says rows (n + 1) (seat_in reached place) → is_marked marks (n + 1) ≡ true) → Reaches rows first place (n + 1) reached later seen marks
+  reaches_same own = record { search = r.search; keeps = r.keeps; all = all-more marks (λ t is. is) own }
+
+  pub marked-seen : get_or marks n false ≡ true → is_marked marks (n + 1) ≡ true
+  marked-seen is = let place : n + 1 - 1 ≡ n = omega arith in marked-at marks (n + 1) (omega arith) ∙ ap (λ k. get_or marks k false) place ∙ is
+
+  pub reaches_more : (x : Reached) → place < length reached → x.seat.0 ≡ n + 1 → x.next ≡ place → first ≤ n → n < length rows → get_or marks n false ≡ false
+      → Says rows (n + 1) (seat_in reached place) → Reaches rows first place (n + 1) reached (later ++ x ∷ []) seen (set marks n true)
+  reaches_more x at seat next behind within unseen waits =
+      let there : place < length later = omega (arith, r.keeps.longer, at) in
+      let goal : Says rows (n + 1) (seat_in later place) = ap (says rows (n + 1)) (r.keeps.same place at) ∙ waits in
+      let more = later_more rows first later marks r.search place there x n seat next behind within unseen goal in
+      let long : length reached ≤ length (later ++ x ∷ []) = omega (arith, more.longer, r.keeps.longer) in
+      record {
+        search = search_more rows first later marks r.search place there x n seat next behind within unseen goal;
+        keeps = record {
+          longer = long;
+          same = λ i lt. more.same i (omega (arith, lt, r.keeps.longer)) ∙ r.keeps.same i lt;
+          stays = λ t is. more.stays t (r.keeps.stays t is);
+        };
+        all = all-more (set marks n true) more.stays (λ is. marked-set_same marks n (omega (arith, within, r.search.size)) (n + 1) refl);
+      }
+
+-- ---- the way back from a place to the first seat
+
+-- these are the first seat, and behind it a queue of greater ones to the seat at this place
+pub record IsWay (rows : List (List Bool)) (reached : List Reached) (seats : List ℕ) (at : ℕ) : Type 0 where
+  pub others : List ℕ
+  pub is : seats ≡ seat_in reached 0 ∷ others
+  pub queue : IsQueue (Says rows) (seat_in reached 0) others (seat_in reached at)
+  pub all : list_all (nat_le (seat_in reached 0)) others ≡ true
+  pub within : at < length reached
+
+pub way_begins : (rows : List (List Bool)) (reached : List Reached) (seats : List SeatNo) (first : SeatNo) (at : ℕ) → seats ≡ [] ++ first ∷ [] → first.0 ≡ seat_in reached 0
+    → at < length reached → Says rows first.0 (seat_in reached at) → IsWay rows reached (seat_numbers seats) at
+way_begins rows reached seats first at is own lt waits = record {
+  others = [];
+  is = ap seat_numbers is ∙ ap (λ n. n ∷ []) own;
+  queue = subst (λ n. Says rows n (seat_in reached at)) own waits;
+  all = refl;
+  within = lt;
+}
+
+pub way_more : (rows : List (List Bool)) (reached : List Reached) (seats next : List SeatNo) (at : ℕ) (seat : SeatNo) → IsTrail rows (seat_in reached 0) reached
+    → IsWay rows reached (seat_numbers seats) at → 0 < at → seat.0 ≡ seat_in reached at → next ≡ seats ++ seat ∷ [] → IsWay rows reached (seat_numbers next) (next_in reached at)
+way_more rows reached seats next at seat trail way some own is =
+    let first = seat_in reached 0 in
+    let above = trail.greater at some way.within in
+    let earlier = trail.earlier at some way.within in
+    record {
+      others = way.others ++ seat_in reached at ∷ [];
+      is =
+          ap seat_numbers is ∙ map-append (λ (t : SeatNo). t.0) seats (seat ∷ []) ∙ ap (λ xs. xs ++ seat.0 ∷ []) way.is
+          ∙ ap (λ n. first ∷ (way.others ++ n ∷ [])) own;
+      queue =
+          queue_more (Says rows) first way.others (seat_in reached at) (seat_in reached (next_in reached at)) way.queue (trail.waits at some way.within);
+      all =
+          list_all-append (nat_le first) way.others (seat_in reached at ∷ [])
+          ∙ rw (way.all, le-leb first (seat_in reached at) (omega (arith, above))) refl;
+      within = omega (arith, earlier, way.within);
+    }
+
+pub way_ends : (rows : List (List Bool)) (reached : List Reached) (seats : List ℕ) (at : ℕ) → IsWay rows reached seats at → at ≡ 0
+    → IsCircle (Says rows) seats × (starts_with_least seats ≡ true)
+way_ends rows reached seats at way zero =
+    subst (λ xs. IsCircle (Says rows) xs × (starts_with_least xs ≡ true)) (sym way.is)
+    (subst (λ k. IsQueue (Says rows) (seat_in reached 0) way.others (seat_in reached k)) zero way.queue, way.all)
+
+-- ---- where no circle is found
+
+pub closed_more : (rows : List (List Bool)) (first place n : ℕ) (reached later : List Reached) (seen marks : List Bool) → IsTable rows → IsSearch rows first reached seen
+    → place < length reached → AreClosed rows first reached seen place → says rows (seat_in reached 0) (seat_in reached place) ≡ false
+    → n ≡ length rows → Reaches rows first place n reached later seen marks → AreClosed rows first later marks (place + 1)
+closed_more rows first place n reached later seen marks table s at closed off many r i below t waits from =
+    elim (cases_eq i place) [
+      | inl e ↦ here (ap (says rows t) (sym (r.keeps.same place at) ∙ ap (seat_in later) (sym e)) ∙ waits)
+      | inr apart ↦ before (omega (arith, below, apart))
+    ]
+  where
+    here : Says rows t (seat_in reached place) → (t ≡ first → ⊥) × (is_marked marks t ≡ true)
+    here is =
+        let own : t ≡ first → ⊥ = λ e. false≢true (sym off ∙ ap (λ n. says rows n (seat_in reached place)) (s.trail.start ∙ sym e) ∙ is) in
+        let most = says_within rows t (seat_in reached place) table (s.trail.seats place at) is in
+        (own, r.all t (omega (arith, from, own)) (omega (arith, most, many)) is)
+
+    before : i < place → (t ≡ first → ⊥) × (is_marked marks t ≡ true)
+    before lt =
+        let was = closed i lt t (ap (says rows t) (sym (r.keeps.same i (omega (arith, lt, at)))) ∙ waits) from in
+        (was.0, r.keeps.stays t was.1)
+
+pub no_circle : (rows : List (List Bool)) (first place : ℕ) (reached : List Reached) (seen : List Bool) → IsSearch rows first reached seen
+    → AreClosed rows first reached seen place → length reached ≤ place → IsCircleFrom rows first None
+no_circle rows first place reached seen s closed all =
+    none_from (Says rows) first (λ t. is_marked seen t ≡ true) s.own
+    (λ u t marked waits from.
+    let found = s.marked u marked in
+    closed found.0 (omega (arith, found.1, all)) t (ap (says rows t) found.2 ∙ waits) from)
+
+-- there are no more seats than rows
+pub reached-few : (rows : List (List Bool)) (first : ℕ) (reached : List Reached) (seen : List Bool) → IsSearch rows first reached seen → length reached ≤ length rows
+reached-few rows first reached seen s = omega (arith, s.left, s.size)
+
+-- what is read at a place
+pub seat-read : (reached : List Reached) (place : ℕ) (x : Reached) → place < length reached → x ≡ get_or reached place x → x.seat.0 ≡ seat_in reached place
+seat-read reached place x lt read = ap (λ (r : Reached). r.seat.0) (get_or_read reached place x lt read nobody)
+
+-- what the table doesn't say has any outcome
+pub not_said : (rows : List (List Bool)) (t u v : ℕ) (outcome : Type 0) → u ≡ v → says rows t u ≡ false → Says rows t v → outcome
+not_said rows t u v outcome same none is = absurd (false≢true (sym none ∙ ap (says rows t) same ∙ is))
+
+-- what is written back of marks that keep their number
+pub marks-back : (n : ℕ) (new old : List Bool) → n ≡ length old → length new ≡ length old → take n (new ++ drop (length new) old) ≡ new
+marks-back n new old size same =
+    ap (λ rest. take n (new ++ rest)) (drop_all (length new) old (omega (arith, same))) ∙ ap (take n) (append-nil new) ∙ take_all n new (omega (arith, size, same))

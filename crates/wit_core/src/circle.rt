@@ -1,0 +1,172 @@
+//! Circles of seats that wait for one another, by what is recorded: a shortest one from the least seat from which one starts.
+
+ghost use Rattle.std.specs.Prelude.{◌≡◌, ◌<◌, ◌≤◌, length, IfOk, IfErr, OnOk};
+ghost use Rattle.wit_model.specs.declared.faults.Fault.TheVariants.{OutOfMemory};
+ghost use Rattle.wit_model.specs.Rules.Circles.{waits_for, TellsCircle, circle_numbers};
+ghost use Rattle.wit_model.specs.Rules.Numbers.{IsNumber};
+ghost use Rattle.wit_model.specs.Rules.State.{state_of};
+ghost use Rattle.wit_core.specs.Searching.{waiting, all_waiting, rows_of, says, IsTable, seat_in, IsTrail, IsSearch, Reaches, IsClosing, IsCircleFrom};
+
+use crate::verifier::Verifier;
+use std::alloc::{AllocError, Global};
+use wit_model::{Fault, SeatNo};
+
+impl Verifier {
+    /// Seats that wait for one another in a circle, by what is recorded: each has asked for a lock that it doesn't hold and that the
+    /// next one holds, where one of the two modes is exclusive; and the last waits so for the first, which is the least of them.
+    /// `None` exactly where there is no such circle.
+    ///
+    /// # Errors
+    /// `OutOfMemory` alone.
+    pub fn wait_circle(&self) -> Result<Option<Vec<SeatNo>>, Fault>
+        ensures ok { IfOk result (λ c. TellsCircle (state_of self.now) (circle_numbers c)) }
+        ensures err { IfErr result (λ e. e ≡ OutOfMemory) }
+    {
+        let rows = self.all_waiting()?;
+        for place in 0..self.seats() {
+            if let Some(circle) = circle_from(self.alloc, &rows, SeatNo(place + 1))? {
+                return Ok(Some(circle));
+            }
+        }
+        Ok(None)
+    }
+
+    // For each seat, which seats wait for it.
+    fn all_waiting(&self) -> Result<Vec<Vec<bool>>, AllocError>
+        ensures { IfOk result (λ rows. rows_of rows.items ≡ all_waiting (waits_for (state_of self.now)) self.now.start.sizes.seats) }
+    {
+        let mut rows = Vec::new(self.alloc);
+        for place in 0..self.seats() {
+            rows.push(self.waiting(SeatNo(place + 1))?)?;
+        }
+        Ok(rows)
+    }
+
+    // Which seats wait for this one.
+    fn waiting(&self, other: SeatNo) -> Result<Vec<bool>, AllocError>
+        requires { IsNumber self.now.start.sizes.seats other.0 }
+        ensures { IfOk result (λ row. row.items ≡ waiting (waits_for (state_of self.now)) self.now.start.sizes.seats other.0) }
+    {
+        let mut row = Vec::new(self.alloc);
+        for place in 0..self.seats() {
+            row.push(self.waits(SeatNo(place + 1), other))?;
+        }
+        Ok(row)
+    }
+
+    // Whether a seat waits for another one by what is recorded.
+    fn waits(&self, seat: SeatNo, other: SeatNo) -> bool
+        requires seat { IsNumber self.now.start.sizes.seats seat.0 }
+        requires other { IsNumber self.now.start.sizes.seats other.0 }
+        ensures { result ≡ waits_for (state_of self.now) seat.0 other.0 }
+    {
+        let Some(request) = self.request(seat) else {
+            return false;
+        };
+        if self.held(seat, request.lock).is_some() || other.0 == seat.0 {
+            return false;
+        }
+        match self.held(other, request.lock) {
+            Some(held) => held.mode.is_exclusive() || request.mode.is_exclusive(),
+            None => false,
+        }
+    }
+}
+
+// Whether such a table says that a seat waits for another.
+fn says(rows: &[Vec<bool>], seat: SeatNo, other: SeatNo) -> bool
+    requires table { IsTable (rows_of rows.now) }
+    requires seat { IsNumber (length rows.now) seat.0 }
+    requires other { IsNumber (length rows.now) other.0 }
+    ensures { result ≡ says (rows_of rows.now) seat.0 other.0 }
+{
+    rows[other.0 as usize - 1][seat.0 as usize - 1]
+}
+
+// A seat from which the first one is reached: it waits for the seat that was reached as the `next`-th.
+#[derive(Clone, Copy)]
+struct Reached {
+    seat: SeatNo,
+    next: usize,
+}
+
+// A shortest circle that starts with this seat and has none before it.
+fn circle_from(
+    alloc: Global,
+    rows: &[Vec<bool>],
+    first: SeatNo,
+) -> Result<Option<Vec<SeatNo>>, AllocError>
+    requires table { IsTable (rows_of rows.now) }
+    requires few { length rows.now ≤ 256 }
+    requires first { IsNumber (length rows.now) first.0 }
+    ensures { IfOk result (IsCircleFrom (rows_of rows.now) first.0) }
+{
+    let mut seen = vec![in alloc; false; rows.len()]?;
+    seen[first.0 as usize - 1] = true;
+    let mut reached = Vec::new(alloc);
+    reached.push(Reached {
+        seat: first,
+        next: 0,
+    })?;
+    for place in 0..rows.len() {
+        if place == reached.len() {
+            return Ok(None);
+        }
+        if let Some(circle) = circle_at(alloc, rows, &reached, place)? {
+            return Ok(Some(circle));
+        }
+        reach(rows, &mut reached, &mut seen, first, place)?;
+    }
+    Ok(None)
+}
+
+// Where the first seat waits for the one at this place: the first, and the queue from there back to it.
+fn circle_at(
+    alloc: Global,
+    rows: &[Vec<bool>],
+    reached: &[Reached],
+    place: usize,
+) -> Result<Option<Vec<SeatNo>>, AllocError>
+    requires table { IsTable (rows_of rows.now) }
+    requires trail { IsTrail (rows_of rows.now) (seat_in reached.now 0) reached.now }
+    requires place { place < length reached.now }
+    ensures { IfOk result (IsClosing (rows_of rows.now) reached.now place) }
+{
+    let first = reached[0].seat;
+    if !says(rows, first, reached[place].seat) {
+        return Ok(None);
+    }
+    let mut circle = Vec::new(alloc);
+    circle.push(first)?;
+    let mut at = place;
+    while at > 0 {
+        circle.push(reached[at].seat)?;
+        at = reached[at].next;
+    }
+    Ok(Some(circle))
+}
+
+// Reaches all greater seats that wait for the one at this place and weren't seen.
+fn reach(
+    rows: &[Vec<bool>],
+    reached: &mut Vec<Reached>,
+    seen: &mut [bool],
+    first: SeatNo,
+    place: usize,
+) -> Result<(), AllocError>
+    requires table { IsTable (rows_of rows.now) }
+    requires few { length rows.now ≤ 256 }
+    requires search { IsSearch (rows_of rows.now) first.0 reached.old.items seen.old }
+    requires place { place < length reached.old.items }
+    ensures { OnOk result (Reaches (rows_of rows.now) first.0 place (length rows.now) reached.old.items reached.new.items seen.old seen.new) }
+{
+    let goal = reached[place].seat;
+    for index in first.0..rows.len() as u16 {
+        let seat = SeatNo(index + 1);
+        if !seen[index as usize] && says(rows, seat, goal) {
+            reached.push(Reached { seat, next: place })?;
+            seen[index as usize] = true;
+        }
+    }
+    Ok(())
+}
