@@ -20,9 +20,7 @@ use wit_held::{
     VecLists, assert_is, forget, held, norelease, record, recursion, releaseok, set_mode,
 };
 use wit_model::chunks::Lists;
-use wit_model::{
-    AssertAnswer, Fault, Instance, LockAssert, LockNo, Mode, Request, SeatNo, Watch,
-};
+use wit_model::{AssertAnswer, Fault, Instance, LockAssert, LockNo, Mode, Request, SeatNo, Watch};
 
 /// The lists in which the seats hold their locks.
 pub type Chunked = VecLists;

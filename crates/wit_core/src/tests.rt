@@ -603,7 +603,10 @@ fn assertions_and_warnings(rt: HostRuntime) -> Result<(), Fail> {
     assert_eq!(rt; warned(&verifier, 1, None), Ok(2));
     assert_eq!(rt; warned(&verifier, 1, Some(LockNo(2))), Ok(1));
     assert_eq!(rt; warned(&verifier, 2, None), Ok(0));
-    assert_eq!(rt; warned(&verifier, 1, Some(LockNo(3))), Err(Fault::UnknownLock));
+    assert_eq!(rt;
+        warned(&verifier, 1, Some(LockNo(3))),
+        Err(Fault::UnknownLock)
+    );
     Ok(())
 }
 
