@@ -17,7 +17,7 @@ use Rattle.wit_model.specs.declared.locks.Watch.TheVariants.{On}
 use Rattle.wit_model.specs.declared.calls.NewLock.{NewLock}
 use Rattle.wit_model.specs.declared.calls.Request.{Request}
 use Rattle.wit_model.specs.declared.calls.Call.{Call}
-use Rattle.wit_model.specs.declared.calls.Call.TheVariants.{Init, Check, Note, NoteTry, GiveUp, Unlock, SetWatch, Destroy}
+use Rattle.wit_model.specs.declared.calls.Call.TheVariants.{Init, Check, Note, NoteTry, GiveUp, Unlock, SetWatch, Destroy, DefineOrder}
 use Rattle.wit_model.specs.declared.calls.Reply.{Reply}
 use Rattle.wit_model.specs.declared.calls.Reply.TheVariants.{Made, Unlocked, Done}
 use Rattle.wit_model.specs.declared.calls.Reply.TheVariants as reply
@@ -49,6 +49,10 @@ use Rattle.wit_core.specs.declared.verifier.Verifier.TheInside.{Inside}
 use Rattle.wit_core.specs.declared.acquiring.Acquisition.{Acquisition}
 use Rattle.wit_core.specs.declared.acquiring.Acquisition.TheVariants.{Recorded, Exhausted, Unrecorded}
 use Rattle.wit_core.specs.Acquiring.{reply_to, owed_after, acquisition, watch_then, row_then, taken}
+use Rattle.wit_core.specs.declared.defining.Definition.{Definition}
+use Rattle.wit_core.specs.declared.defining.Definition.TheVariants.{Standing}
+use Rattle.wit_core.specs.declared.defining.Definition.TheVariants as definition
+use Rattle.wit_core.specs.Defining.{reply_of, with_defined}
 use Rattle.wit_core.specs.Fresh.{start_of}
 use Rattle.wit_core.specs.Held.{seat_view}
 use Rattle.wit_core.specs.Journal.{Journal}
@@ -82,6 +86,11 @@ pub owed-few : (a : Acquisition) → owed_after a ≤ 1
 owed-few Recorded = omega arith
 owed-few Exhausted = omega arith
 owed-few Unrecorded = omega arith
+
+-- a reply to a definition is logged
+pub definition-logged : (d : Definition) → is_logged (reply_of d) ≡ true
+definition-logged Standing = refl
+definition-logged (definition.Adopted p c) = refl
 
 -- a reply to an acquisition is logged
 pub reply-logged : (a : Acquisition) → is_logged (reply_to a) ≡ true
@@ -370,6 +379,29 @@ module _ (v : Inside) (k : IsKept v) (s : Story) (seen : story_in v ≡ s) where
       (with_changed-at v.known.live l.0 false made.0 ∙ ap (λ bs. set bs (l.0 - 1) false) k.live
       ∙ flags-destroyed (length v.known.known.locks) l.0 (destroyed_of (history_in v)) made.0 (omega (arith, made.1, size)))
       (seats-same (start_in v) v.known.files (history_in v) v.seats seats-now t in_row.0 in_row.1 (Destroy l) Done sane refl refl)
+      watch-now (omega (arith, same, owed_now)) refl
+
+  -- an order that is defined
+  pub leaves_define : (t : ℕ) (a b : LockNo) (d : Definition) → answer_of s t (DefineOrder a b) ≡ Ok (reply_of d)
+      → Leaves v t (DefineOrder a b) (reply_of d) (with_defined v.known.known d) v.known.live v.seats v.watch (v.log.owed + 0)
+  leaves_define t a b Standing ok =
+      let sane = sane_next t (DefineOrder a b) reply.Known ok in
+      let in_row = within t (DefineOrder a b) reply.Known ok in
+      let same = owed-same v.limits.seats t (DefineOrder a b) reply.Known (history_in v) sane in_row.0 in_row.1 refl refl in
+      left-by t (DefineOrder a b) reply.Known _ _ _ _ _
+      (known-now ∙ known-same (start_in v) (history_in v) t (DefineOrder a b) reply.Known refl refl refl refl)
+      k.live
+      (seats-same (start_in v) v.known.files (history_in v) v.seats seats-now t in_row.0 in_row.1 (DefineOrder a b) reply.Known sane refl refl)
+      watch-now (omega (arith, same, owed_now)) refl
+  leaves_define t a b (definition.Adopted p c) ok =
+      let sane = sane_next t (DefineOrder a b) (reply.Adopted p c) ok in
+      let in_row = within t (DefineOrder a b) (reply.Adopted p c) ok in
+      let same = owed-same v.limits.seats t (DefineOrder a b) (reply.Adopted p c) (history_in v) sane in_row.0 in_row.1 refl refl in
+      left-by t (DefineOrder a b) (reply.Adopted p c) _ _ _ _ _
+      (ap (λ (x : Known). with_defined x (definition.Adopted p c)) known-now
+      ∙ sym (same_locks (with_defined (known_of (start_in v) (history_in v)) (definition.Adopted p c)) _ (append-nil (typed_locks (start_in v) (history_in v)))))
+      k.live
+      (seats-same (start_in v) v.known.files (history_in v) v.seats seats-now t in_row.0 in_row.1 (DefineOrder a b) (reply.Adopted p c) sane refl refl)
       watch-now (omega (arith, same, owed_now)) refl
 
   pub watch_room : (t : ℕ) (w : Watch) (log : Journal) → answer_of s t (SetWatch w) ≡ Ok Done → log ≡ record v.log { spare = log.spare }

@@ -3,6 +3,7 @@
 
 mod assert_lock;
 mod check;
+mod define_order;
 mod destroy;
 mod give_up;
 mod init;
