@@ -1,3 +1,4 @@
+pub mod Apart
 pub mod Apt
 pub mod Enrolling
 pub mod Entering

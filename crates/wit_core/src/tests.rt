@@ -110,6 +110,32 @@ const REVERSAL_OF_A_PATH: [(Step, Answer); 18] = [
     (Step::Check(2, 1, 6), Answer::Reversal(3, 5, 1, 6)),
 ];
 
+/// Each of two seats asks for the lock that the other one holds.
+const CROSSED: [(Step, Answer); 8] = [
+    (Step::Init("A", None), Answer::Made(1)),
+    (Step::Init("B", None), Answer::Made(2)),
+    (Step::Check(1, 1, 1), Answer::Pass),
+    (Step::Note(1, 1), Answer::Recorded),
+    (Step::Check(2, 2, 2), Answer::Pass),
+    (Step::Note(2, 2), Answer::Recorded),
+    (Step::Check(1, 2, 3), Answer::Adopted(1, 2)),
+    (Step::Check(2, 1, 4), Answer::Reversal(2, 2, 1, 4)),
+];
+
+/// Seats 1 and 2 share R, seat 3 holds A; then seat 1 asks for A, and seat 3 for R.
+const SHARED: [(Step, Answer); 10] = [
+    (Step::Init("A", None), Answer::Made(1)),
+    (Step::Rw("R", None), Answer::Made(2)),
+    (Step::Share(1, 2, 1), Answer::Pass),
+    (Step::Note(1, 2), Answer::Recorded),
+    (Step::Share(2, 2, 2), Answer::Pass),
+    (Step::Note(2, 2), Answer::Recorded),
+    (Step::Check(3, 1, 3), Answer::Pass),
+    (Step::Note(3, 1), Answer::Recorded),
+    (Step::Check(1, 1, 4), Answer::Adopted(2, 1)),
+    (Step::Check(3, 2, 5), Answer::Reversal(1, 3, 2, 5)),
+];
+
 /// A log of five entries is full.
 const FULL_LOG: [(Step, Answer); 7] = [
     (Step::Init("a", None), Answer::Made(1)),
@@ -646,6 +672,32 @@ fn assertions_and_warnings(rt: HostRuntime) -> Result<(), Fail> {
         warned(&verifier, 1, Some(LockNo(3))),
         Err(Fault::UnknownLock)
     );
+    Ok(())
+}
+
+// The numbers of the seats of a circle, with 0 for each place behind its end.
+fn circle_of(verifier: &Verifier) -> Result<[u16; 3], Fault> {
+    let mut seats = [0; 3];
+    if let Some(circle) = verifier.wait_circle()? {
+        for (place, seat) in circle.iter().enumerate().take(3) {
+            seats[place] = seat.0;
+        }
+    }
+    Ok(seats)
+}
+
+#[test]
+fn circles(rt: HostRuntime) -> Result<(), Fail> {
+    let mut verifier = start(rt.alloc(), (2, 8, 4, 64), "", "")?;
+    let _number = file(&mut verifier, "f")?;
+    assert_eq!(rt; other_answer(&mut verifier, &CROSSED[..7]), None);
+    assert_eq!(rt; circle_of(&verifier)?, [0, 0, 0]);
+    assert_eq!(rt; other_answer(&mut verifier, &CROSSED[7..]), None);
+    assert_eq!(rt; circle_of(&verifier)?, [1, 2, 0]);
+    let mut verifier = start(rt.alloc(), (3, 8, 6, 64), "", "")?;
+    let _number = file(&mut verifier, "f")?;
+    assert_eq!(rt; other_answer(&mut verifier, &SHARED), None);
+    assert_eq!(rt; circle_of(&verifier)?, [1, 3, 0]);
     Ok(())
 }
 
