@@ -184,9 +184,9 @@ module _ (rows : List (List Bool)) (first : ℕ) (reached : List Reached) (seen 
         λ j some lt. elim (cases_eq j (length reached)) [
           | inl e ↦ ap₂ (says rows) (new-seat j e) (ap (seat_in (reached ++ r ∷ [])) (new-next j e) ∙ same-seat place at) ∙ waits
           | inr apart ↦ let lower = s.trail.earlier j some (older j lt apart) in
-            ap₂ (says rows) (same-seat j (older j lt apart))
-            (ap (seat_in (reached ++ r ∷ [])) (same-next j (older j lt apart)) ∙ same-seat (next_in reached j) (omega (arith, lower, older j lt apart)))
-            ∙ s.trail.waits j some (older j lt apart)
+              ap₂ (says rows) (same-seat j (older j lt apart))
+              (ap (seat_in (reached ++ r ∷ [])) (same-next j (older j lt apart)) ∙ same-seat (next_in reached j) (omega (arith, lower, older j lt apart)))
+              ∙ s.trail.waits j some (older j lt apart)
         ];
   }
 

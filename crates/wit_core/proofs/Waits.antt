@@ -135,11 +135,12 @@ module _ (s : Story) (rows : List (Vec Bool)) (is : rows_of rows ≡ all_waiting
   rows-count = sym (rows-many rows) ∙ ap length is ∙ count-rows (waits_for (state_of s)) s.start.sizes.seats
 
   pub tells_circle : (first : ℕ) (seats : Vec SeatNo) → IsCircleFrom (rows_of rows) first (Some seats) → TellsCircle (state_of s) (Some (seat_numbers seats.items))
-  tells_circle first seats found =
-      (circle_likewise (Says (rows_of rows)) (Waits (state_of s))
-      (λ t u says. says_true (waits_for (state_of s)) s.start.sizes.seats t u (subst (λ table. Says table t u) is says))
-      (seat_numbers seats.items) found.0,
-      found.1)
+  tells_circle first seats found = (
+    circle_likewise (Says (rows_of rows)) (Waits (state_of s))
+        (λ t u says. says_true (waits_for (state_of s)) s.start.sizes.seats t u (subst (λ table. Says table t u) is says))
+        (seat_numbers seats.items) found.0,
+    found.1,
+  )
 
   pub tells_none : ((t : ℕ) → 0 < t → t ≤ s.start.sizes.seats → IsCircleFrom (rows_of rows) t None) → TellsCircle (state_of s) None
   tells_none none seats circle =

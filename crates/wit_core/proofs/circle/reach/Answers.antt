@@ -14,18 +14,18 @@ loop-index-preserved c =
     let is : c.index.result.now.seat.0 ≡ seat_in old place = seat-read old place c.index.result.now c.requires.place c.index.ensures in
     elim c.if-not-seen-index.branch [
       | then-not-seen-index+then-says+in_ok-push w ↦
-        rw (w.reached-is, w.seen-is)
-        (rw w.in_ok-push.ensures.items
-        (reaches_more rows first place n old c.loop-index.reached.items c.args.seen.now c.loop-index.seen c.loop-index.invariant _ c.requires.place refl refl
-        (omega arith) (omega (arith, rows-many c.args.rows.now)) w.if-not-seen-index.true (ap (says rows (n + 1)) (sym is) ∙ sym w.says.ensures ∙ w.if-says.true)))
+          rw (w.reached-is, w.seen-is)
+          (rw w.in_ok-push.ensures.items
+          (reaches_more rows first place n old c.loop-index.reached.items c.args.seen.now c.loop-index.seen c.loop-index.invariant _ c.requires.place refl refl
+          (omega arith) (omega (arith, rows-many c.args.rows.now)) w.if-not-seen-index.true (ap (says rows (n + 1)) (sym is) ∙ sym w.says.ensures ∙ w.if-says.true)))
       | else-not-seen-index w ↦ elim w.else-not-seen-index.branch [
         | else-not-seen-index-via-then-not-seen-index+else-says w' ↦
-          rw (w.reached-is, w.seen-is)
-          (reaches_same rows first place n old c.loop-index.reached.items c.args.seen.now c.loop-index.seen c.loop-index.invariant
-          (not_said rows (n + 1) c.index.result.now.seat.0 (seat_in old place) _ is (sym w'.says.ensures ∙ w'.if-says.false)))
+            rw (w.reached-is, w.seen-is)
+            (reaches_same rows first place n old c.loop-index.reached.items c.args.seen.now c.loop-index.seen c.loop-index.invariant
+            (not_said rows (n + 1) c.index.result.now.seat.0 (seat_in old place) _ is (sym w'.says.ensures ∙ w'.if-says.false)))
         | else-not-seen-index-via-else-not-seen-index w' ↦
-          rw (w.reached-is, w.seen-is)
-          (reaches_same rows first place n old c.loop-index.reached.items c.args.seen.now c.loop-index.seen c.loop-index.invariant
-          (λ waits. marked-seen rows first place n old c.loop-index.reached.items c.args.seen.now c.loop-index.seen c.loop-index.invariant w'.if-not-seen-index.false))
+            rw (w.reached-is, w.seen-is)
+            (reaches_same rows first place n old c.loop-index.reached.items c.args.seen.now c.loop-index.seen c.loop-index.invariant
+            (λ waits. marked-seen rows first place n old c.loop-index.reached.items c.args.seen.now c.loop-index.seen c.loop-index.invariant w'.if-not-seen-index.false))
       ]
     ]
