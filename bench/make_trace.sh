@@ -11,8 +11,11 @@
 #   random    orders among 1,023 types in a random sequence, each from the lower number to the higher
 #   reports   a chain of 256 types, and then reversals whose established orders are paths of up to 255 steps
 #   steps     a chain of 1,023 types, and then reversals whose established orders are paths of 100 to 109 steps
+#   orders    every pair of 1,023 types is defined as an order, the nearest last
+#   ring      256 seats, each of which holds a mutex and asks for the next one's: a circle of them all
+#   queue     the same, but that the last one asks for nothing: no circle
 # A second word asks for another number of rounds, or for the shortest path in `reports` and the longest in `steps`.
-# Only these two have anything to report.
+# Only these two and the ring have anything to report.
 name=${1:?which trace?}
 exec awk -v name="$name" -v rounds="${2:-0}" '
     function times(usual) {
@@ -134,6 +137,24 @@ exec awk -v name="$name" -v rounds="${2:-0}" '
             for (lock = 1; lock + distance <= 1023; lock++)
                 pair(lock + distance, lock)
     }
+    function orders(distance, lock) {
+        header(1, 1023, 1023)
+        mutexes(1023)
+        for (distance = 1022; distance >= 1; distance--)
+            for (lock = 1; lock + distance <= 1023; lock++)
+                print "define 1 " lock " " lock + distance
+    }
+    # Each seat asks for the lock of the next one; the last one, in a ring, for that of the first.
+    function waits(is_ring, seat) {
+        header(256, 256, 256)
+        mutexes(256)
+        for (seat = 1; seat <= 256; seat++)
+            take(seat, seat, "waits.c")
+        for (seat = 1; seat < 256; seat++)
+            print "check " seat " " seat + 1 " x n waits.c:" seat
+        if (is_ring)
+            print "check 256 1 x n waits.c:256"
+    }
     BEGIN {
         if (name == "hot") {
             header(2, 8, 8)
@@ -157,6 +178,12 @@ exec awk -v name="$name" -v rounds="${2:-0}" '
             reports()
         else if (name == "steps")
             steps()
+        else if (name == "orders")
+            orders()
+        else if (name == "ring")
+            waits(1)
+        else if (name == "queue")
+            waits(0)
         else {
             print "make_trace: no trace is called " name > "/dev/stderr"
             exit 2

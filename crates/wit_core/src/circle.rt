@@ -86,14 +86,14 @@ fn says(rows: &[Vec<bool>], seat: SeatNo, other: SeatNo) -> bool
     rows[other.0 as usize - 1][seat.0 as usize - 1]
 }
 
-// A seat from which the first one is reached: it waits for the seat that was reached as the `next`-th.
+// A seat that leads to the first one: it waits for the seat at the place `next` among those reached.
 #[derive(Clone, Copy)]
 struct Reached {
     seat: SeatNo,
     next: usize,
 }
 
-// A shortest circle that starts with this seat and has none before it.
+// A shortest circle that starts with this seat and goes through greater ones: the seats that lead to it are reached one after the other.
 fn circle_from(
     alloc: Global,
     rows: &[Vec<bool>],

@@ -4,8 +4,8 @@ use crate::{StartError, Verifier};
 use std::alloc::Global;
 use std::test::Fail;
 use wit_model::{
-    Adoption, Class, Fault, FileNo, Limits, LockFlags, LockNo, Mode, OpFlags, Origin, Reply,
-    SeatNo, Site, TypeNo, Watch,
+    Adoption, AssertAnswer, Class, Fault, FileNo, Limits, LockAssert, LockFlags, LockNo, Mode,
+    OpFlags, Origin, Reply, SeatNo, Site, TypeNo, WarnFlags, Watch,
 };
 
 /// A call. Its numbers are those of a seat, a lock and a line.
@@ -21,6 +21,10 @@ enum Step {
     Try(u16, u32, u32),
     GiveUp(u16, u32),
     Unlock(u16, u32),
+    Upgrade(u16, u32),
+    Downgrade(u16, u32),
+    NoRelease(u16, u32),
+    ReleaseOk(u16, u32),
     Watch(u16, Watch),
 }
 
@@ -40,6 +44,7 @@ enum Answer {
     Unrecorded,
     Unlocked,
     Done,
+    Known,
     Ignored,
     Refused(Fault),
 }
@@ -101,6 +106,32 @@ const REVERSAL_OF_A_PATH: [(Step, Answer); 18] = [
     (Step::Check(2, 3, 5), Answer::Pass),
     (Step::Note(2, 3), Answer::Recorded),
     (Step::Check(2, 1, 6), Answer::Reversal(3, 5, 1, 6)),
+];
+
+/// Each of two seats asks for the lock that the other one holds.
+const CROSSED: [(Step, Answer); 8] = [
+    (Step::Init("A", None), Answer::Made(1)),
+    (Step::Init("B", None), Answer::Made(2)),
+    (Step::Check(1, 1, 1), Answer::Pass),
+    (Step::Note(1, 1), Answer::Recorded),
+    (Step::Check(2, 2, 2), Answer::Pass),
+    (Step::Note(2, 2), Answer::Recorded),
+    (Step::Check(1, 2, 3), Answer::Adopted(1, 2)),
+    (Step::Check(2, 1, 4), Answer::Reversal(2, 2, 1, 4)),
+];
+
+/// Seats 1 and 2 share R, seat 3 holds A; then seat 1 asks for A, and seat 3 for R.
+const SHARED: [(Step, Answer); 10] = [
+    (Step::Init("A", None), Answer::Made(1)),
+    (Step::Rw("R", None), Answer::Made(2)),
+    (Step::Share(1, 2, 1), Answer::Pass),
+    (Step::Note(1, 2), Answer::Recorded),
+    (Step::Share(2, 2, 2), Answer::Pass),
+    (Step::Note(2, 2), Answer::Recorded),
+    (Step::Check(3, 1, 3), Answer::Pass),
+    (Step::Note(3, 1), Answer::Recorded),
+    (Step::Check(1, 1, 4), Answer::Adopted(2, 1)),
+    (Step::Check(3, 2, 5), Answer::Reversal(1, 3, 2, 5)),
 ];
 
 /// A log of five entries is full.
@@ -210,6 +241,35 @@ const TRIES: [(Step, Answer); 20] = [
     (Step::GiveUp(1, 4), Answer::Done),
     (Step::Try(1, 3, 8), Answer::Recorded),
     (Step::Check(1, 1, 9), Answer::Refused(Fault::SleepUnderSpin)),
+];
+
+/// A lock is turned to the other mode and back, and one is kept from its release.
+const TURNS: [(Step, Answer); 19] = [
+    (Step::Rw("a", None), Answer::Made(1)),
+    (Step::Init("b", None), Answer::Made(2)),
+    (Step::Check(1, 1, 1), Answer::Pass),
+    (Step::Note(1, 1), Answer::Recorded),
+    (
+        Step::Upgrade(1, 1),
+        Answer::Refused(Fault::UpgradeOfExclusive),
+    ),
+    (Step::Downgrade(1, 1), Answer::Done),
+    (
+        Step::Downgrade(1, 1),
+        Answer::Refused(Fault::DowngradeOfShared),
+    ),
+    (Step::Unlock(1, 1), Answer::Refused(Fault::ExclusiveUnlock)),
+    (Step::Upgrade(1, 1), Answer::Done),
+    (Step::Unlock(1, 1), Answer::Unlocked),
+    (Step::Upgrade(1, 1), Answer::Refused(Fault::NotLocked)),
+    (Step::Upgrade(1, 2), Answer::Refused(Fault::NotUpgradable)),
+    (Step::Check(1, 2, 2), Answer::Pass),
+    (Step::Note(1, 2), Answer::Recorded),
+    (Step::NoRelease(1, 2), Answer::Done),
+    (Step::Unlock(1, 2), Answer::Refused(Fault::ForbiddenUnlock)),
+    (Step::ReleaseOk(1, 2), Answer::Done),
+    (Step::Unlock(1, 2), Answer::Unlocked),
+    (Step::NoRelease(1, 2), Answer::Refused(Fault::NotLocked)),
 ];
 
 /// Where less is watched, no order is checked, and what is held is recorded still.
@@ -361,6 +421,10 @@ fn call(verifier: &mut Verifier, step: Step) -> Result<Reply, Fault> {
         Step::GiveUp(seat, lock) => verifier.give_up(SeatNo(seat), LockNo(lock)),
         Step::Watch(seat, watch) => verifier.set_watch(SeatNo(seat), watch),
         Step::Unlock(seat, lock) => verifier.unlock(SeatNo(seat), LockNo(lock), Mode::Exclusive),
+        Step::Upgrade(seat, lock) => verifier.upgrade(SeatNo(seat), LockNo(lock)),
+        Step::Downgrade(seat, lock) => verifier.downgrade(SeatNo(seat), LockNo(lock)),
+        Step::NoRelease(seat, lock) => verifier.norelease(SeatNo(seat), LockNo(lock)),
+        Step::ReleaseOk(seat, lock) => verifier.releaseok(SeatNo(seat), LockNo(lock)),
     }
 }
 
@@ -412,6 +476,7 @@ fn answer_of(reply: &Reply) -> Answer {
         Reply::Unrecorded => Answer::Unrecorded,
         Reply::Unlocked => Answer::Unlocked,
         Reply::Done => Answer::Done,
+        Reply::Known => Answer::Known,
         Reply::Ignored => Answer::Ignored,
     }
 }
@@ -526,6 +591,74 @@ fn programs(rt: HostRuntime) -> Result<(), Fail> {
     assert_eq!(rt; done, (None, make_counts(5, 2, 1)));
     let done = program(alloc, 64, "", &TRIES)?;
     assert_eq!(rt; done, (None, make_counts(19, 1, 1)));
+    let done = program(alloc, 64, "", &TURNS)?;
+    assert_eq!(rt; done, (None, make_counts(12, 0, 0)));
+    Ok(())
+}
+
+/// What an assertion of a seat comes to.
+fn asserted(
+    verifier: &Verifier,
+    seat: u16,
+    lock: u32,
+    flags: LockAssert,
+) -> Result<AssertAnswer, Fault> {
+    verifier.assert_lock(SeatNo(seat), LockNo(lock), flags)
+}
+
+/// Of how many locks a seat is warned, none of them allowed.
+fn warned(verifier: &Verifier, seat: u16, named: Option<LockNo>) -> Result<usize, Fault> {
+    verifier.warn(SeatNo(seat), named, WarnFlags(0))
+}
+
+#[test]
+fn assertions_and_warnings(rt: HostRuntime) -> Result<(), Fail> {
+    let mut verifier = start(rt.alloc(), (2, 8, 4, 64), "", "")?;
+    let _number = file(&mut verifier, "f")?;
+    assert_eq!(rt; other_answer(&mut verifier, &REVERSAL[..6]), None);
+    for (seat, lock, flags, answer) in [
+        (1, 1, LockAssert::LOCKED, Ok(AssertAnswer::Holds)),
+        (1, 2, LockAssert::SLOCKED, Ok(AssertAnswer::IsExclusive)),
+        (2, 1, LockAssert::LOCKED, Ok(AssertAnswer::IsNotLocked)),
+        (3, 1, LockAssert::LOCKED, Err(Fault::UnknownSeat)),
+        (1, 3, LockAssert::LOCKED, Err(Fault::UnknownLock)),
+    ] {
+        let told = asserted(&verifier, seat, lock, flags);
+        assert_eq!(rt; told, answer, "of lock {lock} by seat {seat}");
+    }
+    assert_eq!(rt; warned(&verifier, 1, None), Ok(2));
+    assert_eq!(rt; warned(&verifier, 1, Some(LockNo(2))), Ok(1));
+    assert_eq!(rt; warned(&verifier, 2, None), Ok(0));
+    assert_eq!(rt;
+        warned(&verifier, 1, Some(LockNo(3))),
+        Err(Fault::UnknownLock)
+    );
+    Ok(())
+}
+
+// The numbers of the seats of a circle, with 0 for each place behind its end.
+fn circle_of(verifier: &Verifier) -> Result<[u16; 3], Fault> {
+    let mut seats = [0; 3];
+    if let Some(circle) = verifier.wait_circle()? {
+        for (place, seat) in circle.iter().enumerate().take(3) {
+            seats[place] = seat.0;
+        }
+    }
+    Ok(seats)
+}
+
+#[test]
+fn circles(rt: HostRuntime) -> Result<(), Fail> {
+    let mut verifier = start(rt.alloc(), (2, 8, 4, 64), "", "")?;
+    let _number = file(&mut verifier, "f")?;
+    assert_eq!(rt; other_answer(&mut verifier, &CROSSED[..7]), None);
+    assert_eq!(rt; circle_of(&verifier)?, [0, 0, 0]);
+    assert_eq!(rt; other_answer(&mut verifier, &CROSSED[7..]), None);
+    assert_eq!(rt; circle_of(&verifier)?, [1, 2, 0]);
+    let mut verifier = start(rt.alloc(), (3, 8, 6, 64), "", "")?;
+    let _number = file(&mut verifier, "f")?;
+    assert_eq!(rt; other_answer(&mut verifier, &SHARED), None);
+    assert_eq!(rt; circle_of(&verifier)?, [1, 3, 0]);
     Ok(())
 }
 

@@ -1,2 +1,5 @@
 pub mod LockTypes
 pub mod Written
+pub mod HeldLines
+pub mod Laid
+pub mod ViewLines

@@ -60,7 +60,7 @@ pub fn put_lock(
     Ok(())
 }
 
-fn class_words(class: Class) -> &'static str
+pub fn class_words(class: Class) -> &'static str
     ensures { result.now ≡ class_words class }
 {
     match class {
@@ -72,7 +72,7 @@ fn class_words(class: Class) -> &'static str
 }
 
 // What stands under a number.
-fn lock_name(verifier: &Verifier, lock: LockNo) -> &str
+pub fn lock_name(verifier: &Verifier, lock: LockNo) -> &str
     ensures { result.now ≡ (lock_at (typed_locks verifier.now.start verifier.now.history) lock.0).made.name }
 {
     match verifier.lock_name(lock) {
@@ -101,7 +101,7 @@ pub fn type_name(verifier: &Verifier, lock: LockNo) -> &str
     }
 }
 
-fn class_of(verifier: &Verifier, lock: LockNo) -> Class
+pub fn class_of(verifier: &Verifier, lock: LockNo) -> Class
     ensures { result ≡ (lock_at (typed_locks verifier.now.start verifier.now.history) lock.0).made.class }
 {
     // In a legal log, a lock's type has its type name and its class.

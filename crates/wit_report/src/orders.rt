@@ -89,7 +89,7 @@ fn put_order(
     Ok(())
 }
 
-fn type_words(verifier: &Verifier, number: TypeNo) -> &str
+pub fn type_words(verifier: &Verifier, number: TypeNo) -> &str
     ensures { result.now ≡ name_of number.0 (types_of verifier.now.start verifier.now.history) }
 {
     match verifier.type_name(number) {

@@ -1,6 +1,7 @@
 //! Names and places, as they are written in a report.
 
 ghost use Rattle.std.specs.Prelude.{◌≡◌, ◌++◌, string_bytes, OnOk};
+ghost use Rattle.std.specs.Fmt.{decimal};
 ghost use Rattle.wit_model.specs.Trace.Spelling.{quoted};
 ghost use Rattle.wit_model.specs.Trace.Texts.{file_with, site_words};
 
@@ -26,8 +27,14 @@ pub fn put_site(
 {
     text.push_str(file_words(verifier, site.file))?;
     text.push(':')?;
-    let line = site.line.to_string(alloc)?;
-    text.push_str(&line)
+    put_number(text, alloc, site.line as u64)
+}
+
+pub fn put_number(text: &mut String, alloc: Global, number: u64) -> Result<(), AllocError>
+    ensures { OnOk result (string_bytes text.new ≡ string_bytes text.old ++ decimal number) }
+{
+    let digits = number.to_string(alloc)?;
+    text.push_str(&digits)
 }
 
 fn file_words(verifier: &Verifier, file: FileNo) -> &str

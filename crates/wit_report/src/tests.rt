@@ -1,11 +1,11 @@
 //! The texts of replies.
 
-use crate::report_text;
+use crate::{all_locks, assert_text, circle_text, graph, locks_of, report_text};
 use std::alloc::{AllocError, Global};
 use std::test::Fail;
 use wit_core::{StartError, Verifier};
 use wit_model::{
-    Boxed, Class, Conflict, Doubling, Fault, FileNo, Heading, Limits, LockAt, LockFlags, LockNo,
+    AssertAnswer, Boxed, Class, Conflict, Doubling, Fault, FileNo, Heading, Limits, LockAt, LockFlags, LockNo,
     Mode, OpFlags, Reply, SeatNo, Site,
 };
 
@@ -140,6 +140,75 @@ fn texts(rt: HostRuntime) -> Result<(), Fail> {
     for (reply, expected) in &rows {
         let text = text_of(alloc, &verifier, reply)?;
         assert_eq!(rt; text.as_str(), *expected);
+    }
+    Ok(())
+}
+
+fn circle_of(alloc: Global, verifier: &Verifier) -> Result<String, Fault> {
+    match verifier.wait_circle()? {
+        Some(seats) => circle_text(alloc, verifier, Some(&seats)),
+        None => circle_text(alloc, verifier, None),
+    }
+}
+
+#[test]
+fn views(rt: HostRuntime) -> Result<(), Fail> {
+    let alloc = rt.alloc();
+    let mut verifier = start(alloc)?;
+    make_locks(&mut verifier)?;
+    turn_round(&mut verifier)?;
+    let text = graph(alloc, &verifier)?;
+    assert_eq!(rt; text.as_str(), "\"A\",\"B\"\n");
+    let text = locks_of(alloc, &verifier, SeatNo(2))?;
+    let held = "exclusive sleep mutex \"b\" (B) r = 0 @ f:3\n";
+    assert_eq!(rt; text.as_str(), held);
+    let text = locks_of(alloc, &verifier, SeatNo(3))?;
+    assert_eq!(rt; text.as_str(), "");
+    let text = all_locks(alloc, &verifier)?;
+    let held =
+        "seat 1 holds:\nexclusive sleep mutex \"b\" (B) r = 0 @ f:2\nexclusive sleep mutex \"a\" (A) r = 0 @ f:1\nseat 2 holds:\nexclusive sleep mutex \"b\" (B) r = 0 @ f:3\nfree chunks: 2\n";
+    assert_eq!(rt; text.as_str(), held);
+    let text = circle_of(alloc, &verifier)?;
+    assert_eq!(rt; text.as_str(), "no circle\n");
+    Ok(())
+}
+
+#[test]
+fn circles(rt: HostRuntime) -> Result<(), Fail> {
+    let alloc = rt.alloc();
+    let mut verifier = start(alloc)?;
+    make_locks(&mut verifier)?;
+    take(&mut verifier, 1, 1, 1)?;
+    take(&mut verifier, 2, 2, 2)?;
+    check(&mut verifier, 1, 2, 3)?;
+    check(&mut verifier, 2, 1, 4)?;
+    let text = circle_of(alloc, &verifier)?;
+    let circle =
+        "circle:\n seat 1 waits for \"b\" held by seat 2\n seat 2 waits for \"a\" held by seat 1\n";
+    assert_eq!(rt; text.as_str(), circle);
+    Ok(())
+}
+
+#[test]
+fn assertions(rt: HostRuntime) -> Result<(), Fail> {
+    let alloc = rt.alloc();
+    let mut verifier = start(alloc)?;
+    make_locks(&mut verifier)?;
+    let rows = [
+        (AssertAnswer::Holds, ""),
+        (AssertAnswer::Skipped, ""),
+        (
+            AssertAnswer::Invalid,
+            "assert \"a\": Invalid lock assertion\n",
+        ),
+        (
+            AssertAnswer::IsNotExclusive,
+            "assert \"a\": not exclusively locked\n",
+        ),
+    ];
+    for (answer, expected) in rows {
+        let text = assert_text(alloc, &verifier, LockNo(1), answer)?;
+        assert_eq!(rt; text.as_str(), expected);
     }
     Ok(())
 }

@@ -1,0 +1,71 @@
+-- Texts that are laid one behind another: for numbers from 1 on, and for lists from their ends.
+use Rattle.std.proofs.Common.{◌≡◌, ℕ, suc, ◌+◌, ◌-◌, ◌<◌, ◌≤◌, Bool, true, false, cond, List, [], ◌∷◌, ◌++◌, length, map, filter, reverse, get_or, drop, refl, sym, ap, ◌∙◌, arith, append_assoc}
+use Rattle.std.specs.List.{flat_map, range_with_len}
+use Rattle.std.proofs.Math.Seq.{drop-cons}
+use Rattle.std.proofs.lemmas.List.{append-nil, drop_all}
+use Rattle.std.proofs.lemmas.List.Concat.{flat_map-append}
+use Rattle.std.proofs.lemmas.List.FromFn.{map-range_with_len_more, filter_of_map_range_with_len_more}
+
+map-same : (xs : List ℕ) → map (λ (x : ℕ). x) xs ≡ xs
+map-same [] = refl
+map-same (x ∷ xs) = ap (λ ys. x ∷ ys) (map-same xs)
+
+-- ---- for each number from 1 on
+
+range-more : (n : ℕ) → range_with_len 1 (n + 1) ≡ range_with_len 1 n ++ (n + 1) ∷ []
+range-more n =
+    let next : 1 + n ≡ n + 1 = omega arith in
+    sym (map-same (range_with_len 1 (n + 1))) ∙ map-range_with_len_more (λ x. x) 1 n (n + 1) next ∙ ap (λ xs. xs ++ (n + 1) ∷ []) (map-same (range_with_len 1 n))
+
+pub each_turn : (f : ℕ → List ℕ) (n : ℕ) (t u w : List ℕ) → u ≡ t ++ flat_map f (range_with_len 1 n) → w ≡ u ++ f (n + 1) → w ≡ t ++ flat_map f (range_with_len 1 (n + 1))
+each_turn f n t u w before next =
+    next ∙ ap (λ x. x ++ f (n + 1)) before ∙ append_assoc t (flat_map f (range_with_len 1 n)) (f (n + 1))
+    ∙ ap (λ x. t ++ (flat_map f (range_with_len 1 n) ++ x)) (sym (append-nil (f (n + 1))))
+    ∙ ap (λ x. t ++ x) (sym (flat_map-append f (range_with_len 1 n) ((n + 1) ∷ [])) ∙ ap (flat_map f) (sym (range-more n)))
+
+-- ---- for each of these that passes a test
+
+some-more : (p : ℕ → Bool) (n : ℕ) → filter p (range_with_len 1 (n + 1)) ≡ filter p (range_with_len 1 n) ++ cond (p (n + 1)) ((n + 1) ∷ []) []
+some-more p n =
+    let next : 1 + n ≡ n + 1 = omega arith in
+    ap (filter p) (sym (map-same (range_with_len 1 (n + 1))))
+    ∙ filter_of_map_range_with_len_more p (λ x. x) 1 n (n + 1) next
+    ∙ ap (λ xs. filter p xs ++ cond (p (n + 1)) ((n + 1) ∷ []) []) (map-same (range_with_len 1 n))
+
+pub some_turn : (p : ℕ → Bool) (f : ℕ → List ℕ) (n : ℕ) (t u w : List ℕ) → p (n + 1) ≡ true → u ≡ t ++ flat_map f (filter p (range_with_len 1 n)) → w ≡ u ++ f (n + 1)
+    → w ≡ t ++ flat_map f (filter p (range_with_len 1 (n + 1)))
+some_turn p f n t u w is before next =
+    let old = filter p (range_with_len 1 n) in
+    next ∙ ap (λ x. x ++ f (n + 1)) before ∙ append_assoc t (flat_map f old) (f (n + 1))
+    ∙ ap (λ x. t ++ (flat_map f old ++ x)) (sym (append-nil (f (n + 1))))
+    ∙ ap (λ x. t ++ x)
+    (sym (flat_map-append f old ((n + 1) ∷ [])) ∙ ap (λ b. flat_map f (old ++ cond b ((n + 1) ∷ []) [])) (sym is) ∙ ap (flat_map f) (sym (some-more p n)))
+
+pub some_skip : (p : ℕ → Bool) (f : ℕ → List ℕ) (n : ℕ) (t u : List ℕ) → p (n + 1) ≡ false → u ≡ t ++ flat_map f (filter p (range_with_len 1 n))
+    → u ≡ t ++ flat_map f (filter p (range_with_len 1 (n + 1)))
+some_skip p f n t u isnt before =
+    let old = filter p (range_with_len 1 n) in
+    before
+    ∙ ap (λ x. t ++ flat_map f x) (sym (append-nil old) ∙ ap (λ b. old ++ cond b ((n + 1) ∷ []) []) (sym isnt) ∙ sym (some-more p n))
+
+-- ---- from the end of a list, where F lays its elements one behind another, the last one first
+
+module _ {X : Type 0} (F : List X → List ℕ) (f : X → List ℕ) (cons : (x : X) (xs : List X) → F (x ∷ xs) ≡ F xs ++ f x) where
+  pub back_turn : (xs : List X) (n k i : ℕ) (d : X) (t u w : List ℕ) → n ≡ length xs → i + k + 1 ≡ n → u ≡ t ++ F (drop (n - k) xs) → w ≡ u ++ f (get_or xs i d)
+      → w ≡ t ++ F (drop (n - (k + 1)) xs)
+  back_turn xs n k i d t u w size place before next =
+      let lt : i < length xs = omega (arith, size, place) in
+      let here : n - (k + 1) ≡ i = omega (arith, place) in
+      let after : n - k ≡ suc i = omega (arith, place) in
+      next ∙ ap (λ x. x ++ f (get_or xs i d)) (before ∙ ap (λ m. t ++ F (drop m xs)) after)
+      ∙ append_assoc t (F (drop (suc i) xs)) (f (get_or xs i d))
+      ∙ ap (λ x. t ++ x) (sym (cons (get_or xs i d) (drop (suc i) xs)) ∙ ap F (sym (drop-cons xs i d lt)) ∙ ap (λ m. F (drop m xs)) (sym here))
+
+  pub back_start : (xs : List X) (n k : ℕ) (t : List ℕ) → n ≡ length xs → k ≡ 0 → F [] ≡ [] → t ≡ t ++ F (drop (n - k) xs)
+  back_start xs n k t size zero none =
+      sym (append-nil t) ∙ ap (λ x. t ++ x) (sym none) ∙ ap (λ rest. t ++ F rest) (sym (drop_all (n - k) xs (omega (arith, size, zero))))
+
+  pub back_end : (xs : List X) (n k : ℕ) (t u : List ℕ) → n ≤ k → u ≡ t ++ F (drop (n - k) xs) → u ≡ t ++ F xs
+  back_end xs n k t u all before =
+      let zero : n - k ≡ 0 = omega (arith, all) in
+      before ∙ ap (λ m. t ++ F (drop m xs)) zero

@@ -1,0 +1,12 @@
+use Rattle.std.proofs.Common.{◌≡◌, ◌++◌, ◌-◌, drop, reverse, string_bytes}
+use Rattle.wit_model.specs.Rules.Chunks.{groups_of}
+use Rattle.wit_model.specs.Rules.Groups.{flat}
+use Rattle.wit_model.specs.Rules.State.{typed_locks}
+use Rattle.wit_model.specs.Trace.Views.{held_lines}
+use Rattle.wit_report.proofs.held.put_chain.Given as goal
+
+abbrev pub invariant-loop-newer : goal.invariant-loop-newer
+invariant-loop-newer l =
+    string_bytes l.text
+    ≡ string_bytes l.initial.text
+    ++ held_lines (typed_locks l.verifier.start l.verifier.history) l.verifier.files (reverse (flat (drop (l.groups - l.newer) (groups_of l.lists l.list))))
