@@ -25,6 +25,8 @@ enum Step {
     Downgrade(u16, u32),
     NoRelease(u16, u32),
     ReleaseOk(u16, u32),
+    Define(u16, u32, u32),
+    Destroy(u16, u32),
     Watch(u16, Watch),
 }
 
@@ -272,6 +274,39 @@ const TURNS: [(Step, Answer); 19] = [
     (Step::NoRelease(1, 2), Answer::Refused(Fault::NotLocked)),
 ];
 
+/// Orders are defined by calls, and a check goes by them.
+const DEFINED: [(Step, Answer); 14] = [
+    (Step::Init("a", Some("A")), Answer::Made(1)),
+    (Step::Init("b", Some("B")), Answer::Made(2)),
+    (Step::Init("c", Some("A")), Answer::Made(3)),
+    (Step::Spin("s"), Answer::Made(4)),
+    (Step::Define(1, 1, 2), Answer::Adopted(1, 2)),
+    (Step::Define(1, 3, 2), Answer::Known),
+    (Step::Define(1, 2, 1), Answer::Refused(Fault::WrongOrder)),
+    (Step::Define(1, 1, 3), Answer::Refused(Fault::SameType)),
+    (Step::Define(1, 1, 4), Answer::Refused(Fault::KindMismatch)),
+    (Step::Define(1, 1, 5), Answer::Refused(Fault::UnknownLock)),
+    (Step::Check(2, 2, 1), Answer::Pass),
+    (Step::Note(2, 2), Answer::Recorded),
+    (Step::Check(2, 1, 2), Answer::Reversal(2, 1, 1, 2)),
+    (Step::Define(2, 1, 2), Answer::Refused(Fault::Pending)),
+];
+
+/// After these a lock is destroyed that nobody holds or asks for, and no call may name it any more.
+const DESTROYED: [(Step, Answer); 11] = [
+    (Step::Destroy(1, 1), Answer::Refused(Fault::Busy)),
+    (Step::Destroy(1, 2), Answer::Refused(Fault::Busy)),
+    (Step::GiveUp(2, 1), Answer::Done),
+    (Step::Destroy(2, 2), Answer::Refused(Fault::Busy)),
+    (Step::Destroy(2, 1), Answer::Done),
+    (Step::Destroy(1, 1), Answer::Refused(Fault::UnknownLock)),
+    (Step::Check(1, 1, 3), Answer::Refused(Fault::UnknownLock)),
+    (Step::Define(1, 1, 2), Answer::Refused(Fault::UnknownLock)),
+    (Step::Unlock(2, 2), Answer::Unlocked),
+    (Step::Watch(1, Watch::Off), Answer::Done),
+    (Step::Define(1, 3, 4), Answer::Ignored),
+];
+
 /// Where less is watched, no order is checked, and what is held is recorded still.
 const QUIET: [(Step, Answer); 7] = [
     (Step::Watch(1, Watch::Quiet), Answer::Done),
@@ -425,6 +460,10 @@ fn call(verifier: &mut Verifier, step: Step) -> Result<Reply, Fault> {
         Step::Downgrade(seat, lock) => verifier.downgrade(SeatNo(seat), LockNo(lock)),
         Step::NoRelease(seat, lock) => verifier.norelease(SeatNo(seat), LockNo(lock)),
         Step::ReleaseOk(seat, lock) => verifier.releaseok(SeatNo(seat), LockNo(lock)),
+        Step::Define(seat, first, second) => {
+            verifier.define_order(SeatNo(seat), LockNo(first), LockNo(second))
+        }
+        Step::Destroy(seat, lock) => verifier.destroy(SeatNo(seat), LockNo(lock)),
     }
 }
 
@@ -659,6 +698,24 @@ fn circles(rt: HostRuntime) -> Result<(), Fail> {
     let _number = file(&mut verifier, "f")?;
     assert_eq!(rt; other_answer(&mut verifier, &SHARED), None);
     assert_eq!(rt; circle_of(&verifier)?, [1, 3, 0]);
+    Ok(())
+}
+
+#[test]
+fn definitions_and_destruction(rt: HostRuntime) -> Result<(), Fail> {
+    let mut verifier = start(rt.alloc(), (2, 8, 4, 64), "", "")?;
+    let _number = file(&mut verifier, "f")?;
+    assert_eq!(rt; other_answer(&mut verifier, &DEFINED), None);
+    assert_eq!(rt; counts_of(&verifier), make_counts(9, 1, 1));
+    let origin = verifier.origin(TypeNo(1), TypeNo(2));
+    assert_eq!(rt; origin, Some(Origin::Defined));
+    assert_eq!(rt; verifier.live(TypeNo(1)), Some(2));
+    assert_eq!(rt; other_answer(&mut verifier, &DESTROYED), None);
+    assert_eq!(rt; counts_of(&verifier), make_counts(13, 1, 1));
+    assert_eq!(rt; verifier.live(TypeNo(1)), Some(1));
+    assert_eq!(rt; verifier.live(TypeNo(4)), None);
+    assert_eq!(rt; verifier.lock_name(LockNo(1)), Some("a"));
+    assert_eq!(rt; verifier.type_of(LockNo(1)), Some(TypeNo(1)));
     Ok(())
 }
 

@@ -18,7 +18,7 @@ use Rattle.wit_model.specs.Rules.Step.{IsLegal}
 use Rattle.wit_model.specs.Rules.Types.{type_name_of}
 use Rattle.wit_model.specs.Trace.Spelling.{quoted}
 use Rattle.wit_model.specs.Trace.Texts.{class_words, site_words}
-use Rattle.wit_model.specs.Trace.Views.{mode_words, held_line, held_lines, all_held, locks_text, holder_lines, holder_text, free_line}
+use Rattle.wit_model.specs.Trace.Views.{mode_words, held_line, held_lines, all_held, holder_lines, free_line}
 use Rattle.wit_model.proofs.Chains.Regrouping.{groups-chain}
 use Rattle.wit_model.proofs.Numbered.{with_number-none}
 use Rattle.wit_model.proofs.Histories.Legal.{sane_legal, seat_at-state}
@@ -28,11 +28,10 @@ use Rattle.wit_core.proofs.Waits.{seat-number}
 
 -- ---- newest first
 
-module _ (locks : List Lock) (files : List (List ℕ)) where
-  pub lines-groups : (g : List Instance) (gs : List (List Instance))
-      → held_lines locks files (reverse (flat (g ∷ gs))) ≡ held_lines locks files (reverse (flat gs)) ++ held_lines locks files (reverse g)
-  lines-groups g gs = ap (held_lines locks files) (reverse-append g (flat gs)) ∙ flat_map-append (held_line locks files) (reverse (flat gs)) (reverse g)
+pub groups-reversed : (g : List Instance) (gs : List (List Instance)) → reverse (flat (g ∷ gs)) ≡ reverse (flat gs) ++ reverse g
+groups-reversed g gs = reverse-append g (flat gs)
 
+module _ (locks : List Lock) (files : List (List ℕ)) where
   pub lines-both : (t u w : List ℕ) (seat : Seat) → u ≡ t ++ held_lines locks files (reverse seat.sleep) → w ≡ u ++ held_lines locks files (reverse seat.spin)
       → w ≡ t ++ held_lines locks files (all_held seat)
   lines-both t u w seat sleep spin =
@@ -87,18 +86,21 @@ holder-written t locks files seat (i ∷ held) some e1 e2 e3 e4 =
 none-at : (s : Story) (seat : ℕ) → is_given (state_of s).seats seat ≡ false → seat_at (state_of s) seat ≡ no_seat
 none-at s seat none = ap (λ (o : Option Seat). unwrap_or o no_seat) (with_number-none (state_of s).seats seat none)
 
-nobody-written : (t : List ℕ) (s : Story) (seat : ℕ) → seat_at (state_of s) seat ≡ no_seat → t ≡ t ++ locks_text s seat
-nobody-written t s seat none =
-    sym (append-nil t) ∙ ap (λ (x : Seat). t ++ held_lines (typed_locks s.start s.history) s.files (all_held x)) (sym none)
+none-held : (s : Story) (seat : ℕ) (spin : Bool) → seat_at (state_of s) seat ≡ no_seat → [] ≡ reverse (chain_in spin (seat_at (state_of s) seat))
+none-held s seat spin none = by spin ∙ sym (ap (λ (x : Seat). reverse (chain_in spin x)) none)
+  where
+    by : (k : Bool) → [] ≡ reverse (chain_in k no_seat)
+    by true = refl
+    by false = refl
 
-pub none-zero : (s : Story) (t : List ℕ) (seat : ℕ) → seat ≡ 0 → t ≡ t ++ locks_text s seat
-none-zero s t seat zero = nobody-written t s seat (none-at s seat (ap (is_given (state_of s).seats) zero))
+pub none-zero : (s : Story) (seat : ℕ) (spin : Bool) → seat ≡ 0 → [] ≡ reverse (chain_in spin (seat_at (state_of s) seat))
+none-zero s seat spin zero = none-held s seat spin (none-at s seat (ap (is_given (state_of s).seats) zero))
 
-pub none-beyond : (s : Story) (t : List ℕ) (seat : ℕ) → s.start.sizes.seats < seat → t ≡ t ++ locks_text s seat
-none-beyond s t seat lt =
+pub none-beyond : (s : Story) (seat : ℕ) (spin : Bool) → s.start.sizes.seats < seat → [] ≡ reverse (chain_in spin (seat_at (state_of s) seat))
+none-beyond s seat spin lt =
     let many = length-map-range_with_len (seat_of s.history) 1 s.start.sizes.seats in
     let past = lt-leb seat (length (state_of s).seats) (omega (arith, lt, many)) in
-    nobody-written t s seat (none-at s seat (ap (λ b. nat_lt 0 seat && b) past ∙ by (nat_lt 0 seat)))
+    none-held s seat spin (none-at s seat (ap (λ b. nat_lt 0 seat && b) past ∙ by (nat_lt 0 seat)))
   where
     by : (b : Bool) → (b && false) ≡ false
     by true = refl

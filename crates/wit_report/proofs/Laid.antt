@@ -50,8 +50,8 @@ some_skip p f n t u isnt before =
 
 -- ---- from the end of a list, where F lays its elements one behind another, the last one first
 
-module _ {X : Type 0} (F : List X → List ℕ) (f : X → List ℕ) (cons : (x : X) (xs : List X) → F (x ∷ xs) ≡ F xs ++ f x) where
-  pub back_turn : (xs : List X) (n k i : ℕ) (d : X) (t u w : List ℕ) → n ≡ length xs → i + k + 1 ≡ n → u ≡ t ++ F (drop (n - k) xs) → w ≡ u ++ f (get_or xs i d)
+module _ {X Y : Type 0} (F : List X → List Y) (f : X → List Y) (cons : (x : X) (xs : List X) → F (x ∷ xs) ≡ F xs ++ f x) where
+  pub back_turn : (xs : List X) (n k i : ℕ) (d : X) (t u w : List Y) → n ≡ length xs → i + k + 1 ≡ n → u ≡ t ++ F (drop (n - k) xs) → w ≡ u ++ f (get_or xs i d)
       → w ≡ t ++ F (drop (n - (k + 1)) xs)
   back_turn xs n k i d t u w size place before next =
       let lt : i < length xs = omega (arith, size, place) in
@@ -61,11 +61,11 @@ module _ {X : Type 0} (F : List X → List ℕ) (f : X → List ℕ) (cons : (x 
       ∙ append_assoc t (F (drop (suc i) xs)) (f (get_or xs i d))
       ∙ ap (λ x. t ++ x) (sym (cons (get_or xs i d) (drop (suc i) xs)) ∙ ap F (sym (drop-cons xs i d lt)) ∙ ap (λ m. F (drop m xs)) (sym here))
 
-  pub back_start : (xs : List X) (n k : ℕ) (t : List ℕ) → n ≡ length xs → k ≡ 0 → F [] ≡ [] → t ≡ t ++ F (drop (n - k) xs)
+  pub back_start : (xs : List X) (n k : ℕ) (t : List Y) → n ≡ length xs → k ≡ 0 → F [] ≡ [] → t ≡ t ++ F (drop (n - k) xs)
   back_start xs n k t size zero none =
       sym (append-nil t) ∙ ap (λ x. t ++ x) (sym none) ∙ ap (λ rest. t ++ F rest) (sym (drop_all (n - k) xs (omega (arith, size, zero))))
 
-  pub back_end : (xs : List X) (n k : ℕ) (t u : List ℕ) → n ≤ k → u ≡ t ++ F (drop (n - k) xs) → u ≡ t ++ F xs
+  pub back_end : (xs : List X) (n k : ℕ) (t u : List Y) → n ≤ k → u ≡ t ++ F (drop (n - k) xs) → u ≡ t ++ F xs
   back_end xs n k t u all before =
       let zero : n - k ≡ 0 = omega (arith, all) in
       before ∙ ap (λ m. t ++ F (drop m xs)) zero

@@ -3,3 +3,4 @@ pub mod Written
 pub mod HeldLines
 pub mod Laid
 pub mod ViewLines
+pub mod Warned

@@ -89,37 +89,35 @@ fn put_seat(
 ) -> Result<(), AllocError>
     ensures { OnOk result (string_bytes text.new ≡ string_bytes text.old ++ locks_text verifier.now seat.0) }
 {
-    if seat.0 == 0 || verifier.seats() < seat.0 {
-        return Ok(());
-    }
-    put_chain(text, alloc, verifier, seat, false)?;
-    put_chain(text, alloc, verifier, seat, true)?;
+    let sleep = newest_first(alloc, verifier, seat, false)?;
+    put_all(text, alloc, verifier, &sleep)?;
+    let spin = newest_first(alloc, verifier, seat, true)?;
+    put_all(text, alloc, verifier, &spin)?;
     Ok(())
 }
 
 // The locks of one kind that a seat holds, newest first.
-fn put_chain(
-    text: &mut String,
+pub fn newest_first(
     alloc: Global,
     verifier: &Verifier,
     seat: SeatNo,
     spin: bool,
-) -> Result<(), AllocError>
-    requires { IsNumber verifier.now.start.sizes.seats seat.0 }
-    ensures { OnOk result (string_bytes text.new ≡ string_bytes text.old
-        ++ held_lines (typed_locks verifier.now.start verifier.now.history) verifier.now.files
-        (reverse (chain_in spin (seat_at (state_of verifier.now) seat.0)))) }
+) -> Result<Vec<Instance>, AllocError>
+    ensures { IfOk result (λ held. held.items ≡ reverse (chain_in spin (seat_at (state_of verifier.now) seat.0))) }
 {
+    let mut held = Vec::new(alloc);
+    if seat.0 == 0 || verifier.seats() < seat.0 {
+        return Ok(held);
+    }
     // In a legal log, the groups in which a chain lies make up the chain.
     let _log = verifier.history();
-    let _seats = verifier.seats();
     let lists = verifier.chunks();
     let list = list_of(seat, spin);
     let groups = lists.groups(list);
     for newer in 0..groups {
-        put_group(text, alloc, verifier, lists.group(list, groups - 1 - newer))?;
+        add_group(&mut held, lists.group(list, groups - 1 - newer))?;
     }
-    Ok(())
+    Ok(held)
 }
 
 // The list of the locks of one kind that a seat holds.
@@ -131,24 +129,34 @@ fn list_of(seat: SeatNo, spin: bool) -> u16
     if spin { last } else { last - 1 }
 }
 
-// The locks of a chunk, newest first.
-fn put_group(
+// Adds the locks of a chunk, newest first.
+fn add_group(held: &mut Vec<Instance>, group: &[Instance]) -> Result<(), AllocError>
+    ensures { OnOk result (held.new.items ≡ held.old.items ++ reverse group.now) }
+{
+    for newer in 0..group.len() {
+        held.push(group[group.len() - 1 - newer])?;
+    }
+    Ok(())
+}
+
+// Held locks, a line each.
+pub fn put_all(
     text: &mut String,
     alloc: Global,
     verifier: &Verifier,
-    group: &[Instance],
+    held: &[Instance],
 ) -> Result<(), AllocError>
     ensures { OnOk result (string_bytes text.new ≡ string_bytes text.old
-        ++ held_lines (typed_locks verifier.now.start verifier.now.history) verifier.now.files (reverse group.now)) }
+        ++ held_lines (typed_locks verifier.now.start verifier.now.history) verifier.now.files held.now) }
 {
-    for newer in 0..group.len() {
-        put_held(text, alloc, verifier, group[group.len() - 1 - newer])?;
+    for instance in held {
+        put_held(text, alloc, verifier, *instance)?;
     }
     Ok(())
 }
 
 // A held lock, as a line.
-pub fn put_held(
+fn put_held(
     text: &mut String,
     alloc: Global,
     verifier: &Verifier,

@@ -11,12 +11,16 @@ mod orders;
 mod pieces;
 mod reports;
 mod reversal;
+mod type_lists;
+mod warnings;
 
 pub use assertions::assert_text;
 pub use circles::circle_text;
 pub use graphs::graph;
 pub use held::{all_locks, locks_of};
 pub use reports::report_text;
+pub use type_lists::type_list;
+pub use warnings::warn_text;
 
 #[cfg(test)]
 mod tests;

@@ -1,12 +1,14 @@
 //! The texts of replies.
 
-use crate::{all_locks, assert_text, circle_text, graph, locks_of, report_text};
+use crate::{
+    all_locks, assert_text, circle_text, graph, locks_of, report_text, type_list, warn_text,
+};
 use std::alloc::{AllocError, Global};
 use std::test::Fail;
 use wit_core::{StartError, Verifier};
 use wit_model::{
     AssertAnswer, Boxed, Class, Conflict, Doubling, Fault, FileNo, Heading, Limits, LockAt, LockFlags, LockNo,
-    Mode, OpFlags, Reply, SeatNo, Site,
+    Mode, OpFlags, Reply, SeatNo, Site, WarnFlags,
 };
 
 fn start(alloc: Global) -> Result<Verifier, StartError> {
@@ -170,6 +172,29 @@ fn views(rt: HostRuntime) -> Result<(), Fail> {
     assert_eq!(rt; text.as_str(), held);
     let text = circle_of(alloc, &verifier)?;
     assert_eq!(rt; text.as_str(), "no circle\n");
+    let text = type_list(alloc, &verifier)?;
+    let types = "1 \"A\" sleep mutex locks 1\n2 \"B\" sleep mutex locks 1\n";
+    assert_eq!(rt; text.as_str(), types);
+    Ok(())
+}
+
+#[test]
+fn warnings(rt: HostRuntime) -> Result<(), Fail> {
+    let alloc = rt.alloc();
+    let mut verifier = start(alloc)?;
+    make_locks(&mut verifier)?;
+    take(&mut verifier, 1, 1, 1)?;
+    take(&mut verifier, 1, 2, 2)?;
+    let none = WarnFlags(0);
+    let text = warn_text(alloc, &verifier, SeatNo(1), None, none)?;
+    let both =
+        "2 locks held:\nexclusive sleep mutex \"b\" (B) r = 0 @ f:2\nexclusive sleep mutex \"a\" (A) r = 0 @ f:1\n";
+    assert_eq!(rt; text.as_str(), both);
+    let text = warn_text(alloc, &verifier, SeatNo(1), Some(LockNo(2)), none)?;
+    let one = "1 locks held:\nexclusive sleep mutex \"a\" (A) r = 0 @ f:1\n";
+    assert_eq!(rt; text.as_str(), one);
+    let text = warn_text(alloc, &verifier, SeatNo(2), None, none)?;
+    assert_eq!(rt; text.as_str(), "");
     Ok(())
 }
 

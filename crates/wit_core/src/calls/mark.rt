@@ -49,15 +49,7 @@ impl Verifier {
     fn answer_mark(&self, seat: SeatNo, lock: LockNo) -> Result<bool, Fault>
         ensures { done_or_ignored result ≡ step_mark (state_of self.now) seat.0 lock.0 }
     {
-        if !self.is_seat(seat) {
-            return Err(Fault::UnknownSeat);
-        }
-        if !self.is_live(lock) {
-            return Err(Fault::UnknownLock);
-        }
-        if self.request(seat).is_some() {
-            return Err(Fault::Pending);
-        }
+        self.addresses(seat, lock)?;
         if self.held(seat, lock).is_none() {
             return unless_held(self.watch());
         }

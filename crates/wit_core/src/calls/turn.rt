@@ -56,15 +56,7 @@ impl Verifier {
         ensures { done_or_ignored result ≡ step_turn (state_of self.now) seat.0 lock.0
             (turned mode (state_of self.now).watch (held_by (state_of self.now) seat.0 lock.0)) }
     {
-        if !self.is_seat(seat) {
-            return Err(Fault::UnknownSeat);
-        }
-        if !self.is_live(lock) {
-            return Err(Fault::UnknownLock);
-        }
-        if self.request(seat).is_some() {
-            return Err(Fault::Pending);
-        }
+        self.addresses(seat, lock)?;
         if !is_upgradable(self.class_of_lock(lock)) {
             return Err(Fault::NotUpgradable);
         }

@@ -1,0 +1,149 @@
+//! The text of a warning.
+
+ghost use Rattle.std.specs.Prelude.{◌≡◌, ◌++◌, not, [], filter, reverse, string_bytes, if◌then◌else◌, IfOk, IfErr, OnOk};
+ghost use Rattle.wit_model.specs.declared.locks.Instance.{Instance};
+ghost use Rattle.wit_model.specs.declared.faults.Fault.TheVariants.{OutOfMemory};
+ghost use Rattle.wit_model.specs.Rules.State.{state_of, known_of, typed_locks};
+ghost use Rattle.wit_model.specs.Rules.Verdict.{basis_of, type_held, is_giant, is_sleepable};
+ghost use Rattle.wit_model.specs.Rules.Warnings.{is_named, is_allowed, counted_spin, warned};
+ghost use Rattle.wit_model.specs.Trace.Views.{warn_text};
+
+use crate::held::{newest_first, put_all};
+use crate::locks::type_number;
+use crate::orders::type_words;
+use crate::pieces::put_number;
+use crate::type_lists::type_class;
+use bitflags::Flags;
+use std::alloc::{AllocError, Global};
+use wit_core::Verifier;
+use wit_model::{Class, Fault, Instance, LockNo, SeatNo, TypeNo, WarnFlags};
+
+/// The text of a warning: how many held locks the seat is warned of, as `witness_warn` (subr_witness.c) tells them, and a line for each, in
+/// the order of `locks_of`. Empty where it is warned of none.
+///
+/// # Errors
+/// `OutOfMemory` alone.
+pub fn warn_text(
+    alloc: Global,
+    verifier: &Verifier,
+    seat: SeatNo,
+    named: Option<LockNo>,
+    flags: WarnFlags,
+) -> Result<String, Fault>
+    ensures ok { IfOk result (λ text. string_bytes text ≡ warn_text (typed_locks verifier.now.start verifier.now.history) verifier.now.files
+        (warned (state_of verifier.now) seat.0 named flags)) }
+    ensures err { IfErr result (λ e. e ≡ OutOfMemory) }
+{
+    let mut text = String::new(alloc);
+    let held = warned(alloc, verifier, seat, named, flags)?;
+    if held.is_empty() {
+        return Ok(text);
+    }
+    put_number(&mut text, alloc, held.len() as u64)?;
+    text.push_str(" locks held:\n")?;
+    put_all(&mut text, alloc, verifier, &held)?;
+    Ok(text)
+}
+
+// The locks of which the seat is warned.
+fn warned(
+    alloc: Global,
+    verifier: &Verifier,
+    seat: SeatNo,
+    named: Option<LockNo>,
+    flags: WarnFlags,
+) -> Result<Vec<Instance>, AllocError>
+    ensures { IfOk result (λ held. held.items ≡ warned (state_of verifier.now) seat.0 named flags) }
+{
+    let mut held = Vec::new(alloc);
+    if !verifier.watch().is_on() {
+        return Ok(held);
+    }
+    let sleep = newest_first(alloc, verifier, seat, false)?;
+    add_counted(&mut held, verifier, &sleep, named, flags)?;
+    let spin = newest_first(alloc, verifier, seat, true)?;
+    if held.is_empty() && is_alone(&spin, named) {
+        return Ok(held);
+    }
+    add_all(&mut held, &spin)?;
+    Ok(held)
+}
+
+// Adds those that the seat is warned of, of the sleep kind.
+fn add_counted(
+    held: &mut Vec<Instance>,
+    verifier: &Verifier,
+    sleep: &[Instance],
+    named: Option<LockNo>,
+    flags: WarnFlags,
+) -> Result<(), AllocError>
+    ensures { OnOk result (held.new.items ≡ held.old.items ++ filter
+        (λ (i : Instance). not (is_allowed (basis_of (known_of verifier.now.start verifier.now.history)) named flags i)) sleep.now) }
+{
+    for instance in sleep {
+        if !is_allowed(verifier, named, flags, *instance) {
+            held.push(*instance)?;
+        }
+    }
+    Ok(())
+}
+
+fn add_all(held: &mut Vec<Instance>, spin: &[Instance]) -> Result<(), AllocError>
+    ensures { OnOk result (held.new.items ≡ held.old.items ++ spin.now) }
+{
+    for instance in spin {
+        held.push(*instance)?;
+    }
+    Ok(())
+}
+
+// Whether there is one lock, and it is the named one: so it isn't counted where nothing else is.
+fn is_alone(spin: &[Instance], named: Option<LockNo>) -> bool
+    ensures { counted_spin named [] (reverse spin.now) ≡ if result then [] else reverse spin.now }
+{
+    match spin {
+        [instance] => is_named(named, *instance),
+        _ => false,
+    }
+}
+
+fn is_named(named: Option<LockNo>, held: Instance) -> bool
+    ensures { result ≡ is_named named held }
+{
+    match named {
+        Some(lock) => held.lock.0 == lock.0,
+        None => false,
+    }
+}
+
+// Whether a lock of the sleep kind may be held.
+fn is_allowed(
+    verifier: &Verifier,
+    named: Option<LockNo>,
+    flags: WarnFlags,
+    held: Instance,
+) -> bool
+    ensures { result ≡ is_allowed (basis_of (known_of verifier.now.start verifier.now.history)) named flags held }
+{
+    is_named(named, held)
+        || flags.contains(WarnFlags::GIANTOK) && is_giant(verifier, type_of(verifier, held))
+        || flags.contains(WarnFlags::SLEEPOK) && is_sleepable(verifier, type_of(verifier, held))
+}
+
+fn type_of(verifier: &Verifier, held: Instance) -> TypeNo
+    ensures { result ≡ type_held (basis_of (known_of verifier.now.start verifier.now.history)) held }
+{
+    type_number(verifier, held.lock)
+}
+
+fn is_giant(verifier: &Verifier, number: TypeNo) -> bool
+    ensures { result ≡ is_giant (basis_of (known_of verifier.now.start verifier.now.history)) number }
+{
+    type_class(verifier, number).is(Class::SleepMutex) && type_words(verifier, number) == "Giant"
+}
+
+fn is_sleepable(verifier: &Verifier, number: TypeNo) -> bool
+    ensures { result ≡ is_sleepable (basis_of (known_of verifier.now.start verifier.now.history)) number }
+{
+    type_class(verifier, number).is(Class::Sx)
+}
