@@ -1,5 +1,5 @@
 -- What each accepted call needs of a verifier's parts, and what it leaves of them.
-use Rattle.std.proofs.Common.{◌≡◌, ℕ, zero, suc, ◌+◌, ◌-◌, ◌<◌, ◌≤◌, ◌&&◌, Bool, true, false, cond, List, [], ◌∷◌, ◌++◌, Option, None, Some, Ok, Err, Result, IsOk, IfOk, IfErr, OnOk, OnErr, String, length, map, find, replicate, unwrap_or, get_or, sum_by, refl, sym, ap, ap₂, ◌∙◌, subst, arith, is_some, append-nil, length-append}
+use Rattle.std.proofs.Common.{◌≡◌, ℕ, zero, suc, ◌+◌, ◌-◌, ◌<◌, ◌≤◌, ◌&&◌, set, Bool, true, false, cond, List, [], ◌∷◌, ◌++◌, Option, None, Some, Ok, Err, Result, IsOk, IfOk, IfErr, OnOk, OnErr, String, length, map, find, replicate, unwrap_or, get_or, sum_by, refl, sym, ap, ap₂, ◌∙◌, subst, arith, is_some, append-nil, length-append}
 use Rattle.std.specs.List.{range_with_len}
 use Rattle.std.specs.Global.{Vec, Global}
 use Rattle.std.proofs.lemmas.Bool.{and_parts, leb-true, leb-false, true≢false}
@@ -17,14 +17,14 @@ use Rattle.wit_model.specs.declared.locks.Watch.TheVariants.{On}
 use Rattle.wit_model.specs.declared.calls.NewLock.{NewLock}
 use Rattle.wit_model.specs.declared.calls.Request.{Request}
 use Rattle.wit_model.specs.declared.calls.Call.{Call}
-use Rattle.wit_model.specs.declared.calls.Call.TheVariants.{Init, Check, Note, NoteTry, GiveUp, Unlock, SetWatch}
+use Rattle.wit_model.specs.declared.calls.Call.TheVariants.{Init, Check, Note, NoteTry, GiveUp, Unlock, SetWatch, Destroy, DefineOrder}
 use Rattle.wit_model.specs.declared.calls.Reply.{Reply}
 use Rattle.wit_model.specs.declared.calls.Reply.TheVariants.{Made, Unlocked, Done}
 use Rattle.wit_model.specs.declared.calls.Reply.TheVariants as reply
 use Rattle.wit_model.specs.declared.calls.Entry.{Entry}
 use Rattle.wit_model.specs.Rules.Sizes.{Sizes}
 use Rattle.wit_model.specs.Rules.Names.{is_name}
-use Rattle.wit_model.specs.Rules.Numbers.{IsGiven}
+use Rattle.wit_model.specs.Rules.Numbers.{IsGiven, with_changed}
 use Rattle.wit_model.specs.Rules.Types.{is_spin, type_name_of}
 use Rattle.wit_model.specs.Rules.Locks.{locks_of, lock_at, is_spin_lock, destroyed_of, is_destroyed, made_among}
 use Rattle.wit_model.specs.Rules.History.{is_held, pending, watch_of, watch_after, is_off}
@@ -39,7 +39,7 @@ use Rattle.wit_model.proofs.Chains.Regrouping.{seat_groups-nil}
 use Rattle.wit_model.proofs.Chains.Seats.{entry}
 use Rattle.wit_model.proofs.Chains.Owed.{owed_to, owed_to-nil, owed-init, owed-check, owed-note, owed-unnoted, owed-try, owed-same, owed-give_up, owed-unlock}
 use Rattle.wit_model.proofs.Chains.Depth.{note-count, try-count}
-use Rattle.wit_model.proofs.Histories.Accepted.{asked-lock, init_accepted, note_accepted, try_accepted, give_up_accepted, check_accepted, unlock_accepted, watch_accepted}
+use Rattle.wit_model.proofs.Histories.Accepted.{asked-lock, init_accepted, note_accepted, try_accepted, give_up_accepted, check_accepted, unlock_accepted, watch_accepted, destroy_accepted, is_plain, plain_accepted}
 use Rattle.wit_model.proofs.Histories.Legal.{seat_accepted, sane_more, pending-state, unlock-held}
 use Rattle.wit_model.proofs.Histories.NamedFiles.{legal-named}
 use Rattle.wit_model.proofs.Orders.TypedLocks.{spin_at}
@@ -49,6 +49,10 @@ use Rattle.wit_core.specs.declared.verifier.Verifier.TheInside.{Inside}
 use Rattle.wit_core.specs.declared.acquiring.Acquisition.{Acquisition}
 use Rattle.wit_core.specs.declared.acquiring.Acquisition.TheVariants.{Recorded, Exhausted, Unrecorded}
 use Rattle.wit_core.specs.Acquiring.{reply_to, owed_after, acquisition, watch_then, row_then, taken}
+use Rattle.wit_core.specs.declared.defining.Definition.{Definition}
+use Rattle.wit_core.specs.declared.defining.Definition.TheVariants.{Standing}
+use Rattle.wit_core.specs.declared.defining.Definition.TheVariants as definition
+use Rattle.wit_core.specs.Defining.{reply_of, with_defined}
 use Rattle.wit_core.specs.Fresh.{start_of}
 use Rattle.wit_core.specs.Held.{seat_view}
 use Rattle.wit_core.specs.Journal.{Journal}
@@ -58,11 +62,13 @@ use Rattle.wit_core.specs.Listed.{all_listed, pairs_of}
 use Rattle.wit_core.specs.Seats.{Row, no_seat, idle_row, seat_in, locks_in, with_seat, asking, acquired, released}
 use Rattle.wit_core.proofs.Entering.{IsBegun}
 use Rattle.wit_core.proofs.Keeping.{seat_in_range, Leaves, same_story}
-use Rattle.wit_core.proofs.Now.{seat-given, chain-now, once-now, acquisition-told}
+use Rattle.wit_core.proofs.Now.{seat-given, chain-now, once-now, acquisition-told, live-now}
 use Rattle.wit_core.proofs.Steps.{same_state, same_locks, known-same, seat-twice, in-row, seats-quiet, seats-same, seats-note, seats-try, seats-unlock}
-use Rattle.wit_core.proofs.Living.{flags-made}
-use Rattle.wit_core.specs.Live.{live_flags}
+use Rattle.wit_core.proofs.Living.{flags-made, flag-within, flags-destroyed, length-flags}
+use Rattle.wit_core.specs.Live.{live_flags, is_flagged}
 use Rattle.wit_model.proofs.Histories.Live.{next-undestroyed}
+use Rattle.wit_core.proofs.Judged.{asked-given}
+use Rattle.wit_model.proofs.Numbered.{with_changed-at}
 
 -- a lock's kind, by the locks and by the history
 spin_same : (v : Inside) (l : ℕ) (spin : Bool) → spin ≡ is_spin (lock_at (state_of (story_in v)).known.locks l).made.class → spin ≡ is_spin_lock (locks_of (history_in v)) l
@@ -80,6 +86,11 @@ pub owed-few : (a : Acquisition) → owed_after a ≤ 1
 owed-few Recorded = omega arith
 owed-few Exhausted = omega arith
 owed-few Unrecorded = omega arith
+
+-- a reply to a definition is logged
+pub definition-logged : (d : Definition) → is_logged (reply_of d) ≡ true
+definition-logged Standing = refl
+definition-logged (definition.Adopted p c) = refl
 
 -- a reply to an acquisition is logged
 pub reply-logged : (a : Acquisition) → is_logged (reply_to a) ≡ true
@@ -106,30 +117,30 @@ module _ (v : Inside) (k : IsKept v) (s : Story) (seen : story_in v ≡ s) where
   pub accepted : (t : ℕ) (call : Call) (reply : Reply) → answer_of s t call ≡ Ok reply → answer_of (story_in v) t call ≡ Ok reply
   accepted t call reply ok = subst (λ (x : Story). answer_of x t call ≡ Ok reply) (sym seen) ok
 
-  sane_next : (t : ℕ) (call : Call) (reply : Reply) → answer_of s t call ≡ Ok reply → IsSane (entry t call reply ∷ history_in v)
+  pub sane_next : (t : ℕ) (call : Call) (reply : Reply) → answer_of s t call ≡ Ok reply → IsSane (entry t call reply ∷ history_in v)
   sane_next t call reply ok = sane_more (start_in v) v.known.files (history_in v) (entry t call reply) k.legal (accepted t call reply ok)
 
-  within : (t : ℕ) (call : Call) (reply : Reply) → answer_of s t call ≡ Ok reply → (0 < t) × (t ≤ v.limits.seats)
+  pub within : (t : ℕ) (call : Call) (reply : Reply) → answer_of s t call ≡ Ok reply → (0 < t) × (t ≤ v.limits.seats)
   within t call reply ok = seat_in_range v t call reply k (accepted t call reply ok)
 
-  owed_now : v.log.owed ≡ owed_to v.limits.seats (history_in v)
+  pub owed_now : v.log.owed ≡ owed_to v.limits.seats (history_in v)
   owed_now = k.owed ∙ ap owed k.state
 
   -- the seat of an accepted call is given
   pub given : (t : ℕ) (call : Call) (reply : Reply) → answer_of s t call ≡ Ok reply → IsGiven v.seats.seats t
   given t call reply ok = seat-given v k s seen t (seat_accepted (state_of s) t call reply ok)
 
-  known-now : v.known.known ≡ known_of (start_in v) (history_in v)
+  pub known-now : v.known.known ≡ known_of (start_in v) (history_in v)
   known-now = ap (λ (x : State). x.known) k.state
 
-  seats-now : map seat_view v.seats.seats ≡ seats_of v.limits.seats (history_in v)
+  pub seats-now : map seat_view v.seats.seats ≡ seats_of v.limits.seats (history_in v)
   seats-now = ap (λ (x : State). x.seats) k.state
 
-  watch-now : v.watch ≡ watch_of (history_in v)
+  pub watch-now : v.watch ≡ watch_of (history_in v)
   watch-now = ap (λ (x : State). x.watch) k.state
 
   -- what an entry leaves, part by part
-  left-by : (t : ℕ) (call : Call) (reply : Reply) (known : Known) (live : List Bool) (row : Row) (watch : Watch) (owes : ℕ)
+  pub left-by : (t : ℕ) (call : Call) (reply : Reply) (known : Known) (live : List Bool) (row : Row) (watch : Watch) (owes : ℕ)
       → known ≡ known_of (start_in v) (entry t call reply ∷ history_in v)
       → live ≡ live_flags (length known.locks) (destroyed_of (entry t call reply ∷ history_in v)) → map seat_view row.seats ≡ seats_of v.limits.seats (entry t call reply ∷ history_in v)
       → watch ≡ watch_of (entry t call reply ∷ history_in v) → owes ≡ owed_to v.limits.seats (entry t call reply ∷ history_in v) → row.chunks ≡ v.seats.chunks
@@ -141,7 +152,7 @@ module _ (v : Inside) (k : IsKept v) (s : Story) (seen : story_in v ≡ s) where
     chunks = size;
   }
 
-  kind-now : (l : ℕ) (spin : Bool) → spin ≡ is_spin (lock_at (state_of s).known.locks l).made.class → spin ≡ is_spin_lock (locks_of (history_in v)) l
+  pub kind-now : (l : ℕ) (spin : Bool) → spin ≡ is_spin (lock_at (state_of s).known.locks l).made.class → spin ≡ is_spin_lock (locks_of (history_in v)) l
   kind-now l spin kind = spin_same v l spin (kind ∙ ap (λ (x : Story). is_spin (lock_at (state_of x).known.locks l).made.class) (sym seen))
 
   -- a request that is pending now was so after the history
@@ -310,7 +321,7 @@ module _ (v : Inside) (k : IsKept v) (s : Story) (seen : story_in v ≡ s) where
 
   -- ---- calls for which room is asked
   -- room in the log, of which some may have been reserved
-  room_left : (more : ℕ) (log : Journal) → has_room (state_of (story_in v)) (more + 1) ≡ true → log ≡ record v.log { spare = log.spare }
+  pub room_left : (more : ℕ) (log : Journal) → has_room (state_of (story_in v)) (more + 1) ≡ true → log ≡ record v.log { spare = log.spare }
       → length log.history + log.owed + more < log.limit
   room_left more log room same =
       let few = leb-true _ _ room in
@@ -342,6 +353,56 @@ module _ (v : Inside) (k : IsKept v) (s : Story) (seen : story_in v ≡ s) where
   try_room t l m site a log ok same =
       let room = room_left 1 log (try_accepted (state_of (story_in v)) t l.0 m site (reply_to a) (accepted t (NoteTry l m site) (reply_to a) ok)).room same in
       omega (arith, room, owed-few a)
+
+  -- the room of a call that leaves requests and acquisitions
+  pub plain_room : (t : ℕ) (call : Call) (r : Reply) (log : Journal) → is_plain call ≡ true → is_logged r ≡ true → answer_of s t call ≡ Ok r
+      → log ≡ record v.log { spare = log.spare } → length log.history + log.owed + 0 < log.limit
+  plain_room t call r log plain kept ok same = room_left 0 log (plain_accepted (state_of (story_in v)) t call r plain (accepted t call r ok) kept).room same
+
+  -- a lock that is destroyed
+  pub destroyed_live : (t : ℕ) (l : LockNo) → answer_of s t (Destroy l) ≡ Ok Done → is_flagged v.known.live l.0 ≡ true
+  destroyed_live t l ok = live-now v k s seen l.0 ∙ (destroy_accepted (state_of s) t l.0 Done ok).live
+
+  pub destroyed_typed : (t : ℕ) (l : LockNo) → answer_of s t (Destroy l) ≡ Ok Done → IsGiven v.known.known.types (lock_at v.known.known.locks l.0).type_no.0
+  destroyed_typed t l ok = asked-given v k s seen l.0 (destroy_accepted (state_of s) t l.0 Done ok).lock
+
+  pub leaves_destroy : (t : ℕ) (l : LockNo) → answer_of s t (Destroy l) ≡ Ok Done
+      → Leaves v t (Destroy l) Done v.known.known (with_changed v.known.live l.0 false) v.seats v.watch (v.log.owed + 0)
+  leaves_destroy t l ok =
+      let sane = sane_next t (Destroy l) Done ok in
+      let in_row = within t (Destroy l) Done ok in
+      let same = owed-same v.limits.seats t (Destroy l) Done (history_in v) sane in_row.0 in_row.1 refl refl in
+      let made = flag-within v.known.live l.0 (destroyed_live t l ok) in
+      let size : length v.known.live ≡ length v.known.known.locks = ap length k.live ∙ length-flags (length v.known.known.locks) (destroyed_of (history_in v)) in
+      left-by t (Destroy l) Done _ _ _ _ _
+      (known-now ∙ known-same (start_in v) (history_in v) t (Destroy l) Done refl refl refl refl)
+      (with_changed-at v.known.live l.0 false made.0 ∙ ap (λ bs. set bs (l.0 - 1) false) k.live
+      ∙ flags-destroyed (length v.known.known.locks) l.0 (destroyed_of (history_in v)) made.0 (omega (arith, made.1, size)))
+      (seats-same (start_in v) v.known.files (history_in v) v.seats seats-now t in_row.0 in_row.1 (Destroy l) Done sane refl refl)
+      watch-now (omega (arith, same, owed_now)) refl
+
+  -- an order that is defined
+  pub leaves_define : (t : ℕ) (a b : LockNo) (d : Definition) → answer_of s t (DefineOrder a b) ≡ Ok (reply_of d)
+      → Leaves v t (DefineOrder a b) (reply_of d) (with_defined v.known.known d) v.known.live v.seats v.watch (v.log.owed + 0)
+  leaves_define t a b Standing ok =
+      let sane = sane_next t (DefineOrder a b) reply.Known ok in
+      let in_row = within t (DefineOrder a b) reply.Known ok in
+      let same = owed-same v.limits.seats t (DefineOrder a b) reply.Known (history_in v) sane in_row.0 in_row.1 refl refl in
+      left-by t (DefineOrder a b) reply.Known _ _ _ _ _
+      (known-now ∙ known-same (start_in v) (history_in v) t (DefineOrder a b) reply.Known refl refl refl refl)
+      k.live
+      (seats-same (start_in v) v.known.files (history_in v) v.seats seats-now t in_row.0 in_row.1 (DefineOrder a b) reply.Known sane refl refl)
+      watch-now (omega (arith, same, owed_now)) refl
+  leaves_define t a b (definition.Adopted p c) ok =
+      let sane = sane_next t (DefineOrder a b) (reply.Adopted p c) ok in
+      let in_row = within t (DefineOrder a b) (reply.Adopted p c) ok in
+      let same = owed-same v.limits.seats t (DefineOrder a b) (reply.Adopted p c) (history_in v) sane in_row.0 in_row.1 refl refl in
+      left-by t (DefineOrder a b) (reply.Adopted p c) _ _ _ _ _
+      (ap (λ (x : Known). with_defined x (definition.Adopted p c)) known-now
+      ∙ sym (same_locks (with_defined (known_of (start_in v) (history_in v)) (definition.Adopted p c)) _ (append-nil (typed_locks (start_in v) (history_in v)))))
+      k.live
+      (seats-same (start_in v) v.known.files (history_in v) v.seats seats-now t in_row.0 in_row.1 (DefineOrder a b) (reply.Adopted p c) sane refl refl)
+      watch-now (omega (arith, same, owed_now)) refl
 
   pub watch_room : (t : ℕ) (w : Watch) (log : Journal) → answer_of s t (SetWatch w) ≡ Ok Done → log ≡ record v.log { spare = log.spare }
       → length log.history + log.owed + 0 < log.limit

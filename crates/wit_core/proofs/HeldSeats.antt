@@ -74,11 +74,11 @@ module _ (l : ℕ) (f : Instance → Instance) (keeps : (i : Instance) → (f i)
       by true = keeps i
       by false = refl
 
-  numbers-changed : (gs : List (List Instance)) → numbers (change_lock l f gs) ≡ numbers gs
+  pub numbers-changed : (gs : List (List Instance)) → numbers (change_lock l f gs) ≡ numbers gs
   numbers-changed [] = refl
   numbers-changed (g ∷ gs) = ap₂ (λ n ns. n ∷ ns) (number-changed g) (numbers-changed gs)
 
-flat-changed : (l : ℕ) (f : Instance → Instance) (gs : List (List Instance)) → flat (change_lock l f gs) ≡ map (at l f) (flat gs)
+pub flat-changed : (l : ℕ) (f : Instance → Instance) (gs : List (List Instance)) → flat (change_lock l f gs) ≡ map (at l f) (flat gs)
 flat-changed l f [] = refl
 flat-changed l f (g ∷ gs) = ap (λ is. map (at l f) g ++ is) (flat-changed l f gs) ∙ sym (map-append (at l f) g (flat gs))
 
@@ -110,7 +110,7 @@ numbers-forgotten l gs (Some i) = by (nat_lt 0 i.count)
     by true = numbers-changed l fewer (λ j. refl) gs
     by false = numbers-left l gs
 
-abbrev seat : List Instance → List Instance → List (List ℕ) → List (List ℕ) → Option Request → model.Seat
+abbrev pub seat : List Instance → List Instance → List (List ℕ) → List (List ℕ) → Option Request → model.Seat
 seat sleep spin sleep_groups spin_groups p = record { sleep = sleep; spin = spin; sleep_groups = sleep_groups; spin_groups = spin_groups; pending = p }
 
 -- a seat that acquired a lock of its kind

@@ -1,5 +1,5 @@
 -- What the verdict on a request needs, and that it is the rules' verdict.
-use Rattle.std.proofs.Common.{◌≡◌, ℕ, ◌+◌, ◌-◌, ◌*◌, ◌≤◌, Bool, true, false, List, [], ◌∷◌, length, map, get_or, refl, sym, ap, ap₂, ◌∙◌, subst, arith}
+use Rattle.std.proofs.Common.{◌≡◌, ℕ, ◌+◌, ◌-◌, ◌*◌, ◌≤◌, Bool, true, false, cond, eqb, List, [], ◌∷◌, length, map, get_or, refl, sym, ap, ap₂, ◌∙◌, subst, arith, Err, Ok, Result}
 use Rattle.std.specs.List.{All, AllByRecursion, list_all}
 use Rattle.std.proofs.lemmas.Bool.{and_parts, and_from, lt-ltb, le-leb}
 use Rattle.std.proofs.lemmas.List.{length-map, get_or_default}
@@ -30,6 +30,12 @@ use Rattle.wit_model.proofs.Orders.TypedLocks.{length-typed}
 use Rattle.wit_table.specs.Known.{Names}
 use Rattle.wit_matrix.specs.Relation.{Relation, HasSameOrders, HasSameFound}
 use Rattle.wit_matrix.proofs.Settled.{same_before}
+use Rattle.wit_model.specs.Rules.Defining.{are_of_two_kinds, defining, define}
+use Rattle.wit_model.specs.declared.calls.Reply.{Reply}
+use Rattle.wit_model.specs.declared.calls.Reply.TheVariants as reply
+use Rattle.wit_model.specs.declared.calls.Adoption.{Adoption}
+use Rattle.wit_model.specs.declared.faults.Fault.{Fault}
+use Rattle.wit_model.specs.declared.faults.Fault.TheVariants.{KindMismatch, SameType, WrongOrder}
 use Rattle.wit_check.specs.Bases.{basis, AreTypes}
 use Rattle.wit_check.specs.Held.{sleep_chain, spin_chain, IsJudgeable}
 use Rattle.wit_core.specs.declared.verifier.Verifier.TheInside.{Inside}
@@ -44,6 +50,13 @@ use Rattle.wit_core.proofs.Now.{now, seat-given, locks-told, view-is}
 all-of : {X : Type 0} (p : X → Bool) (P : X → Type 0) → ((x : X) → p x ≡ true → P x) → (xs : List X) → list_all p xs ≡ true → AllByRecursion P xs
 all-of p P from [] all = tt
 all-of p P from (x ∷ xs) all = let parts = and_parts (p x) (list_all p xs) all in (from x parts.0, all-of p P from xs parts.1)
+
+-- the answer to the defining of an order reads which orders are direct and which types are before which
+defining-same : (types : List LockType) (os ps : List Adoption) (a b : TypeNo) → HasSameOrders os ps → defining types os a b ≡ defining types ps a b
+defining-same types os ps a b direct =
+    ap₂ (λ x y. cond {A = Result Reply Fault} (are_of_two_kinds types a b) (Err KindMismatch)
+    (cond (eqb a.0 b.0) (Err SameType) (cond x (Err WrongOrder) (cond y (Ok reply.Known) (Ok (reply.Adopted a b))))))
+    (same_before os ps direct b.0 a.0) (direct a.0 b.0)
 
 module _ (v : Inside) (k : IsKept v) (s : Story) (seen : story_in v ≡ s) where
   locks-are : v.known.known.locks ≡ typed_locks (start_in v) (history_in v)
@@ -76,6 +89,16 @@ module _ (v : Inside) (k : IsKept v) (s : Story) (seen : story_in v ≡ s) where
   pub matrix-sized : (size : ℕ) → size ≡ v.known.most_types → length v.known.known.types ≤ size
   matrix-sized size is = let few = types_few v k in let most = k.types in omega (arith, is, few, most)
 
+  -- the answer over the table and the matrix is the rules'
+  pub definition-told : (names : Names) (relation : Relation) (a b : ℕ) (p c : TypeNo) → names.types ≡ v.known.known.types → HasSameOrders relation.orders v.known.known.orders
+      → p ≡ (lock_at v.known.known.locks a).type_no → c ≡ (lock_at v.known.known.locks b).type_no
+      → defining names.types relation.orders p c ≡ define (state_of s).known a b
+  definition-told names relation a b p c types direct parent child =
+      defining-same names.types relation.orders v.known.known.orders p c direct
+      ∙ ap (λ ts. defining ts v.known.known.orders p c) types
+      ∙ ap₂ (λ x y. defining v.known.known.types v.known.known.orders x y) parent child
+      ∙ ap (λ (x : State). define x.known a b) (now v k s seen)
+
   module _ (t : ℕ) (is : is_seat (state_of s) t ≡ true) (c : Chunks) (holds : HoldFor v.seats c) where
     given : IsGiven v.seats.seats t
     given = seat-given v k s seen t is
@@ -89,7 +112,7 @@ module _ (v : Inside) (k : IsKept v) (s : Story) (seen : story_in v ≡ s) where
     seat-before : is_seat (state_of (story_in v)) t ≡ true
     seat-before = subst (λ (x : Story). is_seat (state_of x) t ≡ true) (sym seen) is
 
-    chain-of-list : (spin : Bool) → chain_of c (list_of spin t) ≡ locks_in spin (seat_in v.seats t)
+    pub chain-of-list : (spin : Bool) → chain_of c (list_of spin t) ≡ locks_in spin (seat_in v.seats t)
     chain-of-list spin = ap flat (holds.groups t spin given)
 
     chain-now : (spin : Bool) → chain_of c (list_of spin t) ≡ chain spin t (history_in v)

@@ -1,3 +1,4 @@
+pub mod Apart
 pub mod Apt
 pub mod Enrolling
 pub mod Entering
@@ -18,4 +19,6 @@ pub mod SeatRows
 pub mod Steps
 pub mod Taught
 pub mod Told
+pub mod Turning
 pub mod Waits
+pub mod Warned

@@ -55,6 +55,9 @@ drop-at m destroyed a (suc n) (suc i) at lt =
 pub flags-destroyed : (n m : ℕ) (destroyed : List ℕ) → 0 < m → m ≤ n → set (live_flags n destroyed) (m - 1) false ≡ live_flags n (m ∷ destroyed)
 flags-destroyed n m destroyed some within = drop-at m destroyed 1 n (m - 1) (omega (arith, some)) (omega (arith, some, within))
 
+pub length-flags : (n : ℕ) (destroyed : List ℕ) → length (live_flags n destroyed) ≡ n
+length-flags n destroyed = length-map-range_with_len (λ l. not (is_destroyed destroyed l)) 1 n
+
 -- whether a lock is flagged
 pub flag-is : (n l : ℕ) (destroyed : List ℕ) → is_flagged (live_flags n destroyed) l ≡ (nat_lt 0 l && nat_le l n) && not (is_destroyed destroyed l)
 flag-is n l destroyed = go (nat_lt 0 l) refl (nat_le l n) refl

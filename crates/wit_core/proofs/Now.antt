@@ -1,6 +1,6 @@
 -- What a verifier's parts say of the state that its story has now.
-use Rattle.std.proofs.Common.{◌≡◌, ℕ, Bool, true, false, not, ◌&&◌, cond, eqb, nat_lt, nat_le, length, map, find, unwrap_or, Option, Some, None, is_some, refl, sym, ap, ap₂, ◌∙◌, subst, arith}
-use Rattle.std.specs.List.{slice_get}
+use Rattle.std.proofs.Common.{◌≡◌, ℕ, Bool, true, false, not, ◌&&◌, ◌||◌, List, [], ◌∷◌, cond, eqb, nat_lt, nat_le, length, map, find, unwrap_or, Option, Some, None, is_some, refl, sym, ap, ap₂, ◌∙◌, subst, arith}
+use Rattle.std.specs.List.{slice_get, list_any}
 use Rattle.std.proofs.lemmas.Bool.{and_parts, ltb-true, leb-true}
 use Rattle.std.proofs.lemmas.List.{length-map}
 use Rattle.wit_model.specs.declared.calls.Reply.TheVariants as reply
@@ -12,6 +12,7 @@ use Rattle.wit_model.specs.Rules.State.{Story, State, state_of, live, seat_of, i
 use Rattle.wit_model.specs.Rules.State as model
 use Rattle.wit_model.specs.Rules.Step.{chain_for, groups_for, recorded}
 use Rattle.wit_model.specs.Rules.Types.{is_spin}
+use Rattle.wit_model.specs.Rules.Destroying.{uses, is_used}
 use Rattle.wit_model.specs.Rules.Verdict.{is_of}
 use Rattle.wit_model.proofs.Numbered.{with_number-or-map, with_number-none}
 use Rattle.wit_model.proofs.Chains.Stands.{stands-chain}
@@ -135,6 +136,15 @@ module _ (v : Inside) (k : IsKept v) (s : Story) (seen : story_in v ≡ s) where
         ∙ ap₂ (λ b c. cond (is_off (state_of s).watch) reply.Unrecorded (cond b reply.Recorded (cond c reply.Exhausted reply.Recorded)))
         (ap (λ c. is_some (find (is_of l) c)) chain-now)
         (ap₂ (λ o n. o && eqb n 0) (sym (opens-numbers (seats.groups_in spin (seat_in v.seats t))) ∙ ap opens groups-now) free-told)
+
+-- a property of some seat, as the rules see it
+pub any-viewed : (has : model.Seat → Bool) (ss : List Seat) → list_any (λ s. has (seat_view s)) ss ≡ list_any has (map seat_view ss)
+any-viewed has [] = refl
+any-viewed has (s ∷ ss) = ap (λ b. has (seat_view s) || b) (any-viewed has ss)
+
+-- whether some seat holds a lock or asks for it
+pub used-now : (v : Inside) (k : IsKept v) (s : Story) (seen : story_in v ≡ s) (l : ℕ) → list_any (λ x. uses l (seat_view x)) v.seats.seats ≡ is_used (state_of s) l
+used-now v k s seen l = any-viewed (uses l) v.seats.seats ∙ ap (λ (x : State). is_used x l) (now v k s seen)
 
 -- a seat that there isn't holds nothing
 pub nothing-held : (s : Story) (t : ℕ) (spin : Bool) (i : ℕ) → is_seat (state_of s) t ≡ false → None ≡ slice_get (chain_in spin (seat_at (state_of s) t)) i

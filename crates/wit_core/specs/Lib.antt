@@ -1,4 +1,5 @@
 pub mod Acquiring
+pub mod Defining
 pub mod Following
 pub mod Fresh
 pub mod Held
@@ -15,4 +16,5 @@ pub mod Replies
 pub mod Searching
 pub mod Seated
 pub mod Seats
+pub mod Turning
 pub mod Verdict

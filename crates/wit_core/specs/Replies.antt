@@ -52,6 +52,14 @@ before_answering s t l rest =
     else if not (is_for l (seat_at s t).pending) then Err NotRequested
     else rest
 
+-- the faults of a call about a lock by a seat that asks for nothing, before the rest
+abbrev pub before_naming : State → ℕ → ℕ → Result Reply Fault → Result Reply Fault
+before_naming s t l rest =
+    if not (is_seat s t) then Err UnknownSeat
+    else if not (is_live s l) then Err UnknownLock
+    else if is_pending s t then Err Pending
+    else rest
+
 -- whichever the rest is, these faults stand before it, or none of them does
 abbrev pub Refuses : (Result Reply Fault → Result Reply Fault) → Fault → Type 0
 Refuses before fault = (rest : Result Reply Fault) → before rest ≡ Err fault

@@ -1,8 +1,9 @@
 //! Circles of seats that wait for one another, by what is recorded: a shortest one from the least seat from which one starts.
 
-ghost use Rattle.std.specs.Prelude.{◌≡◌, ◌<◌, ◌≤◌, length, IfOk, IfErr, OnOk};
+ghost use Rattle.std.specs.Prelude.{◌≡◌, ◌<◌, ◌≤◌, true, [], None, length, IfOk, IfErr, OnOk};
 ghost use Rattle.wit_model.specs.declared.faults.Fault.TheVariants.{OutOfMemory};
 ghost use Rattle.wit_model.specs.Rules.Circles.{waits_for, TellsCircle, circle_numbers};
+ghost use Rattle.wit_model.specs.Rules.Clean.{is_clean};
 ghost use Rattle.wit_model.specs.Rules.Numbers.{IsNumber};
 ghost use Rattle.wit_model.specs.Rules.State.{state_of};
 ghost use Rattle.wit_core.specs.Searching.{waiting, all_waiting, rows_of, says, IsTable, seat_in, IsTrail, IsSearch, Reaches, IsClosing, IsCircleFrom};
@@ -14,12 +15,14 @@ use wit_model::{Fault, SeatNo};
 impl Verifier {
     /// Seats that wait for one another in a circle, by what is recorded: each has asked for a lock that it doesn't hold and that the
     /// next one holds, where one of the two modes is exclusive; and the last waits so for the first, which is the least of them.
-    /// `None` exactly where there is no such circle.
+    /// `None` exactly where there is no such circle, and so while the log is clean (nothing was reported or tried, everything was
+    /// watched, each check might teach its order, and nothing is excepted).
     ///
     /// # Errors
     /// `OutOfMemory` alone.
     pub fn wait_circle(&self) -> Result<Option<Vec<SeatNo>>, Fault>
         ensures ok { IfOk result (λ c. TellsCircle (state_of self.now) (circle_numbers c)) }
+        ensures clean { self.now.start.blessed ≡ [] → is_clean self.now.history ≡ true → IfOk result (λ c. c ≡ None) }
         ensures err { IfErr result (λ e. e ≡ OutOfMemory) }
     {
         let rows = self.all_waiting()?;

@@ -4,6 +4,7 @@
 mod acquiring;
 mod calls;
 mod circle;
+mod defining;
 mod known;
 mod lists;
 mod log;

@@ -6,8 +6,9 @@ ghost use Rattle.wit_model.specs.Rules.Locks.{lock_at};
 ghost use Rattle.wit_model.specs.Rules.Numbers.{is_number};
 ghost use Rattle.wit_model.specs.Rules.State.{state_of, seat_at, is_seat, is_live, has_room};
 ghost use Rattle.wit_model.specs.Rules.Step.{held_by, is_too_deep};
+ghost use Rattle.wit_model.specs.Rules.Destroying.{is_used};
 ghost use Rattle.wit_model.specs.Rules.Types.{is_otherwise, is_enrolled, type_number};
-ghost use Rattle.wit_core.specs.Replies.{before_acquiring, before_answering, Admits, Refuses};
+ghost use Rattle.wit_core.specs.Replies.{before_acquiring, before_answering, before_naming, Admits, Refuses};
 
 use crate::known::class_of;
 use crate::names::{is_enrolled, type_number};
@@ -35,6 +36,13 @@ impl Verifier {
         ensures { result ≡ is_live (state_of self.now) lock.0 }
     {
         self.known.is_live(lock)
+    }
+
+    // Whether some seat holds a lock or asks for it.
+    pub(crate) fn is_used(&self, lock: LockNo) -> bool
+        ensures { result ≡ is_used (state_of self.now) lock.0 }
+    {
+        self.seats.is_used(lock)
     }
 
     pub(crate) fn class_of_lock(&self, lock: LockNo) -> Class
@@ -117,6 +125,24 @@ impl Verifier {
         }
         if self.is_too_deep(seat, lock) {
             return Err(Fault::RecursionTooDeep);
+        }
+        Ok(())
+    }
+
+    // The faults of a call about a lock by a seat that asks for nothing.
+    pub(crate) fn addresses(&self, seat: SeatNo, lock: LockNo) -> Result<(), Fault>
+        ensures ok { OnOk result (Admits (before_naming (state_of self.now) seat.0 lock.0)) }
+        ensures seat { OnOk result (is_seat (state_of self.now) seat.0 ≡ true) }
+        ensures err { IfErr result (Refuses (before_naming (state_of self.now) seat.0 lock.0)) }
+    {
+        if !self.is_seat(seat) {
+            return Err(Fault::UnknownSeat);
+        }
+        if !self.is_live(lock) {
+            return Err(Fault::UnknownLock);
+        }
+        if self.request(seat).is_some() {
+            return Err(Fault::Pending);
         }
         Ok(())
     }

@@ -1,17 +1,26 @@
 //! The seats: what each holds, and what it has asked for.
 
-ghost use Rattle.std.specs.Prelude.{◌≡◌, not, find, slice_get, replicate, IfOk, IfErr, None, Some};
+ghost use Rattle.std.specs.Prelude.{◌≡◌, true, false, not, find, is_some, slice_get, replicate, IfOk, IfErr, None, Some};
 ghost use Rattle.wit_model.specs.declared.faults.Fault.TheVariants.{OutOfMemory};
 ghost use Rattle.wit_model.specs.Rules.Numbers.{is_given, IsGiven, IsNumber};
+ghost use Rattle.wit_model.specs.Rules.Assertions.{assertion};
 ghost use Rattle.wit_model.specs.Rules.Verdict.{is_of};
-ghost use Rattle.wit_held.specs.Chains.{IsOnce, IsShallow};
-ghost use Rattle.wit_core.specs.Seats.{idle_row, seat_in, locks_in, free_in, with_seat, asking, released, has_no_room, after_acquired, list_of, HoldFor};
+ghost use Rattle.wit_model.specs.Rules.Step.{is_for};
+ghost use Rattle.wit_model.specs.Rules.Destroying.{uses};
+ghost use Rattle.std.specs.List.{list_any};
+ghost use Rattle.wit_held.specs.Chains.{IsOnce, IsShallow, in_mode};
+ghost use Rattle.wit_held.specs.Marks.{marked};
+ghost use Rattle.wit_core.specs.Held.{seat_view};
+ghost use Rattle.wit_core.specs.Seats.{Seat, idle_row, seat_in, locks_in, free_in, with_seat, asking, released, has_no_room, after_acquired, list_of, HoldFor};
+ghost use Rattle.wit_core.specs.Turning.{changed};
 
 use std::alloc::{AllocError, Global};
 use std::marker::Model;
-use wit_held::{VecLists, forget, held, record};
+use wit_held::{
+    VecLists, assert_is, forget, held, norelease, record, recursion, releaseok, set_mode,
+};
 use wit_model::chunks::Lists;
-use wit_model::{Fault, Instance, LockNo, Request, SeatNo};
+use wit_model::{AssertAnswer, Fault, Instance, LockAssert, LockNo, Mode, Request, SeatNo, Watch};
 
 /// The lists in which the seats hold their locks.
 pub type Chunked = VecLists;
@@ -95,6 +104,41 @@ impl Seats {
         held(&self.lists, list_of(seat, spin), lock)
     }
 
+    /// Whether a seat holds a lock or asks for it.
+    fn uses(&self, seat: SeatNo, lock: LockNo) -> bool
+        requires { IsGiven self.now.seats seat.0 }
+        ensures { result ≡ uses lock.0 (seat_view (seat_in self.now seat.0)) }
+    {
+        if self.holds(seat, false, lock) {
+            return true;
+        }
+        if self.holds(seat, true, lock) {
+            return true;
+        }
+        is_for(lock, self.pending(seat))
+    }
+
+    // Whether a seat holds a lock of this kind.
+    fn holds(&self, seat: SeatNo, spin: bool, lock: LockNo) -> bool
+        requires { IsGiven self.now.seats seat.0 }
+        ensures { result ≡ is_some (find (is_of lock.0) (locks_in spin (seat_in self.now seat.0))) }
+    {
+        recursion(&self.lists, list_of(seat, spin), lock).is_some()
+    }
+
+    /// Whether some seat holds a lock or asks for it.
+    pub fn is_used(&self, lock: LockNo) -> bool
+        ensures { result ≡ list_any (λ (s : Seat). uses lock.0 (seat_view s)) self.now.seats }
+    {
+        for place in 0..self.requests.len() {
+            let seat = SeatNo(place as u16 + 1);
+            if self.uses(seat, lock) {
+                return true;
+            }
+        }
+        false
+    }
+
     /// The lock of one kind that a seat holds at this place, counted from the oldest, 0.
     pub fn at(&self, seat: SeatNo, spin: bool, place: usize) -> Option<Instance>
         requires { IsGiven self.now.seats seat.0 }
@@ -107,6 +151,23 @@ impl Seats {
         } else {
             None
         }
+    }
+}
+
+impl Seats {
+    /// What an assertion about a lock of this kind comes to: `wit_held::assert_is` in its list.
+    pub fn assert_is(
+        &self,
+        seat: SeatNo,
+        spin: bool,
+        lock: LockNo,
+        watch: Watch,
+        flags: LockAssert,
+    ) -> AssertAnswer
+        requires { IsGiven self.now.seats seat.0 }
+        ensures { result ≡ assertion watch flags (find (is_of lock.0) (locks_in spin (seat_in self.now seat.0))) }
+    {
+        assert_is(&self.lists, list_of(seat, spin), lock, watch, flags)
     }
 }
 
@@ -147,6 +208,46 @@ impl Seats {
         ensures { self.new ≡ with_seat seat.0 (released spin lock.0) self.old }
     {
         forget(&mut self.lists, list_of(seat, spin), lock);
+    }
+}
+
+/// What changes how a seat holds a lock: its place, its count and its site stay.
+impl Seats {
+    /// A lock of this kind is held in another mode: `wit_held::set_mode` in its list.
+    pub fn turn(&mut self, seat: SeatNo, spin: bool, lock: LockNo, mode: Mode)
+        requires seat { IsGiven self.old.seats seat.0 }
+        requires once { IsOnce lock.0 (locks_in spin (seat_in self.old seat.0)) }
+        ensures { self.new ≡ with_seat seat.0 (changed spin lock.0 (in_mode mode)) self.old }
+    {
+        set_mode(&mut self.lists, list_of(seat, spin), lock, mode);
+    }
+
+    /// A lock of this kind must not be released: `wit_held::norelease` in its list.
+    pub fn forbid(&mut self, seat: SeatNo, spin: bool, lock: LockNo)
+        requires seat { IsGiven self.old.seats seat.0 }
+        requires once { IsOnce lock.0 (locks_in spin (seat_in self.old seat.0)) }
+        ensures { self.new ≡ with_seat seat.0 (changed spin lock.0 (marked true)) self.old }
+    {
+        norelease(&mut self.lists, list_of(seat, spin), lock);
+    }
+
+    /// A lock of this kind may be released: `wit_held::releaseok` in its list.
+    pub fn allow(&mut self, seat: SeatNo, spin: bool, lock: LockNo)
+        requires seat { IsGiven self.old.seats seat.0 }
+        requires once { IsOnce lock.0 (locks_in spin (seat_in self.old seat.0)) }
+        ensures { self.new ≡ with_seat seat.0 (changed spin lock.0 (marked false)) self.old }
+    {
+        releaseok(&mut self.lists, list_of(seat, spin), lock);
+    }
+}
+
+// Whether a request is for this lock.
+fn is_for(lock: LockNo, request: Option<Request>) -> bool
+    ensures { result ≡ is_for lock.0 request }
+{
+    match request {
+        Some(request) => request.lock.0 == lock.0,
+        None => false,
     }
 }
 

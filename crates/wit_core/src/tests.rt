@@ -4,8 +4,8 @@ use crate::{StartError, Verifier};
 use std::alloc::Global;
 use std::test::Fail;
 use wit_model::{
-    Adoption, Class, Fault, FileNo, Limits, LockFlags, LockNo, Mode, OpFlags, Origin, Reply,
-    SeatNo, Site, TypeNo, Watch,
+    Adoption, AssertAnswer, Class, Fault, FileNo, Limits, LockAssert, LockFlags, LockNo, Mode,
+    OpFlags, Origin, Reply, SeatNo, Site, TypeNo, WarnFlags, Watch,
 };
 
 /// A call. Its numbers are those of a seat, a lock and a line.
@@ -21,6 +21,12 @@ enum Step {
     Try(u16, u32, u32),
     GiveUp(u16, u32),
     Unlock(u16, u32),
+    Upgrade(u16, u32),
+    Downgrade(u16, u32),
+    NoRelease(u16, u32),
+    ReleaseOk(u16, u32),
+    Define(u16, u32, u32),
+    Destroy(u16, u32),
     Watch(u16, Watch),
 }
 
@@ -40,6 +46,7 @@ enum Answer {
     Unrecorded,
     Unlocked,
     Done,
+    Known,
     Ignored,
     Refused(Fault),
 }
@@ -238,6 +245,68 @@ const TRIES: [(Step, Answer); 20] = [
     (Step::Check(1, 1, 9), Answer::Refused(Fault::SleepUnderSpin)),
 ];
 
+/// A lock is turned to the other mode and back, and one is kept from its release.
+const TURNS: [(Step, Answer); 19] = [
+    (Step::Rw("a", None), Answer::Made(1)),
+    (Step::Init("b", None), Answer::Made(2)),
+    (Step::Check(1, 1, 1), Answer::Pass),
+    (Step::Note(1, 1), Answer::Recorded),
+    (
+        Step::Upgrade(1, 1),
+        Answer::Refused(Fault::UpgradeOfExclusive),
+    ),
+    (Step::Downgrade(1, 1), Answer::Done),
+    (
+        Step::Downgrade(1, 1),
+        Answer::Refused(Fault::DowngradeOfShared),
+    ),
+    (Step::Unlock(1, 1), Answer::Refused(Fault::ExclusiveUnlock)),
+    (Step::Upgrade(1, 1), Answer::Done),
+    (Step::Unlock(1, 1), Answer::Unlocked),
+    (Step::Upgrade(1, 1), Answer::Refused(Fault::NotLocked)),
+    (Step::Upgrade(1, 2), Answer::Refused(Fault::NotUpgradable)),
+    (Step::Check(1, 2, 2), Answer::Pass),
+    (Step::Note(1, 2), Answer::Recorded),
+    (Step::NoRelease(1, 2), Answer::Done),
+    (Step::Unlock(1, 2), Answer::Refused(Fault::ForbiddenUnlock)),
+    (Step::ReleaseOk(1, 2), Answer::Done),
+    (Step::Unlock(1, 2), Answer::Unlocked),
+    (Step::NoRelease(1, 2), Answer::Refused(Fault::NotLocked)),
+];
+
+/// Orders are defined by calls, and a check goes by them.
+const DEFINED: [(Step, Answer); 14] = [
+    (Step::Init("a", Some("A")), Answer::Made(1)),
+    (Step::Init("b", Some("B")), Answer::Made(2)),
+    (Step::Init("c", Some("A")), Answer::Made(3)),
+    (Step::Spin("s"), Answer::Made(4)),
+    (Step::Define(1, 1, 2), Answer::Adopted(1, 2)),
+    (Step::Define(1, 3, 2), Answer::Known),
+    (Step::Define(1, 2, 1), Answer::Refused(Fault::WrongOrder)),
+    (Step::Define(1, 1, 3), Answer::Refused(Fault::SameType)),
+    (Step::Define(1, 1, 4), Answer::Refused(Fault::KindMismatch)),
+    (Step::Define(1, 1, 5), Answer::Refused(Fault::UnknownLock)),
+    (Step::Check(2, 2, 1), Answer::Pass),
+    (Step::Note(2, 2), Answer::Recorded),
+    (Step::Check(2, 1, 2), Answer::Reversal(2, 1, 1, 2)),
+    (Step::Define(2, 1, 2), Answer::Refused(Fault::Pending)),
+];
+
+/// After these a lock is destroyed that nobody holds or asks for, and no call may name it any more.
+const DESTROYED: [(Step, Answer); 11] = [
+    (Step::Destroy(1, 1), Answer::Refused(Fault::Busy)),
+    (Step::Destroy(1, 2), Answer::Refused(Fault::Busy)),
+    (Step::GiveUp(2, 1), Answer::Done),
+    (Step::Destroy(2, 2), Answer::Refused(Fault::Busy)),
+    (Step::Destroy(2, 1), Answer::Done),
+    (Step::Destroy(1, 1), Answer::Refused(Fault::UnknownLock)),
+    (Step::Check(1, 1, 3), Answer::Refused(Fault::UnknownLock)),
+    (Step::Define(1, 1, 2), Answer::Refused(Fault::UnknownLock)),
+    (Step::Unlock(2, 2), Answer::Unlocked),
+    (Step::Watch(1, Watch::Off), Answer::Done),
+    (Step::Define(1, 3, 4), Answer::Ignored),
+];
+
 /// Where less is watched, no order is checked, and what is held is recorded still.
 const QUIET: [(Step, Answer); 7] = [
     (Step::Watch(1, Watch::Quiet), Answer::Done),
@@ -387,6 +456,14 @@ fn call(verifier: &mut Verifier, step: Step) -> Result<Reply, Fault> {
         Step::GiveUp(seat, lock) => verifier.give_up(SeatNo(seat), LockNo(lock)),
         Step::Watch(seat, watch) => verifier.set_watch(SeatNo(seat), watch),
         Step::Unlock(seat, lock) => verifier.unlock(SeatNo(seat), LockNo(lock), Mode::Exclusive),
+        Step::Upgrade(seat, lock) => verifier.upgrade(SeatNo(seat), LockNo(lock)),
+        Step::Downgrade(seat, lock) => verifier.downgrade(SeatNo(seat), LockNo(lock)),
+        Step::NoRelease(seat, lock) => verifier.norelease(SeatNo(seat), LockNo(lock)),
+        Step::ReleaseOk(seat, lock) => verifier.releaseok(SeatNo(seat), LockNo(lock)),
+        Step::Define(seat, first, second) => {
+            verifier.define_order(SeatNo(seat), LockNo(first), LockNo(second))
+        }
+        Step::Destroy(seat, lock) => verifier.destroy(SeatNo(seat), LockNo(lock)),
     }
 }
 
@@ -438,6 +515,7 @@ fn answer_of(reply: &Reply) -> Answer {
         Reply::Unrecorded => Answer::Unrecorded,
         Reply::Unlocked => Answer::Unlocked,
         Reply::Done => Answer::Done,
+        Reply::Known => Answer::Known,
         Reply::Ignored => Answer::Ignored,
     }
 }
@@ -552,6 +630,48 @@ fn programs(rt: HostRuntime) -> Result<(), Fail> {
     assert_eq!(rt; done, (None, make_counts(5, 2, 1)));
     let done = program(alloc, 64, "", &TRIES)?;
     assert_eq!(rt; done, (None, make_counts(19, 1, 1)));
+    let done = program(alloc, 64, "", &TURNS)?;
+    assert_eq!(rt; done, (None, make_counts(12, 0, 0)));
+    Ok(())
+}
+
+/// What an assertion of a seat comes to.
+fn asserted(
+    verifier: &Verifier,
+    seat: u16,
+    lock: u32,
+    flags: LockAssert,
+) -> Result<AssertAnswer, Fault> {
+    verifier.assert_lock(SeatNo(seat), LockNo(lock), flags)
+}
+
+/// Of how many locks a seat is warned, none of them allowed.
+fn warned(verifier: &Verifier, seat: u16, named: Option<LockNo>) -> Result<usize, Fault> {
+    verifier.warn(SeatNo(seat), named, WarnFlags(0))
+}
+
+#[test]
+fn assertions_and_warnings(rt: HostRuntime) -> Result<(), Fail> {
+    let mut verifier = start(rt.alloc(), (2, 8, 4, 64), "", "")?;
+    let _number = file(&mut verifier, "f")?;
+    assert_eq!(rt; other_answer(&mut verifier, &REVERSAL[..6]), None);
+    for (seat, lock, flags, answer) in [
+        (1, 1, LockAssert::LOCKED, Ok(AssertAnswer::Holds)),
+        (1, 2, LockAssert::SLOCKED, Ok(AssertAnswer::IsExclusive)),
+        (2, 1, LockAssert::LOCKED, Ok(AssertAnswer::IsNotLocked)),
+        (3, 1, LockAssert::LOCKED, Err(Fault::UnknownSeat)),
+        (1, 3, LockAssert::LOCKED, Err(Fault::UnknownLock)),
+    ] {
+        let told = asserted(&verifier, seat, lock, flags);
+        assert_eq!(rt; told, answer, "of lock {lock} by seat {seat}");
+    }
+    assert_eq!(rt; warned(&verifier, 1, None), Ok(2));
+    assert_eq!(rt; warned(&verifier, 1, Some(LockNo(2))), Ok(1));
+    assert_eq!(rt; warned(&verifier, 2, None), Ok(0));
+    assert_eq!(rt;
+        warned(&verifier, 1, Some(LockNo(3))),
+        Err(Fault::UnknownLock)
+    );
     Ok(())
 }
 
@@ -578,6 +698,24 @@ fn circles(rt: HostRuntime) -> Result<(), Fail> {
     let _number = file(&mut verifier, "f")?;
     assert_eq!(rt; other_answer(&mut verifier, &SHARED), None);
     assert_eq!(rt; circle_of(&verifier)?, [1, 3, 0]);
+    Ok(())
+}
+
+#[test]
+fn definitions_and_destruction(rt: HostRuntime) -> Result<(), Fail> {
+    let mut verifier = start(rt.alloc(), (2, 8, 4, 64), "", "")?;
+    let _number = file(&mut verifier, "f")?;
+    assert_eq!(rt; other_answer(&mut verifier, &DEFINED), None);
+    assert_eq!(rt; counts_of(&verifier), make_counts(9, 1, 1));
+    let origin = verifier.origin(TypeNo(1), TypeNo(2));
+    assert_eq!(rt; origin, Some(Origin::Defined));
+    assert_eq!(rt; verifier.live(TypeNo(1)), Some(2));
+    assert_eq!(rt; other_answer(&mut verifier, &DESTROYED), None);
+    assert_eq!(rt; counts_of(&verifier), make_counts(13, 1, 1));
+    assert_eq!(rt; verifier.live(TypeNo(1)), Some(1));
+    assert_eq!(rt; verifier.live(TypeNo(4)), None);
+    assert_eq!(rt; verifier.lock_name(LockNo(1)), Some("a"));
+    assert_eq!(rt; verifier.type_of(LockNo(1)), Some(TypeNo(1)));
     Ok(())
 }
 

@@ -1,6 +1,7 @@
 //! The verifier of lock orders.
 
 ghost use Rattle.std.specs.Prelude.{◌≡◌, None, reverse, IfOk, IfErr};
+ghost use Rattle.wit_model.specs.Rules.Clean.{CleanMeansNoCircle};
 ghost use Rattle.wit_model.specs.Rules.Files.{NamesFile};
 ghost use Rattle.wit_model.specs.Rules.History.{reports_of, watch_of};
 ghost use Rattle.wit_model.specs.Rules.Orders.{AreDistinct, IsSound};
@@ -112,11 +113,14 @@ impl Verifier {
     }
 
     /// The log: each accepted call with its seat and reply, oldest first. Each reply is the answer of the rules
-    /// after the entries before it, behind a start that isn't refused.
+    /// after the entries before it, behind a start that isn't refused. While it is clean (nothing was reported or tried, everything
+    /// was watched, each check might teach its order, and nothing is excepted) no seats wait for one another in a circle, by what is
+    /// recorded.
     pub fn history(&self) -> &[Entry]
         ensures log { reverse result.now ≡ self.now.history }
         ensures accepted { start_fault self.now.start ≡ None }
         ensures legal { IsLegal self.now.start self.now.files self.now.history }
+        ensures apart { CleanMeansNoCircle self.now }
     {
         self.log.entries()
     }

@@ -8,9 +8,7 @@ use linked_list_allocator::LocalHeap;
 use std::alloc::{AllocError, Allocator, Global};
 use std::test::Fail;
 use wit_model::chunks::Lists;
-use wit_model::{
-    AssertAnswer, Fault, FileNo, Instance, LockAssert, LockNo, Mode, Site, Watch,
-};
+use wit_model::{AssertAnswer, Fault, FileNo, Instance, LockAssert, LockNo, Mode, Site, Watch};
 
 /// A call, or what the lists are to hold after it. Lists and locks stand by their numbers.
 #[derive(Clone, Copy)]

@@ -1,5 +1,4 @@
 use Rattle.std.proofs.Common.{◌-◌, Bool, sym, subst, ap, filter, length, arith}
-use Rattle.std.specs.List.{All}
 use Rattle.wit_model.specs.declared.locks.Instance.{Instance}
 use Rattle.wit_model.specs.Rules.Numbers.{IsGiven}
 use Rattle.wit_model.specs.Rules.Chunks.{groups_of, chain_of}

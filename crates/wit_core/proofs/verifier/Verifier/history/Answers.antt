@@ -1,3 +1,4 @@
+use Rattle.wit_core.proofs.Apart.{apart_kept}
 use Rattle.wit_core.proofs.verifier.Verifier.history.Goals as goal
 
 pub returns-clause-accepted : goal.returns-clause-accepted
@@ -5,3 +6,6 @@ returns-clause-accepted c = rw (← c.self.view_is) c.self.invariant.started
 
 pub returns-clause-legal : goal.returns-clause-legal
 returns-clause-legal c = rw (← c.self.view_is) c.self.invariant.legal
+
+pub returns-clause-apart : goal.returns-clause-apart
+returns-clause-apart c = rw (← c.self.view_is) (apart_kept c.self.inside c.self.invariant)

@@ -1,7 +1,10 @@
 use Rattle.std.proofs.Common.{◌+◌, subst, arith, Option}
 use Rattle.std.specs.Global.{Vec}
 use Rattle.wit_model.specs.declared.locks.SeatNo.{SeatNo}
+use Rattle.wit_model.specs.Rules.Circles.{seat_numbers}
+use Rattle.wit_model.specs.Rules.Clean.{CleanMeansNoCircle}
 use Rattle.wit_core.specs.Searching.{rows_of, IsCircleFrom}
+use Rattle.wit_core.proofs.Apart.{apart_kept}
 use Rattle.wit_core.proofs.Waits.{rows_table, rows-count, tells_circle, tells_none}
 use Rattle.wit_core.proofs.verifier.Verifier.wait_circle.Goals as goal
 
@@ -28,3 +31,11 @@ pub returns-clause-ok : goal.returns-clause-ok
 returns-clause-ok c =
     tells_none c.args.self.now c.in_ok-rows.rows.items c.in_ok-rows.ensures
     (λ t some most. c.loop-place.invariant t some (omega (arith, most, c.seats-place-end.ensures.value)))
+
+pub returns-in-Some-clause-clean : goal.returns-in-Some-clause-clean
+returns-in-Some-clause-clean c = λ unblessed clean.
+    let apart : CleanMeansNoCircle c.args.self.now = rw (← c.self.view_is) (apart_kept c.self.inside c.self.invariant) in
+    let told = tells_circle c.args.self.now c.in_ok-rows.rows.items c.in_ok-rows.ensures (c.loop-place.place + 1) c.in-Some.circle
+    (subst (λ (o : Option (Vec SeatNo)). IsCircleFrom (rows_of c.in_ok-rows.rows.items) (c.loop-place.place + 1) o) c.in-Some.is
+    (rw c.deref.ensures.value at c.in_ok-circle.ensures)) in
+    absurd (apart unblessed clean (seat_numbers c.in-Some.circle.items) told.0)

@@ -1,0 +1,39 @@
+-- Calls that change how a lock is held, and the seat that they leave.
+use Rattle.std.specs.Prelude.{ℕ, Bool, true, false, Option, Result, Ok, Err, if◌then◌else◌}
+use Rattle.wit_model.specs.declared.faults.Fault.{Fault}
+use Rattle.wit_model.specs.declared.locks.Instance.{Instance}
+use Rattle.wit_model.specs.declared.locks.LockNo.{LockNo}
+use Rattle.wit_model.specs.declared.locks.Mode.{Mode}
+use Rattle.wit_model.specs.declared.locks.Mode.TheVariants.{Shared, Exclusive}
+use Rattle.wit_model.specs.declared.locks.Watch.{Watch}
+use Rattle.wit_model.specs.declared.calls.Call.{Call}
+use Rattle.wit_model.specs.declared.calls.Call.TheVariants.{Upgrade, Downgrade, NoRelease, ReleaseOk}
+use Rattle.wit_model.specs.declared.calls.Reply.{Reply}
+use Rattle.wit_model.specs.declared.calls.Reply.TheVariants.{Done, Ignored}
+use Rattle.wit_model.specs.Rules.Turning.{upgraded, downgraded}
+use Rattle.wit_held.specs.Chains.{change_lock}
+use Rattle.wit_core.specs.Seats.{Seat, in_groups}
+
+-- a seat of which one held lock of this kind is changed
+abbrev pub changed : Bool → ℕ → (Instance → Instance) → Seat → Seat
+changed spin l change s = in_groups spin (change_lock l change) s
+
+-- the call that turns a lock to this mode
+abbrev pub turn_call : Mode → LockNo → Call
+turn_call Exclusive l = Upgrade l
+turn_call Shared l = Downgrade l
+
+-- its answer for a lock held so
+abbrev pub turned : Mode → Watch → Option Instance → Result Reply Fault
+turned Exclusive watch held = upgraded watch held
+turned Shared watch held = downgraded watch held
+
+-- the call that says whether a lock must not be released
+abbrev pub mark_call : Bool → LockNo → Call
+mark_call true l = NoRelease l
+mark_call false l = ReleaseOk l
+
+-- whether a call is recorded, or passed over
+abbrev pub done_or_ignored : Result Bool Fault → Result Reply Fault
+done_or_ignored (Ok done) = if done then Ok Done else Ok Ignored
+done_or_ignored (Err f) = Err f

@@ -1,0 +1,105 @@
+//! `define_order`: one lock's type is to be before another's.
+
+ghost use Rattle.std.specs.Prelude.{◌≡◌, true, Ok, OnOk, OnErr};
+ghost use Rattle.wit_model.specs.declared.calls.Call.TheVariants.{DefineOrder};
+ghost use Rattle.wit_model.specs.Rules.Defining.{define};
+ghost use Rattle.wit_model.specs.Rules.State.{state_of, is_live};
+ghost use Rattle.wit_model.specs.Rules.Step.{AnswersOrFails, answer_of, logged};
+ghost use Rattle.wit_core.specs.Defining.{reply_of, definition_reply, defined_reply};
+
+use crate::defining::{Definition, defined};
+use crate::known::type_of;
+use crate::verifier::Verifier;
+use std::alloc::AllocError;
+use wit_check::define;
+use wit_model::{Call, Entry, Fault, LockNo, Reply, SeatNo};
+
+impl Verifier {
+    /// Defines an order without an acquisition, as `witness_defineorder` does: the first lock's type is before the second one's from
+    /// now on. It is `Adopted`; or `Known` where it is a direct order already; or, where nothing is watched, `Ignored`, which is not
+    /// logged.
+    ///
+    /// # Errors
+    /// In this order: `UnknownSeat`; `UnknownLock` for either lock; `Pending` where the seat has a request; and where something is watched:
+    /// `KindMismatch` where one lock is a spin lock and the other isn't; `SameType` where both are of one type; `WrongOrder` where the
+    /// second one's type is before the first one's; `LogFull`; `OutOfMemory`.
+    pub fn define_order(
+        &mut self,
+        seat: SeatNo,
+        first: LockNo,
+        second: LockNo,
+    ) -> Result<Reply, Fault>
+        ensures { AnswersOrFails self.old seat.0 (DefineOrder first second) result self.new }
+    {
+        match self.answer_define(seat, first, second)? {
+            Some(definition) => {
+                self.enter_define(seat, first, second, definition)?;
+                Ok(definition.reply())
+            }
+            None => Ok(Reply::Ignored),
+        }
+    }
+
+    // What becomes of the order; `None` where the call is passed over.
+    fn answer_define(
+        &self,
+        seat: SeatNo,
+        first: LockNo,
+        second: LockNo,
+    ) -> Result<Option<Definition>, Fault>
+        ensures { defined_reply result ≡ answer_of self.now seat.0 (DefineOrder first second) }
+    {
+        if !self.is_seat(seat) {
+            return Err(Fault::UnknownSeat);
+        }
+        if !self.is_live(first) || !self.is_live(second) {
+            return Err(Fault::UnknownLock);
+        }
+        if self.request(seat).is_some() {
+            return Err(Fault::Pending);
+        }
+        if self.watch().is_off() {
+            return Ok(None);
+        }
+        let definition = self.definition(first, second)?;
+        if !self.has_room(1) {
+            return Err(Fault::LogFull);
+        }
+        Ok(Some(definition))
+    }
+
+    // What becomes of the order of two live locks' types.
+    fn definition(&self, first: LockNo, second: LockNo) -> Result<Definition, Fault>
+        requires first { is_live (state_of self.now) first.0 ≡ true }
+        requires second { is_live (state_of self.now) second.0 ≡ true }
+        ensures { definition_reply result ≡ define (state_of self.now).known first.0 second.0 }
+    {
+        let known = &self.known;
+        let parent = type_of(known.locks(), first);
+        let child = type_of(known.locks(), second);
+        let verdict = define(known.names(), known.orders().matrix(), parent, child);
+        defined(verdict)
+    }
+
+    fn enter_define(
+        &mut self,
+        seat: SeatNo,
+        first: LockNo,
+        second: LockNo,
+        definition: Definition,
+    ) -> Result<(), AllocError>
+        requires { answer_of self.old seat.0 (DefineOrder first second) ≡ Ok (reply_of definition) }
+        ensures ok { OnOk result (self.new ≡ logged self.old seat.0 (DefineOrder first second) (reply_of definition)) }
+        ensures err { OnErr result (self.new ≡ self.old) }
+    {
+        self.log.reserve(1)?;
+        self.known.define(definition)?;
+        let entry = Entry {
+            seat,
+            call: Call::DefineOrder(first, second),
+            reply: definition.reply(),
+        };
+        self.log.push(entry, 0);
+        Ok(())
+    }
+}

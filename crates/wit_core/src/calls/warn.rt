@@ -1,0 +1,58 @@
+//! `warn`: whether a seat holds locks where it should hold none.
+
+ghost use Rattle.std.specs.Prelude.{◌≡◌, true, length};
+ghost use Rattle.wit_model.specs.Rules.State.{state_of, is_seat};
+ghost use Rattle.wit_model.specs.Rules.Warnings.{is_nameable, warned, step_warn};
+
+use crate::verifier::Verifier;
+use wit_check::Basis;
+use wit_held::warn_count;
+use wit_model::{Fault, LockNo, SeatNo, WarnFlags};
+
+impl Verifier {
+    /// How many locks a seat holds where it should hold none but the named one, or such as the flags allow: `witness_warn` of
+    /// witness(4). Where not everything is watched it is none. It isn't logged, and takes no memory.
+    ///
+    /// # Errors
+    /// In this order: `UnknownSeat`; `UnknownLock` for a named lock.
+    pub fn warn(
+        &self,
+        seat: SeatNo,
+        named: Option<LockNo>,
+        flags: WarnFlags,
+    ) -> Result<usize, Fault>
+        ensures { result ≡ step_warn (state_of self.now) seat.0 named flags }
+    {
+        if !self.is_seat(seat) {
+            return Err(Fault::UnknownSeat);
+        }
+        if !self.is_nameable(named) {
+            return Err(Fault::UnknownLock);
+        }
+        Ok(self.warned(seat, named, flags))
+    }
+
+    // Whether a call may name this lock, if it names one.
+    fn is_nameable(&self, named: Option<LockNo>) -> bool
+        ensures { result ≡ is_nameable (state_of self.now) named }
+    {
+        match named {
+            Some(lock) => self.is_live(lock),
+            None => true,
+        }
+    }
+
+    // How many held locks a seat is warned of.
+    fn warned(&self, seat: SeatNo, named: Option<LockNo>, flags: WarnFlags) -> usize
+        requires { is_seat (state_of self.now) seat.0 ≡ true }
+        ensures { result ≡ length (warned (state_of self.now) seat.0 named flags) }
+    {
+        let known = &self.known;
+        let basis = Basis {
+            types: known.names(),
+            matrix: known.orders().matrix(),
+            lock_types: known.lock_types(),
+        };
+        warn_count(self.seats.lists(), &basis, seat, self.watch, named, flags)
+    }
+}
