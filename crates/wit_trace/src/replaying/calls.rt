@@ -34,7 +34,10 @@ pub fn enter_line(
             lock,
             asserted,
         } => remark(told, assertion(alloc, verifier, seat, lock, asserted)),
-        Line::Warn { seat, lock, flags } => remark(told, warning(alloc, verifier, seat, lock, flags)),
+        Line::Warn { seat, lock, flags } => remark(
+            told,
+            warning(alloc, verifier, seat, lock, flags),
+        ),
         line => {
             let reply = make_call(verifier, line)?;
             Ok(reply_text(alloc, verifier, &reply)?)

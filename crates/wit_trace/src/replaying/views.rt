@@ -24,11 +24,7 @@ pub fn shown(alloc: Global, view: View, told: Vec<u8>) -> Vec<u8>
 ///
 /// # Errors
 /// `OutOfMemory` alone.
-pub fn last_text(
-    alloc: Global,
-    view: View,
-    verifier: &Verifier,
-) -> Result<(Vec<u8>, bool), Fault>
+pub fn last_text(alloc: Global, view: View, verifier: &Verifier) -> Result<(Vec<u8>, bool), Fault>
     ensures ok { IfOk result (λ r. IsViewOf view verifier.now r.0.items r.1) }
     ensures err { IfErr result (λ e. e ≡ OutOfMemory) }
 {

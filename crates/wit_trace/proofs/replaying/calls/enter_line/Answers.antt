@@ -7,7 +7,7 @@ pub returns-in_err-reply-in_default : goal.returns-in_err-reply-in_default
 returns-in_err-reply-in_default c =
     let v = c.args.verifier.now in
     call_passes (calls v c.args.told.now c.args.line) (Reading v c.args.told.now) (Reading c.make_call.new.verifier c.args.told.now) c.in_err-reply-in_default.field-0.0 c.from_residual.result
-    c.from_residual.ensures.1 (c.in_err-reply-in_default.ensures tt c.args.told.now)
+    c.from_residual.ensures.1 (c.in_err-reply-in_default.ensures c.args.told.now)
 
 pub returns-in-Warn : goal.returns-in-Warn
 returns-in-Warn c =
