@@ -12,6 +12,7 @@
 #   reports   a chain of 256 types, and then reversals whose established orders are paths of up to 255 steps
 #   steps     a chain of 1,023 types, and then reversals whose established orders are paths of 100 to 109 steps
 #   orders    every pair of 1,023 types is defined as an order, the nearest last
+#   destroyed 65,536 mutexes, each of which is destroyed: most of them while each of 256 seats holds two others
 #   ring      256 seats, each of which holds a mutex and asks for the next one's: a circle of them all
 #   queue     the same, but that the last one asks for nothing: no circle
 # A second word asks for another number of rounds, or for the shortest path in `reports` and the longest in `steps`.
@@ -144,6 +145,25 @@ exec awk -v name="$name" -v rounds="${2:-0}" '
             for (lock = 1; lock + distance <= 1023; lock++)
                 print "define 1 " lock " " lock + distance
     }
+    function destroy(seat, lock) {
+        print "destroy " seat " " lock
+    }
+    function destroyed(lock, seat) {
+        header(256, 2, 65536)
+        for (lock = 1; lock <= 65536; lock++)
+            print "init 1 mtx - \"lock " lock "\" \"type " lock % 2 "\""
+        for (seat = 1; seat <= 256; seat++) {
+            take(seat, 2 * seat - 1, "held.c")
+            take(seat, 2 * seat, "held.c")
+        }
+        for (lock = 513; lock <= 65536; lock++)
+            destroy(lock % 256 + 1, lock)
+        for (lock = 512; lock >= 1; lock--) {
+            seat = int((lock + 1) / 2)
+            drop(seat, lock)
+            destroy(seat, lock)
+        }
+    }
     # Each seat asks for the lock of the next one; the last one, in a ring, for that of the first.
     function waits(is_ring, seat) {
         header(256, 256, 256)
@@ -180,6 +200,8 @@ exec awk -v name="$name" -v rounds="${2:-0}" '
             steps()
         else if (name == "orders")
             orders()
+        else if (name == "destroyed")
+            destroyed()
         else if (name == "ring")
             waits(1)
         else if (name == "queue")
