@@ -41,12 +41,15 @@ pub fn spot_of<L: Lists>(lists: &L, list: u16, lock: LockNo) -> Option<Spot>
     None
 }
 
-/// The place of such a lock in its list, counted from the oldest, 0.
+/// The place of such a lock in its list, counted from the oldest, 0. Those of the oldest group are its places in the list.
 pub fn place_of<L: Lists>(lists: &L, list: u16, spot: Spot) -> usize
     requires list { IsList (L.chunks lists.now) list }
     requires within { IsIn (groups_of (L.chunks lists.now) list) spot }
     ensures { result ≡ place_in (groups_of (L.chunks lists.now) list) spot }
 {
+    if spot.group == 0 {
+        return spot.index;
+    }
     let mut place = lists.len(list);
     for group in (spot.group..lists.groups(list)).rev() {
         place -= lists.group(list, group).len();

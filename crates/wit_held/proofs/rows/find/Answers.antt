@@ -1,7 +1,7 @@
 use Rattle.std.proofs.Common.{◌≡◌, ◌<◌, ◌+◌, ℕ, Some, length, get_or, position, ap, sym, ◌∙◌, arith}
 use Rattle.wit_model.specs.Rules.Verdict.{is_of}
 use Rattle.wit_held.specs.Rows.{row, rows_of}
-use Rattle.wit_held.proofs.VecRows.{before-within, length-more, len-read, row-read, past-more, missed, met}
+use Rattle.wit_held.proofs.VecRows.{before-within, length-more, len-read, row-read, past-more, met}
 use Rattle.wit_held.proofs.rows.find.Given.{Over}
 use Rattle.wit_held.proofs.rows.find.Goals as goal
 
@@ -55,7 +55,3 @@ loop-chunk-preserved g c =
           (c.in-None.ensures.place
           ∙ ap (position (is_of c.args.lock.0)) (c.deref.ensures.value ∙ sym (row-read c.args.chunks.now (get_or c.args.places.now c.loop-chunk.chunk-index 0) c.index-chunks-chunk.result there c.index-chunks-chunk.is))),
     )
-
-pub returns-clause-place : goal.returns-clause-place
-returns-clause-place g c =
-    missed c.args.lock.0 (rows_of c.args.chunks.now) c.args.places.now c.loop-chunk.chunk-index (omega arith) c.loop-chunk.invariant.1

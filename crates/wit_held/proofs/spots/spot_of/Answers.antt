@@ -1,4 +1,4 @@
-use Rattle.std.proofs.Common.{◌≡◌, ◌-◌, List, Some, get_or, position, ap, sym, ◌∙◌, subst, ◌<◌, length, arith}
+use Rattle.std.proofs.Common.{◌≡◌, ◌-◌, List, Some, get_or, position, ap, ◌∙◌, subst, ◌<◌, length, arith}
 use Rattle.wit_model.specs.declared.locks.Instance.{Instance}
 use Rattle.wit_model.specs.Rules.Verdict.{is_of}
 use Rattle.wit_model.specs.Rules.Chunks.{groups_of, chain_of}

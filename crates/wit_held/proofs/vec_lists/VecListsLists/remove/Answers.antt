@@ -5,7 +5,7 @@ use Rattle.wit_model.specs.declared.locks.Instance.{Instance}
 use Rattle.wit_model.specs.Rules.Chunks.{Chunks, IsPlaced}
 use Rattle.wit_held.specs.Rows.{row, rows_of, places_of, groups_at, AreSettled}
 use Rattle.wit_held.proofs.Settled.{placed-shown}
-use Rattle.wit_held.proofs.Kept.{the-places, read-chunks, read-chain, chunk-holds, remove-keeps, remove-frees, freed-is, free-space, kept-by}
+use Rattle.wit_held.proofs.Kept.{the-places, read-chunks, read-chain, remove-keeps, remove-frees, freed-is, free-space, kept-by}
 use Rattle.wit_held.proofs.vec_lists.VecListsLists.remove.Goals as goal
 use Rattle.wit_held.proofs.vec_lists.VecListsLists.remove.Goals.{else-take_out-via-then-take_out+else-count-gt1, else-take_out-via-else-take_out}
 
@@ -14,10 +14,6 @@ locate-group-requires-clause-chunks g c = read-chunks c.self.inside c.args.self.
 
 pub locate-group-requires-clause-place : goal.locate-group-requires-clause-place
 locate-group-requires-clause-place g c = subst (λ (chain : List Instance). c.args.place < length chain) (sym (read-chain c.self.inside c.args.self.now c.self.view_is c.self.invariant c.args.list c.requires.list c.deref.result.now c.deref-2.result.now (the-places c.self.inside c.args.self.now c.self.view_is c.self.invariant c.args.list c.requires.list c.index-places.result.now c.deref.result.now c.index-places.ensures c.deref.ensures.value) c.deref-2.ensures.value)) c.requires.place
-
-pub take_out-requires-clause-index : goal.take_out-requires-clause-index
-take_out-requires-clause-index g c = chunk-holds c.self.inside c.args.self.now c.self.view_is c.self.invariant c.args.list c.requires.list c.deref.result.now c.deref-2.result.now (the-places c.self.inside c.args.self.now c.self.view_is c.self.invariant c.args.list c.requires.list c.index-places.result.now c.deref.result.now c.index-places.ensures c.deref.ensures.value) c.deref-2.ensures.value c.args.place c.locate-group.result.0 c.locate-group.result.1 c.locate-group.ensures c.index.result.now
-    (c.index.ensures ∙ ap (λ (ps : List ℕ). get_or ps c.locate-group.result.0 c.index.result.now) (sym c.deref.ensures.value))
 
 pub push_reserved-requires : goal.push_reserved-requires
 push_reserved-requires g c = free-space c.self.inside c.args.self.now c.self.view_is c.self.invariant c.args.list c.requires.list c.deref.result.now c.deref-2.result.now (the-places c.self.inside c.args.self.now c.self.view_is c.self.invariant c.args.list c.requires.list c.index-places.result.now c.deref.result.now c.index-places.ensures c.deref.ensures.value) c.deref-2.ensures.value c.args.place c.locate-group.result.0 c.locate-group.result.1 c.locate-group.ensures c.index.result.now
