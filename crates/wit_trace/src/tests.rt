@@ -7,3 +7,4 @@ mod levels;
 mod limits;
 mod rows;
 mod streams;
+mod views;

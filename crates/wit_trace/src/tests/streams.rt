@@ -11,7 +11,7 @@ use std::alloc::{AllocError, Global};
 use std::io::{BufRead, Write};
 use std::process::Abort;
 use std::test::Fail;
-use wit_model::Cause;
+use wit_model::{Cause, View};
 
 /// Writes each line again, ends at the line `stop`, and tells how it ended.
 #[derive(Drop)]
@@ -31,11 +31,19 @@ impl Echo {
 }
 
 impl Machine for Echo {
-    ghost allows = { λ _ _ _ _ _ _. Unit };
+    ghost allows = { λ _ _ _ _ _ _ _. Unit };
 
-    ghost answers = { λ _ _ _ _. ([], (record { calls = 0; reports = 0; circle = false; bad = None }, tt)) };
+    ghost reports = { λ _. 0 };
 
-    fn line(&mut self, alloc: Global, number: u64, bytes: &[u8]) -> Result<Step, AllocError> {
+    ghost answers = { λ _ _ _ _ _. ([], (record { calls = 0; reports = 0; circle = false; bad = None }, tt)) };
+
+    fn line(
+        &mut self,
+        alloc: Global,
+        _view: View,
+        number: u64,
+        bytes: &[u8],
+    ) -> Result<Step, AllocError> {
         if bytes == b"stop".as_slice() {
             let text = Vec::from_slice(alloc, b"stopped\n")?;
             return Ok(Step::Ends(text, self.summary(Some((number, Cause::Syntax)))));
@@ -49,6 +57,7 @@ impl Machine for Echo {
     fn broken(
         &mut self,
         alloc: Global,
+        _view: View,
         number: u64,
         beginning: &[u8],
         cause: Cause,
@@ -57,7 +66,12 @@ impl Machine for Echo {
         Ok((text.into_bytes(), self.summary(Some((number, cause)))))
     }
 
-    fn end(&mut self, alloc: Global, number: u64) -> Result<(Vec<u8>, Summary), AllocError> {
+    fn end(
+        &mut self,
+        alloc: Global,
+        _view: View,
+        number: u64,
+    ) -> Result<(Vec<u8>, Summary), AllocError> {
         let text = format!(in alloc; "line {number}: end\n")?;
         Ok((text.into_bytes(), self.summary(None)))
     }
@@ -70,7 +84,14 @@ fn run_echo<R: BufRead, W: Write>(
 ) -> Result<Summary, ReplayError> {
     let mut ports = Failures::new();
     let mut machine = Echo { lines: 0 };
-    run(alloc, &mut ports, &mut machine, reader, writer)
+    run(
+        alloc,
+        &mut ports,
+        &mut machine,
+        View::Reports,
+        reader,
+        writer,
+    )
 }
 
 /// A line, and behind it one of so many bytes that ends with `end`.
@@ -215,7 +236,14 @@ fn blames(alloc: Global, bytes: &[u8], step: usize) -> bool {
     let mut reader = Drip::new(bytes, step);
     let mut writer = Funnel::new(alloc, step);
     let mut machine = Echo { lines: 0 };
-    let outcome = run(alloc, &mut ports, &mut machine, &mut reader, &mut writer);
+    let outcome = run(
+        alloc,
+        &mut ports,
+        &mut machine,
+        View::Reports,
+        &mut reader,
+        &mut writer,
+    );
     outcome.is_err() || ports.has_read_failed() || ports.has_write_failed()
 }
 
