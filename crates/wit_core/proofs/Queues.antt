@@ -1,9 +1,9 @@
 -- Queues and circles of waiting seats, over any relation of who waits for whom.
-use Rattle.std.proofs.Common.{◌≡◌, ℕ, ◌<◌, ◌≤◌, Bool, true, false, ◌&&◌, nat_le, List, [], ◌∷◌, ◌++◌, refl, sym, ap, ◌∙◌, subst, inl, inr, arith}
+use Rattle.std.proofs.Common.{◌≡◌, ℕ, ◌≤◌, true, nat_le, List, [], ◌∷◌, ◌++◌, refl, sym, ap, ◌∙◌, subst, inl, inr, arith}
 use Rattle.std.specs.List.{list_all}
 use Rattle.std.proofs.lemmas.Bool.{and_parts, leb-true, le-leb, cases_lt}
 use Rattle.std.proofs.lemmas.List.Folds.{list_all-append}
-use Rattle.wit_model.specs.Rules.Circles.{IsQueue, IsCircle, starts_with_least}
+use Rattle.wit_model.specs.Rules.Circles.{IsQueue, IsCircle}
 
 -- one more behind a queue
 pub queue_more : (waits : ℕ → ℕ → Type 0) (t : ℕ) (vs : List ℕ) (u w : ℕ) → IsQueue waits t vs u → waits u w → IsQueue waits t (vs ++ u ∷ []) w

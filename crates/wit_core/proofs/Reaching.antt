@@ -1,7 +1,7 @@
 -- The table of who waits for whom, and a search in it from one seat.
-use Rattle.std.proofs.Common.{◌≡◌, ℕ, ◌+◌, ◌-◌, ◌*◌, ◌<◌, ◌≤◌, Bool, true, false, cond, nat_lt, nat_le, List, [], ◌∷◌, ◌++◌, length, map, get_or, set, take, drop, replicate, Option, None, Some, unwrap_or, refl, sym, ap, ap₂, ◌∙◌, subst, ◌⊎◌, inl, inr, arith, length-append}
+use Rattle.std.proofs.Common.{◌≡◌, ℕ, ◌+◌, ◌-◌, ◌<◌, ◌≤◌, Bool, true, false, cond, nat_lt, nat_le, List, [], ◌∷◌, ◌++◌, length, get_or, set, take, drop, replicate, Option, None, Some, unwrap_or, refl, sym, ap, ap₂, ◌∙◌, subst, ◌⊎◌, inl, inr, arith, length-append}
 use Rattle.std.specs.Global.{Vec}
-use Rattle.std.specs.List.{list_all, slice_get, sum_by}
+use Rattle.std.specs.List.{list_all, slice_get}
 use Rattle.std.proofs.lemmas.Bool.{false≢true, cases_eq, ltb-true, le-leb}
 use Rattle.std.proofs.lemmas.List.{append-nil, take_all, drop_all, get_or_read, get_or_append_left, get_or-replicate, get_or-set_same, get_or-set_other, length-map, length-set, length-replicate, map-append, get_or-map}
 use Rattle.std.proofs.lemmas.List.Folds.{list_all-append, sum_by-replicate}
@@ -13,7 +13,7 @@ use Rattle.wit_model.specs.Rules.Circles.{IsQueue, IsCircle, starts_with_least, 
 use Rattle.wit_model.specs.Rules.Numbers.{with_number, IsNumber}
 use Rattle.wit_model.proofs.Numbered.{with_number-or}
 use Rattle.wit_core.specs.declared.circle.Reached.{Reached}
-use Rattle.wit_core.specs.Searching.{is_marked, rows_of, says, Says, IsTable, nobody, seat_in, next_in, IsTrail, IsReached, one_if_not, IsSearch, IsLater, AreMarked, Reaches, IsClosing, AreClosed, IsCircleFrom}
+use Rattle.wit_core.specs.Searching.{is_marked, rows_of, says, Says, IsTable, nobody, seat_in, next_in, IsTrail, one_if_not, IsSearch, IsLater, AreMarked, Reaches, AreClosed, IsCircleFrom}
 use Rattle.wit_core.proofs.Queues.{queue_more, none_from}
 
 -- ---- marks

@@ -1,7 +1,6 @@
 -- The lines of held locks, newest first; and the chains that lie in chunks.
-use Rattle.std.proofs.Common.{◌≡◌, ℕ, ◌+◌, ◌-◌, ◌*◌, ◌<◌, ◌≤◌, Bool, true, false, ◌&&◌, Option, unwrap_or, List, [], ◌∷◌, ◌++◌, length, reverse, nat_lt, codes, refl, sym, ap, ◌∙◌, arith, append_assoc}
+use Rattle.std.proofs.Common.{◌≡◌, ℕ, ◌<◌, Bool, true, false, ◌&&◌, Option, unwrap_or, List, [], ◌∷◌, ◌++◌, length, reverse, nat_lt, codes, refl, sym, ap, ◌∙◌, arith, append_assoc}
 use Rattle.std.specs.Fmt.{decimal}
-use Rattle.std.specs.List.{flat_map}
 use Rattle.std.proofs.lemmas.Bool.{true≢false, lt-leb, lt-ltb}
 use Rattle.std.proofs.lemmas.List.{append-nil, reverse-append}
 use Rattle.std.proofs.lemmas.List.Concat.{flat_map-append}
@@ -13,7 +12,7 @@ use Rattle.wit_model.specs.Rules.Groups.{flat}
 use Rattle.wit_model.specs.Rules.History.{chain}
 use Rattle.wit_model.specs.Rules.Locks.{lock_at}
 use Rattle.wit_model.specs.Rules.Numbers.{IsNumber, is_given}
-use Rattle.wit_model.specs.Rules.State.{Story, Seat, state_of, seat_of, seat_at, chain_in, typed_locks, no_seat}
+use Rattle.wit_model.specs.Rules.State.{Story, Seat, state_of, seat_of, seat_at, chain_in, no_seat}
 use Rattle.wit_model.specs.Rules.Step.{IsLegal}
 use Rattle.wit_model.specs.Rules.Types.{type_name_of}
 use Rattle.wit_model.specs.Trace.Spelling.{quoted}

@@ -32,7 +32,7 @@ counted-beside named (x ∷ sleep) spin alone = refl
 -- ---- all of them, where everything is watched
 
 module _ (s : State) (t : ℕ) (named : Option LockNo) (flags : WarnFlags) (on : is_on s.watch ≡ true) (held spin : List Instance)
-  (sleep : held ≡ filter (λ (i : Instance). not (is_allowed (basis_of s.known) named flags i)) (reverse (seat_at s t).sleep)) (others : spin ≡ reverse (seat_at s t).spin) where
+    (sleep : held ≡ filter (λ (i : Instance). not (is_allowed (basis_of s.known) named flags i)) (reverse (seat_at s t).sleep)) (others : spin ≡ reverse (seat_at s t).spin) where
   counts : List Instance
   counts = filter (λ (i : Instance). not (is_allowed (basis_of s.known) named flags i)) (seat_at s t).sleep
 

@@ -7,8 +7,8 @@ use std::alloc::{AllocError, Global};
 use std::test::Fail;
 use wit_core::{StartError, Verifier};
 use wit_model::{
-    AssertAnswer, Boxed, Class, Conflict, Doubling, Fault, FileNo, Heading, Limits, LockAt, LockFlags, LockNo,
-    Mode, OpFlags, Reply, SeatNo, Site, WarnFlags,
+    AssertAnswer, Boxed, Class, Conflict, Doubling, Fault, FileNo, Heading, Limits, LockAt,
+    LockFlags, LockNo, Mode, OpFlags, Reply, SeatNo, Site, WarnFlags,
 };
 
 fn start(alloc: Global) -> Result<Verifier, StartError> {

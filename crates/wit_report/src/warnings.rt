@@ -117,12 +117,7 @@ fn is_named(named: Option<LockNo>, held: Instance) -> bool
 }
 
 // Whether a lock of the sleep kind may be held.
-fn is_allowed(
-    verifier: &Verifier,
-    named: Option<LockNo>,
-    flags: WarnFlags,
-    held: Instance,
-) -> bool
+fn is_allowed(verifier: &Verifier, named: Option<LockNo>, flags: WarnFlags, held: Instance) -> bool
     ensures { result ≡ is_allowed (basis_of (known_of verifier.now.start verifier.now.history)) named flags held }
 {
     is_named(named, held)

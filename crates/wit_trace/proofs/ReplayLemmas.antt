@@ -1,5 +1,5 @@
 -- What becomes of a line, and what is written for it.
-use Rattle.std.proofs.Common.{◌≡◌, ℕ, ◌+◌, ◌<◌, ◌≤◌, Bool, ◌||◌, cond, ltb, List, [], ◌∷◌, ◌++◌, length, take, length-take, arith, codes, Option, Some, None, Result, Ok, Err, IfOk, refl, sym, ap, ap₂, subst, ◌∙◌, false, inl, inr, true, not, unwrap_or}
+use Rattle.std.proofs.Common.{◌≡◌, ℕ, ◌+◌, ◌<◌, ◌≤◌, Bool, ◌||◌, cond, ltb, List, [], ◌∷◌, ◌++◌, length, take, length-take, arith, codes, Option, Some, None, Result, Ok, Err, IfOk, OnErr, refl, sym, ap, ap₂, append_assoc, subst, ◌∙◌, false, inl, inr, true, not, unwrap_or}
 use Rattle.std.specs.Global.{Vec}
 use Rattle.std.specs.Io.{StartsWith}
 use Rattle.std.specs.Result.{IsErrAnd}
@@ -29,10 +29,10 @@ use Rattle.wit_grammar.specs.Lines.{Refuses}
 use Rattle.wit_grammar.specs.declared.errors.LineError.{LineError}
 use Rattle.wit_grammar.specs.declared.errors.LineError.TheVariants.{Bad, Memory}
 use Rattle.wit_trace.specs.Machine.{BreaksAt, Follows, first_of}
-use Rattle.wit_trace.specs.Replays.{Calls, EndsFor, FailsFor, GoesOnWith, IsBadFor, allowed, Passes, KeepsTotal, Opens, Reaches, IsWritten, ShowsFrom, prelude_of, progress, ends_prelude, total}
+use Rattle.wit_trace.specs.Replays.{Calls, EndsFor, FailsFor, GoesOnWith, GoesWith, IsBadFor, allowed, Passes, KeepsTotal, Opens, Reaches, IsWritten, Remarks, ShowsFrom, prelude_of, progress, ends_prelude, total}
 use Rattle.wit_trace.specs.Stream.{GoesOn, OutputFrom, ReadsToEnd, WritesLines}
 use Rattle.wit_model.specs.declared.lines.View.{View}
-use Rattle.wit_model.specs.declared.lines.View.TheVariants.{Reports}
+use Rattle.wit_model.specs.declared.lines.View.TheVariants.{Reports, Graph, Locks, Circle}
 use Rattle.wit_trace.specs.declared.replaying.prelude.Prelude.{Prelude}
 use Rattle.wit_trace.specs.declared.replaying.Replaying.{Replaying}
 use Rattle.wit_trace.specs.declared.replaying.Replaying.TheVariants.{Unstarted, Opening, Reading}
@@ -40,32 +40,47 @@ use Rattle.wit_trace.specs.declared.stream.machine.Step.{Step}
 use Rattle.wit_trace.specs.declared.stream.machine.Step.TheVariants as step
 use Rattle.wit_trace.specs.declared.summary.Summary.{Summary}
 
+-- what holds anyway holds at an answer
+pub at_ok : {T E : Type 0} (P : Type 0) (r : Result T E) → P → IfOk r (λ x. P)
+at_ok P (Err e) h = tt
+at_ok P (Ok x) h = h
+
 -- what holds of each value holds of an answer that is one
 pub if_ok : {T E : Type 0} (P Q : T → Type 0) (r : Result T E) → ((x : T) → P x → Q x) → IfOk r P → IfOk r Q
 if_ok P Q (Err e) each h = tt
 if_ok P Q (Ok x) each h = each x h
 
 -- a call that was answered
-pub call_made : (s new : Story) (t : ℕ) (c : Call) (reply : Reply) → AnswersOrFails s t c (Ok reply) new → output.makes s t c ≡ output.Goes (output.Reading new) (output.told new reply)
-call_made s new t c reply answers = rw answers.0 (ap (λ (x : Story). output.Goes (output.Reading x) (output.told x reply)) (sym answers.1))
+pub call_made : (s new : Story) (t : ℕ) (c : Call) (reply : Reply) → AnswersOrFails s t c (Ok reply) new → Calls (λ n. output.makes s n t c) s new (Ok reply)
+call_made s new t c reply answers n = rw answers.0 (ap (λ (x : Story). output.Goes (output.Reading x n) (output.told x reply)) (sym answers.1))
 
 -- a call that was refused
-pub call_refused : (s new : Story) (t : ℕ) (c : Call) (fault : Fault) (r : Result Reply LineError) → AnswersOrFails s t c (Err fault) new → IsErrAnd r (Refuses fault) → Calls (output.makes s t c) s new r
+pub call_refused : (s new : Story) (t : ℕ) (c : Call) (fault : Fault) (r : Result Reply LineError) → AnswersOrFails s t c (Err fault) new → IsErrAnd r (Refuses fault) → Calls (λ n. output.makes s n t c) s new r
 call_refused s new t c fault (Ok reply) answers refuses = elim refuses [ ]
-call_refused s new t c fault (Err Memory) answers refuses = tt
-call_refused s new t c fault (Err (Bad cause)) answers refuses = go answers.0
+call_refused s new t c fault (Err Memory) answers refuses = λ n. tt
+call_refused s new t c fault (Err (Bad cause)) answers refuses = λ n. go n answers.0
   where
-    go : IsRefusal (answer_of s t c) fault → FailsFor (output.makes s t c) (output.Reading s) (output.Reading new) (Bad cause)
-    go (inl e) = rw e (refuses.0, λ bad. ap (λ (x : Story). output.summed (output.Reading x) bad) answers.1)
-    go (inr none) = absurd (refuses.1 none.0)
+    go : (n : ℕ) → IsRefusal (answer_of s t c) fault → FailsFor (output.makes s n t c) (output.Reading s n) (output.Reading new n) (Bad cause)
+    go n (inl e) = rw e (refuses.0, λ bad. ap (λ (x : Story). output.summed (output.Reading x n) bad) answers.1)
+    go n (inr none) = absurd (refuses.1 none.0)
 
 -- what is summed up is the history's
-fails_from : (due : output.Outcome) (old mid new : Story) (fault : Fault) (r : Result Reply LineError) → mid.history ≡ old.history → IsErrAnd r (Refuses fault) → Calls due mid new r → Calls due old new r
-fails_from due old mid new fault (Ok reply) same refuses fails = elim refuses [ ]
-fails_from due old mid new fault (Err Memory) same refuses fails = tt
-fails_from (output.Goes q text) old mid new fault (Err (Bad cause)) same refuses fails = fails
-fails_from (output.Bad why) old mid new fault (Err (Bad cause)) same refuses fails =
-    (fails.0, λ bad. fails.1 bad ∙ ap (λ h. output.summed (output.Reading (record old { history = h })) bad) same)
+fails_from : (due : output.Outcome) (n : ℕ) (old mid new : Story) (e : LineError) → mid.history ≡ old.history → FailsFor due (output.Reading mid n) (output.Reading new n) e → FailsFor due (output.Reading old n) (output.Reading new n) e
+fails_from due n old mid new Memory same fails = tt
+fails_from (output.Goes q text) n old mid new (Bad cause) same fails = fails
+fails_from (output.Bad why) n old mid new (Bad cause) same fails =
+    (fails.0, λ bad. fails.1 bad ∙ ap (λ h. output.summed (output.Reading (record old { history = h }) n) bad) same)
+
+-- a refused call is passed on
+pub call_passes : (due : output.Outcome) (p q : output.Progress) (e : LineError) (r : Result (Vec ℕ) LineError) → IsErrAnd r (λ x. x ≡ e) → FailsFor due p q e → Passes due p q r
+call_passes due p q e (Ok text) refuses fails = elim refuses [ ]
+call_passes due p q e (Err x) refuses fails = subst (FailsFor due p q) (sym refuses) fails
+
+-- a failed assertion or a warning is counted where it says something
+pub remark_passes : (s : Story) (due : ℕ → output.Outcome) (told after : ℕ) (text r : Result (Vec ℕ) LineError) → Remarks s due text → r ≡ text → IfOk text (λ t. after ≡ told + output.said t.items) → OnErr text (after ≡ told)
+    → Passes (due told) (output.Reading s told) (output.Reading s after) r
+remark_passes s due told after (Ok t) r remarks is counts keeps = rw (is, remarks told, counts) (refl, refl)
+remark_passes s due told after (Err e) r remarks is counts keeps = rw (is, keeps) (remarks told)
 
 -- the calls of lines with a site, once their file has a number
 abbrev pub check_at : LockNo → Mode → OpFlags → ℕ → ℕ → Call
@@ -75,78 +90,129 @@ abbrev pub try_at : LockNo → Mode → ℕ → ℕ → Call
 try_at lock mode line n = call.NoteTry lock mode (record { file = record { 0 = n }; line = line })
 
 module _ (old mid new : Story) (seat : SeatNo) (name : List ℕ) (make : ℕ → Call) (f : FileNo) (names : NamesFile old name (Ok f) mid) where
-  abbrev due : output.Outcome
-  due = output.at_file old (λ s n. output.makes s seat.0 (make n)) name (naming_answer old name)
+  abbrev due : ℕ → output.Outcome
+  due n = output.at_file old (λ s f. output.makes s n seat.0 (make f)) name (naming_answer old name)
 
   -- a file was entered, then its call made
-  pub made_at : (reply : Reply) → AnswersOrFails mid seat.0 (make f.0) (Ok reply) new → due ≡ output.Goes (output.Reading new) (output.told new reply)
-  made_at reply answers =
-      rw names.0 (subst (λ (s : Story). output.makes s seat.0 (make f.0) ≡ output.Goes (output.Reading new) (output.told new reply)) names.1 (call_made mid new seat.0 (make f.0) reply answers))
+  pub made_at : (reply : Reply) → AnswersOrFails mid seat.0 (make f.0) (Ok reply) new → Calls due old new (Ok reply)
+  made_at reply answers n =
+      rw names.0 (subst (λ (s : Story). output.makes s n seat.0 (make f.0) ≡ output.Goes (output.Reading new n) (output.told new reply)) names.1 (call_made mid new seat.0 (make f.0) reply answers n))
 
   -- a file was entered, then its call refused
   pub refused_at_file : (fault : Fault) (r : Result Reply LineError) → AnswersOrFails mid seat.0 (make f.0) (Err fault) new → IsErrAnd r (Refuses fault) → Calls due old new r
-  refused_at_file fault r answers refuses =
-      rw names.0 (subst (λ (s : Story). Calls (output.makes s seat.0 (make f.0)) old new r) names.1
-      (fails_from _ old mid new fault r (ap (λ (s : Story). s.history) names.1) refuses (call_refused mid new seat.0 (make f.0) fault r answers refuses)))
+  refused_at_file fault (Ok reply) answers refuses = elim refuses [ ]
+  refused_at_file fault (Err e) answers refuses = λ n.
+      rw names.0 (subst (λ (s : Story). FailsFor (output.makes s n seat.0 (make f.0)) (output.Reading old n) (output.Reading new n) e) names.1
+      (fails_from (output.makes mid n seat.0 (make f.0)) n old mid new e (ap (λ (s : Story). s.history) names.1) (call_refused mid new seat.0 (make f.0) fault (Err e) answers refuses n)))
+
+-- ---- what is shown
+
+pub shown_none : (view : View) → output.shown view [] ≡ []
+shown_none Reports = refl
+shown_none Graph = refl
+shown_none Locks = refl
+shown_none Circle = refl
+
+shown_append : (view : View) (a b : List ℕ) → output.shown view (a ++ b) ≡ output.shown view a ++ output.shown view b
+shown_append Reports a b = refl
+shown_append Graph a b = refl
+shown_append Locks a b = refl
+shown_append Circle a b = refl
+
+-- a text before what follows
+shown_before : (view : View) (told text more : List ℕ) (c : output.Course) (circle : Bool) → text ≡ output.shown view told → output.IsShown view c more circle → output.IsShown view (output.before told c) (text ++ more) circle
+shown_before view told text more c circle is h = record {
+  last = h.last;
+  parts = ap₂ (λ a b. a ++ b) is h.parts ∙ (sym (append_assoc (output.shown view told) (output.shown view c.told) h.last) ∙ ap (λ (l : List ℕ). l ++ h.last) (sym (shown_append view told c.told)));
+  ends = h.ends;
+}
+
+-- of a bad line its text is shown, and the summary is that of the reading up to it
+pub bad_written : (view : View) (p : output.Progress) (bad : output.BadLine) (text : List ℕ) (summary : Summary) → text ≡ output.bad_text bad.0 bad.1 → total summary ≡ output.summed p (Some bad) → summary.circle ≡ false
+    → IsWritten view (output.ends_bad p bad) text summary
+bad_written view p bad text summary texts sums circle = record {
+  is_shown = record { last = text; parts = ap (λ (l : List ℕ). l ++ text) (sym (shown_none view)); ends = (texts, circle) };
+  summed = sums;
+}
 
 -- a line's text, and what follows it
-told_after : (w : output.Outcome) (p q : output.Progress) (n : ℕ) (text : List ℕ) (next : output.Progress → output.Written) (more : List ℕ) (summary : Summary) → GoesOnWith w q text
-    → IsWritten (next q) more summary → IsWritten (output.output_after p n w next) (text ++ more) summary
-told_after (output.Bad why) p q n text next more summary goes written = elim goes [ ]
-told_after (output.Goes to told) p q n text next more summary goes written = record {
-  text = ap₂ (λ a b. a ++ b) goes.1 (written.text ∙ ap (λ x. (next x).text) goes.0);
-  summed = written.summed ∙ ap (λ x. (next x).summed) goes.0;
-  circle = written.circle;
-}
+told_after : (view : View) (w : output.Outcome) (p q : output.Progress) (n : ℕ) (raw text : List ℕ) (next : output.Progress → output.Course) (more : List ℕ) (summary : Summary) → GoesOnWith w q raw → text ≡ output.shown view raw
+    → IsWritten view (next q) more summary → IsWritten view (output.course_after p n w next) (text ++ more) summary
+told_after view (output.Bad why) p q n raw text next more summary goes is written = elim goes [ ]
+told_after view (output.Goes to said) p q n raw text next more summary goes is written =
+    subst (λ (x : output.Progress). IsWritten view (output.before said (next x)) (text ++ more) summary) goes.0
+    (record { is_shown = shown_before view said text more (next q) summary.circle (is ∙ ap (output.shown view) goes.1) written.is_shown; summed = written.summed })
 
-pub told : (from p q : output.Progress) (n : ℕ) (line : List ℕ) (r : Result (Vec ℕ) LineError) (text : Vec ℕ) → output.reached from line ≡ Ok p → Passes (output.outcome p n line) p q r → r ≡ Ok text
-    → (lines : List (List ℕ)) (tail more : List ℕ) (summary : Summary) → IsWritten (output.output_from q (n + 1) lines tail) more summary
-    → IsWritten (output.output_from from n (line ∷ lines) tail) (text.items ++ more) summary
-told from p q n line r text stands passes is lines tail more summary written =
-    rw stands (told_after (output.outcome p n line) p q n text.items _ more summary (subst (Passes (output.outcome p n line) p q) is passes) written)
+pub told : (view : View) (from p q : output.Progress) (n : ℕ) (line : List ℕ) (r : Result (Vec ℕ) LineError) (raw text : Vec ℕ) → output.reached from line ≡ Ok p → Passes (output.outcome p n line) p q r → r ≡ Ok raw → text.items ≡ output.shown view raw.items
+    → (lines : List (List ℕ)) (tail more : List ℕ) (summary : Summary) → IsWritten view (output.course_from q (n + 1) lines tail) more summary
+    → IsWritten view (output.course_from from n (line ∷ lines) tail) (text.items ++ more) summary
+told view from p q n line r raw text stands passes is shows lines tail more summary written =
+    rw stands (told_after view (output.outcome p n line) p q n raw.items text.items _ more summary (subst (Passes (output.outcome p n line) p q) is passes) shows written)
+
+-- the text of a bad line alone
+written_bad : (view : View) (p : output.Progress) (bad : output.BadLine) (text : List ℕ) (summary : Summary) → IsWritten view (output.ends_bad p bad) text summary → text ≡ output.bad_text bad.0 bad.1
+written_bad view p bad text summary w = w.is_shown.parts ∙ (ap (λ (l : List ℕ). l ++ w.is_shown.last) (shown_none view) ∙ w.is_shown.ends.0)
 
 -- a bad line's text and summary, whatever follows it
-bad_after : (w : output.Outcome) (p q : output.Progress) (n : ℕ) (cause : Cause) (next : output.Progress → output.Written) (text : List ℕ) (summary : Summary) → IsBadFor w p q cause
-    → IsWritten (output.ends_bad q (n, cause)) text summary → IsWritten (output.output_after p n w next) text summary
-bad_after (output.Goes to told) p q n cause next text summary bad ends = elim bad [ ]
-bad_after (output.Bad why) p q n cause next text summary bad ends = record {
-  text = ends.text ∙ ap (output.bad_text n) bad.0;
-  summed = ends.summed ∙ (bad.1 (Some (n, cause)) ∙ ap (λ c. output.summed p (Some (n, c))) bad.0);
-  circle = ends.circle;
-}
+bad_after : (view : View) (w : output.Outcome) (p q : output.Progress) (n : ℕ) (cause : Cause) (next : output.Progress → output.Course) (text : List ℕ) (summary : Summary) → IsBadFor w p q cause
+    → IsWritten view (output.ends_bad q (n, cause)) text summary → IsWritten view (output.course_after p n w next) text summary
+bad_after view (output.Goes to text') p q n cause next text summary bad ends = elim bad [ ]
+bad_after view (output.Bad why) p q n cause next text summary bad ends =
+    bad_written view p (n, why) text summary
+    (written_bad view q (n, cause) text summary ends ∙ ap (output.bad_text n) bad.0)
+    (ends.summed ∙ (bad.1 (Some (n, cause)) ∙ ap (λ c. output.summed p (Some (n, c))) bad.0))
+    ends.is_shown.ends.1
 
 -- what becomes of a line that is bad
-pub line_ends : (m q : Replaying) (p : output.Progress) (n : ℕ) (line : List ℕ) (r : Result (Vec ℕ) LineError) (e : LineError) (s : Step) → output.reached (progress m) line ≡ Ok p → Passes (output.outcome p n line) p (progress q) r
-    → r ≡ Err e → EndsFor (progress q) n e s → Follows allowed m q n line s
-line_ends m q p n line r Memory s stands passes is ends = elim ends [ ]
-line_ends m q p n line r (Bad cause) (step.Goes text) stands passes is ends = elim ends [ ]
-line_ends m q p n line r (Bad cause) (step.Ends text summary) stands passes is ends = λ lines tail.
-    rw stands (bad_after (output.outcome p n line) p (progress q) n cause _ text.items summary (subst (Passes (output.outcome p n line) p (progress q)) is passes) ends)
+pub line_ends : (view : View) (m q : Replaying) (p : output.Progress) (n : ℕ) (line : List ℕ) (r : Result (Vec ℕ) LineError) (e : LineError) (s : Step) → output.reached (progress m) line ≡ Ok p → Passes (output.outcome p n line) p (progress q) r
+    → r ≡ Err e → EndsFor view (progress q) n e s → Follows (allowed view) m q n line s
+line_ends view m q p n line r Memory s stands passes is ends = elim ends [ ]
+line_ends view m q p n line r (Bad cause) (step.Goes text) stands passes is ends = elim ends [ ]
+line_ends view m q p n line r (Bad cause) (step.Ends text summary) stands passes is ends = λ lines tail.
+    rw stands (bad_after view (output.outcome p n line) p (progress q) n cause _ text.items summary (subst (Passes (output.outcome p n line) p (progress q)) is passes) ends)
 
-module _ (s new : Story) (n : ℕ) (bytes : List ℕ) (line : Line) (r : Result Reply LineError) (short : length bytes ≤ 4096) (reads : line_of bytes ≡ Some line) (calls : Calls (output.calls s line) s new r) where
-  makes_call : output.outcome (output.Reading s) n bytes ≡ output.calls s line
+module _ (view : View) (s new : Story) (m n : ℕ) (bytes : List ℕ) (line : Line) (r : Result Reply LineError) (short : length bytes ≤ 4096) (reads : line_of bytes ≡ Some line) (calls : Calls (λ m. output.calls s m line) s new r) where
+  makes_call : output.outcome (output.Reading s m) n bytes ≡ output.calls s m line
   makes_call = rw (le-ltb 4096 (length bytes) short, reads) refl
 
+  -- what becomes of a line whose call is made
+  pub call_goes : (reply : Reply) (text : List ℕ) → r ≡ Ok reply → text ≡ output.shown view (output.told new reply)
+      → (lines : List (List ℕ)) (tail more : List ℕ) (summary : Summary) → allowed view (Reading new m) (n + 1) lines tail more summary → allowed view (Reading s m) n (bytes ∷ lines) tail (text ++ more) summary
+  call_goes reply text is shows lines tail more summary written =
+      let due : output.outcome (output.Reading s m) n bytes ≡ output.Goes (output.Reading new m) (output.told new reply) = makes_call ∙ subst (Calls (λ m. output.calls s m line) s new) is calls m in
+      told_after view (output.outcome (output.Reading s m) n bytes) (output.Reading s m) (output.Reading new m) n (output.told new reply) text _ more summary (rw due (refl, refl)) shows written
+
+  pub call_goes_on : (reply : Reply) (t : Step) → r ≡ Ok reply → GoesWith (output.shown view (output.told new reply)) t → Follows (allowed view) (Reading s m) (Reading new m) n bytes t
+  call_goes_on reply (step.Goes text) is goes = call_goes reply text.items is goes
+  call_goes_on reply (step.Ends text summary) is goes = elim goes [ ]
+
   -- what becomes of a line whose call is refused
-  pub call_ends : (e : LineError) (t : Step) → r ≡ Err e → EndsFor (output.Reading new) n e t → Follows allowed (Reading s) (Reading new) n bytes t
-  call_ends e t is ends = line_ends (Reading s) (Reading new) (output.Reading s) n bytes (Err e) e t refl (rw makes_call (subst (Calls (output.calls s line) s new) is calls)) refl ends
+  pub call_ends : (e : LineError) (t : Step) → r ≡ Err e → EndsFor view (output.Reading new m) n e t → Follows (allowed view) (Reading s m) (Reading new m) n bytes t
+  call_ends e t is ends = line_ends view (Reading s m) (Reading new m) (output.Reading s m) n bytes (Err e) e t refl (rw makes_call (subst (Calls (λ m. output.calls s m line) s new) is calls m)) refl ends
 
 -- the text and the summary at a list that is refused
-refused_at : (due : Result output.Progress output.BadLine) (p q : output.Progress) (line : output.BadLine) (next : output.Progress → output.Written) (text : List ℕ) (summary : Summary) → due ≡ Err line → KeepsTotal p q
-    → text ≡ output.bad_text line.0 line.1 → total summary ≡ output.summed q (Some line) → summary.circle ≡ false → IsWritten (output.output_at p due next) text summary
-refused_at due p q line next text summary is keeps texts sums circle = rw is (record { text = texts; summed = sums ∙ keeps (Some line); circle = circle })
+refused_at : (view : View) (due : Result output.Progress output.BadLine) (p q : output.Progress) (line : output.BadLine) (next : output.Progress → output.Course) (text : List ℕ) (summary : Summary) → due ≡ Err line → KeepsTotal p q
+    → text ≡ output.bad_text line.0 line.1 → total summary ≡ output.summed q (Some line) → summary.circle ≡ false → IsWritten view (output.course_at p due next) text summary
+refused_at view due p q line next text summary is keeps texts sums circle = rw is (bad_written view p line text summary texts (sums ∙ keeps (Some line)) circle)
 
 -- a list is refused at a line, whatever follows it
-pub refused : (p q : output.Progress) (n : ℕ) (line : List ℕ) (list : output.BadLine) (text : List ℕ) (summary : Summary) → output.reached p line ≡ Err list → KeepsTotal p q
+pub refused : (view : View) (p q : output.Progress) (n : ℕ) (line : List ℕ) (list : output.BadLine) (text : List ℕ) (summary : Summary) → output.reached p line ≡ Err list → KeepsTotal p q
     → text ≡ output.bad_text list.0 list.1 → total summary ≡ output.summed q (Some list) → summary.circle ≡ false
-    → (lines : List (List ℕ)) (tail : List ℕ) → IsWritten (output.output_from p n (line ∷ lines) tail) text summary
-refused p q n line list text summary is keeps texts sums circle lines tail = refused_at (output.reached p line) p q list _ text summary is keeps texts sums circle
+    → (lines : List (List ℕ)) (tail : List ℕ) → IsWritten view (output.course_from p n (line ∷ lines) tail) text summary
+refused view p q n line list text summary is keeps texts sums circle lines tail = refused_at view (output.reached p line) p q list _ text summary is keeps texts sums circle
+
+-- the step that ends the reading then
+pub refused_step : (view : View) (m q : Replaying) (n : ℕ) (line : List ℕ) (list : output.BadLine) (s : Step) → Reaches (output.reached (progress m) line) (progress m) (progress q) (Some list) → EndsFor view (progress q) list.0 (Bad list.1) s
+    → Follows (allowed view) m q n line s
+refused_step view m q n line list (step.Goes text) reaches ends = elim ends [ ]
+refused_step view m q n line list (step.Ends text summary) reaches ends =
+    refused view (progress m) (progress q) n line list text.items summary reaches.0 reaches.1 (written_bad view (progress q) list text.items summary ends) ends.summed ends.is_shown.ends.1
 
 -- or at the end of the input
-pub refused_at_end : (p q : output.Progress) (n : ℕ) (tail : List ℕ) (list : output.BadLine) (text : List ℕ) (summary : Summary) → output.reached p tail ≡ Err list → KeepsTotal p q
+pub refused_at_end : (view : View) (p q : output.Progress) (n : ℕ) (tail : List ℕ) (list : output.BadLine) (text : List ℕ) (summary : Summary) → output.reached p tail ≡ Err list → KeepsTotal p q
     → text ≡ output.bad_text list.0 list.1 → total summary ≡ output.summed q (Some list) → summary.circle ≡ false
-    → IsWritten (output.output_from p n [] tail) text summary
-refused_at_end p q n tail list text summary is keeps texts sums circle = refused_at (output.reached p tail) p q list _ text summary is keeps texts sums circle
+    → IsWritten view (output.course_from p n [] tail) text summary
+refused_at_end view p q n tail list text summary is keeps texts sums circle = refused_at view (output.reached p tail) p q list _ text summary is keeps texts sums circle
 
 -- the beginning of a long line decides whether it ends the prelude
 begins_prelude : (bytes line : List ℕ) → 4096 < length bytes → StartsWith line bytes → output.is_prelude line ≡ output.is_prelude bytes
@@ -156,7 +222,7 @@ begins_prelude bytes line long starts =
 begins_reached : (p : output.Progress) (bytes line : List ℕ) → 4096 < length bytes → StartsWith line bytes → output.reached p line ≡ output.reached p bytes
 begins_reached output.Unstarted bytes line long starts = refl
 begins_reached (output.Opening o) bytes line long starts = ap (λ (t : Bool). cond t (Ok (output.Opening o)) (output.opened o (start_fault o.start))) (begins_prelude bytes line long starts)
-begins_reached (output.Reading s) bytes line long starts = refl
+begins_reached (output.Reading s m) bytes line long starts = refl
 
 first_reached : (p : output.Progress) (cause : Cause) (bytes : List ℕ) (lines : List (List ℕ)) (tail : List ℕ) → BreaksAt cause bytes lines tail → output.reached p (first_of lines tail) ≡ output.reached p bytes
 first_reached p why.Long bytes lines tail h = begins_reached p bytes (first_of lines tail) h.0 h.1
@@ -170,127 +236,127 @@ ends_some : (p : output.Progress) (n : ℕ) (tail : List ℕ) (cause : Cause) �
 ends_some p n [] cause some is = absurd (omega arith)
 ends_some output.Unstarted n (b ∷ tail) cause some is = ap (λ (c : Cause). output.ends_bad output.Unstarted (n, c)) is
 ends_some (output.Opening o) n (b ∷ tail) cause some is = ap (λ (c : Cause). output.ends_bad (output.Opening o) (n, c)) is
-ends_some (output.Reading s) n (b ∷ tail) cause some is = ap (λ (c : Cause). output.ends_bad (output.Reading s) (n, c)) is
+ends_some (output.Reading s m) n (b ∷ tail) cause some is = ap (λ (c : Cause). output.ends_bad (output.Reading s m) (n, c)) is
 
 starts-le : (bytes line : List ℕ) → StartsWith line bytes → length bytes ≤ length line
 starts-le bytes line starts = let e : length (take (length bytes) line) ≡ length bytes = ap length starts in omega (arith, length-take {A = ℕ})
 
 -- where a line breaks off, it is bad
 broken_output : (from p : output.Progress) (n : ℕ) (cause : Cause) (bytes : List ℕ) (lines : List (List ℕ)) (tail : List ℕ) → output.reached from bytes ≡ Ok p → BreaksAt cause bytes lines tail
-    → output.output_from from n lines tail ≡ output.ends_bad p (n, cause)
+    → output.course_from from n lines tail ≡ output.ends_bad p (n, cause)
 broken_output from p n why.Long bytes [] tail stands h =
     let long : 4096 < length tail = omega (arith, starts-le bytes tail h.1, h.0) in
-    ap (λ (due : Result output.Progress output.BadLine). output.output_at from due (λ q. output.ends q n tail)) (first_reached from why.Long bytes [] tail h ∙ stands)
+    ap (λ (due : Result output.Progress output.BadLine). output.course_at from due (λ q. output.ends q n tail)) (first_reached from why.Long bytes [] tail h ∙ stands)
     ∙ ends_some p n tail why.Long (omega arith) (rw (lt-ltb 4096 (length tail) long) refl)
 broken_output from p n why.Long bytes (line ∷ lines) tail stands h =
     let long : 4096 < length line = omega (arith, starts-le bytes line h.1, h.0) in
-    ap (λ (due : Result output.Progress output.BadLine). output.output_at from due (λ q. output.output_after q n (output.outcome q n line) (λ r. output.output_from r (n + 1) lines tail))) (first_reached from why.Long bytes (line ∷ lines) tail h ∙ stands)
+    ap (λ (due : Result output.Progress output.BadLine). output.course_at from due (λ q. output.course_after q n (output.outcome q n line) (λ r. output.course_from r (n + 1) lines tail))) (first_reached from why.Long bytes (line ∷ lines) tail h ∙ stands)
     ∙ rw (lt-ltb 4096 (length line) long) refl
 broken_output from p n why.Cut bytes lines tail stands h =
     let same : length tail ≡ length bytes = ap length h.3 in
-    ap (λ (ls : List (List ℕ)). output.output_from from n ls tail) h.2
-    ∙ ap (λ (due : Result output.Progress output.BadLine). output.output_at from due (λ q. output.ends q n tail)) (ap (output.reached from) h.3 ∙ stands)
+    ap (λ (ls : List (List ℕ)). output.course_from from n ls tail) h.2
+    ∙ ap (λ (due : Result output.Progress output.BadLine). output.course_at from due (λ q. output.ends q n tail)) (ap (output.reached from) h.3 ∙ stands)
     ∙ ends_some p n tail why.Cut (omega (arith, h.0)) (rw (le-ltb 4096 (length tail) (omega (arith, h.1))) refl)
 broken_output from p n why.Syntax bytes lines tail stands h = elim h [ ]
 broken_output from p n why.Limit bytes lines tail stands h = elim h [ ]
 broken_output from p n (why.Fault fault) bytes lines tail stands h = elim h [ ]
 
 -- the text and the summary at a line that breaks off
-pub broken : (from p : output.Progress) (n : ℕ) (cause : Cause) (bytes : List ℕ) (text : List ℕ) (summary : Summary) → output.reached from bytes ≡ Ok p
+pub broken : (view : View) (from p : output.Progress) (n : ℕ) (cause : Cause) (bytes : List ℕ) (text : List ℕ) (summary : Summary) → output.reached from bytes ≡ Ok p
     → text ≡ output.bad_text n cause → total summary ≡ output.summed p (Some (n, cause)) → summary.circle ≡ false
-    → (lines : List (List ℕ)) (tail : List ℕ) → BreaksAt cause bytes lines tail → IsWritten (output.output_from from n lines tail) text summary
-broken from p n cause bytes text summary stands texts sums circle lines tail h =
-    subst (λ w. IsWritten w text summary) (sym (broken_output from p n cause bytes lines tail stands h)) (record { text = texts; summed = sums; circle = circle })
+    → (lines : List (List ℕ)) (tail : List ℕ) → BreaksAt cause bytes lines tail → IsWritten view (output.course_from from n lines tail) text summary
+broken view from p n cause bytes text summary stands texts sums circle lines tail h =
+    subst (λ w. IsWritten view w text summary) (sym (broken_output from p n cause bytes lines tail stands h)) (bad_written view p (n, cause) text summary texts sums circle)
 
 -- a list may be refused there
-pub refused_broken : (p q : output.Progress) (n : ℕ) (cause : Cause) (bytes : List ℕ) (list : output.BadLine) (text : List ℕ) (summary : Summary) → output.reached p bytes ≡ Err list → KeepsTotal p q
+pub refused_broken : (view : View) (p q : output.Progress) (n : ℕ) (cause : Cause) (bytes : List ℕ) (list : output.BadLine) (text : List ℕ) (summary : Summary) → output.reached p bytes ≡ Err list → KeepsTotal p q
     → text ≡ output.bad_text list.0 list.1 → total summary ≡ output.summed q (Some list) → summary.circle ≡ false
-    → (lines : List (List ℕ)) (tail : List ℕ) → BreaksAt cause bytes lines tail → IsWritten (output.output_from p n lines tail) text summary
-refused_broken p q n cause bytes list text summary is keeps texts sums circle lines tail h = at lines (first_reached p cause bytes lines tail h ∙ is)
+    → (lines : List (List ℕ)) (tail : List ℕ) → BreaksAt cause bytes lines tail → IsWritten view (output.course_from p n lines tail) text summary
+refused_broken view p q n cause bytes list text summary is keeps texts sums circle lines tail h = at lines (first_reached p cause bytes lines tail h ∙ is)
   where
-    at : (ls : List (List ℕ)) → output.reached p (first_of ls tail) ≡ Err list → IsWritten (output.output_from p n ls tail) text summary
-    at [] e = refused_at_end p q n tail list text summary e keeps texts sums circle
-    at (line ∷ ls) e = refused p q n line list text summary e keeps texts sums circle ls tail
+    at : (ls : List (List ℕ)) → output.reached p (first_of ls tail) ≡ Err list → IsWritten view (output.course_from p n ls tail) text summary
+    at [] e = refused_at_end view p q n tail list text summary e keeps texts sums circle
+    at (line ∷ ls) e = refused view p q n line list text summary e keeps texts sums circle ls tail
+
+-- where the end of the input is bad, the header didn't come
+ends_before : (m : Replaying) (n : ℕ) → ((v : Story) (told : ℕ) → m ≡ Reading v told → ⊥) → output.ends (progress m) n [] ≡ output.ends_bad (progress m) (n, why.Cut)
+ends_before Unstarted n before = refl
+ends_before (Opening prelude) n before = refl
+ends_before (Reading story told) n before = absurd (before story told refl)
 
 -- the end of the input before the header
-pub cut_at_end : (m : Replaying) (n : ℕ) (text : List ℕ) (summary : Summary) (from : output.Progress) → output.reached from [] ≡ Ok (progress m) → m ≡ Unstarted
-    → text ≡ output.bad_text n why.Cut → total summary ≡ output.summed (progress m) (Some (n, why.Cut)) → summary.circle ≡ false → IsWritten (output.output_from from n [] []) text summary
-cut_at_end m n text summary from stands is texts sums circle =
-    subst (λ w. IsWritten w text summary)
-    (sym (ap (λ (due : Result output.Progress output.BadLine). output.output_at from due (λ q. output.ends q n [])) (stands ∙ ap (λ (r : Replaying). Ok (progress r)) is)))
-    (record { text = texts; summed = sums ∙ ap (λ (r : Replaying). output.summed (progress r) (Some (n, why.Cut))) is; circle = circle })
-
-ends_on : (m : Replaying) (n : ℕ) → (m ≡ Unstarted → ⊥) → output.ends (progress m) n [] ≡ record { text = []; summed = output.summed (progress m) None }
-ends_on Unstarted n on = absurd (on refl)
-ends_on (Opening prelude) n on = refl
-ends_on (Reading story) n on = refl
+pub cut_at_end : (view : View) (m : Replaying) (n : ℕ) (text : List ℕ) (summary : Summary) (from : output.Progress) → output.reached from [] ≡ Ok (progress m) → ((v : Story) (told : ℕ) → m ≡ Reading v told → ⊥)
+    → text ≡ output.bad_text n why.Cut → total summary ≡ output.summed (progress m) (Some (n, why.Cut)) → summary.circle ≡ false → IsWritten view (output.course_from from n [] []) text summary
+cut_at_end view m n text summary from stands before texts sums circle =
+    subst (λ w. IsWritten view w text summary)
+    (sym (ap (λ (due : Result output.Progress output.BadLine). output.course_at from due (λ q. output.ends q n [])) stands ∙ ends_before m n before))
+    (bad_written view (progress m) (n, why.Cut) text summary texts sums circle)
 
 -- the end of the input behind it
-pub all_read : (m : Replaying) (n : ℕ) (text : List ℕ) (summary : Summary) (from : output.Progress) → output.reached from [] ≡ Ok (progress m) → (m ≡ Unstarted → ⊥)
-    → text ≡ [] → total summary ≡ output.summed (progress m) None → summary.circle ≡ false → IsWritten (output.output_from from n [] []) text summary
-all_read m n text summary from stands on texts sums circle =
-    subst (λ w. IsWritten w text summary)
-    (sym (ap (λ (due : Result output.Progress output.BadLine). output.output_at from due (λ q. output.ends q n [])) stands ∙ ends_on m n on))
-    (record { text = texts; summed = sums; circle = circle })
+pub all_read : (view : View) (m : Replaying) (v : Story) (k : ℕ) (n : ℕ) (text : List ℕ) (summary : Summary) (from : output.Progress) → output.reached from [] ≡ Ok (progress m) → m ≡ Reading v k
+    → output.IsViewOf view v text summary.circle → total summary ≡ output.summed (progress m) None → IsWritten view (output.course_from from n [] []) text summary
+all_read view m v k n text summary from stands is shows sums =
+    subst (λ w. IsWritten view w text summary)
+    (sym (ap (λ (due : Result output.Progress output.BadLine). output.course_at from due (λ q. output.ends q n [])) (stands ∙ ap (λ (r : Replaying). Ok (progress r)) is)))
+    (record {
+      is_shown = record { last = text; parts = ap (λ (l : List ℕ). l ++ text) (sym (shown_none view)); ends = shows };
+      summed = sums ∙ ap (λ (r : Replaying). output.summed (progress r) None) is;
+    })
 
 -- what is answered at a line that breaks off, where a list may be refused
-pub broken_answer : {E : Type 0} (m r : Replaying) (n : ℕ) (cause : Cause) (bytes : List ℕ) (list : Option output.BadLine) (at : output.BadLine) (answer : Result (Vec ℕ × Summary) E) → Reaches (output.reached (progress m) bytes) (progress m) (progress r) list → at ≡ unwrap_or list (n, cause)
+pub broken_answer : {E : Type 0} (view : View) (m r : Replaying) (n : ℕ) (cause : Cause) (bytes : List ℕ) (list : Option output.BadLine) (at : output.BadLine) (answer : Result (Vec ℕ × Summary) E) → Reaches (output.reached (progress m) bytes) (progress m) (progress r) list → at ≡ unwrap_or list (n, cause)
     → IfOk answer (λ a. a.0.items ≡ output.bad_text at.0 at.1) → IfOk answer (λ a. total a.1 ≡ output.summed (progress r) (Some at)) → IfOk answer (λ a. a.1.circle ≡ false)
-    → IfOk answer (λ a. (lines : List (List ℕ)) (tail : List ℕ) → BreaksAt cause bytes lines tail → IsWritten (output.output_from (progress m) n lines tail) a.0.items a.1)
-broken_answer m r n cause bytes list at (Err e) reaches is texts sums circle = tt
-broken_answer m r n cause bytes None at (Ok a) reaches is texts sums circle =
-    broken (progress m) (progress r) n cause bytes a.0.items a.1 reaches (texts ∙ ap (λ (l : output.BadLine). output.bad_text l.0 l.1) is) (sums ∙ ap (λ (l : output.BadLine). output.summed (progress r) (Some l)) is) circle
-broken_answer m r n cause bytes (Some line) at (Ok a) reaches is texts sums circle =
-    refused_broken (progress m) (progress r) n cause bytes line a.0.items a.1 reaches.0 reaches.1 (texts ∙ ap (λ (l : output.BadLine). output.bad_text l.0 l.1) is) (sums ∙ ap (λ (l : output.BadLine). output.summed (progress r) (Some l)) is) circle
+    → IfOk answer (λ a. (lines : List (List ℕ)) (tail : List ℕ) → BreaksAt cause bytes lines tail → IsWritten view (output.course_from (progress m) n lines tail) a.0.items a.1)
+broken_answer view m r n cause bytes list at (Err e) reaches is texts sums circle = tt
+broken_answer view m r n cause bytes None at (Ok a) reaches is texts sums circle =
+    broken view (progress m) (progress r) n cause bytes a.0.items a.1 reaches (texts ∙ ap (λ (l : output.BadLine). output.bad_text l.0 l.1) is) (sums ∙ ap (λ (l : output.BadLine). output.summed (progress r) (Some l)) is) circle
+broken_answer view m r n cause bytes (Some line) at (Ok a) reaches is texts sums circle =
+    refused_broken view (progress m) (progress r) n cause bytes line a.0.items a.1 reaches.0 reaches.1 (texts ∙ ap (λ (l : output.BadLine). output.bad_text l.0 l.1) is) (sums ∙ ap (λ (l : output.BadLine). output.summed (progress r) (Some l)) is) circle
 
 -- the prelude ends before a line, and its lists are entered
 pub reached-open : (before : Replaying) (prelude : Prelude) (line : List ℕ) (story : Story) → before ≡ Opening prelude → ends_prelude (progress before) line ≡ true
-    → Opens (output.opened (prelude_of prelude) (start_fault (prelude_of prelude).start)) (Ok story) → output.reached (progress before) line ≡ Ok (output.Reading story)
+    → Opens (output.opened (prelude_of prelude) (start_fault (prelude_of prelude).start)) (Ok story) → output.reached (progress before) line ≡ Ok (output.Reading story 0)
 reached-open before prelude line story is ends opens =
-    subst (λ q. output.reached (progress q) line ≡ Ok (output.Reading story)) (sym is)
+    subst (λ q. output.reached (progress q) line ≡ Ok (output.Reading story 0)) (sym is)
     (go (output.is_prelude line) (subst (λ q. ends_prelude (progress q) line ≡ true) is ends))
   where
     go : (b : Bool) → not b ≡ true
-        → cond {A = Result output.Progress output.BadLine} b (Ok (output.Opening (prelude_of prelude))) (output.opened (prelude_of prelude) (start_fault (prelude_of prelude).start)) ≡ Ok (output.Reading story)
+        → cond {A = Result output.Progress output.BadLine} b (Ok (output.Opening (prelude_of prelude))) (output.opened (prelude_of prelude) (start_fault (prelude_of prelude).start)) ≡ Ok (output.Reading story 0)
     go true ended = (cc)
     go false ended = opens
 
 -- what the machine that replays allows
-abbrev replays : Replaying → ℕ → List ℕ → List ℕ → Summary → Type 0
-replays = OutputFrom (λ m n lines tail text summary. IsWritten (output.output_from (progress m) n lines tail) text summary)
+abbrev replays : View → Replaying → ℕ → List ℕ → List ℕ → Summary → Type 0
+replays view = OutputFrom (λ m n lines tail text summary. IsWritten view (output.course_from (progress m) n lines tail) text summary)
 
-shown_on : (lines text : List ℕ) → GoesOn replays Unstarted lines text → GoesOn (ShowsFrom Reports) output.Unstarted lines text
-shown_on lines text goes = record { at = progress goes.at; on = goes.on }
-
--- there is one view
-pub only_reports : (view : View) → view ≡ Reports
-only_reports Reports = refl
+shown_on : (view : View) (lines text : List ℕ) → GoesOn (replays view) Unstarted lines text → GoesOn (ShowsFrom view) output.Unstarted lines text
+shown_on view lines text goes = record { at = progress goes.at; on = goes.on }
 
 -- the end of a replay, as the view shows it
-pub shown_end : {E : Type 0} (view : View) (r0 r w0 w : Option (List ℕ)) (answer : Result Summary E) → view ≡ Reports → IfOk answer (ReadsToEnd replays Unstarted r0 r w0 w) → IfOk answer (ReadsToEnd (ShowsFrom view) output.Unstarted r0 r w0 w)
-shown_end view r0 r w0 w (Err e) is h = tt
-shown_end view r0 r w0 w (Ok summary) is h = rw is (record {
+pub shown_end : {E : Type 0} (view : View) (r0 r w0 w : Option (List ℕ)) (answer : Result Summary E) → IfOk answer (ReadsToEnd (replays view) Unstarted r0 r w0 w) → IfOk answer (ReadsToEnd (ShowsFrom view) output.Unstarted r0 r w0 w)
+shown_end view r0 r w0 w (Err e) h = tt
+shown_end view r0 r w0 w (Ok summary) h = record {
   lines = h.lines;
   last = h.last;
   told = h.told;
   text = h.text;
   whole = h.whole;
-  goes = shown_on h.lines h.told h.goes;
+  goes = shown_on view h.lines h.told h.goes;
   one = h.one;
   read = h.read;
   is_last = h.is_last;
   written = h.written;
-})
+}
 
 -- what stands after a failed look, as the view shows it
-pub shown_lines : (view : View) (r0 r w0 w : Option (List ℕ)) → view ≡ Reports → WritesLines replays Unstarted r0 r w0 w → WritesLines (ShowsFrom view) output.Unstarted r0 r w0 w
-shown_lines view r0 r w0 w is h = rw is (record {
+pub shown_lines : (view : View) (r0 r w0 w : Option (List ℕ)) → WritesLines (replays view) Unstarted r0 r w0 w → WritesLines (ShowsFrom view) output.Unstarted r0 r w0 w
+shown_lines view r0 r w0 w h = record {
   lines = h.lines;
   begun = h.begun;
   text = h.text;
   whole = h.whole;
   plain = h.plain;
-  goes = shown_on h.lines h.text h.goes;
+  goes = shown_on view h.lines h.text h.goes;
   read = h.read;
   written = h.written;
-})
+}

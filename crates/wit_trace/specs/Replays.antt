@@ -3,8 +3,9 @@ use Rattle.std.specs.Prelude.{Bool, not, ℕ, ◌≡◌, List, Option, None, Som
 use Rattle.std.specs.Global.{Vec}
 use Rattle.wit_model.specs.declared.calls.Reply.{Reply}
 use Rattle.wit_model.specs.declared.lines.Cause.{Cause}
+use Rattle.wit_model.specs.declared.lines.Line.{Line}
+use Rattle.wit_model.specs.declared.lines.Line.TheVariants.{Assert, Warn}
 use Rattle.wit_model.specs.declared.lines.View.{View}
-use Rattle.wit_model.specs.declared.lines.View.TheVariants.{Reports}
 use Rattle.wit_model.specs.Rules.State.{Story}
 use Rattle.wit_model.specs.Trace.Output as output
 use Rattle.wit_core.specs.Fresh.{start_of}
@@ -26,7 +27,7 @@ prelude_of p = record { start = start_of p.limits p.lists.items p.blessed.items;
 abbrev pub progress : Replaying → output.Progress
 progress Unstarted = output.Unstarted
 progress (Opening prelude) = output.Opening (prelude_of prelude)
-progress (Reading story) = output.Reading story
+progress (Reading story told) = output.Reading story told
 
 -- whether the prelude ends before this line
 abbrev pub ends_prelude : output.Progress → List ℕ → Bool
@@ -36,19 +37,22 @@ ends_prelude _ line = false
 abbrev pub total : Summary → output.Total
 total s = record { calls = s.calls; reports = s.reports; bad = s.bad }
 
--- the text and the summary are those; no circle is looked for
-pub record IsWritten (w : output.Written) (bytes : List ℕ) (summary : Summary) : Type 0 where
-  pub text : bytes ≡ w.text
-  pub summed : total summary ≡ w.summed
-  pub circle : summary.circle ≡ false
+-- the text is one that the view shows of the reading, and the summary sums it up
+pub record IsWritten (view : View) (c : output.Course) (bytes : List ℕ) (summary : Summary) : Type 0 where
+  pub is_shown : output.IsShown view c bytes summary.circle
+  pub summed : total summary ≡ output.total_of c.ending
 
 -- what the view shows of the rest of a trace, of which the first line has this number
 abbrev pub ShowsFrom : View → output.Progress → ℕ → List ℕ → List ℕ → Summary → Type 0
-ShowsFrom Reports p number input text summary = IsWritten (output.output_from p number (text_of input).lines (text_of input).tail) text summary
+ShowsFrom view p number input text summary = IsWritten view (output.course_from p number (text_of input).lines (text_of input).tail) text summary
 
 -- what the view shows of a trace
 abbrev pub Shows : View → List ℕ → List ℕ → Summary → Type 0
 Shows view = ShowsFrom view output.Unstarted 1
+
+-- how many reports were told so far
+abbrev pub reported : output.Progress → ℕ
+reported p = (output.summed p None).reports
 
 -- a line that ends the reading changes nothing of what is summed up
 abbrev pub KeepsTotal : output.Progress → output.Progress → Type 0
@@ -74,10 +78,21 @@ abbrev pub Passes : output.Outcome → output.Progress → output.Progress → R
 Passes due old new (Ok told) = GoesOnWith due new told.items
 Passes due old new (Err e) = FailsFor due old new e
 
--- the reply to a line's call leads to what should become of the line
-abbrev pub Calls : output.Outcome → Story → Story → Result Reply LineError → Type 0
-Calls due old new (Ok reply) = due ≡ output.Goes (output.Reading new) (output.told new reply)
-Calls due old new (Err e) = FailsFor due (output.Reading old) (output.Reading new) e
+-- the reply to a line's call leads to what should become of the line, however many failed assertions and warnings were told before
+abbrev pub Calls : (ℕ → output.Outcome) → Story → Story → Result Reply LineError → Type 0
+Calls due old new (Ok reply) = (n : ℕ) → due n ≡ output.Goes (output.Reading new n) (output.told new reply)
+Calls due old new (Err e) = (n : ℕ) → FailsFor (due n) (output.Reading old n) (output.Reading new n) e
+
+-- what is told of a line whose call isn't logged: it counts where it says something
+abbrev pub Remarks : Story → (ℕ → output.Outcome) → Result (Vec ℕ) LineError → Type 0
+Remarks s due (Ok text) = (n : ℕ) → due n ≡ output.remarks s n text.items
+Remarks s due (Err e) = (n : ℕ) → FailsFor (due n) (output.Reading s n) (output.Reading s n) e
+
+-- a line whose call is logged, or that makes none
+abbrev pub IsLoggedLine : Line → Type 0
+IsLoggedLine (Assert seat lock asserted) = ⊥
+IsLoggedLine (Warn seat lock flags) = ⊥
+IsLoggedLine _ = Unit {0}
 
 -- this text is told, and the reading goes on
 abbrev pub GoesWith : List ℕ → Step → Type 0
@@ -85,18 +100,18 @@ GoesWith told (step.Goes text) = text.items ≡ told
 GoesWith told (step.Ends text summary) = ⊥
 
 -- the reading ends at a bad line, with its text and this summary; not for want of memory
-abbrev pub EndsFor : output.Progress → ℕ → LineError → Step → Type 0
-EndsFor p number Memory s = ⊥
-EndsFor p number (Bad cause) (step.Goes text) = ⊥
-EndsFor p number (Bad cause) (step.Ends text summary) = IsWritten (output.ends_bad p (number, cause)) text.items summary
+abbrev pub EndsFor : View → output.Progress → ℕ → LineError → Step → Type 0
+EndsFor view p number Memory s = ⊥
+EndsFor view p number (Bad cause) (step.Goes text) = ⊥
+EndsFor view p number (Bad cause) (step.Ends text summary) = IsWritten view (output.ends_bad p (number, cause)) text.items summary
 
 -- what a replay in progress may write and sum up
-abbrev pub allowed : Replaying → ℕ → List (List ℕ) → List ℕ → List ℕ → Summary → Type 0
-allowed m number lines tail text summary = IsWritten (output.output_from (progress m) number lines tail) text summary
+abbrev pub allowed : View → Replaying → ℕ → List (List ℕ) → List ℕ → List ℕ → Summary → Type 0
+allowed view m number lines tail text summary = IsWritten view (output.course_from (progress m) number lines tail) text summary
 
 -- the verifier was made, or a list refused, as it should be
 abbrev pub Opens : Result output.Progress output.BadLine → Result Story (ℕ × Cause) → Type 0
-Opens due (Ok story) = due ≡ Ok (output.Reading story)
+Opens due (Ok story) = due ≡ Ok (output.Reading story 0)
 Opens due (Err bad) = due ≡ Err bad
 
 -- the reading came to where it should stand, or to the refusal of a list, which changes nothing of what is summed up

@@ -1,15 +1,20 @@
 //! The replay of a trace by the verifier.
 
-ghost use Rattle.std.specs.Prelude.{◌≡◌, ◌⊎◌, ◌≤◌, ℕ, List, length, true, false, refl, Some, None, IsTrue, IfOk, OnErr};
-ghost use Rattle.wit_model.specs.Trace.Output.{Unstarted, reached, entered, outcome, bad_text, output_from, summed};
+ghost use Rattle.std.specs.Prelude.{◌≡◌, ◌⊎◌, ◌+◌, ◌<◌, ◌≤◌, ◌^◌, ℕ, List, length, true, false, Some, IsTrue, IfOk, OnErr};
+ghost use Rattle.wit_model.specs.declared.lines.Cause.{Cause};
+ghost use Rattle.wit_model.specs.declared.lines.View.{View};
+ghost use Rattle.wit_model.specs.Trace.Output.{Unstarted, reached, entered, outcome, bad_text, summed};
+ghost use Rattle.wit_grammar.specs.declared.errors.LineError.TheVariants.{Bad};
 ghost use Rattle.wit_trace.specs.Machine.{Follows};
-ghost use Rattle.wit_trace.specs.Replays.{allowed, ends_prelude, progress, total, EndsFor, Reaches, Passes, Shows, ShowsFrom};
+ghost use Rattle.wit_trace.specs.Outputs.{some_output};
+ghost use Rattle.wit_trace.specs.Replays.{allowed, ends_prelude, progress, reported, total, EndsFor, Reaches, Passes, Shows, ShowsFrom};
 ghost use Rattle.wit_trace.specs.Stream.{IsSpent, ReadsToEnd, WritesFront, WritesLines, WritesOutput};
 ghost use Rattle.wit_grammar.specs.declared.parse.TheConstants.{LONGEST};
 
 mod bad_lines;
 mod calls;
 mod prelude;
+mod views;
 
 use crate::stream::machine::{Machine, Step};
 use crate::stream::ports::{Failures, Ports};
@@ -21,6 +26,7 @@ use prelude::{Prelude, add_line, is_prelude, new_prelude, open};
 use std::alloc::{AllocError, Global};
 use std::io::{BufRead, Write};
 use std::mem;
+use views::{last_text, shown};
 use wit_core::Verifier;
 use wit_grammar::{LineError, parse_line, parse_lock_line};
 use wit_model::{Cause, Limits, Line, View};
@@ -28,8 +34,9 @@ use wit_model::{Cause, Limits, Line, View};
 /// The log's limit in a replay.
 const LOG: u32 = 16_777_216;
 
-/// Reads a trace, and writes what the view shows of it: for `Reports` the texts of the reports as they
-/// come, and at a bad line its number and cause, with which the reading ends.
+/// Reads a trace, and writes what the view shows of it: for `Reports` the texts of the reports, failed
+/// assertions and warnings as they come; for each other view its text after the whole trace. The reading ends at a bad
+/// line, of which its number and cause are written, for those other views nothing else.
 ///
 /// A text is written and flushed before the reader is looked at again. After `Ok` exactly the lines up to
 /// the one that ended the reading were taken from the reader, of one that is too long its first 4,097 bytes.
@@ -86,12 +93,8 @@ pub fn replay_through<R: BufRead, W: Write, P: Ports<R, W>>(
         ⊎ IsSpent (R.remaining input.old) (R.remaining input.new) (P.looks ports.new) }
     ensures write { result ≡ Err ReplayError.Write → IsTrue (P.write_failed ports.new) }
 {
-    match view {
-        View::Reports => {
-            let mut machine = Replaying::Unstarted;
-            run(alloc, ports, &mut machine, input, output)
-        }
-    }
+    let mut machine = Replaying::Unstarted;
+    run(alloc, ports, &mut machine, view, input, output)
 }
 
 /// A replay in progress.
@@ -102,14 +105,19 @@ enum Replaying {
     /// The prelude goes on.
     Opening(Prelude),
     /// The prelude is over.
-    Reading(Verifier),
+    Reading {
+        verifier: Verifier,
+        /// Failed assertions and warnings: no log holds them.
+        told: u64,
+    },
 }
 
 impl Replaying {
     // The prelude ends before a line that begins otherwise; a list that is refused then is the bad line.
     #[inline(always)]
     fn reach(&mut self, alloc: Global, line: &[u8]) -> Result<Option<(u64, Cause)>, AllocError>
-        ensures { IfOk result (Reaches (reached (progress self.old) line.now) (progress self.old) (progress self.new)) }
+        ensures stands { IfOk result (Reaches (reached (progress self.old) line.now) (progress self.old) (progress self.new)) }
+        ensures counted { IfOk result (λ r. reported (progress self.new) ≡ reported (progress self.old)) }
     {
         if self.ends_prelude(line) {
             self.end_prelude(alloc)
@@ -128,7 +136,7 @@ impl Replaying {
         match mem::replace(self, Replaying::Unstarted) {
             Replaying::Opening(prelude) => match open(alloc, prelude)? {
                 Ok(verifier) => {
-                    *self = Replaying::Reading(verifier);
+                    *self = Replaying::Reading { verifier, told: 0 };
                     Ok(None)
                 }
                 Err(bad) => Ok(Some(bad)),
@@ -153,21 +161,30 @@ impl Replaying {
     // A line of any kind, in its place. By itself, so that a line that makes a call on a lock doesn't pay for
     // its large locals.
     #[inline(never)]
-    fn any_line(&mut self, alloc: Global, number: u64, bytes: &[u8]) -> Result<Step, AllocError>
-        requires { length bytes.now ≤ LONGEST }
-        ensures { IfOk result (Follows allowed self.old self.new number bytes.now) }
+    fn any_line(
+        &mut self,
+        alloc: Global,
+        view: View,
+        number: u64,
+        bytes: &[u8],
+    ) -> Result<Step, AllocError>
+        requires room { reported (progress self.old) < number }
+        requires short { length bytes.now ≤ LONGEST }
+        ensures step { IfOk result (Follows (allowed view) self.old self.new number bytes.now) }
+        ensures counted { IfOk result (λ s. reported (progress self.new) ≤ reported (progress self.old) + 1) }
     {
         if let Some((number, cause)) = self.reach(alloc, bytes)? {
             return self.ended_step(alloc, number, LineError::Bad(cause));
         }
         match self.read(alloc, number, bytes) {
-            Ok(text) => Ok(Step::Goes(text)),
+            Ok(text) => Ok(Step::Goes(shown(alloc, view, text))),
             Err(error) => self.ended_step(alloc, number, error),
         }
     }
 
     fn read(&mut self, alloc: Global, number: u64, bytes: &[u8]) -> Result<Vec<u8>, LineError>
-        requires { length bytes.now ≤ LONGEST }
+        requires room { reported (progress self.old) < number }
+        requires short { length bytes.now ≤ LONGEST }
         ensures { Passes (outcome (progress self.old) number bytes.now)
             (progress self.old) (progress self.new) result }
     {
@@ -176,13 +193,14 @@ impl Replaying {
     }
 
     fn enter(&mut self, alloc: Global, number: u64, line: Line) -> Result<Vec<u8>, LineError>
+        requires { reported (progress self.old) < number }
         ensures { Passes (entered (progress self.old) number line)
             (progress self.old) (progress self.new) result }
     {
         match self {
             Replaying::Unstarted => self.start(alloc, line),
             Replaying::Opening(prelude) => add_line(alloc, prelude, number, line),
-            Replaying::Reading(verifier) => enter_line(alloc, verifier, line),
+            Replaying::Reading { verifier, told } => enter_line(alloc, verifier, told, line),
         }
     }
 
@@ -207,18 +225,22 @@ impl Replaying {
         Ok(Vec::new(alloc))
     }
 
-    fn summary(&self, bad: Option<(u64, Cause)>) -> Summary
+    fn summary(&self, circle: bool, bad: Option<(u64, Cause)>) -> Summary
+        requires { reported (progress self.now) < 2 ^ 64 }
         ensures total { total result ≡ summed (progress self.now) bad }
-        ensures circle { result.circle ≡ false }
+        ensures circle { result.circle ≡ circle }
     {
         let (calls, reports) = match self {
-            Replaying::Reading(verifier) => (verifier.history().len() as u64, verifier.reports()),
+            Replaying::Reading { verifier, told } => (
+                verifier.history().len() as u64,
+                u64::from(verifier.reports()) + *told,
+            ),
             Replaying::Unstarted | Replaying::Opening(_) => (0, 0),
         };
         Summary {
             calls,
-            reports: u64::from(reports),
-            circle: false,
+            reports,
+            circle,
             bad,
         }
     }
@@ -227,7 +249,8 @@ impl Replaying {
     #[cold]
     #[inline(never)]
     fn ended_step(&self, alloc: Global, number: u64, error: LineError) -> Result<Step, AllocError>
-        ensures { IfOk result (EndsFor (progress self.now) number error) }
+        requires { (cause : Cause) → error ≡ Bad cause → reported (progress self.now) < 2 ^ 64 }
+        ensures { (view : View) → IfOk result (EndsFor view (progress self.now) number error) }
     {
         match error {
             LineError::Bad(cause) => {
@@ -245,33 +268,44 @@ impl Replaying {
         number: u64,
         cause: Cause,
     ) -> Result<(Vec<u8>, Summary), AllocError>
+        requires { reported (progress self.now) < 2 ^ 64 }
         ensures text { IfOk result (λ r. r.0.items ≡ bad_text number cause) }
         ensures total { IfOk result (λ r. total r.1 ≡ summed (progress self.now) (Some (number, cause))) }
         ensures circle { IfOk result (λ r. r.1.circle ≡ false) }
     {
         let text = bad_text(alloc, number, cause)?;
-        Ok((text.into_bytes(), self.summary(Some((number, cause)))))
+        let summary = self.summary(false, Some((number, cause)));
+        Ok((text.into_bytes(), summary))
     }
 }
 
 impl Machine for Replaying {
     ghost allows = { allowed };
 
-    fn line(&mut self, alloc: Global, number: u64, bytes: &[u8]) -> Result<Step, AllocError> {
-        if let Replaying::Reading(verifier) = self {
+    ghost reports = { λ m. reported (progress m) };
+
+    fn line(
+        &mut self,
+        alloc: Global,
+        view: View,
+        number: u64,
+        bytes: &[u8],
+    ) -> Result<Step, AllocError> {
+        if let Replaying::Reading { verifier, .. } = self {
             if let Some(line) = parse_lock_line(bytes) {
                 return match call_on_lock(verifier, line) {
-                    Ok(reply) => told_step(alloc, verifier, reply),
+                    Ok(reply) => told_step(alloc, view, verifier, reply),
                     Err(error) => self.ended_step(alloc, number, error),
                 };
             }
         }
-        self.any_line(alloc, number, bytes)
+        self.any_line(alloc, view, number, bytes)
     }
 
     fn broken(
         &mut self,
         alloc: Global,
+        _view: View,
         number: u64,
         beginning: &[u8],
         cause: Cause,
@@ -280,26 +314,24 @@ impl Machine for Replaying {
         self.ended(alloc, number, cause)
     }
 
-    fn end(&mut self, alloc: Global, number: u64) -> Result<(Vec<u8>, Summary), AllocError> {
+    fn end(
+        &mut self,
+        alloc: Global,
+        view: View,
+        number: u64,
+    ) -> Result<(Vec<u8>, Summary), AllocError> {
         if let Some((number, cause)) = self.reach(alloc, b"")? {
             return self.ended(alloc, number, cause);
         }
-        match self {
-            Replaying::Unstarted => self.ended(alloc, number, Cause::Cut),
-            _ => Ok((Vec::new(alloc), self.summary(None))),
+        if let Replaying::Reading { verifier, .. } = self {
+            let Ok((text, circle)) = last_text(alloc, view, verifier) else {
+                // It fails for want of memory alone.
+                return Err(AllocError);
+            };
+            return Ok((text, self.summary(circle, None)));
         }
+        self.ended(alloc, number, Cause::Cut)
     }
 
-    ghost answers = { λ m n lines tail. (
-      (output_from (progress m) n lines tail).text,
-      (
-        record {
-          calls = (output_from (progress m) n lines tail).summed.calls;
-          reports = (output_from (progress m) n lines tail).summed.reports;
-          circle = false;
-          bad = (output_from (progress m) n lines tail).summed.bad;
-        },
-        record { text = refl; summed = refl; circle = refl },
-      ),
-    ) };
+    ghost answers = { λ view m n lines tail. some_output view (progress m) n lines tail };
 }

@@ -41,5 +41,7 @@ fn has_reported(view: View, summary: &Summary) -> bool
 {
     match view {
         View::Reports => summary.reports > 0,
+        View::Graph | View::Locks => false,
+        View::Circle => summary.circle,
     }
 }

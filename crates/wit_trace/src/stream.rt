@@ -12,6 +12,7 @@ use machine::{Machine, Step};
 use ports::Ports;
 use std::alloc::Global;
 use std::io::{BufRead, Write};
+use wit_model::View;
 
 /// Reads the lines of a stream through a machine, and writes its texts as they come.
 ///
@@ -26,17 +27,19 @@ pub fn run<R: BufRead, W: Write, P: Ports<R, W>, M: Machine>(
     alloc: Global,
     ports: &mut P,
     machine: &mut M,
+    view: View,
     reader: &mut R,
     writer: &mut W,
 ) -> Result<Summary, ReplayError>
-    requires { P.looks ports.old ≡ 0 }
-    ensures ok { IfOk result (WritesOutput (OutputFrom M.allows machine.old 1)
+    requires unused { P.looks ports.old ≡ 0 }
+    requires fresh { M.reports machine.old ≡ 0 }
+    ensures ok { IfOk result (WritesOutput (OutputFrom (M.allows view) machine.old 1)
         (R.remaining reader.old) (W.contents writer.old) (W.contents writer.new)) }
-    ensures err { OnErr result (WritesFront (OutputFrom M.allows machine.old 1)
+    ensures err { OnErr result (WritesFront (OutputFrom (M.allows view) machine.old 1)
         (R.remaining reader.old) (W.contents writer.old) (W.contents writer.new)) }
-    ensures taken { IfOk result (ReadsToEnd (OutputFrom M.allows) machine.old
+    ensures taken { IfOk result (ReadsToEnd (OutputFrom (M.allows view)) machine.old
         (R.remaining reader.old) (R.remaining reader.new) (W.contents writer.old) (W.contents writer.new)) }
-    ensures told { result ≡ Err ReplayError.Read → WritesLines (OutputFrom M.allows) machine.old
+    ensures told { result ≡ Err ReplayError.Read → WritesLines (OutputFrom (M.allows view)) machine.old
         (R.remaining reader.old) (R.remaining reader.new) (W.contents writer.old) (W.contents writer.new) }
     ensures read { result ≡ Err ReplayError.Read → IsTrue (P.read_failed ports.new)
         ⊎ IsSpent (R.remaining reader.old) (R.remaining reader.new) (P.looks ports.new) }
@@ -47,7 +50,7 @@ pub fn run<R: BufRead, W: Write, P: Ports<R, W>, M: Machine>(
     let mut left = u64::MAX;
     while left > 0 {
         left -= 1;
-        let Some(step) = ports.advance(alloc, machine, number, reader, &mut line)? else {
+        let Some(step) = ports.advance(alloc, machine, view, number, reader, &mut line)? else {
             continue;
         };
         match step {

@@ -9,7 +9,7 @@ use Rattle.clap.specs.Lexer.{long_of, short_of}
 use Rattle.clap.specs.Walk.{Held, Step, trailing, after_flag, after_step, bundle_met, bundle_step, finished, idle, long_or_other, nothing_held, plain, short_or_plain, value, walk_from, walked}
 use Rattle.clap.proofs.OnLiterals.{clap_on_literals}
 use Rattle.wit_model.specs.declared.lines.View.{View}
-use Rattle.wit_model.specs.declared.lines.View.TheVariants.{Reports}
+use Rattle.wit_model.specs.declared.lines.View.TheVariants.{Reports, Graph, Locks, Circle}
 use Rattle.witness.specs.CommandLine.{asked, bytes_of, command, named, only_word, option_named}
 
 -- the rules that clap reads the words by
@@ -72,42 +72,62 @@ given_is_asked (name ∷ []) given two e = absurd (omega arith)
 given_is_asked (name ∷ word ∷ []) given two e = kept (bytes_eq word (45 ∷ 45 ∷ [])) word given (e ∙ text_given name word)
 given_is_asked (name ∷ word ∷ third ∷ more) given two e = absurd (omega arith)
 
--- clap gives a text where the only word is `replay`
-pub replay_is_given : (words : List Text) → only_word words ≡ Some (codes "replay")
-    → first_of (codes "word") (matches_of command words) ≡ Some (codes "replay")
-replay_is_given [] e = cc
-replay_is_given (name ∷ []) e = cc
-replay_is_given (name ∷ word ∷ []) e =
-    text_given name word ∙ ap (λ (w : Text). if bytes_eq w (45 ∷ 45 ∷ []) then None else Some w) (same_text _ _ e)
-replay_is_given (name ∷ word ∷ third ∷ more) e = cc
+-- what each word has that names a view
+pub for_views : (P : Text → Type 0) → P (codes "replay") → P (codes "graph") → P (codes "locks") → P (codes "circle")
+    → (word : Text) (view : View) → named word ≡ Some view → P word
+for_views P replay graph locks circle word view is =
+    go (bytes_eq word (codes "replay")) refl (bytes_eq word (codes "graph")) refl (bytes_eq word (codes "locks")) refl (bytes_eq word (codes "circle")) refl is
+  where
+    same : (literal : Text) → bytes_eq word literal ≡ true → P literal → P word
+    same literal e has = subst P (sym ((bytes_eq-Decides word literal).0 e)) has
 
--- clap accepts a command line whose only word is `replay`
-pub replay_passes : (words : List Text) → only_word words ≡ Some (codes "replay") → takes command words ≡ true
+    go : (r : Bool) → bytes_eq word (codes "replay") ≡ r → (g : Bool) → bytes_eq word (codes "graph") ≡ g
+        → (l : Bool) → bytes_eq word (codes "locks") ≡ l → (c : Bool) → bytes_eq word (codes "circle") ≡ c
+        → (if r then Some Reports else if g then Some Graph else if l then Some Locks else if c then Some Circle else None) ≡ Some view → P word
+    go true at g isg l isl c isc e = same (codes "replay") at replay
+    go false at true isg l isl c isc e = same (codes "graph") isg graph
+    go false at false isg true isl c isc e = same (codes "locks") isl locks
+    go false at false isg false isl true isc e = same (codes "circle") isc circle
+    go false at false isg false isl false isc e = cc
+
+-- clap gives a text where the only word names a view
+pub view_is_given : (words : List Text) (word : Text) (view : View) → only_word words ≡ Some word → named word ≡ Some view
+    → first_of (codes "word") (matches_of command words) ≡ Some word
+view_is_given [] word view e is = cc
+view_is_given (name ∷ []) word view e is = cc
+view_is_given (name ∷ only ∷ []) word view e is =
+    text_given name only ∙ ap (λ (w : Text). if bytes_eq w (45 ∷ 45 ∷ []) then None else Some w) (same_text _ _ e)
+    ∙ ap (λ b. if b then None else Some word) (for_views (λ w. bytes_eq w (45 ∷ 45 ∷ []) ≡ false) refl refl refl refl word view is)
+view_is_given (name ∷ only ∷ third ∷ more) word view e is = cc
+
+literal_passes : (name word : Text) (view : View) → named word ≡ Some view → takes command (name ∷ word ∷ []) ≡ true
 unfolding clap_on_literals
-replay_passes [] e = cc
-replay_passes (name ∷ []) e = cc
-replay_passes (name ∷ word ∷ []) e = ap (λ (w : Text). takes command (name ∷ w ∷ [])) (same_text _ _ e)
-replay_passes (name ∷ word ∷ third ∷ more) e = cc
+literal_passes name word view is = for_views (λ w. takes command (name ∷ w ∷ []) ≡ true) refl refl refl refl word view is
 
-none_unless : (b : Bool) → (b ≡ true → ⊥) → (if b then Some Reports else None) ≡ None
-none_unless true h = absurd (h refl)
-none_unless false h = refl
+-- clap accepts a command line whose only word names a view
+pub view_passes : (words : List Text) (word : Text) (view : View) → only_word words ≡ Some word → named word ≡ Some view → takes command words ≡ true
+view_passes [] word view e is = cc
+view_passes (name ∷ []) word view e is = cc
+view_passes (name ∷ only ∷ []) word view e is = ap (λ (w : Text). takes command (name ∷ w ∷ [])) (same_text _ _ e) ∙ literal_passes name word view is
+view_passes (name ∷ only ∷ third ∷ more) word view e is = cc
 
--- a word names no view where it isn't `replay`
-pub unnamed : (word : Text) → (word ≡ codes "replay" → ⊥) → named word ≡ None
-unnamed word h = none_unless (bytes_eq word (codes "replay")) (λ e. h ((bytes_eq-Decides word (codes "replay")).0 e))
+-- where no view can be named none is
+unnamed_by : (word : Text) (o : Option View) → named word ≡ o → ((view : View) → named word ≡ Some view → ⊥) → named word ≡ None
+unnamed_by word None is never = is
+unnamed_by word (Some view) is never = absurd (never view is)
 
-pub unnamed_option : (word : Option Text) → (word ≡ Some (codes "replay") → ⊥) → None ≡ option_named word
-unnamed_option None h = refl
-unnamed_option (Some word) h = sym (unnamed word (λ e. h (ap Some e)))
+pub unnamed_option : (word : Option Text) → ((w : Text) (view : View) → word ≡ Some w → named w ≡ Some view → ⊥) → None ≡ option_named word
+unnamed_option None never = refl
+unnamed_option (Some word) never = sym (unnamed_by word (named word) refl (λ view is. never word view refl is))
 
-replay_is_text : IsUtf8 (codes "replay")
+view_is_text : (word : Text) (view : View) → named word ≡ Some view → IsUtf8 word
 unfolding clap_on_literals
-replay_is_text = (codes "replay", (refl, refl))
+view_is_text word view is =
+    for_views IsUtf8 (codes "replay", (refl, refl)) (codes "graph", (refl, refl)) (codes "locks", (refl, refl)) (codes "circle", (refl, refl)) word view is
 
 -- bytes that are no text name no view
 pub unnamed_bytes : (word : List ℕ) → (IsUtf8 word → ⊥) → named word ≡ None
-unnamed_bytes word h = unnamed word (λ e. h (subst IsUtf8 (sym e) replay_is_text))
+unnamed_bytes word h = unnamed_by word (named word) refl (λ view is. h (view_is_text word view is))
 
 -- words of which the first names no view ask for none
 pub unasked : (words : List (Vec ℕ)) (word : Vec ℕ) → word ≡ get_or words 0 word → named word.items ≡ None → asked (bytes_of words) ≡ None

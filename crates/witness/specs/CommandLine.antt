@@ -5,7 +5,7 @@ use Rattle.std.specs.Global.{Vec}
 use Rattle.clap.specs.Words.{App, Text, new_app, new_rule, with_rule}
 use Rattle.clap.specs.declared.builder.action.ArgAction.TheVariants.{Set}
 use Rattle.wit_model.specs.declared.lines.View.{View}
-use Rattle.wit_model.specs.declared.lines.View.TheVariants.{Reports}
+use Rattle.wit_model.specs.declared.lines.View.TheVariants.{Reports, Graph, Locks, Circle}
 
 -- the words' bytes
 abbrev pub bytes_of : List (Vec ℕ) → List (List ℕ)
@@ -13,7 +13,12 @@ bytes_of words = map (λ (word : Vec ℕ). word.items) words
 
 -- the view that a word names
 abbrev pub named : List ℕ → Option View
-named word = if bytes_eq word (codes "replay") then Some Reports else None
+named word =
+    if bytes_eq word (codes "replay") then Some Reports
+    else if bytes_eq word (codes "graph") then Some Graph
+    else if bytes_eq word (codes "locks") then Some Locks
+    else if bytes_eq word (codes "circle") then Some Circle
+    else None
 
 -- the view that the words behind the program's name ask for: they are one word, which names it
 abbrev pub asked : List (List ℕ) → Option View

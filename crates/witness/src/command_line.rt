@@ -74,6 +74,9 @@ fn named_view(word: &str) -> Option<View>
 {
     match word {
         "replay" => Some(View::Reports),
+        "graph" => Some(View::Graph),
+        "locks" => Some(View::Locks),
+        "circle" => Some(View::Circle),
         _ => None,
     }
 }

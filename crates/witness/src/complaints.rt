@@ -9,12 +9,16 @@ use wit_trace::{FAILED, ReplayError};
 pub const BAD_USAGE: u8 = 2;
 
 /// How the program is used.
-pub const USAGE: &str = "usage: witness replay < TRACE
+pub const USAGE: &str = "usage: witness replay|graph|locks|circle < TRACE
 
-Reads a trace of lock calls from standard input, and writes the text of each report as it comes.
-Status: 0 nothing was reported, 1 something was reported, 2 bad usage, 3 a bad line (the last line of the
-output says which and why), 4 no memory, or reading or writing failed.
-The format of a trace: docs/TRACE.md
+Reads a trace of lock calls from standard input, and writes
+  replay  the text of each report, failed assertion and warning as it comes
+  graph   the direct orders between lock types, after the whole trace
+  locks   the locks that the seats hold, after the whole trace
+  circle  a circle of seats that wait for one another, or that there is none, after the whole trace
+Status: 0 nothing was reported, 1 something was reported (replay) or there is a circle (circle), 2 bad usage,
+3 a bad line (the last line of the output says which and why), 4 no memory, or reading or writing failed.
+The format of a trace: docs/man/witness-trace.5
 ";
 
 /// Says how the program is used, and gives the status of bad usage. The status alone tells it where

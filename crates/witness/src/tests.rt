@@ -13,7 +13,7 @@ use std::test::Fail;
 /// The words behind the name, the trace, and the status and the output that they give.
 type Case = (&'static [&'static str], &'static str, u8, &'static str);
 
-const CASES: [Case; 12] = [
+const CASES: [Case; 20] = [
     (
         &["replay"],
         "witness-trace 1 seats 2 types 8 locks 16 chunks 4\n",
@@ -34,6 +34,14 @@ const CASES: [Case; 12] = [
         3,
         "line 3: F11 NotLocked\n",
     ),
+    (&["graph"], BOTH_ORDERS, 0, "\"A\",\"B\"\n"),
+    (&["locks"], BOTH_ORDERS, 0, BOTH_ORDERS_LOCKS),
+    (&["circle"], BOTH_ORDERS, 0, "no circle\n"),
+    (&["replay"], CROSSED, 1, CROSSED_REPORT),
+    (&["graph"], CROSSED, 0, "\"A\",\"B\"\n"),
+    (&["circle"], CROSSED, 1, CROSSED_CIRCLE),
+    (&["locks"], "", 3, "line 1: cut\n"),
+    (&["demo"], BOTH_ORDERS, 2, ""),
     (&[], BOTH_ORDERS, 2, ""),
     (&["replay", "replay"], BOTH_ORDERS, 2, ""),
     (&["--", "replay"], BOTH_ORDERS, 2, ""),
@@ -63,6 +71,35 @@ const BOTH_ORDERS_REPORT: &str = r#"lock order reversal:
  2nd "a" (A, sleep mutex) @ f:4
 established order:
  "A" -> "B" @ f:2
+"#;
+
+const BOTH_ORDERS_LOCKS: &str = r#"seat 2 holds:
+exclusive sleep mutex "b" (B) r = 0 @ f:3
+free chunks: 2
+"#;
+
+/// Two seats that hold a mutex each, and ask for each other's.
+const CROSSED: &str = r#"witness-trace 1 seats 2 types 8 locks 16 chunks 4
+init 1 mtx - "A"
+init 1 mtx - "B"
+check 1 1 x n f:1
+lock 1 1
+check 2 2 x n f:2
+lock 2 2
+check 1 2 x n f:3
+check 2 1 x n f:4
+"#;
+
+const CROSSED_REPORT: &str = r#"lock order reversal:
+ 1st "B" (B, sleep mutex) @ f:2
+ 2nd "A" (A, sleep mutex) @ f:4
+established order:
+ "A" -> "B" @ f:3
+"#;
+
+const CROSSED_CIRCLE: &str = r#"circle:
+ seat 1 waits for "B" held by seat 2
+ seat 2 waits for "A" held by seat 1
 "#;
 
 /// The words of a process, the first of which is its name.

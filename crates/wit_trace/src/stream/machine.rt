@@ -1,6 +1,7 @@
 //! What reads the lines of a stream.
 
-ghost use Rattle.std.specs.Prelude.{ℕ, ◌+◌, ◌≤◌, List, [], ◌∷◌, length, IfOk};
+ghost use Rattle.std.specs.Prelude.{ℕ, ◌+◌, ◌<◌, ◌≤◌, List, [], ◌∷◌, length, IfOk};
+ghost use Rattle.wit_model.specs.declared.lines.View.{View};
 ghost use Rattle.wit_trace.specs.Text.{HasNoFeed};
 ghost use Rattle.wit_trace.specs.Machine.{Follows, BreaksAt};
 ghost use Rattle.wit_trace.specs.declared.summary.Summary.{Summary};
@@ -8,7 +9,7 @@ ghost use Rattle.wit_grammar.specs.declared.parse.TheConstants.{LONGEST};
 
 use crate::summary::Summary;
 use std::alloc::{AllocError, Global};
-use wit_model::Cause;
+use wit_model::{Cause, View};
 
 /// What becomes of a whole line.
 #[derive(Drop)]
@@ -21,19 +22,30 @@ pub enum Step {
 
 /// Reads lines one at a time, writes texts, and ends with a summary.
 ///
-/// `allows m number lines tail text summary` says that from `m` on, where the next line has this number
-/// and these whole lines and this unfinished one are still to come, this text may be written and this
-/// summary given. Some text and summary are always allowed.
+/// `allows view m number lines tail text summary` says that from `m` on, where the next line has this number
+/// and these whole lines and this unfinished one are still to come, this text may be written for the view and
+/// this summary given. Some text and summary are always allowed. `reports m` is how many reports the machine has
+/// counted: one a line at most.
 pub trait Machine {
-    ghost allows: { Self → ℕ → List (List ℕ) → List ℕ → List ℕ → Summary → Type 0 };
+    ghost allows: { View → Self → ℕ → List (List ℕ) → List ℕ → List ℕ → Summary → Type 0 };
+
+    ghost reports: { Self → ℕ };
 
     /// Reads a whole line of at most 4,096 bytes, without its line feed. Lines count from 1.
     ///
     /// An error promises nothing.
-    fn line(&mut self, alloc: Global, number: u64, bytes: &[u8]) -> Result<Step, AllocError>
+    fn line(
+        &mut self,
+        alloc: Global,
+        view: View,
+        number: u64,
+        bytes: &[u8],
+    ) -> Result<Step, AllocError>
+        requires room { reports self.old < number }
         requires short { length bytes.now ≤ LONGEST }
         requires plain { HasNoFeed bytes.now }
-        ensures { IfOk result (Follows allows self.old self.new number bytes.now) };
+        ensures step { IfOk result (Follows (allows view) self.old self.new number bytes.now) }
+        ensures counted { IfOk result (λ s. reports self.new ≤ reports self.old + 1) };
 
     /// Ends at a line that is too long, of which at least 4,097 bytes are given, or at one that the
     /// input ends in.
@@ -42,20 +54,28 @@ pub trait Machine {
     fn broken(
         &mut self,
         alloc: Global,
+        view: View,
         number: u64,
         beginning: &[u8],
         cause: Cause,
     ) -> Result<(Vec<u8>, Summary), AllocError>
+        requires { reports self.old < number }
         ensures { IfOk result (λ r. (lines : List (List ℕ)) (tail : List ℕ) →
             BreaksAt cause beginning.now lines tail →
-            allows self.old number lines tail r.0.items r.1) };
+            allows view self.old number lines tail r.0.items r.1) };
 
     /// Ends after a whole line, or before the first.
     ///
     /// An error promises nothing.
-    fn end(&mut self, alloc: Global, number: u64) -> Result<(Vec<u8>, Summary), AllocError>
-        ensures { IfOk result (λ r. allows self.old number [] [] r.0.items r.1) };
+    fn end(
+        &mut self,
+        alloc: Global,
+        view: View,
+        number: u64,
+    ) -> Result<(Vec<u8>, Summary), AllocError>
+        requires { reports self.old < number }
+        ensures { IfOk result (λ r. allows view self.old number [] [] r.0.items r.1) };
 
-    ghost answers: { (m : Self) (number : ℕ) (lines : List (List ℕ)) (tail : List ℕ) →
-        (text : List ℕ) × ((summary : Summary) × allows m number lines tail text summary) };
+    ghost answers: { (view : View) (m : Self) (number : ℕ) (lines : List (List ℕ)) (tail : List ℕ) →
+        (text : List ℕ) × ((summary : Summary) × allows view m number lines tail text summary) };
 }

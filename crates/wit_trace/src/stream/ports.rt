@@ -1,8 +1,10 @@
 //! One look at a reader, one text to a writer, and the evidence of their failures.
 
-ghost use Rattle.std.specs.Prelude.{◌≡◌, ◌≢◌, ℕ, ◌+◌, ◌-◌, ◌^◌, ◌<◌, ◌≤◌, Bool, length, IsTrue, IfOk, OnOk, OnErr};
+ghost use Rattle.std.specs.Prelude.{◌≡◌, ◌≢◌, ℕ, ◌+◌, ◌-◌, ◌^◌, ◌<◌, ◌≤◌, Bool, length, Ok, Some, IsTrue, IfOk, OnOk, OnErr};
+ghost use Rattle.std.specs.Global.{Vec};
 ghost use Rattle.std.specs.Io.KnownBytes.{Appends, Keeps};
 ghost use Rattle.wit_trace.specs.Text.{HasNoFeed};
+ghost use Rattle.wit_trace.specs.declared.stream.machine.Step.TheVariants.{Goes};
 ghost use Rattle.wit_trace.specs.Stream.{Advances, AppendsFront, OutputFrom, has_read_failed, has_write_failed, no_failure};
 
 use crate::stream::lines::{at_end, feed_in, whole_line};
@@ -11,7 +13,7 @@ use crate::summary::ReplayError;
 use std::alloc::Global;
 use std::io::{BufRead, Write};
 use wit_grammar::LONGEST;
-use wit_model::Cause;
+use wit_model::{Cause, View};
 
 /// The only ways to look at a reader and to write, with the evidence of what failed.
 ///
@@ -32,16 +34,19 @@ pub trait Ports<R: BufRead, W: Write> {
         &mut self,
         alloc: Global,
         machine: &mut M,
+        view: View,
         number: u64,
         reader: &mut R,
         begun: &mut Vec<u8>,
     ) -> Result<Option<Step>, ReplayError>
         requires room { looks self.old < 2 ^ 64 - 1 }
+        requires counts { M.reports machine.old < number }
         requires plain { HasNoFeed begun.old.items }
         requires short { length begun.old.items ≤ LONGEST }
-        ensures ok { IfOk result (Advances (OutputFrom M.allows) machine.old machine.new number
+        ensures ok { IfOk result (Advances (OutputFrom (M.allows view)) machine.old machine.new number
             (R.remaining reader.old) (R.remaining reader.new) begun.old.items begun.new.items) }
         ensures kept { result ≡ Err ReplayError.Read → Keeps (R.remaining reader.old) (R.remaining reader.new) }
+        ensures reported { (text : Vec ℕ) → result ≡ Ok (Some (Goes text)) → M.reports machine.new ≤ M.reports machine.old + 1 }
         ensures counted { looks self.new ≡ looks self.old + 1 }
         ensures failed { result ≡ Err ReplayError.Read → IsTrue (read_failed self.new) }
         ensures not_write { result ≢ Err ReplayError.Write };
@@ -104,6 +109,7 @@ impl<R: BufRead, W: Write> Ports<R, W> for Failures {
         &mut self,
         alloc: Global,
         machine: &mut M,
+        view: View,
         number: u64,
         reader: &mut R,
         begun: &mut Vec<u8>,
@@ -115,12 +121,12 @@ impl<R: BufRead, W: Write> Ports<R, W> for Failures {
             return Err(ReplayError::Read);
         };
         if shown.is_empty() {
-            let (text, summary) = at_end(alloc, machine, number, begun)?;
+            let (text, summary) = at_end(alloc, machine, view, number, begun)?;
             return Ok(Some(Step::Ends(text, summary)));
         }
         let len = shown.len().min(most);
         if let Some(len) = feed_in(&shown[..len]) {
-            let step = whole_line(alloc, machine, number, begun, &shown[..len])?;
+            let step = whole_line(alloc, machine, view, number, begun, &shown[..len])?;
             reader.consume(len + 1);
             return Ok(Some(step));
         }
@@ -129,7 +135,7 @@ impl<R: BufRead, W: Write> Ports<R, W> for Failures {
         if begun.len() <= LONGEST {
             return Ok(None);
         }
-        let (text, summary) = machine.broken(alloc, number, begun, Cause::Long)?;
+        let (text, summary) = machine.broken(alloc, view, number, begun, Cause::Long)?;
         Ok(Some(Step::Ends(text, summary)))
     }
 

@@ -1,7 +1,7 @@
-use Rattle.std.proofs.Common.{◌≡◌, ◌+◌, ◌∙◌, ap, subst, ◌<◌, arith, refl, sym, length, take, drop, ◌++◌, List, Bool, false, Option, None}
+use Rattle.std.proofs.Common.{◌+◌, subst, ◌<◌, arith, refl, sym, length, Option, None}
 use Rattle.std.specs.Global.{Vec}
 use Rattle.wit_model.specs.declared.locks.SeatNo.{SeatNo}
-use Rattle.wit_core.specs.Searching.{rows_of, says, seat_in, IsSearch, IsClosing, Reaches, AreClosed}
+use Rattle.wit_core.specs.Searching.{rows_of, IsSearch, IsClosing, Reaches, AreClosed}
 use Rattle.wit_core.proofs.Reaching.{begins, closed_more, no_circle, reached-few, rows-many, marks-back}
 use Rattle.wit_core.proofs.circle.circle_from.Goals as goal
 

@@ -1,4 +1,4 @@
-use Rattle.std.proofs.Common.{◌-◌, ◌∙◌, ap, sym, List, [], reverse, refl, arith}
+use Rattle.std.proofs.Common.{◌-◌, ◌∙◌, ap, List, [], reverse, refl, arith}
 use Rattle.wit_model.specs.declared.locks.Instance.{Instance}
 use Rattle.wit_model.specs.Rules.Chunks.{groups_of}
 use Rattle.wit_model.specs.Rules.Groups.{flat}
@@ -13,7 +13,7 @@ returns-then-seat-eq0 c =
     elim c.then-seat-eq0.branch [
       | then-seat-eq0-via-then-seat-eq0 w ↦ c.new-held.ensures.items ∙ none-zero v c.args.seat.0 c.args.spin w.if-seat-eq0.true
       | then-seat-eq0-via-else-seat-eq0+then-seats-seat w ↦
-        c.new-held.ensures.items ∙ none-beyond v c.args.seat.0 c.args.spin (omega (arith, w.seats.ensures.value, w.if-seats-seat.true))
+          c.new-held.ensures.items ∙ none-beyond v c.args.seat.0 c.args.spin (omega (arith, w.seats.ensures.value, w.if-seats-seat.true))
     ]
 
 pub loop-newer-init : goal.loop-newer-init

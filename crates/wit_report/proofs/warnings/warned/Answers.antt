@@ -24,5 +24,5 @@ returns c =
     (λ zero. elim c.else-is_empty.branch [
       | else-is_empty-via-then-is_empty+else-is_alone w ↦ rw w.deref-then-is_empty.ensures.value at w.if-is_alone.ensures
       | else-is_empty-via-else-is_empty w ↦ let some = eqb-false _ _ (sym c.is_empty.ensures ∙ w.if-is_empty.false) in
-        absurd (some (omega (arith, zero, c.add_counted.new.held.ok.0)))
+          absurd (some (omega (arith, zero, c.add_counted.new.held.ok.0)))
     ])

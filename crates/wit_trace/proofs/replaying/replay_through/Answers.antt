@@ -1,8 +1,8 @@
-use Rattle.wit_trace.proofs.ReplayLemmas.{only_reports, shown_end, shown_lines}
+use Rattle.wit_trace.proofs.ReplayLemmas.{shown_end, shown_lines}
 use Rattle.wit_trace.proofs.replaying.replay_through.Goals as goal
 
 pub returns-clause-taken : goal.returns-clause-taken
-returns-clause-taken g c = shown_end _ _ _ _ _ _ (only_reports c.args.view) c.run.ensures.taken
+returns-clause-taken g c = shown_end _ _ _ _ _ _ c.run.ensures.taken
 
 pub returns-clause-told : goal.returns-clause-told
-returns-clause-told g c = λ is. shown_lines _ _ _ _ _ (only_reports c.args.view) (c.run.ensures.told is)
+returns-clause-told g c = λ is. shown_lines _ _ _ _ _ (c.run.ensures.told is)

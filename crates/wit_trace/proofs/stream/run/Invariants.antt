@@ -5,11 +5,12 @@ use Rattle.wit_trace.proofs.stream.run.Given as goal
 
 abbrev pub invariant-loop-left : goal.invariant-loop-left
 invariant-loop-left g l = record {
-  going : Going (OutputFrom g.M.Machine.allows) l.fn.machine l.machine
+  going : Going (OutputFrom (g.M.Machine.allows l.fn.view)) l.fn.machine l.machine
       (g.R.Read.remaining l.fn.reader) (g.R.Read.remaining l.reader) (g.W.Write.contents l.fn.writer) (g.W.Write.contents l.writer) l.number l.line.items;
   short : length l.line.items ≤ 4096;
   fewer : l.number ≤ g.P.Ports.looks l.ports + 1;
   enough : 2 ^ 64 ≤ l.left + g.P.Ports.looks l.ports + l.number;
+  told : g.M.Machine.reports l.machine < l.number;
   within : 0 < l.left → l.left + g.P.Ports.looks l.ports + l.number ≤ 2 ^ 64;
 }
 

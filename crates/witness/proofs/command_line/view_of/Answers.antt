@@ -1,9 +1,9 @@
--- A word that clap gives is the only one, and `replay` is always given.
+-- A word that clap gives is the only one, and one that names a view is always given.
 use Rattle.std.proofs.Common.{◌≡◌, ◌∙◌, ap, sym, codes, None, Some, option_map, map, length, arith}
 use Rattle.std.proofs.lemmas.List.{length-map}
 use Rattle.clap.specs.Words.{first_of, matches_of}
 use Rattle.witness.specs.CommandLine.{command, only_word, option_named}
-use Rattle.witness.proofs.OneWord.{given_is_asked, replay_is_given, replay_passes, unnamed_option}
+use Rattle.witness.proofs.OneWord.{given_is_asked, view_is_given, view_passes, unnamed_option}
 use Rattle.witness.proofs.command_line.view_of.Goals as goal
 
 pub returns-in-Ok-Some : goal.returns-in-Ok-Some
@@ -19,9 +19,9 @@ returns-in-Ok-None g c =
     let words = map g.S.AsStr.text c.args.words.now in
     let found : None ≡ first_of (codes "word") (matches_of command words) =
     sym (ap (option_map (λ s. s.now)) c.in-Ok-None.field-0-is) ∙ c.in-Ok-None.ensures.word in
-    unnamed_option (only_word words) (λ replay. let given : None ≡ Some (codes "replay") = found ∙ replay_is_given words replay in cc)
+    unnamed_option (only_word words) (λ w view only names. let given : None ≡ Some w = found ∙ view_is_given words w view only names in cc)
 
 pub returns : goal.returns
 returns g c =
     let words = map g.S.AsStr.text c.args.words.now in
-    unnamed_option (only_word words) (λ replay. c.in_default.not-OutOfMemory (c.kind.ensures ∙ c.in-Err.ensures.memory (replay_passes words replay)))
+    unnamed_option (only_word words) (λ w view only names. c.in_default.not-OutOfMemory (c.kind.ensures ∙ c.in-Err.ensures.memory (view_passes words w view only names)))

@@ -1,4 +1,4 @@
-use Rattle.std.proofs.Common.{◌≡◌, ◌+◌, subst, arith, Option, Some}
+use Rattle.std.proofs.Common.{◌+◌, subst, arith, Option}
 use Rattle.std.specs.Global.{Vec}
 use Rattle.wit_model.specs.declared.locks.SeatNo.{SeatNo}
 use Rattle.wit_model.specs.Rules.Circles.{seat_numbers}

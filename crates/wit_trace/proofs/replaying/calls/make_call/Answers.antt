@@ -7,11 +7,11 @@ use Rattle.wit_trace.proofs.replaying.calls.make_call.Goals as goal
 pub returns-in-Check : goal.returns-in-Check
 returns-in-Check c =
     let v = c.args.verifier.now in
-    rw c.in-Check.is (subst (λ n. Calls (calls v (Check c.in-Check.seat c.in-Check.lock c.in-Check.mode c.in-Check.ops n c.in-Check.line)) v c.check_at.new.verifier c.check_at.result) c.as_str.ensures
+    rw c.in-Check.is (subst (λ n. Calls (λ told. calls v told (Check c.in-Check.seat c.in-Check.lock c.in-Check.mode c.in-Check.ops n c.in-Check.line)) v c.check_at.new.verifier c.check_at.result) c.as_str.ensures
     c.check_at.ensures)
 
 pub returns-in-Try : goal.returns-in-Try
 returns-in-Try c =
     let v = c.args.verifier.now in
-    rw c.in-Try.is (subst (λ n. Calls (calls v (Try c.in-Try.seat c.in-Try.lock c.in-Try.mode n c.in-Try.line)) v c.try_at.new.verifier c.try_at.result) c.as_str-in-Try.ensures
+    rw c.in-Try.is (subst (λ n. Calls (λ told. calls v told (Try c.in-Try.seat c.in-Try.lock c.in-Try.mode n c.in-Try.line)) v c.try_at.new.verifier c.try_at.result) c.as_str-in-Try.ensures
     c.try_at.ensures)

@@ -1,0 +1,195 @@
+-- A line tells of one report at most.
+use Rattle.std.proofs.Common.{◌≡◌, ℕ, ◌+◌, ◌≤◌, Bool, true, false, cond, ltb, length, List, [], ◌∷◌, Option, None, Some, Result, Ok, Err, refl, sym, ap, subst, ◌∙◌, arith}
+use Rattle.std.proofs.lemmas.List.Sums.{sum_by-cons}
+use Rattle.wit_model.specs.declared.calls.Call.{Call}
+use Rattle.wit_model.specs.declared.calls.Call.TheVariants as call
+use Rattle.wit_model.specs.declared.calls.Reply.{Reply}
+use Rattle.wit_model.specs.declared.calls.Entry.{Entry}
+use Rattle.wit_model.specs.declared.faults.Fault.{Fault}
+use Rattle.wit_model.specs.declared.lines.Cause.{Cause}
+use Rattle.wit_model.specs.declared.lines.Cause.TheVariants as why
+use Rattle.wit_model.specs.declared.lines.Line.{Line}
+use Rattle.wit_model.specs.declared.lines.Line.TheVariants.{Header, Order, Bless, Init, Check, Lock, Try, GiveUp, Unlock, Destroy, Upgrade, Downgrade, NoRelease, ReleaseOk, Assert, Warn, Define, Watch}
+use Rattle.wit_model.specs.declared.assertions.AssertAnswer.{AssertAnswer}
+use Rattle.wit_model.specs.declared.locks.Instance.{Instance}
+use Rattle.wit_model.specs.Rules.Assertions.{step_assert}
+use Rattle.wit_model.specs.Rules.Files.{files_after, naming_answer}
+use Rattle.wit_model.specs.Rules.Sizes.{Sizes, sizes_of, are_within}
+use Rattle.wit_model.specs.Rules.Warnings.{warned, step_warn}
+use Rattle.wit_model.specs.Trace.Reading.{line_of}
+use Rattle.wit_model.specs.Trace.Views.{assert_text, warn_text}
+use Rattle.wit_trace.proofs.ReplayLemmas.{check_at, try_at}
+use Rattle.wit_model.specs.Rules.History.{reports_of, is_report}
+use Rattle.wit_model.specs.Rules.Start.{start_fault}
+use Rattle.wit_model.specs.Rules.State.{Story, state_of, typed_locks}
+use Rattle.wit_model.specs.Rules.Step.{answer_of, grown, logged, is_logged}
+use Rattle.wit_model.specs.Trace.Output as output
+use Rattle.wit_grammar.specs.declared.errors.LineError.{LineError}
+use Rattle.wit_grammar.specs.declared.errors.LineError.TheVariants.{Bad, Memory}
+use Rattle.wit_model.specs.declared.lines.View.{View}
+use Rattle.wit_trace.specs.declared.stream.machine.Step.{Step}
+use Rattle.wit_trace.specs.Replays.{Calls, EndsFor, FailsFor, KeepsTotal, Passes, Reaches, reported}
+use Rattle.std.specs.Global.{Vec}
+
+ok_is : {A B : Type 0} (x y : A) → ◌≡◌ {A = Result A B} (Ok x) (Ok y) → x ≡ y
+ok_is x y e = cc
+
+-- where a sum keeps, the reports do
+pub keeps_reports : (p q : output.Progress) → KeepsTotal p q → reported q ≡ reported p
+keeps_reports p q keeps = ap (λ (t : output.Total). t.reports) (keeps None)
+
+grown-le : (s : Story) (t : ℕ) (c : Call) (reply : Reply) → reports_of (grown s t c reply).history ≤ reports_of s.history + 1
+grown-le s t c reply = go (is_logged reply)
+  where
+    one : (b : Bool) → cond b 1 0 ≤ 1
+    one true = omega arith
+    one false = omega arith
+
+    more : reports_of (logged s t c reply).history ≤ reports_of s.history + 1
+    more = let e : reports_of (logged s t c reply).history ≡ cond (is_report reply) 1 0 + reports_of s.history = sum_by-cons (λ (e : Entry). cond (is_report e.reply) 1 0) (record { seat = record { 0 = t }; call = c; reply = reply }) s.history in omega (arith, e, one (is_report reply))
+
+    go : (b : Bool) → reports_of (cond b (logged s t c reply) s).history ≤ reports_of s.history + 1
+    go true = more
+    go false = omega arith
+
+-- a line's outcome counts one at most
+abbrev CountsOne : ℕ → output.Outcome → Type 0
+CountsOne n (output.Goes q text) = reported q ≤ n + 1
+CountsOne n (output.Bad why) = Unit {0}
+
+makes_one : (s : Story) (n t : ℕ) (c : Call) → CountsOne (reports_of s.history + n) (output.makes s n t c)
+makes_one s n t c = go (answer_of s t c)
+  where
+    go : (r : Result Reply Fault) → CountsOne (reports_of s.history + n) (output.called s n t c r)
+    go (Ok reply) = omega (arith, grown-le s t c reply)
+    go (Err fault) = tt
+
+file_one : (s : Story) (n t : ℕ) (make : ℕ → Call) (file : List ℕ) (r : Result ℕ Fault) → CountsOne (reports_of s.history + n) (output.at_file s (λ s' f. output.makes s' n t (make f)) file r)
+file_one s n t make file (Ok f) = makes_one (record s { files = files_after file s.files }) n t (make f)
+file_one s n t make file (Err fault) = tt
+
+said-le : (text : List ℕ) → output.said text ≤ 1
+said-le [] = omega arith
+said-le (b ∷ text) = omega arith
+
+remarks_one : (s : Story) (n : ℕ) (text : List ℕ) → CountsOne (reports_of s.history + n) (output.remarks s n text)
+remarks_one s n text = omega (arith, said-le text)
+
+asserts_one : (s : Story) (n l : ℕ) (r : Result AssertAnswer Fault) → CountsOne (reports_of s.history + n) (output.asserts s n l r)
+asserts_one s n l (Ok answer) = remarks_one s n (assert_text (typed_locks s.start s.history) l answer)
+asserts_one s n l (Err fault) = tt
+
+warns_one : (s : Story) (n : ℕ) (counted : List Instance) (r : Result ℕ Fault) → CountsOne (reports_of s.history + n) (output.warns s n counted r)
+warns_one s n counted (Ok count) = remarks_one s n (warn_text (typed_locks s.start s.history) s.files counted)
+warns_one s n counted (Err fault) = tt
+
+pub calls_one : (s : Story) (n : ℕ) (line : Line) → CountsOne (reports_of s.history + n) (output.calls s n line)
+calls_one s n (Init seat lock) = makes_one s n seat.0 (call.Init lock)
+calls_one s n (Check seat lock mode ops file line) = file_one s n seat.0 (check_at lock mode ops line) file (naming_answer s file)
+calls_one s n (Lock seat lock) = makes_one s n seat.0 (call.Note lock)
+calls_one s n (Try seat lock mode file line) = file_one s n seat.0 (try_at lock mode line) file (naming_answer s file)
+calls_one s n (GiveUp seat lock) = makes_one s n seat.0 (call.GiveUp lock)
+calls_one s n (Unlock seat lock mode) = makes_one s n seat.0 (call.Unlock lock mode)
+calls_one s n (Destroy seat lock) = makes_one s n seat.0 (call.Destroy lock)
+calls_one s n (Upgrade seat lock) = makes_one s n seat.0 (call.Upgrade lock)
+calls_one s n (Downgrade seat lock) = makes_one s n seat.0 (call.Downgrade lock)
+calls_one s n (NoRelease seat lock) = makes_one s n seat.0 (call.NoRelease lock)
+calls_one s n (ReleaseOk seat lock) = makes_one s n seat.0 (call.ReleaseOk lock)
+calls_one s n (Assert seat lock flags) = asserts_one s n lock.0 (step_assert (state_of s) seat.0 lock.0 flags)
+calls_one s n (Warn seat lock flags) = warns_one s n (warned (state_of s) seat.0 lock flags) (step_warn (state_of s) seat.0 lock flags)
+calls_one s n (Define seat first second) = makes_one s n seat.0 (call.DefineOrder first second)
+calls_one s n (Watch seat watch) = makes_one s n seat.0 (call.SetWatch watch)
+calls_one s n (Header seats types locks chunks) = tt
+calls_one s n (Order list) = tt
+calls_one s n (Bless first second) = tt
+
+header_one : (sizes : Sizes) (fits : Bool) → CountsOne 0 (cond fits (output.Goes (output.Opening (output.empty_prelude sizes)) []) (output.Bad why.Limit))
+header_one sizes true = omega arith
+header_one sizes false = tt
+
+entered_one : (p : output.Progress) (n : ℕ) (line : Line) → CountsOne (reported p) (output.entered p n line)
+entered_one output.Unstarted n (Header seats types locks chunks) = header_one (sizes_of seats types locks chunks output.log_limit) (are_within (sizes_of seats types locks chunks output.log_limit))
+entered_one output.Unstarted n _ = tt
+entered_one (output.Opening p) n (Order list) = omega arith
+entered_one (output.Opening p) n (Bless first second) = omega arith
+entered_one (output.Opening p) n _ = tt
+entered_one (output.Reading s m) n line = calls_one s m line
+
+outcome_one : (p : output.Progress) (n : ℕ) (bytes : List ℕ) → CountsOne (reported p) (output.outcome p n bytes)
+outcome_one p n bytes = go (ltb 4096 (length bytes)) (line_of bytes)
+  where
+    go : (long : Bool) (o : Option Line) → CountsOne (reported p) (cond long (output.Bad why.Long) (output.read_as p n o))
+    go true o = tt
+    go false None = tt
+    go false (Some line) = entered_one p n line
+
+-- what became of a line counts one at most, unless for want of memory
+abbrev CountsOn : ℕ → output.Progress → Result (Vec ℕ) LineError → Type 0
+CountsOn n q (Ok text) = reported q ≤ n + 1
+CountsOn n q (Err Memory) = Unit {0}
+CountsOn n q (Err (Bad cause)) = reported q ≤ n + 1
+
+passes_one : (due : output.Outcome) (p q : output.Progress) (r : Result (Vec ℕ) LineError) → CountsOne (reported p) due → Passes due p q r → CountsOn (reported p) q r
+passes_one (output.Goes to text) p q (Ok told) one passes = rw (passes.0) one
+passes_one (output.Bad why) p q (Ok told) one passes = elim passes [ ]
+passes_one due p q (Err Memory) one passes = tt
+passes_one (output.Goes to text) p q (Err (Bad cause)) one passes = elim passes [ ]
+passes_one (output.Bad why) p q (Err (Bad cause)) one passes = let e = keeps_reports p q passes.1 in omega (arith, e)
+
+module _ (p q : output.Progress) (n : ℕ) (bytes : List ℕ) (r : Result (Vec ℕ) LineError) (passes : Passes (output.outcome p n bytes) p q r) where
+  -- a line that was told
+  pub told_one : (text : Vec ℕ) → r ≡ Ok text → reported q ≤ reported p + 1
+  told_one text is = subst (CountsOn (reported p) q) is (passes_one (output.outcome p n bytes) p q r (outcome_one p n bytes) passes)
+
+  -- or is bad
+  pub bad_one : (cause : Cause) → r ≡ Err (Bad cause) → reported q ≤ reported p + 1
+  bad_one cause is = subst (CountsOn (reported p) q) is (passes_one (output.outcome p n bytes) p q r (outcome_one p n bytes) passes)
+
+  -- what ended then
+  pub ended_one : (view : View) (e : LineError) (s : Step) → r ≡ Err e → EndsFor view q n e s → reported q ≤ reported p + 1
+  ended_one view Memory s is ends = elim ends [ ]
+  ended_one view (Bad cause) s is ends = bad_one cause is
+
+abbrev CallsOn : Story → Story → ℕ → Result Reply LineError → Type 0
+CallsOn old new m (Ok reply) = reports_of new.history + m ≤ reports_of old.history + m + 1
+CallsOn old new m (Err Memory) = Unit {0}
+CallsOn old new m (Err (Bad cause)) = reports_of new.history + m ≤ reports_of old.history + m + 1
+
+calls_on : (due : output.Outcome) (old new : Story) (m : ℕ) (r : Result Reply LineError) → CountsOne (reports_of old.history + m) due
+    → ((reply : Reply) → r ≡ Ok reply → due ≡ output.Goes (output.Reading new m) (output.told new reply)) → ((e : LineError) → r ≡ Err e → FailsFor due (output.Reading old m) (output.Reading new m) e) → CallsOn old new m r
+calls_on due old new m (Ok reply) one goes fails = subst (CountsOne (reports_of old.history + m)) (goes reply refl) one
+calls_on due old new m (Err Memory) one goes fails = tt
+calls_on (output.Goes q text) old new m (Err (Bad cause)) one goes fails = elim (fails (Bad cause) refl) [ ]
+calls_on (output.Bad why) old new m (Err (Bad cause)) one goes fails = let e = keeps_reports (output.Reading old m) (output.Reading new m) (fails (Bad cause) refl).1 in omega (arith, e)
+
+module _ (old new : Story) (m : ℕ) (line : Line) (r : Result Reply LineError) (calls : Calls (λ m. output.calls old m line) old new r) where
+  one_call : CallsOn old new m r
+  one_call = calls_on (output.calls old m line) old new m r (calls_one old m line) (λ reply is. subst (Calls (λ m. output.calls old m line) old new) is calls m) (λ e is. subst (Calls (λ m. output.calls old m line) old new) is calls m)
+
+  -- a line on a lock whose call is made
+  pub made_one : (reply : Reply) → r ≡ Ok reply → reports_of new.history + m ≤ reports_of old.history + m + 1
+  made_one reply is = subst (CallsOn old new m) is one_call
+
+  -- or refused
+  pub refused_one : (cause : Cause) → r ≡ Err (Bad cause) → reports_of new.history + m ≤ reports_of old.history + m + 1
+  refused_one cause is = subst (CallsOn old new m) is one_call
+
+  -- what ended then
+  pub call_ended_one : (view : View) (n : ℕ) (e : LineError) (s : Step) → r ≡ Err e → EndsFor view (output.Reading new m) n e s → reports_of new.history + m ≤ reports_of old.history + m + 1
+  call_ended_one view n Memory s is ends = elim ends [ ]
+  call_ended_one view n (Bad cause) s is ends = refused_one cause is
+
+-- where the prelude ends no report was told
+pub reaches_reports : (p q : output.Progress) (line : List ℕ) (r : Option output.BadLine) → Reaches (output.reached p line) p q r → reported q ≡ reported p
+reaches_reports p q line (Some bad) h = keeps_reports p q h.1
+reaches_reports output.Unstarted q line None h = sym (ap reported (ok_is {B = output.BadLine} _ _ h))
+reaches_reports (output.Reading s m) q line None h = sym (ap reported (ok_is {B = output.BadLine} _ _ h))
+reaches_reports (output.Opening o) q line None h = go (output.is_prelude line) (start_fault o.start) h
+  where
+    opens : (f : Option (ℕ × Fault)) → output.opened o f ≡ Ok q → reported q ≡ 0
+    opens None e = sym (ap reported (ok_is {B = output.BadLine} _ _ e))
+    opens (Some bad) e = absurd cc
+
+    go : (b : Bool) (f : Option (ℕ × Fault)) → cond {A = Result output.Progress output.BadLine} b (Ok (output.Opening o)) (output.opened o f) ≡ Ok q → reported q ≡ 0
+    go true f e = sym (ap reported (ok_is {B = output.BadLine} _ _ e))
+    go false f e = opens f e

@@ -1,0 +1,46 @@
+//! What a view shows.
+
+ghost use Rattle.std.specs.Prelude.{◌≡◌, IfOk, IfErr};
+ghost use Rattle.wit_model.specs.Trace.Output.{shown, IsViewOf};
+ghost use Rattle.wit_model.specs.declared.lines.View.TheVariants.{Circle};
+ghost use Rattle.wit_model.specs.declared.faults.Fault.TheVariants.{OutOfMemory};
+
+use std::alloc::Global;
+use wit_core::Verifier;
+use wit_model::{Fault, View};
+use wit_report::{all_locks, circle_text, graph};
+
+/// What is shown of the text that is told of a line.
+pub fn shown(alloc: Global, view: View, told: Vec<u8>) -> Vec<u8>
+    ensures { result.items ≡ shown view told.items }
+{
+    match view {
+        View::Reports => told,
+        View::Graph | View::Locks | View::Circle => Vec::new(alloc),
+    }
+}
+
+/// What is shown after the whole trace, and whether that is a circle.
+///
+/// # Errors
+/// `OutOfMemory` alone.
+pub fn last_text(alloc: Global, view: View, verifier: &Verifier) -> Result<(Vec<u8>, bool), Fault>
+    ensures ok { IfOk result (λ r. IsViewOf view verifier.now r.0.items r.1) }
+    ensures err { IfErr result (λ e. e ≡ OutOfMemory) }
+{
+    match view {
+        View::Reports => Ok((Vec::new(alloc), false)),
+        View::Graph => Ok((graph(alloc, verifier)?.into_bytes(), false)),
+        View::Locks => Ok((all_locks(alloc, verifier)?.into_bytes(), false)),
+        View::Circle => last_circle(alloc, verifier),
+    }
+}
+
+fn last_circle(alloc: Global, verifier: &Verifier) -> Result<(Vec<u8>, bool), Fault>
+    ensures ok { IfOk result (λ r. IsViewOf Circle verifier.now r.0.items r.1) }
+    ensures err { IfErr result (λ e. e ≡ OutOfMemory) }
+{
+    let circle = verifier.wait_circle()?;
+    let text = circle_text(alloc, verifier, circle.as_deref())?;
+    Ok((text.into_bytes(), circle.is_some()))
+}
