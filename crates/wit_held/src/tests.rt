@@ -153,6 +153,15 @@ fn acquire(lists: &mut VecLists, list: u16, taken: Instance) -> bool {
     record(lists, list, taken)
 }
 
+/// A lock as a list of at most one lock holds it.
+fn how(lists: &VecLists, list: u16, lock: LockNo) -> Option<Instance> {
+    if list > 0 && list as usize <= lists.lists() && lists.len(list) <= 1 {
+        crate::held(lists, list, lock)
+    } else {
+        None
+    }
+}
+
 /// Turns a lock to another mode in a list of at most one.
 fn turn(lists: &mut VecLists, list: u16, lock: LockNo, mode: Mode) {
     if list > 0 && list as usize <= lists.lists() && lists.len(list) <= 1 {
@@ -299,6 +308,8 @@ fn acquired_twice(rt: HostRuntime) -> Result<(), Fail> {
     assert_eq!(rt; oldest(&lists, 1), Some(first));
     assert!(rt; acquire(&mut lists, 1, again));
     assert_eq!(rt; oldest(&lists, 1), Some(twice));
+    assert_eq!(rt; how(&lists, 1, LockNo(7)), Some(twice));
+    assert_eq!(rt; how(&lists, 1, LockNo(8)), None);
     turn(&mut lists, 1, LockNo(7), Mode::Shared);
     assert_eq!(rt; oldest(&lists, 1), Some(turned));
     release(&mut lists, 1, LockNo(8));
