@@ -1,6 +1,6 @@
 #!/bin/sh
 # Measures the views that look at a whole state: the graph of 1,023 types with every order (522,753 lines), and the circle
-# among 256 seats that all wait, or that all wait but for the last, so that there is none. A line a view: the least
+# among 256 seats that all wait, or that all wait but for the first, so that there is none. A line a view: the least
 # processor time of three runs, that of the same trace in `witness replay`, and the peak memory of both. WITNESS names
 # another program to measure, RUNS how often each runs.
 set -e

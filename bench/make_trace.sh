@@ -14,7 +14,7 @@
 #   orders    every pair of 1,023 types is defined as an order, the nearest last
 #   destroyed 65,536 mutexes, each of which is destroyed: most of them while each of 256 seats holds two others
 #   ring      256 seats, each of which holds a mutex and asks for the next one's: a circle of them all
-#   queue     the same, but that the last one asks for nothing: no circle
+#   queue     256 seats, each of which holds a mutex, and all but the first ask for the one's before them: no circle, and the longest search
 # A second word asks for another number of rounds, or for the shortest path in `reports` and the longest in `steps`.
 # Only these two and the ring have anything to report.
 name=${1:?which trace?}
@@ -164,16 +164,19 @@ exec awk -v name="$name" -v rounds="${2:-0}" '
             destroy(seat, lock)
         }
     }
-    # Each seat asks for the lock of the next one; the last one, in a ring, for that of the first.
-    function waits(is_ring, seat) {
+    # Each seat holds a lock and asks for that of the seat so many places on, around in a ring or up to its end.
+    function waits(step, is_ring, seat, next_seat) {
         header(256, 256, 256)
         mutexes(256)
         for (seat = 1; seat <= 256; seat++)
             take(seat, seat, "waits.c")
-        for (seat = 1; seat < 256; seat++)
-            print "check " seat " " seat + 1 " x n waits.c:" seat
-        if (is_ring)
-            print "check 256 1 x n waits.c:256"
+        for (seat = 1; seat <= 256; seat++) {
+            next_seat = seat + step
+            if (is_ring)
+                next_seat = (next_seat + 255) % 256 + 1
+            if (next_seat >= 1 && next_seat <= 256)
+                print "check " seat " " next_seat " x n waits.c:" seat
+        }
     }
     BEGIN {
         if (name == "hot") {
@@ -203,9 +206,9 @@ exec awk -v name="$name" -v rounds="${2:-0}" '
         else if (name == "destroyed")
             destroyed()
         else if (name == "ring")
-            waits(1)
+            waits(1, 1)
         else if (name == "queue")
-            waits(0)
+            waits(-1, 0)
         else {
             print "make_trace: no trace is called " name > "/dev/stderr"
             exit 2
