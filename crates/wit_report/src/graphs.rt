@@ -1,6 +1,6 @@
 //! The known orders, as a graph.
 
-ghost use Rattle.std.specs.Prelude.{◌≡◌, ◌≤◌, ◌++◌, string_bytes, length, IfOk, IfErr, OnOk};
+ghost use Rattle.std.specs.Prelude.{◌≡◌, ◌++◌, string_bytes, IfOk, IfErr, OnOk};
 ghost use Rattle.wit_model.specs.declared.faults.Fault.TheVariants.{OutOfMemory};
 ghost use Rattle.wit_model.specs.Rules.State.{known_of};
 ghost use Rattle.wit_model.specs.Trace.Views.{edge_line, edge_lines, graph_text};
@@ -11,7 +11,8 @@ use std::alloc::{AllocError, Global};
 use wit_core::Verifier;
 use wit_model::{Fault, TypeNo};
 
-/// The direct orders, a line each, as `"PARENT","CHILD"`: by the parent's number, then by the child's.
+/// The direct orders, a line each, as `"PARENT","CHILD"`, by the parent's number, then by the child's: what the sysctl
+/// `debug.witness.fullgraph` (subr_witness.c) writes of the same relation.
 ///
 /// # Errors
 /// `OutOfMemory` alone.

@@ -1,6 +1,6 @@
 //! The locks that seats hold, a line each.
 
-ghost use Rattle.std.specs.Prelude.{◌≡◌, ◌++◌, ◌<◌, nat_lt, length, reverse, string_bytes, IfOk, IfErr, OnOk};
+ghost use Rattle.std.specs.Prelude.{◌≡◌, ◌++◌, nat_lt, length, reverse, string_bytes, IfOk, IfErr, OnOk};
 ghost use Rattle.std.specs.List.{flat_map, range_with_len};
 ghost use Rattle.wit_model.specs.declared.faults.Fault.TheVariants.{OutOfMemory};
 ghost use Rattle.wit_model.specs.Rules.Numbers.{IsNumber};
@@ -15,8 +15,8 @@ use wit_core::Verifier;
 use wit_model::chunks::Lists;
 use wit_model::{Fault, Instance, Mode, SeatNo};
 
-/// The locks that a seat holds, a line each: those of the sleep kind, then those of the spin kind, newest first. Empty for a seat that
-/// there isn't.
+/// The locks that a seat holds, a line each, as `show locks` of witness(4): those of the sleep kind, then those of the spin kind, newest
+/// first. Empty for a seat that there isn't.
 ///
 /// # Errors
 /// `OutOfMemory` alone.
@@ -29,8 +29,7 @@ pub fn locks_of(alloc: Global, verifier: &Verifier, seat: SeatNo) -> Result<Stri
     Ok(text)
 }
 
-/// The locks of each seat that holds any, behind the seat's number, as `witness_display` (subr_witness.c) lists what is held; and how
-/// many chunks are free.
+/// The locks of each seat that holds any, behind the seat's number, as `show all locks` of witness(4); and how many chunks are free.
 ///
 /// # Errors
 /// `OutOfMemory` alone.

@@ -14,7 +14,8 @@ use std::alloc::{AllocError, Global};
 use wit_core::Verifier;
 use wit_model::{Class, Fault, TypeNo};
 
-/// The types by their numbers, a line each, with how many live locks each has: `N "TYPE" CLASS locks K`.
+/// The types by their numbers, a line each, with how many live locks each has: `N "TYPE" CLASS locks K`. `show witness` of witness(4)
+/// lists them by their orders.
 ///
 /// # Errors
 /// `OutOfMemory` alone.
