@@ -12,11 +12,14 @@ use wit_matrix::Matrix;
 use wit_model::{Class, Instance, TypeNo};
 use wit_table::Table;
 
-/// The types, how they stand to one another, and the type of each lock by the lock's number, from 1.
+/// What is known of types and locks.
 #[derive(Drop)]
 pub struct Basis<'a> {
+    /// The types, with their classes and the blessed pairs.
     pub types: &'a Table,
+    /// How the types stand to one another; it has room for all of them.
     pub matrix: &'a Matrix,
+    /// The type of each lock, by the lock's number from 1.
     pub lock_types: &'a [TypeNo],
 }
 

@@ -22,6 +22,7 @@ pub enum Sort {
     Giant,
 }
 
+/// Which rules a type has beside the known orders.
 pub fn sort_of(basis: &Basis, number: TypeNo) -> Sort
     requires { IsGiven basis.now.types number.0 }
     ensures { result ≡ sort_of basis.now number }

@@ -28,11 +28,13 @@ const MOST_FILES: u32 = 65535;
 pub struct Known {
     /// The types, the source files, and the pairs of type names that may be taken in either order.
     pub names: Table,
+    /// The locks, in the order of their numbers.
     pub locks: Vec<Lock>,
     /// The type of each lock, in the order of the locks.
     pub lock_types: Vec<TypeNo>,
     /// Whether each lock is live, in the order of the locks: no more once it is destroyed.
     pub live: Vec<bool>,
+    /// The orders and the pairs found in violation.
     pub orders: Orders,
 }
 
@@ -206,7 +208,7 @@ impl Known {
     }
 }
 
-// The lock with this number.
+/// The lock with this number; `None` for one that was never made.
 pub fn lock_with(locks: &[Lock], lock: LockNo) -> Option<&Lock>
     ensures { option_copied result ≡ with_number locks.now lock.0 }
 {
@@ -216,7 +218,7 @@ pub fn lock_with(locks: &[Lock], lock: LockNo) -> Option<&Lock>
     locks.get(lock.0 as usize - 1)
 }
 
-// The type of a lock, by its number; 0 for a lock that was never made.
+/// The type of a lock, by its number; 0 for a lock that was never made.
 pub fn type_of(locks: &[Lock], lock: LockNo) -> TypeNo
     ensures { result ≡ (lock_at locks.now lock.0).type_no }
 {
@@ -226,6 +228,7 @@ pub fn type_of(locks: &[Lock], lock: LockNo) -> TypeNo
     }
 }
 
+/// What a lock allows; nothing for a lock that was never made.
 pub fn flags_of(locks: &[Lock], lock: LockNo) -> LockFlags
     ensures { result ≡ (lock_at locks.now lock.0).made.flags }
 {
@@ -235,6 +238,7 @@ pub fn flags_of(locks: &[Lock], lock: LockNo) -> LockFlags
     }
 }
 
+/// The class of a lock; that of a sleep mutex for a lock that was never made.
 pub fn class_of(locks: &[Lock], lock: LockNo) -> Class
     ensures { result ≡ (lock_at locks.now lock.0).made.class }
 {

@@ -1,4 +1,4 @@
-//! Lines that make a call on a lock.
+//! Lines that make a call on a lock. What stands behind a keyword is read whole: `LineError::SYNTAX` where it is anything else.
 
 ghost use Rattle.std.specs.Prelude.{◌≡◌, IfOk};
 ghost use Rattle.wit_model.specs.Trace.Reading.{check_of, note_of, try_of, give_up_of, unlock_of, line_of};
@@ -47,7 +47,8 @@ pub enum LockLine<'a> {
     },
 }
 
-/// The line that the bytes spell, where it makes a call on a lock, without a copy. `None` says nothing.
+/// The line that the bytes spell, where it makes a call on a lock, without a copy. After `None` they may still spell a line: whoever
+/// asks reads them by `parse_line`.
 #[tactic(auto, unfolding(wit_model::specs::Trace::Reading::line_of))]
 #[inline(always)]
 pub fn parse_lock_line(bytes: &[u8]) -> Option<LockLine<'_>>
@@ -69,7 +70,10 @@ pub fn parse_lock_line(bytes: &[u8]) -> Option<LockLine<'_>>
     }
 }
 
-/// The line by itself.
+/// The same line with a file name of its own.
+///
+/// # Errors
+/// Want of memory alone.
 pub fn owned(alloc: Global, line: LockLine<'_>) -> Result<Line, AllocError>
     ensures { IfOk result (λ l. l ≡ as_line line.entry) }
 {
@@ -108,6 +112,7 @@ pub fn owned(alloc: Global, line: LockLine<'_>) -> Result<Line, AllocError>
     }
 }
 
+/// What stands behind `check`: a seat, a lock, a mode, flags and a site.
 #[tactic(auto, unfolding(wit_model::specs::Trace::Reading::check_of))]
 #[inline(always)]
 pub fn check(bytes: &[u8]) -> Result<LockLine<'_>, LineError>
@@ -131,6 +136,7 @@ pub fn check(bytes: &[u8]) -> Result<LockLine<'_>, LineError>
     })
 }
 
+/// What stands behind `lock`: a seat and a lock.
 #[tactic(auto, unfolding(wit_model::specs::Trace::Reading::note_of))]
 #[inline(always)]
 pub fn lock(bytes: &[u8]) -> Result<LockLine<'_>, LineError>
@@ -144,6 +150,7 @@ pub fn lock(bytes: &[u8]) -> Result<LockLine<'_>, LineError>
     Ok(LockLine::Lock { seat, lock })
 }
 
+/// What stands behind `try`: a seat, a lock, a mode and a site.
 #[tactic(auto, unfolding(wit_model::specs::Trace::Reading::try_of))]
 pub fn try_lock(bytes: &[u8]) -> Result<LockLine<'_>, LineError>
     ensures { Gives as_line result (try_of bytes.now) }
@@ -164,6 +171,7 @@ pub fn try_lock(bytes: &[u8]) -> Result<LockLine<'_>, LineError>
     })
 }
 
+/// What stands behind `giveup`: a seat and a lock.
 #[tactic(auto, unfolding(wit_model::specs::Trace::Reading::give_up_of))]
 pub fn give_up(bytes: &[u8]) -> Result<LockLine<'_>, LineError>
     ensures { Gives as_line result (give_up_of bytes.now) }
@@ -176,6 +184,7 @@ pub fn give_up(bytes: &[u8]) -> Result<LockLine<'_>, LineError>
     Ok(LockLine::GiveUp { seat, lock })
 }
 
+/// What stands behind `unlock`: a seat, a lock and a mode.
 #[tactic(auto, unfolding(wit_model::specs::Trace::Reading::unlock_of))]
 #[inline(always)]
 pub fn unlock(bytes: &[u8]) -> Result<LockLine<'_>, LineError>

@@ -1,4 +1,5 @@
-//! The names of a line, with or without quotation marks, and lists of them.
+//! The names of a line, with or without quotation marks, and lists of them. Each reader gives a value and the bytes after it, or
+//! `LineError::SYNTAX` where the bytes begin with none; `LineError::Memory` where a growth was refused.
 
 ghost use Rattle.std.specs.Prelude.{◌≡◌};
 ghost use Rattle.wit_model.specs.Rules.Names.{is_name, is_file_name};
@@ -100,7 +101,7 @@ pub fn list(alloc: Global, bytes: &[u8]) -> Result<TypeList, LineError>
     Ok(list)
 }
 
-/// A file and a line.
+/// A file and a line, 0 to 4,294,967,295, as `FILE:LINE`: the line stands behind the last colon.
 #[tactic(auto, unfolding(wit_model::specs::Trace::Reading::site_of))]
 #[inline(always)]
 pub fn site(bytes: &[u8]) -> Result<(&str, u32, &[u8]), LineError>

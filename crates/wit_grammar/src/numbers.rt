@@ -1,4 +1,4 @@
-//! The numbers of a line.
+//! The numbers of a line: each reader gives a number and the bytes after it, or `LineError::SYNTAX` where the bytes begin with none.
 
 ghost use Rattle.std.specs.Prelude.{◌+◌, ◌*◌, ◌≡◌, ◌≤◌, ◌<◌, ◌==◌, ◌&&◌, ◌||◌, not, length, true, None, IfOk, IfSome, slice_index};
 ghost use Rattle.std.specs.Char.{is_ascii_digit, digit_value};
@@ -35,7 +35,7 @@ fn with_digit(most: u32, number: u32, byte: u8) -> Option<u32>
     Some(more as u32)
 }
 
-/// The number that a word spells, without leading zeros.
+/// The number that a word spells, without leading zeros and up to this bound; `LineError::SYNTAX` where it spells none.
 #[inline(always)]
 pub fn number_of(most: u32, word: &[u8]) -> Result<u32, LineError>
     ensures value { Gives (λ n. n) result (number_of (most + 1) word.now) }
@@ -63,6 +63,7 @@ fn number(most: u32, bytes: &[u8]) -> Result<(u32, &[u8]), LineError>
     Ok((number_of(most, word)?, rest))
 }
 
+/// The number of a seat: 0 to 65,535.
 #[tactic(auto, unfolding(wit_model::specs::Trace::Reading::seat_at))]
 #[inline(always)]
 pub fn seat(bytes: &[u8]) -> Result<(SeatNo, &[u8]), LineError>
@@ -72,6 +73,7 @@ pub fn seat(bytes: &[u8]) -> Result<(SeatNo, &[u8]), LineError>
     Ok((SeatNo(seat as u16), rest))
 }
 
+/// The number of a lock: 0 to 4,294,967,295.
 #[tactic(auto, unfolding(wit_model::specs::Trace::Reading::lock_at))]
 #[inline(always)]
 pub fn lock(bytes: &[u8]) -> Result<(LockNo, &[u8]), LineError>
@@ -81,7 +83,7 @@ pub fn lock(bytes: &[u8]) -> Result<(LockNo, &[u8]), LineError>
     Ok((LockNo(lock), rest))
 }
 
-/// A number behind a fixed word.
+/// A number behind a fixed word: 0 to 4,294,967,295.
 #[tactic(auto, unfolding(wit_model::specs::Trace::Reading::count_at))]
 pub fn count<'a>(label: &[u8], bytes: &'a [u8]) -> Result<(u32, &'a [u8]), LineError>
     ensures { Gives (λ x. (x.0, x.1.now)) result (behind label.now count_at bytes.now) }

@@ -357,6 +357,7 @@ fn number_if_any(lock: Option<LockNo>) -> u32
     }
 }
 
+/// The spelling of a class.
 pub fn class_text(class: Class) -> &'static [u8]
     ensures { result.now ≡ class_text class }
 {

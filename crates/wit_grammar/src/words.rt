@@ -1,4 +1,4 @@
-//! The words of a line: each reader gives a value and the bytes after it.
+//! The words of a line: each reader gives a value and the bytes after it, or `LineError::SYNTAX` where the bytes begin with none.
 
 ghost use Rattle.std.specs.Prelude.{◌≡◌, ◌≤◌, ◌<◌, ◌^◌, length, IfSome};
 ghost use Rattle.wit_model.specs.Trace.Reading.{after, byte_place, until, class_of, mode_of, level_of, bits_of, flags_of, word_at, field_at, fixed_at};
@@ -86,6 +86,7 @@ pub fn fixed<'a>(text: &[u8], bytes: &'a [u8]) -> Result<&'a [u8], LineError>
     }
 }
 
+/// A mode: `s` or `x`.
 #[tactic(auto, unfolding(wit_model::specs::Trace::Reading::mode_of))]
 #[inline(always)]
 pub fn mode(bytes: &[u8]) -> Result<(Mode, &[u8]), LineError>
@@ -99,7 +100,7 @@ pub fn mode(bytes: &[u8]) -> Result<(Mode, &[u8]), LineError>
     }
 }
 
-/// A watch level.
+/// A watch level: `1`, `0` or `-1`.
 #[tactic(auto, unfolding(wit_model::specs::Trace::Reading::level_of))]
 pub fn level(bytes: &[u8]) -> Result<(Watch, &[u8]), LineError>
     ensures { Gives (λ x. (x.0, x.1.now)) result (field_at level_of bytes.now) }
@@ -113,6 +114,7 @@ pub fn level(bytes: &[u8]) -> Result<(Watch, &[u8]), LineError>
     }
 }
 
+/// A class: `mtx`, `spin`, `rw` or `sx`.
 #[tactic(auto, unfolding(wit_model::specs::Trace::Reading::class_of))]
 pub fn class(bytes: &[u8]) -> Result<(Class, &[u8]), LineError>
     ensures { Gives (λ x. (x.0, x.1.now)) result (field_at class_of bytes.now) }
@@ -143,6 +145,7 @@ fn bits_of(letters: &[u8], word: &[u8]) -> Option<u8>
     }
 }
 
+/// Flags: `-` for none, else letters of these in their order, none twice. The first letter is bit 0.
 #[tactic(auto, unfolding(wit_model::specs::Trace::Reading::flags_of))]
 #[inline(always)]
 pub fn flags<'a>(letters: &[u8], bytes: &'a [u8]) -> Result<(u8, &'a [u8]), LineError>

@@ -12,11 +12,14 @@ use crate::rows::find_lock;
 use wit_model::chunks::Lists;
 use wit_model::{Instance, LockNo};
 
-/// A held lock, and where it stands: in which group of its list, and at which place in the group, each counted from the oldest, 0.
+/// A held lock, and where it stands. Groups and places count from the oldest, 0.
 #[derive(Clone, Copy)]
 pub struct Spot {
+    /// Which group of its list.
     pub group: usize,
+    /// Which place in the group.
     pub index: usize,
+    /// The lock.
     pub held: Instance,
 }
 

@@ -10,6 +10,10 @@ use std::alloc::{AllocError, Global};
 use wit_core::Verifier;
 use wit_model::Doubling;
 
+/// The text of two locks of one type, under the heading of `witness_checkorder` (subr_witness.c).
+///
+/// # Errors
+/// Want of memory alone.
 #[cold]
 #[inline(never)]
 pub fn duplicate_text(

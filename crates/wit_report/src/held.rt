@@ -95,7 +95,10 @@ fn put_seat(
     Ok(())
 }
 
-// The locks of one kind that a seat holds, newest first.
+/// The locks of one kind that a seat holds, newest first; none for a seat that there isn't.
+///
+/// # Errors
+/// Want of memory alone.
 pub fn newest_first(
     alloc: Global,
     verifier: &Verifier,
@@ -138,7 +141,10 @@ fn add_group(held: &mut Vec<Instance>, group: &[Instance]) -> Result<(), AllocEr
     Ok(())
 }
 
-// Held locks, a line each.
+/// Adds a line for each of these held locks.
+///
+/// # Errors
+/// Want of memory alone.
 pub fn put_all(
     text: &mut String,
     alloc: Global,

@@ -11,7 +11,10 @@ use std::alloc::{AllocError, Global};
 use wit_core::Verifier;
 use wit_model::{Class, Conflict, LockAt, LockNo, TypeNo};
 
-// The locks of a reversal, oldest first.
+/// Adds the locks of a reversal, oldest first.
+///
+/// # Errors
+/// Want of memory alone.
 pub fn put_locks(
     text: &mut String,
     alloc: Global,
@@ -35,7 +38,10 @@ pub fn put_locks(
     Ok(())
 }
 
-// A lock at a place, as a line behind its rank.
+/// Adds a lock at a place, as a line behind its rank (`1st`, `2nd` or `3rd`).
+///
+/// # Errors
+/// Want of memory alone.
 pub fn put_lock(
     text: &mut String,
     alloc: Global,
@@ -60,6 +66,7 @@ pub fn put_lock(
     Ok(())
 }
 
+/// A class, as reports name it.
 pub fn class_words(class: Class) -> &'static str
     ensures { result.now ≡ class_words class }
 {
@@ -71,7 +78,7 @@ pub fn class_words(class: Class) -> &'static str
     }
 }
 
-// What stands under a number.
+/// The name of a lock; empty for a number that was never given.
 pub fn lock_name(verifier: &Verifier, lock: LockNo) -> &str
     ensures { result.now ≡ (lock_at (typed_locks verifier.now.start verifier.now.history) lock.0).made.name }
 {
@@ -81,6 +88,7 @@ pub fn lock_name(verifier: &Verifier, lock: LockNo) -> &str
     }
 }
 
+/// The type of a lock; 0 for a number that was never given.
 pub fn type_number(verifier: &Verifier, lock: LockNo) -> TypeNo
     ensures { result ≡ (lock_at (typed_locks verifier.now.start verifier.now.history) lock.0).type_no }
 {
@@ -90,6 +98,7 @@ pub fn type_number(verifier: &Verifier, lock: LockNo) -> TypeNo
     }
 }
 
+/// The name of the type of a lock; empty for a number that was never given.
 pub fn type_name(verifier: &Verifier, lock: LockNo) -> &str
     ensures { result.now ≡ type_name_of (lock_at (typed_locks verifier.now.start verifier.now.history) lock.0).made }
 {
@@ -101,6 +110,7 @@ pub fn type_name(verifier: &Verifier, lock: LockNo) -> &str
     }
 }
 
+/// The class of a lock; that of a sleep mutex for a number that was never given.
 pub fn class_of(verifier: &Verifier, lock: LockNo) -> Class
     ensures { result ≡ (lock_at (typed_locks verifier.now.start verifier.now.history) lock.0).made.class }
 {

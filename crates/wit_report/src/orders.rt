@@ -11,7 +11,10 @@ use std::alloc::{AllocError, Global};
 use wit_core::Verifier;
 use wit_model::{Origin, TypeNo};
 
-// The path by which the order from one type to another is established.
+/// Adds the path by which the order from one type to another is established, a line a step; nothing where no path leads there.
+///
+/// # Errors
+/// Want of memory alone.
 pub fn put_established(
     text: &mut String,
     alloc: Global,
@@ -89,6 +92,7 @@ fn put_order(
     Ok(())
 }
 
+/// The name of a type; empty for a number that was never given.
 pub fn type_words(verifier: &Verifier, number: TypeNo) -> &str
     ensures { result.now ≡ name_of number.0 (types_of verifier.now.start verifier.now.history) }
 {

@@ -9,6 +9,10 @@ use std::alloc::{AllocError, Global};
 use wit_core::Verifier;
 use wit_model::{FileNo, Site};
 
+/// Adds a name between quotation marks.
+///
+/// # Errors
+/// Want of memory alone.
 pub fn put_quoted(text: &mut String, name: &str) -> Result<(), AllocError>
     ensures { OnOk result (string_bytes text.new ≡ string_bytes text.old ++ quoted name.now) }
 {
@@ -17,6 +21,10 @@ pub fn put_quoted(text: &mut String, name: &str) -> Result<(), AllocError>
     text.push('"')
 }
 
+/// Adds a place as `FILE:LINE`; the file is empty for a number that was never given.
+///
+/// # Errors
+/// Want of memory alone.
 pub fn put_site(
     text: &mut String,
     alloc: Global,
@@ -30,6 +38,10 @@ pub fn put_site(
     put_number(text, alloc, site.line as u64)
 }
 
+/// Adds a number in decimal digits.
+///
+/// # Errors
+/// Want of memory alone.
 pub fn put_number(text: &mut String, alloc: Global, number: u64) -> Result<(), AllocError>
     ensures { OnOk result (string_bytes text.new ≡ string_bytes text.old ++ decimal number) }
 {

@@ -11,6 +11,10 @@ use std::alloc::{AllocError, Global};
 use wit_core::Verifier;
 use wit_model::{Conflict, Heading};
 
+/// The text of a reversal: its heading, its locks, and the path by which the order that it breaks is established, where one is.
+///
+/// # Errors
+/// Want of memory alone.
 #[cold]
 #[inline(never)]
 pub fn reversal_text(

@@ -60,6 +60,7 @@ fn put_type(
     Ok(())
 }
 
+/// The class of a type; that of a sleep mutex for a number that was never given.
 pub fn type_class(verifier: &Verifier, number: TypeNo) -> Class
     ensures { result ≡ class_of number.0 (types_of verifier.now.start verifier.now.history) }
 {
