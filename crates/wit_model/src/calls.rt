@@ -155,11 +155,12 @@ pub enum Reply {
     Pass,
     /// The order of these types was learnt.
     Adopted(TypeNo, TypeNo),
-    /// The request breaks the order of these types, which was reported before.
+    /// The request breaks the order of these types, the held one and the requested one, and nothing is said of it: that was reported
+    /// before, or the pair is blessed. Where both are one type, a second lock of a type that was found doubled is asked for.
     Silent(TypeNo, TypeNo),
     /// The request breaks an order: a possible deadlock.
     Reversal(Boxed<Conflict>),
-    /// The last held lock is of the requested type.
+    /// The last held lock is of the requested type, and that is told for the first time.
     Duplicate(Boxed<Doubling>),
     /// The acquisition is recorded.
     Recorded,

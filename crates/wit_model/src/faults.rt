@@ -17,7 +17,7 @@ pub enum Fault {
     UnknownSeat,
     /// The lock was never made, or is destroyed.
     UnknownLock,
-    /// The type is known with another class.
+    /// The type is known with another class, or a static list gives it two.
     ClassMismatch,
     /// The type is new, and no number is left.
     TypesFull,
@@ -31,7 +31,7 @@ pub enum Fault {
     ExclusiveOfShared,
     /// Held already, and not to be acquired again.
     Recursed,
-    /// The recursion count is at its greatest value.
+    /// The recursion count is at its greatest value, 65,535.
     RecursionTooDeep,
     /// The seat doesn't hold the lock.
     NotLocked,
@@ -61,13 +61,13 @@ pub enum Fault {
     Busy,
     /// The seat has a request that is neither noted nor given up.
     Pending,
-    /// The seat has no such request.
+    /// The seat has no pending request for the lock.
     NotRequested,
     /// The log has too little room.
     LogFull,
     /// A growth was refused.
     OutOfMemory,
-    /// The lock itself refused.
+    /// The lock itself refused. No call of the verifier answers it.
     GateRefused,
     /// The text is no name.
     BadName,

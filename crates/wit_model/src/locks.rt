@@ -105,19 +105,19 @@ impl Watch {
     }
 }
 
-/// The number of a lock type, from 1 in order of enrolment.
+/// The number of a lock type, from 1 in order of enrolment: 1,023 at most.
 #[derive(Clone, Copy, Debug, PartialEq, Eq, Hash)]
 pub struct TypeNo(pub u16);
 
-/// The number of a lock, from 1 in order of `init`. A number is never used again.
+/// The number of a lock, from 1 in order of `init`: 65,536 at most. A number is never used again.
 #[derive(Clone, Copy, Debug, PartialEq, Eq, Hash)]
 pub struct LockNo(pub u32);
 
-/// The number of a seat, which is a thread of the watched program, from 1.
+/// The number of a seat, which is a thread of the watched program, from 1: 256 at most.
 #[derive(Clone, Copy, Debug, PartialEq, Eq, Hash)]
 pub struct SeatNo(pub u16);
 
-/// The number of a source file, from 1 in order of first appearance.
+/// The number of a source file, from 1 in order of first appearance: 65,535 at most.
 #[derive(Clone, Copy, Debug, PartialEq, Eq, Hash)]
 pub struct FileNo(pub u16);
 
@@ -125,6 +125,7 @@ pub struct FileNo(pub u16);
 #[derive(Clone, Copy, Debug, PartialEq, Eq, Hash)]
 pub struct Site {
     pub file: FileNo,
+    /// Any number: the verifier only tells it.
     pub line: u32,
 }
 
@@ -144,9 +145,9 @@ pub enum Origin {
 pub struct Instance {
     pub lock: LockNo,
     pub mode: Mode,
-    /// Whether it must not be released: set by `norelease`.
+    /// Whether it must not be released: set by `norelease`, cleared by `releaseok`.
     pub norelease: bool,
-    /// How often it was acquired again: 0 for a lock acquired once.
+    /// How often it was acquired again: 0 for a lock acquired once, 65,535 at most.
     pub count: u16,
     /// The latest acquisition.
     pub site: Site,

@@ -43,7 +43,7 @@ impl Name {
         Ok(Some(Name::tested(alloc, text)?))
     }
 
-    /// The name with this text, which was tested.
+    /// The name with this text, which `accepts` allows.
     ///
     /// # Errors
     /// Want of memory alone.
@@ -90,7 +90,8 @@ impl Name {
     }
 }
 
-/// The name of a source file: 1 to 255 bytes, each from 0x21 to 0x7e, without `"`.
+/// The name of a source file, as somebody gives it: any text. `accepts` tells whether it is 1 to 255 bytes, each from 0x21 to 0x7e,
+/// without `"`.
 #[derive(Debug, Drop)]
 pub struct FileName {
     text: String,
@@ -105,10 +106,10 @@ impl Model for FileName {
 }
 
 impl FileName {
-    /// The greatest length in bytes.
+    /// The greatest length in bytes that `accepts` allows.
     pub const MOST: usize = 255;
 
-    /// The file name with these bytes.
+    /// The file name with this text, which isn't tested.
     ///
     /// # Errors
     /// Want of memory alone.
