@@ -20,7 +20,8 @@ use wit_model::View;
 /// call returns: once the looks at the reader and the lines read together come to
 /// 18,446,744,073,709,551,615, the reader counts as failed.
 ///
-/// Errors: `Read` where the reader failed, `Write` where the writer failed or took no byte, `Memory`
+/// # Errors
+/// `Read` where the reader failed, `Write` where the writer failed, took no byte or didn't flush, `Memory`
 /// where a growth was refused. What was written is then a beginning of an output; after `Read` it is the
 /// text of every whole line that was taken.
 pub fn run<R: BufRead, W: Write, P: Ports<R, W>, M: Machine>(

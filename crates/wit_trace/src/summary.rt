@@ -25,7 +25,7 @@ pub enum ReplayError {
     /// The reader failed.
     #[error("the input failed")]
     Read,
-    /// The writer failed, or took no byte.
+    /// The writer failed, took no byte or didn't flush.
     #[error("the output failed")]
     Write,
     /// A growth was refused.

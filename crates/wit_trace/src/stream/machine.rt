@@ -33,7 +33,8 @@ pub trait Machine {
 
     /// Reads a whole line of at most 4,096 bytes, without its line feed. Lines count from 1.
     ///
-    /// An error promises nothing.
+    /// # Errors
+    /// Want of memory alone; nothing is promised then.
     fn line(
         &mut self,
         alloc: Global,
@@ -50,7 +51,8 @@ pub trait Machine {
     /// Ends at a line that is too long, of which at least 4,097 bytes are given, or at one that the
     /// input ends in.
     ///
-    /// An error promises nothing.
+    /// # Errors
+    /// Want of memory alone; nothing is promised then.
     fn broken(
         &mut self,
         alloc: Global,
@@ -66,7 +68,8 @@ pub trait Machine {
 
     /// Ends after a whole line, or before the first.
     ///
-    /// An error promises nothing.
+    /// # Errors
+    /// Want of memory alone; nothing is promised then.
     fn end(
         &mut self,
         alloc: Global,

@@ -28,7 +28,8 @@ pub trait Ports<R: BufRead, W: Write> {
     /// Looks at the reader once, and takes what it shows of a line, behind what was begun of it: `None` where
     /// the line goes on. A line that the reader shows whole goes to the machine without a copy.
     ///
-    /// Errors: `Read` where the reader failed, of which nothing is taken then; `Memory` where the machine
+    /// # Errors
+    /// `Read` where the reader failed, of which nothing is taken then; `Memory` where the machine
     /// found none, or what was begun couldn't grow.
     fn advance<M: Machine>(
         &mut self,
@@ -53,7 +54,8 @@ pub trait Ports<R: BufRead, W: Write> {
 
     /// Writes all the bytes and then flushes the writer; no bytes make no call of it.
     ///
-    /// Errors: `Write` where the writer failed, took no byte or didn't flush; it has then a beginning of
+    /// # Errors
+    /// `Write` where the writer failed, took no byte or didn't flush; it has then a beginning of
     /// the bytes.
     fn put(&mut self, writer: &mut W, bytes: &[u8]) -> Result<(), ReplayError>
         ensures ok { OnOk result (Appends (W.contents writer.old) (W.contents writer.new) bytes.now) }
