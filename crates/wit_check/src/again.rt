@@ -8,7 +8,8 @@ use crate::answers::Verdict;
 use bitflags::Flags;
 use wit_model::{Asked, Fault, Instance, LockFlags, OpFlags};
 
-/// The modes have to agree, and a lock held exclusive has to be recursable.
+/// The verdict on a request for a lock that its seat holds: `SharedOfExclusive` and `ExclusiveOfShared` where the modes differ; `Recursed`
+/// where the request says that the lock isn't held, or where it is held exclusive and isn't recursable; else `Pass`.
 pub fn again(request: Asked, held: Instance) -> Verdict
     ensures { answer_of result ≡ again request held }
 {

@@ -183,7 +183,7 @@ impl Known {
     /// Blesses pairs of names.
     ///
     /// # Errors
-    /// `BadName` where one of them is no name; `OutOfMemory`.
+    /// `BadName` where one of them is no name; `OutOfMemory`. The pairs before the one that is refused are blessed then.
     pub fn bless_all(&mut self, pairs: &[(String, String)]) -> Result<(), Fault>
         ensures good { OnOk result (has_bad_pair (pairs_of pairs.now) ≡ false) }
         ensures ok { OnOk result (self.new ≡ record self.old {

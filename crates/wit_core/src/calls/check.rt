@@ -24,9 +24,9 @@ impl Verifier {
     ///
     /// # Errors
     /// In this order: `UnknownSeat`; `UnknownLock`; `UnknownFile`; `ModeNotAllowed` for a mutex asked for shared;
-    /// `Pending`; `RecursionTooDeep`; where everything is watched, `SleepUnderSpin` for a lock of the sleep kind where the seat holds
-    /// a spin lock, and `SharedOfExclusive`, `ExclusiveOfShared` and `Recursed` for a lock that the seat holds; `LogFull`;
-    /// `OutOfMemory`.
+    /// `Pending` where the seat has a request; `RecursionTooDeep`, unless nothing is watched, where it has acquired the lock 65,536 times;
+    /// where everything is watched, `SleepUnderSpin` for a lock of the sleep kind where the seat holds a spin lock, and for a lock that
+    /// it holds `SharedOfExclusive`, `ExclusiveOfShared` and `Recursed`; `LogFull`; `OutOfMemory`.
     pub fn check(
         &mut self,
         seat: SeatNo,

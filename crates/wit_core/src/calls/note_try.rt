@@ -19,7 +19,8 @@ impl Verifier {
     ///
     /// # Errors
     /// In this order: `UnknownSeat`; `UnknownLock`; `UnknownFile`; `ModeNotAllowed` for a mutex taken shared; `Pending` where the
-    /// seat has a request; `RecursionTooDeep`; `LogFull`; `OutOfMemory`.
+    /// seat has a request; `RecursionTooDeep`, unless nothing is watched, where it has acquired the lock 65,536 times; `LogFull`;
+    /// `OutOfMemory`.
     pub fn note_try(
         &mut self,
         seat: SeatNo,
