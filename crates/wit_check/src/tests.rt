@@ -1,4 +1,4 @@
-//! What is told where one lock is held and another asked for.
+//! What is told where one lock is held and another asked for, where a seat is warned, and where an order is defined.
 
 ghost use Rattle.std.specs.Prelude.{IsTrue};
 ghost use Rattle.wit_model.specs.Rules.Chunks.{IsList, chain_of};

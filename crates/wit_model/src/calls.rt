@@ -12,8 +12,11 @@ use std::alloc::{AllocError, Global};
 /// What a new lock is to be: the arguments of `lock_init` in witness(4)'s interface.
 #[derive(Debug, Drop)]
 pub struct NewLock {
+    /// The class that all locks of its type have.
     pub class: Class,
+    /// What it allows.
     pub flags: LockFlags,
+    /// Its own name, by which reports tell it.
     pub name: Name,
     /// The name under which it takes part in orders; its own name where there is none.
     pub type_name: Option<Name>,
@@ -54,23 +57,30 @@ impl NewLock {
 /// A request for a lock: the arguments of WITNESS's `checkorder`.
 #[derive(Clone, Copy, Debug, PartialEq, Eq, Hash)]
 pub struct Request {
+    /// The lock asked for.
     pub lock: LockNo,
+    /// Where it is asked for.
     pub site: Site,
+    /// How it is to be held.
     pub mode: Mode,
+    /// What the request allows.
     pub ops: OpFlags,
 }
 
 /// A request as it is judged, with what is known of the lock.
 #[derive(Clone, Copy, Debug, PartialEq, Eq, Hash)]
 pub struct Asked {
+    /// The lock asked for.
     pub lock: LockNo,
     /// The lock's type.
     pub type_no: TypeNo,
     /// What the lock allows.
     pub flags: LockFlags,
+    /// How it is to be held.
     pub mode: Mode,
     /// What the request allows.
     pub ops: OpFlags,
+    /// Where it is asked for.
     pub site: Site,
 }
 
@@ -119,13 +129,16 @@ pub enum Heading {
 /// A lock and a place in the watched program.
 #[derive(Clone, Copy, Debug, PartialEq, Eq, Hash)]
 pub struct LockAt {
+    /// The lock.
     pub lock: LockNo,
+    /// Where it was acquired or is asked for.
     pub site: Site,
 }
 
 /// What a reversal is about.
 #[derive(Clone, Copy, Debug, PartialEq, Eq, Hash)]
 pub struct Conflict {
+    /// The rule that it breaks.
     pub heading: Heading,
     /// The held lock that breaks the rule: the newest one that does.
     pub held: LockAt,
@@ -179,8 +192,11 @@ pub enum Reply {
 /// An entry of the log: an accepted call of a seat, and its reply.
 #[derive(Debug, Drop)]
 pub struct Entry {
+    /// Who made the call.
     pub seat: SeatNo,
+    /// What was called.
     pub call: Call,
+    /// The answer of the rules after the entries before this one.
     pub reply: Reply,
 }
 
@@ -190,7 +206,10 @@ const _: () = prove!(size_of::<Entry>() <= 48);
 /// A direct order between two types that was adopted.
 #[derive(Clone, Copy, Debug, PartialEq, Eq, Hash)]
 pub struct Adoption {
+    /// The type whose locks are acquired first.
     pub parent: TypeNo,
+    /// The type whose locks are acquired behind them.
     pub child: TypeNo,
+    /// How it came to be known.
     pub origin: Origin,
 }

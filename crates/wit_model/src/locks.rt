@@ -124,8 +124,9 @@ pub struct FileNo(pub u16);
 /// A place in the watched program.
 #[derive(Clone, Copy, Debug, PartialEq, Eq, Hash)]
 pub struct Site {
+    /// The source file.
     pub file: FileNo,
-    /// Any number: the verifier only tells it.
+    /// The line, any number: the verifier only tells it.
     pub line: u32,
 }
 
@@ -143,7 +144,9 @@ pub enum Origin {
 /// A held lock, as its seat's chain keeps it.
 #[derive(Clone, Copy, Debug, PartialEq, Eq, Hash)]
 pub struct Instance {
+    /// The held lock.
     pub lock: LockNo,
+    /// How it is held: as first acquired, or as last turned.
     pub mode: Mode,
     /// Whether it must not be released: set by `norelease`, cleared by `releaseok`.
     pub norelease: bool,
@@ -156,13 +159,17 @@ pub struct Instance {
 /// A lock type: locks of one type share one order, and have one class.
 #[derive(Debug, Drop)]
 pub struct LockType {
+    /// The name under which its locks share an order.
     pub name: Name,
+    /// The class of all its locks.
     pub class: Class,
 }
 
 /// A lock that was made.
 #[derive(Debug, Drop)]
 pub struct Lock {
+    /// Its type, which stays.
     pub type_no: TypeNo,
+    /// What it was made as.
     pub made: NewLock,
 }

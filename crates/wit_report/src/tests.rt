@@ -1,4 +1,4 @@
-//! The texts of replies.
+//! The texts of replies, of views, and of assertions and warnings.
 
 use crate::{
     all_locks, assert_text, circle_text, graph, locks_of, report_text, type_list, warn_text,

@@ -16,6 +16,7 @@ use wit_model::{Class, Fault, TypeNo};
 /// What is kept of a type beside its name.
 #[derive(Clone, Copy, Debug)]
 pub struct TypeRow {
+    /// The class of its locks, which stays.
     pub class: Class,
     /// How many of its locks are live.
     pub live: u32,
