@@ -25,7 +25,7 @@ fn is_short(line: &Line) -> bool
 {
     match line {
         Line::Order { list } => are_within(list.types(), LONGEST - 5),
-        // All others have at most nine fields, each of at most 300 bytes.
+        // All others have at most ten words, each of at most 300 bytes.
         _ => true,
     }
 }
