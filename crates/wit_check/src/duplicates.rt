@@ -10,7 +10,8 @@ use crate::basis::Basis;
 use bitflags::Flags;
 use wit_model::{Asked, Doubling, Instance, LockAt, LockFlags, OpFlags};
 
-/// The last held lock is of the requested type: reported once for a type, and never where the lock, or the request, allows it.
+/// The verdict where the last held lock is of the requested type: reported once for a type, and never where the lock, or the request,
+/// allows it.
 pub fn doubled(basis: &Basis, request: Asked, last: Instance) -> Verdict
     requires { IsGiven basis.now.types request.type_no.0 }
     ensures { answer_of result ≡ doubled basis.now request last }

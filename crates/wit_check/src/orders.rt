@@ -53,8 +53,8 @@ pub fn breach(basis: &Basis, sort: Sort, asked: TypeNo, held: TypeNo) -> Option<
     }
 }
 
-/// No order is broken: the one behind the last held lock is learnt, where the request allows it, unless it is that of a sleepable lock behind
-/// Giant, or turns an order round.
+/// The verdict where no order is broken: the one behind the last held lock is learnt, where the request allows it, unless it is that of
+/// a sleepable lock behind Giant, or turns an order round.
 pub fn learnt(basis: &Basis, request: Asked, last: Instance) -> Verdict
     requires last { IsGiven basis.now.lock_types last.lock.0 }
     requires asked { IsGiven basis.now.types request.type_no.0 }

@@ -13,8 +13,8 @@ use crate::duplicates::{place_asked, place_of};
 use crate::orders::{breach, sort_of};
 use wit_model::{Asked, Conflict, Heading, Instance};
 
-/// Reported once for a pair of types, and never where the pair is blessed. `older` is the newest lock of the requested type among those older than
-/// the one that violates the order.
+/// The verdict where a held lock violates an order: reported once for a pair of types, and never where the pair is blessed. `older` is
+/// the newest lock of the requested type among those older than the one that violates the order.
 pub fn reported(basis: &Basis, request: Asked, broken: Instance, older: Option<Instance>) -> Verdict
     requires held { IsGiven basis.now.lock_types broken.lock.0 }
     requires asked { IsGiven basis.now.types request.type_no.0 }

@@ -24,11 +24,12 @@ use wit_table::Table;
 
 /// The verdict of a check: the first of WITNESS's rules that applies decides (witness(4); `witness_checkorder` in subr_witness.c).
 ///
-/// The seat, one of 256, holds locks of the sleep kind in list `2 * seat - 1`, and locks of the spin kind in list `2 * seat`, each once. `lock_types`
-/// has the type of each lock that was made, by the lock's number from 1. All types are the table's, and the matrix has room for them.
+/// The seat, one of 256, holds locks of the sleep kind in list `2 * seat - 1`, and locks of the spin kind in list `2 * seat`, each once.
+/// `lock_types` has the type of each lock that was made, by the lock's number from 1. All types are the table's, and the matrix has
+/// room for them.
 ///
-/// It takes no memory and changes nothing: what is to be adopted, or found in violation, is the caller's to enter. How often a lock was acquired again
-/// isn't looked at.
+/// It takes no memory and changes nothing: what is to be adopted, or found in violation, is the caller's to enter. How often a lock was
+/// acquired again isn't looked at. Its faults are `SleepUnderSpin`, `SharedOfExclusive`, `ExclusiveOfShared` and `Recursed`.
 pub fn verdict<L: Lists>(
     types: &Table,
     matrix: &Matrix,
