@@ -15,6 +15,3 @@ pub use answers::Verdict;
 pub use basis::Basis;
 pub use definitions::define;
 pub use rules::verdict;
-
-#[cfg(test)]
-mod tests;

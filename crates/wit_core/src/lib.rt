@@ -17,6 +17,3 @@ mod verifier;
 
 pub use lists::StartError;
 pub use verifier::Verifier;
-
-#[cfg(test)]
-mod tests;

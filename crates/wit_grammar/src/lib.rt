@@ -16,6 +16,3 @@ pub use lock_lines::{LockLine, parse_lock_line};
 pub use parse::{LONGEST, parse_line};
 pub use print::print_line;
 pub use spellable::spelled;
-
-#[cfg(test)]
-mod tests;

@@ -15,6 +15,3 @@ pub use chains::{forget, held, mode, record, recursion, set_mode};
 pub use marks::{norelease, releaseok};
 pub use vec_lists::VecLists;
 pub use warnings::{LockTypes, warn_count};
-
-#[cfg(test)]
-mod tests;

@@ -6,6 +6,3 @@ mod matrix;
 mod squares;
 
 pub use matrix::Matrix;
-
-#[cfg(test)]
-mod tests;

@@ -21,6 +21,3 @@ pub use held::{all_locks, locks_of};
 pub use reports::report_text;
 pub use type_lists::type_list;
 pub use warnings::warn_text;
-
-#[cfg(test)]
-mod tests;

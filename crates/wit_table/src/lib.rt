@@ -6,6 +6,3 @@ mod table;
 mod types;
 
 pub use table::Table;
-
-#[cfg(test)]
-mod tests;

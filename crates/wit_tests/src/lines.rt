@@ -1,8 +1,8 @@
 //! Lines as bytes, by tables.
 
-use crate::{LineError, parse_line, print_line, spelled};
 use std::alloc::{AllocError, Global};
 use std::test::Fail;
+use wit_grammar::{LineError, parse_line, print_line, spelled};
 use wit_model::{
     Cause, Class, FileName, Line, LockAssert, LockFlags, LockNo, Mode, Name, NewLock, OpFlags,
     SeatNo, TypeList, WarnFlags,

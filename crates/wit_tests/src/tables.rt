@@ -4,10 +4,10 @@
 
 ghost use Rattle.wit_model.specs.Rules.Numbers.{IsNumber};
 
-use crate::Table;
 use std::alloc::{AllocError, Global};
 use std::test::Fail;
 use wit_model::{Class, Fault, FileNo, TypeNo};
+use wit_table::Table;
 
 /// A call, and what it has to answer.
 #[derive(Clone, Copy)]

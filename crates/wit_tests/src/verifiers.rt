@@ -1,8 +1,8 @@
 //! Short programs, call by call.
 
-use crate::{StartError, Verifier};
 use std::alloc::Global;
 use std::test::Fail;
+use wit_core::{StartError, Verifier};
 use wit_model::{
     Adoption, AssertAnswer, Class, Fault, FileNo, Limits, LockAssert, LockFlags, LockNo, Mode,
     OpFlags, Origin, Reply, SeatNo, Site, TypeNo, WarnFlags, Watch,

@@ -5,8 +5,8 @@ ghost use Rattle.wit_model.specs.Rules.Chunks.{IsList, chain_of};
 ghost use Rattle.wit_check.specs.Bases.{AreTypes};
 ghost use Rattle.wit_check.specs.Held.{IsJudgeable};
 
-use crate::{Basis, Verdict, define, verdict};
 use std::test::Fail;
+use wit_check::{Basis, Verdict, define, verdict};
 use wit_held::{VecLists, warn_count};
 use wit_matrix::Matrix;
 use wit_model::chunks::Lists;

@@ -2,7 +2,7 @@ use Rattle.std.proofs.Common.{ℕ, ◌<◌, Option, find, unwrap_or, subst, arit
 use Rattle.wit_model.specs.Rules.Verdict.{is_of}
 use Rattle.wit_model.specs.Rules.Chunks.{chain_of}
 use Rattle.wit_held.proofs.Recording.{stands-short, rises}
-use Rattle.wit_held.proofs.tests.acquire.Goals as goal
+use Rattle.wit_tests.proofs.chains.acquire.Goals as goal
 
 pub record-requires-clause-once : goal.record-requires-clause-once
 record-requires-clause-once c =

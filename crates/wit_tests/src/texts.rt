@@ -1,14 +1,14 @@
 //! The texts of replies, of views, and of assertions and warnings.
 
-use crate::{
-    all_locks, assert_text, circle_text, graph, locks_of, report_text, type_list, warn_text,
-};
 use std::alloc::{AllocError, Global};
 use std::test::Fail;
 use wit_core::{StartError, Verifier};
 use wit_model::{
     AssertAnswer, Boxed, Class, Conflict, Doubling, Fault, FileNo, Heading, Limits, LockAt,
     LockFlags, LockNo, Mode, OpFlags, Reply, SeatNo, Site, WarnFlags,
+};
+use wit_report::{
+    all_locks, assert_text, circle_text, graph, locks_of, report_text, type_list, warn_text,
 };
 
 fn start(alloc: Global) -> Result<Verifier, StartError> {

@@ -2,10 +2,10 @@
 
 ghost use Rattle.wit_model.specs.Rules.Numbers.{IsNumber};
 
-use crate::Matrix;
 use Step::{Adopt, Cell, Find, NoPath, Path};
 use std::alloc::Global;
 use std::test::Fail;
+use wit_matrix::Matrix;
 use wit_model::{Fault, TypeNo};
 
 /// What is done to a matrix, or what it is to say.

@@ -2,11 +2,11 @@
 
 ghost use Rattle.std.specs.Prelude.{◌≡◌};
 
-use crate::{VecLists, assert_is, forget, norelease, record, recursion, releaseok, set_mode};
 use Call::{Free, Holds, Push, Refused, Take};
 use linked_list_allocator::LocalHeap;
 use std::alloc::{AllocError, Allocator, Global};
 use std::test::Fail;
+use wit_held::{VecLists, assert_is, forget, norelease, record, recursion, releaseok, set_mode};
 use wit_model::chunks::Lists;
 use wit_model::{AssertAnswer, Fault, FileNo, Instance, LockAssert, LockNo, Mode, Site, Watch};
 
@@ -156,7 +156,7 @@ fn acquire(lists: &mut VecLists, list: u16, taken: Instance) -> bool {
 /// A lock as a list of at most one lock holds it.
 fn how(lists: &VecLists, list: u16, lock: LockNo) -> Option<Instance> {
     if list > 0 && list as usize <= lists.lists() && lists.len(list) <= 1 {
-        crate::held(lists, list, lock)
+        wit_held::held(lists, list, lock)
     } else {
         None
     }
