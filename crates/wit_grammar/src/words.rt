@@ -136,7 +136,7 @@ fn bits_of(letters: &[u8], word: &[u8]) -> Option<u8>
     ensures small { IfSome result (λ n. n < 2 ^ length letters.now) }
 {
     match (letters, word) {
-        ([], []) => Some(0),
+        (_, []) => Some(0),
         ([], _) => None,
         ([letter, letters @ ..], [first, others @ ..]) if first == letter => {
             Some(2 * bits_of(letters, others)? + 1)
