@@ -55,13 +55,18 @@ pub fn parse_lock_line(bytes: &[u8]) -> Option<LockLine<'_>>
     ensures { Finds as_line result (line_of bytes.now) }
 {
     let (keyword, rest) = words::split_before(b' ', bytes);
-    match keyword {
-        b"check" => check(rest).ok(),
-        b"lock" => lock(rest).ok(),
-        b"unlock" => unlock(rest).ok(),
-        b"try" => try_lock(rest).ok(),
-        b"giveup" => give_up(rest).ok(),
-        _ => None,
+    if keyword == b"check".as_slice() {
+        check(rest).ok()
+    } else if keyword == b"lock".as_slice() {
+        lock(rest).ok()
+    } else if keyword == b"unlock".as_slice() {
+        unlock(rest).ok()
+    } else if keyword == b"try".as_slice() {
+        try_lock(rest).ok()
+    } else if keyword == b"giveup".as_slice() {
+        give_up(rest).ok()
+    } else {
+        None
     }
 }
 
