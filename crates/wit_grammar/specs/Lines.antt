@@ -1,5 +1,5 @@
 -- What the reader of a line answers.
-use Rattle.std.specs.Prelude.{◌≡◌, ◌≢◌, ◌<◌, ◌≤◌, ℕ, List, length, Option, Some, None, Result, Ok, Err}
+use Rattle.std.specs.Prelude.{◌≡◌, ◌≢◌, ◌<◌, ◌≤◌, ℕ, List, length, codes, Option, Some, None, Result, Ok, Err}
 use Rattle.wit_model.specs.declared.faults.Fault.{Fault}
 use Rattle.wit_model.specs.declared.faults.Fault.TheVariants.{OutOfMemory}
 use Rattle.wit_model.specs.declared.lines.Line.{Line}
@@ -10,6 +10,8 @@ use Rattle.wit_model.specs.declared.lines.Cause.TheVariants as why
 use Rattle.wit_model.specs.Trace.Spelling.{Spells, IsSpellable, spelling}
 use Rattle.wit_grammar.specs.declared.errors.LineError.{LineError}
 use Rattle.wit_grammar.specs.declared.errors.LineError.TheVariants.{Bad, Memory}
+use Rattle.wit_grammar.specs.declared.lock_lines.Keyword.{Keyword}
+use Rattle.wit_grammar.specs.declared.lock_lines.Keyword.TheVariants as keyword
 use Rattle.wit_grammar.specs.declared.lock_lines.LockLine.{LockLine}
 use Rattle.wit_grammar.specs.declared.lock_lines.LockLine.TheVariants as lock_line
 use Rattle.wit_grammar.specs.declared.parse.TheConstants.{LONGEST}
@@ -28,6 +30,14 @@ Gives view (Err e) read = Fails e read
 abbrev pub Finds : {X Y : Type 0} → (X → Y) → Option X → Option Y → Type 0
 Finds view (Some x) read = read ≡ Some (view x)
 Finds view None read = Unit {0}
+
+-- the word of a call on a lock
+abbrev pub word_of : Keyword → List ℕ
+word_of keyword.Check = codes "check"
+word_of keyword.Lock = codes "lock"
+word_of keyword.Unlock = codes "unlock"
+word_of keyword.Try = codes "try"
+word_of keyword.GiveUp = codes "giveup"
 
 -- the line by itself
 abbrev pub as_line : LockLine → Line

@@ -1,8 +1,8 @@
-//! Lines that make a call on a lock. What stands behind a keyword is read whole: `LineError::SYNTAX` where it is anything else.
+//! Lines that make a call on a lock.
 
-ghost use Rattle.std.specs.Prelude.{◌≡◌, IfOk};
+ghost use Rattle.std.specs.Prelude.{◌≡◌, IfOk, IfSome};
 ghost use Rattle.wit_model.specs.Trace.Reading.{check_of, note_of, try_of, give_up_of, unlock_of, line_of};
-ghost use Rattle.wit_grammar.specs.Lines.{Finds, Gives, as_line};
+ghost use Rattle.wit_grammar.specs.Lines.{Finds, Gives, as_line, word_of};
 
 use crate::errors::LineError;
 use crate::{names, numbers, words};
@@ -47,33 +47,48 @@ pub enum LockLine<'a> {
     },
 }
 
-/// The line that the bytes spell, where it makes a call on a lock, without a copy. After `None` they may still spell a line: whoever
-/// asks reads them by `parse_line`.
+/// The line that the bytes spell, where it makes a call on a lock, without a copy. `None` says nothing.
 #[tactic(auto, unfolding(wit_model::specs::Trace::Reading::line_of))]
 #[inline(always)]
 pub fn parse_lock_line(bytes: &[u8]) -> Option<LockLine<'_>>
     ensures { Finds as_line result (line_of bytes.now) }
 {
-    let (keyword, rest) = words::split_before(b' ', bytes);
-    if keyword == b"check".as_slice() {
-        check(rest).ok()
-    } else if keyword == b"lock".as_slice() {
-        lock(rest).ok()
-    } else if keyword == b"unlock".as_slice() {
-        unlock(rest).ok()
-    } else if keyword == b"try".as_slice() {
-        try_lock(rest).ok()
-    } else if keyword == b"giveup".as_slice() {
-        give_up(rest).ok()
-    } else {
-        None
+    let (word, rest) = words::split_before(b' ', bytes);
+    match keyword_of(word)? {
+        Keyword::Check => check(rest).ok(),
+        Keyword::Lock => lock(rest).ok(),
+        Keyword::Unlock => unlock(rest).ok(),
+        Keyword::Try => try_lock(rest).ok(),
+        Keyword::GiveUp => give_up(rest).ok(),
     }
 }
 
-/// The same line with a file name of its own.
-///
-/// # Errors
-/// Want of memory alone.
+// The calls on a lock, by their words.
+#[derive(Clone, Copy)]
+enum Keyword {
+    Check,
+    Lock,
+    Unlock,
+    Try,
+    GiveUp,
+}
+
+// The call that a word names. It is compared in place, byte by byte, which is faster than by `==`.
+#[inline(always)]
+fn keyword_of(word: &[u8]) -> Option<Keyword>
+    ensures { IfSome result (λ k. word.now ≡ word_of k) }
+{
+    match word {
+        b"check" => Some(Keyword::Check),
+        b"lock" => Some(Keyword::Lock),
+        b"unlock" => Some(Keyword::Unlock),
+        b"try" => Some(Keyword::Try),
+        b"giveup" => Some(Keyword::GiveUp),
+        _ => None,
+    }
+}
+
+/// The line by itself.
 pub fn owned(alloc: Global, line: LockLine<'_>) -> Result<Line, AllocError>
     ensures { IfOk result (λ l. l ≡ as_line line.entry) }
 {
@@ -112,7 +127,6 @@ pub fn owned(alloc: Global, line: LockLine<'_>) -> Result<Line, AllocError>
     }
 }
 
-/// What stands behind `check`: a seat, a lock, a mode, flags and a site.
 #[tactic(auto, unfolding(wit_model::specs::Trace::Reading::check_of))]
 #[inline(always)]
 pub fn check(bytes: &[u8]) -> Result<LockLine<'_>, LineError>
@@ -136,7 +150,6 @@ pub fn check(bytes: &[u8]) -> Result<LockLine<'_>, LineError>
     })
 }
 
-/// What stands behind `lock`: a seat and a lock.
 #[tactic(auto, unfolding(wit_model::specs::Trace::Reading::note_of))]
 #[inline(always)]
 pub fn lock(bytes: &[u8]) -> Result<LockLine<'_>, LineError>
@@ -150,7 +163,6 @@ pub fn lock(bytes: &[u8]) -> Result<LockLine<'_>, LineError>
     Ok(LockLine::Lock { seat, lock })
 }
 
-/// What stands behind `try`: a seat, a lock, a mode and a site.
 #[tactic(auto, unfolding(wit_model::specs::Trace::Reading::try_of))]
 pub fn try_lock(bytes: &[u8]) -> Result<LockLine<'_>, LineError>
     ensures { Gives as_line result (try_of bytes.now) }
@@ -171,7 +183,6 @@ pub fn try_lock(bytes: &[u8]) -> Result<LockLine<'_>, LineError>
     })
 }
 
-/// What stands behind `giveup`: a seat and a lock.
 #[tactic(auto, unfolding(wit_model::specs::Trace::Reading::give_up_of))]
 pub fn give_up(bytes: &[u8]) -> Result<LockLine<'_>, LineError>
     ensures { Gives as_line result (give_up_of bytes.now) }
@@ -184,7 +195,6 @@ pub fn give_up(bytes: &[u8]) -> Result<LockLine<'_>, LineError>
     Ok(LockLine::GiveUp { seat, lock })
 }
 
-/// What stands behind `unlock`: a seat, a lock and a mode.
 #[tactic(auto, unfolding(wit_model::specs::Trace::Reading::unlock_of))]
 #[inline(always)]
 pub fn unlock(bytes: &[u8]) -> Result<LockLine<'_>, LineError>
