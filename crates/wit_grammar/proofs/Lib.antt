@@ -1,5 +1,6 @@
 pub mod Digits
 pub mod Found
+pub mod Leading
 pub mod Lengths
 pub mod ListReading
 pub mod Places

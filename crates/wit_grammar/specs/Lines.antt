@@ -7,6 +7,7 @@ use Rattle.wit_model.specs.declared.lines.Line.TheVariants.{Header, Order, Bless
 use Rattle.wit_model.specs.declared.lines.Cause.{Cause}
 use Rattle.wit_model.specs.declared.lines.Cause.TheVariants.{Long, Syntax, Cut, Limit}
 use Rattle.wit_model.specs.declared.lines.Cause.TheVariants as why
+use Rattle.wit_model.specs.Trace.Reading.{◌>>=◌, number_of, until}
 use Rattle.wit_model.specs.Trace.Spelling.{Spells, IsSpellable, spelling}
 use Rattle.wit_grammar.specs.declared.errors.LineError.{LineError}
 use Rattle.wit_grammar.specs.declared.errors.LineError.TheVariants.{Bad, Memory}
@@ -30,6 +31,10 @@ Gives view (Err e) read = Fails e read
 abbrev pub Finds : {X Y : Type 0} → (X → Y) → Option X → Option Y → Type 0
 Finds view (Some x) read = read ≡ Some (view x)
 Finds view None read = Unit {0}
+
+-- the number that stands up to the next space, and what follows it
+abbrev pub leading_number : ℕ → List ℕ → Option (ℕ × List ℕ)
+leading_number bound bytes = number_of bound (until 32 bytes).0 >>= λ number. Some (number, (until 32 bytes).1)
 
 -- the word of a call on a lock
 abbrev pub word_of : Keyword → List ℕ

@@ -3,10 +3,10 @@
 ghost use Rattle.std.specs.Prelude.{◌+◌, ◌*◌, ◌≡◌, ◌≤◌, ◌<◌, ◌==◌, ◌&&◌, ◌||◌, not, length, true, None, IfOk, IfSome, slice_index};
 ghost use Rattle.std.specs.Char.{is_ascii_digit, digit_value};
 ghost use Rattle.wit_model.specs.Trace.Reading.{number_of, field_at, behind, count_at, seat_at, lock_at};
-ghost use Rattle.wit_grammar.specs.Lines.{Gives};
+ghost use Rattle.wit_grammar.specs.Lines.{Gives, leading_number};
 
 use crate::errors::LineError;
-use crate::words::{fixed, word};
+use crate::words::{fixed, skip};
 use wit_model::{LockNo, SeatNo};
 
 /// Whether there are bytes, and the first isn't a leading zero.
@@ -54,13 +54,36 @@ pub fn number_of(most: u32, word: &[u8]) -> Result<u32, LineError>
     Ok(number)
 }
 
+/// The number that the bytes up to the next space or the end spell, without leading zeros, and the bytes from there on. One look.
+#[inline(always)]
+fn leading_number(most: u32, bytes: &[u8]) -> Result<(u32, &[u8]), LineError>
+    ensures value { Gives (λ x. (x.0, x.1.now)) result
+        (leading_number (most + 1) bytes.now) }
+    ensures below { IfOk result (λ x. x.0 ≤ most) }
+{
+    let mut number = 0;
+    let mut len = 0;
+    while len < bytes.len() && bytes[len] != b' ' {
+        let Some(more) = with_digit(most, number, bytes[len]) else {
+            return Err(LineError::SYNTAX);
+        };
+        number = more;
+        len += 1;
+    }
+    let (word, rest) = bytes.split_at(len);
+    if !begins_numeral(word) {
+        return Err(LineError::SYNTAX);
+    }
+    Ok((number, rest))
+}
+
+#[tactic(auto, unfolding(wit_model::specs::Trace::Reading::word_at))]
 #[inline(always)]
 fn number(most: u32, bytes: &[u8]) -> Result<(u32, &[u8]), LineError>
     ensures value { Gives (λ x. (x.0, x.1.now)) result (field_at (number_of (most + 1)) bytes.now) }
     ensures below { IfOk result (λ x. x.0 ≤ most) }
 {
-    let (word, rest) = word(bytes)?;
-    Ok((number_of(most, word)?, rest))
+    leading_number(most, skip(b' ', bytes)?)
 }
 
 /// The number of a seat: 0 to 65,535.
