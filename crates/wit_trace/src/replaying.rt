@@ -29,7 +29,7 @@ use std::mem;
 use views::{last_text, shown};
 use wit_core::Verifier;
 use wit_grammar::{LineError, parse_line, parse_lock_line};
-use wit_model::{Cause, Limits, Line, View};
+use wit_model::{Boxed, Cause, Limits, Line, View};
 
 /// The log's limit in a replay.
 const LOG: u32 = 16_777_216;
@@ -255,7 +255,7 @@ impl Replaying {
         match error {
             LineError::Bad(cause) => {
                 let (text, summary) = self.ended(alloc, number, cause)?;
-                Ok(Step::Ends(text, summary))
+                Ok(Step::Ends(text, Boxed::new(alloc, summary)?))
             }
             LineError::Memory => Err(AllocError),
         }

@@ -58,7 +58,7 @@ pub fn run<R: BufRead, W: Write, P: Ports<R, W>, M: Machine>(
             Step::Goes(text) => ports.put(writer, &text)?,
             Step::Ends(text, summary) => {
                 ports.put(writer, &text)?;
-                return Ok(summary);
+                return Ok(*summary.get());
             }
         }
         number += 1;

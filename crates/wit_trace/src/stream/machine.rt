@@ -9,15 +9,15 @@ ghost use Rattle.wit_grammar.specs.declared.parse.TheConstants.{LONGEST};
 
 use crate::summary::Summary;
 use std::alloc::{AllocError, Global};
-use wit_model::{Cause, View};
+use wit_model::{Boxed, Cause, View};
 
-/// What becomes of a whole line.
+/// What becomes of a whole line. It is passed on for each, and so is small.
 #[derive(Drop)]
 pub enum Step {
     /// This text is written, and the next line is read.
     Goes(Vec<u8>),
     /// This text is written, and the reading ends.
-    Ends(Vec<u8>, Summary),
+    Ends(Vec<u8>, Boxed<Summary>),
 }
 
 /// Reads lines one at a time, writes texts, and ends with a summary.

@@ -13,7 +13,7 @@ use crate::summary::ReplayError;
 use std::alloc::Global;
 use std::io::{BufRead, Write};
 use wit_grammar::LONGEST;
-use wit_model::{Cause, View};
+use wit_model::{Boxed, Cause, View};
 
 /// The only ways to look at a reader and to write, with the evidence of what failed.
 ///
@@ -124,7 +124,7 @@ impl<R: BufRead, W: Write> Ports<R, W> for Failures {
         };
         if shown.is_empty() {
             let (text, summary) = at_end(alloc, machine, view, number, begun)?;
-            return Ok(Some(Step::Ends(text, summary)));
+            return Ok(Some(Step::Ends(text, Boxed::new(alloc, summary)?)));
         }
         let len = shown.len().min(most);
         if let Some(len) = feed_in(&shown[..len]) {
@@ -138,7 +138,7 @@ impl<R: BufRead, W: Write> Ports<R, W> for Failures {
             return Ok(None);
         }
         let (text, summary) = machine.broken(alloc, view, number, begun, Cause::Long)?;
-        Ok(Some(Step::Ends(text, summary)))
+        Ok(Some(Step::Ends(text, Boxed::new(alloc, summary)?)))
     }
 
     fn put(&mut self, writer: &mut W, bytes: &[u8]) -> Result<(), ReplayError> {

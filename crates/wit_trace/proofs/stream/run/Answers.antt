@@ -43,12 +43,12 @@ returns-in_err-put-in-Ends-clause-err g c =
 pub returns-in-Ends-clause-ok : goal.returns-in-Ends-clause-ok
 returns-in-Ends-clause-ok g c =
     let last = answer_ends (OutputFrom (g.M.Machine.allows c.args.view)) c.loop-left.machine c.advance.new.machine c.loop-left.number (g.R.Read.remaining c.loop-left.reader) (g.R.Read.remaining c.advance.new.reader) c.loop-left.line.items c.advance.new.begun.items _ _ _ _ c.in_ok-step.ensures.ok c.in-Some.is c.in-Ends.is in
-    going_last _ _ _ _ _ c.loop-left.invariant.going last (subst (Appends _ _) c.deref-in-Ends.ensures.value c.in_ok-put-in-Ends.ensures.ok)
+    rw c.get.ensures (going_last _ _ _ _ _ c.loop-left.invariant.going last (subst (Appends _ _) c.deref-in-Ends.ensures.value c.in_ok-put-in-Ends.ensures.ok))
 
 pub returns-in-Ends-clause-taken : goal.returns-in-Ends-clause-taken
 returns-in-Ends-clause-taken g c =
     let last = answer_ends (OutputFrom (g.M.Machine.allows c.args.view)) c.loop-left.machine c.advance.new.machine c.loop-left.number (g.R.Read.remaining c.loop-left.reader) (g.R.Read.remaining c.advance.new.reader) c.loop-left.line.items c.advance.new.begun.items _ _ _ _ c.in_ok-step.ensures.ok c.in-Some.is c.in-Ends.is in
-    going_end _ _ _ _ _ c.loop-left.invariant.going last (subst (Appends _ _) c.deref-in-Ends.ensures.value c.in_ok-put-in-Ends.ensures.ok)
+    rw c.get.ensures (going_end _ _ _ _ _ c.loop-left.invariant.going last (subst (Appends _ _) c.deref-in-Ends.ensures.value c.in_ok-put-in-Ends.ensures.ok))
 
 pub loop-left-preserved : goal.loop-left-preserved
 loop-left-preserved g c =
