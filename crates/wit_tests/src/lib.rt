@@ -1,4 +1,4 @@
-//! Tests of the libraries below the traces, each through its public calls. They stand in a crate of their own, since the tests of a
+//! Tests of the libraries below the traces but the verifier, each through its public calls. They stand in a crate of their own, since the tests of a
 //! crate prove all of its functions a second time.
 #![tactic(auto)]
 
@@ -14,5 +14,3 @@ mod tables;
 mod texts;
 #[cfg(test)]
 mod verdicts;
-#[cfg(test)]
-mod verifiers;
