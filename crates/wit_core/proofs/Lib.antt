@@ -15,6 +15,7 @@ pub mod Owing
 pub mod Queues
 pub mod Reaching
 pub mod Relating
+pub mod Releasing
 pub mod SeatRows
 pub mod Steps
 pub mod Taught

@@ -28,11 +28,6 @@ abbrev pub done_reply : {X : Type 0} → Reply → Result X Fault → Result Rep
 done_reply reply (Ok x) = Ok reply
 done_reply reply (Err f) = Err f
 
--- whether a release is recorded, or passed over
-abbrev pub release_reply : Result Bool Fault → Result Reply Fault
-release_reply (Ok held) = if held then Ok Unlocked else Ok Ignored
-release_reply (Err f) = Err f
-
 -- the faults of a call that asks for a lock, or tries it, before the rest
 abbrev pub before_acquiring : State → ℕ → ℕ → Mode → Site → Result Reply Fault → Result Reply Fault
 before_acquiring s t l m site rest =

@@ -1,6 +1,6 @@
 //! The seats: what each holds, and what it has asked for.
 
-ghost use Rattle.std.specs.Prelude.{◌≡◌, true, false, not, find, is_some, slice_get, replicate, IfOk, IfErr, None, Some};
+ghost use Rattle.std.specs.Prelude.{◌≡◌, ◌≢◌, true, false, not, find, is_some, slice_get, replicate, Ok, IfOk, IfErr, None, Some};
 ghost use Rattle.wit_model.specs.declared.faults.Fault.TheVariants.{OutOfMemory};
 ghost use Rattle.wit_model.specs.Rules.Numbers.{is_given, IsGiven, IsNumber};
 ghost use Rattle.wit_model.specs.Rules.Assertions.{assertion};
@@ -10,6 +10,7 @@ ghost use Rattle.wit_model.specs.Rules.Destroying.{uses};
 ghost use Rattle.std.specs.List.{list_any};
 ghost use Rattle.wit_held.specs.Chains.{IsOnce, IsShallow, in_mode};
 ghost use Rattle.wit_held.specs.Marks.{marked};
+ghost use Rattle.wit_held.specs.Releases.{release_reply, release_answer};
 ghost use Rattle.wit_core.specs.Held.{seat_view};
 ghost use Rattle.wit_core.specs.Seats.{Seat, idle_row, seat_in, locks_in, free_in, with_seat, asking, released, has_no_room, after_acquired, list_of, HoldFor};
 ghost use Rattle.wit_core.specs.Turning.{changed};
@@ -17,7 +18,7 @@ ghost use Rattle.wit_core.specs.Turning.{changed};
 use std::alloc::{AllocError, Global};
 use std::marker::Model;
 use wit_held::{
-    VecLists, assert_is, forget, held, norelease, record, recursion, releaseok, set_mode,
+    VecLists, assert_is, held, norelease, record, recursion, release, releaseok, set_mode,
 };
 use wit_model::chunks::Lists;
 use wit_model::{AssertAnswer, Fault, Instance, LockAssert, LockNo, Mode, Request, SeatNo, Watch};
@@ -201,13 +202,22 @@ impl Seats {
         record(&mut self.lists, list_of(seat, spin), taken)
     }
 
-    /// A seat releases a lock of this kind: `wit_held::forget` in its list.
-    pub fn forget(&mut self, seat: SeatNo, spin: bool, lock: LockNo)
+    /// A seat releases a lock of this kind in this mode: `wit_held::release` in its list, with its errors.
+    pub fn release(
+        &mut self,
+        seat: SeatNo,
+        spin: bool,
+        lock: LockNo,
+        mode: Mode,
+        watch: Watch,
+    ) -> Result<bool, Fault>
         requires seat { IsGiven self.old.seats seat.0 }
         requires once { IsOnce lock.0 (locks_in spin (seat_in self.old seat.0)) }
-        ensures { self.new ≡ with_seat seat.0 (released spin lock.0) self.old }
+        ensures result { release_reply result ≡ release_answer watch mode (find (is_of lock.0) (locks_in spin (seat_in self.old seat.0))) }
+        ensures seats { result ≡ Ok true → self.new ≡ with_seat seat.0 (released spin lock.0) self.old }
+        ensures unchanged { result ≢ Ok true → self.new ≡ self.old }
     {
-        forget(&mut self.lists, list_of(seat, spin), lock);
+        release(&mut self.lists, list_of(seat, spin), lock, mode, watch)
     }
 }
 

@@ -1,11 +1,12 @@
-//! What acquisitions and releases make of a list of held locks, over any lists. Nothing here takes memory.
+//! What an acquisition and a turn to another mode make of a list of held locks, and how a lock is held, over any lists. Nothing here takes
+//! memory.
 
 ghost use Rattle.std.specs.Prelude.{◌≡◌, false, not, find};
 ghost use Rattle.std.specs.Option.{option_map};
 ghost use Rattle.wit_model.specs.declared.locks.Instance.{Instance};
 ghost use Rattle.wit_model.specs.Rules.Verdict.{is_of};
 ghost use Rattle.wit_model.specs.Rules.Chunks.{IsList, IsPlaced, chain_of};
-ghost use Rattle.wit_held.specs.Chains.{IsOnce, IsShallow, is_unrecorded, after_record, after_forget, after_turn};
+ghost use Rattle.wit_held.specs.Chains.{IsOnce, IsShallow, is_unrecorded, after_record, after_turn};
 
 use crate::spots::{place_of, spot_of};
 use wit_model::chunks::Lists;
@@ -36,30 +37,6 @@ pub fn record<L: Lists>(lists: &mut L, list: u16, taken: Instance) -> bool
             true
         }
         None => lists.push(list, taken),
-    }
-}
-
-/// Takes a release back in a list that holds the lock once at most: its count falls by one, or it goes out where its count is 0.
-/// Nothing is changed where the list doesn't hold it.
-pub fn forget<L: Lists>(lists: &mut L, list: u16, lock: LockNo)
-    requires list { IsList (L.chunks lists.old) list }
-    requires once { IsOnce lock.0 (chain_of (L.chunks lists.old) list) }
-    ensures groups { (L.chunks lists.new).groups ≡ after_forget (L.chunks lists.old) list lock.0 }
-    ensures size { (L.chunks lists.new).size ≡ (L.chunks lists.old).size }
-    ensures placed { IsPlaced (L.chunks lists.old) → IsPlaced (L.chunks lists.new) }
-{
-    match spot_of(&*lists, list, lock) {
-        Some(spot) => {
-            let place = place_of(&*lists, list, spot);
-            let mut held = spot.held;
-            if held.count > 0 {
-                held.count -= 1;
-                lists.replace(list, place, held);
-            } else {
-                lists.remove(list, place);
-            }
-        }
-        None => {}
     }
 }
 

@@ -5,13 +5,15 @@ mod assertions;
 mod chains;
 mod fresh;
 mod marks;
+mod releases;
 mod rows;
 mod spots;
 mod vec_lists;
 mod warnings;
 
 pub use assertions::assert_is;
-pub use chains::{forget, held, mode, record, recursion, set_mode};
+pub use chains::{held, mode, record, recursion, set_mode};
 pub use marks::{norelease, releaseok};
+pub use releases::{forget, release};
 pub use vec_lists::VecLists;
 pub use warnings::{LockTypes, warn_count};

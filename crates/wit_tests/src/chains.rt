@@ -176,6 +176,21 @@ fn release(lists: &mut VecLists, list: u16, lock: LockNo) {
     }
 }
 
+/// What a release in this mode comes to in a list of at most one lock; `None` where there is no such list.
+fn judged(
+    lists: &mut VecLists,
+    list: u16,
+    lock: u32,
+    mode: Mode,
+    watch: Watch,
+) -> Option<Result<bool, Fault>> {
+    if list > 0 && list as usize <= lists.lists() && lists.len(list) <= 1 {
+        Some(wit_held::release(lists, list, LockNo(lock), mode, watch))
+    } else {
+        None
+    }
+}
+
 /// Marks a lock in a list of at most one: whether it must not be released.
 fn mark(lists: &mut VecLists, list: u16, lock: LockNo, forbidden: bool) {
     if list > 0 && list as usize <= lists.lists() && lists.len(list) <= 1 {
@@ -334,6 +349,23 @@ fn marks(rt: HostRuntime) -> Result<(), Fail> {
     assert_eq!(rt; oldest(&lists, 1), Some(kept));
     mark(&mut lists, 1, LockNo(7), false);
     assert_eq!(rt; oldest(&lists, 1), Some(free));
+    Ok(())
+}
+
+#[test]
+fn judged_releases(rt: HostRuntime) -> Result<(), Fail> {
+    let mut lists = VecLists::new(rt.alloc(), 1, 1)?;
+    assert!(rt; push(&mut lists, 1, 7));
+    for (lock, mode, watch, answer) in [
+        (8, Mode::Exclusive, Watch::On, Err(Fault::NotLocked)),
+        (8, Mode::Exclusive, Watch::Quiet, Ok(false)),
+        (7, Mode::Shared, Watch::On, Err(Fault::SharedUnlock)),
+        (7, Mode::Exclusive, Watch::On, Ok(true)),
+        (7, Mode::Exclusive, Watch::Off, Ok(false)),
+    ] {
+        let told = judged(&mut lists, 1, lock, mode, watch);
+        assert_eq!(rt; told, Some(answer), "of lock {lock}");
+    }
     Ok(())
 }
 

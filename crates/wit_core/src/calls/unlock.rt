@@ -1,13 +1,14 @@
 //! `unlock`: a held lock is released.
 
-ghost use Rattle.std.specs.Prelude.{◌≡◌, Some, Ok};
+ghost use Rattle.std.specs.Prelude.{◌≡◌, true};
 ghost use Rattle.wit_model.specs.declared.calls.Call.TheVariants.{Unlock};
-ghost use Rattle.wit_model.specs.declared.calls.Reply.TheVariants.{Unlocked};
-ghost use Rattle.wit_model.specs.Rules.Step.{Answers, answer_of, logged, released};
-ghost use Rattle.wit_core.specs.Replies.{done_reply, release_reply};
+ghost use Rattle.wit_model.specs.Rules.State.{state_of, is_seat};
+ghost use Rattle.wit_model.specs.Rules.Step.{Answers};
+ghost use Rattle.wit_held.specs.Releases.{release_reply};
+ghost use Rattle.wit_core.specs.Replies.{Admits, before_naming};
 
 use crate::verifier::Verifier;
-use wit_model::{Call, Entry, Fault, Instance, LockNo, Mode, Reply, SeatNo};
+use wit_model::{Call, Entry, Fault, LockNo, Mode, Reply, SeatNo};
 
 impl Verifier {
     /// Tells that a lock held in this mode is released: WITNESS's `unlock`. It is `Unlocked`; or, where not everything is watched
@@ -20,64 +21,31 @@ impl Verifier {
     pub fn unlock(&mut self, seat: SeatNo, lock: LockNo, mode: Mode) -> Result<Reply, Fault>
         ensures { Answers self.old seat.0 (Unlock lock mode) result self.new }
     {
-        if self.answer_unlock(seat, lock, mode)? {
-            self.enter_unlock(seat, lock, mode);
+        self.addresses(seat, lock)?;
+        if self.release(seat, lock, mode)? {
             Ok(Reply::Unlocked)
         } else {
             Ok(Reply::Ignored)
         }
     }
 
-    // Whether the release is recorded: else it is passed over.
-    fn answer_unlock(&self, seat: SeatNo, lock: LockNo, mode: Mode) -> Result<bool, Fault>
-        ensures { release_reply result ≡ answer_of self.now seat.0 (Unlock lock mode) }
-    {
-        if !self.is_seat(seat) {
-            return Err(Fault::UnknownSeat);
-        }
-        if !self.is_live(lock) {
-            return Err(Fault::UnknownLock);
-        }
-        if self.request(seat).is_some() {
-            return Err(Fault::Pending);
-        }
-        let held = self.held(seat, lock);
-        if !self.watch().is_on() {
-            return Ok(held.is_some());
-        }
-        let Some(held) = held else {
-            return Err(Fault::NotLocked);
-        };
-        answer_release(held, mode)?;
-        Ok(true)
-    }
-
-    fn enter_unlock(&mut self, seat: SeatNo, lock: LockNo, mode: Mode)
-        requires { answer_of self.old seat.0 (Unlock lock mode) ≡ Ok Unlocked }
-        ensures { self.new ≡ logged self.old seat.0 (Unlock lock mode) Unlocked }
+    // Records a release that nothing before it refuses: false where it is passed over. The lock is looked for once.
+    fn release(&mut self, seat: SeatNo, lock: LockNo, mode: Mode) -> Result<bool, Fault>
+        requires seat { is_seat (state_of self.old) seat.0 ≡ true }
+        requires admitted { Admits (before_naming (state_of self.old) seat.0 lock.0) }
+        ensures { Answers self.old seat.0 (Unlock lock mode) (release_reply result) self.new }
     {
         let spin = self.class_of_lock(lock).is_spin();
-        self.seats.forget(seat, spin, lock);
+        let watch = self.watch();
+        if !self.seats.release(seat, spin, lock, mode, watch)? {
+            return Ok(false);
+        }
         let entry = Entry {
             seat,
             call: Call::Unlock(lock, mode),
             reply: Reply::Unlocked,
         };
         self.log.push_owed(entry, 0);
+        Ok(true)
     }
-}
-
-fn answer_release(held: Instance, mode: Mode) -> Result<(), Fault>
-    ensures { done_reply Unlocked result ≡ released mode (Some held) }
-{
-    if held.mode.is_exclusive() && !mode.is_exclusive() {
-        return Err(Fault::SharedUnlock);
-    }
-    if !held.mode.is_exclusive() && mode.is_exclusive() {
-        return Err(Fault::ExclusiveUnlock);
-    }
-    if held.count == 0 && held.norelease {
-        return Err(Fault::ForbiddenUnlock);
-    }
-    Ok(())
 }

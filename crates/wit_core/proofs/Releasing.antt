@@ -1,0 +1,29 @@
+-- What a release is answered, by the seats' one look for the lock.
+use Rattle.std.proofs.Common.{◌≡◌, ℕ, Bool, true, Result, find, sym, ap, ◌∙◌}
+use Rattle.wit_model.specs.declared.locks.LockNo.{LockNo}
+use Rattle.wit_model.specs.declared.locks.Mode.{Mode}
+use Rattle.wit_model.specs.declared.locks.Watch.{Watch}
+use Rattle.wit_model.specs.declared.faults.Fault.{Fault}
+use Rattle.wit_model.specs.declared.calls.Call.TheVariants.{Unlock}
+use Rattle.wit_model.specs.Rules.Locks.{lock_at}
+use Rattle.wit_model.specs.Rules.State.{Story, state_of}
+use Rattle.wit_model.specs.Rules.Step.{answer_of, held_by}
+use Rattle.wit_model.specs.Rules.Types.{is_spin}
+use Rattle.wit_model.specs.Rules.Verdict.{is_of}
+use Rattle.wit_held.specs.Releases.{release_reply, release_answer}
+use Rattle.wit_core.specs.declared.verifier.Verifier.TheInside.{Inside}
+use Rattle.wit_core.specs.Kept.{IsKept, story_in}
+use Rattle.wit_core.specs.Replies.{Admits, before_naming}
+use Rattle.wit_core.specs.Seats.{seat_in, locks_in}
+use Rattle.wit_core.proofs.Now.{chain-now}
+
+pub release-told : (v : Inside) (k : IsKept v) (s : Story) (seen : story_in v ≡ s) (t : ℕ) (l : LockNo) (spin : Bool)
+    → spin ≡ is_spin (lock_at (state_of s).known.locks l.0).made.class → Admits (before_naming (state_of s) t l.0)
+    → (m : Mode) (w : Watch) → w ≡ (state_of s).watch
+    → (r : Result Bool Fault) → release_reply r ≡ release_answer w m (find (is_of l.0) (locks_in spin (seat_in v.seats t)))
+    → answer_of s t (Unlock l m) ≡ release_reply r
+release-told v k s seen t l spin kind admitted m w watch r told =
+    admitted (release_answer (state_of s).watch m (held_by (state_of s) t l.0))
+    ∙ sym (told
+    ∙ ap (λ x. release_answer x m (find (is_of l.0) (locks_in spin (seat_in v.seats t)))) watch
+    ∙ ap (λ chain. release_answer (state_of s).watch m (find (is_of l.0) chain)) (chain-now v k s seen t l.0 spin kind))
