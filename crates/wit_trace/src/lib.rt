@@ -11,6 +11,3 @@ pub use status::{BAD_TRACE, FAILED, NOTHING_REPORTED, REPORTED, status_of};
 pub use stream::ports::{Failures, Ports};
 pub use summary::{ReplayError, Summary};
 pub use wit_grammar::{LineError, parse_line, print_line, spelled};
-
-#[cfg(test)]
-mod tests;

@@ -4,8 +4,6 @@
 mod command_line;
 mod complaints;
 mod program;
-#[cfg(test)]
-mod tests;
 mod words;
 
 use crate::complaints::fail;

@@ -1,58 +1,10 @@
 //! A replay at the limits: every seat, hundreds of locks and types, the longest names, a long path.
 
-use crate::BAD_TRACE;
-use crate::tests::rows::agrees;
+use crate::traces::{put_acquisition, put_lock, put_round, replayed, site, status_is, word};
 use std::alloc::{AllocError, Global};
 use std::test::Fail;
-
-/// A letter and a number, and behind them so many `x` that the word has `len` bytes.
-fn word(alloc: Global, letter: char, number: u16, len: usize) -> Result<String, AllocError> {
-    let mut word = format!(in alloc; "{letter}{number}")?;
-    for _ in word.len()..len {
-        word.push('x')?;
-    }
-    Ok(word)
-}
-
-/// The place of each acquisition of a lock, with a file name of 255 bytes.
-fn site(alloc: Global, lock: u16) -> Result<String, AllocError> {
-    let file = word(alloc, 'f', lock, 255)?;
-    format!(in alloc; "{file}:{lock}")
-}
-
-/// A lock with a name of 63 bytes, and its type with another.
-fn put_lock(trace: &mut String, alloc: Global, seat: u16, lock: u16) -> Result<(), AllocError> {
-    let name = word(alloc, 'l', lock, 63)?;
-    let of_type = word(alloc, 't', lock, 63)?;
-    let line = format!(in alloc; "init {seat} mtx d \"{name}\" \"{of_type}\"\n")?;
-    trace.push_str(&line)
-}
-
-fn put_acquisition(
-    trace: &mut String,
-    alloc: Global,
-    seat: u16,
-    lock: u16,
-) -> Result<(), AllocError> {
-    let ops = ["n", "nd", "nf", "ndf"][usize::from(lock % 4)];
-    let site = site(alloc, lock)?;
-    let lines = format!(in alloc; "check {seat} {lock} x {ops} {site}\nlock {seat} {lock}\n")?;
-    trace.push_str(&lines)
-}
-
-/// A seat takes one lock, then another, and lets both go.
-fn put_round(
-    trace: &mut String,
-    alloc: Global,
-    seat: u16,
-    first: u16,
-    second: u16,
-) -> Result<(), AllocError> {
-    put_acquisition(trace, alloc, seat, first)?;
-    put_acquisition(trace, alloc, seat, second)?;
-    let lines = format!(in alloc; "unlock {seat} {second} x\nunlock {seat} {first} x\n")?;
-    trace.push_str(&lines)
-}
+use wit_model::View;
+use wit_trace::BAD_TRACE;
 
 /// The report where a lock is asked for behind another, after each lock between was taken behind the one
 /// before it.
@@ -90,6 +42,14 @@ fn put_seats(trace: &mut String, alloc: Global) -> Result<(), AllocError> {
         trace.push_str(&line)?;
     }
     Ok(())
+}
+
+/// Whether a replay of this trace writes this output, and has this exit status.
+fn agrees(alloc: Global, trace: &[u8], output: &[u8], status: u8) -> bool {
+    let mut reader = trace;
+    let mut written = Vec::new(alloc);
+    let outcome = replayed(alloc, &mut reader, &mut written, View::Reports);
+    written.as_slice() == output && status_is(&outcome, status)
 }
 
 #[test]

@@ -1,0 +1,135 @@
+//! Traces that more than one file replays, and how they are replayed.
+
+use std::alloc::{AllocError, Global};
+use std::io::{BufRead, Write};
+use wit_model::View;
+use wit_trace::{Failures, ReplayError, Summary, replay, replay_through, status_of};
+
+pub const HEADER: &str = "witness-trace 1 seats 2 types 8 locks 16 chunks 4\n";
+
+/// Two mutexes that one seat takes in one order, and another seat asks for in the other.
+pub const BOTH_ORDERS: &str = r#"init 1 mtx - "a" "A"
+init 1 mtx - "b" "B"
+check 1 1 x n f:1
+lock 1 1
+check 1 2 x n f:2
+lock 1 2
+unlock 1 2 x
+unlock 1 1 x
+check 2 2 x n f:3
+lock 2 2
+check 2 1 x n f:4
+"#;
+
+pub const BOTH_ORDERS_REPORT: &str = r#"lock order reversal:
+ 1st "b" (B, sleep mutex) @ f:3
+ 2nd "a" (A, sleep mutex) @ f:4
+established order:
+ "A" -> "B" @ f:2
+"#;
+
+/// A replay whose promise no test carries along.
+pub fn replayed<R: BufRead, W: Write>(
+    alloc: Global,
+    input: &mut R,
+    output: &mut W,
+    view: View,
+) -> Result<Summary, ReplayError> {
+    replay(alloc, input, output, view)
+}
+
+/// How a replay ended, and the evidence that it left of a failure.
+#[derive(Drop)]
+pub struct Ended {
+    pub outcome: Result<Summary, ReplayError>,
+    pub read_failed: bool,
+    pub write_failed: bool,
+}
+
+impl Ended {
+    /// Whether it ended well, or at a bad line, and blames neither end.
+    pub fn is_sound(&self) -> bool {
+        self.outcome.is_ok() && !self.read_failed && !self.write_failed
+    }
+
+    /// Whether the reader failed, and is blamed alone.
+    pub fn blames_reader(&self) -> bool {
+        matches!(self.outcome, Err(ReplayError::Read)) && self.read_failed && !self.write_failed
+    }
+
+    /// Whether the writer failed, and is blamed alone.
+    pub fn blames_writer(&self) -> bool {
+        matches!(self.outcome, Err(ReplayError::Write)) && self.write_failed && !self.read_failed
+    }
+}
+
+/// A replay as `replayed`, through ports that are asked for their evidence.
+pub fn replayed_through<R: BufRead, W: Write>(
+    alloc: Global,
+    input: &mut R,
+    output: &mut W,
+    view: View,
+) -> Ended {
+    let mut ports = Failures::new();
+    let outcome = replay_through(alloc, &mut ports, input, output, view);
+    Ended {
+        outcome,
+        read_failed: ports.has_read_failed(),
+        write_failed: ports.has_write_failed(),
+    }
+}
+
+/// Whether the exit status of a replay of the reports is this one.
+pub fn status_is(outcome: &Result<Summary, ReplayError>, status: u8) -> bool {
+    status_of(View::Reports, outcome) == status
+}
+
+/// A letter and a number, and behind them so many `x` that the word has `len` bytes.
+pub fn word(alloc: Global, letter: char, number: u16, len: usize) -> Result<String, AllocError> {
+    let mut word = format!(in alloc; "{letter}{number}")?;
+    for _ in word.len()..len {
+        word.push('x')?;
+    }
+    Ok(word)
+}
+
+/// The place of each acquisition of a lock, with a file name of 255 bytes.
+pub fn site(alloc: Global, lock: u16) -> Result<String, AllocError> {
+    let file = word(alloc, 'f', lock, 255)?;
+    format!(in alloc; "{file}:{lock}")
+}
+
+/// A lock with a name of 63 bytes, and its type with another.
+pub fn put_lock(trace: &mut String, alloc: Global, seat: u16, lock: u16) -> Result<(), AllocError> {
+    let name = word(alloc, 'l', lock, 63)?;
+    let of_type = word(alloc, 't', lock, 63)?;
+    let line = format!(in alloc; "init {seat} mtx d \"{name}\" \"{of_type}\"\n")?;
+    trace.push_str(&line)
+}
+
+/// A check of a lock and its note.
+pub fn put_acquisition(
+    trace: &mut String,
+    alloc: Global,
+    seat: u16,
+    lock: u16,
+) -> Result<(), AllocError> {
+    let ops = ["n", "nd", "nf", "ndf"][usize::from(lock % 4)];
+    let site = site(alloc, lock)?;
+    let lines = format!(in alloc; "check {seat} {lock} x {ops} {site}\nlock {seat} {lock}\n")?;
+    trace.push_str(&lines)
+}
+
+/// A seat takes one lock, then another, and lets both go.
+pub fn put_round(
+    trace: &mut String,
+    alloc: Global,
+    seat: u16,
+    first: u16,
+    second: u16,
+) -> Result<(), AllocError> {
+    put_acquisition(trace, alloc, seat, first)?;
+    put_acquisition(trace, alloc, seat, second)?;
+    let lines = format!(in alloc; "unlock {seat} {second} x\nunlock {seat} {first} x\n")?;
+    trace.push_str(&lines)
+}
