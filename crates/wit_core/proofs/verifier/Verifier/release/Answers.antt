@@ -18,18 +18,20 @@ release-requires-clause-once c = once-now c.self.inside c.self.invariant c.args.
 pub returns-in_err-release : goal.returns-in_err-release
 returns-in_err-release c =
     let p = err_from_is_err_and c.from_residual.result c.from_residual.ensures.1 in
-    rw (p.1, p.2)
-    (release-told c.self.inside c.self.invariant c.args.self.now c.self.view_is c.args.seat.0 c.args.lock c.is_spin-spin.result (c.is_spin-spin.ensures ∙ ap is_spin c.class_of_lock.ensures)
-    c.requires.admitted c.args.mode c.watch-watch.result c.watch-watch.ensures c.release.result c.release.ensures.result
-    ∙ ap release_reply c.in_err-release.was,
-    c.self.view_is)
+    rw (p.1, p.2) (
+      release-told c.self.inside c.self.invariant c.args.self.now c.self.view_is c.args.seat.0 c.args.lock c.is_spin-spin.result (c.is_spin-spin.ensures ∙ ap is_spin c.class_of_lock.ensures)
+          c.requires.admitted c.args.mode c.watch-watch.result c.watch-watch.ensures c.release.result c.release.ensures.result
+          ∙ ap release_reply c.in_err-release.was,
+      c.self.view_is,
+    )
 
 pub returns-then-not-branch : goal.returns-then-not-branch
-returns-then-not-branch c =
-    (release-told c.self.inside c.self.invariant c.args.self.now c.self.view_is c.args.seat.0 c.args.lock c.is_spin-spin.result (c.is_spin-spin.ensures ∙ ap is_spin c.class_of_lock.ensures)
-    c.requires.admitted c.args.mode c.watch-watch.result c.watch-watch.ensures c.release.result c.release.ensures.result
-    ∙ ap release_reply (c.in_ok-release.was ∙ ap Ok c.if-not-branch.true),
-    c.self.view_is)
+returns-then-not-branch c = (
+  release-told c.self.inside c.self.invariant c.args.self.now c.self.view_is c.args.seat.0 c.args.lock c.is_spin-spin.result (c.is_spin-spin.ensures ∙ ap is_spin c.class_of_lock.ensures)
+      c.requires.admitted c.args.mode c.watch-watch.result c.watch-watch.ensures c.release.result c.release.ensures.result
+      ∙ ap release_reply (c.in_ok-release.was ∙ ap Ok c.if-not-branch.true),
+  c.self.view_is,
+)
 
 pub push_owed-requires : goal.push_owed-requires
 push_owed-requires c = unlock_owed c.self.inside c.self.invariant c.args.self.now c.self.view_is c.args.seat.0 c.args.lock c.is_spin-spin.result (c.is_spin-spin.ensures ∙ ap is_spin c.class_of_lock.ensures) c.args.mode
@@ -48,8 +50,9 @@ invariant_of-self-2 c =
     (accepted c.self.inside c.self.invariant c.args.self.now c.self.view_is c.args.seat.0 (Unlock c.args.lock c.args.mode) Unlocked ok)
 
 pub returns : goal.returns
-returns c =
-    (release-told c.self.inside c.self.invariant c.args.self.now c.self.view_is c.args.seat.0 c.args.lock c.is_spin-spin.result (c.is_spin-spin.ensures ∙ ap is_spin c.class_of_lock.ensures)
-    c.requires.admitted c.args.mode c.watch-watch.result c.watch-watch.ensures c.release.result c.release.ensures.result
-    ∙ ap release_reply (c.in_ok-release.was ∙ ap Ok c.if-not-branch.false),
-    rw c.push_owed.ensures (ap (λ (s : Story). logged s c.args.seat.0 (Unlock c.args.lock c.args.mode) Unlocked) c.self.view_is))
+returns c = (
+  release-told c.self.inside c.self.invariant c.args.self.now c.self.view_is c.args.seat.0 c.args.lock c.is_spin-spin.result (c.is_spin-spin.ensures ∙ ap is_spin c.class_of_lock.ensures)
+      c.requires.admitted c.args.mode c.watch-watch.result c.watch-watch.ensures c.release.result c.release.ensures.result
+      ∙ ap release_reply (c.in_ok-release.was ∙ ap Ok c.if-not-branch.false),
+  rw c.push_owed.ensures (ap (λ (s : Story). logged s c.args.seat.0 (Unlock c.args.lock c.args.mode) Unlocked) c.self.view_is),
+)
