@@ -29,23 +29,36 @@ function repeated(text,    letter, times, bytes) {
 function marked(text) {
     gsub(/[|]/, "\n", text)
     gsub(/\^/, "\t", text)
-    return repeated(text)
+    return repeated(bytes_of(text))
 }
 
-# The bytes of a word: '' is one without any, and \xFF is one byte.
-function word_of(text,    at, byte, bytes) {
+# The bytes of a word: '' is one without any.
+function word_of(text) {
     if (text == "\047\047") return ""
+    if (text ~ /\\x00/) malformed(FNR, "no word has such a byte")
+    return repeated(bytes_of(text))
+}
+
+# `\xFF` is one byte.
+function bytes_of(text,    at, byte, bytes) {
     while ((at = index(text, "\\x")) > 0) {
-        byte = digit(substr(text, at + 2, 1)) * 16 + digit(substr(text, at + 3, 1))
-        if (byte < 1) malformed(FNR, "a byte is written otherwise")
+        byte = byte_at(text, at + 2)
+        if (byte < 0) malformed(FNR, "a byte is written otherwise")
         bytes = bytes substr(text, 1, at - 1) sprintf("%c", byte)
         text = substr(text, at + 4)
     }
-    return repeated(bytes text)
+    return bytes text
+}
+
+# The byte that two digits name, or a number below 0.
+function byte_at(text, at,    high, low) {
+    high = digit(substr(text, at, 1))
+    low = digit(substr(text, at + 1, 1))
+    return high < 0 || low < 0 ? -1 : high * 16 + low
 }
 
 function digit(letter) {
-    return index("0123456789ABCDEF", letter) - 1
+    return letter == "" ? -1 : index("0123456789ABCDEF", letter) - 1
 }
 
 # The words of a command, of which some name streams as they do in a shell.
@@ -90,7 +103,15 @@ function write_case(line, of_trace, of_output,    path) {
     print number, status, input, output, errors, name ":" line ": " heading
 }
 
-function write_row(line, row,    at) {
+# Writes a row as a case, or as one for each byte of the range that it has.
+function write_row(line, row,    at, byte, last) {
+    if (match(row, /\\x[0-9A-F][0-9A-F]-[0-9A-F][0-9A-F]/)) {
+        at = RSTART
+        last = byte_at(row, at + 5)
+        for (byte = byte_at(row, at + 2); byte <= last; byte++)
+            write_row(line, substr(row, 1, at - 1) sprintf("\\x%02X", byte) substr(row, at + 7))
+        return
+    }
     at = index(row, " => ")
     if (at == 0) malformed(line, "a row without ' => '")
     else write_case(line, marked(substr(row, 1, at - 1)), marked(substr(row, at + 4)) "\n")

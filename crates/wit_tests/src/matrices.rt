@@ -167,11 +167,3 @@ fn steps_of_matrices(rt: HostRuntime) -> Result<(), Fail> {
     }
     Ok(())
 }
-
-// That what is compared above can differ.
-#[test]
-fn unequal(rt: HostRuntime) -> Result<(), Fail> {
-    assert!(rt; TypeNo(1) != TypeNo(2));
-    assert!(rt; Fault::OutOfMemory != Fault::BadName);
-    Ok(())
-}

@@ -6,7 +6,7 @@ use crate::traces::{
 };
 use std::alloc::{AllocError, Global};
 use std::test::Fail;
-use wit_model::{Cause, Fault, View};
+use wit_model::{Cause, View};
 use wit_trace::{BAD_TRACE, FAILED, NOTHING_REPORTED, REPORTED, ReplayError, Summary};
 
 /// Three mutexes whose order is learnt in two steps, and the last and the first in the other order.
@@ -293,31 +293,4 @@ fn statuses(rt: HostRuntime) -> Result<(), Fail> {
         (0, 1, 3, 4)
     );
     Ok(())
-}
-
-// The tests rest on these being told apart.
-#[test]
-fn unequal(rt: HostRuntime) {
-    assert!(rt; Cause::Cut != Cause::Syntax);
-    assert!(rt; Cause::Fault(Fault::Pending) != Cause::Fault(Fault::LogFull));
-    let summary = Summary {
-        calls: 1,
-        reports: 0,
-        circle: false,
-        bad: None,
-    };
-    assert!(rt;
-        summary
-            != Summary {
-                calls: 2,
-                ..summary
-            }
-    );
-    assert!(rt;
-        summary
-            != Summary {
-                bad: Some((1, Cause::Cut)),
-                ..summary
-            }
-    );
 }

@@ -86,11 +86,8 @@ pub fn status_is(outcome: &Result<Summary, ReplayError>, status: u8) -> bool {
 
 /// A letter and a number, and behind them so many `x` that the word has `len` bytes.
 pub fn word(alloc: Global, letter: char, number: u16, len: usize) -> Result<String, AllocError> {
-    let mut word = format!(in alloc; "{letter}{number}")?;
-    for _ in word.len()..len {
-        word.push('x')?;
-    }
-    Ok(word)
+    let width = len.saturating_sub(1);
+    format!(in alloc; "{letter}{number:x<width$}")
 }
 
 /// The place of each acquisition of a lock, with a file name of 255 bytes.

@@ -1,7 +1,0 @@
-use Rattle.std.proofs.Common.{arith}
-use Rattle.wit_model.specs.Rules.Chunks.{chain_of}
-use Rattle.wit_held.proofs.Recording.{stands-short}
-use Rattle.wit_tests.proofs.chains.turn.Goals as goal
-
-pub set_mode-requires-clause-once : goal.set_mode-requires-clause-once
-set_mode-requires-clause-once c = stands-short c.args.lock.0 (chain_of c.args.lists.now c.args.list) (omega (arith, c.len.ensures.value, c.if-len-le1.true))
