@@ -1,5 +1,5 @@
 -- What a release is answered, by the seats' one look for the lock.
-use Rattle.std.proofs.Common.{◌≡◌, ℕ, Bool, true, Result, find, sym, ap, ◌∙◌}
+use Rattle.std.proofs.Common.{◌≡◌, ℕ, Bool, Result, find, sym, ap, ◌∙◌}
 use Rattle.wit_model.specs.declared.locks.LockNo.{LockNo}
 use Rattle.wit_model.specs.declared.locks.Mode.{Mode}
 use Rattle.wit_model.specs.declared.locks.Watch.{Watch}

@@ -1,5 +1,5 @@
 -- The answers of calls as replies.
-use Rattle.std.specs.Prelude.{ℕ, ◌≡◌, Bool, not, ◌&&◌, List, Option, Result, Ok, Err, if◌then◌else◌}
+use Rattle.std.specs.Prelude.{ℕ, ◌≡◌, not, ◌&&◌, List, Option, Result, Ok, Err, if◌then◌else◌}
 use Rattle.wit_model.specs.declared.faults.Fault.{Fault}
 use Rattle.wit_model.specs.declared.faults.Fault.TheVariants.{UnknownSeat, UnknownLock, UnknownFile, ModeNotAllowed, Pending, RecursionTooDeep, NotRequested}
 use Rattle.wit_model.specs.declared.flags.LockFlags.{LockFlags}
@@ -9,7 +9,7 @@ use Rattle.wit_model.specs.declared.locks.Mode.{Mode}
 use Rattle.wit_model.specs.declared.locks.Site.{Site}
 use Rattle.wit_model.specs.declared.calls.NewLock.{NewLock}
 use Rattle.wit_model.specs.declared.calls.Reply.{Reply}
-use Rattle.wit_model.specs.declared.calls.Reply.TheVariants.{Made, Unlocked, Ignored}
+use Rattle.wit_model.specs.declared.calls.Reply.TheVariants.{Made}
 use Rattle.wit_model.specs.Rules.Locks.{lock_at}
 use Rattle.wit_model.specs.Rules.Numbers.{is_number}
 use Rattle.wit_model.specs.Rules.State.{State, seat_at, is_seat, is_live}

@@ -1,5 +1,5 @@
 -- For every view there is something to write of every trace.
-use Rattle.std.specs.Prelude.{◌≡◌, Bool, false, ℕ, List, [], ◌++◌, Option, None, Some, is_some, refl}
+use Rattle.std.specs.Prelude.{Bool, false, ℕ, List, [], ◌++◌, is_some, refl}
 use Rattle.wit_model.specs.declared.lines.View.{View}
 use Rattle.wit_model.specs.declared.lines.View.TheVariants.{Reports, Graph, Locks, Circle}
 use Rattle.wit_model.specs.Rules.State.{Story, state_of}

@@ -1,4 +1,4 @@
-use Rattle.std.proofs.Common.{ap, ap₂, sym, subst, map, length, ◌≡◌, ◌<◌, ◌∷◌, [], ◌++◌, ◌+◌, refl, ◌∙◌, true, length-append, arith}
+use Rattle.std.proofs.Common.{ap, ap₂, sym, subst, map, length, ◌≡◌, ◌<◌, ◌∷◌, [], ◌++◌, ◌+◌, refl, ◌∙◌, true, length-append}
 use Rattle.std.proofs.lemmas.List.{map-append}
 use Rattle.wit_model.specs.declared.locks.Lock.{Lock}
 use Rattle.wit_table.specs.Known.{Names}

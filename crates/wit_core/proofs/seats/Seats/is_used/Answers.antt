@@ -1,4 +1,4 @@
-use Rattle.std.proofs.Common.{◌+◌, ◌<◌, length, ap, ◌∙◌, arith}
+use Rattle.std.proofs.Common.{ap, ◌∙◌, arith}
 use Rattle.wit_model.specs.Rules.Destroying.{uses}
 use Rattle.wit_core.specs.Held.{seat_view}
 use Rattle.wit_core.specs.Seats.{Seat}
