@@ -1,5 +1,5 @@
 -- What an accepted verdict says: the request passes, an order is learnt, a type is held twice, or a held lock violates an order.
-use Rattle.std.proofs.Common.{◌≡◌, Bool, true, false, not, ◌&&◌, cond, List, [], ◌∷◌, Option, None, Some, Result, Ok, Err, is_some, find, reverse, refl, sym, ◌⊎◌, inl, inr}
+use Rattle.std.proofs.Common.{◌≡◌, Bool, true, false, not, ◌&&◌, List, [], ◌∷◌, Option, None, Some, Ok, Err, is_some, find, reverse, refl, sym}
 use Rattle.std.specs.List.{last_or}
 use Rattle.std.specs.Option.{option_map}
 use Rattle.wit_model.specs.declared.faults.Fault.TheVariants.{SleepUnderSpin}
@@ -12,7 +12,7 @@ use Rattle.wit_model.specs.Rules.Locks.{has_flag}
 use Rattle.wit_model.specs.Rules.Orders.{is_direct}
 use Rattle.wit_model.specs.Rules.History.{is_on}
 use Rattle.wit_model.specs.Rules.Types.{is_spin, class_of}
-use Rattle.wit_model.specs.Rules.Verdict.{Basis, is_exclusive, is_of, type_held, has_type_of, again, doubled, violates, reported, is_learnt, when, decided, doubles, follows, breaks_order, teaches, holds_it, holds_nothing, sleeps_under_spin, rules, chain_asked, ruling}
+use Rattle.wit_model.specs.Rules.Verdict.{Basis, is_exclusive, is_of, type_held, has_type_of, again, doubled, violates, reported, is_learnt, when, decided, doubles, follows, breaks_order, teaches, holds_it, holds_nothing, sleeps_under_spin, chain_asked, ruling}
 use Rattle.wit_model.proofs.Histories.Accepted.{passed, same_reply}
 
 -- the lock is asked for behind another one

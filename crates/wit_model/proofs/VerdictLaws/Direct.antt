@@ -1,8 +1,8 @@
 -- A request behind the last held lock by a direct order is judged to pass.
-use Rattle.std.proofs.Common.{◌≡◌, ℕ, Bool, true, false, not, ◌&&◌, eqb, is_some, List, [], ◌∷◌, map, find, Option, None, Some, Ok, Err, refl, ap, ap₂, sym, ◌∙◌, subst}
+use Rattle.std.proofs.Common.{◌≡◌, ℕ, Bool, true, false, not, ◌&&◌, is_some, List, [], ◌∷◌, map, find, Option, None, Some, Ok, Err, refl, ap, sym, ◌∙◌, subst}
 use Rattle.std.specs.List.{last_or}
 use Rattle.std.specs.Option.{option_map}
-use Rattle.std.proofs.lemmas.Bool.{and_left, and_right, false_from_ne_true, eqb-true}
+use Rattle.std.proofs.lemmas.Bool.{false_from_ne_true, eqb-true}
 use Rattle.wit_model.specs.declared.faults.Fault.TheVariants.{SleepUnderSpin}
 use Rattle.wit_model.specs.declared.locks.TypeNo.{TypeNo}
 use Rattle.wit_model.specs.declared.locks.Watch.{Watch}

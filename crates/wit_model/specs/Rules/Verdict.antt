@@ -17,7 +17,6 @@ use Rattle.wit_model.specs.declared.calls.Heading.{Heading}
 use Rattle.wit_model.specs.declared.calls.Heading.TheVariants as heading
 use Rattle.wit_model.specs.declared.calls.LockAt.{LockAt}
 use Rattle.wit_model.specs.declared.calls.Conflict.{Conflict}
-use Rattle.wit_model.specs.declared.calls.Doubling.{Doubling}
 use Rattle.wit_model.specs.declared.calls.Reply.{Reply}
 use Rattle.wit_model.specs.declared.calls.Reply.TheVariants.{Pass, Adopted, Silent, Duplicate, Reversal}
 use Rattle.wit_model.specs.declared.calls.Request.{Request}

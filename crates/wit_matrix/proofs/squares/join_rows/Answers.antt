@@ -1,7 +1,7 @@
-use Rattle.std.proofs.Common.{◌≡◌, true, not, ◌+◌, sym, ◌∙◌, subst, arith}
-use Rattle.std.proofs.lemmas.Bool.{and_parts, true≢false}
+use Rattle.std.proofs.Common.{not, ◌+◌, sym, ◌∙◌, subst, arith}
+use Rattle.std.proofs.lemmas.Bool.{and_parts}
 use Rattle.wit_matrix.specs.Squares.{IsSquare, has, reaches}
-use Rattle.wit_matrix.proofs.Joins.{RowsBelow, rows_start, rows_until, rows_more, rows_left, rows_end}
+use Rattle.wit_matrix.proofs.Joins.{RowsBelow, rows_until, rows_more, rows_left, rows_end}
 use Rattle.wit_matrix.proofs.squares.join_rows.Goals.{then-is_to_join, else-is_to_join}
 use Rattle.wit_matrix.proofs.squares.join_rows.Goals as goal
 use Rattle.wit_model.specs.Rules.Numbers.{IsNumber}

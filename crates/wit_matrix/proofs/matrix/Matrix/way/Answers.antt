@@ -1,7 +1,7 @@
 use Rattle.std.proofs.Common.{◌≡◌, ap, sym, arith}
 use Rattle.std.proofs.lemmas.Bool.{eq-eqb, ne_eqb}
 use Rattle.wit_matrix.specs.Relation.{Relation}
-use Rattle.wit_matrix.proofs.Ways.{way_ends, way_lost, way_on, way_over}
+use Rattle.wit_matrix.proofs.Ways.{way_ends, way_lost, way_on}
 use Rattle.wit_matrix.proofs.matrix.Matrix.way.Goals as goal
 
 pub returns-then-at-to : goal.returns-then-at-to

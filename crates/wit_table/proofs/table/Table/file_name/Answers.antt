@@ -1,6 +1,5 @@
-use Rattle.std.proofs.Common.{◌≡◌, ℕ, List, true, ◌∙◌}
+use Rattle.std.proofs.Common.{◌≡◌, ℕ, List, true}
 use Rattle.wit_model.specs.Rules.Names.{is_file_name}
-use Rattle.wit_model.proofs.Numbered.{with_number-at}
 use Rattle.wit_table.specs.Rows.{texts}
 use Rattle.wit_table.proofs.Places.{file_number-at, All-at}
 use Rattle.wit_table.proofs.table.Table.file_name.Goals as goal

@@ -2,7 +2,7 @@ use Rattle.std.proofs.Common.{◌≡◌, true, ap, ◌∙◌}
 use Rattle.wit_model.specs.declared.locks.LockType.{LockType}
 use Rattle.wit_model.specs.Rules.Names.{is_name}
 use Rattle.wit_table.specs.Rows.{types_in}
-use Rattle.wit_table.proofs.Places.{type_number-HasName, name-numbered, All-at}
+use Rattle.wit_table.proofs.Places.{type_number-HasName, All-at}
 use Rattle.wit_table.proofs.table.Table.name_of.Goals as goal
 
 pub returns-clause-number : goal.returns-clause-number
