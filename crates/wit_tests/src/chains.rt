@@ -1,8 +1,6 @@
 //! A lock acquired twice and let go twice, and lists that find no memory. What seats hold behind their calls is told by the cases of
 //! `tests/`.
 
-ghost use Rattle.std.specs.Prelude.{◌≡◌};
-
 use linked_list_allocator::LocalHeap;
 use std::test::Fail;
 use wit_held::{VecLists, forget, record, recursion};

@@ -1,7 +1,5 @@
 //! Names that a table refuses, and a table that is full.
 
-ghost use Rattle.std.specs.Prelude.{◌≡◌};
-
 use std::test::Fail;
 use wit_model::{Class, Fault, FileNo, TypeNo};
 use wit_table::Table;
