@@ -75,16 +75,33 @@ function command(text,    count, at, parts) {
     }
 }
 
-# A text by its name, as often as `, N times` behind the name says.
-function named(text,    times, bytes) {
-    times = 1
-    if (match(text, /, [0-9]+ times$/)) {
-        times = substr(text, RSTART + 2, RLENGTH - 8) + 0
-        text = substr(text, 1, RSTART - 1)
+# A text by its name; `, 1 to 9` behind the name says for which numbers.
+function named(text,    at, bounds) {
+    if (match(text, /, [0-9]+ to [0-9]+$/)) {
+        at = RSTART
+        split(substr(text, at + 2), bounds, " to ")
+        text = substr(text, 1, at - 1)
     }
     if (!(text in texts)) malformed(FNR, "no text is named so")
-    for (; times > 0; times--) bytes = bytes texts[text]
-    return bytes
+    else if (at == 0) return texts[text]
+    else return counted(texts[text], bounds[1] + 0, bounds[2] + 0)
+}
+
+# A text once for each number from the first to the last. What halves come to is joined, so that few long texts are copied.
+function counted(text, first, last,    middle) {
+    if (first > last) return ""
+    if (first == last) return repeated(numbered(text, first))
+    middle = int((first + last) / 2)
+    return counted(text, first, middle) counted(text, middle + 1, last)
+}
+
+# `{n}` stands for the number, and `{n+9}` for the one that is nine above. (`gsub` would remember each number in a list.)
+function numbered(text, number,    above) {
+    while (match(text, /[{]n([+][0-9]+)?[}]/)) {
+        above = substr(text, RSTART + 2, RLENGTH - 3) + number
+        text = substr(text, 1, RSTART - 1) above substr(text, RSTART + RLENGTH)
+    }
+    return text
 }
 
 function save(bytes, file) {

@@ -12,8 +12,6 @@ mod fakes;
 #[cfg(test)]
 mod flushes;
 #[cfg(test)]
-mod limits;
-#[cfg(test)]
 mod lines;
 #[cfg(test)]
 mod matrices;

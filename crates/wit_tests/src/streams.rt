@@ -1,7 +1,7 @@
 //! Replays of streams of which few bytes, or thousands, are shown and taken at a time.
 
 use crate::fakes::{Drip, Funnel};
-use crate::traces::{HEADER, put_acquisition, put_lock, replayed, replayed_through, word};
+use crate::traces::{HEADER, replayed, replayed_through};
 use std::alloc::{AllocError, Global};
 use std::test::Fail;
 use wit_model::{Cause, View};
@@ -64,6 +64,12 @@ fn reads_memory(rt: HostRuntime) -> Result<(), Fail> {
     Ok(())
 }
 
+/// A letter and a number, and behind them so many `x` that the word has `len` bytes.
+fn word(alloc: Global, letter: char, number: u16, len: usize) -> Result<String, AllocError> {
+    let width = len.saturating_sub(1);
+    format!(in alloc; "{letter}{number:x<width$}")
+}
+
 /// Room for a list as long as a line can be, and for twenty locks.
 const WIDE: &str = "witness-trace 1 seats 1 types 128 locks 20 chunks 4\n";
 
@@ -118,13 +124,23 @@ fn long_lines(rt: HostRuntime) -> Result<(), Fail> {
     Ok(())
 }
 
+/// Seat 1 makes a lock and takes it, with names as long as they can be.
+fn put_held(trace: &mut String, alloc: Global, lock: u16) -> Result<(), AllocError> {
+    let name = word(alloc, 'l', lock, 63)?;
+    let of_type = word(alloc, 't', lock, 63)?;
+    let file = word(alloc, 'f', lock, 255)?;
+    let made = format!(in alloc; "init 1 mtx d \"{name}\" \"{of_type}\"\n")?;
+    trace.push_str(&made)?;
+    let taken = format!(in alloc; "check 1 {lock} x n {file}:{lock}\nlock 1 {lock}\n")?;
+    trace.push_str(&taken)
+}
+
 /// More than 8,193 bytes, of which as many are written: a seat that takes twenty locks with names as long as they can be, and is
 /// warned of them. At the end stands a line of every byte but a line feed, 16 times over.
 fn long_trace(alloc: Global) -> Result<Vec<u8>, AllocError> {
     let mut trace = String::from_str(alloc, WIDE)?;
     for lock in 1..21 {
-        put_lock(&mut trace, alloc, 1, lock)?;
-        put_acquisition(&mut trace, alloc, 1, lock)?;
+        put_held(&mut trace, alloc, lock)?;
     }
     trace.push_str("warn 1 0 -\n")?;
     let mut bytes = trace.into_bytes();

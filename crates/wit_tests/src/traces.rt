@@ -1,6 +1,6 @@
 //! Traces that more than one file replays, and how they are replayed.
 
-use std::alloc::{AllocError, Global};
+use std::alloc::Global;
 use std::io::{BufRead, Write};
 use wit_model::View;
 use wit_trace::{Failures, ReplayError, Summary, replay, replay_through, status_of};
@@ -42,7 +42,9 @@ pub fn replayed<R: BufRead, W: Write>(
 #[derive(Drop)]
 pub struct Ended {
     pub outcome: Result<Summary, ReplayError>,
+    /// Whether there is evidence that the reader failed.
     pub read_failed: bool,
+    /// Whether there is evidence that the writer failed.
     pub write_failed: bool,
 }
 
@@ -82,51 +84,4 @@ pub fn replayed_through<R: BufRead, W: Write>(
 /// Whether the exit status of a replay of the reports is this one.
 pub fn status_is(outcome: &Result<Summary, ReplayError>, status: u8) -> bool {
     status_of(View::Reports, outcome) == status
-}
-
-/// A letter and a number, and behind them so many `x` that the word has `len` bytes.
-pub fn word(alloc: Global, letter: char, number: u16, len: usize) -> Result<String, AllocError> {
-    let width = len.saturating_sub(1);
-    format!(in alloc; "{letter}{number:x<width$}")
-}
-
-/// The place of each acquisition of a lock, with a file name of 255 bytes.
-pub fn site(alloc: Global, lock: u16) -> Result<String, AllocError> {
-    let file = word(alloc, 'f', lock, 255)?;
-    format!(in alloc; "{file}:{lock}")
-}
-
-/// A lock with a name of 63 bytes, and its type with another.
-pub fn put_lock(trace: &mut String, alloc: Global, seat: u16, lock: u16) -> Result<(), AllocError> {
-    let name = word(alloc, 'l', lock, 63)?;
-    let of_type = word(alloc, 't', lock, 63)?;
-    let line = format!(in alloc; "init {seat} mtx d \"{name}\" \"{of_type}\"\n")?;
-    trace.push_str(&line)
-}
-
-/// A check of a lock and its note.
-pub fn put_acquisition(
-    trace: &mut String,
-    alloc: Global,
-    seat: u16,
-    lock: u16,
-) -> Result<(), AllocError> {
-    let ops = ["n", "nd", "nf", "ndf"][usize::from(lock % 4)];
-    let site = site(alloc, lock)?;
-    let lines = format!(in alloc; "check {seat} {lock} x {ops} {site}\nlock {seat} {lock}\n")?;
-    trace.push_str(&lines)
-}
-
-/// A seat takes one lock, then another, and lets both go.
-pub fn put_round(
-    trace: &mut String,
-    alloc: Global,
-    seat: u16,
-    first: u16,
-    second: u16,
-) -> Result<(), AllocError> {
-    put_acquisition(trace, alloc, seat, first)?;
-    put_acquisition(trace, alloc, seat, second)?;
-    let lines = format!(in alloc; "unlock {seat} {second} x\nunlock {seat} {first} x\n")?;
-    trace.push_str(&lines)
 }
