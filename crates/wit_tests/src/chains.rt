@@ -48,22 +48,29 @@ fn oldest(lists: &VecLists, list: u16) -> Option<Instance> {
     Some(lists.at(list, 0))
 }
 
+/// Whether a list that acquires a lock holds its oldest one so.
+fn acquires(lists: &mut VecLists, list: u16, taken: Instance, then: Instance) -> bool {
+    acquire(lists, list, taken) && oldest(lists, list) == Some(then)
+}
+
+/// Whether a list that lets a lock go holds its oldest one so.
+fn releases(lists: &mut VecLists, list: u16, lock: u32, then: Option<Instance>) -> bool {
+    release(lists, list, LockNo(lock));
+    oldest(lists, list) == then
+}
+
 #[test]
 fn acquired_twice(rt: HostRuntime) -> Result<(), Fail> {
     let mut lists = VecLists::new(rt.alloc(), 1, 1)?;
     let first = held(7);
-    let mut twice = first;
+    let mut again = first;
+    again.site.line = 9;
+    let mut twice = again;
     twice.count = 1;
-    twice.site.line = 9;
-    let mut again = twice;
-    again.count = 0;
-    for (taken, then) in [(first, first), (again, twice)] {
-        assert!(rt; acquire(&mut lists, 1, taken));
-        assert_eq!(rt; oldest(&lists, 1), Some(then));
-    }
+    assert!(rt; acquires(&mut lists, 1, first, first));
+    assert!(rt; acquires(&mut lists, 1, again, twice));
     for (lock, then) in [(8, Some(twice)), (7, Some(again)), (7, None)] {
-        release(&mut lists, 1, LockNo(lock));
-        assert_eq!(rt; oldest(&lists, 1), then);
+        assert!(rt; releases(&mut lists, 1, lock, then));
     }
     Ok(())
 }

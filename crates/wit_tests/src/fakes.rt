@@ -8,9 +8,13 @@ use std::io::{BufRead, ErrorKind, Read, Write};
 /// Shows a few bytes at each look, and fails at one.
 #[derive(Drop)]
 pub struct Drip<'a> {
+    /// What hasn't been taken yet.
     pub rest: &'a [u8],
+    /// How many bytes a look shows at most.
     pub step: usize,
+    /// How often it was looked at.
     pub looks: usize,
+    /// The look that fails, counted from 1.
     pub fails_at: Option<usize>,
 }
 
@@ -49,14 +53,20 @@ impl BufRead for Drip<'_> {
 /// Takes a few bytes at each write, and fails or takes none at one.
 #[derive(Drop)]
 pub struct Funnel {
+    /// What was taken.
     pub bytes: Vec<u8>,
+    /// How many bytes a write takes at most.
     pub step: usize,
+    /// How often it was written to.
     pub writes: usize,
+    /// The write that fails, counted from 1.
     pub fails_at: Option<usize>,
+    /// The write that takes no byte, counted from 1.
     pub blocks_at: Option<usize>,
 }
 
 impl Funnel {
+    /// Takes so many bytes at each write.
     pub fn new(alloc: Global, step: usize) -> Funnel {
         Funnel {
             bytes: Vec::new(alloc),
@@ -93,13 +103,15 @@ impl Write for Funnel {
 /// those that are due.
 #[derive(Drop)]
 pub struct Watched<'a> {
+    /// What hasn't been taken yet.
     pub rest: &'a [u8],
     /// How many bytes the writer has shown.
     pub seen: &'a Cell<usize>,
-    /// From here on the report is due.
+    /// The report is due from where so many bytes are left.
     pub due_from: usize,
-    /// How long it is.
+    /// How many bytes the report has.
     pub due: usize,
+    /// How many looks found other bytes shown than those due.
     pub late: usize,
 }
 
@@ -127,12 +139,16 @@ impl BufRead for Watched<'_> {
     }
 }
 
-/// Holds what is written back until it is flushed, and fails to flush once where it is asked to.
+/// Holds what is written back until it is flushed, which may fail.
 #[derive(Drop)]
 pub struct Held<'a> {
+    /// How many bytes were written.
     pub held: usize,
+    /// How many of them were flushed.
     pub seen: &'a Cell<usize>,
+    /// How often it was flushed.
     pub flushes: usize,
+    /// Whether each flush fails.
     pub fails: bool,
 }
 

@@ -76,6 +76,15 @@ fn take(verifier: &mut Verifier, seat: u16, lock: u32, line: u32) -> Result<Repl
     verifier.note(SeatNo(seat), LockNo(lock))
 }
 
+fn destroy(verifier: &mut Verifier, lock: u32) -> Result<Reply, Fault> {
+    verifier.destroy(SeatNo(1), LockNo(lock))
+}
+
+/// How many locks a type has that aren't destroyed.
+fn live(verifier: &Verifier, of_type: u16) -> Option<u32> {
+    verifier.live(TypeNo(of_type))
+}
+
 fn counts_of(verifier: &Verifier) -> Counts {
     Counts {
         history: verifier.history().len(),
@@ -90,7 +99,7 @@ fn facts_of(verifier: &Verifier, number: u16) -> Facts {
     Facts {
         lock_type: verifier.type_of(lock),
         class: verifier.class_of(TypeNo(number)),
-        live: verifier.live(TypeNo(number)),
+        live: live(verifier, number),
         lengths: (
             verifier.lock_name(lock).map(|n| n.len()),
             verifier.type_name(TypeNo(number)).map(|n| n.len()),
@@ -99,25 +108,32 @@ fn facts_of(verifier: &Verifier, number: u16) -> Facts {
     }
 }
 
-fn is_related(verifier: &Verifier, parent: u16, child: u16, bits: u8) -> bool {
-    verifier.relation(TypeNo(parent), TypeNo(child)) == Some(bits)
+/// Whether one type is related to another by these bits, and their order has this origin.
+fn is_related(
+    verifier: &Verifier,
+    (parent, child): (u16, u16),
+    bits: u8,
+    origin: Option<Origin>,
+) -> bool {
+    let (parent, child) = (TypeNo(parent), TypeNo(child));
+    verifier.relation(parent, child) == Some(bits) && verifier.origin(parent, child) == origin
 }
 
-fn origin_of(verifier: &Verifier, parent: u16, child: u16) -> Option<Origin> {
-    verifier.origin(TypeNo(parent), TypeNo(child))
+/// Whether a place of a seat's sleep locks has this lock, or none.
+fn has(verifier: &Verifier, seat: u16, place: usize, lock: Option<u32>) -> bool {
+    let held = verifier.chain_at(SeatNo(seat), false, place);
+    held.map(|h| h.lock.0) == lock
 }
 
-/// The lock at a place of a seat's sleep locks.
-fn held_at(verifier: &Verifier, seat: u16, place: usize) -> Option<LockNo> {
-    Some(verifier.chain_at(SeatNo(seat), false, place)?.lock)
+/// Whether a seat asks for this lock exclusively, or for none.
+fn asks_for(verifier: &Verifier, seat: u16, lock: Option<u32>) -> bool {
+    verifier.pending(SeatNo(seat)) == lock.map(|l| (LockNo(l), Mode::Exclusive))
 }
 
-fn asked_by(verifier: &Verifier, seat: u16) -> Option<(LockNo, Mode)> {
-    verifier.pending(SeatNo(seat))
-}
-
-fn path(verifier: &Verifier, from: u16, to: u16) -> Result<Option<Vec<TypeNo>>, Fault> {
-    verifier.path(TypeNo(from), TypeNo(to))
+/// Whether these types are the path from the first to the last.
+fn is_path(verifier: &Verifier, way: [TypeNo; 2]) -> Result<bool, Fault> {
+    let told = verifier.path(way[0], way[1])?;
+    Ok(told.is_some_and(|t| t.as_slice() == way.as_slice()))
 }
 
 // A log of five entries, of which a lock that is held needs one for its release.
@@ -146,7 +162,7 @@ pub fn asked_and_held(alloc: Global) -> Result<Verifier, Fail> {
 }
 
 #[test]
-fn locks_and_orders(rt: HostRuntime) -> Result<(), Fail> {
+fn locks_and_requests(rt: HostRuntime) -> Result<(), Fail> {
     let verifier = asked_and_held(rt.alloc())?;
     let counts = Counts {
         history: 7,
@@ -156,20 +172,20 @@ fn locks_and_orders(rt: HostRuntime) -> Result<(), Fail> {
     };
     assert_eq!(rt; counts_of(&verifier), counts);
     assert_eq!(rt; verifier.watch(), Watch::On);
-    let exclusive = Some((LockNo(1), Mode::Exclusive));
-    assert_eq!(rt; asked_by(&verifier, 2), exclusive);
-    assert_eq!(rt; asked_by(&verifier, 1), None);
-    for (place, lock) in [(0, Some(LockNo(1))), (1, Some(LockNo(2))), (2, None)] {
-        assert_eq!(rt; held_at(&verifier, 1, place), lock);
+    assert!(rt; asks_for(&verifier, 2, Some(1)) && asks_for(&verifier, 1, None));
+    for (place, lock) in [(0, Some(1)), (1, Some(2)), (2, None)] {
+        assert!(rt; has(&verifier, 1, place, lock), "at {place}");
     }
+    Ok(())
+}
+
+#[test]
+fn orders(rt: HostRuntime) -> Result<(), Fail> {
+    let verifier = asked_and_held(rt.alloc())?;
     // Parent and ancestor, child and descendant.
-    let listed = Some(Origin::Listed);
-    for (parent, child, relation, origin) in [(1, 2, 0x03, listed), (2, 1, 0x0c, None)] {
-        assert!(rt; is_related(&verifier, parent, child, relation));
-        assert_eq!(rt; origin_of(&verifier, parent, child), origin);
-    }
-    let way = path(&verifier, 1, 2)?.ok_or("path")?;
-    assert_eq!(rt; way.as_slice(), [TypeNo(1), TypeNo(2)].as_slice());
+    assert!(rt; is_related(&verifier, (1, 2), 0x03, Some(Origin::Listed)));
+    assert!(rt; is_related(&verifier, (2, 1), 0x0c, None));
+    assert!(rt; is_path(&verifier, [TypeNo(1), TypeNo(2)])?);
     Ok(())
 }
 
@@ -215,5 +231,23 @@ fn refused_starts(rt: HostRuntime) -> Result<(), Fail> {
         let told = error.map(|e| (e.list, e.fault));
         assert_eq!(rt; told, refused);
     }
+    Ok(())
+}
+
+// Names that no line of a trace can have, and a lock that is destroyed.
+#[test]
+fn names_of_locks(rt: HostRuntime) -> Result<(), Fail> {
+    let mut verifier = start(rt.alloc(), 64, ["A", "B"], ["C", "D"])??;
+    for (name, type_name, answer) in [
+        ("", None, Err(Fault::BadName)),
+        ("\"", Some("A"), Err(Fault::BadName)),
+        ("a", Some(""), Err(Fault::BadName)),
+        ("a", Some("A"), Ok(LockNo(1))),
+        ("b", Some("A"), Ok(LockNo(2))),
+    ] {
+        assert_eq!(rt; make(&mut verifier, name, type_name), answer, "of {name}");
+    }
+    destroy(&mut verifier, 1)?;
+    assert_eq!(rt; live(&verifier, 1), Some(1));
     Ok(())
 }
