@@ -3,7 +3,7 @@ use Rattle.std.proofs.Common.{◌≡◌, ℕ, suc, ◌+◌, ◌<◌, ◌≤◌, 
 use Rattle.std.specs.List.{before_first, position_or_len}
 use Rattle.std.specs.Option.{option_or}
 use Rattle.std.proofs.lemmas.Bool.{eq-eqb}
-use Rattle.std.proofs.lemmas.List.{drop_more, reverse-append}
+use Rattle.std.proofs.lemmas.List.{reverse-append}
 use Rattle.std.proofs.lemmas.List.Folds.{find-append}
 use Rattle.wit_model.specs.declared.locks.Instance.{Instance}
 use Rattle.wit_model.specs.declared.calls.Asked.{Asked}
@@ -11,16 +11,10 @@ use Rattle.wit_model.specs.Rules.Groups.{flat}
 use Rattle.wit_model.specs.Rules.Verdict.{Basis, is_of, has_type_of, violates}
 use Rattle.wit_check.specs.declared.held.Seen.{Seen}
 use Rattle.wit_check.specs.Held.{IsOnce}
-use Rattle.wit_check.specs.Looks.{nothing_seen, with_lock, with_locks}
+use Rattle.wit_check.specs.Looks.{older_than, seen_in, nothing_seen, with_lock, with_locks}
 use Rattle.wit_check.proofs.Chunks.{chunk-more}
 
 module _ (g : Basis) (q : Asked) where
-  -- one lock more
-  pub look-more : (c : List Instance) (s : Seen) (i n : ℕ) (d : Instance) → i < length c → n ≡ i + 1
-      → with_lock g q (get_or c i d) (with_locks g q (drop n c) s) ≡ with_locks g q (drop i c) s
-  look-more c s i n d lt next =
-      ap (λ k. with_lock g q (get_or c i d) (with_locks g q (drop k c) s)) next ∙ sym (ap (λ e. with_locks g q e s) (drop_more c i d lt))
-
   look-append : (c e : List Instance) (s : Seen) → with_locks g q (c ++ e) s ≡ with_locks g q c (with_locks g q e s)
   look-append [] e s = refl
   look-append (i ∷ c) e s = ap (with_lock g q i) (look-append c e s)
@@ -32,7 +26,7 @@ module _ (g : Basis) (q : Asked) where
       sym (ap (λ e. with_locks g q e s) (chunk-more gs i n lt next) ∙ look-append (get_or gs i []) (flat (drop n gs)) s)
 
   -- the lock itself
-  pub held-seen : (c : List Instance) → (with_locks g q c nothing_seen).held ≡ find (is_of q.lock.0) c
+  held-seen : (c : List Instance) → (with_locks g q c nothing_seen).held ≡ find (is_of q.lock.0) c
   held-seen [] = refl
   held-seen (i ∷ c) = ap (λ o. cond (is_of q.lock.0 i) (Some i) o) (held-seen c)
 
@@ -41,17 +35,12 @@ module _ (g : Basis) (q : Asked) where
   newer-or (Some j) b i = refl
 
   -- the newest violation
-  pub broken-seen : (c : List Instance) → (with_locks g q c nothing_seen).broken ≡ find (violates g q) (reverse c)
+  broken-seen : (c : List Instance) → (with_locks g q c nothing_seen).broken ≡ find (violates g q) (reverse c)
   broken-seen [] = refl
   broken-seen (i ∷ c) =
       ap (λ o. cond (is_some o) o (cond (violates g q i) (Some i) None)) (broken-seen c)
       ∙ newer-or (find (violates g q) (reverse c)) (violates g q i) i
       ∙ sym (ap (find (violates g q)) (reverse-append (i ∷ []) c) ∙ find-append (violates g q) (reverse c) (i ∷ []))
-
-  -- the newest lock of the type before this one
-  abbrev pub older_than : Option Instance → List Instance → Option Instance
-  older_than None c = None
-  older_than (Some h) c = find (has_type_of g q) (reverse (before_first (is_of h.lock.0) c))
 
   -- a lock that is found stands in the chain
   stands-found : (p : Instance → Bool) (c : List Instance) (h : Instance) → find p (reverse c) ≡ Some h → 1 ≤ length (filter (is_of h.lock.0) c)
@@ -90,14 +79,14 @@ module _ (g : Basis) (q : Asked) where
       go false e le = e
 
   -- the older one of three
-  pub older-seen : (c : List Instance) → IsOnce c → (with_locks g q c nothing_seen).older ≡ older_than (find (violates g q) (reverse c)) c
+  older-seen : (c : List Instance) → IsOnce c → (with_locks g q c nothing_seen).older ≡ older_than g q (find (violates g q) (reverse c)) c
   older-seen [] once = refl
   older-seen (i ∷ c) once =
       ap₂ (λ o p. cond (is_some o && is_none p && has_type_of g q i) (Some i) p) (broken-seen c) (older-seen c (once-rest i c once))
       ∙ go (find (violates g q) (reverse c)) refl
-      ∙ ap (λ o. older_than o (i ∷ c)) (sym (ap (find (violates g q)) (reverse-append (i ∷ []) c) ∙ find-append (violates g q) (reverse c) (i ∷ [])))
+      ∙ ap (λ o. older_than g q o (i ∷ c)) (sym (ap (find (violates g q)) (reverse-append (i ∷ []) c) ∙ find-append (violates g q) (reverse c) (i ∷ [])))
     where
-      first : (b : Bool) → violates g q i ≡ b → None ≡ older_than (cond b (Some i) None) (i ∷ c)
+      first : (b : Bool) → violates g q i ≡ b → None ≡ older_than g q (cond b (Some i) None) (i ∷ c)
       first true is = let own : is_of i.lock.0 i ≡ true = eq-eqb i.lock.0 i.lock.0 refl in rw own refl
       first false is = refl
 
@@ -108,7 +97,7 @@ module _ (g : Basis) (q : Asked) where
       newer (Some j) false = refl
 
       go : (o : Option Instance) → find (violates g q) (reverse c) ≡ o
-          → cond (is_some o && is_none (older_than o c) && has_type_of g q i) (Some i) (older_than o c) ≡ older_than (option_or o (cond (violates g q i) (Some i) None)) (i ∷ c)
+          → cond (is_some o && is_none (older_than g q o c) && has_type_of g q i) (Some i) (older_than g q o c) ≡ older_than g q (option_or o (cond (violates g q i) (Some i) None)) (i ∷ c)
       go None is = first (violates g q i) refl
       go (Some h) is =
           let other : is_of h.lock.0 i ≡ false = apart i c h.lock.0 once (stands-found (violates g q) c h is) in
@@ -122,6 +111,15 @@ module _ (g : Basis) (q : Asked) where
           before-more h other =
               let up : 1 + position_or_len (is_of h.lock.0) c ≡ suc (position_or_len (is_of h.lock.0) c) = omega arith in
               rw other (ap (λ n. take n (i ∷ c)) up)
+
+  abbrev seen_of : Option Instance → Option Instance → Option Instance → Seen
+  seen_of h b o = record { held = h; broken = b; older = o }
+
+  -- all three
+  pub all-seen : (c : List Instance) → IsOnce c → with_locks g q c nothing_seen ≡ seen_in g q c
+  all-seen c once =
+      ap₂ (λ h b. seen_of h b (with_locks g q c nothing_seen).older) (held-seen c) (broken-seen c)
+      ∙ ap (λ o. seen_of (find (is_of q.lock.0) c) (find (violates g q) (reverse c)) o) (older-seen c once)
 
   -- where each lock stands once, the newest of its instances is the oldest
   pub once-found : (l : ℕ) (c : List Instance) → IsOnce c → find (is_of l) (reverse c) ≡ find (is_of l) c

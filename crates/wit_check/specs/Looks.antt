@@ -1,5 +1,6 @@
 -- One look through a chain, newest lock first.
-use Rattle.std.specs.Prelude.{◌&&◌, List, [], ◌∷◌, None, Some, is_some, is_none, if◌then◌else◌}
+use Rattle.std.specs.Prelude.{◌&&◌, List, [], ◌∷◌, Option, None, Some, is_some, is_none, if◌then◌else◌, find, reverse}
+use Rattle.std.specs.List.{before_first}
 use Rattle.wit_model.specs.declared.locks.Instance.{Instance}
 use Rattle.wit_model.specs.declared.locks.TypeNo.{TypeNo}
 use Rattle.wit_model.specs.declared.calls.Asked.{Asked}
@@ -10,6 +11,19 @@ use Rattle.wit_check.specs.declared.orders.Sort.TheVariants.{Ordinary, Sleepable
 
 abbrev pub sort_of : Basis → TypeNo → Sort
 sort_of g t = if is_sleepable g t then Sleepable else if is_giant g t then Giant else Ordinary
+
+-- the newest lock of the requested type among those older than this one
+abbrev pub older_than : Basis → Asked → Option Instance → List Instance → Option Instance
+older_than g q None c = None
+older_than g q (Some h) c = find (has_type_of g q) (reverse (before_first (is_of h.lock.0) c))
+
+-- what a look through the whole chain sees
+abbrev pub seen_in : Basis → Asked → List Instance → Seen
+seen_in g q c = record {
+  held = find (is_of q.lock.0) c;
+  broken = find (violates g q) (reverse c);
+  older = older_than g q (find (violates g q) (reverse c)) c;
+}
 
 abbrev pub nothing_seen : Seen
 nothing_seen = record { held = None; broken = None; older = None }

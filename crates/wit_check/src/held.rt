@@ -1,11 +1,11 @@
 //! Looks through a list of held locks, newest first.
 
-ghost use Rattle.std.specs.Prelude.{◌≡◌, [], ◌∷◌, find, reverse};
+ghost use Rattle.std.specs.Prelude.{◌≡◌, find, reverse};
 ghost use Rattle.wit_model.specs.Rules.Numbers.{IsGiven};
 ghost use Rattle.wit_model.specs.Rules.Chunks.{IsList, chain_of};
 ghost use Rattle.wit_model.specs.Rules.Verdict.{is_of};
-ghost use Rattle.wit_check.specs.Held.{IsTyped};
-ghost use Rattle.wit_check.specs.Looks.{sort_of, nothing_seen, with_lock, with_locks};
+ghost use Rattle.wit_check.specs.Held.{IsTyped, IsJudgeable};
+ghost use Rattle.wit_check.specs.Looks.{sort_of, seen_in, with_lock, with_locks};
 
 use crate::basis::Basis;
 use crate::orders::{Sort, breach, sort_of};
@@ -62,8 +62,8 @@ impl Seen {
 pub fn look<L: Lists>(basis: &Basis, lists: &L, list: u16, request: Asked) -> Seen
     requires list { IsList (L.chunks lists.now) list }
     requires asked { IsGiven basis.now.types request.type_no.0 }
-    requires typed { IsTyped basis.now.lock_types (chain_of (L.chunks lists.now) list) }
-    ensures { result ≡ with_locks basis.now request (chain_of (L.chunks lists.now) list) nothing_seen }
+    requires chain { IsJudgeable basis.now.lock_types (chain_of (L.chunks lists.now) list) }
+    ensures { result ≡ seen_in basis.now request (chain_of (L.chunks lists.now) list) }
 {
     let sort = sort_of(basis, request.type_no);
     let mut seen = Seen {

@@ -5,8 +5,9 @@ use Rattle.wit_model.specs.Rules.Orders.{is_direct}
 use Rattle.wit_model.specs.Rules.Chunks.{chain_of}
 use Rattle.wit_model.specs.Rules.Verdict.{violates}
 use Rattle.wit_check.specs.declared.held.Seen.{Seen}
+use Rattle.wit_check.specs.Looks.{older_than}
 use Rattle.wit_check.proofs.Last.{last-typed, found-typed}
-use Rattle.wit_check.proofs.Looking.{held-seen, broken-seen, older-seen, older_than, once-found}
+use Rattle.wit_check.proofs.Looking.{once-found}
 use Rattle.wit_check.proofs.Ruling.{again-decides, double-decides, direct-decides, violation-decides, learning-decides}
 use Rattle.wit_check.proofs.rules.behind.Goals as goal
 use Rattle.wit_check.proofs.rules.behind.Goals.{then-is_double-via-then-is_double, then-is_double-via-else-is_double+then-is_direct}
@@ -20,7 +21,7 @@ learnt-requires-clause-last g c = last-typed c.args.basis.now.lock_types (chain_
 pub reported-requires-clause-held : goal.reported-requires-clause-held
 reported-requires-clause-held g c =
     found-typed c.args.basis.now.lock_types (violates c.args.basis.now c.args.request) (chain_of (g.L.Lists.chunks c.args.lists.now) c.args.list) c.in-None-Some.broken c.requires.chain.typed
-    (sym (broken-seen c.args.basis.now c.args.request (chain_of (g.L.Lists.chunks c.args.lists.now) c.args.list)) ∙ sym (ap (λ (s : Seen). s.broken) c.look-seen.ensures) ∙ c.in-None-Some.is-1)
+    (sym (ap (λ (s : Seen). s.broken) c.look-seen.ensures) ∙ c.in-None-Some.is-1)
 
 pub returns-in-Some : goal.returns-in-Some
 returns-in-Some g c =
@@ -50,16 +51,16 @@ pub returns-in-Some-default : goal.returns-in-Some-default
 returns-in-Some-default g c =
     c.again-in-Some-default.ensures
     ∙ again-decides c.args.basis.now (chain_of (g.L.Lists.chunks c.args.lists.now) c.args.list) c.args.last c.args.request c.in-Some-default.held
-    (sym (held-seen c.args.basis.now c.args.request (chain_of (g.L.Lists.chunks c.args.lists.now) c.args.list)) ∙ sym (ap (λ (s : Seen). s.held) c.look-seen.ensures) ∙ c.in-Some-default.is-0)
+    (sym (ap (λ (s : Seen). s.held) c.look-seen.ensures) ∙ c.in-Some-default.is-0)
 
 pub returns-in-None-Some : goal.returns-in-None-Some
 returns-in-None-Some g c =
     let sees : find (violates c.args.basis.now c.args.request) (reverse (chain_of (g.L.Lists.chunks c.args.lists.now) c.args.list)) ≡ Some c.in-None-Some.broken =
-    sym (broken-seen c.args.basis.now c.args.request (chain_of (g.L.Lists.chunks c.args.lists.now) c.args.list)) ∙ sym (ap (λ (s : Seen). s.broken) c.look-seen.ensures) ∙ c.in-None-Some.is-1 in
+    sym (ap (λ (s : Seen). s.broken) c.look-seen.ensures) ∙ c.in-None-Some.is-1 in
     c.reported.ensures (chain_of (g.L.Lists.chunks c.args.lists.now) c.args.list)
-    (ap (λ (s : Seen). s.older) c.look-seen.ensures ∙ older-seen c.args.basis.now c.args.request (chain_of (g.L.Lists.chunks c.args.lists.now) c.args.list) c.requires.chain.once ∙ ap (λ o. older_than c.args.basis.now c.args.request o (chain_of (g.L.Lists.chunks c.args.lists.now) c.args.list)) sees)
+    (ap (λ (s : Seen). s.older) c.look-seen.ensures ∙ ap (λ o. older_than c.args.basis.now c.args.request o (chain_of (g.L.Lists.chunks c.args.lists.now) c.args.list)) sees)
     ∙ violation-decides c.args.basis.now (chain_of (g.L.Lists.chunks c.args.lists.now) c.args.list) c.args.last c.args.request
-    (sym (held-seen c.args.basis.now c.args.request (chain_of (g.L.Lists.chunks c.args.lists.now) c.args.list)) ∙ sym (ap (λ (s : Seen). s.held) c.look-seen.ensures) ∙ c.in-None-Some.is-0)
+    (sym (ap (λ (s : Seen). s.held) c.look-seen.ensures) ∙ c.in-None-Some.is-0)
     (ap (λ (t : TypeNo). eqb t.0 c.args.request.type_no.0) (sym c.type_held-parent.ensures.value) ∙ ne_eqb c.type_held-parent.result.0 c.args.request.type_no.0 c.if-is_double.false)
     (ap (λ (t : TypeNo). is_direct c.args.basis.now.orders t.0 c.args.request.type_no.0) (sym c.type_held-parent.ensures.value) ∙ sym c.is_direct.ensures ∙ c.if-is_direct.false)
     c.in-None-Some.broken sees
@@ -68,7 +69,7 @@ pub returns-in-None-None : goal.returns-in-None-None
 returns-in-None-None g c =
     c.learnt.ensures
     ∙ learning-decides c.args.basis.now (chain_of (g.L.Lists.chunks c.args.lists.now) c.args.list) c.args.last c.args.request
-    (sym (held-seen c.args.basis.now c.args.request (chain_of (g.L.Lists.chunks c.args.lists.now) c.args.list)) ∙ sym (ap (λ (s : Seen). s.held) c.look-seen.ensures) ∙ c.in-None-None.is-0)
+    (sym (ap (λ (s : Seen). s.held) c.look-seen.ensures) ∙ c.in-None-None.is-0)
     (ap (λ (t : TypeNo). eqb t.0 c.args.request.type_no.0) (sym c.type_held-parent.ensures.value) ∙ ne_eqb c.type_held-parent.result.0 c.args.request.type_no.0 c.if-is_double.false)
     (ap (λ (t : TypeNo). is_direct c.args.basis.now.orders t.0 c.args.request.type_no.0) (sym c.type_held-parent.ensures.value) ∙ sym c.is_direct.ensures ∙ c.if-is_direct.false)
-    (sym (broken-seen c.args.basis.now c.args.request (chain_of (g.L.Lists.chunks c.args.lists.now) c.args.list)) ∙ sym (ap (λ (s : Seen). s.broken) c.look-seen.ensures) ∙ c.in-None-None.is-1)
+    (sym (ap (λ (s : Seen). s.broken) c.look-seen.ensures) ∙ c.in-None-None.is-1)
