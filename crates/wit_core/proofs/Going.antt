@@ -322,9 +322,6 @@ within-next types list orders next_types next_orders within types_are orders_are
     subst (λ ts. IsWithin (length ts) next_orders) (sym types_are)
     (subst (λ os. IsWithin (length (enrolled_all list types)) os) (sym orders_are) (within-list types list orders within))
 
-pub none-within : (n : ℕ) → IsWithin n []
-none-within n = λ a b is. absurd (false≢true is)
-
 -- the last kind of fault, where there is none of the others
 pub fault-behind : (most : ℕ) (types : List LockType) (orders : List Adoption) (list : List (Class × List ℕ)) (back : Bool) → IsWithin (length types) orders
     → list_any (λ (e : Class × List ℕ). not (is_name e.1)) list ≡ false → list_any (is_misclassed types list) list ≡ false

@@ -17,7 +17,7 @@ use Rattle.wit_model.specs.Rules.Groups.{flat}
 use Rattle.wit_model.specs.Rules.History.{chain, is_held}
 use Rattle.wit_model.specs.Rules.Locks.{locks_of, lock_at, unknown_lock}
 use Rattle.wit_model.specs.Rules.Numbers.{is_given, IsGiven, IsNumber}
-use Rattle.wit_model.specs.Rules.State.{Story, State, Known, state_of, types_of, typed_locks, seat_at, chain_in, is_seat}
+use Rattle.wit_model.specs.Rules.State.{Story, State, Known, state_of, typed_locks, seat_at, chain_in, is_seat}
 use Rattle.wit_model.specs.Rules.Verdict.{Basis, ruling, basis_of, verdict}
 use Rattle.wit_model.proofs.Chains.Held.{made_sane}
 use Rattle.wit_model.proofs.Chains.Stands.{stands-chain}
@@ -61,9 +61,6 @@ defining-same types os ps a b direct =
 module _ (v : Inside) (k : IsKept v) (s : Story) (seen : story_in v ≡ s) where
   locks-are : v.known.known.locks ≡ typed_locks (start_in v) (history_in v)
   locks-are = ap (λ (x : Known). x.locks) (known-is v k)
-
-  types-are : v.known.known.types ≡ types_of (start_in v) (history_in v)
-  types-are = ap (λ (x : Known). x.types) (known-is v k)
 
   -- a lock that was made has a known type
   pub type-given : (l : ℕ) → is_given v.known.known.locks l ≡ true → IsGiven v.known.known.types (lock_at v.known.known.locks l).type_no.0

@@ -14,7 +14,7 @@ use Rattle.wit_model.specs.declared.calls.Adoption.{Adoption}
 use Rattle.wit_model.specs.Rules.Types.{is_named, is_enrolled, type_number, enrolled, enrolled_all}
 use Rattle.wit_model.specs.Rules.Orders.{adopted_once, listed_pairs}
 use Rattle.wit_model.specs.Rules.Start.{has_twin}
-use Rattle.wit_core.specs.Listed.{entry_of, listed, is_back, goes_back}
+use Rattle.wit_core.specs.Listed.{entry_of, listed}
 
 pub any-map : {X Y : Type 0} (p : Y → Bool) (f : X → Y) (xs : List X) → list_any p (map f xs) ≡ list_any (λ x. p (f x)) xs
 any-map p f [] = refl
@@ -81,23 +81,6 @@ pub enroll-step : (list : List (Class × String Global)) (i : ℕ) (a : Class ×
 enroll-step list i a types next whole lt is_a is was =
     ap (λ ts. enrolled_all (listed (drop (i + 1) list)) ts) is
     ∙ (ap (λ ys. enrolled_all (listed ys) types) (sym (item-at list i a is_a lt)) ∙ was)
-
--- a list that goes back, entry by entry
-pub back-step : (types : List LockType) (orders : List Adoption) (list : List (Class × String Global)) (i : ℕ) (a : Class × String Global) (r whole : Bool) → i < length list
-    → a ≡ get_or list i a
-    → r ≡ list_any (λ (e : Class × List ℕ). is_back types orders (string_bytes a.1) e.1) (listed (drop (i + 1) list)) → r ≡ false
-    → goes_back types orders (listed (drop i list)) ≡ whole → goes_back types orders (listed (drop (i + 1) list)) ≡ whole
-back-step types orders list i a r whole lt is_a is none was =
-    ap (λ b. b || goes_back types orders (listed (drop (i + 1) list))) (sym none ∙ is)
-    ∙ (ap (λ ys. goes_back types orders (listed ys)) (sym (item-at list i a is_a lt)) ∙ was)
-
-pub back-here : (types : List LockType) (orders : List Adoption) (list : List (Class × String Global)) (i : ℕ) (a : Class × String Global) (r whole : Bool) → i < length list
-    → a ≡ get_or list i a
-    → r ≡ list_any (λ (e : Class × List ℕ). is_back types orders (string_bytes a.1) e.1) (listed (drop (i + 1) list)) → r ≡ true
-    → goes_back types orders (listed (drop i list)) ≡ whole → true ≡ whole
-back-here types orders list i a r whole lt is_a is some was =
-    ap (λ b. b || goes_back types orders (listed (drop (i + 1) list))) (sym some ∙ is)
-    ∙ (ap (λ ys. goes_back types orders (listed ys)) (sym (item-at list i a is_a lt)) ∙ was)
 
 -- one of these entries is back, or none
 pub behind-none : (p : Class × List ℕ → Bool) (list : List (Class × String Global)) → ((k : ℕ) (d : Class × String Global) → k < length list → p (entry_of (get_or list k d)) ≡ false)

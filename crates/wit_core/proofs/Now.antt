@@ -1,6 +1,6 @@
 -- What a verifier's parts say of the state that its story has now.
-use Rattle.std.proofs.Common.{◌≡◌, ℕ, Bool, true, false, not, ◌&&◌, ◌||◌, List, [], ◌∷◌, cond, eqb, nat_lt, nat_le, length, map, find, unwrap_or, Option, Some, None, is_some, refl, sym, ap, ap₂, ◌∙◌, subst, arith}
-use Rattle.std.specs.List.{slice_get, list_any}
+use Rattle.std.proofs.Common.{◌≡◌, ℕ, Bool, true, false, not, ◌&&◌, ◌||◌, List, [], ◌∷◌, cond, eqb, nat_lt, nat_le, length, map, find, Some, None, is_some, refl, sym, ap, ap₂, ◌∙◌, subst, arith}
+use Rattle.std.specs.List.{list_any}
 use Rattle.std.proofs.lemmas.Bool.{and_parts, ltb-true, leb-true}
 use Rattle.std.proofs.lemmas.List.{length-map}
 use Rattle.wit_model.specs.declared.calls.Reply.TheVariants as reply
@@ -14,7 +14,7 @@ use Rattle.wit_model.specs.Rules.Step.{chain_for, groups_for, recorded}
 use Rattle.wit_model.specs.Rules.Types.{is_spin}
 use Rattle.wit_model.specs.Rules.Destroying.{uses, is_used}
 use Rattle.wit_model.specs.Rules.Verdict.{is_of}
-use Rattle.wit_model.proofs.Numbered.{with_number-or-map, with_number-none}
+use Rattle.wit_model.proofs.Numbered.{with_number-or-map}
 use Rattle.wit_model.proofs.Chains.Stands.{stands-chain}
 use Rattle.wit_model.proofs.Histories.Legal.{sane_legal, chain_for-state}
 use Rattle.wit_held.specs.Chains.{IsOnce}
@@ -62,9 +62,6 @@ module _ (v : Inside) (k : IsKept v) (s : Story) (seen : story_in v ≡ s) where
   count : length v.seats.seats ≡ length (state_of s).seats
   count = sym (length-map v.seats.seats seat_view) ∙ ap (λ (x : State). length x.seats) now
 
-  pub seat-told : (t : ℕ) → is_given v.seats.seats t ≡ is_seat (state_of s) t
-  seat-told t = ap (λ n. nat_lt 0 t && nat_le t n) count
-
   pub seat-given : (t : ℕ) → is_seat (state_of s) t ≡ true → IsGiven v.seats.seats t
   seat-given t is =
       let parts = and_parts (nat_lt 0 t) (nat_le t (length (state_of s).seats)) is in
@@ -74,9 +71,6 @@ module _ (v : Inside) (k : IsKept v) (s : Story) (seen : story_in v ≡ s) where
 
   seat-now : (t : ℕ) → seat_view (seat_in v.seats t) ≡ seat_at (state_of s) t
   seat-now t = sym (view-is v.seats t) ∙ ap (λ (x : State). seat_at x t) now
-
-  pub request-told : (t : ℕ) → (seat_in v.seats t).pending ≡ (seat_at (state_of s) t).pending
-  request-told t = ap (λ (x : model.Seat). x.pending) (seat-now t)
 
   pub locks-told : (t : ℕ) (spin : Bool) → locks_in spin (seat_in v.seats t) ≡ chain_in spin (seat_at (state_of s) t)
   locks-told t spin = sym (chain-in spin (seat_in v.seats t)) ∙ ap (chain_in spin) (seat-now t)
@@ -145,11 +139,3 @@ any-viewed has (s ∷ ss) = ap (λ b. has (seat_view s) || b) (any-viewed has ss
 -- whether some seat holds a lock or asks for it
 pub used-now : (v : Inside) (k : IsKept v) (s : Story) (seen : story_in v ≡ s) (l : ℕ) → list_any (λ x. uses l (seat_view x)) v.seats.seats ≡ is_used (state_of s) l
 used-now v k s seen l = any-viewed (uses l) v.seats.seats ∙ ap (λ (x : State). is_used x l) (now v k s seen)
-
--- a seat that there isn't holds nothing
-pub nothing-held : (s : Story) (t : ℕ) (spin : Bool) (i : ℕ) → is_seat (state_of s) t ≡ false → None ≡ slice_get (chain_in spin (seat_at (state_of s) t)) i
-nothing-held s t spin i none = by spin ∙ sym (ap (λ (o : Option model.Seat). slice_get (chain_in spin (unwrap_or o model.no_seat)) i) (with_number-none (state_of s).seats t none))
-  where
-    by : (b : Bool) → None ≡ slice_get (chain_in b model.no_seat) i
-    by true = refl
-    by false = refl

@@ -41,9 +41,6 @@ AllFrom m vs = list_all (nat_le m) vs ≡ true
 all-one : (m v : ℕ) (vs : List ℕ) → m ≤ v → AllFrom m vs → AllFrom m (v ∷ vs)
 all-one m v vs le all = rw (le-leb m v le) all
 
-all-parts : (m : ℕ) (vs us : List ℕ) → AllFrom m (vs ++ us) → AllFrom m vs × AllFrom m us
-all-parts m vs us all = and_parts (list_all (nat_le m) vs) (list_all (nat_le m) us) (sym (list_all-append (nat_le m) vs us) ∙ all)
-
 all-joined : (m : ℕ) (vs us : List ℕ) → AllFrom m vs → AllFrom m us → AllFrom m (vs ++ us)
 all-joined m vs us a b = list_all-append (nat_le m) vs us ∙ rw (a, b) refl
 

@@ -9,7 +9,7 @@ use Rattle.std.proofs.lemmas.List.Sums.{sum_by-set}
 use Rattle.std.proofs.lemmas.Option.{slice_get_within}
 use Rattle.std.proofs.Math.Seq.{get_or-append_seam}
 use Rattle.wit_model.specs.declared.locks.SeatNo.{SeatNo}
-use Rattle.wit_model.specs.Rules.Circles.{IsQueue, IsCircle, starts_with_least, seat_numbers}
+use Rattle.wit_model.specs.Rules.Circles.{IsQueue, seat_numbers}
 use Rattle.wit_model.specs.Rules.Numbers.{with_number, IsNumber}
 use Rattle.wit_model.proofs.Numbered.{with_number-or}
 use Rattle.wit_core.specs.declared.circle.Reached.{Reached}
@@ -215,14 +215,6 @@ module _ (rows : List (List Bool)) (first : ℕ) (reached : List Reached) (seen 
 
 -- ---- the search goes on with those that wait for the seat at a place
 
-pub reaches_none : (rows : List (List Bool)) (first place : ℕ) (reached : List Reached) (seen : List Bool) (n : ℕ) → n ≤ first
-    → IsSearch rows first reached seen → Reaches rows first place n reached reached seen seen
-reaches_none rows first place reached seen n none s = record {
-  search = s;
-  keeps = record { longer = omega arith; same = λ i lt. refl; stays = λ t is. is };
-  all = λ t above below is. absurd (omega (arith, none, above, below));
-}
-
 -- one more is looked at
 module _ (rows : List (List Bool)) (first place n : ℕ) (reached later : List Reached) (seen marks : List Bool) (r : Reaches rows first place n reached later seen marks) where
   all-more : (next : List Bool) → ((t : ℕ) → is_marked marks t ≡ true → is_marked next t ≡ true) → (Says rows (n + 1) (seat_in reached place) → is_marked next (n + 1) ≡ true)
@@ -267,16 +259,6 @@ pub record IsWay (rows : List (List Bool)) (reached : List Reached) (seats : Lis
   pub all : list_all (nat_le (seat_in reached 0)) others ≡ true
   pub within : at < length reached
 
-pub way_begins : (rows : List (List Bool)) (reached : List Reached) (seats : List SeatNo) (first : SeatNo) (at : ℕ) → seats ≡ [] ++ first ∷ [] → first.0 ≡ seat_in reached 0
-    → at < length reached → Says rows first.0 (seat_in reached at) → IsWay rows reached (seat_numbers seats) at
-way_begins rows reached seats first at is own lt waits = record {
-  others = [];
-  is = ap seat_numbers is ∙ ap (λ n. n ∷ []) own;
-  queue = subst (λ n. Says rows n (seat_in reached at)) own waits;
-  all = refl;
-  within = lt;
-}
-
 pub way_more : (rows : List (List Bool)) (reached : List Reached) (seats next : List SeatNo) (at : ℕ) (seat : SeatNo) → IsTrail rows (seat_in reached 0) reached
     → IsWay rows reached (seat_numbers seats) at → 0 < at → seat.0 ≡ seat_in reached at → next ≡ seats ++ seat ∷ [] → IsWay rows reached (seat_numbers next) (next_in reached at)
 way_more rows reached seats next at seat trail way some own is =
@@ -295,12 +277,6 @@ way_more rows reached seats next at seat trail way some own is =
           ∙ rw (way.all, le-leb first (seat_in reached at) (omega (arith, above))) refl;
       within = omega (arith, earlier, way.within);
     }
-
-pub way_ends : (rows : List (List Bool)) (reached : List Reached) (seats : List ℕ) (at : ℕ) → IsWay rows reached seats at → at ≡ 0
-    → IsCircle (Says rows) seats × (starts_with_least seats ≡ true)
-way_ends rows reached seats at way zero =
-    subst (λ xs. IsCircle (Says rows) xs × (starts_with_least xs ≡ true)) (sym way.is)
-    (subst (λ k. IsQueue (Says rows) (seat_in reached 0) way.others (seat_in reached k)) zero way.queue, way.all)
 
 -- ---- where no circle is found
 

@@ -283,12 +283,6 @@ module _ (seats chunks lists : ℕ) (count : lists ≡ 2 * seats) (c : Chunks) (
   row-idle =
       ap₂ row (ap (λ n. map (seat_by c ps) (range_with_len 1 n)) ps-length ∙ map-alike (seat_by c ps) no_seat seat-idle 1 seats) new.size
 
-  pub idle-lists : length c.groups ≡ 2 * length ps
-  idle-lists = ap length new.groups ∙ length-replicate lists [] ∙ count ∙ ap (λ n. 2 * n) (sym ps-length)
-
-  pub idle-few : seats ≤ 256 → length ps ≤ 256
-  idle-few few = omega (arith, few, ps-length)
-
 -- ---- whether a seat holds a lock or asks for it
 
 any-found : (l : ℕ) (c : List Instance) → list_any (is_of l) c ≡ is_some (find (is_of l) c)

@@ -1,5 +1,5 @@
 -- A number is read up to the next space or the end.
-use Rattle.std.proofs.Common.{◌≡◌, ℕ, zero, suc, ◌+◌, ◌*◌, ◌<◌, ◌≤◌, Bool, true, false, ◌&&◌, ◌||◌, not, List, [], ◌∷◌, length, get_or, take, drop, Option, Some, None, eqb, cond, refl, sym, ap, subst, ◌∙◌, ◌⊎◌, inl, inr, arith}
+use Rattle.std.proofs.Common.{◌≡◌, ℕ, zero, suc, ◌+◌, ◌*◌, ◌<◌, ◌≤◌, Bool, true, false, ◌&&◌, ◌||◌, not, List, [], ◌∷◌, length, get_or, take, drop, Some, None, eqb, cond, refl, sym, ap, subst, ◌∙◌, ◌⊎◌, inl, inr, arith}
 use Rattle.std.specs.Prelude.{◌==◌, slice_index}
 use Rattle.std.specs.List.{list_all}
 use Rattle.std.specs.Char.{is_ascii_digit, digit_value}
@@ -7,7 +7,7 @@ use Rattle.std.specs.Str.Parse.{digits_value}
 use Rattle.std.proofs.lemmas.Bool.{eq-eqb, ne_eqb, lt-ltb, cases_eq}
 use Rattle.std.proofs.lemmas.List.{get_or-take, take-take, length-take}
 use Rattle.std.proofs.lemmas.List.Sums.{position_or_len_is}
-use Rattle.wit_model.specs.Trace.Reading.{byte_place, number_of}
+use Rattle.wit_model.specs.Trace.Reading.{byte_place}
 use Rattle.wit_grammar.specs.Lines.{leading_number}
 use Rattle.wit_grammar.proofs.Digits.{Reads, no_number}
 

@@ -15,7 +15,7 @@ use Rattle.wit_model.specs.declared.locks.Mode.TheVariants.{Shared, Exclusive}
 use Rattle.wit_model.specs.declared.locks.Watch as level
 use Rattle.wit_model.specs.declared.locks.Watch.TheVariants.{On, Quiet, Off}
 use Rattle.wit_model.specs.Rules.Names.{is_name, is_file_name}
-use Rattle.wit_model.specs.Trace.Spelling.{class_text, mode_text, level_text, lock_letters, op_letters, assert_letters, warn_letters, number_if_any, chosen_letters, flags_text, site_text, quoted, joined, type_field, spelling, IsNamed, IsSpellable}
+use Rattle.wit_model.specs.Trace.Spelling.{class_text, mode_text, level_text, lock_letters, op_letters, assert_letters, warn_letters, number_if_any, chosen_letters, flags_text, site_text, quoted, joined, type_field, spelling, IsSpellable}
 
 -- a field that takes little of a line
 abbrev IsShort : List ℕ → Type 0

@@ -12,7 +12,7 @@ use Rattle.wit_held.specs.declared.vec_lists.VecLists.TheInside.{Inside}
 use Rattle.wit_held.specs.Rows.{row, rows_of, places_of, groups_at, shown, AreWithin, AreSettled, IsWithin, HaveRoom, HaveRoomFor, HasSpaceAt}
 use Rattle.wit_held.specs.Kept.{chunks_in, AreKept}
 use Rattle.wit_held.proofs.Placing.{IsFree, free, all-within, times-append, times-in}
-use Rattle.wit_held.proofs.Settled.{Leaves, both-nil, flat-push, groups-shown, list-within, list-short, chain-fits, push-fits, push-opens, push-refused, in-list, in-row, replaced, removed-kept, removed-freed, tidy-at}
+use Rattle.wit_held.proofs.Settled.{Leaves, both-nil, flat-push, groups-shown, list-within, list-short, chain-fits, push-fits, push-opens, push-refused, in-list, replaced, removed-kept, removed-freed, tidy-at}
 use Rattle.wit_held.proofs.VecRows.{length-contents, row-read}
 
 -- what stays in a value that is written
@@ -96,11 +96,6 @@ module _ {A : Type 0} (v : Inside A) (value : Chunks) (is : chunks_in v ≡ valu
       chunk-is =
           sym
           (q-is ∙ ap (λ (qs : List ℕ). get_or qs group q) p-is ∙ get_or_default (get_or (places_of v.lists.items) (list - 1) []) group q 0 among)
-
-      pub chunk-holds : index < length (row (rows_of v.chunks.items) q)
-      chunk-holds =
-          subst (λ p. index < length (row (rows_of v.chunks.items) p)) chunk-is
-          (in-row (rows_of v.chunks.items) (places_of v.lists.items) list in-lists v.unused.items kept.settled spot group index inside)
 
       pub replace-leaves : (x : Instance)
           → Leaves (set (rows_of v.chunks.items) q (set (row (rows_of v.chunks.items) q) index x)) (places_of v.lists.items) v.unused.items

@@ -1,5 +1,5 @@
 -- What an acquisition, a release and a turn of a lock that stands once make of the lists.
-use Rattle.std.proofs.Common.{◌≡◌, ℕ, ◌-◌, ◌<◌, ◌≤◌, Bool, true, false, not, ◌&&◌, cond, nat_lt, List, [], ◌∷◌, length, map, find, position, set, get_or, Option, None, Some, is_some, unwrap_or, refl, ap, ap₂, sym, ◌∙◌, subst, arith}
+use Rattle.std.proofs.Common.{◌≡◌, ℕ, ◌-◌, ◌<◌, ◌≤◌, Bool, true, false, not, ◌&&◌, cond, nat_lt, List, [], ◌∷◌, length, map, find, position, set, get_or, Option, None, Some, is_some, unwrap_or, refl, ap, sym, ◌∙◌, arith}
 use Rattle.std.specs.List.{remove}
 use Rattle.std.specs.Option.{option_map}
 use Rattle.std.proofs.lemmas.Bool.{lt-ltb, le-ltb, true≢false, ltb-true, ltb-false}
@@ -8,8 +8,8 @@ use Rattle.wit_model.specs.declared.locks.Instance.{Instance}
 use Rattle.wit_model.specs.declared.locks.Mode.{Mode}
 use Rattle.wit_model.specs.Rules.Verdict.{is_of}
 use Rattle.wit_model.specs.Rules.Groups.{tidied, left, edited_at, replaced_at, removed_at}
-use Rattle.wit_model.specs.Rules.Chunks.{Chunks, groups_of, chain_of, set_groups, is_refused, pushed}
-use Rattle.wit_held.specs.Chains.{stands, at_lock, is_other, change_lock, recursed, fewer, in_mode, recorded, recorded_by, forgotten_by, is_unrecorded, IsOnce, IsShallow, CanRise, after_record, after_forget, after_turn}
+use Rattle.wit_model.specs.Rules.Chunks.{Chunks, groups_of, chain_of, set_groups, is_refused}
+use Rattle.wit_held.specs.Chains.{stands, at_lock, is_other, change_lock, recursed, fewer, in_mode, recorded, recorded_by, forgotten_by, is_unrecorded, IsOnce, CanRise, after_record, after_forget, after_turn}
 use Rattle.wit_held.proofs.HeldLock.{lock_place, found-stands, find-found, find-missed, missed-stands, absent-all, change-absent, replaced-once, removed-once}
 
 pub first-place : (l : ℕ) (c : List Instance) (i : ℕ) → position (is_of l) c ≡ Some i → (lock_place l c ≡ i) × (lock_place l c < length c)
@@ -32,12 +32,6 @@ module _ (c : Chunks) (list l : ℕ) where
     pub none : find (is_of l) (chain_of c list) ≡ None
     none = find-missed l (chain_of c list) (no-place l (chain_of c list) (sym missed))
 
-    pub unrecorded : is_refused c list ≡ is_unrecorded c list l
-    unrecorded = sym (ap (λ o. not (is_some o) && is_refused c list) none)
-
-    pub forget-none : c.groups ≡ after_forget c list l
-    forget-none = sym (ap (set_groups c list) (ap (forgotten_by l (groups_of c list)) none) ∙ set-get_or c.groups (list - 1) [])
-
     pub turn-none : (mode : Mode) → c.groups ≡ after_turn c list l mode
     turn-none mode =
         sym
@@ -57,9 +51,6 @@ module _ (c : Chunks) (list l : ℕ) where
 
     pub recorded-some : is_unrecorded c list l ≡ false
     recorded-some = ap (λ o. not (is_some o) && is_refused c list) some
-
-    pub can-rise : IsShallow l (chain_of c list) → d.count < 65535
-    can-rise shallow = subst CanRise some shallow
 
     module _ (once : IsOnce l (chain_of c list)) where
       one : stands l (chain_of c list) ≡ 1
@@ -95,11 +86,6 @@ pub record-again : (c : Chunks) (list : ℕ) (taken : Instance) (i : ℕ) (d : I
 record-again c list taken i d found at once =
     ap (set_groups c list) (changed c list taken.lock.0 i d found at once (recursed taken.site) ∙ sym (ap (recorded_by taken (groups_of c list)) (some c list taken.lock.0 i d found at)))
     ∙ sym (ap (λ b. cond b c.groups (set_groups c list (recorded taken (groups_of c list)))) (recorded-some c list taken.lock.0 i d found at))
-
--- a new one is pushed
-pub record-new : (c : Chunks) (list : ℕ) (taken : Instance) → None ≡ position (is_of taken.lock.0) (chain_of c list) → pushed c list taken ≡ after_record c list taken
-record-new c list taken missed =
-    ap₂ (λ b o. cond b c.groups (set_groups c list (recorded_by taken (groups_of c list) o))) (unrecorded c list taken.lock.0 missed) (sym (none c list taken.lock.0 missed))
 
 -- a list of at most one lock holds none twice
 pub stands-short : (l : ℕ) (c : List Instance) → length c ≤ 1 → stands l c ≤ 1

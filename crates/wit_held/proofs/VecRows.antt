@@ -3,8 +3,8 @@ use Rattle.std.proofs.Common.{◌≡◌, ℕ, suc, ◌+◌, ◌-◌, ◌<◌, �
 use Rattle.std.specs.List.{position_or_len}
 use Rattle.std.specs.Option.{option_map}
 use Rattle.std.specs.declared.vec.Vec.{Vec}
-use Rattle.std.proofs.lemmas.Bool.{true≢false, lt-ltb, le-ltb}
-use Rattle.std.proofs.lemmas.List.{append-nil, length-append, length-map, map-append, map-set, get_or-map, take_more, take-map, take_all, take-append-drop}
+use Rattle.std.proofs.lemmas.Bool.{true≢false, lt-ltb}
+use Rattle.std.proofs.lemmas.List.{append-nil, length-append, length-map, map-append, map-set, get_or-map, take_more, take-map, take-append-drop}
 use Rattle.std.proofs.lemmas.List.Concat.{flat_map-append, get_or-flat_map}
 use Rattle.std.proofs.lemmas.Option.{get_or_from_slice_get, slice_get_within, slice_get-map}
 use Rattle.wit_model.specs.declared.locks.Instance.{Instance}
@@ -91,9 +91,6 @@ pub length-more : (rows : List (List Instance)) (ps : List ℕ) (k : ℕ) → k 
     → length (before rows ps (k + 1)) ≡ length (before rows ps k) + length (row rows (get_or ps k 0))
 length-more rows ps k lt = ap length (before-more rows ps k lt) ∙ length-append (before rows ps k) (row rows (get_or ps k 0))
 
-pub before-all : (rows : List (List Instance)) (ps : List ℕ) (k : ℕ) → length ps ≤ k → before rows ps k ≡ flat (groups_at rows ps)
-before-all rows ps k past = ap (λ qs. flat (groups_at rows qs)) (take_all k ps past)
-
 -- a list holds no fewer than its first chunks
 pub before-within : (rows : List (List Instance)) (ps : List ℕ) (k : ℕ) → length (before rows ps k) ≤ length (flat (groups_at rows ps))
 before-within rows ps k =
@@ -156,13 +153,6 @@ past-more l rows ps k lt past none =
     let g : List Instance = row rows (get_or ps k 0) in
     subst (λ (c : List Instance). length c ≤ position_or_len (is_of l) c) (sym (before-more rows ps k lt))
     (omega (arith, length-append (before rows ps k) g, place-right l (before rows ps k) g past, no-place l g (sym none)))
-
-pub missed : (l : ℕ) (rows : List (List Instance)) (ps : List ℕ) (k : ℕ) → length ps ≤ k → IsPast l rows ps k → None ≡ position (is_of l) (flat (groups_at rows ps))
-missed l rows ps k all past =
-    let c : List Instance = flat (groups_at rows ps) in
-    let none : length c ≤ position_or_len (is_of l) c =
-    subst (λ (xs : List Instance). length xs ≤ position_or_len (is_of l) xs) (before-all rows ps k all) past in
-    sym (ap (λ b. cond b (Some (position_or_len (is_of l) c)) None) (le-ltb (position_or_len (is_of l) c) (length c) none))
 
 -- a lock is found in a chunk
 pub met : (l : ℕ) (rows : List (List Instance)) (ps : List ℕ) (k i : ℕ) → k < length ps → IsPast l rows ps k → Some i ≡ position (is_of l) (row rows (get_or ps k 0))

@@ -3,15 +3,14 @@
 use Rattle.std.proofs.Common.{◌≡◌, ℕ, suc, zero, ◌+◌, ◌-◌, ◌<◌, ◌≤◌, Bool, true, false, ◌&&◌, ◌||◌, cond, eqb, List, [], ◌∷◌, find, Some, None, refl, ap, ap₂, sym, ◌∙◌, subst, ⊎_elim, arith}
 use Rattle.std.specs.List.{range_with_len}
 use Rattle.std.proofs.lemmas.Bool.{or_cases, and_parts, eqb-true, eq-eqb, cases_lt}
-use Rattle.wit_model.specs.declared.locks.TypeNo.{TypeNo}
 use Rattle.wit_model.specs.declared.locks.Origin.TheVariants.{Listed}
 use Rattle.wit_model.specs.declared.calls.Adoption.{Adoption}
-use Rattle.wit_model.specs.Rules.Orders.{is_adoption_of, is_direct, is_before, IsSound, is_pair_of, found_once, adopted_once}
+use Rattle.wit_model.specs.Rules.Orders.{is_adoption_of, is_direct, is_before, IsSound, adopted_once}
 use Rattle.wit_model.specs.Rules.Numbers.{IsNumber}
 use Rattle.wit_model.specs.Trace.Paths.{leads, next_type, way, path}
-use Rattle.wit_matrix.specs.Relation.{HasSameOrders, HasSameFound, OrdersAmong}
+use Rattle.wit_matrix.specs.Relation.{HasSameOrders, OrdersAmong}
 use Rattle.wit_matrix.proofs.Settled.{same_before}
-use Rattle.wit_matrix.proofs.Edits.{adopted_again, found_again}
+use Rattle.wit_matrix.proofs.Edits.{adopted_again}
 use Rattle.wit_matrix.proofs.Leading.{below, below_all, below_child, way_arrives, way_goes, next_there, differ}
 use Rattle.wit_matrix.proofs.Ways.{find_none}
 
@@ -19,11 +18,6 @@ use Rattle.wit_matrix.proofs.Ways.{find_none}
 pub adopted_by : (ms ps new : List Adoption) (o : Adoption) → HasSameOrders ms ps → HasSameOrders new (adopted_once o.parent.0 o.child.0 Listed ms) → HasSameOrders new (o ∷ ps)
 adopted_by ms ps new o same now a b =
     now a b ∙ (sym (adopted_again o.parent.0 o.child.0 ms a b) ∙ ap (λ t. is_adoption_of a b o || t) (same a b))
-
--- a found pair more
-pub found_by_once : (ms fs new : List (TypeNo × TypeNo)) (a b : TypeNo) → HasSameFound ms fs → HasSameFound new (found_once a b ms) → HasSameFound new (found_once a b fs)
-found_by_once ms fs new a b same now i j =
-    now i j ∙ (sym (found_again a b ms i j) ∙ (ap (λ t. is_pair_of i j (a, b) || t) (same i j) ∙ found_again a b fs i j))
 
 find_same : (p q : ℕ → Bool) → ((x : ℕ) → p x ≡ q x) → (xs : List ℕ) → find p xs ≡ find q xs
 find_same p q same [] = refl

@@ -20,9 +20,6 @@ kept_transitive n direct before after found kept a b c at bt ct first rest =
     kept.tells_before a c at ct
     ∙ is_before-trans (orders_in n direct) a b c (sym (kept.tells_before a b at bt) ∙ first) (sym (kept.tells_before b c bt ct) ∙ rest)
 
-pub kept_mirrors : (n : ℕ) (direct before after found : List ℕ) → IsKept n direct before after found → AreMirrors n before after
-kept_mirrors n direct before after found kept a b at bt = kept.tells_after a b at bt ∙ sym (kept.tells_before b a bt at)
-
 more_among : (n p c : ℕ) (os : List Adoption) → IsNumber n p → IsNumber n c → OrdersAmong n os → OrdersAmong n (order_of (p, c) ∷ os)
 more_among n p c os pt ct among a b is =
     ⊎_elim

@@ -1,22 +1,9 @@
 -- Rows that are joined with the source: those that the mirror's row of the first reaches.
 use Rattle.std.proofs.Common.{◌≡◌, ◌≢◌, ◌⊎◌, ℕ, ◌+◌, ◌<◌, ◌≤◌, Bool, true, false, not, ◌&&◌, ◌||◌, eqb, ltb, List, refl, ap, ap₂, sym, ◌∙◌, subst, inl, inr, ⊎_elim, arith}
-use Rattle.std.proofs.lemmas.Bool.{cases_order, cases_lt, lt-ltb, le-ltb, eqb-true, eq-eqb, ne_eqb, or_cases, or_from, and_parts, false≢true}
-use Rattle.wit_matrix.specs.Squares.{has, AddsWhere, IsTransitive, HasNone, ReachesNone, is_at, reaches, joins, joins_row}
+use Rattle.std.proofs.lemmas.Bool.{cases_order, cases_lt, lt-ltb, le-ltb, eqb-true, eq-eqb, ne_eqb, or_cases, and_parts, false≢true}
+use Rattle.wit_matrix.specs.Squares.{has, AddsWhere, IsTransitive, ReachesNone, reaches, joins, joins_row}
 use Rattle.wit_matrix.proofs.Words.{or_none, and_none}
 use Rattle.wit_model.specs.Rules.Numbers.{IsNumber}
-
--- a row is joined with the source: first with its row, then with itself
-pub row_joined : (n row source : ℕ) (old mid new : List ℕ) → AddsWhere n (λ a b. eqb row a && has n old source b) old mid → AddsWhere n (is_at row source) mid new
-    → AddsWhere n (joins_row n old row source) old new
-row_joined n row source old mid new united added a b at bt =
-    added a b at bt ∙ (ap (λ t. t || is_at row source a b) (united a b at bt) ∙ go (has n old a b) (eqb row a) (has n old source b) (eqb source b))
-  where
-    go : (x r s e : Bool) → ((x || (r && s)) || (r && e)) ≡ (x || (r && (e || s)))
-    go true r s e = refl
-    go false false s e = refl
-    go false true false e = sym (or_none e)
-    go false true true true = refl
-    go false true true false = refl
 
 -- the rows below k are joined
 abbrev pub RowsBelow : ℕ → List ℕ → ℕ → ℕ → ℕ → List ℕ → List ℕ → Type 0
@@ -56,10 +43,6 @@ source_kept n mirror first source k old mid st outside below b bt =
     below source b st bt
     ∙ (ap (λ t. has n old source b || (ltb source k && (t && reaches n old source b))) outside
     ∙ (ap (λ t. has n old source b || t) (and_none (ltb source k)) ∙ or_none (has n old source b)))
-
-pub rows_start : (n : ℕ) (mirror : List ℕ) (first source : ℕ) (old : List ℕ) → RowsBelow n mirror first source 1 old old
-rows_start n mirror first source old a b at bt =
-    sym (ap (λ t. has n old a b || (t && joins n mirror first old source a b)) (le-ltb a 1 at.0) ∙ or_none (has n old a b))
 
 pub rows_end : (n : ℕ) (mirror : List ℕ) (first source k : ℕ) (old new : List ℕ) → n < k → RowsBelow n mirror first source k old new
     → AddsWhere n (joins n mirror first old source) old new
@@ -144,8 +127,3 @@ rows_left n mirror first source k old mid st kt transitive below left = go (reac
     go false h unreached has_it isnt = rows_same n mirror first source k old mid below unreached
     go true true reached has_it isnt = rows_skip n mirror first source k old mid st kt transitive below has_it
     go true false reached has_not isnt = absurd (false≢true (sym isnt))
-
--- what a row reaches none of, where it has none but for itself
-pub reaches_none : (n : ℕ) (words : List ℕ) (first from to : ℕ) → HasNone n words first from to → ((from ≤ first) → first < to → ⊥) → ReachesNone n words first from to
-reaches_none n words first from to none apart b le lt =
-    or_from (eqb first b) (has n words first b) (ne_eqb first b (λ e. apart (subst (λ k. from ≤ k) (sym e) le) (subst (λ k. k < to) (sym e) lt))) (none b le lt)

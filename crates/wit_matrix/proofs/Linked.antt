@@ -30,15 +30,6 @@ down_kept : (n : ℕ) (before after b1 : List ℕ) (p c : ℕ) → CanLink n bef
 down_kept n before after b1 p c can joined b bt =
     joined c b can.child bt ∙ (ap (λ t. has n before c b || (t && reaches n before c b)) (not_up n before after p c can) ∙ or_none (has n before c b))
 
-pub not_down : (n : ℕ) (before after b1 : List ℕ) (p c : ℕ) → CanLink n before after p c → AddsWhere n (joins n after p before c) before b1 → reaches n b1 c p ≡ false
-not_down n before after b1 p c can joined =
-    or_from (eqb c p) (has n b1 c p) (ne_eqb c p (λ e. can.apart (sym e))) (down_kept n before after b1 p c can joined p can.parent ∙ can.orderly)
-
-pub mirror_transitive : (n : ℕ) (before after : List ℕ) (p c : ℕ) → CanLink n before after p c → IsTransitive n after
-mirror_transitive n before after p c can i j k it jt kt first rest =
-    can.mirrors i k it kt
-    ∙ can.transitive k j i kt jt it (sym (can.mirrors j k jt kt) ∙ rest) (sym (can.mirrors i j it jt) ∙ first)
-
 pub still_mirrors : (n : ℕ) (before after b1 a1 : List ℕ) (p c : ℕ) → CanLink n before after p c → AddsWhere n (joins n after p before c) before b1
     → AddsWhere n (joins n b1 c after p) after a1 → AreMirrors n b1 a1
 still_mirrors n before after b1 a1 p c can joined mirrored a b at bt =

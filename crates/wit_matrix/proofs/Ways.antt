@@ -28,9 +28,6 @@ find_none test s (suc n) none =
 pub record IsOnWay (os : List Adoption) (n a b steps : ℕ) (gone : List TypeNo) (at : ℕ) : Type 0 where
   pub told : type_numbers gone ++ way os n (n - steps) at b ≡ way os n n a b
 
-pub way_starts : (os : List Adoption) (n a b : ℕ) → IsOnWay os n a b 0 [] a
-way_starts os n a b = record { told = let same : n - 0 ≡ n = omega arith in rw same refl }
-
 type_numbers-push : (gone : List TypeNo) (t : TypeNo) → type_numbers (gone ++ t ∷ []) ≡ type_numbers gone ++ t.0 ∷ []
 type_numbers-push [] t = refl
 type_numbers-push (g ∷ gone) t = ap (λ ns. g.0 ∷ ns) (type_numbers-push gone t)
@@ -64,9 +61,3 @@ pub way_on : (os : List Adoption) (n a b steps : ℕ) (gone more : List TypeNo) 
 way_on os n a b steps gone more t next on lt is goes some = record {
   told = way_step os n a b steps gone more t (way os n (n - (steps + 1)) next b) on lt is (rw (goes, some) refl);
 }
-
--- no step is left
-pub way_over : (os : List Adoption) (n a b steps : ℕ) (gone : List TypeNo) (at : ℕ) → n ≤ steps → IsOnWay os n a b steps gone at → type_numbers gone ≡ way os n n a b
-way_over os n a b steps gone at done on =
-    let none : n - steps ≡ 0 = omega arith in
-    sym (append-nil (type_numbers gone)) ∙ (ap (λ m. type_numbers gone ++ way os n m at b) (sym none) ∙ on.told)

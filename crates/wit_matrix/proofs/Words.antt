@@ -103,12 +103,6 @@ UnitedBelow n row source k old new =
     (a i : ℕ) → IsNumber n a → i < width n
     → word_at n new a i ≡ cond (eqb row a && ltb i k) (bit_or (word_at n old a i) (word_at n old source i)) (word_at n old a i)
 
-pub united_start : (n row source : ℕ) (old : List ℕ) → UnitedBelow n row source 0 old old
-united_start n row source old a i at within =
-    let none : ltb i 0 ≡ false = le-ltb i 0 (omega arith) in
-    sym (ap (λ t. cond (eqb row a && t) (bit_or (word_at n old a i) (word_at n old source i)) (word_at n old a i)) none
-    ∙ ap (λ t. cond t (bit_or (word_at n old a i) (word_at n old source i)) (word_at n old a i)) (and_none (eqb row a)))
-
 ltb_next : (i k : ℕ) → (k ≡ i → ⊥) → ltb i k ≡ ltb i (k + 1)
 ltb_next i k apart = go (cases_order i k)
   where

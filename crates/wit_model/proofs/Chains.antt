@@ -3,16 +3,13 @@ pub mod Acts
 pub mod After
 pub mod Changes
 pub mod Depth
-pub mod Edits
 pub mod Effects
 pub mod Found
 pub mod Free
 pub mod GroupSteps
 pub mod Grouping
 pub mod Held
-pub mod HeldGroups
 pub mod HeldLocks
-pub mod Numbers
 pub mod Owed
 pub mod Regrouping
 pub mod Sane

@@ -1,6 +1,5 @@
 -- Lock types and the orders between them.
 pub mod Among
-pub mod Classes
 pub mod Defined
 pub mod Once
 pub mod Paths

@@ -13,9 +13,8 @@ use Rattle.wit_model.specs.Rules.Types.{is_same_class, is_named, is_enrolled, is
 use Rattle.wit_model.specs.Rules.Files.{is_known_file, file_number}
 use Rattle.indexmap.specs.IndexMap.{IndexMap, set_value_at, insert_entry}
 use Rattle.indexmap.proofs.CallerLemmas.{insert_entry-new}
-use Rattle.wit_model.proofs.Numbered.{with_number-at}
 use Rattle.wit_table.specs.declared.types.TypeRow.{TypeRow}
-use Rattle.wit_table.specs.Known.{type_names, HasName, HasClass, HasNameAt, HasClassAt}
+use Rattle.wit_table.specs.Known.{type_names, HasNameAt, HasClassAt}
 use Rattle.wit_table.specs.Rows.{Text, type_in, types_in, live_in, texts}
 
 -- the test by which a map or a set finds a text
@@ -200,15 +199,6 @@ type_number-HasName types number name distinct given has =
 pub file_number-at : (files : List (List ℕ)) (number : ℕ) (name : List ℕ) → IsDistinct bytes_eq files → 0 < number → slice_get files (number - 1) ≡ Some name
     → file_number name files ≡ number
 file_number-at files number name distinct given at = omega (arith, first-distinct files (number - 1) name distinct at, given)
-
--- what stands at a place stands under the next number
-pub name-numbered : (types : List LockType) (n : ℕ) (name : List ℕ) → 0 < n → HasNameAt types (n - 1) name → HasName types n name
-name-numbered types n name some has =
-    ap (option_map (λ (t : LockType). t.name)) (with_number-at types n some ∙ has.1) ∙ ap Some (sym has.2)
-
-pub class-numbered : (types : List LockType) (n : ℕ) (class : Class) → 0 < n → HasClassAt types (n - 1) class → HasClass types n class
-class-numbered types n class some has =
-    ap (option_map (λ (t : LockType). t.class)) (with_number-at types n some ∙ has.1) ∙ ap Some (sym has.2)
 
 -- what holds of all holds at a place
 pub All-at : {X : Type 0} (P : X → Type 0) (xs : List X) (i : ℕ) (x : X) → All P xs → slice_get xs i ≡ Some x → P x

@@ -1,5 +1,5 @@
 -- What becomes of a line, and what is written for it.
-use Rattle.std.proofs.Common.{◌≡◌, ℕ, ◌+◌, ◌<◌, ◌≤◌, Bool, ◌||◌, cond, ltb, List, [], ◌∷◌, ◌++◌, length, take, length-take, arith, codes, Option, Some, None, Result, Ok, Err, IfOk, OnErr, refl, sym, ap, ap₂, append_assoc, subst, ◌∙◌, false, inl, inr, true, not, unwrap_or}
+use Rattle.std.proofs.Common.{◌≡◌, ℕ, ◌+◌, ◌<◌, ◌≤◌, Bool, ◌||◌, cond, ltb, List, [], ◌∷◌, ◌++◌, length, take, length-take, arith, codes, Option, Some, None, Result, Ok, Err, IfOk, OnErr, refl, sym, ap, ap₂, append_assoc, subst, ◌∙◌, false, inl, inr, unwrap_or}
 use Rattle.std.specs.Global.{Vec}
 use Rattle.std.specs.Io.{StartsWith}
 use Rattle.std.specs.Result.{IsErrAnd}
@@ -29,13 +29,12 @@ use Rattle.wit_grammar.specs.Lines.{Refuses}
 use Rattle.wit_grammar.specs.declared.errors.LineError.{LineError}
 use Rattle.wit_grammar.specs.declared.errors.LineError.TheVariants.{Bad, Memory}
 use Rattle.wit_trace.specs.Machine.{BreaksAt, Follows, first_of}
-use Rattle.wit_trace.specs.Replays.{Calls, EndsFor, FailsFor, GoesOnWith, GoesWith, IsBadFor, allowed, Passes, KeepsTotal, Opens, Reaches, IsWritten, Remarks, ShowsFrom, prelude_of, progress, ends_prelude, total}
+use Rattle.wit_trace.specs.Replays.{Calls, EndsFor, FailsFor, GoesOnWith, GoesWith, IsBadFor, allowed, Passes, KeepsTotal, Reaches, IsWritten, Remarks, ShowsFrom, progress, total}
 use Rattle.wit_trace.specs.Stream.{GoesOn, OutputFrom, ReadsToEnd, WritesLines}
 use Rattle.wit_model.specs.declared.lines.View.{View}
 use Rattle.wit_model.specs.declared.lines.View.TheVariants.{Reports, Graph, Locks, Circle}
-use Rattle.wit_trace.specs.declared.replaying.prelude.Prelude.{Prelude}
 use Rattle.wit_trace.specs.declared.replaying.Replaying.{Replaying}
-use Rattle.wit_trace.specs.declared.replaying.Replaying.TheVariants.{Unstarted, Opening, Reading}
+use Rattle.wit_trace.specs.declared.replaying.Replaying.TheVariants.{Unstarted, Reading}
 use Rattle.wit_trace.specs.declared.stream.machine.Step.{Step}
 use Rattle.wit_trace.specs.declared.stream.machine.Step.TheVariants as step
 use Rattle.wit_trace.specs.declared.summary.Summary.{Summary}
@@ -278,31 +277,6 @@ refused_broken view p q n cause bytes list text summary is keeps texts sums circ
     at [] e = refused_at_end view p q n tail list text summary e keeps texts sums circle
     at (line ∷ ls) e = refused view p q n line list text summary e keeps texts sums circle ls tail
 
--- where the end of the input is bad, the header didn't come
-ends_before : (m : Replaying) (n : ℕ) → ((v : Story) (told : ℕ) → m ≡ Reading v told → ⊥) → output.ends (progress m) n [] ≡ output.ends_bad (progress m) (n, why.Cut)
-ends_before Unstarted n before = refl
-ends_before (Opening prelude) n before = refl
-ends_before (Reading story told) n before = absurd (before story told refl)
-
--- the end of the input before the header
-pub cut_at_end : (view : View) (m : Replaying) (n : ℕ) (text : List ℕ) (summary : Summary) (from : output.Progress) → output.reached from [] ≡ Ok (progress m) → ((v : Story) (told : ℕ) → m ≡ Reading v told → ⊥)
-    → text ≡ output.bad_text n why.Cut → total summary ≡ output.summed (progress m) (Some (n, why.Cut)) → summary.circle ≡ false → IsWritten view (output.course_from from n [] []) text summary
-cut_at_end view m n text summary from stands before texts sums circle =
-    subst (λ w. IsWritten view w text summary)
-    (sym (ap (λ (due : Result output.Progress output.BadLine). output.course_at from due (λ q. output.ends q n [])) stands ∙ ends_before m n before))
-    (bad_written view (progress m) (n, why.Cut) text summary texts sums circle)
-
--- the end of the input behind it
-pub all_read : (view : View) (m : Replaying) (v : Story) (k : ℕ) (n : ℕ) (text : List ℕ) (summary : Summary) (from : output.Progress) → output.reached from [] ≡ Ok (progress m) → m ≡ Reading v k
-    → output.IsViewOf view v text summary.circle → total summary ≡ output.summed (progress m) None → IsWritten view (output.course_from from n [] []) text summary
-all_read view m v k n text summary from stands is shows sums =
-    subst (λ w. IsWritten view w text summary)
-    (sym (ap (λ (due : Result output.Progress output.BadLine). output.course_at from due (λ q. output.ends q n [])) (stands ∙ ap (λ (r : Replaying). Ok (progress r)) is)))
-    (record {
-      is_shown = record { last = text; parts = ap (λ (l : List ℕ). l ++ text) (sym (shown_none view)); ends = shows };
-      summed = sums ∙ ap (λ (r : Replaying). output.summed (progress r) None) is;
-    })
-
 -- what is answered at a line that breaks off, where a list may be refused
 pub broken_answer : {E : Type 0} (view : View) (m r : Replaying) (n : ℕ) (cause : Cause) (bytes : List ℕ) (list : Option output.BadLine) (at : output.BadLine) (answer : Result (Vec ℕ × Summary) E) → Reaches (output.reached (progress m) bytes) (progress m) (progress r) list → at ≡ unwrap_or list (n, cause)
     → IfOk answer (λ a. a.0.items ≡ output.bad_text at.0 at.1) → IfOk answer (λ a. total a.1 ≡ output.summed (progress r) (Some at)) → IfOk answer (λ a. a.1.circle ≡ false)
@@ -312,18 +286,6 @@ broken_answer view m r n cause bytes None at (Ok a) reaches is texts sums circle
     broken view (progress m) (progress r) n cause bytes a.0.items a.1 reaches (texts ∙ ap (λ (l : output.BadLine). output.bad_text l.0 l.1) is) (sums ∙ ap (λ (l : output.BadLine). output.summed (progress r) (Some l)) is) circle
 broken_answer view m r n cause bytes (Some line) at (Ok a) reaches is texts sums circle =
     refused_broken view (progress m) (progress r) n cause bytes line a.0.items a.1 reaches.0 reaches.1 (texts ∙ ap (λ (l : output.BadLine). output.bad_text l.0 l.1) is) (sums ∙ ap (λ (l : output.BadLine). output.summed (progress r) (Some l)) is) circle
-
--- the prelude ends before a line, and its lists are entered
-pub reached-open : (before : Replaying) (prelude : Prelude) (line : List ℕ) (story : Story) → before ≡ Opening prelude → ends_prelude (progress before) line ≡ true
-    → Opens (output.opened (prelude_of prelude) (start_fault (prelude_of prelude).start)) (Ok story) → output.reached (progress before) line ≡ Ok (output.Reading story 0)
-reached-open before prelude line story is ends opens =
-    subst (λ q. output.reached (progress q) line ≡ Ok (output.Reading story 0)) (sym is)
-    (go (output.is_prelude line) (subst (λ q. ends_prelude (progress q) line ≡ true) is ends))
-  where
-    go : (b : Bool) → not b ≡ true
-        → cond {A = Result output.Progress output.BadLine} b (Ok (output.Opening (prelude_of prelude))) (output.opened (prelude_of prelude) (start_fault (prelude_of prelude).start)) ≡ Ok (output.Reading story 0)
-    go true ended = (cc)
-    go false ended = opens
 
 -- what the machine that replays allows
 abbrev replays : View → Replaying → ℕ → List ℕ → List ℕ → Summary → Type 0

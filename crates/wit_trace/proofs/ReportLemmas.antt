@@ -1,5 +1,5 @@
 -- A line tells of one report at most.
-use Rattle.std.proofs.Common.{◌≡◌, ℕ, ◌+◌, ◌≤◌, Bool, true, false, cond, ltb, length, List, [], ◌∷◌, Option, None, Some, Result, Ok, Err, refl, sym, ap, subst, arith}
+use Rattle.std.proofs.Common.{◌≡◌, ℕ, ◌+◌, ◌≤◌, Bool, true, false, cond, ltb, length, List, [], ◌∷◌, Option, None, Some, Result, Ok, Err, refl, ap, subst, arith}
 use Rattle.std.proofs.lemmas.List.Sums.{sum_by-cons}
 use Rattle.wit_model.specs.declared.calls.Call.{Call}
 use Rattle.wit_model.specs.declared.calls.Call.TheVariants as call
@@ -20,7 +20,6 @@ use Rattle.wit_model.specs.Trace.Reading.{line_of}
 use Rattle.wit_model.specs.Trace.Views.{assert_text, warn_text}
 use Rattle.wit_trace.proofs.ReplayLemmas.{check_at, try_at}
 use Rattle.wit_model.specs.Rules.History.{reports_of, is_report}
-use Rattle.wit_model.specs.Rules.Start.{start_fault}
 use Rattle.wit_model.specs.Rules.State.{Story, state_of, typed_locks}
 use Rattle.wit_model.specs.Rules.Step.{answer_of, grown, logged, is_logged}
 use Rattle.wit_model.specs.Trace.Output as output
@@ -28,11 +27,8 @@ use Rattle.wit_grammar.specs.declared.errors.LineError.{LineError}
 use Rattle.wit_grammar.specs.declared.errors.LineError.TheVariants.{Bad, Memory}
 use Rattle.wit_model.specs.declared.lines.View.{View}
 use Rattle.wit_trace.specs.declared.stream.machine.Step.{Step}
-use Rattle.wit_trace.specs.Replays.{Calls, EndsFor, FailsFor, KeepsTotal, Passes, Reaches, reported}
+use Rattle.wit_trace.specs.Replays.{Calls, EndsFor, FailsFor, KeepsTotal, Passes, reported}
 use Rattle.std.specs.Global.{Vec}
-
-ok_is : {A B : Type 0} (x y : A) → ◌≡◌ {A = Result A B} (Ok x) (Ok y) → x ≡ y
-ok_is x y e = cc
 
 -- where a sum keeps, the reports do
 pub keeps_reports : (p q : output.Progress) → KeepsTotal p q → reported q ≡ reported p
@@ -178,18 +174,3 @@ module _ (old new : Story) (m : ℕ) (line : Line) (r : Result Reply LineError) 
   pub call_ended_one : (view : View) (n : ℕ) (e : LineError) (s : Step) → r ≡ Err e → EndsFor view (output.Reading new m) n e s → reports_of new.history + m ≤ reports_of old.history + m + 1
   call_ended_one view n Memory s is ends = elim ends [ ]
   call_ended_one view n (Bad cause) s is ends = refused_one cause is
-
--- where the prelude ends no report was told
-pub reaches_reports : (p q : output.Progress) (line : List ℕ) (r : Option output.BadLine) → Reaches (output.reached p line) p q r → reported q ≡ reported p
-reaches_reports p q line (Some bad) h = keeps_reports p q h.1
-reaches_reports output.Unstarted q line None h = sym (ap reported (ok_is {B = output.BadLine} _ _ h))
-reaches_reports (output.Reading s m) q line None h = sym (ap reported (ok_is {B = output.BadLine} _ _ h))
-reaches_reports (output.Opening o) q line None h = go (output.is_prelude line) (start_fault o.start) h
-  where
-    opens : (f : Option (ℕ × Fault)) → output.opened o f ≡ Ok q → reported q ≡ 0
-    opens None e = sym (ap reported (ok_is {B = output.BadLine} _ _ e))
-    opens (Some bad) e = absurd cc
-
-    go : (b : Bool) (f : Option (ℕ × Fault)) → cond {A = Result output.Progress output.BadLine} b (Ok (output.Opening o)) (output.opened o f) ≡ Ok q → reported q ≡ 0
-    go true f e = sym (ap reported (ok_is {B = output.BadLine} _ _ e))
-    go false f e = opens f e

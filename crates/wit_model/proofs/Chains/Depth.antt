@@ -159,10 +159,6 @@ shallow_legal start files [] t legal = record {
 }
 shallow_legal start files (x ∷ h) t legal = shallow_more start files h t x (sane_legal start files h legal.2) legal.0 (shallow_legal start files h t legal.2)
 
--- a held lock's count fits 16 bits
-pub count-legal : (start : Start) (files : List (List ℕ)) (h : List Entry) (t l : ℕ) → IsLegal start files h → (instance t h l).count ≤ 65535
-count-legal start files h t l legal = let b = (shallow_legal start files h t legal).bound l in omega arith
-
 some-is : (b : Bool) (i j : Instance) → if_some b i ≡ Some j → (b ≡ true) × (i ≡ j)
 some-is true i j e = (refl, let same : i ≡ j = cc in same)
 some-is false i j e = (cc)

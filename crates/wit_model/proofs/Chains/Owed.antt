@@ -1,7 +1,7 @@
--- The log entries that are owed, after an entry; and that the log never runs out of room for them.
-use Rattle.std.proofs.Common.{◌≡◌, ℕ, zero, suc, ◌+◌, ◌<◌, ◌≤◌, Bool, true, false, not, ◌&&◌, cond, nat_lt, List, [], ◌∷◌, length, map, filter, find, sum_by, Option, Some, None, is_some, Ok, refl, ap, ap₂, sym, ◌∙◌, arith}
+-- The log entries that are owed to the seats, after an entry.
+use Rattle.std.proofs.Common.{◌≡◌, ℕ, zero, suc, ◌+◌, ◌<◌, ◌≤◌, Bool, true, false, not, ◌&&◌, cond, nat_lt, List, [], ◌∷◌, map, filter, find, sum_by, Option, Some, None, refl, ap, ap₂, ◌∙◌, arith}
 use Rattle.std.specs.List.{range_with_len}
-use Rattle.std.proofs.lemmas.Bool.{ltb-true, ltb-false, leb-true, true≢false, false≢true}
+use Rattle.std.proofs.lemmas.Bool.{ltb-true, ltb-false, false≢true}
 use Rattle.std.proofs.lemmas.List.Sums.{sum_by-cons, sum_by_push}
 use Rattle.wit_model.specs.declared.locks.LockNo.{LockNo}
 use Rattle.wit_model.specs.declared.locks.Mode.{Mode}
@@ -16,9 +16,8 @@ use Rattle.wit_model.specs.declared.calls.Reply.TheVariants.{Recorded, Unlocked}
 use Rattle.wit_model.specs.declared.calls.Entry.{Entry}
 use Rattle.wit_model.specs.Rules.Locks.{locks_of, is_spin_lock, is_of_kind}
 use Rattle.wit_model.specs.Rules.History.{Nothing, act, chain, pending, pending_after, is_held, instance, asked_mode, asked_site, Act, Marks, Turns}
-use Rattle.wit_model.specs.Rules.State.{Start, seat_of, seats_of, state_of, recorded_in, owed_for, owed_by}
+use Rattle.wit_model.specs.Rules.State.{seat_of, seats_of, recorded_in, owed_for, owed_by}
 use Rattle.wit_model.specs.Rules.Verdict.{is_of}
-use Rattle.wit_model.specs.Rules.Step.{is_for, is_logged, answer_of, story_after, IsLegal}
 use Rattle.wit_model.proofs.Chains.Sane.{IsSane}
 use Rattle.wit_model.proofs.Chains.HeldLocks.{taken, changed}
 use Rattle.wit_model.proofs.Chains.Found.{if_some, found}
@@ -26,8 +25,7 @@ use Rattle.wit_model.proofs.Chains.Changes.{at, is_other}
 use Rattle.wit_model.proofs.Chains.After.{recursed, fewer, noted, unlocked, part_after}
 use Rattle.wit_model.proofs.Chains.Seats.{seat_after, sum-step, entry, seat_after-quiet}
 use Rattle.wit_model.proofs.Chains.Stands.{stands, stands-chain, sum-changed, sum-removed}
-use Rattle.wit_model.proofs.Histories.Accepted.{asked-lock, check_accepted, note_accepted, try_accepted, give_up_accepted, unlock_accepted, init_accepted, is_plain, plain_accepted}
-use Rattle.wit_model.proofs.Histories.Legal.{one_chain, own_kind, seat-within, pending-state, sane_legal, unlock-held, plain-even, plain-keeps}
+use Rattle.wit_model.proofs.Histories.Legal.{one_chain, own_kind}
 use Rattle.wit_model.proofs.Chains.Acts.{is_even}
 
 -- an acquisition counts one more
@@ -184,71 +182,3 @@ owed-none a (suc n) =
 -- nothing is owed at the start
 pub owed_to-nil : (n : ℕ) → owed_to n [] ≡ 0
 owed_to-nil n = owed-none 1 n
-
-idle-none : (o : Option Request) → is_some o ≡ false → o ≡ None
-idle-none None is = refl
-idle-none (Some q) is = absurd (true≢false is)
-
--- the log has room for all that is owed
-abbrev HasRest : Start → List Entry → Type 0
-HasRest start h = length h + owed_to start.sizes.seats h ≤ start.sizes.log
-
-note_rest : (start : Start) (h : List Entry) (t : ℕ) (l : LockNo) (r : Reply) (q : Request) → IsSane (entry t (Note l) r ∷ h) → (0 < t) × (t ≤ start.sizes.seats)
-    → pending t h ≡ Some q → HasRest start h → HasRest start (entry t (Note l) r ∷ h)
-note_rest start h t l Recorded q sane within asked rest = omega (arith, rest, owed-note start.sizes.seats t l q h sane within.0 within.1 asked)
-note_rest start h t l r q sane within asked rest = omega (arith, rest, owed-unnoted start.sizes.seats t l r q h sane within.0 within.1 refl asked)
-
-try_rest : (start : Start) (h : List Entry) (t : ℕ) (l : LockNo) (m : Mode) (site : Site) (r : Reply) → IsSane (entry t (NoteTry l m site) r ∷ h)
-    → (0 < t) × (t ≤ start.sizes.seats) → length h + owed_to start.sizes.seats h + 2 ≤ start.sizes.log → HasRest start (entry t (NoteTry l m site) r ∷ h)
-try_rest start h t l m site Recorded sane within room = omega (arith, room, owed-try start.sizes.seats t l m site h sane within.0 within.1)
-try_rest start h t l m site r sane within room = omega (arith, room, owed-same start.sizes.seats t (NoteTry l m site) r h sane within.0 within.1 refl refl)
-
-unlock_rest : (start : Start) (h : List Entry) (t : ℕ) (l : LockNo) (m : Mode) (r : Reply) → r ≡ Unlocked → IsSane (entry t (Unlock l m) r ∷ h)
-    → (0 < t) × (t ≤ start.sizes.seats) → is_held t l.0 h ≡ true → HasRest start h → HasRest start (entry t (Unlock l m) r ∷ h)
-unlock_rest start h t l m Unlocked same sane within is rest = omega (arith, rest, owed-unlock start.sizes.seats t l m h sane within.0 within.1 is)
-unlock_rest start h t l m r same sane within is rest = (cc)
-
-plain_rest : (start : Start) (files : List (List ℕ)) (h : List Entry) (t : ℕ) (c : Call) (r : Reply) → is_plain c ≡ true → IsSane (entry t c r ∷ h)
-    → answer_of (story_after start files h) t c ≡ Ok r → is_logged r ≡ true → HasRest start (entry t c r ∷ h)
-plain_rest start files h t c r plain sane ok kept =
-    let a = plain_accepted (state_of (story_after start files h)) t c r plain ok kept in
-    let within = seat-within start files h t a.seat in
-    let room = leb-true _ _ a.room in
-    omega (arith, room, owed-even start.sizes.seats t c r h sane within.0 within.1 (plain-even c r plain) (plain-keeps c (pending t h) plain))
-
-rest_by : (start : Start) (files : List (List ℕ)) (h : List Entry) (t : ℕ) (c : Call) (r : Reply) → IsSane (entry t c r ∷ h)
-    → answer_of (story_after start files h) t c ≡ Ok r → is_logged r ≡ true → HasRest start h → HasRest start (entry t c r ∷ h)
-rest_by start files h t (Init lock) r sane ok kept rest =
-    let a = init_accepted (state_of (story_after start files h)) t lock r ok in
-    let within = seat-within start files h t a.seat in
-    let room = leb-true _ _ a.room in
-    omega (arith, room, owed-init start.sizes.seats t lock r h sane within.0 within.1)
-rest_by start files h t (Check q) r sane ok kept rest =
-    let a = check_accepted (state_of (story_after start files h)) t q r ok in
-    let within = seat-within start files h t a.seat in
-    let room = leb-true _ _ a.room in
-    let idle = idle-none (pending t h) (ap is_some (sym (pending-state start files h t a.seat)) ∙ a.idle) in
-    omega (arith, room, owed-check start.sizes.seats t q r h sane within.0 within.1 idle)
-rest_by start files h t (Note l) r sane ok kept rest =
-    let a = note_accepted (state_of (story_after start files h)) t l.0 r ok in
-    let asked = asked-lock l.0 (pending t h) (ap (λ o. is_for l.0 o) (sym (pending-state start files h t a.seat)) ∙ a.asked) in
-    note_rest start h t l r asked.0 sane (seat-within start files h t a.seat) asked.1 rest
-rest_by start files h t (NoteTry l m site) r sane ok kept rest =
-    let a = try_accepted (state_of (story_after start files h)) t l.0 m site r ok in
-    let room = leb-true _ _ a.room in
-    try_rest start h t l m site r sane (seat-within start files h t a.seat) (omega (arith, room))
-rest_by start files h t (GiveUp l) r sane ok kept rest =
-    let a = give_up_accepted (state_of (story_after start files h)) t l.0 r ok in
-    let within = seat-within start files h t a.seat in
-    let asked = asked-lock l.0 (pending t h) (ap (λ o. is_for l.0 o) (sym (pending-state start files h t a.seat)) ∙ a.asked) in
-    omega (arith, rest, owed-give_up start.sizes.seats t l r asked.0 h sane within.0 within.1 asked.1)
-rest_by start files h t (Unlock l m) r sane ok kept rest =
-    let a = unlock_accepted (state_of (story_after start files h)) t l.0 m r ok kept in
-    unlock_rest start h t l m r a.reply sane (seat-within start files h t a.seat) (unlock-held start files h t l.0 m r sane.1 a).0 rest
-rest_by start files h t c r sane ok kept rest = plain_rest start files h t c r refl sane ok kept
-
--- used and owed entries never pass the log's limit
-pub few_legal : (start : Start) (files : List (List ℕ)) (h : List Entry) → IsLegal start files h → length h + owed_to start.sizes.seats h ≤ start.sizes.log
-few_legal start files [] legal = omega (arith, owed_to-nil start.sizes.seats)
-few_legal start files (e ∷ h) legal =
-    rest_by start files h e.seat.0 e.call e.reply (sane_legal start files (e ∷ h) legal) legal.0 legal.1 (few_legal start files h legal.2)

@@ -1,13 +1,9 @@
 -- A lock in a chain where it stands once: found, changed in its place, and removed from it.
-use Rattle.std.proofs.Common.{◌≡◌, ℕ, zero, suc, ◌+◌, ◌<◌, ◌≤◌, Bool, true, false, cond, eqb, nat_lt, List, [], ◌∷◌, ◌++◌, length, map, filter, find, position, remove, set, get_or, sum_by, Option, Some, None, refl, ap, ap₂, sym, ◌∙◌, subst, arith, slice_get}
-use Rattle.std.specs.List.{list_all, position_or_len}
-use Rattle.std.proofs.lemmas.Bool.{and_parts, ltb-true, ltb-false}
+use Rattle.std.proofs.Common.{◌≡◌, ℕ, ◌+◌, ◌≤◌, Bool, true, false, cond, eqb, List, [], ◌∷◌, ◌++◌, map, filter, find, sum_by, Option, Some, refl, ap, ap₂, sym, ◌∙◌, subst, arith}
+use Rattle.std.specs.List.{list_all}
 use Rattle.std.proofs.lemmas.List.{map-append}
 use Rattle.std.proofs.lemmas.List.Elements.{filter-append}
 use Rattle.std.proofs.lemmas.List.Sums.{sum_by-append, sum_by-cons}
-use Rattle.std.proofs.lemmas.List.Folds.{find_at}
-use Rattle.std.proofs.lemmas.Option.{slice_get-get_or}
-use Rattle.std.proofs.Math.Seq.{set-append_seam}
 use Rattle.wit_model.specs.declared.locks.Instance.{Instance}
 use Rattle.wit_model.specs.declared.calls.Entry.{Entry}
 use Rattle.wit_model.specs.Rules.Locks.{locks_of, is_of_kind}
@@ -100,70 +96,6 @@ filter-split l c i s =
     ∙ filter-append (is_other l) s.front (i ∷ s.back)
     ∙ ap₂ (λ a b. a ++ b) (filter-absent l s.front s.front_free)
     ((let e : is_of l i ≡ true = s.here in rw e refl) ∙ filter-absent l s.back s.back_free)
-
-place-front : (l : ℕ) (front : List Instance) (i : Instance) (back : List Instance) → is_of l i ≡ true → list_all (is_other l) front ≡ true
-    → position_or_len (is_of l) (front ++ i ∷ back) ≡ length front
-place-front l [] i back is free = rw is refl
-place-front l (x ∷ front) i back is free =
-    let parts = and_parts (is_other l x) (list_all (is_other l) front) free in
-    rw parts.0 (let e = place-front l front i back is parts.1 in omega (arith, e))
-
-remove-front : (front : List Instance) (i : Instance) (back : List Instance) → remove (front ++ i ∷ back) (length front) ≡ front ++ back
-remove-front [] i back = refl
-remove-front (x ∷ front) i back = ap (λ c. x ∷ c) (remove-front front i back)
-
-place-split : (l : ℕ) (c : List Instance) (i : Instance) → (s : Split l c i) → position_or_len (is_of l) c ≡ length s.front
-place-split l c i s = ap (λ d. position_or_len (is_of l) d) s.whole ∙ place-front l s.front i s.back s.here s.front_free
-
--- what `position` answers
-position_at : (l : ℕ) (c : List Instance) (i : ℕ) → position (is_of l) c ≡ Some i → (position_or_len (is_of l) c ≡ i) × (position_or_len (is_of l) c < length c)
-position_at l c i is = go (nat_lt (position_or_len (is_of l) c) (length c)) refl is
-  where
-    go : (b : Bool) → nat_lt (position_or_len (is_of l) c) (length c) ≡ b → cond b (Some (position_or_len (is_of l) c)) None ≡ Some i
-        → (position_or_len (is_of l) c ≡ i) × (position_or_len (is_of l) c < length c)
-    go true lt same = ((let e : position_or_len (is_of l) c ≡ i = cc in e), ltb-true (position_or_len (is_of l) c) (length c) lt)
-    go false lt same = (cc)
-
-pub position-within : (l : ℕ) (c : List Instance) (i : ℕ) → position (is_of l) c ≡ Some i → i < length c
-position-within l c i is = let p = position_at l c i is in omega (arith, p.0, p.1)
-
--- the position and the find agree
-pub found-at : (l : ℕ) (c : List Instance) (i : ℕ) (d : Instance) → position (is_of l) c ≡ Some i → find (is_of l) c ≡ Some (get_or c i d)
-found-at l c i d is =
-    let p = position_at l c i is in
-    find_at (is_of l) c ∙ slice_get-get_or c (position_or_len (is_of l) c) d p.1 ∙ ap (λ n. Some (get_or c n d)) p.0
-
-slice_get-past : (c : List Instance) (i : ℕ) → length c ≤ i → slice_get c i ≡ None
-slice_get-past [] i le = refl
-slice_get-past (x ∷ c) zero le = absurd (omega arith)
-slice_get-past (x ∷ c) (suc i) le = slice_get-past c i (omega arith)
-
-pub found-nowhere : (l : ℕ) (c : List Instance) → position (is_of l) c ≡ None → find (is_of l) c ≡ None
-found-nowhere l c is = go (nat_lt (position_or_len (is_of l) c) (length c)) refl is
-  where
-    go : (b : Bool) → nat_lt (position_or_len (is_of l) c) (length c) ≡ b → cond b (Some (position_or_len (is_of l) c)) None ≡ None → find (is_of l) c ≡ None
-    go true lt same = (cc)
-    go false lt same = find_at (is_of l) c ∙ slice_get-past c (position_or_len (is_of l) c) (ltb-false (position_or_len (is_of l) c) (length c) lt)
-
-at_place : (l : ℕ) (c : List Instance) (i : ℕ) (d : Instance) → position (is_of l) c ≡ Some i → (s : Split l c (get_or c i d)) → i ≡ length s.front
-at_place l c i d is s = sym (position_at l c i is).0 ∙ place-split l c (get_or c i d) s
-
--- a change at the position is the change of the lock
-pub set-at : (l : ℕ) (f : Instance → Instance) (c : List Instance) (i : ℕ) (d : Instance) → position (is_of l) c ≡ Some i → stands l c ≤ 1
-    → set c i (f (get_or c i d)) ≡ map (at l f) c
-set-at l f c i d is one =
-    let s = split l c (get_or c i d) (found-at l c i d is) one in
-    ap₂ (λ e n. set e n (f (get_or c i d))) s.whole (at_place l c i d is s)
-    ∙ set-append_seam s.front (get_or c i d) s.back (f (get_or c i d))
-    ∙ sym (map-split l f c (get_or c i d) s)
-
--- a removal at the position leaves the others
-pub remove-at : (l : ℕ) (c : List Instance) (i : ℕ) (d : Instance) → position (is_of l) c ≡ Some i → stands l c ≤ 1 → remove c i ≡ filter (is_other l) c
-remove-at l c i d is one =
-    let s = split l c (get_or c i d) (found-at l c i d is) one in
-    ap₂ (λ e n. remove e n) s.whole (at_place l c i d is s)
-    ∙ remove-front s.front (get_or c i d) s.back
-    ∙ sym (filter-split l c (get_or c i d) s)
 
 -- a sum over the chain, where the lock is changed or removed
 pub sum-changed : (g : Instance → ℕ) (l : ℕ) (f : Instance → Instance) (c : List Instance) (i : Instance) → find (is_of l) c ≡ Some i → stands l c ≤ 1

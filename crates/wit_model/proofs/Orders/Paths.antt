@@ -119,10 +119,6 @@ path-test os a (v ∷ way) b p = composes os a v b (direct-test os a v p.0) (pat
 pub test_from_before : (os : List Adoption) (a b : ℕ) → Before os a b → is_before os a b ≡ true
 test_from_before os a b p = path-test os a p.0 b p.1
 
--- the test, once an order more is adopted
-pub is_before_more : (o : Adoption) (os : List Adoption) (a b : ℕ) → is_before (o ∷ os) a b ≡ (is_before os a b || ((eqb o.parent.0 a || is_before os a o.parent.0) && (eqb o.child.0 b || is_before os o.child.0 b)))
-is_before_more o os a b = refl
-
 pub is_before-trans : (os : List Adoption) (a b c : ℕ) → is_before os a b ≡ true → is_before os b c ≡ true → is_before os a c ≡ true
 is_before-trans os = composes os
 

@@ -175,14 +175,3 @@ pub types_legal : (start : Start) (files : List (List ℕ)) (h : List Entry) →
     → length (types_of start h) ≤ start.sizes.types
 types_legal start files [] le legal = le
 types_legal start files (x ∷ h) le legal = types_by start files h x.seat.0 x.call x.reply legal.0 (types_legal start files h le legal.2)
-
-locks_by : (start : Start) (files : List (List ℕ)) (h : List Entry) (t : ℕ) (c : Call) (r : Reply) → answer_of (story_after start files h) t c ≡ Ok r
-    → length (typed_locks start h) ≤ start.sizes.locks → length (typed_locks start (entry t c r ∷ h)) ≤ start.sizes.locks
-locks_by start files h t (Init lock) r ok le =
-    let lt = leb-false _ _ (init_accepted (state_of (story_after start files h)) t lock r ok).locks in
-    omega (arith, lt, length-append (typed_locks start h) (made_among (types_of start h) (Init lock)))
-locks_by start files h t c r ok le = omega (arith, le, ap length (typed-same start h t c r refl))
-
-pub locks_legal : (start : Start) (files : List (List ℕ)) (h : List Entry) → IsLegal start files h → length (typed_locks start h) ≤ start.sizes.locks
-locks_legal start files [] legal = omega arith
-locks_legal start files (x ∷ h) legal = locks_by start files h x.seat.0 x.call x.reply legal.0 (locks_legal start files h legal.2)

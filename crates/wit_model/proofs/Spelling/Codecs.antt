@@ -59,9 +59,6 @@ pub after_some : (byte : ℕ) (bytes rest : List ℕ) → after byte bytes ≡ S
 after_some byte [] rest e = absurd cc
 after_some byte (b ∷ bytes) rest e = let h = cond_some (eqb b byte) bytes rest e in let is : b ≡ byte = eqb-true b byte h.0 in cc
 
-pub after_again : (byte : ℕ) (rest : List ℕ) → after byte (byte ∷ rest) ≡ Some rest
-after_again byte rest = rw (eq-eqb byte byte refl) refl
-
 -- ---- words
 
 -- text is what a word says, and read tells it

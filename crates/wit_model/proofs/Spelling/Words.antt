@@ -259,9 +259,6 @@ pub parted_here : (byte : ℕ) (front back : List ℕ) → parted_at_last byte b
 parted_here byte [] back none = rw (none, eq-eqb byte byte refl) refl
 parted_here byte (b ∷ front) back none = rw (parted_here byte front back none) refl
 
-pub parted_on : (byte b : ℕ) (bytes : List ℕ) → eqb b byte ≡ false → parted_at_last byte bytes ≡ None → parted_at_last byte (b ∷ bytes) ≡ None
-parted_on byte b bytes other none = rw (none, other) refl
-
 parted_step : (byte b : ℕ) (bytes : List ℕ) (o : Option (List ℕ × List ℕ)) (x : List ℕ × List ℕ) → ((y : List ℕ × List ℕ) → o ≡ Some y → bytes ≡ y.0 ++ byte ∷ y.1) → parted_before b (eqb b byte) bytes o ≡ Some x → b ∷ bytes ≡ x.0 ++ byte ∷ x.1
 parted_step byte b bytes (Some y) x sofar e =
     let same : (b ∷ y.0, y.1) ≡ x = some_is (b ∷ y.0, y.1) x e in
