@@ -1,5 +1,5 @@
-//! The calls. Of those that are logged each first gives its answer, which only reads; then it asks for all the memory that it needs;
-//! then come changes that can't fail, the log's entry last.
+//! The calls. Each that is logged has its answer before it changes anything. A change that wants memory changes nothing where it gets
+//! none, and comes before those that can't fail; the log's entry comes last.
 
 mod assert_lock;
 mod check;

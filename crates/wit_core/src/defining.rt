@@ -31,6 +31,9 @@ impl Definition {
 }
 
 /// What a verdict on the defining of an order says of it.
+///
+/// # Errors
+/// The verdict's fault.
 pub fn defined(verdict: Verdict) -> Result<Definition, Fault>
     requires { IsDefinition verdict }
     ensures { definition_reply result ≡ definition_of verdict }

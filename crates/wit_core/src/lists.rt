@@ -5,7 +5,7 @@ ghost use Rattle.std.specs.List.{list_any};
 ghost use Rattle.std.specs.Str.{bytes_eq};
 ghost use Rattle.wit_model.specs.declared.locks.Class.{Class};
 ghost use Rattle.wit_model.specs.Rules.Names.{is_name};
-ghost use Rattle.wit_model.specs.Rules.Types.{is_spin, is_same_class, is_enrolled, enrolled, enrolled_all, type_number};
+ghost use Rattle.wit_model.specs.Rules.Types.{is_spin, is_same_class, is_enrolled, enrolled_all, type_number};
 ghost use Rattle.wit_model.specs.Rules.Orders.{listed_pairs, adopted_once};
 ghost use Rattle.wit_model.specs.declared.locks.Origin.TheVariants.{Listed};
 ghost use Rattle.wit_model.specs.Rules.Start.{list_fault, lists_fault, is_misclassed, has_both_kinds, has_twin, has_bad_pair};

@@ -8,7 +8,7 @@ use std::marker::Model;
 use wit_model::{Entry, Reply};
 
 /// The accepted calls, up to a number of entries, and how many entries are owed to calls that may not be refused room: the
-/// note of each pending request, and the release of each lock asked for or held.
+/// note and the release of each pending request, and the release of each recorded acquisition.
 #[derive(Drop)]
 pub struct Log {
     limit: u32,

@@ -1,7 +1,7 @@
 //! Questions to the table of names.
 
 ghost use Rattle.std.specs.Prelude.{◌≡◌};
-ghost use Rattle.wit_model.specs.Rules.Types.{is_enrolled, type_number, name_of};
+ghost use Rattle.wit_model.specs.Rules.Types.{is_enrolled, type_number};
 ghost use Rattle.wit_model.specs.Rules.Numbers.{is_given};
 
 use wit_model::TypeNo;
@@ -29,15 +29,4 @@ pub fn is_type(names: &Table, number: TypeNo) -> bool
     ensures { result ≡ is_given names.now.types number.0 }
 {
     0 < number.0 && number.0 as usize <= names.len()
-}
-
-/// The name of a type, by its number; empty for a number that was never given.
-pub fn type_name(names: &Table, number: TypeNo) -> &str
-    ensures { result.now ≡ name_of number.0 names.now.types }
-{
-    if is_type(names, number) {
-        names.name_of(number)
-    } else {
-        ""
-    }
 }

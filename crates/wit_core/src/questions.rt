@@ -1,21 +1,18 @@
 //! What the answers ask of a verifier, in the words of the rules.
 
-ghost use Rattle.std.specs.Prelude.{◌≡◌, ◌<◌, ◌+◌, ◌&&◌, ◌==◌, true, Some, not, is_some, IfSome, IfOk, IfErr, OnOk, length, nat_le};
-ghost use Rattle.std.specs.List.{list_any};
+ghost use Rattle.std.specs.Prelude.{◌≡◌, ◌+◌, ◌&&◌, true, Some, not, is_some, IfSome, IfOk, IfErr, OnOk, length, nat_le};
 ghost use Rattle.wit_model.specs.Rules.Locks.{lock_at};
 ghost use Rattle.wit_model.specs.Rules.Numbers.{is_number};
 ghost use Rattle.wit_model.specs.Rules.State.{state_of, seat_at, is_seat, is_live, has_room};
 ghost use Rattle.wit_model.specs.Rules.Step.{held_by, is_too_deep};
 ghost use Rattle.wit_model.specs.Rules.Destroying.{is_used};
-ghost use Rattle.wit_model.specs.Rules.Types.{is_otherwise, is_enrolled, type_number};
+ghost use Rattle.wit_model.specs.Rules.Types.{is_otherwise, is_enrolled};
 ghost use Rattle.wit_core.specs.Replies.{before_acquiring, before_answering, before_naming, Admits, Refuses};
 
 use crate::known::class_of;
-use crate::names::{is_enrolled, type_number};
+use crate::names::is_enrolled;
 use crate::verifier::Verifier;
-use wit_model::{
-    Class, Fault, FileNo, Instance, Lock, LockNo, Mode, Request, SeatNo, Site, TypeNo,
-};
+use wit_model::{Class, Fault, FileNo, Instance, LockNo, Mode, Request, SeatNo, Site};
 
 impl Verifier {
     pub(crate) fn is_seat(&self, seat: SeatNo) -> bool

@@ -89,6 +89,9 @@ fn keyword_of(word: &[u8]) -> Option<Keyword>
 }
 
 /// The line by itself.
+///
+/// # Errors
+/// Want of memory.
 pub fn owned(alloc: Global, line: LockLine<'_>) -> Result<Line, AllocError>
     ensures { IfOk result (λ l. l ≡ as_line line.entry) }
 {
@@ -127,6 +130,10 @@ pub fn owned(alloc: Global, line: LockLine<'_>) -> Result<Line, AllocError>
     }
 }
 
+/// What stands behind the word `check`.
+///
+/// # Errors
+/// `LineError::SYNTAX` where that isn't its fields.
 #[tactic(auto, unfolding(wit_model::specs::Trace::Reading::check_of))]
 #[inline(always)]
 pub fn check(bytes: &[u8]) -> Result<LockLine<'_>, LineError>
@@ -150,6 +157,10 @@ pub fn check(bytes: &[u8]) -> Result<LockLine<'_>, LineError>
     })
 }
 
+/// What stands behind the word `lock`.
+///
+/// # Errors
+/// `LineError::SYNTAX` where that isn't its fields.
 #[tactic(auto, unfolding(wit_model::specs::Trace::Reading::note_of))]
 #[inline(always)]
 pub fn lock(bytes: &[u8]) -> Result<LockLine<'_>, LineError>
@@ -163,6 +174,10 @@ pub fn lock(bytes: &[u8]) -> Result<LockLine<'_>, LineError>
     Ok(LockLine::Lock { seat, lock })
 }
 
+/// What stands behind the word `try`.
+///
+/// # Errors
+/// `LineError::SYNTAX` where that isn't its fields.
 #[tactic(auto, unfolding(wit_model::specs::Trace::Reading::try_of))]
 pub fn try_lock(bytes: &[u8]) -> Result<LockLine<'_>, LineError>
     ensures { Gives as_line result (try_of bytes.now) }
@@ -183,6 +198,10 @@ pub fn try_lock(bytes: &[u8]) -> Result<LockLine<'_>, LineError>
     })
 }
 
+/// What stands behind the word `giveup`.
+///
+/// # Errors
+/// `LineError::SYNTAX` where that isn't its fields.
 #[tactic(auto, unfolding(wit_model::specs::Trace::Reading::give_up_of))]
 pub fn give_up(bytes: &[u8]) -> Result<LockLine<'_>, LineError>
     ensures { Gives as_line result (give_up_of bytes.now) }
@@ -195,6 +214,10 @@ pub fn give_up(bytes: &[u8]) -> Result<LockLine<'_>, LineError>
     Ok(LockLine::GiveUp { seat, lock })
 }
 
+/// What stands behind the word `unlock`.
+///
+/// # Errors
+/// `LineError::SYNTAX` where that isn't its fields.
 #[tactic(auto, unfolding(wit_model::specs::Trace::Reading::unlock_of))]
 #[inline(always)]
 pub fn unlock(bytes: &[u8]) -> Result<LockLine<'_>, LineError>

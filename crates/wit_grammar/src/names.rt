@@ -1,7 +1,6 @@
 //! The names of a line, with or without quotation marks, and lists of them. Each reader gives a value and the bytes after it, or
 //! `LineError::SYNTAX` where the bytes begin with none; `LineError::Memory` where a growth was refused.
 
-ghost use Rattle.std.specs.Prelude.{◌≡◌};
 ghost use Rattle.wit_model.specs.Rules.Names.{is_name, is_file_name};
 ghost use Rattle.wit_model.specs.Trace.Reading.{parted_at_last, accepted, site_of, field_at, quoted_at, optional, type_at, list_of};
 ghost use Rattle.wit_grammar.specs.Lines.{Gives};

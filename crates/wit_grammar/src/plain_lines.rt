@@ -9,6 +9,9 @@ use crate::{numbers, words};
 use wit_model::{Line, LockAssert, LockNo, SeatNo, WarnFlags};
 
 /// The line with this keyword, and what stands after it.
+///
+/// # Errors
+/// `LineError::SYNTAX` where no such line has this keyword, or what stands after it isn't its fields.
 #[tactic(auto, unfolding(wit_model::specs::Trace::Reading::plain_kinds))]
 pub fn plain_line(keyword: &[u8], rest: &[u8]) -> Result<Line, LineError>
     ensures { Gives (λ l. l) result (read_as plain_kinds keyword.now rest.now) }

@@ -14,7 +14,7 @@ use crate::spots::{Spot, place_of, spot_of};
 use wit_model::chunks::Lists;
 use wit_model::{Fault, Instance, LockNo, Mode, Watch};
 
-/// Takes a release back in a list that holds the lock once at most: its count falls by one, or it goes out where its count is 0.
+/// Takes an acquisition back in a list that holds the lock once at most: its count falls by one, or it goes out where its count is 0.
 /// Nothing is changed where the list doesn't hold it.
 pub fn forget<L: Lists>(lists: &mut L, list: u16, lock: LockNo)
     requires list { IsList (L.chunks lists.old) list }
@@ -28,12 +28,12 @@ pub fn forget<L: Lists>(lists: &mut L, list: u16, lock: LockNo)
     }
 }
 
-/// Takes a release in this mode back, as `forget` does, in a list that holds the lock once at most. Where not everything is watched,
-/// any release of a held lock is taken back, and one of another lock is passed over: false.
+/// Records a release in this mode in a list that holds the lock once at most: an acquisition is taken back as by `forget`. Where not
+/// everything is watched, any release of a held lock is recorded, and one of another lock is passed over: false.
 ///
 /// # Errors
 /// Where everything is watched, and then nothing is changed: `NotLocked`; `SharedUnlock` and `ExclusiveUnlock` where the lock is held in
-/// the other mode; `ForbiddenUnlock` where it must not be released.
+/// the other mode; `ForbiddenUnlock` where it must not be released and was acquired once.
 pub fn release<L: Lists>(
     lists: &mut L,
     list: u16,
@@ -59,7 +59,7 @@ pub fn release<L: Lists>(
     Ok(true)
 }
 
-// Takes one release of the lock at this spot back: its list holds it once.
+// Takes one acquisition of the lock at this spot back: its list holds it once.
 fn take_back<L: Lists>(lists: &mut L, list: u16, spot: Spot)
     requires list { IsList (L.chunks lists.old) list }
     requires once { IsOnce spot.held.lock.0 (chain_of (L.chunks lists.old) list) }

@@ -1,6 +1,6 @@
 //! Chunks and lists on vectors: each chunk is named by its number, which is its place among all chunks.
 
-ghost use Rattle.std.specs.Prelude.{◌≡◌, ◌==◌, ◌<◌, ◌≤◌, ℕ, ◌+◌, ◌-◌, ◌^◌, ◌++◌, [], ◌∷◌, false, not, length, vec_len, is_some, position, slice_get, slice_set, IfSome};
+ghost use Rattle.std.specs.Prelude.{◌≡◌, ◌==◌, ◌<◌, ℕ, ◌+◌, ◌-◌, ◌^◌, ◌++◌, [], ◌∷◌, not, length, vec_len, is_some, position, slice_get, slice_set, IfSome};
 ghost use Rattle.std.specs.List.{slice_index_or, remove};
 ghost use Rattle.wit_model.specs.Rules.Groups.{flat, opens, AreTidy};
 ghost use Rattle.wit_model.specs.Rules.Verdict.{is_of};

@@ -1,7 +1,6 @@
 //! Where a lock stands in a list of held locks, which is looked through newest group first: most locks are released soon.
 
-ghost use Rattle.std.specs.Prelude.{◌≡◌, ◌<◌, [], find, length, position, IfSome};
-ghost use Rattle.std.specs.List.{slice_index_or};
+ghost use Rattle.std.specs.Prelude.{◌≡◌, find, position, IfSome};
 ghost use Rattle.std.specs.Option.{option_map};
 ghost use Rattle.wit_model.specs.Rules.Verdict.{is_of};
 ghost use Rattle.wit_model.specs.Rules.Chunks.{IsList, groups_of, chain_of};

@@ -1,6 +1,6 @@
 //! Squares of bits: for each type a row of words, in which the bit of a number stands for the type of that number.
 
-ghost use Rattle.std.specs.Prelude.{◌≡◌, ◌<◌, ◌*◌, ◌&&◌, ◌==◌, ◌+◌, ◌/◌, ◌%◌, ◌^◌, ◌≤◌, not, false, IfOk, IfErr, length, replicate};
+ghost use Rattle.std.specs.Prelude.{◌≡◌, ◌<◌, ◌*◌, ◌&&◌, ◌==◌, ◌+◌, ◌/◌, ◌%◌, ◌^◌, ◌≤◌, not, false, IfOk, IfErr, replicate};
 ghost use Rattle.wit_model.specs.declared.faults.Fault.TheVariants.{OutOfMemory};
 ghost use Rattle.wit_matrix.specs.Squares.{width, place, has, IsSquare, AddsWhere, AreMirrors, IsTransitive, HasNone, ReachesNone, is_at, reaches, joins_row, joins, links};
 ghost use Rattle.wit_model.specs.Rules.Numbers.{IsNumber};

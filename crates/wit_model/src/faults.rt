@@ -39,7 +39,7 @@ pub enum Fault {
     SharedUnlock,
     /// Held shared, and released as exclusive.
     ExclusiveUnlock,
-    /// Released while it is marked as not to be released.
+    /// Let go while it is marked as not to be released.
     ForbiddenUnlock,
     /// The class can't be upgraded or downgraded.
     NotUpgradable,
@@ -69,7 +69,7 @@ pub enum Fault {
     OutOfMemory,
     /// The lock itself refused. No call of the verifier answers it.
     GateRefused,
-    /// The text is no name.
+    /// The text is no name, or no file name.
     BadName,
     /// Watching ended for good.
     WatchOff,

@@ -29,7 +29,7 @@ bitflag_items! {
     }
 
     impl OpFlags: u8 {
-        /// A new order may be learnt from this acquisition.
+        /// A new order may be learnt from this request.
         const NEWORDER = 1;
         /// A second lock of the type may be acquired without a report.
         const DUPOK = 2;

@@ -95,7 +95,7 @@ pub enum Line {
         lock: LockNo,
         asserted: LockAssert,
     },
-    /// `warn`: no lock should be held, or none but this one.
+    /// `warn`: no lock should be held but this one, where there is one, and those that the flags allow.
     Warn {
         seat: SeatNo,
         lock: Option<LockNo>,
@@ -125,7 +125,7 @@ pub enum Cause {
     Syntax,
     /// A number of the header is 0 or over its greatest value.
     Limit,
-    /// The call was refused.
+    /// The call was refused, or the static list.
     Fault(Fault),
 }
 

@@ -75,9 +75,9 @@ impl Mode {
 /// How much the verifier does: the sysctl `debug.witness.watch` of witness(4).
 #[derive(Clone, Copy, Debug, PartialEq, Eq, Hash)]
 pub enum Watch {
-    /// Nothing more, for good.
+    /// No acquisition is recorded any more, for good; what is held may be released.
     Off,
-    /// Held locks are kept, and no order is checked.
+    /// Held locks are kept, and no request is checked.
     Quiet,
     /// Everything.
     On,
@@ -137,7 +137,7 @@ pub enum Origin {
     Listed,
     /// A call that defined it.
     Defined,
-    /// The acquisition that taught it.
+    /// The request that taught it: where its lock was asked for.
     At(Site),
 }
 

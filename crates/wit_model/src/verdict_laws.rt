@@ -21,9 +21,9 @@ pub fn law_orders_adopted_once()
     ensures { OrdersAreAdoptedOnce }
 {}
 
-/// A reversal means what its heading says. It names a lock that the seat holds and the lock that it asks for; and where its heading is
-/// the plain one, a path of orders adopted until then leads from the requested lock's type to the held lock's, so that both orders
-/// have been seen: the "lock order reversal" of witness(4).
+/// What a reversal tells is so. It names a lock that the seat holds and the lock that it asks for; and where its heading is the plain
+/// one, a path of orders adopted until then leads from the requested lock's type to the held lock's: the "lock order reversal" of
+/// witness(4).
 pub fn law_reversal_breaks_order()
     ensures held { ReversalsAreOfHeldLocks }
     ensures order { ReversalsBreakOrders }
@@ -41,7 +41,7 @@ pub fn law_pairs_reported_once()
 /// direct one from then on: whoever asks, whenever, for a lock of that type while his last held lock of its kind is of that other type,
 /// passes, if no fault refuses the check, and teaches nothing. So a recorder may leave such a check out, where the seat doesn't hold the
 /// lock, nor a spin lock if that is of the sleep kind: no rule then refuses it. Giant together with a sleepable lock is excepted: these
-/// two may be taken in either order, and no order between them is learnt.
+/// two may be taken in either order, and that of a sleepable lock behind Giant is never learnt.
 pub fn law_passed_passes_on()
     ensures direct { PassedIsDirect }
     ensures judged { DirectPasses }

@@ -19,8 +19,9 @@ ghost use Rattle.wit_model.specs.WorldLaws.{
   CleanRecordsHaveNoCircle,
 };
 
-/// Where a run reported nothing, no reordering of its threads' steps reaches a circle of threads that wait for one another's locks. That
-/// is why witness(4) verifies "that a lock is not being acquired in the wrong order": a deadlock shows in the orders before it happens,
+/// Where a run is clean, no reordering of its threads' steps reaches a circle of threads that wait for one another's locks. It is clean
+/// where nothing was reported or tried, everything was watched, each check might teach its order, and nothing is excepted: no second lock
+/// of a type was allowed, no lock is Giant, no pair is blessed. That is why witness(4) verifies "that a lock is not being acquired in the wrong order": a deadlock shows in the orders before it happens,
 /// in runs in which the locks were taken one after the other.
 pub fn law_no_circle()
     ensures { CleanRunsNeverDeadlock }

@@ -1,6 +1,6 @@
 //! Types by name, in order of first appearance.
 
-ghost use Rattle.std.specs.Prelude.{◌≡◌, ◌≤◌, ◌<◌, ◌+◌, ◌-◌, ◌++◌, [], ◌∷◌, true, false, length, is_some, slice_get, slice_set, slice_index, IfSome, IfNone, IfOk, IfErr, OnOk, OnErr, Some, Ok};
+ghost use Rattle.std.specs.Prelude.{◌≡◌, ◌≤◌, ◌<◌, ◌+◌, ◌++◌, [], ◌∷◌, true, false, length, is_some, slice_set, slice_index, IfSome, IfNone, IfOk, IfErr, OnOk, OnErr, Ok};
 ghost use Rattle.wit_model.specs.Rules.Names.{is_name};
 ghost use Rattle.wit_model.specs.Rules.Types.{is_enrolled, is_otherwise, type_number, enrolled};
 ghost use Rattle.wit_model.specs.Rules.Numbers.{IsGiven};

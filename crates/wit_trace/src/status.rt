@@ -6,10 +6,10 @@ ghost use Rattle.wit_trace.specs.Status.{exit_status, is_reported};
 use crate::summary::{ReplayError, Summary};
 use wit_model::View;
 
-/// The exit status where nothing was reported.
+/// The exit status where the view shows nothing to act upon: no report of `Reports`, no circle of `Circle`; and of `Graph` and `Locks`.
 pub const NOTHING_REPORTED: u8 = 0;
 
-/// The exit status where something was reported.
+/// The exit status where there was a report, failed assertion or warning, of `Reports`, or a circle, of `Circle`.
 pub const REPORTED: u8 = 1;
 
 /// The exit status where a line of the trace was bad.

@@ -4,7 +4,7 @@ ghost use Rattle.std.specs.Prelude.{◌≡◌, true, IfOk, IfErr, Ok};
 ghost use Rattle.wit_model.specs.declared.calls.Call.TheVariants.{Check};
 ghost use Rattle.wit_model.specs.Rules.Refusals.{IsRefusal};
 ghost use Rattle.wit_model.specs.Rules.State.{state_of, seat_at, is_seat, is_live};
-ghost use Rattle.wit_model.specs.Rules.Step.{AnswersOrFails, answer_of, logged};
+ghost use Rattle.wit_model.specs.Rules.Step.{AnswersOrFails, answer_of};
 ghost use Rattle.wit_model.specs.Rules.Verdict.{verdict};
 ghost use Rattle.wit_core.specs.Verdict.{told, replied};
 
@@ -20,7 +20,8 @@ impl Verifier {
     /// Asks whether a lock may be acquired here: WITNESS's `checkorder`. Its request is then pending until it is noted or given up.
     /// The answer is `Pass`; `Adopted` where the order behind the last held lock was learnt; `Duplicate` where that lock has the
     /// requested type, and `Reversal` where the request breaks an order, which are reports; or `Silent` where that was reported
-    /// before or is allowed. Where not everything is watched it is always `Pass`.
+    /// before, or where the broken order is that of a blessed pair. A second lock of a type that the lock or the request allows passes.
+    /// Where not everything is watched it is always `Pass`.
     ///
     /// # Errors
     /// In this order: `UnknownSeat`; `UnknownLock`; `UnknownFile`; `ModeNotAllowed` for a mutex asked for shared;

@@ -1,6 +1,6 @@
 //! `norelease` and `releaseok`: whether a held lock may be released.
 
-ghost use Rattle.std.specs.Prelude.{◌≡◌, true, false, Ok, OnOk, OnErr};
+ghost use Rattle.std.specs.Prelude.{◌≡◌, Ok, OnOk, OnErr};
 ghost use Rattle.wit_model.specs.declared.calls.Call.TheVariants.{NoRelease, ReleaseOk};
 ghost use Rattle.wit_model.specs.declared.calls.Reply.TheVariants.{Done};
 ghost use Rattle.wit_model.specs.Rules.State.{state_of};

@@ -17,7 +17,7 @@ impl Verifier {
     /// # Errors
     /// In this order: `UnknownSeat`; `UnknownLock`; `Pending` where the seat has a request; and where everything is watched:
     /// `NotLocked`; `SharedUnlock` and `ExclusiveUnlock` where the lock is held in the other mode; `ForbiddenUnlock` where it must
-    /// not be released.
+    /// not be released and was acquired once.
     pub fn unlock(&mut self, seat: SeatNo, lock: LockNo, mode: Mode) -> Result<Reply, Fault>
         ensures { Answers self.old seat.0 (Unlock lock mode) result self.new }
     {

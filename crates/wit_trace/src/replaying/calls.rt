@@ -1,6 +1,6 @@
 //! The calls that lines make.
 
-ghost use Rattle.std.specs.Prelude.{◌≡◌, ◌+◌, ◌-◌, ◌<◌, ◌^◌, ℕ, IfOk, OnErr};
+ghost use Rattle.std.specs.Prelude.{◌≡◌, ◌+◌, ◌-◌, ◌<◌, ◌^◌, IfOk, OnErr};
 ghost use Rattle.wit_model.specs.declared.lines.Line.TheVariants.{Assert, Check, Try, Warn};
 ghost use Rattle.wit_model.specs.Trace.Output.{Reading, calls, said, shown, told};
 ghost use Rattle.wit_grammar.specs.Lines.{as_line};
@@ -17,7 +17,7 @@ use wit_report::{assert_text, report_text, warn_text};
 /// A line behind the prelude makes its call, and tells of it; one with a site enters its file first.
 ///
 /// # Errors
-/// `Bad` where the line makes no call or its call is refused. `Memory`: the call may have been made then.
+/// `Bad` where the line makes no call, its file gets no number, or its call is refused. `Memory`: the call may have been made then.
 pub fn enter_line(
     alloc: Global,
     verifier: &mut Verifier,
@@ -167,7 +167,7 @@ fn make_call(verifier: &mut Verifier, line: Line) -> Result<Reply, LineError>
 /// A line that makes a call on a lock makes it; one with a site enters its file first.
 ///
 /// # Errors
-/// `Bad` where the call is refused; `Memory`.
+/// `Bad` where its file gets no number or its call is refused; `Memory`.
 #[inline(always)]
 pub fn call_on_lock(verifier: &mut Verifier, line: LockLine<'_>) -> Result<Reply, LineError>
     ensures { Calls (λ told. calls verifier.old told (as_line line.entry)) verifier.old verifier.new result }

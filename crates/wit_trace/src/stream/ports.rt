@@ -30,7 +30,7 @@ pub trait Ports<R: BufRead, W: Write> {
     ///
     /// # Errors
     /// `Read` where the reader failed, of which nothing is taken then; `Memory` where the machine
-    /// found none, or what was begun couldn't grow.
+    /// found none, what was begun couldn't grow, or the summary found no room.
     fn advance<M: Machine>(
         &mut self,
         alloc: Global,
