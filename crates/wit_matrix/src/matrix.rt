@@ -160,17 +160,17 @@ impl Matrix {
         has(&self.found, self.size, a, b)
     }
 
-    /// The path of adopted orders from a to b that goes each time to the least type that is b or before it:
+    /// The path of adopted orders from a to b that goes each time to the least-numbered type that is b or before it:
     /// `None` exactly where a isn't before b.
     ///
     /// # Errors
-    /// `OutOfMemory` alone.
+    /// `OutOfMemory` alone, and only where a is before b.
     pub fn path(&self, a: TypeNo, b: TypeNo) -> Result<Option<Vec<TypeNo>>, Fault>
         requires a { IsNumber self.now.size a.0 }
         requires b { IsNumber self.now.size b.0 }
         ensures ok { IfOk result (λ p. path_numbers p ≡ path self.now.orders self.now.size a.0 b.0) }
         ensures leads { IfOk result (λ p. IfSome (path_numbers p) (LeadsBy self.now.orders a.0 b.0)) }
-        ensures err { IfErr result (λ e. e ≡ OutOfMemory) }
+        ensures err { IfErr result (λ e. (e ≡ OutOfMemory) × Before self.now.orders a.0 b.0) }
     {
         if !self.before(a, b) {
             return Ok(None);
