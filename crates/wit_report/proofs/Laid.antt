@@ -12,7 +12,7 @@ map-same (x ∷ xs) = ap (λ ys. x ∷ ys) (map-same xs)
 
 -- ---- for each number from 1 on
 
-range-more : (n : ℕ) → range_with_len 1 (n + 1) ≡ range_with_len 1 n ++ (n + 1) ∷ []
+pub range-more : (n : ℕ) → range_with_len 1 (n + 1) ≡ range_with_len 1 n ++ (n + 1) ∷ []
 range-more n =
     let next : 1 + n ≡ n + 1 = omega arith in
     sym (map-same (range_with_len 1 (n + 1))) ∙ map-range_with_len_more (λ x. x) 1 n (n + 1) next ∙ ap (λ xs. xs ++ (n + 1) ∷ []) (map-same (range_with_len 1 n))
@@ -25,7 +25,7 @@ each_turn f n t u w before next =
 
 -- ---- for each of these that passes a test
 
-some-more : (p : ℕ → Bool) (n : ℕ) → filter p (range_with_len 1 (n + 1)) ≡ filter p (range_with_len 1 n) ++ cond (p (n + 1)) ((n + 1) ∷ []) []
+pub some-more : (p : ℕ → Bool) (n : ℕ) → filter p (range_with_len 1 (n + 1)) ≡ filter p (range_with_len 1 n) ++ cond (p (n + 1)) ((n + 1) ∷ []) []
 some-more p n =
     let next : 1 + n ≡ n + 1 = omega arith in
     ap (filter p) (sym (map-same (range_with_len 1 (n + 1))))

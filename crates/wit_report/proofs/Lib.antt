@@ -4,3 +4,4 @@ pub mod HeldLines
 pub mod Laid
 pub mod ViewLines
 pub mod Warned
+pub mod Filled

@@ -2,9 +2,9 @@
 
 ghost use Rattle.std.specs.Prelude.{◌≡◌, string_bytes, IfOk, IfErr};
 ghost use Rattle.std.specs.Option.{option_copied};
-ghost use Rattle.wit_model.specs.declared.faults.Fault.TheVariants.{OutOfMemory};
 ghost use Rattle.wit_model.specs.Rules.State.{typed_locks};
 ghost use Rattle.wit_model.specs.Trace.Views.{answer_words, assert_text};
+ghost use Rattle.wit_report.specs.Wants.{WantsMemory};
 
 use crate::locks::lock_name;
 use crate::pieces::put_quoted;
@@ -16,7 +16,7 @@ use wit_model::{AssertAnswer, Fault, LockNo};
 /// it holds, or where nothing was looked at.
 ///
 /// # Errors
-/// `OutOfMemory` alone.
+/// `OutOfMemory` alone, and only where the text isn't empty.
 pub fn assert_text(
     alloc: Global,
     verifier: &Verifier,
@@ -24,7 +24,7 @@ pub fn assert_text(
     answer: AssertAnswer,
 ) -> Result<String, Fault>
     ensures ok { IfOk result (λ text. string_bytes text ≡ assert_text (typed_locks verifier.now.start verifier.now.history) lock.0 answer) }
-    ensures err { IfErr result (λ e. e ≡ OutOfMemory) }
+    ensures err { IfErr result (WantsMemory (assert_text (typed_locks verifier.now.start verifier.now.history) lock.0 answer)) }
 {
     let Some(words) = answer_words(answer) else {
         return Ok(String::new(alloc));

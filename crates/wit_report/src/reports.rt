@@ -1,8 +1,8 @@
 //! The text of a reply.
 
 ghost use Rattle.std.specs.Prelude.{◌≡◌, string_bytes, IfOk, IfErr};
-ghost use Rattle.wit_model.specs.declared.faults.Fault.TheVariants.{OutOfMemory};
 ghost use Rattle.wit_model.specs.Trace.Output.{told};
+ghost use Rattle.wit_report.specs.Wants.{WantsMemory};
 
 use crate::duplicate::duplicate_text;
 use crate::reversal::reversal_text;
@@ -14,11 +14,11 @@ use wit_model::{Fault, Reply};
 /// A number that was never given stands for an empty name, and a lock under it for a sleep mutex.
 ///
 /// # Errors
-/// `OutOfMemory` alone.
+/// `OutOfMemory` alone, and only where the text isn't empty.
 #[inline(always)]
 pub fn report_text(alloc: Global, verifier: &Verifier, reply: &Reply) -> Result<String, Fault>
     ensures ok { IfOk result (λ text. string_bytes text ≡ told verifier.now reply.now) }
-    ensures err { IfErr result (λ e. e ≡ OutOfMemory) }
+    ensures err { IfErr result (WantsMemory (told verifier.now reply.now)) }
 {
     match reply {
         Reply::Reversal(conflict) => Ok(reversal_text(alloc, verifier, conflict.get())?),

@@ -1,11 +1,11 @@
 //! The types, a line each.
 
-ghost use Rattle.std.specs.Prelude.{◌≡◌, ◌++◌, string_bytes, IfOk, IfErr, OnOk};
-ghost use Rattle.wit_model.specs.declared.faults.Fault.TheVariants.{OutOfMemory};
+ghost use Rattle.std.specs.Prelude.{◌≡◌, ◌<◌, ◌++◌, length, string_bytes, IfOk, IfErr, OnOk, OnErr};
 ghost use Rattle.wit_model.specs.Rules.Numbers.{IsGiven};
 ghost use Rattle.wit_model.specs.Rules.State.{state_of, types_of, live};
 ghost use Rattle.wit_model.specs.Rules.Types.{class_of};
 ghost use Rattle.wit_model.specs.Trace.Views.{type_line, type_lines};
+ghost use Rattle.wit_report.specs.Wants.{WantsMemory};
 
 use crate::locks::class_words;
 use crate::orders::type_words;
@@ -18,11 +18,11 @@ use wit_model::{Class, Fault, TypeNo};
 /// lists them by their orders.
 ///
 /// # Errors
-/// `OutOfMemory` alone.
+/// `OutOfMemory` alone, and only where the text isn't empty.
 pub fn type_list(alloc: Global, verifier: &Verifier) -> Result<String, Fault>
     ensures ok { IfOk result (λ text. string_bytes text
         ≡ type_lines (types_of verifier.now.start verifier.now.history) (live (state_of verifier.now))) }
-    ensures err { IfErr result (λ e. e ≡ OutOfMemory) }
+    ensures err { IfErr result (WantsMemory (type_lines (types_of verifier.now.start verifier.now.history) (live (state_of verifier.now)))) }
 {
     let mut text = String::new(alloc);
     put_types(&mut text, alloc, verifier)?;
@@ -30,8 +30,10 @@ pub fn type_list(alloc: Global, verifier: &Verifier) -> Result<String, Fault>
 }
 
 fn put_types(text: &mut String, alloc: Global, verifier: &Verifier) -> Result<(), AllocError>
-    ensures { OnOk result (string_bytes text.new ≡ string_bytes text.old
+    ensures ok { OnOk result (string_bytes text.new ≡ string_bytes text.old
         ++ type_lines (types_of verifier.now.start verifier.now.history) (live (state_of verifier.now))) }
+    ensures err { OnErr result (0 < length
+        (type_lines (types_of verifier.now.start verifier.now.history) (live (state_of verifier.now)))) }
 {
     for place in 0..verifier.types() {
         put_type(text, alloc, verifier, TypeNo(place as u16 + 1))?;
