@@ -146,6 +146,85 @@ fn full_log(rt: HostRuntime) -> Result<(), Fail> {
     assert_eq!(rt; make(&mut verifier, "b", None), Ok(LockNo(2)));
     assert_eq!(rt; make(&mut verifier, "c", None), Err(Fault::LogFull));
     assert_eq!(rt; counts_of(&verifier).history, 4);
+    verifier.unlock(SeatNo(1), LockNo(1), Mode::Exclusive)?;
+    assert_eq!(rt; make(&mut verifier, "c", None), Err(Fault::LogFull));
+    assert_eq!(rt; counts_of(&verifier).history, 5);
+    Ok(())
+}
+
+// Types that may be taken in either order, and are.
+#[test]
+fn blessed_pair(rt: HostRuntime) -> Result<(), Fail> {
+    let mut verifier = start(rt.alloc(), 64, ["A", "B"], ["A", "B"])??;
+    verifier.file("f")?;
+    make(&mut verifier, "a", Some("A"))?;
+    make(&mut verifier, "b", Some("B"))?;
+    take(&mut verifier, 1, 2, 1)?;
+    check(&mut verifier, 1, 1, 2)?;
+    assert_eq!(rt; counts_of(&verifier).reports, 0);
+    assert!(rt; is_related(&verifier, (1, 2), 0x13, Some(Origin::Listed)));
+    assert!(rt; is_related(&verifier, (2, 1), 0x1c, None));
+    Ok(())
+}
+
+/// A verifier in which seat 1 holds a reader-writer lock, shared, and has made a mutex and a spin lock.
+fn shared_lock(alloc: Global) -> Result<Verifier, Fail> {
+    let mut verifier = start(alloc, 64, ["A", "B"], ["C", "D"])??;
+    verifier.file("f")?;
+    for (name, class) in [
+        ("r", Class::Rw),
+        ("m", Class::SleepMutex),
+        ("s", Class::SpinMutex),
+    ] {
+        verifier.init(SeatNo(1), name, None, class, LockFlags(0))?;
+    }
+    let site = Site {
+        file: FileNo(1),
+        line: 1,
+    };
+    verifier.note_try(SeatNo(1), LockNo(1), Mode::Shared, site)?;
+    Ok(verifier)
+}
+
+/// Whether nothing has changed since seat 1 holds its lock.
+fn is_as_before(verifier: &Verifier, history: usize) -> bool {
+    counts_of(verifier).history == history
+        && has(verifier, 1, 0, Some(1))
+        && has(verifier, 1, 1, None)
+        && asks_for(verifier, 1, None)
+}
+
+// A trace ends at the first call that is refused.
+#[test]
+fn refused_calls(rt: HostRuntime) -> Result<(), Fail> {
+    let mut verifier = shared_lock(rt.alloc())?;
+    let exclusive = check(&mut verifier, 1, 1, 2).err();
+    assert_eq!(rt; exclusive, Some(Fault::ExclusiveOfShared));
+    assert!(rt; is_as_before(&verifier, 4));
+    let released = verifier.unlock(SeatNo(1), LockNo(1), Mode::Exclusive).err();
+    assert_eq!(rt; released, Some(Fault::ExclusiveUnlock));
+    assert!(rt; is_as_before(&verifier, 4));
+    let nowhere = Site {
+        file: FileNo(2),
+        line: 1,
+    };
+    let unknown = verifier
+        .note_try(SeatNo(1), LockNo(2), Mode::Exclusive, nowhere)
+        .err();
+    assert_eq!(rt; unknown, Some(Fault::UnknownFile));
+    assert!(rt; is_as_before(&verifier, 4));
+    Ok(())
+}
+
+#[test]
+fn refused_under_spin(rt: HostRuntime) -> Result<(), Fail> {
+    let mut verifier = shared_lock(rt.alloc())?;
+    take(&mut verifier, 1, 3, 2)?;
+    assert_eq!(rt;
+        check(&mut verifier, 1, 2, 3).err(),
+        Some(Fault::SleepUnderSpin)
+    );
+    assert!(rt; is_as_before(&verifier, 6));
     Ok(())
 }
 
