@@ -1,6 +1,8 @@
-//! Laws: what holds of every legal history and of every world. Each function is a theorem, and does nothing.
+//! Laws: what holds of every legal history and of every world. Each function is a theorem, and does
+//! nothing.
 
 pub mod groups;
+pub mod histories;
 pub mod rules;
 pub mod verdicts;
 pub mod worlds;

@@ -2,11 +2,12 @@
 use Rattle.std.proofs.Common.{◌≡◌, ℕ, [], map, take, refl, ap, sym, ◌∙◌, subst, inl, inr, arith}
 use Rattle.std.proofs.lemmas.Bool.Decides.{eqb_tells}
 use Rattle.wit_model.specs.declared.calls.Request.{Request}
+use Rattle.wit_model.specs.Rules.Beginnings.{IsBeginning}
 use Rattle.wit_model.specs.Rules.History.{num}
 use Rattle.wit_model.specs.World.Deeds.{own, shares}
 use Rattle.wit_model.specs.World.Stages.{Over, Asked, stage}
 use Rattle.wit_model.specs.World.Waiting.{IsWaiting}
-use Rattle.wit_model.specs.World.Reordering.{kept, IsBeginning}
+use Rattle.wit_model.specs.World.Reordering.{kept}
 use Rattle.wit_model.specs.World.Examples.{request, in_turn, crossed, defined, defined_before}
 
 -- each thread's deeds in the one are a beginning of those in the other

@@ -1,4 +1,5 @@
--- That a given list of deeds is a world is found by computing: what the verifier answers, and a test of each deed.
+-- That a given list of deeds is a world is found by computing: what the verifier answers, and a
+-- test of each deed.
 use Rattle.std.proofs.Common.{◌≡◌, ℕ, Bool, true, not, ◌&&◌, nat_lt, List, [], ◌∷◌, Result, Ok}
 use Rattle.std.proofs.lemmas.Bool.{and_parts, ltb-true, not-true}
 use Rattle.wit_model.specs.declared.faults.Fault.{Fault}

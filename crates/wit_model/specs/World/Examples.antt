@@ -46,11 +46,13 @@ locks t l line reply = asks t l line reply ++ Take t l Exclusive ∷ by t (Note 
 abbrev unlocks : ℕ → ℕ → List Deed
 unlocks t l = by t (Unlock (record { 0 = l }) Exclusive) Unlocked ∷ Free t l ∷ []
 
--- the order from the one lock's type to the other's is learnt; lock l is the first of its type, and so has its number
+-- the order from the one lock's type to the other's is learnt; lock l is the first of its type, and
+-- so has its number
 abbrev learns : ℕ → ℕ → Reply
 learns l m = Adopted (record { 0 = l }) (record { 0 = m })
 
--- lock m is asked for at this line under lock l, which was taken at that one, against the order learnt
+-- lock m is asked for at this line under lock l, which was taken at that one, against the order
+-- learnt
 abbrev reverses : ℕ → ℕ → ℕ → ℕ → Reply
 reverses l taken m line = Reversal (record {
   heading = heading.Order;
@@ -62,15 +64,17 @@ reverses l taken m line = Reversal (record {
 abbrev two_mutexes : List Deed
 two_mutexes = makes (codes "A") 1 ++ makes (codes "B") 2
 
--- one thread after the other: the first takes A and under it B, and frees both; then the second takes B, and asks for A
+-- one thread after the other: the first takes A and under it B, and frees both; then the second
+-- takes B, and asks for A
 abbrev pub in_turn : List Deed
 in_turn =
     reverse (two_mutexes
     ++ locks 1 1 1 Pass ++ locks 1 2 2 (learns 1 2) ++ unlocks 1 2 ++ unlocks 1 1
     ++ locks 2 2 3 Pass ++ asks 2 1 4 (reverses 2 3 1 4))
 
--- the same deeds crossed: the first has A and the second B when each asks for the other's, the second one before the first. So it is the
--- second one's order that is learnt, and the first one that reverses it
+-- the same deeds crossed: the first has A and the second B when each asks for the other's, the
+-- second one before the first. So it is the second one's order that is learnt, and the first one
+-- that reverses it
 abbrev pub crossed : List Deed
 crossed =
     reverse (two_mutexes

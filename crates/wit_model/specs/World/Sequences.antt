@@ -1,4 +1,5 @@
--- A world in which two threads do every sequence and every call, each with a deed of the other between any two of its own.
+-- A world in which two threads do every sequence and every call, each with a deed of the other
+-- between any two of its own.
 use Rattle.std.specs.Prelude.{ℕ, List, [], ◌∷◌, ◌++◌, None, reverse, codes}
 use Rattle.wit_model.specs.declared.locks.Class.TheVariants.{Rw}
 use Rattle.wit_model.specs.declared.locks.LockNo.{LockNo}
@@ -35,7 +36,8 @@ notes t l = by t (Note (no l)) Recorded ∷ []
 abbrev unlocks : ℕ → ℕ → Mode → List Deed
 unlocks t l mode = by t (Unlock (no l) mode) Unlocked ∷ []
 
--- it is taken shared, turned exclusive and back, turned exclusive although that is refused, and freed; and for a while it must not be
+-- it is taken shared, turned exclusive and back, turned exclusive although that is refused, and
+-- freed; and for a while it must not be
 abbrev turns : ℕ → ℕ → List Deed
 turns t l =
     asks t l Shared ++ Take t l Shared ∷ notes t l
@@ -65,7 +67,8 @@ abbrev settles : ℕ → Reply → List Deed
 settles t reply =
     by t (SetWatch Quiet) Done ∷ by t (DefineOrder (no 1) (no 2)) reply ∷ by t (SetWatch On) Done ∷ []
 
--- each does all of it, on the one lock or on the other; in the end both locks are destroyed and nothing is watched any more
+-- each does all of it, on the one lock or on the other; in the end both locks are destroyed and
+-- nothing is watched any more
 abbrev pub varied : List Deed
 varied =
     reverse (by_turns (makes 1 (codes "r") 1) (makes 2 (codes "s") 2)
