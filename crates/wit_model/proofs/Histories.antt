@@ -4,5 +4,6 @@ pub mod Asked
 pub mod Exhaustion
 pub mod Legal
 pub mod Live
+pub mod Longer
 pub mod NamedFiles
 pub mod Used

@@ -8,3 +8,4 @@ pub mod NoCircle
 pub mod Own
 pub mod RecordCircle
 pub mod Rounds
+pub mod Runs

@@ -1,4 +1,5 @@
 pub mod GroupLaws
+pub mod HistoryLaws
 pub mod Laws
 pub mod Rules
 pub mod Trace

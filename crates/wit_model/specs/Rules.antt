@@ -1,6 +1,7 @@
 -- The rules of lock orders: what is held, which orders are known, and what each call is answered.
 pub mod Ahead
 pub mod Assertions
+pub mod Beginnings
 pub mod Chunks
 pub mod Circles
 pub mod Clean

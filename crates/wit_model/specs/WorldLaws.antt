@@ -1,4 +1,5 @@
--- Laws of worlds: where a run reported nothing, no reordering of its threads' deeds reaches a deadlock.
+-- Laws of worlds: where a run reported nothing, no reordering of its threads' deeds reaches a
+-- deadlock.
 use Rattle.std.specs.Prelude.{ℕ, ◌<◌, ◌≡◌, true, false, List, [], ◌∷◌, ◌++◌, None}
 use Rattle.wit_model.specs.declared.calls.Request.{Request}
 use Rattle.wit_model.specs.declared.calls.Entry.{Entry}
@@ -13,9 +14,11 @@ use Rattle.wit_model.specs.World.Stages.{Asked, stage}
 use Rattle.wit_model.specs.World.Steps.{admits, IsWorld}
 use Rattle.wit_model.specs.World.Waiting.{IsWaiting, IsDeadlock}
 use Rattle.wit_model.specs.World.Reordering.{IsReordering}
-use Rattle.wit_model.specs.World.Examples.{small, files, in_turn, crossed, agreed, varied}
+use Rattle.wit_model.specs.World.Examples.{small, files, in_turn, crossed, agreed, defined, defined_before}
+use Rattle.wit_model.specs.World.Sequences.{varied}
 
--- no reordering of a world whose log is clean has a deadlock, over an accepted start that blesses no pair
+-- no reordering of a world whose log is clean has a deadlock, over an accepted start that blesses
+-- no pair
 abbrev pub CleanRunsNeverDeadlock : Type 0
 CleanRunsNeverDeadlock =
     (start : Start) (files : List (List ℕ)) (v w : List Deed) (threads : List ℕ)
@@ -35,6 +38,14 @@ CrossedReorders = IsReordering small crossed in_turn
 abbrev pub CrossedDeadlocks : Type 0
 CrossedDeadlocks = IsDeadlock crossed (1 ∷ 2 ∷ [])
 
+-- a reordering in which the defining of an order is answered otherwise: where it was new it is
+-- known, and where it was known it is new
+abbrev pub DefinedIsWorld : Type 0
+DefinedIsWorld = (start_fault small ≡ None) × IsWorld small files defined
+
+abbrev pub DefinedBeforeReorders : Type 0
+DefinedBeforeReorders = IsReordering small defined_before defined
+
 -- a world whose log is clean
 abbrev pub AgreedIsWorld : Type 0
 AgreedIsWorld = (start_fault small ≡ None) × IsWorld small files agreed
@@ -42,7 +53,8 @@ AgreedIsWorld = (start_fault small ≡ None) × IsWorld small files agreed
 abbrev pub AgreedIsClean : Type 0
 AgreedIsClean = (small.blessed ≡ []) × (is_clean (log_of agreed) ≡ true)
 
--- a world in which each sequence comes
+-- a world in which each sequence and each call comes, with a deed of another thread between any two
+-- of one
 abbrev pub VariedIsWorld : Type 0
 VariedIsWorld = (start_fault small ≡ None) × IsWorld small files varied
 

@@ -7,15 +7,12 @@ mod calls;
 pub mod chunks;
 mod faults;
 mod flags;
-pub mod group_laws;
 pub mod laws;
 mod lines;
 mod locks;
 mod names;
 mod sizes;
 mod type_lists;
-pub mod verdict_laws;
-pub mod world_laws;
 
 pub use assertions::AssertAnswer;
 pub use boxes::Boxed;

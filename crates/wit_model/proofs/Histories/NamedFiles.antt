@@ -1,5 +1,5 @@
--- A history stays legal where more files are named.
-use Rattle.std.proofs.Common.{◌≡◌, ℕ, ◌≤◌, Bool, true, not, ◌&&◌, cond, nat_lt, nat_le, List, [], ◌∷◌, ◌++◌, length, Result, Ok, Err, ap, sym, ◌∙◌, arith, length-append}
+-- A legal history tells of named files alone, and is legal over any files of which it tells none that isn't there.
+use Rattle.std.proofs.Common.{◌≡◌, ℕ, ◌≤◌, Bool, true, not, ◌&&◌, cond, nat_lt, nat_le, List, [], ◌∷◌, ◌++◌, length, Result, Ok, Err, refl, ap, sym, ◌∙◌, arith, length-append}
 use Rattle.std.proofs.lemmas.Bool.{and_parts, and_from, leb-true, le-leb}
 use Rattle.wit_model.specs.declared.faults.Fault.{Fault}
 use Rattle.wit_model.specs.declared.faults.Fault.TheVariants.{UnknownSeat, UnknownLock, UnknownFile, ModeNotAllowed, Pending, RecursionTooDeep}
@@ -16,6 +16,7 @@ use Rattle.wit_model.specs.Rules.State.{Start, State, state_of, seat_at, is_seat
 use Rattle.wit_model.specs.Rules.Verdict.{is_exclusive, verdict}
 use Rattle.wit_model.specs.Rules.Step.{is_pending, is_shareable, is_too_deep, with_room, recorded, answer_of, story_after, IsLegal}
 use Rattle.wit_model.specs.Rules.Numbers.{is_number}
+use Rattle.wit_model.specs.HistoryLaws.{tells_among, all_tell_among}
 use Rattle.wit_model.proofs.Histories.Accepted.{check_accepted, try_accepted}
 
 -- the answer to a check, where the file is known or not
@@ -35,15 +36,16 @@ file-more f n m is le =
     let within = leb-true f n parts.1 in
     and_from (nat_lt 0 f) (nat_le f m) parts.0 (le-leb f m (omega arith))
 
-check-more : (start : Start) (files more : List (List ℕ)) (h : List Entry) (t : ℕ) (q : Request) (r : Reply)
-    → answer_of (story_after start files h) t (Check q) ≡ Ok r → answer_of (story_after start (files ++ more) h) t (Check q) ≡ Ok r
+check-other : (start : Start) (files others : List (List ℕ)) (h : List Entry) (t : ℕ) (q : Request) (r : Reply)
+    → is_number (length others) q.site.file.0 ≡ true
+    → answer_of (story_after start files h) t (Check q) ≡ Ok r
+    → answer_of (story_after start others h) t (Check q) ≡ Ok r
 unfolding check_with
-check-more start files more h t q r ok =
+check-other start files others h t q r there ok =
     let known = (check_accepted (state_of (story_after start files h)) t q r ok).file in
-    let still = file-more q.site.file.0 (length files) (length (files ++ more)) known (omega (arith, length-append files more)) in
-    let e : check_with (state_of (story_after start (files ++ more) h)) t q (is_number (state_of (story_after start (files ++ more) h)).files q.site.file.0)
-    ≡ check_with (state_of (story_after start files h)) t q (is_number (state_of (story_after start files h)).files q.site.file.0)
-    = ap (λ b. check_with (state_of (story_after start files h)) t q b) (still ∙ sym known) in
+    let e : check_with (state_of (story_after start others h)) t q (is_number (length others) q.site.file.0)
+    ≡ check_with (state_of (story_after start files h)) t q (is_number (length files) q.site.file.0)
+    = ap (λ b. check_with (state_of (story_after start files h)) t q b) (there ∙ sym known) in
     e ∙ ok
 
 -- the answer to a try, where the file is known or not
@@ -57,31 +59,67 @@ try_with s t l m known =
     (cond (is_too_deep s t l) (Err RecursionTooDeep)
     (with_room s 2 (Ok (recorded s t l))))))))
 
-try-more : (start : Start) (files more : List (List ℕ)) (h : List Entry) (t : ℕ) (l : LockNo) (m : Mode) (site : Site) (r : Reply)
-    → answer_of (story_after start files h) t (NoteTry l m site) ≡ Ok r → answer_of (story_after start (files ++ more) h) t (NoteTry l m site) ≡ Ok r
+try-other : (start : Start) (files others : List (List ℕ)) (h : List Entry) (t : ℕ) (l : LockNo) (m : Mode) (site : Site) (r : Reply)
+    → is_number (length others) site.file.0 ≡ true
+    → answer_of (story_after start files h) t (NoteTry l m site) ≡ Ok r
+    → answer_of (story_after start others h) t (NoteTry l m site) ≡ Ok r
 unfolding try_with
-try-more start files more h t l m site r ok =
+try-other start files others h t l m site r there ok =
     let known = (try_accepted (state_of (story_after start files h)) t l.0 m site r ok).file in
-    let still = file-more site.file.0 (length files) (length (files ++ more)) known (omega (arith, length-append files more)) in
-    let e : try_with (state_of (story_after start (files ++ more) h)) t l.0 m (is_number (state_of (story_after start (files ++ more) h)).files site.file.0)
-    ≡ try_with (state_of (story_after start files h)) t l.0 m (is_number (state_of (story_after start files h)).files site.file.0)
-    = ap (λ b. try_with (state_of (story_after start files h)) t l.0 m b) (still ∙ sym known) in
+    let e : try_with (state_of (story_after start others h)) t l.0 m (is_number (length others) site.file.0)
+    ≡ try_with (state_of (story_after start files h)) t l.0 m (is_number (length files) site.file.0)
+    = ap (λ b. try_with (state_of (story_after start files h)) t l.0 m b) (there ∙ sym known) in
     e ∙ ok
 
-answer-more : (start : Start) (files more : List (List ℕ)) (h : List Entry) (t : ℕ) (c : Call) (r : Reply)
-    → answer_of (story_after start files h) t c ≡ Ok r → answer_of (story_after start (files ++ more) h) t c ≡ Ok r
-answer-more start files more h t (Init lock) r ok = ok
-answer-more start files more h t (Check q) r ok = check-more start files more h t q r ok
-answer-more start files more h t (Note l) r ok = ok
-answer-more start files more h t (NoteTry l m site) r ok = try-more start files more h t l m site r ok
-answer-more start files more h t (GiveUp l) r ok = ok
-answer-more start files more h t (Unlock l m) r ok = ok
-answer-more start files more h t c r ok = ok
+answer-other : (start : Start) (files others : List (List ℕ)) (h : List Entry) (t : ℕ) (c : Call) (r : Reply)
+    → tells_among (length others) c ≡ true
+    → answer_of (story_after start files h) t c ≡ Ok r → answer_of (story_after start others h) t c ≡ Ok r
+answer-other start files others h t (Init lock) r there ok = ok
+answer-other start files others h t (Check q) r there ok = check-other start files others h t q r there ok
+answer-other start files others h t (Note l) r there ok = ok
+answer-other start files others h t (NoteTry l m site) r there ok =
+    try-other start files others h t l m site r there ok
+answer-other start files others h t (GiveUp l) r there ok = ok
+answer-other start files others h t (Unlock l m) r there ok = ok
+answer-other start files others h t c r there ok = ok
 
-pub legal-more : (start : Start) (files more : List (List ℕ)) (h : List Entry) → IsLegal start files h → IsLegal start (files ++ more) h
-legal-more start files more [] legal = tt
-legal-more start files more (x ∷ h) legal = (answer-more start files more h x.seat.0 x.call x.reply legal.0, legal.1, legal-more start files more h legal.2)
+-- a history is legal over any files of which it tells none that isn't there
+pub legal-other : (start : Start) (files others : List (List ℕ)) (h : List Entry)
+    → IsLegal start files h → all_tell_among (length others) h ≡ true → IsLegal start others h
+legal-other start files others [] legal there = tt
+legal-other start files others (x ∷ h) legal there =
+    let parts = and_parts (tells_among (length others) x.call) (all_tell_among (length others) h) there in
+    (answer-other start files others h x.seat.0 x.call x.reply parts.0 legal.0, legal.1, legal-other start files others h legal.2 parts.1)
+
+told-now : (start : Start) (files : List (List ℕ)) (h : List Entry) (t : ℕ) (c : Call) (r : Reply)
+    → answer_of (story_after start files h) t c ≡ Ok r → tells_among (length files) c ≡ true
+told-now start files h t (Check q) r ok = (check_accepted (state_of (story_after start files h)) t q r ok).file
+told-now start files h t (NoteTry l m site) r ok =
+    (try_accepted (state_of (story_after start files h)) t l.0 m site r ok).file
+told-now start files h t c r ok = refl
+
+-- a legal history tells of files that are there
+pub legal-tells : (start : Start) (files : List (List ℕ)) (h : List Entry)
+    → IsLegal start files h → all_tell_among (length files) h ≡ true
+legal-tells start files [] legal = refl
+legal-tells start files (x ∷ h) legal =
+    and_from (tells_among (length files) x.call) (all_tell_among (length files) h)
+    (told-now start files h x.seat.0 x.call x.reply legal.0) (legal-tells start files h legal.2)
+
+tells-more : (n m : ℕ) (c : Call) → n ≤ m → tells_among n c ≡ true → tells_among m c ≡ true
+tells-more n m (Check q) le is = file-more q.site.file.0 n m is le
+tells-more n m (NoteTry l mode site) le is = file-more site.file.0 n m is le
+tells-more n m c le is = refl
+
+all_tell-more : (n m : ℕ) (h : List Entry) → n ≤ m → all_tell_among n h ≡ true → all_tell_among m h ≡ true
+all_tell-more n m [] le all = refl
+all_tell-more n m (x ∷ h) le all =
+    let parts = and_parts (tells_among n x.call) (all_tell_among n h) all in
+    and_from (tells_among m x.call) (all_tell_among m h) (tells-more n m x.call le parts.0) (all_tell-more n m h le parts.1)
 
 -- one more file
 pub legal-named : (start : Start) (files : List (List ℕ)) (name : List ℕ) (h : List Entry) → IsLegal start files h → IsLegal start (files ++ name ∷ []) h
-legal-named start files name h legal = legal-more start files (name ∷ []) h legal
+legal-named start files name h legal =
+    legal-other start files (files ++ name ∷ []) h legal
+    (all_tell-more (length files) (length (files ++ name ∷ [])) h (omega (arith, length-append files (name ∷ [])))
+    (legal-tells start files h legal))

@@ -2,12 +2,13 @@
 use Rattle.std.proofs.Common.{◌≡◌, ℕ, [], map, take, refl, ap, sym, ◌∙◌, subst, inl, inr, arith}
 use Rattle.std.proofs.lemmas.Bool.Decides.{eqb_tells}
 use Rattle.wit_model.specs.declared.calls.Request.{Request}
+use Rattle.wit_model.specs.Rules.Beginnings.{IsBeginning}
 use Rattle.wit_model.specs.Rules.History.{num}
 use Rattle.wit_model.specs.World.Deeds.{own, shares}
 use Rattle.wit_model.specs.World.Stages.{Over, Asked, stage}
 use Rattle.wit_model.specs.World.Waiting.{IsWaiting}
-use Rattle.wit_model.specs.World.Reordering.{kept, IsBeginning}
-use Rattle.wit_model.specs.World.Examples.{request, in_turn, crossed}
+use Rattle.wit_model.specs.World.Reordering.{kept}
+use Rattle.wit_model.specs.World.Examples.{request, in_turn, crossed, defined, defined_before}
 
 -- each thread's deeds in the one are a beginning of those in the other
 pub begins : (t : ℕ) → IsBeginning (map kept (own t crossed)) (map kept (own t in_turn))
@@ -18,6 +19,21 @@ begins t =
       | inr first ↦
           elim (eqb_tells 2 t) [
             | inl two ↦ subst (λ n. IsBeginning (map kept (own n crossed)) (map kept (own n in_turn))) two.1 ([], refl)
+            | inr second ↦ ([], rw (first.0, second.0) refl)
+          ]
+    ]
+
+-- and so are they where both define an order
+pub defined-begins : (t : ℕ) → IsBeginning (map kept (own t defined_before)) (map kept (own t defined))
+unfolding num
+defined-begins t =
+    elim (eqb_tells 1 t) [
+      | inl one ↦
+          subst (λ n. IsBeginning (map kept (own n defined_before)) (map kept (own n defined))) one.1 ([], refl)
+      | inr first ↦
+          elim (eqb_tells 2 t) [
+            | inl two ↦
+                subst (λ n. IsBeginning (map kept (own n defined_before)) (map kept (own n defined))) two.1 ([], refl)
             | inr second ↦ ([], rw (first.0, second.0) refl)
           ]
     ]

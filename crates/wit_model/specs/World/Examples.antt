@@ -1,18 +1,16 @@
 -- Small worlds of two threads.
-use Rattle.std.specs.Prelude.{ℕ, List, [], ◌∷◌, ◌++◌, None, Some, reverse, codes}
-use Rattle.wit_model.specs.declared.locks.Class.TheVariants.{SleepMutex, Rw}
-use Rattle.wit_model.specs.declared.locks.LockNo.{LockNo}
-use Rattle.wit_model.specs.declared.locks.Mode.{Mode}
-use Rattle.wit_model.specs.declared.locks.Mode.TheVariants.{Shared, Exclusive}
+use Rattle.std.specs.Prelude.{ℕ, List, [], ◌∷◌, ◌++◌, None, reverse, codes}
+use Rattle.wit_model.specs.declared.locks.Class.TheVariants.{SleepMutex}
+use Rattle.wit_model.specs.declared.locks.Mode.TheVariants.{Exclusive}
 use Rattle.wit_model.specs.declared.locks.Site.{Site}
 use Rattle.wit_model.specs.declared.calls.Heading.TheVariants as heading
 use Rattle.wit_model.specs.declared.calls.Request.{Request}
 use Rattle.wit_model.specs.declared.calls.Call.{Call}
-use Rattle.wit_model.specs.declared.calls.Call.TheVariants.{Init, Destroy, Check, Note, NoteTry, GiveUp, Upgrade, Downgrade, Unlock}
+use Rattle.wit_model.specs.declared.calls.Call.TheVariants.{Init, Check, Note, Unlock, DefineOrder}
 use Rattle.wit_model.specs.declared.calls.Reply.{Reply}
-use Rattle.wit_model.specs.declared.calls.Reply.TheVariants.{Made, Done, Pass, Adopted, Reversal, Recorded, Unlocked}
+use Rattle.wit_model.specs.declared.calls.Reply.TheVariants.{Made, Pass, Adopted, Known, Reversal, Recorded, Unlocked}
 use Rattle.wit_model.specs.Rules.State.{Start}
-use Rattle.wit_model.specs.World.Deeds.{Deed, Logged, Take, TryTake, Free, RawUp, RawDown}
+use Rattle.wit_model.specs.World.Deeds.{Deed, Logged, Take, Free}
 
 abbrev pub small : Start
 small = record { sizes = record { seats = 2; types = 8; locks = 16; chunks = 4; log = 16777216 }; lists = []; blessed = [] }
@@ -21,15 +19,17 @@ small = record { sizes = record { seats = 2; types = 8; locks = 16; chunks = 4; 
 abbrev pub files : List (List ℕ)
 files = codes "f" ∷ []
 
-abbrev by : ℕ → Call → Reply → Deed
+abbrev pub by : ℕ → Call → Reply → Deed
 by t call reply = Logged (record { seat = record { 0 = t }; call = call; reply = reply })
 
--- thread 1 makes a mutex of the type of this name
-abbrev makes : List ℕ → List ℕ → ℕ → List Deed
-makes name type_name l =
-    by 1 (Init (record { class = SleepMutex; flags = record { 0 = 0 }; name = name; type_name = Some type_name })) (Made (record { 0 = l })) ∷ []
+-- thread 1 makes a mutex of this name, whose type has the same
+abbrev makes : List ℕ → ℕ → List Deed
+makes name l =
+    by 1 (Init (record { class = SleepMutex; flags = record { 0 = 0 }; name = name; type_name = None }))
+    (Made (record { 0 = l }))
+    ∷ []
 
-abbrev at_line : ℕ → Site
+abbrev pub at_line : ℕ → Site
 at_line line = record { file = record { 0 = 1 }; line = line }
 
 abbrev pub request : ℕ → ℕ → Request
@@ -46,72 +46,55 @@ locks t l line reply = asks t l line reply ++ Take t l Exclusive ∷ by t (Note 
 abbrev unlocks : ℕ → ℕ → List Deed
 unlocks t l = by t (Unlock (record { 0 = l }) Exclusive) Unlocked ∷ Free t l ∷ []
 
--- the order from the first lock's type to the second one's is learnt
-abbrev learns : Reply
-learns = Adopted (record { 0 = 1 }) (record { 0 = 2 })
+-- the order from the one lock's type to the other's is learnt; lock l is the first of its type, and
+-- so has its number
+abbrev learns : ℕ → ℕ → Reply
+learns l m = Adopted (record { 0 = l }) (record { 0 = m })
 
--- the first lock is asked for at line 4 under the second one, which was taken at line 3
-abbrev reverses : Reply
-reverses = Reversal (record {
+-- lock m is asked for at this line under lock l, which was taken at that one, against the order
+-- learnt
+abbrev reverses : ℕ → ℕ → ℕ → ℕ → Reply
+reverses l taken m line = Reversal (record {
   heading = heading.Order;
-  held = record { lock = record { 0 = 2 }; site = at_line 3 };
+  held = record { lock = record { 0 = l }; site = at_line taken };
   older = None;
-  asked = record { lock = record { 0 = 1 }; site = at_line 4 };
+  asked = record { lock = record { 0 = m }; site = at_line line };
 })
 
--- one thread after the other: the first takes a and under it b, and frees both; then the second takes b, and asks for a
+abbrev two_mutexes : List Deed
+two_mutexes = makes (codes "A") 1 ++ makes (codes "B") 2
+
+-- one thread after the other: the first takes A and under it B, and frees both; then the second
+-- takes B, and asks for A
 abbrev pub in_turn : List Deed
 in_turn =
-    reverse (makes (codes "a") (codes "A") 1 ++ makes (codes "b") (codes "B") 2
-    ++ locks 1 1 1 Pass ++ locks 1 2 2 learns ++ unlocks 1 2 ++ unlocks 1 1
-    ++ locks 2 2 3 Pass ++ asks 2 1 4 reverses)
+    reverse (two_mutexes
+    ++ locks 1 1 1 Pass ++ locks 1 2 2 (learns 1 2) ++ unlocks 1 2 ++ unlocks 1 1
+    ++ locks 2 2 3 Pass ++ asks 2 1 4 (reverses 2 3 1 4))
 
--- the same deeds crossed: the first has a and the second b when each asks for the other's
+-- the same deeds crossed: the first has A and the second B when each asks for the other's, the
+-- second one before the first. So it is the second one's order that is learnt, and the first one
+-- that reverses it
 abbrev pub crossed : List Deed
 crossed =
-    reverse (makes (codes "a") (codes "A") 1 ++ makes (codes "b") (codes "B") 2
-    ++ locks 1 1 1 Pass ++ locks 2 2 3 Pass ++ asks 1 2 2 learns ++ asks 2 1 4 reverses)
+    reverse (two_mutexes
+    ++ locks 1 1 1 Pass ++ locks 2 2 3 Pass ++ asks 2 1 4 (learns 2 1) ++ asks 1 2 2 (reverses 1 1 2 2))
 
--- both take a, and under it b, and free both
+-- both take A, and under it B, and free both
 abbrev pub agreed : List Deed
 agreed =
-    reverse (makes (codes "A") (codes "A") 1 ++ makes (codes "B") (codes "B") 2
-    ++ locks 1 1 1 Pass ++ locks 1 2 2 learns ++ unlocks 1 2 ++ unlocks 1 1
+    reverse (two_mutexes
+    ++ locks 1 1 1 Pass ++ locks 1 2 2 (learns 1 2) ++ unlocks 1 2 ++ unlocks 1 1
     ++ locks 2 1 3 Pass ++ locks 2 2 4 Pass ++ unlocks 2 2 ++ unlocks 2 1)
 
--- ---- each sequence once, of one reader/writer lock that may be recursed (0x01)
+-- t defines that A is to be before B, and is answered so
+abbrev defines : ℕ → Reply → List Deed
+defines t reply = by t (DefineOrder (record { 0 = 1 }) (record { 0 = 2 })) reply ∷ []
 
-abbrev l : LockNo
-l = record { 0 = 1 }
+-- both define the same order: to the second thread it is known
+abbrev pub defined : List Deed
+defined = reverse (two_mutexes ++ defines 1 (learns 1 2) ++ defines 2 Known)
 
-abbrev wants : Mode → Request
-wants mode = record { lock = l; site = at_line 1; mode = mode; ops = record { 0 = 0x01 } }
-
--- it is shared, turned exclusive and back, turned exclusive although that is refused, and freed
-abbrev turns : ℕ → List Deed
-turns t =
-    by t (Check (wants Shared)) Pass ∷ Take t 1 Shared ∷ by t (Note l) Recorded
-    ∷ RawUp t 1 ∷ by t (Upgrade l) Done ∷ by t (Downgrade l) Done ∷ RawDown t 1
-    ∷ RawUp t 1 ∷ RawDown t 1
-    ∷ by t (Unlock l Shared) Unlocked ∷ Free t 1 ∷ []
-
--- it is taken once and noted twice, so the first unlock frees nothing
-abbrev recurses : ℕ → List Deed
-recurses t =
-    by t (Check (wants Exclusive)) Pass ∷ Take t 1 Exclusive ∷ by t (Note l) Recorded
-    ∷ by t (Check (wants Exclusive)) Pass ∷ by t (Note l) Recorded
-    ∷ by t (Check (wants Exclusive)) Pass ∷ by t (GiveUp l) Done
-    ∷ by t (Unlock l Exclusive) Unlocked
-    ∷ by t (Unlock l Exclusive) Unlocked ∷ Free t 1 ∷ []
-
--- a try is noted, another one isn't, and a request is given up
-abbrev tries : ℕ → List Deed
-tries t =
-    TryTake t 1 Exclusive ∷ by t (NoteTry l Exclusive (at_line 2)) Recorded ∷ by t (Unlock l Exclusive) Unlocked ∷ Free t 1
-    ∷ TryTake t 1 Shared ∷ Free t 1
-    ∷ by t (Check (wants Exclusive)) Pass ∷ by t (GiveUp l) Done ∷ []
-
-abbrev pub varied : List Deed
-varied =
-    reverse (by 1 (Init (record { class = Rw; flags = record { 0 = 0x01 }; name = codes "r"; type_name = None })) (Made l)
-    ∷ turns 1 ++ recurses 1 ++ tries 2 ++ by 2 (Destroy l) Done ∷ [])
+-- the same deeds, the second thread first: it is known to the first
+abbrev pub defined_before : List Deed
+defined_before = reverse (two_mutexes ++ defines 2 (learns 1 2) ++ defines 1 Known)

@@ -1,9 +1,10 @@
 -- Another order of the same threads' deeds, as other luck or another scheduler might have given it.
-use Rattle.std.specs.Prelude.{ℕ, ◌≡◌, List, ◌++◌, map}
+use Rattle.std.specs.Prelude.{ℕ, List, map}
 use Rattle.wit_model.specs.declared.calls.Call.{Call}
 use Rattle.wit_model.specs.declared.calls.Call.TheVariants.{Check, DefineOrder}
 use Rattle.wit_model.specs.declared.calls.Reply.{Reply}
 use Rattle.wit_model.specs.declared.calls.Reply.TheVariants.{Pass}
+use Rattle.wit_model.specs.Rules.Beginnings.{IsBeginning}
 use Rattle.wit_model.specs.Rules.State.{Start}
 use Rattle.wit_model.specs.World.Deeds.{Deed, Logged, own}
 use Rattle.wit_model.specs.World.Steps.{IsWorld}
@@ -18,10 +19,6 @@ kept_reply _ reply = reply
 abbrev pub kept : Deed → Deed
 kept (Logged e) = Logged (record { seat = e.seat; call = e.call; reply = kept_reply e.call e.reply })
 kept d = d
-
--- the one list is how the other began (both are newest first)
-abbrev pub IsBeginning : List Deed → List Deed → Type 0
-IsBeginning first whole = (later : List Deed) × (whole ≡ later ++ first)
 
 -- the world v reorders the deeds of w: each thread's deeds in v are a beginning of its deeds in w, with the same replies save those.
 -- The run itself is a reordering of it, and so is each of its moments

@@ -1,5 +1,0 @@
-use Rattle.wit_model.proofs.Histories.Exhaustion.{told_once}
-use Rattle.wit_model.proofs.laws.law_exhausted_once.Goals as goal
-
-pub returns : goal.returns
-returns c = told_once

@@ -1,5 +1,0 @@
-use Rattle.wit_model.proofs.laws.law_files_may_grow.Goals as goal
-use Rattle.wit_model.proofs.Histories.NamedFiles.{legal-named}
-
-pub returns : goal.returns
-returns c = legal-named

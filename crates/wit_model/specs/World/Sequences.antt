@@ -1,0 +1,80 @@
+-- A world in which two threads do every sequence and every call, each with a deed of the other
+-- between any two of its own.
+use Rattle.std.specs.Prelude.{ℕ, List, [], ◌∷◌, ◌++◌, None, reverse, codes}
+use Rattle.wit_model.specs.declared.locks.Class.TheVariants.{Rw}
+use Rattle.wit_model.specs.declared.locks.LockNo.{LockNo}
+use Rattle.wit_model.specs.declared.locks.Mode.{Mode}
+use Rattle.wit_model.specs.declared.locks.Mode.TheVariants.{Shared, Exclusive}
+use Rattle.wit_model.specs.declared.locks.Watch.TheVariants.{On, Quiet, Off}
+use Rattle.wit_model.specs.declared.calls.Call.TheVariants.{Init, Destroy, Check, Note, NoteTry, GiveUp, Unlock, SetWatch, Upgrade, Downgrade, NoRelease, ReleaseOk, DefineOrder}
+use Rattle.wit_model.specs.declared.calls.Reply.{Reply}
+use Rattle.wit_model.specs.declared.calls.Reply.TheVariants.{Made, Done, Pass, Adopted, Known, Recorded, Unlocked}
+use Rattle.wit_model.specs.World.Deeds.{Deed, Take, TryTake, Free, RawUp, RawDown}
+use Rattle.wit_model.specs.World.Examples.{by, at_line}
+
+-- the deeds of the one list and of the other by turns
+abbrev by_turns : List Deed → List Deed → List Deed
+by_turns [] others = others
+by_turns deeds [] = deeds
+by_turns (a ∷ deeds) (b ∷ others) = a ∷ b ∷ by_turns deeds others
+
+abbrev no : ℕ → LockNo
+no l = record { 0 = l }
+
+-- t makes a reader/writer lock that may be recursed (0x01)
+abbrev makes : ℕ → List ℕ → ℕ → List Deed
+makes t name l =
+    by t (Init (record { class = Rw; flags = record { 0 = 0x01 }; name = name; type_name = None })) (Made (no l)) ∷ []
+
+-- t asks for it so, and is let pass
+abbrev asks : ℕ → ℕ → Mode → List Deed
+asks t l mode = by t (Check (record { lock = no l; site = at_line 1; mode = mode; ops = record { 0 = 0x01 } })) Pass ∷ []
+
+abbrev notes : ℕ → ℕ → List Deed
+notes t l = by t (Note (no l)) Recorded ∷ []
+
+abbrev unlocks : ℕ → ℕ → Mode → List Deed
+unlocks t l mode = by t (Unlock (no l) mode) Unlocked ∷ []
+
+-- it is taken shared, turned exclusive and back, turned exclusive although that is refused, and
+-- freed; and for a while it must not be
+abbrev turns : ℕ → ℕ → List Deed
+turns t l =
+    asks t l Shared ++ Take t l Shared ∷ notes t l
+    ++ by t (NoRelease (no l)) Done ∷ by t (ReleaseOk (no l)) Done
+    ∷ RawUp t l ∷ by t (Upgrade (no l)) Done ∷ by t (Downgrade (no l)) Done ∷ RawDown t l
+    ∷ RawUp t l ∷ RawDown t l
+    ∷ unlocks t l Shared ++ Free t l ∷ []
+
+-- it is taken once and noted twice, so the first unlock frees nothing; a third request is given up
+abbrev recurses : ℕ → ℕ → List Deed
+recurses t l =
+    asks t l Exclusive ++ Take t l Exclusive ∷ notes t l
+    ++ asks t l Exclusive ++ notes t l
+    ++ asks t l Exclusive ++ by t (GiveUp (no l)) Done
+    ∷ unlocks t l Exclusive
+    ++ unlocks t l Exclusive ++ Free t l ∷ []
+
+-- a try is noted, another one isn't, and a request is given up
+abbrev tries : ℕ → ℕ → List Deed
+tries t l =
+    TryTake t l Exclusive ∷ by t (NoteTry (no l) Exclusive (at_line 2)) Recorded ∷ unlocks t l Exclusive ++ Free t l
+    ∷ TryTake t l Shared ∷ Free t l
+    ∷ asks t l Exclusive ++ by t (GiveUp (no l)) Done ∷ []
+
+-- less is watched and all again, and the order of the two locks is defined
+abbrev settles : ℕ → Reply → List Deed
+settles t reply =
+    by t (SetWatch Quiet) Done ∷ by t (DefineOrder (no 1) (no 2)) reply ∷ by t (SetWatch On) Done ∷ []
+
+-- each does all of it, on the one lock or on the other; in the end both locks are destroyed and
+-- nothing is watched any more
+abbrev pub varied : List Deed
+varied =
+    reverse (by_turns (makes 1 (codes "r") 1) (makes 2 (codes "s") 2)
+    ++ by_turns (settles 1 (Adopted (record { 0 = 1 }) (record { 0 = 2 }))) (settles 2 Known)
+    ++ by_turns (turns 1 1) (turns 2 2)
+    ++ by_turns (recurses 1 2) (recurses 2 1)
+    ++ by_turns (tries 1 1) (tries 2 2)
+    ++ by_turns (by 1 (Destroy (no 1)) Done ∷ []) (by 2 (Destroy (no 2)) Done ∷ [])
+    ++ by 1 (SetWatch Off) Done ∷ [])

@@ -1,0 +1,95 @@
+//! Laws of worlds: of threads that take and free locks and tell the verifier of it. Each function
+//! is a theorem, and does nothing.
+
+ghost use Rattle.wit_model.specs.WorldLaws.{
+  CleanRunsNeverDeadlock,
+  InTurnIsWorld,
+  InTurnHasNone,
+  CrossedReorders,
+  CrossedDeadlocks,
+  DefinedIsWorld,
+  DefinedBeforeReorders,
+  AgreedIsWorld,
+  AgreedIsClean,
+  VariedIsWorld,
+  ExclusiveIsAlone,
+  WaitersAreBarred,
+  BarredOnesWait,
+  DeadlocksTakeTwo,
+  MomentsReorder,
+  WorldsAreLegal,
+  OwnDeedsAreLogged,
+  CleanRecordsHaveNoCircle,
+};
+
+/// Where a run is clean, no reordering of its threads' steps reaches a circle of threads that wait
+/// for one another's locks. It is clean where nothing was reported or tried, everything was
+/// watched, each check might teach its order, and nothing is excepted: no second lock of a type was
+/// allowed, no lock is Giant, no pair is blessed. That is why witness(4) verifies "that a lock is
+/// not being acquired in the wrong order": a deadlock shows in the orders before it happens, in
+/// runs in which the locks were taken one after the other.
+pub fn law_no_circle()
+    ensures { CleanRunsNeverDeadlock }
+{}
+
+/// That law isn't empty: a world without a deadlock has a reordering with one.
+pub fn law_circle_reached()
+    ensures run { InTurnIsWorld }
+    ensures none { InTurnHasNone }
+    ensures reordering { CrossedReorders }
+    ensures circle { CrossedDeadlocks }
+{}
+
+/// In a reordering a check may be answered otherwise than in the run, as in that world, and so may
+/// the defining of an order: it depends on what others did before.
+pub fn law_replies_differ()
+    ensures run { DefinedIsWorld }
+    ensures reordering { DefinedBeforeReorders }
+{}
+
+/// Nor has it a premise that no run meets: here is a world whose log is clean.
+pub fn law_clean_run()
+    ensures run { AgreedIsWorld }
+    ensures clean { AgreedIsClean }
+{}
+
+/// Every sequence of steps can be done, and every call made, while another thread does its own:
+/// here is a world of two threads with each of them, where the one does something between any two
+/// deeds of the other. Locks are taken shared and exclusively, recursed, turned both ways, tried,
+/// given up, marked and destroyed; an order is defined, and less is watched for a while.
+pub fn law_sequences_run()
+    ensures { VariedIsWorld }
+{}
+
+/// In every world who has a lock exclusively has it alone, as a mutex of mutex(9), and a writer of
+/// rwlock(9) or sx(9).
+pub fn law_exclusive_alone()
+    ensures { ExclusiveIsAlone }
+{}
+
+/// To wait is to be barred from a lock by another thread's share of it: who waits can't have the
+/// lock as things stand, and who can't have a lock that it asked for, and of which it has no share
+/// itself, waits for another. So a deadlock is of two threads at least.
+pub fn law_waiting_is_barred()
+    ensures barred { WaitersAreBarred }
+    ensures waits { BarredOnesWait }
+    ensures two { DeadlocksTakeTwo }
+{}
+
+/// A run is a reordering of itself, and so is each of its moments.
+pub fn law_run_reorders_itself()
+    ensures { MomentsReorder }
+{}
+
+/// The log of a world is a legal history, of which each thread's entries are those of its own
+/// steps.
+pub fn law_world_is_legal()
+    ensures legal { WorldsAreLegal }
+    ensures own { OwnDeedsAreLogged }
+{}
+
+/// A clean log leaves no circle of the record, whatever threads do: what a seat holds while it asks
+/// for a lock is to be taken before that lock.
+pub fn law_no_record_circle()
+    ensures { CleanRecordsHaveNoCircle }
+{}
