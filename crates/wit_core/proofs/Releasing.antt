@@ -7,13 +7,13 @@ use Rattle.wit_model.specs.declared.faults.Fault.{Fault}
 use Rattle.wit_model.specs.declared.calls.Call.TheVariants.{Unlock}
 use Rattle.wit_model.specs.Rules.Locks.{lock_at}
 use Rattle.wit_model.specs.Rules.State.{Story, state_of}
-use Rattle.wit_model.specs.Rules.Step.{answer_of, held_by}
+use Rattle.wit_model.specs.Rules.Step.{answer_of, held_by, before_naming}
 use Rattle.wit_model.specs.Rules.Types.{is_spin}
 use Rattle.wit_model.specs.Rules.Verdict.{is_of}
 use Rattle.wit_held.specs.Releases.{release_reply, release_answer}
 use Rattle.wit_core.specs.declared.verifier.Verifier.TheInside.{Inside}
 use Rattle.wit_core.specs.Kept.{IsKept, story_in}
-use Rattle.wit_core.specs.Replies.{Admits, before_naming}
+use Rattle.wit_core.specs.Replies.{Admits}
 use Rattle.wit_core.specs.Seats.{seat_in, locks_in}
 use Rattle.wit_core.proofs.Now.{chain-now}
 

@@ -28,7 +28,3 @@ told-watch (verdict.Silent a b) r q is w = ap (λ x. watch_after (Check q) x w) 
 told-watch (verdict.Duplicate d) r q is w = ap (λ x. watch_after (Check q) x w) (sym (same_reply is))
 told-watch (verdict.Reversal c) r q is w = ap (λ x. watch_after (Check q) x w) (sym (same_reply is))
 told-watch (verdict.Fault f) r q is w = (cc)
-
--- two replies that tell the same verdict are one
-pub told-once : (d : Verdict) (a b : Reply) → told d ≡ Ok a → told d ≡ Ok b → a ≡ b
-told-once d a b is same = same_reply (sym is ∙ same)

@@ -2,6 +2,7 @@
 //! none, and comes before those that can't fail; the log's entry comes last.
 
 mod assert_lock;
+mod call;
 mod check;
 mod define_order;
 mod destroy;

@@ -4,10 +4,10 @@ ghost use Rattle.std.specs.Prelude.{◌≡◌, ◌+◌, ◌&&◌, true, Some, no
 ghost use Rattle.wit_model.specs.Rules.Locks.{lock_at};
 ghost use Rattle.wit_model.specs.Rules.Numbers.{is_number};
 ghost use Rattle.wit_model.specs.Rules.State.{state_of, seat_at, is_seat, is_live, has_room};
-ghost use Rattle.wit_model.specs.Rules.Step.{held_by, is_too_deep};
+ghost use Rattle.wit_model.specs.Rules.Step.{held_by, is_too_deep, before_acquiring, before_answering, before_naming};
 ghost use Rattle.wit_model.specs.Rules.Destroying.{is_used};
 ghost use Rattle.wit_model.specs.Rules.Types.{is_otherwise, is_enrolled};
-ghost use Rattle.wit_core.specs.Replies.{before_acquiring, before_answering, before_naming, Admits, Refuses};
+ghost use Rattle.wit_core.specs.Replies.{Admits, Refuses};
 
 use crate::known::class_of;
 use crate::names::is_enrolled;
@@ -93,7 +93,7 @@ impl Verifier {
 // What stands before the answers of several calls.
 impl Verifier {
     // The faults of a call that asks for a lock, or tries it.
-    pub(crate) fn admits(
+    pub(crate) fn before_acquiring(
         &self,
         seat: SeatNo,
         lock: LockNo,
@@ -127,7 +127,7 @@ impl Verifier {
     }
 
     // The faults of a call about a lock by a seat that asks for nothing.
-    pub(crate) fn addresses(&self, seat: SeatNo, lock: LockNo) -> Result<(), Fault>
+    pub(crate) fn before_naming(&self, seat: SeatNo, lock: LockNo) -> Result<(), Fault>
         ensures ok { OnOk result (Admits (before_naming (state_of self.now) seat.0 lock.0)) }
         ensures seat { OnOk result (is_seat (state_of self.now) seat.0 ≡ true) }
         ensures err { IfErr result (Refuses (before_naming (state_of self.now) seat.0 lock.0)) }
@@ -145,7 +145,7 @@ impl Verifier {
     }
 
     // The request for this lock that is answered.
-    pub(crate) fn asked(&self, seat: SeatNo, lock: LockNo) -> Result<Request, Fault>
+    pub(crate) fn before_answering(&self, seat: SeatNo, lock: LockNo) -> Result<Request, Fault>
         ensures ok { OnOk result (Admits (before_answering (state_of self.now) seat.0 lock.0)) }
         ensures request { IfOk result (λ q. (seat_at (state_of self.now) seat.0).pending ≡ Some q) }
         ensures err { IfErr result (Refuses (before_answering (state_of self.now) seat.0 lock.0)) }

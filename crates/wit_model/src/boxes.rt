@@ -4,11 +4,12 @@ ghost use Rattle.std.specs.Prelude.{◌≡◌, IfOk};
 
 use std::alloc::{AllocError, Global};
 use std::marker::Model;
+use std::sync::Arc;
 
-/// A value on the heap. Clauses see the value alone, and not where it lies.
+/// A value on the heap, which may have several holders. Clauses see the value alone, and not where it lies.
 #[derive(Debug, Drop)]
 pub struct Boxed<T> {
-    inner: Box<T>,
+    inner: Arc<T>,
 }
 
 impl<T> Model for Boxed<T> {
@@ -28,7 +29,19 @@ impl<T> Boxed<T> {
         ensures { IfOk result (λ b. b ≡ value) }
     {
         Ok(Boxed {
-            inner: Box::new(alloc, value)?,
+            inner: Arc::new(alloc, value)?,
+        })
+    }
+
+    /// The same value once more, where it lies.
+    ///
+    /// # Errors
+    /// Want of memory alone, where nothing more can be counted: no heap is asked.
+    pub fn share(&self) -> Result<Boxed<T>, AllocError>
+        ensures { IfOk result (λ b. b ≡ self.now) }
+    {
+        Ok(Boxed {
+            inner: Arc::try_clone(&self.inner)?,
         })
     }
 

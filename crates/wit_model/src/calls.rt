@@ -189,6 +189,32 @@ pub enum Reply {
     Ignored,
 }
 
+impl Reply {
+    /// The same once more; what a report is about isn't copied.
+    ///
+    /// # Errors
+    /// Want of memory alone.
+    pub fn share(&self) -> Result<Reply, AllocError>
+        ensures { IfOk result (λ r. r ≡ self.now) }
+    {
+        Ok(match self {
+            Reply::Made(lock) => Reply::Made(*lock),
+            Reply::Done => Reply::Done,
+            Reply::Pass => Reply::Pass,
+            Reply::Adopted(parent, child) => Reply::Adopted(*parent, *child),
+            Reply::Silent(held, asked) => Reply::Silent(*held, *asked),
+            Reply::Reversal(conflict) => Reply::Reversal(conflict.share()?),
+            Reply::Duplicate(doubling) => Reply::Duplicate(doubling.share()?),
+            Reply::Recorded => Reply::Recorded,
+            Reply::Exhausted => Reply::Exhausted,
+            Reply::Unrecorded => Reply::Unrecorded,
+            Reply::Unlocked => Reply::Unlocked,
+            Reply::Known => Reply::Known,
+            Reply::Ignored => Reply::Ignored,
+        })
+    }
+}
+
 /// An entry of the log: an accepted call of a seat, and its reply.
 #[derive(Debug, Drop)]
 pub struct Entry {

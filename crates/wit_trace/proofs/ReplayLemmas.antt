@@ -1,5 +1,5 @@
 -- What becomes of a line, and what is written for it.
-use Rattle.std.proofs.Common.{◌≡◌, ℕ, ◌+◌, ◌<◌, ◌≤◌, Bool, ◌||◌, cond, ltb, List, [], ◌∷◌, ◌++◌, length, take, length-take, arith, codes, Option, Some, None, Result, Ok, Err, IfOk, OnErr, refl, sym, ap, ap₂, append_assoc, subst, ◌∙◌, false, inl, inr, unwrap_or}
+use Rattle.std.proofs.Common.{◌≡◌, ℕ, ◌+◌, ◌<◌, ◌≤◌, Bool, ◌||◌, cond, ltb, List, [], ◌∷◌, ◌++◌, length, take, length-take, arith, codes, Option, Some, None, Result, Ok, Err, IfOk, OnErr, refl, sym, ap, ap₂, append_assoc, subst, ◌∙◌, false, ◌⊎◌, inl, inr, unwrap_or}
 use Rattle.std.specs.Global.{Vec}
 use Rattle.std.specs.Io.{StartsWith}
 use Rattle.std.specs.Result.{IsErrAnd}
@@ -10,6 +10,7 @@ use Rattle.wit_model.specs.declared.calls.Call.{Call}
 use Rattle.wit_model.specs.declared.calls.Call.TheVariants as call
 use Rattle.wit_model.specs.declared.calls.Reply.{Reply}
 use Rattle.wit_model.specs.declared.faults.Fault.{Fault}
+use Rattle.wit_model.specs.declared.faults.Fault.TheVariants.{OutOfMemory}
 use Rattle.wit_model.specs.declared.flags.OpFlags.{OpFlags}
 use Rattle.wit_model.specs.declared.lines.Line.{Line}
 use Rattle.wit_model.specs.declared.lines.Cause.{Cause}
@@ -21,8 +22,7 @@ use Rattle.wit_model.specs.declared.locks.SeatNo.{SeatNo}
 use Rattle.wit_model.specs.Rules.Files.{naming_answer, NamesFile}
 use Rattle.wit_model.specs.Rules.Start.{start_fault}
 use Rattle.wit_model.specs.Rules.State.{Story}
-use Rattle.wit_model.specs.Rules.Refusals.{IsRefusal}
-use Rattle.wit_model.specs.Rules.Step.{AnswersOrFails, answer_of}
+use Rattle.wit_model.specs.Rules.Step.{AnswersOrFails, IsEntered, answer_of}
 use Rattle.wit_model.specs.Trace.Output as output
 use Rattle.wit_model.specs.Trace.Reading.{line_of}
 use Rattle.wit_grammar.specs.Lines.{Refuses}
@@ -59,7 +59,8 @@ call_refused s new t c fault (Ok reply) answers refuses = elim refuses [ ]
 call_refused s new t c fault (Err Memory) answers refuses = λ n. tt
 call_refused s new t c fault (Err (Bad cause)) answers refuses = λ n. go n answers.0
   where
-    go : (n : ℕ) → IsRefusal (answer_of s t c) fault → FailsFor (output.makes s n t c) (output.Reading s n) (output.Reading new n) (Bad cause)
+    go : (n : ℕ) → (answer_of s t c ≡ Err fault) ⊎ ((fault ≡ OutOfMemory) × IsEntered (answer_of s t c))
+        → FailsFor (output.makes s n t c) (output.Reading s n) (output.Reading new n) (Bad cause)
     go n (inl e) = rw e (refuses.0, λ bad. ap (λ (x : Story). output.summed (output.Reading x n) bad) answers.1)
     go n (inr none) = absurd (refuses.1 none.0)
 

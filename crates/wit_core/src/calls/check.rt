@@ -45,6 +45,13 @@ impl Verifier {
             mode,
             ops,
         };
+        self.ask(seat, request)
+    }
+
+    // The same for a request as a value.
+    pub(crate) fn ask(&mut self, seat: SeatNo, request: Request) -> Result<Reply, Fault>
+        ensures { AnswersOrFails self.old seat.0 (Check request) result self.new }
+    {
         let verdict = self.answer_check(seat, request)?;
         self.enter_check(seat, request, verdict)
     }
@@ -52,7 +59,7 @@ impl Verifier {
     fn answer_check(&self, seat: SeatNo, request: Request) -> Result<Verdict, Fault>
         ensures { replied result ≡ answer_of self.now seat.0 (Check request) }
     {
-        self.admits(seat, request.lock, request.mode, request.site)?;
+        self.before_acquiring(seat, request.lock, request.mode, request.site)?;
         let verdict = self.verdict(seat, request);
         if let Verdict::Fault(fault) = verdict {
             return Err(fault);
@@ -101,7 +108,7 @@ impl Verifier {
         ensures { AnswersOrFails self.old seat.0 (Check request) result self.new }
     {
         let reply = reply_to(self.alloc, verdict)?;
-        let kept = reply_to(self.alloc, verdict)?;
+        let kept = reply.share()?;
         self.log.reserve(3)?;
         self.known.learn(request, &reply)?;
         self.seats.ask(seat, request);

@@ -28,7 +28,7 @@ impl Verifier {
     fn answer_destroy(&self, seat: SeatNo, lock: LockNo) -> Result<(), Fault>
         ensures { done_reply Done result ≡ answer_of self.now seat.0 (Destroy lock) }
     {
-        self.addresses(seat, lock)?;
+        self.before_naming(seat, lock)?;
         if self.is_used(lock) {
             return Err(Fault::Busy);
         }

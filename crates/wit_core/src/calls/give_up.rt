@@ -26,7 +26,7 @@ impl Verifier {
     fn answer_give_up(&self, seat: SeatNo, lock: LockNo) -> Result<(), Fault>
         ensures { done_reply Done result ≡ answer_of self.now seat.0 (GiveUp lock) }
     {
-        let _request = self.asked(seat, lock)?;
+        let _request = self.before_answering(seat, lock)?;
         Ok(())
     }
 

@@ -36,8 +36,7 @@ impl Verifier {
     {
         let number = self.answer_init(seat, name, type_name, class, flags)?;
         let made = new_lock(self.alloc, name, type_name, class, flags)?;
-        let copy = Boxed::new(self.alloc, made.copy(self.alloc)?)?;
-        self.enter_init(seat, number, made, copy)?;
+        self.enter_init(seat, number, Boxed::new(self.alloc, made)?)?;
         Ok(number)
     }
 
@@ -49,8 +48,16 @@ impl Verifier {
         ensures { AnswersOrFails self.old seat.0 (Init lock) (made_reply result) self.new }
     {
         let number = self.answer_make(seat, &lock)?;
-        let copy = Boxed::new(self.alloc, lock.copy(self.alloc)?)?;
-        self.enter_init(seat, number, lock, copy)?;
+        self.enter_init(seat, number, Boxed::new(self.alloc, lock)?)?;
+        Ok(number)
+    }
+
+    // As `make`, for a lock that is boxed already.
+    pub(crate) fn make_boxed(&mut self, seat: SeatNo, lock: Boxed<NewLock>) -> Result<LockNo, Fault>
+        ensures { AnswersOrFails self.old seat.0 (Init lock) (made_reply result) self.new }
+    {
+        let number = self.answer_make(seat, lock.get())?;
+        self.enter_init(seat, number, lock)?;
         Ok(number)
     }
 
@@ -118,22 +125,21 @@ impl Verifier {
         &mut self,
         seat: SeatNo,
         number: LockNo,
-        made: NewLock,
-        copy: Boxed<NewLock>,
+        made: Boxed<NewLock>,
     ) -> Result<(), Fault>
-        requires accepted { answer_of self.old seat.0 (Init made) ≡ Ok (Made number) }
-        requires same { copy ≡ made }
+        requires { answer_of self.old seat.0 (Init made) ≡ Ok (Made number) }
         ensures ok { OnOk result (self.new ≡ logged self.old seat.0 (Init made) (Made number)) }
         ensures err { OnErr result (self.new ≡ self.old) }
         ensures memory { IfErr result (λ e. e ≡ OutOfMemory) }
     {
         // Called for its clause that there are never more than 65,536 locks.
         let _most = self.limits.locks();
+        let known = made.get().copy(self.alloc)?;
         self.log.reserve(1)?;
-        self.known.add_lock(made)?;
+        self.known.add_lock(known)?;
         let entry = Entry {
             seat,
-            call: Call::Init(copy),
+            call: Call::Init(made),
             reply: Reply::Made(number),
         };
         self.log.push(entry, 0);

@@ -49,7 +49,7 @@ impl Verifier {
     fn answer_mark(&self, seat: SeatNo, lock: LockNo) -> Result<bool, Fault>
         ensures { done_or_ignored result ≡ step_mark (state_of self.now) seat.0 lock.0 }
     {
-        self.addresses(seat, lock)?;
+        self.before_naming(seat, lock)?;
         if self.held(seat, lock).is_none() {
             return unless_held(self.watch());
         }

@@ -30,7 +30,7 @@ impl Verifier {
         ensures answer { done_reply (recorded (state_of self.now) seat.0 lock.0) result ≡ answer_of self.now seat.0 (Note lock) }
         ensures request { IfOk result (λ q. (seat_at (state_of self.now) seat.0).pending ≡ Some q) }
     {
-        let request = self.asked(seat, lock)?;
+        let request = self.before_answering(seat, lock)?;
         Ok(request)
     }
 

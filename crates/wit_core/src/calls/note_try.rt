@@ -38,7 +38,7 @@ impl Verifier {
     fn answer_try(&self, seat: SeatNo, lock: LockNo, mode: Mode, site: Site) -> Result<(), Fault>
         ensures { done_reply (recorded (state_of self.now) seat.0 lock.0) result ≡ answer_of self.now seat.0 (NoteTry lock mode site) }
     {
-        self.admits(seat, lock, mode, site)?;
+        self.before_acquiring(seat, lock, mode, site)?;
         if !self.has_room(2) {
             return Err(Fault::LogFull);
         }

@@ -56,7 +56,7 @@ impl Verifier {
         ensures { done_or_ignored result ≡ step_turn (state_of self.now) seat.0 lock.0
             (turned mode (state_of self.now).watch (held_by (state_of self.now) seat.0 lock.0)) }
     {
-        self.addresses(seat, lock)?;
+        self.before_naming(seat, lock)?;
         if !is_upgradable(self.class_of_lock(lock)) {
             return Err(Fault::NotUpgradable);
         }

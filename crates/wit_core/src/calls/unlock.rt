@@ -3,9 +3,9 @@
 ghost use Rattle.std.specs.Prelude.{◌≡◌, true};
 ghost use Rattle.wit_model.specs.declared.calls.Call.TheVariants.{Unlock};
 ghost use Rattle.wit_model.specs.Rules.State.{state_of, is_seat};
-ghost use Rattle.wit_model.specs.Rules.Step.{Answers};
+ghost use Rattle.wit_model.specs.Rules.Step.{Answers, before_naming};
 ghost use Rattle.wit_held.specs.Releases.{release_reply};
-ghost use Rattle.wit_core.specs.Replies.{Admits, before_naming};
+ghost use Rattle.wit_core.specs.Replies.{Admits};
 
 use crate::verifier::Verifier;
 use wit_model::{Call, Entry, Fault, LockNo, Mode, Reply, SeatNo};
@@ -21,7 +21,7 @@ impl Verifier {
     pub fn unlock(&mut self, seat: SeatNo, lock: LockNo, mode: Mode) -> Result<Reply, Fault>
         ensures { Answers self.old seat.0 (Unlock lock mode) result self.new }
     {
-        self.addresses(seat, lock)?;
+        self.before_naming(seat, lock)?;
         if self.release(seat, lock, mode)? {
             Ok(Reply::Unlocked)
         } else {

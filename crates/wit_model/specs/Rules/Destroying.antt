@@ -2,12 +2,12 @@
 use Rattle.std.specs.Prelude.{ℕ, Bool, not, ◌||◌, Result, Ok, Err, if◌then◌else◌}
 use Rattle.std.specs.List.{list_any}
 use Rattle.wit_model.specs.declared.faults.Fault.{Fault}
-use Rattle.wit_model.specs.declared.faults.Fault.TheVariants.{UnknownSeat, UnknownLock, Busy, Pending, LogFull}
+use Rattle.wit_model.specs.declared.faults.Fault.TheVariants.{Busy, LogFull}
 use Rattle.wit_model.specs.declared.calls.Reply.{Reply}
 use Rattle.wit_model.specs.declared.calls.Reply.TheVariants.{Done}
-use Rattle.wit_model.specs.Rules.State.{State, Seat, is_seat, is_live, has_room}
+use Rattle.wit_model.specs.Rules.State.{State, Seat, has_room}
 use Rattle.wit_model.specs.Rules.Verdict.{is_of}
-use Rattle.wit_model.specs.Rules.Questions.{is_pending, is_for}
+use Rattle.wit_model.specs.Rules.Questions.{is_for, before_naming}
 
 -- whether a seat holds the lock, or asks for it
 abbrev pub uses : ℕ → Seat → Bool
@@ -19,9 +19,7 @@ is_used s l = list_any (uses l) s.seats
 
 abbrev pub step_destroy : State → ℕ → ℕ → Result Reply Fault
 step_destroy s t l =
-    if not (is_seat s t) then Err UnknownSeat
-    else if not (is_live s l) then Err UnknownLock
-    else if is_pending s t then Err Pending
-    else if is_used s l then Err Busy
+    before_naming s t l (
+    if is_used s l then Err Busy
     else if not (has_room s 1) then Err LogFull
-    else Ok Done
+    else Ok Done)

@@ -1,7 +1,7 @@
 -- What an answer asks of the state: the lock, the seat's hold of it, its request, and room in the log.
-use Rattle.std.specs.Prelude.{ℕ, Bool, false, ◌==◌, List, Option, None, Some, Result, Ok, Err, find, is_some, if◌then◌else◌}
+use Rattle.std.specs.Prelude.{ℕ, Bool, false, not, ◌==◌, List, Option, None, Some, Result, Ok, Err, find, is_some, if◌then◌else◌}
 use Rattle.wit_model.specs.declared.faults.Fault.{Fault}
-use Rattle.wit_model.specs.declared.faults.Fault.TheVariants.{LogFull}
+use Rattle.wit_model.specs.declared.faults.Fault.TheVariants.{UnknownSeat, UnknownLock, Pending, NotRequested, LogFull}
 use Rattle.wit_model.specs.declared.locks.Class.{Class}
 use Rattle.wit_model.specs.declared.locks.Instance.{Instance}
 use Rattle.wit_model.specs.declared.calls.Request.{Request}
@@ -9,7 +9,7 @@ use Rattle.wit_model.specs.declared.calls.Reply.{Reply}
 use Rattle.wit_model.specs.declared.calls.Reply.TheVariants.{Ignored}
 use Rattle.wit_model.specs.Rules.Types.{is_spin}
 use Rattle.wit_model.specs.Rules.Locks.{lock_at}
-use Rattle.wit_model.specs.Rules.State.{State, seat_at, groups_in, has_room}
+use Rattle.wit_model.specs.Rules.State.{State, seat_at, is_seat, is_live, groups_in, has_room}
 use Rattle.wit_model.specs.Rules.Verdict.{is_of, chain_of_kind}
 
 -- the class of a lock
@@ -35,6 +35,21 @@ is_pending s t = is_some (seat_at s t).pending
 abbrev pub is_for : ℕ → Option Request → Bool
 is_for l None = false
 is_for l (Some q) = q.lock.0 == l
+
+-- a call about a lock: the seat and the lock are known, else it is refused before the rest
+abbrev pub about_lock : State → ℕ → ℕ → Result Reply Fault → Result Reply Fault
+about_lock s t l rest =
+    if not (is_seat s t) then Err UnknownSeat
+    else if not (is_live s l) then Err UnknownLock
+    else rest
+
+-- and by a seat that asks for nothing
+abbrev pub before_naming : State → ℕ → ℕ → Result Reply Fault → Result Reply Fault
+before_naming s t l rest = about_lock s t l (if is_pending s t then Err Pending else rest)
+
+-- and that answers the seat's request for the lock
+abbrev pub before_answering : State → ℕ → ℕ → Result Reply Fault → Result Reply Fault
+before_answering s t l rest = about_lock s t l (if not (is_for l (seat_at s t).pending) then Err NotRequested else rest)
 
 -- an answer that isn't a fault needs room for this many entries: the call's own and those that must be able to follow it
 abbrev pub with_room : State → ℕ → Result Reply Fault → Result Reply Fault

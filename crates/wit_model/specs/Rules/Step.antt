@@ -1,8 +1,8 @@
 -- What a verifier answers to a call, and which histories are legal. In each call the faults stand in the order in
 -- which they apply; want of memory is never among them.
-use Rattle.std.specs.Prelude.{ℕ, ◌+◌, ◌≡◌, Bool, true, false, not, ◌&&◌, ◌==◌, nat_le, List, [], ◌∷◌, Option, None, Some, Result, Ok, Err, length, is_some, if◌then◌else◌}
+use Rattle.std.specs.Prelude.{ℕ, ◌+◌, ◌≡◌, ◌⊎◌, Bool, true, false, not, ◌&&◌, ◌==◌, nat_le, List, [], ◌∷◌, Option, None, Some, Result, Ok, Err, length, is_some, if◌then◌else◌}
 use Rattle.wit_model.specs.declared.faults.Fault.{Fault}
-use Rattle.wit_model.specs.declared.faults.Fault.TheVariants.{UnknownSeat, UnknownLock, ClassMismatch, TypesFull, LocksFull, RecursionTooDeep, NotLocked, SharedUnlock, ExclusiveUnlock, ForbiddenUnlock, Pending, NotRequested, LogFull, BadName, WatchOff, ModeNotAllowed, UnknownFile}
+use Rattle.wit_model.specs.declared.faults.Fault.TheVariants.{UnknownSeat, ClassMismatch, TypesFull, LocksFull, RecursionTooDeep, NotLocked, SharedUnlock, ExclusiveUnlock, ForbiddenUnlock, Pending, LogFull, BadName, WatchOff, ModeNotAllowed, UnknownFile, OutOfMemory}
 use Rattle.wit_model.specs.declared.locks.Class.{Class}
 use Rattle.wit_model.specs.declared.locks.Class.TheVariants.{Rw, Sx}
 use Rattle.wit_model.specs.declared.locks.Mode.{Mode}
@@ -18,14 +18,13 @@ use Rattle.wit_model.specs.declared.calls.Reply.TheVariants.{Made, Done, Recorde
 use Rattle.wit_model.specs.declared.calls.Entry.{Entry}
 use Rattle.wit_model.specs.Rules.Names.{is_name}
 use Rattle.wit_model.specs.Rules.Numbers.{is_number}
-use Rattle.wit_model.specs.Rules.Refusals.{IsRefusal}
 use Rattle.wit_model.specs.Rules.Types.{type_name_of, is_enrolled, is_otherwise}
 use Rattle.wit_model.specs.Rules.Locks.{lock_at}
 use Rattle.wit_model.specs.Rules.Groups.{opens}
 use Rattle.wit_model.specs.Rules.History.{is_on, is_off}
-use Rattle.wit_model.specs.Rules.State.{Start, Story, State, state_of, seat_at, is_seat, is_live, free, has_room}
+use Rattle.wit_model.specs.Rules.State.{Start, Story, State, state_of, seat_at, is_seat, free, has_room}
 use Rattle.wit_model.specs.Rules.Verdict.{is_exclusive, verdict}
-pub use Rattle.wit_model.specs.Rules.Questions.{chain_for, groups_for, held_by, is_pending, is_for, with_room}
+pub use Rattle.wit_model.specs.Rules.Questions.{chain_for, groups_for, held_by, is_pending, is_for, about_lock, before_naming, before_answering, with_room}
 use Rattle.wit_model.specs.Rules.Turning.{step_upgrade, step_downgrade, step_mark}
 use Rattle.wit_model.specs.Rules.Defining.{step_define}
 use Rattle.wit_model.specs.Rules.Destroying.{step_destroy}
@@ -65,16 +64,20 @@ is_deepest (Some i) = i.count == 65535
 abbrev pub is_too_deep : State → ℕ → ℕ → Bool
 is_too_deep s t l = not (is_off s.watch) && is_deepest (held_by s t l)
 
+-- the faults of a call that asks for a lock, or tries it, before the rest
+abbrev pub before_acquiring : State → ℕ → ℕ → Mode → Site → Result Reply Fault → Result Reply Fault
+before_acquiring s t l m site rest =
+    about_lock s t l (
+    if not (is_number s.files site.file.0) then Err UnknownFile
+    else if not (is_exclusive m) && not (is_shareable (lock_at s.known.locks l).made.class) then Err ModeNotAllowed
+    else if is_pending s t then Err Pending
+    else if is_too_deep s t l then Err RecursionTooDeep
+    else rest)
+
 -- a check needs room for itself, its note and its unlock
 abbrev pub step_check : State → ℕ → Request → Result Reply Fault
 step_check s t q =
-    if not (is_seat s t) then Err UnknownSeat
-    else if not (is_live s q.lock.0) then Err UnknownLock
-    else if not (is_number s.files q.site.file.0) then Err UnknownFile
-    else if not (is_exclusive q.mode) && not (is_shareable (lock_at s.known.locks q.lock.0).made.class) then Err ModeNotAllowed
-    else if is_pending s t then Err Pending
-    else if is_too_deep s t q.lock.0 then Err RecursionTooDeep
-    else with_room s 3 (verdict s.known s.watch (seat_at s t) q)
+    before_acquiring s t q.lock.0 q.mode q.site (with_room s 3 (verdict s.known s.watch (seat_at s t) q))
 
 -- whether the lock would lie in a new chunk, and none is free
 abbrev pub is_exhausted : State → ℕ → ℕ → Bool
@@ -89,29 +92,14 @@ recorded s t l =
     else Recorded
 
 abbrev pub step_note : State → ℕ → ℕ → Result Reply Fault
-step_note s t l =
-    if not (is_seat s t) then Err UnknownSeat
-    else if not (is_live s l) then Err UnknownLock
-    else if not (is_for l (seat_at s t).pending) then Err NotRequested
-    else Ok (recorded s t l)
+step_note s t l = before_answering s t l (Ok (recorded s t l))
 
 -- a try is no request: no order is checked, nor how the lock is held. It needs room for itself and its unlock
 abbrev pub step_note_try : State → ℕ → ℕ → Mode → Site → Result Reply Fault
-step_note_try s t l m site =
-    if not (is_seat s t) then Err UnknownSeat
-    else if not (is_live s l) then Err UnknownLock
-    else if not (is_number s.files site.file.0) then Err UnknownFile
-    else if not (is_exclusive m) && not (is_shareable (lock_at s.known.locks l).made.class) then Err ModeNotAllowed
-    else if is_pending s t then Err Pending
-    else if is_too_deep s t l then Err RecursionTooDeep
-    else with_room s 2 (Ok (recorded s t l))
+step_note_try s t l m site = before_acquiring s t l m site (with_room s 2 (Ok (recorded s t l)))
 
 abbrev pub step_give_up : State → ℕ → ℕ → Result Reply Fault
-step_give_up s t l =
-    if not (is_seat s t) then Err UnknownSeat
-    else if not (is_live s l) then Err UnknownLock
-    else if not (is_for l (seat_at s t).pending) then Err NotRequested
-    else Ok Done
+step_give_up s t l = before_answering s t l (Ok Done)
 
 -- a release in this mode of a lock held so, where everything is watched; None where it isn't held
 abbrev pub released : Mode → Option Instance → Result Reply Fault
@@ -129,11 +117,7 @@ let_go (Some i) = Ok Unlocked
 
 abbrev pub step_unlock : State → ℕ → ℕ → Mode → Result Reply Fault
 step_unlock s t l m =
-    if not (is_seat s t) then Err UnknownSeat
-    else if not (is_live s l) then Err UnknownLock
-    else if is_pending s t then Err Pending
-    else if is_on s.watch then released m (held_by s t l)
-    else let_go (held_by s t l)
+    before_naming s t l (if is_on s.watch then released m (held_by s t l) else let_go (held_by s t l))
 
 -- nothing is watched again once nothing was
 abbrev pub step_set_watch : State → ℕ → Watch → Result Reply Fault
@@ -190,7 +174,13 @@ abbrev pub Answers : Story → ℕ → Call → Result Reply Fault → Story →
 Answers old t call (Ok reply) new = (answer_of old t call ≡ Ok reply) × (new ≡ grown old t call reply)
 Answers old t call (Err fault) new = (answer_of old t call ≡ Err fault) × (new ≡ old)
 
--- the same, where a growth may be refused in place of an acceptance: then too nothing changes
+-- an answer that the log keeps
+abbrev pub IsEntered : Result Reply Fault → Type 0
+IsEntered (Ok reply) = is_logged reply ≡ true
+IsEntered (Err fault) = ⊥
+
+-- the same, where a growth may be refused in place of an acceptance that is logged: then too nothing changes
 abbrev pub AnswersOrFails : Story → ℕ → Call → Result Reply Fault → Story → Type 0
 AnswersOrFails old t call (Ok reply) new = (answer_of old t call ≡ Ok reply) × (new ≡ grown old t call reply)
-AnswersOrFails old t call (Err fault) new = IsRefusal (answer_of old t call) fault × (new ≡ old)
+AnswersOrFails old t call (Err fault) new =
+    ((answer_of old t call ≡ Err fault) ⊎ ((fault ≡ OutOfMemory) × IsEntered (answer_of old t call))) × (new ≡ old)

@@ -2,7 +2,7 @@
 -- and whether it may be released (witness_norelease and witness_releaseok of subr_witness.c). The place and the site of the lock stay.
 use Rattle.std.specs.Prelude.{ℕ, Bool, true, false, not, nat_lt, Option, None, Some, Result, Ok, Err, if◌then◌else◌}
 use Rattle.wit_model.specs.declared.faults.Fault.{Fault}
-use Rattle.wit_model.specs.declared.faults.Fault.TheVariants.{UnknownSeat, UnknownLock, NotLocked, Pending, NotUpgradable, UpgradeOfExclusive, UpgradeRecursed, DowngradeOfShared, DowngradeRecursed}
+use Rattle.wit_model.specs.declared.faults.Fault.TheVariants.{NotLocked, NotUpgradable, UpgradeOfExclusive, UpgradeRecursed, DowngradeOfShared, DowngradeRecursed}
 use Rattle.wit_model.specs.declared.locks.Class.{Class}
 use Rattle.wit_model.specs.declared.locks.Class.TheVariants.{Rw, Sx}
 use Rattle.wit_model.specs.declared.locks.Watch.{Watch}
@@ -10,9 +10,9 @@ use Rattle.wit_model.specs.declared.locks.Instance.{Instance}
 use Rattle.wit_model.specs.declared.calls.Reply.{Reply}
 use Rattle.wit_model.specs.declared.calls.Reply.TheVariants.{Done, Ignored}
 use Rattle.wit_model.specs.Rules.History.{is_on}
-use Rattle.wit_model.specs.Rules.State.{State, is_seat, is_live}
+use Rattle.wit_model.specs.Rules.State.{State}
 use Rattle.wit_model.specs.Rules.Verdict.{is_exclusive}
-use Rattle.wit_model.specs.Rules.Questions.{class_at, held_by, is_pending, with_entry}
+use Rattle.wit_model.specs.Rules.Questions.{class_at, held_by, before_naming, with_entry}
 
 -- whether a lock of the class can be turned from shared to exclusive and back
 abbrev pub is_upgradable : Class → Bool
@@ -48,11 +48,7 @@ mark_answer watch (Some i) = if is_on watch then Ok Done else Ok Ignored
 -- a turn of a lock, where the answer is this one for a lock that can be turned
 abbrev pub step_turn : State → ℕ → ℕ → Result Reply Fault → Result Reply Fault
 step_turn s t l answer =
-    if not (is_seat s t) then Err UnknownSeat
-    else if not (is_live s l) then Err UnknownLock
-    else if is_pending s t then Err Pending
-    else if not (is_upgradable (class_at s l)) then Err NotUpgradable
-    else with_entry s answer
+    before_naming s t l (if not (is_upgradable (class_at s l)) then Err NotUpgradable else with_entry s answer)
 
 abbrev pub step_upgrade : State → ℕ → ℕ → Result Reply Fault
 step_upgrade s t l = step_turn s t l (upgraded s.watch (held_by s t l))
@@ -62,8 +58,4 @@ step_downgrade s t l = step_turn s t l (downgraded s.watch (held_by s t l))
 
 -- that a held lock must not be released, or may be again
 abbrev pub step_mark : State → ℕ → ℕ → Result Reply Fault
-step_mark s t l =
-    if not (is_seat s t) then Err UnknownSeat
-    else if not (is_live s l) then Err UnknownLock
-    else if is_pending s t then Err Pending
-    else with_entry s (mark_answer s.watch (held_by s t l))
+step_mark s t l = before_naming s t l (with_entry s (mark_answer s.watch (held_by s t l)))

@@ -4,7 +4,7 @@ use Rattle.wit_model.proofs.Chains.Seats.{entry}
 use Rattle.wit_core.proofs.Keeping.{kept_entered, log_after}
 use Rattle.wit_core.proofs.Entries.{accepted, given, check_room, leaves_check}
 use Rattle.wit_core.proofs.Taught.{apt}
-use Rattle.wit_core.proofs.Told.{told-logged, told-watch, told-once}
+use Rattle.wit_core.proofs.Told.{told-logged, told-watch}
 use Rattle.wit_core.proofs.verifier.Verifier.enter_check.Goals as goal
 
 pub learn-requires : goal.learn-requires
@@ -27,7 +27,7 @@ invariant_of-self-2 c =
       history = entry c.args.seat.0 (Check c.args.request) x ∷ c.self.inside.log.history;
       owed = c.self.inside.log.owed + 2;
       spare = c.reserve.new.self.spare - 3;
-    }) (told-once c.args.verdict c.in_ok-kept.kept c.in_ok-reply.reply c.in_ok-kept.ensures.ok c.in_ok-reply.ensures.ok)
+    }) c.in_ok-kept.ensures
     (log_after c.self.inside.log c.reserve.new.self c.push.new.self _ 2 _ c.reserve.ensures.same c.push.ensures))
     c.self.invariant (told-logged c.args.verdict c.in_ok-reply.reply c.in_ok-reply.ensures.ok)
     (accepted c.self.inside c.self.invariant c.args.self.now c.self.view_is c.args.seat.0 (Check c.args.request) c.in_ok-reply.reply (c.requires ∙ c.in_ok-reply.ensures.ok))
