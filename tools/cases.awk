@@ -1,11 +1,11 @@
 # Reads a file of cases, as tools/try-cases describes it, and writes of each case what the program is run on into the folder
 # `work`: NUMBER.words, a word a line, NUMBER.in, NUMBER.out and NUMBER.err. It prints a line a case,
-#     NUMBER STATUS INPUT OUTPUT ERRORS FILE:LINE: HEADING
-# in which a stream is '-' where it is such a file, or else what stands in its place. For what can't be read as a case NUMBER
+#     NUMBER STATUS INPUT OUTPUT ERRORS MEMORY FILE:LINE: HEADING
+# in which a stream is '-' where it is such a file, or else what stands in its place, and so is MEMORY where there is no limit. For what can't be read as a case NUMBER
 # is `malformed`, and behind the place stands why.
 
 function malformed(line, why) {
-    print "malformed - - - -", name ":" line ": " why
+    print "malformed - - - - -", name ":" line ": " why
 }
 
 # What stands behind the first two bytes of a line.
@@ -117,7 +117,7 @@ function write_case(line, of_trace, of_output,    path) {
     save(trace of_trace, path ".in")
     save(told of_output, path ".out")
     save(complaints, path ".err")
-    print number, status, input, output, errors, name ":" line ": " heading
+    print number, status, input, output, errors, memory, name ":" line ": " heading
 }
 
 # Writes a row as a case, or as one for each byte of the range that it has.
@@ -152,7 +152,7 @@ function begin_case(text) {
     heading = text
     begun = FNR
     words = status = trace = told = complaints = ""
-    input = output = errors = "-"
+    input = output = errors = memory = "-"
     count = 0
     split("", rows)
     text_name = ""
@@ -178,6 +178,7 @@ text_name != "" && is("-") { texts[text_name] = texts[text_name] rest() "\n"; ne
 heading == "" { malformed(FNR, "a line outside of a case"); next }
 /^[$] ./ { command(rest()); next }
 /^= ./ { if (status != "") malformed(FNR, "a second status"); status = rest(); next }
+/^% [0-9]+$/ { if (memory != "-") malformed(FNR, "a second limit"); memory = rest(); next }
 /^<@ ./ { trace = trace named(substr($0, 4)); next }
 /^>@ ./ { told = told named(substr($0, 4)); next }
 /^!@ ./ { complaints = complaints named(substr($0, 4)); next }
