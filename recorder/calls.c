@@ -69,10 +69,10 @@ static inline int acquire(const struct way *way, void *address, struct caller ca
     return UNLIKELY(nested && answer == EBUSY) ? acquire_slowly(way, address, caller) : answer;
 }
 
-static inline void release(const void *address)
+static inline void release(const void *address, struct caller caller)
 {
     if (UNLIKELY(!quick_released(address)))
-        release_begins(address);
+        release_begins(address, caller);
 }
 
 static inline int acquire_at_once(const struct way *way, void *address, struct caller caller)
@@ -187,7 +187,7 @@ EXPORT int pthread_mutex_clocklock(pthread_mutex_t *mutex, clockid_t clock, cons
 
 EXPORT int pthread_mutex_unlock(pthread_mutex_t *mutex)
 {
-    release(mutex);
+    release(mutex, CALLER);
     return real.mutex_unlock(mutex);
 }
 
@@ -243,7 +243,7 @@ EXPORT int pthread_rwlock_clockwrlock(pthread_rwlock_t *lock, clockid_t clock, c
 
 EXPORT int pthread_rwlock_unlock(pthread_rwlock_t *lock)
 {
-    release(lock);
+    release(lock, CALLER);
     return real.rwlock_unlock(lock);
 }
 
@@ -269,7 +269,7 @@ EXPORT int pthread_spin_trylock(pthread_spinlock_t *lock)
 
 EXPORT int pthread_spin_unlock(pthread_spinlock_t *lock)
 {
-    release((const void *)lock);
+    release((const void *)lock, CALLER);
     return real.spin_unlock(lock);
 }
 
@@ -331,7 +331,7 @@ EXPORT int mtx_timedlock(mtx_t *restrict mutex, const struct timespec *restrict 
 
 EXPORT int mtx_unlock(mtx_t *mutex)
 {
-    release(mutex);
+    release(mutex, CALLER);
     return c11(real.mutex_unlock((pthread_mutex_t *)mutex));
 }
 
@@ -406,6 +406,12 @@ EXPORT handler *sigset(int number, handler *given)
 {
     handler_comes(given);
     return real.sigset(number, given);
+}
+
+/* What was at the library's addresses means nothing any more. */
+EXPORT int dlclose(void *handle)
+{
+    AFTER_SUCCESS(real.dlclose(handle), library_closed());
 }
 
 EXPORT void free(void *block)

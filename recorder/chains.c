@@ -214,7 +214,7 @@ bool request_begins(struct request *request, const void *address, enum class cla
 COLD void request_waits(struct request *request)
 {
     if (request->again_refused)
-        count_missed_outside(MISSED_AGAIN);
+        write_waits_for_itself(request);
     else if (!request->again)
         write_request(request);
 }
@@ -273,7 +273,7 @@ static void released(struct thread *thread, struct held *held)
 }
 
 /* The thread is about to release the lock, whichever call it uses. */
-void release_begins(const void *address)
+void release_begins(const void *address, struct caller caller)
 {
     struct thread *thread = &self;
     if (UNLIKELY(!opens(thread)))
@@ -285,7 +285,7 @@ void release_begins(const void *address)
         thread->unseen--;
     } else {
         struct lock *lock = lock_at(address);
-        count_missed_outside(MISSED_RELEASES);
+        write_released_by_another(thread, lock, place_of(caller));
         if (lock && lock->loses)
             lock_given_up(lock);
     }

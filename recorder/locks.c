@@ -42,7 +42,7 @@ static struct type *type_of(const struct type *wanted)
         hash = (hash ^ wanted->places[i]) * 0x9e3779b97f4a7c15u;
     struct type **bucket = &type_buckets[(hash >> 40) % TYPE_BUCKETS];
     for (struct type *type = *bucket; type; type = type->next)
-        if (type->anchor == wanted->anchor && type->class == wanted->class
+        if (type->anchor == wanted->anchor && type->class == wanted->class && type->object == wanted->object
             && memcmp(type->places, wanted->places, sizeof type->places) == 0)
             return type;
     if (types_met == TYPES_MET)
@@ -140,7 +140,8 @@ COLD struct lock *lock_met(const void *address, enum class class, struct caller 
         return NULL;
     struct lock *lock = lock_at(address);
     if (!lock) {
-        if (object_of((uintptr_t)address, false))
+        wanted.object = object_of((uintptr_t)address, false);
+        if (wanted.object)
             wanted.anchor = (uintptr_t)address;
         else
             memcpy(wanted.places, places, sizeof places);
@@ -177,6 +178,7 @@ void lock_made(const void *address, enum class class, struct caller caller)
         struct lock *before = lock_at(address);
         if (before)
             forget(before, false);
+        wanted.object = object_of((uintptr_t)address, false);
         wanted.anchor = anchor_of((uintptr_t)address);
         add(address, &wanted);
         recorder_leaves();
@@ -228,6 +230,31 @@ void locks_freed(const void *block)
         struct lock *lock;
         while ((lock = lock_in(&at, end)) != NULL)
             forget(lock, is_free(lock));
+        recorder_leaves();
+    }
+    self.state = OPEN;
+}
+
+/* The object is no longer mapped, and its locks are gone with it. Nothing is read at their addresses. */
+static void forget_object(uintptr_t from, uintptr_t to)
+{
+    for (uint32_t i = 0; i < locks_taken; i++) {
+        uintptr_t address = atomic_load_explicit(&locks[i].address, memory_order_relaxed);
+        if (address >= from && address < to)
+            forget(&locks[i], false);
+    }
+    memset(anchors, 0, sizeof anchors);
+    places_closed(from, to);
+}
+
+/* The program has closed a library. */
+void library_closed(void)
+{
+    if (self.state != OPEN && !thread_opens(&self))
+        return;
+    self.state = BUSY;
+    if (recorder_enters()) {
+        objects_closed(forget_object);
         recorder_leaves();
     }
     self.state = OPEN;

@@ -96,15 +96,21 @@ static void add(struct caller frame, int32_t step)
     }
     if (places_met >= PLACES / 4 * 3)
         return;
+    uint32_t object = object_of(frame.pc - 1, true);
     uint32_t slot = place_slot(frame.pc);
-    while (atomic_load_explicit(&places[slot].pc, memory_order_relaxed) != 0)
+    for (uintptr_t pc; (pc = atomic_load_explicit(&places[slot].pc, memory_order_relaxed)) != 0;) {
+        if (pc == PC_CLOSED && places[slot].closed == frame.pc && places[slot].object == object) {
+            atomic_store_explicit(&places[slot].pc, frame.pc, memory_order_release);
+            return;
+        }
         slot = (slot + 1) % PLACES;
+    }
     struct place *place = &places[slot];
     uintptr_t from;
     uint64_t size = 0;
     place->step = step;
     place->name = "";
-    place->object = (uint16_t)object_of(frame.pc - 1, true);
+    place->object = (uint16_t)object;
     if (place->object) {
         place->offset = object_offset(place->object, frame.pc);
         place->name = object_symbol(place->object, frame.pc - 1, true, &from, &size);
@@ -115,6 +121,18 @@ static void add(struct caller frame, int32_t step)
     }
     places_met++;
     atomic_store_explicit(&place->pc, frame.pc, memory_order_release);
+}
+
+/* The object is mapped no longer: at its addresses there may be another. Its places stay, with their numbers. */
+void places_closed(uintptr_t from, uintptr_t to)
+{
+    for (uint32_t slot = 0; slot < PLACES; slot++) {
+        uintptr_t pc = atomic_load_explicit(&places[slot].pc, memory_order_relaxed);
+        if (pc > from && pc <= to && pc != PC_CLOSED) {
+            places[slot].closed = pc;
+            atomic_store_explicit(&places[slot].pc, PC_CLOSED, memory_order_release);
+        }
+    }
 }
 
 static _Unwind_Reason_Code keep_frame(struct _Unwind_Context *context, void *argument)

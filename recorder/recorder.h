@@ -64,7 +64,8 @@ struct caller {
 
 /* A return address that was met. */
 struct place {
-    _Atomic uintptr_t pc;
+    _Atomic uintptr_t pc; /* or the one below */
+    uintptr_t closed;  /* the address, while its object is closed */
     int32_t step;      /* from the caller's stack pointer to that of its own caller; or one of the two below */
     uint16_t object;   /* the number of the object, 0 where there is none */
     bool wrapper;      /* the function's only work is to lock */
@@ -72,13 +73,16 @@ struct place {
     const char *name;  /* of the function, or empty */
     uint64_t within;   /* the address as the function counts it */
     struct marks marks;
+    struct marks releases; /* set where a release by another thread than the holder was written */
 };
 enum { STEP_LAST = 0, STEP_VARIES = -1 };
+#define PC_CLOSED ((uintptr_t)1)
 
 struct type {
     uint32_t number;
     enum class class;
     uintptr_t anchor;  /* of a lock that stands in an object: the lock, or the variable that it is in; else 0 */
+    uint32_t object;   /* in which the anchor is; two may have been at one address, one after the other */
     uintptr_t address; /* of the first lock of the type */
     uint32_t places[DEPTH_MOST];
     struct type *next; /* in its bucket */
@@ -186,6 +190,7 @@ struct real {
     int (*cond_timedwait)(pthread_cond_t *, pthread_mutex_t *, const struct timespec *);
     int (*cond_clockwait)(pthread_cond_t *, pthread_mutex_t *, clockid_t, const struct timespec *);
     int (*c11_init)(mtx_t *, int);
+    int (*dlclose)(void *);
     int (*sigaction)(int, const struct sigaction *, struct sigaction *);
     handler *(*signal)(int, handler *);
     handler *(*sysv_signal)(int, handler *);
@@ -215,7 +220,7 @@ bool request_begins(struct request *request, const void *address, enum class cla
     struct caller caller, bool tried);
 void request_ends(struct request *request, bool got);
 void request_waits(struct request *request);
-void release_begins(const void *address);
+void release_begins(const void *address, struct caller caller);
 bool wait_begins(struct request *request, const void *address, struct caller caller);
 void wait_ends(struct request *request, int answer);
 void node_set_requested(uint32_t node);
@@ -250,6 +255,7 @@ void locks_forked(void);
 void lock_made(const void *address, enum class class, struct caller caller);
 void lock_gone(const void *address);
 void locks_freed(const void *block);
+void library_closed(void);
 void lock_given_up(struct lock *lock);
 
 /* places.c */
@@ -288,6 +294,7 @@ static inline uint32_t place_of(struct caller caller)
 }
 
 uint32_t places_of(struct caller caller, uint32_t places[DEPTH_MOST]);
+void places_closed(uintptr_t from, uintptr_t to);
 
 /* objects.c */
 uint32_t object_of(uintptr_t address, bool look); /* 0 for none; looks for new objects where it is told to */
@@ -296,6 +303,9 @@ const char *object_path(uint32_t object);
 struct marks *object_marks(uint32_t object);
 /* The name of the function or variable there, or an empty one; *from is where it begins, and *size how long it is. */
 const char *object_symbol(uint32_t object, uintptr_t address, bool function, uintptr_t *from, uint64_t *size);
+const char *object_symbol_file(uint32_t object, uintptr_t address);
+void objects_begin(void);
+void objects_closed(void (*gone)(uintptr_t from, uintptr_t to));
 
 /* seats.c */
 bool seat_taken(int stream, struct thread *thread);
@@ -312,6 +322,8 @@ void write_acquired(struct request *request, struct held *held);
 void write_again(struct request *request, struct held *held);
 void write_given_up(struct request *request);
 void write_unlock(struct thread *thread, struct held *held, bool whole);
+void write_waits_for_itself(struct request *request);
+void write_released_by_another(struct thread *thread, struct lock *lock, uint32_t place);
 void write_place(int stream, uint32_t place);
 void write_type(int stream, struct type *type);
 void write_init(int stream, struct thread *thread, struct lock *lock);

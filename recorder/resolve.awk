@@ -1,29 +1,51 @@
-# Makes a trace of a recorder's file. It reads, one behind the other, as `kind` and `pass` on its command line say:
+# Makes a trace of a recorder's file. It reads, one behind the other, as `kind` on its command line says:
 #   kind=ignore    the user's file of types and pairs to be left in peace (where there is one)
 #   kind=lines     what addr2line answered, each object behind a line `object NUMBER`
 #   kind=names     the variables' names, mangled and demangled, by tabs
-#   kind=record    the recorder's file: twice, to count first (pass=1) and to write then (pass=2)
-# Variable: directory, which is left out at the head of the names of source files.
+#   kind=declared  what count.awk left: objects, places, types and locks, and how much there is of all
+#   kind=record    the recorder's file
+# Variables: progress, which is 1 where somebody sits at a terminal, and notes, the file for what isn't part of a trace:
+#   matched LINE            a line of the user's file that names types of this trace
+#   pending N               so many requests never ended
+#   again SEAT LOCK SITE    the seat waited for a lock that it held
+#   foreign "NAME" @ SITE   the lock was released by a thread that didn't hold it
+# The directory in RECORD_DIRECTORY is left out at the head of the names of source files.
 
 # Giant is the kernel's own lock, with rules that no program's has.
-BEGIN { taken["Giant"] = 1 }
+BEGIN {
+    taken["Giant"] = 1
+    directory = ENVIRON["RECORD_DIRECTORY"]
+}
 
 function base(path) {
     sub(/.*\//, "", path)
     return path
 }
 
-# Only the bytes that a name of a trace may have, and at most so many of them.
-function clean(text, most) {
+# Only the bytes that a name of a trace may have.
+function clean(text) {
     gsub(/"/, "'", text)
     gsub(/[^ -~]/, "?", text)
-    return substr(text, 1, most)
+    return text
+}
+
+# At most 63 bytes, of which the tail isn't cut.
+function cut(text, tail) {
+    return substr(text, 1, 63 - length(tail)) tail
 }
 
 # What stands in the C++ library and does nothing but lock.
-function is_wrapper(name, file) {
+function is_library(name, file) {
     return file ~ /\/c\+\+\/[0-9]/ || name ~ /^([A-Za-z_ ]+ )?(std|__gnu_cxx)::/ || name ~ /^__gthread/ \
         || name ~ /^__glibcxx_rwlock/
+}
+
+# An inlined function that has the name of one whose only work is to lock: places.c goes by the same names.
+function is_wrapper(name) {
+    sub(/.*::/, "", name)
+    name = tolower(name)
+    return name !~ /(unlock|clock|block)$/ \
+        && name ~ /(lock|mutex|monitor|mutex_?enter|(mutex|lock)_acquire|(mutex|lock)_?init|mutex_(create|new|alloc)|cond_?wait|cond_timedwait)$/
 }
 
 # A function's name without what it takes.
@@ -33,29 +55,51 @@ function short(name) {
     return name
 }
 
-# One frame of an address, innermost first: the first that isn't a wrapper is its line, else the last one.
+# One frame of an address, innermost first; all but the last one were inlined.
 function frame(key, name, line) {
     sub(/ \(discriminator.*/, "", line)
     if (name != "??")
         name_of[key] = short(name)
-    if (line ~ /^\?\?/ || line ~ /:(\?|0)$/ || found[key])
+    if (line ~ /^\?\?/ || line ~ /:(\?|0)$/)
         return
-    line_of[key] = line
-    found[key] = !is_wrapper(name, line)
+    frames[key]++
+    frame_line[key, frames[key]] = line
+    frame_name[key, frames[key]] = short(name)
+    in_library[key, frames[key]] = is_library(name, line)
+}
+
+# Whether the frame says nothing about a call.
+function is_skipped(key, number) {
+    return in_library[key, number] || (number < frames[key] && is_wrapper(frame_name[key, number]))
+}
+
+# The number of the place's first frame that says something from this one on, 0 where none does.
+function telling(key, number) {
+    for (; number <= frames[key]; number++)
+        if (!is_skipped(key, number))
+            return number
+    return 0
 }
 
 function escaped(text) {
     gsub(/ /, "_", text)
-    return clean(text, 4096)
+    return clean(text)
+}
+
+function key_of(place) {
+    return object_of[place] " " offset_of[place]
 }
 
 # FILE:LINE of a place as it stands in a trace; where nothing is known of it, OBJECT+OFFSET(FUNCTION) and line 0.
-function site(place,   text, key, line) {
+function site(place,   text, key, line, number) {
+    if (place in site_of)
+        return site_of[place]
     if (!(place in object_of))
         return "?:0"
-    key = object_of[place] " " offset_of[place]
-    if (key in line_of) {
-        text = line_of[key]
+    key = key_of(place)
+    if (frames[key] > 0) {
+        number = telling(key, 1)
+        text = frame_line[key, number ? number : frames[key]]
         if (index(text, directory "/") == 1)
             text = substr(text, length(directory) + 2)
     } else {
@@ -67,12 +111,12 @@ function site(place,   text, key, line) {
     sub(/:[0-9]*$/, "", text)
     if (length(text) > 255)
         text = substr(text, length(text) - 254)
-    return text ":" line
+    return site_of[place] = text ":" line
 }
 
 # The function of a place, as the source names it where addr2line knows it.
 function function_name(place,   key) {
-    key = object_of[place] " " offset_of[place]
+    key = key_of(place)
     return key in name_of ? name_of[key] : function_of[place]
 }
 
@@ -81,94 +125,227 @@ function unknown(place,   text) {
     return function_of[place] == "-" ? text : text "(" function_name(place) ")"
 }
 
-# What a place gives to the name of a type: shorter than a site.
-function step(place,   key) {
-    key = object_of[place] " " offset_of[place]
-    if (key in line_of)
-        return base(line_of[key])
-    if (function_of[place] == "-")
-        return unknown(place)
-    return function_name(place) "+0x" within_of[place]
-}
-
-function variable(object, offset, name, within) {
+function variable(object, offset, name, within, file) {
     if (name == "-")
         return base(path_of[object]) "+0x" offset
     if (name in demangled)
         name = demangled[name]
-    return within == "0" ? name : name "+0x" within
+    return clean((within == "0" ? name : name "+0x" within) (file == "-" ? "" : " (" file ")"))
+}
+
+# The number that hexadecimal digits stand for.
+function decimal(digits,   value, i) {
+    for (i = 1; i <= length(digits); i++)
+        value = value * 16 + index("0123456789abcdef", substr(digits, i, 1)) - 1
+    return value
+}
+
+# One caller more of the type that is being named: so many as it has places, whether they were inlined or not.
+function step(type, identity, name) {
+    if (steps == deepest)
+        return
+    source[type] = source[type] " < " identity
+    if (!(type in object_at))
+        plain[type] = plain[type] (steps ? "<" : "") name
+    steps++
+}
+
+function steps_of(type, place,   key, number, any) {
+    key = key_of(place)
+    for (number = 1; (number = telling(key, number)) > 0; number++) {
+        step(type, frame_line[key, number], base(frame_line[key, number]))
+        any = 1
+    }
+    if (any)
+        return
+    if (frames[key] > 0)
+        step(type, frame_line[key, frames[key]], base(frame_line[key, frames[key]]))
+    else
+        step(type, path_of[object_of[place]] "+" offset_of[place], \
+            function_of[place] == "-" ? unknown(place) : function_name(place) "+0x" within_of[place])
+}
+
+# Where a type comes from: types that come from the same source are one, whatever the compiler made of it.
+function read_type(type,   part, count, from) {
+    count = split(type_line[type], part, " ")
+    source[type] = class_of[type]
+    plain[type] = ""
+    steps = 0
+    from = 4
+    if (part[3] == "variable") {
+        from = 9
+        object_at[type] = part[4]
+        plain[type] = variable(part[4], part[5], part[6], part[7], part[8])
+        source[type] = source[type] " " path_of[part[4]] " " sprintf("%.0f", decimal(part[5]) - (count < from ? 0 : decimal(part[7])))
+    }
+    for (; from <= count; from++)
+        steps_of(type, part[from])
+    if (plain[type] == "")
+        plain[type] = "?"
+    plain[type] = clean(plain[type])
+}
+
+# Counts the types that would have this name.
+function claims(type,   name) {
+    name = cut(plain[type], "")
+    claimed[name, ++claimants[name]] = type
+}
+
+# Where several types have one name: variables say their object; what is equal still is numbered in the order of sources.
+function part_names(   type, name) {
+    for (type = 1; type <= types; type++)
+        if (one[type] == type && claimants[cut(plain[type], "")] > 1 && (type in object_at))
+            shared[type] = 1
+    for (type in shared) {
+        name = plain[type]
+        if (sub(/\)$/, ", ", name) == 0)
+            name = name " ("
+        plain[type] = cut(substr(name, 1, 40), base(path_of[object_at[type]]) ")")
+    }
+    for (name in claimants)
+        delete claimants[name]
+    for (type = 1; type <= types; type++)
+        if (one[type] == type)
+            claims(type)
+}
+
+# The claimants of a name by their sources.
+function sorted(name,   i, j, kept) {
+    for (i = 2; i <= claimants[name]; i++) {
+        kept = claimed[name, i]
+        for (j = i; j > 1 && source[claimed[name, j - 1]] > source[kept]; j--)
+            claimed[name, j] = claimed[name, j - 1]
+        claimed[name, j] = kept
+    }
 }
 
 # A name that no other type has.
-function single(name,   n, tail, tried) {
-    tried = name = clean(name, 63)
-    for (n = 2; tried in taken; n++) {
-        tail = "#" n
-        tried = substr(name, 1, 63 - length(tail)) tail
-    }
+function single(name,   n, tried) {
+    tried = name
+    for (n = 2; tried in taken; n++)
+        tried = cut(name, "#" n)
     taken[tried] = 1
     return tried
 }
 
-function type_name(   i, name, from) {
-    from = 4
-    if ($3 == "variable") {
-        name = variable($4, $5, $6, $7)
-    } else {
-        for (i = from; i <= NF; i++)
-            name = name (i == from ? "" : "<") step($i)
+function name_types(   type, name, i) {
+    for (type = 1; type <= types; type++) {
+        read_type(type)
+        if (!(source[type] in first_of))
+            first_of[source[type]] = type
+        one[type] = first_of[source[type]]
+        merged[one[type]]++
+        if (one[type] == type) {
+            different++
+            claims(type)
+        }
     }
-    return single(name == "" ? "?" : name)
+    part_names()
+    for (type = 1; type <= types; type++) {
+        name = cut(plain[type], "")
+        if (one[type] != type || (name in sorting))
+            continue
+        sorting[name] = 1
+        sorted(name)
+        for (i = 1; i <= claimants[name]; i++)
+            type_name[claimed[name, i]] = single(name)
+    }
+    for (type = 1; type <= types; type++)
+        known[type_name[type] = type_name[one[type]]] = 1
 }
 
 # `init SEAT CLASS FLAGS TYPE NUMBER-IN-TYPE`, then the variable where the lock stands in one.
-function init_line(   name, flags, tail) {
-    name = type[$5]
+function init_line(   type, name, own, flags, number) {
+    type = one[$5]
+    number = merged[type] > 1 ? ++made[type] : $6
+    name = type_name[type]
     flags = $4 (name in ignored ? "d" : "")
     if (flags == "-d")
         flags = "d"
-    if (NF > 6 && $6 > 1) {
-        name = clean(variable($7, $8, $9, $10), 63)
-    } else if ($6 > 1) {
-        tail = "/" $6
-        name = substr(name, 1, 63 - length(tail)) tail
+    if (NF > 6) {
+        own = variable($7, $8, $9, $10, $11)
+        if (own != variable_of[type])
+            name = cut(own, "")
+    } else if (number > 1) {
+        name = cut(name, "/" number)
     }
-    if (name == type[$5])
+    lock_name[++inits] = name
+    if (name == type_name[type])
         return "init " $2 " " $3 " " flags " \"" name "\""
-    return "init " $2 " " $3 " " flags " \"" name "\" \"" type[$5] "\""
+    return "init " $2 " " $3 " " flags " \"" name "\" \"" type_name[type] "\""
+}
+
+# What the type's own variable is called where no other object has one of that name.
+function keep_variables(   type, part) {
+    for (type = 1; type <= types; type++)
+        if (type in object_at) {
+            split(type_line[type], part, " ")
+            variable_of[type] = variable(part[4], part[5], part[6], part[7], part[8])
+        }
 }
 
 function header(   chunks, i) {
     chunks = seats * most
     if (chunks > 65536)
         chunks = 65536
-    print "witness-trace 1 seats " (seats ? seats : 1) " types " (types ? types : 1) " locks " (locks ? locks : 1) \
-        " chunks " (chunks ? chunks : 1)
+    print "witness-trace 1 seats " (seats ? seats : 1) " types " (different ? different : 1) " locks " \
+        (locks ? locks : 1) " chunks " (chunks ? chunks : 1)
     for (i = 1; i <= blessings; i++)
-        print blessing[i]
+        if ((bless_first[i] in known) && (bless_second[i] in known)) {
+            print "bless \"" bless_first[i] "\" \"" bless_second[i] "\""
+            print "matched " bless_line[i] >notes
+        }
+    for (i in ignored)
+        if (i in known)
+            print "matched " ignored[i] >notes
+    if (waiting > 0)
+        print "pending " waiting >notes
 }
 
-function count() {
-    if ($1 == "type")
-        types++
-    else if ($1 == "init")
-        locks++
-    if ($1 ~ /^(init|check|lock|try|unlock)$/ && $2 > seats)
-        seats = $2
-    if ($1 == "lock" || $1 == "try") {
-        held[$2]++
-        if (held[$2] > most)
-            most = held[$2]
-    } else if ($1 == "unlock") {
-        held[$2]--
+function tell_progress() {
+    printf "\rrecord: %d %% of %d lines resolved ", 100 * FNR / lines, lines >"/dev/stderr"
+    if (FNR >= lines - 262144)
+        printf "\r%60s\r", "" >"/dev/stderr"
+    fflush("/dev/stderr")
+}
+
+# A call's line with its place in the last field.
+function placed(   place) {
+    place = $NF
+    return substr($0, 1, length($0) - length(place)) ((place in site_of) ? site_of[place] : site(place))
+}
+
+kind == "record" {
+    if (FNR == 1) {
+        name_types()
+        keep_variables()
+        header()
     }
+    word = $1
+    if (word == "lock" || word == "unlock" || word == "giveup")
+        print
+    else if (word == "check" || word == "try")
+        print placed()
+    else if (word == "init")
+        print init_line()
+    else if (word == "again")
+        print "again", $2, $3, site($4) >notes
+    else if (word == "foreign")
+        print "foreign \"" lock_name[$3] "\" @ " site($4) >notes
+    if (progress && FNR % 262144 == 0)
+        tell_progress()
+    next
 }
 
+kind == "ignore" && /^#/ { next }
 kind == "ignore" {
-    if (split($0, quoted, "\"") == 3)
-        ignored[quoted[2]] = 1
-    else if (split($0, quoted, "\"") == 5)
-        blessing[++blessings] = "bless \"" quoted[2] "\" \"" quoted[4] "\""
+    if (split($0, quoted, "\"") == 3) {
+        ignored[quoted[2]] = FNR
+    } else if (split($0, quoted, "\"") == 5) {
+        bless_first[++blessings] = quoted[2]
+        bless_second[blessings] = quoted[4]
+        bless_line[blessings] = FNR
+    }
     next
 }
 
@@ -191,12 +368,14 @@ kind == "lines" {
 
 kind == "names" { if (split($0, pair, "\t") == 2) demangled[pair[1]] = pair[2]; next }
 
-pass == 1 { count(); next }
-FNR == 1 { header() }
 $1 == "object" { path_of[$2] = substr($0, length($2) + 9); next }
 $1 == "place" { object_of[$2] = $3; offset_of[$2] = $4; function_of[$2] = $5; within_of[$2] = $6; next }
-$1 == "type" { type[$2] = type_name(); next }
-$1 == "init" { print init_line(); next }
-$1 == "check" { print $1, $2, $3, $4, $5, site($6); next }
-$1 == "try" { print $1, $2, $3, $4, site($5); next }
-$1 ~ /^(lock|giveup|unlock)$/ { print }
+$1 == "type" {
+    type_line[$2] = $0
+    types = $2
+    if (NF - ($3 == "variable" ? 8 : 3) > deepest)
+        deepest = NF - ($3 == "variable" ? 8 : 3)
+    next
+}
+$1 == "init" { locks++; if (!($5 in class_of)) class_of[$5] = $3; next }
+$1 == "counts" { lines = $2; seats = $3; most = $4; waiting = $5 }

@@ -58,6 +58,7 @@ static const struct {
     {offsetof(struct real, cond_timedwait), "pthread_cond_timedwait", "GLIBC_2.3.2"},
     {offsetof(struct real, cond_clockwait), "pthread_cond_clockwait", NULL},
     {offsetof(struct real, c11_init), "mtx_init", NULL},
+    {offsetof(struct real, dlclose), "dlclose", NULL},
     {offsetof(struct real, sigaction), "sigaction", NULL},
     {offsetof(struct real, signal), "signal", NULL},
     {offsetof(struct real, sysv_signal), "__sysv_signal", NULL},
@@ -242,6 +243,10 @@ __attribute__((constructor)) static void loaded(void)
         return;
     self.state = BUSY;
     say_started();
+    if (recorder_enters()) {
+        objects_begin();
+        recorder_leaves();
+    }
     watches_free = sizes_are_known();
     pthread_atfork(fork_begins, fork_ends_in_parent, fork_ends_in_child);
     self.state = UNREADY;

@@ -263,6 +263,53 @@ COLD void write_unlock(struct thread *thread, struct held *held, bool whole)
     recorder_leaves();
 }
 
+/* `again SEAT LOCK PLACE`: the thread waits for a lock that it holds. What it holds is written before. */
+COLD void write_waits_for_itself(struct request *request)
+{
+    struct thread *thread = request->thread;
+    if (!recorder_enters())
+        return;
+    for (int stream = 0; stream < STREAMS; stream++) {
+        count_missed(stream, MISSED_AGAIN);
+        if (!has_room(stream) || !seat_taken(stream, thread))
+            continue;
+        write_chain(stream, thread);
+        if (request->again->written & bit(stream)) {
+            uint32_t site = place_number(stream, request->place);
+            write_call(stream, "again", thread, request->again->number[stream]);
+            put_number(stream, site);
+            put_text(stream, "\n");
+            stream_append(stream, false);
+        }
+        seat_given_back(stream, thread);
+    }
+    recorder_leaves();
+}
+
+/* `foreign SEAT LOCK PLACE`: the thread releases what it doesn't hold. One line for each place; all are counted. */
+COLD void write_released_by_another(struct thread *thread, struct lock *lock, uint32_t place)
+{
+    if (!recorder_enters())
+        return;
+    for (int stream = 0; stream < STREAMS; stream++) {
+        count_missed(stream, MISSED_RELEASES);
+        uint32_t *known = place ? mark(&place_at(place)->releases, stream) : NULL;
+        if (!lock || !known || *known || !has_room(stream) || !seat_taken(stream, thread))
+            continue;
+        uint32_t number = lock_number(stream, thread, lock);
+        if (number != 0) {
+            uint32_t site = place_number(stream, place);
+            *known = 1;
+            write_call(stream, "foreign", thread, number);
+            put_number(stream, site);
+            put_text(stream, "\n");
+            stream_append(stream, false);
+        }
+        seat_given_back(stream, thread);
+    }
+    recorder_leaves();
+}
+
 static void write_object(int stream, uint32_t object)
 {
     uint32_t *written = object ? mark(object_marks(object), stream) : NULL;
@@ -291,7 +338,10 @@ void write_place(int stream, uint32_t place)
     stream_append(stream, false);
 }
 
-/* OBJECT OFFSET-IN-FILE VARIABLE OFFSET-IN-VARIABLE of a lock that stands in an object. */
+/*
+ * OBJECT OFFSET-IN-FILE VARIABLE OFFSET-IN-VARIABLE FILE of a lock that stands in an object. FILE is given where other
+ * files have a variable of that name.
+ */
 static void put_variable(int stream, uint32_t object, uintptr_t address)
 {
     uintptr_t from = address;
@@ -301,12 +351,13 @@ static void put_variable(int stream, uint32_t object, uintptr_t address)
     put_hexadecimal(stream, object_offset(object, address));
     put_name(stream, name);
     put_hexadecimal(stream, address - from);
+    put_name(stream, object_symbol_file(object, address));
 }
 
 /* `type NUMBER variable` and the variable of its first lock, or `type NUMBER made`; then the places that name it. */
 void write_type(int stream, struct type *type)
 {
-    uint32_t object = type->anchor ? object_of(type->anchor, false) : 0;
+    uint32_t object = type->object;
     write_object(stream, object);
     for (uint32_t i = 0; i < DEPTH_MOST; i++)
         place_number(stream, type->places[i]);
@@ -326,7 +377,7 @@ void write_init(int stream, struct thread *thread, struct lock *lock)
 {
     struct type *type = lock->type;
     uintptr_t address = atomic_load(&lock->address);
-    uint32_t object = type->anchor ? object_of(address, false) : 0;
+    uint32_t object = type->object;
     put_text(stream, "init");
     put_number(stream, thread->seat[stream]);
     put_text(stream, type->class == RWLOCK ? " rw " : " mtx ");
