@@ -14,7 +14,7 @@ use Rattle.wit_model.specs.Rules.State.{Start, state_of}
 use Rattle.wit_model.specs.Rules.Step.{is_exhausted, held_by, answer_of, story_after, IsLegal}
 use Rattle.wit_model.specs.Rules.Clean.{is_clean_call, is_clean}
 use Rattle.wit_model.specs.World.Deeds.{Deed, Logged, Take, TryTake, Free, RawUp, RawDown, thread_of, own, log_of, are_these, shares}
-use Rattle.wit_model.specs.World.Stages.{Stage, Over, Asked, Taken, Tried, Forgot, Raised, Lowered, stage_logged, stage, is_over, may_take, may_note, may_give_up, may_upgrade, may_free, may_lower, may_call}
+use Rattle.wit_model.specs.World.Stages.{Stage, Over, Asked, Taken, Tried, Forgot, Raised, Lowered, stage_logged, stage, is_over, call_follows, follows}
 use Rattle.wit_model.specs.World.Steps.{IsWorld}
 use Rattle.wit_model.proofs.Chains.Acts.{num_after, num-step, is_even, num_after-even, upgrade-even, downgrade-even, norelease-even, releaseok-even}
 use Rattle.wit_model.proofs.Histories.Accepted.{note_accepted, unlock_accepted}
@@ -61,36 +61,40 @@ settled l n s g le none = record { all = omega (arith, le, none); at_end = λ ov
 nothing-due : (l n s : ℕ) (g : Stage) → due l g ≡ 0 → Covers l n s g → s ≤ n
 nothing-due l n s g none c = let all = c.all in omega arith
 
-due-taking : (l m : ℕ) (mode : Mode) (held : Bool) (g : Stage) → may_take m mode held g ≡ true → due l g ≡ 0
-due-taking l m mode held (Asked q) is = refl
-due-taking l m mode held _ is = absurd (false≢true is)
+module _ (l t m : ℕ) (held : ℕ → Bool) where
+  due-taking : (mode : Mode) (g : Stage) → follows (Take t m mode) held g ≡ true → due l g ≡ 0
+  due-taking mode (Asked q) is = refl
+  due-taking mode _ is = absurd (false≢true is)
 
-due-noting : (l m : ℕ) (held : Bool) (g : Stage) → may_note m held g ≡ true → due l g ≤ cond (eqb m l) 1 0
-due-noting l m held (Taken k) is = let same : due l (Taken k) ≡ cond (eqb m l) 1 0 = ap (λ j. cond (eqb j l) 1 0) (eqb-true k m is) in omega arith
-due-noting l m held (Asked q) is = omega arith
-due-noting l m held Over is = absurd (false≢true is)
-due-noting l m held (Tried k mode) is = absurd (false≢true is)
-due-noting l m held (Forgot k has_fewer) is = absurd (false≢true is)
-due-noting l m held (Raised k) is = absurd (false≢true is)
-due-noting l m held (Lowered k) is = absurd (false≢true is)
+  due-freeing : (g : Stage) → follows (Free t m) held g ≡ true → due l g ≡ cond (eqb m l) 1 0
+  due-freeing (Tried k mode) is = ap (λ j. cond (eqb j l) 1 0) (eqb-true k m is)
+  due-freeing (Forgot k has_fewer) is = ap (λ j. cond (eqb j l) 1 0) (eqb-true k m is)
+  due-freeing _ is = absurd (false≢true is)
 
-due-upgrading : (l m : ℕ) (g : Stage) → may_upgrade m g ≡ true → due l g ≡ 0
-due-upgrading l m (Raised k) is = refl
-due-upgrading l m _ is = absurd (false≢true is)
+  due-lowering : (g : Stage) → follows (RawDown t m) held g ≡ true → due l g ≡ 0
+  due-lowering (Raised k) is = refl
+  due-lowering (Lowered k) is = refl
+  due-lowering _ is = absurd (false≢true is)
 
-due-giving_up : (l m : ℕ) (g : Stage) → may_give_up m g ≡ true → due l g ≡ 0
-due-giving_up l m (Asked q) is = refl
-due-giving_up l m _ is = absurd (false≢true is)
+module _ (l : ℕ) (m : LockNo) (held : ℕ → Bool) where
+  due-noting : (g : Stage) → call_follows (Note m) held g ≡ true → due l g ≤ cond (eqb m.0 l) 1 0
+  due-noting (Taken k) is =
+      let same : due l (Taken k) ≡ cond (eqb m.0 l) 1 0 = ap (λ j. cond (eqb j l) 1 0) (eqb-true k m.0 is) in
+      omega arith
+  due-noting (Asked q) is = omega arith
+  due-noting Over is = absurd (false≢true is)
+  due-noting (Tried k mode) is = absurd (false≢true is)
+  due-noting (Forgot k has_fewer) is = absurd (false≢true is)
+  due-noting (Raised k) is = absurd (false≢true is)
+  due-noting (Lowered k) is = absurd (false≢true is)
 
-due-freeing : (l m : ℕ) (g : Stage) → may_free m g ≡ true → due l g ≡ cond (eqb m l) 1 0
-due-freeing l m (Tried k mode) is = ap (λ j. cond (eqb j l) 1 0) (eqb-true k m is)
-due-freeing l m (Forgot k has_fewer) is = ap (λ j. cond (eqb j l) 1 0) (eqb-true k m is)
-due-freeing l m _ is = absurd (false≢true is)
+  due-upgrading : (g : Stage) → call_follows (Upgrade m) held g ≡ true → due l g ≡ 0
+  due-upgrading (Raised k) is = refl
+  due-upgrading _ is = absurd (false≢true is)
 
-due-lowering : (l m : ℕ) (g : Stage) → may_lower m g ≡ true → due l g ≡ 0
-due-lowering l m (Raised k) is = refl
-due-lowering l m (Lowered k) is = refl
-due-lowering l m _ is = absurd (false≢true is)
+  due-giving_up : (g : Stage) → call_follows (GiveUp m) held g ≡ true → due l g ≡ 0
+  due-giving_up (Asked q) is = refl
+  due-giving_up _ is = absurd (false≢true is)
 
 -- ---- what each deed does to the two numbers
 
@@ -133,6 +137,10 @@ module _ (start : Start) (files : List (List ℕ)) (t l : ℕ) (w : List Deed) w
   abbrev g : Stage
   g = stage t (own t w)
 
+  -- the locks that the thread holds by the record
+  abbrev held : ℕ → Bool
+  held m = is_held t m (log_of w)
+
   module _ (was : Covers l n s g) where
     -- an act that records and releases nothing
     even : (a : Act) (after : Stage) → is_even a ≡ true → s ≤ n → due l after ≡ 0 → Covers l (num_after a l n) s after
@@ -140,10 +148,10 @@ module _ (start : Start) (files : List (List ℕ)) (t l : ℕ) (w : List Deed) w
 
     -- a logged call of the thread itself
     entry-covers : (c : Call) (r : Reply) → ((m : LockNo) → c ≡ Note m → r ≡ Recorded) → ((m : LockNo) (mode : Mode) → c ≡ Unlock m mode → r ≡ Unlocked)
-        → is_clean_call c ≡ true → may_call t c (own t w) ≡ true → Covers l (num_after (act c r) l n) s (stage_logged t c (own t w))
+        → is_clean_call c ≡ true → call_follows c held g ≡ true → Covers l (num_after (act c r) l n) s (stage_logged t c (own t w))
     entry-covers (Note m) r notes unlocks clean may =
         subst (λ (x : Reply). Covers l (num_after (act (Note m) x) l n) s Over) (sym (notes m refl))
-        (settled l (cond (eqb m.0 l) (n + 1) n) s Over (noted (eqb m.0 l) n s (due l g) was.all (due-noting l m.0 (is_held t m.0 (log_of (own t w))) g may)) refl)
+        (settled l (cond (eqb m.0 l) (n + 1) n) s Over (noted (eqb m.0 l) n s (due l g) was.all (due-noting l m held g may)) refl)
     entry-covers (Unlock m mode) r notes unlocks clean may =
         subst (λ (x : Reply). Covers l (num_after (act (Unlock m mode) x) l n) s (stage_logged t (Unlock m mode) (own t w))) (sym (unlocks m mode refl))
         (record {
@@ -154,8 +162,8 @@ module _ (start : Start) (files : List (List ℕ)) (t l : ℕ) (w : List Deed) w
         })
     entry-covers (Check q) r notes unlocks clean may = settled l n s (Asked q) (was.at_end may) refl
     entry-covers (NoteTry m mode site) r notes unlocks clean may = absurd (false≢true clean)
-    entry-covers (GiveUp m) r notes unlocks clean may = settled l n s Over (nothing-due l n s g (due-giving_up l m.0 g may) was) refl
-    entry-covers (Upgrade m) r notes unlocks clean may = even (act (Upgrade m) r) Over (upgrade-even m r) (nothing-due l n s g (due-upgrading l m.0 g may) was) refl
+    entry-covers (GiveUp m) r notes unlocks clean may = settled l n s Over (nothing-due l n s g (due-giving_up l m held g may) was) refl
+    entry-covers (Upgrade m) r notes unlocks clean may = even (act (Upgrade m) r) Over (upgrade-even m r) (nothing-due l n s g (due-upgrading l m held g may) was) refl
     entry-covers (Downgrade m) r notes unlocks clean may = even (act (Downgrade m) r) (Lowered m.0) (downgrade-even m r) (was.at_end may) refl
     entry-covers (NoRelease m) r notes unlocks clean may = even (act (NoRelease m) r) Over (norelease-even m r) (was.at_end may) refl
     entry-covers (ReleaseOk m) r notes unlocks clean may = even (act (ReleaseOk m) r) Over (releaseok-even m r) (was.at_end may) refl
@@ -169,10 +177,10 @@ module _ (start : Start) (files : List (List ℕ)) (t l : ℕ) (w : List Deed) w
           at_end = λ over. absurd (false≢true (sym unfinished ∙ over));
         }
 
-    free-covers : (m : ℕ) → may_free m g ≡ true → Covers l n (cond (are_these t l t m) (s - 1) s) Over
+    free-covers : (m : ℕ) → follows (Free t m) held g ≡ true → Covers l n (cond (are_these t l t m) (s - 1) s) Over
     free-covers m may =
         let mine : are_these t l t m ≡ eqb m l = rw (eq-eqb t t refl) refl in
-        settled l n (cond (are_these t l t m) (s - 1) s) Over (rw mine (freed (eqb m l) n s (due l g) was.all (due-freeing l m g may))) refl
+        settled l n (cond (are_these t l t m) (s - 1) s) Over (rw mine (freed (eqb m l) n s (due l g) was.all (due-freeing l t m held g may))) refl
 
 module _ (start : Start) (files : List (List ℕ)) where
   CoversAll : ℕ → ℕ → List Deed → Type 0
@@ -205,13 +213,13 @@ module _ (start : Start) (files : List (List ℕ)) where
       (entry-covers start files e.seat.0 l w was e.call e.reply (notes-recorded e w world clean) (unlocks-recorded e w world) (clean-parts e (log_of w) clean).0 world.0.2)
   mine (Take u m mode) w world clean l was =
       got-covers start files u l w was m (Taken m) refl refl
-      (nothing-due l (num u l (log_of w)) (shares u l w) (stage u (own u w)) (due-taking l m mode (is_held u m (log_of w)) (stage u (own u w)) world.0.1) was)
+      (nothing-due l (num u l (log_of w)) (shares u l w) (stage u (own u w)) (due-taking l u m (λ k. is_held u k (log_of w)) mode (stage u (own u w)) world.0.1) was)
   mine (TryTake u m mode) w world clean l was = got-covers start files u l w was m (Tried m mode) refl refl (was.at_end world.0.1)
   mine (Free u m) w world clean l was = free-covers start files u l w was m world.0.0
   mine (RawUp u m) w world clean l was = settled l (num u l (log_of w)) (shares u l w) (Raised m) (was.at_end world.0.0) refl
   mine (RawDown u m) w world clean l was =
       settled l (num u l (log_of w)) (shares u l w) Over
-      (nothing-due l (num u l (log_of w)) (shares u l w) (stage u (own u w)) (due-lowering l m (stage u (own u w)) world.0.0) was) refl
+      (nothing-due l (num u l (log_of w)) (shares u l w) (stage u (own u w)) (due-lowering l u m (λ k. is_held u k (log_of w)) (stage u (own u w)) world.0.0) was) refl
 
   num-other : (t l : ℕ) (d : Deed) (w : List Deed) → eqb (thread_of d) t ≡ false → num t l (log_of (d ∷ w)) ≡ num t l (log_of w)
   num-other t l d w is = sym (num-own t l (d ∷ w)) ∙ (ap (λ o. num t l (log_of o)) (own-other t d w is) ∙ num-own t l w)

@@ -6,13 +6,13 @@ use Rattle.std.proofs.lemmas.Bool.Decides.{eqb_tells}
 use Rattle.wit_model.specs.declared.calls.Request.{Request}
 use Rattle.wit_model.specs.declared.calls.Call.TheVariants.{Check}
 use Rattle.wit_model.specs.declared.calls.Entry.{Entry}
-use Rattle.wit_model.specs.Rules.History.{Nothing, act, num}
+use Rattle.wit_model.specs.Rules.History.{Nothing, act, num, is_held}
 use Rattle.wit_model.specs.Rules.State.{Start}
 use Rattle.wit_model.specs.Rules.Start.{start_fault}
 use Rattle.wit_model.specs.Rules.Ahead.{IsAhead}
 use Rattle.wit_model.specs.Rules.Clean.{is_clean}
 use Rattle.wit_model.specs.World.Deeds.{Deed, Logged, Take, TryTake, Free, RawUp, RawDown, thread_of, own, log_of, shares}
-use Rattle.wit_model.specs.World.Stages.{Stage, Asked, stage, is_over, may_call}
+use Rattle.wit_model.specs.World.Stages.{Stage, Asked, stage, is_over, call_follows}
 use Rattle.wit_model.specs.World.Steps.{IsWorld}
 use Rattle.wit_model.specs.World.Waiting.{IsWaiting, IsDeadlock}
 use Rattle.wit_model.specs.World.Reordering.{kept, IsReordering}
@@ -45,7 +45,8 @@ module _ (start : Start) (files : List (List ℕ)) (unblessed : start.blessed �
   stays (RawDown u m) w a b is = is
 
   over-at_check : (e : Entry) (w : List Deed) (q : Request) → IsWorld start files (Logged e ∷ w) → e.call ≡ Check q → is_over (stage e.seat.0 (own e.seat.0 w)) ≡ true
-  over-at_check e w q world asks = ap (λ c. may_call e.seat.0 c (own e.seat.0 w)) (sym asks) ∙ world.0.2
+  over-at_check e w q world asks =
+      ap (λ c. call_follows c (λ l. is_held e.seat.0 l (log_of w)) (stage e.seat.0 (own e.seat.0 w))) (sym asks) ∙ world.0.2
 
   -- the check itself: all that its thread has is recorded
   ahead-asking : (e : Entry) (w : List Deed) (q : Request) (l : ℕ) → IsWorld start files (Logged e ∷ w) → is_clean (log_of (Logged e ∷ w)) ≡ true → e.call ≡ Check q

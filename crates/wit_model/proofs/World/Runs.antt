@@ -5,12 +5,11 @@ use Rattle.std.proofs.lemmas.Bool.{and_parts, ltb-true, not-true}
 use Rattle.wit_model.specs.declared.faults.Fault.{Fault}
 use Rattle.wit_model.specs.declared.calls.Reply.{Reply}
 use Rattle.wit_model.specs.Rules.Numbers.{is_number}
-use Rattle.wit_model.specs.Rules.History.{is_held}
 use Rattle.wit_model.specs.Rules.State.{Start}
 use Rattle.wit_model.specs.Rules.Verdict.{is_exclusive}
 use Rattle.wit_model.specs.Rules.Step.{answer_of, story_after, is_logged}
-use Rattle.wit_model.specs.World.Deeds.{Deed, Logged, Take, TryTake, Free, RawUp, RawDown, own, log_of, shares, raw_mode}
-use Rattle.wit_model.specs.World.Stages.{stage, is_over, may_take, may_free, may_lower, may_call}
+use Rattle.wit_model.specs.World.Deeds.{Deed, Logged, Take, TryTake, Free, RawUp, RawDown, log_of, shares, raw_mode}
+use Rattle.wit_model.specs.World.Stages.{may_follow}
 use Rattle.wit_model.specs.World.Steps.{admits, is_alone, IsWorld}
 
 module _ (start : Start) (files : List (List ℕ)) where
@@ -27,17 +26,16 @@ module _ (start : Start) (files : List (List ℕ)) where
   replies (d ∷ w) = replies w
 
   abbrev can_do : Deed → List Deed → Bool
-  can_do (Logged e) w = is_logged e.reply && may_call e.seat.0 e.call (own e.seat.0 w)
+  can_do (Logged e) w = is_logged e.reply && may_follow (Logged e) w
   can_do (Take t l mode) w =
-      is_number start.sizes.seats t
-      && (may_take l mode (is_held t l (log_of w)) (stage t (own t w)) && admits start.sizes.seats l mode w)
+      is_number start.sizes.seats t && (may_follow (Take t l mode) w && admits start.sizes.seats l mode w)
   can_do (TryTake t l mode) w =
-      is_number start.sizes.seats t && (is_over (stage t (own t w)) && admits start.sizes.seats l mode w)
-  can_do (Free t l) w = may_free l (stage t (own t w)) && nat_lt 0 (shares t l w)
+      is_number start.sizes.seats t && (may_follow (TryTake t l mode) w && admits start.sizes.seats l mode w)
+  can_do (Free t l) w = may_follow (Free t l) w && nat_lt 0 (shares t l w)
   can_do (RawUp t l) w =
-      is_over (stage t (own t w)) && (is_alone start.sizes.seats t l w && not (is_exclusive (raw_mode t l w)))
+      may_follow (RawUp t l) w && (is_alone start.sizes.seats t l w && not (is_exclusive (raw_mode t l w)))
   can_do (RawDown t l) w =
-      may_lower l (stage t (own t w)) && (nat_lt 0 (shares t l w) && is_exclusive (raw_mode t l w))
+      may_follow (RawDown t l) w && (nat_lt 0 (shares t l w) && is_exclusive (raw_mode t l w))
 
   abbrev can_all : List Deed → Bool
   can_all [] = true

@@ -14,7 +14,7 @@ use Rattle.wit_model.specs.declared.calls.Call.{Call}
 use Rattle.wit_model.specs.declared.calls.Call.TheVariants.{Check, Note, NoteTry, GiveUp, Unlock, Upgrade, Downgrade}
 use Rattle.wit_model.specs.Rules.History.{num, is_held}
 use Rattle.wit_model.specs.Rules.Verdict.{is_exclusive}
-use Rattle.wit_model.specs.World.Deeds.{Deed, Logged, Take, TryTake, RawUp, log_of, shares}
+use Rattle.wit_model.specs.World.Deeds.{Deed, Logged, Take, TryTake, Free, RawUp, RawDown, thread_of, own, log_of, shares}
 
 -- where a thread stands in its latest sequence
 pub data Stage : Type 0 where
@@ -61,43 +61,32 @@ abbrev pub is_same_mode : Mode → Mode → Bool
 is_same_mode Exclusive mode = is_exclusive mode
 is_same_mode Shared mode = not (is_exclusive mode)
 
--- a lock that was asked for is taken so, unless it is held by the record
-abbrev pub may_take : ℕ → Mode → Bool → Stage → Bool
-may_take l mode held (Asked q) = (q.lock.0 == l) && (is_same_mode q.mode mode && not held)
-may_take l mode held _ = false
+-- whether a call may follow at a stage, where these locks are held by the record
+abbrev pub call_follows : Call → (ℕ → Bool) → Stage → Bool
+call_follows (Note l) held (Asked q) = (q.lock.0 == l.0) && held l.0
+call_follows (Note l) held (Taken m) = m == l.0
+call_follows (Note l) held _ = false
+call_follows (GiveUp l) held (Asked q) = q.lock.0 == l.0
+call_follows (GiveUp l) held _ = false
+call_follows (NoteTry l mode site) held (Tried m tried) = (m == l.0) && is_same_mode tried mode
+call_follows (NoteTry l mode site) held _ = false
+call_follows (Upgrade l) held (Raised m) = m == l.0
+call_follows (Upgrade l) held _ = false
+call_follows _ held at = is_over at
 
--- what was taken is noted, and what was asked for and is held by the record already
-abbrev pub may_note : ℕ → Bool → Stage → Bool
-may_note l held (Taken m) = m == l
-may_note l held (Asked q) = (q.lock.0 == l) && held
-may_note l held _ = false
+-- whether a deed may
+abbrev pub follows : Deed → (ℕ → Bool) → Stage → Bool
+follows (Logged e) held at = call_follows e.call held at
+follows (Take t l mode) held (Asked q) = (q.lock.0 == l) && (is_same_mode q.mode mode && not (held l))
+follows (TryTake t l mode) held at = is_over at
+follows (Free t l) held (Tried m mode) = m == l
+follows (Free t l) held (Forgot m has_fewer) = m == l
+follows (RawUp t l) held at = is_over at
+follows (RawDown t l) held (Raised m) = m == l
+follows (RawDown t l) held (Lowered m) = m == l
+follows _ held _ = false
 
-abbrev pub may_note_try : ℕ → Mode → Stage → Bool
-may_note_try l mode (Tried m tried) = (m == l) && is_same_mode tried mode
-may_note_try l mode _ = false
-
-abbrev pub may_give_up : ℕ → Stage → Bool
-may_give_up l (Asked q) = q.lock.0 == l
-may_give_up l _ = false
-
-abbrev pub may_upgrade : ℕ → Stage → Bool
-may_upgrade l (Raised m) = m == l
-may_upgrade l _ = false
-
-abbrev pub may_free : ℕ → Stage → Bool
-may_free l (Tried m mode) = m == l
-may_free l (Forgot m has_fewer) = m == l
-may_free l _ = false
-
-abbrev pub may_lower : ℕ → Stage → Bool
-may_lower l (Raised m) = m == l
-may_lower l (Lowered m) = m == l
-may_lower l _ = false
-
--- whether t may make this call after its own deeds
-abbrev pub may_call : ℕ → Call → List Deed → Bool
-may_call t (Note l) before = may_note l.0 (is_held t l.0 (log_of before)) (stage t before)
-may_call t (NoteTry l mode site) before = may_note_try l.0 mode (stage t before)
-may_call t (GiveUp l) before = may_give_up l.0 (stage t before)
-may_call t (Upgrade l) before = may_upgrade l.0 (stage t before)
-may_call t _ before = is_over (stage t before)
+-- whether it may come next, as its thread stands
+abbrev pub may_follow : Deed → List Deed → Bool
+may_follow d w =
+    follows d (λ l. is_held (thread_of d) l (log_of w)) (stage (thread_of d) (own (thread_of d) w))

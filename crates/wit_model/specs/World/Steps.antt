@@ -4,12 +4,11 @@ use Rattle.std.specs.List.{list_all, range_with_len}
 use Rattle.wit_model.specs.declared.locks.Mode.{Mode}
 use Rattle.wit_model.specs.declared.locks.Mode.TheVariants.{Shared, Exclusive}
 use Rattle.wit_model.specs.Rules.Numbers.{is_number}
-use Rattle.wit_model.specs.Rules.History.{is_held}
 use Rattle.wit_model.specs.Rules.State.{Start}
 use Rattle.wit_model.specs.Rules.Verdict.{is_exclusive}
 use Rattle.wit_model.specs.Rules.Step.{answer_of, story_after, is_logged}
-use Rattle.wit_model.specs.World.Deeds.{Deed, Logged, Take, TryTake, Free, RawUp, RawDown, own, log_of, shares, raw_mode}
-use Rattle.wit_model.specs.World.Stages.{stage, is_over, may_take, may_free, may_lower, may_call}
+use Rattle.wit_model.specs.World.Deeds.{Deed, Logged, Take, TryTake, Free, RawUp, RawDown, log_of, shares, raw_mode}
+use Rattle.wit_model.specs.World.Stages.{may_follow}
 
 -- whether lock l may be had so, where threads count from 1 to this many: exclusive where nobody has it, the asker included, and shared where
 -- nobody has it exclusively
@@ -26,20 +25,22 @@ abbrev pub CanDo : Start → List (List ℕ) → Deed → List Deed → Type 0
 CanDo start files (Logged e) w =
     (answer_of (story_after start files (log_of w)) e.seat.0 e.call ≡ Ok e.reply)
     × (is_logged e.reply ≡ true)
-    × (may_call e.seat.0 e.call (own e.seat.0 w) ≡ true)
+    × (may_follow (Logged e) w ≡ true)
 CanDo start files (Take t l mode) w =
     (is_number start.sizes.seats t ≡ true)
-    × (may_take l mode (is_held t l (log_of w)) (stage t (own t w)) ≡ true)
+    × (may_follow (Take t l mode) w ≡ true)
     × (admits start.sizes.seats l mode w ≡ true)
 CanDo start files (TryTake t l mode) w =
-    (is_number start.sizes.seats t ≡ true) × (is_over (stage t (own t w)) ≡ true) × (admits start.sizes.seats l mode w ≡ true)
-CanDo start files (Free t l) w = (may_free l (stage t (own t w)) ≡ true) × (0 < shares t l w)
+    (is_number start.sizes.seats t ≡ true)
+    × (may_follow (TryTake t l mode) w ≡ true)
+    × (admits start.sizes.seats l mode w ≡ true)
+CanDo start files (Free t l) w = (may_follow (Free t l) w ≡ true) × (0 < shares t l w)
 CanDo start files (RawUp t l) w =
-    (is_over (stage t (own t w)) ≡ true)
+    (may_follow (RawUp t l) w ≡ true)
     × (is_alone start.sizes.seats t l w ≡ true)
     × (is_exclusive (raw_mode t l w) ≡ false)
 CanDo start files (RawDown t l) w =
-    (may_lower l (stage t (own t w)) ≡ true) × (0 < shares t l w) × (is_exclusive (raw_mode t l w) ≡ true)
+    (may_follow (RawDown t l) w ≡ true) × (0 < shares t l w) × (is_exclusive (raw_mode t l w) ≡ true)
 
 -- a world over a start, where these files are named: each deed could come when it came. Its log is a legal history
 abbrev pub IsWorld : Start → List (List ℕ) → List Deed → Type 0
