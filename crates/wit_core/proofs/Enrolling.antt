@@ -20,7 +20,7 @@ use Rattle.wit_model.specs.Rules.Refusals.{IsRefusal}
 use Rattle.wit_model.proofs.Orders.Types.{number-known}
 use Rattle.wit_model.proofs.Orders.Started.{all-enrolled, one_name, list_accepted}
 use Rattle.wit_table.specs.Known.{Names, enroll_answer, with_type}
-use Rattle.wit_matrix.specs.Relation.{Relation}
+use Rattle.wit_core.specs.Ordering.{Ordering}
 use Rattle.wit_core.specs.Following.{CanFollow}
 use Rattle.wit_core.specs.Listed.{entry_of, listed, CanBeEnrolled, CanBeAdopted, KeepsRest}
 use Rattle.wit_core.proofs.Listing.{item-at, two-at, length-one, enroll-step}
@@ -160,7 +160,9 @@ module _ (types : List LockType) (list : List (Class × String Global)) (i j : �
       (adopts-rest 0 types orders (entry_of a) (entry_of b) (listed (drop (j + 1) list)) both)))
 
 -- only the orders have changed
-pub orders-alone : (old orders next : Relation) (more : List Adoption) → next ≡ record orders { orders = more } → orders ≡ record old { orders = orders.orders }
-    → next ≡ record old { orders = next.orders }
+pub orders-alone : (old orders next : Ordering) (more : List Adoption)
+    → next ≡ record orders { orders = more; spare = next.spare } → orders ≡ record old { orders = orders.orders; spare = orders.spare }
+    → next ≡ record old { orders = next.orders; spare = next.spare }
 orders-alone old orders next more is was =
-    is ∙ (ap (λ (r : Relation). record r { orders = more }) was ∙ ap (λ os. record old { orders = os }) (sym (ap (λ (r : Relation). r.orders) is)))
+    is ∙ (ap (λ (r : Ordering). record r { orders = more; spare = next.spare }) was
+    ∙ ap (λ os. record old { orders = os; spare = next.spare }) (sym (ap (λ (r : Ordering). r.orders) is)))

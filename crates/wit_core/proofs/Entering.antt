@@ -83,11 +83,12 @@ module _ (lists : List (Vec (Class × String Global))) (most i : ℕ) (a : Vec (
       ))
       why)
 
-  pub known-step : (old next whole : Facts) → next ≡ record old { known = with_list old.known (listed items) }
-      → record old { known = with_lists old.known (all_listed (drop i lists)) } ≡ whole → record next { known = with_lists next.known (all_listed (drop (i + 1) lists)) } ≡ whole
+  pub known-step : (old next whole : Facts) → next ≡ record old { known = with_list old.known (listed items); spare = next.spare }
+      → record old { known = with_lists old.known (all_listed (drop i lists)); spare = 0 } ≡ whole
+      → record next { known = with_lists next.known (all_listed (drop (i + 1) lists)); spare = 0 } ≡ whole
   known-step old next whole next_is was =
-      ap (λ (x : Facts). record x { known = with_lists x.known (all_listed (drop (i + 1) lists)) }) next_is
-      ∙ (ap (λ ls. record old { known = with_lists old.known ls }) (sym here) ∙ was)
+      ap (λ (x : Facts). record x { known = with_lists x.known (all_listed (drop (i + 1) lists)); spare = 0 }) next_is
+      ∙ (ap (λ ls. record old { known = with_lists old.known ls; spare = 0 }) (sym here) ∙ was)
 
 -- a refusal of the lists refuses the start
 pub start-refused : (start : Start) (number : ℕ) (fault : Fault) → AreRefused (lists_fault start.sizes.types 1 start.lists [] []) start.lists number fault → IsRefused start number fault
@@ -131,7 +132,7 @@ pub record IsBegun (sizes : Sizes) (lists : List (List (Class × List ℕ))) (bl
 -- what `new` finds once the lists are entered, and where they are refused
 module _ (sizes : Sizes) (most : ℕ) (lists passed_lists : List (Vec (Class × String Global))) (blessed passed_pairs : List (String Global × String Global)) (old : Facts)
     (most_is : most ≡ sizes.types) (lists_are : passed_lists ≡ lists) (pairs_are : passed_pairs ≡ blessed)
-    (old_is : old ≡ record { known = nothing; live = []; files = []; most_types = most }) where
+    (old_is : old ≡ record { known = nothing; live = []; files = []; most_types = most; spare = old.spare }) where
   same-answer : lists_fault most 1 (all_listed passed_lists) old.known.types old.known.orders ≡ lists_fault sizes.types 1 (all_listed lists) [] []
   same-answer =
       ap (λ m. lists_fault m 1 (all_listed passed_lists) old.known.types old.known.orders) most_is
@@ -163,13 +164,14 @@ module _ (sizes : Sizes) (most : ℕ) (lists passed_lists : List (Vec (Class × 
       → start_fault (start_of sizes lists blessed) ≡ None
   all-accepted none good = start-accepted (start_of sizes lists blessed) (lists-accepted none) (ap (λ ps. has_bad_pair (pairs_of ps)) (sym pairs_are) ∙ good)
 
-  pub is-begun : (entered new : Facts) → entered ≡ record old { known = with_lists old.known (all_listed passed_lists) }
+  pub is-begun : (entered new : Facts) → entered ≡ record old { known = with_lists old.known (all_listed passed_lists); spare = entered.spare }
       → new ≡ record entered { known = record entered.known { blessed = entered.known.blessed ++ pairs_of passed_pairs } }
       → IsBegun sizes (all_listed lists) (pairs_of blessed) new
   is-begun entered new entered_is new_is =
-      let here : entered ≡ record { known = with_lists nothing (all_listed lists); live = []; files = []; most_types = most } =
-      entered_is ∙ (ap (λ ls. record old { known = with_lists old.known (all_listed ls) }) lists_are
-      ∙ ap (λ (k : Facts). record k { known = with_lists k.known (all_listed lists) }) old_is) in
+      let here : entered
+      ≡ record { known = with_lists nothing (all_listed lists); live = []; files = []; most_types = most; spare = entered.spare } =
+      entered_is ∙ (ap (λ ls. record old { known = with_lists old.known (all_listed ls); spare = entered.spare }) lists_are
+      ∙ ap (λ (k : Facts). record k { known = with_lists k.known (all_listed lists); spare = entered.spare }) old_is) in
       subst (IsBegun sizes (all_listed lists) (pairs_of blessed)) (sym new_is) (record {
         known = ap (λ (k : Facts). record k.known { blessed = k.known.blessed ++ pairs_of passed_pairs }) here
             ∙ ap (λ ps. with_lists (record nothing { blessed = pairs_of ps }) (all_listed lists)) pairs_are;

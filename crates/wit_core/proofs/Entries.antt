@@ -49,14 +49,11 @@ use Rattle.wit_core.specs.declared.verifier.Verifier.TheInside.{Inside}
 use Rattle.wit_core.specs.declared.acquiring.Acquisition.{Acquisition}
 use Rattle.wit_core.specs.declared.acquiring.Acquisition.TheVariants.{Recorded, Exhausted, Unrecorded}
 use Rattle.wit_core.specs.Acquiring.{reply_to, owed_after, acquisition, watch_then, row_then, taken}
-use Rattle.wit_core.specs.declared.defining.Definition.{Definition}
-use Rattle.wit_core.specs.declared.defining.Definition.TheVariants.{Standing}
-use Rattle.wit_core.specs.declared.defining.Definition.TheVariants as definition
-use Rattle.wit_core.specs.Defining.{reply_of, with_defined}
+use Rattle.wit_core.specs.Defining.{with_defined, IsDefined}
 use Rattle.wit_core.specs.Fresh.{start_of}
 use Rattle.wit_core.specs.Held.{seat_view}
 use Rattle.wit_core.specs.Journal.{Journal}
-use Rattle.wit_core.specs.Kept.{IsKept, start_in, history_in, story_in, state_in}
+use Rattle.wit_core.specs.Kept.{IsTied, start_in, history_in, story_in, state_in}
 use Rattle.wit_core.specs.Known.{Facts, learnt, with_lock, IsAdmitted}
 use Rattle.wit_core.specs.Listed.{all_listed, pairs_of}
 use Rattle.wit_core.specs.Seats.{Row, no_seat, idle_row, seat_in, locks_in, with_seat, asking, acquired, released}
@@ -87,11 +84,6 @@ owed-few Recorded = omega arith
 owed-few Exhausted = omega arith
 owed-few Unrecorded = omega arith
 
--- a reply to a definition is logged
-pub definition-logged : (d : Definition) → is_logged (reply_of d) ≡ true
-definition-logged Standing = refl
-definition-logged (definition.Adopted p c) = refl
-
 -- a reply to an acquisition is logged
 pub reply-logged : (a : Acquisition) → is_logged (reply_to a) ≡ true
 reply-logged Recorded = refl
@@ -113,7 +105,7 @@ type-named lock good = go lock.type_name (and_parts (is_name lock.name) (is_good
     go None parts = parts.0
     go (Some name) parts = parts.1
 
-module _ (v : Inside) (k : IsKept v) (s : Story) (seen : story_in v ≡ s) where
+module _ (v : Inside) (k : IsTied v) (s : Story) (seen : story_in v ≡ s) where
   pub accepted : (t : ℕ) (call : Call) (reply : Reply) → answer_of s t call ≡ Ok reply → answer_of (story_in v) t call ≡ Ok reply
   accepted t call reply ok = subst (λ (x : Story). answer_of x t call ≡ Ok reply) (sym seen) ok
 
@@ -382,9 +374,9 @@ module _ (v : Inside) (k : IsKept v) (s : Story) (seen : story_in v ≡ s) where
       watch-now (omega (arith, same, owed_now)) refl
 
   -- an order that is defined
-  pub leaves_define : (t : ℕ) (a b : LockNo) (d : Definition) → answer_of s t (DefineOrder a b) ≡ Ok (reply_of d)
-      → Leaves v t (DefineOrder a b) (reply_of d) (with_defined v.known.known d) v.known.live v.seats v.watch (v.log.owed + 0)
-  leaves_define t a b Standing ok =
+  pub leaves_define : (t : ℕ) (a b : LockNo) (r : Reply) → answer_of s t (DefineOrder a b) ≡ Ok r → IsDefined r
+      → Leaves v t (DefineOrder a b) r (with_defined v.known.known r) v.known.live v.seats v.watch (v.log.owed + 0)
+  leaves_define t a b reply.Known ok one =
       let sane = sane_next t (DefineOrder a b) reply.Known ok in
       let in_row = within t (DefineOrder a b) reply.Known ok in
       let same = owed-same v.limits.seats t (DefineOrder a b) reply.Known (history_in v) sane in_row.0 in_row.1 refl refl in
@@ -393,16 +385,17 @@ module _ (v : Inside) (k : IsKept v) (s : Story) (seen : story_in v ≡ s) where
       k.live
       (seats-same (start_in v) v.known.files (history_in v) v.seats seats-now t in_row.0 in_row.1 (DefineOrder a b) reply.Known sane refl refl)
       watch-now (omega (arith, same, owed_now)) refl
-  leaves_define t a b (definition.Adopted p c) ok =
+  leaves_define t a b (reply.Adopted p c) ok one =
       let sane = sane_next t (DefineOrder a b) (reply.Adopted p c) ok in
       let in_row = within t (DefineOrder a b) (reply.Adopted p c) ok in
       let same = owed-same v.limits.seats t (DefineOrder a b) (reply.Adopted p c) (history_in v) sane in_row.0 in_row.1 refl refl in
       left-by t (DefineOrder a b) (reply.Adopted p c) _ _ _ _ _
-      (ap (λ (x : Known). with_defined x (definition.Adopted p c)) known-now
-      ∙ sym (same_locks (with_defined (known_of (start_in v) (history_in v)) (definition.Adopted p c)) _ (append-nil (typed_locks (start_in v) (history_in v)))))
+      (ap (λ (x : Known). with_defined x (reply.Adopted p c)) known-now
+      ∙ sym (same_locks (with_defined (known_of (start_in v) (history_in v)) (reply.Adopted p c)) _ (append-nil (typed_locks (start_in v) (history_in v)))))
       k.live
       (seats-same (start_in v) v.known.files (history_in v) v.seats seats-now t in_row.0 in_row.1 (DefineOrder a b) (reply.Adopted p c) sane refl refl)
       watch-now (omega (arith, same, owed_now)) refl
+  leaves_define t a b _ ok one = absurd one
 
   pub watch_room : (t : ℕ) (w : Watch) (log : Journal) → answer_of s t (SetWatch w) ≡ Ok Done → log ≡ record v.log { spare = log.spare }
       → length log.history + log.owed + 0 < log.limit
@@ -492,7 +485,7 @@ module _ (v : Inside) (sizes : Sizes) (lists : List (Vec (Class × String Global
       ∙ same_state sizes _ _ _ _ _ _ _ _ _ _ _ _ (ap (λ (l : List (List ℕ)). length l) no_files) (begun.known) (ap destroyed_of no_history)
       (ap (λ (r : Row). map seat_view r.seats) seats ∙ seats-idle 1 sizes.seats) watch (ap (λ (l : Journal). length l.history) log)
 
-  pub kept_begun : start_fault (start_of sizes lists blessed) ≡ None → IsKept v
+  pub kept_begun : start_fault (start_of sizes lists blessed) ≡ None → IsTied v
   kept_begun accepted =
       let owes : owed (state_in v) ≡ 0 = ap owed state_begun ∙ owed_to-nil sizes.seats in
       record {
@@ -530,10 +523,10 @@ files_legal start h old name legal = go (is_known_file name old)
     go false = legal-named start old name h legal
 
 -- naming a file keeps the invariant
-pub kept_file : (v : Inside) (name : List ℕ) (r : Result FileNo Fault) (new : Facts) → IsKept v
-    → OnOk r (new ≡ record v.known { files = files_after name v.known.files }) → OnErr r (new ≡ v.known) → IsKept (with_known v new)
+pub kept_file : (v : Inside) (name : List ℕ) (r : Result FileNo Fault) (new : Facts) → IsTied v
+    → OnOk r (new ≡ record v.known { files = files_after name v.known.files }) → OnErr r (new ≡ v.known) → IsTied (with_known v new)
 kept_file v name (Ok f) new k entered same =
-    subst (λ n. IsKept (with_known v n)) (sym entered) (record {
+    subst (λ n. IsTied (with_known v n)) (sym entered) (record {
       started = k.started;
       legal = files_legal (start_in v) (history_in v) v.known.files name k.legal;
       state = ap (λ (s : State). record s { files = length (files_after name v.known.files) }) k.state;
@@ -543,4 +536,4 @@ kept_file v name (Ok f) new k entered same =
       types = k.types;
       chunks = k.chunks;
     })
-kept_file v name (Err fault) new k entered same = subst (λ n. IsKept (with_known v n)) (sym same) k
+kept_file v name (Err fault) new k entered same = subst (λ n. IsTied (with_known v n)) (sym same) k

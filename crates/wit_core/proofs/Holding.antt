@@ -16,7 +16,7 @@ use Rattle.wit_model.proofs.Chains.Seats.{get_or-seats_of}
 use Rattle.wit_model.proofs.Histories.Legal.{sane_legal}
 use Rattle.wit_core.specs.declared.verifier.Verifier.TheInside.{Inside}
 use Rattle.wit_core.specs.Held.{numbers, seat_view, HoldAll}
-use Rattle.wit_core.specs.Kept.{IsKept, start_in, history_in, story_in}
+use Rattle.wit_core.specs.Kept.{IsTied, start_in, history_in, story_in}
 use Rattle.wit_core.specs.Seats.{Seat, seat_in, groups_in, HoldFor}
 use Rattle.wit_core.proofs.Now.{view-is}
 use Rattle.wit_model.proofs.Numbered.{with_number-or}
@@ -52,7 +52,7 @@ numbers-held : (t : ℕ) (h : List Entry) (gs : List (List ℕ)) → numbers (ma
 numbers-held t h [] = refl
 numbers-held t h (g ∷ gs) = ap₂ (λ x xs. x ∷ xs) (numbers-row t h g) (numbers-held t h gs)
 
-module _ (v : Inside) (k : IsKept v) where
+module _ (v : Inside) (k : IsTied v) where
   seats-now : map seat_view v.seats.seats ≡ model.seats_of v.limits.seats (history_in v)
   seats-now = ap (λ (x : State). x.seats) k.state
 
@@ -60,34 +60,42 @@ module _ (v : Inside) (k : IsKept v) where
   count-now =
       sym (length-map v.seats.seats seat_view) ∙ ap length seats-now ∙ length-map-range_with_len (seat_of (history_in v)) 1 v.limits.seats
 
+  seat-is : (t : ℕ) → IsNumber v.limits.seats t → seat_view (seat_in v.seats t) ≡ seat_of (history_in v) t
+  seat-is t given =
+      sym (view-is v.seats t) ∙ ap (λ ss. model.seat_among ss t) seats-now
+      ∙ (with_number-or (model.seats_of v.limits.seats (history_in v)) t model.no_seat given.0
+      ∙ get_or-seats_of v.limits.seats t (history_in v) model.no_seat given.0 given.1)
+
+  chain-by : (b : Bool) (s : Seat) → flat (groups_in b s) ≡ model.chain_in b (seat_view s)
+  chain-by true s = refl
+  chain-by false s = refl
+
+  chain-of : (b : Bool) (u : ℕ) (h : List Entry) → model.chain_in b (seat_of h u) ≡ chain b u h
+  chain-of true u h = refl
+  chain-of false u h = refl
+
+  -- each seat holds what the history has it hold
+  pub chain-held : (t : ℕ) (spin : Bool) → IsNumber v.limits.seats t → flat (groups_in spin (seat_in v.seats t)) ≡ chain spin t (history_in v)
+  chain-held t spin given =
+      chain-by spin (seat_in v.seats t) ∙ ap (model.chain_in spin) (seat-is t given) ∙ chain-of spin t (history_in v)
+
   groups-held : (t : ℕ) (spin : Bool) → IsNumber v.limits.seats t → groups_in spin (seat_in v.seats t) ≡ held_groups spin t (history_in v)
   groups-held t spin given =
-      let is : seat_view (seat_in v.seats t) ≡ seat_of (history_in v) t =
-      sym (view-is v.seats t) ∙ ap (λ ss. model.seat_among ss t) seats-now
-      ∙ (with_number-or (model.seats_of v.limits.seats (history_in v)) t model.no_seat given.0 ∙ get_or-seats_of v.limits.seats t (history_in v) model.no_seat given.0 given.1) in
       same-groups (groups_in spin (seat_in v.seats t)) (held_groups spin t (history_in v))
-      (groups-by spin (seat_in v.seats t) ∙ ap (model.groups_in spin) is ∙ groups-of spin t (history_in v) ∙ sym (numbers-held t (history_in v) (seat_groups spin t (history_in v))))
-      (chain-by spin (seat_in v.seats t) ∙ ap (model.chain_in spin) is ∙ chain-of spin t (history_in v)
-      ∙ sym (groups-chain spin t (history_in v) (sane_legal (start_in v) v.known.files (history_in v) k.legal)))
+      (groups-by spin (seat_in v.seats t) ∙ ap (model.groups_in spin) (seat-is t given) ∙ groups-of spin t (history_in v)
+      ∙ sym (numbers-held t (history_in v) (seat_groups spin t (history_in v))))
+      (chain-held t spin given ∙ sym (groups-chain spin t (history_in v) (sane_legal (start_in v) v.known.files (history_in v) k.legal)))
     where
       groups-by : (b : Bool) (s : Seat) → numbers (groups_in b s) ≡ model.groups_in b (seat_view s)
       groups-by true s = refl
       groups-by false s = refl
 
-      chain-by : (b : Bool) (s : Seat) → flat (groups_in b s) ≡ model.chain_in b (seat_view s)
-      chain-by true s = refl
-      chain-by false s = refl
-
       groups-of : (b : Bool) (u : ℕ) (h : List Entry) → model.groups_in b (seat_of h u) ≡ seat_groups b u h
       groups-of true u h = refl
       groups-of false u h = refl
 
-      chain-of : (b : Bool) (u : ℕ) (h : List Entry) → model.chain_in b (seat_of h u) ≡ chain b u h
-      chain-of true u h = refl
-      chain-of false u h = refl
-
 -- the chunks hold what the seats hold
-pub holds-all : (v : Inside) (k : IsKept v) (s : Story) (seen : story_in v ≡ s) (c : Chunks) → HoldFor v.seats c → HoldAll s c
+pub holds-all : (v : Inside) (k : IsTied v) (s : Story) (seen : story_in v ≡ s) (c : Chunks) → HoldFor v.seats c → HoldAll s c
 holds-all v k s seen c holds =
     subst (λ (x : Story). HoldAll x c) seen (record {
       size = holds.size ∙ k.chunks;

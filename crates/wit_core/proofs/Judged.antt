@@ -39,7 +39,7 @@ use Rattle.wit_model.specs.declared.faults.Fault.TheVariants.{KindMismatch, Same
 use Rattle.wit_check.specs.Bases.{basis, AreTypes}
 use Rattle.wit_check.specs.Held.{sleep_chain, spin_chain, IsJudgeable}
 use Rattle.wit_core.specs.declared.verifier.Verifier.TheInside.{Inside}
-use Rattle.wit_core.specs.Kept.{IsKept, start_in, history_in, story_in}
+use Rattle.wit_core.specs.Kept.{IsTied, start_in, history_in, story_in}
 use Rattle.wit_core.specs.Seats.{seat_in, locks_in, list_of, HoldFor}
 use Rattle.wit_core.proofs.Apt.{known-is}
 use Rattle.wit_core.proofs.HeldSeats.{stands-filter}
@@ -58,7 +58,7 @@ defining-same types os ps a b direct =
     (cond (eqb a.0 b.0) (Err SameType) (cond x (Err WrongOrder) (cond y (Ok reply.Known) (Ok (reply.Adopted a b))))))
     (same_before os ps direct b.0 a.0) (direct a.0 b.0)
 
-module _ (v : Inside) (k : IsKept v) (s : Story) (seen : story_in v ≡ s) where
+module _ (v : Inside) (k : IsTied v) (s : Story) (seen : story_in v ≡ s) where
   locks-are : v.known.known.locks ≡ typed_locks (start_in v) (history_in v)
   locks-are = ap (λ (x : Known). x.locks) (known-is v k)
 

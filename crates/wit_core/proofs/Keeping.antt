@@ -20,19 +20,19 @@ use Rattle.wit_core.specs.Held.{seat_view}
 use Rattle.wit_core.specs.Seats.{Row}
 use Rattle.wit_core.proofs.Steps.{state, same_state}
 use Rattle.wit_core.specs.Journal.{Journal}
-use Rattle.wit_core.specs.Kept.{IsKept, start_in, history_in, story_in, state_in}
+use Rattle.wit_core.specs.Kept.{IsTied, start_in, history_in, story_in, state_in}
 use Rattle.wit_model.specs.Rules.Locks.{destroyed_of}
 use Rattle.wit_core.specs.Live.{live_flags}
 
 -- types are within their limit
-pub types_few : (v : Inside) → IsKept v → length v.known.known.types ≤ v.limits.types
+pub types_few : (v : Inside) → IsTied v → length v.known.known.types ≤ v.limits.types
 types_few v k =
     let few = types_legal (start_in v) v.known.files (history_in v) (types_started (start_in v) k.started) k.legal in
     let same = ap (λ (s : State). length s.known.types) k.state in
     omega (arith, few, same)
 
 -- an accepted call's seat is one of the verifier's
-pub seat_in_range : (v : Inside) (t : ℕ) (call : Call) (r : Reply) → IsKept v → answer_of (story_in v) t call ≡ Ok r → (0 < t) × (t ≤ v.limits.seats)
+pub seat_in_range : (v : Inside) (t : ℕ) (call : Call) (r : Reply) → IsTied v → answer_of (story_in v) t call ≡ Ok r → (0 < t) × (t ≤ v.limits.seats)
 seat_in_range v t call r k ok = seat-within (start_in v) v.known.files (history_in v) t (seat_accepted (state_of (story_in v)) t call r ok)
 
 -- a verifier with these parts
@@ -72,9 +72,9 @@ story start files h = record { start = start; history = h; files = files }
 pub same_story : (s s' : Start) (f f' : List (List ℕ)) (h h' : List Entry) → s ≡ s' → f ≡ f' → h ≡ h' → story s f h ≡ story s' f' h'
 same_story s s' f f' h h' es ef eh = ap (λ x. story x f h) es ∙ (ap (λ x. story s' x h) ef ∙ ap (λ x. story s' f' x) eh)
 
-module _ (v : Inside) (t : ℕ) (call : Call) (reply : Reply) (known : Known) (live : List Bool) (row : Row) (watch : Watch) (owes : ℕ) (new_known : Facts) (new_seats : Row) (new_watch : Watch) (new_log : Journal) (spare : ℕ)
+module _ (v : Inside) (t : ℕ) (call : Call) (reply : Reply) (known : Known) (live : List Bool) (row : Row) (watch : Watch) (owes : ℕ) (new_known : Facts) (new_seats : Row) (new_watch : Watch) (new_log : Journal) (spare : ℕ) {room : ℕ}
     (left : Leaves v t call reply known live row watch owes)
-    (knows : new_known ≡ record v.known { known = known; live = live }) (rows : new_seats ≡ row) (watches : new_watch ≡ watch)
+    (knows : new_known ≡ record v.known { known = known; live = live; spare = room }) (rows : new_seats ≡ row) (watches : new_watch ≡ watch)
     (log : new_log ≡ record v.log { history = entry t call reply ∷ v.log.history; owed = owes; spare = spare }) where
   -- the verifier is seen as its story with the entry
   pub story_entered : story_in (with_parts v new_known new_seats new_watch new_log) ≡ logged (story_in v) t call reply
@@ -85,7 +85,7 @@ module _ (v : Inside) (t : ℕ) (call : Call) (reply : Reply) (known : Known) (l
       (ap (λ (f : Facts). f.files) knows) (ap (λ (l : Journal). l.history) log)
 
   -- and keeps its invariant
-  pub kept_entered : IsKept v → is_logged reply ≡ true → answer_of (story_in v) t call ≡ Ok reply → IsKept (with_parts v new_known new_seats new_watch new_log)
+  pub kept_entered : IsTied v → is_logged reply ≡ true → answer_of (story_in v) t call ≡ Ok reply → IsTied (with_parts v new_known new_seats new_watch new_log)
   kept_entered k kept ok =
       let same = story_entered in
       let seats : map seat_view new_seats.seats ≡ map seat_view row.seats = ap (λ (r : Row). map seat_view r.seats) rows in
@@ -107,9 +107,9 @@ module _ (v : Inside) (t : ℕ) (call : Call) (reply : Reply) (known : Known) (l
       }
 
 -- no type is before itself
-pub sound_kept : (v : Inside) → IsKept v → IsSound (orders_of (start_in v) (history_in v))
+pub sound_kept : (v : Inside) → IsTied v → IsSound (orders_of (start_in v) (history_in v))
 sound_kept v k = sound_legal (start_in v) v.known.files (history_in v) (sound_started (start_in v) k.started) k.legal
 
 -- no order stands twice
-pub distinct_kept : (v : Inside) → IsKept v → AreDistinct (orders_of (start_in v) (history_in v))
+pub distinct_kept : (v : Inside) → IsTied v → AreDistinct (orders_of (start_in v) (history_in v))
 distinct_kept v k = distinct_legal (start_in v) v.known.files (history_in v) k.legal

@@ -23,3 +23,4 @@ pub mod Told
 pub mod Turning
 pub mod Waits
 pub mod Warned
+pub mod Whole

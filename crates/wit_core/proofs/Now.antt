@@ -22,7 +22,7 @@ use Rattle.wit_core.specs.declared.verifier.Verifier.TheInside.{Inside}
 use Rattle.wit_core.specs.declared.acquiring.Acquisition.TheVariants.{Recorded, Exhausted, Unrecorded}
 use Rattle.wit_core.specs.Acquiring.{acquisition, reply_to}
 use Rattle.wit_core.specs.Held.{numbers, seat_view}
-use Rattle.wit_core.specs.Kept.{IsKept, start_in, history_in, story_in, state_in}
+use Rattle.wit_core.specs.Kept.{IsTied, start_in, history_in, story_in, state_in}
 use Rattle.wit_core.specs.Seats.{Seat, Row, no_seat, seat_in, locks_in, free_in, has_no_room}
 use Rattle.wit_core.specs.Seats as seats
 use Rattle.wit_core.proofs.HeldSeats.{opens-numbers, chunks-viewed, stands-filter}
@@ -54,7 +54,7 @@ told_by false false true true = refl
 told_by false false true false = refl
 told_by false false false none = refl
 
-module _ (v : Inside) (k : IsKept v) (s : Story) (seen : story_in v ≡ s) where
+module _ (v : Inside) (k : IsTied v) (s : Story) (seen : story_in v ≡ s) where
   pub now : state_in v ≡ state_of s
   now = k.state ∙ ap state_of seen
 
@@ -137,5 +137,5 @@ any-viewed has [] = refl
 any-viewed has (s ∷ ss) = ap (λ b. has (seat_view s) || b) (any-viewed has ss)
 
 -- whether some seat holds a lock or asks for it
-pub used-now : (v : Inside) (k : IsKept v) (s : Story) (seen : story_in v ≡ s) (l : ℕ) → list_any (λ x. uses l (seat_view x)) v.seats.seats ≡ is_used (state_of s) l
+pub used-now : (v : Inside) (k : IsTied v) (s : Story) (seen : story_in v ≡ s) (l : ℕ) → list_any (λ x. uses l (seat_view x)) v.seats.seats ≡ is_used (state_of s) l
 used-now v k s seen l = any-viewed (uses l) v.seats.seats ∙ ap (λ (x : State). is_used x l) (now v k s seen)

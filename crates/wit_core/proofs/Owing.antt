@@ -11,7 +11,7 @@ use Rattle.wit_model.specs.Rules.Step.{held_by, is_deepest, is_too_deep}
 use Rattle.wit_model.specs.Rules.Types.{is_spin}
 use Rattle.wit_model.specs.Rules.Verdict.{is_of}
 use Rattle.wit_core.specs.declared.verifier.Verifier.TheInside.{Inside}
-use Rattle.wit_core.specs.Kept.{IsKept, story_in}
+use Rattle.wit_core.specs.Kept.{IsTied, story_in}
 use Rattle.wit_core.proofs.Now.{now}
 
 -- what is found in a list counts in its sum
@@ -55,7 +55,7 @@ deep-owed s t l deep = by (held_by s t l) refl deep
         omega (arith, count, one, chain-sum spin (seat_at s t), seat-sum s t)
 
 -- where the log owes fewer, none is
-pub not-deep : (v : Inside) → IsKept v → (s : Story) → story_in v ≡ s → (t l owes : ℕ) → owes ≡ v.log.owed → owes ≤ 65535 → false ≡ is_too_deep (state_of s) t l
+pub not-deep : (v : Inside) → IsTied v → (s : Story) → story_in v ≡ s → (t l owes : ℕ) → owes ≡ v.log.owed → owes ≤ 65535 → false ≡ is_too_deep (state_of s) t l
 not-deep v k s seen t l owes is few = by (is_deepest (held_by (state_of s) t l)) refl
   where
     off : (b : Bool) → false ≡ (b && false)

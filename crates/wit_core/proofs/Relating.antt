@@ -14,12 +14,13 @@ use Rattle.wit_model.specs.Rules.Orders.{is_direct, is_before, is_adoption_of, I
 use Rattle.wit_model.specs.Rules.Numbers.{IsNumber, is_number}
 use Rattle.wit_model.specs.Trace.Paths.{path, path_numbers}
 use Rattle.wit_model.proofs.Orders.Paths.{before_from_test}
-use Rattle.wit_matrix.specs.Relation.{Relation, OrdersAmong, HasSameOrders, Adopts, LeadsBy}
+use Rattle.wit_matrix.specs.Relation.{OrdersAmong, HasSameOrders, Adopts, LeadsBy}
 use Rattle.wit_matrix.proofs.Settled.{same_before, same_sound}
 use Rattle.wit_matrix.proofs.Callers.{adopted_by, same_path}
 use Rattle.wit_core.specs.declared.orders.Orders.TheInside.{Inside}
 use Rattle.wit_core.specs.Following.{CanFollow}
-use Rattle.wit_core.specs.Related.{relation_in, is_pair, HaveOrigins, IsRelated}
+use Rattle.wit_core.specs.Ordering.{Ordering}
+use Rattle.wit_core.specs.Related.{ordering_in, is_pair, HaveOrigins, IsRelated}
 
 path-ends : (n : ℕ) (os : List Adoption) → OrdersAmong n os → (a : ℕ) (way : List ℕ) (b : ℕ) → IsPath os a way b → IsNumber n a × IsNumber n b
 path-ends n os among a [] b p = among a b p
@@ -88,23 +89,23 @@ related-adopted old new order k follows pushed found adopts entered =
       origins = rw newest (origins-adopted old.origins.entries new.origins.entries (reverse old.adopted.items) order k.origins entered);
     }
 
-module _ (o : Inside) (k : IsRelated o) (now : Relation) (seen : relation_in o ≡ now) where
+module _ (o : Inside) (k : IsRelated o) (now : Ordering) (seen : ordering_in o ≡ now) where
   pub before-by : (a b : ℕ) → is_before o.matrix.orders a b ≡ is_before now.orders a b
-  before-by a b = same_before o.matrix.orders (reverse o.adopted.items) k.orders a b ∙ ap (λ (r : Relation). is_before r.orders a b) seen
+  before-by a b = same_before o.matrix.orders (reverse o.adopted.items) k.orders a b ∙ ap (λ (r : Ordering). is_before r.orders a b) seen
 
   pub before-beyond : (a b : ℕ) (r : Bool) → r ≡ (is_number now.size a && is_number now.size b) → r ≡ false → r ≡ is_before now.orders a b
   before-beyond a b r is none =
-      none ∙ before-none now.size now.orders a b r (subst (λ (x : Relation). OrdersAmong x.size x.orders) seen k.orders_among) is none
+      none ∙ before-none now.size now.orders a b r (subst (λ (x : Ordering). OrdersAmong x.size x.orders) seen k.orders_among) is none
 
   pub among-them : (a b : ℕ) (r : Bool) → r ≡ is_before now.orders a b → r ≡ true → IsNumber o.matrix.size a × IsNumber o.matrix.size b
   among-them a b r is yes' =
-      before-among o.matrix.size (reverse o.adopted.items) k.orders_among a b (ap (λ (x : Relation). is_before x.orders a b) seen ∙ (sym is ∙ yes'))
+      before-among o.matrix.size (reverse o.adopted.items) k.orders_among a b (ap (λ (x : Ordering). is_before x.orders a b) seen ∙ (sym is ∙ yes'))
 
   -- the matrix's path is that of the orders among any types that they are between
   pub path-by : (a b : ℕ) (r : Bool) → r ≡ is_before now.orders a b → r ≡ true → IsSound o.matrix.orders → (types : ℕ) → OrdersAmong types now.orders
       → path o.matrix.orders o.matrix.size a b ≡ path now.orders types a b
   path-by a b r is yes' sound types among =
-      let same : HasSameOrders o.matrix.orders now.orders = subst (λ (x : Relation). HasSameOrders o.matrix.orders x.orders) seen k.orders in
+      let same : HasSameOrders o.matrix.orders now.orders = subst (λ (x : Ordering). HasSameOrders o.matrix.orders x.orders) seen k.orders in
       same_path o.matrix.orders now.orders o.matrix.size types a b same (λ x y direct. k.orders_among x y (sym (k.orders x y) ∙ direct)) among sound
       (same_sound o.matrix.orders now.orders same sound)
       (among-them a b r is yes').0 (before-among types now.orders among a b (sym is ∙ yes')).0
@@ -119,6 +120,6 @@ module _ (o : Inside) (k : IsRelated o) (now : Relation) (seen : relation_in o �
       → IfOk answer (λ p. IfSome (path_numbers p) (LeadsBy now.orders a b))
   leads-told a b (Ok None) told = tt
   leads-told a b (Ok (Some p)) told =
-      let same : HasSameOrders o.matrix.orders now.orders = subst (λ (x : Relation). HasSameOrders o.matrix.orders x.orders) seen k.orders in
+      let same : HasSameOrders o.matrix.orders now.orders = subst (λ (x : Ordering). HasSameOrders o.matrix.orders x.orders) seen k.orders in
       (told.0, (told.1.0, same_way o.matrix.orders now.orders same a told.0 b told.1.1))
   leads-told a b (Err fault) told = tt

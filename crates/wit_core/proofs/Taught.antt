@@ -1,5 +1,5 @@
 -- What an accepted check's reply teaches can be learnt.
-use Rattle.std.proofs.Common.{◌≡◌, ℕ, List, Ok, length, refl, sym, ap, ◌∙◌, subst}
+use Rattle.std.proofs.Common.{◌≡◌, ℕ, Bool, true, false, cond, eqb, List, Ok, Err, length, refl, sym, ap, ◌∙◌, subst}
 use Rattle.wit_model.specs.declared.locks.Lock.{Lock}
 use Rattle.wit_model.specs.declared.calls.Request.{Request}
 use Rattle.wit_model.specs.declared.calls.Call.TheVariants.{Check, DefineOrder}
@@ -7,22 +7,33 @@ use Rattle.wit_model.specs.declared.calls.Reply.{Reply}
 use Rattle.wit_model.specs.declared.calls.Reply.TheVariants.{Adopted, Silent, Duplicate, Reversal}
 use Rattle.wit_model.specs.Rules.Locks.{lock_at}
 use Rattle.wit_model.specs.Rules.Numbers.{IsNumber}
-use Rattle.wit_model.specs.Rules.Orders.{is_before}
+use Rattle.wit_model.specs.Rules.Orders.{is_before, is_direct}
+use Rattle.wit_model.specs.Rules.Defining.{are_of_two_kinds}
+use Rattle.wit_model.specs.declared.faults.Fault.TheVariants.{KindMismatch, SameType, WrongOrder}
+use Rattle.wit_model.specs.declared.locks.TypeNo.{TypeNo}
+use Rattle.wit_model.specs.declared.calls.Reply.TheVariants as reply
 use Rattle.wit_model.specs.Rules.State.{Known, state_of, types_of, typed_locks}
-use Rattle.wit_model.specs.Rules.Step.{answer_of}
-use Rattle.wit_model.proofs.Histories.Accepted.{check_accepted, define_accepted}
+use Rattle.wit_model.specs.Rules.Step.{answer_of, is_logged}
+use Rattle.wit_model.proofs.Histories.Accepted.{same_reply, check_accepted, define_accepted}
 use Rattle.wit_model.proofs.Orders.Among.{adopted-orderly, defined-orderly, silent-known, duplicate-known, reversal-known}
 use Rattle.wit_core.specs.declared.verifier.Verifier.TheInside.{Inside}
 use Rattle.wit_core.specs.Known.{IsApt}
-use Rattle.wit_core.specs.declared.defining.Definition.{Definition}
-use Rattle.wit_core.specs.declared.defining.Definition.TheVariants.{Standing}
-use Rattle.wit_core.specs.declared.defining.Definition.TheVariants as definition
-use Rattle.wit_core.specs.Defining.{reply_of, IsDefinable}
+use Rattle.wit_core.specs.Defining.{IsDefined}
 use Rattle.wit_model.specs.declared.locks.LockNo.{LockNo}
-use Rattle.wit_core.specs.Kept.{IsKept, start_in, history_in, story_in}
+use Rattle.wit_core.specs.Kept.{IsTied, start_in, history_in, story_in}
 use Rattle.wit_core.proofs.Apt.{known-is, number}
 
-module _ (v : Inside) (k : IsKept v) where
+-- the answers of a definition behind its first faults
+defined-by : (kinds same back direct : Bool) (p c : TypeNo) (r : Reply)
+    → cond kinds (Err KindMismatch) (cond same (Err SameType) (cond back (Err WrongOrder) (cond direct (Ok reply.Known) (Ok (Adopted p c))))) ≡ Ok r
+    → IsDefined r
+defined-by true same back direct p c r is = absurd (cc)
+defined-by false true back direct p c r is = absurd (cc)
+defined-by false false true direct p c r is = absurd (cc)
+defined-by false false false true p c r is = subst IsDefined (same_reply is) tt
+defined-by false false false false p c r is = subst IsDefined (same_reply is) tt
+
+module _ (v : Inside) (k : IsTied v) where
   locks-are : v.known.known.locks ≡ typed_locks (start_in v) (history_in v)
   locks-are = ap (λ (y : Known). y.locks) (known-is v k)
 
@@ -30,18 +41,32 @@ module _ (v : Inside) (k : IsKept v) where
       → IsNumber v.known.most_types (lock_at v.known.known.locks l).type_no.0
   numbered l is = subst (λ (ls : List Lock). IsNumber v.known.most_types (lock_at ls l).type_no.0) (sym locks-are) (number v k _ is)
 
-  -- an order that an accepted call defines can be adopted
-  pub definable : (t : ℕ) (a b : LockNo) (d : Definition) → answer_of (story_in v) t (DefineOrder a b) ≡ Ok (reply_of d)
-      → IsDefinable v.known.most_types v.known.known.orders d
-  definable t a b Standing ok = tt
-  definable t a b (definition.Adopted p c) ok =
-      let o = defined-orderly (start_in v) v.known.files (history_in v) t a.0 b.0 p c (define_accepted (state_of (story_in v)) t a.0 b.0 _ ok refl) in
-      record {
-        parent = number v k p.0 o.parent;
-        child = number v k c.0 o.child;
-        apart = o.apart;
-        orderly = ap (λ (x : Known). is_before x.orders c.0 p.0) (known-is v k) ∙ o.orderly;
-      }
+  -- an accepted definition that is logged gets one of two replies
+  pub defined-reply : (t : ℕ) (a b : LockNo) (reply : Reply) → answer_of (story_in v) t (DefineOrder a b) ≡ Ok reply → is_logged reply ≡ true
+      → IsDefined reply
+  defined-reply t a b reply ok logged =
+      let k = (state_of (story_in v)).known in
+      let p = (lock_at k.locks a.0).type_no in
+      let c = (lock_at k.locks b.0).type_no in
+      defined-by (are_of_two_kinds k.types p c) (eqb p.0 c.0) (is_before k.orders c.0 p.0) (is_direct k.orders p.0 c.0) p c reply
+      (define_accepted (state_of (story_in v)) t a.0 b.0 reply ok logged).answer
+
+  -- an order that it tells can be adopted
+  pub definable : (t : ℕ) (a b : LockNo) (told : Reply) → answer_of (story_in v) t (DefineOrder a b) ≡ Ok told → is_logged told ≡ true
+      → IsApt v.known.most_types v.known.known told
+  definable t a b told ok logged = go told ok (defined-reply t a b told ok logged)
+    where
+      go : (r : Reply) → answer_of (story_in v) t (DefineOrder a b) ≡ Ok r → IsDefined r → IsApt v.known.most_types v.known.known r
+      go (Adopted p c) is one =
+          let o = defined-orderly (start_in v) v.known.files (history_in v) t a.0 b.0 p c (define_accepted (state_of (story_in v)) t a.0 b.0 _ is refl) in
+          record {
+            parent = number v k p.0 o.parent;
+            child = number v k c.0 o.child;
+            apart = o.apart;
+            orderly = ap (λ (x : Known). is_before x.orders c.0 p.0) (known-is v k) ∙ o.orderly;
+          }
+      go reply.Known is one = tt
+      go _ is one = absurd one
 
   pub apt : (t : ℕ) (q : Request) (reply : Reply) → answer_of (story_in v) t (Check q) ≡ Ok reply → IsApt v.known.most_types v.known.known reply
   apt t q (Adopted p c) ok =

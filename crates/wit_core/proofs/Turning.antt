@@ -26,7 +26,7 @@ use Rattle.wit_held.specs.Marks.{marked}
 use Rattle.wit_core.specs.declared.verifier.Verifier.TheInside.{Inside}
 use Rattle.wit_core.specs.Held.{numbers, seat_view}
 use Rattle.wit_core.specs.Journal.{Journal}
-use Rattle.wit_core.specs.Kept.{IsKept, start_in, history_in, story_in}
+use Rattle.wit_core.specs.Kept.{IsTied, start_in, history_in, story_in}
 use Rattle.wit_core.specs.Live.{live_flags}
 use Rattle.wit_core.specs.Seats.{Seat, with_seat}
 use Rattle.wit_core.specs.Turning.{changed, turn_call, mark_call}
@@ -47,7 +47,7 @@ changed-view ls l f keeps spin s kind = by spin ∙ ap form kind
     by true = ap₂ (λ c gs. seat (flat s.sleep) c (numbers s.sleep) gs s.pending) (flat-changed l f s.spin) (numbers-changed l f keeps s.spin)
     by false = ap₂ (λ c gs. seat c (flat s.spin) gs (numbers s.spin) s.pending) (flat-changed l f s.sleep) (numbers-changed l f keeps s.sleep)
 
-module _ (v : Inside) (k : IsKept v) (s : Story) (seen : story_in v ≡ s) (t : ℕ) (l : LockNo) where
+module _ (v : Inside) (k : IsTied v) (s : Story) (seen : story_in v ≡ s) (t : ℕ) (l : LockNo) where
   abbrev h : List Entry
   h = history_in v
 

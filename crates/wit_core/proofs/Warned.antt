@@ -15,12 +15,12 @@ use Rattle.wit_matrix.specs.Relation.{Relation}
 use Rattle.wit_check.specs.Bases.{basis}
 use Rattle.wit_check.specs.Held.{sleep_chain, spin_chain}
 use Rattle.wit_core.specs.declared.verifier.Verifier.TheInside.{Inside}
-use Rattle.wit_core.specs.Kept.{IsKept, story_in}
+use Rattle.wit_core.specs.Kept.{IsTied, story_in}
 use Rattle.wit_core.specs.Seats.{HoldFor}
 use Rattle.wit_core.proofs.Judged.{chain-of-list}
 use Rattle.wit_core.proofs.Now.{now, view-is}
 
-module _ (v : Inside) (k : IsKept v) (s : Story) (seen : story_in v ≡ s) (t : ℕ) (is : is_seat (state_of s) t ≡ true) (c : Chunks) (holds : HoldFor v.seats c) where
+module _ (v : Inside) (k : IsTied v) (s : Story) (seen : story_in v ≡ s) (t : ℕ) (is : is_seat (state_of s) t ≡ true) (c : Chunks) (holds : HoldFor v.seats c) where
   pub warned-told : (names : Names) (relation : Relation) (types : List TypeNo) (named : Option LockNo) (flags : WarnFlags)
       → names.types ≡ v.known.known.types → types ≡ map (λ (l : Lock). l.type_no) v.known.known.locks
       → length (warning (basis names relation types) v.watch named flags (sleep_chain c t) (spin_chain c t)) ≡ length (warned (state_of s) t named flags)

@@ -1,14 +1,20 @@
 -- A verifier as its callers see it, and what ties its parts to its history.
-use Rattle.std.specs.Prelude.{◌≡◌, List, None, map, length}
+use Rattle.std.specs.Prelude.{ℕ, ◌≡◌, Bool, List, None, map, length}
 use Rattle.wit_model.specs.declared.calls.Entry.{Entry}
-use Rattle.wit_model.specs.Rules.State.{Start, Story, State, state_of, owed}
+use Rattle.wit_model.specs.Rules.Chunks.{Chunks}
+use Rattle.wit_model.specs.Rules.Clean.{CleanMeansNoCircle}
+use Rattle.wit_model.specs.Rules.History.{chain}
+use Rattle.wit_model.specs.Rules.Numbers.{IsNumber}
+use Rattle.wit_model.specs.Rules.Orders.{IsSound, cell}
+use Rattle.wit_model.specs.Rules.State.{Start, Story, State, state_of, orders_of, found_of, owed}
 use Rattle.wit_model.specs.Rules.Start.{start_fault}
 use Rattle.wit_model.specs.Rules.Step.{IsLegal}
 use Rattle.wit_model.specs.Rules.Locks.{destroyed_of}
 use Rattle.wit_core.specs.Live.{live_flags}
 use Rattle.wit_core.specs.declared.verifier.Verifier.TheInside.{Inside}
-use Rattle.wit_core.specs.Held.{seat_view}
+use Rattle.wit_core.specs.Held.{seat_view, HoldAll}
 use Rattle.wit_core.specs.Listed.{all_listed}
+use Rattle.wit_core.specs.Seats.{seat_in, locks_in, HoldFor}
 
 abbrev pub start_in : Inside → Start
 start_in v = record { sizes = v.limits; lists = all_listed v.lists.items; blessed = v.known.known.blessed }
@@ -32,7 +38,7 @@ state_in v = record {
 
 -- the start is accepted, the log is a legal history, the parts are its state, the locks that weren't destroyed are live, the log owes
 -- what the rules say, and the limits of the log, of types and of chunks are the start's
-pub record IsKept (v : Inside) : Type 0 where
+pub record IsTied (v : Inside) : Type 0 where
   pub started : start_fault (start_in v) ≡ None
   pub legal : IsLegal (start_in v) v.known.files (history_in v)
   pub state : state_in v ≡ state_of (story_in v)
@@ -41,3 +47,18 @@ pub record IsKept (v : Inside) : Type 0 where
   pub limit : v.log.limit ≡ v.limits.log
   pub types : v.known.most_types ≡ v.limits.types
   pub chunks : v.seats.chunks ≡ v.limits.chunks
+
+-- what a verifier keeps between its calls: its parts are tied to its history, and so
+pub record IsKept (v : Inside) : Type 0 where
+  -- the relation of each two types is the history's
+  pub cells : (a b : ℕ) → cell v.known.known.orders v.known.known.found a b
+      ≡ cell (orders_of (start_in v) (history_in v)) (found_of (start_in v) (history_in v)) a b
+  -- no type is before itself
+  pub sound : IsSound v.known.known.orders
+  -- each seat holds what the history has it hold, in that order
+  pub chains : (t : ℕ) (spin : Bool) → IsNumber v.limits.seats t → locks_in spin (seat_in v.seats t) ≡ chain spin t (history_in v)
+  -- lists of chunks in which the seats hold their locks have them as the history says, and each chunk once
+  pub chunks : (c : Chunks) → HoldFor v.seats c → HoldAll (story_in v) c
+  -- while the log is clean no seats wait for one another in a circle, by what is recorded
+  pub apart : CleanMeansNoCircle (story_in v)
+  pub tied : IsTied v

@@ -13,12 +13,14 @@ use Rattle.wit_model.specs.Rules.Numbers.{IsNumber}
 use Rattle.wit_table.specs.Known.{enroll_answer}
 use Rattle.wit_core.specs.Following.{CanFollow}
 
--- what is known, whether each lock is live, the files that were named, and how many types there may be
+-- what is known, whether each lock is live, the files that were named, how many types there may be, and for how many more orders, and
+-- pairs found in violation, there is memory
 pub record Facts : Type 0 where
   pub known : Known
   pub live : List Bool
   pub files : List (List ℕ)
   pub most_types : ℕ
+  pub spare : ℕ
 
 abbrev pub nothing : Known
 nothing = record { types = []; locks = []; orders = []; found = []; blessed = [] }

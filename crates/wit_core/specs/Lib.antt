@@ -10,6 +10,7 @@ pub mod Listed
 pub mod Live
 pub mod Logged
 pub mod Numbered
+pub mod Ordering
 pub mod Related
 pub mod Remembered
 pub mod Replies

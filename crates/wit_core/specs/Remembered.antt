@@ -18,6 +18,7 @@ facts_in k = record {
   live = k.live.items;
   files = k.names.files;
   most_types = k.names.most_types;
+  spare = k.orders.spare;
 }
 
 -- how many live locks each type has is how many of the locks are live and of it

@@ -1,67 +1,42 @@
-//! What becomes of an order that a call defines.
+//! What a call that defines an order is answered, and what it teaches.
 
-ghost use Rattle.std.specs.Prelude.{◌≡◌, OnOk, OnErr};
+ghost use Rattle.std.specs.Prelude.{◌≡◌, ◌<◌};
 ghost use Rattle.wit_check.specs.Answers.{definition_of, IsDefinition};
-ghost use Rattle.wit_core.specs.Defining.{reply_of, definition_reply, with_defined, IsDefinable};
+ghost use Rattle.wit_core.specs.Defining.{with_defined};
+ghost use Rattle.wit_core.specs.Known.{IsApt};
 
 use crate::known::Known;
-use std::alloc::AllocError;
 use wit_check::Verdict;
-use wit_model::{Adoption, Fault, Origin, Reply, TypeNo};
+use wit_model::{Adoption, Fault, Origin, Reply};
 
-/// What becomes of an order that a call defines.
-#[derive(Clone, Copy, Debug)]
-pub enum Definition {
-    /// It was adopted before.
-    Standing,
-    /// The first type is to be before the second from now on.
-    Adopted(TypeNo, TypeNo),
-}
-
-impl Definition {
-    /// The reply that tells it.
-    pub fn reply(self) -> Reply
-        ensures { result ≡ reply_of self }
-    {
-        match self {
-            Definition::Standing => Reply::Known,
-            Definition::Adopted(parent, child) => Reply::Adopted(parent, child),
-        }
-    }
-}
-
-/// What a verdict on the defining of an order says of it.
+/// The reply that tells a verdict on the defining of an order.
 ///
 /// # Errors
 /// The verdict's fault.
-pub fn defined(verdict: Verdict) -> Result<Definition, Fault>
+pub fn defined(verdict: Verdict) -> Result<Reply, Fault>
     requires { IsDefinition verdict }
-    ensures { definition_reply result ≡ definition_of verdict }
+    ensures { result ≡ definition_of verdict }
 {
     match verdict {
         Verdict::Fault(fault) => Err(fault),
-        Verdict::Adopt(parent, child) => Ok(Definition::Adopted(parent, child)),
-        _ => Ok(Definition::Standing),
+        Verdict::Adopt(parent, child) => Ok(Reply::Adopted(parent, child)),
+        _ => Ok(Reply::Known),
     }
 }
 
 impl Known {
-    /// Adopts an order that a call defines, where it isn't adopted yet.
-    ///
-    /// # Errors
-    /// Want of memory alone; nothing is adopted then.
-    pub fn define(&mut self, definition: Definition) -> Result<(), AllocError>
-        requires { IsDefinable self.old.most_types self.old.known.orders definition }
-        ensures ok { OnOk result (self.new ≡ record self.old { known = with_defined self.old.known definition }) }
-        ensures err { OnErr result (self.new ≡ self.old) }
+    /// Adopts the order that a reply to its definition tells, where it tells one. It takes no memory.
+    pub fn define(&mut self, reply: &Reply)
+        requires apt { IsApt self.old.most_types self.old.known reply.now }
+        requires room { 0 < self.old.spare }
+        ensures { self.new ≡ record self.old { known = with_defined self.old.known reply.now; spare = self.new.spare } }
     {
-        match definition {
-            Definition::Standing => Ok(()),
-            Definition::Adopted(parent, child) => self.orders.adopt(Adoption {
-                parent,
-                child,
+        if let Reply::Adopted(parent, child) = reply {
+            self.orders.adopt(Adoption {
+                parent: *parent,
+                child: *child,
                 origin: Origin::Defined,
-            }),
+            });
         }
     }
 }

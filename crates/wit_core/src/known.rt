@@ -58,7 +58,7 @@ impl Known {
     pub fn new(alloc: Global, types: u32) -> Result<Known, Fault>
         requires positive { 0 < types }
         requires within { types ≤ 1023 }
-        ensures ok { IfOk result (λ k. k ≡ record { known = nothing; live = []; files = []; most_types = types }) }
+        ensures ok { IfOk result (λ k. k ≡ record { known = nothing; live = []; files = []; most_types = types; spare = k.spare }) }
         ensures err { IfErr result (λ e. e ≡ OutOfMemory) }
     {
         Ok(Known {
@@ -139,14 +139,23 @@ impl Known {
         self.names.file(name)
     }
 
-    /// Learns what the reply to a request tells: the order behind the last held lock, or a pair of types found in violation.
+    /// Makes room for what one reply tells.
     ///
     /// # Errors
-    /// Want of memory alone; nothing is learnt then.
-    pub fn learn(&mut self, request: Request, reply: &Reply) -> Result<(), AllocError>
-        requires { IsApt self.old.most_types self.old.known reply.now }
-        ensures ok { OnOk result (self.new ≡ record self.old { known = learnt self.old.known request reply.now }) }
-        ensures err { OnErr result (self.new ≡ self.old) }
+    /// Want of memory alone.
+    pub fn make_room(&mut self) -> Result<(), AllocError>
+        ensures same { self.new ≡ record self.old { spare = self.new.spare } }
+        ensures ok { OnOk result (0 < self.new.spare) }
+    {
+        self.orders.make_room(1)
+    }
+
+    /// Learns what the reply to a request tells: the order behind the last held lock, or a pair of types found in violation. It takes
+    /// no memory.
+    pub fn learn(&mut self, request: Request, reply: &Reply)
+        requires apt { IsApt self.old.most_types self.old.known reply.now }
+        requires room { 0 < self.old.spare }
+        ensures { self.new ≡ record self.old { known = learnt self.old.known request reply.now; spare = self.new.spare } }
     {
         match reply {
             Reply::Adopted(parent, child) => self.orders.adopt(Adoption {
@@ -157,15 +166,15 @@ impl Known {
             Reply::Silent(held, asked) => self.orders.find(*held, *asked),
             Reply::Duplicate(doubling) => {
                 let asked = type_of(&self.locks, doubling.get().asked.lock);
-                self.orders.find(asked, asked)
+                self.orders.find(asked, asked);
             }
             Reply::Reversal(conflict) => {
                 let conflict = conflict.get();
                 let held = type_of(&self.locks, conflict.held.lock);
                 let asked = type_of(&self.locks, conflict.asked.lock);
-                self.orders.find(held, asked)
+                self.orders.find(held, asked);
             }
-            _ => Ok(()),
+            _ => {}
         }
     }
 

@@ -62,7 +62,10 @@ impl Known {
         requires within { IsWithin (length self.old.known.types) self.old.known.orders }
         ensures accepted { OnOk result
             (lists_fault most 1 (all_listed lists.now) self.old.known.types self.old.known.orders ≡ None) }
-        ensures entered { OnOk result (self.new ≡ record self.old { known = with_lists self.old.known (all_listed lists.now) }) }
+        ensures entered { OnOk result (self.new ≡ record self.old {
+          known = with_lists self.old.known (all_listed lists.now);
+          spare = self.new.spare;
+        }) }
         ensures err { IfErr result (λ e. AreRefused
             (lists_fault most 1 (all_listed lists.now) self.old.known.types self.old.known.orders) (all_listed lists.now) e.list e.fault) }
     {
@@ -83,7 +86,10 @@ impl Known {
         requires most { most ≡ self.old.most_types }
         requires within { IsWithin (length self.old.known.types) self.old.known.orders }
         ensures accepted { OnOk result (list_fault most self.old.known.types self.old.known.orders (listed list.now) ≡ None) }
-        ensures entered { OnOk result (self.new ≡ record self.old { known = with_list self.old.known (listed list.now) }) }
+        ensures entered { OnOk result (self.new ≡ record self.old {
+          known = with_list self.old.known (listed list.now);
+          spare = self.new.spare;
+        }) }
         ensures number { IfErr result (λ e. e.list ≡ number) }
         ensures err { IfErr result (λ e.
             (list_fault most self.old.known.types self.old.known.orders (listed list.now) ≡ Some e.fault)
@@ -172,7 +178,10 @@ impl Known {
     fn enter_list(&mut self, most: u32, list: &[(Class, String)]) -> Result<(), Fault>
         requires most { most ≡ self.old.most_types }
         requires accepted { list_fault most self.old.known.types self.old.known.orders (listed list.now) ≡ None }
-        ensures ok { OnOk result (self.new ≡ record self.old { known = with_list self.old.known (listed list.now) }) }
+        ensures ok { OnOk result (self.new ≡ record self.old {
+          known = with_list self.old.known (listed list.now);
+          spare = self.new.spare;
+        }) }
         ensures err { IfErr result (λ e. e ≡ OutOfMemory) }
     {
         enroll_all(&mut self.names, list)?;
@@ -333,7 +342,10 @@ fn adopt_all(orders: &mut Orders, names: &Table, list: &[(Class, String)]) -> Re
     requires few { length names.now.types ≤ orders.old.size }
     requires can { CanBeAdopted names.now.types orders.old.orders (listed list.now) }
     ensures size { orders.new.size ≡ orders.old.size }
-    ensures ok { OnOk result (orders.new ≡ record orders.old { orders = listed_pairs names.now.types (listed list.now) orders.old.orders }) }
+    ensures ok { OnOk result (orders.new ≡ record orders.old {
+      orders = listed_pairs names.now.types (listed list.now) orders.old.orders;
+      spare = orders.new.spare;
+    }) }
 {
     for place in 1..list.len() {
         let parent = number_of(names, &list[place - 1]);
@@ -347,14 +359,18 @@ fn adopt_all(orders: &mut Orders, names: &Table, list: &[(Class, String)]) -> Re
 fn adopt_once(orders: &mut Orders, parent: TypeNo, child: TypeNo) -> Result<(), AllocError>
     requires { CanFollow orders.old.size orders.old.orders parent.0 child.0 }
     ensures size { orders.new.size ≡ orders.old.size }
-    ensures ok { OnOk result (orders.new ≡ record orders.old { orders = adopted_once parent.0 child.0 Listed orders.old.orders }) }
+    ensures ok { OnOk result (orders.new ≡ record orders.old {
+      orders = adopted_once parent.0 child.0 Listed orders.old.orders;
+      spare = orders.new.spare;
+    }) }
 {
     if !orders.is_direct(parent, child) {
+        orders.make_room(1)?;
         orders.adopt(Adoption {
             parent,
             child,
             origin: Origin::Listed,
-        })?;
+        });
     }
     Ok(())
 }

@@ -1,6 +1,6 @@
 //! The adopted orders, which types are before one another, and which were found in violation.
 
-ghost use Rattle.std.specs.Prelude.{◌≡◌, ◌<◌, ◌≤◌, ◌&&◌, ◌∷◌, ℕ, true, [], IfSome, OnOk, OnErr, IfOk, IfErr, reverse};
+ghost use Rattle.std.specs.Prelude.{◌≡◌, ◌<◌, ◌≤◌, ◌+◌, ◌&&◌, ◌∷◌, ℕ, true, [], IfSome, OnOk, IfOk, IfErr, reverse};
 ghost use Rattle.wit_model.specs.declared.faults.Fault.TheVariants.{OutOfMemory};
 ghost use Rattle.wit_model.specs.Rules.Orders.{is_direct, is_before, is_found, found_once, origin_of, cell};
 ghost use Rattle.wit_model.specs.Rules.Numbers.{IsNumber, is_number};
@@ -27,13 +27,13 @@ pub struct Orders {
 }
 
 impl Model for Orders {
-    ghost use Rattle.wit_matrix.specs.Relation.{Relation};
+    ghost use Rattle.wit_core.specs.Ordering.{Ordering};
 
-    ghost Value = { Relation };
+    ghost Value = { Ordering };
 
-    ghost use Rattle.wit_core.specs.Related.{relation_in, IsRelated};
+    ghost use Rattle.wit_core.specs.Related.{ordering_in, IsRelated};
 
-    ghost view = { relation_in };
+    ghost view = { ordering_in };
 
     ghost invariant = { IsRelated };
 }
@@ -46,7 +46,7 @@ impl Orders {
     pub fn new(alloc: Global, types: u32) -> Result<Orders, Fault>
         requires positive { 0 < types }
         requires within { types ≤ 1023 }
-        ensures ok { IfOk result (λ o. o ≡ record { size = types; orders = []; found = [] }) }
+        ensures ok { IfOk result (λ o. o ≡ record { size = types; orders = []; found = []; spare = o.spare }) }
         ensures err { IfErr result (λ e. e ≡ OutOfMemory) }
     {
         Ok(Orders {
@@ -140,37 +140,46 @@ impl Orders {
         &self.adopted
     }
 
-    /// Adopts an order. With it the parent and all types before it come before the child and all after it.
+    /// Makes room for this many orders more, and for as many pairs found in violation.
     ///
     /// # Errors
-    /// Want of memory alone; the orders are then as before.
-    pub fn adopt(&mut self, order: Adoption) -> Result<(), AllocError>
-        requires { CanFollow self.old.size self.old.orders order.parent.0 order.child.0 }
-        ensures ok { OnOk result (self.new ≡ record self.old { orders = order ∷ self.old.orders }) }
-        ensures err { OnErr result (self.new ≡ self.old) }
+    /// Want of memory alone.
+    pub fn make_room(&mut self, more: usize) -> Result<(), AllocError>
+        ensures same { self.new ≡ record self.old { spare = self.new.spare } }
+        ensures ok { OnOk result (more ≤ self.new.spare) }
     {
-        self.adopted.reserve(1)?;
-        self.origins
-            .insert((order.parent, order.child), order.origin)?;
-        self.adopted.push_reserved(order);
-        self.matrix.adopt(order.parent, order.child);
+        self.adopted.reserve(more)?;
+        self.origins.reserve(more)?;
+        self.found.reserve(more)?;
         Ok(())
     }
 
-    /// Finds the unordered pair of a and b in violation; a pair that was found stays as it is.
-    ///
-    /// # Errors
-    /// Want of memory alone; the pairs are then as before.
-    pub fn find(&mut self, a: TypeNo, b: TypeNo) -> Result<(), AllocError>
+    /// Adopts an order. With it the parent and all types before it come before the child and all after it. It takes no memory.
+    pub fn adopt(&mut self, order: Adoption)
+        requires follows { CanFollow self.old.size self.old.orders order.parent.0 order.child.0 }
+        requires room { 0 < self.old.spare }
+        ensures adopted { self.new ≡ record self.old { orders = order ∷ self.old.orders; spare = self.new.spare } }
+        ensures room { self.old.spare ≤ self.new.spare + 1 }
+    {
+        self.adopted.push_reserved(order);
+        let _new = self
+            .origins
+            .insert((order.parent, order.child), order.origin)
+            .unwrap();
+        self.matrix.adopt(order.parent, order.child);
+    }
+
+    /// Finds the unordered pair of a and b in violation; a pair that was found stays as it is. It takes no memory.
+    pub fn find(&mut self, a: TypeNo, b: TypeNo)
         requires a { IsNumber self.old.size a.0 }
         requires b { IsNumber self.old.size b.0 }
-        ensures ok { OnOk result (self.new ≡ record self.old { found = found_once a b self.old.found }) }
-        ensures err { OnErr result (self.new ≡ self.old) }
+        requires room { 0 < self.old.spare }
+        ensures found { self.new ≡ record self.old { found = found_once a b self.old.found; spare = self.new.spare } }
+        ensures room { self.old.spare ≤ self.new.spare + 1 }
     {
         if !self.is_found(a, b) {
-            self.found.push((a, b))?;
+            self.found.push_reserved((a, b));
             self.matrix.set_reversal(a, b);
         }
-        Ok(())
     }
 }

@@ -1,16 +1,14 @@
 //! `define_order`: one lock's type is to be before another's.
 
-ghost use Rattle.std.specs.Prelude.{◌≡◌, true, Ok, OnOk, OnErr};
+ghost use Rattle.std.specs.Prelude.{◌≡◌, true, Ok};
 ghost use Rattle.wit_model.specs.declared.calls.Call.TheVariants.{DefineOrder};
 ghost use Rattle.wit_model.specs.Rules.Defining.{define};
 ghost use Rattle.wit_model.specs.Rules.State.{state_of, is_live};
-ghost use Rattle.wit_model.specs.Rules.Step.{AnswersOrFails, answer_of, logged};
-ghost use Rattle.wit_core.specs.Defining.{reply_of, definition_reply, defined_reply};
+ghost use Rattle.wit_model.specs.Rules.Step.{AnswersOrFails, answer_of, is_logged};
 
-use crate::defining::{Definition, defined};
+use crate::defining::defined;
 use crate::known::type_of;
 use crate::verifier::Verifier;
-use std::alloc::AllocError;
 use wit_check::define;
 use wit_model::{Call, Entry, Fault, LockNo, Reply, SeatNo};
 
@@ -31,23 +29,15 @@ impl Verifier {
     ) -> Result<Reply, Fault>
         ensures { AnswersOrFails self.old seat.0 (DefineOrder first second) result self.new }
     {
-        match self.answer_define(seat, first, second)? {
-            Some(definition) => {
-                self.enter_define(seat, first, second, definition)?;
-                Ok(definition.reply())
-            }
-            None => Ok(Reply::Ignored),
+        let reply = self.answer_define(seat, first, second)?;
+        if !is_logged(&reply) {
+            return Ok(reply);
         }
+        self.enter_define(seat, first, second, reply)
     }
 
-    // What becomes of the order; `None` where the call is passed over.
-    fn answer_define(
-        &self,
-        seat: SeatNo,
-        first: LockNo,
-        second: LockNo,
-    ) -> Result<Option<Definition>, Fault>
-        ensures { defined_reply result ≡ answer_of self.now seat.0 (DefineOrder first second) }
+    fn answer_define(&self, seat: SeatNo, first: LockNo, second: LockNo) -> Result<Reply, Fault>
+        ensures { result ≡ answer_of self.now seat.0 (DefineOrder first second) }
     {
         if !self.is_seat(seat) {
             return Err(Fault::UnknownSeat);
@@ -59,20 +49,20 @@ impl Verifier {
             return Err(Fault::Pending);
         }
         if self.watch().is_off() {
-            return Ok(None);
+            return Ok(Reply::Ignored);
         }
-        let definition = self.definition(first, second)?;
+        let reply = self.definition(first, second)?;
         if !self.has_room(1) {
             return Err(Fault::LogFull);
         }
-        Ok(Some(definition))
+        Ok(reply)
     }
 
-    // What becomes of the order of two live locks' types.
-    fn definition(&self, first: LockNo, second: LockNo) -> Result<Definition, Fault>
+    // The answer by the types of two live locks.
+    fn definition(&self, first: LockNo, second: LockNo) -> Result<Reply, Fault>
         requires first { is_live (state_of self.now) first.0 ≡ true }
         requires second { is_live (state_of self.now) second.0 ≡ true }
-        ensures { definition_reply result ≡ define (state_of self.now).known first.0 second.0 }
+        ensures { result ≡ define (state_of self.now).known first.0 second.0 }
     {
         let known = &self.known;
         let parent = type_of(known.locks(), first);
@@ -81,25 +71,35 @@ impl Verifier {
         defined(verdict)
     }
 
+    // Enters a definition and what its reply tells.
     fn enter_define(
         &mut self,
         seat: SeatNo,
         first: LockNo,
         second: LockNo,
-        definition: Definition,
-    ) -> Result<(), AllocError>
-        requires { answer_of self.old seat.0 (DefineOrder first second) ≡ Ok (reply_of definition) }
-        ensures ok { OnOk result (self.new ≡ logged self.old seat.0 (DefineOrder first second) (reply_of definition)) }
-        ensures err { OnErr result (self.new ≡ self.old) }
+        reply: Reply,
+    ) -> Result<Reply, Fault>
+        requires answer { answer_of self.old seat.0 (DefineOrder first second) ≡ Ok reply }
+        requires logged { is_logged reply ≡ true }
+        ensures { AnswersOrFails self.old seat.0 (DefineOrder first second) result self.new }
     {
+        let kept = reply.share()?;
         self.log.reserve(1)?;
-        self.known.define(definition)?;
+        self.known.make_room()?;
+        self.known.define(&reply);
         let entry = Entry {
             seat,
             call: Call::DefineOrder(first, second),
-            reply: definition.reply(),
+            reply: kept,
         };
         self.log.push(entry, 0);
-        Ok(())
+        Ok(reply)
     }
+}
+
+// Whether the log keeps a call that is answered so.
+fn is_logged(reply: &Reply) -> bool
+    ensures { result ≡ is_logged reply.now }
+{
+    !matches!(reply, Reply::Ignored)
 }

@@ -1,5 +1,5 @@
 use Rattle.std.proofs.Common.{◌+◌, ◌-◌, ap, ◌∙◌, arith, List}
-use Rattle.wit_matrix.specs.Relation.{Relation}
+use Rattle.wit_core.specs.Ordering.{Ordering}
 use Rattle.wit_model.specs.declared.calls.Adoption.{Adoption}
 use Rattle.wit_core.proofs.Listing.{adopt-step, adopt-end}
 use Rattle.wit_core.proofs.Enrolling.{follows-at, adopts-step, orders-alone}
@@ -10,7 +10,7 @@ adopt_once-requires c =
     follows-at c.args.names.now.types c.args.list.now (c.loop-place.place - 1) c.loop-place.place c.index-list-place.result c.index-list-place-in-loop-place.result
     c.number_of-parent.result.0 c.number_of-child.result.0 c.loop-place.orders.orders
     (omega arith) (omega arith) c.index-list-place.is c.index-list-place-in-loop-place.is c.number_of-parent.ensures c.number_of-child.ensures c.loop-place.invariant.can
-    c.loop-place.orders.size (let e = ap (λ (r : Relation). r.size) c.loop-place.invariant.rest in omega (arith, e, c.requires.few))
+    c.loop-place.orders.size (let e = ap (λ (r : Ordering). r.size) c.loop-place.invariant.rest in omega (arith, e, c.requires.few))
 
 pub loop-place-preserved : goal.loop-place-preserved
 loop-place-preserved c =
@@ -18,7 +18,7 @@ loop-place-preserved c =
     let list = c.args.list.now in
     let orders = c.loop-place.orders in
     let new = c.adopt_once.new.orders in
-    let is = ap (λ (r : Relation). r.orders) c.in_ok-adopt_once.ensures.ok in
+    let is = ap (λ (r : Ordering). r.orders) c.in_ok-adopt_once.ensures.ok in
     record {
       pairs = adopt-step types list (c.loop-place.place - 1) c.loop-place.place (c.loop-place.place + 1 - 1) c.index-list-place.result c.index-list-place-in-loop-place.result
           c.number_of-parent.result.0 c.number_of-child.result.0 orders.orders new.orders _
@@ -34,5 +34,5 @@ loop-place-preserved c =
 pub returns-clause-ok : goal.returns-clause-ok
 returns-clause-ok c =
     c.loop-place.invariant.rest
-    ∙ ap (λ (os : List Adoption). record c.args.orders.now { orders = os })
+    ∙ ap (λ (os : List Adoption). record c.args.orders.now { orders = os; spare = c.loop-place.orders.spare })
     (adopt-end c.args.names.now.types c.args.list.now (c.loop-place.place - 1) c.loop-place.orders.orders _ (omega arith) c.loop-place.invariant.pairs)

@@ -1,8 +1,11 @@
 use Rattle.wit_core.proofs.Entries.{file_named, kept_file}
+use Rattle.wit_core.proofs.Whole.{kept}
 use Rattle.wit_core.proofs.verifier.Verifier.file.Goals as goal
 
 pub invariant_of-self : goal.invariant_of-self
-invariant_of-self c = kept_file c.self.inside c.args.name.now c.file.result c.file.new.self c.self.invariant c.file.ensures.entered c.file.ensures.unchanged
+invariant_of-self c =
+    kept (
+    kept_file c.self.inside c.args.name.now c.file.result c.file.new.self c.self.invariant.tied c.file.ensures.entered c.file.ensures.unchanged)
 
 pub returns : goal.returns
 returns c =

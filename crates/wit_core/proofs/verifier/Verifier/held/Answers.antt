@@ -5,13 +5,13 @@ use Rattle.wit_core.proofs.Now.{seat-given, chain-now, once-now}
 use Rattle.wit_core.proofs.verifier.Verifier.held.Goals as goal
 
 pub find-requires-clause-once : goal.find-requires-clause-once
-find-requires-clause-once c = once-now c.self.inside c.self.invariant c.args.self.now c.self.view_is c.args.seat.0 c.args.lock.0 c.is_spin-spin.result (c.is_spin-spin.ensures ∙ ap is_spin c.class_of_lock.ensures) c.requires
+find-requires-clause-once c = once-now c.self.inside c.self.invariant.tied c.args.self.now c.self.view_is c.args.seat.0 c.args.lock.0 c.is_spin-spin.result (c.is_spin-spin.ensures ∙ ap is_spin c.class_of_lock.ensures) c.requires
 
 pub find-requires-clause-seat : goal.find-requires-clause-seat
-find-requires-clause-seat c = seat-given c.self.inside c.self.invariant c.args.self.now c.self.view_is c.args.seat.0 c.requires
+find-requires-clause-seat c = seat-given c.self.inside c.self.invariant.tied c.args.self.now c.self.view_is c.args.seat.0 c.requires
 
 pub returns : goal.returns
 returns c =
     c.find.ensures
     ∙ ap (find (is_of c.args.lock.0))
-    (chain-now c.self.inside c.self.invariant c.args.self.now c.self.view_is c.args.seat.0 c.args.lock.0 c.is_spin-spin.result (c.is_spin-spin.ensures ∙ ap is_spin c.class_of_lock.ensures))
+    (chain-now c.self.inside c.self.invariant.tied c.args.self.now c.self.view_is c.args.seat.0 c.args.lock.0 c.is_spin-spin.result (c.is_spin-spin.ensures ∙ ap is_spin c.class_of_lock.ensures))

@@ -3,4 +3,4 @@ use Rattle.wit_core.proofs.Now.{used-now}
 use Rattle.wit_core.proofs.verifier.Verifier.is_used.Goals as goal
 
 pub returns : goal.returns
-returns c = c.is_used.ensures ∙ used-now c.self.inside c.self.invariant c.args.self.now c.self.view_is c.args.lock.0
+returns c = c.is_used.ensures ∙ used-now c.self.inside c.self.invariant.tied c.args.self.now c.self.view_is c.args.lock.0

@@ -6,5 +6,5 @@ use Rattle.wit_core.proofs.verifier.Verifier.live.Goals as goal
 pub returns-then-is_type : goal.returns-then-is_type
 returns-then-is_type c =
     ap Some c.live.ensures
-    ∙ live-told c.self.inside c.self.invariant c.args.self.now c.self.view_is c.args.number.0
+    ∙ live-told c.self.inside c.self.invariant.tied c.args.self.now c.self.view_is c.args.number.0
     (sym (ap (λ ts. is_given ts c.args.number.0) c.names.ensures.types) ∙ sym c.is_type.ensures ∙ c.if-is_type.true)

@@ -4,6 +4,7 @@ use Rattle.wit_core.specs.Seats.{idle_row}
 use Rattle.std.proofs.lemmas.Result.{err_from_is_err_and}
 use Rattle.wit_core.proofs.Entering.{start-unmade, lists-refused, pairs-refused, all-accepted, is-begun}
 use Rattle.wit_core.proofs.Entries.{kept_begun}
+use Rattle.wit_core.proofs.Whole.{kept}
 use Rattle.wit_core.proofs.verifier.Verifier.new.Goals as goal
 
 pub returns-in_err-enter_lists-clause-err : goal.returns-in_err-enter_lists-clause-err
@@ -28,6 +29,7 @@ returns-in_err-seats-clause-err c =
 
 pub invariant_of-result : goal.invariant_of-result
 invariant_of-result c =
+    kept (
     kept_begun _ c.args.limits c.args.lists.items c.args.blessed.items refl refl
     (is-begun c.args.limits c.types-types.result c.args.lists.items c.deref.result.now c.args.blessed.items c.deref-2.result.now c.in_ok-known.known
     c.types-types.ensures.value c.deref.ensures.value c.deref-2.ensures.value c.in_ok-known.ensures.ok
@@ -36,4 +38,4 @@ invariant_of-result c =
     (subst (λ n. c.new-3.result ≡ record { limit = n; history = []; owed = 0; spare = c.new-3.result.spare }) c.log.ensures.value c.new-3.ensures)
     (all-accepted c.args.limits c.types-types.result c.args.lists.items c.deref.result.now c.args.blessed.items c.deref-2.result.now c.in_ok-known.known
     c.types-types.ensures.value c.deref.ensures.value c.deref-2.ensures.value c.in_ok-known.ensures.ok
-    c.in_ok-enter_lists.ensures.accepted c.in_ok-bless_all.ensures.good)
+    c.in_ok-enter_lists.ensures.accepted c.in_ok-bless_all.ensures.good))

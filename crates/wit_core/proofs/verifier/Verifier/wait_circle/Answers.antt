@@ -34,7 +34,7 @@ returns-clause-ok c =
 
 pub returns-in-Some-clause-clean : goal.returns-in-Some-clause-clean
 returns-in-Some-clause-clean c = λ unblessed clean.
-    let apart : CleanMeansNoCircle c.args.self.now = rw (← c.self.view_is) (apart_kept c.self.inside c.self.invariant) in
+    let apart : CleanMeansNoCircle c.args.self.now = rw (← c.self.view_is) (apart_kept c.self.inside c.self.invariant.tied) in
     let told = tells_circle c.args.self.now c.in_ok-rows.rows.items c.in_ok-rows.ensures (c.loop-place.place + 1) c.in-Some.circle
     (subst (λ (o : Option (Vec SeatNo)). IsCircleFrom (rows_of c.in_ok-rows.rows.items) (c.loop-place.place + 1) o) c.in-Some.is
     (rw c.deref.ensures.value at c.in_ok-circle.ensures)) in
