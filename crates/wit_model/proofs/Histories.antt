@@ -2,6 +2,7 @@
 pub mod Accepted
 pub mod Asked
 pub mod Exhaustion
+pub mod KnownFiles
 pub mod Legal
 pub mod Live
 pub mod Longer

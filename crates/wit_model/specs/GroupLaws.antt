@@ -24,4 +24,5 @@ GroupsAreTidy = (kind : Bool) (t : ℕ) (h : List Entry) → AreTidy (seat_group
 -- after a legal history the free chunks and those of all seats are all chunks
 abbrev pub ChunksAddUp : Type 0
 ChunksAddUp =
-    (s : Story) → IsLegal s.start s.files s.history → free (state_of s) + sum_by chunks_of (state_of s).seats ≡ s.start.sizes.chunks
+    (s : Story) → IsLegal s.start s.files s.history
+    → free (state_of s) + sum_by chunks_of (state_of s).seats ≡ s.start.sizes.chunks

@@ -1,7 +1,12 @@
 -- Laws of histories that go on: what stays in every longer one. Lists are newest first.
-use Rattle.std.specs.Prelude.{ℕ, ◌+◌, ◌≡◌, Bool, true, List, ◌∷◌, ◌++◌, length, reverse, Some}
+use Rattle.std.specs.Prelude.{ℕ, ◌+◌, ◌≡◌, Bool, true, List, ◌∷◌, ◌++◌, length, reverse, Some, Err}
 use Rattle.std.specs.List.{list_all}
+use Rattle.wit_model.specs.declared.faults.Fault.TheVariants.{UnknownFile}
 use Rattle.wit_model.specs.declared.locks.TypeNo.{TypeNo}
+use Rattle.wit_model.specs.declared.locks.LockNo.{LockNo}
+use Rattle.wit_model.specs.declared.locks.Mode.{Mode}
+use Rattle.wit_model.specs.declared.locks.Site.{Site}
+use Rattle.wit_model.specs.declared.calls.Request.{Request}
 use Rattle.wit_model.specs.declared.locks.Origin.{Origin}
 use Rattle.wit_model.specs.declared.calls.Adoption.{Adoption}
 use Rattle.wit_model.specs.declared.calls.Call.{Call}
@@ -12,15 +17,16 @@ use Rattle.wit_model.specs.Rules.Beginnings.{IsBeginning}
 use Rattle.wit_model.specs.Rules.Files.{is_known_file, file_number, files_after}
 use Rattle.wit_model.specs.Rules.History.{own_entries}
 use Rattle.wit_model.specs.Rules.Numbers.{is_number, with_number}
-use Rattle.wit_model.specs.Rules.State.{Start, orders_of}
-use Rattle.wit_model.specs.Rules.Step.{IsLegal}
+use Rattle.wit_model.specs.Rules.State.{Start, Story, orders_of}
+use Rattle.wit_model.specs.Rules.Step.{answer_of, IsLegal}
 
 -- ---- entries
 
 -- a seat's entries are those of what came before and those of what came later
 abbrev pub OwnEntriesJoin : Type 0
 OwnEntriesJoin =
-    (t : ℕ) (later h : List Entry) → own_entries t (later ++ h) ≡ own_entries t later ++ own_entries t h
+    (t : ℕ) (later h : List Entry)
+    → own_entries t (later ++ h) ≡ own_entries t later ++ own_entries t h
 
 -- how a legal history began is legal
 abbrev pub BeginningsAreLegal : Type 0
@@ -54,12 +60,15 @@ ToldFilesSuffice =
 
 -- files are added behind those that are there
 abbrev pub FilesAreAdded : Type 0
-FilesAreAdded = (name : List ℕ) (files : List (List ℕ)) → (more : List (List ℕ)) × (files_after name files ≡ files ++ more)
+FilesAreAdded =
+    (name : List ℕ) (files : List (List ℕ))
+    → (more : List (List ℕ)) × (files_after name files ≡ files ++ more)
 
 -- a file that was named has the number that it was given
 abbrev pub NamedFilesAreThere : Type 0
 NamedFilesAreThere =
-    (name : List ℕ) (files : List (List ℕ)) → with_number (files_after name files) (file_number name files) ≡ Some name
+    (name : List ℕ) (files : List (List ℕ))
+    → with_number (files_after name files) (file_number name files) ≡ Some name
 
 -- whoever has a number keeps it in every longer list
 abbrev pub FilesKeepNumbers : Type 0
@@ -72,6 +81,19 @@ abbrev pub NamesKeepNumbers : Type 0
 NamesKeepNumbers =
     (name : List ℕ) (files more : List (List ℕ))
     → is_known_file name files ≡ true → file_number name (files ++ more) ≡ file_number name files
+
+-- a named file is never unknown to a check, nor to a try
+abbrev pub ChecksKnowFiles : Type 0
+ChecksKnowFiles =
+    (s : Story) (t : ℕ) (q : Request)
+    → is_number (length s.files) q.site.file.0 ≡ true → answer_of s t (Check q) ≡ Err UnknownFile
+    → ⊥
+
+abbrev pub TriesKnowFiles : Type 0
+TriesKnowFiles =
+    (s : Story) (t : ℕ) (l : LockNo) (mode : Mode) (site : Site)
+    → is_number (length s.files) site.file.0 ≡ true
+    → answer_of s t (NoteTry l mode site) ≡ Err UnknownFile → ⊥
 
 -- ---- orders
 
@@ -89,12 +111,13 @@ OrdersAreAdded =
 abbrev pub OrdersKeepNumbers : Type 0
 OrdersKeepNumbers =
     (start : Start) (later h : List Entry) (n : ℕ) (o : Adoption)
-    → with_number (adoptions start h) n ≡ Some o → with_number (adoptions start (later ++ h)) n ≡ Some o
+    → with_number (adoptions start h) n ≡ Some o
+    → with_number (adoptions start (later ++ h)) n ≡ Some o
 
 -- and the pair of a reply that adopts one has the number behind those adopted until then
 abbrev pub AdoptedAreNumbered : Type 0
 AdoptedAreNumbered =
-    (start : Start) (files : List (List ℕ)) (later : List Entry) (e : Entry) (h : List Entry) (a b : TypeNo)
+    (start : Start) (files : List (List ℕ)) (e : Entry) (later h : List Entry) (a b : TypeNo)
     → IsLegal start files (e ∷ h) → e.reply ≡ Adopted a b
     → (origin : Origin)
     × (with_number (adoptions start (later ++ e ∷ h)) (length (orders_of start h) + 1)

@@ -21,36 +21,42 @@ OrdersStaySound =
 
 -- the test finds exactly the types between which a path leads
 abbrev pub TestFindsPaths : Type 0
-TestFindsPaths = (orders : List Adoption) (a b : ℕ) → (is_before orders a b ≡ true) ↔ Before orders a b
+TestFindsPaths =
+    (orders : List Adoption) (a b : ℕ) → (is_before orders a b ≡ true) ↔ Before orders a b
 
 -- the note of a request that is pending is accepted
 abbrev pub PendingIsNoted : Type 0
 PendingIsNoted =
     (s : Story) (t : ℕ) (q : Request)
-    → IsLegal s.start s.files s.history → pending t s.history ≡ Some q → IsOk (answer_of s t (Note q.lock))
+    → IsLegal s.start s.files s.history → pending t s.history ≡ Some q
+    → IsOk (answer_of s t (Note q.lock))
 
 -- and so is its being given up
 abbrev pub PendingIsGivenUp : Type 0
 PendingIsGivenUp =
     (s : Story) (t : ℕ) (q : Request)
-    → IsLegal s.start s.files s.history → pending t s.history ≡ Some q → answer_of s t (GiveUp q.lock) ≡ Ok Done
+    → IsLegal s.start s.files s.history → pending t s.history ≡ Some q
+    → answer_of s t (GiveUp q.lock) ≡ Ok Done
 
 -- the note of a request that passed its check is accepted next
 abbrev pub CheckedIsNoted : Type 0
 CheckedIsNoted =
     (s : Story) (t : ℕ) (q : Request) (r : Reply)
-    → IsLegal s.start s.files s.history → answer_of s t (Check q) ≡ Ok r → IsOk (answer_of (logged s t (Check q) r) t (Note q.lock))
+    → IsLegal s.start s.files s.history → answer_of s t (Check q) ≡ Ok r
+    → IsOk (answer_of (logged s t (Check q) r) t (Note q.lock))
 
 -- a lock that a seat holds or asks for was made and isn't destroyed
 abbrev pub UsedLocksAreLive : Type 0
 UsedLocksAreLive =
     (s : Story) (t l : ℕ) → IsLegal s.start s.files s.history → is_seat (state_of s) t ≡ true
-    → (is_held t l s.history || is_for l (pending t s.history)) ≡ true → is_live (state_of s) l ≡ true
+    → (is_held t l s.history || is_for l (pending t s.history)) ≡ true
+    → is_live (state_of s) l ≡ true
 
 -- where nothing is watched, nothing is ever watched again
 abbrev pub OffIsForGood : Type 0
 OffIsForGood =
-    (start : Start) (files : List (List ℕ)) (e : Entry) (h : List Entry) → IsLegal start files (e ∷ h) → watch_of h ≡ Off → watch_of (e ∷ h) ≡ Off
+    (start : Start) (files : List (List ℕ)) (e : Entry) (h : List Entry)
+    → IsLegal start files (e ∷ h) → watch_of h ≡ Off → watch_of (e ∷ h) ≡ Off
 
 abbrev pub is_exhaustion : Reply → Bool
 is_exhaustion Exhausted = true
@@ -59,9 +65,11 @@ is_exhaustion _ = false
 -- that no chunk is free is told once at most
 abbrev pub IsExhaustedOnce : Type 0
 IsExhaustedOnce =
-    (start : Start) (files : List (List ℕ)) (h : List Entry) → IsLegal start files h → count_by (λ (e : Entry). is_exhaustion e.reply) h ≤ 1
+    (start : Start) (files : List (List ℕ)) (h : List Entry) → IsLegal start files h
+    → count_by (λ (e : Entry). is_exhaustion e.reply) h ≤ 1
 
 -- a history stays legal where more files are named
 abbrev pub FilesMayGrow : Type 0
 FilesMayGrow =
-    (start : Start) (files : List (List ℕ)) (name : List ℕ) (h : List Entry) → IsLegal start files h → IsLegal start (files ++ name ∷ []) h
+    (start : Start) (files : List (List ℕ)) (name : List ℕ) (h : List Entry) → IsLegal start files h
+    → IsLegal start (files ++ name ∷ []) h

@@ -31,7 +31,9 @@ use Rattle.wit_model.specs.Rules.Clean.{is_giant_lock, is_clean}
 
 -- no order stands twice after a legal history, those of static lists included
 abbrev pub OrdersAreAdoptedOnce : Type 0
-OrdersAreAdoptedOnce = (start : Start) (files : List (List ℕ)) (h : List Entry) → IsLegal start files h → AreDistinct (orders_of start h)
+OrdersAreAdoptedOnce =
+    (start : Start) (files : List (List ℕ)) (h : List Entry) → IsLegal start files h
+    → AreDistinct (orders_of start h)
 
 -- ---- reports
 
@@ -42,7 +44,8 @@ ReversalsAreOfHeldLocks =
     → IsLegal start files (e ∷ h) → e.reply ≡ Reversal x
     → (is_held e.seat.0 x.held.lock.0 h ≡ true) × (q : Request) × (e.call ≡ Check q) × (x.asked.lock ≡ q.lock)
 
--- a plain reversal is told only where the requested lock's type is before the held one's, by the orders adopted until then
+-- a plain reversal is told only where the requested lock's type is before the held one's, by the
+-- orders adopted until then
 abbrev pub ReversalsBreakOrders : Type 0
 ReversalsBreakOrders =
     (start : Start) (files : List (List ℕ)) (e : Entry) (h : List Entry) (x : Conflict)
@@ -53,7 +56,8 @@ ReversalsBreakOrders =
 abbrev pub DuplicatesAreOfOneType : Type 0
 DuplicatesAreOfOneType =
     (start : Start) (files : List (List ℕ)) (e : Entry) (h : List Entry) (d : Doubling)
-    → IsLegal start files (e ∷ h) → e.reply ≡ Duplicate d → lock_type start h d.last.lock.0 ≡ lock_type start h d.asked.lock.0
+    → IsLegal start files (e ∷ h) → e.reply ≡ Duplicate d
+    → lock_type start h d.last.lock.0 ≡ lock_type start h d.asked.lock.0
 
 -- the types of the held lock and of the requested one that a report names
 abbrev pub reported_pair : List Lock → Reply → List (TypeNo × TypeNo)
@@ -73,7 +77,9 @@ AreUnlike (p ∷ pairs) = (is_found pairs p.0.0 p.1.0 ≡ false) × AreUnlike pa
 
 -- no unordered pair of types is reported twice in a legal history
 abbrev pub PairsAreReportedOnce : Type 0
-PairsAreReportedOnce = (start : Start) (files : List (List ℕ)) (h : List Entry) → IsLegal start files h → AreUnlike (reported_pairs start h)
+PairsAreReportedOnce =
+    (start : Start) (files : List (List ℕ)) (h : List Entry) → IsLegal start files h
+    → AreUnlike (reported_pairs start h)
 
 -- ---- requests that passed
 
@@ -81,7 +87,8 @@ PairsAreReportedOnce = (start : Start) (files : List (List ℕ)) (h : List Entry
 abbrev pub last_of_kind : ℕ → ℕ → List Entry → Option ℕ
 last_of_kind t l h = last_or None (held_of (is_spin_lock (locks_of h) l) t h)
 
--- an entry after h asks for a lock of type b, and the last lock of its kind that its seat holds is of type a
+-- an entry after h asks for a lock of type b, and the last lock of its kind that its seat holds is
+-- of type a
 pub record AsksBehind (start : Start) (h : List Entry) (e : Entry) (a b : ℕ) : Type 0 where
   pub request : Request
   pub asks : e.call ≡ Check request
@@ -93,12 +100,14 @@ pub record AsksBehind (start : Start) (h : List Entry) (e : Entry) (a b : ℕ) :
 abbrev pub is_sleepable_lock : NewLock → Bool
 is_sleepable_lock lock = is_same_class lock.class Sx
 
--- Giant and a sleepable lock: Giant is let go while its holder sleeps, so they may be taken in either order
+-- Giant and a sleepable lock: Giant is let go while its holder sleeps, so they may be taken in
+-- either order
 abbrev pub is_with_giant : NewLock → NewLock → Bool
 is_with_giant a b = (is_giant_lock a && is_sleepable_lock b) || (is_sleepable_lock a && is_giant_lock b)
 
--- such a request passed, or taught its order, where all rules were to be met: everything was watched, the seat didn't hold the lock, an
--- order might be learnt (0x01), no second lock of one type was allowed (0x02), and it isn't about Giant and a sleepable lock
+-- such a request passed, or taught its order, where all rules were to be met: everything was
+-- watched, the seat didn't hold the lock, an order might be learnt (0x01), no second lock of one
+-- type was allowed (0x02), and it isn't about Giant and a sleepable lock
 pub record HasPassed (start : Start) (h : List Entry) (e : Entry) (a b : ℕ) : Type 0 where
   pub behind : AsksBehind start h e a b
   pub passed : (e.reply ≡ Pass) ⊎ (e.reply ≡ Adopted (record { 0 = a }) (record { 0 = b }))
@@ -112,19 +121,23 @@ pub record HasPassed (start : Start) (h : List Entry) (e : Entry) (a b : ℕ) : 
 abbrev pub PassedIsDirect : Type 0
 PassedIsDirect =
     (start : Start) (files : List (List ℕ)) (e : Entry) (h : List Entry) (a b : ℕ)
-    → IsLegal start files (e ∷ h) → HasPassed start h e a b → is_direct (orders_of start (e ∷ h)) a b ≡ true
+    → IsLegal start files (e ∷ h) → HasPassed start h e a b
+    → is_direct (orders_of start (e ∷ h)) a b ≡ true
 
--- a request behind the last held lock by a direct order is judged to pass, unless the seat holds the lock, or a spin lock where that is of
--- the sleep kind
+-- a request behind the last held lock by a direct order is judged to pass, unless the seat holds
+-- the lock, or a spin lock where that is of the sleep kind
 abbrev pub DirectPasses : Type 0
 DirectPasses =
     (start : Start) (files : List (List ℕ)) (h : List Entry) (t : ℕ) (q : Request) (last : ℕ)
     → start_fault start ≡ None → IsLegal start files h → IsGiven (locks_of h) q.lock.0
-    → last_of_kind t q.lock.0 h ≡ Some last → is_direct (orders_of start h) (lock_type start h last) (lock_type start h q.lock.0) ≡ true
-    → is_held t q.lock.0 h ≡ false → (is_spin_lock (locks_of h) q.lock.0 ≡ false → held_of true t h ≡ [])
+    → last_of_kind t q.lock.0 h ≡ Some last
+    → is_direct (orders_of start h) (lock_type start h last) (lock_type start h q.lock.0) ≡ true
+    → is_held t q.lock.0 h ≡ false
+    → (is_spin_lock (locks_of h) q.lock.0 ≡ false → held_of true t h ≡ [])
     → verdict (known_of start h) (watch_of h) (seat_of h t) q ≡ Ok Pass
 
--- and whoever asks for a lock of that type behind one of that type later, passes, if no fault refuses the check
+-- and whoever asks for a lock of that type behind one of that type later, passes, if no fault
+-- refuses the check
 abbrev pub PassedPassesOn : Type 0
 PassedPassesOn =
     (start : Start) (files : List (List ℕ)) (next : Entry) (later : List Entry) (e : Entry) (h : List Entry) (a b : ℕ)
@@ -133,20 +146,26 @@ PassedPassesOn =
 
 -- ---- clean histories
 
--- after a clean history's check of a lock that its seat doesn't hold, each lock that it holds is ahead of that one
+-- after a clean history's check of a lock that its seat doesn't hold, each lock that it holds is
+-- ahead of that one
 abbrev pub HeldComeFirst : Type 0
 HeldComeFirst =
     (start : Start) (files : List (List ℕ)) (e : Entry) (h : List Entry) (q : Request) (l : ℕ)
     → start.blessed ≡ [] → IsLegal start files (e ∷ h) → is_clean (e ∷ h) ≡ true
-    → e.call ≡ Check q → num e.seat.0 q.lock.0 h ≡ 0 → 0 < num e.seat.0 l h → IsAhead start (e ∷ h) l q.lock.0
+    → e.call ≡ Check q → num e.seat.0 q.lock.0 h ≡ 0 → 0 < num e.seat.0 l h
+    → IsAhead start (e ∷ h) l q.lock.0
 
 -- a lock that is ahead of another stays so
 abbrev pub AheadStays : Type 0
-AheadStays = (start : Start) (e : Entry) (h : List Entry) (a b : ℕ) → IsAhead start h a b → IsAhead start (e ∷ h) a b
+AheadStays =
+    (start : Start) (e : Entry) (h : List Entry) (a b : ℕ) → IsAhead start h a b
+    → IsAhead start (e ∷ h) a b
 
 -- what is ahead of a lock is ahead of all that this one is ahead of
 abbrev pub AheadJoins : Type 0
-AheadJoins = (start : Start) (h : List Entry) (a b c : ℕ) → IsAhead start h a b → IsAhead start h b c → IsAhead start h a c
+AheadJoins =
+    (start : Start) (h : List Entry) (a b c : ℕ) → IsAhead start h a b → IsAhead start h b c
+    → IsAhead start h a c
 
 -- no lock is ahead of itself after a legal history of an accepted start
 abbrev pub NoneIsAheadOfItself : Type 0

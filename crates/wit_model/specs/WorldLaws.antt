@@ -15,7 +15,7 @@ use Rattle.wit_model.specs.World.Steps.{admits, IsWorld}
 use Rattle.wit_model.specs.World.Waiting.{IsWaiting, IsDeadlock}
 use Rattle.wit_model.specs.World.Reordering.{IsReordering}
 use Rattle.wit_model.specs.World.Examples.{small, files, in_turn, crossed, agreed, defined, defined_before}
-use Rattle.wit_model.specs.World.Sequences.{varied}
+use Rattle.wit_model.specs.World.Sequences.{varied, scarce, exhausted}
 
 -- no reordering of a world whose log is clean has a deadlock, over an accepted start that blesses
 -- no pair
@@ -23,7 +23,8 @@ abbrev pub CleanRunsNeverDeadlock : Type 0
 CleanRunsNeverDeadlock =
     (start : Start) (files : List (List ℕ)) (v w : List Deed) (threads : List ℕ)
     → start_fault start ≡ None → start.blessed ≡ []
-    → IsWorld start files w → is_clean (log_of w) ≡ true → IsReordering start v w → IsDeadlock v threads → ⊥
+    → IsWorld start files w → is_clean (log_of w) ≡ true → IsReordering start v w
+    → IsDeadlock v threads → ⊥
 
 -- a world without a deadlock, and a reordering of it that has one
 abbrev pub InTurnIsWorld : Type 0
@@ -58,11 +59,16 @@ AgreedIsClean = (small.blessed ≡ []) × (is_clean (log_of agreed) ≡ true)
 abbrev pub VariedIsWorld : Type 0
 VariedIsWorld = (start_fault small ≡ None) × IsWorld small files varied
 
+-- and one in which the chunks run out
+abbrev pub ExhaustedIsWorld : Type 0
+ExhaustedIsWorld = (start_fault scarce ≡ None) × IsWorld scarce files exhausted
+
 -- of two threads that have shares of a lock neither has it exclusively
 abbrev pub ExclusiveIsAlone : Type 0
 ExclusiveIsAlone =
     (start : Start) (files : List (List ℕ)) (w : List Deed) (t u l : ℕ)
-    → IsWorld start files w → (u ≡ t → ⊥) → 0 < shares t l w → 0 < shares u l w → is_exclusive (raw_mode t l w) ≡ false
+    → IsWorld start files w → (u ≡ t → ⊥) → 0 < shares t l w → 0 < shares u l w
+    → is_exclusive (raw_mode t l w) ≡ false
 
 -- who waits for another can't have the lock
 abbrev pub WaitersAreBarred : Type 0
@@ -84,11 +90,14 @@ DeadlocksTakeTwo = (w : List Deed) (t : ℕ) → IsDeadlock w (t ∷ []) → ⊥
 -- the run itself reorders it, and so does each of its moments
 abbrev pub MomentsReorder : Type 0
 MomentsReorder =
-    (start : Start) (files : List (List ℕ)) (later w : List Deed) → IsWorld start files (later ++ w) → IsReordering start w (later ++ w)
+    (start : Start) (files : List (List ℕ)) (later w : List Deed) → IsWorld start files (later ++ w)
+    → IsReordering start w (later ++ w)
 
 -- the log of a world is a legal history
 abbrev pub WorldsAreLegal : Type 0
-WorldsAreLegal = (start : Start) (files : List (List ℕ)) (w : List Deed) → IsWorld start files w → IsLegal start files (log_of w)
+WorldsAreLegal =
+    (start : Start) (files : List (List ℕ)) (w : List Deed) → IsWorld start files w
+    → IsLegal start files (log_of w)
 
 -- and of a thread's own deeds it has that thread's entries
 abbrev pub OwnDeedsAreLogged : Type 0
@@ -98,4 +107,5 @@ OwnDeedsAreLogged = (t : ℕ) (w : List Deed) → log_of (own t w) ≡ own_entri
 abbrev pub CleanRecordsHaveNoCircle : Type 0
 CleanRecordsHaveNoCircle =
     (start : Start) (files : List (List ℕ)) (h : List Entry)
-    → start_fault start ≡ None → IsLegal start files h → CleanMeansNoCircle (story_after start files h)
+    → start_fault start ≡ None → IsLegal start files h
+    → CleanMeansNoCircle (story_after start files h)

@@ -28,7 +28,8 @@ use Rattle.wit_model.proofs.Numbered.{with_number-at}
 
 -- ---- numbers
 
-slice-more : {X : Type 0} (xs more : List X) (k : ℕ) (x : X) → slice_get xs k ≡ Some x → slice_get (xs ++ more) k ≡ Some x
+slice-more : {X : Type 0} (xs more : List X) (k : ℕ) (x : X) → slice_get xs k ≡ Some x
+    → slice_get (xs ++ more) k ≡ Some x
 slice-more xs more k x is =
     let within = slice_get_within xs k x is in
     slice_get-get_or (xs ++ more) k x (omega (arith, within, length-append xs more))
@@ -38,7 +39,8 @@ pub number-stays : {X : Type 0} (xs more : List X) (n : ℕ) (x : X)
     → with_number xs n ≡ Some x → with_number (xs ++ more) n ≡ Some x
 number-stays xs more n x = go (nat_lt 0 n)
   where
-    go : (b : Bool) → cond b (slice_get xs (n - 1)) None ≡ Some x → cond b (slice_get (xs ++ more) (n - 1)) None ≡ Some x
+    go : (b : Bool) → cond b (slice_get xs (n - 1)) None ≡ Some x
+        → cond b (slice_get (xs ++ more) (n - 1)) None ≡ Some x
     go true is = slice-more xs more (n - 1) x is
     go false is = (cc)
 
@@ -52,7 +54,8 @@ number-next xs k =
     with_number-at xs (k + 1) (omega arith) ∙ ap (λ n. slice_get xs n) back
 
 -- what is added has the next number
-number-added : {X : Type 0} (xs : List X) (x : X) → with_number (xs ++ x ∷ []) (length xs + 1) ≡ Some x
+number-added : {X : Type 0} (xs : List X) (x : X)
+    → with_number (xs ++ x ∷ []) (length xs + 1) ≡ Some x
 number-added xs x = number-next (xs ++ x ∷ []) (length xs) ∙ slice-behind xs x
 
 -- ---- files
@@ -61,7 +64,8 @@ module _ (name : List ℕ) where
   abbrev is_it : List ℕ → Bool
   is_it f = bytes_eq f name
 
-  found : (files : List (List ℕ)) → list_any is_it files ≡ true → slice_get files (position_or_len is_it files) ≡ Some name
+  found : (files : List (List ℕ)) → list_any is_it files ≡ true
+      → slice_get files (position_or_len is_it files) ≡ Some name
   found files known = sym (find_at is_it files) ∙ go files known
     where
       go : (fs : List (List ℕ)) → list_any is_it fs ≡ true → find is_it fs ≡ Some name
@@ -83,7 +87,8 @@ module _ (name : List ℕ) where
             rw other (ap (λ n. 1 + n) (place-stays files more later))
       ]
 
-  place-new : (files : List (List ℕ)) → list_any is_it files ≡ false → position_or_len is_it files ≡ length files
+  place-new : (files : List (List ℕ)) → list_any is_it files ≡ false
+      → position_or_len is_it files ≡ length files
   place-new [] none = refl
   place-new (f ∷ files) none =
       elim (cases_Bool (bytes_eq f name)) [
@@ -97,15 +102,18 @@ pub file-stays : (name : List ℕ) (files more : List (List ℕ))
     → is_known_file name files ≡ true → file_number name (files ++ more) ≡ file_number name files
 file-stays name files more known = ap (λ n. n + 1) (place-stays name files more known)
 
-pub file-there : (name : List ℕ) (files : List (List ℕ)) → with_number (files_after name files) (file_number name files) ≡ Some name
+pub file-there : (name : List ℕ) (files : List (List ℕ))
+    → with_number (files_after name files) (file_number name files) ≡ Some name
 file-there name files = go (is_known_file name files) refl
   where
-    go : (b : Bool) → is_known_file name files ≡ b → with_number (cond b files (files ++ name ∷ [])) (file_number name files) ≡ Some name
+    go : (b : Bool) → is_known_file name files ≡ b
+        → with_number (cond b files (files ++ name ∷ [])) (file_number name files) ≡ Some name
     go true known = number-next files (position_or_len (is_it name) files) ∙ found name files known
     go false none =
         ap (λ n. with_number (files ++ name ∷ []) (n + 1)) (place-new name files none) ∙ number-added files name
 
-pub files-added : (name : List ℕ) (files : List (List ℕ)) → (more : List (List ℕ)) × (files_after name files ≡ files ++ more)
+pub files-added : (name : List ℕ) (files : List (List ℕ))
+    → (more : List (List ℕ)) × (files_after name files ≡ files ++ more)
 files-added name files = go (is_known_file name files)
   where
     none-more : (fs : List (List ℕ)) → fs ≡ fs ++ []
@@ -122,7 +130,8 @@ abbrev is_other : Reply → Bool
 is_other (Adopted a b) = false
 is_other r = true
 
-orders-later : (start : Start) (later h : List Entry) → (news : List Adoption) × (orders_of start (later ++ h) ≡ news ++ orders_of start h)
+orders-later : (start : Start) (later h : List Entry)
+    → (news : List Adoption) × (orders_of start (later ++ h) ≡ news ++ orders_of start h)
 orders-later start [] h = ([], refl)
 orders-later start (e ∷ later) h =
     let before = orders-later start later h in (
@@ -138,7 +147,8 @@ orders-added start later h =
     (reverse more.0, ap reverse more.1 ∙ reverse-append more.0 (orders_of start h))
 
 pub order-stays : (start : Start) (later h : List Entry) (n : ℕ) (o : Adoption)
-    → with_number (adoptions start h) n ≡ Some o → with_number (adoptions start (later ++ h)) n ≡ Some o
+    → with_number (adoptions start h) n ≡ Some o
+    → with_number (adoptions start (later ++ h)) n ≡ Some o
 order-stays start later h n o is =
     let more = orders-added start later h in
     ap (λ os. with_number os n) more.1 ∙ number-stays (adoptions start h) more.0 n o is
@@ -176,12 +186,12 @@ module _ (s : State) (t : ℕ) (a b : TypeNo) where
   adopts (NoRelease l) ok = absurd (other-reply _ refl (mark_accepted s t l.0 (Adopted a b) ok refl).reply)
   adopts (ReleaseOk l) ok = absurd (other-reply _ refl (mark_accepted s t l.0 (Adopted a b) ok refl).reply)
 
-pub adopted-numbered : (start : Start) (files : List (List ℕ)) (later : List Entry) (e : Entry) (h : List Entry) (a b : TypeNo)
+pub adopted-numbered : (start : Start) (files : List (List ℕ)) (e : Entry) (later h : List Entry) (a b : TypeNo)
     → IsLegal start files (e ∷ h) → e.reply ≡ Adopted a b
     → (origin : Origin)
     × (with_number (adoptions start (later ++ e ∷ h)) (length (orders_of start h) + 1)
     ≡ Some (record { parent = a; child = b; origin = origin }))
-adopted-numbered start files later e h a b legal is =
+adopted-numbered start files e later h a b legal is =
     let made = adopts (state_of (story_after start files h)) e.seat.0 a b e.call (legal.0 ∙ ap Ok is) in
     let o : Adoption = record { parent = a; child = b; origin = made.0 } in
     let now : adoptions start (e ∷ h) ≡ adoptions start h ++ o ∷ []

@@ -1,4 +1,5 @@
--- A legal history tells of named files alone, and is legal over any files of which it tells none that isn't there.
+-- A legal history tells of named files alone, and is legal over any files of which it tells none
+-- that isn't there.
 use Rattle.std.proofs.Common.{◌≡◌, ℕ, ◌≤◌, Bool, true, not, ◌&&◌, cond, nat_lt, nat_le, List, [], ◌∷◌, ◌++◌, length, Result, Ok, Err, refl, ap, sym, ◌∙◌, arith, length-append}
 use Rattle.std.proofs.lemmas.Bool.{and_parts, and_from, leb-true, le-leb}
 use Rattle.wit_model.specs.declared.faults.Fault.{Fault}
@@ -30,7 +31,8 @@ check_with s t q known =
     (cond (is_too_deep s t q.lock.0) (Err RecursionTooDeep)
     (with_room s 3 (verdict s.known s.watch (seat_at s t) q)))))))
 
-file-more : (f n m : ℕ) → (nat_lt 0 f && nat_le f n) ≡ true → n ≤ m → (nat_lt 0 f && nat_le f m) ≡ true
+file-more : (f n m : ℕ) → (nat_lt 0 f && nat_le f n) ≡ true → n ≤ m
+    → (nat_lt 0 f && nat_le f m) ≡ true
 file-more f n m is le =
     let parts = and_parts (nat_lt 0 f) (nat_le f n) is in
     let within = leb-true f n parts.1 in
@@ -73,7 +75,8 @@ try-other start files others h t l m site r there ok =
 
 answer-other : (start : Start) (files others : List (List ℕ)) (h : List Entry) (t : ℕ) (c : Call) (r : Reply)
     → tells_among (length others) c ≡ true
-    → answer_of (story_after start files h) t c ≡ Ok r → answer_of (story_after start others h) t c ≡ Ok r
+    → answer_of (story_after start files h) t c ≡ Ok r
+    → answer_of (story_after start others h) t c ≡ Ok r
 answer-other start files others h t (Init lock) r there ok = ok
 answer-other start files others h t (Check q) r there ok = check-other start files others h t q r there ok
 answer-other start files others h t (Note l) r there ok = ok
@@ -111,14 +114,16 @@ tells-more n m (Check q) le is = file-more q.site.file.0 n m is le
 tells-more n m (NoteTry l mode site) le is = file-more site.file.0 n m is le
 tells-more n m c le is = refl
 
-all_tell-more : (n m : ℕ) (h : List Entry) → n ≤ m → all_tell_among n h ≡ true → all_tell_among m h ≡ true
+all_tell-more : (n m : ℕ) (h : List Entry) → n ≤ m → all_tell_among n h ≡ true
+    → all_tell_among m h ≡ true
 all_tell-more n m [] le all = refl
 all_tell-more n m (x ∷ h) le all =
     let parts = and_parts (tells_among n x.call) (all_tell_among n h) all in
     and_from (tells_among m x.call) (all_tell_among m h) (tells-more n m x.call le parts.0) (all_tell-more n m h le parts.1)
 
 -- one more file
-pub legal-named : (start : Start) (files : List (List ℕ)) (name : List ℕ) (h : List Entry) → IsLegal start files h → IsLegal start (files ++ name ∷ []) h
+pub legal-named : (start : Start) (files : List (List ℕ)) (name : List ℕ) (h : List Entry)
+    → IsLegal start files h → IsLegal start (files ++ name ∷ []) h
 legal-named start files name h legal =
     legal-other start files (files ++ name ∷ []) h legal
     (all_tell-more (length files) (length (files ++ name ∷ [])) h (omega (arith, length-append files (name ∷ [])))

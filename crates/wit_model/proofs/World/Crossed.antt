@@ -24,7 +24,8 @@ begins t =
     ]
 
 -- and so are they where both define an order
-pub defined-begins : (t : ℕ) → IsBeginning (map kept (own t defined_before)) (map kept (own t defined))
+pub defined-begins : (t : ℕ)
+    → IsBeginning (map kept (own t defined_before)) (map kept (own t defined))
 unfolding num
 defined-begins t =
     elim (eqb_tells 1 t) [

@@ -1,5 +1,5 @@
--- What threads do: calls that the verifier logs, and steps of the locks themselves, of which it isn't told. A thread is a seat. Lists of
--- deeds are newest first, as histories are.
+-- What threads do: calls that the verifier logs, and steps of the locks themselves, of which it
+-- isn't told. A thread is a seat. Lists of deeds are newest first, as histories are.
 use Rattle.std.specs.Prelude.{ℕ, ◌+◌, ◌-◌, Bool, ◌&&◌, ◌==◌, List, [], ◌∷◌, ◌++◌, filter, if◌then◌else◌}
 use Rattle.wit_model.specs.declared.locks.Mode.{Mode}
 use Rattle.wit_model.specs.declared.locks.Mode.TheVariants.{Shared, Exclusive}

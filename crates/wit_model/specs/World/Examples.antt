@@ -13,7 +13,11 @@ use Rattle.wit_model.specs.Rules.State.{Start}
 use Rattle.wit_model.specs.World.Deeds.{Deed, Logged, Take, Free}
 
 abbrev pub small : Start
-small = record { sizes = record { seats = 2; types = 8; locks = 16; chunks = 4; log = 16777216 }; lists = []; blessed = [] }
+small = record {
+  sizes = record { seats = 2; types = 8; locks = 16; chunks = 4; log = 16777216 };
+  lists = [];
+  blessed = [];
+}
 
 -- the only file named
 abbrev pub files : List (List ℕ)
@@ -25,15 +29,24 @@ by t call reply = Logged (record { seat = record { 0 = t }; call = call; reply =
 -- thread 1 makes a mutex of this name, whose type has the same
 abbrev makes : List ℕ → ℕ → List Deed
 makes name l =
-    by 1 (Init (record { class = SleepMutex; flags = record { 0 = 0 }; name = name; type_name = None }))
-    (Made (record { 0 = l }))
+    by 1 (Init (record {
+      class = SleepMutex;
+      flags = record { 0 = 0 };
+      name = name;
+      type_name = None;
+    })) (Made (record { 0 = l }))
     ∷ []
 
 abbrev pub at_line : ℕ → Site
 at_line line = record { file = record { 0 = 1 }; line = line }
 
 abbrev pub request : ℕ → ℕ → Request
-request l line = record { lock = record { 0 = l }; site = at_line line; mode = Exclusive; ops = record { 0 = 0x01 } }
+request l line = record {
+  lock = record { 0 = l };
+  site = at_line line;
+  mode = Exclusive;
+  ops = record { 0 = 0x01 };
+}
 
 -- t asks for lock l, and is answered so
 abbrev asks : ℕ → ℕ → ℕ → Reply → List Deed
@@ -41,7 +54,8 @@ asks t l line reply = by t (Check (request l line)) reply ∷ []
 
 -- it asks for it and gets it
 abbrev locks : ℕ → ℕ → ℕ → Reply → List Deed
-locks t l line reply = asks t l line reply ++ Take t l Exclusive ∷ by t (Note (record { 0 = l })) Recorded ∷ []
+locks t l line reply =
+    asks t l line reply ++ Take t l Exclusive ∷ by t (Note (record { 0 = l })) Recorded ∷ []
 
 abbrev unlocks : ℕ → ℕ → List Deed
 unlocks t l = by t (Unlock (record { 0 = l }) Exclusive) Unlocked ∷ Free t l ∷ []
@@ -78,7 +92,8 @@ in_turn =
 abbrev pub crossed : List Deed
 crossed =
     reverse (two_mutexes
-    ++ locks 1 1 1 Pass ++ locks 2 2 3 Pass ++ asks 2 1 4 (learns 2 1) ++ asks 1 2 2 (reverses 1 1 2 2))
+    ++ locks 1 1 1 Pass ++ locks 2 2 3 Pass
+    ++ asks 2 1 4 (learns 2 1) ++ asks 1 2 2 (reverses 1 1 2 2))
 
 -- both take A, and under it B, and free both
 abbrev pub agreed : List Deed

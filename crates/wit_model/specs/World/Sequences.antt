@@ -8,9 +8,10 @@ use Rattle.wit_model.specs.declared.locks.Mode.TheVariants.{Shared, Exclusive}
 use Rattle.wit_model.specs.declared.locks.Watch.TheVariants.{On, Quiet, Off}
 use Rattle.wit_model.specs.declared.calls.Call.TheVariants.{Init, Destroy, Check, Note, NoteTry, GiveUp, Unlock, SetWatch, Upgrade, Downgrade, NoRelease, ReleaseOk, DefineOrder}
 use Rattle.wit_model.specs.declared.calls.Reply.{Reply}
-use Rattle.wit_model.specs.declared.calls.Reply.TheVariants.{Made, Done, Pass, Adopted, Known, Recorded, Unlocked}
+use Rattle.wit_model.specs.declared.calls.Reply.TheVariants.{Made, Done, Pass, Adopted, Known, Recorded, Exhausted, Unrecorded, Unlocked}
+use Rattle.wit_model.specs.Rules.State.{Start}
 use Rattle.wit_model.specs.World.Deeds.{Deed, Take, TryTake, Free, RawUp, RawDown}
-use Rattle.wit_model.specs.World.Examples.{by, at_line}
+use Rattle.wit_model.specs.World.Examples.{small, by, at_line}
 
 -- the deeds of the one list and of the other by turns
 abbrev by_turns : List Deed → List Deed → List Deed
@@ -24,11 +25,16 @@ no l = record { 0 = l }
 -- t makes a reader/writer lock that may be recursed (0x01)
 abbrev makes : ℕ → List ℕ → ℕ → List Deed
 makes t name l =
-    by t (Init (record { class = Rw; flags = record { 0 = 0x01 }; name = name; type_name = None })) (Made (no l)) ∷ []
+    by t (Init (record { class = Rw; flags = record { 0 = 0x01 }; name = name; type_name = None }))
+    (Made (no l))
+    ∷ []
 
 -- t asks for it so, and is let pass
 abbrev asks : ℕ → ℕ → Mode → List Deed
-asks t l mode = by t (Check (record { lock = no l; site = at_line 1; mode = mode; ops = record { 0 = 0x01 } })) Pass ∷ []
+asks t l mode =
+    by t (Check (record { lock = no l; site = at_line 1; mode = mode; ops = record { 0 = 0x01 } }))
+    Pass
+    ∷ []
 
 abbrev notes : ℕ → ℕ → List Deed
 notes t l = by t (Note (no l)) Recorded ∷ []
@@ -58,14 +64,18 @@ recurses t l =
 -- a try is noted, another one isn't, and a request is given up
 abbrev tries : ℕ → ℕ → List Deed
 tries t l =
-    TryTake t l Exclusive ∷ by t (NoteTry (no l) Exclusive (at_line 2)) Recorded ∷ unlocks t l Exclusive ++ Free t l
+    TryTake t l Exclusive ∷ by t (NoteTry (no l) Exclusive (at_line 2)) Recorded
+    ∷ unlocks t l Exclusive ++ Free t l
     ∷ TryTake t l Shared ∷ Free t l
     ∷ asks t l Exclusive ++ by t (GiveUp (no l)) Done ∷ []
 
 -- less is watched and all again, and the order of the two locks is defined
 abbrev settles : ℕ → Reply → List Deed
 settles t reply =
-    by t (SetWatch Quiet) Done ∷ by t (DefineOrder (no 1) (no 2)) reply ∷ by t (SetWatch On) Done ∷ []
+    by t (SetWatch Quiet) Done
+    ∷ by t (DefineOrder (no 1) (no 2)) reply
+    ∷ by t (SetWatch On) Done
+    ∷ []
 
 -- each does all of it, on the one lock or on the other; in the end both locks are destroyed and
 -- nothing is watched any more
@@ -78,3 +88,20 @@ varied =
     ++ by_turns (tries 1 1) (tries 2 2)
     ++ by_turns (by 1 (Destroy (no 1)) Done ∷ []) (by 2 (Destroy (no 2)) Done ∷ [])
     ++ by 1 (SetWatch Off) Done ∷ [])
+
+-- ---- a world in which the chunks run out
+
+abbrev pub scarce : Start
+scarce = record small { sizes = record small.sizes { chunks = 1 } }
+
+-- t asks for the lock and gets it, of which this is recorded
+abbrev takes : ℕ → ℕ → Reply → List Deed
+takes t l reply = asks t l Exclusive ++ Take t l Exclusive ∷ by t (Note (no l)) reply ∷ []
+
+-- the first thread's lock lies in the only chunk; so what the second one takes isn't recorded, nor
+-- anything from then on
+abbrev pub exhausted : List Deed
+exhausted =
+    reverse (by_turns (makes 1 (codes "r") 1) (makes 2 (codes "s") 2)
+    ++ by_turns (takes 1 1 Recorded) (takes 2 2 Exhausted)
+    ++ unlocks 1 1 Exclusive ++ Free 1 1 ∷ takes 1 1 Unrecorded)

@@ -1,9 +1,12 @@
--- In which order a thread does its deeds. It does them in sequences, with none of its own between the parts of one; those of other threads
--- come between at will:
--- a check, then the lock is taken and noted, or the request is given up; a lock that it holds by the record is noted without being taken;
+-- In which order a thread does its deeds. It does them in sequences, with none of its own between
+-- the parts of one; those of other threads come between at will:
+-- a check, then the lock is taken and noted, or the request is given up; a lock that it holds by
+-- the record is noted without being taken;
 -- a try that gets the lock, then its note, or the lock is freed, as where that note is refused;
--- an unlock, then the lock is freed, which is left out only where more acquisitions were recorded than it has shares;
--- a lock is turned exclusive, then its upgrade is logged, or it is turned back, as where that is refused;
+-- an unlock, then the lock is freed, which is left out only where more acquisitions were recorded
+-- than it has shares;
+-- a lock is turned exclusive, then its upgrade is logged, or it is turned back, as where that is
+-- refused;
 -- a downgrade, then the lock is turned shared;
 -- any other logged call.
 use Rattle.std.specs.Prelude.{ℕ, Bool, true, false, not, ◌&&◌, ◌==◌, nat_lt, List, [], ◌∷◌}
@@ -35,7 +38,8 @@ pub data Stage : Type 0 where
 
 abbrev pub stage_logged : ℕ → Call → List Deed → Stage
 stage_logged t (Check q) before = Asked q
-stage_logged t (Unlock l mode) before = Forgot l.0 (nat_lt (shares t l.0 before) (num t l.0 (log_of before)))
+stage_logged t (Unlock l mode) before =
+    Forgot l.0 (nat_lt (shares t l.0 before) (num t l.0 (log_of before)))
 stage_logged t (Downgrade l) before = Lowered l.0
 stage_logged t _ before = Over
 
@@ -77,7 +81,8 @@ call_follows _ held at = is_over at
 -- whether a deed may
 abbrev pub follows : Deed → (ℕ → Bool) → Stage → Bool
 follows (Logged e) held at = call_follows e.call held at
-follows (Take t l mode) held (Asked q) = (q.lock.0 == l) && (is_same_mode q.mode mode && not (held l))
+follows (Take t l mode) held (Asked q) =
+    (q.lock.0 == l) && (is_same_mode q.mode mode && not (held l))
 follows (TryTake t l mode) held at = is_over at
 follows (Free t l) held (Tried m mode) = m == l
 follows (Free t l) held (Forgot m has_fewer) = m == l

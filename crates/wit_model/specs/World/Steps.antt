@@ -1,4 +1,5 @@
--- Worlds: which deed may come next. The verifier answers calls by its rules, and a lock has one exclusive holder or any number of shared ones.
+-- Worlds: which deed may come next. The verifier answers calls by its rules, and a lock has one
+-- exclusive holder or any number of shared ones.
 use Rattle.std.specs.Prelude.{ℕ, ◌<◌, ◌≡◌, Bool, true, false, not, ◌&&◌, ◌||◌, ◌==◌, List, [], ◌∷◌, Ok}
 use Rattle.std.specs.List.{list_all, range_with_len}
 use Rattle.wit_model.specs.declared.locks.Mode.{Mode}
@@ -10,15 +11,17 @@ use Rattle.wit_model.specs.Rules.Step.{answer_of, story_after, is_logged}
 use Rattle.wit_model.specs.World.Deeds.{Deed, Logged, Take, TryTake, Free, RawUp, RawDown, log_of, shares, raw_mode}
 use Rattle.wit_model.specs.World.Stages.{may_follow}
 
--- whether lock l may be had so, where threads count from 1 to this many: exclusive where nobody has it, the asker included, and shared where
--- nobody has it exclusively
+-- whether lock l may be had so, where threads count from 1 to this many: exclusive where nobody has
+-- it, the asker included, and shared where nobody has it exclusively
 abbrev pub admits : ℕ → ℕ → Mode → List Deed → Bool
 admits threads l Exclusive w = list_all (λ t. shares t l w == 0) (range_with_len 1 threads)
-admits threads l Shared w = list_all (λ t. (shares t l w == 0) || not (is_exclusive (raw_mode t l w))) (range_with_len 1 threads)
+admits threads l Shared w =
+    list_all (λ t. (shares t l w == 0) || not (is_exclusive (raw_mode t l w))) (range_with_len 1 threads)
 
 -- whether t has the only share of lock l
 abbrev pub is_alone : ℕ → ℕ → ℕ → List Deed → Bool
-is_alone threads t l w = (shares t l w == 1) && list_all (λ u. (u == t) || (shares u l w == 0)) (range_with_len 1 threads)
+is_alone threads t l w =
+    (shares t l w == 1) && list_all (λ u. (u == t) || (shares u l w == 0)) (range_with_len 1 threads)
 
 -- whether a deed may come next
 abbrev pub CanDo : Start → List (List ℕ) → Deed → List Deed → Type 0
@@ -40,9 +43,12 @@ CanDo start files (RawUp t l) w =
     × (is_alone start.sizes.seats t l w ≡ true)
     × (is_exclusive (raw_mode t l w) ≡ false)
 CanDo start files (RawDown t l) w =
-    (may_follow (RawDown t l) w ≡ true) × (0 < shares t l w) × (is_exclusive (raw_mode t l w) ≡ true)
+    (may_follow (RawDown t l) w ≡ true)
+    × (0 < shares t l w)
+    × (is_exclusive (raw_mode t l w) ≡ true)
 
--- a world over a start, where these files are named: each deed could come when it came. Its log is a legal history
+-- a world over a start, where these files are named: each deed could come when it came. Its log is
+-- a legal history
 abbrev pub IsWorld : Start → List (List ℕ) → List Deed → Type 0
 IsWorld start files [] = Unit {0}
 IsWorld start files (d ∷ w) = CanDo start files d w × IsWorld start files w

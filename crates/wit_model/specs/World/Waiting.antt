@@ -7,8 +7,8 @@ use Rattle.wit_model.specs.Rules.Circles.{IsCircle}
 use Rattle.wit_model.specs.World.Deeds.{Deed, own, log_of, shares, raw_mode}
 use Rattle.wit_model.specs.World.Stages.{Asked, stage}
 
--- the last deed of t is to ask for a lock that it doesn't hold by the record, and u, another thread, has a share of it that bars t, since the
--- one or the other is exclusive
+-- the last deed of t is to ask for a lock that it doesn't hold by the record, and u, another
+-- thread, has a share of it that bars t, since the one or the other is exclusive
 pub record IsWaiting (w : List Deed) (t u : ℕ) : Type 0 where
   pub request : Request
   pub asks : stage t (own t w) ≡ Asked request

@@ -10,6 +10,8 @@ ghost use Rattle.wit_model.specs.HistoryLaws.{
   NamedFilesAreThere,
   FilesKeepNumbers,
   NamesKeepNumbers,
+  ChecksKnowFiles,
+  TriesKnowFiles,
   OrdersAreAdded,
   OrdersKeepNumbers,
   AdoptedAreNumbered,
@@ -39,6 +41,12 @@ pub fn law_files_keep_numbers()
     ensures there { NamedFilesAreThere }
     ensures number { FilesKeepNumbers }
     ensures name { NamesKeepNumbers }
+{}
+
+/// A check or a try that tells a named file isn't refused for its file.
+pub fn law_named_files_known()
+    ensures checks { ChecksKnowFiles }
+    ensures tries { TriesKnowFiles }
 {}
 
 /// Orders are numbered as they were adopted, and each keeps its number in every longer history; a

@@ -12,6 +12,7 @@ ghost use Rattle.wit_model.specs.WorldLaws.{
   AgreedIsWorld,
   AgreedIsClean,
   VariedIsWorld,
+  ExhaustedIsWorld,
   ExclusiveIsAlone,
   WaitersAreBarred,
   BarredOnesWait,
@@ -56,9 +57,11 @@ pub fn law_clean_run()
 /// Every sequence of steps can be done, and every call made, while another thread does its own:
 /// here is a world of two threads with each of them, where the one does something between any two
 /// deeds of the other. Locks are taken shared and exclusively, recursed, turned both ways, tried,
-/// given up, marked and destroyed; an order is defined, and less is watched for a while.
+/// given up, marked and destroyed; an order is defined, and less is watched for a while. They go on
+/// where the chunks run out.
 pub fn law_sequences_run()
-    ensures { VariedIsWorld }
+    ensures all { VariedIsWorld }
+    ensures exhausted { ExhaustedIsWorld }
 {}
 
 /// In every world who has a lock exclusively has it alone, as a mutex of mutex(9), and a writer of
