@@ -30,7 +30,7 @@ use Rattle.wit_core.specs.Kept.{IsTied, start_in, history_in, story_in}
 use Rattle.wit_core.specs.Live.{live_flags}
 use Rattle.wit_core.specs.Seats.{Seat, with_seat}
 use Rattle.wit_core.specs.Turning.{changed, turn_call, mark_call}
-use Rattle.wit_core.proofs.Entries.{accepted, sane_next, within, owed_now, known-now, seats-now, watch-now, left-by, kind-now, room_left}
+use Rattle.wit_core.proofs.Entries.Accepting.{accepted, sane_next, within, owed_now, known-now, seats-now, watch-now, left-by, kind-now, room_left}
 use Rattle.wit_core.proofs.HeldSeats.{flat-changed, numbers-changed, seat}
 use Rattle.wit_core.proofs.Keeping.{Leaves}
 use Rattle.wit_core.proofs.Steps.{known-same, seats-after}

@@ -1,5 +1,5 @@
 -- What a verifier knows, and what its calls add to it.
-use Rattle.std.specs.Prelude.{ℕ, Bool, List, [], ◌++◌, IsOk}
+use Rattle.std.specs.Prelude.{ℕ, ◌<◌, Bool, List, [], ◌++◌, IsOk}
 use Rattle.wit_model.specs.declared.calls.Call.TheVariants.{Init, Check}
 use Rattle.wit_model.specs.declared.calls.NewLock.{NewLock}
 use Rattle.wit_model.specs.declared.calls.Reply.{Reply}
@@ -36,6 +36,14 @@ IsApt n k (Silent a b) = IsNumber n a.0 × IsNumber n b.0
 IsApt n k (Duplicate d) = IsNumber n (lock_at k.locks d.asked.lock.0).type_no.0
 IsApt n k (Reversal c) = IsNumber n (lock_at k.locks c.held.lock.0).type_no.0 × IsNumber n (lock_at k.locks c.asked.lock.0).type_no.0
 IsApt n k _ = Unit {0}
+
+-- memory for n more orders and pairs is enough for what a reply teaches
+abbrev pub IsRoomFor : Reply → ℕ → Type 0
+IsRoomFor (Adopted p c) n = 0 < n
+IsRoomFor (Silent a b) n = 0 < n
+IsRoomFor (Duplicate d) n = 0 < n
+IsRoomFor (Reversal c) n = 0 < n
+IsRoomFor _ n = Unit {0}
 
 -- what is known once a request was answered so
 abbrev pub learnt : Known → Request → Reply → Known

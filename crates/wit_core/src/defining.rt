@@ -1,9 +1,9 @@
 //! What a call that defines an order is answered, and what it teaches.
 
-ghost use Rattle.std.specs.Prelude.{◌≡◌, ◌<◌};
+ghost use Rattle.std.specs.Prelude.{◌≡◌};
 ghost use Rattle.wit_check.specs.Answers.{definition_of, IsDefinition};
 ghost use Rattle.wit_core.specs.Defining.{with_defined};
-ghost use Rattle.wit_core.specs.Known.{IsApt};
+ghost use Rattle.wit_core.specs.Known.{IsApt, IsRoomFor};
 
 use crate::known::Known;
 use wit_check::Verdict;
@@ -28,7 +28,7 @@ impl Known {
     /// Adopts the order that a reply to its definition tells, where it tells one. It takes no memory.
     pub fn define(&mut self, reply: &Reply)
         requires apt { IsApt self.old.most_types self.old.known reply.now }
-        requires room { 0 < self.old.spare }
+        requires room { IsRoomFor reply.now self.old.spare }
         ensures { self.new ≡ record self.old { known = with_defined self.old.known reply.now; spare = self.new.spare } }
     {
         if let Reply::Adopted(parent, child) = reply {

@@ -9,7 +9,7 @@ ghost use Rattle.wit_model.specs.Rules.Locks.{lock_at};
 ghost use Rattle.wit_model.specs.Rules.Numbers.{with_number, with_changed, IsGiven};
 ghost use Rattle.wit_model.specs.Rules.Refusals.{IsRefusal};
 ghost use Rattle.wit_core.specs.Live.{is_flagged, live_count};
-ghost use Rattle.wit_core.specs.Known.{nothing, learnt, with_lock, IsApt, IsAdmitted};
+ghost use Rattle.wit_core.specs.Known.{nothing, learnt, with_lock, IsApt, IsRoomFor, IsAdmitted};
 
 use crate::orders::Orders;
 use std::alloc::{AllocError, Global};
@@ -139,22 +139,26 @@ impl Known {
         self.names.file(name)
     }
 
-    /// Makes room for what one reply tells.
+    /// Makes room for what a reply tells, where it tells of an order or of a pair.
     ///
     /// # Errors
     /// Want of memory alone.
-    pub fn make_room(&mut self) -> Result<(), AllocError>
+    pub fn make_room(&mut self, reply: &Reply) -> Result<(), AllocError>
         ensures same { self.new ≡ record self.old { spare = self.new.spare } }
-        ensures ok { OnOk result (0 < self.new.spare) }
+        ensures ok { OnOk result (IsRoomFor reply.now self.new.spare) }
     {
-        self.orders.make_room(1)
+        match reply {
+            Reply::Adopted(_, _) | Reply::Silent(_, _) | Reply::Duplicate(_) | Reply::Reversal(_) =>
+                self.orders.make_room(1),
+            _ => Ok(()),
+        }
     }
 
     /// Learns what the reply to a request tells: the order behind the last held lock, or a pair of types found in violation. It takes
     /// no memory.
     pub fn learn(&mut self, request: Request, reply: &Reply)
         requires apt { IsApt self.old.most_types self.old.known reply.now }
-        requires room { 0 < self.old.spare }
+        requires room { IsRoomFor reply.now self.old.spare }
         ensures { self.new ≡ record self.old { known = learnt self.old.known request reply.now; spare = self.new.spare } }
     {
         match reply {

@@ -110,7 +110,7 @@ impl Verifier {
         let reply = reply_to(self.alloc, verdict)?;
         let kept = reply.share()?;
         self.log.reserve(3)?;
-        self.known.make_room()?;
+        self.known.make_room(&reply)?;
         self.known.learn(request, &reply);
         self.seats.ask(seat, request);
         let entry = Entry {

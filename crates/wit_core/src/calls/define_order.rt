@@ -85,7 +85,7 @@ impl Verifier {
     {
         let kept = reply.share()?;
         self.log.reserve(1)?;
-        self.known.make_room()?;
+        self.known.make_room(&reply)?;
         self.known.define(&reply);
         let entry = Entry {
             seat,

@@ -3,7 +3,8 @@ use Rattle.wit_model.specs.declared.calls.Call.TheVariants.{Check}
 use Rattle.wit_model.proofs.Chains.Seats.{entry}
 use Rattle.wit_core.specs.Known.{Facts, learnt, IsApt}
 use Rattle.wit_core.proofs.Keeping.{kept_entered, log_after}
-use Rattle.wit_core.proofs.Entries.{accepted, given, check_room, leaves_check}
+use Rattle.wit_core.proofs.Entries.Accepting.{accepted, given}
+use Rattle.wit_core.proofs.Entries.Checking.{check_room, leaves_check}
 use Rattle.wit_core.proofs.Taught.{apt}
 use Rattle.wit_core.proofs.Told.{told-logged, told-watch}
 use Rattle.wit_core.proofs.Whole.{kept, kept_roomy}

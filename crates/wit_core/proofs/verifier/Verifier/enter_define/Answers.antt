@@ -5,7 +5,9 @@ use Rattle.wit_core.specs.Defining.{with_defined}
 use Rattle.wit_core.specs.Known.{Facts, IsApt}
 use Rattle.wit_core.proofs.Keeping.{kept_entered, log_after}
 use Rattle.wit_core.proofs.Taught.{definable, defined-reply}
-use Rattle.wit_core.proofs.Entries.{accepted, plain_room, leaves_define}
+use Rattle.wit_core.proofs.Entries.Accepting.{accepted}
+use Rattle.wit_core.proofs.Entries.Defining.{leaves_define}
+use Rattle.wit_core.proofs.Entries.Plain.{plain_room}
 use Rattle.wit_core.proofs.Whole.{kept, kept_roomy}
 use Rattle.wit_core.proofs.verifier.Verifier.enter_define.Goals as goal
 

@@ -2,7 +2,9 @@ use Rattle.std.proofs.Common.{refl}
 use Rattle.wit_model.specs.declared.calls.Call.TheVariants.{Destroy}
 use Rattle.wit_model.specs.declared.calls.Reply.TheVariants.{Done}
 use Rattle.wit_core.proofs.Keeping.{kept_entered, log_after}
-use Rattle.wit_core.proofs.Entries.{accepted, plain_room, destroyed_live, destroyed_typed, leaves_destroy}
+use Rattle.wit_core.proofs.Entries.Accepting.{accepted}
+use Rattle.wit_core.proofs.Entries.Destroying.{destroyed_live, destroyed_typed, leaves_destroy}
+use Rattle.wit_core.proofs.Entries.Plain.{plain_room}
 use Rattle.wit_core.proofs.Whole.{kept}
 use Rattle.wit_core.proofs.verifier.Verifier.enter_destroy.Goals as goal
 

@@ -2,7 +2,8 @@ use Rattle.std.proofs.Common.{refl}
 use Rattle.wit_model.specs.declared.calls.Call.TheVariants.{GiveUp}
 use Rattle.wit_model.specs.declared.calls.Reply.TheVariants.{Done}
 use Rattle.wit_core.proofs.Keeping.{kept_entered}
-use Rattle.wit_core.proofs.Entries.{accepted, given, give_up_owed, leaves_give_up}
+use Rattle.wit_core.proofs.Entries.Accepting.{accepted, given}
+use Rattle.wit_core.proofs.Entries.GivingUp.{give_up_owed, leaves_give_up}
 use Rattle.wit_core.proofs.Whole.{kept}
 use Rattle.wit_core.proofs.verifier.Verifier.enter_give_up.Goals as goal
 

@@ -4,7 +4,8 @@ use Rattle.wit_model.specs.declared.calls.NewLock.{NewLock}
 use Rattle.wit_core.specs.Known.{Facts, with_lock, IsAdmitted}
 use Rattle.wit_model.specs.declared.calls.Reply.TheVariants.{Made}
 use Rattle.wit_core.proofs.Keeping.{kept_entered, log_after}
-use Rattle.wit_core.proofs.Entries.{accepted, admitted, init_few, init_room, leaves_init}
+use Rattle.wit_core.proofs.Entries.Accepting.{accepted}
+use Rattle.wit_core.proofs.Entries.Making.{admitted, init_few, init_room, leaves_init}
 use Rattle.wit_core.proofs.Whole.{kept, kept_roomy}
 use Rattle.wit_core.proofs.verifier.Verifier.enter_init.Goals as goal
 

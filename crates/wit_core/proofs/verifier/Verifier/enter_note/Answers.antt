@@ -5,7 +5,8 @@ use Rattle.wit_model.specs.declared.calls.Call.TheVariants.{Note}
 use Rattle.wit_core.specs.Acquiring.{reply_to}
 use Rattle.wit_core.specs.Seats.{Row, with_seat, asking}
 use Rattle.wit_core.proofs.Keeping.{kept_entered, noted_log}
-use Rattle.wit_core.proofs.Entries.{accepted, given, given-then, reply-logged, reply-told, acquire_once, note_shallow, note_owed, leaves_note}
+use Rattle.wit_core.proofs.Entries.Accepting.{accepted, given}
+use Rattle.wit_core.proofs.Entries.Acquiring.{given-then, reply-logged, reply-told, acquire_once, note_shallow, note_owed, leaves_note}
 use Rattle.wit_core.proofs.Whole.{kept}
 use Rattle.wit_core.proofs.verifier.Verifier.enter_note.Goals as goal
 

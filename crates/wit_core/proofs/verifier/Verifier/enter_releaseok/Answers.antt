@@ -3,7 +3,8 @@ use Rattle.wit_model.specs.Rules.Types.{is_spin}
 use Rattle.wit_model.specs.declared.calls.Call.TheVariants.{ReleaseOk}
 use Rattle.wit_model.specs.declared.calls.Reply.TheVariants.{Done}
 use Rattle.wit_core.proofs.Keeping.{kept_entered, log_after}
-use Rattle.wit_core.proofs.Entries.{accepted, given, acquire_once}
+use Rattle.wit_core.proofs.Entries.Accepting.{accepted, given}
+use Rattle.wit_core.proofs.Entries.Acquiring.{acquire_once}
 use Rattle.wit_core.proofs.Turning.{mark_room, leaves_mark}
 use Rattle.wit_core.proofs.Whole.{kept}
 use Rattle.wit_core.proofs.verifier.Verifier.enter_releaseok.Goals as goal

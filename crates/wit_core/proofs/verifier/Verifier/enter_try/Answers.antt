@@ -3,7 +3,8 @@ use Rattle.wit_model.specs.Rules.Types.{is_spin}
 use Rattle.wit_model.specs.declared.calls.Call.TheVariants.{NoteTry}
 use Rattle.wit_core.specs.Acquiring.{reply_to}
 use Rattle.wit_core.proofs.Keeping.{kept_entered, log_after, tried_log}
-use Rattle.wit_core.proofs.Entries.{accepted, given, owed-few, reply-logged, reply-told, acquire_once, try_shallow, try_room, leaves_try}
+use Rattle.wit_core.proofs.Entries.Accepting.{accepted, given}
+use Rattle.wit_core.proofs.Entries.Acquiring.{owed-few, reply-logged, reply-told, acquire_once, try_shallow, try_room, leaves_try}
 use Rattle.wit_core.proofs.Whole.{kept}
 use Rattle.wit_core.proofs.verifier.Verifier.enter_try.Goals as goal
 

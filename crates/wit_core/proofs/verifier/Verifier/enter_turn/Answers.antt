@@ -3,7 +3,8 @@ use Rattle.wit_model.specs.Rules.Types.{is_spin}
 use Rattle.wit_model.specs.declared.calls.Reply.TheVariants.{Done}
 use Rattle.wit_core.specs.Turning.{turn_call}
 use Rattle.wit_core.proofs.Keeping.{kept_entered, log_after, tried_log}
-use Rattle.wit_core.proofs.Entries.{accepted, given, acquire_once}
+use Rattle.wit_core.proofs.Entries.Accepting.{accepted, given}
+use Rattle.wit_core.proofs.Entries.Acquiring.{acquire_once}
 use Rattle.wit_core.proofs.Turning.{turn_room, leaves_turn}
 use Rattle.wit_core.proofs.Whole.{kept}
 use Rattle.wit_core.proofs.verifier.Verifier.enter_turn.Goals as goal

@@ -2,7 +2,8 @@ use Rattle.std.proofs.Common.{refl}
 use Rattle.wit_model.specs.declared.calls.Call.TheVariants.{SetWatch}
 use Rattle.wit_model.specs.declared.calls.Reply.TheVariants.{Done}
 use Rattle.wit_core.proofs.Keeping.{kept_entered, log_after}
-use Rattle.wit_core.proofs.Entries.{accepted, watch_room, leaves_watch}
+use Rattle.wit_core.proofs.Entries.Accepting.{accepted}
+use Rattle.wit_core.proofs.Entries.Watching.{watch_room, leaves_watch}
 use Rattle.wit_core.proofs.Whole.{kept}
 use Rattle.wit_core.proofs.verifier.Verifier.enter_watch.Goals as goal
 

@@ -1,4 +1,4 @@
-use Rattle.wit_core.proofs.Entries.{file_named, kept_file}
+use Rattle.wit_core.proofs.Entries.Naming.{file_named, kept_file}
 use Rattle.wit_core.proofs.Whole.{kept}
 use Rattle.wit_core.proofs.verifier.Verifier.file.Goals as goal
 

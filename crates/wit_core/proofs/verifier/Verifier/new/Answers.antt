@@ -3,7 +3,7 @@ use Rattle.wit_core.specs.Fresh.{start_of}
 use Rattle.wit_core.specs.Seats.{idle_row}
 use Rattle.std.proofs.lemmas.Result.{err_from_is_err_and}
 use Rattle.wit_core.proofs.Entering.{start-unmade, lists-refused, pairs-refused, all-accepted, is-begun}
-use Rattle.wit_core.proofs.Entries.{kept_begun}
+use Rattle.wit_core.proofs.Entries.Beginning.{kept_begun}
 use Rattle.wit_core.proofs.Whole.{kept}
 use Rattle.wit_core.proofs.verifier.Verifier.new.Goals as goal
 

@@ -8,7 +8,8 @@ use Rattle.wit_model.specs.declared.calls.Reply.TheVariants.{Unlocked}
 use Rattle.wit_held.specs.Releases.{release_reply}
 use Rattle.wit_core.proofs.Keeping.{kept_entered}
 use Rattle.wit_core.proofs.Now.{once-now}
-use Rattle.wit_core.proofs.Entries.{accepted, unlock_owed, leaves_unlock}
+use Rattle.wit_core.proofs.Entries.Accepting.{accepted}
+use Rattle.wit_core.proofs.Entries.Unlocking.{unlock_owed, leaves_unlock}
 use Rattle.wit_core.proofs.Releasing.{release-told}
 use Rattle.wit_core.proofs.Whole.{kept}
 use Rattle.wit_core.proofs.verifier.Verifier.release.Goals as goal

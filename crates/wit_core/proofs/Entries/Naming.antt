@@ -1,0 +1,53 @@
+-- A file that is named.
+use Rattle.std.proofs.Common.{◌≡◌, ℕ, ◌+◌, ◌-◌, Bool, true, false, cond, List, [], ◌∷◌, ◌++◌, Ok, Err, Result, IfOk, IfErr, OnOk, OnErr, length, sym, ap, subst}
+use Rattle.wit_model.specs.declared.faults.Fault.{Fault}
+use Rattle.wit_model.specs.declared.faults.Fault.TheVariants.{OutOfMemory}
+use Rattle.wit_model.specs.declared.locks.FileNo.{FileNo}
+use Rattle.wit_model.specs.declared.calls.Entry.{Entry}
+use Rattle.wit_model.specs.Rules.Refusals.{IsRefusal}
+use Rattle.wit_model.specs.Rules.Files.{is_known_file, file_answer, files_after, NamesFile}
+use Rattle.wit_model.specs.Rules.State.{Start, State, owed}
+use Rattle.wit_model.specs.Rules.Step.{IsLegal}
+use Rattle.wit_model.proofs.Histories.NamedFiles.{legal-named}
+use Rattle.wit_core.specs.declared.verifier.Verifier.TheInside.{Inside}
+use Rattle.wit_core.specs.Kept.{IsTied, start_in, history_in, story_in}
+use Rattle.wit_core.specs.Known.{Facts}
+
+-- a verifier that knows this
+abbrev pub with_known : Inside → Facts → Inside
+with_known v new = record v { known = new }
+
+-- the story of a naming
+pub file_named : (v : Inside) (name : List ℕ) (r : Result FileNo Fault) (new : Facts)
+    → IfOk r (λ f. file_answer name 65535 v.known.files ≡ Ok f.0)
+    → OnOk r (new ≡ record v.known { files = files_after name v.known.files })
+    → IfErr r (IsRefusal (file_answer name 65535 v.known.files))
+    → IfErr r (λ e. e ≡ OutOfMemory → is_known_file name v.known.files ≡ false)
+    → OnErr r (new ≡ v.known)
+    → NamesFile (story_in v) name r (story_in (with_known v new))
+file_named v name (Ok f) new ok entered err absent same = (ok, ap (λ n. story_in (with_known v n)) entered)
+file_named v name (Err fault) new ok entered err absent same = (err, absent, ap (λ n. story_in (with_known v n)) same)
+
+-- a naming that is accepted leaves the history legal
+files_legal : (start : Start) (h : List Entry) (old : List (List ℕ)) (name : List ℕ) → IsLegal start old h → IsLegal start (files_after name old) h
+files_legal start h old name legal = go (is_known_file name old)
+  where
+    go : (b : Bool) → IsLegal start (cond b old (old ++ name ∷ [])) h
+    go true = legal
+    go false = legal-named start old name h legal
+
+-- naming a file keeps the invariant
+pub kept_file : (v : Inside) (name : List ℕ) (r : Result FileNo Fault) (new : Facts) → IsTied v
+    → OnOk r (new ≡ record v.known { files = files_after name v.known.files }) → OnErr r (new ≡ v.known) → IsTied (with_known v new)
+kept_file v name (Ok f) new k entered same =
+    subst (λ n. IsTied (with_known v n)) (sym entered) (record {
+      started = k.started;
+      legal = files_legal (start_in v) (history_in v) v.known.files name k.legal;
+      state = ap (λ (s : State). record s { files = length (files_after name v.known.files) }) k.state;
+      live = k.live;
+      owed = k.owed;
+      limit = k.limit;
+      types = k.types;
+      chunks = k.chunks;
+    })
+kept_file v name (Err fault) new k entered same = subst (λ n. IsTied (with_known v n)) (sym same) k
