@@ -17,6 +17,7 @@ pub mod Numbers
 pub mod Orders
 pub mod Questions
 pub mod Refusals
+pub mod Rows
 pub mod SeatGroups
 pub mod Sizes
 pub mod Start
