@@ -2,9 +2,10 @@
 use Rattle.std.specs.Prelude.{ℕ, ◌≡◌, ◌⊎◌, List, Option, Ok}
 use Rattle.std.specs.Io.KnownBytes.{Keeps}
 use Rattle.wit_model.specs.declared.lines.View.{View}
-use Rattle.wit_trace.specs.Replays.{Shows}
+use Rattle.wit_model.specs.Trace.Output.{Unstarted}
+use Rattle.wit_trace.specs.Replays.{Shows, ShowsFrom}
 use Rattle.wit_trace.specs.Status.{exit_status}
-use Rattle.wit_trace.specs.Stream.{WritesOutput, WritesFront}
+use Rattle.wit_trace.specs.Stream.{WritesOutput, WritesFront, WritesLines}
 use Rattle.wit_trace.specs.declared.summary.Summary.{Summary}
 
 -- the whole of what the view shows of the input was written, and this is its status
@@ -17,3 +18,8 @@ pub record IsShown (view : View) (read written_old written_new : Option (List �
 abbrev pub IsCutShort : View → Option (List ℕ) → Option (List ℕ) → Option (List ℕ) → Type 0
 IsCutShort view read written_old written_new =
     Keeps written_old written_new ⊎ WritesFront (Shows view) read written_old written_new
+
+-- the text of every whole line that was taken from the input was written, no less, whatever is left of it
+pub record TellsLines (view : View) (read written_old written_new : Option (List ℕ)) : Type 0 where
+  pub left : Option (List ℕ)
+  pub told : WritesLines (ShowsFrom view) Unstarted read left written_old written_new

@@ -14,7 +14,7 @@ use wit_trace::ReplayError;
 
 fn main(rt: HostRuntime) -> ExitCode {
     let (mut output, mut complaints) = (rt.stdout(), rt.stderr());
-    ExitCode::from(match words_of(&rt, rt.alloc()) {
+    let ended = match words_of(&rt, rt.alloc()) {
         Ok(words) => run(
             rt.alloc(),
             words.as_slice(),
@@ -22,6 +22,10 @@ fn main(rt: HostRuntime) -> ExitCode {
             &mut output,
             &mut complaints,
         ),
-        Err(error) => fail(&mut complaints, &ReplayError::from(error)),
+        Err(error) => Err(ReplayError::from(error)),
+    };
+    ExitCode::from(match ended {
+        Ok(status) => status,
+        Err(error) => fail(&mut complaints, &error),
     })
 }

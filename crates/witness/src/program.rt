@@ -1,65 +1,72 @@
 //! What the program does: its words, its streams and its exit status.
 
-ghost use Rattle.std.specs.Prelude.{◌≡◌, ◌≢◌, ◌⊎◌, IfOk, OnErr, None, Some};
+ghost use Rattle.std.specs.Prelude.{◌≡◌, ◌≢◌, ◌⊎◌, Ok, Err, IfOk, OnErr, None, Some};
 ghost use Rattle.std.specs.Io.KnownBytes.{Keeps};
 ghost use Rattle.wit_trace.specs.Replays.{Shows};
 ghost use Rattle.wit_trace.specs.Stream.{WritesOutput};
 ghost use Rattle.witness.specs.CommandLine.{asked, bytes_of};
-ghost use Rattle.witness.specs.Program.{IsCutShort, IsShown};
+ghost use Rattle.wit_trace.specs.declared.summary.ReplayError.TheVariants as ReplayError;
+ghost use Rattle.wit_trace.specs.declared.summary.ReplayError.TheVariants.{Memory};
+ghost use Rattle.witness.specs.Program.{IsCutShort, IsShown, TellsLines};
 
 use crate::command_line::asked_view;
-use crate::complaints::{fail, refuse};
+use crate::complaints::refuse;
 use std::alloc::Global;
 use std::io::{BufReader, Read, Write};
 use wit_model::View;
 use wit_trace::{ReplayError, Summary, replay, status_of};
 
 /// Runs the program on the words behind its name, and gives its exit status: where they ask for a view of
-/// the input, the status of the replay, else 2. Where memory runs out before the first line is read, it
-/// is 4.
+/// the input, that of the replay, else 2.
 ///
 /// Only the input is read through a buffer: what is written is in the output when this returns. What goes
-/// to `complaints` is how the program is used, at status 2, or why the replay failed, at status 4.
+/// to `complaints` is how the program is used, at status 2, and nothing else.
+///
+/// # Errors
+/// Those of `replay`; and `Memory` where memory runs out before the first line is read. What was written is then a
+/// beginning of the output; where the reader failed it is the text of every whole line that was taken.
 pub fn run<R: Read + Drop, W: Write, E: Write>(
     alloc: Global,
     words: &[Vec<u8>],
     input: R,
     output: &mut W,
     complaints: &mut E,
-) -> u8
-    ensures usage { asked (bytes_of words.now) ≡ None → (result ≡ 2) ⊎ (result ≡ 4) }
+) -> Result<u8, ReplayError>
+    ensures usage { asked (bytes_of words.now) ≡ None → (result ≡ Ok 2) ⊎ (result ≡ Err Memory) }
     ensures unread { asked (bytes_of words.now) ≡ None → Keeps (W.contents output.old) (W.contents output.new) }
-    ensures shown { (view : View) → asked (bytes_of words.now) ≡ Some view → result ≢ 4
-        → IsShown view (R.remaining input) (W.contents output.old) (W.contents output.new) result }
-    ensures cut_short { (view : View) → asked (bytes_of words.now) ≡ Some view → result ≡ 4
-        → IsCutShort view (R.remaining input) (W.contents output.old) (W.contents output.new) }
-    ensures quiet { result ≢ 2 → result ≢ 4 → Keeps (E.contents complaints.old) (E.contents complaints.new) }
+    ensures shown { (view : View) → asked (bytes_of words.now) ≡ Some view
+        → IfOk result (IsShown view (R.remaining input) (W.contents output.old) (W.contents output.new)) }
+    ensures cut_short { (view : View) → asked (bytes_of words.now) ≡ Some view
+        → OnErr result (IsCutShort view (R.remaining input) (W.contents output.old) (W.contents output.new)) }
+    ensures told { (view : View) → asked (bytes_of words.now) ≡ Some view → result ≡ Err ReplayError.Read
+        → TellsLines view (R.remaining input) (W.contents output.old) (W.contents output.new) }
+    ensures quiet { result ≢ Ok 2 → Keeps (E.contents complaints.old) (E.contents complaints.new) }
 {
     match asked_view(alloc, words) {
-        Ok(Some(view)) => show(alloc, view, input, output, complaints),
-        Ok(None) => refuse(complaints),
-        Err(error) => fail(complaints, &ReplayError::from(error)),
+        Ok(Some(view)) => show(alloc, view, input, output),
+        Ok(None) => Ok(refuse(complaints)),
+        Err(error) => Err(ReplayError::from(error)),
     }
 }
 
 // Shows a view of the input, and gives the status.
-fn show<R: Read + Drop, W: Write, E: Write>(
+fn show<R: Read + Drop, W: Write>(
     alloc: Global,
     view: View,
     input: R,
     output: &mut W,
-    complaints: &mut E,
-) -> u8
-    ensures shown { result ≢ 4
-        → IsShown view (R.remaining input) (W.contents output.old) (W.contents output.new) result }
-    ensures cut_short { result ≡ 4
-        → IsCutShort view (R.remaining input) (W.contents output.old) (W.contents output.new) }
-    ensures quiet { result ≢ 4 → Keeps (E.contents complaints.old) (E.contents complaints.new) }
+) -> Result<u8, ReplayError>
+    ensures shown { IfOk result (IsShown view (R.remaining input) (W.contents output.old) (W.contents output.new)) }
+    ensures cut_short { OnErr result (IsCutShort view
+        (R.remaining input) (W.contents output.old) (W.contents output.new)) }
+    ensures told { result ≡ Err ReplayError.Read → TellsLines view
+        (R.remaining input) (W.contents output.old) (W.contents output.new) }
 {
     let outcome = replay_through_buffer(alloc, view, input, output);
-    match &outcome {
-        Ok(_) => status_of(view, &outcome),
-        Err(error) => fail(complaints, error),
+    let status = status_of(view, &outcome);
+    match outcome {
+        Ok(_) => Ok(status),
+        Err(error) => Err(error),
     }
 }
 
@@ -74,6 +81,8 @@ fn replay_through_buffer<R: Read + Drop, W: Write>(
         (R.remaining input) (W.contents output.old) (W.contents output.new)) }
     ensures err { OnErr result (IsCutShort view
         (R.remaining input) (W.contents output.old) (W.contents output.new)) }
+    ensures told { result ≡ Err ReplayError.Read → TellsLines view
+        (R.remaining input) (W.contents output.old) (W.contents output.new) }
 {
     match BufReader::new(alloc, input) {
         Ok(mut reader) => replay(alloc, &mut reader, output, view),
