@@ -8,7 +8,7 @@ use Rattle.std.proofs.lemmas.List.FromFn.{length-map-range_with_len}
 use Rattle.wit_model.specs.declared.chunks.Spot.{Spot}
 use Rattle.wit_model.specs.declared.locks.Instance.{Instance}
 use Rattle.wit_model.specs.declared.locks.Lock.{Lock}
-use Rattle.wit_model.specs.Rules.Chunks.{Chunks, IsSpot, groups_of, group_of, list_of, upto}
+use Rattle.wit_model.specs.Rules.Chunks.{Chunks, groups_of, group_of, list_of}
 use Rattle.wit_model.specs.Rules.Groups.{flat}
 use Rattle.wit_model.specs.Rules.History.{chain}
 use Rattle.wit_model.specs.Rules.Locks.{lock_at}

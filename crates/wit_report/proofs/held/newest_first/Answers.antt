@@ -20,16 +20,16 @@ pub loop-spot-init : goal.loop-spot-init
 loop-spot-init c = (
   c.newest-spot.ensures.spot,
   c.new-held.ensures.items
-  ∙ sym (ap (λ (e : List Instance). reverse e) (flat-newest (groups_of c.chunks-lists.result.now c.list_of-list.result) (upto c.newest-spot.result) c.newest-spot.ensures.all)),
+      ∙ sym (ap (λ (e : List Instance). reverse e) (flat-newest (groups_of c.chunks-lists.result.now c.list_of-list.result) (upto c.newest-spot.result) c.newest-spot.ensures.all)),
 )
 
 pub loop-spot-preserved : goal.loop-spot-preserved
 loop-spot-preserved c = (
   c.older-spot.ensures.spot,
   c.in_ok-add_group.ensures
-  ∙ ap₂ (λ (e f : List Instance). e ++ reverse f) c.loop-spot.invariant.1 c.group.ensures
-  ∙ sym (reversed-more c.chunks-lists.result.now c.list_of-list.result c.loop-spot.spot c.in-Some.at c.in-Some.is c.loop-spot.invariant.0
-  (upto c.older-spot.result) c.older-spot.ensures.before),
+      ∙ ap₂ (λ (e f : List Instance). e ++ reverse f) c.loop-spot.invariant.1 c.group.ensures
+      ∙ sym (reversed-more c.chunks-lists.result.now c.list_of-list.result c.loop-spot.spot c.in-Some.at c.in-Some.is c.loop-spot.invariant.0
+      (upto c.older-spot.result) c.older-spot.ensures.before),
 )
 
 pub returns : goal.returns
