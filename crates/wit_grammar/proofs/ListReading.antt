@@ -4,7 +4,7 @@ use Rattle.std.proofs.lemmas.Bool.{ne_eqb, eq-eqb}
 use Rattle.wit_model.specs.declared.locks.Class.{Class}
 use Rattle.wit_model.specs.Trace.Reading.{◌>>=◌, whole, repeated, type_at, list_of}
 use Rattle.wit_model.proofs.Spelling.Codecs.{bind_some, some_is, chosen}
-use Rattle.wit_model.proofs.Spelling.Laws.{type_shorter}
+use Rattle.wit_model.proofs.Spelling.Kinds.{type_shorter}
 
 abbrev Types : Type 0
 Types = List (Class × List ℕ)

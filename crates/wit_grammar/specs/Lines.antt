@@ -1,20 +1,21 @@
 -- What the reader of a line answers.
-use Rattle.std.specs.Prelude.{◌≡◌, ◌≢◌, ◌<◌, ◌≤◌, ℕ, List, length, codes, Option, Some, None, Result, Ok, Err}
+use Rattle.std.specs.Prelude.{◌≡◌, ◌≢◌, ◌<◌, ◌≤◌, ℕ, List, [], ◌∷◌, length, Option, Some, None, Result, Ok, Err}
+use Rattle.std.specs.Borrow.{Bor}
 use Rattle.wit_model.specs.declared.faults.Fault.{Fault}
 use Rattle.wit_model.specs.declared.faults.Fault.TheVariants.{OutOfMemory}
 use Rattle.wit_model.specs.declared.lines.Line.{Line}
-use Rattle.wit_model.specs.declared.lines.Line.TheVariants.{Header, Order, Bless, Check, Lock, Try, GiveUp, Unlock}
+use Rattle.wit_model.specs.declared.lines.Line.TheVariants.{Header, Order, Bless, OnLock}
+use Rattle.wit_model.specs.declared.lines.LockLine.{LockLine}
+use Rattle.wit_model.specs.declared.lines.LockLine.TheVariants.{Check, Try, Unlock, Plain}
+use Rattle.wit_model.specs.declared.lines.Keyword.{Keyword}
+use Rattle.wit_model.specs.declared.lines.Keyword.TheVariants as keyword
 use Rattle.wit_model.specs.declared.lines.Cause.{Cause}
 use Rattle.wit_model.specs.declared.lines.Cause.TheVariants.{Long, Syntax, Cut, Limit}
 use Rattle.wit_model.specs.declared.lines.Cause.TheVariants as why
-use Rattle.wit_model.specs.Trace.Reading.{◌>>=◌, number_of, until}
-use Rattle.wit_model.specs.Trace.Spelling.{Spells, IsSpellable, spelling}
+use Rattle.wit_model.specs.Trace.Reading.{◌>>=◌, named, number_of, until}
+use Rattle.wit_model.specs.Trace.Spelling.{Spells, IsSpellable, keyword_text, spelling}
 use Rattle.wit_grammar.specs.declared.errors.LineError.{LineError}
 use Rattle.wit_grammar.specs.declared.errors.LineError.TheVariants.{Bad, Memory}
-use Rattle.wit_grammar.specs.declared.lock_lines.Keyword.{Keyword}
-use Rattle.wit_grammar.specs.declared.lock_lines.Keyword.TheVariants as keyword
-use Rattle.wit_grammar.specs.declared.lock_lines.LockLine.{LockLine}
-use Rattle.wit_grammar.specs.declared.lock_lines.LockLine.TheVariants as lock_line
 use Rattle.wit_grammar.specs.declared.parse.TheConstants.{LONGEST}
 
 -- `Bad` where nothing is there to read, and with no cause but `Syntax`
@@ -34,23 +35,19 @@ Finds view None read = Unit {0}
 
 -- the number that stands up to the next space, and what follows it
 abbrev pub leading_number : ℕ → List ℕ → Option (ℕ × List ℕ)
-leading_number bound bytes = number_of bound (until 32 bytes).0 >>= λ number. Some (number, (until 32 bytes).1)
+leading_number bound bytes =
+    number_of bound (until 32 bytes).0 >>= λ number. Some (number, (until 32 bytes).1)
 
--- the word of a call on a lock
-abbrev pub word_of : Keyword → List ℕ
-word_of keyword.Check = codes "check"
-word_of keyword.Lock = codes "lock"
-word_of keyword.Unlock = codes "unlock"
-word_of keyword.Try = codes "try"
-word_of keyword.GiveUp = codes "giveup"
+-- the keyword of the header, where the word is that
+abbrev pub header_keyword : List ℕ → Option Keyword
+header_keyword = named keyword_text (keyword.Header ∷ [])
 
--- the line by itself
-abbrev pub as_line : LockLine → Line
-as_line (lock_line.Check seat lock mode ops file line) = Check seat lock mode ops file.now line
-as_line (lock_line.Lock seat lock) = Lock seat lock
-as_line (lock_line.Try seat lock mode file line) = Try seat lock mode file.now line
-as_line (lock_line.GiveUp seat lock) = GiveUp seat lock
-as_line (lock_line.Unlock seat lock mode) = Unlock seat lock mode
+-- a line on a lock by itself, its file named by text
+abbrev pub as_line : LockLine (Bor (List ℕ)) → Line
+as_line (Check seat lock mode ops file line) = OnLock (Check seat lock mode ops file.now line)
+as_line (Try seat lock mode file line) = OnLock (Try seat lock mode file.now line)
+as_line (Unlock seat lock mode) = OnLock (Unlock seat lock mode)
+as_line (Plain verb seat lock) = OnLock (Plain verb seat lock)
 
 -- the bytes spell no line
 abbrev pub SpellsNone : List ℕ → Type 0
@@ -70,7 +67,7 @@ IsWhy bytes (Bad cause) = IsWhyBad bytes cause
 
 -- a line that stands before the calls
 abbrev pub IsPrelude : Line → Type 0
-IsPrelude (Header seats types locks chunks) = Unit {0}
+IsPrelude (Header version seats types locks chunks) = Unit {0}
 IsPrelude (Order list) = Unit {0}
 IsPrelude (Bless first second) = Unit {0}
 IsPrelude _ = ⊥

@@ -2,17 +2,20 @@
 #![tactic(auto)]
 
 mod errors;
+mod keywords;
+mod letters;
 mod lock_lines;
 mod names;
 mod numbers;
 mod parse;
 mod plain_lines;
 mod print;
+mod put;
 mod spellable;
 mod words;
 
 pub use errors::LineError;
-pub use lock_lines::{LockLine, parse_lock_line};
+pub use lock_lines::{borrowed, parse_lock_line};
 pub use parse::{LONGEST, parse_line};
 pub use print::print_line;
 pub use spellable::spelled;

@@ -85,7 +85,7 @@ fn listed_type(alloc: Global, bytes: &[u8]) -> Result<(Class, Name, &[u8]), Line
 }
 
 /// One type or more, up to the end of the line.
-#[tactic(auto, using(crate::proofs::ListReading::no_first, crate::proofs::ListReading::reads_first, crate::proofs::ListReading::reads_next, crate::proofs::ListReading::reads_none, crate::proofs::ListReading::reads_end, wit_model::proofs::Spelling::Laws::type_shorter))]
+#[tactic(auto, using(crate::proofs::ListReading::no_first, crate::proofs::ListReading::reads_first, crate::proofs::ListReading::reads_next, crate::proofs::ListReading::reads_none, crate::proofs::ListReading::reads_end, wit_model::proofs::Spelling::Kinds::type_shorter))]
 pub fn list(alloc: Global, bytes: &[u8]) -> Result<TypeList, LineError>
     ensures { Gives (λ l. l) result (list_of bytes.now) }
 {

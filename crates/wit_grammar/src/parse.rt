@@ -4,16 +4,17 @@ ghost use Rattle.std.specs.Prelude.{◌≡◌, ◌≤◌, ◌<◌, ◌↔◌, le
 ghost use Rattle.wit_model.specs.declared.lines.Line.{Line};
 ghost use Rattle.wit_model.specs.declared.lines.Cause.TheVariants.{Long};
 ghost use Rattle.wit_model.specs.Trace.Spelling.{Spells};
-ghost use Rattle.wit_model.specs.Trace.Reading.{header_of, order_of, bless_of, init_of, line_of};
+ghost use Rattle.wit_model.specs.Trace.Reading.{header_of, order_of, bless_of, init_of, fields_of, line_of};
 ghost use Rattle.wit_grammar.specs.declared.errors.LineError.TheVariants.{Bad};
 ghost use Rattle.wit_grammar.specs.Lines.{Gives, IsWhy};
 
 use crate::errors::LineError;
-use crate::lock_lines::{check, give_up, lock, owned, try_lock, unlock};
-use crate::plain_lines::plain_line;
-use crate::{names, numbers, words};
+use crate::keywords::keyword_of;
+use crate::lock_lines::{check, owned, plain, try_lock, unlock};
+use crate::plain_lines::{assert_lock, define, warn, watch};
+use crate::{letters, names, numbers, words};
 use std::alloc::Global;
-use wit_model::{Cause, Line, LockFlags, NewLock};
+use wit_model::{Cause, Keyword, Line, LockFlags, NewLock};
 
 /// The greatest number of bytes in a line; its line feed isn't among them.
 pub const LONGEST: usize = 4096;
@@ -41,32 +42,30 @@ pub fn parse_line(alloc: Global, bytes: &[u8]) -> Result<Line, LineError>
 fn line(alloc: Global, bytes: &[u8]) -> Result<Line, LineError>
     ensures { Gives (λ l. l) result (line_of bytes.now) }
 {
-    let (keyword, rest) = words::split_before(b' ', bytes);
-    if keyword == b"check".as_slice() {
-        let line = check(rest)?;
-        Ok(owned(alloc, line)?)
-    } else if keyword == b"lock".as_slice() {
-        let line = lock(rest)?;
-        Ok(owned(alloc, line)?)
-    } else if keyword == b"unlock".as_slice() {
-        let line = unlock(rest)?;
-        Ok(owned(alloc, line)?)
-    } else if keyword == b"try".as_slice() {
-        let line = try_lock(rest)?;
-        Ok(owned(alloc, line)?)
-    } else if keyword == b"giveup".as_slice() {
-        let line = give_up(rest)?;
-        Ok(owned(alloc, line)?)
-    } else if keyword == b"init".as_slice() {
-        init(alloc, rest)
-    } else if keyword == b"order".as_slice() {
-        order(alloc, rest)
-    } else if keyword == b"bless".as_slice() {
-        bless(alloc, rest)
-    } else if keyword == b"witness-trace".as_slice() {
-        header(rest)
-    } else {
-        plain_line(keyword, rest)
+    let (word, rest) = words::split_before(b' ', bytes);
+    match keyword_of(word) {
+        Some(keyword) => fields(alloc, keyword, rest),
+        None => Err(LineError::SYNTAX),
+    }
+}
+
+/// The line with this keyword, and what stands behind it.
+fn fields(alloc: Global, keyword: Keyword, bytes: &[u8]) -> Result<Line, LineError>
+    ensures { Gives (λ l. l) result (fields_of keyword bytes.now) }
+{
+    match keyword {
+        Keyword::Header => header(bytes),
+        Keyword::Order => order(alloc, bytes),
+        Keyword::Bless => bless(alloc, bytes),
+        Keyword::Init => init(alloc, bytes),
+        Keyword::Check => Ok(owned(alloc, check(bytes)?)?),
+        Keyword::Try => Ok(owned(alloc, try_lock(bytes)?)?),
+        Keyword::Unlock => Ok(owned(alloc, unlock(bytes)?)?),
+        Keyword::Plain(verb) => Ok(owned(alloc, plain(verb, bytes)?)?),
+        Keyword::Assert => assert_lock(bytes),
+        Keyword::Warn => warn(bytes),
+        Keyword::Define => define(bytes),
+        Keyword::Watch => watch(bytes),
     }
 }
 
@@ -74,7 +73,7 @@ fn line(alloc: Global, bytes: &[u8]) -> Result<Line, LineError>
 fn header(bytes: &[u8]) -> Result<Line, LineError>
     ensures { Gives (λ l. l) result (header_of bytes.now) }
 {
-    let rest = words::fixed(b"1", bytes)?;
+    let (version, rest) = words::version(bytes)?;
     let (seats, rest) = numbers::count(b"seats", rest)?;
     let (types, rest) = numbers::count(b"types", rest)?;
     let (locks, rest) = numbers::count(b"locks", rest)?;
@@ -83,6 +82,7 @@ fn header(bytes: &[u8]) -> Result<Line, LineError>
         return Err(LineError::SYNTAX);
     }
     Ok(Line::Header {
+        version,
         seats,
         types,
         locks,
@@ -116,7 +116,7 @@ fn init(alloc: Global, bytes: &[u8]) -> Result<Line, LineError>
 {
     let (seat, rest) = numbers::seat(bytes)?;
     let (class, rest) = words::class(rest)?;
-    let (flags, rest) = words::flags(b"rd", rest)?;
+    let (flags, rest) = words::flags(letters::LOCK, rest)?;
     let (name, rest) = names::name(alloc, rest)?;
     let (type_name, rest) = names::name_if_any(alloc, rest)?;
     if !rest.is_empty() {

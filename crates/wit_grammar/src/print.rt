@@ -1,17 +1,24 @@
 //! Printing a line.
 
-ghost use Rattle.std.specs.Prelude.{◌≡◌, [], ◌++◌, ◌∷◌, IfOk, IfErr, OnOk};
+ghost use Rattle.std.specs.Prelude.{◌≡◌, [], ◌++◌, ◌∷◌, IfOk, IfErr};
 ghost use Rattle.std.specs.Fmt.{decimal};
-ghost use Rattle.wit_model.specs.Trace.Spelling.{class_text, mode_text, level_text, number_if_any, chosen_letters, flags_text, quoted, site_text, joined, lock_fields, list_fields, spelling};
-ghost use Rattle.wit_model.specs.declared.lines.Line.TheVariants.{Header, Order, Bless, Init, Check, Try, Unlock, Assert, Warn, Define};
+ghost use Rattle.wit_model.specs.Trace.Spelling.{keyword_text, number_if_any, spelling};
+ghost use Rattle.wit_model.specs.declared.lines.Line.TheVariants.{Header, Order, Bless, Init, OnLock, Assert, Warn, Define};
 ghost use Rattle.wit_model.specs.declared.lines.Line.TheVariants as lines;
+ghost use Rattle.wit_model.specs.declared.lines.LockLine.TheVariants.{Check, Try, Unlock, Plain};
 ghost use Rattle.wit_grammar.specs.Lines.{IsPrelude, IsSpelled};
 ghost use Rattle.wit_model.specs.declared.faults.Fault.TheVariants.{OutOfMemory};
 
+use crate::keywords::keyword_text;
+use crate::letters;
+use crate::put::{
+    level_text, mode_text, put_count, put_flags, put_lock, put_name, put_number, put_site,
+    put_types, put_word, version_text,
+};
 use std::alloc::{AllocError, Global};
 use wit_model::{
-    Class, Fault, FileName, Line, LockAssert, LockNo, Mode, Name, NewLock, OpFlags, SeatNo,
-    TypeList, WarnFlags, Watch,
+    Fault, FileName, Keyword, Line, LockAssert, LockLine, LockNo, Mode, Name, NewLock, OpFlags,
+    SeatNo, TypeList, Verb, Version, WarnFlags, Watch,
 };
 
 /// The spelling of a line, without a line feed.
@@ -32,29 +39,7 @@ fn spell(alloc: Global, line: &Line) -> Result<Vec<u8>, AllocError>
     match line {
         Line::Header { .. } | Line::Order { .. } | Line::Bless { .. } => spell_prelude(alloc, line),
         Line::Init { seat, lock } => spell_init(alloc, *seat, lock),
-        Line::Check {
-            seat,
-            lock,
-            mode,
-            ops,
-            file,
-            line,
-        } => spell_check(alloc, *seat, *lock, *mode, *ops, file, *line),
-        Line::Lock { seat, lock } => spell_pair(alloc, b"lock", *seat, *lock),
-        Line::Try {
-            seat,
-            lock,
-            mode,
-            file,
-            line,
-        } => spell_try(alloc, *seat, *lock, *mode, file, *line),
-        Line::GiveUp { seat, lock } => spell_pair(alloc, b"giveup", *seat, *lock),
-        Line::Unlock { seat, lock, mode } => spell_unlock(alloc, *seat, *lock, *mode),
-        Line::Destroy { seat, lock } => spell_pair(alloc, b"destroy", *seat, *lock),
-        Line::Upgrade { seat, lock } => spell_pair(alloc, b"upgrade", *seat, *lock),
-        Line::Downgrade { seat, lock } => spell_pair(alloc, b"downgrade", *seat, *lock),
-        Line::NoRelease { seat, lock } => spell_pair(alloc, b"norelease", *seat, *lock),
-        Line::ReleaseOk { seat, lock } => spell_pair(alloc, b"releaseok", *seat, *lock),
+        Line::OnLock(line) => spell_on_lock(alloc, line),
         Line::Assert {
             seat,
             lock,
@@ -77,11 +62,12 @@ fn spell_prelude(alloc: Global, line: &Line) -> Result<Vec<u8>, AllocError>
 {
     match line {
         Line::Header {
+            version,
             seats,
             types,
             locks,
             chunks,
-        } => spell_header(alloc, *seats, *types, *locks, *chunks),
+        } => spell_header(alloc, *version, *seats, *types, *locks, *chunks),
         Line::Order { list } => spell_order(alloc, list),
         Line::Bless { first, second } => spell_bless(alloc, first, second),
         _ => unreachable!(),
@@ -90,15 +76,16 @@ fn spell_prelude(alloc: Global, line: &Line) -> Result<Vec<u8>, AllocError>
 
 fn spell_header(
     alloc: Global,
+    version: Version,
     seats: u32,
     types: u32,
     locks: u32,
     chunks: u32,
 ) -> Result<Vec<u8>, AllocError>
-    ensures { IfOk result (λ bytes. bytes.items ≡ spelling (Header seats types locks chunks)) }
+    ensures { IfOk result (λ bytes. bytes.items ≡ spelling (Header version seats types locks chunks)) }
 {
-    let mut out = Vec::from_slice(alloc, b"witness-trace")?;
-    put_word(&mut out, b"1")?;
+    let mut out = Vec::from_slice(alloc, keyword_text(Keyword::Header))?;
+    put_word(&mut out, version_text(version))?;
     put_count(alloc, &mut out, b"seats", seats)?;
     put_count(alloc, &mut out, b"types", types)?;
     put_count(alloc, &mut out, b"locks", locks)?;
@@ -109,7 +96,7 @@ fn spell_header(
 fn spell_order(alloc: Global, list: &TypeList) -> Result<Vec<u8>, AllocError>
     ensures { IfOk result (λ bytes. bytes.items ≡ spelling (Order list.now)) }
 {
-    let mut out = Vec::from_slice(alloc, b"order")?;
+    let mut out = Vec::from_slice(alloc, keyword_text(Keyword::Order))?;
     put_types(&mut out, list.types())?;
     Ok(out)
 }
@@ -117,7 +104,7 @@ fn spell_order(alloc: Global, list: &TypeList) -> Result<Vec<u8>, AllocError>
 fn spell_bless(alloc: Global, first: &Name, second: &Name) -> Result<Vec<u8>, AllocError>
     ensures { IfOk result (λ bytes. bytes.items ≡ spelling (Bless first.now second.now)) }
 {
-    let mut out = Vec::from_slice(alloc, b"bless")?;
+    let mut out = Vec::from_slice(alloc, keyword_text(Keyword::Bless))?;
     put_name(&mut out, first)?;
     put_name(&mut out, second)?;
     Ok(out)
@@ -126,9 +113,56 @@ fn spell_bless(alloc: Global, first: &Name, second: &Name) -> Result<Vec<u8>, Al
 fn spell_init(alloc: Global, seat: SeatNo, lock: &NewLock) -> Result<Vec<u8>, AllocError>
     ensures { IfOk result (λ bytes. bytes.items ≡ spelling (Init seat lock.now)) }
 {
-    let mut out = Vec::from_slice(alloc, b"init")?;
-    put_number(alloc, &mut out, u32::from(seat.0))?;
+    let mut out = call_of_seat(alloc, Keyword::Init, seat)?;
     put_lock(&mut out, lock)?;
+    Ok(out)
+}
+
+fn spell_on_lock(alloc: Global, line: &LockLine<FileName>) -> Result<Vec<u8>, AllocError>
+    ensures { IfOk result (λ bytes. bytes.items ≡ spelling (OnLock line.now)) }
+{
+    match line {
+        LockLine::Check {
+            seat,
+            lock,
+            mode,
+            ops,
+            file,
+            line,
+        } => spell_check(alloc, *seat, *lock, *mode, *ops, file, *line),
+        LockLine::Try {
+            seat,
+            lock,
+            mode,
+            file,
+            line,
+        } => spell_try(alloc, *seat, *lock, *mode, file, *line),
+        LockLine::Unlock { seat, lock, mode } => spell_unlock(alloc, *seat, *lock, *mode),
+        LockLine::Plain { verb, seat, lock } => spell_plain(alloc, *verb, *seat, *lock),
+    }
+}
+
+/// The keyword and the seat of a call.
+fn call_of_seat(alloc: Global, keyword: Keyword, seat: SeatNo) -> Result<Vec<u8>, AllocError>
+    ensures { IfOk result (λ bytes. bytes.items ≡ keyword_text keyword ++ 32 ∷ decimal seat.0) }
+{
+    let mut out = Vec::from_slice(alloc, keyword_text(keyword))?;
+    put_number(alloc, &mut out, u32::from(seat.0))?;
+    Ok(out)
+}
+
+/// The keyword, the seat and the lock of a call.
+fn call_on_lock(
+    alloc: Global,
+    keyword: Keyword,
+    seat: SeatNo,
+    lock: LockNo,
+) -> Result<Vec<u8>, AllocError>
+    ensures { IfOk result (λ bytes. bytes.items
+        ≡ keyword_text keyword ++ 32 ∷ (decimal seat.0 ++ 32 ∷ decimal lock.0)) }
+{
+    let mut out = call_of_seat(alloc, keyword, seat)?;
+    put_number(alloc, &mut out, lock.0)?;
     Ok(out)
 }
 
@@ -141,31 +175,19 @@ fn spell_check(
     file: &FileName,
     line: u32,
 ) -> Result<Vec<u8>, AllocError>
-    ensures { IfOk result (λ bytes. bytes.items ≡ spelling (Check seat lock mode ops file.now line)) }
+    ensures { IfOk result (λ bytes. bytes.items ≡ spelling (OnLock (Check seat lock mode ops file.now line))) }
 {
-    let mut out = Vec::from_slice(alloc, b"check")?;
-    put_number(alloc, &mut out, u32::from(seat.0))?;
-    put_number(alloc, &mut out, lock.0)?;
+    let mut out = call_on_lock(alloc, Keyword::Check, seat, lock)?;
     put_word(&mut out, mode_text(mode))?;
-    put_flags(&mut out, b"ndf", ops.0)?;
+    put_flags(&mut out, letters::REQUEST, ops.0)?;
     put_site(alloc, &mut out, file, line)?;
     Ok(out)
 }
 
-/// A line of a seat and a lock alone.
-fn spell_pair(
-    alloc: Global,
-    keyword: &[u8],
-    seat: SeatNo,
-    lock: LockNo,
-) -> Result<Vec<u8>, AllocError>
-    ensures { IfOk result (λ bytes. bytes.items
-        ≡ keyword.now ++ joined (decimal seat.0 ∷ decimal lock.0 ∷ [])) }
+fn spell_plain(alloc: Global, verb: Verb, seat: SeatNo, lock: LockNo) -> Result<Vec<u8>, AllocError>
+    ensures { IfOk result (λ bytes. bytes.items ≡ spelling (OnLock (Plain verb seat lock))) }
 {
-    let mut out = Vec::from_slice(alloc, keyword)?;
-    put_number(alloc, &mut out, u32::from(seat.0))?;
-    put_number(alloc, &mut out, lock.0)?;
-    Ok(out)
+    call_on_lock(alloc, Keyword::Plain(verb), seat, lock)
 }
 
 fn spell_try(
@@ -176,11 +198,9 @@ fn spell_try(
     file: &FileName,
     line: u32,
 ) -> Result<Vec<u8>, AllocError>
-    ensures { IfOk result (λ bytes. bytes.items ≡ spelling (Try seat lock mode file.now line)) }
+    ensures { IfOk result (λ bytes. bytes.items ≡ spelling (OnLock (Try seat lock mode file.now line))) }
 {
-    let mut out = Vec::from_slice(alloc, b"try")?;
-    put_number(alloc, &mut out, u32::from(seat.0))?;
-    put_number(alloc, &mut out, lock.0)?;
+    let mut out = call_on_lock(alloc, Keyword::Try, seat, lock)?;
     put_word(&mut out, mode_text(mode))?;
     put_site(alloc, &mut out, file, line)?;
     Ok(out)
@@ -192,11 +212,9 @@ fn spell_unlock(
     lock: LockNo,
     mode: Mode,
 ) -> Result<Vec<u8>, AllocError>
-    ensures { IfOk result (λ bytes. bytes.items ≡ spelling (Unlock seat lock mode)) }
+    ensures { IfOk result (λ bytes. bytes.items ≡ spelling (OnLock (Unlock seat lock mode))) }
 {
-    let mut out = Vec::from_slice(alloc, b"unlock")?;
-    put_number(alloc, &mut out, u32::from(seat.0))?;
-    put_number(alloc, &mut out, lock.0)?;
+    let mut out = call_on_lock(alloc, Keyword::Unlock, seat, lock)?;
     put_word(&mut out, mode_text(mode))?;
     Ok(out)
 }
@@ -209,10 +227,8 @@ fn spell_assert(
 ) -> Result<Vec<u8>, AllocError>
     ensures { IfOk result (λ bytes. bytes.items ≡ spelling (Assert seat lock asserted)) }
 {
-    let mut out = Vec::from_slice(alloc, b"assert")?;
-    put_number(alloc, &mut out, u32::from(seat.0))?;
-    put_number(alloc, &mut out, lock.0)?;
-    put_flags(&mut out, b"ulsxrn", asserted.0)?;
+    let mut out = call_on_lock(alloc, Keyword::Assert, seat, lock)?;
+    put_flags(&mut out, letters::ASSERTION, asserted.0)?;
     Ok(out)
 }
 
@@ -224,10 +240,9 @@ fn spell_warn(
 ) -> Result<Vec<u8>, AllocError>
     ensures { IfOk result (λ bytes. bytes.items ≡ spelling (Warn seat lock flags)) }
 {
-    let mut out = Vec::from_slice(alloc, b"warn")?;
-    put_number(alloc, &mut out, u32::from(seat.0))?;
+    let mut out = call_of_seat(alloc, Keyword::Warn, seat)?;
     put_number(alloc, &mut out, number_if_any(lock))?;
-    put_flags(&mut out, b"gs", flags.0)?;
+    put_flags(&mut out, letters::WARNING, flags.0)?;
     Ok(out)
 }
 
@@ -239,9 +254,7 @@ fn spell_define(
 ) -> Result<Vec<u8>, AllocError>
     ensures { IfOk result (λ bytes. bytes.items ≡ spelling (Define seat first second)) }
 {
-    let mut out = Vec::from_slice(alloc, b"define")?;
-    put_number(alloc, &mut out, u32::from(seat.0))?;
-    put_number(alloc, &mut out, first.0)?;
+    let mut out = call_on_lock(alloc, Keyword::Define, seat, first)?;
     put_number(alloc, &mut out, second.0)?;
     Ok(out)
 }
@@ -249,102 +262,9 @@ fn spell_define(
 fn spell_watch(alloc: Global, seat: SeatNo, watch: Watch) -> Result<Vec<u8>, AllocError>
     ensures { IfOk result (λ bytes. bytes.items ≡ spelling (lines.Watch seat watch)) }
 {
-    let mut out = Vec::from_slice(alloc, b"watch")?;
-    put_number(alloc, &mut out, u32::from(seat.0))?;
+    let mut out = call_of_seat(alloc, Keyword::Watch, seat)?;
     put_word(&mut out, level_text(watch))?;
     Ok(out)
-}
-
-fn put_word(out: &mut Vec<u8>, word: &[u8]) -> Result<(), AllocError>
-    ensures { OnOk result (out.new.items ≡ out.old.items ++ 32 ∷ word.now) }
-{
-    out.push(b' ')?;
-    out.extend_from_slice(word)
-}
-
-fn put_number(alloc: Global, out: &mut Vec<u8>, number: u32) -> Result<(), AllocError>
-    ensures { OnOk result (out.new.items ≡ out.old.items ++ 32 ∷ decimal number) }
-{
-    let text = number.to_string(alloc)?;
-    put_word(out, text.as_bytes())
-}
-
-/// A number behind a fixed word.
-fn put_count(alloc: Global, out: &mut Vec<u8>, label: &[u8], number: u32) -> Result<(), AllocError>
-    ensures { OnOk result (out.new.items ≡ out.old.items ++ 32 ∷ (label.now ++ 32 ∷ decimal number)) }
-{
-    put_word(out, label)?;
-    put_number(alloc, out, number)
-}
-
-fn put_letters(out: &mut Vec<u8>, letters: &[u8], bits: u8) -> Result<(), AllocError>
-    ensures { OnOk result (out.new.items ≡ out.old.items ++ chosen_letters letters.now bits) }
-{
-    match letters {
-        [] => Ok(()),
-        [letter, others @ ..] => {
-            if bits % 2 == 1 {
-                out.push(*letter)?;
-                put_letters(out, others, bits / 2)
-            } else {
-                put_letters(out, others, bits / 2)
-            }
-        }
-    }
-}
-
-fn put_flags(out: &mut Vec<u8>, letters: &[u8], bits: u8) -> Result<(), AllocError>
-    ensures { OnOk result (out.new.items ≡ out.old.items ++ 32 ∷ flags_text letters.now bits) }
-{
-    if bits == 0 {
-        return put_word(out, b"-");
-    }
-    out.push(b' ')?;
-    put_letters(out, letters, bits)
-}
-
-fn put_name(out: &mut Vec<u8>, name: &Name) -> Result<(), AllocError>
-    ensures { OnOk result (out.new.items ≡ out.old.items ++ 32 ∷ quoted name.now) }
-{
-    put_word(out, b"\"")?;
-    out.extend_from_slice(name.as_str().as_bytes())?;
-    out.push(b'"')?;
-    Ok(())
-}
-
-fn put_types(out: &mut Vec<u8>, types: &[(Class, Name)]) -> Result<(), AllocError>
-    ensures { OnOk result (out.new.items ≡ out.old.items ++ joined (list_fields types.now)) }
-{
-    match types {
-        [] => Ok(()),
-        [(class, name), others @ ..] => {
-            put_word(out, class_text(*class))?;
-            put_name(out, name)?;
-            put_types(out, others)
-        }
-    }
-}
-
-/// The fields of `init` behind the seat.
-fn put_lock(out: &mut Vec<u8>, lock: &NewLock) -> Result<(), AllocError>
-    ensures { OnOk result (out.new.items ≡ out.old.items ++ joined (lock_fields lock.now)) }
-{
-    put_word(out, class_text(lock.class))?;
-    put_flags(out, b"rd", lock.flags.0)?;
-    put_name(out, &lock.name)?;
-    match &lock.type_name {
-        None => Ok(()),
-        Some(name) => put_name(out, name),
-    }
-}
-
-fn put_site(alloc: Global, out: &mut Vec<u8>, file: &FileName, line: u32) -> Result<(), AllocError>
-    ensures { OnOk result (out.new.items ≡ out.old.items ++ 32 ∷ site_text file.now line) }
-{
-    put_word(out, file.as_str().as_bytes())?;
-    out.push(b':')?;
-    let text = line.to_string(alloc)?;
-    out.extend_from_slice(text.as_bytes())
 }
 
 /// The number of a lock, 0 where none is named.
@@ -354,36 +274,5 @@ fn number_if_any(lock: Option<LockNo>) -> u32
     match lock {
         None => 0,
         Some(lock) => lock.0,
-    }
-}
-
-/// The spelling of a class.
-pub fn class_text(class: Class) -> &'static [u8]
-    ensures { result.now ≡ class_text class }
-{
-    match class {
-        Class::SleepMutex => b"mtx",
-        Class::SpinMutex => b"spin",
-        Class::Rw => b"rw",
-        Class::Sx => b"sx",
-    }
-}
-
-fn mode_text(mode: Mode) -> &'static [u8]
-    ensures { result.now ≡ mode_text mode }
-{
-    match mode {
-        Mode::Shared => b"s",
-        Mode::Exclusive => b"x",
-    }
-}
-
-fn level_text(watch: Watch) -> &'static [u8]
-    ensures { result.now ≡ level_text watch }
-{
-    match watch {
-        Watch::On => b"1",
-        Watch::Quiet => b"0",
-        Watch::Off => b"-1",
     }
 }

@@ -3,13 +3,13 @@
 ghost use Rattle.std.specs.Prelude.{◌≡◌, ◌≤◌, ◌<◌, ◌^◌, List, ℕ, ◌↔◌, length, IsTrue, IfSome};
 ghost use Rattle.std.specs.List.{list_all};
 ghost use Rattle.wit_model.specs.Rules.Names.{is_name, is_file_name};
-ghost use Rattle.wit_model.specs.Trace.Spelling.{joined, list_fields, spelling, IsSpellableLock, IsSpellableList, IsNamed, IsSpellable};
+ghost use Rattle.wit_model.specs.Trace.Spelling.{joined, list_fields, spelling, IsSpellableLock, IsSpellableList, IsNamed, IsSpellableOnLock, IsSpellable};
 ghost use Rattle.wit_model.specs.declared.locks.Class.{Class};
 ghost use Rattle.wit_grammar.specs.Lines.{IsPrelude, IsSpelled};
 
 use crate::parse::LONGEST;
-use crate::print::class_text;
-use wit_model::{Class, FileName, Line, LockNo, Name, NewLock, SeatNo};
+use crate::put::class_text;
+use wit_model::{Class, FileName, Line, LockLine, LockNo, Name, NewLock, SeatNo};
 
 /// Whether the line has a spelling of at most 4,096 bytes.
 pub fn spelled(line: &Line) -> bool
@@ -50,29 +50,7 @@ fn is_spellable(line: &Line) -> bool
     match line {
         Line::Header { .. } | Line::Order { .. } | Line::Bless { .. } => is_spellable_prelude(line),
         Line::Init { seat, lock } => is_seat(*seat) && is_spellable_lock(lock),
-        Line::Check {
-            seat,
-            lock,
-            ops,
-            file,
-            line,
-            ..
-        } => are_seat_and_lock(*seat, *lock) && ops.0 < 8 && is_spellable_site(file, *line),
-        Line::Lock { seat, lock } => are_seat_and_lock(*seat, *lock),
-        Line::Try {
-            seat,
-            lock,
-            file,
-            line,
-            ..
-        } => are_seat_and_lock(*seat, *lock) && is_spellable_site(file, *line),
-        Line::GiveUp { seat, lock } => are_seat_and_lock(*seat, *lock),
-        Line::Unlock { seat, lock, .. } => are_seat_and_lock(*seat, *lock),
-        Line::Destroy { seat, lock } => are_seat_and_lock(*seat, *lock),
-        Line::Upgrade { seat, lock } => are_seat_and_lock(*seat, *lock),
-        Line::Downgrade { seat, lock } => are_seat_and_lock(*seat, *lock),
-        Line::NoRelease { seat, lock } => are_seat_and_lock(*seat, *lock),
-        Line::ReleaseOk { seat, lock } => are_seat_and_lock(*seat, *lock),
+        Line::OnLock(line) => is_spellable_on_lock(line),
         Line::Assert {
             seat,
             lock,
@@ -88,6 +66,30 @@ fn is_spellable(line: &Line) -> bool
     }
 }
 
+fn is_spellable_on_lock(line: &LockLine<FileName>) -> bool
+    ensures { IsTrue result ↔ IsSpellableOnLock line.now }
+{
+    match line {
+        LockLine::Check {
+            seat,
+            lock,
+            ops,
+            file,
+            line,
+            ..
+        } => are_seat_and_lock(*seat, *lock) && ops.0 < 8 && is_spellable_site(file, *line),
+        LockLine::Try {
+            seat,
+            lock,
+            file,
+            line,
+            ..
+        } => are_seat_and_lock(*seat, *lock) && is_spellable_site(file, *line),
+        LockLine::Unlock { seat, lock, .. } => are_seat_and_lock(*seat, *lock),
+        LockLine::Plain { seat, lock, .. } => are_seat_and_lock(*seat, *lock),
+    }
+}
+
 /// The lines before the calls.
 fn is_spellable_prelude(line: &Line) -> bool
     requires { IsPrelude line.now }
@@ -99,6 +101,7 @@ fn is_spellable_prelude(line: &Line) -> bool
             types,
             locks,
             chunks,
+            ..
         } => {
             // A number's type keeps it in its range, and a read shows that.
             let _counts = [*seats, *types, *locks, *chunks];

@@ -1,12 +1,12 @@
 //! The words of a line: each reader gives a value and the bytes after it, or `LineError::SYNTAX` where the bytes begin with none.
 
 ghost use Rattle.std.specs.Prelude.{◌≡◌, ◌≤◌, ◌<◌, ◌^◌, length, IfSome};
-ghost use Rattle.wit_model.specs.Trace.Reading.{after, byte_place, until, class_of, mode_of, level_of, bits_of, flags_of, word_at, field_at, fixed_at};
+ghost use Rattle.wit_model.specs.Trace.Reading.{after, byte_place, until, version_of, class_of, mode_of, level_of, bits_of, flags_of, word_at, field_at, fixed_at};
 ghost use Rattle.wit_grammar.specs.Lines.{Gives};
 
 use crate::errors::LineError;
 use memchr::memchr;
-use wit_model::{Class, Mode, Watch};
+use wit_model::{Class, Mode, Version, Watch};
 
 /// The bytes after the one that must stand first.
 #[inline(always)]
@@ -83,6 +83,18 @@ pub fn fixed<'a>(text: &[u8], bytes: &'a [u8]) -> Result<&'a [u8], LineError>
         Ok(rest)
     } else {
         Err(LineError::SYNTAX)
+    }
+}
+
+/// A version of the format: `1`.
+#[tactic(auto, unfolding(wit_model::specs::Trace::Reading::version_of))]
+pub fn version(bytes: &[u8]) -> Result<(Version, &[u8]), LineError>
+    ensures { Gives (λ x. (x.0, x.1.now)) result (field_at version_of bytes.now) }
+{
+    let (word, rest) = word(bytes)?;
+    match word {
+        b"1" => Ok((Version::One, rest)),
+        _ => Err(LineError::SYNTAX),
     }
 }
 

@@ -1,5 +1,9 @@
 -- The lines of a trace are printed and read alike.
+pub mod CallKinds
 pub mod Codecs
+pub mod Fields
+pub mod Kinds
 pub mod Laws
+pub mod Named
 pub mod Repeats
 pub mod Words

@@ -21,7 +21,7 @@ pub use calls::{
 };
 pub use faults::Fault;
 pub use flags::{LockAssert, LockFlags, OpFlags, WarnFlags};
-pub use lines::{Cause, Line, View};
+pub use lines::{Cause, Keyword, Line, LockLine, Verb, Version, View};
 pub use locks::{
     Class, FileNo, Instance, Lock, LockNo, LockType, Mode, Origin, SeatNo, Site, TypeNo, Watch,
 };

@@ -7,11 +7,103 @@ use crate::locks::{LockNo, Mode, SeatNo, Watch};
 use crate::names::{FileName, Name};
 use crate::type_lists::TypeList;
 
+/// A version of the format.
+#[derive(Clone, Copy, Debug, PartialEq, Eq, Hash)]
+pub enum Version {
+    /// The first.
+    One,
+}
+
+/// What becomes of a lock by a line that names nothing but it and a seat.
+#[derive(Clone, Copy, Debug, PartialEq, Eq, Hash)]
+pub enum Verb {
+    /// `lock`: the lock asked for was acquired.
+    Note,
+    /// `giveup`: the lock asked for wasn't acquired.
+    GiveUp,
+    /// `destroy`: a lock is done with.
+    Destroy,
+    /// `upgrade`: a lock held shared becomes held exclusively.
+    Upgrade,
+    /// `downgrade`: a lock held exclusively becomes held shared.
+    Downgrade,
+    /// `norelease`: a held lock isn't to be released.
+    NoRelease,
+    /// `releaseok`: a held lock may be released again.
+    ReleaseOk,
+}
+
+/// The first word of a line, which says what its fields are.
+#[derive(Clone, Copy, Debug, PartialEq, Eq, Hash)]
+pub enum Keyword {
+    /// `witness-trace`.
+    Header,
+    /// `order`.
+    Order,
+    /// `bless`.
+    Bless,
+    /// `init`.
+    Init,
+    /// `check`.
+    Check,
+    /// `try`.
+    Try,
+    /// `unlock`.
+    Unlock,
+    /// That of a verb.
+    Plain(Verb),
+    /// `assert`.
+    Assert,
+    /// `warn`.
+    Warn,
+    /// `define`.
+    Define,
+    /// `watch`.
+    Watch,
+}
+
+/// A line by which a lock is asked for, acquired or released, or what is recorded of it changes.
+/// `F` is what names a file.
+#[derive(Debug, Drop)]
+pub enum LockLine<F> {
+    /// `check`: a lock is about to be acquired, at a line of a file.
+    Check {
+        seat: SeatNo,
+        lock: LockNo,
+        mode: Mode,
+        ops: OpFlags,
+        file: F,
+        line: u32,
+    },
+    /// `try`: a lock was acquired without waiting, at a line of a file.
+    Try {
+        seat: SeatNo,
+        lock: LockNo,
+        mode: Mode,
+        file: F,
+        line: u32,
+    },
+    /// `unlock`: a lock is released, as one held in this mode.
+    Unlock {
+        seat: SeatNo,
+        lock: LockNo,
+        mode: Mode,
+    },
+    /// The verb says it all.
+    Plain {
+        verb: Verb,
+        seat: SeatNo,
+        lock: LockNo,
+    },
+}
+
 /// A line of a trace.
 #[derive(Debug, Drop)]
 pub enum Line {
-    /// How many seats, types, locks and chunks the verifier is to have room for.
+    /// The version of the format, and how many seats, types, locks and chunks the verifier is to
+    /// have room for.
     Header {
+        version: Version,
         seats: u32,
         types: u32,
         locks: u32,
@@ -31,71 +123,16 @@ pub enum Line {
         seat: SeatNo,
         lock: NewLock,
     },
-    /// `check`: a lock is about to be acquired, at a line of a file.
-    Check {
-        seat: SeatNo,
-        lock: LockNo,
-        mode: Mode,
-        ops: OpFlags,
-        file: FileName,
-        line: u32,
-    },
-    /// `lock`: the lock asked for was acquired.
-    Lock {
-        seat: SeatNo,
-        lock: LockNo,
-    },
-    /// `try`: a lock was acquired without waiting, at a line of a file.
-    Try {
-        seat: SeatNo,
-        lock: LockNo,
-        mode: Mode,
-        file: FileName,
-        line: u32,
-    },
-    /// `giveup`: the lock asked for wasn't acquired.
-    GiveUp {
-        seat: SeatNo,
-        lock: LockNo,
-    },
-    /// `unlock`: a lock is released, as one held in this mode.
-    Unlock {
-        seat: SeatNo,
-        lock: LockNo,
-        mode: Mode,
-    },
-    /// `destroy`: a lock is done with.
-    Destroy {
-        seat: SeatNo,
-        lock: LockNo,
-    },
-    /// `upgrade`: a lock held shared becomes held exclusively.
-    Upgrade {
-        seat: SeatNo,
-        lock: LockNo,
-    },
-    /// `downgrade`: a lock held exclusively becomes held shared.
-    Downgrade {
-        seat: SeatNo,
-        lock: LockNo,
-    },
-    /// `norelease`: a held lock isn't to be released.
-    NoRelease {
-        seat: SeatNo,
-        lock: LockNo,
-    },
-    /// `releaseok`: a held lock may be released again.
-    ReleaseOk {
-        seat: SeatNo,
-        lock: LockNo,
-    },
+    /// Something becomes of a lock.
+    OnLock(LockLine<FileName>),
     /// `assert`: something is asserted of a lock.
     Assert {
         seat: SeatNo,
         lock: LockNo,
         asserted: LockAssert,
     },
-    /// `warn`: no lock should be held but this one, where there is one, and those that the flags allow.
+    /// `warn`: no lock should be held but this one, where there is one, and those that the flags
+    /// allow.
     Warn {
         seat: SeatNo,
         lock: Option<LockNo>,

@@ -4,11 +4,11 @@
 use std::alloc::{AllocError, Global};
 use std::test::Fail;
 use wit_grammar::{parse_line, print_line, spelled};
-use wit_model::{FileName, Line, LockAssert, LockNo, Mode, SeatNo};
+use wit_model::{FileName, Line, LockAssert, LockLine, LockNo, Mode, SeatNo};
 
 /// Lines, and what they are read as.
 const READ: &str =
-    r#"witness-trace 1 seats 2 types 3 locks 4 chunks 5 = Header { seats: 2, types: 3, locks: 4, chunks: 5 }
+    r#"witness-trace 1 seats 2 types 3 locks 4 chunks 5 = Header { version: One, seats: 2, types: 3, locks: 4, chunks: 5 }
 order mtx "A" = Order { list: TypeList { types: [(SleepMutex, Name { text: "A" })] } }
 order spin "B" rw " " = Order { list: TypeList { types: [(SpinMutex, Name { text: "B" }), (Rw, Name { text: " " })] } }
 bless "A" "b c" = Bless { first: Name { text: "A" }, second: Name { text: "b c" } }
@@ -16,25 +16,25 @@ init 7 mtx - "a b" = Init { seat: SeatNo(7), lock: NewLock { class: SleepMutex, 
 init 7 spin r "a" "b" = Init { seat: SeatNo(7), lock: NewLock { class: SpinMutex, flags: LockFlags(1), name: Name { text: "a" }, type_name: Some(Name { text: "b" }) } }
 init 65535 rw d "a" = Init { seat: SeatNo(65535), lock: NewLock { class: Rw, flags: LockFlags(2), name: Name { text: "a" }, type_name: None } }
 init 0 sx rd "a" "a" = Init { seat: SeatNo(0), lock: NewLock { class: Sx, flags: LockFlags(3), name: Name { text: "a" }, type_name: Some(Name { text: "a" }) } }
-check 7 8 x - a.c:9 = Check { seat: SeatNo(7), lock: LockNo(8), mode: Exclusive, ops: OpFlags(0), file: FileName { text: "a.c" }, line: 9 }
-check 7 8 s n a.c:9 = Check { seat: SeatNo(7), lock: LockNo(8), mode: Shared, ops: OpFlags(1), file: FileName { text: "a.c" }, line: 9 }
-check 7 8 s d a:b:9 = Check { seat: SeatNo(7), lock: LockNo(8), mode: Shared, ops: OpFlags(2), file: FileName { text: "a:b" }, line: 9 }
-check 7 8 s f ::4294967295 = Check { seat: SeatNo(7), lock: LockNo(8), mode: Shared, ops: OpFlags(4), file: FileName { text: ":" }, line: 4294967295 }
-check 7 8 s ndf a.c:1:9 = Check { seat: SeatNo(7), lock: LockNo(8), mode: Shared, ops: OpFlags(7), file: FileName { text: "a.c:1" }, line: 9 }
-lock 1 2 = Lock { seat: SeatNo(1), lock: LockNo(2) }
-unlock 1 2 s = Unlock { seat: SeatNo(1), lock: LockNo(2), mode: Shared }
-unlock 1 2 x = Unlock { seat: SeatNo(1), lock: LockNo(2), mode: Exclusive }
-try 7 8 x a.c:9 = Try { seat: SeatNo(7), lock: LockNo(8), mode: Exclusive, file: FileName { text: "a.c" }, line: 9 }
-try 7 8 s a:b:0 = Try { seat: SeatNo(7), lock: LockNo(8), mode: Shared, file: FileName { text: "a:b" }, line: 0 }
-giveup 1 2 = GiveUp { seat: SeatNo(1), lock: LockNo(2) }
+check 7 8 x - a.c:9 = OnLock(Check { seat: SeatNo(7), lock: LockNo(8), mode: Exclusive, ops: OpFlags(0), file: FileName { text: "a.c" }, line: 9 })
+check 7 8 s n a.c:9 = OnLock(Check { seat: SeatNo(7), lock: LockNo(8), mode: Shared, ops: OpFlags(1), file: FileName { text: "a.c" }, line: 9 })
+check 7 8 s d a:b:9 = OnLock(Check { seat: SeatNo(7), lock: LockNo(8), mode: Shared, ops: OpFlags(2), file: FileName { text: "a:b" }, line: 9 })
+check 7 8 s f ::4294967295 = OnLock(Check { seat: SeatNo(7), lock: LockNo(8), mode: Shared, ops: OpFlags(4), file: FileName { text: ":" }, line: 4294967295 })
+check 7 8 s ndf a.c:1:9 = OnLock(Check { seat: SeatNo(7), lock: LockNo(8), mode: Shared, ops: OpFlags(7), file: FileName { text: "a.c:1" }, line: 9 })
+lock 1 2 = OnLock(Plain { verb: Note, seat: SeatNo(1), lock: LockNo(2) })
+unlock 1 2 s = OnLock(Unlock { seat: SeatNo(1), lock: LockNo(2), mode: Shared })
+unlock 1 2 x = OnLock(Unlock { seat: SeatNo(1), lock: LockNo(2), mode: Exclusive })
+try 7 8 x a.c:9 = OnLock(Try { seat: SeatNo(7), lock: LockNo(8), mode: Exclusive, file: FileName { text: "a.c" }, line: 9 })
+try 7 8 s a:b:0 = OnLock(Try { seat: SeatNo(7), lock: LockNo(8), mode: Shared, file: FileName { text: "a:b" }, line: 0 })
+giveup 1 2 = OnLock(Plain { verb: GiveUp, seat: SeatNo(1), lock: LockNo(2) })
 watch 7 1 = Watch { seat: SeatNo(7), watch: On }
 watch 7 0 = Watch { seat: SeatNo(7), watch: Quiet }
 watch 7 -1 = Watch { seat: SeatNo(7), watch: Off }
-destroy 1 2 = Destroy { seat: SeatNo(1), lock: LockNo(2) }
-upgrade 1 2 = Upgrade { seat: SeatNo(1), lock: LockNo(2) }
-downgrade 1 2 = Downgrade { seat: SeatNo(1), lock: LockNo(2) }
-norelease 1 2 = NoRelease { seat: SeatNo(1), lock: LockNo(2) }
-releaseok 1 2 = ReleaseOk { seat: SeatNo(1), lock: LockNo(2) }
+destroy 1 2 = OnLock(Plain { verb: Destroy, seat: SeatNo(1), lock: LockNo(2) })
+upgrade 1 2 = OnLock(Plain { verb: Upgrade, seat: SeatNo(1), lock: LockNo(2) })
+downgrade 1 2 = OnLock(Plain { verb: Downgrade, seat: SeatNo(1), lock: LockNo(2) })
+norelease 1 2 = OnLock(Plain { verb: NoRelease, seat: SeatNo(1), lock: LockNo(2) })
+releaseok 1 2 = OnLock(Plain { verb: ReleaseOk, seat: SeatNo(1), lock: LockNo(2) })
 assert 1 2 - = Assert { seat: SeatNo(1), lock: LockNo(2), asserted: LockAssert(0) }
 assert 1 2 u = Assert { seat: SeatNo(1), lock: LockNo(2), asserted: LockAssert(1) }
 assert 1 2 l = Assert { seat: SeatNo(1), lock: LockNo(2), asserted: LockAssert(2) }
@@ -96,13 +96,13 @@ fn long_line(rt: HostRuntime) -> Result<(), Fail> {
 }
 
 fn is_spelled(file: FileName) -> bool {
-    spelled(&Line::Try {
+    spelled(&Line::OnLock(LockLine::Try {
         seat: SeatNo(7),
         lock: LockNo(8),
         mode: Mode::Shared,
         file,
         line: 9,
-    })
+    }))
 }
 
 fn is_assertion_spelled(flags: u8) -> bool {

@@ -7,17 +7,13 @@ use Rattle.std.specs.Str.{bytes_eq}
 use Rattle.std.proofs.lemmas.Bool.{lt-ltb, le-ltb}
 use Rattle.std.proofs.lemmas.List.{take-take}
 use Rattle.wit_model.specs.declared.calls.Call.{Call}
-use Rattle.wit_model.specs.declared.calls.Call.TheVariants as call
 use Rattle.wit_model.specs.declared.calls.Reply.{Reply}
 use Rattle.wit_model.specs.declared.faults.Fault.{Fault}
 use Rattle.wit_model.specs.declared.faults.Fault.TheVariants.{OutOfMemory}
-use Rattle.wit_model.specs.declared.flags.OpFlags.{OpFlags}
 use Rattle.wit_model.specs.declared.lines.Line.{Line}
 use Rattle.wit_model.specs.declared.lines.Cause.{Cause}
 use Rattle.wit_model.specs.declared.lines.Cause.TheVariants as why
 use Rattle.wit_model.specs.declared.locks.FileNo.{FileNo}
-use Rattle.wit_model.specs.declared.locks.LockNo.{LockNo}
-use Rattle.wit_model.specs.declared.locks.Mode.{Mode}
 use Rattle.wit_model.specs.declared.locks.SeatNo.{SeatNo}
 use Rattle.wit_model.specs.Rules.Files.{naming_answer, NamesFile}
 use Rattle.wit_model.specs.Rules.Start.{start_fault}
@@ -82,13 +78,6 @@ pub remark_passes : (s : Story) (due : ℕ → output.Outcome) (told after : ℕ
 remark_passes s due told after (Ok t) r remarks is counts keeps = rw (is, remarks told, counts) (refl, refl)
 remark_passes s due told after (Err e) r remarks is counts keeps = rw (is, keeps) (remarks told)
 
--- the calls of lines with a site, once their file has a number
-abbrev pub check_at : LockNo → Mode → OpFlags → ℕ → ℕ → Call
-check_at lock mode ops line n = call.Check (record { lock = lock; site = record { file = record { 0 = n }; line = line }; mode = mode; ops = ops })
-
-abbrev pub try_at : LockNo → Mode → ℕ → ℕ → Call
-try_at lock mode line n = call.NoteTry lock mode (record { file = record { 0 = n }; line = line })
-
 module _ (old mid new : Story) (seat : SeatNo) (name : List ℕ) (make : ℕ → Call) (f : FileNo) (names : NamesFile old name (Ok f) mid) where
   abbrev due : ℕ → output.Outcome
   due n = output.at_file old (λ s f. output.makes s n seat.0 (make f)) name (naming_answer old name)
@@ -123,7 +112,7 @@ shown_append Circle a b = refl
 shown_before : (view : View) (told text more : List ℕ) (c : output.Course) (circle : Bool) → text ≡ output.shown view told → output.IsShown view c more circle → output.IsShown view (output.before told c) (text ++ more) circle
 shown_before view told text more c circle is h = record {
   last = h.last;
-  parts = ap₂ (λ a b. a ++ b) is h.parts ∙ (sym (append_assoc (output.shown view told) (output.shown view c.told) h.last) ∙ ap (λ (l : List ℕ). l ++ h.last) (sym (shown_append view told c.told)));
+  parts = ap₂ (λ a b. a ++ b) is h.parts ∙ (sym (append_assoc (output.shown view told) (output.shown view c.text) h.last) ∙ ap (λ (l : List ℕ). l ++ h.last) (sym (shown_append view told c.text)));
   ends = h.ends;
 }
 
@@ -171,15 +160,15 @@ line_ends view m q p n line r (Bad cause) (step.Goes text) stands passes is ends
 line_ends view m q p n line r (Bad cause) (step.Ends text summary) stands passes is ends = λ lines tail.
     rw stands (bad_after view (output.outcome p n line) p (progress q) n cause _ text.items summary (subst (Passes (output.outcome p n line) p (progress q)) is passes) ends)
 
-module _ (view : View) (s new : Story) (m n : ℕ) (bytes : List ℕ) (line : Line) (r : Result Reply LineError) (short : length bytes ≤ 4096) (reads : line_of bytes ≡ Some line) (calls : Calls (λ m. output.calls s m line) s new r) where
-  makes_call : output.outcome (output.Reading s m) n bytes ≡ output.calls s m line
+module _ (view : View) (s new : Story) (m n : ℕ) (bytes : List ℕ) (line : Line) (r : Result Reply LineError) (short : length bytes ≤ 4096) (reads : line_of bytes ≡ Some line) (calls : Calls (λ m. output.calls s m (output.call_of line)) s new r) where
+  makes_call : output.outcome (output.Reading s m) n bytes ≡ output.calls s m (output.call_of line)
   makes_call = rw (le-ltb 4096 (length bytes) short, reads) refl
 
   -- what becomes of a line whose call is made
   pub call_goes : (reply : Reply) (text : List ℕ) → r ≡ Ok reply → text ≡ output.shown view (output.told new reply)
       → (lines : List (List ℕ)) (tail more : List ℕ) (summary : Summary) → allowed view (Reading new m) (n + 1) lines tail more summary → allowed view (Reading s m) n (bytes ∷ lines) tail (text ++ more) summary
   call_goes reply text is shows lines tail more summary written =
-      let due : output.outcome (output.Reading s m) n bytes ≡ output.Goes (output.Reading new m) (output.told new reply) = makes_call ∙ subst (Calls (λ m. output.calls s m line) s new) is calls m in
+      let due : output.outcome (output.Reading s m) n bytes ≡ output.Goes (output.Reading new m) (output.told new reply) = makes_call ∙ subst (Calls (λ m. output.calls s m (output.call_of line)) s new) is calls m in
       told_after view (output.outcome (output.Reading s m) n bytes) (output.Reading s m) (output.Reading new m) n (output.told new reply) text _ more summary (rw due (refl, refl)) shows written
 
   pub call_goes_on : (reply : Reply) (t : Step) → r ≡ Ok reply → GoesWith (output.shown view (output.told new reply)) t → Follows (allowed view) (Reading s m) (Reading new m) n bytes t
@@ -188,7 +177,7 @@ module _ (view : View) (s new : Story) (m n : ℕ) (bytes : List ℕ) (line : Li
 
   -- what becomes of a line whose call is refused
   pub call_ends : (e : LineError) (t : Step) → r ≡ Err e → EndsFor view (output.Reading new m) n e t → Follows (allowed view) (Reading s m) (Reading new m) n bytes t
-  call_ends e t is ends = line_ends view (Reading s m) (Reading new m) (output.Reading s m) n bytes (Err e) e t refl (rw makes_call (subst (Calls (λ m. output.calls s m line) s new) is calls m)) refl ends
+  call_ends e t is ends = line_ends view (Reading s m) (Reading new m) (output.Reading s m) n bytes (Err e) e t refl (rw makes_call (subst (Calls (λ m. output.calls s m (output.call_of line)) s new) is calls m)) refl ends
 
 -- the text and the summary at a list that is refused
 refused_at : (view : View) (due : Result output.Progress output.BadLine) (p q : output.Progress) (line : output.BadLine) (next : output.Progress → output.Course) (text : List ℕ) (summary : Summary) → due ≡ Err line → KeepsTotal p q

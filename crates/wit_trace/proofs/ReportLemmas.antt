@@ -2,14 +2,13 @@
 use Rattle.std.proofs.Common.{◌≡◌, ℕ, ◌+◌, ◌≤◌, Bool, true, false, cond, ltb, length, List, [], ◌∷◌, Option, None, Some, Result, Ok, Err, refl, ap, subst, arith}
 use Rattle.std.proofs.lemmas.List.Sums.{sum_by-cons}
 use Rattle.wit_model.specs.declared.calls.Call.{Call}
-use Rattle.wit_model.specs.declared.calls.Call.TheVariants as call
 use Rattle.wit_model.specs.declared.calls.Reply.{Reply}
 use Rattle.wit_model.specs.declared.calls.Entry.{Entry}
 use Rattle.wit_model.specs.declared.faults.Fault.{Fault}
 use Rattle.wit_model.specs.declared.lines.Cause.{Cause}
 use Rattle.wit_model.specs.declared.lines.Cause.TheVariants as why
 use Rattle.wit_model.specs.declared.lines.Line.{Line}
-use Rattle.wit_model.specs.declared.lines.Line.TheVariants.{Header, Order, Bless, Init, Check, Lock, Try, GiveUp, Unlock, Destroy, Upgrade, Downgrade, NoRelease, ReleaseOk, Assert, Warn, Define, Watch}
+use Rattle.wit_model.specs.declared.lines.Line.TheVariants.{Header, Order, Bless}
 use Rattle.wit_model.specs.declared.assertions.AssertAnswer.{AssertAnswer}
 use Rattle.wit_model.specs.declared.locks.Instance.{Instance}
 use Rattle.wit_model.specs.Rules.Assertions.{step_assert}
@@ -18,7 +17,6 @@ use Rattle.wit_model.specs.Rules.Sizes.{Sizes, sizes_of, are_within}
 use Rattle.wit_model.specs.Rules.Warnings.{warned, step_warn}
 use Rattle.wit_model.specs.Trace.Reading.{line_of}
 use Rattle.wit_model.specs.Trace.Views.{assert_text, warn_text}
-use Rattle.wit_trace.proofs.ReplayLemmas.{check_at, try_at}
 use Rattle.wit_model.specs.Rules.History.{reports_of, is_report}
 use Rattle.wit_model.specs.Rules.State.{Story, state_of, typed_locks}
 use Rattle.wit_model.specs.Rules.Step.{answer_of, grown, logged, is_logged}
@@ -79,37 +77,25 @@ warns_one : (s : Story) (n : ℕ) (counted : List Instance) (r : Result ℕ Faul
 warns_one s n counted (Ok count) = remarks_one s n (warn_text (typed_locks s.start s.history) s.files counted)
 warns_one s n counted (Err fault) = tt
 
-pub calls_one : (s : Story) (n : ℕ) (line : Line) → CountsOne (reports_of s.history + n) (output.calls s n line)
-calls_one s n (Init seat lock) = makes_one s n seat.0 (call.Init lock)
-calls_one s n (Check seat lock mode ops file line) = file_one s n seat.0 (check_at lock mode ops line) file (naming_answer s file)
-calls_one s n (Lock seat lock) = makes_one s n seat.0 (call.Note lock)
-calls_one s n (Try seat lock mode file line) = file_one s n seat.0 (try_at lock mode line) file (naming_answer s file)
-calls_one s n (GiveUp seat lock) = makes_one s n seat.0 (call.GiveUp lock)
-calls_one s n (Unlock seat lock mode) = makes_one s n seat.0 (call.Unlock lock mode)
-calls_one s n (Destroy seat lock) = makes_one s n seat.0 (call.Destroy lock)
-calls_one s n (Upgrade seat lock) = makes_one s n seat.0 (call.Upgrade lock)
-calls_one s n (Downgrade seat lock) = makes_one s n seat.0 (call.Downgrade lock)
-calls_one s n (NoRelease seat lock) = makes_one s n seat.0 (call.NoRelease lock)
-calls_one s n (ReleaseOk seat lock) = makes_one s n seat.0 (call.ReleaseOk lock)
-calls_one s n (Assert seat lock flags) = asserts_one s n lock.0 (step_assert (state_of s) seat.0 lock.0 flags)
-calls_one s n (Warn seat lock flags) = warns_one s n (warned (state_of s) seat.0 lock flags) (step_warn (state_of s) seat.0 lock flags)
-calls_one s n (Define seat first second) = makes_one s n seat.0 (call.DefineOrder first second)
-calls_one s n (Watch seat watch) = makes_one s n seat.0 (call.SetWatch watch)
-calls_one s n (Header seats types locks chunks) = tt
-calls_one s n (Order list) = tt
-calls_one s n (Bless first second) = tt
+pub calls_one : (s : Story) (n : ℕ) (c : output.LineCall) → CountsOne (reports_of s.history + n) (output.calls s n c)
+calls_one s n (output.Logs t c) = makes_one s n t c
+calls_one s n (output.LogsAt t file c) = file_one s n t c file (naming_answer s file)
+calls_one s n (output.Asserts t lock flags) = asserts_one s n lock.0 (step_assert (state_of s) t lock.0 flags)
+calls_one s n (output.Warns t lock flags) =
+    warns_one s n (warned (state_of s) t lock flags) (step_warn (state_of s) t lock flags)
+calls_one s n output.NoCall = tt
 
 header_one : (sizes : Sizes) (fits : Bool) → CountsOne 0 (cond fits (output.Goes (output.Opening (output.empty_prelude sizes)) []) (output.Bad why.Limit))
 header_one sizes true = omega arith
 header_one sizes false = tt
 
 entered_one : (p : output.Progress) (n : ℕ) (line : Line) → CountsOne (reported p) (output.entered p n line)
-entered_one output.Unstarted n (Header seats types locks chunks) = header_one (sizes_of seats types locks chunks output.log_limit) (are_within (sizes_of seats types locks chunks output.log_limit))
+entered_one output.Unstarted n (Header version seats types locks chunks) = header_one (sizes_of seats types locks chunks output.log_limit) (are_within (sizes_of seats types locks chunks output.log_limit))
 entered_one output.Unstarted n _ = tt
 entered_one (output.Opening p) n (Order list) = omega arith
 entered_one (output.Opening p) n (Bless first second) = omega arith
 entered_one (output.Opening p) n _ = tt
-entered_one (output.Reading s m) n line = calls_one s m line
+entered_one (output.Reading s m) n line = calls_one s m (output.call_of line)
 
 outcome_one : (p : output.Progress) (n : ℕ) (bytes : List ℕ) → CountsOne (reported p) (output.outcome p n bytes)
 outcome_one p n bytes = go (ltb 4096 (length bytes)) (line_of bytes)
@@ -158,9 +144,12 @@ calls_on due old new m (Err Memory) one goes fails = tt
 calls_on (output.Goes q text) old new m (Err (Bad cause)) one goes fails = elim (fails (Bad cause) refl) [ ]
 calls_on (output.Bad why) old new m (Err (Bad cause)) one goes fails = let e = keeps_reports (output.Reading old m) (output.Reading new m) (fails (Bad cause) refl).1 in omega (arith, e)
 
-module _ (old new : Story) (m : ℕ) (line : Line) (r : Result Reply LineError) (calls : Calls (λ m. output.calls old m line) old new r) where
+module _ (old new : Story) (m : ℕ) (line : Line) (r : Result Reply LineError) (calls : Calls (λ m. output.calls old m (output.call_of line)) old new r) where
   one_call : CallsOn old new m r
-  one_call = calls_on (output.calls old m line) old new m r (calls_one old m line) (λ reply is. subst (Calls (λ m. output.calls old m line) old new) is calls m) (λ e is. subst (Calls (λ m. output.calls old m line) old new) is calls m)
+  one_call =
+      calls_on (output.calls old m (output.call_of line)) old new m r (calls_one old m (output.call_of line))
+      (λ reply is. subst (Calls (λ m. output.calls old m (output.call_of line)) old new) is calls m)
+      (λ e is. subst (Calls (λ m. output.calls old m (output.call_of line)) old new) is calls m)
 
   -- a line on a lock whose call is made
   pub made_one : (reply : Reply) → r ≡ Ok reply → reports_of new.history + m ≤ reports_of old.history + m + 1

@@ -17,7 +17,7 @@ some_view Locks s = (all_locks_text s, (false, (refl, refl)))
 some_view Circle s = let told = circle_told (state_of s) in (circle_text (state_of s) told.0, (is_some told.0, (told.0, told.1, refl, refl)))
 
 abbrev pub some_last : (view : View) (ending : output.Ending) → (text : List ℕ) × ((circle : Bool) × output.IsLast view ending text circle)
-some_last view (output.AllRead s told) = some_view view s
+some_last view (output.AllRead s m) = some_view view s
 some_last view (output.EndsBad p bad) = (output.bad_text bad.0 bad.1, (false, (refl, refl)))
 
 -- a summary with these figures
@@ -28,4 +28,4 @@ abbrev pub some_output : (view : View) (p : output.Progress) (n : ℕ) (lines : 
 some_output view p n lines tail =
     let c = output.course_from p n lines tail in
     let last = some_last view c.ending in
-    (output.shown view c.told ++ last.0, (summary_of (output.total_of c.ending) last.1.0, record { is_shown = record { last = last.0; parts = refl; ends = last.1.1 }; summed = refl }))
+    (output.shown view c.text ++ last.0, (summary_of (output.total_of c.ending) last.1.0, record { is_shown = record { last = last.0; parts = refl; ends = last.1.1 }; summed = refl }))

@@ -27,7 +27,7 @@ prelude_of p = record { start = start_of p.limits p.lists.items p.blessed.items;
 abbrev pub progress : Replaying → output.Progress
 progress Unstarted = output.Unstarted
 progress (Opening prelude) = output.Opening (prelude_of prelude)
-progress (Reading story told) = output.Reading story told
+progress (Reading story remarks) = output.Reading story remarks
 
 -- whether the prelude ends before this line
 abbrev pub ends_prelude : output.Progress → List ℕ → Bool

@@ -1,18 +1,16 @@
 //! The replay of a trace by the verifier.
 
-ghost use Rattle.std.specs.Prelude.{◌≡◌, ◌⊎◌, ◌+◌, ◌<◌, ◌≤◌, ◌^◌, ℕ, List, length, true, false, Some, IsTrue, IfOk, OnErr};
-ghost use Rattle.wit_model.specs.declared.lines.Cause.{Cause};
-ghost use Rattle.wit_model.specs.declared.lines.View.{View};
-ghost use Rattle.wit_model.specs.Trace.Output.{Unstarted, reached, entered, outcome, bad_text, summed};
-ghost use Rattle.wit_grammar.specs.declared.errors.LineError.TheVariants.{Bad};
+ghost use Rattle.std.specs.Prelude.{◌≡◌, ◌⊎◌, ◌+◌, ◌<◌, ◌≤◌, ℕ, List, length, true, IsTrue, IfOk, OnErr};
+ghost use Rattle.wit_model.specs.Trace.Output.{Unstarted, reached, entered, outcome};
 ghost use Rattle.wit_trace.specs.Machine.{Follows};
 ghost use Rattle.wit_trace.specs.Outputs.{some_output};
-ghost use Rattle.wit_trace.specs.Replays.{allowed, ends_prelude, progress, reported, total, EndsFor, Reaches, Passes, Shows, ShowsFrom};
+ghost use Rattle.wit_trace.specs.Replays.{allowed, ends_prelude, progress, reported, Reaches, Passes, Shows, ShowsFrom};
 ghost use Rattle.wit_trace.specs.Stream.{IsSpent, ReadsToEnd, WritesFront, WritesLines, WritesOutput};
 ghost use Rattle.wit_grammar.specs.declared.parse.TheConstants.{LONGEST};
 
 mod bad_lines;
 mod calls;
+mod endings;
 mod prelude;
 mod views;
 
@@ -20,8 +18,7 @@ use crate::stream::machine::{Machine, Step};
 use crate::stream::ports::{Failures, Ports};
 use crate::stream::run;
 use crate::summary::{ReplayError, Summary};
-use bad_lines::bad_text;
-use calls::{call_on_lock, enter_line, told_step};
+use calls::{call_on_lock, enter_line, reply_step};
 use prelude::{Prelude, add_line, is_prelude, new_prelude, open};
 use std::alloc::{AllocError, Global};
 use std::io::{BufRead, Write};
@@ -29,7 +26,7 @@ use std::mem;
 use views::{last_text, shown};
 use wit_core::Verifier;
 use wit_grammar::{LineError, parse_line, parse_lock_line};
-use wit_model::{Boxed, Cause, Limits, Line, View};
+use wit_model::{Cause, Limits, Line, View};
 
 /// The log's limit in a replay.
 const LOG: u32 = 16_777_216;
@@ -108,7 +105,7 @@ enum Replaying {
     Reading {
         verifier: Verifier,
         /// Failed assertions and warnings: no log holds them.
-        told: u64,
+        remarks: u64,
     },
 }
 
@@ -136,7 +133,10 @@ impl Replaying {
         match mem::replace(self, Replaying::Unstarted) {
             Replaying::Opening(prelude) => match open(alloc, prelude)? {
                 Ok(verifier) => {
-                    *self = Replaying::Reading { verifier, told: 0 };
+                    *self = Replaying::Reading {
+                        verifier,
+                        remarks: 0,
+                    };
                     Ok(None)
                 }
                 Err(bad) => Ok(Some(bad)),
@@ -200,7 +200,7 @@ impl Replaying {
         match self {
             Replaying::Unstarted => self.start(alloc, line),
             Replaying::Opening(prelude) => add_line(alloc, prelude, number, line),
-            Replaying::Reading { verifier, told } => enter_line(alloc, verifier, told, line),
+            Replaying::Reading { verifier, remarks } => enter_line(alloc, verifier, remarks, line),
         }
     }
 
@@ -214,6 +214,7 @@ impl Replaying {
             types,
             locks,
             chunks,
+            ..
         } = line
         else {
             return Err(LineError::SYNTAX);
@@ -223,59 +224,6 @@ impl Replaying {
         };
         *self = Replaying::Opening(new_prelude(alloc, limits));
         Ok(Vec::new(alloc))
-    }
-
-    fn summary(&self, circle: bool, bad: Option<(u64, Cause)>) -> Summary
-        requires { reported (progress self.now) < 2 ^ 64 }
-        ensures total { total result ≡ summed (progress self.now) bad }
-        ensures circle { result.circle ≡ circle }
-    {
-        let (calls, reports) = match self {
-            Replaying::Reading { verifier, told } => (
-                verifier.history().len() as u64,
-                u64::from(verifier.reports()) + *told,
-            ),
-            Replaying::Unstarted | Replaying::Opening(_) => (0, 0),
-        };
-        Summary {
-            calls,
-            reports,
-            circle,
-            bad,
-        }
-    }
-
-    // What becomes of a line that is bad, or found no memory.
-    #[cold]
-    #[inline(never)]
-    fn ended_step(&self, alloc: Global, number: u64, error: LineError) -> Result<Step, AllocError>
-        requires { (cause : Cause) → error ≡ Bad cause → reported (progress self.now) < 2 ^ 64 }
-        ensures { (view : View) → IfOk result (EndsFor view (progress self.now) number error) }
-    {
-        match error {
-            LineError::Bad(cause) => {
-                let (text, summary) = self.ended(alloc, number, cause)?;
-                Ok(Step::Ends(text, Boxed::new(alloc, summary)?))
-            }
-            LineError::Memory => Err(AllocError),
-        }
-    }
-
-    // The last text and the summary at a bad line.
-    fn ended(
-        &self,
-        alloc: Global,
-        number: u64,
-        cause: Cause,
-    ) -> Result<(Vec<u8>, Summary), AllocError>
-        requires { reported (progress self.now) < 2 ^ 64 }
-        ensures text { IfOk result (λ r. r.0.items ≡ bad_text number cause) }
-        ensures total { IfOk result (λ r. total r.1 ≡ summed (progress self.now) (Some (number, cause))) }
-        ensures circle { IfOk result (λ r. r.1.circle ≡ false) }
-    {
-        let text = bad_text(alloc, number, cause)?;
-        let summary = self.summary(false, Some((number, cause)));
-        Ok((text.into_bytes(), summary))
     }
 }
 
@@ -294,7 +242,7 @@ impl Machine for Replaying {
         if let Replaying::Reading { verifier, .. } = self {
             if let Some(line) = parse_lock_line(bytes) {
                 return match call_on_lock(verifier, line) {
-                    Ok(reply) => told_step(alloc, view, verifier, reply),
+                    Ok(reply) => reply_step(alloc, view, verifier, reply),
                     Err(error) => self.ended_step(alloc, number, error),
                 };
             }

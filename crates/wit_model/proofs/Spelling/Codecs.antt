@@ -1,8 +1,8 @@
 -- What a printer and a reader have to do with each other: printed and read again, and read only where it was printed so.
-use Rattle.std.proofs.Common.{◌≡◌, ℕ, Bool, true, false, cond, eqb, List, [], ◌∷◌, ◌++◌, length, Option, Some, None, refl, sym, ap, subst, ◌∙◌, arith}
+use Rattle.std.proofs.Common.{◌≡◌, ℕ, Bool, true, false, cond, not, eqb, List, [], ◌∷◌, ◌++◌, length, Option, Some, None, refl, sym, ap, subst, ◌∙◌, arith}
 use Rattle.std.specs.List.{list_all}
 use Rattle.std.specs.Str.{bytes_eq}
-use Rattle.std.proofs.lemmas.Bool.{and_parts, eqb-true, eq-eqb}
+use Rattle.std.proofs.lemmas.Bool.{and_parts, eqb-true, eq-eqb, not-true}
 use Rattle.std.proofs.lemmas.List.{take_at, drop_at, take-append-drop, nil_from_length}
 use Rattle.std.proofs.lemmas.Option.{cond_some}
 use Rattle.std.proofs.lemmas.Slice.Eq.{bytes_eq-Decides}
@@ -39,6 +39,10 @@ pub Lacks-all : (p : ℕ → Bool) (byte : ℕ) → ((b : ℕ) → p b ≡ true 
 Lacks-all p byte other [] all = tt
 Lacks-all p byte other (b ∷ bytes) all = let h = and_parts (p b) (list_all p bytes) all in (other b h.0, Lacks-all p byte other bytes h.1)
 
+-- a byte that a test doesn't find
+pub Lacks-test : (byte : ℕ) (bytes : List ℕ) → list_all (λ b. not (eqb b byte)) bytes ≡ true → Lacks byte bytes
+Lacks-test byte bytes all = Lacks-all (λ b. not (eqb b byte)) byte (λ b other. not-true _ other) bytes all
+
 pub Lacks-append : (byte : ℕ) (xs ys : List ℕ) → Lacks byte xs → Lacks byte ys → Lacks byte (xs ++ ys)
 Lacks-append byte [] ys p q = q
 Lacks-append byte (x ∷ xs) ys p q = (p.0, Lacks-append byte xs ys p.1 q)
@@ -67,17 +71,23 @@ pub record IsWord {A : Type 0} (text : A → List ℕ) (read : List ℕ → Opti
   pub again : (a : A) → Fits a → read (text a) ≡ Some a
   pub takes : (word : List ℕ) (a : A) → read word ≡ Some a → (word ≡ text a) × Fits a
 
--- each entry of a table is a value with its text
-abbrev pub IsTable : {A : Type 0} → (A → List ℕ) → List (List ℕ × A) → Type 0
-IsTable text [] = Unit {0}
-IsTable text (entry ∷ table) = (entry.0 ≡ text entry.1) × IsTable text table
+pub named_takes : {A : Type 0} (text : A → List ℕ) (values : List A) (word : List ℕ) (a : A)
+    → named text values word ≡ Some a → word ≡ text a
+named_takes text [] word a e = absurd cc
+named_takes text (value ∷ values) word a e =
+    chosen (word ≡ text a) (bytes_eq word (text value)) (Some value) (named text values word) a
+    (λ is same. (bytes_eq-Decides word (text value)).0 is ∙ ap text (some_is value a same))
+    (λ other. named_takes text values word a) e
 
-pub named_takes : {A : Type 0} (text : A → List ℕ) (table : List (List ℕ × A)) → IsTable text table → (word : List ℕ) (a : A) → named table word ≡ Some a → word ≡ text a
-named_takes text [] fits word a e = absurd cc
-named_takes text (entry ∷ table) fits word a e =
-    chosen (word ≡ text a) (bytes_eq word entry.0) (Some entry.1) (named table word) a
-    (λ is same. (bytes_eq-Decides word entry.0).0 is ∙ fits.0 ∙ ap text (some_is entry.1 a same))
-    (λ other. named_takes text table fits.1 word a) e
+-- values whose texts are words, each with a text of its own, are told by these
+pub named_word : {A : Type 0} (text : A → List ℕ) (values : List A)
+    → ((a : A) → list_all (λ b. not (eqb b 32)) (text a) ≡ true)
+    → ((a : A) → named text values (text a) ≡ Some a) → IsWord text (named text values) (λ a. Unit {0})
+named_word text values plain again = record {
+  plain = λ a fits. Lacks-test 32 (text a) (plain a);
+  again = λ a fits. again a;
+  takes = λ word a e. (named_takes text values word a e, tt);
+}
 
 -- ---- fields
 

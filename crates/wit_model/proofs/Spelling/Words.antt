@@ -1,4 +1,4 @@
--- The words of a line are printed and read alike: numbers, classes, modes, letters, places.
+-- The words of a line are printed and read alike: numbers, letters, places.
 use Rattle.std.proofs.Common.{◌≡◌, ℕ, zero, suc, ◌+◌, ◌*◌, ◌/◌, ◌%◌, ◌^◌, ◌<◌, ◌≤◌, Bool, true, false, cond, not, ◌&&◌, ◌||◌, eqb, ltb, List, [], ◌∷◌, ◌++◌, length, get_or, Option, Some, None, refl, sym, ap, pow-suc, subst, ◌∙◌, arith, rules, codes, inl, inr, ◌⊎◌}
 use Rattle.std.specs.Prelude.{IsTrue}
 use Rattle.std.specs.List.{list_all}
@@ -13,16 +13,10 @@ use Rattle.std.proofs.lemmas.Nat.{pow_pos}
 use Rattle.std.proofs.lemmas.Option.{cond_some}
 use Rattle.std.proofs.lemmas.Slice.Eq.{bytes_eq-Decides}
 use Rattle.std.proofs.lemmas.Str.Parse.{IsNumeralModel, numerals_by_value}
-use Rattle.wit_model.specs.Trace.Reading.{◌>>=◌, is_numeral, number_of, class_of, mode_of, level_of, bits_of, flags_of, accepted, parted_before, parted_at_last, site_of}
-use Rattle.wit_model.specs.Trace.Spelling.{class_text, mode_text, level_text, chosen_letters, flags_text, site_text}
+use Rattle.wit_model.specs.Trace.Reading.{◌>>=◌, is_numeral, number_of, bits_of, flags_of, accepted, parted_before, parted_at_last, site_of}
+use Rattle.wit_model.specs.Trace.Spelling.{chosen_letters, flags_text, site_text}
 use Rattle.wit_model.specs.Rules.Names.{is_file_name, is_file_byte}
-use Rattle.wit_model.specs.declared.locks.Class.{Class}
-use Rattle.wit_model.specs.declared.locks.Class.TheVariants.{SleepMutex, SpinMutex, Rw, Sx}
-use Rattle.wit_model.specs.declared.locks.Mode.{Mode}
-use Rattle.wit_model.specs.declared.locks.Mode.TheVariants.{Shared, Exclusive}
-use Rattle.wit_model.specs.declared.locks.Watch.{Watch}
-use Rattle.wit_model.specs.declared.locks.Watch.TheVariants.{On, Quiet, Off}
-use Rattle.wit_model.proofs.Spelling.Codecs.{IsWord, Lacks, Lacks-all, Lacks-append, bind_some, some_is, chosen, named_takes}
+use Rattle.wit_model.proofs.Spelling.Codecs.{IsWord, Lacks, Lacks-all, Lacks-append, bind_some, some_is, chosen}
 
 -- ---- numbers
 
@@ -74,62 +68,6 @@ number_word bound least = record {
           | inl other ↦ absurd (both_ways _ (not-true _ other) (eq-eqb _ _ first))
           | inr one ↦ eqb-true _ _ one
         ]
-
--- ---- words of a table
-
-pub class_word : IsWord class_text class_of (λ class. Unit {0})
-unfolding class_of
-class_word = record {
-  plain = λ class fits. class_plain class;
-  again = λ class fits. class_again class;
-  takes = λ word class e. (named_takes class_text ((class_text SleepMutex, SleepMutex) ∷ (class_text SpinMutex, SpinMutex) ∷ (class_text Rw, Rw) ∷ (class_text Sx, Sx) ∷ []) (refl, (refl, (refl, (refl, tt)))) word class e, tt);
-}
-  where
-    class_plain : (class : Class) → Lacks 32 (class_text class)
-    class_plain SleepMutex = (refl, (refl, (refl, tt)))
-    class_plain SpinMutex = (refl, (refl, (refl, (refl, tt))))
-    class_plain Rw = (refl, (refl, tt))
-    class_plain Sx = (refl, (refl, tt))
-
-    class_again : (class : Class) → class_of (class_text class) ≡ Some class
-    class_again SleepMutex = refl
-    class_again SpinMutex = refl
-    class_again Rw = refl
-    class_again Sx = refl
-
-pub mode_word : IsWord mode_text mode_of (λ mode. Unit {0})
-unfolding mode_of
-mode_word = record {
-  plain = λ mode fits. mode_plain mode;
-  again = λ mode fits. mode_again mode;
-  takes = λ word mode e. (named_takes mode_text ((mode_text Shared, Shared) ∷ (mode_text Exclusive, Exclusive) ∷ []) (refl, (refl, tt)) word mode e, tt);
-}
-  where
-    mode_plain : (mode : Mode) → Lacks 32 (mode_text mode)
-    mode_plain Shared = (refl, tt)
-    mode_plain Exclusive = (refl, tt)
-
-    mode_again : (mode : Mode) → mode_of (mode_text mode) ≡ Some mode
-    mode_again Shared = refl
-    mode_again Exclusive = refl
-
-pub level_word : IsWord level_text level_of (λ watch. Unit {0})
-unfolding level_of
-level_word = record {
-  plain = λ watch fits. level_plain watch;
-  again = λ watch fits. level_again watch;
-  takes = λ word watch e. (named_takes level_text ((level_text On, On) ∷ (level_text Quiet, Quiet) ∷ (level_text Off, Off) ∷ []) (refl, (refl, (refl, tt))) word watch e, tt);
-}
-  where
-    level_plain : (watch : Watch) → Lacks 32 (level_text watch)
-    level_plain On = (refl, tt)
-    level_plain Quiet = (refl, tt)
-    level_plain Off = (refl, (refl, tt))
-
-    level_again : (watch : Watch) → level_of (level_text watch) ≡ Some watch
-    level_again On = refl
-    level_again Quiet = refl
-    level_again Off = refl
 
 -- ---- letters
 

@@ -4,13 +4,23 @@ use Rattle.std.specs.Fmt.{decimal}
 use Rattle.std.specs.Str.{bytes_eq}
 use Rattle.wit_model.specs.declared.faults.Fault.{Fault}
 use Rattle.wit_model.specs.declared.lines.Line.{Line}
-use Rattle.wit_model.specs.declared.lines.Line.TheVariants.{Header, Order, Bless, Init, Check, Lock, Try, GiveUp, Unlock, Destroy, Upgrade, Downgrade, NoRelease, ReleaseOk, Assert, Warn, Define, Watch}
+use Rattle.wit_model.specs.declared.lines.Line.TheVariants.{Header, Order, Bless, Init, OnLock, Assert, Warn, Define, Watch}
+use Rattle.wit_model.specs.declared.lines.LockLine.{LockLine}
+use Rattle.wit_model.specs.declared.lines.LockLine.TheVariants.{Check, Try, Unlock, Plain}
+use Rattle.wit_model.specs.declared.lines.Verb.{Verb}
+use Rattle.wit_model.specs.declared.lines.Verb.TheVariants.{Note, GiveUp, Destroy, Upgrade, Downgrade, NoRelease, ReleaseOk}
 use Rattle.wit_model.specs.declared.lines.View as view
 use Rattle.wit_model.specs.declared.lines.View.TheVariants.{Reports, Graph, Locks, Circle}
 use Rattle.wit_model.specs.declared.lines.Cause as cause
 use Rattle.wit_model.specs.declared.lines.Cause.TheVariants as why
+use Rattle.wit_model.specs.declared.flags.LockAssert.{LockAssert}
+use Rattle.wit_model.specs.declared.flags.OpFlags.{OpFlags}
+use Rattle.wit_model.specs.declared.flags.WarnFlags.{WarnFlags}
 use Rattle.wit_model.specs.declared.locks.Class.{Class}
 use Rattle.wit_model.specs.declared.locks.Instance.{Instance}
+use Rattle.wit_model.specs.declared.locks.LockNo.{LockNo}
+use Rattle.wit_model.specs.declared.locks.Mode.{Mode}
+use Rattle.wit_model.specs.declared.locks.Site.{Site}
 use Rattle.wit_model.specs.declared.assertions.AssertAnswer.{AssertAnswer}
 use Rattle.wit_model.specs.declared.calls.Call.{Call}
 use Rattle.wit_model.specs.declared.calls.Call.TheVariants as call
@@ -36,8 +46,8 @@ pub record Prelude : Type 0 where
   pub start : Start
   pub lines : List ℕ
 
--- how far the reading is: before the header, in the prelude, or behind it, with the verifier's story and the number of failed assertions
--- and warnings that were told, which no log holds
+-- how far the reading is: before the header, in the prelude, or behind it, with the verifier's story
+-- and the number of failed assertions and warnings so far, which no log holds
 pub data Progress : Type 0 where
   Unstarted : Progress
   Opening : Prelude → Progress
@@ -50,15 +60,21 @@ pub data Outcome : Type 0 where
 
 -- nothing but the sizes
 abbrev pub empty_prelude : Sizes → Prelude
-empty_prelude sizes = record { start = record { sizes = sizes; lists = []; blessed = [] }; lines = [] }
+empty_prelude sizes =
+    record { start = record { sizes = sizes; lists = []; blessed = [] }; lines = [] }
 
 -- one more list, from the line with this number
 abbrev pub with_list : Prelude → ℕ → List (Class × List ℕ) → Prelude
-with_list p n list = record { start = record p.start { lists = p.start.lists ++ list ∷ [] }; lines = p.lines ++ n ∷ [] }
+with_list p n list =
+    record {
+      start = record p.start { lists = p.start.lists ++ list ∷ [] };
+      lines = p.lines ++ n ∷ [];
+    }
 
 -- one more pair that may be taken in either order
 abbrev pub with_pair : Prelude → List ℕ → List ℕ → Prelude
-with_pair p a b = record p { start = record p.start { blessed = p.start.blessed ++ (a, b) ∷ [] } }
+with_pair p a b =
+    record p { start = record p.start { blessed = p.start.blessed ++ (a, b) ∷ [] } }
 
 -- the number of a bad line, and why it is bad
 abbrev pub BadLine : Type 0
@@ -73,10 +89,11 @@ abbrev pub opened : Prelude → Option (ℕ × Fault) → Result Progress BadLin
 opened p None = Ok (Reading (fresh p.start) 0)
 opened p (Some refused) = Err (unwrap_or (with_number p.lines refused.0) 0, why.Fault refused.1)
 
--- where the reading stands when a line is looked at: before a line that doesn't begin as those of the prelude do, and at the
--- end of the input, the prelude ends
+-- where the reading stands when a line is looked at: before a line that doesn't begin as those of the
+-- prelude do, and at the end of the input, the prelude ends
 abbrev pub reached : Progress → List ℕ → Result Progress BadLine
-reached (Opening p) line = if is_prelude line then Ok (Opening p) else opened p (start_fault p.start)
+reached (Opening p) line =
+    if is_prelude line then Ok (Opening p) else opened p (start_fault p.start)
 reached p line = Ok p
 
 -- the text of a reply, as things stand once it was given
@@ -85,7 +102,8 @@ told s reply = report_text (known_of s.start s.history) s.files reply
 
 -- a call is made: its reply is told, and logged unless the call was passed over; or the line is bad
 abbrev pub called : Story → ℕ → ℕ → Call → Result Reply Fault → Outcome
-called s n t call (Ok reply) = Goes (Reading (grown s t call reply) n) (told (grown s t call reply) reply)
+called s n t call (Ok reply) =
+    Goes (Reading (grown s t call reply) n) (told (grown s t call reply) reply)
 called s n t call (Err fault) = Bad (why.Fault fault)
 
 abbrev pub makes : Story → ℕ → ℕ → Call → Outcome
@@ -120,37 +138,75 @@ asserts s n l (Err fault) = Bad (why.Fault fault)
 
 -- a warning of these locks, where the call isn't refused
 abbrev pub warns : Story → ℕ → List Instance → Result ℕ Fault → Outcome
-warns s n counted (Ok count) = remarks s n (warn_text (typed_locks s.start s.history) s.files counted)
+warns s n counted (Ok count) =
+    remarks s n (warn_text (typed_locks s.start s.history) s.files counted)
 warns s n counted (Err fault) = Bad (why.Fault fault)
 
+-- what a line has a verifier do: a call of a seat, perhaps with the number of a file; an assertion or
+-- a warning, which aren't logged; or nothing
+pub data LineCall : Type 0 where
+  Logs : ℕ → Call → LineCall
+  LogsAt : ℕ → List ℕ → (ℕ → Call) → LineCall
+  Asserts : ℕ → LockNo → LockAssert → LineCall
+  Warns : ℕ → Option LockNo → WarnFlags → LineCall
+  NoCall : LineCall
+
+-- the call of a verb
+abbrev pub verb_call : Verb → LockNo → Call
+verb_call Note = call.Note
+verb_call GiveUp = call.GiveUp
+verb_call Destroy = call.Destroy
+verb_call Upgrade = call.Upgrade
+verb_call Downgrade = call.Downgrade
+verb_call NoRelease = call.NoRelease
+verb_call ReleaseOk = call.ReleaseOk
+
+-- a line of the file with this number
+abbrev pub site_in : ℕ → ℕ → Site
+site_in file line = record { file = record { 0 = file }; line = line }
+
+-- a request, and an acquisition without waiting, there
+abbrev pub check_in : LockNo → Mode → OpFlags → ℕ → ℕ → Call
+check_in lock mode ops line file =
+    call.Check (record { lock = lock; site = site_in file line; mode = mode; ops = ops })
+
+abbrev pub try_in : LockNo → Mode → ℕ → ℕ → Call
+try_in lock mode line file = call.NoteTry lock mode (site_in file line)
+
+abbrev pub lock_call : LockLine (List ℕ) → LineCall
+lock_call (Check seat lock mode ops file line) = LogsAt seat.0 file (check_in lock mode ops line)
+lock_call (Try seat lock mode file line) = LogsAt seat.0 file (try_in lock mode line)
+lock_call (Unlock seat lock mode) = Logs seat.0 (call.Unlock lock mode)
+lock_call (Plain verb seat lock) = Logs seat.0 (verb_call verb lock)
+
+-- the call that a line makes
+abbrev pub call_of : Line → LineCall
+call_of (Init seat lock) = Logs seat.0 (call.Init lock)
+call_of (OnLock line) = lock_call line
+call_of (Assert seat lock asserted) = Asserts seat.0 lock asserted
+call_of (Warn seat lock flags) = Warns seat.0 lock flags
+call_of (Define seat first second) = Logs seat.0 (call.DefineOrder first second)
+call_of (Watch seat watch) = Logs seat.0 (call.SetWatch watch)
+call_of _ = NoCall
+
 -- a line behind the prelude makes its call
-abbrev pub calls : Story → ℕ → Line → Outcome
-calls s n (Init seat lock) = makes s n seat.0 (call.Init lock)
-calls s n (Check seat lock mode ops file line) =
-    at_file s (λ s' f. makes s' n seat.0 (call.Check (record { lock = lock; site = record { file = record { 0 = f }; line = line }; mode = mode; ops = ops }))) file (naming_answer s file)
-calls s n (Lock seat lock) = makes s n seat.0 (call.Note lock)
-calls s n (Try seat lock mode file line) =
-    at_file s (λ s' f. makes s' n seat.0 (call.NoteTry lock mode (record { file = record { 0 = f }; line = line }))) file (naming_answer s file)
-calls s n (GiveUp seat lock) = makes s n seat.0 (call.GiveUp lock)
-calls s n (Unlock seat lock mode) = makes s n seat.0 (call.Unlock lock mode)
-calls s n (Destroy seat lock) = makes s n seat.0 (call.Destroy lock)
-calls s n (Upgrade seat lock) = makes s n seat.0 (call.Upgrade lock)
-calls s n (Downgrade seat lock) = makes s n seat.0 (call.Downgrade lock)
-calls s n (NoRelease seat lock) = makes s n seat.0 (call.NoRelease lock)
-calls s n (ReleaseOk seat lock) = makes s n seat.0 (call.ReleaseOk lock)
-calls s n (Assert seat lock flags) = asserts s n lock.0 (step_assert (state_of s) seat.0 lock.0 flags)
-calls s n (Warn seat lock flags) = warns s n (warned (state_of s) seat.0 lock flags) (step_warn (state_of s) seat.0 lock flags)
-calls s n (Define seat first second) = makes s n seat.0 (call.DefineOrder first second)
-calls s n (Watch seat watch) = makes s n seat.0 (call.SetWatch watch)
-calls s n _ = Bad why.Syntax
+abbrev pub calls : Story → ℕ → LineCall → Outcome
+calls s n (Logs t call) = makes s n t call
+calls s n (LogsAt t file call) =
+    at_file s (λ s' f. makes s' n t (call f)) file (naming_answer s file)
+calls s n (Asserts t lock flags) = asserts s n lock.0 (step_assert (state_of s) t lock.0 flags)
+calls s n (Warns t lock flags) =
+    warns s n (warned (state_of s) t lock flags) (step_warn (state_of s) t lock flags)
+calls s n NoCall = Bad why.Syntax
 
 -- a line in its place, with its number
 abbrev pub entered : Progress → ℕ → Line → Outcome
-entered Unstarted n (Header seats types locks chunks) =
-    if are_within (sizes_of seats types locks chunks log_limit) then Goes (Opening (empty_prelude (sizes_of seats types locks chunks log_limit))) [] else Bad why.Limit
+entered Unstarted n (Header version seats types locks chunks) =
+    let sizes = sizes_of seats types locks chunks log_limit in
+    if are_within sizes then Goes (Opening (empty_prelude sizes)) [] else Bad why.Limit
 entered (Opening p) n (Order list) = Goes (Opening (with_list p n list)) []
 entered (Opening p) n (Bless first second) = Goes (Opening (with_pair p first second)) []
-entered (Reading s m) n line = calls s m line
+entered (Reading s m) n line = calls s m (call_of line)
 entered _ n line = Bad why.Syntax
 
 abbrev pub read_as : Progress → ℕ → Option Line → Outcome
@@ -159,7 +215,8 @@ read_as p n (Some line) = entered p n line
 
 -- a whole line, without its line feed
 abbrev pub outcome : Progress → ℕ → List ℕ → Outcome
-outcome p n line = if nat_lt longest_line (length line) then Bad why.Long else read_as p n (line_of line)
+outcome p n line =
+    if nat_lt longest_line (length line) then Bad why.Long else read_as p n (line_of line)
 
 abbrev pub cause_text : cause.Cause → List ℕ
 cause_text why.Long = codes "long"
@@ -172,28 +229,30 @@ cause_text (why.Fault fault) = fault_text fault
 abbrev pub bad_text : ℕ → cause.Cause → List ℕ
 bad_text n cause = texts.line (codes "line " ∷ decimal n ∷ codes ": " ∷ cause_text cause ∷ [])
 
--- how a reading ends: all was read, and this is the story, with the number of failed assertions and warnings; or a line is bad
+-- how a reading ends: all was read, and this is the story, with the number of failed assertions and
+-- warnings; or a line is bad
 pub data Ending : Type 0 where
   AllRead : Story → ℕ → Ending
   EndsBad : Progress → BadLine → Ending
 
 -- what a reading comes to: the texts told of its lines, one behind another, and how it ends
 pub record Course : Type 0 where
-  pub told : List ℕ
+  pub text : List ℕ
   pub ending : Ending
 
 -- the reading ends at a bad line
 abbrev pub ends_bad : Progress → BadLine → Course
-ends_bad p bad = record { told = []; ending = EndsBad p bad }
+ends_bad p bad = record { text = []; ending = EndsBad p bad }
 
 -- or after the last whole line, if the header came
 abbrev pub ends : Progress → ℕ → List ℕ → Course
-ends (Reading s m) n [] = record { told = []; ending = AllRead s m }
+ends (Reading s m) n [] = record { text = []; ending = AllRead s m }
 ends p n [] = ends_bad p (n, why.Cut)
-ends p n (b ∷ tail) = ends_bad p (n, if nat_lt longest_line (length (b ∷ tail)) then why.Long else why.Cut)
+ends p n (b ∷ tail) =
+    ends_bad p (n, if nat_lt longest_line (length (b ∷ tail)) then why.Long else why.Cut)
 
 abbrev pub before : List ℕ → Course → Course
-before text c = record { told = text ++ c.told; ending = c.ending }
+before text c = record { text = text ++ c.text; ending = c.ending }
 
 -- what follows a line
 abbrev pub course_after : Progress → ℕ → Outcome → (Progress → Course) → Course
@@ -205,25 +264,30 @@ abbrev pub course_at : Progress → Result Progress BadLine → (Progress → Co
 course_at p (Ok q) next = next q
 course_at p (Err bad) next = ends_bad p bad
 
--- from here on, where the next line has number n, these whole lines and this unfinished one are to come
+-- from here on, where the next line has number n, these whole lines and this unfinished one are to
+-- come
 abbrev pub course_from : Progress → ℕ → List (List ℕ) → List ℕ → Course
 course_from p n [] tail = course_at p (reached p tail) (λ q. ends q n tail)
-course_from p n (line ∷ lines) tail = course_at p (reached p line) (λ q. course_after q n (outcome q n line) (λ r. course_from r (n + 1) lines tail))
+course_from p n (line ∷ lines) tail =
+    course_at p (reached p line)
+    (λ q. course_after q n (outcome q n line) (λ r. course_from r (n + 1) lines tail))
 
 -- ---- what is written
 
 -- of the texts that are told of lines only the first view shows any
 abbrev pub shown : view.View → List ℕ → List ℕ
-shown Reports told = told
-shown _ told = []
+shown Reports text = text
+shown _ text = []
 
--- what is shown of a story after the whole trace, and whether that is a circle. There may be more circles than one: any may be shown that
--- starts with its least seat
+-- what is shown of a story after the whole trace, and whether that is a circle. There may be more
+-- circles than one: any may be shown that starts with its least seat
 abbrev pub IsViewOf : view.View → Story → List ℕ → Bool → Type 0
 IsViewOf Reports s text circle = (text ≡ []) × (circle ≡ false)
 IsViewOf Graph s text circle = (text ≡ graph_text s) × (circle ≡ false)
 IsViewOf Locks s text circle = (text ≡ all_locks_text s) × (circle ≡ false)
-IsViewOf Circle s text circle = (seats : Option (List ℕ)) × TellsCircle (state_of s) seats × (text ≡ circle_text (state_of s) seats) × (circle ≡ is_some seats)
+IsViewOf Circle s text circle =
+    (seats : Option (List ℕ)) × TellsCircle (state_of s) seats
+    × (text ≡ circle_text (state_of s) seats) × (circle ≡ is_some seats)
 
 -- what is shown at the end: of a bad line its text, whatever the view
 abbrev pub IsLast : view.View → Ending → List ℕ → Bool → Type 0
@@ -233,18 +297,19 @@ IsLast v (AllRead s m) text circle = IsViewOf v s text circle
 -- the text that a view shows of a reading, and whether it shows a circle
 pub record IsShown (v : view.View) (c : Course) (text : List ℕ) (circle : Bool) : Type 0 where
   pub last : List ℕ
-  pub parts : text ≡ shown v c.told ++ last
+  pub parts : text ≡ shown v c.text ++ last
   pub ends : IsLast v c.ending last circle
 
--- what a replay sums up: the calls logged; the reports among them, with the failed assertions and the warnings; and the bad line that
--- ended the reading
+-- what a replay sums up: the calls logged; the reports among them, with the failed assertions and
+-- the warnings; and the bad line that ended the reading
 pub record Total : Type 0 where
   pub calls : ℕ
   pub reports : ℕ
   pub bad : Option BadLine
 
 abbrev pub summed : Progress → Option BadLine → Total
-summed (Reading s m) bad = record { calls = length s.history; reports = reports_of s.history + m; bad = bad }
+summed (Reading s m) bad =
+    record { calls = length s.history; reports = reports_of s.history + m; bad = bad }
 summed _ bad = record { calls = 0; reports = 0; bad = bad }
 
 abbrev pub total_of : Ending → Total

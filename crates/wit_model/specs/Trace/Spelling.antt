@@ -3,7 +3,15 @@ use Rattle.std.specs.Prelude.{◌≡◌, ℕ, ◌%◌, ◌/◌, ◌^◌, ◌<◌
 use Rattle.std.specs.Fmt.{decimal}
 use Rattle.std.specs.List.{list_all}
 use Rattle.wit_model.specs.declared.lines.Line.{Line}
-use Rattle.wit_model.specs.declared.lines.Line.TheVariants.{Header, Order, Bless, Init, Check, Lock, Try, GiveUp, Unlock, Destroy, Upgrade, Downgrade, NoRelease, ReleaseOk, Assert, Warn, Define, Watch}
+use Rattle.wit_model.specs.declared.lines.Line.TheVariants.{Header, Order, Bless, Init, OnLock, Assert, Warn, Define, Watch}
+use Rattle.wit_model.specs.declared.lines.LockLine.{LockLine}
+use Rattle.wit_model.specs.declared.lines.LockLine.TheVariants.{Check, Try, Unlock, Plain}
+use Rattle.wit_model.specs.declared.lines.Version.{Version}
+use Rattle.wit_model.specs.declared.lines.Version.TheVariants.{One}
+use Rattle.wit_model.specs.declared.lines.Verb.{Verb}
+use Rattle.wit_model.specs.declared.lines.Verb.TheVariants.{Note, GiveUp, Destroy, Upgrade, Downgrade, NoRelease, ReleaseOk}
+use Rattle.wit_model.specs.declared.lines.Keyword.{Keyword}
+use Rattle.wit_model.specs.declared.lines.Keyword.TheVariants as keyword
 use Rattle.wit_model.specs.declared.calls.NewLock.{NewLock}
 use Rattle.wit_model.specs.declared.locks.LockNo.{LockNo}
 use Rattle.wit_model.specs.declared.locks.Class.{Class}
@@ -13,6 +21,35 @@ use Rattle.wit_model.specs.declared.locks.Mode.TheVariants.{Shared, Exclusive}
 use Rattle.wit_model.specs.declared.locks.Watch as level
 use Rattle.wit_model.specs.declared.locks.Watch.TheVariants.{On, Quiet, Off}
 use Rattle.wit_model.specs.Rules.Names.{is_name, is_file_name}
+
+-- a version of the format
+abbrev pub version_text : Version → List ℕ
+version_text One = codes "1"
+
+-- the keyword of each verb
+abbrev pub verb_text : Verb → List ℕ
+verb_text Note = codes "lock"
+verb_text GiveUp = codes "giveup"
+verb_text Destroy = codes "destroy"
+verb_text Upgrade = codes "upgrade"
+verb_text Downgrade = codes "downgrade"
+verb_text NoRelease = codes "norelease"
+verb_text ReleaseOk = codes "releaseok"
+
+-- the keywords of all lines
+abbrev pub keyword_text : Keyword → List ℕ
+keyword_text keyword.Header = codes "witness-trace"
+keyword_text keyword.Order = codes "order"
+keyword_text keyword.Bless = codes "bless"
+keyword_text keyword.Init = codes "init"
+keyword_text keyword.Check = codes "check"
+keyword_text keyword.Try = codes "try"
+keyword_text keyword.Unlock = codes "unlock"
+keyword_text (keyword.Plain verb) = verb_text verb
+keyword_text keyword.Assert = codes "assert"
+keyword_text keyword.Warn = codes "warn"
+keyword_text keyword.Define = codes "define"
+keyword_text keyword.Watch = codes "watch"
 
 -- a class
 abbrev pub class_text : Class → List ℕ
@@ -32,7 +69,8 @@ level_text On = codes "1"
 level_text Quiet = codes "0"
 level_text Off = codes "-1"
 
--- the letters of the flags of a lock, of a request, of an assertion and of a warning, from the lowest bit on
+-- the letters of the flags of a lock, of a request, of an assertion and of a warning, from the lowest
+-- bit on
 abbrev pub lock_letters : List ℕ
 lock_letters = codes "rd"
 
@@ -53,7 +91,9 @@ number_if_any (Some lock) = lock.0
 -- the letters whose bits are set, in their order
 abbrev pub chosen_letters : List ℕ → ℕ → List ℕ
 chosen_letters [] bits = []
-chosen_letters (letter ∷ letters) bits = if bits % 2 == 1 then letter ∷ chosen_letters letters (bits / 2) else chosen_letters letters (bits / 2)
+chosen_letters (letter ∷ letters) bits =
+    if bits % 2 == 1 then letter ∷ chosen_letters letters (bits / 2)
+    else chosen_letters letters (bits / 2)
 
 -- flags: a dash where none is set
 abbrev pub flags_text : List ℕ → ℕ → List ℕ
@@ -79,65 +119,92 @@ type_field (Some name) = quoted name ∷ []
 
 -- what a new lock is to be
 abbrev pub lock_fields : NewLock → List (List ℕ)
-lock_fields lock = class_text lock.class ∷ flags_text lock_letters lock.flags.0 ∷ quoted lock.name ∷ type_field lock.type_name
+lock_fields lock =
+    class_text lock.class ∷ flags_text lock_letters lock.flags.0 ∷ quoted lock.name
+    ∷ type_field lock.type_name
 
 -- types, each by its class and its name
 abbrev pub list_fields : List (Class × List ℕ) → List (List ℕ)
 list_fields [] = []
 list_fields (entry ∷ entries) = class_text entry.0 ∷ quoted entry.1 ∷ list_fields entries
 
+-- the keyword of a line on a lock, and its fields
+abbrev pub lock_keyword : LockLine (List ℕ) → Keyword
+lock_keyword (Check seat lock mode ops file line) = keyword.Check
+lock_keyword (Try seat lock mode file line) = keyword.Try
+lock_keyword (Unlock seat lock mode) = keyword.Unlock
+lock_keyword (Plain verb seat lock) = keyword.Plain verb
+
+abbrev pub lock_line_fields : LockLine (List ℕ) → List (List ℕ)
+lock_line_fields (Check seat lock mode ops file line) =
+    decimal seat.0 ∷ decimal lock.0 ∷ mode_text mode ∷ flags_text op_letters ops.0
+    ∷ site_text file line ∷ []
+lock_line_fields (Try seat lock mode file line) =
+    decimal seat.0 ∷ decimal lock.0 ∷ mode_text mode ∷ site_text file line ∷ []
+lock_line_fields (Unlock seat lock mode) = decimal seat.0 ∷ decimal lock.0 ∷ mode_text mode ∷ []
+lock_line_fields (Plain verb seat lock) = decimal seat.0 ∷ decimal lock.0 ∷ []
+
+-- a keyword, and fields behind it
+abbrev pub with_keyword : Keyword → List (List ℕ) → List ℕ
+with_keyword word fields = keyword_text word ++ joined fields
+
 -- a line, without the line feed that ends it
 abbrev pub spelling : Line → List ℕ
-spelling (Header seats types locks chunks) = codes "witness-trace" ++ joined (codes "1" ∷ codes "seats" ∷ decimal seats ∷ codes "types" ∷ decimal types ∷ codes "locks" ∷ decimal locks ∷ codes "chunks" ∷ decimal chunks ∷ [])
-spelling (Order list) = codes "order" ++ joined (list_fields list)
-spelling (Bless first second) = codes "bless" ++ joined (quoted first ∷ quoted second ∷ [])
-spelling (Init seat lock) = codes "init" ++ joined (decimal seat.0 ∷ lock_fields lock)
-spelling (Check seat lock mode ops file line) = codes "check" ++ joined (decimal seat.0 ∷ decimal lock.0 ∷ mode_text mode ∷ flags_text op_letters ops.0 ∷ site_text file line ∷ [])
-spelling (Lock seat lock) = codes "lock" ++ joined (decimal seat.0 ∷ decimal lock.0 ∷ [])
-spelling (Try seat lock mode file line) = codes "try" ++ joined (decimal seat.0 ∷ decimal lock.0 ∷ mode_text mode ∷ site_text file line ∷ [])
-spelling (GiveUp seat lock) = codes "giveup" ++ joined (decimal seat.0 ∷ decimal lock.0 ∷ [])
-spelling (Unlock seat lock mode) = codes "unlock" ++ joined (decimal seat.0 ∷ decimal lock.0 ∷ mode_text mode ∷ [])
-spelling (Destroy seat lock) = codes "destroy" ++ joined (decimal seat.0 ∷ decimal lock.0 ∷ [])
-spelling (Upgrade seat lock) = codes "upgrade" ++ joined (decimal seat.0 ∷ decimal lock.0 ∷ [])
-spelling (Downgrade seat lock) = codes "downgrade" ++ joined (decimal seat.0 ∷ decimal lock.0 ∷ [])
-spelling (NoRelease seat lock) = codes "norelease" ++ joined (decimal seat.0 ∷ decimal lock.0 ∷ [])
-spelling (ReleaseOk seat lock) = codes "releaseok" ++ joined (decimal seat.0 ∷ decimal lock.0 ∷ [])
-spelling (Assert seat lock asserted) = codes "assert" ++ joined (decimal seat.0 ∷ decimal lock.0 ∷ flags_text assert_letters asserted.0 ∷ [])
-spelling (Warn seat lock flags) = codes "warn" ++ joined (decimal seat.0 ∷ decimal (number_if_any lock) ∷ flags_text warn_letters flags.0 ∷ [])
-spelling (Define seat first second) = codes "define" ++ joined (decimal seat.0 ∷ decimal first.0 ∷ decimal second.0 ∷ [])
-spelling (Watch seat watch) = codes "watch" ++ joined (decimal seat.0 ∷ level_text watch ∷ [])
+spelling (Header version seats types locks chunks) =
+    with_keyword keyword.Header
+    (version_text version ∷ codes "seats" ∷ decimal seats ∷ codes "types" ∷ decimal types
+    ∷ codes "locks" ∷ decimal locks ∷ codes "chunks" ∷ decimal chunks ∷ [])
+spelling (Order list) = with_keyword keyword.Order (list_fields list)
+spelling (Bless first second) = with_keyword keyword.Bless (quoted first ∷ quoted second ∷ [])
+spelling (Init seat lock) = with_keyword keyword.Init (decimal seat.0 ∷ lock_fields lock)
+spelling (OnLock line) = with_keyword (lock_keyword line) (lock_line_fields line)
+spelling (Assert seat lock asserted) =
+    with_keyword keyword.Assert
+    (decimal seat.0 ∷ decimal lock.0 ∷ flags_text assert_letters asserted.0 ∷ [])
+spelling (Warn seat lock flags) =
+    with_keyword keyword.Warn
+    (decimal seat.0 ∷ decimal (number_if_any lock) ∷ flags_text warn_letters flags.0 ∷ [])
+spelling (Define seat first second) =
+    with_keyword keyword.Define (decimal seat.0 ∷ decimal first.0 ∷ decimal second.0 ∷ [])
+spelling (Watch seat watch) = with_keyword keyword.Watch (decimal seat.0 ∷ level_text watch ∷ [])
 
 -- a lock that can be written: known flags, and true names
 abbrev pub IsSpellableLock : NewLock → Type 0
-IsSpellableLock lock = (lock.flags.0 < 4) × IsTrue (is_name lock.name) × IfSome lock.type_name (λ name. IsTrue (is_name name))
+IsSpellableLock lock =
+    (lock.flags.0 < 4) × IsTrue (is_name lock.name)
+    × IfSome lock.type_name (λ name. IsTrue (is_name name))
 
 -- a list that can be written: one type or more, with true names
 abbrev pub IsSpellableList : List (Class × List ℕ) → Type 0
-IsSpellableList list = (0 < length list) × IsTrue (list_all (λ (entry : Class × List ℕ). is_name entry.1) list)
+IsSpellableList list =
+    (0 < length list) × IsTrue (list_all (λ (entry : Class × List ℕ). is_name entry.1) list)
 
 -- a lock that a warning can name: 0 would name none
 abbrev pub IsNamed : LockNo → Type 0
 IsNamed lock = (0 < lock.0) × (lock.0 < 2 ^ 32)
 
+-- a line on a lock that can be written
+abbrev pub IsSpellableOnLock : LockLine (List ℕ) → Type 0
+IsSpellableOnLock (Check seat lock mode ops file line) =
+    (seat.0 < 2 ^ 16) × (lock.0 < 2 ^ 32) × (ops.0 < 8)
+    × IsTrue (is_file_name file) × (line < 2 ^ 32)
+IsSpellableOnLock (Try seat lock mode file line) =
+    (seat.0 < 2 ^ 16) × (lock.0 < 2 ^ 32) × IsTrue (is_file_name file) × (line < 2 ^ 32)
+IsSpellableOnLock (Unlock seat lock mode) = (seat.0 < 2 ^ 16) × (lock.0 < 2 ^ 32)
+IsSpellableOnLock (Plain verb seat lock) = (seat.0 < 2 ^ 16) × (lock.0 < 2 ^ 32)
+
 -- a line that can be written: numbers within their types, known flags, true names
 abbrev pub IsSpellable : Line → Type 0
-IsSpellable (Header seats types locks chunks) = (seats < 2 ^ 32) × (types < 2 ^ 32) × (locks < 2 ^ 32) × (chunks < 2 ^ 32)
+IsSpellable (Header version seats types locks chunks) =
+    (seats < 2 ^ 32) × (types < 2 ^ 32) × (locks < 2 ^ 32) × (chunks < 2 ^ 32)
 IsSpellable (Order list) = IsSpellableList list
 IsSpellable (Bless first second) = IsTrue (is_name first) × IsTrue (is_name second)
 IsSpellable (Init seat lock) = (seat.0 < 2 ^ 16) × IsSpellableLock lock
-IsSpellable (Check seat lock mode ops file line) = (seat.0 < 2 ^ 16) × (lock.0 < 2 ^ 32) × (ops.0 < 8) × IsTrue (is_file_name file) × (line < 2 ^ 32)
-IsSpellable (Lock seat lock) = (seat.0 < 2 ^ 16) × (lock.0 < 2 ^ 32)
-IsSpellable (Try seat lock mode file line) = (seat.0 < 2 ^ 16) × (lock.0 < 2 ^ 32) × IsTrue (is_file_name file) × (line < 2 ^ 32)
-IsSpellable (GiveUp seat lock) = (seat.0 < 2 ^ 16) × (lock.0 < 2 ^ 32)
-IsSpellable (Unlock seat lock mode) = (seat.0 < 2 ^ 16) × (lock.0 < 2 ^ 32)
-IsSpellable (Destroy seat lock) = (seat.0 < 2 ^ 16) × (lock.0 < 2 ^ 32)
-IsSpellable (Upgrade seat lock) = (seat.0 < 2 ^ 16) × (lock.0 < 2 ^ 32)
-IsSpellable (Downgrade seat lock) = (seat.0 < 2 ^ 16) × (lock.0 < 2 ^ 32)
-IsSpellable (NoRelease seat lock) = (seat.0 < 2 ^ 16) × (lock.0 < 2 ^ 32)
-IsSpellable (ReleaseOk seat lock) = (seat.0 < 2 ^ 16) × (lock.0 < 2 ^ 32)
+IsSpellable (OnLock line) = IsSpellableOnLock line
 IsSpellable (Assert seat lock asserted) = (seat.0 < 2 ^ 16) × (lock.0 < 2 ^ 32) × (asserted.0 < 64)
 IsSpellable (Warn seat lock flags) = (seat.0 < 2 ^ 16) × IfSome lock IsNamed × (flags.0 < 4)
-IsSpellable (Define seat first second) = (seat.0 < 2 ^ 16) × (first.0 < 2 ^ 32) × (second.0 < 2 ^ 32)
+IsSpellable (Define seat first second) =
+    (seat.0 < 2 ^ 16) × (first.0 < 2 ^ 32) × (second.0 < 2 ^ 32)
 IsSpellable (Watch seat watch) = seat.0 < 2 ^ 16
 
 -- the bytes spell the line

@@ -1,8 +1,7 @@
 //! The calls that lines make.
 
 ghost use Rattle.std.specs.Prelude.{◌≡◌, ◌+◌, ◌-◌, ◌<◌, ◌^◌, IfOk, OnErr};
-ghost use Rattle.wit_model.specs.declared.lines.Line.TheVariants.{Assert, Check, Try, Warn};
-ghost use Rattle.wit_model.specs.Trace.Output.{Reading, calls, said, shown, told};
+ghost use Rattle.wit_model.specs.Trace.Output.{Reading, Asserts, LogsAt, Warns, call_of, calls, check_in, makes, said, shown, told, try_in, verb_call};
 ghost use Rattle.wit_grammar.specs.Lines.{as_line};
 ghost use Rattle.wit_trace.specs.Replays.{Calls, GoesWith, IsLoggedLine, Passes, Remarks};
 
@@ -10,8 +9,10 @@ use crate::replaying::views::shown;
 use crate::stream::machine::Step;
 use std::alloc::{AllocError, Global};
 use wit_core::Verifier;
-use wit_grammar::{LineError, LockLine};
-use wit_model::{Line, LockAssert, LockNo, Mode, OpFlags, Reply, SeatNo, Site, View, WarnFlags};
+use wit_grammar::{LineError, borrowed};
+use wit_model::{
+    Line, LockAssert, LockLine, LockNo, Mode, OpFlags, Reply, SeatNo, Site, Verb, View, WarnFlags,
+};
 use wit_report::{assert_text, report_text, warn_text};
 
 /// A line behind the prelude makes its call, and tells of it; one with a site enters its file first.
@@ -21,21 +22,21 @@ use wit_report::{assert_text, report_text, warn_text};
 pub fn enter_line(
     alloc: Global,
     verifier: &mut Verifier,
-    told: &mut u64,
+    remarks: &mut u64,
     line: Line,
 ) -> Result<Vec<u8>, LineError>
-    requires { told.old < 2 ^ 64 - 1 }
-    ensures { Passes (calls verifier.old told.old line)
-        (Reading verifier.old told.old) (Reading verifier.new told.new) result }
+    requires { remarks.old < 2 ^ 64 - 1 }
+    ensures { Passes (calls verifier.old remarks.old (call_of line))
+        (Reading verifier.old remarks.old) (Reading verifier.new remarks.new) result }
 {
     match line {
         Line::Assert {
             seat,
             lock,
             asserted,
-        } => remark(told, assertion(alloc, verifier, seat, lock, asserted)),
+        } => remark(remarks, assertion(alloc, verifier, seat, lock, asserted)),
         Line::Warn { seat, lock, flags } => remark(
-            told,
+            remarks,
             warning(alloc, verifier, seat, lock, flags),
         ),
         line => {
@@ -50,7 +51,7 @@ pub fn enter_line(
 /// # Errors
 /// Want of memory alone.
 #[inline(always)]
-pub fn told_step(
+pub fn reply_step(
     alloc: Global,
     view: View,
     verifier: &Verifier,
@@ -82,15 +83,15 @@ fn reply_text(alloc: Global, verifier: &Verifier, reply: &Reply) -> Result<Vec<u
 }
 
 // A failed assertion or a warning is counted; one that says nothing isn't.
-fn remark(told: &mut u64, text: Result<Vec<u8>, LineError>) -> Result<Vec<u8>, LineError>
-    requires { told.old < 2 ^ 64 - 1 }
+fn remark(remarks: &mut u64, text: Result<Vec<u8>, LineError>) -> Result<Vec<u8>, LineError>
+    requires { remarks.old < 2 ^ 64 - 1 }
     ensures same { result ≡ text }
-    ensures counted { IfOk text (λ t. told.new ≡ told.old + said t.items) }
-    ensures refused { OnErr text (told.new ≡ told.old) }
+    ensures counted { IfOk text (λ t. remarks.new ≡ remarks.old + said t.items) }
+    ensures refused { OnErr text (remarks.new ≡ remarks.old) }
 {
     let text = text?;
     if !text.is_empty() {
-        *told += 1;
+        *remarks += 1;
     }
     Ok(text)
 }
@@ -103,7 +104,7 @@ fn assertion(
     lock: LockNo,
     asserted: LockAssert,
 ) -> Result<Vec<u8>, LineError>
-    ensures { Remarks verifier.now (λ told. calls verifier.now told (Assert seat lock asserted)) result }
+    ensures { Remarks verifier.now (λ n. calls verifier.now n (Asserts seat.0 lock asserted)) result }
 {
     let answer = verifier.assert_lock(seat, lock, asserted)?;
     Ok(assert_text(alloc, verifier, lock, answer)?.into_bytes())
@@ -117,7 +118,7 @@ fn warning(
     lock: Option<LockNo>,
     flags: WarnFlags,
 ) -> Result<Vec<u8>, LineError>
-    ensures { Remarks verifier.now (λ told. calls verifier.now told (Warn seat lock flags)) result }
+    ensures { Remarks verifier.now (λ n. calls verifier.now n (Warns seat.0 lock flags)) result }
 {
     let _count = verifier.warn(seat, lock, flags)?;
     Ok(warn_text(alloc, verifier, seat, lock, flags)?.into_bytes())
@@ -126,34 +127,12 @@ fn warning(
 #[inline(never)]
 fn make_call(verifier: &mut Verifier, line: Line) -> Result<Reply, LineError>
     requires { IsLoggedLine line }
-    ensures { Calls (λ told. calls verifier.old told line) verifier.old verifier.new result }
+    ensures { Calls (λ n. calls verifier.old n (call_of line)) verifier.old verifier.new result }
 {
     match line {
         Line::Header { .. } | Line::Order { .. } | Line::Bless { .. } => Err(LineError::SYNTAX),
         Line::Init { seat, lock } => Ok(Reply::Made(verifier.make(seat, lock)?)),
-        Line::Check {
-            seat,
-            lock,
-            mode,
-            ops,
-            file,
-            line,
-        } => check_at(verifier, seat, lock, mode, ops, file.as_str(), line),
-        Line::Lock { seat, lock } => Ok(verifier.note(seat, lock)?),
-        Line::Try {
-            seat,
-            lock,
-            mode,
-            file,
-            line,
-        } => try_at(verifier, seat, lock, mode, file.as_str(), line),
-        Line::GiveUp { seat, lock } => Ok(verifier.give_up(seat, lock)?),
-        Line::Unlock { seat, lock, mode } => Ok(verifier.unlock(seat, lock, mode)?),
-        Line::Destroy { seat, lock } => Ok(verifier.destroy(seat, lock)?),
-        Line::Upgrade { seat, lock } => Ok(verifier.upgrade(seat, lock)?),
-        Line::Downgrade { seat, lock } => Ok(verifier.downgrade(seat, lock)?),
-        Line::NoRelease { seat, lock } => Ok(verifier.norelease(seat, lock)?),
-        Line::ReleaseOk { seat, lock } => Ok(verifier.releaseok(seat, lock)?),
+        Line::OnLock(line) => call_on_lock(verifier, borrowed(&line)),
         Line::Define {
             seat,
             first,
@@ -164,13 +143,13 @@ fn make_call(verifier: &mut Verifier, line: Line) -> Result<Reply, LineError>
     }
 }
 
-/// A line that makes a call on a lock makes it; one with a site enters its file first.
+/// A line on a lock makes its call; one with a site enters its file first.
 ///
 /// # Errors
 /// `Bad` where its file gets no number or its call is refused; `Memory`.
 #[inline(always)]
-pub fn call_on_lock(verifier: &mut Verifier, line: LockLine<'_>) -> Result<Reply, LineError>
-    ensures { Calls (λ told. calls verifier.old told (as_line line.entry)) verifier.old verifier.new result }
+pub fn call_on_lock(verifier: &mut Verifier, line: LockLine<&str>) -> Result<Reply, LineError>
+    ensures { Calls (λ n. calls verifier.old n (call_of (as_line line.entry))) verifier.old verifier.new result }
 {
     match line {
         LockLine::Check {
@@ -181,7 +160,6 @@ pub fn call_on_lock(verifier: &mut Verifier, line: LockLine<'_>) -> Result<Reply
             file,
             line,
         } => check_at(verifier, seat, lock, mode, ops, file, line),
-        LockLine::Lock { seat, lock } => Ok(verifier.note(seat, lock)?),
         LockLine::Try {
             seat,
             lock,
@@ -189,8 +167,28 @@ pub fn call_on_lock(verifier: &mut Verifier, line: LockLine<'_>) -> Result<Reply
             file,
             line,
         } => try_at(verifier, seat, lock, mode, file, line),
-        LockLine::GiveUp { seat, lock } => Ok(verifier.give_up(seat, lock)?),
         LockLine::Unlock { seat, lock, mode } => Ok(verifier.unlock(seat, lock, mode)?),
+        LockLine::Plain { verb, seat, lock } => call_of_verb(verifier, verb, seat, lock),
+    }
+}
+
+#[inline(always)]
+fn call_of_verb(
+    verifier: &mut Verifier,
+    verb: Verb,
+    seat: SeatNo,
+    lock: LockNo,
+) -> Result<Reply, LineError>
+    ensures { Calls (λ n. makes verifier.old n seat.0 (verb_call verb lock)) verifier.old verifier.new result }
+{
+    match verb {
+        Verb::Note => Ok(verifier.note(seat, lock)?),
+        Verb::GiveUp => Ok(verifier.give_up(seat, lock)?),
+        Verb::Destroy => Ok(verifier.destroy(seat, lock)?),
+        Verb::Upgrade => Ok(verifier.upgrade(seat, lock)?),
+        Verb::Downgrade => Ok(verifier.downgrade(seat, lock)?),
+        Verb::NoRelease => Ok(verifier.norelease(seat, lock)?),
+        Verb::ReleaseOk => Ok(verifier.releaseok(seat, lock)?),
     }
 }
 
@@ -204,7 +202,8 @@ fn check_at(
     file: &str,
     line: u32,
 ) -> Result<Reply, LineError>
-    ensures { Calls (λ told. calls verifier.old told (Check seat lock mode ops file.now line)) verifier.old verifier.new result }
+    ensures { Calls (λ n. calls verifier.old n (LogsAt seat.0 file.now (check_in lock mode ops line)))
+        verifier.old verifier.new result }
 {
     let file = verifier.file(file)?;
     Ok(verifier.check(seat, lock, mode, ops, Site { file, line })?)
@@ -218,7 +217,8 @@ fn try_at(
     file: &str,
     line: u32,
 ) -> Result<Reply, LineError>
-    ensures { Calls (λ told. calls verifier.old told (Try seat lock mode file.now line)) verifier.old verifier.new result }
+    ensures { Calls (λ n. calls verifier.old n (LogsAt seat.0 file.now (try_in lock mode line)))
+        verifier.old verifier.new result }
 {
     let file = verifier.file(file)?;
     Ok(verifier.note_try(seat, lock, mode, Site { file, line })?)

@@ -12,32 +12,32 @@ use Rattle.wit_trace.proofs.replaying.ReplayingMachine.line.Goals as goal
 pub returns-in-Err-clause-step : goal.returns-in-Err-clause-step
 returns-in-Err-clause-step c =
     let new = c.call_on_lock.new.verifier in
-    let told = c.in-Reading.told in
-    rw c.in-Reading.is (if_ok (EndsFor c.args.view (progress (Reading new told)) c.args.number c.in-Err.error) (Follows (allowed c.args.view) (Reading c.in-Reading.verifier told) (Reading new told) c.args.number c.args.bytes.now) c.ended_step.result
-    (λ s ends. call_ends c.args.view c.in-Reading.verifier new told c.args.number c.args.bytes.now (as_line c.in-Some.line) c.call_on_lock.result c.requires.short c.in-Some.ensures c.call_on_lock.ensures c.in-Err.error s c.in-Err.is ends)
+    let remarks = c.in-Reading.remarks in
+    rw c.in-Reading.is (if_ok (EndsFor c.args.view (progress (Reading new remarks)) c.args.number c.in-Err.error) (Follows (allowed c.args.view) (Reading c.in-Reading.verifier remarks) (Reading new remarks) c.args.number c.args.bytes.now) c.ended_step.result
+    (λ s ends. call_ends c.args.view c.in-Reading.verifier new remarks c.args.number c.args.bytes.now (as_line c.in-Some.line) c.call_on_lock.result c.requires.short c.in-Some.ensures c.call_on_lock.ensures c.in-Err.error s c.in-Err.is ends)
     (c.ended_step.ensures c.args.view))
 
 pub ended_step-requires : goal.ended_step-requires
 ended_step-requires c = λ cause is.
     let room = subst (λ m. reported (progress m) < c.args.number) c.in-Reading.is c.requires.room in
-    omega (arith, refused_one c.in-Reading.verifier c.call_on_lock.new.verifier c.in-Reading.told (as_line c.in-Some.line) c.call_on_lock.result c.call_on_lock.ensures cause (c.in-Err.is ∙ ap (λ e. Err e) is), room, c.ranges.number)
+    omega (arith, refused_one c.in-Reading.verifier c.call_on_lock.new.verifier c.in-Reading.remarks (as_line c.in-Some.line) c.call_on_lock.result c.call_on_lock.ensures cause (c.in-Err.is ∙ ap (λ e. Err e) is), room, c.ranges.number)
 
 pub returns-in-Ok-clause-step : goal.returns-in-Ok-clause-step
 returns-in-Ok-clause-step c =
     let new = c.call_on_lock.new.verifier in
-    let told = c.in-Reading.told in
-    rw c.in-Reading.is (if_ok (GoesWith (shown c.args.view (output.told new c.in-Ok.reply))) (Follows (allowed c.args.view) (Reading c.in-Reading.verifier told) (Reading new told) c.args.number c.args.bytes.now) c.told_step.result
-    (λ s goes. call_goes_on c.args.view c.in-Reading.verifier new told c.args.number c.args.bytes.now (as_line c.in-Some.line) c.call_on_lock.result c.requires.short c.in-Some.ensures c.call_on_lock.ensures c.in-Ok.reply s c.in-Ok.is goes)
-    c.told_step.ensures)
+    let remarks = c.in-Reading.remarks in
+    rw c.in-Reading.is (if_ok (GoesWith (shown c.args.view (output.told new c.in-Ok.reply))) (Follows (allowed c.args.view) (Reading c.in-Reading.verifier remarks) (Reading new remarks) c.args.number c.args.bytes.now) c.reply_step.result
+    (λ s goes. call_goes_on c.args.view c.in-Reading.verifier new remarks c.args.number c.args.bytes.now (as_line c.in-Some.line) c.call_on_lock.result c.requires.short c.in-Some.ensures c.call_on_lock.ensures c.in-Ok.reply s c.in-Ok.is goes)
+    c.reply_step.ensures)
 
 pub returns-in-Ok-clause-counted : goal.returns-in-Ok-clause-counted
 returns-in-Ok-clause-counted c =
-    rw c.in-Reading.is (at_ok _ c.told_step.result (made_one c.in-Reading.verifier c.call_on_lock.new.verifier c.in-Reading.told (as_line c.in-Some.line) c.call_on_lock.result c.call_on_lock.ensures c.in-Ok.reply c.in-Ok.is))
+    rw c.in-Reading.is (at_ok _ c.reply_step.result (made_one c.in-Reading.verifier c.call_on_lock.new.verifier c.in-Reading.remarks (as_line c.in-Some.line) c.call_on_lock.result c.call_on_lock.ensures c.in-Ok.reply c.in-Ok.is))
 
 pub returns-in-Err-clause-counted : goal.returns-in-Err-clause-counted
 returns-in-Err-clause-counted c =
     let new = c.call_on_lock.new.verifier in
-    let told = c.in-Reading.told in
-    rw c.in-Reading.is (if_ok (EndsFor c.args.view (progress (Reading new told)) c.args.number c.in-Err.error) _ c.ended_step.result
-    (λ s ends. call_ended_one c.in-Reading.verifier new told (as_line c.in-Some.line) c.call_on_lock.result c.call_on_lock.ensures c.args.view c.args.number c.in-Err.error s c.in-Err.is ends)
+    let remarks = c.in-Reading.remarks in
+    rw c.in-Reading.is (if_ok (EndsFor c.args.view (progress (Reading new remarks)) c.args.number c.in-Err.error) _ c.ended_step.result
+    (λ s ends. call_ended_one c.in-Reading.verifier new remarks (as_line c.in-Some.line) c.call_on_lock.result c.call_on_lock.ensures c.args.view c.args.number c.in-Err.error s c.in-Err.is ends)
     (c.ended_step.ensures c.args.view))

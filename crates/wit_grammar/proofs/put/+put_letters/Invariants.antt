@@ -1,5 +1,5 @@
 use Rattle.std.proofs.Common.{length}
-use Rattle.wit_grammar.proofs.print.+put_letters.Given as goal
+use Rattle.wit_grammar.proofs.put.+put_letters.Given as goal
 
 -- the letters that are left
 abbrev pub decreases-put_letters : goal.decreases-put_letters

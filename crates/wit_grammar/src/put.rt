@@ -1,0 +1,159 @@
+//! Putting the fields of a line behind one another, each behind its own space.
+
+ghost use Rattle.std.specs.Prelude.{◌≡◌, ◌++◌, ◌∷◌, OnOk};
+ghost use Rattle.std.specs.Fmt.{decimal};
+ghost use Rattle.wit_model.specs.Trace.Spelling.{version_text, class_text, mode_text, level_text, chosen_letters, flags_text, quoted, site_text, joined, lock_fields, list_fields};
+
+use crate::letters;
+use std::alloc::{AllocError, Global};
+use wit_model::{Class, FileName, Mode, Name, NewLock, Version, Watch};
+
+/// A word.
+pub fn put_word(out: &mut Vec<u8>, word: &[u8]) -> Result<(), AllocError>
+    ensures { OnOk result (out.new.items ≡ out.old.items ++ 32 ∷ word.now) }
+{
+    out.push(b' ')?;
+    out.extend_from_slice(word)
+}
+
+/// A number.
+pub fn put_number(alloc: Global, out: &mut Vec<u8>, number: u32) -> Result<(), AllocError>
+    ensures { OnOk result (out.new.items ≡ out.old.items ++ 32 ∷ decimal number) }
+{
+    let text = number.to_string(alloc)?;
+    put_word(out, text.as_bytes())
+}
+
+/// A number behind a fixed word.
+pub fn put_count(
+    alloc: Global,
+    out: &mut Vec<u8>,
+    label: &[u8],
+    number: u32,
+) -> Result<(), AllocError>
+    ensures { OnOk result (out.new.items ≡ out.old.items ++ 32 ∷ (label.now ++ 32 ∷ decimal number)) }
+{
+    put_word(out, label)?;
+    put_number(alloc, out, number)
+}
+
+fn put_letters(out: &mut Vec<u8>, letters: &[u8], bits: u8) -> Result<(), AllocError>
+    ensures { OnOk result (out.new.items ≡ out.old.items ++ chosen_letters letters.now bits) }
+{
+    match letters {
+        [] => Ok(()),
+        [letter, others @ ..] => {
+            if bits % 2 == 1 {
+                out.push(*letter)?;
+                put_letters(out, others, bits / 2)
+            } else {
+                put_letters(out, others, bits / 2)
+            }
+        }
+    }
+}
+
+/// Flags, by these letters.
+pub fn put_flags(out: &mut Vec<u8>, letters: &[u8], bits: u8) -> Result<(), AllocError>
+    ensures { OnOk result (out.new.items ≡ out.old.items ++ 32 ∷ flags_text letters.now bits) }
+{
+    if bits == 0 {
+        return put_word(out, b"-");
+    }
+    out.push(b' ')?;
+    put_letters(out, letters, bits)
+}
+
+/// A name between quotation marks.
+pub fn put_name(out: &mut Vec<u8>, name: &Name) -> Result<(), AllocError>
+    ensures { OnOk result (out.new.items ≡ out.old.items ++ 32 ∷ quoted name.now) }
+{
+    put_word(out, b"\"")?;
+    out.extend_from_slice(name.as_str().as_bytes())?;
+    out.push(b'"')?;
+    Ok(())
+}
+
+/// Types, each by its class and its name.
+pub fn put_types(out: &mut Vec<u8>, types: &[(Class, Name)]) -> Result<(), AllocError>
+    ensures { OnOk result (out.new.items ≡ out.old.items ++ joined (list_fields types.now)) }
+{
+    match types {
+        [] => Ok(()),
+        [(class, name), others @ ..] => {
+            put_word(out, class_text(*class))?;
+            put_name(out, name)?;
+            put_types(out, others)
+        }
+    }
+}
+
+/// The fields of `init` behind the seat.
+pub fn put_lock(out: &mut Vec<u8>, lock: &NewLock) -> Result<(), AllocError>
+    ensures { OnOk result (out.new.items ≡ out.old.items ++ joined (lock_fields lock.now)) }
+{
+    put_word(out, class_text(lock.class))?;
+    put_flags(out, letters::LOCK, lock.flags.0)?;
+    put_name(out, &lock.name)?;
+    match &lock.type_name {
+        None => Ok(()),
+        Some(name) => put_name(out, name),
+    }
+}
+
+/// A place in the watched program.
+pub fn put_site(
+    alloc: Global,
+    out: &mut Vec<u8>,
+    file: &FileName,
+    line: u32,
+) -> Result<(), AllocError>
+    ensures { OnOk result (out.new.items ≡ out.old.items ++ 32 ∷ site_text file.now line) }
+{
+    put_word(out, file.as_str().as_bytes())?;
+    out.push(b':')?;
+    let text = line.to_string(alloc)?;
+    out.extend_from_slice(text.as_bytes())
+}
+
+/// The spelling of a version of the format.
+pub fn version_text(version: Version) -> &'static [u8]
+    ensures { result.now ≡ version_text version }
+{
+    match version {
+        Version::One => b"1",
+    }
+}
+
+/// The spelling of a class.
+pub fn class_text(class: Class) -> &'static [u8]
+    ensures { result.now ≡ class_text class }
+{
+    match class {
+        Class::SleepMutex => b"mtx",
+        Class::SpinMutex => b"spin",
+        Class::Rw => b"rw",
+        Class::Sx => b"sx",
+    }
+}
+
+/// The spelling of a mode.
+pub fn mode_text(mode: Mode) -> &'static [u8]
+    ensures { result.now ≡ mode_text mode }
+{
+    match mode {
+        Mode::Shared => b"s",
+        Mode::Exclusive => b"x",
+    }
+}
+
+/// The spelling of a watch level.
+pub fn level_text(watch: Watch) -> &'static [u8]
+    ensures { result.now ≡ level_text watch }
+{
+    match watch {
+        Watch::On => b"1",
+        Watch::Quiet => b"0",
+        Watch::Off => b"-1",
+    }
+}
