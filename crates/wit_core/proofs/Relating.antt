@@ -49,10 +49,10 @@ same_way os ps same a [] b p = sym (same a b) ∙ p
 same_way os ps same a (v ∷ way) b p = (sym (same a v) ∙ p.0, same_way os ps same v way b p.1)
 
 -- want of memory stands only in place of a path
-pub wanting-told : {X P : Type 0} (answer : Result X Fault) (T : Type 0) → IfErr answer (λ e. (e ≡ OutOfMemory) × P) → T
+pub wanting-told : {X : Type 0} (answer : Result X Fault) (P T : Type 0) → IfErr answer (λ e. (e ≡ OutOfMemory) × P) → T
     → IfErr answer (λ e. (e ≡ OutOfMemory) × T)
-wanting-told (Ok x) T told is = tt
-wanting-told (Err fault) T told is = (told.0, is)
+wanting-told (Ok x) P T told is = tt
+wanting-told (Err fault) P T told is = (told.0, is)
 
 -- orders stay among some types with one more that is between two of them
 among-adopted : (n : ℕ) (os : List Adoption) (order : Adoption) → OrdersAmong n os → IsNumber n order.parent.0 → IsNumber n order.child.0 → OrdersAmong n (order ∷ os)

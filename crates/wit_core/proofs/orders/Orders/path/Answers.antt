@@ -19,4 +19,4 @@ pub returns-clause-leads : goal.returns-clause-leads
 returns-clause-leads c = leads-told c.self.inside c.self.invariant c.args.self.now c.self.view_is c.args.from.0 c.args.to.0 c.path.result c.path.ensures.leads
 
 pub returns-clause-err : goal.returns-clause-err
-returns-clause-err c = wanting-told c.path.result _ c.path.ensures.err (sym c.is_before.ensures ∙ c.if-not-is_before.false)
+returns-clause-err c = wanting-told c.path.result _ _ c.path.ensures.err (sym c.is_before.ensures ∙ c.if-not-is_before.false)
