@@ -1,5 +1,6 @@
-# Writes a trace of a middle size into IN, and what is told of it, worked out here from how it was made, into OUT. `part` says which.
-# The last line that is printed is the word to run it with, and the status.
+# Writes a trace of a middle size into IN, and what is told of it, worked out here from how it was
+# made, into OUT. `part` says which. The last line that is printed is the word to run it with, and
+# the status.
 
 function put(line) { print line >IN }
 function tell(line) { print line >OUT }
@@ -9,12 +10,14 @@ function header(seats, types, locks, chunks) {
     put("witness-trace 1 seats " seats " types " types " locks " locks " chunks " chunks)
 }
 
-# A seat asks for a lock of the name t and this number, gets it, or lets it go; sites are files of one name with a line.
+# A seat asks for a lock of the name t and this number, gets it, or lets it go; sites are files of
+# one name with a line.
 function asks(seat, lock, site) { put("check " seat " " lock " x n f:" site) }
 function gets(seat, lock, site) { asks(seat, lock, site); put("lock " seat " " lock) }
 function frees(seat, lock) { put("unlock " seat " " lock " x") }
 
-# The report of a seat that holds one lock and asks for another, which types are before through all those between.
+# The report of a seat that holds one lock and asks for another, which types are before through
+# all those between.
 function reversal(held, at, asked, site, class,    step) {
     tell("lock order reversal:")
     tell(" 1st \"t" held "\" (t" held ", " class ") @ f:" at)
@@ -23,8 +26,9 @@ function reversal(held, at, asked, site, class,    step) {
     for (step = asked; step < held; step++) tell(" \"t" step "\" -> \"t" (step + 1) "\" @ f:" origin[step])
 }
 
-# 46 types, each taken under each before it, and then each the other way round: 1,035 orders, and as many reports. The least of the
-# types that lead on is always the next one, so the path of a report goes through all between.
+# 46 types, each taken under each before it, and then each the other way round: 1,035 orders, and
+# as many reports. The least of the types that lead on is always the next one, so the path of a
+# report goes through all between.
 function all_against_all(    a, b, site) {
     header(2, 46, 46, 4)
     for (a = 1; a <= 46; a++) put("init 1 mtx - \"t" a "\"")
@@ -43,7 +47,8 @@ function all_against_all(    a, b, site) {
     ends("replay", 1)
 }
 
-# As many static lists, each of four types, and a blessed pair for each; each list is broken between its ends, and the pair may be.
+# As many static lists, each of four types, and a blessed pair for each; each list is broken
+# between its ends, and the pair may be.
 function lists(count,    at, base) {
     header(1, 6 * count, 6 * count, 8)
     for (at = 1; at <= count; at++) {
@@ -63,7 +68,8 @@ function lists(count,    at, base) {
     ends("replay", 1)
 }
 
-# As many spin locks, all held, beside two sleep locks: warnings, assertions, and the last of them asked for first.
+# As many spin locks, all held, beside two sleep locks: warnings, assertions, and the last of them
+# asked for first.
 function spin_locks(count,    at) {
     header(2, count + 2, count + 2, 64)
     for (at = 1; at <= count; at++) put("init 1 spin - \"t" at "\"")
@@ -158,7 +164,8 @@ function long_locks(    seat, at) {
     ends("locks", 0)
 }
 
-# 2,000,000 lines by four seats and 61 locks, 1,250,000 of them logged: acquisitions, tries, assertions and warnings, of which some tell.
+# 2,000,000 lines by four seats and 61 locks, 1,250,000 of them logged: acquisitions, tries,
+# assertions and warnings, of which some tell.
 function long(    at, seat, lock, next_one) {
     header(4, 61, 61, 16)
     for (at = 1; at <= 61; at++) put("init 1 " (at % 3 ? "mtx" : "sx") " - \"t" at "\"")

@@ -1,8 +1,10 @@
-# Moves cases to where there are other locks, types, seats, files, orders, reports and log entries before theirs. Its input is the list
-# that tools/cases.awk prints, with the files that go with it in the folder `work`; `kind` and `by` say what to move, and how far. Of
-# each case that can be moved it writes KIND-NUMBER.in and .out, and prints
+# Moves cases to where there are other locks, types, seats, files, orders, reports and log entries
+# before theirs. Its input is the list that tools/cases.awk prints, with the files that go with it
+# in the folder `work`; `kind` and `by` say what to move, and how far. Of each case that can be
+# moved it writes KIND-NUMBER.in and .out, and prints
 #     KIND-NUMBER STATUS WORD PLACE
-# A case can be moved where each line of its trace is a good one by its form, and the header has room.
+# A case can be moved where each line of its trace is a good one by its form, and the header has
+# room.
 #
 #   locks   `by` locks of one further type are made first: a lock's number is so much higher
 #   types   `by` locks of as many further types are: so are the numbers of the types that are enrolled behind the prelude
@@ -108,8 +110,8 @@ function moved_seats(line,    out) {
     return out line
 }
 
-# Moves a case, and says whether it could. Behind orders that were adopted first the seat's list has a chunk already, and listed types
-# come before theirs.
+# Moves a case, and says whether it could. Behind orders that were adopted first the seat's list
+# has a chunk already, and listed types come before theirs.
 function move(number, word,    line, in_file, out_file, body, at, good, state, lists, result) {
     in_file = work "/" number ".in"
     out_file = work "/" number ".out"
