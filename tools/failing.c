@@ -1,5 +1,6 @@
 /*
- * Stands before the C library (LD_PRELOAD) and fails where it is told to, by variables that number from 1:
+ * Stands before the C library (LD_PRELOAD) and fails where it is told to, by variables that
+ * number from 1:
  *   REFUSED=N        the Nth growth is refused
  *   READ_FAILS=N     the Nth read of the standard input fails
  *   WRITE_FAILS=N    the Nth write to the standard output fails

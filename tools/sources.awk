@@ -1,7 +1,8 @@
 # Prints the places of the sources that tools/check-sources asks about, a line each, parted by tabs:
 #     KIND  FILE  FUNCTION  TEXT
-# where TEXT is the line as it stands, without the blanks around it, and FUNCTION the last one that was begun above it. Comments,
-# the insides of texts and all ghost code (imports, clauses, views) are passed over: nothing of it runs.
+# where TEXT is the line as it stands, without the blanks around it, and FUNCTION the last one
+# that was begun above it. Comments, the insides of texts and all ghost code (imports, clauses,
+# views) are passed over: nothing of it runs.
 
 # Puts '' in the place of each text and of a letter in quotes, and ends the line before a comment.
 function bare(line,    at, out) {
@@ -25,7 +26,8 @@ function bare(line,    at, out) {
     return out
 }
 
-# Takes ghost code out, which may go on over lines: it ends with the brace that closes its first one, or at a semicolon.
+# Takes ghost code out, which may go on over lines: it ends with the brace that closes its first
+# one, or at a semicolon.
 function seen(line,    at, letter) {
     if (!in_ghost) {
         if (line !~ /^ *(ghost|requires|ensures|invariant|decreases)([ {]|$)/) return line
