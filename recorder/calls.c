@@ -10,7 +10,9 @@
 #include <errno.h>
 
 #define EXPORT __attribute__((visibility("default")))
-#define CALLER ((struct caller){(uintptr_t)__builtin_return_address(0), (uintptr_t)__builtin_dwarf_cfa()})
+/* To ask for the frame's address makes it one with a frame pointer: what is saved there is the caller's. */
+#define CALLER                                                                                             \
+    ((struct caller){(uintptr_t)__builtin_return_address(0), HERE, *(const uintptr_t *)__builtin_frame_address(0)})
 
 /* The three ways to ask for a lock. */
 struct way {
@@ -56,10 +58,10 @@ static int acquire_slowly(const struct way *way, void *address, struct caller ca
     return answer;
 }
 
-static inline int acquire(const struct way *way, void *address, struct caller caller)
+QUICK int acquire(const struct way *way, void *address, struct caller caller)
 {
     struct quick quick;
-    if (UNLIKELY(!quick_begins(&quick, address, caller.pc)))
+    if (UNLIKELY(!quick_begins(&quick, address, caller)))
         return acquire_slowly(way, address, caller);
     bool nested = quick.thread->count != 0;
     int answer = nested ? way->try(address) : way->lock(address);
@@ -69,9 +71,9 @@ static inline int acquire(const struct way *way, void *address, struct caller ca
     return UNLIKELY(nested && answer == EBUSY) ? acquire_slowly(way, address, caller) : answer;
 }
 
-static inline void release(const void *address, struct caller caller)
+QUICK void release(const void *address, struct caller caller)
 {
-    if (UNLIKELY(!quick_released(address)))
+    if (UNLIKELY(!quick_released(address, caller.stack)))
         release_begins(address, caller);
 }
 
@@ -406,6 +408,14 @@ EXPORT handler *sigset(int number, handler *given)
 {
     handler_comes(given);
     return real.sigset(number, given);
+}
+
+/* What pthread_atfork calls. An allocator may call it before the recorder's constructor has run. */
+EXPORT int __register_atfork(void (*prepare)(void), void (*parent)(void), void (*child)(void), void *object)
+{
+    start();
+    fork_is_watched();
+    return real.register_atfork(prepare, parent, child, object);
 }
 
 /* What was at the library's addresses means nothing any more. */

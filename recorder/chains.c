@@ -147,11 +147,11 @@ COLD static void drop_lost(struct thread *thread)
 }
 
 /* False where this call isn't recorded. Else the thread is inside the recorder. */
-static inline bool opens(struct thread *thread)
+static inline bool opens(struct thread *thread, uintptr_t stack)
 {
-    if (thread->state != OPEN && !thread_opens(thread))
+    if (thread->state != OPEN && !thread_opens(thread, stack))
         return false;
-    thread->state = BUSY;
+    thread->state = stack;
     atomic_signal_fence(memory_order_seq_cst);
     if (UNLIKELY(thread->lost_seen != atomic_load_explicit(&lost_total, memory_order_relaxed)))
         drop_lost(thread);
@@ -189,7 +189,7 @@ bool request_begins(struct request *request, const void *address, enum class cla
     struct caller caller, bool tried)
 {
     struct thread *thread = &self;
-    if (UNLIKELY(!opens(thread)))
+    if (UNLIKELY(!opens(thread, caller.stack)))
         return false;
     struct lock *lock = lock_at(address);
     if (UNLIKELY(!lock) && !(lock = lock_met(address, class, caller))) {
@@ -276,7 +276,7 @@ static void released(struct thread *thread, struct held *held)
 void release_begins(const void *address, struct caller caller)
 {
     struct thread *thread = &self;
-    if (UNLIKELY(!opens(thread)))
+    if (UNLIKELY(!opens(thread, caller.stack)))
         return;
     struct held *held = held_at(thread, address);
     if (LIKELY(held != NULL)) {
@@ -296,7 +296,7 @@ void release_begins(const void *address, struct caller caller)
 bool wait_begins(struct request *request, const void *address, struct caller caller)
 {
     struct thread *thread = &self;
-    if (UNLIKELY(!opens(thread)))
+    if (UNLIKELY(!opens(thread, caller.stack)))
         return false;
     struct held *held = held_at(thread, address);
     if (!held) {
@@ -332,7 +332,7 @@ void chains_forked(void)
     madvise(nodes, NODES * sizeof *nodes, MADV_DONTNEED);
     nodes_made = 0;
     for (int stream = 0; stream < STREAMS; stream++)
-        thread->seat[stream] = thread->last_seat[stream] = thread->written[stream] = 0;
+        thread->seat[stream] = thread->last_seat[stream] = thread->written[stream] = thread->asked[stream] = 0;
     for (uint32_t i = 0; i < thread->count; i++) {
         struct held *held = &thread->held[i];
         held->written = 0;

@@ -12,12 +12,19 @@
 #include <string.h>
 
 enum { TYPE_BUCKETS = 1 << 12, ANCHORS = 1 << 8 };
+/* Memory is counted in regions of 4 kB, 64 kB and 1 MB: a region without locks is passed over as a whole. */
+enum { LEVELS = 3, REGION_SHIFT = 12, LEVEL_SHIFT = 4, REGIONS = 1 << 15 };
 
 _Atomic(struct lock *) *lock_buckets;
 static struct lock *locks;
 static struct lock *free_locks;
 static uint32_t locks_taken;
 static _Atomic uint32_t locks_in_memory; /* those that free has to look for */
+
+static _Atomic uint32_t in_regions[LEVELS][REGIONS]; /* locks in memory, in all regions of that slot */
+
+static struct name *names;
+static uint32_t names_taken;
 
 static struct type *types;
 static uint32_t types_met;
@@ -31,8 +38,56 @@ bool locks_made(void)
 {
     lock_buckets = table(LOCK_BUCKETS * sizeof *lock_buckets);
     locks = table(LOCKS_ALIVE * sizeof *locks);
+    names = table(LOCKS_ALIVE * sizeof *names);
     types = table((TYPES_MET + 1) * sizeof *types);
-    return lock_buckets && locks && types;
+    return lock_buckets && locks && names && types;
+}
+
+static inline uint32_t region_shift(int level)
+{
+    return (uint32_t)(REGION_SHIFT + level * LEVEL_SHIFT);
+}
+
+static inline _Atomic uint32_t *in_region(int level, uintptr_t address)
+{
+    uintptr_t region = address >> region_shift(level);
+    return &in_regions[level][(region ^ region >> 15) % REGIONS];
+}
+
+/* Between these lie all locks in memory that ever were. */
+static _Atomic uintptr_t lowest = UINTPTR_MAX, highest;
+
+/* One lock more, or fewer, that free has to look for. */
+static void count_in_memory(uintptr_t address, bool more)
+{
+    uint32_t change = more ? 1 : UINT32_MAX;
+    if (address < atomic_load(&lowest))
+        atomic_store(&lowest, address);
+    if (address > atomic_load(&highest))
+        atomic_store(&highest, address);
+    atomic_fetch_add(&locks_in_memory, change);
+    for (int level = 0; level < LEVELS; level++)
+        atomic_fetch_add(in_region(level, address), change);
+}
+
+static inline bool is_empty(int level, uintptr_t address)
+{
+    return atomic_load_explicit(in_region(level, address), memory_order_relaxed) == 0;
+}
+
+/* The first address from there on in whose region may be locks, or one behind the end. */
+static inline uintptr_t pass_over(uintptr_t at, uintptr_t end)
+{
+    while (at < end && is_empty(0, at)) {
+        int level = 0;
+        uintptr_t next = ((at >> region_shift(0)) + 1) << region_shift(0);
+        while (next < end && level + 1 < LEVELS && is_empty(level + 1, at)) {
+            level++;
+            next = ((at >> region_shift(level)) + 1) << region_shift(level);
+        }
+        at = next;
+    }
+    return at;
 }
 
 static struct type *type_of(const struct type *wanted)
@@ -53,6 +108,44 @@ static struct type *type_of(const struct type *wanted)
     type->next = *bucket;
     *bucket = type;
     return type;
+}
+
+/*
+ * A name for a lock that has none, NULL where there is no room for one. A lock in an object has the name of its variable
+ * alone; any other may have that of one that is gone.
+ */
+static struct name *name_for(struct type *type, uintptr_t address, bool recursive)
+{
+    uintptr_t variable = type->anchor ? address : 0;
+    struct name *before = NULL, *name = type->first_free;
+    while (name && (name->variable != variable || name->recursive != recursive)) {
+        before = name;
+        name = name->next;
+    }
+    if (!name) {
+        if (names_taken == LOCKS_ALIVE)
+            return NULL;
+        name = &names[names_taken++];
+        *name = (struct name){.variable = variable, .number = ++type->names_made, .recursive = recursive};
+        return name;
+    }
+    if (before)
+        before->next = name->next;
+    else
+        type->first_free = name->next;
+    if (type->last_free == name)
+        type->last_free = before;
+    return name;
+}
+
+static void give_name_back(struct type *type, struct name *name)
+{
+    name->next = NULL;
+    if (type->first_free)
+        type->last_free->next = name;
+    else
+        type->first_free = name;
+    type->last_free = name;
 }
 
 /* Who holds the lock by its chain finds out at its next call. */
@@ -84,10 +177,9 @@ static void forget(struct lock *lock, bool nobody_holds)
         link = &atomic_load(link)->next;
     atomic_store(link, atomic_load(&lock->next));
     if (!lock->type->anchor)
-        atomic_fetch_sub(&locks_in_memory, 1);
+        count_in_memory(atomic_load(&lock->address), false);
     atomic_store(&lock->address, 0);
-    for (int stream = 0; stream < STREAMS; stream++)
-        lock_number_given_back(stream, lock);
+    give_name_back(lock->type, lock->name);
     if (!nobody_holds)
         lock_given_up(lock);
     atomic_store(&lock->next, free_locks);
@@ -112,16 +204,22 @@ static struct lock *add(const void *address, const struct type *wanted)
         count_missed_all(type ? MISSED_LOCKS : MISSED_TYPES);
         return NULL;
     }
-    if (lock)
+    if (!lock)
+        lock = &locks[locks_taken];
+    read_kind(lock, address, wanted->class);
+    lock->name = name_for(type, (uintptr_t)address, lock->recursive);
+    if (!lock->name) {
+        count_missed_all(MISSED_LOCKS);
+        return NULL;
+    }
+    if (lock == free_locks)
         free_locks = atomic_load(&lock->next);
     else
-        lock = &locks[locks_taken++];
+        locks_taken++;
     lock->type = type;
-    read_kind(lock, address, wanted->class);
     memset(&lock->marks, 0, sizeof lock->marks);
-    memset(lock->holders, 0, sizeof lock->holders);
     if (!type->anchor)
-        atomic_fetch_add(&locks_in_memory, 1);
+        count_in_memory((uintptr_t)address, true);
     _Atomic(struct lock *) *bucket = lock_bucket((uintptr_t)address);
     atomic_store(&lock->next, atomic_load(bucket));
     atomic_store(&lock->address, (uintptr_t)address);
@@ -169,9 +267,8 @@ static uintptr_t anchor_of(uintptr_t address)
 /* An init call has made a lock there. */
 void lock_made(const void *address, enum class class, struct caller caller)
 {
-    if (self.state != OPEN && !thread_opens(&self))
+    if (!goes_far_inside(caller.stack))
         return;
-    self.state = BUSY;
     struct type wanted = {.class = class, .address = (uintptr_t)address};
     places_of(caller, wanted.places);
     if (recorder_enters()) {
@@ -189,9 +286,8 @@ void lock_made(const void *address, enum class class, struct caller caller)
 /* The lock there was destroyed. */
 void lock_gone(const void *address)
 {
-    if (self.state != OPEN && !thread_opens(&self))
+    if (!goes_far_inside(HERE))
         return;
-    self.state = BUSY;
     if (lock_at(address) && recorder_enters()) {
         struct lock *lock = lock_at(address);
         if (lock)
@@ -204,13 +300,14 @@ void lock_gone(const void *address)
 /* A lock in the block, from the piece on that *at stands in, NULL where there is none. */
 static struct lock *lock_in(uintptr_t *at, uintptr_t end)
 {
-    for (; *at < end; *at = (*at / LOCK_PIECE + 1) * LOCK_PIECE) {
+    while ((*at = pass_over(*at, end)) < end) {
         struct lock *lock = atomic_load_explicit(lock_bucket(*at), memory_order_acquire);
         for (; lock; lock = atomic_load_explicit(&lock->next, memory_order_acquire)) {
             uintptr_t address = atomic_load_explicit(&lock->address, memory_order_relaxed);
             if (address >= *at && address < end)
                 return lock;
         }
+        *at = (*at / LOCK_PIECE + 1) * LOCK_PIECE;
     }
     return NULL;
 }
@@ -221,11 +318,11 @@ void locks_freed(const void *block)
     if (LIKELY(atomic_load_explicit(&locks_in_memory, memory_order_relaxed) == 0) || !watches_free)
         return;
     uintptr_t at = (uintptr_t)block, end = at + malloc_usable_size((void *)block);
-    if (LIKELY(!lock_in(&at, end)))
+    if (at > atomic_load_explicit(&highest, memory_order_relaxed)
+        || end <= atomic_load_explicit(&lowest, memory_order_relaxed) || LIKELY(!lock_in(&at, end)))
         return;
-    if (self.state != OPEN && !thread_opens(&self))
+    if (!goes_far_inside(HERE))
         return;
-    self.state = BUSY;
     if (recorder_enters()) {
         struct lock *lock;
         while ((lock = lock_in(&at, end)) != NULL)
@@ -250,9 +347,8 @@ static void forget_object(uintptr_t from, uintptr_t to)
 /* The program has closed a library. */
 void library_closed(void)
 {
-    if (self.state != OPEN && !thread_opens(&self))
+    if (!goes_far_inside(HERE))
         return;
-    self.state = BUSY;
     if (recorder_enters()) {
         objects_closed(forget_object);
         recorder_leaves();

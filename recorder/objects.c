@@ -25,12 +25,19 @@ struct image {
     struct timespec changed;
 };
 
-/* A function or variable of an object: its place in the object's table, and its addresses as the file counts them. */
+/* A function or variable of an object: its addresses and name as the file has them, and its number in the table. */
 struct symbol {
     uint64_t from, to;
     uint64_t furthest; /* the greatest `to` from the first symbol on up to this one */
-    uint32_t number;
+    uint32_t number, name;
 };
+
+/* All functions of an object, or all variables, by where they begin. */
+struct index {
+    struct symbol *symbols;
+    uint32_t count;
+};
+enum { VARIABLES, FUNCTIONS, KINDS };
 
 struct object {
     bool closed;    /* it is mapped no longer */
@@ -42,14 +49,13 @@ struct object {
     uint64_t table_count;
     const char *strings;
     uint64_t strings_size;
-    struct symbol *symbols; /* by `from`; NULL before they were asked for */
-    uint32_t symbol_count;
+    bool is_read; /* the two below are */
+    struct index index[KINDS];
     struct marks marks;
 };
 
 static struct object objects[OBJECTS + 1];
 static uint32_t objects_met;
-static struct symbol no_symbols;
 static char *text;
 static size_t text_used;
 
@@ -65,25 +71,28 @@ static const char *keep_text(const char *from, size_t length)
     return kept;
 }
 
+/* By reading, not by mapping: a file of the program's own may have holes that the disk has no room for. */
+static bool is_object(int file)
+{
+    ElfW(Ehdr) header;
+    return pread(file, &header, sizeof header, 0) == (ssize_t)sizeof header
+        && memcmp(header.e_ident, ELFMAG, SELFMAG) == 0
+        && header.e_ident[EI_CLASS] == (sizeof(void *) == 8 ? ELFCLASS64 : ELFCLASS32);
+}
+
 static struct image image_of(const char *path)
 {
     struct image image = {NULL, 0, 0, 0, {0, 0}};
     struct stat status;
-    int file = open(path, O_RDONLY | O_CLOEXEC);
+    int file = open(path, O_RDONLY | O_CLOEXEC | O_NONBLOCK);
     if (file < 0)
         return image;
-    if (fstat(file, &status) == 0 && S_ISREG(status.st_mode) && (size_t)status.st_size >= sizeof(ElfW(Ehdr))) {
+    if (fstat(file, &status) == 0 && S_ISREG(status.st_mode) && is_object(file)) {
         void *bytes = mmap(NULL, (size_t)status.st_size, PROT_READ, MAP_PRIVATE, file, 0);
         if (bytes != MAP_FAILED)
             image = (struct image){bytes, (size_t)status.st_size, status.st_dev, status.st_ino, status.st_mtim};
     }
     close(file);
-    const ElfW(Ehdr) *header = (const void *)image.bytes;
-    if (image.bytes && (memcmp(header->e_ident, ELFMAG, SELFMAG) != 0
-            || header->e_ident[EI_CLASS] != (sizeof(void *) == 8 ? ELFCLASS64 : ELFCLASS32))) {
-        munmap((void *)image.bytes, image.size);
-        image.bytes = NULL;
-    }
     return image;
 }
 
@@ -296,129 +305,134 @@ static bool table_found(struct object *object)
     return object->strings && object->table_count > 0 && object->table_count < UINT32_MAX;
 }
 
-static bool is_kept(const ElfW(Sym) *symbol)
+static bool is_kept(const ElfW(Sym) *symbol, int kind)
 {
-    uint32_t kind = ELF64_ST_TYPE(symbol->st_info);
-    return (kind == STT_FUNC || kind == STT_OBJECT) && symbol->st_shndx != SHN_UNDEF && symbol->st_size > 0;
+    return ELF64_ST_TYPE(symbol->st_info) == (kind == FUNCTIONS ? STT_FUNC : STT_OBJECT)
+        && symbol->st_shndx != SHN_UNDEF && symbol->st_size > 0;
 }
 
-static void swap(struct symbol *first, struct symbol *second)
+/* Sorts by eleven bits from the shift on; what is equal in them keeps its order. */
+static void sort_once(const struct symbol *from, struct symbol *to, uint32_t count, uint32_t shift)
 {
-    struct symbol kept = *first;
-    *first = *second;
-    *second = kept;
+    enum { VALUES = 1 << 11 };
+    static uint32_t starts[VALUES + 1];
+    memset(starts, 0, sizeof starts);
+    for (uint32_t i = 0; i < count; i++)
+        starts[(from[i].from >> shift) % VALUES + 1]++;
+    for (uint32_t value = 1; value < VALUES; value++)
+        starts[value] += starts[value - 1];
+    for (uint32_t i = 0; i < count; i++)
+        to[starts[(from[i].from >> shift) % VALUES]++] = from[i];
 }
 
-/* Sorts a heap's root into its place among count symbols. */
-static void sift(struct symbol *symbols, uint32_t root, uint32_t count)
+/* The symbols by `from`, sorted in either of two tables of that size. */
+static struct symbol *sorted(struct symbol *symbols, struct symbol *other, uint32_t count)
 {
-    for (uint32_t child; (child = 2 * root + 1) < count; root = child) {
-        if (child + 1 < count && symbols[child].from < symbols[child + 1].from)
-            child++;
-        if (symbols[root].from >= symbols[child].from)
-            return;
-        swap(&symbols[root], &symbols[child]);
+    uint64_t most = 0;
+    for (uint32_t i = 0; i < count; i++)
+        if (symbols[i].from > most)
+            most = symbols[i].from;
+    for (uint32_t shift = 0; shift < 64 && most >> shift != 0; shift += 11) {
+        sort_once(symbols, other, count, shift);
+        struct symbol *kept = symbols;
+        symbols = other;
+        other = kept;
     }
+    return symbols;
 }
 
-static void sort(struct symbol *symbols, uint32_t count)
+static void read_kind(struct object *object, int kind)
 {
-    for (uint32_t root = count / 2; root-- > 0;)
-        sift(symbols, root, count);
-    for (uint32_t end = count; end-- > 1;) {
-        swap(&symbols[0], &symbols[end]);
-        sift(symbols, 0, end);
-    }
-}
-
-/* Reads the object's symbols once, sorted: there may be a hundred thousand, and a name is asked for at each place. */
-static void read_symbols(struct object *object)
-{
-    uint32_t count = 0;
-    object->symbols = &no_symbols; /* and not asked for again */
-    if (!table_found(object))
-        return;
+    uint32_t count = 0, at = 0;
     for (uint32_t i = 0; i < object->table_count; i++)
-        count += is_kept(&object->table[i]);
+        count += is_kept(&object->table[i], kind);
     struct symbol *symbols = count ? table(count * sizeof *symbols) : NULL;
-    if (!symbols)
+    struct symbol *other = symbols ? table(count * sizeof *other) : NULL;
+    if (!other)
         return;
-    uint32_t at = 0;
     for (uint32_t i = 0; i < object->table_count; i++) {
         const ElfW(Sym) *symbol = &object->table[i];
-        if (is_kept(symbol))
-            symbols[at++] = (struct symbol){symbol->st_value, symbol->st_value + symbol->st_size, 0, i};
+        if (is_kept(symbol, kind))
+            symbols[at++] = (struct symbol){symbol->st_value, symbol->st_value + symbol->st_size, 0, i, symbol->st_name};
     }
-    sort(symbols, count);
+    struct symbol *result = sorted(symbols, other, count);
+    munmap(result == symbols ? other : symbols, count * sizeof *other);
     uint64_t furthest = 0;
     for (uint32_t i = 0; i < count; i++) {
-        if (symbols[i].to > furthest)
-            furthest = symbols[i].to;
-        symbols[i].furthest = furthest;
+        if (result[i].to > furthest)
+            furthest = result[i].to;
+        result[i].furthest = furthest;
     }
-    object->symbols = symbols;
-    object->symbol_count = count;
+    object->index[kind] = (struct index){result, count};
+}
+
+/* Reads the object's symbols once: there may be a hundred thousand, and a name is asked for at each place. */
+static void read_symbols(struct object *object)
+{
+    if (object->is_read)
+        return;
+    object->is_read = true;
+    if (!table_found(object))
+        return;
+    read_kind(object, VARIABLES);
+    read_kind(object, FUNCTIONS);
 }
 
 /* The symbol that the address is in, NULL where there is none; of several, the first in the object's table. */
-static const ElfW(Sym) *symbol_over(struct object *object, uint64_t address, bool function)
+static const struct symbol *symbol_over(struct object *object, uint64_t address, int kind)
 {
-    if (!object->symbols)
-        read_symbols(object);
-    uint32_t low = 0, high = object->symbol_count;
+    read_symbols(object);
+    const struct index *index = &object->index[kind];
+    uint32_t low = 0, high = index->count;
     while (low < high) {
         uint32_t middle = low + (high - low) / 2;
-        if (object->symbols[middle].from <= address)
+        if (index->symbols[middle].from <= address)
             low = middle + 1;
         else
             high = middle;
     }
-    const ElfW(Sym) *best = NULL;
-    while (low-- > 0 && object->symbols[low].furthest > address) {
-        const ElfW(Sym) *symbol = &object->table[object->symbols[low].number];
-        bool fits = ELF64_ST_TYPE(symbol->st_info) == (function ? STT_FUNC : STT_OBJECT);
-        if (fits && address < object->symbols[low].to && (!best || symbol < best))
+    const struct symbol *best = NULL;
+    while (low-- > 0 && index->symbols[low].furthest > address) {
+        const struct symbol *symbol = &index->symbols[low];
+        if (address < symbol->to && (!best || symbol->number < best->number))
             best = symbol;
     }
     return best;
 }
 
-static const char *name_of(const struct object *object, const ElfW(Sym) *symbol)
+static const char *keep_name(const struct object *object, uint32_t name)
 {
-    return symbol->st_name < object->strings_size ? object->strings + symbol->st_name : "";
+    const char *found = name < object->strings_size ? object->strings + name : "";
+    return keep_text(found, strnlen(found, NAME_MOST));
 }
 
 const char *object_symbol(uint32_t number, uintptr_t address, bool function, uintptr_t *from, uint64_t *size)
 {
     struct object *object = &objects[number];
-    const ElfW(Sym) *symbol = symbol_over(object, address - object->bias, function);
+    const struct symbol *symbol = symbol_over(object, address - object->bias, function ? FUNCTIONS : VARIABLES);
     if (!symbol)
         return "";
-    const char *found = name_of(object, symbol);
-    *from = symbol->st_value + object->bias;
-    *size = symbol->st_size;
-    return keep_text(found, strnlen(found, NAME_MOST));
+    *from = symbol->from + object->bias;
+    *size = symbol->to - symbol->from;
+    return keep_name(object, symbol->name);
 }
 
 /*
  * The source file of the variable there, where the variable is its file's alone and the object has another one of the
- * same name; else an empty name. A file's own symbols stand behind the file's.
+ * same name; else an empty name. Equal names stand in an object once. A file's own symbols stand behind the file's.
  */
 const char *object_symbol_file(uint32_t number, uintptr_t address)
 {
     struct object *object = &objects[number];
-    const ElfW(Sym) *symbol = symbol_over(object, address - object->bias, false);
+    const struct symbol *symbol = symbol_over(object, address - object->bias, VARIABLES);
+    const struct index *index = &object->index[VARIABLES];
     bool shared = false;
-    if (!symbol || ELF64_ST_BIND(symbol->st_info) != STB_LOCAL)
+    if (!symbol || ELF64_ST_BIND(object->table[symbol->number].st_info) != STB_LOCAL)
         return "";
-    const char *name = name_of(object, symbol);
-    for (uint64_t i = 0; i < object->table_count && !shared; i++) {
-        const ElfW(Sym) *other = &object->table[i];
-        shared = other != symbol && ELF64_ST_TYPE(other->st_info) == STT_OBJECT
-            && other->st_shndx != SHN_UNDEF && strcmp(name_of(object, other), name) == 0;
-    }
-    while (shared && symbol-- > object->table)
-        if (ELF64_ST_TYPE(symbol->st_info) == STT_FILE)
-            return keep_text(name_of(object, symbol), strnlen(name_of(object, symbol), NAME_MOST));
+    for (uint32_t i = 0; i < index->count && !shared; i++)
+        shared = index->symbols[i].name == symbol->name && index->symbols[i].from != symbol->from;
+    for (uint32_t i = symbol->number; shared && i-- > 0;)
+        if (ELF64_ST_TYPE(object->table[i].st_info) == STT_FILE)
+            return keep_name(object, object->table[i].st_name);
     return "";
 }

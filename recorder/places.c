@@ -2,10 +2,11 @@
  * Where calls come from: return addresses, and the callers behind them.
  *
  * A function whose only work is to lock (std::mutex::lock, uv_mutex_lock) says nothing about its call, so its caller is
- * wanted. To unwind the stack at each call would take too long. But at one return address the distance from a
- * function's stack pointer to its caller's is always the same, unless the function takes memory from the stack: so
- * the unwinder is asked once for each return address, and from then on the callers are read from the stack. Where a
- * distance isn't always the same, the unwinder is asked each time.
+ * wanted. To unwind the stack at each call would take too long. But at one return address a function's frame is found
+ * always in the same way: it lies at a distance from the stack pointer that is always the same, or at the frame
+ * pointer, which a function has that takes memory from the stack. So the unwinder is asked once for each return
+ * address, and from then on the callers are read from the stack. Where neither is so, or the frame pointer isn't
+ * known, the unwinder is asked each time: no other address is ever read.
  */
 #include "recorder.h"
 
@@ -16,11 +17,20 @@
 
 enum { FRAMES = 24, WRAPPER_BYTES = 256, WORD_MOST = 64 };
 
+/* The stack pointer and the frame pointer are those that the function has once the call has returned. */
+struct frame {
+    uintptr_t pc, stack, base;
+    bool has_base; /* the frame pointer is known */
+};
+
 struct stack {
     struct caller wanted; /* the first frame to be kept */
     uint32_t count;
-    struct caller frames[FRAMES];
+    struct frame frames[FRAMES];
 };
+
+/* The frame pointer's number among the registers. */
+enum { FRAME_POINTER = 6 };
 
 struct place *places;
 static uint32_t places_met;
@@ -86,9 +96,9 @@ static bool is_wrapper(const char *name, uint64_t size)
     return false;
 }
 
-static void add(struct caller frame, int32_t step)
+static void add(uintptr_t pc, int32_t step)
 {
-    uint32_t number = place_at_pc(frame.pc);
+    uint32_t number = place_at_pc(pc);
     if (number) {
         if (place_at(number)->step != step)
             place_at(number)->step = STEP_VARIES;
@@ -96,11 +106,11 @@ static void add(struct caller frame, int32_t step)
     }
     if (places_met >= PLACES / 4 * 3)
         return;
-    uint32_t object = object_of(frame.pc - 1, true);
-    uint32_t slot = place_slot(frame.pc);
-    for (uintptr_t pc; (pc = atomic_load_explicit(&places[slot].pc, memory_order_relaxed)) != 0;) {
-        if (pc == PC_CLOSED && places[slot].closed == frame.pc && places[slot].object == object) {
-            atomic_store_explicit(&places[slot].pc, frame.pc, memory_order_release);
+    uint32_t object = object_of(pc - 1, true);
+    uint32_t slot = place_slot(pc);
+    for (uintptr_t met; (met = atomic_load_explicit(&places[slot].pc, memory_order_relaxed)) != 0;) {
+        if (met == PC_CLOSED && places[slot].closed == pc && places[slot].object == object) {
+            atomic_store_explicit(&places[slot].pc, pc, memory_order_release);
             return;
         }
         slot = (slot + 1) % PLACES;
@@ -112,15 +122,15 @@ static void add(struct caller frame, int32_t step)
     place->name = "";
     place->object = (uint16_t)object;
     if (place->object) {
-        place->offset = object_offset(place->object, frame.pc);
-        place->name = object_symbol(place->object, frame.pc - 1, true, &from, &size);
+        place->offset = object_offset(place->object, pc);
+        place->name = object_symbol(place->object, pc - 1, true, &from, &size);
         if (*place->name) {
-            place->within = frame.pc - from;
+            place->within = pc - from;
             place->wrapper = is_wrapper(place->name, size);
         }
     }
     places_met++;
-    atomic_store_explicit(&place->pc, frame.pc, memory_order_release);
+    atomic_store_explicit(&place->pc, pc, memory_order_release);
 }
 
 /* The object is mapped no longer: at its addresses there may be another. Its places stay, with their numbers. */
@@ -138,7 +148,8 @@ void places_closed(uintptr_t from, uintptr_t to)
 static _Unwind_Reason_Code keep_frame(struct _Unwind_Context *context, void *argument)
 {
     struct stack *stack = argument;
-    struct caller frame = {_Unwind_GetIP(context), _Unwind_GetCFA(context)};
+    struct frame frame = {
+        _Unwind_GetIP(context), _Unwind_GetCFA(context), _Unwind_GetGR(context, FRAME_POINTER), true};
     if (stack->count == 0 && (frame.pc != stack->wanted.pc || frame.stack != stack->wanted.stack))
         return _URC_NO_REASON;
     if (frame.pc == 0)
@@ -147,12 +158,35 @@ static _Unwind_Reason_Code keep_frame(struct _Unwind_Context *context, void *arg
     return stack->count == FRAMES ? _URC_END_OF_STACK : _URC_NO_REASON;
 }
 
-/* The return address into a frame stands a word below its stack pointer on x86-64. That is looked at, not believed. */
+static uintptr_t word_at(uintptr_t address)
+{
+    uintptr_t word;
+    memcpy(&word, (const void *)address, sizeof word);
+    return word;
+}
+
+/* The return address into a frame stands a word below its stack pointer on x86-64. */
 static uintptr_t return_address(uintptr_t stack)
 {
-    uintptr_t address;
-    memcpy(&address, (const void *)(stack - sizeof address), sizeof address);
-    return address;
+    return word_at(stack - sizeof(uintptr_t));
+}
+
+/* Below the return address a function saves its caller's frame pointer, if it is to have one of its own. */
+static uintptr_t saved_base(uintptr_t stack)
+{
+    return word_at(stack - 2 * sizeof(uintptr_t));
+}
+
+/* How the frame's own caller is found from it, whenever it is met. A frame pointer into the middle of a frame stands in
+ * one that is aligned by hand, and so is of varying size. */
+static int32_t step_between(const struct frame *frame, const struct frame *next)
+{
+    uintptr_t distance = next->stack - frame->stack;
+    if (distance == 0 || distance >= INT32_MAX || return_address(next->stack) != next->pc)
+        return STEP_VARIES;
+    if (frame->base == next->stack - 2 * sizeof(uintptr_t))
+        return STEP_FRAME;
+    return frame->base >= frame->stack && frame->base < next->stack ? STEP_VARIES : (int32_t)distance;
 }
 
 /* All callers by the unwinder; what is new in them is learnt. */
@@ -162,31 +196,36 @@ COLD static void unwind(struct caller caller, struct stack *stack)
     stack->count = 0;
     _Unwind_Backtrace(keep_frame, stack);
     if (stack->count == 0)
-        stack->frames[stack->count++] = caller;
+        stack->frames[stack->count++] = (struct frame){caller.pc, caller.stack, 0, false};
     if (!recorder_enters())
         return;
-    for (uint32_t i = 0; i < stack->count; i++) {
-        int32_t step = STEP_LAST;
-        if (i + 1 < stack->count) {
-            const struct caller *next = &stack->frames[i + 1];
-            uintptr_t distance = next->stack - stack->frames[i].stack;
-            step = STEP_VARIES;
-            if (distance > 0 && distance < INT32_MAX && return_address(next->stack) == next->pc)
-                step = (int32_t)distance;
-        }
-        if (i + 1 < stack->count || stack->count < FRAMES)
-            add(stack->frames[i], step);
-    }
+    for (uint32_t i = 0; i + 1 < stack->count; i++)
+        add(stack->frames[i].pc, step_between(&stack->frames[i], &stack->frames[i + 1]));
+    if (stack->count < FRAMES)
+        add(stack->frames[stack->count - 1].pc, STEP_LAST);
     recorder_leaves();
+}
+
+/* Goes to the frame's own caller. False where the unwinder has to be asked. */
+static bool climb(struct frame *frame, int32_t step)
+{
+    if (step == STEP_VARIES || (step == STEP_FRAME && !frame->has_base))
+        return false;
+    frame->stack = step == STEP_FRAME ? frame->base + 2 * sizeof(uintptr_t) : frame->stack + (uintptr_t)step;
+    frame->pc = return_address(frame->stack);
+    frame->has_base = step == STEP_FRAME;
+    if (frame->has_base)
+        frame->base = saved_base(frame->stack);
+    return true;
 }
 
 /* Follows the steps that are known. False where one isn't, or isn't always the same. */
 static bool follow(struct caller caller, uint32_t wanted, uint32_t *found, uint32_t *count)
 {
-    uintptr_t pc = caller.pc, stack = caller.stack;
+    struct frame frame = {caller.pc, caller.stack, caller.base, true};
     *count = 0;
     for (uint32_t frames = 0; frames < FRAMES - 1; frames++) {
-        uint32_t number = place_at_pc(pc);
+        uint32_t number = place_at_pc(frame.pc);
         if (!number)
             return false;
         const struct place *place = place_at(number);
@@ -194,10 +233,8 @@ static bool follow(struct caller caller, uint32_t wanted, uint32_t *found, uint3
             found[(*count)++] = number;
         if (*count == wanted || place->step == STEP_LAST)
             return true;
-        if (place->step == STEP_VARIES)
+        if (!climb(&frame, place->step))
             return false;
-        stack += (uintptr_t)place->step;
-        pc = return_address(stack);
     }
     return true;
 }
@@ -226,6 +263,39 @@ uint32_t first_caller(struct caller caller)
     uint32_t number;
     callers(caller, 1, &number);
     return number;
+}
+
+/* The recorder's own bytes in memory. */
+extern const char __ehdr_start[] __attribute__((visibility("hidden")));
+extern const char _end[] __attribute__((visibility("hidden")));
+
+struct search {
+    uintptr_t stack; /* of the caller that is looked for */
+    bool is_inside;  /* the function that was seen last is the recorder's */
+    bool is_left;
+};
+
+static _Unwind_Reason_Code look_at(struct _Unwind_Context *context, void *argument)
+{
+    struct search *search = argument;
+    uintptr_t stack = _Unwind_GetCFA(context), pc = _Unwind_GetIP(context);
+    if (stack < search->stack) {
+        search->is_inside = pc >= (uintptr_t)__ehdr_start && pc < (uintptr_t)_end;
+        return _URC_NO_REASON;
+    }
+    search->is_left = stack > search->stack || !search->is_inside;
+    return _URC_END_OF_STACK;
+}
+
+/*
+ * Whether the recorder's function that was called with that stack pointer has yet to return: it stands among the
+ * callers. It has, too, where that can't be told.
+ */
+COLD bool call_goes_on(uintptr_t stack)
+{
+    struct search search = {.stack = stack};
+    _Unwind_Backtrace(look_at, &search);
+    return !search.is_left;
 }
 
 /* As many callers as name a type. */

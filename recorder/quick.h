@@ -75,12 +75,12 @@ static inline struct held *held_filled(struct thread *thread, struct lock *lock,
  * Goes inside the recorder, from where a handler of signals sees nothing half done: its calls aren't recorded. False
  * where the thread is inside already, or its chain may have what it has lost.
  */
-static inline bool goes_inside(struct thread *thread)
+static inline bool goes_inside(struct thread *thread, uintptr_t stack)
 {
     if (UNLIKELY(thread->state != OPEN
             || thread->lost_seen != atomic_load_explicit(&lost_total, memory_order_relaxed)))
         return false;
-    thread->state = BUSY;
+    thread->state = stack;
     atomic_signal_fence(memory_order_seq_cst);
     return true;
 }
@@ -91,6 +91,9 @@ static inline void goes_outside(struct thread *thread)
     thread->state = OPEN;
 }
 
+/* The quick way has no call in it. */
+#define QUICK static inline __attribute__((always_inline))
+
 struct quick {
     struct thread *thread;
     struct lock *lock;
@@ -98,12 +101,14 @@ struct quick {
     uint32_t node;
 };
 
-static inline bool quick_is_known(struct quick *quick, const void *address, uintptr_t pc)
+QUICK bool quick_is_known(struct quick *quick, const void *address, struct caller caller)
 {
     struct thread *thread = quick->thread;
     quick->lock = lock_at(address);
-    quick->place = place_at_pc(pc);
-    if (UNLIKELY(!quick->lock || !quick->place || place_at(quick->place)->wrapper || thread->count == thread->room))
+    quick->place = place_at_pc(caller.pc);
+    if (UNLIKELY(!quick->lock || !quick->place || thread->count == thread->room))
+        return false;
+    if (UNLIKELY(place_at(quick->place)->wrapper) && !(quick->place = first_caller(caller)))
         return false;
     if (thread->count == 0) {
         quick->node = atomic_load_explicit(&quick->lock->type->root, memory_order_relaxed);
@@ -117,12 +122,12 @@ static inline bool quick_is_known(struct quick *quick, const void *address, uint
 }
 
 /* False where the call takes the long way. Else the thread is inside the recorder until the request ends. */
-static inline bool quick_begins(struct quick *quick, const void *address, uintptr_t pc)
+QUICK bool quick_begins(struct quick *quick, const void *address, struct caller caller)
 {
     quick->thread = &self;
-    if (UNLIKELY(writes_all) || !goes_inside(quick->thread))
+    if (UNLIKELY(writes_all) || !goes_inside(quick->thread, caller.stack))
         return false;
-    if (LIKELY(quick_is_known(quick, address, pc)))
+    if (LIKELY(quick_is_known(quick, address, caller)))
         return true;
     goes_outside(quick->thread);
     return false;
@@ -135,11 +140,11 @@ static inline void quick_got(struct quick *quick, enum mode mode)
 }
 
 /* Releases what was acquired last, once, and isn't written. False where that isn't so. */
-static inline bool quick_released(const void *address)
+QUICK bool quick_released(const void *address, uintptr_t stack)
 {
     struct thread *thread = &self;
     bool released = false;
-    if (UNLIKELY(thread->count == 0) || !goes_inside(thread))
+    if (UNLIKELY(thread->count == 0) || !goes_inside(thread, stack))
         return false;
     const struct held *held = &thread->held[thread->count - 1];
     if (LIKELY(atomic_load_explicit(&held->lock->address, memory_order_relaxed) == (uintptr_t)address

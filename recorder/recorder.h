@@ -10,6 +10,7 @@
  *   seats.c     seats, and the numbers of types, locks and places in a stream
  *   write.c     the lines, and why they are a legal history
  *   stream.c    the files that the lines stand in
+ *   status.c    what fails, counted where it outlives the process
  *
  * All that threads share is changed under the recorder's one mutex (recorder_enters, recorder_leaves), and nearly
  * all of it is read without. Nothing here takes memory but by mmap, and no lock of the C library is waited for
@@ -56,17 +57,18 @@ struct marks {
     uint32_t number[STREAMS];
 };
 
-/* Where a call comes from: its return address, and the stack pointer of the caller. */
+/* Where a call comes from: its return address, and the stack pointer and frame pointer of the caller. */
 struct caller {
     uintptr_t pc;
     uintptr_t stack;
+    uintptr_t base;
 };
 
 /* A return address that was met. */
 struct place {
     _Atomic uintptr_t pc; /* or the one below */
     uintptr_t closed;  /* the address, while its object is closed */
-    int32_t step;      /* from the caller's stack pointer to that of its own caller; or one of the two below */
+    int32_t step;      /* from the caller's stack pointer to that of its own caller; or one of the three below */
     uint16_t object;   /* the number of the object, 0 where there is none */
     bool wrapper;      /* the function's only work is to lock */
     uint64_t offset;   /* the address as the object's file counts it */
@@ -75,7 +77,8 @@ struct place {
     struct marks marks;
     struct marks releases; /* set where a release by another thread than the holder was written */
 };
-enum { STEP_LAST = 0, STEP_VARIES = -1 };
+/* STEP_FRAME: the caller's own caller is found by the frame pointer, two words above where it points. */
+enum { STEP_LAST = 0, STEP_VARIES = -1, STEP_FRAME = -2 };
 #define PC_CLOSED ((uintptr_t)1)
 
 struct type {
@@ -88,19 +91,31 @@ struct type {
     struct type *next; /* in its bucket */
     _Atomic uint32_t root; /* the node of a chain of this type alone; 0 where it wasn't looked for */
     struct marks marks;
-    uint32_t made[STREAMS];       /* locks of the type that have a number */
-    uint32_t free_number[STREAMS]; /* the first number given back, 0 for none */
+    uint32_t names_made;
+    struct name *first_free, *last_free; /* names of locks that are gone, the longest gone first */
+};
+
+/*
+ * The name that a lock has among those of its type, and its number in each stream. When the lock is gone, both go to
+ * the next one of the same name.
+ */
+struct name {
+    uintptr_t variable; /* the address of a lock that stands in an object, else 0 */
+    uint32_t number;    /* among the names of the type, from 1 on */
+    bool recursive;     /* as the lock is */
+    struct name *next;  /* among the free ones of the type */
+    struct marks marks;
 };
 
 struct lock {
     _Atomic uintptr_t address; /* 0 where the record is free */
     _Atomic(struct lock *) next; /* in its bucket, or among the free records */
     struct type *type;
+    struct name *name;
     _Atomic uint32_t lost;     /* how often it was given up by other means than an unlock of its holder */
     bool recursive;
     bool loses;                /* an unlock by another thread than the holder succeeds */
     struct marks marks;
-    uint32_t holders[STREAMS]; /* acquisitions written and not yet unlocked, and requests pending */
 };
 
 /* A lock that a thread holds. */
@@ -117,10 +132,14 @@ struct held {
     uint32_t number[STREAMS];
 };
 
-enum state { UNREADY, OPEN, BUSY };
+/*
+ * Whether the thread is inside the recorder: then its state is the stack pointer of the interposed call's caller, by
+ * which a call that was left by a jump is told from one that goes on; or STARTING.
+ */
+enum state { UNREADY, OPEN, STARTING };
 
 struct thread {
-    volatile int state;
+    volatile uintptr_t state;
     uint32_t count;
     uint32_t room;
     uint32_t lost_seen;
@@ -129,6 +148,7 @@ struct thread {
     uint32_t seat[STREAMS];      /* 0 for none */
     uint32_t last_seat[STREAMS];
     uint32_t written[STREAMS];   /* locks in the chain, and requests, that stand in the stream */
+    uint32_t asked[STREAMS];     /* the number of the lock whose request is pending there, 0 for none */
     struct held few[HELD_FEW];
 };
 
@@ -159,6 +179,9 @@ enum missed {
     MISSED_AGAIN,
     MISSES
 };
+
+/* What failed outside the streams. */
+enum failure { FAILED_OPEN, FAILED_ROOM, FAILED_JUMPED, FAILURES };
 
 /* start.c */
 typedef void handler(int);
@@ -196,7 +219,10 @@ struct real {
     handler *(*sysv_signal)(int, handler *);
     handler *(*sigset)(int, handler *);
     void (*free)(void *);
+    int (*register_atfork)(void (*)(void), void (*)(void), void (*)(void), void *);
 };
+/* The stack pointer of the function's caller. */
+#define HERE ((uintptr_t)__builtin_frame_address(0) + 16)
 extern struct real real;
 extern __thread struct thread self __attribute__((tls_model("initial-exec")));
 extern bool writes[STREAMS];
@@ -207,7 +233,9 @@ extern bool watches_free;
 extern _Atomic bool has_handlers; /* the program was given a handler of signals */
 
 void start(void);
-bool thread_opens(struct thread *thread);
+void fork_is_watched(void);
+bool thread_opens(struct thread *thread, uintptr_t stack);
+bool goes_far_inside(uintptr_t stack);
 bool recorder_enters(void);
 void recorder_leaves(void);
 void *table(size_t bytes);
@@ -294,6 +322,7 @@ static inline uint32_t place_of(struct caller caller)
 }
 
 uint32_t places_of(struct caller caller, uint32_t places[DEPTH_MOST]);
+bool call_goes_on(uintptr_t stack);
 void places_closed(uintptr_t from, uintptr_t to);
 
 /* objects.c */
@@ -311,7 +340,8 @@ void objects_closed(void (*gone)(uintptr_t from, uintptr_t to));
 bool seat_taken(int stream, struct thread *thread);
 void seat_given_back(int stream, struct thread *thread);
 uint32_t lock_number(int stream, struct thread *thread, struct lock *lock);
-void lock_number_given_back(int stream, struct lock *lock);
+void number_stands(int stream, uint32_t number);
+void number_stands_no_more(int stream, uint32_t number);
 uint32_t place_number(int stream, uint32_t place);
 uint32_t *mark(struct marks *marks, int stream);
 void seats_forked(void);
@@ -321,6 +351,7 @@ void write_request(struct request *request);
 void write_acquired(struct request *request, struct held *held);
 void write_again(struct request *request, struct held *held);
 void write_given_up(struct request *request);
+void write_left(struct thread *thread);
 void write_unlock(struct thread *thread, struct held *held, bool whole);
 void write_waits_for_itself(struct request *request);
 void write_released_by_another(struct thread *thread, struct lock *lock, uint32_t place);
@@ -341,5 +372,12 @@ void count_missed_all(enum missed what);
 void count_missed_outside(enum missed what);
 bool streams_made(void);
 void streams_forked(void);
+void streams_end(void);
+
+/* status.c */
+void status_made(void);
+void status_forked(void);
+void count_digits(char *digits);
+void count_failure(enum failure what);
 
 #endif

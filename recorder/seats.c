@@ -3,9 +3,11 @@
  *
  * A seat is lent to a thread while the stream has something that the thread holds or asks for: a seat with nothing
  * held and nothing pending is as good as new. So a thread that ends has nothing to give back, and the seats of a trace
- * are those that were busy at once. The number of a lock that is gone is used again for a lock of the same type.
+ * are those that were busy at once. The number of a lock that is gone is used again for a lock of the same name.
  */
 #include "recorder.h"
+
+#include <string.h>
 
 /* The number of what didn't fit; it was counted. */
 #define NUMBER_NONE UINT32_MAX
@@ -13,8 +15,8 @@
 static uint64_t seats_lent[STREAMS][SEATS / 64];
 static uint32_t types_numbered[STREAMS];
 static uint32_t locks_numbered[STREAMS];
-/* Behind each number that was given back, the next one of the same type. */
-static uint32_t next_free[STREAMS][LOCKS + 1];
+/* Of each lock's number, acquisitions written and not yet unlocked, and requests pending. */
+static uint32_t holders[STREAMS][LOCKS + 1];
 
 uint32_t *mark(struct marks *marks, int stream)
 {
@@ -57,9 +59,6 @@ void seat_given_back(int stream, struct thread *thread)
 
 static bool type_is_numbered(int stream, struct type *type)
 {
-    if (type->marks.life != life)
-        for (int each = 0; each < STREAMS; each++)
-            type->made[each] = type->free_number[each] = 0;
     uint32_t *number = mark(&type->marks, stream);
     if (*number == 0) {
         if (types_numbered[stream] == TYPES) {
@@ -73,37 +72,39 @@ static bool type_is_numbered(int stream, struct type *type)
     return *number != NUMBER_NONE;
 }
 
-/* The number of the lock, 0 where it has none in this stream. The thread has a seat and nothing pending. */
+/*
+ * The number of the lock, 0 where it has none in this stream. The thread has a seat and nothing pending. A lock that is
+ * gone may still be held in the stream: then its number isn't used again.
+ */
 uint32_t lock_number(int stream, struct thread *thread, struct lock *lock)
 {
     uint32_t *number = mark(&lock->marks, stream);
-    struct type *type = lock->type;
+    uint32_t *named = mark(&lock->name->marks, stream);
     if (*number == 0) {
-        if (!type_is_numbered(stream, type)) {
+        if (!type_is_numbered(stream, lock->type)) {
             *number = NUMBER_NONE;
-        } else if (type->free_number[stream]) {
-            *number = type->free_number[stream];
-            type->free_number[stream] = next_free[stream][*number];
+        } else if (*named != 0 && holders[stream][*named] == 0) {
+            *number = *named;
         } else if (locks_numbered[stream] == LOCKS) {
             count_missed(stream, MISSED_LOCKS);
             *number = NUMBER_NONE;
         } else {
-            *number = ++locks_numbered[stream];
-            type->made[stream]++;
+            *number = *named = ++locks_numbered[stream];
             write_init(stream, thread, lock);
         }
     }
     return *number == NUMBER_NONE ? 0 : *number;
 }
 
-/* The lock is gone. Its number is free, unless the stream still has it held or asked for. */
-void lock_number_given_back(int stream, struct lock *lock)
+/* The stream has the lock of that number held, or asked for. */
+void number_stands(int stream, uint32_t number)
 {
-    uint32_t number = *mark(&lock->marks, stream);
-    if (number == 0 || number == NUMBER_NONE || lock->holders[stream] != 0)
-        return;
-    next_free[stream][number] = lock->type->free_number[stream];
-    lock->type->free_number[stream] = number;
+    holders[stream][number]++;
+}
+
+void number_stands_no_more(int stream, uint32_t number)
+{
+    holders[stream][number]--;
 }
 
 /* The number of the place, which stands in the stream from then on. */
@@ -119,12 +120,13 @@ uint32_t place_number(int stream, uint32_t place)
     return place;
 }
 
-/* The child's streams have nothing of the parent's. */
+/* The child's streams have nothing of the parent's: what its other threads held is held by nobody. */
 void seats_forked(void)
 {
     for (int stream = 0; stream < STREAMS; stream++) {
         for (uint32_t i = 0; i < SEATS / 64; i++)
             seats_lent[stream][i] = 0;
+        memset(holders[stream], 0, (locks_numbered[stream] + 1) * sizeof *holders[stream]);
         types_numbered[stream] = locks_numbered[stream] = 0;
     }
 }

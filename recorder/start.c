@@ -30,6 +30,7 @@ static const struct {
     const char *name;
     const char *version; /* where an object has several: the one that programs of today are linked to */
 } functions[] = {
+    {offsetof(struct real, register_atfork), "__register_atfork", NULL},
     {offsetof(struct real, mutex_lock), "pthread_mutex_lock", NULL},
     {offsetof(struct real, mutex_trylock), "pthread_mutex_trylock", NULL},
     {offsetof(struct real, mutex_unlock), "pthread_mutex_unlock", NULL},
@@ -114,8 +115,9 @@ void start(void)
     int before = errno;
     if (atomic_load_explicit(&begun, memory_order_relaxed) || atomic_exchange(&begun, true))
         return;
-    self.state = BUSY;
+    self.state = STARTING;
     find_real_functions();
+    status_made();
     if (settings_read() && locks_made() && places_made() && chains_made() && streams_made()) {
         alive = table(4096);
         if (alive) {
@@ -128,11 +130,29 @@ void start(void)
     errno = before;
 }
 
-/* Makes the thread ready at its first call. False where it is inside the recorder already, or nothing is recorded. */
-COLD bool thread_opens(struct thread *thread)
+/*
+ * Whether the call that the thread is inside of was left: by a jump out of a handler of signals, or a cancellation. Not
+ * where the thread is on another stack than that call was.
+ */
+static bool has_left(const struct thread *thread, uintptr_t stack)
 {
-    if (thread->state == BUSY)
+    stack_t other;
+    if (thread->state == STARTING || (sigaltstack(NULL, &other) == 0 && (other.ss_flags & SS_ONSTACK)))
         return false;
+    return stack > thread->state || !call_goes_on(thread->state);
+}
+
+/*
+ * Makes the thread ready at its first call, and where it has left an earlier one. False where it is inside the recorder
+ * already, or nothing is recorded.
+ */
+COLD bool thread_opens(struct thread *thread, uintptr_t stack)
+{
+    if (thread->state > OPEN) {
+        if (!has_left(thread, stack))
+            return false;
+        write_left(thread);
+    }
     start();
     if (!atomic_load(&recording))
         return false;
@@ -141,6 +161,15 @@ COLD bool thread_opens(struct thread *thread)
         thread->room = HELD_FEW;
     }
     thread->state = OPEN;
+    return true;
+}
+
+/* Takes a call inside that isn't a request. False where it isn't recorded. */
+bool goes_far_inside(uintptr_t stack)
+{
+    if (self.state != OPEN && !thread_opens(&self, stack))
+        return false;
+    self.state = stack;
     return true;
 }
 
@@ -186,10 +215,13 @@ void recorder_leaves(void)
     errno = before;
 }
 
-/* A fork waits until nobody is inside the recorder, so that the child finds whole tables. */
+/*
+ * A fork waits until nobody is inside the recorder, so that the child finds whole tables. The handlers of others may
+ * take locks before that, and may wait for threads that are inside.
+ */
 static void fork_begins(void)
 {
-    forks = atomic_load(&recording) && self.state != BUSY && recorder_enters();
+    forks = atomic_load(&recording) && self.state <= OPEN && recorder_enters();
 }
 
 static void fork_ends_in_parent(void)
@@ -208,10 +240,22 @@ static void fork_ends_in_child(void)
     *alive = 1;
     life++;
     seats_forked();
+    status_forked();
     streams_forked();
     locks_forked();
     chains_forked();
     recorder_leaves();
+}
+
+/*
+ * Registers the recorder's handlers before all others: what is registered first is called last before the fork, and
+ * first behind it. They belong to no object, so that they stay until the process ends.
+ */
+void fork_is_watched(void)
+{
+    static _Atomic bool watched;
+    if (atomic_load(&recording) && !atomic_exchange(&watched, true))
+        real.register_atfork(fork_begins, fork_ends_in_parent, fork_ends_in_child, NULL);
 }
 
 /* Leaves a file by which record tells a program without nested requests from one that the recorder wasn't in. */
@@ -241,13 +285,21 @@ __attribute__((constructor)) static void loaded(void)
     start();
     if (!atomic_load(&recording))
         return;
-    self.state = BUSY;
+    self.state = STARTING;
     say_started();
     if (recorder_enters()) {
         objects_begin();
         recorder_leaves();
     }
     watches_free = sizes_are_known();
-    pthread_atfork(fork_begins, fork_ends_in_parent, fork_ends_in_child);
+    fork_is_watched();
     self.state = UNREADY;
+}
+
+__attribute__((destructor)) static void ended(void)
+{
+    if (!atomic_load(&recording) || self.state > OPEN || !recorder_enters())
+        return;
+    streams_end();
+    recorder_leaves();
 }

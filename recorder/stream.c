@@ -2,7 +2,9 @@
  * The file that a stream stands in.
  *
  * The file is mapped, so that what was written is in it whatever ends the program, and no file descriptor of the
- * program is ever touched. The room is asked for beforehand, so that a full disk ends the stream and not the program.
+ * program is ever touched. It is made when the program is loaded, since later the program may have no right to, or no
+ * descriptor left; it has no bytes but zeros before the first line, and takes no room on the disk. Room is asked for
+ * piece by piece beforehand, so that a full disk ends the stream and not the program.
  */
 #include "recorder.h"
 
@@ -11,24 +13,33 @@
 #include <stdlib.h>
 #include <string.h>
 #include <sys/mman.h>
+#include <sys/resource.h>
 #include <unistd.h>
 
-enum { PATH_MOST = 512, DIGITS = 10, LINE_MOST = 1024 };
+enum { PATH_MOST = 512, LINE_MOST = 1024, PIECE = 1 << 16, ATTEMPTS_MOST = 100 };
+
+#ifndef MADV_POPULATE_WRITE
+#define MADV_POPULATE_WRITE 23
+#endif
 
 static struct stream {
     const char *suffix;
     size_t window;        /* how much of the file is mapped at a time */
     char path[PATH_MOST];
-    char *at, *end;
+    char *at;             /* where the next line goes */
+    char *ready;          /* up to here there is room on the disk */
+    char *end;            /* of the window */
     char *first;          /* the first window, which stays mapped */
     char *counts[MISSES]; /* where the first line has each count */
     uint64_t offset;      /* of the file's next window */
     uint32_t entries;     /* of the verifier's log */
+    uint32_t attempts;    /* that failed to make the file */
+    bool begun;           /* its first line is written */
     bool ended;
     char line[LINE_MOST];
     size_t length;
 } streams[STREAMS] = {
-    [CONDENSED] = {.suffix = "", .window = 1 << 18},
+    [CONDENSED] = {.suffix = "", .window = 1 << 20},
     [FULL] = {.suffix = ".full", .window = 1 << 22},
 };
 static size_t name_at; /* where the file's name begins in its path */
@@ -77,14 +88,26 @@ void put_name(int stream, const char *name)
     put_text(stream, *name ? name : "-");
 }
 
+/* A file that grows over this limit ends the program. */
+static bool is_allowed(uint64_t size)
+{
+    struct rlimit limit;
+    if (getrlimit(RLIMIT_FSIZE, &limit) == 0 && limit.rlim_cur != RLIM_INFINITY && size > limit.rlim_cur) {
+        errno = EFBIG;
+        return false;
+    }
+    return true;
+}
+
 /* Maps the file's next window. False where there is none. */
 static bool window_opens(struct stream *stream, int flags)
 {
     void *window = MAP_FAILED;
-    int file = open(stream->path, O_RDWR | O_CLOEXEC | flags, 0600);
+    uint64_t size = stream->offset + stream->window;
+    int file = is_allowed(size) ? open(stream->path, O_RDWR | O_CLOEXEC | flags, 0600) : -1;
     if (file < 0)
         return false;
-    if (posix_fallocate(file, (off_t)stream->offset, (off_t)stream->window) == 0)
+    if (ftruncate(file, (off_t)size) == 0)
         window = mmap(NULL, stream->window, PROT_READ | PROT_WRITE, MAP_SHARED, file, (off_t)stream->offset);
     close(file);
     if (window == MAP_FAILED)
@@ -93,10 +116,33 @@ static bool window_opens(struct stream *stream, int flags)
         stream->first = window;
     else if (stream->end - stream->window != stream->first)
         munmap(stream->end - stream->window, stream->window);
-    stream->at = window;
+    stream->at = stream->ready = window;
     stream->end = stream->at + stream->window;
-    stream->offset += stream->window;
+    stream->offset = size;
     return true;
+}
+
+/* Asks for room by the file's name, as kernels before 5.14 need it. */
+static bool piece_is_given(struct stream *stream)
+{
+    int file = open(stream->path, O_RDWR | O_CLOEXEC);
+    bool given = file >= 0
+        && posix_fallocate(file, (off_t)stream->offset - (stream->end - stream->ready), PIECE) == 0;
+    if (file >= 0)
+        close(file);
+    return given;
+}
+
+/* Room for a further piece of the file. False where there is none, and the stream has ended. */
+static bool grows(struct stream *stream)
+{
+    bool given = stream->ready < stream->end || window_opens(stream, 0);
+    if (given && madvise(stream->ready, PIECE, MADV_POPULATE_WRITE) != 0)
+        given = errno == EINVAL && piece_is_given(stream);
+    if (given)
+        stream->ready += PIECE;
+    stream->ended = !given;
+    return given;
 }
 
 /* The line that was put goes to the file. Where there is no room any more, the stream ends with what it has. */
@@ -106,14 +152,14 @@ void stream_append(int number, bool is_entry)
     const char *from = stream->line;
     size_t left = stream->length;
     while (left > 0 && !stream->ended) {
-        size_t room = (size_t)(stream->end - stream->at);
+        size_t room = (size_t)(stream->ready - stream->at);
         size_t now = left < room ? left : room;
         memcpy(stream->at, from, now);
         stream->at += now;
         from += now;
         left -= now;
-        if (left > 0 && !window_opens(stream, 0))
-            stream->ended = true;
+        if (left > 0 && !grows(stream))
+            count_failure(FAILED_ROOM);
     }
     stream->length = 0;
     stream->entries += is_entry;
@@ -146,17 +192,12 @@ static bool file_opens(int number)
     return false;
 }
 
-/* Whether the stream takes lines. The file is made for the first of them. */
-bool stream_opens(int number)
+/* The stream's first lines. */
+static void begin(int number)
 {
     extern char *program_invocation_short_name;
     struct stream *stream = &streams[number];
-    if (stream->at || stream->ended)
-        return !stream->ended;
-    if (!file_opens(number)) {
-        stream->ended = true;
-        return false;
-    }
+    stream->begun = true;
     put_text(number, "missed");
     for (int what = 0; what < MISSES; what++) {
         put_text(number, missed_names[what]);
@@ -167,7 +208,38 @@ bool stream_opens(int number)
     put_text(number, program_invocation_short_name);
     put_text(number, "\n");
     stream_append(number, false);
+}
+
+/* Whether the stream takes lines. What it doesn't take is counted outside it. */
+bool stream_opens(int number)
+{
+    struct stream *stream = &streams[number];
+    if (LIKELY(stream->begun && !stream->ended))
+        return true;
+    if (stream->ended) {
+        count_failure(FAILED_ROOM);
+        return false;
+    }
+    if (!stream->first && (stream->attempts >= ATTEMPTS_MOST || !file_opens(number))) {
+        bool full = stream->attempts < ATTEMPTS_MOST && (errno == ENOSPC || errno == EFBIG || errno == EDQUOT);
+        stream->attempts++;
+        count_failure(full ? FAILED_ROOM : FAILED_OPEN);
+        return false;
+    }
+    if (!grows(stream)) {
+        count_failure(FAILED_ROOM);
+        return false;
+    }
+    begin(number);
     return true;
+}
+
+/* Makes the files. Where that fails, it is tried again when there is something to write. */
+static void files_open(void)
+{
+    for (int i = 0; i < STREAMS; i++)
+        if (writes[i])
+            file_opens(i);
 }
 
 bool streams_made(void)
@@ -178,6 +250,7 @@ bool streams_made(void)
         return false;
     for (int i = 0; i < STREAMS; i++)
         memcpy(streams[i].path, directory, name_at + 1);
+    files_open();
     return true;
 }
 
@@ -186,14 +259,7 @@ void count_missed(int number, enum missed what)
 {
     if (!writes[number] || !stream_opens(number))
         return;
-    char *digits = streams[number].counts[what];
-    for (int i = DIGITS - 1; i >= 0; i--) {
-        if (digits[i] != '9') {
-            digits[i]++;
-            return;
-        }
-        digits[i] = '0';
-    }
+    count_digits(streams[number].counts[what]);
 }
 
 void count_missed_all(enum missed what)
@@ -211,18 +277,37 @@ COLD void count_missed_outside(enum missed what)
     recorder_leaves();
 }
 
+static void unmap(struct stream *stream)
+{
+    if (!stream->first)
+        return;
+    if (stream->first != stream->end - stream->window)
+        munmap(stream->first, stream->window);
+    munmap(stream->end - stream->window, stream->window);
+    stream->at = stream->ready = stream->end = stream->first = NULL;
+    stream->offset = 0;
+}
+
 /* The child has streams of its own. */
 void streams_forked(void)
 {
     for (int i = 0; i < STREAMS; i++) {
         struct stream *stream = &streams[i];
-        if (!stream->at)
+        unmap(stream);
+        stream->entries = stream->attempts = 0;
+        stream->length = 0;
+        stream->begun = stream->ended = false;
+    }
+    files_open();
+}
+
+/* The process ends: files without a line go. Where it locks after all, they are made anew. */
+void streams_end(void)
+{
+    for (int i = 0; i < STREAMS; i++) {
+        if (!streams[i].first || streams[i].begun)
             continue;
-        if (stream->first != stream->end - stream->window)
-            munmap(stream->first, stream->window);
-        munmap(stream->end - stream->window, stream->window);
-        stream->at = stream->end = stream->first = NULL;
-        stream->offset = stream->entries = stream->length = 0;
-        stream->ended = false;
+        unlink(streams[i].path);
+        unmap(&streams[i]);
     }
 }

@@ -41,16 +41,16 @@ static uint32_t bit(int stream)
 }
 
 /* The stream has the lock held or asked for by the thread. */
-static void stands(int stream, struct thread *thread, struct lock *lock)
+static void stands(int stream, struct thread *thread, uint32_t number)
 {
     thread->written[stream]++;
-    lock->holders[stream]++;
+    number_stands(stream, number);
 }
 
-static void stands_no_more(int stream, struct thread *thread, struct lock *lock)
+static void stands_no_more(int stream, struct thread *thread, uint32_t number)
 {
     thread->written[stream]--;
-    lock->holders[stream]--;
+    number_stands_no_more(stream, number);
     seat_given_back(stream, thread);
 }
 
@@ -123,7 +123,7 @@ static void write_chain(int stream, struct thread *thread)
             continue;
         held->number[stream] = number;
         held->written |= bit(stream);
-        stands(stream, thread, held->lock);
+        stands(stream, thread, number);
         for (uint32_t count = stream == FULL ? held->count : 1; count > 0; count--) {
             if (held->tried || (i > 0 && (stream == FULL || !node_is_requested(held->node)))) {
                 write_try(stream, thread, held);
@@ -145,9 +145,9 @@ static bool write_behind_chain(int stream, struct request *request)
     uint32_t number = lock_number(stream, thread, request->lock);
     if (number != 0) {
         write_check(stream, thread, number, request->mode, request->place);
-        request->number[stream] = number;
+        request->number[stream] = thread->asked[stream] = number;
         request->pending |= bit(stream);
-        stands(stream, thread, request->lock);
+        stands(stream, thread, number);
     }
     seat_given_back(stream, thread);
     return number != 0;
@@ -180,9 +180,9 @@ void write_again(struct request *request, struct held *held)
     if (!(held->written & bit(FULL)) || !recorder_enters())
         return;
     write_check(FULL, request->thread, held->number[FULL], request->mode, request->place);
-    request->number[FULL] = held->number[FULL];
+    request->number[FULL] = request->thread->asked[FULL] = held->number[FULL];
     request->pending |= bit(FULL);
-    stands(FULL, request->thread, request->lock);
+    stands(FULL, request->thread, held->number[FULL]);
     recorder_leaves();
 }
 
@@ -200,7 +200,7 @@ static void write_tried(struct request *request, struct held *held)
     held->number[FULL] = lock_number(FULL, thread, request->lock);
     if (held->number[FULL] != 0) {
         held->written |= bit(FULL);
-        stands(FULL, thread, request->lock);
+        stands(FULL, thread, held->number[FULL]);
         write_try(FULL, thread, held);
     }
     seat_given_back(FULL, thread);
@@ -215,8 +215,9 @@ COLD void write_acquired(struct request *request, struct held *held)
         if (!(request->pending & bit(stream)))
             continue;
         write_lock(stream, request->thread, request->number[stream]);
+        request->thread->asked[stream] = 0;
         if (held->written & bit(stream)) {
-            stands_no_more(stream, request->thread, request->lock);
+            stands_no_more(stream, request->thread, request->number[stream]);
         } else {
             held->written |= bit(stream);
             held->number[stream] = request->number[stream];
@@ -227,19 +228,37 @@ COLD void write_acquired(struct request *request, struct held *held)
     recorder_leaves();
 }
 
+/* What the thread asks for isn't asked for any longer. */
+static void give_up(struct thread *thread)
+{
+    for (int stream = 0; stream < STREAMS; stream++) {
+        uint32_t number = thread->asked[stream];
+        if (number == 0)
+            continue;
+        thread->asked[stream] = 0;
+        write_call(stream, "giveup", thread, number);
+        end_call(stream);
+        stands_no_more(stream, thread, number);
+    }
+}
+
 /* After the real call, which didn't get the lock. */
 COLD void write_given_up(struct request *request)
 {
     if (!recorder_enters())
         return;
-    for (int stream = 0; stream < STREAMS; stream++) {
-        if (!(request->pending & bit(stream)))
-            continue;
-        write_call(stream, "giveup", request->thread, request->number[stream]);
-        end_call(stream);
-        stands_no_more(stream, request->thread, request->lock);
-    }
+    give_up(request->thread);
     request->pending = 0;
+    recorder_leaves();
+}
+
+/* The thread has left a call before its end: what that call asked for is given up. */
+COLD void write_left(struct thread *thread)
+{
+    if (!recorder_enters())
+        return;
+    count_failure(FAILED_JUMPED);
+    give_up(thread);
     recorder_leaves();
 }
 
@@ -258,7 +277,7 @@ COLD void write_unlock(struct thread *thread, struct held *held, bool whole)
             end_call(stream);
         }
         if (whole)
-            stands_no_more(stream, thread, held->lock);
+            stands_no_more(stream, thread, held->number[stream]);
     }
     recorder_leaves();
 }
@@ -372,7 +391,7 @@ void write_type(int stream, struct type *type)
     stream_append(stream, false);
 }
 
-/* `init SEAT CLASS FLAGS TYPE`, the lock's number among those of its type, and the variable that it stands in. */
+/* `init SEAT CLASS FLAGS TYPE`, its name's number among those of its type, and the variable that it stands in. */
 void write_init(int stream, struct thread *thread, struct lock *lock)
 {
     struct type *type = lock->type;
@@ -383,7 +402,7 @@ void write_init(int stream, struct thread *thread, struct lock *lock)
     put_text(stream, type->class == RWLOCK ? " rw " : " mtx ");
     put_text(stream, lock->recursive ? "r" : "-");
     put_number(stream, *mark(&type->marks, stream));
-    put_number(stream, type->made[stream]);
+    put_number(stream, lock->name->number);
     if (object)
         put_variable(stream, object, address);
     end_call(stream);

@@ -11,7 +11,7 @@
 #include <string.h>
 #include <time.h>
 
-enum { THREADS = 4, STEPS = 300, LOCKS = 24, HELD = 6 };
+enum { THREADS = 4, STEPS = 300, LOCKS = 24, HELD = 6, SHELF = 4 };
 enum kind { MUTEX, RECURSIVE, RWLOCK, SPIN };
 
 struct lock {
@@ -25,12 +25,14 @@ struct lock {
 
 struct thread {
     unsigned seed;
+    pthread_mutex_t *shelf; /* its own row */
     int held[HELD]; /* ranks, oldest first */
     bool shared[HELD];
     int count;
 };
 
 static struct lock *locks[LOCKS];
+static pthread_mutex_t shelf[THREADS][SHELF];
 static pthread_cond_t never = PTHREAD_COND_INITIALIZER;
 static bool clean;
 
@@ -160,15 +162,20 @@ static void wait_in_vain(struct thread *thread)
     pthread_cond_timedwait(&never, &locks[rank]->mutex, &limit);
 }
 
-/* A lock that comes and goes behind all others. */
-static void come_and_go(void)
+/* Locks that come and go behind all others, in the heap and in a variable. */
+static void come_and_go(struct thread *thread)
 {
+    pthread_mutex_t *own = &thread->shelf[below(thread, SHELF)];
     pthread_mutex_t *mutex = malloc(sizeof *mutex);
     pthread_mutex_init(mutex, NULL);
     pthread_mutex_lock(mutex);
     pthread_mutex_unlock(mutex);
     pthread_mutex_destroy(mutex);
     free(mutex);
+    pthread_mutex_lock(own);
+    pthread_mutex_unlock(own);
+    pthread_mutex_destroy(own);
+    pthread_mutex_init(own, NULL);
 }
 
 static void *run(void *argument)
@@ -177,7 +184,7 @@ static void *run(void *argument)
     for (int step = 0; step < STEPS; step++) {
         int choice = below(thread, 20);
         if (choice == 0)
-            come_and_go();
+            come_and_go(thread);
         else if (choice == 1)
             wait_in_vain(thread);
         else if (thread->count == HELD || (thread->count && choice < 10))
@@ -199,6 +206,9 @@ int main(int count, char **words)
     clean = strcmp(words[2], "clean") == 0;
     make_locks();
     for (int i = 0; i < THREADS; i++) {
+        for (int own = 0; own < SHELF; own++)
+            pthread_mutex_init(&shelf[i][own], NULL);
+        threads[i].shelf = shelf[i];
         threads[i].seed = (unsigned)(atoi(words[1]) * THREADS + i);
         pthread_create(&ids[i], NULL, run, &threads[i]);
     }

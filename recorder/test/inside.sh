@@ -1,0 +1,39 @@
+# Tests of what the recorder does inside a program: read by `run`, whose functions it uses.
+
+# A library's handlers of fork come before the recorder's in the registering, and so after it in the preparing.
+if wanted atfork; then
+    cp "$here/atfork.c" . && cc -g -fPIC -shared -DLIBRARY -pthread -o libatfork.so atfork.c &&
+        cc -g -pthread -o atfork atfork.c -L. -latfork -Wl,-rpath,"$PWD"
+    for forks in 1 12; do
+        timeout -s KILL 60 "$record" -- ./atfork $forks >recorded.out 2>recorded.err
+        [ $? -eq 0 ] && [ "$(cat recorded.out)" = forked ] && sed '/^record: /d' recorded.err | diff "$here/atfork.want" -
+        tell atfork "$forks forks in a library's handlers" $?
+    done
+fi
+
+for flags in -O0 -O2; do
+    example varying "frames of varying size"
+    example varyings "frames of varying size, std::mutex"
+done
+flags=
+
+example named "locks of one array"
+example named "locks of one array" --full
+
+for words in 0 1 2 3; do
+    example dropped "rights that are given up before the first nested request"
+done
+words=
+
+# A call that was left is told of, and its thread is recorded as before.
+if wanted jump; then
+    "$record" -- true 2>/dev/null
+    compile jump
+    for way in 0 1 2; do
+        for stream in "" --full; do
+            timeout -s KILL 20 "$record" $stream -- ./jump $way 2>recorded.err
+            sed 's/process [0-9]*/process N/' recorded.err | diff "$here/jump.want" -
+            tell jump "a call that is left, way $way $stream" $?
+        done
+    done
+fi
