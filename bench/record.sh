@@ -1,13 +1,16 @@
 #!/bin/sh
 # Measures what the recorder costs: the nanoseconds of processor time that a pair of lock and unlock takes in a loop
 # that does nothing else, plain, recorded, recorded with --full and under helgrind (where valgrind is installed), and
-# each as a ratio to the plain one. The least of RUNS runs each (5), in turn, so that all meet the same machine.
+# each as a ratio to the plain one. Then what taking and freeing a block costs while a mutex stands in the heap, the
+# processor time of node under work, and how long a recorder's file takes to become a trace. The least of RUNS runs each
+# (5), in turn, so that all meet the same machine. RECORDER names another recorder's folder, to compare with.
 set -eu
 here=$(dirname "$(readlink -f "$0")")
-recorder=$here/../recorder
+recorder=${RECORDER:-$here/../recorder}
 folder=$(mktemp -d)
 trap 'rm -rf "$folder"' EXIT
-cc -O2 -pthread -o "$folder/pairs" "$recorder/test/pairs.c"
+cc -O2 -pthread -o "$folder/pairs" "$here/../recorder/test/pairs.c"
+cc -O2 -pthread -o "$folder/frees" "$here/frees.c"
 # This builds the recorder where it isn't there; no trace is replayed here.
 WITNESS=true "$recorder/record" -- true 2>/dev/null
 
@@ -52,4 +55,55 @@ for shape in "1 1" "2 1" "1 4" "2 4"; do
             '{ printf "%s %.1f (%.1f)", way, $1, $1 / plain }')"
     done
     echo "$line"
+done
+
+# seconds COMMAND..: the processor time that it takes with its children.
+seconds() {
+    ("$@" >/dev/null 2>&1; times) | tail -n 1 | tr 'ms' '  ' | awk '{ printf "%.3f\n", $1 * 60 + $2 + $3 * 60 + $4 }'
+}
+
+# compared TEXT COMMAND..: the least of what the command writes, plain and recorded.
+compared() {
+    text=$1
+    shift
+    : >"$folder/plain"
+    : >"$folder/recorded"
+    runs=0
+    while [ "$runs" -lt "${RUNS:-5}" ]; do
+        runs=$((runs + 1))
+        "$@" >>"$folder/plain"
+        measured=1 "$@" >>"$folder/recorded"
+    done
+    sort -n "$folder/recorded" | head -n 1 | awk -v text="$text" -v plain="$(sort -n "$folder/plain" | head -n 1)" \
+        '{ printf "%s: plain %s recorded %s (%.2f)\n", text, plain, $1, $1 / plain }'
+}
+
+one_free() {
+    if [ -n "${measured-}" ]; then
+        recorded condensed "$folder/frees" "$1" "$2"
+    else
+        "$folder/frees" "$1" "$2"
+    fi
+}
+
+one_node() {
+    if [ -n "${measured-}" ]; then
+        seconds recorded condensed node "$here/load.js"
+    else
+        seconds node "$here/load.js"
+    fi
+}
+
+for bytes in 100 10000 100000 1000000 10000000; do
+    compared "nanoseconds to take and free $bytes bytes" one_free "$bytes" 20000
+done
+if command -v node >/dev/null; then
+    compared "seconds of node" one_node
+fi
+for rounds in 138000 1380000; do
+    recorded full "$folder/pairs" 4 1 "$rounds" >/dev/null
+    file=$(echo "$folder"/records/*.full)
+    begin=$(date +%s)
+    "$recorder/resolve" "$file" >"$folder/trace"
+    echo "resolving $(wc -l <"$folder/trace") lines: $(($(date +%s) - begin)) s"
 done
