@@ -1,3 +1,4 @@
 pub mod Memory
+pub mod Shifting
 pub mod Spots
 pub mod Threads

@@ -2,6 +2,12 @@
 #![tactic(auto)]
 
 mod cells;
+mod chunk;
+mod group;
 
 #[doc(hidden)]
 pub use cells::{Cells, Deed, Link};
+#[doc(hidden)]
+pub use chunk::{Chunk, Next};
+#[doc(hidden)]
+pub use group::Group;
