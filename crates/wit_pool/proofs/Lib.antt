@@ -1,4 +1,6 @@
+pub mod Links
 pub mod Memory
 pub mod Shifting
 pub mod Spots
+pub mod Standing
 pub mod Threads

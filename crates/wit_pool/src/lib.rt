@@ -2,11 +2,14 @@
 #![tactic(auto)]
 
 mod cells;
+mod chain;
 mod chunk;
 mod group;
 
 #[doc(hidden)]
 pub use cells::{Cells, Deed, Link};
+#[doc(hidden)]
+pub use chain::Chain;
 #[doc(hidden)]
 pub use chunk::{Chunk, Next};
 #[doc(hidden)]
