@@ -1,3 +1,4 @@
+pub mod First
 pub mod Links
 pub mod Memory
 pub mod Shifting

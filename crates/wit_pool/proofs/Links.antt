@@ -12,10 +12,10 @@ use denote.RawPtr.{Ptr}
 use Rattle.circular_buffer.proofs.Memory.{filled_within}
 use Rattle.circular_buffer.proofs.Places.{slice_get-append_left, slice_get-last}
 use Rattle.wit_model.specs.Rules.Chunks.{times}
-use Rattle.wit_held.proofs.Placing.{times-append, times-in}
+use Rattle.wit_model.proofs.Rows.Placing.{times-append, times-in}
 use Rattle.wit_pool.specs.declared.chunk.Next.{Next}
 use Rattle.wit_pool.specs.declared.chunk.Chunk.{Chunk}
-use Rattle.wit_pool.specs.Chunks.{chunk_at, next_of, IsAt}
+use Rattle.wit_pool.specs.Chunks.{chunk_at, next_of, IsAt, IsLed, IsThere}
 use Rattle.wit_pool.specs.Chains.{places, IsChain}
 
 -- so many chunks are linked from there on, and these are their places
@@ -167,13 +167,14 @@ module _ (at : Ptr) (cs cs' : List (Option Chunk)) (keeps : (l : Next) → IsAt 
               (longer at cs' k (next_of (chunk_at cs p)) (remove ps k) l (run.0 ∙ old.older.0 ∙ left, run.1) (keeps l is.0) leads))
         ]))
 
--- one chunk is written
-module _ (at : Ptr) (cs : List (Option Chunk)) (p : ℕ) (was x : Chunk) (there : chunk_at cs p ≡ Some was) where
-  pub within : p < length cs
-  within = filled_within cs p was there
+-- where there is a chunk, there is a place
+pub within : (cs : List (Option Chunk)) (p : ℕ) (was : Chunk) → chunk_at cs p ≡ Some was → p < length cs
+within cs p was there = filled_within cs p was there
 
+-- one chunk is written
+module _ (at : Ptr) (cs : List (Option Chunk)) (p : ℕ) (x : Chunk) (in_all : p < length cs) where
   pub read-here : chunk_at (set cs p (Some x)) p ≡ Some x
-  read-here = get_or-set_same cs p (Some x) None within
+  read-here = get_or-set_same cs p (Some x) None in_all
 
   pub read-other : (q : ℕ) → (q ≡ p → ⊥) → chunk_at (set cs p (Some x)) q ≡ chunk_at cs q
   read-other q other = get_or-set_other cs p q (Some x) None other
@@ -183,3 +184,18 @@ module _ (at : Ptr) (cs : List (Option Chunk)) (p : ℕ) (was x : Chunk) (there 
     | inl e ↦ record { leads = is.leads; chunk = x; there = ap (chunk_at (set cs p (Some x))) e ∙ read-here }
     | inr other ↦ record { leads = is.leads; chunk = is.chunk; there = read-other l.place other ∙ is.there }
   ]
+
+-- a chunk that leads elsewhere is still there, and so are the others
+pub led-there : (at : Ptr) (cs cs' : List (Option Chunk)) (q : ℕ) (next : Option Next) → IsLed cs cs' q next
+    → (p : ℕ) → IsThere cs p → IsThere cs' p
+led-there at cs cs' q next led p there =
+    let x : Chunk = record { next = next; group = led.was.group } in
+    let lt : q < length cs = within cs q led.was led.there in
+    subst (λ ds. IsThere ds p) (sym led.now) (elim (cases_eq p q) [
+      | inl e ↦ (x, ap (chunk_at (set cs q (Some x))) e ∙ read-here at cs q x lt)
+      | inr other ↦ (there.0, read-other at cs q x lt p other ∙ there.1)
+    ])
+
+-- a chain begins with a chunk that is there
+pub head-there : (at : Ptr) (cs : List (Option Chunk)) (n : ℕ) (h : Option Next) (l : Next) → IsChain at cs n h → h ≡ Some l → IsAt at cs l
+head-there at cs n h l is e = (first at cs n l (subst (IsChain at cs n) e is)).1

@@ -8,7 +8,7 @@ use Rattle.std.proofs.lemmas.List.Edits.{remove-append_left, remove-append_right
 use denote.RawPtr.{Ptr}
 use Rattle.wit_model.specs.declared.locks.Instance.{Instance}
 use Rattle.wit_model.specs.Rules.Chunks.{times}
-use Rattle.wit_held.proofs.Placing.{times-append, times-in, times-list}
+use Rattle.wit_model.proofs.Rows.Placing.{times-append, times-in, times-list}
 use Rattle.wit_pool.specs.declared.chunk.Next.{Next}
 use Rattle.wit_pool.specs.declared.chunk.Chunk.{Chunk}
 use Rattle.wit_pool.specs.declared.chain.Chain.{Chain}
@@ -71,7 +71,7 @@ module _ (at : Ptr) (cs : List (Option Chunk)) (chains : List Chain) (free : Cha
   -- what one chunk holds
   pub row-at : (p : ℕ) (c : Chunk) → chunk_at cs p ≡ Some c → get_or rows p [] ≡ held_in c.group
   row-at p c there =
-      ap (λ gs. get_or gs p []) (sym s.rows) ∙ get_or-map content cs p None [] (within at cs p c c there) ∙ ap content there
+      ap (λ gs. get_or gs p []) (sym s.rows) ∙ get_or-map content cs p None [] (within cs p c there) ∙ ap content there
 
   -- chunks that lead where they led
   same-all : (cs' : List (Option Chunk)) → ((l : Next) → IsAt at cs l → IsAt at cs' l)
@@ -100,12 +100,12 @@ module _ (at : Ptr) (cs : List (Option Chunk)) (chains : List Chain) (free : Cha
       let x : Chunk = record { next = put.was.next; group = put.group } in
       let same : (q : ℕ) → next_of (chunk_at (set cs p (Some x)) q) ≡ next_of (chunk_at cs q) =
       λ q. elim (cases_eq q p) [
-        | inl e ↦ ap (λ r. next_of (chunk_at (set cs p (Some x)) r)) e ∙ ap next_of (read-here at cs p put.was x put.there)
+        | inl e ↦ ap (λ r. next_of (chunk_at (set cs p (Some x)) r)) e ∙ ap next_of (read-here at cs p x (within cs p put.was put.there))
             ∙ sym (ap (λ r. next_of (chunk_at cs r)) e ∙ ap next_of put.there)
-        | inr other ↦ ap next_of (read-other at cs p put.was x put.there q other)
+        | inr other ↦ ap next_of (read-other at cs p x (within cs p put.was put.there) q other)
       ] in
       subst (λ ds. Stands at ds chains free (set rows p held) lists unused) (sym put.now)
-      (same-all (set cs p (Some x)) (still-there at cs p put.was x put.there) (λ q some. same q) (set rows p held)
+      (same-all (set cs p (Some x)) (still-there at cs p x (within cs p put.was put.there)) (λ q some. same q) (set rows p held)
       (map-set content cs p (Some x) ∙ ap₂ (λ gs g. set gs p g) s.rows put.holds))
 
   -- what holds does not change where a chunk leads elsewhere
@@ -123,8 +123,8 @@ module _ (at : Ptr) (cs : List (Option Chunk)) (chains : List Chain) (free : Cha
   led cs' p next put no_list not_free =
       let x : Chunk = record { next = next; group = put.was.group } in
       subst (λ ds. Stands at ds chains free rows lists unused) (sym put.now)
-      (same-all (set cs p (Some x)) (still-there at cs p put.was x put.there)
-      (λ q some. ap next_of (read-other at cs p put.was x put.there q (λ e. absurd (omega (arith, no_list, not_free,
+      (same-all (set cs p (Some x)) (still-there at cs p x (within cs p put.was put.there))
+      (λ q some. ap next_of (read-other at cs p x (within cs p put.was put.there) q (λ e. absurd (omega (arith, no_list, not_free,
       subst (λ r. 1 ≤ times r (concat lists) + times r unused) e some)))))
       rows (rows-led p put.was next put.there))
 
@@ -163,15 +163,15 @@ module _ (at : Ptr) (cs : List (Option Chunk)) (chains : List Chain) (free : Cha
       let ps : List ℕ = get_or lists k [] in
       let x : Chunk = record { next = next_of (chunk_at cs p); group = put.was.group } in
       let ds : List (Option Chunk) = set cs q (Some x) in
-      let keeps : (l : Next) → IsAt at cs l → IsAt at ds l = still-there at cs q put.was x put.there in
+      let keeps : (l : Next) → IsAt at cs l → IsAt at ds l = still-there at cs q x (within cs q put.was put.there) in
       let same : (r : ℕ) → (r ≡ q → ⊥) → next_of (chunk_at ds r) ≡ next_of (chunk_at cs r) =
-      λ r other. ap next_of (read-other at cs q put.was x put.there r other) in
+      λ r other. ap next_of (read-other at cs q x (within cs q put.was put.there) r other) in
       let e : ps ≡ chunks_of cs c = list-at k d lt in
       let in_lists : k < length lists = omega (arith, lt, length-lists) in
       let most : times q ps ≤ 1 = omega (arith, once, times-list q lists k in_lists) in
       let run : Runs at ds (c.count - 1) c.head (remove ps i) =
       subst (λ qs. Runs at ds (c.count - 1) c.head (remove qs i)) (sym e)
-      (unlinked at cs ds keeps p q (ap next_of (read-here at cs q put.was x put.there)) same c.count c.head (s.linked k d lt) i
+      (unlinked at cs ds keeps p q (ap next_of (read-here at cs q x (within cs q put.was put.there))) same c.count c.head (s.linked k d lt) i
       (subst (λ qs. slice_get qs i ≡ Some p) e at_p) (subst (λ qs. slice_get qs (i + 1) ≡ Some q) e at_q)
       (subst (λ qs. times q qs ≤ 1) e most)) in
       let others : (j : ℕ) (d' : Chain) → j < length chains → (j ≡ k → ⊥)

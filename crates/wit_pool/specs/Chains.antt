@@ -6,7 +6,7 @@ use Rattle.wit_model.specs.declared.locks.Instance.{Instance}
 use Rattle.wit_pool.specs.declared.chunk.Next.{Next}
 use Rattle.wit_pool.specs.declared.chunk.Chunk.{Chunk}
 use Rattle.wit_pool.specs.declared.chain.Chain.{Chain}
-use Rattle.wit_pool.specs.Chunks.{chunk_at, next_of, rows_in, IsAt}
+use Rattle.wit_pool.specs.Chunks.{chunk_at, next_of, rows_in, IsAt, IsLed}
 
 -- the places of so many chunks from this link on, the last one first
 abbrev pub places : List (Option Chunk) → ℕ → Option Next → List ℕ
@@ -35,3 +35,14 @@ pub record Stands (at : Ptr) (cs : List (Option Chunk)) (chains : List Chain) (f
   pub unused : chunks_of cs free ≡ rest
   pub linked : All (IsLinked at cs) chains
   pub spare : IsLinked at cs free
+
+-- the next newer chunk leads past one to the next older, or the list begins there
+abbrev pub Passes : List (Option Chunk) → List (Option Chunk) → Option Next → Option Next → Option Next → Option Next → Type 0
+Passes cs cs' None next head head' = (cs' ≡ cs) × (head' ≡ next)
+Passes cs cs' (Some q) next head head' = IsLed cs cs' q.place next × (head' ≡ head)
+
+-- a list with this first link is led past a chunk, and then the chunk leads to the free ones
+pub record IsFreed (cs cs' : List (Option Chunk)) (p : ℕ) (newer head free head' : Option Next) : Type 0 where
+  pub between : List (Option Chunk)
+  pub passed : Passes cs between newer (next_of (chunk_at cs p)) head head'
+  pub freed : IsLed between cs' p free

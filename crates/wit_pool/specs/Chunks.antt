@@ -27,6 +27,9 @@ abbrev pub next_of : Option Chunk → Option Next
 next_of None = None
 next_of (Some c) = c.next
 
+abbrev pub place_of : Next → ℕ
+place_of l = l.place
+
 -- the link leads to its place of the block at this address
 pub record Leads (at : Ptr) (l : Next) : Type 0 where
   pub address : l.ptr ≡ spot_at the_row at l.place
@@ -51,3 +54,7 @@ pub record IsLed (cs cs' : List (Option Chunk)) (p : ℕ) (next : Option Next) :
   pub was : Chunk
   pub there : chunk_at cs p ≡ Some was
   pub now : cs' ≡ slice_set cs p (Some (record { next = next; group = was.group }))
+
+-- there is a chunk at this place
+abbrev pub IsThere : List (Option Chunk) → ℕ → Type 0
+IsThere cs p = (c : Chunk) × (chunk_at cs p ≡ Some c)

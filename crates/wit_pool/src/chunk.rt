@@ -1,8 +1,9 @@
 //! Chunks, and how they are linked.
 
-ghost use Rattle.std.specs.Prelude.{◌≡◌, ℕ, ◌<◌, ◌++◌, [], ◌∷◌, Bool, true, Some, length, slice_set};
+ghost use Rattle.std.specs.Prelude.{◌≡◌, ℕ, ◌<◌, ◌++◌, [], ◌∷◌, Some, length, slice_set, IfSome};
+ghost use Rattle.std.specs.Option.{option_map};
 ghost use Rattle.std.specs.List.{remove};
-ghost use Rattle.wit_pool.specs.Chunks.{Leads, IsAt, IsRegrouped, IsLed, chunk_at, content};
+ghost use Rattle.wit_pool.specs.Chunks.{Leads, IsAt, IsRegrouped, IsLed, chunk_at, content, place_of};
 
 use crate::cells::{Cells, Link};
 use crate::group::Group;
@@ -51,6 +52,19 @@ pub fn link_to(cells: &Cells<Chunk>, first: Link<Chunk>, place: u16) -> Next
     ensures place { result.place ≡ place }
 {
     Next::to(cells.link(first, place as usize), place)
+}
+
+/// A link to the chunk that has this place, where there is one.
+pub fn link_beside(cells: &Cells<Chunk>, first: Link<Chunk>, place: Option<u16>) -> Option<Next>
+    requires first { first.ptr ≡ cells.now.at }
+    requires place { IfSome place (λ p. p < length cells.now.slots) }
+    ensures leads { IfSome result (Leads cells.now.at) }
+    ensures place { option_map place_of result ≡ place }
+{
+    match place {
+        Some(place) => Some(link_to(cells, first, place)),
+        None => None,
+    }
 }
 
 /// The chunk at the end of a link.

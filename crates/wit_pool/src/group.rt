@@ -5,9 +5,6 @@ ghost use Rattle.std.specs.List.{remove};
 
 use wit_model::{FileNo, Instance, LockNo, Mode, Site};
 
-/// How many locks a chunk holds at most.
-pub const CHUNK: usize = 5;
-
 /// Up to five held locks, oldest first.
 #[derive(Clone, Copy)]
 pub struct Group {

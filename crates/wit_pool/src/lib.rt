@@ -5,6 +5,7 @@ mod cells;
 mod chain;
 mod chunk;
 mod group;
+mod pool;
 
 #[doc(hidden)]
 pub use cells::{Cells, Deed, Link};
@@ -14,3 +15,4 @@ pub use chain::Chain;
 pub use chunk::{Chunk, Next};
 #[doc(hidden)]
 pub use group::Group;
+pub use pool::Pool;
