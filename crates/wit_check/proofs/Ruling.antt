@@ -1,5 +1,5 @@
 -- The rules from the fourth on, each where the ones before it don't apply.
-use Rattle.std.proofs.Common.{◌≡◌, Bool, true, false, not, ◌&&◌, List, [], ◌∷◌, None, Some, is_some, Result, Ok, Err, find, reverse, refl}
+use Rattle.std.proofs.Common.{◌≡◌, ℕ, ap, ◌∙◌, Bool, true, false, not, ◌&&◌, List, [], ◌∷◌, None, Some, is_some, Result, Ok, Err, find, reverse, refl}
 use Rattle.std.specs.List.{last_or}
 use Rattle.wit_model.specs.declared.faults.Fault.{Fault}
 use Rattle.wit_model.specs.declared.faults.Fault.TheVariants.{SleepUnderSpin}
@@ -12,7 +12,9 @@ use Rattle.wit_model.specs.Rules.Types.{is_spin, class_of}
 use Rattle.wit_model.specs.Rules.Orders.{is_direct}
 use Rattle.wit_model.specs.Rules.History.{is_on}
 use Rattle.wit_model.specs.Rules.Verdict.{Basis, is_of, type_held, has_type_of, again, doubled, violates, reported, decided, teaches, chain_asked, ruling}
+use Rattle.wit_model.specs.Rules.Chunks.{Chunks, chain_of, list_of}
 use Rattle.wit_check.specs.Behind.{over}
+use Rattle.wit_check.specs.Held.{sleep_chain, spin_chain}
 
 module _ (g : Basis) (c : List Instance) (last : Instance) (q : Asked) where
   pub again-decides : (i : Instance) → find (is_of q.lock.0) c ≡ Some i → again q i ≡ decided (over g c last q)
@@ -61,3 +63,9 @@ module _ (g : Basis) (watch : Watch) (sleep spin : List Instance) (q : Asked) (o
     pub chain-decides : (last : Instance) → last_or None (chain_asked g sleep spin q) ≡ Some last
         → decided (over g (chain_asked g sleep spin q) last q) ≡ ruling g watch sleep spin q
     chain-decides last is = rw (on, calm, is) refl
+
+-- the list of the requested lock's kind is the chain that a request is judged by
+pub asked-of : (g : Basis) (c : Chunks) (seat : ℕ) (q : Asked) (spin : Bool) (list : ℕ) → is_spin (class_of q.type_no.0 g.types) ≡ spin
+    → list ≡ list_of spin seat → chain_of c list ≡ chain_asked g (sleep_chain c seat) (spin_chain c seat) q
+asked-of g c seat q true list is at = ap (chain_of c) at ∙ spin-asked g (sleep_chain c seat) (spin_chain c seat) q is
+asked-of g c seat q false list is at = ap (chain_of c) at ∙ sleep-asked g (sleep_chain c seat) (spin_chain c seat) q is

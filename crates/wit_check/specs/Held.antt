@@ -1,17 +1,17 @@
 -- The two lists of a seat's held locks: of the sleep kind, and of the spin kind.
-use Rattle.std.specs.Prelude.{ℕ, ◌*◌, ◌-◌, ◌≤◌, List, length, filter}
+use Rattle.std.specs.Prelude.{ℕ, ◌≤◌, true, false, List, length, filter}
 use Rattle.std.specs.List.{All}
 use Rattle.wit_model.specs.declared.locks.TypeNo.{TypeNo}
 use Rattle.wit_model.specs.declared.locks.Instance.{Instance}
 use Rattle.wit_model.specs.Rules.Numbers.{IsGiven}
-use Rattle.wit_model.specs.Rules.Chunks.{Chunks, chain_of}
+use Rattle.wit_model.specs.Rules.Chunks.{Chunks, chain_of, list_of}
 use Rattle.wit_model.specs.Rules.Verdict.{is_of}
 
 abbrev pub sleep_chain : Chunks → ℕ → List Instance
-sleep_chain c seat = chain_of c (2 * seat - 1)
+sleep_chain c seat = chain_of c (list_of false seat)
 
 abbrev pub spin_chain : Chunks → ℕ → List Instance
-spin_chain c seat = chain_of c (2 * seat)
+spin_chain c seat = chain_of c (list_of true seat)
 
 -- no lock stands in it twice
 abbrev pub IsOnce : List Instance → Type 0

@@ -71,8 +71,10 @@ pub fn look<L: Lists>(basis: &Basis, lists: &L, list: u16, request: Asked) -> Se
         broken: None,
         older: None,
     };
-    for index in (0..lists.groups(list)).rev() {
-        seen.look_through(basis, sort, request, lists.group(list, index));
+    let mut spot = lists.newest(list);
+    while let Some(at) = spot {
+        seen.look_through(basis, sort, request, lists.group(list, at));
+        spot = lists.older(list, at);
     }
     seen
 }
@@ -82,11 +84,13 @@ pub fn held_lock<L: Lists>(lists: &L, list: u16, lock: LockNo) -> Option<Instanc
     requires { IsList (L.chunks lists.now) list }
     ensures { result ≡ find (is_of lock.0) (reverse (chain_of (L.chunks lists.now) list)) }
 {
-    for index in (0..lists.groups(list)).rev() {
-        let found = newest_in(lists.group(list, index), lock);
+    let mut spot = lists.newest(list);
+    while let Some(at) = spot {
+        let found = newest_in(lists.group(list, at), lock);
         if found.is_some() {
             return found;
         }
+        spot = lists.older(list, at);
     }
     None
 }

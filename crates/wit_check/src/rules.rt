@@ -1,9 +1,9 @@
 //! The rules in their order.
 
-ghost use Rattle.std.specs.Prelude.{◌≡◌, ◌*◌, ◌≤◌, length, None, Some, is_some};
+ghost use Rattle.std.specs.Prelude.{◌≡◌, ◌≤◌, true, length, None, Some, is_some};
 ghost use Rattle.std.specs.List.{last_or};
 ghost use Rattle.wit_model.specs.Rules.Numbers.{IsNumber, IsGiven};
-ghost use Rattle.wit_model.specs.Rules.Chunks.{IsList, chain_of};
+ghost use Rattle.wit_model.specs.Rules.Chunks.{IsList, chain_of, list_of};
 ghost use Rattle.wit_model.specs.Rules.Verdict.{decided, ruling};
 ghost use Rattle.wit_check.specs.Answers.{answer_of};
 ghost use Rattle.wit_check.specs.Bases.{basis, AreTypes};
@@ -18,13 +18,13 @@ use crate::held::{held_lock, look};
 use crate::orders::learnt;
 use crate::reversals::reported;
 use wit_matrix::Matrix;
-use wit_model::chunks::Lists;
+use wit_model::chunks::{Lists, list_of};
 use wit_model::{Asked, Fault, Instance, SeatNo, TypeNo, Watch};
 use wit_table::Table;
 
 /// The verdict of a check: the first of WITNESS's rules that applies decides (witness(4); `witness_checkorder` in subr_witness.c).
 ///
-/// The seat, one of 256, holds locks of the sleep kind in list `2 * seat - 1`, and locks of the spin kind in list `2 * seat`, each once.
+/// The seat, one of 256, holds each lock once in its lists, those of the sleep kind in one and those of the spin kind in the other.
 /// `lock_types` has the type of each lock that was made, by the lock's number from 1. All types are the table's, and the matrix has
 /// room for them.
 ///
@@ -40,7 +40,7 @@ pub fn verdict<L: Lists>(
     request: Asked,
 ) -> Verdict
     requires seat { IsNumber 256 seat.0 }
-    requires lists { IsList (L.chunks lists.now) (2 * seat.0) }
+    requires lists { IsList (L.chunks lists.now) (list_of true seat.0) }
     requires sleep { IsJudgeable lock_types.now (sleep_chain (L.chunks lists.now) seat.0) }
     requires spin { IsJudgeable lock_types.now (spin_chain (L.chunks lists.now) seat.0) }
     requires types { AreTypes types.now lock_types.now }
@@ -61,7 +61,7 @@ pub fn verdict<L: Lists>(
     if !spin && holds_spin(lists, seat) {
         return Verdict::Fault(Fault::SleepUnderSpin);
     }
-    let list = if spin { 2 * seat.0 } else { 2 * seat.0 - 1 };
+    let list = list_of(seat, spin);
     match lists.last(list) {
         Some(last) => behind(&basis, lists, list, request, last),
         None => Verdict::Pass,
@@ -71,10 +71,10 @@ pub fn verdict<L: Lists>(
 // Whether the seat holds a spin lock.
 fn holds_spin<L: Lists>(lists: &L, seat: SeatNo) -> bool
     requires seat { IsNumber 256 seat.0 }
-    requires lists { IsList (L.chunks lists.now) (2 * seat.0) }
+    requires lists { IsList (L.chunks lists.now) (list_of true seat.0) }
     ensures { result ≡ is_some (last_or None (spin_chain (L.chunks lists.now) seat.0)) }
 {
-    lists.last(2 * seat.0).is_some()
+    lists.last(list_of(seat, true)).is_some()
 }
 
 // A lock is asked for behind others.

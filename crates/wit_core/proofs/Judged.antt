@@ -12,7 +12,7 @@ use Rattle.wit_model.specs.declared.locks.TypeNo.{TypeNo}
 use Rattle.wit_model.specs.declared.locks.Watch.{Watch}
 use Rattle.wit_model.specs.declared.calls.Asked.{Asked}
 use Rattle.wit_model.specs.declared.calls.Request.{Request}
-use Rattle.wit_model.specs.Rules.Chunks.{Chunks, IsList, chain_of}
+use Rattle.wit_model.specs.Rules.Chunks.{Chunks, IsList, chain_of, list_of}
 use Rattle.wit_model.specs.Rules.Groups.{flat}
 use Rattle.wit_model.specs.Rules.History.{chain, is_held}
 use Rattle.wit_model.specs.Rules.Locks.{locks_of, lock_at, unknown_lock}
@@ -40,7 +40,7 @@ use Rattle.wit_check.specs.Bases.{basis, AreTypes}
 use Rattle.wit_check.specs.Held.{sleep_chain, spin_chain, IsJudgeable}
 use Rattle.wit_core.specs.declared.verifier.Verifier.TheInside.{Inside}
 use Rattle.wit_core.specs.Kept.{IsKept, start_in, history_in, story_in}
-use Rattle.wit_core.specs.Seats.{seat_in, locks_in, list_of, HoldFor}
+use Rattle.wit_core.specs.Seats.{seat_in, locks_in, HoldFor}
 use Rattle.wit_core.proofs.Apt.{known-is}
 use Rattle.wit_core.proofs.HeldSeats.{stands-filter}
 use Rattle.wit_core.proofs.Keeping.{types_few}

@@ -9,13 +9,13 @@ use Rattle.std.proofs.lemmas.List.FromFn.{length-map-range_with_len, get_or-map-
 use Rattle.std.proofs.lemmas.List.Sums.{sum_by-cons, sum_by-drop_more}
 use Rattle.wit_model.specs.declared.locks.Instance.{Instance}
 use Rattle.wit_model.specs.declared.calls.Request.{Request}
-use Rattle.wit_model.specs.Rules.Chunks.{Chunks, IsList, IsPlaced, IsNew, groups_of, chain_of, set_groups}
+use Rattle.wit_model.specs.Rules.Chunks.{Chunks, IsList, IsPlaced, IsNew, groups_of, chain_of, set_groups, list_of}
 use Rattle.wit_model.specs.Rules.Groups.{flat, opens}
 use Rattle.wit_model.specs.Rules.Numbers.{is_given, IsGiven}
 use Rattle.wit_model.specs.Rules.Verdict.{is_of}
 use Rattle.wit_model.proofs.Numbered.{with_number-or, with_number-none}
 use Rattle.wit_held.specs.Chains.{recorded, forgotten, is_unrecorded, after_record, after_forget}
-use Rattle.wit_core.specs.Seats.{Seat, Row, no_seat, idle_row, seat_in, groups_in, locks_in, chunks_of, free_in, with_seat, asking, in_groups, acquired, released, has_no_room, after_acquired, list_of, HoldFor}
+use Rattle.wit_core.specs.Seats.{Seat, Row, no_seat, idle_row, seat_in, groups_in, locks_in, chunks_of, free_in, with_seat, asking, in_groups, acquired, released, has_no_room, after_acquired, HoldFor}
 use Rattle.wit_core.specs.Seated.{seat_by, seats_by, row_in, AreSeated}
 use Rattle.wit_core.specs.declared.seats.Seats.TheInside.{Inside}
 use Rattle.wit_model.specs.Rules.Step.{is_for}

@@ -1,13 +1,13 @@
 -- What a verifier's seats hold, by its history.
 use Rattle.std.specs.Prelude.{ℕ, ◌*◌, ◌≡◌, Bool, List, map, length}
 use Rattle.wit_model.specs.declared.locks.Instance.{Instance}
-use Rattle.wit_model.specs.Rules.Chunks.{Chunks, IsPlaced, groups_of}
+use Rattle.wit_model.specs.Rules.Chunks.{Chunks, IsPlaced, groups_of, list_of}
 use Rattle.wit_model.specs.Rules.Groups.{flat}
 use Rattle.wit_model.specs.Rules.Numbers.{IsNumber}
 use Rattle.wit_model.specs.Rules.SeatGroups.{held_groups}
 use Rattle.wit_model.specs.Rules.State.{Story}
 use Rattle.wit_model.specs.Rules.State as model
-use Rattle.wit_core.specs.Seats.{Seat, list_of}
+use Rattle.wit_core.specs.Seats.{Seat}
 
 abbrev pub numbers : List (List Instance) → List (List ℕ)
 numbers gs = map (map (λ (i : Instance). i.lock.0)) gs

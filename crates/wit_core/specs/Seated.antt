@@ -2,8 +2,8 @@
 use Rattle.std.specs.Prelude.{ℕ, true, false, ◌*◌, ◌≡◌, ◌≤◌, List, Option, None, length, map, get_or, ◌-◌}
 use Rattle.std.specs.List.{range_with_len}
 use Rattle.wit_model.specs.declared.calls.Request.{Request}
-use Rattle.wit_model.specs.Rules.Chunks.{Chunks, IsPlaced, groups_of}
-use Rattle.wit_core.specs.Seats.{Seat, Row, list_of}
+use Rattle.wit_model.specs.Rules.Chunks.{Chunks, IsPlaced, groups_of, list_of}
+use Rattle.wit_core.specs.Seats.{Seat, Row}
 use Rattle.wit_core.specs.declared.seats.Seats.TheInside.{Inside}
 
 -- a seat by its lists and its request

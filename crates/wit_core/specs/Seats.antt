@@ -2,7 +2,7 @@
 use Rattle.std.specs.Prelude.{ℕ, ◌+◌, ◌-◌, ◌*◌, ◌≡◌, ◌≤◌, ◌==◌, ◌&&◌, Bool, not, List, [], Option, None, is_some, length, find, replicate, unwrap_or, get_or, set, sum_by, if◌then◌else◌}
 use Rattle.wit_model.specs.declared.locks.Instance.{Instance}
 use Rattle.wit_model.specs.declared.calls.Request.{Request}
-use Rattle.wit_model.specs.Rules.Chunks.{Chunks, IsPlaced, groups_of}
+use Rattle.wit_model.specs.Rules.Chunks.{Chunks, IsPlaced, groups_of, list_of}
 use Rattle.wit_model.specs.Rules.Groups.{flat, opens}
 use Rattle.wit_model.specs.Rules.Numbers.{with_number, IsGiven}
 use Rattle.wit_model.specs.Rules.Verdict.{is_of}
@@ -74,10 +74,6 @@ has_no_room row t spin l =
 -- the row after an acquisition
 abbrev pub after_acquired : ℕ → Bool → Instance → Row → Row
 after_acquired t spin i row = if has_no_room row t spin i.lock.0 then row else with_seat t (acquired spin i) row
-
--- the list of the locks of one kind that a seat holds: of the sleep kind, then of the spin kind
-abbrev pub list_of : Bool → ℕ → ℕ
-list_of spin t = if spin then 2 * t else 2 * t - 1
 
 -- the lists of these chunks hold what the seats hold, 256 at most, and each chunk stands once
 pub record HoldFor (row : Row) (c : Chunks) : Type 0 where

@@ -12,7 +12,7 @@ ghost use Rattle.wit_held.specs.Chains.{IsOnce, IsShallow, in_mode};
 ghost use Rattle.wit_held.specs.Marks.{marked};
 ghost use Rattle.wit_held.specs.Releases.{release_reply, release_answer};
 ghost use Rattle.wit_core.specs.Held.{seat_view};
-ghost use Rattle.wit_core.specs.Seats.{Seat, idle_row, seat_in, locks_in, free_in, with_seat, asking, released, has_no_room, after_acquired, list_of, HoldFor};
+ghost use Rattle.wit_core.specs.Seats.{Seat, idle_row, seat_in, locks_in, free_in, with_seat, asking, released, has_no_room, after_acquired, HoldFor};
 ghost use Rattle.wit_core.specs.Turning.{changed};
 
 use std::alloc::{AllocError, Global};
@@ -20,7 +20,7 @@ use std::marker::Model;
 use wit_held::{
     VecLists, assert_is, held, norelease, record, recursion, release, releaseok, set_mode,
 };
-use wit_model::chunks::Lists;
+use wit_model::chunks::{Lists, list_of};
 use wit_model::{AssertAnswer, Fault, Instance, LockAssert, LockNo, Mode, Request, SeatNo, Watch};
 
 /// The lists in which the seats hold their locks.
@@ -81,8 +81,7 @@ impl Seats {
         }
     }
 
-    /// The lists: that of the sleep kind of seat s is number 2s - 1, that of the spin kind 2s. Each chunk stands once in one of
-    /// them or among the free ones.
+    /// The lists: `list_of` numbers them. Each chunk stands once in one of them or among the free ones.
     pub fn lists(&self) -> &Chunked
         ensures { HoldFor self.now result.now }
     {
@@ -259,15 +258,6 @@ fn is_for(lock: LockNo, request: Option<Request>) -> bool
         Some(request) => request.lock.0 == lock.0,
         None => false,
     }
-}
-
-// The list of the locks of one kind that a seat holds.
-fn list_of(seat: SeatNo, spin: bool) -> u16
-    requires { IsNumber 256 seat.0 }
-    ensures { result ≡ list_of spin seat.0 }
-{
-    let last = 2 * seat.0;
-    if spin { last } else { last - 1 }
 }
 
 // So many seats that have asked for nothing.

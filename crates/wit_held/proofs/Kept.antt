@@ -3,16 +3,20 @@ use Rattle.std.proofs.Common.{◌≡◌, ℕ, ◌-◌, ◌^◌, ◌<◌, ◌≤�
 use Rattle.std.specs.List.{remove}
 use Rattle.std.specs.Vec.{vec_capacity}
 use Rattle.std.specs.declared.vec.Vec.{Vec}
+use Rattle.std.proofs.lemmas.Option.{get_or_from_slice_get}
 use Rattle.std.proofs.lemmas.Bool.{and_left, not-true, not-false, cond-true}
-use Rattle.std.proofs.lemmas.List.{length-append, length-map, length-set, get_or-map, get_or_default}
+use Rattle.std.proofs.lemmas.List.{length-append, length-map, length-set, get_or-map}
 use Rattle.wit_model.specs.declared.locks.Instance.{Instance}
-use Rattle.wit_model.specs.Rules.Groups.{flat, joined, opens, replaced_at, removed_at, AreTidy}
-use Rattle.wit_model.specs.Rules.Chunks.{Chunks, IsList, groups_of, chain_of, set_groups, is_refused, pushed}
+use Rattle.wit_model.specs.declared.chunks.TheConstants.{CHUNK}
+use Rattle.wit_model.specs.declared.chunks.Spot.{Spot}
+use Rattle.wit_model.specs.Rules.Groups.{flat, joined, opens, replaced_in, removed_in}
+use Rattle.wit_model.specs.Rules.Chunks.{Chunks, IsList, IsSpot, groups_of, group_of, chain_of, places_in, set_groups, is_refused, pushed}
+use Rattle.wit_model.specs.Rules.Rows.{row, groups_at, shown, AreWithin, AreSettled}
 use Rattle.wit_held.specs.declared.vec_lists.VecLists.TheInside.{Inside}
-use Rattle.wit_held.specs.Rows.{row, rows_of, places_of, groups_at, shown, AreWithin, AreSettled, IsWithin, HaveRoom, HaveRoomFor, HasSpaceAt}
+use Rattle.wit_held.specs.Rows.{rows_of, places_of, HaveRoom, HaveRoomFor, HasSpaceAt}
 use Rattle.wit_held.specs.Kept.{chunks_in, AreKept}
-use Rattle.wit_held.proofs.Placing.{IsFree, free, all-within, times-append, times-in}
-use Rattle.wit_held.proofs.Settled.{Leaves, both-nil, flat-push, groups-shown, list-within, list-short, chain-fits, push-fits, push-opens, push-refused, in-list, replaced, removed-kept, removed-freed, tidy-at}
+use Rattle.wit_model.proofs.Rows.Placing.{IsFree, free, all-within, taken, times-append, times-in}
+use Rattle.wit_model.proofs.Rows.Settled.{Leaves, both-nil, flat-push, groups-shown, list-within, list-short, chain-fits, push-fits, push-opens, push-refused, replaced, removed-kept, removed-freed, others-kept, others-set}
 use Rattle.wit_held.proofs.VecRows.{length-contents, row-read}
 
 -- what stays in a value that is written
@@ -53,9 +57,138 @@ module _ {A : Type 0} (v : Inside A) (value : Chunks) (is : chunks_in v ≡ valu
       length-map (get_or (places_of v.lists.items) (list - 1) []) (row (rows_of v.chunks.items)) in
       omega (arith, l.ok.0, ap length places, many, ap length groups-are)
 
+  pub count-is : (l : Vec ℕ A) → l ≡ get_or v.lists.items (list - 1) l → vec_len l ≡ length (get_or (places_of v.lists.items) (list - 1) [])
+  count-is l read = omega (arith, l.ok.0, ap length (the-places l l.items read refl))
+
   -- what it holds
   pub chain-is : flat (groups_at (rows_of v.chunks.items) (get_or (places_of v.lists.items) (list - 1) [])) ≡ chain_of value list
   chain-is = ap flat (sym (groups-shown (rows_of v.chunks.items) (places_of v.lists.items) (list - 1) in-lists)) ∙ ap (λ c. chain_of c list) is
+
+  -- its length fits
+  pub fits : length (chain_of value list) < 2 ^ 32
+  fits =
+      subst (λ (c : List Instance). length c < 2 ^ 32) chain-is
+      (chain-fits (rows_of v.chunks.items) (places_of v.lists.items) v.unused.items (list - 1) kept.settled)
+
+  -- its chunks
+  pub places-are : get_or (places_of v.lists.items) (list - 1) [] ≡ places_in value list
+  places-are = ap (λ c. places_in c list) is
+
+  -- no other list's chunks become others
+  pub others-stay : places_of v.lists.items ≡ set value.places (list - 1) (get_or (places_of v.lists.items) (list - 1) [])
+  others-stay =
+      others-kept (places_of v.lists.items) (list - 1)
+      ∙ ap (λ (c : Chunks). set c.places (list - 1) (get_or (places_of v.lists.items) (list - 1) [])) is
+
+  pub others-apart : (ls : List (List ℕ)) (ps : List ℕ) → ls ≡ set (places_of v.lists.items) (list - 1) ps
+      → ls ≡ set value.places (list - 1) (get_or ls (list - 1) [])
+  others-apart ls ps new =
+      subst (λ ms. ms ≡ set value.places (list - 1) (get_or ms (list - 1) [])) (sym new)
+      (others-set (places_of v.lists.items) (list - 1) ps in-lists
+      ∙ ap (λ (c : Chunks). set c.places (list - 1) (get_or (set (places_of v.lists.items) (list - 1) ps) (list - 1) [])) is)
+
+  -- one of its chunks
+  module _ (s : Spot) (at : IsSpot value list s) where
+    pub among : s.group < length (get_or (places_of v.lists.items) (list - 1) [])
+    among =
+        omega (arith, at.group, ap length groups-are, length-map (get_or (places_of v.lists.items) (list - 1) []) (row (rows_of v.chunks.items)))
+
+    pub chunk-is : get_or (get_or (places_of v.lists.items) (list - 1) []) s.group 0 ≡ s.chunk
+    chunk-is = ap (λ ps. get_or ps s.group 0) places-are ∙ get_or_from_slice_get (places_in value list) s.group s.chunk 0 at.stands.chunk
+
+    pub chunk-within : s.chunk < length v.chunks.items
+    chunk-within =
+        let known = taken (length (rows_of v.chunks.items)) (places_of v.lists.items) v.unused.items kept.settled.placed (list - 1) s.group 0 in-lists among in
+        subst (λ p. p < length v.chunks.items) chunk-is (omega (arith, known.within, length-contents v.chunks.items))
+
+    pub group-is : row (rows_of v.chunks.items) s.chunk ≡ group_of value list s
+    group-is =
+        ap (row (rows_of v.chunks.items)) (sym chunk-is)
+        ∙ sym (get_or-map (row (rows_of v.chunks.items)) (get_or (places_of v.lists.items) (list - 1) []) s.group 0 [] among)
+        ∙ ap (λ gs. get_or gs s.group []) groups-are
+
+    module _ (index : ℕ) (holds : index < length (group_of value list s)) where
+      pub in-chunk : index < length (row (rows_of v.chunks.items) s.chunk)
+      in-chunk = subst (λ (g : List Instance). index < length g) (sym group-is) holds
+
+      inside : index < length (row (rows_of v.chunks.items) (get_or (get_or (places_of v.lists.items) (list - 1) []) s.group 0))
+      inside = subst (λ p. index < length (row (rows_of v.chunks.items) p)) (sym chunk-is) in-chunk
+
+      pub replace-leaves : (x : Instance)
+          → Leaves (set (rows_of v.chunks.items) s.chunk (set (row (rows_of v.chunks.items) s.chunk) index x)) (places_of v.lists.items) v.unused.items
+          (set_groups value list (replaced_in s.group index x (groups_of value list)))
+      replace-leaves x =
+          subst (λ c. Leaves (set (rows_of v.chunks.items) s.chunk (set (row (rows_of v.chunks.items) s.chunk) index x)) (places_of v.lists.items) v.unused.items
+          (set_groups c list (replaced_in s.group index x (groups_of c list)))) is
+          (subst (λ p. Leaves (set (rows_of v.chunks.items) p (set (row (rows_of v.chunks.items) p) index x)) (places_of v.lists.items) v.unused.items
+          (set_groups (chunks_in v) list (replaced_in s.group index x (groups_of (chunks_in v) list)))) chunk-is
+          (replaced (rows_of v.chunks.items) (places_of v.lists.items) list in-lists v.unused.items kept.settled s.group index among inside x))
+
+      pub remove-keeps : (1 ≤ length (remove (row (rows_of v.chunks.items) s.chunk) index)) ⊎ (length (get_or (places_of v.lists.items) (list - 1) []) ≤ 1)
+          → Leaves (set (rows_of v.chunks.items) s.chunk (remove (row (rows_of v.chunks.items) s.chunk) index)) (places_of v.lists.items) v.unused.items
+          (set_groups value list (removed_in s.group index (groups_of value list)))
+      remove-keeps stays =
+          subst (λ c. Leaves (set (rows_of v.chunks.items) s.chunk (remove (row (rows_of v.chunks.items) s.chunk) index)) (places_of v.lists.items) v.unused.items
+          (set_groups c list (removed_in s.group index (groups_of c list)))) is
+          (subst (λ p. Leaves (set (rows_of v.chunks.items) p (remove (row (rows_of v.chunks.items) p) index)) (places_of v.lists.items) v.unused.items
+          (set_groups (chunks_in v) list (removed_in s.group index (groups_of (chunks_in v) list)))) chunk-is
+          (removed-kept (rows_of v.chunks.items) (places_of v.lists.items) list in-lists v.unused.items kept.settled s.group index among inside (stay stays)))
+        where
+          stay : (1 ≤ length (remove (row (rows_of v.chunks.items) s.chunk) index)) ⊎ (length (get_or (places_of v.lists.items) (list - 1) []) ≤ 1)
+              → (1 ≤ length (remove (row (rows_of v.chunks.items) (get_or (get_or (places_of v.lists.items) (list - 1) []) s.group 0)) index))
+              ⊎ (length (get_or (places_of v.lists.items) (list - 1) []) ≡ 1)
+          stay (inl some) = inl (subst (λ p. 1 ≤ length (remove (row (rows_of v.chunks.items) p) index)) (sym chunk-is) some)
+          stay (inr one) = inr (omega (arith, one, among))
+
+      pub remove-frees : length (remove (row (rows_of v.chunks.items) s.chunk) index) ≡ 0 → 1 < length (get_or (places_of v.lists.items) (list - 1) [])
+          → Leaves (set (rows_of v.chunks.items) s.chunk (remove (row (rows_of v.chunks.items) s.chunk) index))
+          (set (places_of v.lists.items) (list - 1) (remove (get_or (places_of v.lists.items) (list - 1) []) s.group)) (v.unused.items ++ s.chunk ∷ [])
+          (set_groups value list (removed_in s.group index (groups_of value list)))
+      remove-frees empty several =
+          subst (λ c. Leaves (set (rows_of v.chunks.items) s.chunk (remove (row (rows_of v.chunks.items) s.chunk) index))
+          (set (places_of v.lists.items) (list - 1) (remove (get_or (places_of v.lists.items) (list - 1) []) s.group)) (v.unused.items ++ s.chunk ∷ [])
+          (set_groups c list (removed_in s.group index (groups_of c list)))) is
+          (subst (λ p. Leaves (set (rows_of v.chunks.items) p (remove (row (rows_of v.chunks.items) p) index))
+          (set (places_of v.lists.items) (list - 1) (remove (get_or (places_of v.lists.items) (list - 1) []) s.group)) (v.unused.items ++ p ∷ [])
+          (set_groups (chunks_in v) list (removed_in s.group index (groups_of (chunks_in v) list)))) chunk-is
+          (removed-freed (rows_of v.chunks.items) (places_of v.lists.items) list in-lists v.unused.items kept.settled s.group index among inside
+          (ap (λ p. length (remove (row (rows_of v.chunks.items) p) index)) chunk-is ∙ empty)
+          (λ one. absurd (omega (arith, one, several)))))
+
+      -- a chunk stays, or is given back
+      pub keeps : (rows : List (List Instance)) → rows ≡ set (rows_of v.chunks.items) s.chunk (remove (row (rows_of v.chunks.items) s.chunk) index)
+          → (1 ≤ length (remove (row (rows_of v.chunks.items) s.chunk) index)) ⊎ (length (get_or (places_of v.lists.items) (list - 1) []) ≤ 1)
+          → Leaves rows (places_of v.lists.items) v.unused.items (set_groups value list (removed_in s.group index (groups_of value list)))
+      keeps rows left stays =
+          subst (λ rs. Leaves rs (places_of v.lists.items) v.unused.items (set_groups value list (removed_in s.group index (groups_of value list)))) (sym left)
+          (remove-keeps stays)
+
+      pub frees : (rows : List (List Instance)) (lists : List (List ℕ)) (unused : List ℕ) (freed : ℕ)
+          → rows ≡ set (rows_of v.chunks.items) s.chunk (remove (row (rows_of v.chunks.items) s.chunk) index)
+          → lists ≡ set (places_of v.lists.items) (list - 1) (remove (get_or (places_of v.lists.items) (list - 1) []) s.group)
+          → unused ≡ v.unused.items ++ freed ∷ [] → freed ≡ get_or (get_or (places_of v.lists.items) (list - 1) []) s.group 0
+          → length (remove (row (rows_of v.chunks.items) s.chunk) index) ≡ 0 → 1 < length (get_or (places_of v.lists.items) (list - 1) [])
+          → Leaves rows lists unused (set_groups value list (removed_in s.group index (groups_of value list)))
+      frees rows lists unused freed left fewer more is-freed empty several =
+          subst (λ rs. Leaves rs lists unused (set_groups value list (removed_in s.group index (groups_of value list)))) (sym left)
+          (subst (λ ls. Leaves (set (rows_of v.chunks.items) s.chunk (remove (row (rows_of v.chunks.items) s.chunk) index)) ls unused
+          (set_groups value list (removed_in s.group index (groups_of value list)))) (sym fewer)
+          (subst (λ us. Leaves (set (rows_of v.chunks.items) s.chunk (remove (row (rows_of v.chunks.items) s.chunk) index))
+          (set (places_of v.lists.items) (list - 1) (remove (get_or (places_of v.lists.items) (list - 1) []) s.group)) us
+          (set_groups value list (removed_in s.group index (groups_of value list)))) (sym (more ∙ ap (λ p. v.unused.items ++ p ∷ []) (is-freed ∙ chunk-is)))
+          (remove-frees empty several)))
+
+    pub free-space : vec_len v.unused < vec_capacity v.unused
+    free-space =
+        omega (
+          arith,
+          among,
+          list-short (places_of v.lists.items) (list - 1),
+          kept.settled.placed.all,
+          kept.free,
+          v.unused.ok.0,
+          length-contents v.chunks.items,
+        )
 
   -- the same where the chunks are read
   module _ (ps : List ℕ) (cs : List (Vec Instance A)) (p-is : ps ≡ get_or (places_of v.lists.items) (list - 1) []) (c-is : cs ≡ v.chunks.items) where
@@ -72,98 +205,14 @@ module _ {A : Type 0} (v : Inside A) (value : Chunks) (is : chunks_in v ≡ valu
     pub read-groups : groups_at (rows_of cs) ps ≡ groups_of value list
     read-groups = ap₂ (λ ds qs. groups_at (rows_of ds) qs) c-is p-is ∙ groups-are
 
-    pub read-index : (index : ℕ) → index < length (groups_of value list) → index < length ps
-    read-index index lt = omega (arith, lt, ap length read-groups, length-map ps (row (rows_of cs)))
-
-    pub read-tidy : AreTidy (groups_at (rows_of cs) ps)
-    read-tidy =
-        subst (λ (gs : List (List Instance)). AreTidy gs) (sym (ap₂ (λ ds qs. groups_at (rows_of ds) qs) c-is p-is))
-        (tidy-at (rows_of v.chunks.items) (places_of v.lists.items) v.unused.items kept.settled (list - 1) in-lists)
-
-    pub read-fits : length (flat (groups_at (rows_of cs) ps)) < 2 ^ 32
-    read-fits =
-        subst (λ (c : List Instance). length c < 2 ^ 32) (sym (ap₂ (λ ds qs. flat (groups_at (rows_of ds) qs)) c-is p-is))
-        (chain-fits (rows_of v.chunks.items) (places_of v.lists.items) v.unused.items (list - 1) kept.settled)
-
-    module _ (spot group index : ℕ) (w : IsWithin (groups_at (rows_of cs) ps) spot group index) (q : ℕ) (q-is : q ≡ get_or ps group q) where
-      inside : IsWithin (groups_at (rows_of v.chunks.items) (get_or (places_of v.lists.items) (list - 1) [])) spot group index
-      inside = subst (λ gs. IsWithin gs spot group index) (ap₂ (λ ds qs. groups_at (rows_of ds) qs) c-is p-is) w
-
-      pub among : group < length (get_or (places_of v.lists.items) (list - 1) [])
-      among = in-list (rows_of v.chunks.items) (places_of v.lists.items) list in-lists v.unused.items kept.settled spot group index inside
-
-      chunk-is : get_or (get_or (places_of v.lists.items) (list - 1) []) group 0 ≡ q
-      chunk-is =
-          sym
-          (q-is ∙ ap (λ (qs : List ℕ). get_or qs group q) p-is ∙ get_or_default (get_or (places_of v.lists.items) (list - 1) []) group q 0 among)
-
-      pub replace-leaves : (x : Instance)
-          → Leaves (set (rows_of v.chunks.items) q (set (row (rows_of v.chunks.items) q) index x)) (places_of v.lists.items) v.unused.items
-          (set_groups value list (replaced_at spot x (groups_of value list)))
-      replace-leaves x =
-          subst (λ c. Leaves (set (rows_of v.chunks.items) q (set (row (rows_of v.chunks.items) q) index x)) (places_of v.lists.items) v.unused.items
-          (set_groups c list (replaced_at spot x (groups_of c list)))) is
-          (subst (λ p. Leaves (set (rows_of v.chunks.items) p (set (row (rows_of v.chunks.items) p) index x)) (places_of v.lists.items) v.unused.items
-          (set_groups (chunks_in v) list (replaced_at spot x (groups_of (chunks_in v) list)))) chunk-is
-          (replaced (rows_of v.chunks.items) (places_of v.lists.items) list in-lists v.unused.items kept.settled spot group index inside x))
-
-      pub remove-keeps : (1 ≤ length (remove (row (rows_of v.chunks.items) q) index)) ⊎ (length ps ≤ 1)
-          → Leaves (set (rows_of v.chunks.items) q (remove (row (rows_of v.chunks.items) q) index)) (places_of v.lists.items) v.unused.items
-          (set_groups value list (removed_at spot (groups_of value list)))
-      remove-keeps stays =
-          subst (λ c. Leaves (set (rows_of v.chunks.items) q (remove (row (rows_of v.chunks.items) q) index)) (places_of v.lists.items) v.unused.items
-          (set_groups c list (removed_at spot (groups_of c list)))) is
-          (subst (λ p. Leaves (set (rows_of v.chunks.items) p (remove (row (rows_of v.chunks.items) p) index)) (places_of v.lists.items) v.unused.items
-          (set_groups (chunks_in v) list (removed_at spot (groups_of (chunks_in v) list)))) chunk-is
-          (removed-kept (rows_of v.chunks.items) (places_of v.lists.items) list in-lists v.unused.items kept.settled spot group index inside
-          (stay stays)))
-        where
-          stay : (1 ≤ length (remove (row (rows_of v.chunks.items) q) index)) ⊎ (length ps ≤ 1)
-              → (1 ≤ length (remove (row (rows_of v.chunks.items) (get_or (get_or (places_of v.lists.items) (list - 1) []) group 0)) index))
-              ⊎ (length (get_or (places_of v.lists.items) (list - 1) []) ≡ 1)
-          stay (inl some) = inl (subst (λ p. 1 ≤ length (remove (row (rows_of v.chunks.items) p) index)) (sym chunk-is) some)
-          stay (inr one) = inr (omega (arith, one, ap length p-is, among))
-
-      pub remove-frees : length (remove (row (rows_of v.chunks.items) q) index) ≡ 0 → 1 < length ps
-          → Leaves (set (rows_of v.chunks.items) q (remove (row (rows_of v.chunks.items) q) index))
-          (set (places_of v.lists.items) (list - 1) (remove (get_or (places_of v.lists.items) (list - 1) []) group)) (v.unused.items ++ q ∷ [])
-          (set_groups value list (removed_at spot (groups_of value list)))
-      remove-frees empty several =
-          let ones : length ps ≡ length (get_or (places_of v.lists.items) (list - 1) []) = ap length p-is in
-          subst (λ c. Leaves (set (rows_of v.chunks.items) q (remove (row (rows_of v.chunks.items) q) index))
-          (set (places_of v.lists.items) (list - 1) (remove (get_or (places_of v.lists.items) (list - 1) []) group)) (v.unused.items ++ q ∷ [])
-          (set_groups c list (removed_at spot (groups_of c list)))) is
-          (subst (λ p. Leaves (set (rows_of v.chunks.items) p (remove (row (rows_of v.chunks.items) p) index))
-          (set (places_of v.lists.items) (list - 1) (remove (get_or (places_of v.lists.items) (list - 1) []) group)) (v.unused.items ++ p ∷ [])
-          (set_groups (chunks_in v) list (removed_at spot (groups_of (chunks_in v) list)))) chunk-is
-          (removed-freed (rows_of v.chunks.items) (places_of v.lists.items) list in-lists v.unused.items kept.settled spot group index inside
-          (ap (λ p. length (remove (row (rows_of v.chunks.items) p) index)) chunk-is ∙ empty)
-          (λ one. absurd (omega (arith, one, ones, several)))))
-
-      -- the chunk that is given back
-      pub freed-is : get_or (get_or (places_of v.lists.items) (list - 1) []) group 0 ≡ q
-      freed-is = chunk-is
-
-      pub free-space : vec_len v.unused < vec_capacity v.unused
-      free-space =
-          omega (
-            arith,
-            among,
-            list-short (places_of v.lists.items) (list - 1),
-            kept.settled.placed.all,
-            kept.free,
-            v.unused.ok.0,
-            length-contents v.chunks.items,
-          )
-
     -- the newest chunk has room
-    pub push-leaves : (p : ℕ) (i : Instance) → slice_get ps (length ps - 1) ≡ Some p → length (row (rows_of cs) p) < 5 → true ≡ not (opens (groups_at (rows_of cs) ps))
+    pub push-leaves : (p : ℕ) (i : Instance) → slice_get ps (length ps - 1) ≡ Some p → length (row (rows_of cs) p) < CHUNK → true ≡ not (opens (groups_at (rows_of cs) ps))
         → Leaves (set (rows_of v.chunks.items) p (row (rows_of v.chunks.items) p ++ i ∷ [])) (places_of v.lists.items) v.unused.items (pushed value list i)
     push-leaves p i at short room =
         subst (λ c. Leaves (set (rows_of v.chunks.items) p (row (rows_of v.chunks.items) p ++ i ∷ [])) (places_of v.lists.items) v.unused.items (pushed c list i)) is
         (push-fits (rows_of v.chunks.items) (places_of v.lists.items) list in-lists v.unused.items kept.settled p i
         (subst (λ qs. slice_get qs (length qs - 1) ≡ Some p) p-is at)
-        (subst (λ ds. length (row (rows_of ds) p) < 5) c-is short)
+        (subst (λ ds. length (row (rows_of ds) p) < CHUNK) c-is short)
         (fits room))
       where
         fits : true ≡ not (opens (groups_at (rows_of cs) ps)) → opens (groups_at (rows_of v.chunks.items) (get_or (places_of v.lists.items) (list - 1) [])) ≡ false
@@ -191,7 +240,7 @@ module _ {A : Type 0} (v : Inside A) (value : Chunks) (is : chunks_in v ≡ valu
           (omega (arith, times-append p rest (p ∷ []), times-in (p ∷ []) 0 0 (omega arith))) in
           omega (arith, known.within, length-contents v.chunks.items)
 
-      pub open-short : length (row (rows_of v.chunks.items) p) < 5
+      pub open-short : length (row (rows_of v.chunks.items) p) < CHUNK
       open-short =
           let none : row (rows_of v.chunks.items) p ≡ [] =
           (both-nil (flat (groups_at (rows_of v.chunks.items) rest)) (row (rows_of v.chunks.items) p) (sym (flat-push (rows_of v.chunks.items) rest p) ∙ spare.empty)).1 in

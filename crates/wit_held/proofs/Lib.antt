@@ -1,12 +1,9 @@
 pub mod Asserting
-pub mod Emptiness
+pub mod FoundLock
 pub mod HeldLock
 pub mod Kept
 pub mod Marking
 pub mod Newest
 pub mod Passing
-pub mod Placing
 pub mod Recording
-pub mod Settled
 pub mod VecRows
-pub mod Writing

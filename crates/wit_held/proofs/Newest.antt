@@ -1,5 +1,5 @@
 -- A lock that stands once has one place, from whichever end it is looked for.
-use Rattle.std.proofs.Common.{◌≡◌, ℕ, zero, suc, ◌+◌, ◌<◌, ◌≤◌, Bool, true, false, not, cond, List, [], ◌∷◌, None, Some, is_some, unwrap_or, find, length, filter, take, drop, get_or, position, refl, ap, sym, ◌∙◌, subst, arith}
+use Rattle.std.proofs.Common.{◌≡◌, ℕ, zero, suc, ◌+◌, ◌<◌, ◌≤◌, Bool, true, false, not, cond, List, [], ◌∷◌, None, Some, is_some, unwrap_or, find, length, filter, take, drop, get_or, position, refl, ap, sym, ◌∙◌, arith}
 use Rattle.std.specs.Option.{option_map}
 use Rattle.std.proofs.lemmas.Bool.{lt-ltb, le-ltb, eqb-true, true≢false}
 use Rattle.std.proofs.lemmas.List.{drop_more}
@@ -7,11 +7,8 @@ use Rattle.std.proofs.lemmas.List.Concat.{get_or-flat_map}
 use Rattle.std.proofs.lemmas.List.Folds.{length-flat_map-take}
 use Rattle.wit_model.specs.declared.locks.Instance.{Instance}
 use Rattle.wit_model.specs.Rules.Groups.{flat}
-use Rattle.wit_model.specs.Rules.Chunks.{Chunks, groups_of, chain_of}
 use Rattle.wit_model.specs.Rules.Verdict.{is_of}
-use Rattle.wit_held.specs.declared.spots.Spot.{Spot}
 use Rattle.wit_held.specs.Chains.{stands}
-use Rattle.wit_held.specs.Spots.{place_in, IsIn, IsThere}
 use Rattle.wit_held.proofs.HeldLock.{lock_place, stands-append, find-found, find-missed}
 use Rattle.wit_held.proofs.Recording.{first-place, no-place}
 
@@ -133,13 +130,3 @@ found-lock l (x ∷ c) d e = by (is_of l x) refl e (found-lock l c d)
     by : (b : Bool) → is_of l x ≡ b → Some d ≡ cond b (Some x) (find (is_of l) c) → (Some d ≡ find (is_of l) c → d.lock.0 ≡ l) → d.lock.0 ≡ l
     by true is at ih = ap (λ o. unwrap_or (option_map (λ (i : Instance). i.lock.0) o) 0) at ∙ eqb-true x.lock.0 l is
     by false is at ih = ih at
-
-pub there : (c : Chunks) (list l : ℕ) (s : Spot) → IsIn (groups_of c list) s → Some (place_in (groups_of c list) s) ≡ position (is_of l) (chain_of c list)
-    → Some s.held ≡ find (is_of l) (chain_of c list) → IsThere c list s
-there c list l s within place held =
-    let lock : l ≡ s.held.lock.0 = sym (found-lock l (chain_of c list) s.held held) in
-    record {
-      within = within;
-      place = subst (λ n. Some (place_in (groups_of c list) s) ≡ position (is_of n) (chain_of c list)) lock place;
-      held = subst (λ n. Some s.held ≡ find (is_of n) (chain_of c list)) lock held;
-    }

@@ -28,15 +28,14 @@ no-place l c e = by (nat_lt (lock_place l c) (length c)) refl e
 
 module _ (c : Chunks) (list l : ℕ) where
   -- the lock isn't there
-  module _ (missed : None ≡ position (is_of l) (chain_of c list)) where
-    pub none : find (is_of l) (chain_of c list) ≡ None
-    none = find-missed l (chain_of c list) (no-place l (chain_of c list) (sym missed))
+  pub none : None ≡ position (is_of l) (chain_of c list) → find (is_of l) (chain_of c list) ≡ None
+  none missed = find-missed l (chain_of c list) (no-place l (chain_of c list) (sym missed))
 
-    pub turn-none : (mode : Mode) → c.groups ≡ after_turn c list l mode
-    turn-none mode =
-        sym
-        (ap (set_groups c list) (absent-all l (map (at_lock l (in_mode mode))) (change-absent l (in_mode mode)) (groups_of c list) (missed-stands l (chain_of c list) none))
-        ∙ set-get_or c.groups (list - 1) [])
+  pub turn-none : find (is_of l) (chain_of c list) ≡ None → (mode : Mode) → c.groups ≡ after_turn c list l mode
+  turn-none missed mode =
+      sym
+      (ap (set_groups c list) (absent-all l (map (at_lock l (in_mode mode))) (change-absent l (in_mode mode)) (groups_of c list) (missed-stands l (chain_of c list) missed))
+      ∙ set-get_or c.groups (list - 1) [])
 
   -- the lock is there once
   module _ (i : ℕ) (d : Instance) (found : Some i ≡ position (is_of l) (chain_of c list)) (at : d ≡ get_or (chain_of c list) i d) where

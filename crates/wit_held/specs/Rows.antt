@@ -1,11 +1,10 @@
--- Chunks on vectors: what each chunk holds, by its number, beside the numbers of each list's chunks.
-use Rattle.std.specs.Prelude.{ℕ, ◌+◌, ◌<◌, ◌≡◌, ◌≤◌, ◌++◌, List, [], map, length, vec_len, take, nat_lt, if◌then◌else◌}
-use Rattle.std.specs.List.{All, concat, slice_index_or}
+-- Chunks and lists on vectors: what they hold, and what room they have.
+use Rattle.std.specs.Prelude.{ℕ, ◌<◌, ◌≤◌, List, map, vec_len}
+use Rattle.std.specs.List.{All, slice_index_or}
 use Rattle.std.specs.Vec.{vec_capacity}
 use Rattle.std.specs.declared.vec.Vec.{Vec}
+use Rattle.wit_model.specs.declared.chunks.TheConstants.{CHUNK}
 use Rattle.wit_model.specs.declared.locks.Instance.{Instance}
-use Rattle.wit_model.specs.Rules.Groups.{flat, AreTidy}
-use Rattle.wit_model.specs.Rules.Chunks.{Chunks, times}
 
 -- what each of the vectors holds
 abbrev pub contents : {X A : Type 0} → List (Vec X A) → List (List X)
@@ -17,53 +16,14 @@ rows_of chunks = contents chunks
 abbrev pub places_of : {A : Type 0} → List (Vec ℕ A) → List (List ℕ)
 places_of lists = contents lists
 
--- what the chunk with this number holds
-abbrev pub row : List (List Instance) → ℕ → List Instance
-row rows p = slice_index_or rows p []
-
--- the groups of a list that has these chunks
-abbrev pub groups_at : List (List Instance) → List ℕ → List (List Instance)
-groups_at rows places = map (row rows) places
-
--- the chunks of the list at this place
-abbrev pub places_at : List (List ℕ) → ℕ → List ℕ
-places_at lists list = slice_index_or lists list []
-
--- the numbers below the size stand once in the lists and among the unused ones
-pub record ArePlaced (size : ℕ) (lists : List (List ℕ)) (unused : List ℕ) : Type 0 where
-  pub once : (p : ℕ) → times p (concat lists ++ unused) ≡ if nat_lt p size then 1 else 0
-  pub all : length (concat lists) + length unused ≡ size
-
--- what callers see
-abbrev pub shown : List (List Instance) → List (List ℕ) → List ℕ → Chunks
-shown rows lists unused = record { size = length rows; groups = map (groups_at rows) lists; places = lists; unused = unused }
-
--- each chunk stands once and holds five at most, the free ones are empty, and no group is empty unless it is its list's only one
-pub record AreSettled (rows : List (List Instance)) (lists : List (List ℕ)) (unused : List ℕ) : Type 0 where
-  pub placed : ArePlaced (length rows) lists unused
-  pub few : length rows ≤ 65536
-  pub short : All (λ (g : List Instance). length g ≤ 5) rows
-  pub empty : flat (groups_at rows unused) ≡ []
-  pub tidy : All AreTidy (map (groups_at rows) lists)
-
 -- each of the vectors has room for this many
 abbrev pub HaveRoomFor : {X A : Type 0} → ℕ → List (Vec X A) → Type 0
 HaveRoomFor {X} {A} room rows = All (λ (v : Vec X A). room ≤ vec_capacity v) rows
 
--- each chunk has room for five
+-- each chunk has room for all that it may hold
 abbrev pub HaveRoom : {A : Type 0} → List (Vec Instance A) → Type 0
-HaveRoom chunks = HaveRoomFor 5 chunks
+HaveRoom chunks = HaveRoomFor CHUNK chunks
 
 -- the list at this place has room for one more chunk
 abbrev pub HasSpaceAt : {A : Type 0} → ℕ → List (Vec ℕ A) → Type 0
 HasSpaceAt {A} list lists = (d : Vec ℕ A) → vec_len (slice_index_or lists list d) < vec_capacity (slice_index_or lists list d)
-
--- each of these chunks is there
-abbrev pub AreWithin : ℕ → List ℕ → Type 0
-AreWithin size places = All (λ (p : ℕ). p < size) places
-
--- the place in a list is this place in this one of its groups
-pub record IsWithin (gs : List (List Instance)) (place group index : ℕ) : Type 0 where
-  pub there : group < length gs
-  pub holds : index < length (slice_index_or gs group [])
-  pub before : place ≡ length (flat (take group gs)) + index

@@ -8,7 +8,7 @@ ghost use Rattle.wit_model.specs.Rules.Verdict.{is_of};
 ghost use Rattle.wit_model.specs.Rules.Chunks.{IsList, IsPlaced, chain_of};
 ghost use Rattle.wit_held.specs.Chains.{IsOnce, IsShallow, is_unrecorded, after_record, after_turn};
 
-use crate::spots::{place_of, spot_of};
+use crate::spots::find_held;
 use wit_model::chunks::Lists;
 use wit_model::{Instance, LockNo, Mode};
 
@@ -27,13 +27,12 @@ pub fn record<L: Lists>(lists: &mut L, list: u16, taken: Instance) -> bool
     ensures placed { IsPlaced (L.chunks lists.new) }
     ensures unchanged { result ≡ false → L.chunks lists.new ≡ L.chunks lists.old }
 {
-    match spot_of(&*lists, list, taken.lock) {
-        Some(spot) => {
-            let mut held = spot.held;
+    match find_held(&*lists, list, taken.lock) {
+        Some(there) => {
+            let mut held = there.held;
             held.count += 1;
             held.site = taken.site;
-            let place = place_of(&*lists, list, spot);
-            lists.replace(list, place, held);
+            lists.replace_in(list, there.spot, there.index, held);
             true
         }
         None => lists.push(list, taken),
@@ -46,7 +45,7 @@ pub fn held<L: Lists>(lists: &L, list: u16, lock: LockNo) -> Option<Instance>
     requires once { IsOnce lock.0 (chain_of (L.chunks lists.now) list) }
     ensures { result ≡ find (is_of lock.0) (chain_of (L.chunks lists.now) list) }
 {
-    Some(spot_of(lists, list, lock)?.held)
+    Some(find_held(lists, list, lock)?.held)
 }
 
 // The oldest instance of a lock in a list.
@@ -85,12 +84,11 @@ pub fn set_mode<L: Lists>(lists: &mut L, list: u16, lock: LockNo, mode: Mode)
     ensures size { (L.chunks lists.new).size ≡ (L.chunks lists.old).size }
     ensures placed { IsPlaced (L.chunks lists.old) → IsPlaced (L.chunks lists.new) }
 {
-    match spot_of(&*lists, list, lock) {
-        Some(spot) => {
-            let mut held = spot.held;
+    match find_held(&*lists, list, lock) {
+        Some(there) => {
+            let mut held = there.held;
             held.mode = mode;
-            let place = place_of(&*lists, list, spot);
-            lists.replace(list, place, held);
+            lists.replace_in(list, there.spot, there.index, held);
         }
         None => {}
     }

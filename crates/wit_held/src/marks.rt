@@ -5,6 +5,7 @@ ghost use Rattle.wit_model.specs.Rules.Chunks.{IsList, IsPlaced, chain_of};
 ghost use Rattle.wit_held.specs.Chains.{IsOnce};
 ghost use Rattle.wit_held.specs.Marks.{after_mark};
 
+use crate::spots::find_held;
 use wit_model::LockNo;
 use wit_model::chunks::Lists;
 
@@ -39,11 +40,11 @@ fn mark<L: Lists>(lists: &mut L, list: u16, lock: LockNo, norelease: bool)
     ensures size { (L.chunks lists.new).size ≡ (L.chunks lists.old).size }
     ensures placed { IsPlaced (L.chunks lists.old) → IsPlaced (L.chunks lists.new) }
 {
-    match lists.find(list, lock) {
-        Some(place) => {
-            let mut held = lists.at(list, place);
+    match find_held(&*lists, list, lock) {
+        Some(there) => {
+            let mut held = there.held;
             held.norelease = norelease;
-            lists.replace(list, place, held);
+            lists.replace_in(list, there.spot, there.index, held);
         }
         None => {}
     }

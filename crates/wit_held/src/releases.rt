@@ -10,7 +10,7 @@ ghost use Rattle.wit_held.specs.Chains.{IsOnce, after_forget};
 ghost use Rattle.wit_held.specs.Releases.{release_reply, release_answer};
 ghost use Rattle.wit_held.specs.Spots.{IsThere};
 
-use crate::spots::{Spot, place_of, spot_of};
+use crate::spots::{Found, find_held};
 use wit_model::chunks::Lists;
 use wit_model::{Fault, Instance, LockNo, Mode, Watch};
 
@@ -23,8 +23,8 @@ pub fn forget<L: Lists>(lists: &mut L, list: u16, lock: LockNo)
     ensures size { (L.chunks lists.new).size ≡ (L.chunks lists.old).size }
     ensures placed { IsPlaced (L.chunks lists.old) → IsPlaced (L.chunks lists.new) }
 {
-    if let Some(spot) = spot_of(&*lists, list, lock) {
-        take_back(lists, list, spot);
+    if let Some(there) = find_held(&*lists, list, lock) {
+        take_back(lists, list, there);
     }
 }
 
@@ -49,32 +49,31 @@ pub fn release<L: Lists>(
     ensures placed { IsPlaced (L.chunks lists.old) → IsPlaced (L.chunks lists.new) }
     ensures unchanged { result ≢ Ok true → L.chunks lists.new ≡ L.chunks lists.old }
 {
-    let Some(spot) = spot_of(&*lists, list, lock) else {
+    let Some(there) = find_held(&*lists, list, lock) else {
         return release_of_none(watch);
     };
     if watch.is_on() {
-        judge_release(spot.held, mode)?;
+        judge_release(there.held, mode)?;
     }
-    take_back(lists, list, spot);
+    take_back(lists, list, there);
     Ok(true)
 }
 
-// Takes one acquisition of the lock at this spot back: its list holds it once.
-fn take_back<L: Lists>(lists: &mut L, list: u16, spot: Spot)
+// Takes one acquisition of the lock that stands there back: its list holds it once.
+fn take_back<L: Lists>(lists: &mut L, list: u16, there: Found)
     requires list { IsList (L.chunks lists.old) list }
-    requires once { IsOnce spot.held.lock.0 (chain_of (L.chunks lists.old) list) }
-    requires there { IsThere (L.chunks lists.old) list spot }
-    ensures groups { (L.chunks lists.new).groups ≡ after_forget (L.chunks lists.old) list spot.held.lock.0 }
+    requires once { IsOnce there.held.lock.0 (chain_of (L.chunks lists.old) list) }
+    requires there { IsThere (L.chunks lists.old) list there.held.lock.0 there }
+    ensures groups { (L.chunks lists.new).groups ≡ after_forget (L.chunks lists.old) list there.held.lock.0 }
     ensures size { (L.chunks lists.new).size ≡ (L.chunks lists.old).size }
     ensures placed { IsPlaced (L.chunks lists.old) → IsPlaced (L.chunks lists.new) }
 {
-    let place = place_of(&*lists, list, spot);
-    let mut held = spot.held;
+    let mut held = there.held;
     if held.count > 0 {
         held.count -= 1;
-        lists.replace(list, place, held);
+        lists.replace_in(list, there.spot, there.index, held);
     } else {
-        lists.remove(list, place);
+        lists.remove_in(list, there.spot, there.index);
     }
 }
 

@@ -7,13 +7,12 @@ ghost use Rattle.wit_model.specs.Rules.Numbers.{IsNumber};
 
 use crate::fresh::{empty_rows, numbers_below};
 use crate::rows::{
-    CHUNK, add, count, find, lend, locate, newest, open_chunk, put, read, take_chunk, take_out,
-    write,
+    add, lend, newest_spot, older_spot, open_chunk, put, take_chunk, take_out, write,
 };
 use std::alloc::{AllocError, Allocator, Global};
 use std::marker::Model;
-use wit_model::chunks::Lists;
-use wit_model::{Fault, Instance, LockNo};
+use wit_model::chunks::{CHUNK, Lists, Spot};
+use wit_model::{Fault, Instance};
 
 /// Lists in chunks on vectors, with all their room from the beginning.
 #[derive(Drop)]
@@ -100,45 +99,27 @@ impl<A: Allocator> Lists for VecLists<A> {
         }
     }
 
-    fn find(&self, list: u16, lock: LockNo) -> Option<usize> {
-        find(&self.lists[list as usize - 1], &self.chunks, lock)
+    fn newest(&self, list: u16) -> Option<Spot> {
+        newest_spot(&self.lists[list as usize - 1])
     }
 
-    fn at(&self, list: u16, place: usize) -> Instance {
-        read(&self.lists[list as usize - 1], &self.chunks, place)
+    fn older(&self, list: u16, spot: Spot) -> Option<Spot> {
+        older_spot(&self.lists[list as usize - 1], spot)
     }
 
-    fn len(&self, list: u16) -> usize {
-        count(&self.lists[list as usize - 1], &self.chunks)
+    fn group(&self, list: u16, spot: Spot) -> &[Instance] {
+        lend(&self.chunks, spot.chunk as usize)
     }
 
-    fn last(&self, list: u16) -> Option<Instance> {
-        newest(&self.lists[list as usize - 1], &self.chunks)
+    fn replace_in(&mut self, list: u16, spot: Spot, index: usize, instance: Instance) {
+        write(&mut self.chunks, spot.chunk as usize, index, instance);
     }
 
-    fn groups(&self, list: u16) -> usize {
-        self.lists[list as usize - 1].len()
-    }
-
-    fn group(&self, list: u16, index: usize) -> &[Instance] {
-        lend(&self.lists[list as usize - 1], &self.chunks, index)
-    }
-
-    fn replace(&mut self, list: u16, place: usize, instance: Instance) {
-        let places = &self.lists[list as usize - 1];
-        let (group, index) = locate(places, &self.chunks, place);
-        let chunk = places[group] as usize;
-        write(&mut self.chunks, chunk, index, instance);
-    }
-
-    fn remove(&mut self, list: u16, place: usize) {
+    fn remove_in(&mut self, list: u16, spot: Spot, index: usize) {
         let list = list as usize - 1;
-        let places = &self.lists[list];
-        let (group, index) = locate(places, &self.chunks, place);
-        let chunk = places[group] as usize;
-        let count = places.len();
-        if take_out(&mut self.chunks, chunk, index) && count > 1 {
-            let freed = take_chunk(&mut self.lists, list, group);
+        let count = self.lists[list].len();
+        if take_out(&mut self.chunks, spot.chunk as usize, index) && count > 1 {
+            let freed = take_chunk(&mut self.lists, list, spot.group);
             self.unused.push_reserved(freed);
         }
     }

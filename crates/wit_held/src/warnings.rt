@@ -1,15 +1,15 @@
 //! How many held locks a seat is warned of. Nothing here takes memory.
 
-ghost use Rattle.std.specs.Prelude.{◌≡◌, ◌*◌, ◌-◌, ◌^◌, ◌<◌, List, length, filter, not, slice_get};
+ghost use Rattle.std.specs.Prelude.{◌≡◌, ◌-◌, ◌^◌, ◌<◌, true, false, List, length, filter, not, slice_get};
 ghost use Rattle.wit_model.specs.declared.locks.Instance.{Instance};
 ghost use Rattle.wit_model.specs.Rules.Numbers.{IsNumber, IsGiven};
-ghost use Rattle.wit_model.specs.Rules.Chunks.{IsList, chain_of};
+ghost use Rattle.wit_model.specs.Rules.Chunks.{IsList, chain_of, list_of};
 ghost use Rattle.wit_model.specs.Rules.Verdict.{Basis, type_held, is_giant, is_sleepable};
 ghost use Rattle.wit_model.specs.Rules.Warnings.{is_named, is_allowed, counted_spin, warning};
 ghost use Rattle.wit_held.specs.Warned.{AreTyped, is_last_named};
 
 use bitflags::Flags;
-use wit_model::chunks::Lists;
+use wit_model::chunks::{Lists, list_of};
 use wit_model::{Instance, LockNo, SeatNo, WarnFlags, Watch};
 
 /// What is known of the types of held locks.
@@ -28,8 +28,8 @@ pub trait LockTypes {
 }
 
 /// How many held locks a seat, one of 256, is warned of, where it should hold none (`witness_warn` of witness(4)): none where not everything
-/// is watched. Counted are its locks of the sleep kind, in list `2 * seat - 1`, but for the named one, Giant under `GIANTOK`, and
-/// sleepable ones under `SLEEPOK`; and all of the spin kind, in list `2 * seat`, unless the named one is the only lock that would be counted.
+/// is watched. Counted are its locks of the sleep kind, but for the named one, Giant under `GIANTOK`, and
+/// sleepable ones under `SLEEPOK`; and all of the spin kind, unless the named one is the only lock that would be counted.
 pub fn warn_count<L: Lists, T: LockTypes>(
     lists: &L,
     types: &T,
@@ -39,16 +39,16 @@ pub fn warn_count<L: Lists, T: LockTypes>(
     flags: WarnFlags,
 ) -> usize
     requires seat { IsNumber 256 seat.0 }
-    requires lists { IsList (L.chunks lists.now) (2 * seat.0) }
-    requires typed { AreTyped (T.basis types.now) (chain_of (L.chunks lists.now) (2 * seat.0 - 1)) }
+    requires lists { IsList (L.chunks lists.now) (list_of true seat.0) }
+    requires typed { AreTyped (T.basis types.now) (chain_of (L.chunks lists.now) (list_of false seat.0)) }
     ensures { result ≡ length (warning (T.basis types.now) watch named flags
-        (chain_of (L.chunks lists.now) (2 * seat.0 - 1)) (chain_of (L.chunks lists.now) (2 * seat.0))) }
+        (chain_of (L.chunks lists.now) (list_of false seat.0)) (chain_of (L.chunks lists.now) (list_of true seat.0))) }
 {
     if !watch.is_on() {
         return 0;
     }
-    let sleep = count_sleep(lists, types, 2 * seat.0 - 1, named, flags);
-    sleep + count_spin(lists, 2 * seat.0, named, sleep)
+    let sleep = count_sleep(lists, types, list_of(seat, false), named, flags);
+    sleep + count_spin(lists, list_of(seat, true), named, sleep)
 }
 
 // How many locks of the sleep kind aren't allowed.
@@ -65,8 +65,10 @@ fn count_sleep<L: Lists, T: LockTypes>(
     ensures few { result < 2 ^ 32 }
 {
     let mut counted = lists.len(list);
-    for index in (0..lists.groups(list)).rev() {
-        counted -= allowed_in(lists.group(list, index), types, named, flags);
+    let mut spot = lists.newest(list);
+    while let Some(at) = spot {
+        counted -= allowed_in(lists.group(list, at), types, named, flags);
+        spot = lists.older(list, at);
     }
     counted
 }

@@ -3,7 +3,9 @@ pub mod Histories
 pub mod Lists
 pub mod Numbered
 pub mod Orders
+pub mod Rows
 pub mod Spelling
 pub mod VerdictLaws
 pub mod World
 pub mod Waits
+pub mod Walking

@@ -16,6 +16,7 @@ pub mod Numbers
 pub mod Orders
 pub mod Questions
 pub mod Refusals
+pub mod Rows
 pub mod SeatGroups
 pub mod Sizes
 pub mod Start

@@ -1,13 +1,14 @@
 -- The lines of held locks, newest first; and the chains that lie in chunks.
-use Rattle.std.proofs.Common.{◌≡◌, ℕ, ◌<◌, Bool, true, false, ◌&&◌, Option, unwrap_or, List, [], ◌∷◌, ◌++◌, length, reverse, nat_lt, codes, refl, sym, ap, ◌∙◌, arith, append_assoc}
+use Rattle.std.proofs.Common.{◌≡◌, ℕ, ◌<◌, Bool, true, false, ◌&&◌, Option, Some, unwrap_or, List, [], ◌∷◌, ◌++◌, length, drop, reverse, nat_lt, codes, refl, sym, ap, ◌∙◌, arith, append_assoc}
 use Rattle.std.specs.Fmt.{decimal}
 use Rattle.std.proofs.lemmas.Bool.{true≢false, lt-leb, lt-ltb}
 use Rattle.std.proofs.lemmas.List.{append-nil, reverse-append}
 use Rattle.std.proofs.lemmas.List.Concat.{flat_map-append}
 use Rattle.std.proofs.lemmas.List.FromFn.{length-map-range_with_len}
+use Rattle.wit_model.specs.declared.chunks.Spot.{Spot}
 use Rattle.wit_model.specs.declared.locks.Instance.{Instance}
 use Rattle.wit_model.specs.declared.locks.Lock.{Lock}
-use Rattle.wit_model.specs.Rules.Chunks.{Chunks, groups_of}
+use Rattle.wit_model.specs.Rules.Chunks.{Chunks, IsSpot, groups_of, group_of, list_of, upto}
 use Rattle.wit_model.specs.Rules.Groups.{flat}
 use Rattle.wit_model.specs.Rules.History.{chain}
 use Rattle.wit_model.specs.Rules.Locks.{lock_at}
@@ -22,13 +23,17 @@ use Rattle.wit_model.proofs.Chains.Regrouping.{groups-chain}
 use Rattle.wit_model.proofs.Numbered.{with_number-none}
 use Rattle.wit_model.proofs.Histories.Legal.{sane_legal, seat_at-state}
 use Rattle.wit_core.specs.Held.{HoldAll}
-use Rattle.wit_core.specs.Seats.{list_of}
+use Rattle.wit_model.proofs.Walking.{IsNext, newer_than, one-more}
 use Rattle.wit_core.proofs.Waits.{seat-number}
 
 -- ---- newest first
 
-pub groups-reversed : (g : List Instance) (gs : List (List Instance)) → reverse (flat (g ∷ gs)) ≡ reverse (flat gs) ++ reverse g
-groups-reversed g gs = reverse-append g (flat gs)
+-- a chunk more of a list
+pub reversed-more : (c : Chunks) (list : ℕ) (o : Option Spot) (s : Spot) → o ≡ Some s → IsNext c list o → (n : ℕ) → n ≡ s.group
+    → reverse (flat (drop n (groups_of c list))) ≡ reverse (flat (newer_than c list o)) ++ reverse (group_of c list s)
+reversed-more c list o s is next n at =
+    ap (λ k. reverse (flat (drop k (groups_of c list)))) at ∙ ap (λ (e : List Instance). reverse e) (one-more c list o s is next)
+    ∙ reverse-append (group_of c list s) (flat (newer_than c list o))
 
 module _ (locks : List Lock) (files : List (List ℕ)) where
   pub lines-both : (t u w : List ℕ) (seat : Seat) → u ≡ t ++ held_lines locks files (reverse seat.sleep) → w ≡ u ++ held_lines locks files (reverse seat.spin)

@@ -1,4 +1,4 @@
--- Texts that are laid one behind another: for numbers from 1 on, and for lists from their ends.
+-- Texts that are laid one behind another, for numbers from 1 on.
 use Rattle.std.proofs.Common.{◌≡◌, ℕ, suc, ◌+◌, ◌-◌, ◌<◌, ◌≤◌, Bool, true, false, cond, List, [], ◌∷◌, ◌++◌, length, map, filter, get_or, drop, refl, sym, ap, ◌∙◌, arith, append_assoc}
 use Rattle.std.specs.List.{flat_map, range_with_len}
 use Rattle.std.proofs.Math.Seq.{drop-cons}
@@ -47,25 +47,3 @@ some_skip p f n t u isnt before =
     let old = filter p (range_with_len 1 n) in
     before
     ∙ ap (λ x. t ++ flat_map f x) (sym (append-nil old) ∙ ap (λ b. old ++ cond b ((n + 1) ∷ []) []) (sym isnt) ∙ sym (some-more p n))
-
--- ---- from the end of a list, where F lays its elements one behind another, the last one first
-
-module _ {X Y : Type 0} (F : List X → List Y) (f : X → List Y) (cons : (x : X) (xs : List X) → F (x ∷ xs) ≡ F xs ++ f x) where
-  pub back_turn : (xs : List X) (n k i : ℕ) (d : X) (t u w : List Y) → n ≡ length xs → i + k + 1 ≡ n → u ≡ t ++ F (drop (n - k) xs) → w ≡ u ++ f (get_or xs i d)
-      → w ≡ t ++ F (drop (n - (k + 1)) xs)
-  back_turn xs n k i d t u w size place before next =
-      let lt : i < length xs = omega (arith, size, place) in
-      let here : n - (k + 1) ≡ i = omega (arith, place) in
-      let after : n - k ≡ suc i = omega (arith, place) in
-      next ∙ ap (λ x. x ++ f (get_or xs i d)) (before ∙ ap (λ m. t ++ F (drop m xs)) after)
-      ∙ append_assoc t (F (drop (suc i) xs)) (f (get_or xs i d))
-      ∙ ap (λ x. t ++ x) (sym (cons (get_or xs i d) (drop (suc i) xs)) ∙ ap F (sym (drop-cons xs i d lt)) ∙ ap (λ m. F (drop m xs)) (sym here))
-
-  pub back_start : (xs : List X) (n k : ℕ) (t : List Y) → n ≡ length xs → k ≡ 0 → F [] ≡ [] → t ≡ t ++ F (drop (n - k) xs)
-  back_start xs n k t size zero none =
-      sym (append-nil t) ∙ ap (λ x. t ++ x) (sym none) ∙ ap (λ rest. t ++ F rest) (sym (drop_all (n - k) xs (omega (arith, size, zero))))
-
-  pub back_end : (xs : List X) (n k : ℕ) (t u : List Y) → n ≤ k → u ≡ t ++ F (drop (n - k) xs) → u ≡ t ++ F xs
-  back_end xs n k t u all before =
-      let zero : n - k ≡ 0 = omega (arith, all) in
-      before ∙ ap (λ m. t ++ F (drop m xs)) zero

@@ -3,16 +3,14 @@
 ghost use Rattle.std.specs.Prelude.{◌≡◌, ◌++◌, nat_lt, length, reverse, string_bytes, IfOk, IfErr, OnOk};
 ghost use Rattle.std.specs.List.{flat_map, range_with_len};
 ghost use Rattle.wit_model.specs.declared.faults.Fault.TheVariants.{OutOfMemory};
-ghost use Rattle.wit_model.specs.Rules.Numbers.{IsNumber};
 ghost use Rattle.wit_model.specs.Rules.State.{state_of, seat_at, chain_in, typed_locks};
 ghost use Rattle.wit_model.specs.Trace.Views.{mode_words, held_line, held_lines, all_held, locks_text, holder_text, all_locks_text};
-ghost use Rattle.wit_core.specs.Seats.{list_of};
 
 use crate::locks::{class_of, class_words, lock_name, type_name};
 use crate::pieces::{put_number, put_quoted, put_site};
 use std::alloc::{AllocError, Global};
 use wit_core::Verifier;
-use wit_model::chunks::Lists;
+use wit_model::chunks::{Lists, list_of};
 use wit_model::{Fault, Instance, Mode, SeatNo};
 
 /// The locks that a seat holds, a line each, as `show locks` of witness(4): those of the sleep kind, then those of the spin kind, newest
@@ -115,20 +113,12 @@ pub fn newest_first(
     let _log = verifier.history();
     let lists = verifier.chunks();
     let list = list_of(seat, spin);
-    let groups = lists.groups(list);
-    for newer in 0..groups {
-        add_group(&mut held, lists.group(list, groups - 1 - newer))?;
+    let mut spot = lists.newest(list);
+    while let Some(at) = spot {
+        add_group(&mut held, lists.group(list, at))?;
+        spot = lists.older(list, at);
     }
     Ok(held)
-}
-
-// The list of the locks of one kind that a seat holds.
-fn list_of(seat: SeatNo, spin: bool) -> u16
-    requires { IsNumber 256 seat.0 }
-    ensures { result ≡ list_of spin seat.0 }
-{
-    let last = 2 * seat.0;
-    if spin { last } else { last - 1 }
 }
 
 // Adds the locks of a chunk, newest first.

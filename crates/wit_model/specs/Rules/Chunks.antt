@@ -1,7 +1,9 @@
 -- Lists of held locks in chunks, as their callers see them. Each list is held in groups, and each group lies in a chunk of its own. The
 -- lists are counted from 1.
-use Rattle.std.specs.Prelude.{ℕ, ◌+◌, ◌-◌, ◌≡◌, ◌==◌, Bool, ◌&&◌, List, [], ◌∷◌, ◌++◌, length, map, nat_lt, replicate, slice_set, if◌then◌else◌}
+use Rattle.std.specs.Prelude.{ℕ, ◌+◌, ◌-◌, ◌*◌, ◌<◌, ◌≡◌, ◌==◌, Bool, ◌&&◌, List, [], ◌∷◌, ◌++◌, length, map, nat_lt, replicate}
+use Rattle.std.specs.Prelude.{slice_get, slice_set, Option, Some, None, if◌then◌else◌}
 use Rattle.std.specs.List.{slice_index_or, sum_by, concat}
+use Rattle.wit_model.specs.declared.chunks.Spot.{Spot}
 use Rattle.wit_model.specs.declared.locks.Instance.{Instance}
 use Rattle.wit_model.specs.Rules.Numbers.{IsGiven}
 use Rattle.wit_model.specs.Rules.Groups.{flat, joined, opens}
@@ -13,6 +15,10 @@ pub record Chunks : Type 0 where
   pub places : List (List ℕ)
   pub unused : List ℕ
 
+-- the list of the locks of one kind that a seat holds
+abbrev pub list_of : Bool → ℕ → ℕ
+list_of spin seat = if spin then 2 * seat else 2 * seat - 1
+
 abbrev pub IsList : Chunks → ℕ → Type 0
 IsList c list = IsGiven c.groups list
 
@@ -23,9 +29,36 @@ groups_of c list = slice_index_or c.groups (list - 1) []
 abbrev pub chain_of : Chunks → ℕ → List Instance
 chain_of c list = flat (groups_of c list)
 
+-- the chunks in which its groups lie
+abbrev pub places_in : Chunks → ℕ → List ℕ
+places_in c list = slice_index_or c.places (list - 1) []
+
+-- among these chunks, this one stands there, and that one behind it
+pub record StandsIn (places : List ℕ) (s : Spot) : Type 0 where
+  pub chunk : slice_get places s.group ≡ Some s.chunk
+  pub newer : slice_get places (s.group + 1) ≡ s.newer
+
+-- one of a list's groups lies there
+pub record IsSpot (c : Chunks) (list : ℕ) (s : Spot) : Type 0 where
+  pub group : s.group < length (groups_of c list)
+  pub stands : StandsIn (places_in c list) s
+
+-- how many groups lie there and before it
+abbrev pub upto : Option Spot → ℕ
+upto None = 0
+upto (Some s) = s.group + 1
+
+-- the group that lies there
+abbrev pub group_of : Chunks → ℕ → Spot → List Instance
+group_of c list s = slice_index_or (groups_of c list) s.group []
+
 -- all groups, where those of this list become others
 abbrev pub set_groups : Chunks → ℕ → List (List Instance) → List (List (List Instance))
 set_groups c list gs = slice_set c.groups (list - 1) gs
+
+-- no other list's chunks become others
+abbrev pub KeepOthers : Chunks → Chunks → ℕ → Type 0
+KeepOthers old new list = new.places ≡ slice_set old.places (list - 1) (places_in new list)
 
 -- no room for one more: the list has no chunk or its newest one is full, and none is free
 abbrev pub is_refused : Chunks → ℕ → Bool

@@ -1,7 +1,8 @@
 -- Held locks in groups, oldest first, as the chunks of a list of held locks in subr_witness.c: each group has room for five. These words
 -- are the same for lock numbers and for whole instances.
 use Rattle.std.specs.Prelude.{ℕ, ◌-◌, ◌≤◌, Bool, true, not, List, [], ◌∷◌, ◌++◌, length, map, filter, nat_lt, slice_set, if◌then◌else◌}
-use Rattle.std.specs.List.{flat_map, remove}
+use Rattle.std.specs.List.{flat_map, remove, slice_index_or}
+use Rattle.wit_model.specs.declared.chunks.TheConstants.{CHUNK}
 
 -- the groups joined in order
 abbrev pub flat : {X : Type 0} → List (List X) → List X
@@ -9,7 +10,7 @@ flat gs = flat_map (λ g. g) gs
 
 -- whether a group has room for one more
 abbrev pub has_room : {X : Type 0} → List X → Bool
-has_room g = nat_lt (length g) 5
+has_room g = nat_lt (length g) CHUNK
 
 -- a new one joins the newest group, or opens a group where that one is full
 abbrev pub joined : {X : Type 0} → X → List (List X) → List (List X)
@@ -49,10 +50,20 @@ replaced_at i x gs = edited_at (λ k g. slice_set g k x) i gs
 abbrev pub removed_at : {X : Type 0} → ℕ → List (List X) → List (List X)
 removed_at i gs = tidied (edited_at (λ k g. remove g k) i gs)
 
+-- the groups where the one at this place of this group is edited within its group
+abbrev pub edited_in : {X : Type 0} → (ℕ → List X → List X) → ℕ → ℕ → List (List X) → List (List X)
+edited_in edit k i gs = slice_set gs k (edit i (slice_index_or gs k []))
+
+abbrev pub replaced_in : {X : Type 0} → ℕ → ℕ → X → List (List X) → List (List X)
+replaced_in k i x gs = edited_in (λ n g. slice_set g n x) k i gs
+
+abbrev pub removed_in : {X : Type 0} → ℕ → ℕ → List (List X) → List (List X)
+removed_in k i gs = tidied (edited_in (λ n g. remove g n) k i gs)
+
 -- no group has more than five
 abbrev pub AreShort : {X : Type 0} → List (List X) → Type 0
 AreShort [] = Unit {0}
-AreShort (g ∷ gs) = (length g ≤ 5) × AreShort gs
+AreShort (g ∷ gs) = (length g ≤ CHUNK) × AreShort gs
 
 -- none is empty
 abbrev pub AreFilled : {X : Type 0} → List (List X) → Type 0

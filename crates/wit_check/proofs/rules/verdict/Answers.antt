@@ -8,12 +8,12 @@ use Rattle.wit_check.specs.Bases.{basis}
 use Rattle.wit_check.specs.Behind.{over}
 use Rattle.wit_check.specs.Held.{sleep_chain, spin_chain}
 use Rattle.wit_check.proofs.Last.{at-the-end}
-use Rattle.wit_check.proofs.Ruling.{spin-asked, sleep-asked, none-held, of-spin, spin-decides, nothing-decides, chain-decides}
+use Rattle.wit_check.proofs.Ruling.{asked-of, none-held, of-spin, spin-decides, nothing-decides, chain-decides}
 use Rattle.wit_check.proofs.rules.verdict.Goals as goal
-use Rattle.wit_check.proofs.rules.verdict.Goals.{else-not-spin-via-then-not-spin+else-holds_spin, else-not-spin-via-else-not-spin, then-spin, else-spin}
+use Rattle.wit_check.proofs.rules.verdict.Goals.{else-not-spin-via-then-not-spin+else-holds_spin, else-not-spin-via-else-not-spin}
 
 pub behind-requires-clause-last : goal.behind-requires-clause-last
-behind-requires-clause-last g c = sym (at-the-end (chain_of (g.L.Lists.chunks c.args.lists.now) c.if-spin.list)) ∙ sym c.last.ensures ∙ c.in-Some.is
+behind-requires-clause-last g c = sym (at-the-end (chain_of (g.L.Lists.chunks c.args.lists.now) c.list_of-list.result)) ∙ sym c.last.ensures ∙ c.in-Some.is
 
 pub returns-then-holds_spin : goal.returns-then-holds_spin
 returns-then-holds_spin g c =
@@ -26,15 +26,13 @@ returns-in-Some g c =
       | else-not-spin-via-then-not-spin+else-holds_spin w ↦ none-held (is_spin (class_of c.args.request.type_no.0 c.args.types.now.types)) (is_some (last_or None (spin_chain (g.L.Lists.chunks c.args.lists.now) c.args.seat.0))) (sym w.holds_spin.ensures ∙ w.if-holds_spin.false)
       | else-not-spin-via-else-not-spin w ↦ of-spin (is_spin (class_of c.args.request.type_no.0 c.args.types.now.types)) (is_some (last_or None (spin_chain (g.L.Lists.chunks c.args.lists.now) c.args.seat.0))) (sym (c.is_spin-spin.ensures ∙ ap is_spin c.class_of.ensures) ∙ w.if-not-spin.false)
     ] in
-    let chain : chain_of (g.L.Lists.chunks c.args.lists.now) c.if-spin.list ≡ chain_asked (basis c.args.types.now c.args.matrix.now c.args.lock_types.now) (sleep_chain (g.L.Lists.chunks c.args.lists.now) c.args.seat.0) (spin_chain (g.L.Lists.chunks c.args.lists.now) c.args.seat.0) c.args.request =
-    elim c.if-spin.branch [
-      | then-spin w ↦ ap (chain_of (g.L.Lists.chunks c.args.lists.now)) w.list-is ∙ spin-asked (basis c.args.types.now c.args.matrix.now c.args.lock_types.now) (sleep_chain (g.L.Lists.chunks c.args.lists.now) c.args.seat.0) (spin_chain (g.L.Lists.chunks c.args.lists.now) c.args.seat.0) c.args.request (sym (c.is_spin-spin.ensures ∙ ap is_spin c.class_of.ensures) ∙ w.if-spin.true)
-      | else-spin w ↦ ap (chain_of (g.L.Lists.chunks c.args.lists.now)) w.list-is ∙ sleep-asked (basis c.args.types.now c.args.matrix.now c.args.lock_types.now) (sleep_chain (g.L.Lists.chunks c.args.lists.now) c.args.seat.0) (spin_chain (g.L.Lists.chunks c.args.lists.now) c.args.seat.0) c.args.request (sym (c.is_spin-spin.ensures ∙ ap is_spin c.class_of.ensures) ∙ w.if-spin.false)
-    ] in
+    let chain : chain_of (g.L.Lists.chunks c.args.lists.now) c.list_of-list.result ≡ chain_asked (basis c.args.types.now c.args.matrix.now c.args.lock_types.now) (sleep_chain (g.L.Lists.chunks c.args.lists.now) c.args.seat.0) (spin_chain (g.L.Lists.chunks c.args.lists.now) c.args.seat.0) c.args.request =
+    asked-of (basis c.args.types.now c.args.matrix.now c.args.lock_types.now) (g.L.Lists.chunks c.args.lists.now) c.args.seat.0 c.args.request c.is_spin-spin.result c.list_of-list.result
+    (sym (c.is_spin-spin.ensures ∙ ap is_spin c.class_of.ensures)) c.list_of-list.ensures in
     c.behind.ensures
     ∙ ap (λ (e : List Instance). decided (over (basis c.args.types.now c.args.matrix.now c.args.lock_types.now) e c.in-Some.last c.args.request)) chain
     ∙ chain-decides (basis c.args.types.now c.args.matrix.now c.args.lock_types.now) c.args.watch (sleep_chain (g.L.Lists.chunks c.args.lists.now) c.args.seat.0) (spin_chain (g.L.Lists.chunks c.args.lists.now) c.args.seat.0) c.args.request (sym c.is_on.ensures ∙ c.if-not-is_on.false) calm c.in-Some.last
-    (ap (λ (e : List Instance). last_or None e) (sym chain) ∙ sym (at-the-end (chain_of (g.L.Lists.chunks c.args.lists.now) c.if-spin.list)) ∙ sym c.last.ensures ∙ c.in-Some.is)
+    (ap (λ (e : List Instance). last_or None e) (sym chain) ∙ sym (at-the-end (chain_of (g.L.Lists.chunks c.args.lists.now) c.list_of-list.result)) ∙ sym c.last.ensures ∙ c.in-Some.is)
 
 pub returns-in-None : goal.returns-in-None
 returns-in-None g c =
@@ -43,10 +41,8 @@ returns-in-None g c =
       | else-not-spin-via-then-not-spin+else-holds_spin w ↦ none-held (is_spin (class_of c.args.request.type_no.0 c.args.types.now.types)) (is_some (last_or None (spin_chain (g.L.Lists.chunks c.args.lists.now) c.args.seat.0))) (sym w.holds_spin.ensures ∙ w.if-holds_spin.false)
       | else-not-spin-via-else-not-spin w ↦ of-spin (is_spin (class_of c.args.request.type_no.0 c.args.types.now.types)) (is_some (last_or None (spin_chain (g.L.Lists.chunks c.args.lists.now) c.args.seat.0))) (sym (c.is_spin-spin.ensures ∙ ap is_spin c.class_of.ensures) ∙ w.if-not-spin.false)
     ] in
-    let chain : chain_of (g.L.Lists.chunks c.args.lists.now) c.if-spin.list ≡ chain_asked (basis c.args.types.now c.args.matrix.now c.args.lock_types.now) (sleep_chain (g.L.Lists.chunks c.args.lists.now) c.args.seat.0) (spin_chain (g.L.Lists.chunks c.args.lists.now) c.args.seat.0) c.args.request =
-    elim c.if-spin.branch [
-      | then-spin w ↦ ap (chain_of (g.L.Lists.chunks c.args.lists.now)) w.list-is ∙ spin-asked (basis c.args.types.now c.args.matrix.now c.args.lock_types.now) (sleep_chain (g.L.Lists.chunks c.args.lists.now) c.args.seat.0) (spin_chain (g.L.Lists.chunks c.args.lists.now) c.args.seat.0) c.args.request (sym (c.is_spin-spin.ensures ∙ ap is_spin c.class_of.ensures) ∙ w.if-spin.true)
-      | else-spin w ↦ ap (chain_of (g.L.Lists.chunks c.args.lists.now)) w.list-is ∙ sleep-asked (basis c.args.types.now c.args.matrix.now c.args.lock_types.now) (sleep_chain (g.L.Lists.chunks c.args.lists.now) c.args.seat.0) (spin_chain (g.L.Lists.chunks c.args.lists.now) c.args.seat.0) c.args.request (sym (c.is_spin-spin.ensures ∙ ap is_spin c.class_of.ensures) ∙ w.if-spin.false)
-    ] in
+    let chain : chain_of (g.L.Lists.chunks c.args.lists.now) c.list_of-list.result ≡ chain_asked (basis c.args.types.now c.args.matrix.now c.args.lock_types.now) (sleep_chain (g.L.Lists.chunks c.args.lists.now) c.args.seat.0) (spin_chain (g.L.Lists.chunks c.args.lists.now) c.args.seat.0) c.args.request =
+    asked-of (basis c.args.types.now c.args.matrix.now c.args.lock_types.now) (g.L.Lists.chunks c.args.lists.now) c.args.seat.0 c.args.request c.is_spin-spin.result c.list_of-list.result
+    (sym (c.is_spin-spin.ensures ∙ ap is_spin c.class_of.ensures)) c.list_of-list.ensures in
     nothing-decides (basis c.args.types.now c.args.matrix.now c.args.lock_types.now) c.args.watch (sleep_chain (g.L.Lists.chunks c.args.lists.now) c.args.seat.0) (spin_chain (g.L.Lists.chunks c.args.lists.now) c.args.seat.0) c.args.request (sym c.is_on.ensures ∙ c.if-not-is_on.false) calm
-    (ap (λ (e : List Instance). last_or None e) (sym chain) ∙ sym (at-the-end (chain_of (g.L.Lists.chunks c.args.lists.now) c.if-spin.list)) ∙ sym c.last.ensures ∙ c.in-None.is)
+    (ap (λ (e : List Instance). last_or None e) (sym chain) ∙ sym (at-the-end (chain_of (g.L.Lists.chunks c.args.lists.now) c.list_of-list.result)) ∙ sym c.last.ensures ∙ c.in-None.is)

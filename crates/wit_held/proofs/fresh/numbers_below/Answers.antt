@@ -1,5 +1,5 @@
 use Rattle.std.proofs.Common.{ℕ, List, ◌++◌, ◌∷◌, [], ap, sym, ◌∙◌, arith}
-use Rattle.wit_held.proofs.Emptiness.{range-more}
+use Rattle.wit_model.proofs.Rows.Emptiness.{range-more}
 use Rattle.wit_held.proofs.fresh.numbers_below.Goals as goal
 
 pub loop-number-preserved : goal.loop-number-preserved

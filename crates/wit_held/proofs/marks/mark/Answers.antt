@@ -1,11 +1,20 @@
-use Rattle.std.proofs.Common.{◌∙◌}
+use Rattle.std.proofs.Common.{sym, ◌∙◌}
+use Rattle.wit_model.specs.Rules.Chunks.{groups_of}
+use Rattle.wit_held.specs.Marks.{marked}
+use Rattle.wit_held.specs.Spots.{place_at}
 use Rattle.wit_held.proofs.Marking.{mark-none, mark-one}
+use Rattle.wit_held.proofs.FoundLock.{held-found, writes}
 use Rattle.wit_held.proofs.marks.mark.Goals as goal
 
 pub returns-in-Some-clause-groups : goal.returns-in-Some-clause-groups
 returns-in-Some-clause-groups g c =
-    c.replace.ensures.groups
-    ∙ mark-one (g.L.Lists.chunks c.args.lists.now) c.args.list c.args.lock.0 c.args.norelease c.in-Some.place c.at-held.result c.in-Some.ensures.place c.at-held.ensures c.requires.once
+    let chunks = g.L.Lists.chunks c.args.lists.now in
+    let l = c.args.lock.0 in
+    c.replace_in.ensures.groups
+    ∙ writes chunks c.args.list l c.in-Some.there c.in-Some.ensures.there (marked c.args.norelease c.in-Some.there.held)
+    ∙ mark-one chunks c.args.list l c.args.norelease (place_at (groups_of chunks c.args.list) c.in-Some.there) c.in-Some.there.held
+    c.in-Some.ensures.there.place (held-found chunks c.args.list l c.in-Some.there c.in-Some.ensures.there) c.requires.once
 
 pub returns-in-None-clause-groups : goal.returns-in-None-clause-groups
-returns-in-None-clause-groups g c = mark-none (g.L.Lists.chunks c.args.lists.now) c.args.list c.args.lock.0 c.args.norelease c.in-None.ensures.place
+returns-in-None-clause-groups g c =
+    mark-none (g.L.Lists.chunks c.args.lists.now) c.args.list c.args.lock.0 c.args.norelease (sym c.in-None.ensures.held)

@@ -1,18 +1,20 @@
-use Rattle.std.proofs.Common.{ap, sym, subst, ◌∙◌}
+use Rattle.std.proofs.Common.{ap, ◌∙◌}
 use Rattle.wit_model.specs.Rules.Chunks.{chain_of}
-use Rattle.wit_held.specs.Chains.{IsOnce, after_forget}
-use Rattle.wit_held.proofs.Newest.{found-lock, there}
+use Rattle.wit_held.specs.Chains.{after_forget}
+use Rattle.wit_held.proofs.Newest.{found-lock}
+use Rattle.wit_held.proofs.FoundLock.{named, once-named}
 use Rattle.wit_held.proofs.releases.forget.Goals as goal
 
 pub take_back-requires-clause-there : goal.take_back-requires-clause-there
 take_back-requires-clause-there g c =
-    there (g.L.Lists.chunks c.args.lists.now) c.args.list c.args.lock.0 c.in-Some.spot c.in-Some.ensures.within c.in-Some.ensures.place c.in-Some.ensures.held
+    named (g.L.Lists.chunks c.args.lists.now) c.args.list c.args.lock.0 c.in-Some.there c.in-Some.ensures.there
 
 pub take_back-requires-clause-once : goal.take_back-requires-clause-once
 take_back-requires-clause-once g c =
-    subst (λ n. IsOnce n (chain_of (g.L.Lists.chunks c.args.lists.now) c.args.list)) (sym (found-lock c.args.lock.0 (chain_of (g.L.Lists.chunks c.args.lists.now) c.args.list) c.in-Some.spot.held c.in-Some.ensures.held)) c.requires.once
+    once-named (g.L.Lists.chunks c.args.lists.now) c.args.list c.args.lock.0 c.in-Some.there c.in-Some.ensures.there c.requires.once
 
 pub returns-in-Some-clause-groups : goal.returns-in-Some-clause-groups
 returns-in-Some-clause-groups g c =
     c.take_back.ensures.groups
-    ∙ ap (after_forget (g.L.Lists.chunks c.args.lists.now) c.args.list) (found-lock c.args.lock.0 (chain_of (g.L.Lists.chunks c.args.lists.now) c.args.list) c.in-Some.spot.held c.in-Some.ensures.held)
+    ∙ ap (after_forget (g.L.Lists.chunks c.args.lists.now) c.args.list)
+    (found-lock c.args.lock.0 (chain_of (g.L.Lists.chunks c.args.lists.now) c.args.list) c.in-Some.there.held c.in-Some.ensures.held)

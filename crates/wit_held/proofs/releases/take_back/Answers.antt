@@ -1,17 +1,25 @@
-use Rattle.std.proofs.Common.{Some, ap, ◌∙◌}
-use Rattle.wit_model.specs.Rules.Chunks.{chain_of}
-use Rattle.wit_held.proofs.Newest.{held-there}
+use Rattle.std.proofs.Common.{◌∙◌}
+use Rattle.wit_model.specs.Rules.Chunks.{groups_of}
+use Rattle.wit_held.specs.Chains.{fewer}
+use Rattle.wit_held.specs.Spots.{place_at}
 use Rattle.wit_held.proofs.Recording.{forget-fewer, forget-last}
+use Rattle.wit_held.proofs.FoundLock.{held-found, writes, takes}
 use Rattle.wit_held.proofs.releases.take_back.Goals as goal
 
 pub returns-then-held-gt0-clause-groups : goal.returns-then-held-gt0-clause-groups
 returns-then-held-gt0-clause-groups g c =
-    c.replace.ensures.groups
-    ∙ forget-fewer (g.L.Lists.chunks c.args.lists.now) c.args.list c.args.spot.held.lock.0 c.place_of-place.result c.args.spot.held (ap Some c.place_of-place.ensures ∙ c.requires.there.place)
-    (held-there c.args.spot.held.lock.0 (chain_of (g.L.Lists.chunks c.args.lists.now) c.args.list) c.place_of-place.result c.args.spot.held (ap Some c.place_of-place.ensures ∙ c.requires.there.place) c.requires.there.held) c.requires.once c.if-held-gt0.true
+    let chunks = g.L.Lists.chunks c.args.lists.now in
+    let l = c.args.there.held.lock.0 in
+    c.replace_in.ensures.groups
+    ∙ writes chunks c.args.list l c.args.there c.requires.there (fewer c.args.there.held)
+    ∙ forget-fewer chunks c.args.list l (place_at (groups_of chunks c.args.list) c.args.there) c.args.there.held c.requires.there.place
+    (held-found chunks c.args.list l c.args.there c.requires.there) c.requires.once c.if-held-gt0.true
 
 pub returns-else-held-gt0-clause-groups : goal.returns-else-held-gt0-clause-groups
 returns-else-held-gt0-clause-groups g c =
-    c.remove.ensures.groups
-    ∙ forget-last (g.L.Lists.chunks c.args.lists.now) c.args.list c.args.spot.held.lock.0 c.place_of-place.result c.args.spot.held (ap Some c.place_of-place.ensures ∙ c.requires.there.place)
-    (held-there c.args.spot.held.lock.0 (chain_of (g.L.Lists.chunks c.args.lists.now) c.args.list) c.place_of-place.result c.args.spot.held (ap Some c.place_of-place.ensures ∙ c.requires.there.place) c.requires.there.held) c.requires.once c.if-held-gt0.false
+    let chunks = g.L.Lists.chunks c.args.lists.now in
+    let l = c.args.there.held.lock.0 in
+    c.remove_in.ensures.groups
+    ∙ takes chunks c.args.list l c.args.there c.requires.there
+    ∙ forget-last chunks c.args.list l (place_at (groups_of chunks c.args.list) c.args.there) c.args.there.held c.requires.there.place
+    (held-found chunks c.args.list l c.args.there c.requires.there) c.requires.once c.if-held-gt0.false

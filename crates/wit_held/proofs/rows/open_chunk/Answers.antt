@@ -1,7 +1,9 @@
 use Rattle.std.proofs.Common.{◌<◌, ◌≤◌, length, not, ap, sym, ◌∙◌, arith}
 use Rattle.std.proofs.lemmas.Bool.{lt-ltb, le-ltb}
-use Rattle.wit_held.specs.Rows.{row, rows_of}
-use Rattle.wit_held.proofs.VecRows.{opens-at, newest-within, len-read}
+use Rattle.wit_model.specs.Rules.Rows.{row}
+use Rattle.wit_model.proofs.Rows.Newest.{opens-at, newest-within}
+use Rattle.wit_held.specs.Rows.{rows_of}
+use Rattle.wit_held.proofs.VecRows.{len-read}
 use Rattle.wit_held.proofs.rows.open_chunk.Goals as goal
 
 pub returns-then-len-lt-CHUNK-clause-room : goal.returns-then-len-lt-CHUNK-clause-room

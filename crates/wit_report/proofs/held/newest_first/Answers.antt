@@ -1,9 +1,9 @@
-use Rattle.std.proofs.Common.{◌-◌, ◌∙◌, ap, List, [], reverse, refl, arith}
+use Rattle.std.proofs.Common.{◌++◌, ◌∙◌, ap, ap₂, sym, List, reverse, arith}
 use Rattle.wit_model.specs.declared.locks.Instance.{Instance}
-use Rattle.wit_model.specs.Rules.Chunks.{groups_of}
+use Rattle.wit_model.specs.Rules.Chunks.{groups_of, upto}
 use Rattle.wit_model.specs.Rules.Groups.{flat}
-use Rattle.wit_report.proofs.HeldLines.{groups-reversed, chain-lies, none-zero, none-beyond}
-use Rattle.wit_report.proofs.Laid.{back_turn, back_start, back_end}
+use Rattle.wit_model.proofs.Walking.{flat-newest, flat-oldest}
+use Rattle.wit_report.proofs.HeldLines.{reversed-more, chain-lies, none-zero, none-beyond}
 use Rattle.wit_report.proofs.held.newest_first.Goals as goal
 use Rattle.wit_report.proofs.held.newest_first.Goals.{then-seat-eq0-via-then-seat-eq0, then-seat-eq0-via-else-seat-eq0+then-seats-seat}
 
@@ -16,25 +16,27 @@ returns-then-seat-eq0 c =
           c.new-held.ensures.items ∙ none-beyond v c.args.seat.0 c.args.spin (omega (arith, w.seats.ensures.value, w.if-seats-seat.true))
     ]
 
-pub loop-newer-init : goal.loop-newer-init
-loop-newer-init c =
-    c.new-held.ensures.items
-    ∙ back_start (λ (gs : List (List Instance)). reverse (flat gs)) (λ (g : List Instance). reverse g) groups-reversed
-    (groups_of c.chunks-lists.result.now c.list_of-list.result) c.groups-groups.result 0 [] c.groups-groups.ensures refl refl
+pub loop-spot-init : goal.loop-spot-init
+loop-spot-init c = (
+  c.newest-spot.ensures.spot,
+  c.new-held.ensures.items
+  ∙ sym (ap (λ (e : List Instance). reverse e) (flat-newest (groups_of c.chunks-lists.result.now c.list_of-list.result) (upto c.newest-spot.result) c.newest-spot.ensures.all)),
+)
 
-pub loop-newer-preserved : goal.loop-newer-preserved
-loop-newer-preserved c =
-    let groups = c.groups-groups.result in
-    let newer = c.loop-newer.newer in
-    back_turn (λ (gs : List (List Instance)). reverse (flat gs)) (λ (g : List Instance). reverse g) groups-reversed
-    (groups_of c.chunks-lists.result.now c.list_of-list.result) groups newer (groups - 1 - newer) [] [] c.loop-newer.held.items c.add_group.new.held.items
-    c.groups-groups.ensures (omega arith) c.loop-newer.invariant (rw c.group.ensures at c.in_ok-add_group.ensures)
+pub loop-spot-preserved : goal.loop-spot-preserved
+loop-spot-preserved c = (
+  c.older-spot.ensures.spot,
+  c.in_ok-add_group.ensures
+  ∙ ap₂ (λ (e f : List Instance). e ++ reverse f) c.loop-spot.invariant.1 c.group.ensures
+  ∙ sym (reversed-more c.chunks-lists.result.now c.list_of-list.result c.loop-spot.spot c.in-Some.at c.in-Some.is c.loop-spot.invariant.0
+  (upto c.older-spot.result) c.older-spot.ensures.before),
+)
 
 pub returns : goal.returns
 returns c =
     let v = c.args.verifier.now in
     let lists = c.chunks-lists.result.now in
-    back_end (λ (gs : List (List Instance)). reverse (flat gs)) (λ (g : List Instance). reverse g) groups-reversed
-    (groups_of lists c.list_of-list.result) c.groups-groups.result c.loop-newer.newer [] c.loop-newer.held.items (omega arith) c.loop-newer.invariant
+    c.loop-spot.invariant.1
+    ∙ ap (λ (e : List Instance). reverse e) (flat-oldest (groups_of lists c.list_of-list.result) (upto c.loop-spot.spot) (ap upto c.in_default.is))
     ∙ ap (λ list. reverse (flat (groups_of lists list))) c.list_of-list.ensures
     ∙ ap (λ (chain : List Instance). reverse chain) (chain-lies v lists c.args.seat.0 c.args.spin c.history-log.ensures.legal c.chunks-lists.ensures (omega arith, omega arith))

@@ -1,7 +1,11 @@
-use Rattle.std.proofs.Common.{◌≡◌, ◌-◌, drop, reverse}
-use Rattle.wit_model.specs.Rules.Chunks.{groups_of}
+use Rattle.std.proofs.Common.{◌≡◌, reverse}
 use Rattle.wit_model.specs.Rules.Groups.{flat}
+use Rattle.wit_model.specs.Rules.Chunks.{upto}
+use Rattle.wit_model.proofs.Walking.{IsNext, newer_than}
 use Rattle.wit_report.proofs.held.newest_first.Given as goal
 
-abbrev pub invariant-loop-newer : goal.invariant-loop-newer
-invariant-loop-newer l = l.held.items ≡ reverse (flat (drop (l.groups - l.newer) (groups_of l.lists l.list)))
+abbrev pub invariant-loop-spot : goal.invariant-loop-spot
+invariant-loop-spot l = IsNext l.lists l.list l.spot × (l.held.items ≡ reverse (flat (newer_than l.lists l.list l.spot)))
+
+abbrev pub decreases-loop-spot : goal.decreases-loop-spot
+decreases-loop-spot l = upto l.spot

@@ -2,7 +2,7 @@ use Rattle.std.proofs.Common.{◌≡◌, List, [], length, ap, sym, subst, ◌�
 use Rattle.std.proofs.lemmas.List.{length-replicate}
 use Rattle.wit_model.specs.declared.locks.Instance.{Instance}
 use Rattle.wit_held.specs.Rows.{rows_of, places_of, HaveRoomFor}
-use Rattle.wit_held.proofs.Emptiness.{fresh-shown}
+use Rattle.wit_model.proofs.Rows.Emptiness.{fresh-shown}
 use Rattle.wit_held.proofs.VecRows.{length-contents}
 use Rattle.wit_held.proofs.vec_lists.VecLists.make.Goals as goal
 

@@ -1,10 +1,11 @@
-use Rattle.std.proofs.Common.{◌++◌, ◌∷◌, [], List, ℕ, map, set, not, refl, sym, ap, ap₂, subst, ◌∙◌, arith}
+use Rattle.std.proofs.Common.{◌-◌, ◌++◌, ◌∷◌, [], List, ℕ, map, set, get_or, not, refl, sym, ap, ap₂, subst, ◌∙◌, arith}
 use Rattle.std.proofs.lemmas.List.{append-nil}
 use Rattle.wit_model.specs.declared.locks.Instance.{Instance}
 use Rattle.wit_model.specs.Rules.Chunks.{IsPlaced}
-use Rattle.wit_held.specs.Rows.{row, rows_of, places_of, groups_at, shown, AreSettled}
-use Rattle.wit_held.proofs.Settled.{placed-shown}
-use Rattle.wit_held.proofs.Kept.{the-places, read-chunks, push-leaves, push-room, open-within, open-short, open-space, open-leaves, refused, refused-groups, kept-by}
+use Rattle.wit_model.specs.Rules.Rows.{row, groups_at, shown, AreSettled}
+use Rattle.wit_model.proofs.Rows.Settled.{placed-shown}
+use Rattle.wit_held.specs.Rows.{rows_of, places_of}
+use Rattle.wit_held.proofs.Kept.{the-places, read-chunks, push-leaves, push-room, open-within, open-short, open-space, open-leaves, refused, refused-groups, others-stay, others-apart, kept-by}
 use Rattle.wit_held.proofs.vec_lists.VecListsLists.push.Given.{Over}
 use Rattle.wit_held.proofs.vec_lists.VecListsLists.push.Goals as goal
 
@@ -75,3 +76,14 @@ pub returns-in-None-pop-clause-placed : goal.returns-in-None-pop-clause-placed
 returns-in-None-pop-clause-placed g c =
     subst (λ (unused : List ℕ). IsPlaced (shown (rows_of c.self.inside.chunks.items) (places_of c.self.inside.lists.items) unused)) (c.in-None-pop.ensures.items ∙ append-nil c.pop.new.self.items)
     (placed-shown (rows_of c.self.inside.chunks.items) (places_of c.self.inside.lists.items) c.self.inside.unused.items c.self.invariant.settled.placed)
+
+pub returns-in-Some-clause-others : goal.returns-in-Some-clause-others
+returns-in-Some-clause-others g c = others-stay c.self.inside c.args.self.now c.self.view_is c.self.invariant c.args.list c.requires.list
+
+pub returns-in-Some-pop-clause-others : goal.returns-in-Some-pop-clause-others
+returns-in-Some-pop-clause-others g c =
+    others-apart c.self.inside c.args.self.now c.self.view_is c.self.invariant c.args.list c.requires.list (places_of c.add.new.lists.items)
+    (get_or (places_of c.self.inside.lists.items) (c.args.list - 1) [] ++ c.in-Some-pop.chunk ∷ []) c.add.ensures.places
+
+pub returns-in-None-pop-clause-others : goal.returns-in-None-pop-clause-others
+returns-in-None-pop-clause-others g c = others-stay c.self.inside c.args.self.now c.self.view_is c.self.invariant c.args.list c.requires.list
