@@ -1,4 +1,5 @@
 pub mod First
+pub mod Keeping
 pub mod Links
 pub mod Memory
 pub mod Shifting

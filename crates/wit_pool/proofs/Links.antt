@@ -199,3 +199,8 @@ led-there at cs cs' q next led p there =
 -- a chain begins with a chunk that is there
 pub head-there : (at : Ptr) (cs : List (Option Chunk)) (n : ℕ) (h : Option Next) (l : Next) → IsChain at cs n h → h ≡ Some l → IsAt at cs l
 head-there at cs n h l is e = (first at cs n l (subst (IsChain at cs n) e is)).1
+
+-- no chunk is left where a chain leads nowhere
+pub none-left : (at : Ptr) (cs : List (Option Chunk)) (n : ℕ) (h : Option Next) → IsChain at cs n h → h ≡ None → n ≡ 0
+none-left at cs zero h is e = refl
+none-left at cs (suc n) h is e = absurd (subst (IsChain at cs (suc n)) e is)
