@@ -1,5 +1,5 @@
 -- The first chunks of a block, linked one after another.
-use Rattle.std.proofs.Common.{◌≡◌, ℕ, zero, suc, ◌+◌, ◌<◌, ◌≤◌, cond, nat_lt, List, [], ◌∷◌, ◌++◌, length, replicate, set, get_or, None, Some, refl, ap, ap₂, sym, ◌∙◌, subst, inl, inr, arith}
+use Rattle.std.proofs.Common.{◌≡◌, ℕ, zero, suc, ◌+◌, ◌<◌, ◌≤◌, nat_lt, List, [], ◌∷◌, ◌++◌, length, replicate, set, None, Some, refl, ap, ap₂, sym, ◌∙◌, subst, inl, inr, arith}
 use Rattle.std.specs.Prelude.{Option}
 use Rattle.std.specs.List.{range_with_len}
 use Rattle.std.proofs.lemmas.Bool.{cases_eq, cond-false, le-ltb}
@@ -10,7 +10,7 @@ use Rattle.wit_model.specs.Rules.Chunks.{times}
 use Rattle.wit_model.proofs.Rows.Emptiness.{range-more, fresh-settled}
 use Rattle.wit_pool.specs.declared.chunk.Next.{Next}
 use Rattle.wit_pool.specs.declared.chunk.Chunk.{Chunk}
-use Rattle.wit_pool.specs.Chunks.{chunk_at, content, next_of, rows_in, Leads, IsAt}
+use Rattle.wit_pool.specs.Chunks.{chunk_at, content, next_of, rows_in, Leads}
 use Rattle.wit_pool.proofs.Links.{Runs, longer, same-chain, read-here, read-other, still-there}
 
 -- all chunks are empty, and the first k are linked

@@ -1,16 +1,16 @@
 -- What is kept, and what a call leaves.
-use Rattle.std.proofs.Common.{◌≡◌, ℕ, zero, suc, ◌+◌, ◌-◌, ◌^◌, ◌<◌, ◌≤◌, true, false, not, List, [], ◌∷◌, ◌++◌, length, map, take, replicate, set, get_or, None, Some, is_some, slice_get, refl, ap, ap₂, sym, ◌∙◌, subst, ◌⊎◌, inl, inr, arith}
+use Rattle.std.proofs.Common.{◌≡◌, ℕ, zero, suc, ◌+◌, ◌-◌, ◌^◌, ◌<◌, ◌≤◌, List, [], ◌∷◌, ◌++◌, length, map, take, replicate, set, get_or, None, Some, slice_get, refl, ap, ap₂, sym, ◌∙◌, subst, arith}
 use Rattle.std.specs.Prelude.{Option}
-use Rattle.std.specs.List.{remove, concat, All}
-use Rattle.std.proofs.lemmas.List.{length-map, length-append, length-set, get_or-map}
+use Rattle.std.specs.List.{All}
+use Rattle.std.proofs.lemmas.List.{length-map, length-append, get_or-map}
 use Rattle.std.proofs.lemmas.List.Elements.{All-replicate}
 use Rattle.std.proofs.lemmas.Option.{slice_get_within, slice_get_past, get_or_from_slice_get}
 use Rattle.wit_model.specs.declared.locks.Instance.{Instance}
 use Rattle.wit_model.specs.declared.chunks.Spot.{Spot}
-use Rattle.wit_model.specs.Rules.Groups.{flat, replaced_in, removed_in}
-use Rattle.wit_model.specs.Rules.Chunks.{Chunks, IsList, IsSpot, IsPlaced, KeepOthers, StandsIn, groups_of, group_of, set_groups, times}
-use Rattle.wit_model.specs.Rules.Rows.{row, groups_at, shown, AreSettled}
-use Rattle.wit_model.proofs.Rows.Placing.{IsTaken, taken, times-append, times-in, times-list, times-remove}
+use Rattle.wit_model.specs.Rules.Groups.{flat, replaced_in}
+use Rattle.wit_model.specs.Rules.Chunks.{Chunks, IsList, IsSpot, IsPlaced, StandsIn, groups_of, group_of, set_groups}
+use Rattle.wit_model.specs.Rules.Rows.{row, groups_at, AreSettled}
+use Rattle.wit_model.proofs.Rows.Placing.{IsTaken, taken}
 use Rattle.wit_model.proofs.Rows.Settled as Settled
 use Rattle.wit_model.proofs.Rows.Settled.{Leaves, list-within, groups-shown, placed-shown, chain-fits}
 use denote.RawPtr.{Ptr}
@@ -19,10 +19,10 @@ use Rattle.wit_pool.specs.declared.chunk.Next.{Next}
 use Rattle.wit_pool.specs.declared.chunk.Chunk.{Chunk}
 use Rattle.wit_pool.specs.declared.chain.Chain.{Chain}
 use Rattle.wit_pool.specs.declared.pool.Pool.TheInside.{Inside}
-use Rattle.wit_pool.specs.Chunks.{chunk_at, content, next_of, rows_in, Leads, IsAt, IsThere, IsRegrouped}
+use Rattle.wit_pool.specs.Chunks.{chunk_at, content, next_of, Leads, IsAt}
 use Rattle.wit_pool.specs.Chains.{places, chunks_of, IsChain, IsLinked, Stands}
 use Rattle.wit_pool.specs.Kept.{rows_of, lists_of, free_of, chunks_in, AreKept}
-use Rattle.wit_pool.proofs.Links.{Runs, Stood, stood, first, none-left, length-places}
+use Rattle.wit_pool.proofs.Links.{Stood, stood, first, none-left, length-places}
 use Rattle.wit_pool.proofs.Standing as Standing
 
 module _ {A : Type 0} (v : Inside A) (shows : Chunks) (is : chunks_in v ≡ shows) (kept : AreKept v) where
@@ -70,8 +70,14 @@ module _ {A : Type 0} (v : Inside A) (shows : Chunks) (is : chunks_in v ≡ show
 
     pub few : (d : Chain) → (get_or v.chains.items (list - 1) d).count ≤ 65536
     few d =
-        omega (arith, length-places v.cells.at v.cells.slots (get_or v.chains.items (list - 1) d).count (get_or v.chains.items (list - 1) d).head (linked d),
-        ap length (list-is d), Settled.list-short (lists_of v) (list - 1), kept.settled.placed.all, kept.settled.few)
+        omega (
+          arith,
+          length-places v.cells.at v.cells.slots (get_or v.chains.items (list - 1) d).count (get_or v.chains.items (list - 1) d).head (linked d),
+          ap length (list-is d),
+          Settled.list-short (lists_of v) (list - 1),
+          kept.settled.placed.all,
+          kept.settled.few,
+        )
 
     module _ (s : Spot) (at : IsSpot shows list s) where
       pub stands-in : StandsIn (get_or (lists_of v) (list - 1) []) s

@@ -1,5 +1,5 @@
 -- Chains of chunks: their lengths and parts, and what a chunk that leads elsewhere makes of them.
-use Rattle.std.proofs.Common.{◌≡◌, ℕ, zero, suc, ◌+◌, ◌-◌, ◌<◌, ◌≤◌, eqb, List, [], ◌∷◌, ◌++◌, length, take, drop, set, None, Some, is_some, slice_get, refl, ap, ap₂, sym, ◌∙◌, subst, inl, inr, arith}
+use Rattle.std.proofs.Common.{◌≡◌, ℕ, zero, suc, ◌+◌, ◌-◌, ◌<◌, ◌≤◌, eqb, List, [], ◌∷◌, ◌++◌, length, take, drop, set, None, Some, is_some, slice_get, refl, ap, sym, ◌∙◌, subst, inl, inr, arith}
 use Rattle.std.specs.Prelude.{Option}
 use Rattle.std.specs.List.{remove}
 use Rattle.std.specs.Option.{unwrap_or}
@@ -41,18 +41,22 @@ module _ (at : Ptr) (cs : List (Option Chunk)) where
   first zero l is = absurd (true≢false (ap is_some is))
   first (suc n) l is =
       let next : Option Next = next_of (chunk_at cs l.place) in
-      let less : suc n - 1 ≡ n = omega arith in
-      (omega arith, is.0, ap (λ k. places cs k next ++ l.place ∷ []) (sym less),
-          subst (λ k. IsChain at cs k next) (sym less) is.1)
+      let less : suc n - 1 ≡ n = omega arith in (
+        omega arith,
+        is.0,
+        ap (λ k. places cs k next ++ l.place ∷ []) (sym less),
+        subst (λ k. IsChain at cs k next) (sym less) is.1,
+      )
 
   -- a chunk that leads to where a chain begins makes the chain longer
   pub longer : (n : ℕ) (h : Option Next) (ps : List ℕ) (l : Next) → Runs at cs n h ps → IsAt at cs l
       → next_of (chunk_at cs l.place) ≡ h → Runs at cs (n + 1) (Some l) (ps ++ l.place ∷ [])
   longer n h ps l runs is e =
       let more : n + 1 ≡ suc n = omega arith in
-      subst (λ k. Runs at cs k (Some l) (ps ++ l.place ∷ [])) (sym more)
-      (ap (λ g. places cs n g ++ l.place ∷ []) e ∙ ap (λ qs. qs ++ l.place ∷ []) runs.0,
-          (is, subst (IsChain at cs n) (sym e) runs.1))
+      subst (λ k. Runs at cs k (Some l) (ps ++ l.place ∷ [])) (sym more) (
+        ap (λ g. places cs n g ++ l.place ∷ []) e ∙ ap (λ qs. qs ++ l.place ∷ []) runs.0,
+        (is, subst (IsChain at cs n) (sym e) runs.1),
+      )
 
   -- the k-th chunk of a chain, counted from the last, has the place p
   pub record Stood (n : ℕ) (h : Option Next) (k p : ℕ) : Type 0 where
@@ -105,9 +109,10 @@ module _ (at : Ptr) (cs cs' : List (Option Chunk)) (keeps : (l : Next) → IsAt 
       let ps : List ℕ = places cs n next in
       let here : next_of (chunk_at cs' l.place) ≡ next = same l.place (omega (arith, times-end l.place ps)) in
       let rest : Runs at cs' n next ps =
-      same-chain n next is.1 (λ q some. same q (omega (arith, some, times-append q ps (l.place ∷ [])))) in
-      (ap (λ g. places cs' n g ++ l.place ∷ []) here ∙ ap (λ qs. qs ++ l.place ∷ []) rest.0,
-          (keeps l is.0, subst (IsChain at cs' n) (sym here) rest.1))
+      same-chain n next is.1 (λ q some. same q (omega (arith, some, times-append q ps (l.place ∷ [])))) in (
+        ap (λ g. places cs' n g ++ l.place ∷ []) here ∙ ap (λ qs. qs ++ l.place ∷ []) rest.0,
+        (keeps l is.0, subst (IsChain at cs' n) (sym here) rest.1),
+      )
 
   -- the chunk q, newer by one than the chunk p, leads past it
   module _ (p q : ℕ) (past : next_of (chunk_at cs' q) ≡ next_of (chunk_at cs p))
@@ -139,8 +144,13 @@ module _ (at : Ptr) (cs cs' : List (Option Chunk)) (keeps : (l : Next) → IsAt 
               subst (λ s. 1 ≤ times s ps) (get_or_from_slice_get ps (k + 1) q 0 there)
               (times-in ps (k + 1) 0 (omega (arith, long, inside))) in
               let other : l.place ≡ q → ⊥ =
-              λ is_q. absurd (omega (arith, once, some, subst (λ s. times s (ps ++ s ∷ []) ≡ times s ps + 1) is_q (times-end l.place ps),
-              ap (λ s. times q (ps ++ s ∷ [])) is_q)) in
+              λ is_q. absurd (omega (
+                arith,
+                once,
+                some,
+                subst (λ s. times s (ps ++ s ∷ []) ≡ times s ps + 1) is_q (times-end l.place ps),
+                ap (λ s. times q (ps ++ s ∷ [])) is_q,
+              )) in
               let rest : Runs at cs' (n - 1) next (remove ps k) =
               unlinked n next is.1 k here there (omega (arith, once, times-append q ps (l.place ∷ []))) in
               let leads : next_of (chunk_at cs' l.place) ≡ next = same l.place other in
@@ -151,8 +161,12 @@ module _ (at : Ptr) (cs cs' : List (Option Chunk)) (keeps : (l : Next) → IsAt 
               let is_q : l.place ≡ q =
               ap (λ o. unwrap_or o 0) (sym (slice_get-last ps l.place (k + 1) (omega (arith, all, long))) ∙ f) in
               let none : times q ps ≡ 0 =
-              omega (arith, once, subst (λ s. times s (ps ++ s ∷ []) ≡ times s ps + 1) is_q (times-end l.place ps),
-              ap (λ s. times q (ps ++ s ∷ [])) is_q) in
+              omega (
+                arith,
+                once,
+                subst (λ s. times s (ps ++ s ∷ []) ≡ times s ps + 1) is_q (times-end l.place ps),
+                ap (λ s. times q (ps ++ s ∷ [])) is_q,
+              ) in
               let old : Stood at cs n next k p = stood at cs n next is.1 k p here in
               let none_older : times q (places cs k (next_of (chunk_at cs p))) ≡ 0 =
               ap (times q) old.older.0

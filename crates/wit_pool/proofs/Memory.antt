@@ -12,14 +12,14 @@ use base.Fraction.{full_share}
 use mir.Syntax.{ty_array}
 use mir.Val.{Val, vstruct, vcons, vnil, of_list}
 use base.Logic.{ent, emp, id⊢, via}
-use base.Fml.{ftrue, fsep, fat, froom}
+use base.Fml.{fat, froom}
 use types.Logic.{Logic, sem}
-use types.Kit.{Item, Goal, Seq, ‵, ◌⊛◌, some, given, ◌$◌, ◌∵◌, !, qed, by, move, keep, drop as skip, use1, pick, learn, split, fsplit, fjoin, fpick, feq_l, done}
+use types.Kit.{Item, Goal, Seq, ‵, ◌⊛◌, some, given, ◌$◌, ◌∵◌, !, qed, move, keep, drop as skip, use1, pick, learn, split, fsplit, fjoin, fpick, feq_l, done}
 use denote.RattleType.{RattleType}
 use denote.Shadow.{makes_shadow}
 use denote.Struct.Struct.{Struct}
 use denote.Struct.Owning.{shape}
-use Rattle.std.specs.Prelude.{Option, Some, None}
+use Rattle.std.specs.Prelude.{Some, None}
 use Rattle.std.specs.Mem.{type_size}
 use Rattle.core.proofs.mem.Param.{El, R, elτ}
 use Rattle.std_alloc.proofs.RcSteps.{Good}

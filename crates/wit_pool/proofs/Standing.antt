@@ -1,20 +1,19 @@
 -- What a block's chunks and links stand for, once a chunk holds other locks, or a list or the free chunks have one more or less.
-use Rattle.std.proofs.Common.{◌≡◌, ℕ, zero, suc, ◌+◌, ◌-◌, ◌<◌, ◌≤◌, List, [], ◌∷◌, ◌++◌, length, map, take, drop, set, get_or, None, Some, slice_get, refl, ap, ap₂, sym, ◌∙◌, subst, inl, inr, arith}
+use Rattle.std.proofs.Common.{◌≡◌, ℕ, zero, suc, ◌+◌, ◌-◌, ◌<◌, ◌≤◌, List, [], ◌∷◌, length, map, set, get_or, None, Some, slice_get, refl, ap, ap₂, sym, ◌∙◌, subst, inl, inr, arith}
 use Rattle.std.specs.Prelude.{Option}
 use Rattle.std.specs.List.{remove, concat, All}
-use Rattle.std.proofs.lemmas.Bool.{cases_lt, cases_eq}
-use Rattle.std.proofs.lemmas.List.{length-append, length-set, length-map, get_or-map, map-set, set-get_or, get_or-set_same, get_or-set_other, get_or_past, append-nil, drop_all}
-use Rattle.std.proofs.lemmas.List.Edits.{remove-append_left, remove-append_right}
+use Rattle.std.proofs.lemmas.Bool.{cases_eq}
+use Rattle.std.proofs.lemmas.List.{length-set, length-map, get_or-map, map-set, set-get_or, get_or-set_same, get_or-set_other}
 use denote.RawPtr.{Ptr}
 use Rattle.wit_model.specs.declared.locks.Instance.{Instance}
 use Rattle.wit_model.specs.Rules.Chunks.{times}
-use Rattle.wit_model.proofs.Rows.Placing.{times-append, times-in, times-list}
+use Rattle.wit_model.proofs.Rows.Placing.{times-append, times-list}
 use Rattle.wit_pool.specs.declared.chunk.Next.{Next}
 use Rattle.wit_pool.specs.declared.chunk.Chunk.{Chunk}
 use Rattle.wit_pool.specs.declared.chain.Chain.{Chain}
 use Rattle.wit_pool.specs.Chunks.{held_in, chunk_at, content, next_of, rows_in, IsAt, IsRegrouped, IsLed}
-use Rattle.wit_pool.specs.Chains.{places, chunks_of, IsChain, IsLinked, Stands}
-use Rattle.wit_pool.proofs.Links.{Runs, first, longer, same-chain, unlinked, within, read-here, read-other, still-there, times-end}
+use Rattle.wit_pool.specs.Chains.{chunks_of, IsLinked, Stands}
+use Rattle.wit_pool.proofs.Links.{Runs, same-chain, unlinked, within, read-here, read-other, still-there}
 
 chain : Option Next → ℕ → Chain
 chain h n = record { head = h; count = n }
@@ -80,8 +79,11 @@ module _ (at : Ptr) (cs : List (Option Chunk)) (chains : List Chain) (free : Cha
   same-all cs' keeps same rows' e =
       let runs : (j : ℕ) (d : Chain) → j < length chains → Runs at cs' (get_or chains j d).count (get_or chains j d).head (chunks_of cs (get_or chains j d)) =
       λ j d lt. same-chain at cs cs' keeps (get_or chains j d).count (get_or chains j d).head (s.linked j d lt)
-      (λ q some. same q (omega (arith, times-list q lists j (omega (arith, lt, length-lists)),
-      subst (λ ps. 1 ≤ times q ps) (sym (list-at j d lt)) some))) in
+      (λ q some. same q (omega (
+        arith,
+        times-list q lists j (omega (arith, lt, length-lists)),
+        subst (λ ps. 1 ≤ times q ps) (sym (list-at j d lt)) some,
+      ))) in
       let spare : Runs at cs' free.count free.head (chunks_of cs free) =
       same-chain at cs cs' keeps free.count free.head s.spare
       (λ q some. same q (omega (arith, subst (λ ps. 1 ≤ times q ps) s.unused some))) in
@@ -124,8 +126,12 @@ module _ (at : Ptr) (cs : List (Option Chunk)) (chains : List Chain) (free : Cha
       let x : Chunk = record { next = next; group = put.was.group } in
       subst (λ ds. Stands at ds chains free rows lists unused) (sym put.now)
       (same-all (set cs p (Some x)) (still-there at cs p x (within cs p put.was put.there))
-      (λ q some. ap next_of (read-other at cs p x (within cs p put.was put.there) q (λ e. absurd (omega (arith, no_list, not_free,
-      subst (λ r. 1 ≤ times r (concat lists) + times r unused) e some)))))
+      (λ q some. ap next_of (read-other at cs p x (within cs p put.was put.there) q (λ e. absurd (omega (
+        arith,
+        no_list,
+        not_free,
+        subst (λ r. 1 ≤ times r (concat lists) + times r unused) e some,
+      )))))
       rows (rows-led p put.was next put.there))
 
   -- one list has other chunks
@@ -175,15 +181,20 @@ module _ (at : Ptr) (cs : List (Option Chunk)) (chains : List Chain) (free : Cha
       (subst (λ qs. slice_get qs i ≡ Some p) e at_p) (subst (λ qs. slice_get qs (i + 1) ≡ Some q) e at_q)
       (subst (λ qs. times q qs ≤ 1) e most)) in
       let others : (j : ℕ) (d' : Chain) → j < length chains → (j ≡ k → ⊥)
-          → Runs at ds (get_or chains j d').count (get_or chains j d').head (chunks_of cs (get_or chains j d')) =
+      → Runs at ds (get_or chains j d').count (get_or chains j d').head (chunks_of cs (get_or chains j d')) =
       λ j d' in_all other. same-chain at cs ds keeps (get_or chains j d').count (get_or chains j d').head (s.linked j d' in_all)
-      (λ r there. same r (λ is_q. absurd (omega (arith,
-      elsewhere q lists k j in_lists (omega (arith, in_all, length-lists)) other once some,
-      subst (λ v. 1 ≤ times v (get_or lists j [])) is_q (subst (λ qs. 1 ≤ times r qs) (sym (list-at j d' in_all)) there))))) in
+      (λ r there. same r (λ is_q. absurd (omega (
+        arith,
+        elsewhere q lists k j in_lists (omega (arith, in_all, length-lists)) other once some,
+        subst (λ v. 1 ≤ times v (get_or lists j [])) is_q (subst (λ qs. 1 ≤ times r qs) (sym (list-at j d' in_all)) there),
+      )))) in
       let spare : Runs at ds free.count free.head (chunks_of cs free) =
       same-chain at cs ds keeps free.count free.head s.spare
-      (λ r there. same r (λ is_q. absurd (omega (arith, not_free,
-      subst (λ v. 1 ≤ times v unused) is_q (subst (λ qs. 1 ≤ times r qs) s.unused there))))) in
+      (λ r there. same r (λ is_q. absurd (omega (
+        arith,
+        not_free,
+        subst (λ v. 1 ≤ times v unused) is_q (subst (λ qs. 1 ≤ times r qs) s.unused there),
+      )))) in
       let c' : Chain = record { head = c.head; count = c.count - 1 } in
       subst (λ es. Stands at es (set chains k c') free rows (set lists k (remove ps i)) unused) (sym put.now)
       (record {

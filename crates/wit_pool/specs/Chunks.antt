@@ -1,5 +1,5 @@
 -- What the places of a block hold: chunks, each with its locks and a link to the next one.
-use Rattle.std.specs.Prelude.{◌≡◌, ℕ, ◌<◌, List, [], map, length, take, get_or, slice_set, Option, None, Some}
+use Rattle.std.specs.Prelude.{◌≡◌, ℕ, List, [], map, take, get_or, slice_set, Option, None, Some}
 use denote.RawPtr.{Ptr}
 use Rattle.wit_model.specs.declared.locks.Instance.{Instance}
 use Rattle.wit_pool.specs.Places.{spot, spot_at}

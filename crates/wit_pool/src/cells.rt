@@ -109,7 +109,11 @@ pub(crate) fn deallocate<T, A: Allocator>(
     let Cells { mark: _ } = cells;
     let Deed { mark: _ } = deed;
     unsafe {
-        alloc.deallocate(first.ptr as *mut u8, count * size_of::<T>(), align_of::<T>());
+        alloc.deallocate(
+            first.ptr as *mut u8,
+            count * size_of::<T>(),
+            align_of::<T>(),
+        );
     }
 }
 

@@ -45,21 +45,20 @@ pub fn open_chunk(cells: &Cells<Chunk>, chain: Chain) -> Option<Next>
     ensures short { IfSome result (λ at. length (content (chunk_at cells.now.slots at.place)) < 5) }
     ensures full { result ≡ None → IfSome chain.head (λ at. 5 ≤ length (content (chunk_at cells.now.slots at.place))) }
 {
-    let at = chain.head?;
-    if read(cells, at).group.len() < CHUNK {
-        Some(at)
-    } else {
-        None
+    match chain.head {
+        Some(at) => {
+            if read(cells, at).group.len() < CHUNK {
+                Some(at)
+            } else {
+                None
+            }
+        }
+        None => None,
     }
 }
 
 /// The first free chunk becomes the newest of a list: that list, and the free ones.
-pub fn take_free(
-    cells: &mut Cells<Chunk>,
-    at: Next,
-    chain: Chain,
-    free: Chain,
-) -> (Chain, Chain)
+pub fn take_free(cells: &mut Cells<Chunk>, at: Next, chain: Chain, free: Chain) -> (Chain, Chain)
     requires there { IsAt cells.old.at cells.old.slots at }
     requires few { chain.count ≤ 65536 }
     requires some { 1 ≤ free.count }

@@ -68,11 +68,16 @@ module _ (E : El) (Z : Al) where
   Dd = Deeds.the_row (R E) (P E Z) Z.g
 
   abbrev stayed : Stays ended.signature.params ended.kept
-  stayed =
-      (stay_dropped (RefOf (0 ∷ []) tt (plain (λ _. P E Z)) (λ _. tt)) yes,
-          (stay_dropped (plain (λ _. Lk E)) no,
-              (stay_dropped (plain (λ _. usize)) yes,
-                  (stay_dropped (plain (λ _. Cr E)) no, (stay_dropped (plain (λ _. Dd)) no, tt)))))
+  stayed = (
+    stay_dropped (RefOf (0 ∷ []) tt (plain (λ _. P E Z)) (λ _. tt)) yes,
+    (
+      stay_dropped (plain (λ _. Lk E)) no,
+      (
+        stay_dropped (plain (λ _. usize)) yes,
+        (stay_dropped (plain (λ _. Cr E)) no, (stay_dropped (plain (λ _. Dd)) no, tt)),
+      ),
+    ),
+  )
 
   abbrev Asks : Z.row.Denot → (Lk E).Denot → ℕ → (Cr E).Denot → Dd.Denot → Type 0
   Asks a base n cells deed =
@@ -92,9 +97,16 @@ module _ (E : El) (Z : Al) {M : Type 1} {𝓤 : Ura M} (𝓛 : Logic 𝓤) (at_m
   others = ‵ (flft κ₁ q₁) ⊛ ‵ (flft κ₂ q₂) ⊛ ‵ ftrue
 
   abbrev bound : (walk_of 𝓛 (ended E Z) (stayed E Z) (clauses E Z 𝓛 at_mem run)).Ghost
-  bound =
-      (((κ, (κ₁, (κ₂, tt))), (q, (q₁, (q₂, tt))), (short, tt), (self, (base, (n, (cells, (deed, tt))))),
-          (us0, (us1, (us2, (us3, (us4, tt)))))), tt)
+  bound = (
+    (
+      (κ, (κ₁, (κ₂, tt))),
+      (q, (q₁, (q₂, tt))),
+      (short, tt),
+      (self, (base, (n, (cells, (deed, tt))))),
+      (us0, (us1, (us2, (us3, (us4, tt))))),
+    ),
+    tt,
+  )
 
   abbrev Post : Val → SProp 𝓤
   Post = (walk_of 𝓛 (ended E Z) (stayed E Z) (clauses E Z 𝓛 at_mem run)).post bound
@@ -169,12 +181,19 @@ meets : (E : El) (Z : Al) {M : Type 1} {𝓤 : Ura M} (𝓛 : Logic 𝓤) (at_me
     (𝓣 : Tables 𝓤 𝓛.H) → Triple 𝓤 (𝓣.C (gives_key Z)) (Gives Z 𝓛 at_mem run)
     → Meets 𝓛 (ended E Z).signature (WpFn 𝓤 𝓛.H 𝓣.C 𝓣.Λ (function E Z)) (closing 𝓛 (ended E Z) (clauses E Z 𝓛 at_mem run))
 meets E Z {𝓤 = 𝓤} 𝓛 at_mem run 𝓣 callee =
-    walk_Meets 𝓛 (ended E Z) (stayed E Z)
-    (Goes-dropped 𝓛 3 (RefOf (0 ∷ []) tt (plain (λ _. P E Z)) (λ _. tt)) yes (λ κs x f. refl),
-        (Goes-dropped 𝓛 3 (plain (λ _. Lk E)) no (λ κs x f. refl),
-            (Goes-dropped 𝓛 3 (plain (λ _. usize)) yes (λ κs x f. refl),
-                (Goes-blank 𝓛 3 (plain (λ _. Cr E)) no (λ κs x f. tt),
-                    (Goes-blank 𝓛 3 (plain (λ _. Dd E Z)) no (λ κs x f. tt), tt)))))
+    walk_Meets 𝓛 (ended E Z) (stayed E Z) (
+      Goes-dropped 𝓛 3 (RefOf (0 ∷ []) tt (plain (λ _. P E Z)) (λ _. tt)) yes (λ κs x f. refl),
+      (
+        Goes-dropped 𝓛 3 (plain (λ _. Lk E)) no (λ κs x f. refl),
+        (
+          Goes-dropped 𝓛 3 (plain (λ _. usize)) yes (λ κs x f. refl),
+          (
+            Goes-blank 𝓛 3 (plain (λ _. Cr E)) no (λ κs x f. tt),
+            (Goes-blank 𝓛 3 (plain (λ _. Dd E Z)) no (λ κs x f. tt), tt),
+          ),
+        ),
+      ),
+    )
     (clauses E Z 𝓛 at_mem run) (WpFn 𝓤 𝓛.H 𝓣.C 𝓣.Λ (function E Z)) (WpFn-mono 𝓤 𝓛.H 𝓛.laws 𝓣 (function E Z))
     (λ z. let κs = z.0.0 in let qs = z.0.1 in let a = z.0.3 in let vss = z.0.4 in
     let On : SProp 𝓤 = on_entry 𝓛 (ended E Z).signature κs qs a vss in

@@ -1,4 +1,4 @@
-use Rattle.std.proofs.Common.{◌≡◌, ◌≤◌}
+use Rattle.std.proofs.Common.{◌≡◌}
 use Rattle.wit_pool.proofs.First.{AreFirst}
 use Rattle.wit_pool.proofs.chain.link_all.Given as goal
 

@@ -8,9 +8,10 @@ pub get-requires : goal.get-requires
 unfolding spot
 get-requires c =
     let at = c.args.cells.now.at in
-    let e : spot the_row at c.link.result.ptr ≡ c.args.at.place = ap (spot the_row at) c.link.ensures ∙ c.requires.leads.number in
-    (c.link.ensures ∙ c.requires.leads.address ∙ ap (spot_at the_row at) (sym e),
-        (c.requires.chunk, ap (chunk_at c.args.cells.now.slots) e ∙ c.requires.there))
+    let e : spot the_row at c.link.result.ptr ≡ c.args.at.place = ap (spot the_row at) c.link.ensures ∙ c.requires.leads.number in (
+      c.link.ensures ∙ c.requires.leads.address ∙ ap (spot_at the_row at) (sym e),
+      (c.requires.chunk, ap (chunk_at c.args.cells.now.slots) e ∙ c.requires.there),
+    )
 
 pub returns : goal.returns
 unfolding spot

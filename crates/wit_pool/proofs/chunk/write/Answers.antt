@@ -7,9 +7,10 @@ pub put-requires : goal.put-requires
 unfolding spot
 put-requires c =
     let at = c.args.cells.now.at in
-    let e : spot the_row at c.link.result.ptr ≡ c.args.at.place = ap (spot the_row at) c.link.ensures ∙ c.requires.leads.number in
-    (c.link.ensures ∙ c.requires.leads.address ∙ ap (spot_at the_row at) (sym e),
-        subst (λ k. k < length c.args.cells.now.slots) (sym e) c.requires.place)
+    let e : spot the_row at c.link.result.ptr ≡ c.args.at.place = ap (spot the_row at) c.link.ensures ∙ c.requires.leads.number in (
+      c.link.ensures ∙ c.requires.leads.address ∙ ap (spot_at the_row at) (sym e),
+      subst (λ k. k < length c.args.cells.now.slots) (sym e) c.requires.place,
+    )
 
 pub returns-clause-slots : goal.returns-clause-slots
 unfolding spot

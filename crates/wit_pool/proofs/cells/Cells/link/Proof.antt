@@ -66,9 +66,10 @@ module _ (E : El) where
   }
 
   abbrev stayed : Stays ended.signature.params ended.kept
-  stayed =
-      (stay_dropped (RefOf (0 ∷ []) tt (plain (λ _. Cr E)) (λ _. tt)) yes,
-          (stay_dropped (plain (λ _. Lk E)) no, (stay_dropped (plain (λ _. usize)) no, tt)))
+  stayed = (
+    stay_dropped (RefOf (0 ∷ []) tt (plain (λ _. Cr E)) (λ _. tt)) yes,
+    (stay_dropped (plain (λ _. Lk E)) no, (stay_dropped (plain (λ _. usize)) no, tt)),
+  )
 
   abbrev Asks : (Cr E).Denot → (Lk E).Denot → ℕ → Type 0
   Asks c base place = (base.ptr ≡ c.at) × (place < length c.slots)
@@ -148,10 +149,13 @@ module _ (E : El) {M : Type 1} {𝓤 : Ura M} (𝓛 : Logic 𝓤) (C : Calls �
 meets : (E : El) {M : Type 1} {𝓤 : Ura M} (𝓛 : Logic 𝓤) (𝓣 : Tables 𝓤 𝓛.H)
     → Meets 𝓛 (ended E).signature (WpFn 𝓤 𝓛.H 𝓣.C 𝓣.Λ (function E)) (closing 𝓛 (ended E) (spec E 𝓛))
 meets E {𝓤 = 𝓤} 𝓛 𝓣 =
-    walk_Meets 𝓛 (ended E) (stayed E)
-    (Goes-dropped 𝓛 1 (RefOf (0 ∷ []) tt (plain (λ _. Cr E)) (λ _. tt)) yes (λ κs x f. refl),
-        (Goes-dropped 𝓛 1 (plain (λ _. Lk E)) no (λ κs x f. refl),
-            (Goes-dropped 𝓛 1 (plain (λ _. usize)) no (λ κs x f. refl), tt)))
+    walk_Meets 𝓛 (ended E) (stayed E) (
+      Goes-dropped 𝓛 1 (RefOf (0 ∷ []) tt (plain (λ _. Cr E)) (λ _. tt)) yes (λ κs x f. refl),
+      (
+        Goes-dropped 𝓛 1 (plain (λ _. Lk E)) no (λ κs x f. refl),
+        (Goes-dropped 𝓛 1 (plain (λ _. usize)) no (λ κs x f. refl), tt),
+      ),
+    )
     (spec E 𝓛) (WpFn 𝓤 𝓛.H 𝓣.C 𝓣.Λ (function E)) (WpFn-mono 𝓤 𝓛.H 𝓛.laws 𝓣 (function E))
     (λ z. let a = z.0.3 in let vss = z.0.4 in
     needs 𝓤 (Asks E a.0.now a.1.0 a.1.1.0) _

@@ -1,7 +1,6 @@
 -- `put` forgets what the linked place held, and stores a value there. Assumes `Logic`.
 use mathlib.Core.Path.{◌≡◌, refl, sym, ap, subst, ◌∙◌}
 use Prim.Native.Nat.{ℕ, ◌+◌, ◌*◌, ◌<◌, ◌^◌}
-use native.Mathlib.Omega.{arith}
 use mathlib.Core.List.{List, [], ◌∷◌, ◌++◌}
 use lib.ListN.{length, set, get_or, length-set}
 use seplogic.Ra.Ura.{Ura}
@@ -65,9 +64,10 @@ module _ (E : El) where
   }
 
   abbrev stayed : Stays ended.signature.params ended.kept
-  stayed =
-      (stay_ref (0 ∷ []) tt (plain (λ _. Cr E)),
-          (stay_dropped (plain (λ _. Lk E)) no, (stay_dropped (plain (λ _. R E)) no, tt)))
+  stayed = (
+    stay_ref (0 ∷ []) tt (plain (λ _. Cr E)),
+    (stay_dropped (plain (λ _. Lk E)) no, (stay_dropped (plain (λ _. R E)) no, tt)),
+  )
 
   abbrev Asks : (Cr E).Denot → (Lk E).Denot → Type 0
   Asks c link = IsPlace (R E) c.at c.slots link.ptr
@@ -160,10 +160,13 @@ module _ (E : El) {M : Type 1} {𝓤 : Ura M} (𝓛 : Logic 𝓤) (C : Calls �
 meets : (E : El) {M : Type 1} {𝓤 : Ura M} (𝓛 : Logic 𝓤) (𝓣 : Tables 𝓤 𝓛.H)
     → Meets 𝓛 (ended E).signature (WpFn 𝓤 𝓛.H 𝓣.C 𝓣.Λ (function E)) (closing 𝓛 (ended E) (spec E 𝓛))
 meets E {𝓤 = 𝓤} 𝓛 𝓣 =
-    walk_Meets 𝓛 (ended E) (stayed E)
-    (Goes-ref 𝓛 1 0 tt (plain (λ _. Cr E)),
-        (Goes-dropped 𝓛 1 (plain (λ _. Lk E)) no (λ κs x f. refl),
-            (Goes-dropped 𝓛 1 (plain (λ _. R E)) no (λ κs x f. refl), tt)))
+    walk_Meets 𝓛 (ended E) (stayed E) (
+      Goes-ref 𝓛 1 0 tt (plain (λ _. Cr E)),
+      (
+        Goes-dropped 𝓛 1 (plain (λ _. Lk E)) no (λ κs x f. refl),
+        (Goes-dropped 𝓛 1 (plain (λ _. R E)) no (λ κs x f. refl), tt),
+      ),
+    )
     (spec E 𝓛) (WpFn 𝓤 𝓛.H 𝓣.C 𝓣.Λ (function E)) (WpFn-mono 𝓤 𝓛.H 𝓛.laws 𝓣 (function E))
     (λ z. let a = z.0.3 in let vss = z.0.4 in
     needs 𝓤 (Asks E a.0.now a.1.0) _

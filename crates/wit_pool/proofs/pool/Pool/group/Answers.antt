@@ -1,5 +1,5 @@
-use Rattle.std.proofs.Common.{ap, sym, subst, ◌∙◌, ◌<◌, length}
-use Rattle.wit_pool.specs.Chunks.{Leads, chunk_at, content}
+use Rattle.std.proofs.Common.{ap, sym, ◌∙◌}
+use Rattle.wit_pool.specs.Chunks.{chunk_at, content}
 use Rattle.wit_pool.proofs.Keeping.{chunk-within, is-at, group-is}
 use Rattle.wit_pool.proofs.pool.Pool.group.Goals as goal
 

@@ -26,5 +26,8 @@ returns-in-None-clause-before g c =
 
 pub overflow_sub-result : goal.overflow_sub-result
 overflow_sub-result g c =
-    omega (arith, older-some c.self.inside c.args.self.now c.self.view_is c.self.invariant c.args.list c.requires.list c.args.spot c.requires.spot c.in-Some.next
-    (sym (ap (λ p. next_of (chunk_at c.self.inside.cells.slots p)) c.link_to-at.ensures.place) ∙ ap next_of c.read.ensures ∙ c.in-Some.is))
+    omega (
+      arith,
+      older-some c.self.inside c.args.self.now c.self.view_is c.self.invariant c.args.list c.requires.list c.args.spot c.requires.spot c.in-Some.next
+          (sym (ap (λ p. next_of (chunk_at c.self.inside.cells.slots p)) c.link_to-at.ensures.place) ∙ ap next_of c.read.ensures ∙ c.in-Some.is),
+    )

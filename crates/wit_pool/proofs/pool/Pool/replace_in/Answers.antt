@@ -1,5 +1,5 @@
-use Rattle.std.proofs.Common.{◌≡◌, ◌-◌, ◌<◌, [], length, set, get_or, refl, ap, sym, subst, ◌∙◌, arith}
-use Rattle.std.proofs.lemmas.List.{length-map, length-set}
+use Rattle.std.proofs.Common.{◌≡◌, ◌-◌, ◌<◌, [], length, set, get_or, ap, sym, subst, ◌∙◌}
+use Rattle.std.proofs.lemmas.List.{length-set}
 use Rattle.wit_model.specs.Rules.Groups.{replaced_in}
 use Rattle.wit_model.specs.Rules.Chunks.{Chunks, groups_of, set_groups}
 use Rattle.wit_model.proofs.Rows.Settled.{Leaves, others-kept}
@@ -7,7 +7,7 @@ use Rattle.wit_pool.specs.Chunks.{chunk_at, content, IsRegrouped}
 use Rattle.wit_pool.specs.Chains.{Stands}
 use Rattle.wit_pool.specs.Kept.{rows_of, lists_of, free_of}
 use Rattle.wit_pool.proofs.Standing.{regrouped}
-use Rattle.wit_pool.proofs.Keeping.{stands, chunk-within, is-at, in-content, replaces, settled-now, kept-now, groups-now, placed-now}
+use Rattle.wit_pool.proofs.Keeping.{stands, chunk-within, is-at, in-content, replaces, kept-now, groups-now, placed-now}
 use Rattle.wit_pool.proofs.pool.Pool.replace_in.Given.{Over}
 use Rattle.wit_pool.proofs.pool.Pool.replace_in.Goals as goal
 
