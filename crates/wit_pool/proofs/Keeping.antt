@@ -2,7 +2,7 @@
 use Rattle.std.proofs.Common.{◌≡◌, ℕ, zero, suc, ◌+◌, ◌-◌, ◌^◌, ◌<◌, ◌≤◌, List, [], ◌∷◌, ◌++◌, length, map, take, replicate, set, get_or, None, Some, slice_get, refl, ap, ap₂, sym, ◌∙◌, subst, arith}
 use Rattle.std.specs.Prelude.{Option}
 use Rattle.std.specs.List.{All}
-use Rattle.std.proofs.lemmas.List.{length-map, length-append, get_or-map}
+use Rattle.std.proofs.lemmas.List.{length-map, length-append, length-set, get_or-map}
 use Rattle.std.proofs.lemmas.List.Elements.{All-replicate}
 use Rattle.std.proofs.lemmas.Option.{slice_get_within, slice_get_past, get_or_from_slice_get}
 use Rattle.wit_model.specs.declared.locks.Instance.{Instance}
@@ -162,7 +162,7 @@ module _ {A : Type 0} (v : Inside A) (shows : Chunks) (is : chunks_in v ≡ show
         pub in-content : index < length (content (chunk_at v.cells.slots s.chunk))
         in-content = subst (λ (g : List Instance). index < length g) group-is in_group
 
-        in-row : index < length (row (rows_of v) (get_or (get_or (lists_of v) (list - 1) []) s.group 0))
+        pub in-row : index < length (row (rows_of v) (get_or (get_or (lists_of v) (list - 1) []) s.group 0))
         in-row = subst (λ (g : List Instance). index < length g) (sym (ap (row (rows_of v)) chunk-is ∙ row-is)) in-content
 
         -- what a lock that is written over another one leaves
@@ -211,22 +211,48 @@ module _ {A : Type 0} (v : Inside A) (shows : Chunks) (is : chunks_in v ≡ show
                 });
           }
 
--- what a call leaves is kept
-module _ {A : Type 0} (w : Inside A) (rows : List (List Instance)) (lists : List (List ℕ)) (unused : List ℕ)
-    (s : Stands w.cells.at w.cells.slots w.chains.items w.free rows lists unused) (shows : List (List (List Instance)))
-    (leaves : Leaves rows lists unused shows) where
-  pub settled-now : AreSettled (rows_of w) (lists_of w) (free_of w)
-  settled-now = rw (s.rows, s.lists, s.unused) leaves.settled
+-- the same block, with other chunks in it
+pub record IsBeside {A : Type 0} (v w : Inside A) : Type 0 where
+  pub at : w.cells.at ≡ v.cells.at
+  pub first : w.first.ptr ≡ v.first.ptr
+  pub count : w.count ≡ v.count
+  pub deed : (w.deed.at ≡ w.first.ptr) × (w.deed.len ≡ w.count) × (w.deed.alloc ≡ w.alloc)
 
-  pub kept-now : w.first.ptr ≡ w.cells.at → length w.cells.slots ≡ w.count
-      → (w.deed.at ≡ w.first.ptr) × (w.deed.len ≡ w.count) × (w.deed.alloc ≡ w.alloc) → AreKept w
-  kept-now f n d = record { settled = settled-now; linked = s.linked; spare = s.spare; first = f; size = n; deed = d }
+-- what a call leaves where one list's groups become others
+pub record IsLeft {A : Type 0} (shows : Chunks) (list : ℕ) (groups : List (List (List Instance))) (w : Inside A) : Type 0 where
+  pub kept : AreKept w
+  pub are : map (groups_at (rows_of w)) (lists_of w) ≡ groups
+  pub size : length (rows_of w) ≡ shows.size
+  pub placed : IsPlaced (chunks_in w)
+  pub others : lists_of w ≡ set shows.places (list - 1) (get_or (lists_of w) (list - 1) [])
 
-  pub groups-now : map (groups_at (rows_of w)) (lists_of w) ≡ shows
-  groups-now = ap₂ (λ gs ls. map (groups_at gs) ls) s.rows s.lists ∙ leaves.groups
-
-  pub placed-now : IsPlaced (chunks_in w)
-  placed-now = placed-shown (rows_of w) (lists_of w) (free_of w) settled-now.placed
+module _ {A : Type 0} (v : Inside A) (shows : Chunks) (is : chunks_in v ≡ shows) (kept : AreKept v) (list : ℕ) (there : IsList shows list)
+    (w : Inside A) (beside : IsBeside v w) (p : ℕ) (y : List Instance) (ps unused : List ℕ) (groups : List (List (List Instance))) where
+  -- one chunk holds other locks, and one list has these chunks
+  pub left-now : (lists : List (List ℕ)) → lists ≡ set (lists_of v) (list - 1) ps
+      → Stands v.cells.at w.cells.slots w.chains.items w.free (set (rows_of v) p y) lists unused
+      → Leaves (set (rows_of v) p y) lists unused groups → IsLeft shows list groups w
+  left-now lists e s leaves =
+      let settled : AreSettled (rows_of w) (lists_of w) (free_of w) = rw (s.rows, s.lists, s.unused) leaves.settled in
+      let long : length (rows_of w) ≡ length (rows_of v) = ap length s.rows ∙ length-set (rows_of v) p y in
+      let set-there : lists_of w ≡ set (lists_of v) (list - 1) ps = s.lists ∙ e in
+      record {
+        kept = record {
+          settled = settled;
+          linked = subst (λ a. All (IsLinked a w.cells.slots) w.chains.items) (sym beside.at) s.linked;
+          spare = subst (λ a. IsLinked a w.cells.slots w.free) (sym beside.at) s.spare;
+          first = beside.first ∙ kept.first ∙ sym beside.at;
+          size = sym (length-map w.cells.slots content) ∙ long ∙ length-map v.cells.slots content ∙ kept.size ∙ sym beside.count;
+          deed = beside.deed;
+        };
+        are = ap₂ (λ gs ls. map (groups_at gs) ls) s.rows s.lists ∙ leaves.groups;
+        size = long ∙ ap (λ (c : Chunks). c.size) is;
+        placed = placed-shown (rows_of w) (lists_of w) (free_of w) settled.placed;
+        others =
+            subst (λ ls. ls ≡ set shows.places (list - 1) (get_or ls (list - 1) [])) (sym set-there)
+            (Settled.others-set (lists_of v) (list - 1) ps (in-lists v shows is kept list there)
+            ∙ ap (λ (c : Chunks). set c.places (list - 1) (get_or (set (lists_of v) (list - 1) ps) (list - 1) [])) is);
+      }
 
 -- lists that have no chunk
 pub no-chunks : (cs : List (Option Chunk)) (lists : ℕ) → map (chunks_of cs) (replicate lists (record { head = None; count = 0 })) ≡ replicate lists []

@@ -2,6 +2,8 @@ pub mod First
 pub mod Keeping
 pub mod Links
 pub mod Memory
+pub mod Pushing
+pub mod Removing
 pub mod Shifting
 pub mod Spots
 pub mod Standing

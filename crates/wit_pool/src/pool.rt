@@ -1,18 +1,17 @@
 //! Lists in chunks of one block.
 
-ghost use Rattle.std.specs.Prelude.{◌≡◌, ◌≤◌, ◌<◌, ◌^◌, length, IfOk, IfErr, IfSome};
+ghost use Rattle.std.specs.Prelude.{◌≡◌, ◌≤◌, length, IfOk, IfErr};
 ghost use Rattle.wit_model.specs.declared.faults.Fault.TheVariants.{OutOfMemory};
-ghost use Rattle.wit_model.specs.Rules.Groups.{replaced_in};
-ghost use Rattle.wit_model.specs.Rules.Chunks.{IsNew, IsList, IsPlaced, IsSpot, KeepOthers, upto, groups_of, group_of, chain_of, set_groups};
+ghost use Rattle.wit_model.specs.Rules.Chunks.{IsNew};
 ghost use Rattle.wit_model.specs.Rules.Numbers.{IsNumber};
 
 use crate::cells::{Cells, Deed, Link, allocate, deallocate};
-use crate::chain::{Chain, link_all};
-use crate::chunk::{Chunk, link_to, put_at, read};
+use crate::chain::{Chain, free_chunk, link_all, open_chunk, take_free};
+use crate::chunk::{Chunk, link_beside, link_to, put, put_at, read, take_out};
 use std::alloc::{AllocError, Allocator, Global};
 use std::marker::Model;
 use std_alloc::room::may_hold;
-use wit_model::chunks::Spot;
+use wit_model::chunks::{Lists, Spot};
 use wit_model::{Fault, Instance};
 
 /// Lists of held locks in chunks of one block, which is all their room from the beginning.
@@ -109,14 +108,31 @@ impl<A: Allocator> Pool<A> {
     }
 }
 
-impl<A: Allocator> Pool<A> {
-    /// Where a list's newest chunk stands: `None` where it has none.
-    pub fn newest(&self, list: u16) -> Option<Spot>
-        requires list { IsList self.now list }
-        ensures all { upto result ≡ length (groups_of self.now list) }
-        ensures spot { IfSome result (IsSpot self.now list) }
-        ensures few { length (chain_of self.now list) < 2 ^ 32 }
-    {
+impl<A: Allocator> Lists for Pool<A> {
+    ghost chunks = { λ s. s };
+
+    fn push(&mut self, list: u16, instance: Instance) -> bool {
+        let list = list as usize - 1;
+        let chain = self.chains[list];
+        match open_chunk(&self.cells, chain) {
+            Some(at) => {
+                put(&mut self.cells, at, instance);
+                true
+            }
+            None => match self.free.head {
+                Some(at) => {
+                    let (chain, free) = take_free(&mut self.cells, at, chain, self.free);
+                    put(&mut self.cells, at, instance);
+                    self.chains[list] = chain;
+                    self.free = free;
+                    true
+                }
+                None => false,
+            },
+        }
+    }
+
+    fn newest(&self, list: u16) -> Option<Spot> {
         let chain = self.chains[list as usize - 1];
         match chain.head {
             Some(at) => Some(Spot {
@@ -128,13 +144,7 @@ impl<A: Allocator> Pool<A> {
         }
     }
 
-    /// Where the next older chunk stands: `None` behind the oldest.
-    pub fn older(&self, list: u16, spot: Spot) -> Option<Spot>
-        requires list { IsList self.now list }
-        requires spot { IsSpot self.now list spot }
-        ensures before { upto result ≡ spot.group }
-        ensures spot { IfSome result (IsSpot self.now list) }
-    {
+    fn older(&self, list: u16, spot: Spot) -> Option<Spot> {
         let at = link_to(&self.cells, self.first, spot.chunk);
         match read(&self.cells, at).next {
             Some(next) => Some(Spot {
@@ -146,36 +156,29 @@ impl<A: Allocator> Pool<A> {
         }
     }
 
-    /// What a chunk holds, oldest lock first.
-    pub fn group(&self, list: u16, spot: Spot) -> &[Instance]
-        requires list { IsList self.now list }
-        requires spot { IsSpot self.now list spot }
-        ensures { result.now ≡ group_of self.now list spot }
-    {
+    fn group(&self, list: u16, spot: Spot) -> &[Instance] {
         let at = link_to(&self.cells, self.first, spot.chunk);
         read(&self.cells, at).group.locks()
     }
 
-    /// Writes another instance over one of a chunk.
-    pub fn replace_in(&mut self, list: u16, spot: Spot, index: usize, instance: Instance)
-        requires list { IsList self.old list }
-        requires spot { IsSpot self.old list spot }
-        requires index { index < length (group_of self.old list spot) }
-        ensures groups { self.new.groups ≡ set_groups self.old list
-            (replaced_in spot.group index instance (groups_of self.old list)) }
-        ensures size { self.new.size ≡ self.old.size }
-        ensures placed { IsPlaced self.new }
-        ensures others { KeepOthers self.old self.new list }
-    {
+    fn replace_in(&mut self, list: u16, spot: Spot, index: usize, instance: Instance) {
         let at = link_to(&self.cells, self.first, spot.chunk);
         put_at(&mut self.cells, at, index, instance);
     }
 
-    /// How many chunks are free.
-    pub fn free_chunks(&self) -> usize
-        ensures free { result ≡ length self.now.unused }
-        ensures placed { IsPlaced self.now }
-    {
+    fn remove_in(&mut self, list: u16, spot: Spot, index: usize) {
+        let list = list as usize - 1;
+        let chain = self.chains[list];
+        let at = link_to(&self.cells, self.first, spot.chunk);
+        if take_out(&mut self.cells, at, index) == 0 && chain.count > 1 {
+            let newer = link_beside(&self.cells, self.first, spot.newer);
+            let (chain, free) = free_chunk(&mut self.cells, at, newer, chain, self.free);
+            self.chains[list] = chain;
+            self.free = free;
+        }
+    }
+
+    fn free_chunks(&self) -> usize {
         self.free.count
     }
 }

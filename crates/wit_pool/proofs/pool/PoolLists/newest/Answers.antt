@@ -2,7 +2,7 @@ use Rattle.std.proofs.Common.{◌+◌, ◌-◌, None, ap, sym, subst, ◌∙◌}
 use Rattle.wit_model.specs.Rules.Chunks.{IsSpot}
 use Rattle.wit_pool.specs.declared.chain.Chain.{Chain}
 use Rattle.wit_pool.proofs.Keeping.{fits, newest-all, newest-spot, newest-none}
-use Rattle.wit_pool.proofs.pool.Pool.newest.Goals as goal
+use Rattle.wit_pool.proofs.pool.PoolLists.newest.Goals as goal
 
 pub returns-in-Some-clause-all : goal.returns-in-Some-clause-all
 returns-in-Some-clause-all g c =

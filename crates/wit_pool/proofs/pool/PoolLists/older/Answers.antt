@@ -1,7 +1,7 @@
 use Rattle.std.proofs.Common.{ap, sym, ◌∙◌, arith}
 use Rattle.wit_pool.specs.Chunks.{chunk_at, next_of}
 use Rattle.wit_pool.proofs.Keeping.{chunk-within, is-at, older-none, older-some, older-spot}
-use Rattle.wit_pool.proofs.pool.Pool.older.Goals as goal
+use Rattle.wit_pool.proofs.pool.PoolLists.older.Goals as goal
 
 pub link_to-at-requires-clause-place : goal.link_to-at-requires-clause-place
 link_to-at-requires-clause-place g c = chunk-within c.self.inside c.args.self.now c.self.view_is c.self.invariant c.args.list c.requires.list c.args.spot c.requires.spot
