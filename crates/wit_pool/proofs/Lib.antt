@@ -1,0 +1,10 @@
+pub mod First
+pub mod Keeping
+pub mod Links
+pub mod Memory
+pub mod Pushing
+pub mod Removing
+pub mod Shifting
+pub mod Spots
+pub mod Standing
+pub mod Threads

@@ -1,0 +1,19 @@
+-- A `&` to the right to give a block back lends nothing. Assumes `Logic`.
+use denote.RattleType.{RattleType}
+use denote.RawPtr.{RawPtr}
+use denote.Param.Laws.{Laws}
+use denote.Param.Shared.{copy_shared}
+use denote.SharingLaws.{nothing_shr_laws}
+use denote.Struct.Laws.{field_copy}
+use denote.Struct.Lending.{of_Lends, Lends-nothing}
+use Rattle.core.specs.declared.alloc.Allocator.{Ghosts}
+use Rattle.core.specs.contracts.marker.PhantomData as Mark
+use Rattle.wit_pool.specs.contracts.cells.Deed as Deed
+use Rattle.wit_pool.proofs.cells.Deed.TheLaw.Statement.{statement}
+
+pub shares : (R A : RattleType) (g : Ghosts A.Denot) (L : Laws R) (P : Laws A) → statement R A g L P
+shares R A g L P =
+    of_Lends (Deed.struct R A g) (Deed.the_codes R.Denot A.Denot R.coded A.coded (Mark.the_row RawPtr).coded)
+    (Deed.the_heap R A g) (Deed.the_lent R A g) (λ d p. nothing_shr_laws)
+    (copy_shared (Mark.the_field RawPtr) (field_copy (Mark.the_type RawPtr) tt), tt)
+    (λ M 𝓤 𝓛 d p. Lends-nothing 𝓛 (Deed.the_heap R A g d) (Deed.the_row R A g).lives)

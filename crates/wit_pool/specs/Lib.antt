@@ -1,0 +1,4 @@
+pub mod Chains
+pub mod Chunks
+pub mod Kept
+pub mod Places

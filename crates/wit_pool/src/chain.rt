@@ -1,0 +1,133 @@
+//! Chunks one after another: those of a list, newest first, or the free ones.
+
+ghost use Rattle.std.specs.Prelude.{◌≡◌, ℕ, ◌+◌, ◌-◌, ◌<◌, ◌≤◌, [], None, Some, length, replicate, IfSome};
+ghost use Rattle.std.specs.List.{range_with_len};
+ghost use Rattle.wit_pool.specs.Chunks.{IsAt, IsLed, IsThere, chunk_at, content, next_of, rows_in};
+ghost use Rattle.wit_pool.specs.Chains.{IsLinked, IsFreed, Passes, chunks_of};
+
+use crate::cells::{Cells, Link};
+use crate::chunk::{Chunk, Next, lead, link_to, read, write};
+use crate::group::Group;
+use wit_model::chunks::CHUNK;
+
+/// So many chunks, which links lead through from the first on.
+#[derive(Clone, Copy)]
+pub struct Chain {
+    pub(crate) head: Option<Next>,
+    pub(crate) count: usize,
+}
+
+/// All chunks of a block, empty: one chain.
+pub fn link_all(cells: &mut Cells<Chunk>, first: Link<Chunk>, count: usize) -> Chain
+    requires first { first.ptr ≡ cells.old.at }
+    requires size { length cells.old.slots ≡ count }
+    requires few { count ≤ 65536 }
+    requires empty { cells.old.slots ≡ replicate count None }
+    ensures at { cells.new.at ≡ cells.old.at }
+    ensures rows { rows_in cells.new.slots ≡ replicate count [] }
+    ensures linked { IsLinked cells.new.at cells.new.slots result }
+    ensures places { chunks_of cells.new.slots result ≡ range_with_len 0 count }
+{
+    let mut head = None;
+    for place in 0..count {
+        let at = link_to(cells, first, place as u16);
+        let group = Group::empty();
+        write(cells, at, Chunk { next: head, group });
+        head = Some(at);
+    }
+    Chain { head, count }
+}
+
+/// The newest chunk of a list, where it has room for one more.
+pub fn open_chunk(cells: &Cells<Chunk>, chain: Chain) -> Option<Next>
+    requires { IsLinked cells.now.at cells.now.slots chain }
+    ensures newest { IfSome result (λ at. chain.head ≡ Some at) }
+    ensures short { IfSome result (λ at. length (content (chunk_at cells.now.slots at.place)) < 5) }
+    ensures full { result ≡ None → IfSome chain.head (λ at. 5 ≤ length (content (chunk_at cells.now.slots at.place))) }
+{
+    match chain.head {
+        Some(at) => {
+            if read(cells, at).group.len() < CHUNK {
+                Some(at)
+            } else {
+                None
+            }
+        }
+        None => None,
+    }
+}
+
+/// The first free chunk becomes the newest of a list: that list, and the free ones.
+pub fn take_free(cells: &mut Cells<Chunk>, at: Next, chain: Chain, free: Chain) -> (Chain, Chain)
+    requires there { IsAt cells.old.at cells.old.slots at }
+    requires few { chain.count ≤ 65536 }
+    requires some { 1 ≤ free.count }
+    ensures at { cells.new.at ≡ cells.old.at }
+    ensures slots { IsLed cells.old.slots cells.new.slots at.place chain.head }
+    ensures chain { (result.0.head ≡ Some at) × (result.0.count ≡ chain.count + 1) }
+    ensures free { (result.1.head ≡ next_of (chunk_at cells.old.slots at.place)) × (result.1.count ≡ free.count - 1) }
+{
+    let next = read(cells, at).next;
+    lead(cells, at, chain.head);
+    let longer = Chain {
+        head: Some(at),
+        count: chain.count + 1,
+    };
+    let shorter = Chain {
+        head: next,
+        count: free.count - 1,
+    };
+    (longer, shorter)
+}
+
+/// A chunk of a list becomes the first free one: that list, and the free ones.
+pub fn free_chunk(
+    cells: &mut Cells<Chunk>,
+    at: Next,
+    newer: Option<Next>,
+    chain: Chain,
+    free: Chain,
+) -> (Chain, Chain)
+    requires there { IsAt cells.old.at cells.old.slots at }
+    requires newer { IfSome newer (IsAt cells.old.at cells.old.slots) }
+    requires some { 1 ≤ chain.count }
+    requires few { free.count ≤ 65536 }
+    ensures at { cells.new.at ≡ cells.old.at }
+    ensures slots { IsFreed cells.old.slots cells.new.slots at.place newer chain.head free.head result.0.head }
+    ensures chain { result.0.count ≡ chain.count - 1 }
+    ensures free { (result.1.head ≡ Some at) × (result.1.count ≡ free.count + 1) }
+{
+    let next = read(cells, at).next;
+    let head = pass(cells, newer, chain.head, next);
+    lead(cells, at, free.head);
+    let shorter = Chain {
+        head,
+        count: chain.count - 1,
+    };
+    let longer = Chain {
+        head: Some(at),
+        count: free.count + 1,
+    };
+    (shorter, longer)
+}
+
+// Where a list begins, once the next newer chunk, or the list itself, leads past a chunk to the next older one.
+fn pass(
+    cells: &mut Cells<Chunk>,
+    newer: Option<Next>,
+    head: Option<Next>,
+    next: Option<Next>,
+) -> Option<Next>
+    requires { IfSome newer (IsAt cells.old.at cells.old.slots) }
+    ensures at { cells.new.at ≡ cells.old.at }
+    ensures slots { Passes cells.old.slots cells.new.slots newer next head result }
+    ensures there { (p : ℕ) → IsThere cells.old.slots p → IsThere cells.new.slots p }
+{
+    match newer {
+        Some(newer) => {
+            lead(cells, newer, next);
+            head
+        }
+        None => next,
+    }
+}
