@@ -16,3 +16,6 @@ pub use chunk::{Chunk, Next};
 #[doc(hidden)]
 pub use group::Group;
 pub use pool::Pool;
+
+#[cfg(test)]
+mod tests;
