@@ -1,22 +1,33 @@
 -- Texts that aren't empty.
-use Rattle.std.proofs.Common.{◌≡◌, ℕ, suc, zero, ◌+◌, ◌<◌, Bool, true, cond, Result, Ok, Err, OnErr, List, [], ◌∷◌, ◌++◌, length, filter, ap, sym, ◌∙◌, inl, inr, codes, arith}
+use Rattle.std.proofs.Common.{◌≡◌, ℕ, suc, zero, ◌+◌, ◌<◌, Bool, true, cond, Result, Ok, Err, OnErr, IfErr, List, [], ◌∷◌, ◌++◌, length, filter, nat_lt, ap, sym, ◌∙◌, inl, inr, codes, arith}
 use Rattle.std.specs.Fmt.{decimal}
 use Rattle.std.specs.List.{flat_map, range_with_len}
+use Rattle.std.specs.Result.{IsErrAnd}
 use Rattle.std.proofs.lemmas.List.{length-append}
 use Rattle.std.proofs.lemmas.List.Concat.{flat_map-append}
-use Rattle.std.proofs.lemmas.Bool.{cases_order}
+use Rattle.std.proofs.lemmas.Bool.{cases_order, true≢false}
+use Rattle.wit_model.specs.declared.faults.Fault.{Fault}
+use Rattle.wit_model.specs.declared.faults.Fault.TheVariants.{OutOfMemory}
+use Rattle.wit_model.specs.declared.locks.Instance.{Instance}
+use Rattle.wit_model.specs.declared.locks.Lock.{Lock}
 use Rattle.wit_model.specs.Rules.State.{Known}
 use Rattle.wit_model.specs.declared.locks.LockType.{LockType}
 use Rattle.wit_model.specs.Rules.Types.{name_of, class_of}
 use Rattle.wit_model.specs.Trace.Spelling.{quoted}
 use Rattle.wit_model.specs.Trace.Texts.{line, class_words}
-use Rattle.wit_model.specs.Trace.Views.{edge_line, type_line}
+use Rattle.wit_model.specs.Trace.Views.{edge_line, type_line, held_line, held_lines}
+use Rattle.wit_report.specs.Wants.{WantsMemory}
 use Rattle.wit_report.proofs.Laid.{range-more, some-more}
 
 -- what holds anyway holds of an error
 pub on-error : {T E P : Type 0} (r : Result T E) → P → OnErr r P
 on-error (Ok x) p = tt
 on-error (Err e) p = p
+
+-- where a text says something, an error may be want of memory
+pub wants : {T : Type 0} (r : Result T Fault) (text : List ℕ) → IsErrAnd r (λ e. e ≡ OutOfMemory) → 0 < length text → IfErr r (WantsMemory text)
+wants (Ok x) text is some = tt
+wants (Err e) text is some = (is, some)
 
 pub left-filled : (xs ys : List ℕ) → 0 < length xs → 0 < length (xs ++ ys)
 left-filled xs ys some = let n : length (xs ++ ys) ≡ length xs + length ys = length-append xs ys in omega (arith, n, some)
@@ -38,6 +49,11 @@ type-filled types live t =
     line-filled
     (decimal t ∷ codes " " ∷ quoted (name_of t types) ∷ codes " " ∷ class_words (class_of t types)
     ∷ codes " locks " ∷ decimal (live t) ∷ [])
+
+module _ (locks : List Lock) (files : List (List ℕ)) where
+  pub held-filled : (held : List Instance) → nat_lt 0 (length held) ≡ true → 0 < length (held_lines locks files held)
+  held-filled [] some = absurd (true≢false (sym some))
+  held-filled (i ∷ held) some = left-filled (held_line locks files i) (held_lines locks files held) (search line-filled)
 
 -- ---- where a list grows with a number, and what it grew by at one of them isn't empty
 

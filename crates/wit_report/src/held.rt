@@ -5,6 +5,7 @@ ghost use Rattle.std.specs.List.{flat_map, range_with_len};
 ghost use Rattle.wit_model.specs.declared.faults.Fault.TheVariants.{OutOfMemory};
 ghost use Rattle.wit_model.specs.Rules.State.{state_of, seat_at, chain_in, typed_locks};
 ghost use Rattle.wit_model.specs.Trace.Views.{mode_words, held_line, held_lines, all_held, locks_text, holder_text, all_locks_text};
+ghost use Rattle.wit_report.specs.Wants.{WantsMemory};
 
 use crate::locks::{class_of, class_words, lock_name, type_name};
 use crate::pieces::{put_number, put_quoted, put_site};
@@ -17,12 +18,15 @@ use wit_model::{Fault, Instance, Mode, SeatNo};
 /// first. Empty for a seat that there isn't.
 ///
 /// # Errors
-/// `OutOfMemory` alone.
+/// `OutOfMemory` alone, and only where the text isn't empty.
 pub fn locks_of(alloc: Global, verifier: &Verifier, seat: SeatNo) -> Result<String, Fault>
     ensures ok { IfOk result (λ text. string_bytes text ≡ locks_text verifier.now seat.0) }
-    ensures err { IfErr result (λ e. e ≡ OutOfMemory) }
+    ensures err { IfErr result (WantsMemory (locks_text verifier.now seat.0)) }
 {
     let mut text = String::new(alloc);
+    if !holds_any(verifier, seat) {
+        return Ok(text);
+    }
     put_seat(&mut text, alloc, verifier, seat)?;
     Ok(text)
 }

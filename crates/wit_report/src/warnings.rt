@@ -7,6 +7,7 @@ ghost use Rattle.wit_model.specs.Rules.State.{state_of, known_of, typed_locks};
 ghost use Rattle.wit_model.specs.Rules.Verdict.{basis_of, type_held, is_giant, is_sleepable};
 ghost use Rattle.wit_model.specs.Rules.Warnings.{is_named, is_allowed, counted_spin, warned};
 ghost use Rattle.wit_model.specs.Trace.Views.{warn_text};
+ghost use Rattle.wit_report.specs.Wants.{WantsMemory};
 
 use crate::held::{newest_first, put_all};
 use crate::locks::type_number;
@@ -22,7 +23,7 @@ use wit_model::{Class, Fault, Instance, LockNo, SeatNo, TypeNo, WarnFlags};
 /// the order of `locks_of`. Empty where it is warned of none.
 ///
 /// # Errors
-/// `OutOfMemory` alone.
+/// `OutOfMemory` alone, and only where the text isn't empty.
 pub fn warn_text(
     alloc: Global,
     verifier: &Verifier,
@@ -32,13 +33,14 @@ pub fn warn_text(
 ) -> Result<String, Fault>
     ensures ok { IfOk result (λ text. string_bytes text ≡ warn_text (typed_locks verifier.now.start verifier.now.history) verifier.now.files
         (warned (state_of verifier.now) seat.0 named flags)) }
-    ensures err { IfErr result (λ e. e ≡ OutOfMemory) }
+    ensures err { IfErr result (WantsMemory (warn_text (typed_locks verifier.now.start verifier.now.history) verifier.now.files
+        (warned (state_of verifier.now) seat.0 named flags))) }
 {
     let mut text = String::new(alloc);
-    let held = warned(alloc, verifier, seat, named, flags)?;
-    if held.is_empty() {
+    if verifier.warned(seat, named, flags) == 0 {
         return Ok(text);
     }
+    let held = warned(alloc, verifier, seat, named, flags)?;
     put_number(&mut text, alloc, held.len() as u64)?;
     text.push_str(" locks held:\n")?;
     put_all(&mut text, alloc, verifier, &held)?;

@@ -42,11 +42,13 @@ impl Verifier {
         }
     }
 
-    // How many held locks a seat is warned of.
-    fn warned(&self, seat: SeatNo, named: Option<LockNo>, flags: WarnFlags) -> usize
-        requires { is_seat (state_of self.now) seat.0 ≡ true }
+    /// How many held locks a seat is warned of, whatever lock is named: 0 for a seat that there isn't. It takes no memory.
+    pub fn warned(&self, seat: SeatNo, named: Option<LockNo>, flags: WarnFlags) -> usize
         ensures { result ≡ length (warned (state_of self.now) seat.0 named flags) }
     {
+        if !self.is_seat(seat) {
+            return 0;
+        }
         let known = &self.known;
         let basis = Basis {
             types: known.names(),

@@ -11,17 +11,17 @@ invariant_of-basis c = record {
 }
 
 pub warn_count-requires-clause-seat : goal.warn_count-requires-clause-seat
-warn_count-requires-clause-seat c = seat-within c.self.inside c.self.invariant.tied c.args.self.now c.self.view_is c.args.seat.0 c.requires c.lists.result.now c.lists.ensures
+warn_count-requires-clause-seat c = seat-within c.self.inside c.self.invariant.tied c.args.self.now c.self.view_is c.args.seat.0 (sym c.is_seat.ensures ∙ c.if-not-is_seat.false) c.lists.result.now c.lists.ensures
 
 pub warn_count-requires-clause-lists : goal.warn_count-requires-clause-lists
-warn_count-requires-clause-lists c = list-within c.self.inside c.self.invariant.tied c.args.self.now c.self.view_is c.args.seat.0 c.requires c.lists.result.now c.lists.ensures
+warn_count-requires-clause-lists c = list-within c.self.inside c.self.invariant.tied c.args.self.now c.self.view_is c.args.seat.0 (sym c.is_seat.ensures ∙ c.if-not-is_seat.false) c.lists.result.now c.lists.ensures
 
 pub warn_count-requires-clause-typed : goal.warn_count-requires-clause-typed
 warn_count-requires-clause-typed c =
-    (judgeable c.self.inside c.self.invariant.tied c.args.self.now c.self.view_is c.args.seat.0 c.requires c.lists.result.now c.lists.ensures c.lock_types.result.now c.lock_types.ensures false).typed
+    (judgeable c.self.inside c.self.invariant.tied c.args.self.now c.self.view_is c.args.seat.0 (sym c.is_seat.ensures ∙ c.if-not-is_seat.false) c.lists.result.now c.lists.ensures c.lock_types.result.now c.lock_types.ensures false).typed
 
 pub returns : goal.returns
 returns c =
     c.warn_count.ensures
-    ∙ warned-told c.self.inside c.self.invariant.tied c.args.self.now c.self.view_is c.args.seat.0 c.requires c.lists.result.now c.lists.ensures c.names.result.now c.matrix.result.now c.lock_types.result.now
+    ∙ warned-told c.self.inside c.self.invariant.tied c.args.self.now c.self.view_is c.args.seat.0 (sym c.is_seat.ensures ∙ c.if-not-is_seat.false) c.lists.result.now c.lists.ensures c.names.result.now c.matrix.result.now c.lock_types.result.now
     c.args.named c.args.flags c.names.ensures.types c.lock_types.ensures
