@@ -16,6 +16,10 @@ mod lines;
 #[cfg(test)]
 mod matrices;
 #[cfg(test)]
+mod refusals;
+#[cfg(test)]
+mod sizes;
+#[cfg(test)]
 mod streams;
 #[cfg(test)]
 mod tables;

@@ -11,8 +11,8 @@ use wit_model::{
 
 /// How much a verifier has.
 #[derive(Clone, Copy, Debug, PartialEq, Eq)]
-struct Counts {
-    history: usize,
+pub struct Counts {
+    pub history: usize,
     orders: usize,
     reports: u32,
     free_chunks: usize,
@@ -38,7 +38,7 @@ fn list_of(alloc: Global, names: [&str; 2]) -> Result<Vec<(Class, String)>, Allo
 }
 
 /// A verifier for two seats and a log of so many entries, with a static list of two mutexes and a blessed pair.
-fn start(
+pub fn start(
     alloc: Global,
     log: u32,
     names: [&str; 2],
@@ -57,11 +57,11 @@ fn start(
 }
 
 /// Makes a mutex.
-fn make(verifier: &mut Verifier, name: &str, type_name: Option<&str>) -> Result<LockNo, Fault> {
+pub fn make(verifier: &mut Verifier, name: &str, type_name: Option<&str>) -> Result<LockNo, Fault> {
     verifier.init(SeatNo(1), name, type_name, Class::SleepMutex, LockFlags(0))
 }
 
-fn check(verifier: &mut Verifier, seat: u16, lock: u32, line: u32) -> Result<Reply, Fault> {
+pub fn check(verifier: &mut Verifier, seat: u16, lock: u32, line: u32) -> Result<Reply, Fault> {
     let site = Site {
         file: FileNo(1),
         line,
@@ -71,7 +71,7 @@ fn check(verifier: &mut Verifier, seat: u16, lock: u32, line: u32) -> Result<Rep
 }
 
 /// Checks and notes an acquisition.
-fn take(verifier: &mut Verifier, seat: u16, lock: u32, line: u32) -> Result<Reply, Fault> {
+pub fn take(verifier: &mut Verifier, seat: u16, lock: u32, line: u32) -> Result<Reply, Fault> {
     check(verifier, seat, lock, line)?;
     verifier.note(SeatNo(seat), LockNo(lock))
 }
@@ -85,7 +85,7 @@ fn live(verifier: &Verifier, of_type: u16) -> Option<u32> {
     verifier.live(TypeNo(of_type))
 }
 
-fn counts_of(verifier: &Verifier) -> Counts {
+pub fn counts_of(verifier: &Verifier) -> Counts {
     Counts {
         history: verifier.history().len(),
         orders: verifier.orders().len(),
@@ -120,13 +120,13 @@ fn is_related(
 }
 
 /// Whether a place of a seat's sleep locks has this lock, or none.
-fn has(verifier: &Verifier, seat: u16, place: usize, lock: Option<u32>) -> bool {
+pub fn has(verifier: &Verifier, seat: u16, place: usize, lock: Option<u32>) -> bool {
     let held = verifier.chain_at(SeatNo(seat), false, place);
     held.map(|h| h.lock.0) == lock
 }
 
 /// Whether a seat asks for this lock exclusively, or for none.
-fn asks_for(verifier: &Verifier, seat: u16, lock: Option<u32>) -> bool {
+pub fn asks_for(verifier: &Verifier, seat: u16, lock: Option<u32>) -> bool {
     verifier.pending(SeatNo(seat)) == lock.map(|l| (LockNo(l), Mode::Exclusive))
 }
 
@@ -164,67 +164,6 @@ fn blessed_pair(rt: HostRuntime) -> Result<(), Fail> {
     assert_eq!(rt; counts_of(&verifier).reports, 0);
     assert!(rt; is_related(&verifier, (1, 2), 0x13, Some(Origin::Listed)));
     assert!(rt; is_related(&verifier, (2, 1), 0x1c, None));
-    Ok(())
-}
-
-/// A verifier in which seat 1 holds a reader-writer lock, shared, and has made a mutex and a spin lock.
-fn shared_lock(alloc: Global) -> Result<Verifier, Fail> {
-    let mut verifier = start(alloc, 64, ["A", "B"], ["C", "D"])??;
-    verifier.file("f")?;
-    for (name, class) in [
-        ("r", Class::Rw),
-        ("m", Class::SleepMutex),
-        ("s", Class::SpinMutex),
-    ] {
-        verifier.init(SeatNo(1), name, None, class, LockFlags(0))?;
-    }
-    let site = Site {
-        file: FileNo(1),
-        line: 1,
-    };
-    verifier.note_try(SeatNo(1), LockNo(1), Mode::Shared, site)?;
-    Ok(verifier)
-}
-
-/// Whether nothing has changed since seat 1 holds its lock.
-fn is_as_before(verifier: &Verifier, history: usize) -> bool {
-    counts_of(verifier).history == history
-        && has(verifier, 1, 0, Some(1))
-        && has(verifier, 1, 1, None)
-        && asks_for(verifier, 1, None)
-}
-
-// A trace ends at the first call that is refused.
-#[test]
-fn refused_calls(rt: HostRuntime) -> Result<(), Fail> {
-    let mut verifier = shared_lock(rt.alloc())?;
-    let exclusive = check(&mut verifier, 1, 1, 2).err();
-    assert_eq!(rt; exclusive, Some(Fault::ExclusiveOfShared));
-    assert!(rt; is_as_before(&verifier, 4));
-    let released = verifier.unlock(SeatNo(1), LockNo(1), Mode::Exclusive).err();
-    assert_eq!(rt; released, Some(Fault::ExclusiveUnlock));
-    assert!(rt; is_as_before(&verifier, 4));
-    let nowhere = Site {
-        file: FileNo(2),
-        line: 1,
-    };
-    let unknown = verifier
-        .note_try(SeatNo(1), LockNo(2), Mode::Exclusive, nowhere)
-        .err();
-    assert_eq!(rt; unknown, Some(Fault::UnknownFile));
-    assert!(rt; is_as_before(&verifier, 4));
-    Ok(())
-}
-
-#[test]
-fn refused_under_spin(rt: HostRuntime) -> Result<(), Fail> {
-    let mut verifier = shared_lock(rt.alloc())?;
-    take(&mut verifier, 1, 3, 2)?;
-    assert_eq!(rt;
-        check(&mut verifier, 1, 2, 3).err(),
-        Some(Fault::SleepUnderSpin)
-    );
-    assert!(rt; is_as_before(&verifier, 6));
     Ok(())
 }
 
