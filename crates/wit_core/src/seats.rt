@@ -17,14 +17,13 @@ ghost use Rattle.wit_core.specs.Turning.{changed};
 
 use std::alloc::{AllocError, Global};
 use std::marker::Model;
-use wit_held::{
-    VecLists, assert_is, held, norelease, record, recursion, release, releaseok, set_mode,
-};
+use wit_held::{assert_is, held, norelease, record, recursion, release, releaseok, set_mode};
 use wit_model::chunks::{Lists, list_of};
 use wit_model::{AssertAnswer, Fault, Instance, LockAssert, LockNo, Mode, Request, SeatNo, Watch};
+use wit_pool::Pool;
 
 /// The lists in which the seats hold their locks.
-pub type Chunked = VecLists;
+pub type Chunked = Pool;
 
 /// The seats, by number from 1. Each has two lists of held locks, one a kind, and what it has asked for.
 #[derive(Drop)]
@@ -58,7 +57,7 @@ impl Seats {
         ensures err { IfErr result (λ e. e ≡ OutOfMemory) }
     {
         Ok(Seats {
-            lists: VecLists::new(alloc, chunks, 2 * seats as u16)?,
+            lists: Pool::new(alloc, chunks, 2 * seats as u16)?,
             requests: no_requests(alloc, seats)?,
         })
     }
