@@ -4,20 +4,21 @@ use Rattle.std.proofs.lemmas.Bool.{eqb-true, eq-eqb, ltb-true, false≢true, tru
 use Rattle.std.proofs.lemmas.Bool.Decides.{eqb_tells}
 use Rattle.wit_model.specs.declared.locks.LockNo.{LockNo}
 use Rattle.wit_model.specs.declared.locks.Mode.{Mode}
+use Rattle.wit_model.specs.declared.locks.Site.{Site}
 use Rattle.wit_model.specs.declared.calls.Call.{Call}
 use Rattle.wit_model.specs.declared.calls.Call.TheVariants.{Check, Note, NoteTry, GiveUp, Unlock, Upgrade, Downgrade, NoRelease, ReleaseOk}
 use Rattle.wit_model.specs.declared.calls.Reply.{Reply}
-use Rattle.wit_model.specs.declared.calls.Reply.TheVariants.{Recorded, Exhausted, Unrecorded, Unlocked}
+use Rattle.wit_model.specs.declared.calls.Reply.TheVariants.{Recorded, Exhausted, Unrecorded, Unlocked, Ignored}
 use Rattle.wit_model.specs.declared.calls.Entry.{Entry}
 use Rattle.wit_model.specs.Rules.History.{Act, act, num, is_held, is_off, is_report, watch_of}
-use Rattle.wit_model.specs.Rules.State.{Start, state_of}
-use Rattle.wit_model.specs.Rules.Step.{is_exhausted, held_by, answer_of, story_after, IsLegal}
+use Rattle.wit_model.specs.Rules.State.{Start, State, state_of}
+use Rattle.wit_model.specs.Rules.Step.{is_exhausted, held_by, recorded, answer_of, story_after, IsLegal}
 use Rattle.wit_model.specs.Rules.Clean.{is_clean_call, is_clean}
-use Rattle.wit_model.specs.World.Deeds.{Deed, Logged, Take, TryTake, Free, RawUp, RawDown, thread_of, own, log_of, are_these, shares}
-use Rattle.wit_model.specs.World.Stages.{Stage, Over, Asked, Taken, Tried, Forgot, Raised, Lowered, stage_logged, stage, is_over, call_follows, follows}
+use Rattle.wit_model.specs.World.Deeds.{Deed, Logged, PassedOver, Take, TryTake, Free, RawUp, RawDown, thread_of, own, log_of, are_these, shares}
+use Rattle.wit_model.specs.World.Stages.{Stage, Over, Asked, Taken, Tried, Forgot, Raised, Lowered, stage_logged, stage_passed, stage, is_over, call_follows, follows}
 use Rattle.wit_model.specs.World.Steps.{IsWorld}
 use Rattle.wit_model.proofs.Chains.Acts.{num_after, num-step, is_even, num_after-even, upgrade-even, downgrade-even, norelease-even, releaseok-even}
-use Rattle.wit_model.proofs.Histories.Accepted.{note_accepted, unlock_accepted}
+use Rattle.wit_model.proofs.Histories.Accepted.{note_accepted, try_accepted, unlock_accepted}
 use Rattle.wit_model.proofs.Histories.Legal.{sane_legal}
 use Rattle.wit_model.proofs.VerdictLaws.Quiet.{clean-parts, watch-clean}
 use Rattle.wit_model.proofs.World.Own.{own-mine, own-other, shares-other, shares-own, num-own, act-mine}
@@ -28,6 +29,7 @@ legal_world start files [] world = tt
 legal_world start files (Logged e ∷ w) world = (world.0.0, world.0.1, legal_world start files w world.1)
 legal_world start files (Take u m mode ∷ w) world = legal_world start files w world.1
 legal_world start files (TryTake u m mode ∷ w) world = legal_world start files w world.1
+legal_world start files (PassedOver u c ∷ w) world = legal_world start files w world.1
 legal_world start files (Free u m ∷ w) world = legal_world start files w world.1
 legal_world start files (RawUp u m ∷ w) world = legal_world start files w world.1
 legal_world start files (RawDown u m ∷ w) world = legal_world start files w world.1
@@ -37,6 +39,7 @@ pub clean-before : (d : Deed) (w : List Deed) → is_clean (log_of (d ∷ w)) �
 clean-before (Logged e) w clean = (clean-parts e (log_of w) clean).1.1
 clean-before (Take u m mode) w clean = clean
 clean-before (TryTake u m mode) w clean = clean
+clean-before (PassedOver u c) w clean = clean
 clean-before (Free u m) w clean = clean
 clean-before (RawUp u m) w clean = clean
 clean-before (RawDown u m) w clean = clean
@@ -73,7 +76,7 @@ module _ (l t m : ℕ) (held : ℕ → Bool) where
 
   due-lowering : (g : Stage) → follows (RawDown t m) held g ≡ true → due l g ≡ 0
   due-lowering (Raised k) is = refl
-  due-lowering (Lowered k) is = refl
+  due-lowering (Lowered k passed) is = refl
   due-lowering _ is = absurd (false≢true is)
 
 module _ (l : ℕ) (m : LockNo) (held : ℕ → Bool) where
@@ -86,7 +89,7 @@ module _ (l : ℕ) (m : LockNo) (held : ℕ → Bool) where
   due-noting (Tried k mode) is = absurd (false≢true is)
   due-noting (Forgot k has_fewer) is = absurd (false≢true is)
   due-noting (Raised k) is = absurd (false≢true is)
-  due-noting (Lowered k) is = absurd (false≢true is)
+  due-noting (Lowered k passed) is = absurd (false≢true is)
 
   due-upgrading : (g : Stage) → call_follows (Upgrade m) held g ≡ true → due l g ≡ 0
   due-upgrading (Raised k) is = refl
@@ -164,10 +167,21 @@ module _ (start : Start) (files : List (List ℕ)) (t l : ℕ) (w : List Deed) w
     entry-covers (NoteTry m mode site) r notes unlocks clean may = absurd (false≢true clean)
     entry-covers (GiveUp m) r notes unlocks clean may = settled l n s Over (nothing-due l n s g (due-giving_up l m held g may) was) refl
     entry-covers (Upgrade m) r notes unlocks clean may = even (act (Upgrade m) r) Over (upgrade-even m r) (nothing-due l n s g (due-upgrading l m held g may) was) refl
-    entry-covers (Downgrade m) r notes unlocks clean may = even (act (Downgrade m) r) (Lowered m.0) (downgrade-even m r) (was.at_end may) refl
+    entry-covers (Downgrade m) r notes unlocks clean may = even (act (Downgrade m) r) (Lowered m.0 false) (downgrade-even m r) (was.at_end may) refl
     entry-covers (NoRelease m) r notes unlocks clean may = even (act (NoRelease m) r) Over (norelease-even m r) (was.at_end may) refl
     entry-covers (ReleaseOk m) r notes unlocks clean may = even (act (ReleaseOk m) r) Over (releaseok-even m r) (was.at_end may) refl
     entry-covers c r notes unlocks clean may = settled l n s Over (was.at_end may) refl
+
+    -- a call of it that is passed over, which is never an acquisition
+    passed-covers : (c : Call) → ((m : LockNo) → c ≡ Note m → ⊥) → ((m : LockNo) (mode : Mode) (site : Site) → c ≡ NoteTry m mode site → ⊥)
+        → call_follows c held g ≡ true → Covers l n s (stage_passed c)
+    passed-covers (Note m) no_note no_try may = absurd (no_note m refl)
+    passed-covers (NoteTry m mode site) no_note no_try may = absurd (no_try m mode site refl)
+    passed-covers (Unlock m mode) no_note no_try may = let le = was.at_end may in record { all = omega (arith, le); at_end = λ over. le }
+    passed-covers (GiveUp m) no_note no_try may = settled l n s Over (nothing-due l n s g (due-giving_up l m held g may) was) refl
+    passed-covers (Upgrade m) no_note no_try may = settled l n s Over (nothing-due l n s g (due-upgrading l m held g may) was) refl
+    passed-covers (Downgrade m) no_note no_try may = settled l n s (Lowered m.0 true) (was.at_end may) refl
+    passed-covers c no_note no_try may = settled l n s Over (was.at_end may) refl
 
     got-covers : (m : ℕ) (after : Stage) → due l after ≡ cond (eqb m l) 1 0 → is_over after ≡ false → s ≤ n → Covers l n (cond (are_these t l t m) (s + 1) s) after
     got-covers m after dues unfinished le =
@@ -202,6 +216,32 @@ module _ (start : Start) (files : List (List ℕ)) where
       let ok : answer_of (story_after start files (log_of w)) e.seat.0 (Unlock m mode) ≡ Ok e.reply = ap (λ c. answer_of (story_after start files (log_of w)) e.seat.0 c) (sym is) ∙ world.0.0 in
       (unlock_accepted st e.seat.0 m.0 mode e.reply ok world.0.1).reply
 
+  acquired-logged : (off held none : Bool) → Ignored ≡ cond off Unrecorded (cond held Recorded (cond none Exhausted Recorded)) → ⊥
+  acquired-logged true held none is = (cc)
+  acquired-logged false true none is = (cc)
+  acquired-logged false false true is = (cc)
+  acquired-logged false false false is = (cc)
+
+  -- what is recorded of an acquisition is always a reply that is logged
+  not-passed : (st : State) (u m : ℕ) → Ignored ≡ recorded st u m → ⊥
+  not-passed st u m is = acquired-logged (is_off st.watch) (is_some (held_by st u m)) (is_exhausted st u m) is
+
+  module _ (u : ℕ) (c : Call) (w : List Deed) (world : IsWorld start files (PassedOver u c ∷ w)) where
+    passed_state : State
+    passed_state = state_of (story_after start files (log_of w))
+
+    answer-is : (x : Call) → c ≡ x → answer_of (story_after start files (log_of w)) u x ≡ Ok Ignored
+    answer-is x is = ap (λ y. answer_of (story_after start files (log_of w)) u y) (sym is) ∙ world.0.0
+
+    note-not_passed : (m : LockNo) → c ≡ Note m → ⊥
+    unfolding passed_state
+    note-not_passed m is = not-passed passed_state u m.0 (note_accepted passed_state u m.0 Ignored (answer-is (Note m) is)).reply
+
+    try-not_passed : (m : LockNo) (mode : Mode) (site : Site) → c ≡ NoteTry m mode site → ⊥
+    unfolding passed_state
+    try-not_passed m mode site is =
+        not-passed passed_state u m.0 (try_accepted passed_state u m.0 mode site Ignored (answer-is (NoteTry m mode site) is)).reply
+
   -- a deed of the thread itself
   mine : (d : Deed) (w : List Deed) → IsWorld start files (d ∷ w) → is_clean (log_of (d ∷ w)) ≡ true → (l : ℕ) → CoversAll (thread_of d) l w
       → Covers l (num (thread_of d) l (log_of (d ∷ w))) (shares (thread_of d) l (d ∷ w)) (stage (thread_of d) (d ∷ own (thread_of d) w))
@@ -211,6 +251,8 @@ module _ (start : Start) (files : List (List ℕ)) where
       let after = num-step e.seat.0 l e (log_of w) (act e.call e.reply) (act-mine e.seat.0 e (eq-eqb e.seat.0 e.seat.0 refl)) sane.1 in
       subst (λ k. Covers l k (shares e.seat.0 l w) (stage_logged e.seat.0 e.call (own e.seat.0 w))) (sym after)
       (entry-covers start files e.seat.0 l w was e.call e.reply (notes-recorded e w world clean) (unlocks-recorded e w world) (clean-parts e (log_of w) clean).0 world.0.2)
+  mine (PassedOver u c) w world clean l was =
+      passed-covers start files u l w was c (note-not_passed u c w world) (try-not_passed u c w world) world.0.1
   mine (Take u m mode) w world clean l was =
       got-covers start files u l w was m (Taken m) refl refl
       (nothing-due l (num u l (log_of w)) (shares u l w) (stage u (own u w)) (due-taking l u m (λ k. is_held u k (log_of w)) mode (stage u (own u w)) world.0.1) was)

@@ -8,7 +8,7 @@ use Rattle.wit_model.specs.declared.locks.Mode.TheVariants.{Shared, Exclusive}
 use Rattle.wit_model.specs.Rules.Numbers.{is_number}
 use Rattle.wit_model.specs.Rules.State.{Start}
 use Rattle.wit_model.specs.Rules.Verdict.{is_exclusive}
-use Rattle.wit_model.specs.World.Deeds.{Deed, Logged, Take, TryTake, Free, RawUp, RawDown, are_these, shares, raw_mode}
+use Rattle.wit_model.specs.World.Deeds.{Deed, Logged, PassedOver, Take, TryTake, Free, RawUp, RawDown, are_these, shares, raw_mode}
 use Rattle.wit_model.specs.World.Steps.{admits, is_alone, CanDo, IsWorld}
 
 -- ---- what a test of all threads says of one
@@ -74,6 +74,7 @@ module _ (start : Start) (files : List (List ℕ)) where
       → 0 < shares t l (d ∷ w) → is_number start.sizes.seats t ≡ true
   seat-step (Take u m mode) w can t l was some = seat-got t l u m w can.0 was some
   seat-step (TryTake u m mode) w can t l was some = seat-got t l u m w can.0 was some
+  seat-step (PassedOver u c) w can t l was some = was some
   seat-step (Free u m) w can t l was some = was (had-less (are_these t l u m) (shares t l w) some)
   seat-step (Logged e) w can t l was some = was some
   seat-step (RawUp u m) w can t l was some = was some
@@ -120,6 +121,7 @@ module _ (start : Start) (files : List (List ℕ)) where
   sole-step : (d : Deed) (w : List Deed) → IsWorld start files (d ∷ w) → IsSole w → IsSole (d ∷ w)
   unfolding IsSole
   sole-step (Logged e) w world was = was
+  sole-step (PassedOver u c) w world was = was
   sole-step (Take u m mode) w world was = sole-got u m mode w world.1 world.0.2 was
   sole-step (TryTake u m mode) w world was = sole-got u m mode w world.1 world.0.2 was
   sole-step (Free u m) w world was = λ t x l other one two.

@@ -5,7 +5,7 @@ use Rattle.std.proofs.lemmas.List.{map-append}
 use Rattle.std.proofs.lemmas.List.Elements.{filter-append}
 use Rattle.wit_model.specs.Rules.History.{own_entries}
 use Rattle.wit_model.specs.Rules.State.{Start}
-use Rattle.wit_model.specs.World.Deeds.{Deed, Logged, Take, TryTake, Free, RawUp, RawDown, thread_of, own, log_of}
+use Rattle.wit_model.specs.World.Deeds.{Deed, Logged, PassedOver, Take, TryTake, Free, RawUp, RawDown, thread_of, own, log_of}
 use Rattle.wit_model.specs.World.Steps.{IsWorld}
 use Rattle.wit_model.specs.World.Reordering.{kept, IsReordering}
 use Rattle.wit_model.proofs.World.Own.{own-mine, own-other}
@@ -25,6 +25,7 @@ mine : (t : ℕ) (d : Deed) (o w : List Deed) → eqb (thread_of d) t ≡ true �
 mine t (Logged e) o w is same = rw is (ap (λ h. e ∷ h) same)
 mine t (Take u m mode) o w is same = same
 mine t (TryTake u m mode) o w is same = same
+mine t (PassedOver u c) o w is same = same
 mine t (Free u m) o w is same = same
 mine t (RawUp u m) o w is same = same
 mine t (RawDown u m) o w is same = same
@@ -33,6 +34,7 @@ other : (t : ℕ) (d : Deed) (o w : List Deed) → eqb (thread_of d) t ≡ false
 other t (Logged e) o w is same = rw is same
 other t (Take u m mode) o w is same = same
 other t (TryTake u m mode) o w is same = same
+other t (PassedOver u c) o w is same = same
 other t (Free u m) o w is same = same
 other t (RawUp u m) o w is same = same
 other t (RawDown u m) o w is same = same

@@ -11,7 +11,7 @@ use Rattle.wit_model.specs.Rules.State.{Start}
 use Rattle.wit_model.specs.Rules.Start.{start_fault}
 use Rattle.wit_model.specs.Rules.Ahead.{IsAhead}
 use Rattle.wit_model.specs.Rules.Clean.{is_clean}
-use Rattle.wit_model.specs.World.Deeds.{Deed, Logged, Take, TryTake, Free, RawUp, RawDown, thread_of, own, log_of, shares}
+use Rattle.wit_model.specs.World.Deeds.{Deed, Logged, PassedOver, Take, TryTake, Free, RawUp, RawDown, thread_of, own, log_of, shares}
 use Rattle.wit_model.specs.World.Stages.{Stage, Asked, stage, is_over, call_follows}
 use Rattle.wit_model.specs.World.Steps.{IsWorld}
 use Rattle.wit_model.specs.World.Waiting.{IsWaiting, IsDeadlock}
@@ -40,6 +40,7 @@ module _ (start : Start) (files : List (List ℕ)) (unblessed : start.blessed �
   stays (Logged e) w a b is = ahead-stays start e (log_of w) a b is
   stays (Take u m mode) w a b is = is
   stays (TryTake u m mode) w a b is = is
+  stays (PassedOver u c) w a b is = is
   stays (Free u m) w a b is = is
   stays (RawUp u m) w a b is = is
   stays (RawDown u m) w a b is = is
@@ -79,6 +80,7 @@ module _ (start : Start) (files : List (List ℕ)) (unblessed : start.blessed �
             ahead-asking f w q l world clean (ap (λ (y : Entry). y.call) same ∙ checks) unheld some
         go (Take u m mode) e is checks world clean unheld some = (cc)
         go (TryTake u m mode) e is checks world clean unheld some = (cc)
+        go (PassedOver u c) e is checks world clean unheld some = (cc)
         go (Free u m) e is checks world clean unheld some = (cc)
         go (RawUp u m) e is checks world clean unheld some = (cc)
         go (RawDown u m) e is checks world clean unheld some = (cc)

@@ -4,12 +4,12 @@ use Rattle.std.proofs.lemmas.Bool.{cases_Bool}
 use Rattle.std.proofs.lemmas.List.Sums.{sum_by-cons}
 use Rattle.wit_model.specs.declared.calls.Request.{Request}
 use Rattle.wit_model.specs.declared.calls.Call.{Call}
-use Rattle.wit_model.specs.declared.calls.Call.TheVariants.{Check, DefineOrder, Unlock}
+use Rattle.wit_model.specs.declared.calls.Call.TheVariants.{Check, DefineOrder, Downgrade, Unlock}
 use Rattle.wit_model.specs.declared.calls.Reply.{Reply}
 use Rattle.wit_model.specs.declared.calls.Entry.{Entry}
 use Rattle.wit_model.specs.Rules.History.{Nothing, act, act_by, is_record, is_release, records, releases, num}
-use Rattle.wit_model.specs.World.Deeds.{Deed, Logged, Take, TryTake, Free, RawUp, RawDown, thread_of, own, log_of, shares_after, shares}
-use Rattle.wit_model.specs.World.Stages.{Asked, stage_logged, stage}
+use Rattle.wit_model.specs.World.Deeds.{Deed, Logged, PassedOver, Take, TryTake, Free, RawUp, RawDown, thread_of, own, log_of, shares_after, shares}
+use Rattle.wit_model.specs.World.Stages.{Asked, stage_logged, stage_passed, stage}
 use Rattle.wit_model.specs.World.Reordering.{kept_reply, kept}
 
 -- ---- own deeds
@@ -25,6 +25,7 @@ own-other t d w is = rw is refl
 pub shares-other : (t l : ℕ) (d : Deed) (w : List Deed) → eqb (thread_of d) t ≡ false → shares t l (d ∷ w) ≡ shares t l w
 shares-other t l (Take u m mode) w is = rw is refl
 shares-other t l (TryTake u m mode) w is = rw is refl
+shares-other t l (PassedOver u c) w is = refl
 shares-other t l (Free u m) w is = rw is refl
 shares-other t l (Logged e) w is = refl
 shares-other t l (RawUp u m) w is = refl
@@ -42,6 +43,7 @@ share-kept : (t l : ℕ) (d : Deed) (n : ℕ) → shares_after t l (kept d) n �
 share-kept t l (Logged e) n = refl
 share-kept t l (Take u m mode) n = refl
 share-kept t l (TryTake u m mode) n = refl
+share-kept t l (PassedOver u c) n = refl
 share-kept t l (Free u m) n = refl
 share-kept t l (RawUp u m) n = refl
 share-kept t l (RawDown u m) n = refl
@@ -62,6 +64,7 @@ module _ (t : ℕ) (p : Entry → Bool) (mine : (e : Entry) → eqb e.seat.0 t �
       let more = count-cons p e (log_of w) ∙ ap (λ b. cond b 1 0 + count_by p (log_of w)) (mine e is) in omega arith
   count-other (Take u m mode) w is = refl
   count-other (TryTake u m mode) w is = refl
+  count-other (PassedOver u c) w is = refl
   count-other (Free u m) w is = refl
   count-other (RawUp u m) w is = refl
   count-other (RawDown u m) w is = refl
@@ -71,6 +74,7 @@ module _ (t : ℕ) (p : Entry → Bool) (mine : (e : Entry) → eqb e.seat.0 t �
       count-cons p e (log_of a) ∙ (ap (λ n. cond (p e) 1 0 + n) same ∙ sym (count-cons p e (log_of b)))
   count-more (Take u m mode) a b same = same
   count-more (TryTake u m mode) a b same = same
+  count-more (PassedOver u c) a b same = same
   count-more (Free u m) a b same = same
   count-more (RawUp u m) a b same = same
   count-more (RawDown u m) a b same = same
@@ -115,6 +119,7 @@ module _ (p : Entry → Bool) (same : (e : Entry) → p (kept_entry e) ≡ p e) 
       ∙ (ap₂ (λ b n. cond b 1 0 + n) (same e) (count-kept o) ∙ sym (count-cons p e (log_of o)))
   count-kept (Take u m mode ∷ o) = count-kept o
   count-kept (TryTake u m mode ∷ o) = count-kept o
+  count-kept (PassedOver u c ∷ o) = count-kept o
   count-kept (Free u m ∷ o) = count-kept o
   count-kept (RawUp u m ∷ o) = count-kept o
   count-kept (RawDown u m ∷ o) = count-kept o
@@ -132,10 +137,17 @@ called t (Check p) before q is = ap Check (let same : p ≡ q = cc in same)
 called t (Unlock l mode) before q is = (cc)
 called t c before q is = (cc)
 
+-- and no call that is passed over leaves its thread asking
+passed_asks : (c : Call) (q : Request) → stage_passed c ≡ Asked q → ⊥
+passed_asks (Unlock l mode) q is = (cc)
+passed_asks (Downgrade l) q is = (cc)
+passed_asks c q is = (cc)
+
 -- who asks has just made a check
 pub asked-deed : (t : ℕ) (o : List Deed) (q : Request) → stage t o ≡ Asked q → (e : Entry) × (before : List Deed) × (o ≡ Logged e ∷ before) × (e.call ≡ Check q)
 asked-deed t [] q is = (cc)
 asked-deed t (Logged e ∷ o) q is = (e, o, refl, called t e.call o q is)
+asked-deed t (PassedOver u c ∷ o) q is = absurd (passed_asks c q is)
 asked-deed t (Take u m mode ∷ o) q is = (cc)
 asked-deed t (TryTake u m mode ∷ o) q is = (cc)
 asked-deed t (Free u m ∷ o) q is = (cc)
@@ -152,6 +164,7 @@ unfolding call_of
 kept-check (Logged x) e q same is = (x, refl, (let calls : ◌≡◌ {A = Option Call} (Some x.call) (Some e.call) = ap call_of same in let call : x.call ≡ e.call = cc in call) ∙ is)
 kept-check (Take u m mode) e q same is = (cc)
 kept-check (TryTake u m mode) e q same is = (cc)
+kept-check (PassedOver u c) e q same is = (cc)
 kept-check (Free u m) e q same is = (cc)
 kept-check (RawUp u m) e q same is = (cc)
 kept-check (RawDown u m) e q same is = (cc)

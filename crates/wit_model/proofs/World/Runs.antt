@@ -4,11 +4,12 @@ use Rattle.std.proofs.Common.{◌≡◌, ℕ, Bool, true, not, ◌&&◌, nat_lt,
 use Rattle.std.proofs.lemmas.Bool.{and_parts, ltb-true, not-true}
 use Rattle.wit_model.specs.declared.faults.Fault.{Fault}
 use Rattle.wit_model.specs.declared.calls.Reply.{Reply}
+use Rattle.wit_model.specs.declared.calls.Reply.TheVariants.{Ignored}
 use Rattle.wit_model.specs.Rules.Numbers.{is_number}
 use Rattle.wit_model.specs.Rules.State.{Start}
 use Rattle.wit_model.specs.Rules.Verdict.{is_exclusive}
 use Rattle.wit_model.specs.Rules.Step.{answer_of, story_after, is_logged}
-use Rattle.wit_model.specs.World.Deeds.{Deed, Logged, Take, TryTake, Free, RawUp, RawDown, log_of, shares, raw_mode}
+use Rattle.wit_model.specs.World.Deeds.{Deed, Logged, PassedOver, Take, TryTake, Free, RawUp, RawDown, log_of, shares, raw_mode}
 use Rattle.wit_model.specs.World.Stages.{may_follow}
 use Rattle.wit_model.specs.World.Steps.{admits, is_alone, IsWorld}
 
@@ -17,16 +18,19 @@ module _ (start : Start) (files : List (List ℕ)) where
   abbrev answers : List Deed → List (Result Reply Fault)
   answers [] = []
   answers (Logged e ∷ w) = answer_of (story_after start files (log_of w)) e.seat.0 e.call ∷ answers w
+  answers (PassedOver t call ∷ w) = answer_of (story_after start files (log_of w)) t call ∷ answers w
   answers (d ∷ w) = answers w
 
   -- the replies that stand in it
   abbrev replies : List Deed → List (Result Reply Fault)
   replies [] = []
   replies (Logged e ∷ w) = Ok e.reply ∷ replies w
+  replies (PassedOver t call ∷ w) = Ok Ignored ∷ replies w
   replies (d ∷ w) = replies w
 
   abbrev can_do : Deed → List Deed → Bool
   can_do (Logged e) w = is_logged e.reply && may_follow (Logged e) w
+  can_do (PassedOver t call) w = may_follow (PassedOver t call) w
   can_do (Take t l mode) w =
       is_number start.sizes.seats t && (may_follow (Take t l mode) w && admits start.sizes.seats l mode w)
   can_do (TryTake t l mode) w =
@@ -48,6 +52,10 @@ module _ (start : Start) (files : List (List ℕ)) where
       let past : answers w ≡ replies w = cc in
       let parts = and_parts _ _ can in
       let now = and_parts _ _ parts.0 in ((answer, now.0, now.1), is_world w past parts.1)
+  is_world (PassedOver t call ∷ w) same can =
+      let answer : answer_of (story_after start files (log_of w)) t call ≡ Ok Ignored = cc in
+      let past : answers w ≡ replies w = cc in
+      let parts = and_parts _ _ can in ((answer, parts.0), is_world w past parts.1)
   is_world (Take t l mode ∷ w) same can =
       let parts = and_parts _ _ can in
       let now = and_parts _ _ parts.0 in

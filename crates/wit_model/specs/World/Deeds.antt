@@ -1,14 +1,17 @@
--- What threads do: calls that the verifier logs, and steps of the locks themselves, of which it
--- isn't told. A thread is a seat. Lists of deeds are newest first, as histories are.
+-- What threads do: calls that the verifier logs or passes over, and steps of the locks themselves,
+-- of which it isn't told. A thread is a seat. Lists of deeds are newest first, as histories are.
 use Rattle.std.specs.Prelude.{ℕ, ◌+◌, ◌-◌, Bool, ◌&&◌, ◌==◌, List, [], ◌∷◌, ◌++◌, filter, if◌then◌else◌}
 use Rattle.wit_model.specs.declared.locks.Mode.{Mode}
 use Rattle.wit_model.specs.declared.locks.Mode.TheVariants.{Shared, Exclusive}
+use Rattle.wit_model.specs.declared.calls.Call.{Call}
 use Rattle.wit_model.specs.declared.calls.Entry.{Entry}
 
 -- one atomic step of a thread
 pub data Deed : Type 0 where
   -- its call is accepted, and logged
   Logged : (entry : Entry) → Deed
+  -- its call is passed over, and not logged
+  PassedOver : (thread : ℕ) (call : Call) → Deed
   -- it gets a share of a lock that it asked for
   Take : (thread lock : ℕ) (mode : Mode) → Deed
   -- it gets a share of a lock by a try
@@ -22,6 +25,7 @@ pub data Deed : Type 0 where
 
 abbrev pub thread_of : Deed → ℕ
 thread_of (Logged e) = e.seat.0
+thread_of (PassedOver t call) = t
 thread_of (Take t l mode) = t
 thread_of (TryTake t l mode) = t
 thread_of (Free t l) = t

@@ -10,7 +10,7 @@ use Rattle.wit_model.specs.declared.calls.Call.TheVariants.{Init, Destroy, Check
 use Rattle.wit_model.specs.declared.calls.Reply.{Reply}
 use Rattle.wit_model.specs.declared.calls.Reply.TheVariants.{Made, Done, Pass, Adopted, Known, Recorded, Exhausted, Unrecorded, Unlocked}
 use Rattle.wit_model.specs.Rules.State.{Start}
-use Rattle.wit_model.specs.World.Deeds.{Deed, Take, TryTake, Free, RawUp, RawDown}
+use Rattle.wit_model.specs.World.Deeds.{Deed, PassedOver, Take, TryTake, Free, RawUp, RawDown}
 use Rattle.wit_model.specs.World.Examples.{small, by, at_line}
 
 -- the deeds of the one list and of the other by turns
@@ -69,16 +69,26 @@ tries t l =
     ∷ TryTake t l Shared ∷ Free t l
     ∷ asks t l Exclusive ++ by t (GiveUp (no l)) Done ∷ []
 
--- less is watched and all again, and the order of the two locks is defined
+-- less is watched and all again; in between the order of the two locks is defined, and an unlock
+-- and a downgrade of a lock that it doesn't hold are passed over
 abbrev settles : ℕ → Reply → List Deed
 settles t reply =
     by t (SetWatch Quiet) Done
     ∷ by t (DefineOrder (no 1) (no 2)) reply
+    ∷ PassedOver t (Unlock (no t) Exclusive)
+    ∷ PassedOver t (Downgrade (no t))
     ∷ by t (SetWatch On) Done
     ∷ []
 
--- each does all of it, on the one lock or on the other; in the end both locks are destroyed and
--- nothing is watched any more
+-- where nothing is watched it takes the lock, turns it both ways and frees it
+abbrev unwatched : ℕ → ℕ → List Deed
+unwatched t l =
+    asks t l Shared ++ Take t l Shared ∷ by t (Note (no l)) Unrecorded
+    ∷ RawUp t l ∷ PassedOver t (Upgrade (no l)) ∷ PassedOver t (Downgrade (no l)) ∷ RawDown t l
+    ∷ PassedOver t (Unlock (no l) Shared) ∷ Free t l ∷ []
+
+-- each does all of it, on the one lock or on the other; in the end nothing is watched any more, and
+-- both locks are destroyed
 abbrev pub varied : List Deed
 varied =
     reverse (by_turns (makes 1 (codes "r") 1) (makes 2 (codes "s") 2)
@@ -86,8 +96,8 @@ varied =
     ++ by_turns (turns 1 1) (turns 2 2)
     ++ by_turns (recurses 1 2) (recurses 2 1)
     ++ by_turns (tries 1 1) (tries 2 2)
-    ++ by_turns (by 1 (Destroy (no 1)) Done ∷ []) (by 2 (Destroy (no 2)) Done ∷ [])
-    ++ by 1 (SetWatch Off) Done ∷ [])
+    ++ by 1 (SetWatch Off) Done ∷ by_turns (unwatched 1 1) (unwatched 2 2)
+    ++ by_turns (by 1 (Destroy (no 1)) Done ∷ []) (by 2 (Destroy (no 2)) Done ∷ []))
 
 -- ---- a world in which the chunks run out
 

@@ -4,11 +4,11 @@
 -- the record is noted without being taken;
 -- a try that gets the lock, then its note, or the lock is freed, as where that note is refused;
 -- an unlock, then the lock is freed, which is left out only where more acquisitions were recorded
--- than it has shares;
+-- than it has shares, or the unlock was passed over;
 -- a lock is turned exclusive, then its upgrade is logged, or it is turned back, as where that is
 -- refused;
--- a downgrade, then the lock is turned shared;
--- any other logged call.
+-- a downgrade, then the lock is turned shared, which is left out only where it was passed over;
+-- any other call.
 use Rattle.std.specs.Prelude.{ℕ, Bool, true, false, not, ◌&&◌, ◌==◌, nat_lt, List, [], ◌∷◌}
 use Rattle.wit_model.specs.declared.locks.Mode.{Mode}
 use Rattle.wit_model.specs.declared.locks.Mode.TheVariants.{Shared, Exclusive}
@@ -17,7 +17,7 @@ use Rattle.wit_model.specs.declared.calls.Call.{Call}
 use Rattle.wit_model.specs.declared.calls.Call.TheVariants.{Check, Note, NoteTry, GiveUp, Unlock, Upgrade, Downgrade}
 use Rattle.wit_model.specs.Rules.History.{num, is_held}
 use Rattle.wit_model.specs.Rules.Verdict.{is_exclusive}
-use Rattle.wit_model.specs.World.Deeds.{Deed, Logged, Take, TryTake, Free, RawUp, RawDown, thread_of, own, log_of, shares}
+use Rattle.wit_model.specs.World.Deeds.{Deed, Logged, PassedOver, Take, TryTake, Free, RawUp, RawDown, thread_of, own, log_of, shares}
 
 -- where a thread stands in its latest sequence
 pub data Stage : Type 0 where
@@ -29,22 +29,29 @@ pub data Stage : Type 0 where
   Taken : (lock : ℕ) → Stage
   -- it got a lock by a try
   Tried : (lock : ℕ) (mode : Mode) → Stage
-  -- its unlock is logged; the lock need not be freed where it has fewer shares than were recorded
-  Forgot : (lock : ℕ) (has_fewer : Bool) → Stage
+  -- it called unlock; the lock need not be freed where it has fewer shares than were recorded, nor
+  -- where the call was passed over
+  Forgot : (lock : ℕ) (may_keep : Bool) → Stage
   -- its lock was turned exclusive
   Raised : (lock : ℕ) → Stage
-  -- its downgrade is logged
-  Lowered : (lock : ℕ) → Stage
+  -- it called downgrade; the lock need not be turned shared where the call was passed over
+  Lowered : (lock : ℕ) (passed : Bool) → Stage
 
 abbrev pub stage_logged : ℕ → Call → List Deed → Stage
 stage_logged t (Check q) before = Asked q
 stage_logged t (Unlock l mode) before =
     Forgot l.0 (nat_lt (shares t l.0 before) (num t l.0 (log_of before)))
-stage_logged t (Downgrade l) before = Lowered l.0
+stage_logged t (Downgrade l) before = Lowered l.0 false
 stage_logged t _ before = Over
+
+abbrev pub stage_passed : Call → Stage
+stage_passed (Unlock l mode) = Forgot l.0 true
+stage_passed (Downgrade l) = Lowered l.0 true
+stage_passed _ = Over
 
 abbrev pub stage_after : ℕ → Deed → List Deed → Stage
 stage_after t (Logged e) before = stage_logged t e.call before
+stage_after t (PassedOver u call) before = stage_passed call
 stage_after t (Take u l mode) before = Taken l
 stage_after t (TryTake u l mode) before = Tried l mode
 stage_after t (RawUp u l) before = Raised l
@@ -58,7 +65,8 @@ stage t (d ∷ before) = stage_after t d before
 -- whether the sequence may end here
 abbrev pub is_over : Stage → Bool
 is_over Over = true
-is_over (Forgot l has_fewer) = has_fewer
+is_over (Forgot l may_keep) = may_keep
+is_over (Lowered l passed) = passed
 is_over _ = false
 
 abbrev pub is_same_mode : Mode → Mode → Bool
@@ -81,14 +89,15 @@ call_follows _ held at = is_over at
 -- whether a deed may
 abbrev pub follows : Deed → (ℕ → Bool) → Stage → Bool
 follows (Logged e) held at = call_follows e.call held at
+follows (PassedOver t call) held at = call_follows call held at
 follows (Take t l mode) held (Asked q) =
     (q.lock.0 == l) && (is_same_mode q.mode mode && not (held l))
 follows (TryTake t l mode) held at = is_over at
 follows (Free t l) held (Tried m mode) = m == l
-follows (Free t l) held (Forgot m has_fewer) = m == l
+follows (Free t l) held (Forgot m may_keep) = m == l
 follows (RawUp t l) held at = is_over at
 follows (RawDown t l) held (Raised m) = m == l
-follows (RawDown t l) held (Lowered m) = m == l
+follows (RawDown t l) held (Lowered m passed) = m == l
 follows _ held _ = false
 
 -- whether it may come next, as its thread stands

@@ -4,11 +4,12 @@ use Rattle.std.specs.Prelude.{ℕ, ◌<◌, ◌≡◌, Bool, true, false, not, �
 use Rattle.std.specs.List.{list_all, range_with_len}
 use Rattle.wit_model.specs.declared.locks.Mode.{Mode}
 use Rattle.wit_model.specs.declared.locks.Mode.TheVariants.{Shared, Exclusive}
+use Rattle.wit_model.specs.declared.calls.Reply.TheVariants.{Ignored}
 use Rattle.wit_model.specs.Rules.Numbers.{is_number}
 use Rattle.wit_model.specs.Rules.State.{Start}
 use Rattle.wit_model.specs.Rules.Verdict.{is_exclusive}
 use Rattle.wit_model.specs.Rules.Step.{answer_of, story_after, is_logged}
-use Rattle.wit_model.specs.World.Deeds.{Deed, Logged, Take, TryTake, Free, RawUp, RawDown, log_of, shares, raw_mode}
+use Rattle.wit_model.specs.World.Deeds.{Deed, Logged, PassedOver, Take, TryTake, Free, RawUp, RawDown, log_of, shares, raw_mode}
 use Rattle.wit_model.specs.World.Stages.{may_follow}
 
 -- whether lock l may be had so, where threads count from 1 to this many: exclusive where nobody has
@@ -29,6 +30,9 @@ CanDo start files (Logged e) w =
     (answer_of (story_after start files (log_of w)) e.seat.0 e.call ≡ Ok e.reply)
     × (is_logged e.reply ≡ true)
     × (may_follow (Logged e) w ≡ true)
+CanDo start files (PassedOver t call) w =
+    (answer_of (story_after start files (log_of w)) t call ≡ Ok Ignored)
+    × (may_follow (PassedOver t call) w ≡ true)
 CanDo start files (Take t l mode) w =
     (is_number start.sizes.seats t ≡ true)
     × (may_follow (Take t l mode) w ≡ true)

@@ -57,7 +57,8 @@ pub fn law_clean_run()
 /// Every sequence of steps can be done, and every call made, while another thread does its own:
 /// here is a world of two threads with each of them, where the one does something between any two
 /// deeds of the other. Locks are taken shared and exclusively, recursed, turned both ways, tried,
-/// given up, marked and destroyed; an order is defined, and less is watched for a while. They go on
+/// given up, marked and destroyed; an order is defined, and less is watched for a while, and then
+/// nothing: calls are passed over, before a lock is freed or turned and where it isn't. They go on
 /// where the chunks run out.
 pub fn law_sequences_run()
     ensures all { VariedIsWorld }
