@@ -16,6 +16,8 @@ mod lines;
 #[cfg(test)]
 mod matrices;
 #[cfg(test)]
+mod pools;
+#[cfg(test)]
 mod streams;
 #[cfg(test)]
 mod tables;
