@@ -7,4 +7,5 @@ pub mod Removing
 pub mod Shifting
 pub mod Spots
 pub mod Standing
-pub mod Threads
+pub mod Steps
+mod Threads

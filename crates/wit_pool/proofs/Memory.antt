@@ -3,7 +3,7 @@
 --     mark_made, mark_had    a value that takes no bytes
 --     slot_emptied           a value that is forgotten leaves an empty place
 --     room_left              so a whole block is room, whatever it held
-use mathlib.Core.Path.{◌≡◌, refl, subst}
+use mathlib.Core.Path.{◌≡◌, refl, sym, subst}
 use Prim.Native.Nat.{ℕ, ◌+◌}
 use mathlib.Core.List.{List, [], ◌∷◌, ◌++◌}
 use lib.ListN.{length, replicate}
@@ -11,7 +11,7 @@ use seplogic.Ra.Ura.{Ura}
 use base.Fraction.{full_share}
 use mir.Syntax.{ty_array}
 use mir.Val.{Val, vstruct, vcons, vnil, of_list}
-use base.Logic.{ent, emp, id⊢, via}
+use base.Logic.{SProp, ent, emp, id⊢, via}
 use base.Fml.{fat, froom}
 use types.Logic.{Logic, sem}
 use types.Kit.{Item, Goal, Seq, ‵, ◌⊛◌, some, given, ◌$◌, ◌∵◌, !, qed, move, keep, drop as skip, use1, pick, learn, split, fsplit, fjoin, fpick, feq_l, done}
@@ -47,6 +47,9 @@ pub mark_made : (E : El) {M : Type 1} {𝓤 : Ura M} (𝓛 : Logic 𝓤)
 mark_made E 𝓛 =
     makes_shadow 𝓛 ((Marked E).own_val (tt, tt) (mark ∷ [])) (λ vss. (tt, ((λ uss. (tt, tt)), tt)))
     ((vstruct vnil ∷ [], tt), (refl, ((tt, (refl, tt)), tt)))
+
+pub at_words : {M : Type 1} (𝓤 : Ura M) (Q : List Val → SProp 𝓤) {us ws : List Val} → us ≡ ws → ent 𝓤 (Q ws) (Q us)
+at_words 𝓤 Q {us} {ws} e = subst (λ vs. ent 𝓤 (Q ws) (Q vs)) (sym e) (id⊢ 𝓤 (Q ws))
 
 module _ {M : Type 1} {𝓤 : Ura M} {𝓛 : Logic 𝓤} {K : Type 0} {Γ : List (Item 𝓤)} {G : Goal 𝓤 𝓛.H} where
   pub mark_had : K → (E : El) (vs : List Val) → (vs ≡ mark ∷ [] → Seq K 𝓛 Γ G)

@@ -37,12 +37,14 @@ pub record Stands (at : Ptr) (cs : List (Option Chunk)) (chains : List Chain) (f
   pub spare : IsLinked at cs free
 
 -- the next newer chunk leads past one to the next older, or the list begins there
-abbrev pub Passes : List (Option Chunk) → List (Option Chunk) → Option Next → Option Next → Option Next → Option Next → Type 0
+abbrev pub Passes : List (Option Chunk) → List (Option Chunk) → Option Next → Option Next
+    → Option Next → Option Next → Type 0
 Passes cs cs' None next head head' = (cs' ≡ cs) × (head' ≡ next)
 Passes cs cs' (Some q) next head head' = IsLed cs cs' q.place next × (head' ≡ head)
 
 -- a list with this first link is led past a chunk, and then the chunk leads to the free ones
-pub record IsFreed (cs cs' : List (Option Chunk)) (p : ℕ) (newer head free head' : Option Next) : Type 0 where
+pub record IsFreed (cs cs' : List (Option Chunk)) (p : ℕ) (newer head free head' : Option Next)
+    : Type 0 where
   pub between : List (Option Chunk)
   pub passed : Passes cs between newer (next_of (chunk_at cs p)) head head'
   pub freed : IsLed between cs' p free

@@ -1,5 +1,6 @@
 -- Which place of a block an address is.
-use Rattle.std.specs.Prelude.{◌≡◌, ℕ, ◌+◌, ◌-◌, ◌*◌, ◌/◌, ◌<◌, List, length, Option, None, Some, get_or}
+use Rattle.std.specs.Prelude.{◌≡◌, ℕ, ◌+◌, ◌-◌, ◌*◌, ◌/◌, ◌<◌}
+use Rattle.std.specs.Prelude.{List, length, Option, None, Some, get_or}
 use Rattle.std.specs.Mem.{type_size}
 use denote.RattleType.{RattleType}
 use denote.RawPtr.{Ptr, block_ptr, null_ptr, count_of}
@@ -20,4 +21,5 @@ module _ (R : RattleType) where
 
   -- a place of the block that holds a value
   abbrev pub IsSpot : Ptr → List (Option R.Denot) → Ptr → Type 0
-  IsSpot at cs p = (p ≡ spot_at at (spot at p)) × ((x : R.Denot) × (get_or cs (spot at p) None ≡ Some x))
+  IsSpot at cs p =
+      (p ≡ spot_at at (spot at p)) × ((x : R.Denot) × (get_or cs (spot at p) None ≡ Some x))

@@ -1,7 +1,8 @@
 //! One block as a row of places, each empty or with a value in it, and links to its places.
 //! Nothing outside this file follows a pointer.
 
-ghost use Rattle.std.specs.Prelude.{◌≡◌, ℕ, ◌<◌, List, Option, Some, None, length, replicate, get_or, slice_set, IfOk, ⊤};
+ghost use Rattle.std.specs.Prelude.{◌≡◌, ℕ, ◌<◌, List, Option, Some, None, IfOk, ⊤};
+ghost use Rattle.std.specs.Prelude.{length, replicate, get_or, slice_set};
 ghost use Rattle.std.specs.Mem.{type_size};
 ghost use Rattle.std.specs.Vec.Ownership.{FitsInBlock};
 ghost use base.Fml.{ftrue};
@@ -79,7 +80,8 @@ pub(crate) fn allocate<T, A: Allocator>(
     count: usize,
 ) -> Result<(Link<T>, Cells<T>, Deed<T, A>), AllocError>
     requires { FitsInBlock T.row count }
-    ensures { IfOk result (λ r. (r.1.at ≡ r.0.ptr) × (r.1.slots ≡ replicate count None) × (r.2.at ≡ r.0.ptr) × (r.2.len ≡ count) × (r.2.alloc ≡ alloc.now)) }
+    ensures { IfOk result (λ r. (r.1.at ≡ r.0.ptr) × (r.1.slots ≡ replicate count None)
+        × (r.2.at ≡ r.0.ptr) × (r.2.len ≡ count) × (r.2.alloc ≡ alloc.now)) }
 {
     match alloc.allocate(count * size_of::<T>(), align_of::<T>()) {
         Ok(block) => {
@@ -104,7 +106,8 @@ pub(crate) fn deallocate<T, A: Allocator>(
     cells: Cells<T>,
     deed: Deed<T, A>,
 )
-    requires { (cells.at ≡ first.ptr) × (length cells.slots ≡ count) × (deed.at ≡ first.ptr) × (deed.len ≡ count) × (deed.alloc ≡ alloc.now) }
+    requires { (cells.at ≡ first.ptr) × (length cells.slots ≡ count)
+        × (deed.at ≡ first.ptr) × (deed.len ≡ count) × (deed.alloc ≡ alloc.now) }
 {
     let Cells { mark: _ } = cells;
     let Deed { mark: _ } = deed;
@@ -121,7 +124,8 @@ impl<T> Cells<T> {
     /// A link to a place of the block.
     pub(crate) fn link(&self, first: Link<T>, place: usize) -> Link<T>
         requires { (first.ptr ≡ self.now.at) × (place < length self.now.slots) }
-        ensures { (result.ptr ≡ spot_at T.row self.now.at place) × (0 < type_size T.row → spot T.row self.now.at result.ptr ≡ place) }
+        ensures { (result.ptr ≡ spot_at T.row self.now.at place)
+            × (0 < type_size T.row → spot T.row self.now.at result.ptr ≡ place) }
     {
         unsafe {
             Link {
@@ -141,7 +145,9 @@ impl<T> Cells<T> {
     /// Puts a value into a place. The one that it held is forgotten, and not dropped.
     pub(crate) fn put(&mut self, link: Link<T>, item: T)
         requires { IsPlace T.row self.old.at self.old.slots link.ptr }
-        ensures { (self.new.at ≡ self.old.at) × (self.new.slots ≡ slice_set self.old.slots (spot T.row self.old.at link.ptr) (Some item)) }
+        ensures { (self.new.at ≡ self.old.at)
+            × (self.new.slots
+            ≡ slice_set self.old.slots (spot T.row self.old.at link.ptr) (Some item)) }
     {
         unsafe { link.ptr.write(item) }
     }

@@ -1,6 +1,7 @@
 //! Chunks one after another: those of a list, newest first, or the free ones.
 
-ghost use Rattle.std.specs.Prelude.{◌≡◌, ℕ, ◌+◌, ◌-◌, ◌<◌, ◌≤◌, [], None, Some, length, replicate, IfSome};
+ghost use Rattle.std.specs.Prelude.{◌≡◌, ℕ, ◌+◌, ◌-◌, ◌<◌, ◌≤◌, [], None, Some, IfSome};
+ghost use Rattle.std.specs.Prelude.{length, replicate};
 ghost use Rattle.std.specs.List.{range_with_len};
 ghost use Rattle.wit_pool.specs.Chunks.{IsAt, IsLed, IsThere, chunk_at, content, next_of, rows_in};
 ghost use Rattle.wit_pool.specs.Chains.{IsLinked, IsFreed, Passes, chunks_of};
@@ -42,8 +43,10 @@ pub fn link_all(cells: &mut Cells<Chunk>, first: Link<Chunk>, count: usize) -> C
 pub fn open_chunk(cells: &Cells<Chunk>, chain: Chain) -> Option<Next>
     requires { IsLinked cells.now.at cells.now.slots chain }
     ensures newest { IfSome result (λ at. chain.head ≡ Some at) }
-    ensures short { IfSome result (λ at. length (content (chunk_at cells.now.slots at.place)) < 5) }
-    ensures full { result ≡ None → IfSome chain.head (λ at. 5 ≤ length (content (chunk_at cells.now.slots at.place))) }
+    ensures short { IfSome result (λ at.
+        length (content (chunk_at cells.now.slots at.place)) < 5) }
+    ensures full { result ≡ None → IfSome chain.head (λ at.
+        5 ≤ length (content (chunk_at cells.now.slots at.place))) }
 {
     match chain.head {
         Some(at) => {
@@ -65,7 +68,8 @@ pub fn take_free(cells: &mut Cells<Chunk>, at: Next, chain: Chain, free: Chain) 
     ensures at { cells.new.at ≡ cells.old.at }
     ensures slots { IsLed cells.old.slots cells.new.slots at.place chain.head }
     ensures chain { (result.0.head ≡ Some at) × (result.0.count ≡ chain.count + 1) }
-    ensures free { (result.1.head ≡ next_of (chunk_at cells.old.slots at.place)) × (result.1.count ≡ free.count - 1) }
+    ensures free { (result.1.head ≡ next_of (chunk_at cells.old.slots at.place))
+        × (result.1.count ≡ free.count - 1) }
 {
     let next = read(cells, at).next;
     lead(cells, at, chain.head);
@@ -93,7 +97,8 @@ pub fn free_chunk(
     requires some { 1 ≤ chain.count }
     requires few { free.count ≤ 65536 }
     ensures at { cells.new.at ≡ cells.old.at }
-    ensures slots { IsFreed cells.old.slots cells.new.slots at.place newer chain.head free.head result.0.head }
+    ensures slots { IsFreed cells.old.slots cells.new.slots at.place newer chain.head free.head
+        result.0.head }
     ensures chain { result.0.count ≡ chain.count - 1 }
     ensures free { (result.1.head ≡ Some at) × (result.1.count ≡ free.count + 1) }
 {
@@ -111,7 +116,8 @@ pub fn free_chunk(
     (shorter, longer)
 }
 
-// Where a list begins, once the next newer chunk, or the list itself, leads past a chunk to the next older one.
+// Where a list begins, once the next newer chunk, or the list itself, leads past a chunk to the
+// next older one.
 fn pass(
     cells: &mut Cells<Chunk>,
     newer: Option<Next>,

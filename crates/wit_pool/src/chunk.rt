@@ -1,9 +1,11 @@
 //! Chunks, and how they are linked.
 
-ghost use Rattle.std.specs.Prelude.{◌≡◌, ℕ, ◌<◌, ◌++◌, [], ◌∷◌, Some, length, slice_set, IfSome};
+ghost use Rattle.std.specs.Prelude.{◌≡◌, ℕ, ◌<◌, ◌++◌, [], ◌∷◌, Some, IfSome};
+ghost use Rattle.std.specs.Prelude.{length, slice_set};
 ghost use Rattle.std.specs.Option.{option_map};
 ghost use Rattle.std.specs.List.{remove};
-ghost use Rattle.wit_pool.specs.Chunks.{Leads, IsAt, IsRegrouped, IsLed, chunk_at, content, place_of};
+ghost use Rattle.wit_pool.specs.Chunks.{Leads, IsAt, IsRegrouped, IsLed};
+ghost use Rattle.wit_pool.specs.Chunks.{chunk_at, content, place_of};
 
 use crate::cells::{Cells, Link};
 use crate::group::Group;
@@ -100,7 +102,8 @@ pub fn put(cells: &mut Cells<Chunk>, at: Next, instance: Instance)
     requires there { IsAt cells.old.at cells.old.slots at }
     requires short { length (content (chunk_at cells.old.slots at.place)) < 5 }
     ensures at { cells.new.at ≡ cells.old.at }
-    ensures slots { IsRegrouped cells.old.slots cells.new.slots at.place (content (chunk_at cells.old.slots at.place) ++ instance ∷ []) }
+    ensures slots { IsRegrouped cells.old.slots cells.new.slots at.place
+        (content (chunk_at cells.old.slots at.place) ++ instance ∷ []) }
 {
     let chunk = *read(cells, at);
     let next = chunk.next;
@@ -113,7 +116,8 @@ pub fn put_at(cells: &mut Cells<Chunk>, at: Next, index: usize, instance: Instan
     requires there { IsAt cells.old.at cells.old.slots at }
     requires index { index < length (content (chunk_at cells.old.slots at.place)) }
     ensures at { cells.new.at ≡ cells.old.at }
-    ensures slots { IsRegrouped cells.old.slots cells.new.slots at.place (slice_set (content (chunk_at cells.old.slots at.place)) index instance) }
+    ensures slots { IsRegrouped cells.old.slots cells.new.slots at.place
+        (slice_set (content (chunk_at cells.old.slots at.place)) index instance) }
 {
     let chunk = *read(cells, at);
     let next = chunk.next;
@@ -126,7 +130,8 @@ pub fn take_out(cells: &mut Cells<Chunk>, at: Next, index: usize) -> usize
     requires there { IsAt cells.old.at cells.old.slots at }
     requires index { index < length (content (chunk_at cells.old.slots at.place)) }
     ensures at { cells.new.at ≡ cells.old.at }
-    ensures slots { IsRegrouped cells.old.slots cells.new.slots at.place (remove (content (chunk_at cells.old.slots at.place)) index) }
+    ensures slots { IsRegrouped cells.old.slots cells.new.slots at.place
+        (remove (content (chunk_at cells.old.slots at.place)) index) }
     ensures left { result ≡ length (remove (content (chunk_at cells.old.slots at.place)) index) }
 {
     let chunk = *read(cells, at);

@@ -1,6 +1,7 @@
 //! What one chunk holds.
 
-ghost use Rattle.std.specs.Prelude.{◌≡◌, ◌<◌, ◌≤◌, ◌++◌, [], ◌∷◌, length, take, slice_set};
+ghost use Rattle.std.specs.Prelude.{◌≡◌, ◌<◌, ◌≤◌, ◌++◌, [], ◌∷◌};
+ghost use Rattle.std.specs.Prelude.{length, take, slice_set};
 ghost use Rattle.std.specs.List.{remove};
 
 use wit_model::{FileNo, Instance, LockNo, Mode, Site};
@@ -66,7 +67,8 @@ impl Group {
     /// Another one at this place.
     pub fn with_at(self, index: usize, instance: Instance) -> Group
         requires { index < length (take self.held self.items) }
-        ensures { take result.held result.items ≡ slice_set (take self.held self.items) index instance }
+        ensures { take result.held result.items
+            ≡ slice_set (take self.held self.items) index instance }
     {
         let mut items = self.items;
         items[index] = instance;

@@ -19,6 +19,7 @@ mod matrices;
 mod refusals;
 #[cfg(test)]
 mod sizes;
+mod pools;
 #[cfg(test)]
 mod streams;
 #[cfg(test)]

@@ -1,231 +1,141 @@
--- `allocate` cuts a new block into empty places, and keeps the right to give it back. Assumes `Logic`.
-use mathlib.Core.Path.{◌≡◌, refl, sym, ap, subst}
-use mathlib.Core.Bool.{true, false}
-use Prim.Native.Nat.{ℕ, ◌*◌, ◌<◌, ◌^◌}
-use native.Mathlib.Omega.{arith}
-use mathlib.Core.List.{List, [], ◌∷◌, ◌++◌}
+-- A block that the allocator gave is a row of empty places, with the right to give it back; where it gave none, nothing
+-- is taken. Assumes `Logic`.
+use Rattle.wit_pool.proofs.Steps.{◌≡◌, refl, sym, ap, subst, ℕ, ◌*◌, ◌<◌, ◌^◌, arith, List, [], ◌∷◌, ◌++◌, length, replicate, length-replicate, SProp, Incl-trans, ftrue, flft, inst_fn, Body, ty_array, w64, Val, vint, vptr, vstruct, vcons, vnil, WpFn, fact, tables, ◌⊑◌, Sq, prop, ‵, raw, ◌⊛◌, later, at_ret, ◌$◌, ◌∵◌, !, qed, move, keep, skip, use0, use1, use2, use3, split, join, fsplit, fjoin, feq_l, flt_i, flt_l, await, suffices, frame, done, whole, agg, enter, lit, size_word, align_word, bin, stop, fld, of_opd, and_then, no_more, switches_on, first, exec, returns, alloc_all, pass_all, free_all, look_at, get, get_in, get_tag, is, sets, sets_last, lands_as, env, yes, RattleType, owns, layout, Ptr, block_ptr, RefOf, usize, plain, types_at, nothing, heard, owned, calls_at, framed, Stays, stay_dropped, walk_of, says, ends_at, Goes-dropped, None, proved_at, after, Good, word, word-Good, as_written, El, R, elτ, slots, sz, word_made}
 use lib.Dec.{lit<}
-use lib.ListN.{length, replicate, length-replicate}
-use seplogic.Ra.Ura.{Ura}
-use mir.Syntax.{Fn, Body, named, w64, ty_array}
-use mir.MapTy.{inst_fn}
-use mir.Val.{Val, vptr, vint, vstruct, vcons, vnil}
-use base.Logic.{SProp, ent}
-use base.Fml.{Lft, Share, ftrue, flft, Incl-trans}
-use prog.Memory.{Memory, align, capped}
+use mathlib.Core.Bool.{true, false}
 use prog.Capped.{capped_fits}
-use prog.Routine.{Routine}
-use prog.Wp.{Env, Calls, Loops, Wp, WpFn, Tables, after_seq, at_return}
-use types.Logic.{Logic}
-use contract.Monad.{Fun, fact}
-use contract.BorrowLft.{◌⊑◌}
-use contract.Running.{tables, tables_of}
-use sound.WpLaws.{FmC, fm_of, WpFn-mono}
-use types.Kit.{Item, ⋆, ‵, raw, ◌⊛◌, later, await, at_ret, any_q, Post as After, ◌$◌, ◌∵◌, !, qed, by, move, keep, use0, use1, use2, use3, split, join, fsplit, fsplit3, fjoin, feq_l, flt_l, flt_i, suffices, frame, done}
+use prog.Memory.{align, capped}
+use prog.Wp.{Wp, after_seq, at_return}
+use types.Kit.{Post as Goes, any_q}
 use types.Match.{live, vrt, in_variant}
-use types.Part.{whole, agg}
-use types.Run.{stop, fld, lit, bin, size_word, align_word, switches_on, of_opd, and_then, no_more, first, exec, returns, enter}
-use types.ByLocal.{alloc_all, pass_all, free_all, look_at, get, get_in, get_tag, lands_as, sets, sets_last, is, env}
-use denote.Exit.{yes}
-use denote.RattleType.{RattleType, owns}
 use denote.Laws.{Is}
-use denote.Memory.{hidden_shr}
-use denote.Param.{layout}
-use denote.RawPtr.{Ptr, block_ptr}
-use denote.Ref.{Bor, ShrRef}
-use denote.Builtin.{RefOf, usize}
-use denote.Signature.{plain}
-use denote.Steps.{nothing, owned}
 use denote.Struct.Struct.{Struct, Struct-Makes}
 use denote.Struct.Declared as Declared
 use denote.Struct.Tuple.{Tuple}
-use denote.Triple.Call.{calls_at}
-use denote.Triple.Clauses.{Clauses, Ended, closing}
-use denote.Triple.Entry.{on_entry}
-use denote.Triple.Spec.{Meets, triple_of}
-use denote.Triple.Statement.{Triple}
-use denote.Triple.Table.{entered}
-use denote.Triple.Walked.{says, needs, Stays, stay_dropped, walk_of, ends_at, Goes-dropped, walk_Meets}
-use Rattle.std.specs.Prelude.{None, IfOk, Ok, Err}
+use Rattle.std.specs.Prelude.{Ok, Err, IfOk}
 use Rattle.std.specs.Vec.Ownership.{FitsInBlock}
 use Rattle.core.specs.contracts.result.Result as Outcome
 use Rattle.core.specs.contracts.alloc.AllocError as Want
-use Rattle.core.proofs.alloc.Calls.{Al, second, Answer-typed, takes_key, Takes, at_takes, Answered, Takes-goes, Takes-gives, answers}
-use Rattle.core.proofs.mem.Param.{El, R, elτ}
-use Rattle.core.proofs.slots.Leases.{uncapped, block_ty, block_size, block_align, args, P}
-use Rattle.std_alloc.proofs.VecSteps.Shapes.{after, head, arm_body}
-use Rattle.std_alloc.proofs.RawLayout.{as_written}
-use Rattle.std_alloc.proofs.RcSteps.{Good, first_Good, word, word-Good}
+use Rattle.core.proofs.alloc.Calls.{Al, Answer-typed, Takes, at_takes, Answered, Takes-goes, Takes-gives, answers}
+use Rattle.core.proofs.slots.Leases.{uncapped, block_ty, block_size, block_align, args as both, P}
+use Rattle.std_alloc.proofs.VecSteps.Shapes.{head, arm_body}
+use Rattle.std_alloc.proofs.RcSteps.{first_Good}
 use Rattle.std_alloc.proofs.ResultValues.{ok_of, err_of}
-use Rattle.circular_buffer.specs.Ownership.{slots}
-use Rattle.circular_buffer.proofs.Memory.{sz, three_val, three_of, of_room, word_made}
+use Rattle.circular_buffer.proofs.Memory.{three_val, three_of, of_room}
+use Rattle.wit_pool.proofs.Memory.{Cr, Lk, Marked, mark, mark_made, at_words}
 use Rattle.wit_pool.specs.contracts.cells.Deed as Deeds
-use Rattle.wit_pool.specs.contracts.cells.allocate as F
-use Rattle.wit_pool.specs.contracts.cells.allocate.Key.{name as #self}
-use Rattle.wit_pool.proofs.Memory.{Cr, Lk, Marked, mark, mark_made}
-use Rattle.wit_pool.proofs.cells.allocate.Statement as stated
+use Rattle.wit_pool.specs.contracts.cells.allocate as f
+use Rattle.wit_pool.proofs.cells.allocate.Statement.{statement}
 use Rattle.wit_pool.proofs.cells.allocate.Code as code
 
-module _ (E : El) (Z : Al) where
-  abbrev function : Fn
-  function = inst_fn (args E Z) code.function
-
-  abbrev ended : Ended
-  ended = F.ended E.row Z.row Z.g Z.d Z.drops
-
-  abbrev clauses : {M : Type 1} {𝓤 : Ura M} (𝓛 : Logic 𝓤) → (Memory → SProp 𝓤) → (Routine → Fun 𝓤) → Clauses 𝓤 ended
-  clauses 𝓛 = F.clauses E.row Z.row Z.g Z.d Z.drops 𝓛
-
-  abbrev Dd : RattleType
-  Dd = Deeds.the_row (R E) (P E Z) Z.g
-
-  abbrev stayed : Stays ended.signature.params ended.kept
-  stayed =
-      (stay_dropped (RefOf (0 ∷ []) tt (plain (λ _. P E Z)) (λ _. tt)) yes, (stay_dropped (plain (λ _. usize)) yes, tt))
-
-  abbrev Three : RattleType
-  Three = Tuple (Lk E ∷ Cr E ∷ Dd ∷ [])
-
-  abbrev Out : RattleType
-  Out = Outcome.the_row Three Want.the_row
-
-  -- what is told of n places from the allocator a
-  abbrev Gives : Z.row.Denot → ℕ → Out.Denot → Type 0
-  Gives a n r =
-      IfOk r (λ t.
-      (t.1.at ≡ t.0.ptr) × (t.1.slots ≡ replicate n None) × (t.2.at ≡ t.0.ptr) × (t.2.len ≡ n) × (t.2.alloc ≡ a))
-
-module _ (E : El) (Z : Al) {M : Type 1} {𝓤 : Ura M} (𝓛 : Logic 𝓤) (at_mem : Memory → SProp 𝓤) (run : Routine → Fun 𝓤)
-    (C : Calls 𝓤 𝓛.H) (Λ : Loops 𝓤 𝓛.H) (fm : FmC 𝓤 𝓛.H 𝓛.laws C)
-    (callee : Triple 𝓤 (C (takes_key Z)) (Takes Z 𝓛 at_mem run)) (κ κ₁ κ₂ : Lft) (q q₁ q₂ : Share)
-    (short : κ ⊑ κ₂) (within : κ₂ ⊑ Z.row.lives) (rb ro : ℕ) (a : Z.row.Denot) (n : ℕ) (us0 us1 : List Val) where
-  open 𝓛 use {H, A}
-
-  abbrev self : Bor Z.row.Denot
-  self = record { ref_ptr = (rb, ro); now = a }
-
-  abbrev others : Item 𝓤
-  others = ‵ (flft κ₁ q₁) ⊛ ‵ (flft κ₂ q₂) ⊛ ‵ ftrue
-
-  abbrev bound : (walk_of 𝓛 (ended E Z) (stayed E Z) (clauses E Z 𝓛 at_mem run)).Ghost
-  bound = (((κ, (κ₁, (κ₂, tt))), (q, (q₁, (q₂, tt))), (short, tt), (self, (n, tt)), (us0, (us1, tt))), tt)
-
-  abbrev Post : Val → SProp 𝓤
-  Post = (walk_of 𝓛 (ended E Z) (stayed E Z) (clauses E Z 𝓛 at_mem run)).post bound
-
-  exits : (r : (Out E Z).Denot) (v : Val) → Gives E Z a n r
-      → ent 𝓤 (⋆ 𝓛 (‵ ((Out E Z).own_val r (v ∷ [])) ∷ ‵ (flft κ q) ∷ others ∷ [])) (Post v)
-  exits r v gives =
-      qed 𝓛 (‵ ((Out E Z).own_val r (v ∷ [])) ∷ ‵ (flft κ q) ∷ others ∷ []) ∵
-      suffices ! _ (ends_at 𝓛 (ended E Z) (stayed E Z) (clauses E Z 𝓛 at_mem run) bound v r (tt, (tt, tt)) (tt, (tt, tt))) $
-      says ! gives $ move ! (1 ∷ 2 ∷ []) $ join ! $ frame ! $ nothing ! $ nothing ! $ fjoin ! $ nothing ! $ fjoin ! $ done !
-
-  abbrev Had : List (Item 𝓤)
-  Had = ‵ (hidden_shr (P E Z) κ a rb ro) ∷ ‵ (flft κ q) ∷ others ∷ []
-
-  walk : FitsInBlock (R E) n → n < 2 ^ 64
-      → ent 𝓤 (⋆ 𝓛 Had) (WpFn 𝓤 H C Λ (function E Z) (vptr rb ro ∷ vint w64 n ∷ []) Post)
-  walk asked fits =
-      let s : ℕ = sz E in
-      let small : n * s < 2 ^ 63 = asked.0 in
-      let bytes : n * s < 2 ^ 64 = omega arith in
-      qed 𝓛 Had ∵ enter ! C Λ (function E Z) (vptr rb ro ∷ vint w64 n ∷ []) _ $
-      alloc_all ! (λ l. pass_all ! refl ((tt, tt), ((tt, record { fits = fits }), tt)) $
-      let En : Env 𝓤 H = env (function E Z).locals l in
-      let asks : Body = head (after 2 (function E Z).body) in
-      let rest : Body = after 3 (function E Z).body in
-      let Then : After 𝓤 H =
-      any_q (after_seq 𝓤 H (Wp 𝓤 H C Λ En rest (at_return 𝓤 H En Post)) (at_return 𝓤 H En Post)) in
-      let al : ℕ = capped (align (elτ E)) in
-      let y : (Takes Z 𝓛 at_mem run).Ghost = at_takes Z 𝓛 at_mem run κ q (rb, ro) a (n * s) al (block_ty E n) in
-      sets !
-      (is ! (bin ! (get ! refl) (size_word !) (record { fits = subst (λ (k : ℕ). k < 2 ^ 64) (sym (uncapped n s bytes)) bytes }))
-      (ap (vint w64) (uncapped n s bytes))) refl (tt, record { fits = bytes }) $
-      use2 𝓛 (raw ((Takes Z 𝓛 at_mem run).pre y))
-      (Takes-goes Z 𝓛 at_mem run κ q (rb, ro) a (Incl-trans short within) (n * s) al (block_ty E n)
-      (block_size E n bytes) (block_align E n) bytes (capped_fits (align (elτ E)))) $
-      calls_at ! fm (Takes Z 𝓛 at_mem run) callee y
-      (and_then ! (get ! refl) (and_then ! (get ! refl) (and_then ! (align_word !) (no_more !)))) (λ v.
-      use1 𝓛 (later (raw (Answered Z 𝓛 at_mem run a (block_ty E n) v) ⊛ ‵ (flft κ q)))
-      (Takes-gives Z 𝓛 at_mem run κ q (rb, ro) a (n * s) al (block_ty E n) v) $ await ! tt $ split ! $
-      answers Z ! at_mem run a (block_ty E n) v
-      (λ b o e.
-      let p : Ptr = block_ptr b o in
-      let base : (Lk E).Denot = record { ptr = p } in
-      let cells : (Cr E).Denot = record { mark = record {}; at = p; slots = replicate n None } in
-      let deed : (Dd E Z).Denot = record { mark = record {}; at = p; len = n; alloc = a } in
-      let made : Val = three_val (word p) mark mark in
-      let typed : Good (layout (Three E Z)) made = (tt, ((tt, tt), ((tt, tt), ((tt, tt), tt)))) in
-      let ok = first_Good (layout (Three E Z)) made typed in
-      lands_as ! e refl (Answer-typed true b o) $ first ! $
-      switches_on ! (get_tag ! (vrt ! refl (fld ! refl (stop !))) (whole !)) $ exec ! C Λ En (arm_body 0 asks) Then $
-      sets ! (of_opd ! (get_in ! (vrt ! refl (fld ! refl (stop !))) (in_variant ! 0 0 refl refl (whole !)))) refl (tt, tt) $
-      sets ! (of_opd ! (get ! refl)) refl (tt, tt) $
-      sets ! (agg ! (and_then ! (get ! refl) (no_more !))) refl (word-Good [] p) $
-      sets ! (agg ! (no_more !)) refl (tt, tt) $
-      sets ! (agg ! (and_then ! (get ! refl) (no_more !))) refl (tt, (tt, tt)) $
-      sets ! (agg ! (no_more !)) refl (tt, tt) $
-      sets ! (agg ! (and_then ! (get ! refl) (no_more !))) refl (tt, (tt, tt)) $
-      sets ! (agg ! (and_then ! (get ! refl) (and_then ! (get ! refl) (and_then ! (get ! refl) (no_more !))))) refl typed $
-      sets_last ! (agg ! (and_then ! (lit ! tt) (and_then ! (get ! refl) (no_more !)))) refl ok $
-      exec ! C Λ En rest (at_ret En Post) $ sets ! (of_opd ! (get ! refl)) refl ok $
-      move ! (1 ∷ []) $ use0 𝓛 (‵ ((Marked E).own_val (tt, tt) (mark ∷ []))) (mark_made E 𝓛) $ fjoin ! $ move ! (1 ∷ []) $
-      as_written ! (ty_array (elτ E) n) b o $ use1 𝓛 (‵ (slots (R E) b o cells.slots)) (of_room E 𝓛 b n o) $
-      flt_i ! (length cells.slots * s) (2 ^ 63) (subst (λ k. k * s < 2 ^ 63) (sym (length-replicate n None)) small) $ fjoin ! $
-      use0 𝓛 (‵ ((Marked E).own_val (tt, tt) (mark ∷ []))) (mark_made E 𝓛) $ fjoin ! $ word_made ! p $
-      use3 𝓛 (‵ ((Three E Z).own_val (base, cells, deed) (made ∷ [])))
-      (three_of 𝓛 (Lk E) (Cr E) (Dd E Z) base cells deed (word p) mark mark) $
-      use1 𝓛 (‵ ((Out E Z).own_val (Ok (base, cells, deed)) (live 0 (vcons made vnil) ∷ [])))
-      (ok_of 𝓛 (Three E Z) Want.the_row (base, cells, deed) made) $
-      returns ! (look_at ! 0 refl) $ free_all ! refl $ keep ! (0 ∷ 1 ∷ 2 ∷ []) $
-      by ! (exits (Ok (base, cells, deed)) (live 0 (vcons made vnil)) (refl, refl, refl, refl, refl)))
-      (λ e.
-      let Refusal : RattleType = Struct (Declared.shape Want.the_type) in
-      let none : Val = live 1 (vcons (vstruct vnil) vnil) in
-      lands_as ! e refl (Answer-typed false 0 0) $ first ! $
-      switches_on ! (get_tag ! (vrt ! refl (fld ! refl (stop !))) (whole !)) $ exec ! C Λ En (arm_body 1 asks) Then $
-      sets ! (of_opd ! (get_in ! (vrt ! refl (fld ! refl (stop !))) (in_variant ! 1 0 refl refl (whole !)))) refl (tt, tt) $
-      sets_last ! (agg ! (and_then ! (lit ! tt) (and_then ! (get ! refl) (no_more !)))) refl
-      (tt, (record { fits = lit< tt }, (tt, tt))) $
-      exec ! C Λ En rest (at_ret En Post) $
-      sets ! (of_opd ! (get ! refl)) refl (tt, (record { fits = lit< tt }, (tt, tt))) $
-      owned ! Refusal (Is Refusal) (Struct-Makes 𝓛 (Declared.shape Want.the_type) tt) tt (vstruct vnil ∷ []) (tt, (refl, tt)) $
-      use1 𝓛 (‵ ((Out E Z).own_val (Err (record {})) (none ∷ [])))
-      (err_of 𝓛 (Three E Z) Want.the_row (record {}) (vstruct vnil)) $
-      returns ! (look_at ! 0 refl) $ free_all ! refl $ keep ! (0 ∷ 1 ∷ 2 ∷ []) $ by ! (exits (Err (record {})) none tt))))
-
-  entry : FitsInBlock (R E) n
-      → ent 𝓤
-      (on_entry 𝓛 (ended E Z).signature (κ, (κ₁, (κ₂, tt))) (q, (q₁, (q₂, tt))) (self, (n, tt)) (us0, (us1, tt)))
-      (WpFn 𝓤 H C Λ (function E Z) (us0 ++ (us1 ++ [])) Post)
-  entry asked =
-      qed 𝓛 ((‵ (flft κ q) ⊛ others) ∷ ‵ (owns (ShrRef (named 0) κ (P E Z) ∷ usize ∷ []) (self, (n, tt)) (us0, (us1, tt))) ∷ []) ∵
-      split ! $ move ! (2 ∷ []) $ fsplit3 ! $ fsplit ! $ feq_l ! (λ e0.
-      move ! (1 ∷ []) $ fsplit ! $ feq_l ! (λ e1. flt_l ! (λ fits. keep ! (0 ∷ 2 ∷ 3 ∷ []) $
-      by ! (subst (λ (ws : List Val × List Val). ent 𝓤 (⋆ 𝓛 Had) (WpFn 𝓤 H C Λ (function E Z) (ws.0 ++ (ws.1 ++ [])) Post))
-      (λ j. (sym e0 j, sym e1 j)) (walk asked fits)))))
-
-meets : (E : El) (Z : Al) {M : Type 1} {𝓤 : Ura M} (𝓛 : Logic 𝓤) (at_mem : Memory → SProp 𝓤) (run : Routine → Fun 𝓤)
-    (𝓣 : Tables 𝓤 𝓛.H) → Triple 𝓤 (𝓣.C (takes_key Z)) (Takes Z 𝓛 at_mem run)
-    → Meets 𝓛 (ended E Z).signature (WpFn 𝓤 𝓛.H 𝓣.C 𝓣.Λ (function E Z)) (closing 𝓛 (ended E Z) (clauses E Z 𝓛 at_mem run))
-meets E Z {𝓤 = 𝓤} 𝓛 at_mem run 𝓣 callee =
-    walk_Meets 𝓛 (ended E Z) (stayed E Z) (
-      Goes-dropped 𝓛 3 (RefOf (0 ∷ []) tt (plain (λ _. P E Z)) (λ _. tt)) yes (λ κs x f. refl),
-      (Goes-dropped 𝓛 3 (plain (λ _. usize)) yes (λ κs x f. refl), tt),
-    )
-    (clauses E Z 𝓛 at_mem run) (WpFn 𝓤 𝓛.H 𝓣.C 𝓣.Λ (function E Z)) (WpFn-mono 𝓤 𝓛.H 𝓛.laws 𝓣 (function E Z))
-    (λ z. let κs = z.0.0 in let qs = z.0.1 in let a = z.0.3 in let vss = z.0.4 in
-    let On : SProp 𝓤 = on_entry 𝓛 (ended E Z).signature κs qs a vss in
-    let asks = FitsInBlock (R E) a.1.0 in
-    second 𝓤 (κs.1.0 ⊑ E.row.lives) (κs.1.1.0 ⊑ Z.row.lives) On (fact 𝓤 asks) (λ within. needs 𝓤 asks On
-    (entry E Z 𝓛 at_mem run 𝓣.C 𝓣.Λ (fm_of 𝓤 𝓛.H 𝓛.laws 𝓣) callee κs.0 κs.1.0 κs.1.1.0 qs.0 qs.1.0 qs.1.1.0 z.0.2.0 within
-    a.0.ref_ptr.0 a.0.ref_ptr.1 a.0.now a.1.0 vss.0 vss.1.0)))
-
-pub allocate_spec : {M : Type 1} → stated.statement M
-unfolding tables_of
+pub allocate_spec : {M : Type 1} → statement M
 allocate_spec 𝓤 𝓛 𝓜 𝓡 wired X W LX LW g d dd met md =
-    let E : El = record { row = X; laws = LX } in
+    let E : El = record { row = X; laws = LX } in let s : ℕ = sz E in
     let Z : Al = record { row = W; laws = LW; g = g; d = d; drops = dd } in
-    let 𝓣 : Tables 𝓤 𝓛.H = tables_of 𝓤 𝓛.H 𝓜 (tables 𝓤 𝓛.H 𝓜 𝓡 𝓡.env) in
-    entered 𝓤 𝓛.H (triple_of 𝓛 (ended E Z).signature (F.spec X W g d dd 𝓛 𝓜.mem 𝓡.returns)) 𝓣.C 𝓣.Λ (#self (args E Z))
-    (function E Z) (code.unfolded 𝓤 𝓛.H 𝓜 𝓡 wired (X, (W, tt)) d dd) (meets E Z 𝓛 𝓜.mem 𝓡.returns 𝓣 (met.allocate dd))
+    let 𝓣 = tables 𝓤 𝓛.H 𝓜 𝓡 𝓡.env in let fn = inst_fn (both E Z) code.function in
+    let T = f.ended X W g d dd in let c = f.clauses X W g d dd 𝓛 𝓜.mem 𝓡.returns in
+    let lent = RefOf (0 ∷ []) tt (plain {n = 3} (λ _. P E Z)) (λ _. tt) in
+    let hs : Stays T.signature.params T.kept = (
+      stay_dropped lent yes,
+      (stay_dropped (plain (λ _. usize)) yes, tt),
+    ) in
+    let Dd : RattleType = Deeds.the_row (R E) (P E Z) g in
+    let Three : RattleType = Tuple (Lk E ∷ Cr E ∷ Dd ∷ []) in
+    let Out : RattleType = Outcome.the_row Three Want.the_row in
+    proved_at 𝓛 T hs c 𝓜 𝓡 (
+      Goes-dropped 𝓛 3 lent yes (λ κs x w. refl),
+      (Goes-dropped 𝓛 3 (plain (λ _. usize)) yes (λ κs x w. refl), tt),
+    )
+    (f.Key.name (both E Z)) fn (code.unfolded 𝓤 𝓛.H 𝓜 𝓡 wired (X, (W, tt)) d dd) (λ y are.
+    let κs = y.0.0 in let qs = y.0.1 in let a = y.0.3 in let us = y.0.4 in let κ = κs.0 in let q = qs.0 in
+    let rb = a.0.ref_ptr.0 in let ro = a.0.ref_ptr.1 in let alloc = a.0.now in let n : ℕ = a.1.0 in
+    let Post : Val → SProp 𝓤 = (walk_of 𝓛 T hs c).post y in
+    let Runs : List Val → SProp 𝓤 = λ ws. WpFn 𝓤 𝓛.H 𝓣.C 𝓣.Λ fn ws Post in
+    let others = ‵ (flft κs.1.0 qs.1.0) ⊛ (‵ (flft κs.1.1.0 qs.1.1.0) ⊛ ‵ ftrue) in
+    let Gives : Out.Denot → Type 0 = λ r. IfOk r (λ t. (t.1.at ≡ t.0.ptr) × (t.1.slots ≡ replicate n None) ×
+    (t.2.at ≡ t.0.ptr) × (t.2.len ≡ n) × (t.2.alloc ≡ alloc)) in
+    let out : (r : Out.Denot) (v : Val) → Gives r → Sq 𝓛 (‵ (Out.own_val r (v ∷ [])) ∷ ‵
+    (flft κ q) ∷ others ∷ []) (prop (Post v)) = λ r v gives.
+    suffices ! _ (ends_at 𝓛 T hs c y v r (tt, (tt, tt)) (tt, (tt, tt))) $ says ! gives $
+    move ! (1 ∷ 2 ∷ []) $ join ! $ frame ! $ nothing ! $ nothing ! $ fjoin ! $ nothing ! $ fjoin ! $ done ! in
+    qed 𝓛 (((‵ (flft κ q) ⊛ others) ⊛ ‵ (owns (types_at T.signature.params κs) a us))
+    ∷ (raw (fact 𝓤 (κs.1.0 ⊑ X.lives)) ⊛ (raw (fact 𝓤 (κs.1.1.0 ⊑ W.lives)) ⊛ raw (fact 𝓤 (FitsInBlock
+    (R E) n)))) ∷ []) ∵
+    move ! (1 ∷ []) $ split ! $ heard ! _ (λ short. split ! $ heard ! _ (λ within. heard ! _ (λ asked.
+    split ! $ move ! (1 ∷ []) $ fsplit ! $ fsplit ! $ feq_l ! (λ e0. move ! (1 ∷ []) $ fsplit ! $ fsplit ! $
+    feq_l ! (λ e1. flt_l ! (λ fits. skip ! $ move ! (1 ∷ []) $ split ! $
+    let bytes : n * s < 2 ^ 64 = omega (arith, asked.0) in let al : ℕ = capped (align (elτ E)) in
+    let G = Takes Z 𝓛 𝓜.mem 𝓡.returns in let z : G.Ghost = at_takes Z 𝓛 𝓜.mem 𝓡.returns κ q (rb, ro) alloc
+    (n * s) al (block_ty E n) in
+    suffices ! (Runs (vptr rb ro ∷ vint w64 n ∷ [])) (at_words 𝓤 Runs (λ j. e0 j ++ (e1 j ++ []))) $
+    enter ! _ _ _ _ _ $ alloc_all ! (λ l. pass_all ! refl ((tt, tt), ((tt, record { fits = fits }), tt)) $
+    let En = env fn.locals l in let asks : Body = head (after 2 fn.body) in let rest : Body = after 3 fn.body in
+    let Then : Goes 𝓤 𝓛.H = any_q (after_seq 𝓤 𝓛.H (Wp 𝓤 𝓛.H 𝓣.C 𝓣.Λ En rest (at_return 𝓤 𝓛.H En Post))
+    (at_return 𝓤 𝓛.H En Post)) in
+    -- [the first token; the allocator; the other tokens]
+    sets ! (is ! (bin ! (get ! refl) (size_word !) (record {
+      fits = subst (λ (k : ℕ). k < 2 ^ 64)
+          (sym (uncapped n s bytes)) bytes;
+    })) (ap (vint w64)
+    (uncapped n s bytes))) refl (tt, record { fits = bytes }) $
+    move ! (2 ∷ 0 ∷ 1 ∷ []) $
+    use2 𝓛 (raw (G.pre z)) (Takes-goes Z 𝓛 𝓜.mem 𝓡.returns κ q (rb, ro) alloc (Incl-trans y.0.2.0 within)
+    (n * s) al (block_ty E n) (block_size E n bytes) (block_align E n) bytes (capped_fits (align (elτ E)))) $
+    calls_at ! (framed 𝓤 𝓛.H 𝓜 𝓣) G (met.allocate dd) z (and_then ! (get ! refl) (and_then ! (get ! refl)
+    (and_then ! (align_word !) (no_more !)))) (λ v.
+    use1 𝓛 (later (raw (Answered Z 𝓛 𝓜.mem 𝓡.returns alloc (block_ty E n) v) ⊛ ‵ (flft κ q)))
+    (Takes-gives Z 𝓛 𝓜.mem 𝓡.returns κ q (rb, ro) alloc (n * s) al (block_ty E n) v) $
+    await ! tt $ split ! $ answers Z ! 𝓜.mem 𝓡.returns alloc (block_ty E n) v
+    -- [the room of a block; the right to give it back; the tokens]
+    (λ b o e. let p : Ptr = block_ptr b o in
+    let link : (Lk E).Denot = record { ptr = p } in
+    let cells : (Cr E).Denot = record { mark = record {}; at = p; slots = replicate n None } in
+    let deed : Dd.Denot = record { mark = record {}; at = p; len = n; alloc = alloc } in
+    let parts : Val = three_val (word p) mark mark in
+    let good : Good (layout Three) parts = (tt, ((tt, tt), ((tt, tt), ((tt, tt), tt)))) in
+    let well = first_Good (layout Three) parts good in
+    lands_as ! e refl (Answer-typed true b o) $ first ! $
+    switches_on ! (get_tag ! (vrt ! refl (fld ! refl (stop !))) (whole !)) $
+    exec ! 𝓣.C 𝓣.Λ En (arm_body 0 asks) Then $
+    sets ! (of_opd ! (get_in ! (vrt ! refl (fld ! refl (stop !)))
+    (in_variant ! 0 0 refl refl (whole !)))) refl (tt, tt) $
+    sets ! (of_opd ! (get ! refl)) refl (tt, tt) $
+    sets ! (agg ! (and_then ! (get ! refl) (no_more !))) refl (word-Good [] p) $
+    sets ! (agg ! (no_more !)) refl (tt, tt) $
+    sets ! (agg ! (and_then ! (get ! refl) (no_more !))) refl (tt, (tt, tt)) $
+    sets ! (agg ! (no_more !)) refl (tt, tt) $
+    sets ! (agg ! (and_then ! (get ! refl) (no_more !))) refl (tt, (tt, tt)) $
+    sets ! (agg ! (and_then ! (get ! refl) (and_then ! (get ! refl) (and_then ! (get ! refl)
+    (no_more !))))) refl good $
+    sets_last ! (agg ! (and_then ! (lit ! tt) (and_then ! (get ! refl) (no_more !)))) refl well $
+    exec ! 𝓣.C 𝓣.Λ En rest (at_ret En Post) $ sets ! (of_opd ! (get ! refl)) refl well $
+    move ! (1 ∷ []) $ use0 𝓛 (‵ ((Marked E).own_val (tt, tt) (mark ∷ []))) (mark_made E 𝓛) $ fjoin ! $
+    move ! (1 ∷ []) $
+    as_written ! (ty_array (elτ E) n) b o $ use1 𝓛 (‵ (slots (R E) b o cells.slots)) (of_room E 𝓛 b n o) $
+    flt_i ! (length cells.slots * s) (2 ^ 63) (subst (λ k. k * s < 2 ^ 63)
+    (sym (length-replicate n None)) asked.0) $ fjoin ! $
+    use0 𝓛 (‵ ((Marked E).own_val (tt, tt) (mark ∷ []))) (mark_made E 𝓛) $ fjoin ! $ word_made ! p $
+    use3 𝓛 (‵ (Three.own_val (link, cells, deed) (parts ∷ []))) (three_of 𝓛 (Lk E)
+    (Cr E) Dd link cells deed (word p) mark mark) $
+    use1 𝓛 (‵ (Out.own_val (Ok (link, cells, deed)) (live 0 (vcons parts vnil) ∷ [])))
+    (ok_of 𝓛 Three Want.the_row (link, cells, deed) parts) $
+    returns ! (look_at ! 0 refl) $ free_all ! refl $ keep ! (0 ∷ 1 ∷ 2 ∷ []) $
+    out (Ok (link, cells, deed)) (live 0 (vcons parts vnil)) (refl, refl, refl, refl, refl))
+    -- [the tokens]
+    (λ e. let Refusal : RattleType = Struct (Declared.shape Want.the_type) in
+    let refused : Val = live 1 (vcons (vstruct vnil) vnil) in
+    lands_as ! e refl (Answer-typed false 0 0) $ first ! $
+    switches_on ! (get_tag ! (vrt ! refl (fld ! refl (stop !))) (whole !)) $
+    exec ! 𝓣.C 𝓣.Λ En (arm_body 1 asks) Then $
+    sets ! (of_opd ! (get_in ! (vrt ! refl (fld ! refl (stop !)))
+    (in_variant ! 1 0 refl refl (whole !)))) refl (tt, tt) $
+    sets_last ! (agg ! (and_then ! (lit ! tt) (and_then ! (get ! refl)
+    (no_more !)))) refl (tt, (record { fits = lit< tt }, (tt, tt))) $
+    exec ! 𝓣.C 𝓣.Λ En rest (at_ret En Post) $
+    sets ! (of_opd ! (get ! refl)) refl (tt, (record { fits = lit< tt }, (tt, tt))) $
+    owned ! Refusal (Is Refusal) (Struct-Makes 𝓛 (Declared.shape Want.the_type) tt) tt (vstruct vnil ∷ [])
+    (tt, (refl, tt)) $
+    use1 𝓛 (‵ (Out.own_val (Err (record {})) (refused ∷ []))) (err_of 𝓛 Three Want.the_row (record {})
+    (vstruct vnil)) $
+    returns ! (look_at ! 0 refl) $ free_all ! refl $ keep ! (0 ∷ 1 ∷ 2 ∷ []) $
+    out (Err (record {})) refused tt))))))))))

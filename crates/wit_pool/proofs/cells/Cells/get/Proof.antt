@@ -1,154 +1,55 @@
--- `get` lends what the linked place holds. Assumes `Logic`.
-use mathlib.Core.Path.{◌≡◌, refl, sym, ap, subst, ◌∙◌}
-use Prim.Native.Nat.{ℕ, ◌+◌, ◌*◌}
-use mathlib.Core.List.{List, [], ◌∷◌, ◌++◌}
-use lib.ListN.{get_or}
-use seplogic.Ra.Ura.{Ura}
-use base.Fraction.{full_share}
-use mir.Syntax.{Fn, named}
-use mir.MapTy.{inst_fn}
-use mir.Val.{Val, vptr}
-use base.Logic.{SProp, ent, never, id⊢}
-use base.Fml.{Lft, Share, ftrue, fat, flft}
-use prog.Wp.{Env, Calls, Loops, WpFn, Tables}
-use types.Logic.{Logic}
-use contract.Monad.{fact}
-use contract.Running.{tables, tables_of}
-use sound.WpLaws.{WpFn-mono}
-use types.Kit.{Item, ⋆, ‵, ◌⊛◌, at_ret, ◌$◌, ◌∵◌, !, qed, by, move, keep, drop, use1, split, join, rewrite, fsplit, fjoin, feq_i, feq_l, flt_l, suffices, frame, done}
-use types.Part.{whole, sub}
-use types.Run.{stop, fld, hop, from, of_opd, addr, first, blocks, exec, returns, enter}
-use types.ByLocal.{alloc_all, pass_all, free_all, look_at, look_in_at, get, sets, sets_last, take_at, give_at, env}
-use denote.Exit.{yes, no}
-use denote.RattleType.{owns}
-use denote.Memory.{hidden_shr}
-use denote.Param.{layout}
-use denote.RawPtr.{Ptr, in_a_block}
-use denote.Ref.{Bor, ShrRef}
-use denote.Builtin.{RefOf}
-use denote.Signature.{plain}
-use denote.Opens.{hide, unhide}
-use denote.Steps.{nothing}
-use denote.Triple.Carry.{spared}
-use denote.Triple.Clauses.{Clauses, Ended, closing}
-use denote.Triple.Entry.{on_entry}
-use denote.Triple.Spec.{Meets, triple_of}
-use denote.Triple.Table.{entered, run_framed}
-use denote.Triple.Walked.{says, needs, Stays, stay_dropped, walk_of, ends_at, Goes-dropped, walk_Meets}
-use Rattle.std.specs.Prelude.{Some, None}
-use Rattle.std_alloc.proofs.VecSteps.Shapes.{after}
-use Rattle.std_alloc.proofs.RcSteps.{word, word-Good}
-use Rattle.core.proofs.mem.Param.{El, R, args, el_x}
-use Rattle.circular_buffer.specs.Ownership.{slot_lent, cells_lent}
-use Rattle.circular_buffer.proofs.Memory.{sz, Place, word_had, filled_within, slot_seen}
-use Rattle.wit_pool.specs.Places.{spot, spot_at, IsSpot}
-use Rattle.wit_pool.specs.contracts.cells.Cells.get.Key.{name as #self}
-use Rattle.wit_pool.proofs.Memory.{Cr, Lk}
-use Rattle.wit_pool.proofs.cells.Cells.get.Statement as stated
+-- What the place holds is lent. Assumes `Logic`.
+use Rattle.wit_pool.proofs.Steps.{refl, ap, ◌∙◌, ℕ, ◌+◌, ◌*◌, List, [], ◌∷◌, ◌++◌, get_or, full_share, SProp, never, id⊢, ftrue, fat, flft, inst_fn, Val, vptr, WpFn, fact, tables, ◌⊑◌, ‵, raw, ◌⊛◌, at_ret, ◌$◌, ◌∵◌, !, qed, move, keep, skip, use1, split, fsplit, fjoin, feq_i, feq_l, flt_l, rewrite, suffices, frame, done, whole, sub, enter, addr, from, stop, fld, hop, of_opd, first, blocks, exec, returns, alloc_all, pass_all, free_all, look_at, look_in_at, get, sets, sets_last, take_at, give_at, env, yes, no, owns, layout, Ptr, in_a_block, RefOf, plain, types_at, hide, unhide, nothing, heard, Stays, stay_dropped, walk_of, says, ends_at, Goes-dropped, None, proved_at, after, word, word-Good, El, R, args, slot_lent, cells_lent, Place, sz, word_had, filled_within, slot_seen, spot, spot_at, IsSpot}
+use Rattle.wit_pool.proofs.Memory.{Cr, Lk, at_words}
+use Rattle.wit_pool.specs.contracts.cells.Cells.get as f
+use Rattle.wit_pool.proofs.cells.Cells.get.Statement.{statement}
 use Rattle.wit_pool.proofs.cells.Cells.get.Code as code
 
-module _ (E : El) where
-  abbrev function : Fn
-  function = inst_fn (args E) code.function
-
-  abbrev ended : Ended
-  ended = record {
-    signature = record {
-      lifetimes = 1;
-      outlives = [];
-      params = RefOf (0 ∷ []) tt (plain (λ _. Cr E)) (λ _. tt) ∷ plain (λ _. Lk E) ∷ [];
-      result = RefOf (0 ∷ []) tt (plain (λ _. R E)) (λ _. tt);
-    };
-    kept = (yes, (no, tt));
-  }
-
-  abbrev stayed : Stays ended.signature.params ended.kept
-  stayed = (stay_dropped (RefOf (0 ∷ []) tt (plain (λ _. Cr E)) (λ _. tt)) yes, (stay_dropped (plain (λ _. Lk E)) no, tt))
-
-  abbrev Asks : (Cr E).Denot → (Lk E).Denot → Type 0
-  Asks c link = IsSpot (R E) c.at c.slots link.ptr
-
-  abbrev Gives : (Cr E).Denot → (Lk E).Denot → Bor (el_x E) → Type 0
-  Gives c link r = get_or c.slots (spot (R E) c.at link.ptr) None ≡ Some r.now
-
-  abbrev spec : {M : Type 1} {𝓤 : Ura M} (𝓛 : Logic 𝓤) → Clauses 𝓤 ended
-  spec {𝓤 = 𝓤} 𝓛 κs a = record {
-    ghost = Unit {0};
-    requires = λ _. fact 𝓤 (Asks a.0.now a.1.0);
-    ensures = λ _ r w. fact 𝓤 (Gives a.0.now a.1.0 r);
-  }
-
-module _ (E : El) {M : Type 1} {𝓤 : Ura M} (𝓛 : Logic 𝓤) (C : Calls 𝓤 𝓛.H) (Λ : Loops 𝓤 𝓛.H) (κ : Lft) (q : Share)
-    (rb ro : ℕ) (c : (Cr E).Denot) (link : (Lk E).Denot) (us0 us1 : List Val) where
-  open 𝓛 use {H, A}
-
-  abbrev bound : (walk_of 𝓛 (ended E) (stayed E) (spec E 𝓛)).Ghost
-  bound = (((κ, tt), (q, tt), tt, (record { ref_ptr = (rb, ro); now = c }, (link, tt)), (us0, (us1, tt))), tt)
-
-  abbrev Post : Val → SProp 𝓤
-  Post = (walk_of 𝓛 (ended E) (stayed E) (spec E 𝓛)).post bound
-
-  exits : (r : (ShrRef (named 0) κ (R E)).Denot) (v : Val) → Gives E c link r
-      → ent 𝓤 (⋆ 𝓛 (‵ (flft κ q) ∷ ‵ ((ShrRef (named 0) κ (R E)).own_val r (v ∷ [])) ∷ [])) (Post v)
-  exits r v gives =
-      qed 𝓛 (‵ (flft κ q) ∷ ‵ ((ShrRef (named 0) κ (R E)).own_val r (v ∷ [])) ∷ []) ∵
-      suffices ! _ (ends_at 𝓛 (ended E) (stayed E) (spec E 𝓛) bound v r (tt, (tt, tt)) (tt, (tt, tt))) $ says ! gives $
-      nothing ! $ move ! (1 ∷ 0 ∷ []) $ join ! $ frame ! $ nothing ! $ nothing ! $ fjoin ! $ nothing ! $ fjoin ! $ done !
-
-  abbrev Had : List (Item 𝓤)
-  Had = ‵ (hidden_shr (Cr E) κ c rb ro) ∷ ‵ (flft κ q) ∷ []
-
-  walk : Asks E c link → ent 𝓤 (⋆ 𝓛 Had) (WpFn 𝓤 H C Λ (function E) (vptr rb ro ∷ word link.ptr ∷ []) Post)
-  walk asked =
-      let i : ℕ = spot (R E) c.at link.ptr in
-      let x = asked.1.0 in
-      let within = filled_within c.slots i x asked.1.1 in
-      let s : ℕ = sz E in
-      qed 𝓛 Had ∵ enter ! C Λ (function E) (vptr rb ro ∷ word link.ptr ∷ []) _ $
-      alloc_all ! (λ l. pass_all ! refl ((tt, tt), (word-Good [] link.ptr, tt)) $
-      let En : Env 𝓤 H = env (function E).locals l in
-      unhide ! $ fsplit ! $ drop ! $
-      in_a_block ! c.at (λ p. cells_lent (R E) p c.slots κ) (id⊢ 𝓤 (never 𝓤)) (λ b o e. fsplit ! $ flt_l ! (λ small.
-      take_at ! 2 $ rewrite ! 0 (λ (p : Ptr). ‵ (fat full_share (layout (Lk E)) (l 2) 0 (word p)))
-      (asked.0 ∙ ap (λ p. spot_at (R E) p i) e) refl $ give_at ! 2 $
-      use1 𝓛 (‵ (slot_lent (R E) b (i * s + o) (get_or c.slots i None) κ)) (slot_seen E 𝓛 b κ o c.slots i within) $
-      rewrite ! 0 (λ (c : Place E). ‵ (slot_lent (R E) b (i * s + o) c κ)) asked.1.1 refl $ hide ! $ first ! $ blocks ! $
-      sets_last ! (addr ! (from ! (fld ! refl (hop ! (look_in_at ! 2 (sub ! 0 refl (whole !))) (stop !))))) refl (tt, tt) $
-      exec ! C Λ En (after 1 (function E).body) (at_ret En Post) $ sets ! (of_opd ! (get ! refl)) refl (tt, tt) $
-      feq_i ! (List Val) (vptr b (i * s + o) ∷ []) (vptr b (i * s + o) ∷ []) refl $ fjoin ! $
-      returns ! (look_at ! 0 refl) $ free_all ! refl $ keep ! (1 ∷ 0 ∷ []) $
-      by ! (exits (record { ref_ptr = (b, i * s + o); now = x }) (vptr b (i * s + o)) asked.1.1))))
-
-  entry : Asks E c link
-      → ent 𝓤 (on_entry 𝓛 (ended E).signature (κ, tt) (q, tt) (record { ref_ptr = (rb, ro); now = c }, (link, tt)) (us0, (us1, tt)))
-      (WpFn 𝓤 H C Λ (function E) (us0 ++ (us1 ++ [])) Post)
-  entry asked =
-      qed 𝓛 ((‵ (flft κ q) ⊛ ‵ ftrue)
-      ∷ ‵ (owns (ShrRef (named 0) κ (Cr E) ∷ Lk E ∷ []) (record { ref_ptr = (rb, ro); now = c }, (link, tt)) (us0, (us1, tt))) ∷ []) ∵
-      split ! $ move ! (2 ∷ []) $ fsplit ! $ fsplit ! $ feq_l ! (λ e0.
-      move ! (1 ∷ []) $ fsplit ! $ word_had ! link.ptr us1 (λ e1. keep ! (1 ∷ 2 ∷ []) $
-      by ! (subst (λ (ws : List Val × List Val). ent 𝓤 (⋆ 𝓛 Had) (WpFn 𝓤 H C Λ (function E) (ws.0 ++ (ws.1 ++ [])) Post))
-      (λ j. (sym e0 j, sym e1 j)) (walk asked))))
-
-meets : (E : El) {M : Type 1} {𝓤 : Ura M} (𝓛 : Logic 𝓤) (𝓣 : Tables 𝓤 𝓛.H)
-    → Meets 𝓛 (ended E).signature (WpFn 𝓤 𝓛.H 𝓣.C 𝓣.Λ (function E)) (closing 𝓛 (ended E) (spec E 𝓛))
-meets E {𝓤 = 𝓤} 𝓛 𝓣 =
-    walk_Meets 𝓛 (ended E) (stayed E) (
-      Goes-dropped 𝓛 1 (RefOf (0 ∷ []) tt (plain (λ _. Cr E)) (λ _. tt)) yes (λ κs x f. refl),
-      (Goes-dropped 𝓛 1 (plain (λ _. Lk E)) no (λ κs x f. refl), tt),
-    )
-    (spec E 𝓛) (WpFn 𝓤 𝓛.H 𝓣.C 𝓣.Λ (function E)) (WpFn-mono 𝓤 𝓛.H 𝓛.laws 𝓣 (function E))
-    (λ z. let a = z.0.3 in let vss = z.0.4 in
-    needs 𝓤 (Asks E a.0.now a.1.0) _
-    (entry E 𝓛 𝓣.C 𝓣.Λ z.0.0.0 z.0.1.0 a.0.ref_ptr.0 a.0.ref_ptr.1 a.0.now a.1.0 vss.0 vss.1.0))
-
-pub get_spec : {M : Type 1} → stated.statement M
-unfolding tables_of
-get_spec 𝓤 𝓛 𝓜 𝓡 wired X LX y =
-    let E : El = record { row = X; laws = LX } in
-    let 𝓣 : Tables 𝓤 𝓛.H = tables_of 𝓤 𝓛.H 𝓜 (tables 𝓤 𝓛.H 𝓜 𝓡 𝓡.env) in
-    let k = #self (args E) in
-    spared 𝓛 (ended E).signature (𝓡.run (𝓡.env k)) (run_framed 𝓤 𝓛.H 𝓜 𝓡 (𝓡.env k)) 1 (X.lives, tt) (closing 𝓛 (ended E) (spec E 𝓛))
-    (entered 𝓤 𝓛.H (triple_of 𝓛 (ended E).signature (closing 𝓛 (ended E) (spec E 𝓛))) 𝓣.C 𝓣.Λ k (function E)
-    (code.unfolded 𝓤 𝓛.H 𝓜 𝓡 wired (X, tt)) (meets E 𝓛 𝓣))
-    ((y.0.0, y.0.1, tt, y.0.3, y.0.4), y.1)
+pub get_spec : {M : Type 1} → statement M
+get_spec 𝓤 𝓛 𝓜 𝓡 wired X LX =
+    let E : El = record { row = X; laws = LX } in let s : ℕ = sz E in
+    let 𝓣 = tables 𝓤 𝓛.H 𝓜 𝓡 𝓡.env in let fn = inst_fn (args E) code.function in
+    let T = f.ended X in let c = f.clauses X 𝓛 𝓜.mem 𝓡.returns in
+    let self = RefOf (0 ∷ []) tt (plain {n = 2} (λ _. Cr E)) (λ _. tt) in
+    let hs : Stays T.signature.params T.kept = (
+      stay_dropped self yes,
+      (stay_dropped (plain (λ _. Lk E)) no, tt),
+    ) in
+    proved_at 𝓛 T hs c 𝓜 𝓡
+    (Goes-dropped 𝓛 2 self yes (λ κs x w. refl), (Goes-dropped 𝓛 2 (plain (λ _. Lk E)) no (λ κs x w. refl), tt))
+    (f.Key.name (args E)) fn (code.unfolded 𝓤 𝓛.H 𝓜 𝓡 wired (X, tt)) (λ y are.
+    let κs = y.0.0 in let qs = y.0.1 in let a = y.0.3 in let us = y.0.4 in
+    let rb = a.0.ref_ptr.0 in let ro = a.0.ref_ptr.1 in let cs = a.0.now in let link = a.1.0 in
+    let Post : Val → SProp 𝓤 = (walk_of 𝓛 T hs c).post y in
+    let Runs : List Val → SProp 𝓤 = λ ws. WpFn 𝓤 𝓛.H 𝓣.C 𝓣.Λ fn ws Post in
+    let i : ℕ = spot (R E) cs.at link.ptr in
+    let toks = ‵ (flft κs.0 qs.0) ⊛ (‵ (flft κs.1.0 qs.1.0) ⊛ ‵ ftrue) in
+    qed 𝓛 ((toks ⊛ ‵ (owns (types_at T.signature.params κs) a us))
+    ∷ (raw (fact 𝓤 (κs.1.0 ⊑ X.lives)) ⊛ raw (fact 𝓤 (IsSpot (R E) cs.at cs.slots link.ptr))) ∷ []) ∵
+    move ! (1 ∷ []) $ split ! $ heard ! _ (λ short. heard ! _ (λ asked.
+    let x = asked.1.0 in let within = filled_within cs.slots i x asked.1.1 in
+    split ! $ move ! (1 ∷ []) $ fsplit ! $ fsplit ! $ feq_l ! (λ e0. move ! (1 ∷ []) $ fsplit ! $
+    word_had ! link.ptr us.1.0 (λ e1. skip ! $
+    suffices ! (Runs (vptr rb ro ∷ word link.ptr ∷ [])) (at_words 𝓤 Runs (λ j. e0 j ++ (e1 j ++ []))) $
+    enter ! _ _ _ _ _ $ alloc_all ! (λ l. pass_all ! refl ((tt, tt), (word-Good [] link.ptr, tt)) $
+    -- [what the owner lends; the tokens]
+    unhide ! $ fsplit ! $ skip ! $
+    in_a_block ! cs.at (λ p. cells_lent (R E) p cs.slots (κs.0)) (id⊢ 𝓤 (never 𝓤)) (λ b o e. fsplit ! $
+    flt_l ! (λ small.
+    take_at ! 2 $ rewrite ! 0 (λ (p : Ptr). ‵ (fat full_share (layout (Lk E)) (l 2) 0 (word p)))
+    (asked.0 ∙ ap (λ p. spot_at (R E) p i) e) refl $
+    give_at ! 2 $ use1 𝓛 (‵ (slot_lent (R E) b (i * s + o) (get_or cs.slots i None) (κs.0)))
+    (slot_seen E 𝓛 b (κs.0) o cs.slots i within) $
+    rewrite ! 0 (λ (p : Place E). ‵ (slot_lent (R E) b (i * s + o) p (κs.0))) asked.1.1 refl $ hide ! $
+    first ! $ blocks ! $
+    sets_last ! (addr ! (from ! (fld ! refl (hop ! (look_in_at ! 2 (sub ! 0 refl (whole !)))
+    (stop !))))) refl (tt, tt) $
+    exec ! 𝓣.C 𝓣.Λ (env fn.locals l) (after 1 fn.body) (at_ret _ Post) $
+    sets ! (of_opd ! (get ! refl)) refl (tt, tt) $
+    feq_i ! (List Val) (vptr b (i * s + o) ∷ []) (vptr b (i * s + o) ∷ []) refl $ fjoin ! $
+    returns ! (look_at ! 0 refl) $ free_all ! refl $
+    -- [the loan; the tokens]
+    keep ! (1 ∷ 0 ∷ []) $
+    suffices ! _ (ends_at 𝓛 T hs c y (vptr b (i * s + o)) (record { ref_ptr = (b, i * s + o); now = x })
+    (tt, (tt, tt)) (tt, (tt, tt))) $
+    says ! asked.1.1 $ frame ! $ nothing ! $ nothing ! $ fjoin ! $ nothing ! $ fjoin ! $ done !))))))))

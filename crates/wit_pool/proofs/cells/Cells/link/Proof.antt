@@ -1,173 +1,76 @@
--- `link` moves up from the first place. Assumes `Logic`.
-use mathlib.Core.Path.{◌≡◌, refl, sym, ap, subst, ◌∙◌}
-use Prim.Native.Nat.{ℕ, ◌+◌, ◌*◌, ◌<◌, ◌^◌}
-use native.Mathlib.Omega.{arith}
-use mathlib.Core.List.{List, [], ◌∷◌, ◌++◌}
-use lib.ListN.{length}
-use seplogic.Ra.Ura.{Ura}
-use base.Fraction.{full_share}
-use mir.Syntax.{Fn, named, w64}
-use mir.MapTy.{inst_fn}
-use mir.Val.{Val, vptr, vint}
-use base.Logic.{SProp, ent, never, id⊢}
-use base.Fml.{Lft, Share, ftrue, fat, flft}
-use prog.Wp.{Env, Calls, Loops, WpFn, Tables}
-use types.Logic.{Logic}
-use contract.Monad.{fact}
-use contract.Running.{tables, tables_of}
-use sound.WpLaws.{WpFn-mono}
-use types.Kit.{Item, ⋆, ‵, ◌⊛◌, at_ret, ◌$◌, ◌∵◌, !, qed, by, move, keep, drop, split, join, rewrite, fsplit, fjoin, feq_l, flt_l, suffices, frame, done}
-use types.Part.{whole, sub, agg}
-use types.Run.{stop, fld, of_opd, and_then, no_more, bin, size_lit, first, blocks, exec, returns, enter}
-use types.ByLocal.{alloc_all, pass_all, free_all, look_at, get, get_in, sets, sets_last, take_at, give_at, env}
-use denote.Exit.{yes, no}
-use denote.RattleType.{owns}
-use denote.Memory.{hidden_shr}
-use denote.Param.{layout}
-use denote.RawPtr.{Ptr, block_ptr, in_a_block}
-use denote.Ref.{Bor, ShrRef}
-use denote.Builtin.{RefOf, usize}
-use denote.Signature.{plain}
-use denote.Opens.{unhide}
-use denote.Steps.{nothing}
-use denote.Triple.Carry.{spared}
-use denote.Triple.Clauses.{Clauses, Ended, closing}
-use denote.Triple.Entry.{on_entry}
-use denote.Triple.Spec.{Meets, triple_of}
-use denote.Triple.Table.{entered, run_framed}
-use denote.Triple.Walked.{says, needs, Stays, stay_dropped, walk_of, ends_at, Goes-dropped, walk_Meets}
-use Rattle.std.specs.Mem.{type_size}
-use Rattle.std_alloc.proofs.VecSteps.Shapes.{after}
-use Rattle.std_alloc.proofs.RcSteps.{word, word-Good}
-use Rattle.core.proofs.mem.Param.{El, R, args}
-use Rattle.core.proofs.ptr.Rows.{times_below, one_below}
-use Rattle.circular_buffer.specs.Ownership.{cells_lent}
-use Rattle.circular_buffer.proofs.Memory.{sz, word_had, word_made}
-use Rattle.wit_pool.specs.Places.{spot, spot_at}
-use Rattle.wit_pool.specs.contracts.cells.Cells.link.Key.{name as #self}
-use Rattle.wit_pool.proofs.Memory.{Cr, Lk}
+-- The pointer to a place that the block has. Assumes `Logic`.
+use Rattle.wit_pool.proofs.Steps.{◌≡◌, refl, sym, ap, subst, ◌∙◌, ℕ, ◌+◌, ◌*◌, ◌<◌, ◌^◌, arith, List, [], ◌∷◌, ◌++◌, length, full_share, SProp, never, id⊢, ftrue, fat, flft, inst_fn, w64, Val, vint, vptr, WpFn, fact, tables, ◌⊑◌, ‵, raw, ◌⊛◌, at_ret, ◌$◌, ◌∵◌, !, qed, move, keep, skip, split, fsplit, fjoin, feq_l, flt_l, rewrite, suffices, frame, done, whole, sub, agg, enter, size_lit, bin, stop, fld, of_opd, and_then, no_more, first, blocks, exec, returns, alloc_all, pass_all, free_all, look_at, get, get_in, sets, sets_last, take_at, give_at, env, yes, no, owns, layout, Ptr, block_ptr, in_a_block, RefOf, usize, plain, types_at, unhide, nothing, heard, Stays, stay_dropped, walk_of, says, ends_at, Goes-dropped, proved_at, after, word, word-Good, El, R, args, cells_lent, sz, word_had, word_made, spot, spot_at}
+use Rattle.core.proofs.ptr.Rows.{one_below, times_below}
+use Rattle.wit_pool.proofs.Memory.{Cr, Lk, at_words}
 use Rattle.wit_pool.proofs.Spots.{spot-back}
-use Rattle.wit_pool.proofs.cells.Cells.link.Statement as stated
+use Rattle.wit_pool.specs.contracts.cells.Cells.link as f
+use Rattle.wit_pool.proofs.cells.Cells.link.Statement.{statement}
 use Rattle.wit_pool.proofs.cells.Cells.link.Code as code
 
-module _ (E : El) where
-  abbrev function : Fn
-  function = inst_fn (args E) code.function
-
-  abbrev ended : Ended
-  ended = record {
-    signature = record {
-      lifetimes = 1;
-      outlives = [];
-      params = RefOf (0 ∷ []) tt (plain (λ _. Cr E)) (λ _. tt) ∷ plain (λ _. Lk E) ∷ plain (λ _. usize) ∷ [];
-      result = plain (λ _. Lk E);
-    };
-    kept = (yes, (no, (no, tt)));
-  }
-
-  abbrev stayed : Stays ended.signature.params ended.kept
-  stayed = (
-    stay_dropped (RefOf (0 ∷ []) tt (plain (λ _. Cr E)) (λ _. tt)) yes,
-    (stay_dropped (plain (λ _. Lk E)) no, (stay_dropped (plain (λ _. usize)) no, tt)),
-  )
-
-  abbrev Asks : (Cr E).Denot → (Lk E).Denot → ℕ → Type 0
-  Asks c base place = (base.ptr ≡ c.at) × (place < length c.slots)
-
-  abbrev Gives : (Cr E).Denot → ℕ → (Lk E).Denot → Type 0
-  Gives c place r = (r.ptr ≡ spot_at (R E) c.at place) × (0 < type_size (R E) → spot (R E) c.at r.ptr ≡ place)
-
-  abbrev spec : {M : Type 1} {𝓤 : Ura M} (𝓛 : Logic 𝓤) → Clauses 𝓤 ended
-  spec {𝓤 = 𝓤} 𝓛 κs a = record {
-    ghost = Unit {0};
-    requires = λ _. fact 𝓤 (Asks a.0.now a.1.0 a.1.1.0);
-    ensures = λ _ r w. fact 𝓤 (Gives a.0.now a.1.1.0 r);
-  }
-
-module _ (E : El) {M : Type 1} {𝓤 : Ura M} (𝓛 : Logic 𝓤) (C : Calls 𝓤 𝓛.H) (Λ : Loops 𝓤 𝓛.H) (κ : Lft) (q : Share)
-    (rb ro : ℕ) (c : (Cr E).Denot) (base : (Lk E).Denot) (i : ℕ) (us0 us1 us2 : List Val) where
-  open 𝓛 use {H, A}
-
-  abbrev self : Bor (Cr E).Denot
-  self = record { ref_ptr = (rb, ro); now = c }
-
-  abbrev bound : (walk_of 𝓛 (ended E) (stayed E) (spec E 𝓛)).Ghost
-  bound = (((κ, tt), (q, tt), tt, (self, (base, (i, tt))), (us0, (us1, (us2, tt)))), tt)
-
-  abbrev Post : Val → SProp 𝓤
-  Post = (walk_of 𝓛 (ended E) (stayed E) (spec E 𝓛)).post bound
-
-  exits : (r : (Lk E).Denot) (v : Val) → Gives E c i r
-      → ent 𝓤 (⋆ 𝓛 (‵ (flft κ q) ∷ ‵ ((Lk E).own_val r (v ∷ [])) ∷ [])) (Post v)
-  exits r v gives =
-      qed 𝓛 (‵ (flft κ q) ∷ ‵ ((Lk E).own_val r (v ∷ [])) ∷ []) ∵
-      suffices ! _ (ends_at 𝓛 (ended E) (stayed E) (spec E 𝓛) bound v r (tt, (tt, (tt, tt))) (tt, (tt, (tt, tt)))) $ says ! gives $
-      nothing ! $ move ! (1 ∷ 0 ∷ []) $ join ! $ frame ! $ nothing ! $ nothing ! $ fjoin ! $ nothing ! $ fjoin ! $
-      nothing ! $ fjoin ! $ done !
-
-  abbrev Had : List (Item 𝓤)
-  Had = ‵ (hidden_shr (Cr E) κ c rb ro) ∷ ‵ (flft κ q) ∷ []
-
-  walk : Asks E c base i → i < 2 ^ 64
-      → ent 𝓤 (⋆ 𝓛 Had) (WpFn 𝓤 H C Λ (function E) (vptr rb ro ∷ word base.ptr ∷ vint w64 i ∷ []) Post)
-  walk asked fits =
-      qed 𝓛 Had ∵ enter ! C Λ (function E) (vptr rb ro ∷ word base.ptr ∷ vint w64 i ∷ []) _ $
-      alloc_all ! (λ l. pass_all ! refl ((tt, tt), (word-Good [] base.ptr, ((tt, record { fits = fits }), tt))) $
-      let En : Env 𝓤 H = env (function E).locals l in
-      unhide ! $ fsplit ! $ drop ! $
-      in_a_block ! c.at (λ p. cells_lent (R E) p c.slots κ) (id⊢ 𝓤 (never 𝓤)) (λ b o e. fsplit ! $ flt_l ! (λ small.
-      let s : ℕ = sz E in
-      let tiny : s < 2 ^ 64 = omega (arith, one_below (length c.slots) s (2 ^ 63) (omega arith) small) in
-      let far : i * s < 2 ^ 64 = omega (arith, times_below i (length c.slots) s (2 ^ 63) (omega arith) small) in
-      let there : Ptr = block_ptr b (i * s + o) in
-      let at : there ≡ spot_at (R E) c.at i = ap (λ p. spot_at (R E) p i) (sym e) in
-      let back : 0 < s → spot (R E) c.at there ≡ i =
-      subst (λ p. 0 < s → spot (R E) p there ≡ i) (sym e) (spot-back (R E) b o i) in
-      take_at ! 2 $ rewrite ! 0 (λ (p : Ptr). ‵ (fat full_share (layout (Lk E)) (l 2) 0 (word p))) (asked.0 ∙ e) refl $
-      give_at ! 2 $ first ! $ blocks ! $
-      sets ! (bin ! (get ! refl) (size_lit ! (record { fits = tiny })) (record { fits = far })) refl (tt, record { fits = far }) $
-      sets ! (bin ! (get_in ! (fld ! refl (stop !)) (sub ! 0 refl (whole !))) (get ! refl) tt) refl (tt, tt) $
-      sets_last ! (agg ! (and_then ! (get ! refl) (no_more !))) refl (word-Good [] there) $
-      exec ! C Λ En (after 1 (function E).body) (at_ret En Post) $ sets ! (of_opd ! (get ! refl)) refl (word-Good [] there) $
-      word_made ! there $
-      returns ! (look_at ! 0 refl) $ free_all ! refl $ keep ! (2 ∷ 0 ∷ []) $
-      by ! (exits (record { ptr = there }) (word there) (at, back)))))
-
-  entry : Asks E c base i
-      → ent 𝓤 (on_entry 𝓛 (ended E).signature (κ, tt) (q, tt) (self, (base, (i, tt))) (us0, (us1, (us2, tt))))
-      (WpFn 𝓤 H C Λ (function E) (us0 ++ (us1 ++ (us2 ++ []))) Post)
-  entry asked =
-      qed 𝓛 ((‵ (flft κ q) ⊛ ‵ ftrue)
-      ∷ ‵ (owns (ShrRef (named 0) κ (Cr E) ∷ Lk E ∷ usize ∷ []) (self, (base, (i, tt))) (us0, (us1, (us2, tt)))) ∷ []) ∵
-      split ! $ move ! (2 ∷ []) $ fsplit ! $ fsplit ! $ feq_l ! (λ e0.
-      move ! (1 ∷ []) $ fsplit ! $ word_had ! base.ptr us1 (λ e1.
-      fsplit ! $ fsplit ! $ feq_l ! (λ e2. flt_l ! (λ fits. keep ! (1 ∷ 2 ∷ []) $
-      by ! (subst (λ (ws : List Val × List Val × List Val).
-      ent 𝓤 (⋆ 𝓛 Had) (WpFn 𝓤 H C Λ (function E) (ws.0 ++ (ws.1 ++ (ws.2 ++ []))) Post))
-      (λ j. (sym e0 j, sym e1 j, sym e2 j)) (walk asked fits))))))
-
-meets : (E : El) {M : Type 1} {𝓤 : Ura M} (𝓛 : Logic 𝓤) (𝓣 : Tables 𝓤 𝓛.H)
-    → Meets 𝓛 (ended E).signature (WpFn 𝓤 𝓛.H 𝓣.C 𝓣.Λ (function E)) (closing 𝓛 (ended E) (spec E 𝓛))
-meets E {𝓤 = 𝓤} 𝓛 𝓣 =
-    walk_Meets 𝓛 (ended E) (stayed E) (
-      Goes-dropped 𝓛 1 (RefOf (0 ∷ []) tt (plain (λ _. Cr E)) (λ _. tt)) yes (λ κs x f. refl),
+pub link_spec : {M : Type 1} → statement M
+link_spec 𝓤 𝓛 𝓜 𝓡 wired X LX =
+    let E : El = record { row = X; laws = LX } in let s : ℕ = sz E in
+    let 𝓣 = tables 𝓤 𝓛.H 𝓜 𝓡 𝓡.env in let fn = inst_fn (args E) code.function in
+    let T = f.ended X in let c = f.clauses X 𝓛 𝓜.mem 𝓡.returns in
+    let self = RefOf (0 ∷ []) tt (plain {n = 2} (λ _. Cr E)) (λ _. tt) in
+    let hs : Stays T.signature.params T.kept = (
+      stay_dropped self yes,
       (
-        Goes-dropped 𝓛 1 (plain (λ _. Lk E)) no (λ κs x f. refl),
-        (Goes-dropped 𝓛 1 (plain (λ _. usize)) no (λ κs x f. refl), tt),
+        stay_dropped (plain (λ _. Lk E)) no,
+        (stay_dropped (plain (λ _. usize)) yes, tt),
+      ),
+    ) in
+    proved_at 𝓛 T hs c 𝓜 𝓡 (
+      Goes-dropped 𝓛 2 self yes (λ κs x w. refl),
+      (
+        Goes-dropped 𝓛 2 (plain (λ _. Lk E)) no (λ κs x w. refl),
+        (Goes-dropped 𝓛 2 (plain (λ _. usize)) yes (λ κs x w. refl), tt),
       ),
     )
-    (spec E 𝓛) (WpFn 𝓤 𝓛.H 𝓣.C 𝓣.Λ (function E)) (WpFn-mono 𝓤 𝓛.H 𝓛.laws 𝓣 (function E))
-    (λ z. let a = z.0.3 in let vss = z.0.4 in
-    needs 𝓤 (Asks E a.0.now a.1.0 a.1.1.0) _
-    (entry E 𝓛 𝓣.C 𝓣.Λ z.0.0.0 z.0.1.0 a.0.ref_ptr.0 a.0.ref_ptr.1 a.0.now a.1.0 a.1.1.0 vss.0 vss.1.0 vss.1.1.0))
-
-pub link_spec : {M : Type 1} → stated.statement M
-unfolding tables_of
-link_spec 𝓤 𝓛 𝓜 𝓡 wired X LX y =
-    let E : El = record { row = X; laws = LX } in
-    let 𝓣 : Tables 𝓤 𝓛.H = tables_of 𝓤 𝓛.H 𝓜 (tables 𝓤 𝓛.H 𝓜 𝓡 𝓡.env) in
-    let k = #self (args E) in
-    spared 𝓛 (ended E).signature (𝓡.run (𝓡.env k)) (run_framed 𝓤 𝓛.H 𝓜 𝓡 (𝓡.env k)) 1 (X.lives, tt) (closing 𝓛 (ended E) (spec E 𝓛))
-    (entered 𝓤 𝓛.H (triple_of 𝓛 (ended E).signature (closing 𝓛 (ended E) (spec E 𝓛))) 𝓣.C 𝓣.Λ k (function E)
-    (code.unfolded 𝓤 𝓛.H 𝓜 𝓡 wired (X, tt)) (meets E 𝓛 𝓣))
-    ((y.0.0, y.0.1, tt, y.0.3, y.0.4), y.1)
+    (f.Key.name (args E)) fn (code.unfolded 𝓤 𝓛.H 𝓜 𝓡 wired (X, tt)) (λ y are.
+    let κs = y.0.0 in let qs = y.0.1 in let a = y.0.3 in let us = y.0.4 in
+    let rb = a.0.ref_ptr.0 in let ro = a.0.ref_ptr.1 in let cs = a.0.now in let base = a.1.0 in
+    let i : ℕ = a.1.1.0 in
+    let Post : Val → SProp 𝓤 = (walk_of 𝓛 T hs c).post y in
+    let Runs : List Val → SProp 𝓤 = λ ws. WpFn 𝓤 𝓛.H 𝓣.C 𝓣.Λ fn ws Post in
+    let toks = ‵ (flft κs.0 qs.0) ⊛ (‵ (flft κs.1.0 qs.1.0) ⊛ ‵ ftrue) in
+    qed 𝓛 ((toks ⊛ ‵ (owns (types_at T.signature.params κs) a us))
+    ∷ (raw (fact 𝓤 (κs.1.0 ⊑ X.lives)) ⊛ raw (fact 𝓤 ((base.ptr ≡ cs.at) × (i < length cs.slots)))) ∷ []) ∵
+    move ! (1 ∷ []) $ split ! $ heard ! _ (λ short. heard ! _ (λ asked.
+    split ! $ move ! (1 ∷ []) $ fsplit ! $ fsplit ! $ feq_l ! (λ e0. move ! (1 ∷ []) $ fsplit ! $
+    word_had ! base.ptr us.1.0 (λ e1.
+    fsplit ! $ fsplit ! $ feq_l ! (λ e2. flt_l ! (λ fits. skip ! $
+    suffices ! (Runs (vptr rb ro ∷ word base.ptr ∷ vint w64 i ∷ []))
+    (at_words 𝓤 Runs (λ j. e0 j ++ (e1 j ++ (e2 j ++ [])))) $
+    enter ! _ _ _ _ _ $ alloc_all ! (λ l. pass_all ! refl (
+      (tt, tt),
+      (
+        word-Good [] base.ptr,
+        ((tt, record { fits = fits }), tt),
+      ),
+    ) $
+    -- [what the owner lends; the tokens]
+    unhide ! $ fsplit ! $ skip ! $
+    in_a_block ! cs.at (λ p. cells_lent (R E) p cs.slots (κs.0)) (id⊢ 𝓤 (never 𝓤)) (λ b o e. fsplit ! $
+    flt_l ! (λ small.
+    let tiny : s < 2 ^ 64 = omega (arith, one_below (length cs.slots) s (2 ^ 63) (omega arith) small) in
+    let far : i * s < 2 ^ 64 = omega (arith, times_below i (length cs.slots) s (2 ^ 63) (omega arith) small) in
+    let there : Ptr = block_ptr b (i * s + o) in
+    let back : 0 < s → spot (R E) cs.at there ≡ i = subst (λ p. 0 < s → spot (R E) p there ≡ i) (sym e)
+    (spot-back (R E) b o i) in
+    take_at ! 2 $ rewrite ! 0 (λ (p : Ptr). ‵ (fat full_share (layout (Lk E)) (l 2) 0 (word p)))
+    (asked.0 ∙ e) refl $ give_at ! 2 $
+    first ! $ blocks ! $
+    sets ! (bin ! (get ! refl) (size_lit ! (record { fits = tiny }))
+    (record { fits = far })) refl (tt, record { fits = far }) $
+    sets ! (bin ! (get_in ! (fld ! refl (stop !)) (sub ! 0 refl (whole !))) (get ! refl) tt) refl (tt, tt) $
+    sets_last ! (agg ! (and_then ! (get ! refl) (no_more !))) refl (word-Good [] there) $
+    exec ! 𝓣.C 𝓣.Λ (env fn.locals l) (after 1 fn.body) (at_ret _ Post) $
+    sets ! (of_opd ! (get ! refl)) refl (word-Good [] there) $
+    word_made ! there $ returns ! (look_at ! 0 refl) $ free_all ! refl $
+    -- [the link; what was lent; the tokens]
+    keep ! (2 ∷ 0 ∷ []) $
+    suffices ! _ (ends_at 𝓛 T hs c y (word there) (record { ptr = there }) (tt, (tt, (tt, tt)))
+    (tt, (tt, (tt, tt)))) $
+    says ! (ap (λ p. spot_at (R E) p i) (sym e), back) $ frame ! $
+    nothing ! $ nothing ! $ fjoin ! $ nothing ! $ fjoin ! $ nothing ! $ fjoin ! $ done !))))))))))

@@ -68,84 +68,86 @@ free_chunk-requires-clause-some g c = omega (arith, c.if-chain-gt1.true)
 pub free_chunk-requires-clause-few : goal.free_chunk-requires-clause-few
 free_chunk-requires-clause-few g c = few-free c.self.inside c.args.self.now c.self.view_is c.self.invariant
 
+-- what a removal leaves that gives the chunk back
+gives-back : (g : Over) (c : goal.After-free-then-chain-gt1-1 g)
+    → IsLeft c.args.self.now c.args.list
+    (set_groups c.args.self.now c.args.list
+    (removed_in c.args.spot.group c.args.index (groups_of c.args.self.now c.args.list)))
+    (record c.self.inside {
+      chains = with_item c.self.inside.chains (c.args.list - 1) c.free_chunk.result.0;
+      free = c.free_chunk.result.1;
+      cells = c.free_chunk.new.cells;
+    })
+gives-back g c =
+    freed c.self.inside c.args.self.now c.self.view_is c.self.invariant c.args.list c.requires.list
+    c.index-chain.result.now c.index-chain.ensures c.args.spot c.requires.spot
+    c.args.index c.requires.index c.take_out.new.cells.slots c.link_to-at.result
+    c.link_to-at.ensures.place c.take_out.ensures.slots c.link_to-at.ensures.leads
+    (omega (
+      arith,
+      c.if-take_out-eq0.true,
+      c.take_out.ensures.left,
+      ap (λ p. length (remove (content (chunk_at c.self.inside.cells.slots p)) c.args.index)) c.link_to-at.ensures.place,
+    ))
+    (omega (arith, c.if-chain-gt1.true))
+    (record c.self.inside {
+      chains = with_item c.self.inside.chains (c.args.list - 1) c.free_chunk.result.0;
+      free = c.free_chunk.result.1;
+      cells = c.free_chunk.new.cells;
+    })
+    (record {
+      at = c.free_chunk.ensures.at ∙ c.take_out.ensures.at;
+      first = refl;
+      count = refl;
+      deed = c.self.invariant.deed;
+    })
+    c.link_beside-newer.result c.link_beside-newer.ensures.place
+    c.free_chunk.result.0 c.free_chunk.ensures.slots c.free_chunk.ensures.chain refl
+    c.free_chunk.ensures.free.0 c.free_chunk.ensures.free.1
+
 pub invariant_of-self : goal.invariant_of-self
-invariant_of-self g c =
-    (freed c.self.inside c.args.self.now c.self.view_is c.self.invariant c.args.list c.requires.list c.index-chain.result.now c.index-chain.ensures c.args.spot c.requires.spot
-    c.args.index c.requires.index c.take_out.new.cells.slots c.link_to-at.result c.link_to-at.ensures.place c.take_out.ensures.slots
-    c.link_to-at.ensures.leads (omega (arith, c.if-take_out-eq0.true, c.take_out.ensures.left, ap (λ p. length (remove (content (chunk_at c.self.inside.cells.slots p)) c.args.index)) c.link_to-at.ensures.place)) (omega (arith, c.if-chain-gt1.true))
-    (record { chains = with_item c.self.inside.chains (c.args.list - 1) c.free_chunk.result.0; free = c.free_chunk.result.1; first = c.self.inside.first; count = c.self.inside.count; cells = c.free_chunk.new.cells; deed = c.self.inside.deed; alloc = c.self.inside.alloc })
-    (record { at = c.free_chunk.ensures.at ∙ c.take_out.ensures.at; first = refl; count = refl; deed = c.self.invariant.deed })
-    c.link_beside-newer.result c.link_beside-newer.ensures.place c.free_chunk.result.0 c.free_chunk.ensures.slots c.free_chunk.ensures.chain refl
-    c.free_chunk.ensures.free.0 c.free_chunk.ensures.free.1).kept
+invariant_of-self g c = (gives-back g c).kept
 
 pub returns-then-chain-gt1-clause-groups : goal.returns-then-chain-gt1-clause-groups
-returns-then-chain-gt1-clause-groups g c =
-    (freed c.self.inside c.args.self.now c.self.view_is c.self.invariant c.args.list c.requires.list c.index-chain.result.now c.index-chain.ensures c.args.spot c.requires.spot
-    c.args.index c.requires.index c.take_out.new.cells.slots c.link_to-at.result c.link_to-at.ensures.place c.take_out.ensures.slots
-    c.link_to-at.ensures.leads (omega (arith, c.if-take_out-eq0.true, c.take_out.ensures.left, ap (λ p. length (remove (content (chunk_at c.self.inside.cells.slots p)) c.args.index)) c.link_to-at.ensures.place)) (omega (arith, c.if-chain-gt1.true))
-    (record { chains = with_item c.self.inside.chains (c.args.list - 1) c.free_chunk.result.0; free = c.free_chunk.result.1; first = c.self.inside.first; count = c.self.inside.count; cells = c.free_chunk.new.cells; deed = c.self.inside.deed; alloc = c.self.inside.alloc })
-    (record { at = c.free_chunk.ensures.at ∙ c.take_out.ensures.at; first = refl; count = refl; deed = c.self.invariant.deed })
-    c.link_beside-newer.result c.link_beside-newer.ensures.place c.free_chunk.result.0 c.free_chunk.ensures.slots c.free_chunk.ensures.chain refl
-    c.free_chunk.ensures.free.0 c.free_chunk.ensures.free.1).are
+returns-then-chain-gt1-clause-groups g c = (gives-back g c).are
 
 pub returns-then-chain-gt1-clause-size : goal.returns-then-chain-gt1-clause-size
-returns-then-chain-gt1-clause-size g c =
-    (freed c.self.inside c.args.self.now c.self.view_is c.self.invariant c.args.list c.requires.list c.index-chain.result.now c.index-chain.ensures c.args.spot c.requires.spot
-    c.args.index c.requires.index c.take_out.new.cells.slots c.link_to-at.result c.link_to-at.ensures.place c.take_out.ensures.slots
-    c.link_to-at.ensures.leads (omega (arith, c.if-take_out-eq0.true, c.take_out.ensures.left, ap (λ p. length (remove (content (chunk_at c.self.inside.cells.slots p)) c.args.index)) c.link_to-at.ensures.place)) (omega (arith, c.if-chain-gt1.true))
-    (record { chains = with_item c.self.inside.chains (c.args.list - 1) c.free_chunk.result.0; free = c.free_chunk.result.1; first = c.self.inside.first; count = c.self.inside.count; cells = c.free_chunk.new.cells; deed = c.self.inside.deed; alloc = c.self.inside.alloc })
-    (record { at = c.free_chunk.ensures.at ∙ c.take_out.ensures.at; first = refl; count = refl; deed = c.self.invariant.deed })
-    c.link_beside-newer.result c.link_beside-newer.ensures.place c.free_chunk.result.0 c.free_chunk.ensures.slots c.free_chunk.ensures.chain refl
-    c.free_chunk.ensures.free.0 c.free_chunk.ensures.free.1).size
+returns-then-chain-gt1-clause-size g c = (gives-back g c).size
 
 pub returns-then-chain-gt1-clause-placed : goal.returns-then-chain-gt1-clause-placed
-returns-then-chain-gt1-clause-placed g c =
-    (freed c.self.inside c.args.self.now c.self.view_is c.self.invariant c.args.list c.requires.list c.index-chain.result.now c.index-chain.ensures c.args.spot c.requires.spot
-    c.args.index c.requires.index c.take_out.new.cells.slots c.link_to-at.result c.link_to-at.ensures.place c.take_out.ensures.slots
-    c.link_to-at.ensures.leads (omega (arith, c.if-take_out-eq0.true, c.take_out.ensures.left, ap (λ p. length (remove (content (chunk_at c.self.inside.cells.slots p)) c.args.index)) c.link_to-at.ensures.place)) (omega (arith, c.if-chain-gt1.true))
-    (record { chains = with_item c.self.inside.chains (c.args.list - 1) c.free_chunk.result.0; free = c.free_chunk.result.1; first = c.self.inside.first; count = c.self.inside.count; cells = c.free_chunk.new.cells; deed = c.self.inside.deed; alloc = c.self.inside.alloc })
-    (record { at = c.free_chunk.ensures.at ∙ c.take_out.ensures.at; first = refl; count = refl; deed = c.self.invariant.deed })
-    c.link_beside-newer.result c.link_beside-newer.ensures.place c.free_chunk.result.0 c.free_chunk.ensures.slots c.free_chunk.ensures.chain refl
-    c.free_chunk.ensures.free.0 c.free_chunk.ensures.free.1).placed
+returns-then-chain-gt1-clause-placed g c = (gives-back g c).placed
 
 pub returns-then-chain-gt1-clause-others : goal.returns-then-chain-gt1-clause-others
-returns-then-chain-gt1-clause-others g c =
-    (freed c.self.inside c.args.self.now c.self.view_is c.self.invariant c.args.list c.requires.list c.index-chain.result.now c.index-chain.ensures c.args.spot c.requires.spot
-    c.args.index c.requires.index c.take_out.new.cells.slots c.link_to-at.result c.link_to-at.ensures.place c.take_out.ensures.slots
-    c.link_to-at.ensures.leads (omega (arith, c.if-take_out-eq0.true, c.take_out.ensures.left, ap (λ p. length (remove (content (chunk_at c.self.inside.cells.slots p)) c.args.index)) c.link_to-at.ensures.place)) (omega (arith, c.if-chain-gt1.true))
-    (record { chains = with_item c.self.inside.chains (c.args.list - 1) c.free_chunk.result.0; free = c.free_chunk.result.1; first = c.self.inside.first; count = c.self.inside.count; cells = c.free_chunk.new.cells; deed = c.self.inside.deed; alloc = c.self.inside.alloc })
-    (record { at = c.free_chunk.ensures.at ∙ c.take_out.ensures.at; first = refl; count = refl; deed = c.self.invariant.deed })
-    c.link_beside-newer.result c.link_beside-newer.ensures.place c.free_chunk.result.0 c.free_chunk.ensures.slots c.free_chunk.ensures.chain refl
-    c.free_chunk.ensures.free.0 c.free_chunk.ensures.free.1).others
+returns-then-chain-gt1-clause-others g c = (gives-back g c).others
 
 pub invariant_of-self-else-chain-gt1 : goal.invariant_of-self-else-chain-gt1
 invariant_of-self-else-chain-gt1 g c =
     (stays c.self.inside c.args.self.now c.self.view_is c.self.invariant c.args.list c.requires.list c.index-chain.result.now c.index-chain.ensures c.args.spot c.requires.spot
     c.args.index c.requires.index c.take_out.new.cells.slots c.link_to-at.result c.link_to-at.ensures.place c.take_out.ensures.slots
-    (inr (omega (arith, c.if-chain-gt1.false))) (record { chains = c.self.inside.chains; free = c.self.inside.free; first = c.self.inside.first; count = c.self.inside.count; cells = c.take_out.new.cells; deed = c.self.inside.deed; alloc = c.self.inside.alloc })
+    (inr (omega (arith, c.if-chain-gt1.false))) (record c.self.inside { cells = c.take_out.new.cells })
     (record { at = c.take_out.ensures.at; first = refl; count = refl; deed = c.self.invariant.deed }) refl refl refl).kept
 
 pub invariant_of-self-else-take_out-eq0 : goal.invariant_of-self-else-take_out-eq0
 invariant_of-self-else-take_out-eq0 g c =
     (stays c.self.inside c.args.self.now c.self.view_is c.self.invariant c.args.list c.requires.list c.index-chain.result.now c.index-chain.ensures c.args.spot c.requires.spot
     c.args.index c.requires.index c.take_out.new.cells.slots c.link_to-at.result c.link_to-at.ensures.place c.take_out.ensures.slots
-    (inl (omega (arith, c.if-take_out-eq0.false, c.take_out.ensures.left, ap (λ p. length (remove (content (chunk_at c.self.inside.cells.slots p)) c.args.index)) c.link_to-at.ensures.place))) (record { chains = c.self.inside.chains; free = c.self.inside.free; first = c.self.inside.first; count = c.self.inside.count; cells = c.take_out.new.cells; deed = c.self.inside.deed; alloc = c.self.inside.alloc })
+    (inl (omega (arith, c.if-take_out-eq0.false, c.take_out.ensures.left, ap (λ p. length (remove (content (chunk_at c.self.inside.cells.slots p)) c.args.index)) c.link_to-at.ensures.place))) (record c.self.inside { cells = c.take_out.new.cells })
     (record { at = c.take_out.ensures.at; first = refl; count = refl; deed = c.self.invariant.deed }) refl refl refl).kept
 
 -- what a removal leaves that gives no chunk back
 left : (g : Over) (c : goal.Joined-else-take_out-eq0 g)
     → IsLeft c.args.self.now c.args.list (set_groups c.args.self.now c.args.list (removed_in c.args.spot.group c.args.index (groups_of c.args.self.now c.args.list)))
-    (record { chains = c.self.inside.chains; free = c.self.inside.free; first = c.self.inside.first; count = c.self.inside.count; cells = c.take_out.new.cells; deed = c.self.inside.deed; alloc = c.self.inside.alloc })
+    (record c.self.inside { cells = c.take_out.new.cells })
 left g c = elim c.else-take_out-eq0.branch [
   | else-take_out-eq0-via-then-take_out-eq0+else-chain-gt1 w ↦
       (stays c.self.inside c.args.self.now c.self.view_is c.self.invariant c.args.list c.requires.list c.index-chain.result.now c.index-chain.ensures c.args.spot c.requires.spot
       c.args.index c.requires.index c.take_out.new.cells.slots c.link_to-at.result c.link_to-at.ensures.place c.take_out.ensures.slots
-      (inr (omega (arith, w.if-chain-gt1.false))) (record { chains = c.self.inside.chains; free = c.self.inside.free; first = c.self.inside.first; count = c.self.inside.count; cells = c.take_out.new.cells; deed = c.self.inside.deed; alloc = c.self.inside.alloc })
+      (inr (omega (arith, w.if-chain-gt1.false))) (record c.self.inside { cells = c.take_out.new.cells })
       (record { at = c.take_out.ensures.at; first = refl; count = refl; deed = c.self.invariant.deed }) refl refl refl)
   | else-take_out-eq0-via-else-take_out-eq0 w ↦
       (stays c.self.inside c.args.self.now c.self.view_is c.self.invariant c.args.list c.requires.list c.index-chain.result.now c.index-chain.ensures c.args.spot c.requires.spot
       c.args.index c.requires.index c.take_out.new.cells.slots c.link_to-at.result c.link_to-at.ensures.place c.take_out.ensures.slots
-      (inl (omega (arith, w.if-take_out-eq0.false, c.take_out.ensures.left, ap (λ p. length (remove (content (chunk_at c.self.inside.cells.slots p)) c.args.index)) c.link_to-at.ensures.place))) (record { chains = c.self.inside.chains; free = c.self.inside.free; first = c.self.inside.first; count = c.self.inside.count; cells = c.take_out.new.cells; deed = c.self.inside.deed; alloc = c.self.inside.alloc })
+      (inl (omega (arith, w.if-take_out-eq0.false, c.take_out.ensures.left, ap (λ p. length (remove (content (chunk_at c.self.inside.cells.slots p)) c.args.index)) c.link_to-at.ensures.place))) (record c.self.inside { cells = c.take_out.new.cells })
       (record { at = c.take_out.ensures.at; first = refl; count = refl; deed = c.self.invariant.deed }) refl refl refl)
 ]
 
