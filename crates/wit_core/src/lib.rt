@@ -16,5 +16,6 @@ mod ready;
 mod seats;
 mod verifier;
 
+pub use circle::circle_in;
 pub use lists::StartError;
 pub use verifier::Verifier;
