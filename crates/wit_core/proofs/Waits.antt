@@ -1,13 +1,13 @@
 -- Who waits for whom by the record, as a table of it says.
 use Rattle.std.proofs.Common.{◌≡◌, ℕ, ◌+◌, ◌-◌, ◌<◌, ◌≤◌, Bool, true, false, not, ◌&&◌, eqb, nat_lt, nat_le, List, [], ◌∷◌, ◌++◌, length, map, Option, None, Some, is_none, find, unwrap_or, refl, sym, ap, ◌∙◌, subst, arith}
 use Rattle.std.specs.Global.{Vec}
-use Rattle.std.specs.List.{range_with_len}
+use Rattle.std.specs.List.{range_with_len, slice_index_or}
 use Rattle.std.proofs.lemmas.Bool.{false≢true, and_parts, ltb-true, leb-true, lt-ltb, le-leb}
 use Rattle.std.proofs.lemmas.List.{map-append}
 use Rattle.std.proofs.lemmas.List.FromFn.{length-map-range_with_len, get_or-map-range_with_len, map-range_with_len_more}
 use Rattle.wit_model.specs.declared.locks.SeatNo.{SeatNo}
 use Rattle.wit_model.specs.declared.calls.Request.{Request}
-use Rattle.wit_model.specs.Rules.Circles.{IsQueue, waits_for, is_kept_by, is_barred, Waits, TellsCircle, seat_numbers}
+use Rattle.wit_model.specs.Rules.Circles.{IsQueue, IsRecordCircle, waits_for, is_kept_by, is_barred, Waits, TellsCircle, circle_numbers, seat_numbers}
 use Rattle.wit_model.specs.Rules.Numbers.{is_given, with_number, IsNumber}
 use Rattle.wit_model.specs.Rules.State.{Story, state_of, seat_of, is_seat, seat_at, chain_in, no_seat}
 use Rattle.wit_model.specs.Rules.State as model
@@ -16,8 +16,8 @@ use Rattle.wit_model.specs.Rules.Step.{held_by}
 use Rattle.wit_model.specs.Rules.Types.{is_spin}
 use Rattle.wit_model.specs.Rules.Verdict.{is_of}
 use Rattle.wit_model.proofs.Numbered.{with_number-or, with_number-none}
-use Rattle.wit_core.specs.Searching.{is_marked, waiting, all_waiting, rows_of, says, Says, IsTable, IsCircleFrom}
-use Rattle.wit_core.proofs.Queues.{circle_likewise, queue_likewise, turned}
+use Rattle.wit_core.specs.Searching.{is_marked, waiting, all_waiting, rows_of, says, Says, IsTable, IsCircleFrom, TellsCircleIn}
+use Rattle.wit_core.proofs.Queues.{circle_likewise, turned}
 use Rattle.wit_core.proofs.Reaching.{marked-at, marked_within, rows-many}
 
 -- ---- only seats wait, and only for seats
@@ -41,6 +41,16 @@ number-seat s t is =
 nobody-at : (s : Story) (t : ℕ) → is_seat (state_of s) t ≡ false → seat_at (state_of s) t ≡ no_seat
 nobody-at s t none = ap (λ (o : Option model.Seat). unwrap_or o no_seat) (with_number-none (state_of s).seats t none)
 
+nothing : (kind : Bool) (l : ℕ) → find (is_of l) (chain_in kind no_seat) ≡ None
+nothing true l = refl
+nothing false l = refl
+
+-- who is no seat holds nothing
+held-nobody : (s : Story) (t l : ℕ) → is_seat (state_of s) t ≡ false → held_by (state_of s) t l ≡ None
+held-nobody s t l none =
+    let kind = is_spin (lock_at (state_of s).known.locks l).made.class in
+    ap (λ (x : model.Seat). find (is_of l) (chain_in kind x)) (nobody-at s t none) ∙ nothing kind l
+
 pub waits_within : (s : Story) (t u : ℕ) → Waits (state_of s) t u → IsNumber s.start.sizes.seats t × IsNumber s.start.sizes.seats u
 waits_within s t u is = (number-seat s t (by (is_seat (state_of s) t) refl), number-seat s u (for (is_seat (state_of s) u) refl))
   where
@@ -49,21 +59,12 @@ waits_within s t u is = (number-seat s t (by (is_seat (state_of s) t) refl), num
     by false none =
         absurd (false≢true (sym (ap (λ (x : model.Seat). is_kept_by (state_of s) t u x.pending) (nobody-at s t none)) ∙ is))
 
-    nothing : (kind : Bool) (l : ℕ) → find (is_of l) (chain_in kind no_seat) ≡ None
-    nothing true l = refl
-    nothing false l = refl
-
-    held-none : is_seat (state_of s) u ≡ false → (l : ℕ) → held_by (state_of s) u l ≡ None
-    held-none none l =
-        let kind = is_spin (lock_at (state_of s).known.locks l).made.class in
-        ap (λ (x : model.Seat). find (is_of l) (chain_in kind x)) (nobody-at s u none) ∙ nothing kind l
-
     asks : (o : Option Request) → is_seat (state_of s) u ≡ false → is_kept_by (state_of s) t u o ≡ true → ⊥
     asks None none is = false≢true is
     asks (Some q) none is =
         let free = and_parts (is_none (held_by (state_of s) t q.lock.0)) (not (eqb u t) && is_barred q.mode (held_by (state_of s) u q.lock.0)) is in
         let barred = and_parts (not (eqb u t)) (is_barred q.mode (held_by (state_of s) u q.lock.0)) free.1 in
-        false≢true (sym (ap (is_barred q.mode) (held-none none q.lock.0)) ∙ barred.1)
+        false≢true (sym (ap (is_barred q.mode) (held-nobody s u q.lock.0 none)) ∙ barred.1)
 
     for : (b : Bool) → is_seat (state_of s) u ≡ b → is_seat (state_of s) u ≡ true
     for true seat = seat
@@ -134,25 +135,49 @@ module _ (s : Story) (rows : List (Vec Bool)) (is : rows_of rows ≡ all_waiting
   pub rows-count : length rows ≡ s.start.sizes.seats
   rows-count = sym (rows-many rows) ∙ ap length is ∙ count-rows (waits_for (state_of s)) s.start.sizes.seats
 
-  pub tells_circle : (first : ℕ) (seats : Vec SeatNo) → IsCircleFrom (rows_of rows) first (Some seats) → TellsCircle (state_of s) (Some (seat_numbers seats.items))
-  tells_circle first seats found = (
-    circle_likewise (Says (rows_of rows)) (Waits (state_of s))
-        (λ t u says. says_true (waits_for (state_of s)) s.start.sizes.seats t u (subst (λ table. Says table t u) is says))
-        (seat_numbers seats.items) found.0,
-    found.1,
-  )
-
-  pub tells_none : ((t : ℕ) → 0 < t → t ≤ s.start.sizes.seats → IsCircleFrom (rows_of rows) t None) → TellsCircle (state_of s) None
-  tells_none none seats circle =
-      let l = turned (Waits (state_of s)) seats circle in
-      let number = first-number l.first l.others l.first l.circle in
-      none l.first number.0 number.1 l.others (queue_likewise (Waits (state_of s)) (Says (rows_of rows)) into l.first l.others l.first l.circle) l.all
+  -- what the table tells is told of the state
+  pub told_of_state : (o : Option (List ℕ)) → TellsCircleIn (rows_of rows) o → TellsCircle (state_of s) o
+  told_of_state (Some seats) told = (circle_likewise (Says (rows_of rows)) (Waits (state_of s)) from seats told.0, told.1)
+    where
+      from : (t u : ℕ) → Says (rows_of rows) t u → Waits (state_of s) t u
+      from t u says = says_true (waits_for (state_of s)) s.start.sizes.seats t u (subst (λ table. Says table t u) is says)
+  told_of_state None none = λ seats circle. none seats (circle_likewise (Waits (state_of s)) (Says (rows_of rows)) into seats circle)
     where
       into : (t u : ℕ) → Waits (state_of s) t u → Says (rows_of rows) t u
       into t u waits =
           let within = waits_within s t u waits in
           subst (λ table. Says table t u) (sym is) (says-is (waits_for (state_of s)) s.start.sizes.seats t u within.0 within.1 ∙ waits)
 
-      first-number : (t : ℕ) (others : List ℕ) (u : ℕ) → IsQueue (Waits (state_of s)) t others u → IsNumber s.start.sizes.seats t
-      first-number t [] u waits = (waits_within s t u waits).0
-      first-number t (v ∷ vs) u waits = (waits_within s t v waits.0).0
+  -- none is told where there is none
+  pub none_told : (o : Option (Vec SeatNo)) → ((seats : List ℕ) → IsRecordCircle (state_of s) seats → ⊥) → TellsCircle (state_of s) (circle_numbers o) → o ≡ None
+  none_told None none told = refl
+  none_told (Some seats) none told = absurd (none (seat_numbers seats.items) told.0)
+
+-- ---- what a table tells by itself
+
+module _ (rows : List (List Bool)) (table : IsTable rows) where
+  -- it speaks of its own seats
+  says_within : (t u : ℕ) → Says rows t u → IsNumber (length rows) t
+  says_within t u is = by (is_given rows u) refl
+    where
+      by : (b : Bool) → is_given rows u ≡ b → IsNumber (length rows) t
+      by false none =
+          let within = marked_within [] t (sym (ap (λ (o : Option (List Bool)). is_marked (unwrap_or o []) t) (with_number-none rows u none)) ∙ is) in
+          absurd (omega (arith, within))
+      by true given =
+          let parts = and_parts (nat_lt 0 u) (nat_le u (length rows)) given in
+          let some = ltb-true 0 u parts.0 in
+          let most = leb-true u (length rows) parts.1 in
+          let within = marked_within (slice_index_or rows (u - 1) []) t (sym (ap (λ marks. is_marked marks t) (with_number-or rows u [] some)) ∙ is) in
+          let many = table (u - 1) (omega (arith, some, most)) in
+          (within.0, omega (arith, within, many))
+
+  pub tells_none : ((t : ℕ) → 0 < t → t ≤ length rows → IsCircleFrom rows t None) → TellsCircleIn rows None
+  tells_none none = λ seats circle.
+      let l = turned (Says rows) seats circle in
+      let number = first-number l.first l.others l.first l.circle in
+      none l.first number.0 number.1 l.others l.circle l.all
+    where
+      first-number : (t : ℕ) (others : List ℕ) (u : ℕ) → IsQueue (Says rows) t others u → IsNumber (length rows) t
+      first-number t [] u says = says_within t u says
+      first-number t (v ∷ vs) u says = says_within t v says.0

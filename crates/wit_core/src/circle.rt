@@ -6,7 +6,7 @@ ghost use Rattle.wit_model.specs.Rules.Circles.{waits_for, TellsCircle, circle_n
 ghost use Rattle.wit_model.specs.Rules.Clean.{is_clean};
 ghost use Rattle.wit_model.specs.Rules.Numbers.{IsNumber};
 ghost use Rattle.wit_model.specs.Rules.State.{state_of};
-ghost use Rattle.wit_core.specs.Searching.{waiting, all_waiting, rows_of, says, IsTable, seat_in, IsTrail, IsSearch, Reaches, IsClosing, IsCircleFrom};
+ghost use Rattle.wit_core.specs.Searching.{waiting, all_waiting, rows_of, says, IsTable, seat_in, IsTrail, IsSearch, Reaches, IsClosing, IsCircleFrom, TellsCircleIn};
 
 use crate::verifier::Verifier;
 use std::alloc::{AllocError, Global};
@@ -25,13 +25,10 @@ impl Verifier {
         ensures clean { self.now.start.blessed ≡ [] → is_clean self.now.history ≡ true → IfOk result (λ c. c ≡ None) }
         ensures err { IfErr result (λ e. e ≡ OutOfMemory) }
     {
+        // Called for its clause that there are never more than 256 seats.
+        let _seats = self.seats();
         let rows = self.all_waiting()?;
-        for place in 0..self.seats() {
-            if let Some(circle) = circle_from(self.alloc, &rows, SeatNo(place + 1))? {
-                return Ok(Some(circle));
-            }
-        }
-        Ok(None)
+        Ok(circle_in(self.alloc, &rows)?)
     }
 
     // For each seat, which seats wait for it.
@@ -74,6 +71,25 @@ impl Verifier {
             None => false,
         }
     }
+}
+
+/// Seats that wait for one another in a circle, by a table with a row for each seat (256 at most), and in it a mark for each seat,
+/// which tells whether that one waits for the row's. Each waits for the next, and the last for the first, which is the least of them.
+/// `None` exactly where there is no such circle.
+///
+/// # Errors
+/// Want of memory alone.
+pub fn circle_in(alloc: Global, rows: &[Vec<bool>]) -> Result<Option<Vec<SeatNo>>, AllocError>
+    requires table { IsTable (rows_of rows.now) }
+    requires few { length rows.now ≤ 256 }
+    ensures { IfOk result (λ c. TellsCircleIn (rows_of rows.now) (circle_numbers c)) }
+{
+    for place in 0..rows.len() as u16 {
+        if let Some(circle) = circle_from(alloc, rows, SeatNo(place + 1))? {
+            return Ok(Some(circle));
+        }
+    }
+    Ok(None)
 }
 
 // Whether such a table says that a seat waits for another.

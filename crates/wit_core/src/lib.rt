@@ -12,8 +12,10 @@ mod names;
 mod orders;
 mod questions;
 mod readers;
+mod ready;
 mod seats;
 mod verifier;
 
+pub use circle::circle_in;
 pub use lists::StartError;
 pub use verifier::Verifier;

@@ -3,10 +3,12 @@
 ghost use Rattle.std.specs.Prelude.{◌≡◌, ◌≤◌, length, slice_get, IfSome, IfOk, IfErr};
 ghost use Rattle.std.specs.Option.{option_copied, option_map};
 ghost use Rattle.wit_model.specs.declared.calls.Request.{Request};
+ghost use Rattle.wit_model.specs.declared.locks.Instance.{Instance};
 ghost use Rattle.wit_model.specs.declared.faults.Fault.TheVariants.{OutOfMemory};
 ghost use Rattle.wit_model.specs.Rules.Numbers.{with_number, IsNumber};
 ghost use Rattle.wit_model.specs.Rules.Orders.{Before, is_direct, origin_of};
 ghost use Rattle.wit_model.specs.Rules.State.{state_of, seat_at, chain_in, free, known_of, orders_of, types_of, typed_locks};
+ghost use Rattle.wit_model.specs.Rules.Step.{held_by};
 ghost use Rattle.wit_model.specs.Trace.Paths.{path, path_numbers};
 ghost use Rattle.wit_matrix.specs.Relation.{LeadsBy};
 ghost use Rattle.wit_core.specs.Held.{HoldAll};
@@ -35,6 +37,17 @@ impl Verifier {
     {
         let request = self.request(seat)?;
         Some((request.lock, request.mode))
+    }
+
+    /// How many times a seat has acquired again a lock that it holds, by what is recorded; `None` where it doesn't hold the lock.
+    pub fn recorded(&self, seat: SeatNo, lock: LockNo) -> Option<u16>
+        ensures { result ≡ option_map (λ (i : Instance). i.count) (held_by (state_of self.now) seat.0 lock.0) }
+    {
+        if !self.is_seat(seat) {
+            return None;
+        }
+        let held = self.held(seat, lock)?;
+        Some(held.count)
     }
 
     /// The lock of one kind that a seat holds at this place, counted from the oldest, 0; `None` beyond the newest.
