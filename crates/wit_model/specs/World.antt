@@ -2,6 +2,7 @@
 pub mod Deeds
 pub mod Examples
 pub mod Reordering
+pub mod Scenes
 pub mod Sequences
 pub mod Stages
 pub mod Steps
