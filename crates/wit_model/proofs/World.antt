@@ -1,11 +1,14 @@
 -- Laws of worlds.
 pub mod Barred
+pub mod Circled
 pub mod Covered
 pub mod Crossed
 pub mod Exclusion
+pub mod Holders
 pub mod Moments
 pub mod NoCircle
 pub mod Own
 pub mod RecordCircle
 pub mod Rounds
 pub mod Runs
+pub mod Shown

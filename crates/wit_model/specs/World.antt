@@ -4,6 +4,7 @@ pub mod Examples
 pub mod Reordering
 pub mod Scenes
 pub mod Sequences
+pub mod Shown
 pub mod Stages
 pub mod Steps
 pub mod Waiting
