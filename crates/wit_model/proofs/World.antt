@@ -12,3 +12,4 @@ pub mod RecordCircle
 pub mod Rounds
 pub mod Runs
 pub mod Shown
+pub mod Stepping
