@@ -1,5 +1,6 @@
 -- Laws of worlds.
 pub mod Barred
+pub mod Calling
 pub mod Circled
 pub mod Covered
 pub mod Crossed
@@ -7,6 +8,7 @@ pub mod Exclusion
 pub mod Holders
 pub mod Moments
 pub mod NoCircle
+pub mod Opening
 pub mod Own
 pub mod RecordCircle
 pub mod Rounds

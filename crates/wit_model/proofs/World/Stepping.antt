@@ -30,11 +30,11 @@ use Rattle.wit_model.proofs.World.Shown.{take-shows, try-shows, free-shows, up-s
 
 -- ---- a step is accepted exactly where no fault stands
 
-gone-by : {X : Type 0} (b : Bool) (f : Fault) (rest : Result X Fault) (x : X) → cond (not b) (Err f) rest ≡ Ok x → (b ≡ true) × (rest ≡ Ok x)
+pub gone-by : {X : Type 0} (b : Bool) (f : Fault) (rest : Result X Fault) (x : X) → cond (not b) (Err f) rest ≡ Ok x → (b ≡ true) × (rest ≡ Ok x)
 gone-by true f rest x ok = (refl, ok)
 gone-by false f rest x ok = (cc)
 
-let-by : {X : Type 0} (b : Bool) (f : Fault) (rest : Result X Fault) → b ≡ true → cond (not b) (Err f) rest ≡ rest
+pub let-by : {X : Type 0} (b : Bool) (f : Fault) (rest : Result X Fault) → b ≡ true → cond (not b) (Err f) rest ≡ rest
 let-by true f rest is = refl
 let-by false f rest is = absurd (false≢true is)
 
@@ -88,7 +88,7 @@ module _ (start : Start) (files : List (List ℕ)) (w : List Deed) (s : Scene) (
   given-shown : (l : ℕ) → is_given (state_of s.story).known.locks l ≡ true → is_given (typed_locks start (log_of w)) l ≡ true
   given-shown l is = ap (λ (x : Story). is_given (state_of x).known.locks l) (sym shown.story) ∙ is
 
-  follow-shown : (d : Deed) → follows d (λ l. is_held (thread_of d) l s.story.history) (stage_at s (thread_of d)) ≡ may_follow d w
+  pub follow-shown : (d : Deed) → follows d (λ l. is_held (thread_of d) l s.story.history) (stage_at s (thread_of d)) ≡ may_follow d w
   follow-shown d =
       ap₂ (λ (x : Story) at. follows d (λ l. is_held (thread_of d) l x.history) at) shown.story (shown.stages (thread_of d))
 

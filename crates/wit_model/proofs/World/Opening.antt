@@ -1,0 +1,42 @@
+-- Where nothing was done yet.
+use Rattle.std.proofs.Common.{◌≡◌, ℕ, zero, suc, ◌-◌, ◌<◌, List, [], ◌∷◌, get_or, unwrap_or, replicate, length, refl, ap, ◌∙◌, sym, inl, inr, arith}
+use Rattle.std.proofs.lemmas.Bool.{cases_Bool, ltb-true}
+use Rattle.std.proofs.lemmas.List.{length-replicate}
+use Rattle.std.specs.Prelude.{nat_lt}
+use Rattle.wit_model.specs.Rules.Numbers.{with_number}
+use Rattle.wit_model.specs.Rules.State.{Start}
+use Rattle.wit_model.specs.Rules.Step.{story_after}
+use Rattle.wit_model.specs.World.Stages.{Stage, Over}
+use Rattle.wit_model.specs.World.Scenes.{RawLock, nobodys, raw_of, stage_among, opening}
+use Rattle.wit_model.specs.World.Shown.{Shows}
+use Rattle.wit_model.proofs.Numbered.{with_number-or}
+
+all-over : (n i : ℕ) → get_or (replicate n Over) i Over ≡ Over
+all-over zero i = refl
+all-over (suc n) zero = refl
+all-over (suc n) (suc i) = all-over n i
+
+stage-over : (n t : ℕ) → stage_among (replicate n Over) t ≡ Over
+stage-over n t =
+    elim (cases_Bool (nat_lt 0 t)) [
+      | inl some ↦ with_number-or (replicate n Over) t Over (ltb-true 0 t some) ∙ all-over n (t - 1)
+      | inr none ↦ rw none refl
+    ]
+
+no-lock : (l : ℕ) → raw_of [] l ≡ nobodys
+no-lock l =
+    elim (cases_Bool (nat_lt 0 l)) [
+      | inl some ↦ with_number-or [] l nobodys (ltb-true 0 l some)
+      | inr none ↦ rw none refl
+    ]
+
+pub opening-shows : (start : Start) (files : List (List ℕ)) → Shows start files [] (opening (story_after start files []))
+opening-shows start files = record {
+  story = refl;
+  locks = refl;
+  had = λ t l. rw (no-lock l) refl;
+  modes = λ t l some. absurd (omega arith);
+  tidy = λ l. rw (no-lock l) tt;
+  stages = λ t. stage-over start.sizes.seats t;
+  seats = length-replicate start.sizes.seats Over;
+}
