@@ -7,7 +7,7 @@ use Rattle.wit_model.specs.declared.raw_steps.RawStep.{RawStep}
 use Rattle.wit_model.specs.Rules.Circles.{IsCircle}
 use Rattle.wit_model.specs.Rules.State.{Start, state_of}
 use Rattle.wit_model.specs.Rules.Step.{answer_of, story_after}
-use Rattle.wit_model.specs.World.Deeds.{Deed, log_of}
+use Rattle.wit_model.specs.World.Deeds.{Deed}
 use Rattle.wit_model.specs.World.Steps.{CanDo, IsWorld}
 use Rattle.wit_model.specs.World.Waiting.{IsWaiting, IsDeadlock}
 use Rattle.wit_model.specs.World.Scenes.{Scene, opening, stage_at, deed_of, is_known, is_way_back, may_call, step_raw, answer_in, scene_after}

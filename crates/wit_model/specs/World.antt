@@ -6,5 +6,6 @@ pub mod Scenes
 pub mod Sequences
 pub mod Shown
 pub mod Stages
+pub mod StepTable
 pub mod Steps
 pub mod Waiting

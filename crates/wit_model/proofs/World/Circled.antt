@@ -1,16 +1,16 @@
 -- Who waits for whom in a scene, and in the world that it shows.
-use Rattle.std.proofs.Common.{◌≡◌, ℕ, ◌<◌, Bool, true, false, not, ◌&&◌, ◌||◌, eqb, nat_lt, List, [], ◌∷◌, refl, ap, sym, ◌∙◌, subst}
-use Rattle.std.proofs.lemmas.Bool.{and_parts, and_from, eqb-true, eq-eqb, ne_eqb, not-true, lt-ltb, ltb-true, false≢true, true≢false}
+use Rattle.std.proofs.Common.{◌≡◌, ℕ, ◌<◌, Bool, true, false, not, ◌||◌, eqb, nat_lt, List, [], ◌∷◌, refl, ap, sym, ◌∙◌, subst}
+use Rattle.std.proofs.lemmas.Bool.{and_parts, and_from, eq-eqb, ne_eqb, not-true, lt-ltb, ltb-true, false≢true, true≢false}
 use Rattle.wit_model.specs.declared.calls.Request.{Request}
 use Rattle.wit_model.specs.Rules.History.{is_held}
 use Rattle.wit_model.specs.Rules.State.{Start, Story}
 use Rattle.wit_model.specs.Rules.Verdict.{is_exclusive}
 use Rattle.wit_model.specs.Rules.Circles.{IsQueue, IsCircle}
-use Rattle.wit_model.specs.World.Deeds.{Deed, own, log_of, shares, raw_mode}
-use Rattle.wit_model.specs.World.Stages.{Stage, Over, Asked, Taken, Tried, Forgot, Raised, Lowered, stage}
-use Rattle.wit_model.specs.World.Waiting.{IsWaiting, IsDeadlock}
+use Rattle.wit_model.specs.World.Deeds.{Deed, log_of, shares}
+use Rattle.wit_model.specs.World.Stages.{Stage, Over, Asked, Taken, Tried, Forgot, Raised, Lowered}
+use Rattle.wit_model.specs.World.Waiting.{IsWaiting}
 use Rattle.wit_model.specs.World.Scenes.{Scene, raw_of, shares_of, stage_at}
-use Rattle.wit_model.specs.World.Shown.{Shows, is_barred_by, waits_in, WaitsIn}
+use Rattle.wit_model.specs.World.Shown.{Shows, is_barred_by, waits_in}
 
 queue-through : {P Q : ℕ → ℕ → Type 0} → ((t u : ℕ) → P t u → Q t u) → (t : ℕ) (vs : List ℕ) (u : ℕ) → IsQueue P t vs u → IsQueue Q t vs u
 queue-through f t [] u waits = f t u waits

@@ -1,13 +1,10 @@
 -- Who has shares of a lock: what one more share or one fewer does, and what holds of all holders.
-use Rattle.std.proofs.Common.{◌≡◌, ℕ, zero, suc, ◌+◌, ◌-◌, ◌<◌, ◌≤◌, Bool, true, false, not, ◌&&◌, ◌||◌, cond, eqb, nat_lt, List, [], ◌∷◌, length, refl, ap, sym, ◌∙◌, subst, inl, inr, arith}
+use Rattle.std.proofs.Common.{◌≡◌, ℕ, zero, suc, ◌+◌, ◌-◌, ◌<◌, Bool, true, false, ◌||◌, cond, eqb, nat_lt, List, [], ◌∷◌, length, refl, ap, sym, ◌∙◌, subst, inl, inr, arith}
 use Rattle.std.specs.List.{list_all, range_with_len}
-use Rattle.std.proofs.lemmas.Bool.{and_parts, and_from, eq-eqb, eqb-true, ne_eqb, lt-ltb, ltb-true, ltb-false, false≢true, true≢false}
+use Rattle.std.proofs.lemmas.Bool.{and_parts, and_from, eq-eqb, eqb-true, ne_eqb, ltb-true, ltb-false, true≢false}
 use Rattle.std.proofs.lemmas.Bool.Decides.{eqb_tells}
-use Rattle.wit_model.specs.declared.locks.Mode.{Mode}
-use Rattle.wit_model.specs.declared.locks.Mode.TheVariants.{Shared, Exclusive}
 use Rattle.wit_model.specs.Rules.Numbers.{is_number}
-use Rattle.wit_model.specs.Rules.Verdict.{is_exclusive}
-use Rattle.wit_model.specs.World.Scenes.{RawLock, shares_among, is_admitted, one_more, one_fewer}
+use Rattle.wit_model.specs.World.Scenes.{shares_among, one_more, one_fewer}
 use Rattle.wit_model.specs.World.Shown.{IsTidy}
 use Rattle.wit_model.proofs.World.Exclusion.{one_thread}
 

@@ -1,13 +1,12 @@
 -- Where nothing was done yet.
-use Rattle.std.proofs.Common.{◌≡◌, ℕ, zero, suc, ◌-◌, ◌<◌, List, [], ◌∷◌, get_or, unwrap_or, replicate, length, refl, ap, ◌∙◌, sym, inl, inr, arith}
+use Rattle.std.proofs.Common.{◌≡◌, ℕ, zero, suc, ◌-◌, List, [], get_or, replicate, refl, ◌∙◌, inl, inr, arith}
 use Rattle.std.proofs.lemmas.Bool.{cases_Bool, ltb-true}
 use Rattle.std.proofs.lemmas.List.{length-replicate}
 use Rattle.std.specs.Prelude.{nat_lt}
-use Rattle.wit_model.specs.Rules.Numbers.{with_number}
 use Rattle.wit_model.specs.Rules.State.{Start}
 use Rattle.wit_model.specs.Rules.Step.{story_after}
-use Rattle.wit_model.specs.World.Stages.{Stage, Over}
-use Rattle.wit_model.specs.World.Scenes.{RawLock, nobodys, raw_of, stage_among, opening}
+use Rattle.wit_model.specs.World.Stages.{Over}
+use Rattle.wit_model.specs.World.Scenes.{nobodys, raw_of, stage_among, opening}
 use Rattle.wit_model.specs.World.Shown.{Shows}
 use Rattle.wit_model.proofs.Numbered.{with_number-or}
 

@@ -1,6 +1,6 @@
 -- A deed of a world, and what a scene shows then.
-use Rattle.std.proofs.Common.{◌≡◌, ℕ, ◌+◌, ◌-◌, ◌<◌, ◌≤◌, Bool, true, false, not, ◌&&◌, ◌||◌, cond, eqb, nat_lt, nat_le, List, [], ◌∷◌, ◌++◌, length, zero, suc, set, get_or, unwrap_or, Ok, Err, refl, ap, ap₂, sym, ◌∙◌, subst, inl, inr, arith, length-append}
-use Rattle.std.proofs.lemmas.Bool.{and_parts, and_from, cases_Bool, eq-eqb, eqb-true, ne_eqb, lt-ltb, ltb-true, leb-true, ltb-false, not-true, false≢true, true≢false}
+use Rattle.std.proofs.Common.{◌≡◌, ℕ, ◌+◌, ◌-◌, ◌<◌, ◌≤◌, Bool, true, false, ◌&&◌, cond, eqb, nat_lt, nat_le, List, [], ◌∷◌, ◌++◌, length, zero, suc, set, get_or, unwrap_or, refl, ap, ap₂, sym, ◌∙◌, subst, inl, inr, arith, length-append}
+use Rattle.std.proofs.lemmas.Bool.{and_parts, cases_Bool, eq-eqb, ltb-true, leb-true, true≢false}
 use Rattle.std.proofs.lemmas.Bool.Decides.{eqb_tells}
 use Rattle.std.proofs.lemmas.List.{length-set, get_or-set_same, get_or-set_other}
 use Rattle.wit_model.specs.declared.locks.Mode.{Mode}
@@ -10,18 +10,18 @@ use Rattle.wit_model.specs.declared.calls.Call.TheVariants.{Init, Unlock}
 use Rattle.wit_model.specs.declared.calls.Entry.{Entry}
 use Rattle.wit_model.specs.declared.calls.Reply.{Reply}
 use Rattle.wit_model.specs.Rules.Numbers.{is_given, is_number, with_number, with_changed}
-use Rattle.wit_model.specs.Rules.History.{num, is_held}
-use Rattle.wit_model.specs.Rules.State.{Start, Story, types_of, typed_locks, state_of, is_seat}
+use Rattle.wit_model.specs.Rules.History.{num}
+use Rattle.wit_model.specs.Rules.State.{Start, Story, types_of, typed_locks}
 use Rattle.wit_model.specs.Rules.Locks.{made_among}
 use Rattle.wit_model.specs.Rules.Verdict.{is_exclusive}
 use Rattle.wit_model.specs.Rules.Step.{is_logged, logged}
 use Rattle.wit_model.specs.World.Deeds.{Deed, Logged, PassedOver, Take, TryTake, Free, RawUp, RawDown, thread_of, own, log_of, are_these, shares, raw_mode}
 use Rattle.wit_model.specs.World.Stages.{Stage, Over, Forgot, stage_passed, stage_called, stage_logged, stage_after, stage}
-use Rattle.wit_model.specs.World.Steps.{admits, is_alone, CanDo, IsWorld}
+use Rattle.wit_model.specs.World.Steps.{admits, is_alone, IsWorld}
 use Rattle.wit_model.specs.World.Scenes.{RawLock, Scene, nobodys, raw_of, shares_among, shares_of, stage_among, one_more, one_fewer, raw_called, stage_stepped, stepped, scene_after}
 use Rattle.wit_model.specs.World.Shown.{IsTidy, Shows, deed_called}
 use Rattle.wit_model.proofs.Numbered.{with_number-or, with_changed-at}
-use Rattle.wit_model.proofs.World.Exclusion.{these, had-more, had-less, alone-is, has_seat, got-by, exclusive_alone}
+use Rattle.wit_model.proofs.World.Exclusion.{had-more, had-less, alone-is, has_seat, got-by, exclusive_alone}
 use Rattle.wit_model.proofs.World.Holders.{shares-one_more, shares-one_fewer, tidy-one_more, tidy-one_fewer}
 use Rattle.wit_model.proofs.World.Own.{own-mine, own-other, shares-own, num-own}
 

@@ -1,32 +1,27 @@
 -- What is accepted in a scene is a deed of the world that it shows, and what the world allows is
 -- accepted.
-use Rattle.std.proofs.Common.{◌≡◌, ℕ, ◌<◌, Bool, true, false, not, ◌&&◌, ◌||◌, cond, eqb, nat_lt, List, [], ◌∷◌, ◌++◌, Result, Ok, Err, refl, ap, ap₂, sym, ◌∙◌, subst, inl, inr, arith}
-use Rattle.std.specs.Prelude.{IsOk}
-use Rattle.std.proofs.lemmas.Bool.{and_parts, and_from, eq-eqb, eqb-true, ne_eqb, or_left, or_right, lt-ltb, ltb-true, not-true, false≢true, true≢false}
+use Rattle.std.proofs.Common.{◌≡◌, ℕ, ◌<◌, Bool, true, false, not, ◌&&◌, ◌||◌, cond, eqb, nat_lt, List, ◌∷◌, Result, Ok, Err, refl, ap, ap₂, sym, ◌∙◌, subst, arith}
+use Rattle.std.proofs.lemmas.Bool.{and_parts, and_from, eq-eqb, eqb-true, ne_eqb, or_right, lt-ltb, ltb-true, not-true, false≢true, true≢false}
 use Rattle.std.proofs.lemmas.List.FromFn.{length-map-range_with_len}
 use Rattle.wit_model.specs.declared.faults.Fault.{Fault}
 use Rattle.wit_model.specs.declared.faults.Fault.TheVariants.{UnknownSeat, UnknownLock, RawNotFree, StepOrder}
 use Rattle.wit_model.specs.declared.locks.Mode.{Mode}
 use Rattle.wit_model.specs.declared.locks.Mode.TheVariants.{Shared, Exclusive}
-use Rattle.wit_model.specs.declared.calls.Call.{Call}
-use Rattle.wit_model.specs.declared.calls.Reply.{Reply}
-use Rattle.wit_model.specs.declared.calls.Reply.TheVariants.{Ignored}
 use Rattle.wit_model.specs.declared.raw_steps.RawStep.{RawStep}
 use Rattle.wit_model.specs.declared.raw_steps.RawStep.TheVariants as raw_step
 use Rattle.wit_model.specs.Rules.Numbers.{is_given, is_number}
 use Rattle.wit_model.specs.Rules.History.{is_held}
 use Rattle.wit_model.specs.Rules.State.{Start, Story, typed_locks, seat_of, state_of, is_seat, is_live}
 use Rattle.wit_model.specs.Rules.Verdict.{is_exclusive}
-use Rattle.wit_model.specs.Rules.Step.{answer_of, story_after, is_logged}
-use Rattle.wit_model.specs.World.Deeds.{Deed, Logged, PassedOver, Take, TryTake, Free, RawUp, RawDown, thread_of, log_of, shares, raw_mode}
-use Rattle.wit_model.specs.World.Stages.{call_follows, follows, may_follow}
+use Rattle.wit_model.specs.World.Deeds.{Deed, Take, TryTake, Free, RawUp, RawDown, thread_of, log_of, shares, raw_mode}
+use Rattle.wit_model.specs.World.Stages.{follows, may_follow}
 use Rattle.wit_model.specs.World.Steps.{admits, is_alone, CanDo, IsWorld}
-use Rattle.wit_model.specs.World.Scenes.{RawLock, Scene, raw_of, shares_among, shares_of, stage_at, is_admitted, is_only, is_free, mode_asked, deed_of, is_known, is_way_back, has_share, may_come, stepped, step_deed, step_raw, names_live, may_call, answer_in, scene_after}
-use Rattle.wit_model.specs.World.Shown.{Shows, deed_called}
+use Rattle.wit_model.specs.World.Scenes.{Scene, raw_of, shares_of, stage_at, is_admitted, is_only, is_free, mode_asked, deed_of, is_known, is_way_back, has_share, may_come, stepped, step_deed, step_raw}
+use Rattle.wit_model.specs.World.Shown.{Shows}
 use Rattle.wit_model.proofs.Histories.Accepted.{live-given}
 use Rattle.wit_model.proofs.World.Exclusion.{has_seat}
 use Rattle.wit_model.proofs.World.Holders.{holders_threads, admitted_exclusive, admitted_shared}
-use Rattle.wit_model.proofs.World.Shown.{take-shows, try-shows, free-shows, up-shows, down-shows, call-shows}
+use Rattle.wit_model.proofs.World.Shown.{take-shows, try-shows, free-shows, up-shows, down-shows}
 
 -- ---- a step is accepted exactly where no fault stands
 
