@@ -10,6 +10,7 @@ pub mod Moments
 pub mod NoCircle
 pub mod Opening
 pub mod Own
+pub mod Placed
 pub mod RecordCircle
 pub mod Rounds
 pub mod Runs

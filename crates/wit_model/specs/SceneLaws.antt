@@ -5,8 +5,8 @@ use Rattle.wit_model.specs.declared.calls.Call.{Call}
 use Rattle.wit_model.specs.declared.calls.Reply.{Reply}
 use Rattle.wit_model.specs.declared.raw_steps.RawStep.{RawStep}
 use Rattle.wit_model.specs.Rules.Circles.{IsCircle}
-use Rattle.wit_model.specs.Rules.State.{Start, state_of}
-use Rattle.wit_model.specs.Rules.Step.{answer_of, story_after}
+use Rattle.wit_model.specs.Rules.State.{Start, Story, state_of}
+use Rattle.wit_model.specs.Rules.Step.{answer_of}
 use Rattle.wit_model.specs.World.Deeds.{Deed}
 use Rattle.wit_model.specs.World.Steps.{CanDo, IsWorld}
 use Rattle.wit_model.specs.World.Waiting.{IsWaiting, IsDeadlock}
@@ -16,8 +16,7 @@ use Rattle.wit_model.specs.World.Shown.{Shows, deed_called, waits_in, WaitsIn}
 -- where nothing was done yet
 abbrev pub OpeningShows : Type 0
 OpeningShows =
-    (start : Start) (files : List (List ℕ))
-    → Shows start files [] (opening (story_after start files []))
+    (story : Story) → story.history ≡ [] → Shows story.start story.files [] (opening story)
 
 -- an accepted step of a lock is a deed of its thread, and the scene shows the longer world
 abbrev pub StepsAreDeeds : Type 0

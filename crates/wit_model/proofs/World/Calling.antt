@@ -9,7 +9,7 @@ use Rattle.wit_model.specs.declared.calls.Call.TheVariants.{Init, Check, Note, N
 use Rattle.wit_model.specs.declared.calls.Reply.{Reply}
 use Rattle.wit_model.specs.declared.calls.Reply.TheVariants.{Ignored}
 use Rattle.wit_model.specs.declared.calls.Entry.{Entry}
-use Rattle.wit_model.specs.Rules.State.{Start, State, Story, state_of, is_seat, is_live}
+use Rattle.wit_model.specs.Rules.State.{Start, State, state_of, is_seat, is_live}
 use Rattle.wit_model.specs.Rules.Step.{answer_of, story_after, is_logged, step}
 use Rattle.wit_model.specs.World.Deeds.{Deed, Logged, PassedOver, Take, TryTake, Free, RawUp, RawDown, log_of}
 use Rattle.wit_model.specs.World.Stages.{may_follow}
@@ -17,7 +17,7 @@ use Rattle.wit_model.specs.World.Steps.{CanDo, IsWorld}
 use Rattle.wit_model.specs.World.Scenes.{Scene, names_live, may_call, answer_in, scene_after}
 use Rattle.wit_model.specs.World.Shown.{Shows, deed_called}
 use Rattle.wit_model.proofs.Histories.NamedFiles.{answer-named}
-use Rattle.wit_model.proofs.World.Shown.{call-shows}
+use Rattle.wit_model.proofs.World.Shown.{state-shown, call-shows}
 use Rattle.wit_model.proofs.World.Stepping.{gone-by, let-by, seat-shown, follow-shown}
 
 -- ---- the seat comes first, then the locks that are named
@@ -90,7 +90,7 @@ module _ (start : Start) (files : List (List ℕ)) (w : List Deed) (s : Scene) (
   may-follow = follow-shown start files w s shown (PassedOver t call)
 
   answer-shown : answer_of s.story t call ≡ answer_of (story_after start files (log_of w)) t call
-  answer-shown = ap (λ (x : Story). answer_of x t call) shown.story
+  answer-shown = ap (λ st. step st t call) (state-shown start files w s shown)
 
   pub call-deed : IsWorld start files w → answer_in s t call ≡ Ok r
       → IsWorld start files (deed_called t call r ∷ w) × Shows start files (deed_called t call r ∷ w) (scene_after s t call r)
@@ -133,7 +133,9 @@ world-named start files name (RawDown t l ∷ w) world = (world.0, world-named s
 pub shown-named : (start : Start) (files : List (List ℕ)) (name : List ℕ) (w : List Deed) (s : Scene) → Shows start files w s
     → Shows start (files ++ name ∷ []) w (record s { story = record s.story { files = files ++ name ∷ [] } })
 shown-named start files name w s shown = record {
-  story = ap (λ (x : Story). record x { files = files ++ name ∷ [] }) shown.story;
+  begun = shown.begun;
+  logs = shown.logs;
+  named = refl;
   locks = shown.locks;
   had = shown.had;
   modes = shown.modes;

@@ -3,7 +3,7 @@ use Rattle.std.proofs.Common.{◌≡◌, ℕ, ◌<◌, Bool, true, false, not, �
 use Rattle.std.proofs.lemmas.Bool.{and_parts, and_from, eq-eqb, ne_eqb, not-true, lt-ltb, ltb-true, false≢true, true≢false}
 use Rattle.wit_model.specs.declared.calls.Request.{Request}
 use Rattle.wit_model.specs.Rules.History.{is_held}
-use Rattle.wit_model.specs.Rules.State.{Start, Story}
+use Rattle.wit_model.specs.Rules.State.{Start}
 use Rattle.wit_model.specs.Rules.Verdict.{is_exclusive}
 use Rattle.wit_model.specs.Rules.Circles.{IsQueue, IsCircle}
 use Rattle.wit_model.specs.World.Deeds.{Deed, log_of, shares}
@@ -56,7 +56,7 @@ untrue false is = refl
 
 module _ (start : Start) (files : List (List ℕ)) (w : List Deed) (s : Scene) (shown : Shows start files w s) where
   held-shown : (t l : ℕ) → is_held t l s.story.history ≡ is_held t l (log_of w)
-  held-shown t l = ap (λ (x : Story). is_held t l x.history) shown.story
+  held-shown t l = ap (λ h. is_held t l h) shown.logs
 
   pub waits-world : (t u : ℕ) → waits_in s t u ≡ true → IsWaiting w t u
   waits-world t u is =

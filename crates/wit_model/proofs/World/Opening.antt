@@ -1,10 +1,9 @@
 -- Where nothing was done yet.
-use Rattle.std.proofs.Common.{◌≡◌, ℕ, zero, suc, ◌-◌, List, [], get_or, replicate, refl, ◌∙◌, inl, inr, arith}
+use Rattle.std.proofs.Common.{◌≡◌, ℕ, zero, suc, ◌-◌, [], get_or, replicate, refl, ◌∙◌, inl, inr, arith}
 use Rattle.std.proofs.lemmas.Bool.{cases_Bool, ltb-true}
 use Rattle.std.proofs.lemmas.List.{length-replicate}
 use Rattle.std.specs.Prelude.{nat_lt}
-use Rattle.wit_model.specs.Rules.State.{Start}
-use Rattle.wit_model.specs.Rules.Step.{story_after}
+use Rattle.wit_model.specs.Rules.State.{Story}
 use Rattle.wit_model.specs.World.Stages.{Over}
 use Rattle.wit_model.specs.World.Scenes.{nobodys, raw_of, stage_among, opening}
 use Rattle.wit_model.specs.World.Shown.{Shows}
@@ -29,13 +28,15 @@ no-lock l =
       | inr none ↦ rw none refl
     ]
 
-pub opening-shows : (start : Start) (files : List (List ℕ)) → Shows start files [] (opening (story_after start files []))
-opening-shows start files = record {
-  story = refl;
+pub opening-shows : (s : Story) → s.history ≡ [] → Shows s.start s.files [] (opening s)
+opening-shows s empty = record {
+  begun = refl;
+  logs = empty;
+  named = refl;
   locks = refl;
   had = λ t l. rw (no-lock l) refl;
   modes = λ t l some. absurd (omega arith);
   tidy = λ l. rw (no-lock l) tt;
-  stages = λ t. stage-over start.sizes.seats t;
-  seats = length-replicate start.sizes.seats Over;
+  stages = λ t. stage-over s.start.sizes.seats t;
+  seats = length-replicate s.start.sizes.seats Over;
 }

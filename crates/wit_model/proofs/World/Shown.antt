@@ -1,93 +1,26 @@
 -- A deed of a world, and what a scene shows then.
-use Rattle.std.proofs.Common.{◌≡◌, ℕ, ◌+◌, ◌-◌, ◌<◌, ◌≤◌, Bool, true, false, ◌&&◌, cond, eqb, nat_lt, nat_le, List, [], ◌∷◌, ◌++◌, length, zero, suc, set, get_or, unwrap_or, refl, ap, ap₂, sym, ◌∙◌, subst, inl, inr, arith, length-append}
-use Rattle.std.proofs.lemmas.Bool.{and_parts, cases_Bool, eq-eqb, ltb-true, leb-true, true≢false}
+use Rattle.std.proofs.Common.{◌≡◌, ℕ, ◌+◌, ◌-◌, ◌<◌, Bool, true, false, ◌&&◌, cond, eqb, nat_lt, List, ◌∷◌, length, refl, ap, ap₂, sym, ◌∙◌, subst, inl, inr, arith}
+use Rattle.std.proofs.lemmas.Bool.{eq-eqb, true≢false}
 use Rattle.std.proofs.lemmas.Bool.Decides.{eqb_tells}
-use Rattle.std.proofs.lemmas.List.{length-set, get_or-set_same, get_or-set_other}
 use Rattle.wit_model.specs.declared.locks.Mode.{Mode}
 use Rattle.wit_model.specs.declared.locks.Mode.TheVariants.{Shared, Exclusive}
 use Rattle.wit_model.specs.declared.calls.Call.{Call}
-use Rattle.wit_model.specs.declared.calls.Call.TheVariants.{Init, Unlock}
-use Rattle.wit_model.specs.declared.calls.Entry.{Entry}
+use Rattle.wit_model.specs.declared.calls.Call.TheVariants.{Unlock}
 use Rattle.wit_model.specs.declared.calls.Reply.{Reply}
-use Rattle.wit_model.specs.Rules.Numbers.{is_given, is_number, with_number, with_changed}
+use Rattle.wit_model.specs.Rules.Numbers.{is_given, is_number, with_changed}
 use Rattle.wit_model.specs.Rules.History.{num}
-use Rattle.wit_model.specs.Rules.State.{Start, Story, types_of, typed_locks}
-use Rattle.wit_model.specs.Rules.Locks.{made_among}
+use Rattle.wit_model.specs.Rules.State.{Start, typed_locks, state_of}
 use Rattle.wit_model.specs.Rules.Verdict.{is_exclusive}
-use Rattle.wit_model.specs.Rules.Step.{is_logged, logged}
+use Rattle.wit_model.specs.Rules.Step.{story_after, is_logged, logged}
 use Rattle.wit_model.specs.World.Deeds.{Deed, Logged, PassedOver, Take, TryTake, Free, RawUp, RawDown, thread_of, own, log_of, are_these, shares, raw_mode}
 use Rattle.wit_model.specs.World.Stages.{Stage, Over, Forgot, stage_passed, stage_called, stage_logged, stage_after, stage}
 use Rattle.wit_model.specs.World.Steps.{admits, is_alone, IsWorld}
 use Rattle.wit_model.specs.World.Scenes.{RawLock, Scene, nobodys, raw_of, shares_among, shares_of, stage_among, one_more, one_fewer, raw_called, stage_stepped, stepped, scene_after}
 use Rattle.wit_model.specs.World.Shown.{IsTidy, Shows, deed_called}
-use Rattle.wit_model.proofs.Numbered.{with_number-or, with_changed-at}
 use Rattle.wit_model.proofs.World.Exclusion.{had-more, had-less, alone-is, has_seat, got-by, exclusive_alone}
 use Rattle.wit_model.proofs.World.Holders.{shares-one_more, shares-one_fewer, tidy-one_more, tidy-one_fewer}
+use Rattle.wit_model.proofs.World.Placed.{length-changed, changed-here, changed-elsewhere, raw-called, length-called}
 use Rattle.wit_model.proofs.World.Own.{own-mine, own-other, shares-own, num-own}
-
--- ---- one of a list by its number
-
-pub length-changed : {X : Type 0} (xs : List X) (n : ℕ) (x : X) → length (with_changed xs n x) ≡ length xs
-length-changed {X = X} xs n x = go (nat_lt 0 n)
-  where
-    go : (b : Bool) → length (cond b (set xs (n - 1) x) xs) ≡ length xs
-    go true = length-set xs (n - 1) x
-    go false = refl
-
-module _ {X : Type 0} (xs : List X) (n : ℕ) (x d : X) (given : is_given xs n ≡ true) where
-  given-low : 0 < n
-  given-low = ltb-true 0 n (and_parts (nat_lt 0 n) (nat_le n (length xs)) given).0
-
-  given-high : n ≤ length xs
-  given-high = leb-true n (length xs) (and_parts (nat_lt 0 n) (nat_le n (length xs)) given).1
-
-  pub changed-here : unwrap_or (with_number (with_changed xs n x) n) d ≡ x
-  changed-here =
-      let low = given-low in
-      let high = given-high in
-      ap (λ ys. unwrap_or (with_number ys n) d) (with_changed-at xs n x low)
-      ∙ (with_number-or (set xs (n - 1) x) n d low ∙ get_or-set_same xs (n - 1) x d (omega (arith, low, high)))
-
-  pub changed-elsewhere : (m : ℕ) → (n ≡ m → ⊥) → unwrap_or (with_number (with_changed xs n x) m) d ≡ unwrap_or (with_number xs m) d
-  changed-elsewhere m other =
-      let low = given-low in
-      elim (cases_Bool (nat_lt 0 m)) [
-        | inl some ↦
-            let up = ltb-true 0 m some in
-            ap (λ ys. unwrap_or (with_number ys m) d) (with_changed-at xs n x low)
-            ∙ (with_number-or (set xs (n - 1) x) m d up
-            ∙ (get_or-set_other xs (n - 1) (m - 1) x d (λ same. other (omega (arith, same, low, up))) ∙ sym (with_number-or xs m d up)))
-        | inr none ↦ rw none refl
-      ]
-
--- a lock that is nobody's at the end changes nothing
-pub raw-added : (raw : List RawLock) (l : ℕ) → raw_of (raw ++ nobodys ∷ []) l ≡ raw_of raw l
-raw-added raw l =
-    elim (cases_Bool (nat_lt 0 l)) [
-      | inl some ↦ let up = ltb-true 0 l some in with_number-or (raw ++ nobodys ∷ []) l nobodys up ∙ (go raw (l - 1) ∙ sym (with_number-or raw l nobodys up))
-      | inr none ↦ rw none refl
-    ]
-  where
-    alone : (i : ℕ) → get_or (nobodys ∷ []) i nobodys ≡ nobodys
-    alone zero = refl
-    alone (suc i) = refl
-
-    go : (ks : List RawLock) (i : ℕ) → get_or (ks ++ nobodys ∷ []) i nobodys ≡ get_or ks i nobodys
-    go [] i = alone i
-    go (k ∷ ks) zero = refl
-    go (k ∷ ks) (suc i) = go ks i
-
-pub raw-called : (call : Call) (raw : List RawLock) (l : ℕ) → raw_of (raw_called call raw) l ≡ raw_of raw l
-raw-called (Init lock) raw l = raw-added raw l
-raw-called call raw l = refl
-
-pub length-called : (start : Start) (e : Entry) (h : List Entry) (raw : List RawLock) → length raw ≡ length (typed_locks start h)
-    → length (raw_called e.call raw) ≡ length (typed_locks start (e ∷ h))
-length-called start e h raw same = go e.call ∙ sym (length-append (typed_locks start h) (made_among (types_of start h) e.call))
-  where
-    go : (call : Call) → length (raw_called call raw) ≡ length (typed_locks start h) + length (made_among (types_of start h) call)
-    go (Init lock) = length-append raw (nobodys ∷ []) ∙ ap (λ n. n + 1) same
-    go call = omega (arith, same)
 
 -- ---- the next scene shows the next world
 
@@ -202,7 +135,9 @@ module _ (start : Start) (files : List (List ℕ)) (w : List Deed) (s : Scene) (
     pub take-shows : (mode : Mode) → admits start.sizes.seats l mode w ≡ true → Shows start files (Take t l mode ∷ w) (stepped s (Take t l mode))
     unfolding got-lock
     take-shows mode admitted = record {
-      story = shown.story;
+      begun = shown.begun;
+      logs = shown.logs;
+      named = shown.named;
       locks = locks-after l (got-lock mode) made;
       had = had-after l (got-lock mode) made (λ n. n + 1) t (λ u. shares-one_more t u (raw_of s.raw l).holders);
       modes = λ u m some. mode-after l (got-lock mode) made t (got-mode mode admitted) u m (λ apart. had-more (are_these u m t l) (shares u m w) apart some);
@@ -214,7 +149,9 @@ module _ (start : Start) (files : List (List ℕ)) (w : List Deed) (s : Scene) (
     pub try-shows : (mode : Mode) → admits start.sizes.seats l mode w ≡ true → Shows start files (TryTake t l mode ∷ w) (stepped s (TryTake t l mode))
     unfolding got-lock
     try-shows mode admitted = record {
-      story = shown.story;
+      begun = shown.begun;
+      logs = shown.logs;
+      named = shown.named;
       locks = locks-after l (got-lock mode) made;
       had = had-after l (got-lock mode) made (λ n. n + 1) t (λ u. shares-one_more t u (raw_of s.raw l).holders);
       modes = λ u m some. mode-after l (got-lock mode) made t (got-mode mode admitted) u m (λ apart. had-more (are_these u m t l) (shares u m w) apart some);
@@ -229,7 +166,9 @@ module _ (start : Start) (files : List (List ℕ)) (w : List Deed) (s : Scene) (
     pub free-shows : Shows start files (Free t l ∷ w) (stepped s (Free t l))
     unfolding freed-lock
     free-shows = record {
-      story = shown.story;
+      begun = shown.begun;
+      logs = shown.logs;
+      named = shown.named;
       locks = locks-after l freed-lock made;
       had = had-after l freed-lock made (λ n. n - 1) t (λ u. shares-one_fewer t u (raw_of s.raw l).holders (shown.tidy l));
       modes = λ u m some. mode-kept l freed-lock made refl u m (had-less (are_these u m t l) (shares u m w) some);
@@ -244,7 +183,9 @@ module _ (start : Start) (files : List (List ℕ)) (w : List Deed) (s : Scene) (
     pub up-shows : is_alone start.sizes.seats t l w ≡ true → Shows start files (RawUp t l ∷ w) (stepped s (RawUp t l))
     unfolding turned-lock
     up-shows alone = record {
-      story = shown.story;
+      begun = shown.begun;
+      logs = shown.logs;
+      named = shown.named;
       locks = locks-after l (turned-lock Exclusive) made;
       had = had-kept l (turned-lock Exclusive) made refl;
       modes = λ u m some. mode-after l (turned-lock Exclusive) made t
@@ -257,7 +198,9 @@ module _ (start : Start) (files : List (List ℕ)) (w : List Deed) (s : Scene) (
     pub down-shows : 0 < shares t l w → is_exclusive (raw_mode t l w) ≡ true → Shows start files (RawDown t l ∷ w) (stepped s (RawDown t l))
     unfolding turned-lock
     down-shows some exclusive = record {
-      story = shown.story;
+      begun = shown.begun;
+      logs = shown.logs;
+      named = shown.named;
       locks = locks-after l (turned-lock Shared) made;
       had = had-kept l (turned-lock Shared) made refl;
       modes = λ u m had. mode-after l (turned-lock Shared) made t
@@ -269,10 +212,15 @@ module _ (start : Start) (files : List (List ℕ)) (w : List Deed) (s : Scene) (
 
   -- ---- each call
 
+  pub state-shown : state_of s.story ≡ state_of (story_after start files (log_of w))
+  state-shown =
+      ap (λ (x : Start). state_of (story_after x s.story.files s.story.history)) shown.begun
+      ∙ (ap (λ h. state_of (story_after start s.story.files h)) shown.logs ∙ ap (λ names. state_of (story_after start names (log_of w))) shown.named)
+
   stage-called : (t : ℕ) (call : Call) → stage_called (λ l. nat_lt (shares_of s.raw t l) (num t l s.story.history)) call ≡ stage_logged t call (own t w)
   stage-called t (Unlock l mode) =
       ap₂ (λ a b. Forgot l.0 (nat_lt a b)) (shown.had t l.0 ∙ sym (shares-own t l.0 w))
-      (ap (λ (x : Story). num t l.0 x.history) shown.story ∙ sym (num-own t l.0 w))
+      (ap (λ h. num t l.0 h) shown.logs ∙ sym (num-own t l.0 w))
   stage-called t call = refl
 
   pub call-shows : (t : ℕ) (call : Call) (r : Reply) → is_number start.sizes.seats t ≡ true → Shows start files (deed_called t call r ∷ w) (scene_after s t call r)
@@ -284,7 +232,9 @@ module _ (start : Start) (files : List (List ℕ)) (w : List Deed) (s : Scene) (
         stages = with_changed s.stages t (cond b (stage_called (λ l. nat_lt (shares_of s.raw t l) (num t l s.story.history)) call) (stage_passed call));
       })
       go true = record {
-        story = ap (λ (x : Story). logged x t call r) shown.story;
+        begun = shown.begun;
+        logs = ap (λ h. record { seat = record { 0 = t }; call = call; reply = r } ∷ h) shown.logs;
+        named = shown.named;
         locks = length-called start (record { seat = record { 0 = t }; call = call; reply = r }) (log_of w) s.raw shown.locks;
         had = λ u l. ap (λ (k : RawLock). shares_among u k.holders) (raw-called call s.raw l) ∙ shown.had u l;
         modes = λ u l some. ap (λ (k : RawLock). k.mode) (raw-called call s.raw l) ∙ shown.modes u l some;
@@ -294,7 +244,9 @@ module _ (start : Start) (files : List (List ℕ)) (w : List Deed) (s : Scene) (
         seats = seats-after t (stage_called (λ l. nat_lt (shares_of s.raw t l) (num t l s.story.history)) call);
       }
       go false = record {
-        story = shown.story;
+        begun = shown.begun;
+        logs = shown.logs;
+        named = shown.named;
         locks = shown.locks;
         had = shown.had;
         modes = shown.modes;

@@ -11,7 +11,7 @@ use Rattle.wit_model.specs.declared.raw_steps.RawStep.{RawStep}
 use Rattle.wit_model.specs.declared.raw_steps.RawStep.TheVariants as raw_step
 use Rattle.wit_model.specs.Rules.Numbers.{is_given, is_number}
 use Rattle.wit_model.specs.Rules.History.{is_held}
-use Rattle.wit_model.specs.Rules.State.{Start, Story, typed_locks, seat_of, state_of, is_seat, is_live}
+use Rattle.wit_model.specs.Rules.State.{Start, State, typed_locks, seat_of, state_of, is_seat, is_live}
 use Rattle.wit_model.specs.Rules.Verdict.{is_exclusive}
 use Rattle.wit_model.specs.World.Deeds.{Deed, Take, TryTake, Free, RawUp, RawDown, thread_of, log_of, shares, raw_mode}
 use Rattle.wit_model.specs.World.Stages.{follows, may_follow}
@@ -21,7 +21,7 @@ use Rattle.wit_model.specs.World.Shown.{Shows}
 use Rattle.wit_model.proofs.Histories.Accepted.{live-given}
 use Rattle.wit_model.proofs.World.Exclusion.{has_seat}
 use Rattle.wit_model.proofs.World.Holders.{holders_threads, admitted_exclusive, admitted_shared}
-use Rattle.wit_model.proofs.World.Shown.{take-shows, try-shows, free-shows, up-shows, down-shows}
+use Rattle.wit_model.proofs.World.Shown.{state-shown, take-shows, try-shows, free-shows, up-shows, down-shows}
 
 -- ---- a step is accepted exactly where no fault stands
 
@@ -74,18 +74,18 @@ module _ (start : Start) (files : List (List ℕ)) (w : List Deed) (s : Scene) (
 
   pub seat-shown : (t : ℕ) → is_seat (state_of s.story) t ≡ is_number start.sizes.seats t
   seat-shown t =
-      ap (λ (x : Story). is_seat (state_of x) t) shown.story
+      ap (λ st. is_seat st t) (state-shown start files w s shown)
       ∙ ap (λ n. is_number n t) (length-map-range_with_len (seat_of (log_of w)) 1 start.sizes.seats)
 
   live-shown : (l : ℕ) → is_live (state_of s.story) l ≡ true → is_given (typed_locks start (log_of w)) l ≡ true
-  live-shown l is = ap (λ (x : Story). is_given (state_of x).known.locks l) (sym shown.story) ∙ live-given (state_of s.story) l is
+  live-shown l is = ap (λ (st : State). is_given st.known.locks l) (sym (state-shown start files w s shown)) ∙ live-given (state_of s.story) l is
 
   given-shown : (l : ℕ) → is_given (state_of s.story).known.locks l ≡ true → is_given (typed_locks start (log_of w)) l ≡ true
-  given-shown l is = ap (λ (x : Story). is_given (state_of x).known.locks l) (sym shown.story) ∙ is
+  given-shown l is = ap (λ (st : State). is_given st.known.locks l) (sym (state-shown start files w s shown)) ∙ is
 
   pub follow-shown : (d : Deed) → follows d (λ l. is_held (thread_of d) l s.story.history) (stage_at s (thread_of d)) ≡ may_follow d w
   follow-shown d =
-      ap₂ (λ (x : Story) at. follows d (λ l. is_held (thread_of d) l x.history) at) shown.story (shown.stages (thread_of d))
+      ap₂ (λ h at. follows d (λ l. is_held (thread_of d) l h) at) shown.logs (shown.stages (thread_of d))
 
   module _ (world : IsWorld start files w) where
     admitted-shown : (l : ℕ) (mode : Mode) → is_admitted mode (raw_of s.raw l) ≡ admits start.sizes.seats l mode w

@@ -6,7 +6,7 @@ use Rattle.wit_model.specs.Rules.History.{is_held}
 use Rattle.wit_model.specs.Rules.State.{Start, typed_locks}
 use Rattle.wit_model.specs.Rules.Verdict.{is_exclusive}
 use Rattle.wit_model.specs.Rules.Circles.{IsCircle, starts_with_least}
-use Rattle.wit_model.specs.Rules.Step.{story_after, is_logged}
+use Rattle.wit_model.specs.Rules.Step.{is_logged}
 use Rattle.wit_model.specs.World.Deeds.{Deed, Logged, PassedOver, own, log_of, shares, raw_mode}
 use Rattle.wit_model.specs.World.Stages.{Stage, Asked, stage}
 use Rattle.wit_model.specs.World.Scenes.{Scene, raw_of, shares_among, shares_of, stage_at}
@@ -18,7 +18,9 @@ IsTidy (x ∷ xs) = (0 < x.1) × (shares_among x.0 xs ≡ 0) × IsTidy xs
 
 -- it has the world's log, its shares with their modes, and each thread's stage
 pub record Shows (start : Start) (files : List (List ℕ)) (w : List Deed) (s : Scene) : Type 0 where
-  pub story : s.story ≡ story_after start files (log_of w)
+  pub begun : s.story.start ≡ start
+  pub logs : s.story.history ≡ log_of w
+  pub named : s.story.files ≡ files
   pub locks : length s.raw ≡ length (typed_locks start (log_of w))
   pub had : (t l : ℕ) → shares_of s.raw t l ≡ shares t l w
   pub modes : (t l : ℕ) → 0 < shares t l w → (raw_of s.raw l).mode ≡ raw_mode t l w
