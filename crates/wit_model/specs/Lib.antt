@@ -2,6 +2,7 @@ pub mod GroupLaws
 pub mod HistoryLaws
 pub mod Laws
 pub mod Rules
+pub mod SceneLaws
 pub mod Trace
 pub mod VerdictLaws
 pub mod World

@@ -2,7 +2,10 @@
 pub mod Deeds
 pub mod Examples
 pub mod Reordering
+pub mod Scenes
 pub mod Sequences
+pub mod Shown
 pub mod Stages
+pub mod StepTable
 pub mod Steps
 pub mod Waiting

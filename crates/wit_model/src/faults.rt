@@ -79,6 +79,13 @@ pub enum Fault {
     FilesFull,
     /// The site's file was never named.
     UnknownFile,
+    /// The lock itself doesn't admit the step: it can't be had so, or the seat hasn't the only share
+    /// that it turns exclusive, or no exclusive one to turn shared. No call of the verifier answers
+    /// it, nor the next one: a world of threads does.
+    RawNotFree,
+    /// The step or call isn't one that the seat may do next, or it frees a lock of which it has no
+    /// share.
+    StepOrder,
 }
 
 impl Fault {
@@ -120,6 +127,8 @@ impl Fault {
             Fault::ModeNotAllowed => "F31 ModeNotAllowed",
             Fault::FilesFull => "F32 FilesFull",
             Fault::UnknownFile => "F33 UnknownFile",
+            Fault::RawNotFree => "F35 RawNotFree",
+            Fault::StepOrder => "F36 StepOrder",
         }
     }
 }

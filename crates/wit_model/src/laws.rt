@@ -4,5 +4,6 @@
 pub mod groups;
 pub mod histories;
 pub mod rules;
+pub mod scenes;
 pub mod verdicts;
 pub mod worlds;

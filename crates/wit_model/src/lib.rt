@@ -11,6 +11,7 @@ pub mod laws;
 mod lines;
 mod locks;
 mod names;
+mod raw_steps;
 mod sizes;
 mod type_lists;
 
@@ -26,5 +27,6 @@ pub use locks::{
     Class, FileNo, Instance, Lock, LockNo, LockType, Mode, Origin, SeatNo, Site, TypeNo, Watch,
 };
 pub use names::{FileName, Name};
+pub use raw_steps::RawStep;
 pub use sizes::Limits;
 pub use type_lists::TypeList;

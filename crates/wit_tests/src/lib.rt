@@ -16,10 +16,11 @@ mod lines;
 #[cfg(test)]
 mod matrices;
 #[cfg(test)]
+mod pools;
+#[cfg(test)]
 mod refusals;
 #[cfg(test)]
 mod sizes;
-mod pools;
 #[cfg(test)]
 mod streams;
 #[cfg(test)]

@@ -22,7 +22,7 @@ in_range p a (suc n) t all low high =
       | inr there ↦ let other = there.1 in in_range p (a + 1) n t parts.1 (omega arith) (omega arith)
     ]
 
-one_thread : (p : ℕ → Bool) (threads t : ℕ) → list_all p (range_with_len 1 threads) ≡ true → is_number threads t ≡ true → p t ≡ true
+pub one_thread : (p : ℕ → Bool) (threads t : ℕ) → list_all p (range_with_len 1 threads) ≡ true → is_number threads t ≡ true → p t ≡ true
 one_thread p threads t all is =
     let parts = and_parts _ _ is in
     let low = ltb-true 0 t parts.0 in
@@ -41,21 +41,21 @@ module _ (threads x l : ℕ) (w : List Deed) (seat : is_number threads x ≡ tru
       ⊎_elim (λ none. absurd (some-not (shares x l w) none some)) (λ shared. not-true (is_exclusive (raw_mode x l w)) shared)
       (or_cases (eqb (shares x l w) 0) (not (is_exclusive (raw_mode x l w))) (one_thread (λ t. eqb (shares t l w) 0 || not (is_exclusive (raw_mode t l w))) threads x admitted seat))
 
-  alone-is : (u : ℕ) → is_alone threads u l w ≡ true → x ≡ u
+  pub alone-is : (u : ℕ) → is_alone threads u l w ≡ true → x ≡ u
   alone-is u alone =
       let all = (and_parts (eqb (shares u l w) 1) (list_all (λ t. eqb t u || eqb (shares t l w) 0) (range_with_len 1 threads)) alone).1 in
       ⊎_elim (λ same. eqb-true x u same) (λ none. absurd (some-not (shares x l w) none some))
       (or_cases (eqb x u) (eqb (shares x l w) 0) (one_thread (λ t. eqb t u || eqb (shares t l w) 0) threads x all seat))
 
 -- these are the thread and the lock
-these : (t l u m : ℕ) → are_these t l u m ≡ true → (u ≡ t) × (m ≡ l)
+pub these : (t l u m : ℕ) → are_these t l u m ≡ true → (u ≡ t) × (m ≡ l)
 these t l u m is = let parts = and_parts (eqb u t) (eqb m l) is in (eqb-true u t parts.0, eqb-true m l parts.1)
 
-had-more : (b : Bool) (n : ℕ) → b ≡ false → 0 < cond b (n + 1) n → 0 < n
+pub had-more : (b : Bool) (n : ℕ) → b ≡ false → 0 < cond b (n + 1) n → 0 < n
 had-more true n is some = absurd (false≢true (sym is))
 had-more false n is some = some
 
-had-less : (b : Bool) (n : ℕ) → 0 < cond b (n - 1) n → 0 < n
+pub had-less : (b : Bool) (n : ℕ) → 0 < cond b (n - 1) n → 0 < n
 had-less true n some = omega arith
 had-less false n some = some
 
@@ -89,7 +89,7 @@ module _ (start : Start) (files : List (List ℕ)) where
   IsSole : List Deed → Type 0
   IsSole w = (t x l : ℕ) → (x ≡ t → ⊥) → 0 < shares t l w → 0 < shares x l w → is_exclusive (raw_mode t l w) ≡ false
 
-  got-by : (mode : Mode) (w : List Deed) (x l : ℕ) → is_number start.sizes.seats x ≡ true → 0 < shares x l w → admits start.sizes.seats l mode w ≡ true
+  pub got-by : (mode : Mode) (w : List Deed) (x l : ℕ) → is_number start.sizes.seats x ≡ true → 0 < shares x l w → admits start.sizes.seats l mode w ≡ true
       → (is_exclusive mode ≡ false) × (is_exclusive (raw_mode x l w) ≡ false)
   got-by Exclusive w x l seat some admitted = absurd (none-had start.sizes.seats x l w seat some admitted)
   got-by Shared w x l seat some admitted = (refl, shared-had start.sizes.seats x l w seat some admitted)

@@ -1,7 +1,7 @@
 -- The texts of the faults.
 use Rattle.std.specs.Prelude.{ℕ, List, codes}
 use Rattle.wit_model.specs.declared.faults.Fault.{Fault}
-use Rattle.wit_model.specs.declared.faults.Fault.TheVariants.{UnknownSeat, UnknownLock, ClassMismatch, TypesFull, LocksFull, SleepUnderSpin, SharedOfExclusive, ExclusiveOfShared, Recursed, RecursionTooDeep, NotLocked, SharedUnlock, ExclusiveUnlock, ForbiddenUnlock, NotUpgradable, UpgradeOfExclusive, UpgradeRecursed, DowngradeOfShared, DowngradeRecursed, WrongOrder, SameType, KindMismatch, Busy, Pending, NotRequested, LogFull, OutOfMemory, GateRefused, BadName, WatchOff, ModeNotAllowed, FilesFull, UnknownFile}
+use Rattle.wit_model.specs.declared.faults.Fault.TheVariants.{UnknownSeat, UnknownLock, ClassMismatch, TypesFull, LocksFull, SleepUnderSpin, SharedOfExclusive, ExclusiveOfShared, Recursed, RecursionTooDeep, NotLocked, SharedUnlock, ExclusiveUnlock, ForbiddenUnlock, NotUpgradable, UpgradeOfExclusive, UpgradeRecursed, DowngradeOfShared, DowngradeRecursed, WrongOrder, SameType, KindMismatch, Busy, Pending, NotRequested, LogFull, OutOfMemory, GateRefused, BadName, WatchOff, ModeNotAllowed, FilesFull, UnknownFile, RawNotFree, StepOrder}
 
 -- a fault's number and name
 abbrev pub fault_text : Fault → List ℕ
@@ -38,3 +38,5 @@ fault_text WatchOff = codes "F30 WatchOff"
 fault_text ModeNotAllowed = codes "F31 ModeNotAllowed"
 fault_text FilesFull = codes "F32 FilesFull"
 fault_text UnknownFile = codes "F33 UnknownFile"
+fault_text RawNotFree = codes "F35 RawNotFree"
+fault_text StepOrder = codes "F36 StepOrder"

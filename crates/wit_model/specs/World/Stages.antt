@@ -37,12 +37,16 @@ pub data Stage : Type 0 where
   -- it called downgrade; the lock need not be turned shared where the call was passed over
   Lowered : (lock : ℕ) (passed : Bool) → Stage
 
+-- after a logged call of a thread that has fewer shares of these locks than were recorded
+abbrev pub stage_called : (ℕ → Bool) → Call → Stage
+stage_called has_fewer (Check q) = Asked q
+stage_called has_fewer (Unlock l mode) = Forgot l.0 (has_fewer l.0)
+stage_called has_fewer (Downgrade l) = Lowered l.0 false
+stage_called has_fewer _ = Over
+
 abbrev pub stage_logged : ℕ → Call → List Deed → Stage
-stage_logged t (Check q) before = Asked q
-stage_logged t (Unlock l mode) before =
-    Forgot l.0 (nat_lt (shares t l.0 before) (num t l.0 (log_of before)))
-stage_logged t (Downgrade l) before = Lowered l.0 false
-stage_logged t _ before = Over
+stage_logged t call before =
+    stage_called (λ l. nat_lt (shares t l before) (num t l (log_of before))) call
 
 abbrev pub stage_passed : Call → Stage
 stage_passed (Unlock l mode) = Forgot l.0 true
