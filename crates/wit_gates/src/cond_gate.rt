@@ -10,6 +10,7 @@ use std::alloc::Global;
 use std::marker::Model;
 use std::sync::{Condvar, Mutex, Wait};
 use wit_model::{Fault, Mode};
+use wit_seats::{Room, Seat};
 
 /// Lets in one thread alone, or up to 4,294,967,294 that share it; who must wait sleeps.
 ///
@@ -74,6 +75,11 @@ impl Gate for CondGate {
     type Ticket = Ticket;
 
     ghost admits = { λ gate mode ticket. ticket ≡ pass gate mode };
+
+    fn acquire<J: Room, R: Wait>(&self, rt: &R, seat: &Seat<J>, mode: Mode) -> Option<Ticket> {
+        let _ = seat;
+        self.enter(rt, mode)
+    }
 
     fn try_acquire<R: Wait>(&self, rt: &R, mode: Mode) -> Option<Ticket> {
         let _turn = self.turn.lock(rt);

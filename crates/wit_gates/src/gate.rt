@@ -1,11 +1,13 @@
 //! What a lock asks of a gate.
 
-ghost use Rattle.std.specs.Prelude.{IfSome, MatchResult};
+ghost use Rattle.std.specs.Prelude.{◌≡◌, Some, IfSome, MatchResult};
 ghost use Rattle.wit_model.specs.declared.locks.Mode.{Mode};
 ghost use Rattle.wit_model.specs.declared.locks.Mode.TheVariants.{Shared, Exclusive};
+ghost use Rattle.wit_gates.specs.Asking.{mode_asked};
 
 use std::sync::Wait;
 use wit_model::Mode;
+use wit_seats::{Room, Seat};
 
 /// Lets threads in, one alone or many that share it.
 ///
@@ -17,6 +19,12 @@ pub trait Gate {
 
     /// The ticket is one of this gate, in this mode.
     ghost admits: { Self → Mode → Self.Ticket → Type 0 };
+
+    /// Lets in a seat that just checked its request of the lock, and waits until it can. None only
+    /// where as many share the gate as can.
+    fn acquire<J: Room, R: Wait>(&self, rt: &R, seat: &Seat<J>, mode: Mode) -> Option<Self::Ticket>
+        requires { mode_asked seat.now.own ≡ Some mode }
+        ensures { IfSome result (admits self.now mode) };
 
     /// Lets the caller in if that needs no waiting.
     fn try_acquire<R: Wait>(&self, rt: &R, mode: Mode) -> Option<Self::Ticket>
