@@ -1,4 +1,5 @@
 pub mod Chains
+pub mod Gates
 pub mod Histories
 pub mod Lists
 pub mod Numbered

@@ -1,3 +1,4 @@
+pub mod Gates
 pub mod GroupLaws
 pub mod HistoryLaws
 pub mod Laws

@@ -1,0 +1,4 @@
+pub mod Asking
+pub mod Claims
+pub mod Plays
+pub mod Tickets

@@ -1,0 +1,4 @@
+pub mod Files
+pub mod Cards
+pub mod Rules
+pub mod Entering

@@ -1,0 +1,5 @@
+use Rattle.wit_seats.proofs.Rules.{begins}
+use Rattle.wit_seats.proofs.keeper.Opened.new.Goals as goal
+
+pub of_words-requires : goal.of_words-requires
+of_words-requires c = begins

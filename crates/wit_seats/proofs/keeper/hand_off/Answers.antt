@@ -1,0 +1,5 @@
+use Rattle.wit_seats.proofs.Rules.{hands}
+use Rattle.wit_seats.proofs.keeper.hand_off.Goals as goal
+
+pub split_seat-requires : goal.split_seat-requires
+split_seat-requires c = (c.requires.0, c.requires.1, hands _ _)

@@ -1,0 +1,4 @@
+pub mod Nothing
+pub mod Seats
+pub mod Rule
+pub mod Shown

@@ -1,0 +1,13 @@
+//! The seats of a verifier that threads share: what ties its log to the tokens of the seats that logged into it.
+#![tactic(auto)]
+
+mod keeper;
+mod room;
+mod rule;
+mod seat;
+mod views;
+
+pub use keeper::{Keeper, Opened};
+pub use room::{Room, Step};
+pub use seat::Seat;
+pub use views::{Journal, Known};

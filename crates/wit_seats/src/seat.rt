@@ -1,0 +1,53 @@
+//! The token of a seat.
+
+ghost use Rattle.std.specs.Prelude.{◌≡◌};
+ghost use Rattle.wit_seats.specs.Seats.{IsKnown};
+
+use crate::room::Room;
+use crate::rule::Card;
+use std::marker::{Model, PhantomData};
+use wit_model::SeatNo;
+
+/// The token of a seat of a shared verifier, for one thread. It lists the seat's own entries of the log, the files that it
+/// was given, and the log as the seat has seen it, which is a legal history whose entries of the seat are its own. These
+/// lists take no memory: at run time a token is a number. It can't be copied.
+pub struct Seat<J: Room> {
+    pub(crate) number: SeatNo,
+    pub(crate) card: Card,
+    pub(crate) room: PhantomData<J>,
+}
+
+impl<J: Room> Model for Seat<J> {
+    ghost use Rattle.std.specs.Prelude.{◌≡◌, None, Some};
+    ghost use Rattle.wit_seats.specs.declared.views.Known.{Known};
+
+    ghost Value = { Known };
+
+    ghost use Rattle.wit_seats.specs.Rule.{shows};
+    ghost use Rattle.wit_seats.specs.Seats.{IsKnown};
+    ghost use Rattle.wit_seats.specs.Shown.{known_in};
+
+    ghost view = { λ s. known_in s.card.me.0 };
+
+    ghost invariant = { λ s. (s.card.table_id ≡ J.table) × (s.card.me.0 ≡ shows None (Some (known_in s.card.me.0)))
+        × ((known_in s.card.me.0).seat ≡ s.number.0) × IsKnown J.start (known_in s.card.me.0) };
+}
+
+impl<J: Room> Drop for Seat<J> {
+    fn drop(self) {
+        let Seat {
+            number: _,
+            card: _,
+            room: _,
+        } = self;
+    }
+}
+
+impl<J: Room> Seat<J> {
+    /// Its number, from 1.
+    pub fn number(&self) -> SeatNo
+        ensures { result.0 ≡ self.now.seat }
+    {
+        self.number
+    }
+}
