@@ -1,6 +1,8 @@
 -- Lock types and the orders between them.
+pub mod AllHeld
 pub mod Among
 pub mod Defined
+pub mod Ends
 pub mod Once
 pub mod Paths
 pub mod Reads

@@ -1,5 +1,6 @@
 -- Laws of the verdict of a check.
 pub mod AheadLaws
+pub mod AllAhead
 pub mod Classes
 pub mod Direct
 pub mod Judged

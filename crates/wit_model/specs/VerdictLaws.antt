@@ -1,6 +1,7 @@
 -- Laws of the verdict of a check: what its replies say of the orders between types.
 use Rattle.std.specs.Prelude.{ℕ, ◌<◌, ◌≡◌, ◌⊎◌, Bool, true, false, ◌&&◌, ◌||◌, List, [], ◌∷◌, ◌++◌, Option, None, Some, Ok, codes}
 use Rattle.std.specs.List.{last_or}
+use Rattle.wit_model.specs.declared.profiles.Profile.TheVariants.{Plain}
 use Rattle.wit_model.specs.declared.locks.TypeNo.{TypeNo}
 use Rattle.wit_model.specs.declared.locks.Class.TheVariants.{SleepMutex, Sx}
 use Rattle.wit_model.specs.declared.locks.Mode.TheVariants.{Exclusive}
@@ -81,7 +82,7 @@ PairsAreReportedOnce =
     (start : Start) (files : List (List ℕ)) (h : List Entry) → IsLegal start files h
     → AreUnlike (reported_pairs start h)
 
--- ---- requests that passed
+-- ---- requests that passed, where the last held lock alone is compared with
 
 -- the last lock that a seat holds of the kind of lock l
 abbrev pub last_of_kind : ℕ → ℕ → List Entry → Option ℕ
@@ -121,7 +122,7 @@ pub record HasPassed (start : Start) (h : List Entry) (e : Entry) (a b : ℕ) : 
 abbrev pub PassedIsDirect : Type 0
 PassedIsDirect =
     (start : Start) (files : List (List ℕ)) (e : Entry) (h : List Entry) (a b : ℕ)
-    → IsLegal start files (e ∷ h) → HasPassed start h e a b
+    → start.profile ≡ Plain → IsLegal start files (e ∷ h) → HasPassed start h e a b
     → is_direct (orders_of start (e ∷ h)) a b ≡ true
 
 -- a request behind the last held lock by a direct order is judged to pass, unless the seat holds
@@ -134,14 +135,15 @@ DirectPasses =
     → is_direct (orders_of start h) (lock_type start h last) (lock_type start h q.lock.0) ≡ true
     → is_held t q.lock.0 h ≡ false
     → (is_spin_lock (locks_of h) q.lock.0 ≡ false → held_of true t h ≡ [])
-    → verdict (known_of start h) (watch_of h) (seat_of h t) q ≡ Ok Pass
+    → verdict Plain (known_of start h) (watch_of h) (seat_of h t) q ≡ Ok Pass
 
 -- and whoever asks for a lock of that type behind one of that type later, passes, if no fault
 -- refuses the check
 abbrev pub PassedPassesOn : Type 0
 PassedPassesOn =
     (start : Start) (files : List (List ℕ)) (next : Entry) (later : List Entry) (e : Entry) (h : List Entry) (a b : ℕ)
-    → start_fault start ≡ None → IsLegal start files (next ∷ later ++ e ∷ h)
+    → start.profile ≡ Plain → start_fault start ≡ None
+    → IsLegal start files (next ∷ later ++ e ∷ h)
     → HasPassed start h e a b → AsksBehind start (later ++ e ∷ h) next a b → next.reply ≡ Pass
 
 -- ---- clean histories
@@ -151,7 +153,7 @@ PassedPassesOn =
 abbrev pub HeldComeFirst : Type 0
 HeldComeFirst =
     (start : Start) (files : List (List ℕ)) (e : Entry) (h : List Entry) (q : Request) (l : ℕ)
-    → start.blessed ≡ [] → IsLegal start files (e ∷ h) → is_clean (e ∷ h) ≡ true
+    → start.blessed ≡ [] → IsLegal start files (e ∷ h) → is_clean start.profile (e ∷ h) ≡ true
     → e.call ≡ Check q → num e.seat.0 q.lock.0 h ≡ 0 → 0 < num e.seat.0 l h
     → IsAhead start (e ∷ h) l q.lock.0
 
@@ -176,7 +178,7 @@ NoneIsAheadOfItself =
 -- ---- a history of which the last law says something
 
 abbrev small : Start
-small = record { sizes = record { seats = 1; types = 2; locks = 2; chunks = 1; log = 8 }; lists = []; blessed = [] }
+small = record { sizes = record { seats = 1; types = 2; locks = 2; chunks = 1; log = 8 }; profile = Plain; lists = []; blessed = [] }
 
 abbrev mutex : List ℕ → Call
 mutex name = Init (record { class = SleepMutex; flags = record { 0 = 0 }; name = name; type_name = None })
@@ -199,4 +201,4 @@ two_mutexes =
 
 -- that is a clean history
 abbrev pub TwoMutexesAreClean : Type 0
-TwoMutexesAreClean = (start_fault small ≡ None) × (IsLegal small (codes "main.c" ∷ []) two_mutexes × (is_clean two_mutexes ≡ true))
+TwoMutexesAreClean = (start_fault small ≡ None) × (IsLegal small (codes "main.c" ∷ []) two_mutexes × (is_clean Plain two_mutexes ≡ true))

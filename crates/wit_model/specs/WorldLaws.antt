@@ -1,6 +1,8 @@
 -- Laws of worlds: where a run reported nothing, no reordering of its threads' deeds reaches a
 -- deadlock.
 use Rattle.std.specs.Prelude.{ℕ, ◌<◌, ◌≡◌, true, false, List, [], ◌∷◌, ◌++◌, None}
+use Rattle.wit_model.specs.declared.profiles.Profile.{Profile}
+use Rattle.wit_model.specs.declared.profiles.Profile.TheVariants.{Plain}
 use Rattle.wit_model.specs.declared.calls.Request.{Request}
 use Rattle.wit_model.specs.declared.calls.Entry.{Entry}
 use Rattle.wit_model.specs.Rules.History.{is_held, own_entries}
@@ -19,11 +21,11 @@ use Rattle.wit_model.specs.World.Sequences.{varied, scarce, exhausted}
 
 -- no reordering of a world whose log is clean has a deadlock, over an accepted start that blesses
 -- no pair
-abbrev pub CleanRunsNeverDeadlock : Type 0
-CleanRunsNeverDeadlock =
+abbrev pub CleanRunsNeverDeadlock : Profile → Type 0
+CleanRunsNeverDeadlock profile =
     (start : Start) (files : List (List ℕ)) (v w : List Deed) (threads : List ℕ)
-    → start_fault start ≡ None → start.blessed ≡ []
-    → IsWorld start files w → is_clean (log_of w) ≡ true → IsReordering start v w
+    → start.profile ≡ profile → start_fault start ≡ None → start.blessed ≡ []
+    → IsWorld start files w → is_clean profile (log_of w) ≡ true → IsReordering start v w
     → IsDeadlock v threads → ⊥
 
 -- a world without a deadlock, and a reordering of it that has one
@@ -52,7 +54,7 @@ abbrev pub AgreedIsWorld : Type 0
 AgreedIsWorld = (start_fault small ≡ None) × IsWorld small files agreed
 
 abbrev pub AgreedIsClean : Type 0
-AgreedIsClean = (small.blessed ≡ []) × (is_clean (log_of agreed) ≡ true)
+AgreedIsClean = (small.blessed ≡ []) × (is_clean Plain (log_of agreed) ≡ true)
 
 -- a world in which each sequence and each call comes, with a deed of another thread between any two
 -- of one

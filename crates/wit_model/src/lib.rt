@@ -11,6 +11,8 @@ pub mod laws;
 mod lines;
 mod locks;
 mod names;
+mod new_orders;
+mod profiles;
 mod raw_steps;
 mod sizes;
 mod type_lists;
@@ -27,6 +29,8 @@ pub use locks::{
     Class, FileNo, Instance, Lock, LockNo, LockType, Mode, Origin, SeatNo, Site, TypeNo, Watch,
 };
 pub use names::{FileName, Name};
+pub use new_orders::NewOrders;
+pub use profiles::Profile;
 pub use raw_steps::RawStep;
 pub use sizes::Limits;
 pub use type_lists::TypeList;

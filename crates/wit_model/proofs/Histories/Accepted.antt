@@ -64,7 +64,7 @@ pub record CheckAccepted (s : State) (t : ℕ) (q : Request) (r : Reply) : Type 
   pub mode : (not (is_exclusive q.mode) && not (is_shareable (lock_at s.known.locks q.lock.0).made.class)) ≡ false
   pub idle : is_pending s t ≡ false
   pub shallow : is_too_deep s t q.lock.0 ≡ false
-  pub verdict : verdict s.known s.watch (seat_at s t) q ≡ Ok r
+  pub verdict : verdict s.profile s.known s.watch (seat_at s t) q ≡ Ok r
   pub room : has_room s 3 ≡ true
 
 roomy : (s : State) (n : ℕ) (v : Result Reply Fault) (r : Reply) → with_room s n v ≡ Ok r → (v ≡ Ok r) × (has_room s n ≡ true)
@@ -83,7 +83,7 @@ check_accepted s t q r ok =
     let d = passed (not (is_exclusive q.mode) && not (is_shareable (lock_at s.known.locks q.lock.0).made.class)) _ _ r c.1 in
     let e = passed (is_pending s t) _ _ r d.1 in
     let f = passed (is_too_deep s t q.lock.0) _ _ r e.1 in
-    let g = roomy s 3 (verdict s.known s.watch (seat_at s t) q) r f.1 in
+    let g = roomy s 3 (verdict s.profile s.known s.watch (seat_at s t) q) r f.1 in
     record { seat = a.0; lock = live-given s q.lock.0 b.0; live = b.0; file = c.0; mode = d.0; idle = e.0; shallow = f.0; verdict = g.0; room = g.1 }
 
 -- what is recorded: nothing at Off, and no lock that is new where its chunk is wanting

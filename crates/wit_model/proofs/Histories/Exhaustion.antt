@@ -2,6 +2,7 @@
 use Rattle.std.proofs.Common.{◌≡◌, ℕ, ◌+◌, ◌≤◌, Bool, true, false, ◌||◌, cond, List, [], ◌∷◌, count_by, is_some, Result, Ok, refl, ap, sym, ◌∙◌, arith}
 use Rattle.std.proofs.lemmas.Bool.{false≢true}
 use Rattle.std.proofs.lemmas.List.Sums.{sum_by-cons}
+use Rattle.wit_model.specs.declared.profiles.Profile.{Profile}
 use Rattle.wit_model.specs.declared.faults.Fault.{Fault}
 use Rattle.wit_model.specs.declared.locks.Watch.{Watch}
 use Rattle.wit_model.specs.declared.locks.Instance.{Instance}
@@ -19,7 +20,7 @@ use Rattle.wit_model.specs.Rules.History.{is_off, watch_after, watch_of}
 use Rattle.wit_model.specs.Rules.State.{Start, State, state_of, seat_at}
 use Rattle.wit_model.specs.Rules.Verdict.{Basis, type_held, is_blessed, place_of, place_asked, conflict, doubled, reported, basis_of, asked_of, chain_asked}
 use Rattle.wit_model.specs.Rules.Step.{held_by, is_exhausted, recorded, step, is_logged, answer_of, story_after, IsLegal}
-use Rattle.wit_model.proofs.Orders.Ruled.{Says, Passed, Learnt, Doubled, Broken, ruled}
+use Rattle.wit_model.proofs.Orders.Ruled.{Says, Passed, Learnt, LearntAll, Doubled, Broken, ruled}
 use Rattle.wit_model.proofs.Histories.Accepted.{same_reply, check_accepted, note_accepted, try_accepted, give_up_accepted, unlock_accepted, watch_accepted, init_accepted, is_plain_reply, plain_accepted}
 use Rattle.wit_model.proofs.Histories.Legal.{watched-before}
 
@@ -41,16 +42,17 @@ told_reported g q c i r = go (is_found g.found (type_held g i).0 q.type_no.0 || 
     go true ok = sym (ap is_exhaustion (same_reply ok))
     go false ok = sym (ap is_exhaustion (same_reply ok))
 
-told_ruled : (g : Basis) (w : Watch) (q : Asked) (c : List Instance) (r : Reply) → Says g w q c r → is_exhaustion r ≡ false
-told_ruled g w q c r (Passed same cause) = ap is_exhaustion same
-told_ruled g w q c r (Learnt l) = ap is_exhaustion l.reply
-told_ruled g w q c r (Doubled d) = told_doubled g q d.last r d.reply
-told_ruled g w q c r (Broken b) = told_reported g q c b.held r b.reply
+told_ruled : (profile : Profile) (g : Basis) (w : Watch) (q : Asked) (c : List Instance) (r : Reply) → Says profile g w q c r → is_exhaustion r ≡ false
+told_ruled profile g w q c r (Passed same cause) = ap is_exhaustion same
+told_ruled profile g w q c r (LearntAll all l) = ap is_exhaustion l.reply
+told_ruled profile g w q c r (Learnt plain l) = ap is_exhaustion l.reply
+told_ruled profile g w q c r (Doubled d) = told_doubled g q d.held r d.reply
+told_ruled profile g w q c r (Broken b) = told_reported g q c b.held r b.reply
 
 pub check-told : (s : State) (t : ℕ) (q : Request) (r : Reply) → step s t (Check q) ≡ Ok r → is_exhaustion r ≡ false
 check-told s t q r ok =
-    let said = ruled (basis_of s.known) s.watch (seat_at s t).sleep (seat_at s t).spin (asked_of s.known q) r (check_accepted s t q r ok).verdict in
-    told_ruled (basis_of s.known) s.watch (asked_of s.known q) (chain_asked (basis_of s.known) (seat_at s t).sleep (seat_at s t).spin (asked_of s.known q)) r said
+    let said = ruled s.profile (basis_of s.known) s.watch (seat_at s t).sleep (seat_at s t).spin (asked_of s.known q) r (check_accepted s t q r ok).verdict in
+    told_ruled s.profile (basis_of s.known) s.watch (asked_of s.known q) (chain_asked (basis_of s.known) (seat_at s t).sleep (seat_at s t).spin (asked_of s.known q)) r said
 
 -- an acquisition tells it only where something is watched
 told_recorded : (off held none : Bool) → is_exhaustion (cond off Unrecorded (cond held Recorded (cond none Exhausted Recorded))) ≡ true → off ≡ false

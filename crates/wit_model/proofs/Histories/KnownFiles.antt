@@ -1,10 +1,13 @@
 -- A check or a try that tells a named file isn't refused for its file.
-use Rattle.std.proofs.Common.{◌≡◌, ℕ, Bool, true, false, not, ◌||◌, cond, List, [], ◌∷◌, Option, None, Some, Result, Ok, Err, refl, ap, sym, ◌∙◌, subst}
+use Rattle.std.proofs.Common.{◌≡◌, ℕ, Bool, true, false, not, ◌||◌, cond, List, [], ◌∷◌, reverse, Option, None, Some, Result, Ok, Err, refl, ap, sym, ◌∙◌, subst}
 use Rattle.std.specs.List.{last_or}
 use Rattle.std.specs.Option.{option_map}
 use Rattle.std.proofs.lemmas.Bool.{false≢true}
+use Rattle.wit_model.specs.declared.profiles.Profile.{Profile}
+use Rattle.wit_model.specs.declared.profiles.Profile.TheVariants.{Plain, AllHeld}
 use Rattle.wit_model.specs.declared.faults.Fault.{Fault}
 use Rattle.wit_model.specs.declared.faults.Fault.TheVariants.{UnknownSeat, UnknownLock, UnknownFile, ModeNotAllowed, Pending, RecursionTooDeep, LogFull, SleepUnderSpin, SharedOfExclusive, ExclusiveOfShared, Recursed}
+use Rattle.wit_model.specs.declared.locks.TypeNo.{TypeNo}
 use Rattle.wit_model.specs.declared.locks.Mode.{Mode}
 use Rattle.wit_model.specs.declared.locks.Site.{Site}
 use Rattle.wit_model.specs.declared.locks.Watch.{Watch}
@@ -17,7 +20,7 @@ use Rattle.wit_model.specs.Rules.Numbers.{is_number}
 use Rattle.wit_model.specs.Rules.Locks.{has_flag}
 use Rattle.wit_model.specs.Rules.Orders.{is_found}
 use Rattle.wit_model.specs.Rules.State.{State, Known, Seat, seat_at, has_room}
-use Rattle.wit_model.specs.Rules.Verdict.{Basis, Rule, when, decided, rules, again, doubled, reported, basis_of, asked_of, chain_asked, verdict}
+use Rattle.wit_model.specs.Rules.Verdict.{Basis, Rule, when, decided, rules, again, doubled, reported, basis_of, asked_of, chain_asked, verdict, doubles_in, follows_in, teaches_in, told_orders, new_parents}
 use Rattle.wit_model.specs.Rules.Step.{with_room, recorded, step_check, step_note_try}
 
 -- the answer is another than that the file is unknown
@@ -90,37 +93,44 @@ module _ (g : Basis) (watch : Watch) (spin chain : List Instance) (q : Asked) wh
   reported_other : (i : Instance) → Other (reported g q chain i)
   reported_other i = pick _ _ _ (answered _) (answered _)
 
-  rules_other : (last : Option Instance) → AllOther (rules g watch spin chain last q)
-  unfolding RuleOther AllOther
-  rules_other None = (
+  doubles_other : (profile : Profile) (last : Option Instance) → RuleOther (doubles_in profile g chain last q)
+  unfolding RuleOther
+  doubles_other Plain None = tt
+  doubles_other Plain (Some last) = when_other _ _ (doubled_other g q last)
+  doubles_other AllHeld last = map_other (doubled g q) (doubled_other g q) _
+
+  follows_other : (profile : Profile) (last : Option Instance) → RuleOther (follows_in profile g chain last q)
+  unfolding RuleOther
+  follows_other Plain None = tt
+  follows_other Plain (Some last) = when_other _ _ (answered _)
+  follows_other AllHeld last = when_other _ _ (answered _)
+
+  told_other : (parents : List TypeNo) → RuleOther (told_orders q parents)
+  unfolding RuleOther
+  told_other [] = tt
+  told_other (p ∷ parents) = answered _
+
+  teaches_other : (profile : Profile) (last : Option Instance) → RuleOther (teaches_in profile g chain last q)
+  unfolding RuleOther
+  teaches_other Plain None = tt
+  teaches_other Plain (Some last) = when_other _ _ (answered _)
+  teaches_other AllHeld last = told_other (new_parents g q [] (reverse chain))
+
+  rules_other : (profile : Profile) (last : Option Instance) → AllOther (rules profile g watch spin chain last q)
+  unfolding AllOther
+  rules_other profile last = (
     when_other _ _ (answered _),
     (
       when_other _ _ (failed SleepUnderSpin refl),
       (
-        answered _,
-        (
-          map_other (again q) (again_other q) _,
-          (tt, (tt, (map_other (reported g q chain) reported_other _, (tt, tt)))),
-        ),
-      ),
-    ),
-  )
-  rules_other (Some last) = (
-    when_other _ _ (answered _),
-    (
-      when_other _ _ (failed SleepUnderSpin refl),
-      (
-        tt,
+        when_other _ _ (answered _),
         (
           map_other (again q) (again_other q) _,
           (
-            when_other _ _ (doubled_other g q last),
+            doubles_other profile last,
             (
-              when_other _ _ (answered _),
-              (
-                map_other (reported g q chain) reported_other _,
-                (when_other _ _ (answered _), tt),
-              ),
+              follows_other profile last,
+              (map_other (reported g q chain) reported_other _, (teaches_other profile last, tt)),
             ),
           ),
         ),
@@ -128,13 +138,14 @@ module _ (g : Basis) (watch : Watch) (spin chain : List Instance) (q : Asked) wh
     ),
   )
 
-verdict_other : (k : Known) (watch : Watch) (seat : Seat) (q : Request) → Other (verdict k watch seat q)
-verdict_other k watch seat q =
+verdict_other : (profile : Profile) (k : Known) (watch : Watch) (seat : Seat) (q : Request)
+    → Other (verdict profile k watch seat q)
+verdict_other profile k watch seat q =
     let g = basis_of k in
     let asked = asked_of k q in
     let chain = chain_asked g seat.sleep seat.spin asked in
-    decided_other (rules g watch seat.spin chain (last_or None chain) asked)
-    (rules_other g watch seat.spin chain asked (last_or None chain))
+    decided_other (rules profile g watch seat.spin chain (last_or None chain) asked)
+    (rules_other g watch seat.spin chain asked profile (last_or None chain))
 
 -- ---- the calls
 
@@ -148,8 +159,8 @@ check_other s t q known =
     fails UnknownSeat refl _ _ (fails UnknownLock refl _ _
     (past (is_number s.files q.site.file.0) _ known
     (fails ModeNotAllowed refl _ _ (fails Pending refl _ _ (fails RecursionTooDeep refl _ _
-    (room_other s 3 (verdict s.known s.watch (seat_at s t) q)
-    (verdict_other s.known s.watch (seat_at s t) q)))))))
+    (room_other s 3 (verdict s.profile s.known s.watch (seat_at s t) q)
+    (verdict_other s.profile s.known s.watch (seat_at s t) q)))))))
 
 try_other : (s : State) (t l : ℕ) (m : Mode) (site : Site)
     → is_number s.files site.file.0 ≡ true → Other (step_note_try s t l m site)

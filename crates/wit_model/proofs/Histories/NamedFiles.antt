@@ -29,7 +29,7 @@ check_with s t q known =
     (cond (not (is_exclusive q.mode) && not (is_shareable (lock_at s.known.locks q.lock.0).made.class)) (Err ModeNotAllowed)
     (cond (is_pending s t) (Err Pending)
     (cond (is_too_deep s t q.lock.0) (Err RecursionTooDeep)
-    (with_room s 3 (verdict s.known s.watch (seat_at s t) q)))))))
+    (with_room s 3 (verdict s.profile s.known s.watch (seat_at s t) q)))))))
 
 file-more : (f n m : ℕ) → (nat_lt 0 f && nat_le f n) ≡ true → n ≤ m
     → (nat_lt 0 f && nat_le f m) ≡ true

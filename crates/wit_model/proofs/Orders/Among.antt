@@ -1,9 +1,10 @@
 -- Orders are between known types, and so is what a verdict tells.
-use Rattle.std.proofs.Common.{◌≡◌, ℕ, ◌≤◌, Bool, true, false, ◌||◌, cond, eqb, List, [], ◌∷◌, ◌++◌, length, reverse, find, Option, Some, None, Result, Ok, refl, ap, sym, ◌∙◌, subst, arith, length-append, ⊎_elim}
+use Rattle.std.proofs.Common.{◌≡◌, ℕ, ◌≤◌, Bool, true, false, ◌||◌, cond, eqb, nat_lt, nat_le, List, [], ◌∷◌, ◌++◌, length, reverse, find, Option, Some, None, Result, Ok, refl, ap, sym, ◌∙◌, subst, arith, length-append, ⊎_elim}
 use Rattle.std.specs.List.{list_all, last_or}
-use Rattle.std.proofs.lemmas.Bool.{and_parts, and_from, or_cases, eqb-true, false≢true}
+use Rattle.std.proofs.lemmas.Bool.{and_parts, and_from, or_cases, eqb-true, ltb-true, leb-true, lt-ltb, le-leb, false≢true}
 use Rattle.std.proofs.lemmas.List.{reverse-append}
 use Rattle.std.proofs.lemmas.List.Folds.{list_all-append}
+use Rattle.wit_model.specs.declared.profiles.Profile.{Profile}
 use Rattle.wit_model.specs.declared.faults.Fault.{Fault}
 use Rattle.wit_model.specs.declared.locks.Class.{Class}
 use Rattle.wit_model.specs.declared.locks.TypeNo.{TypeNo}
@@ -11,22 +12,23 @@ use Rattle.wit_model.specs.declared.locks.Watch.{Watch}
 use Rattle.wit_model.specs.declared.locks.Instance.{Instance}
 use Rattle.wit_model.specs.declared.locks.Origin.TheVariants.{Listed, Defined, At}
 use Rattle.wit_model.specs.declared.calls.Adoption.{Adoption}
+use Rattle.wit_model.specs.declared.calls.Asked.{Asked}
 use Rattle.wit_model.specs.declared.calls.Conflict.{Conflict}
 use Rattle.wit_model.specs.declared.calls.Doubling.{Doubling}
 use Rattle.wit_model.specs.declared.calls.Request.{Request}
 use Rattle.wit_model.specs.declared.calls.Call.{Call}
 use Rattle.wit_model.specs.declared.calls.Call.TheVariants.{Init, Check, DefineOrder}
 use Rattle.wit_model.specs.declared.calls.Reply.{Reply}
-use Rattle.wit_model.specs.declared.calls.Reply.TheVariants.{Pass, Adopted, Silent, Duplicate, Reversal}
+use Rattle.wit_model.specs.declared.calls.Reply.TheVariants.{Pass, Adopted, AdoptedAll, Silent, Duplicate, Reversal}
 use Rattle.wit_model.specs.declared.calls.Entry.{Entry}
 use Rattle.wit_model.specs.Rules.Types.{LockType, class_of, is_spin, is_enrolled, type_number, enrolled, enrolled_all, listed_types, type_name_of, types_after}
 use Rattle.wit_model.specs.Rules.Locks.{locks_of, has_flag, lock_at}
-use Rattle.wit_model.specs.Rules.Orders.{is_adoption_of, is_direct, is_before, is_found, adopted_once, listed_pairs, listed_orders}
+use Rattle.wit_model.specs.Rules.Orders.{is_adoption_of, is_direct, is_before, is_found, taught_at, adopted_once, listed_pairs, listed_orders}
 use Rattle.wit_model.specs.Rules.History.{is_held}
 use Rattle.wit_model.specs.Rules.State.{Start, Known, Seat, seat_at, known_of, state_of, types_of, typed_locks, orders_of}
-use Rattle.wit_model.specs.Rules.Verdict.{type_held, has_type_of, place_of, place_asked, doubled, violates, is_blessed, conflict, reported, chain_asked, basis_of, asked_of, verdict}
+use Rattle.wit_model.specs.Rules.Verdict.{type_held, has_type_of, place_of, place_asked, doubled, violates, is_blessed, conflict, reported, new_parents, orders_behind, chain_asked, basis_of, asked_of, verdict}
 use Rattle.wit_model.specs.Rules.Step.{answer_of, story_after, IsLegal}
-use Rattle.wit_model.specs.Rules.Numbers.{is_given, IsGiven, IsNumber}
+use Rattle.wit_model.specs.Rules.Numbers.{is_number, is_given, IsGiven, IsNumber}
 use Rattle.wit_model.proofs.Chains.Held.{made_sane}
 use Rattle.wit_model.proofs.Chains.Seats.{entry}
 use Rattle.wit_model.proofs.Orders.TypedLocks.{length-typed, made-known}
@@ -35,8 +37,10 @@ use Rattle.wit_model.proofs.Histories.Accepted.{same_reply, live-given, CheckAcc
 use Rattle.wit_model.proofs.Histories.Legal.{sane_legal}
 use Rattle.wit_model.proofs.Orders.Defined.{define_adopted}
 use Rattle.wit_model.proofs.Orders.Started.{all-enrolled}
-use Rattle.wit_model.proofs.Orders.Ruled.{Says, Passed, Learnt, Doubled, Broken, ruled}
-use Rattle.wit_model.proofs.Orders.Sound.{taught, chain-held, last_whole, type-held, chain-judged}
+use Rattle.wit_model.proofs.Orders.AllHeld.{learnt_on}
+use Rattle.wit_model.proofs.Orders.Ends.{found-last}
+use Rattle.wit_model.proofs.Orders.Ruled.{Says, Passed, Learnt, LearntAll, Doubled, Broken, ruled}
+use Rattle.wit_model.proofs.Orders.Sound.{taught, IsTaughtAll, taught-all, after-all, chain-held, type-held, chain-judged}
 
 made-type : (start : Start) (h : List Entry) (l : ℕ) → IsGiven (locks_of h) l → IsNumber (length (types_of start h)) (lock_at (typed_locks start h) l).type_no.0
 made-type start h l is =
@@ -79,31 +83,18 @@ defined-orderly start files h t a b p c accepted =
       orderly = d.orderly;
     }
 
--- an element that is found from the end has what all have
-all-reverse : (p : Instance → Bool) (c : List Instance) → list_all p c ≡ true → list_all p (reverse c) ≡ true
-all-reverse p [] all = refl
-all-reverse p (x ∷ c) all =
-    let parts = and_parts (p x) (list_all p c) all in
-    ap (λ d. list_all p d) (reverse-append (x ∷ []) c) ∙ list_all-append p (reverse c) (x ∷ [])
-    ∙ and_from (list_all p (reverse c)) (list_all p (x ∷ [])) (all-reverse p c parts.1) (and_from (p x) true parts.0 refl)
+number-test : (n x : ℕ) → IsNumber n x → is_number n x ≡ true
+number-test n x is = and_from (nat_lt 0 x) (nat_le x n) (lt-ltb 0 x is.0) (le-leb x n is.1)
 
-all-find : (p r : Instance → Bool) (c : List Instance) (i : Instance) → list_all p c ≡ true → find r c ≡ Some i → p i ≡ true
-all-find p r [] i all is = (cc)
-all-find p r (x ∷ c) i all is = go (r x) is (and_parts (p x) (list_all p c) all) (λ rest more. all-find p r c i rest more)
-  where
-    go : (b : Bool) → cond b (Some x) (find r c) ≡ Some i → (p x ≡ true) × (list_all p c ≡ true) → (list_all p c ≡ true → find r c ≡ Some i → p i ≡ true) → p i ≡ true
-    go true same parts ih = subst (λ j. p j ≡ true) (let e : x ≡ i = cc in e) parts.0
-    go false same parts ih = ih parts.1 same
+number-from : (n x : ℕ) → is_number n x ≡ true → IsNumber n x
+number-from n x is = let parts = and_parts (nat_lt 0 x) (nat_le x n) is in (ltb-true 0 x parts.0, leb-true x n parts.1)
 
-pub found-last : (p r : Instance → Bool) (c : List Instance) (i : Instance) → list_all p c ≡ true → find r (reverse c) ≡ Some i → p i ≡ true
-found-last p r c i all is = all-find p r (reverse c) i (all-reverse p c all) is
-
--- the last of a chain has what all have
-all-last : (p : Instance → Bool) (c : List Instance) (i : Instance) → list_all p c ≡ true → last_or None c ≡ Some i → p i ≡ true
-all-last p c i all is =
-    let s = last_whole c i is in
-    let parts = and_parts (list_all p s.0) (list_all p (i ∷ [])) (sym (list_all-append p s.0 (i ∷ [])) ∙ subst (λ d. list_all p d ≡ true) s.1 all) in
-    (and_parts (p i) true parts.1).0
+-- orders that a check teaches behind all held locks are behind known types
+pub parents-known : (start : Start) (files : List (List ℕ)) (h : List Entry) (t : ℕ) (q : Request) (ps : List (TypeNo × TypeNo)) → IsLegal start files h
+    → (l : IsTaughtAll start h t q ps) → list_all (λ (p : TypeNo). is_number (length (types_of start h)) p.0) l.parents ≡ true
+parents-known start files h t q ps legal l =
+    l.held (λ p. is_number (length (types_of start h)) p.0)
+    (λ m is. number-test (length (types_of start h)) (lock_at (typed_locks start h) m).type_no.0 (made-type start h m (made_sane t m h (sane_legal start files h legal) is)))
 
 -- the pair of types that a reply tells of a violation
 abbrev pair_of : Known → Reply → Option (TypeNo × TypeNo)
@@ -160,9 +151,9 @@ doubled_told k q i r p same ok is =
     go false true told = tells_this k (Silent asked asked) r (asked, asked) p refl told is
     go false false told = tells_this k (Duplicate (record { last = place_of i; asked = place_asked (asked_of k q) })) r (asked, asked) p refl told is
 
-told : (k : Known) (watch : Watch) (seat : Seat) (q : Request) (r : Reply) (p : TypeNo × TypeNo) → verdict k watch seat q ≡ Ok r → pair_of k r ≡ Some p
+told : (profile : Profile) (k : Known) (watch : Watch) (seat : Seat) (q : Request) (r : Reply) (p : TypeNo × TypeNo) → verdict profile k watch seat q ≡ Ok r → pair_of k r ≡ Some p
     → IsTold k q (chain_asked (basis_of k) seat.sleep seat.spin (asked_of k q)) p
-told k watch seat q r p ok is = go (ruled (basis_of k) watch seat.sleep seat.spin (asked_of k q) r ok)
+told profile k watch seat q r p ok is = go (ruled profile (basis_of k) watch seat.sleep seat.spin (asked_of k q) r ok)
   where
     c : List Instance
     c = chain_asked (basis_of k) seat.sleep seat.spin (asked_of k q)
@@ -170,13 +161,14 @@ told k watch seat q r p ok is = go (ruled (basis_of k) watch seat.sleep seat.spi
     none : (s : Reply) → r ≡ s → pair_of k s ≡ None → ⊥
     none s same untold = let e : ◌≡◌ {A = Option (TypeNo × TypeNo)} None (Some p) = sym untold ∙ (ap (λ r'. pair_of k r') (sym same) ∙ is) in cc
 
-    go : Says (basis_of k) watch (asked_of k q) c r → IsTold k q c p
+    go : Says profile (basis_of k) watch (asked_of k q) c r → IsTold k q c p
     go (Passed passes why) = absurd (none Pass passes refl)
-    go (Learnt l) = absurd (none (Adopted (type_held (basis_of k) l.last) (lock_at k.locks q.lock.0).type_no) l.reply refl)
+    go (LearntAll all l) = absurd (none (AdoptedAll (orders_behind (asked_of k q) (new_parents (basis_of k) (asked_of k q) [] (reverse c)))) l.reply refl)
+    go (Learnt plain l) = absurd (none (Adopted (type_held (basis_of k) l.last) (lock_at k.locks q.lock.0).type_no) l.reply refl)
     go (Doubled d) = record {
-      held = d.last;
-      of_chain = λ has all. all-last has c d.last all d.behind.is_last;
-      pair = doubled_told k q d.last r p d.same d.reply is;
+      held = d.held;
+      of_chain = d.of_chain;
+      pair = doubled_told k q d.held r p d.same d.reply is;
     }
     go (Broken broken) = record {
       held = broken.held;
@@ -189,7 +181,7 @@ told-known : (start : Start) (files : List (List ℕ)) (h : List Entry) (t : ℕ
     → IsNumber (length (types_of start h)) p.0.0 × IsNumber (length (types_of start h)) p.1.0
 told-known start files h t q r p legal accepted is =
     let s = state_of (story_after start files h) in
-    let l = told (known_of start h) s.watch (seat_at s t) q r p accepted.verdict is in
+    let l = told start.profile (known_of start h) s.watch (seat_at s t) q r p accepted.verdict is in
     let kind = is_spin (class_of (lock_at (typed_locks start h) q.lock.0).type_no.0 (types_of start h)) in
     let held : is_held t l.held.lock.0 h ≡ true =
     l.of_chain (λ (i : Instance). is_held t i.lock.0 h)
@@ -227,6 +219,13 @@ among_push n o orders all parent child = λ a b is.
     (subst (λ c. IsNumber n c) (eqb-true o.parent.0 a same.0) parent, subst (λ c. IsNumber n c) (eqb-true o.child.0 b same.1) child))
     (λ old. all a b old)
     (or_cases (is_adoption_of a b o) (is_direct orders a b) is)
+
+among_on : (n : ℕ) (q : Asked) (ps : List TypeNo) (orders : List Adoption) → AreAmong n orders → list_all (λ (p : TypeNo). is_number n p.0) ps ≡ true → IsNumber n q.type_no.0
+    → AreAmong n (learnt_on q ps orders)
+among_on n q [] orders all known child = all
+among_on n q (p ∷ ps) orders all known child =
+    let parts = and_parts (is_number n p.0) (list_all (λ (x : TypeNo). is_number n x.0) ps) known in
+    among_on n q ps (taught_at q.site (p, q.type_no) ∷ orders) (among_push n (taught_at q.site (p, q.type_no)) orders all (number-from n p.0 parts.0) child) parts.1 child
 
 among_more : (n m : ℕ) (orders : List Adoption) → n ≤ m → AreAmong n orders → AreAmong m orders
 unfolding AreAmong
@@ -284,6 +283,12 @@ among_by : (start : Start) (files : List (List ℕ)) (h : List Entry) (t : ℕ) 
 among_by start files h t (Check q) (Adopted a b) legal ok all =
     let o = adopted-orderly start files h t q a b legal (check_accepted (state_of (story_after start files h)) t q (Adopted a b) ok) in
     among_push (length (types_of start h)) (record { parent = a; child = b; origin = At q.site }) (orders_of start h) all o.parent o.child
+among_by start files h t (Check q) (AdoptedAll ps) legal ok all =
+    let accepted = check_accepted (state_of (story_after start files h)) t q (AdoptedAll ps) ok in
+    let l = taught-all start files h t q ps accepted in
+    subst (AreAmong (length (types_of start h))) (sym (after-all start h t q ps l))
+    (among_on (length (types_of start h)) (asked_of (known_of start h) q) l.parents (orders_of start h) all
+    (parents-known start files h t q ps legal l) (made-type start h q.lock.0 l.asks))
 among_by start files h t (DefineOrder x y) (Adopted a b) legal ok all =
     let o = defined-orderly start files h t x.0 y.0 a b (define_accepted (state_of (story_after start files h)) t x.0 y.0 (Adopted a b) ok refl) in
     among_push (length (types_of start h)) (record { parent = a; child = b; origin = Defined }) (orders_of start h) all o.parent o.child

@@ -1,5 +1,5 @@
 -- An order is adopted only where it is new: so none stands twice.
-use Rattle.std.proofs.Common.{◌≡◌, ℕ, Bool, true, false, cond, List, [], ◌∷◌, Ok, refl, ap₂, sym, ◌∙◌}
+use Rattle.std.proofs.Common.{◌≡◌, ℕ, Bool, true, false, cond, List, [], ◌∷◌, Ok, refl, ap₂, sym, ◌∙◌, subst}
 use Rattle.wit_model.specs.declared.locks.Class.{Class}
 use Rattle.wit_model.specs.declared.locks.TypeNo.{TypeNo}
 use Rattle.wit_model.specs.declared.locks.Origin.TheVariants.{Listed}
@@ -7,7 +7,7 @@ use Rattle.wit_model.specs.declared.calls.Adoption.{Adoption}
 use Rattle.wit_model.specs.declared.calls.Call.{Call}
 use Rattle.wit_model.specs.declared.calls.Call.TheVariants.{Check, DefineOrder}
 use Rattle.wit_model.specs.declared.calls.Reply.{Reply}
-use Rattle.wit_model.specs.declared.calls.Reply.TheVariants.{Adopted}
+use Rattle.wit_model.specs.declared.calls.Reply.TheVariants.{Adopted, AdoptedAll}
 use Rattle.wit_model.specs.declared.calls.Entry.{Entry}
 use Rattle.wit_model.specs.Rules.Types.{LockType, type_number, enrolled_all}
 use Rattle.wit_model.specs.Rules.Locks.{lock_at}
@@ -17,7 +17,8 @@ use Rattle.wit_model.specs.Rules.Verdict.{basis_of, asked_of}
 use Rattle.wit_model.specs.Rules.Step.{answer_of, story_after, IsLegal}
 use Rattle.wit_model.proofs.Chains.Seats.{entry}
 use Rattle.wit_model.proofs.Histories.Accepted.{check_accepted, define_accepted}
-use Rattle.wit_model.proofs.Orders.Sound.{learnt}
+use Rattle.wit_model.proofs.Orders.AllHeld.{distinct-on}
+use Rattle.wit_model.proofs.Orders.Sound.{learnt, taught-all, after-all}
 use Rattle.wit_model.proofs.Orders.Defined.{define_adopted}
 
 distinct_once : (a b : ℕ) (orders : List Adoption) → AreDistinct orders → AreDistinct (adopted_once a b Listed orders)
@@ -44,8 +45,11 @@ distinct_by : (start : Start) (files : List (List ℕ)) (h : List Entry) (t : �
 distinct_by start files h t (Check q) (Adopted a b) ok all =
     let s = state_of (story_after start files h) in
     let l =
-    learnt (basis_of (known_of start h)) s.watch (seat_at s t).sleep (seat_at s t).spin (asked_of (known_of start h) q) a b (check_accepted s t q (Adopted a b) ok).verdict in
+    learnt start.profile (basis_of (known_of start h)) s.watch (seat_at s t).sleep (seat_at s t).spin (asked_of (known_of start h) q) a b (check_accepted s t q (Adopted a b) ok).verdict in
     (ap₂ (λ (x y : TypeNo). is_direct (orders_of start h) x.0 y.0) (sym l.parent) (sym l.child) ∙ l.is_new.new, all)
+distinct_by start files h t (Check q) (AdoptedAll ps) ok all =
+    let l = taught-all start files h t q ps (check_accepted (state_of (story_after start files h)) t q (AdoptedAll ps) ok) in
+    subst AreDistinct (sym (after-all start h t q ps l)) (distinct-on (asked_of (known_of start h) q) l.parents (orders_of start h) l.free all)
 distinct_by start files h t (DefineOrder x y) (Adopted p c) ok all =
     let s = state_of (story_after start files h) in
     let d = define_accepted s t x.0 y.0 (Adopted p c) ok refl in

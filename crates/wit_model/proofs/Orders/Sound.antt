@@ -1,8 +1,9 @@
 -- An order is learnt only where it turns none round: so no type is ever before itself.
 use Rattle.std.proofs.Common.{◌≡◌, ℕ, Bool, true, false, not, ◌&&◌, ◌||◌, cond, List, [], ◌∷◌, ◌++◌, reverse, find, map, Some, None, Result, Ok, refl, ap, sym, ◌∙◌, subst}
 use Rattle.std.specs.List.{list_all, last_or}
-use Rattle.std.proofs.lemmas.Bool.{and_parts, eq-eqb, true≢false, not-true}
+use Rattle.std.proofs.lemmas.Bool.{and_parts, and_from, eq-eqb, true≢false, not-true}
 use Rattle.std.proofs.lemmas.List.Folds.{list_all-append}
+use Rattle.wit_model.specs.declared.profiles.Profile.{Profile}
 use Rattle.wit_model.specs.declared.faults.Fault.{Fault}
 use Rattle.wit_model.specs.declared.locks.TypeNo.{TypeNo}
 use Rattle.wit_model.specs.declared.locks.Watch.{Watch}
@@ -13,34 +14,27 @@ use Rattle.wit_model.specs.declared.calls.Request.{Request}
 use Rattle.wit_model.specs.declared.calls.Call.{Call}
 use Rattle.wit_model.specs.declared.calls.Call.TheVariants.{Check, DefineOrder}
 use Rattle.wit_model.specs.declared.calls.Reply.{Reply}
-use Rattle.wit_model.specs.declared.calls.Reply.TheVariants.{Pass, Adopted, Silent, Duplicate, Reversal}
+use Rattle.wit_model.specs.declared.calls.Reply.TheVariants.{Pass, Adopted, AdoptedAll, Silent, Duplicate, Reversal}
 use Rattle.wit_model.specs.declared.calls.Entry.{Entry}
 use Rattle.wit_model.specs.Rules.Types.{is_spin, class_of}
 use Rattle.wit_model.specs.Rules.Locks.{Lock, locks_of, has_flag, lock_at, unknown_lock, is_of_kind}
-use Rattle.wit_model.specs.Rules.Orders.{is_before, is_found, IsSound}
+use Rattle.wit_model.specs.Rules.Orders.{is_before, is_found, IsSound, adopted}
 use Rattle.wit_model.specs.Rules.History.{is_held, held_of, chain, instance}
 use Rattle.wit_model.specs.Rules.State.{Start, Known, Seat, seat_at, is_seat, known_of, state_of, types_of, typed_locks, orders_of}
-use Rattle.wit_model.specs.Rules.Verdict.{Basis, type_held, is_sleepable, is_giant, place_of, place_asked, doubled, violates, is_blessed, conflict, reported, is_learnt, chain_asked, ruling, basis_of, asked_of}
+use Rattle.wit_model.specs.Rules.Verdict.{Basis, type_held, is_sleepable, is_giant, place_of, place_asked, doubled, violates, is_blessed, conflict, has_type_of, reported, is_learnt, new_parents, orders_behind, chain_asked, ruling, basis_of, asked_of}
 use Rattle.wit_model.specs.Rules.Step.{answer_of, story_after, IsLegal}
 use Rattle.wit_model.specs.Rules.Numbers.{IsGiven}
 use Rattle.wit_model.proofs.Numbered.{with_number-or-map}
 use Rattle.wit_model.proofs.Orders.Paths.{sound_adopt}
 use Rattle.wit_model.proofs.Orders.Defined.{define_adopted}
-use Rattle.wit_model.proofs.Orders.Ruled.{IsNew, Says, Passed, Learnt, Doubled, Broken, ruled}
+use Rattle.wit_model.proofs.Orders.AllHeld.{AreFree, learnt_on, on-adopted, sound-on, parents-free, parents-have}
+use Rattle.wit_model.proofs.Orders.Ends.{all-last, all-reverse, none-passes}
+use Rattle.wit_model.proofs.Orders.Ruled.{IsNew, AreApart, Says, Passed, Learnt, LearntAll, Doubled, Broken, ruled}
 use Rattle.wit_model.proofs.Chains.Held.{made_sane, held_of-all}
 use Rattle.wit_model.proofs.Chains.Seats.{entry}
 use Rattle.wit_model.proofs.Orders.TypedLocks.{made-known}
 use Rattle.wit_model.proofs.Histories.Accepted.{CheckAccepted, check_accepted, define_accepted}
 use Rattle.wit_model.proofs.Histories.Legal.{seat_at-state, one_chain, sane_legal}
-
-last_front : (d : Instance) (c : List Instance) (x : Instance) → last_or (Some d) c ≡ Some x → (front : List Instance) × (d ∷ c ≡ front ++ x ∷ [])
-last_front d [] x is = ([], ap (λ j. j ∷ []) (let e : d ≡ x = cc in e))
-last_front d (i ∷ c) x is = let r = last_front i c x is in (d ∷ r.0, ap (λ e. d ∷ e) r.1)
-
--- the last lock of a chain, and those before it
-pub last_whole : (c : List Instance) (x : Instance) → last_or None c ≡ Some x → (front : List Instance) × (c ≡ front ++ x ∷ [])
-last_whole [] x is = (cc)
-last_whole (i ∷ c) x is = last_front i c x is
 
 -- what a learnt order says of the chain
 pub record IsLearnt (g : Basis) (q : Asked) (c : List Instance) (p child' : TypeNo) : Type 0 where
@@ -66,21 +60,58 @@ doubled_teaches_nothing g q i a b ok = go (has_flag q.flags.0 0x02 || has_flag q
     go false true same = (cc)
     go false false same = (cc)
 
-pub learnt : (g : Basis) (watch : Watch) (sleep spin : List Instance) (q : Asked) (a b : TypeNo) → ruling g watch sleep spin q ≡ Ok (Adopted a b)
+pub learnt : (profile : Profile) (g : Basis) (watch : Watch) (sleep spin : List Instance) (q : Asked) (a b : TypeNo) → ruling profile g watch sleep spin q ≡ Ok (Adopted a b)
     → IsLearnt g q (chain_asked g sleep spin q) a b
-learnt g watch sleep spin q a b ok = go (ruled g watch sleep spin q (Adopted a b) ok)
+learnt profile g watch sleep spin q a b ok = go (ruled profile g watch sleep spin q (Adopted a b) ok)
   where
-    go : Says g watch q (chain_asked g sleep spin q) (Adopted a b) → IsLearnt g q (chain_asked g sleep spin q) a b
+    go : Says profile g watch q (chain_asked g sleep spin q) (Adopted a b) → IsLearnt g q (chain_asked g sleep spin q) a b
     go (Passed passes why) = (cc)
-    go (Doubled d) = absurd (doubled_teaches_nothing g q d.last a b d.reply)
+    go (Doubled d) = absurd (doubled_teaches_nothing g q d.held a b d.reply)
     go (Broken broken) = absurd (reported_teaches_nothing g q (chain_asked g sleep spin q) broken.held a b broken.reply)
-    go (Learnt l) = record {
+    go (LearntAll all l) = (let same = l.reply in cc)
+    go (Learnt plain l) = record {
       last = l.last;
       is_new = l.is_new;
       orderly = l.orderly;
       allowed = l.allowed;
       parent = (let e : a ≡ type_held g l.last = (let same = l.reply in cc) in sym e);
       child = (let e : b ≡ q.type_no = (let same = l.reply in cc) in sym e);
+    }
+
+-- the same of orders behind all held locks
+pub record IsLearntAll (g : Basis) (q : Asked) (c : List Instance) (ps : List (TypeNo × TypeNo)) : Type 0 where
+  pub apart : AreApart g q c
+  pub orderly : find (violates g q) (reverse c) ≡ None
+  pub pairs : ps ≡ orders_behind q (new_parents g q [] (reverse c))
+
+reported_teaches_none : (g : Basis) (q : Asked) (c : List Instance) (i : Instance) (ps : List (TypeNo × TypeNo)) → reported g q c i ≡ Ok (AdoptedAll ps) → ⊥
+reported_teaches_none g q c i ps ok = go (is_found g.found (type_held g i).0 q.type_no.0 || is_blessed g (type_held g i) q.type_no) ok
+  where
+    go : (f : Bool) → cond {A = Result Reply Fault} f (Ok (Silent (type_held g i) q.type_no)) (Ok (Reversal (conflict g q c i))) ≡ Ok (AdoptedAll ps) → ⊥
+    go true same = (cc)
+    go false same = (cc)
+
+doubled_teaches_none : (g : Basis) (q : Asked) (i : Instance) (ps : List (TypeNo × TypeNo)) → doubled g q i ≡ Ok (AdoptedAll ps) → ⊥
+doubled_teaches_none g q i ps ok = go (has_flag q.flags.0 0x02 || has_flag q.ops.0 0x02) (is_found g.found q.type_no.0 q.type_no.0) ok
+  where
+    go : (allowed f : Bool) → cond {A = Result Reply Fault} allowed (Ok Pass) (cond f (Ok (Silent q.type_no q.type_no)) (Ok (Duplicate (record { last = place_of i; asked = place_asked q })))) ≡ Ok (AdoptedAll ps) → ⊥
+    go true f same = (cc)
+    go false true same = (cc)
+    go false false same = (cc)
+
+pub learnt-all : (profile : Profile) (g : Basis) (watch : Watch) (sleep spin : List Instance) (q : Asked) (ps : List (TypeNo × TypeNo))
+    → ruling profile g watch sleep spin q ≡ Ok (AdoptedAll ps) → IsLearntAll g q (chain_asked g sleep spin q) ps
+learnt-all profile g watch sleep spin q ps ok = go (ruled profile g watch sleep spin q (AdoptedAll ps) ok)
+  where
+    go : Says profile g watch q (chain_asked g sleep spin q) (AdoptedAll ps) → IsLearntAll g q (chain_asked g sleep spin q) ps
+    go (Passed passes why) = (cc)
+    go (Doubled d) = absurd (doubled_teaches_none g q d.held ps d.reply)
+    go (Broken broken) = absurd (reported_teaches_none g q (chain_asked g sleep spin q) broken.held ps broken.reply)
+    go (Learnt plain l) = (let same = l.reply in cc)
+    go (LearntAll all l) = record {
+      apart = l.apart;
+      orderly = l.orderly;
+      pairs = (let same = l.reply in cc);
     }
 
 through : (t : ℕ) (h : List Entry) (k : Bool) (ls : List ℕ) → list_all (λ l. is_held t l h && is_of_kind k (locks_of h) l) ls ≡ true
@@ -95,15 +126,10 @@ through t h k (l ∷ ls) all =
 pub chain-held : (k : Bool) (t : ℕ) (h : List Entry) → list_all (λ (i : Instance). is_held t i.lock.0 h) (chain k t h) ≡ true
 chain-held k t h = through t h k (held_of k t h) (held_of-all k t h)
 
-all-last : (p : Instance → Bool) (front : List Instance) (x : Instance) → list_all p (front ++ x ∷ []) ≡ true → p x ≡ true
-all-last p front x all =
-    (and_parts (p x) true (and_parts (list_all p front) (list_all p (x ∷ [])) (sym (list_all-append p front (x ∷ [])) ∙ all)).1).0
-
 -- the last lock of a seat's chain is held
 pub last-held : (k : Bool) (t : ℕ) (h : List Entry) (x : Instance) → last_or None (chain k t h) ≡ Some x → is_held t x.lock.0 h ≡ true
 last-held k t h x is =
-    let s = last_whole (chain k t h) x is in
-    all-last (λ (i : Instance). is_held t i.lock.0 h) s.0 x (subst (λ c. list_all (λ (i : Instance). is_held t i.lock.0 h) c ≡ true) s.1 (chain-held k t h))
+    all-last (λ (i : Instance). is_held t i.lock.0 h) (chain k t h) x (chain-held k t h) is
 
 -- a learnt order isn't turned round, and its types differ
 learnt-orderly : (g : Basis) (q : Asked) (c : List Instance) (a b : TypeNo) → IsLearnt g q c a b → is_before g.orders b.0 a.0 ≡ false
@@ -149,7 +175,7 @@ taught start files h t q a b legal accepted =
     let asked = asked_of (known_of start h) q in
     let c = chain_asked g (seat_at s t).sleep (seat_at s t).spin asked in
     let kind = is_spin (class_of (lock_at (typed_locks start h) q.lock.0).type_no.0 (types_of start h)) in
-    let l = learnt g s.watch (seat_at s t).sleep (seat_at s t).spin asked a b accepted.verdict in
+    let l = learnt start.profile g s.watch (seat_at s t).sleep (seat_at s t).spin asked a b accepted.verdict in
     let held : is_held t l.last.lock.0 h ≡ true =
     last-held kind t h l.last (subst (λ c. last_or None c ≡ Some l.last) (chain-judged start files h t q accepted.seat) l.is_new.behind.is_last) in
     record {
@@ -162,6 +188,51 @@ taught start files h t q a b legal accepted =
       orderly = learnt-orderly g asked c a b l;
     }
 
+-- what a check that teaches orders behind all held locks says of them: they can be learnt, and each type is that of a lock which is held
+pub record IsTaughtAll (start : Start) (h : List Entry) (t : ℕ) (q : Request) (ps : List (TypeNo × TypeNo)) : Type 0 where
+  pub parents : List TypeNo
+  pub asks : IsGiven (locks_of h) q.lock.0
+  pub pairs : ps ≡ orders_behind (asked_of (known_of start h) q) parents
+  pub free : AreFree (asked_of (known_of start h) q) (orders_of start h) parents
+  pub held : (has : TypeNo → Bool) → ((l : ℕ) → is_held t l h ≡ true → has (lock_at (typed_locks start h) l).type_no ≡ true) → list_all has parents ≡ true
+
+of-held : (start : Start) (h : List Entry) (t : ℕ) (has : TypeNo → Bool)
+    → ((l : ℕ) → is_held t l h ≡ true → has (lock_at (typed_locks start h) l).type_no ≡ true)
+    → (c : List Instance) → list_all (λ (i : Instance). is_held t i.lock.0 h) c ≡ true
+    → list_all (λ (i : Instance). has (type_held (basis_of (known_of start h)) i)) c ≡ true
+of-held start h t has of [] all = refl
+of-held start h t has of (i ∷ c) all =
+    let parts = and_parts (is_held t i.lock.0 h) (list_all (λ (j : Instance). is_held t j.lock.0 h) c) all in
+    and_from (has (type_held (basis_of (known_of start h)) i)) (list_all (λ (j : Instance). has (type_held (basis_of (known_of start h)) j)) c)
+    (ap has (type-held (known_of start h) i) ∙ of i.lock.0 parts.0) (of-held start h t has of c parts.1)
+
+pub taught-all : (start : Start) (files : List (List ℕ)) (h : List Entry) (t : ℕ) (q : Request) (ps : List (TypeNo × TypeNo))
+    → CheckAccepted (state_of (story_after start files h)) t q (AdoptedAll ps) → IsTaughtAll start h t q ps
+taught-all start files h t q ps accepted =
+    let s = state_of (story_after start files h) in
+    let g = basis_of (known_of start h) in
+    let asked = asked_of (known_of start h) q in
+    let c = chain_asked g (seat_at s t).sleep (seat_at s t).spin asked in
+    let kind = is_spin (class_of (lock_at (typed_locks start h) q.lock.0).type_no.0 (types_of start h)) in
+    let l = learnt-all start.profile g s.watch (seat_at s t).sleep (seat_at s t).spin asked ps accepted.verdict in
+    let held : list_all (λ (i : Instance). is_held t i.lock.0 h) c ≡ true
+    = subst (λ d. list_all (λ (i : Instance). is_held t i.lock.0 h) d ≡ true) (sym (chain-judged start files h t q accepted.seat)) (chain-held kind t h) in
+    record {
+      parents = new_parents g asked [] (reverse c);
+      asks = made-known start h q.lock.0 accepted.lock;
+      pairs = l.pairs;
+      free = parents-free asked g (reverse c) (none-passes (has_type_of g asked) (reverse c) l.apart);
+      held = λ has of. parents-have asked g has (reverse c) []
+          (of-held start h t has of (reverse c) (all-reverse (λ (i : Instance). is_held t i.lock.0 h) c held));
+    }
+
+-- the orders once they are learnt
+pub after-all : (start : Start) (h : List Entry) (t : ℕ) (q : Request) (ps : List (TypeNo × TypeNo)) (l : IsTaughtAll start h t q ps)
+    → adopted (Check q) (AdoptedAll ps) ++ orders_of start h ≡ learnt_on (asked_of (known_of start h) q) l.parents (orders_of start h)
+after-all start h t q ps l =
+    ap (λ pairs. adopted (Check q) (AdoptedAll pairs) ++ orders_of start h) l.pairs
+    ∙ on-adopted (asked_of (known_of start h) q) l.parents (orders_of start h)
+
 sound_check : (start : Start) (files : List (List ℕ)) (h : List Entry) (t : ℕ) (q : Request) (a b : TypeNo) → IsLegal start files h
     → CheckAccepted (state_of (story_after start files h)) t q (Adopted a b) → IsSound (orders_of start h)
     → IsSound (record { parent = a; child = b; origin = At q.site } ∷ orders_of start h)
@@ -173,6 +244,9 @@ sound_by : (start : Start) (files : List (List ℕ)) (h : List Entry) (t : ℕ) 
     → answer_of (story_after start files h) t c ≡ Ok r → IsSound (orders_of start h) → IsSound (orders_of start (entry t c r ∷ h))
 sound_by start files h t (Check q) (Adopted a b) legal ok sound =
     sound_check start files h t q a b legal (check_accepted (state_of (story_after start files h)) t q (Adopted a b) ok) sound
+sound_by start files h t (Check q) (AdoptedAll ps) legal ok sound =
+    let l = taught-all start files h t q ps (check_accepted (state_of (story_after start files h)) t q (AdoptedAll ps) ok) in
+    subst IsSound (sym (after-all start h t q ps l)) (sound-on (asked_of (known_of start h) q) l.parents (orders_of start h) l.free sound)
 sound_by start files h t (DefineOrder a b) (Adopted p c) legal ok sound =
     let s = state_of (story_after start files h) in
     let d = define_accepted s t a.0 b.0 (Adopted p c) ok refl in

@@ -1,8 +1,10 @@
 -- Which lock is to be taken before which: by what checks, what stays so, and that it comes round to no lock.
 use Rattle.std.proofs.Common.{◌≡◌, ℕ, ◌<◌, Bool, true, false, not, ◌&&◌, eqb, is_some, List, [], ◌∷◌, length-append, find, None, Some, Ok, Err, refl, ap, ap₂, sym, ◌∙◌, arith}
-use Rattle.std.specs.List.{list_any, last_or}
+use Rattle.std.specs.List.{list_all, list_any, last_or}
 use Rattle.std.proofs.lemmas.Bool.{true≢false, false≢true, true_from_ne_false, eqb-true}
 use Rattle.std.proofs.lemmas.Map.Views.{any-filter_same}
+use Rattle.wit_model.specs.declared.profiles.Profile.TheVariants.{Plain, AllHeld}
+use Rattle.wit_model.specs.declared.profiles.Profile.{Profile}
 use Rattle.wit_model.specs.declared.faults.Fault.TheVariants.{SleepUnderSpin}
 use Rattle.wit_model.specs.declared.locks.Watch.{Watch}
 use Rattle.wit_model.specs.declared.locks.Instance.{Instance}
@@ -18,7 +20,7 @@ use Rattle.wit_model.specs.Rules.Locks.{made, locks_of, is_spin_lock, is_of_kind
 use Rattle.wit_model.specs.Rules.History.{num, is_held, is_on, held, held_of, chain, instance, watch_of}
 use Rattle.wit_model.specs.Rules.State.{Start, Seat, known_of, state_of, seat_at, orders_of}
 use Rattle.wit_model.specs.Rules.Start.{start_fault}
-use Rattle.wit_model.specs.Rules.Verdict.{Basis, is_of, decided, holds_nothing, holds_it, doubles, follows, breaks_order, teaches, when, chain_asked, ruling, basis_of, asked_of}
+use Rattle.wit_model.specs.Rules.Verdict.{Basis, is_of, decided, holds_nothing, holds_it, doubles_in, follows_in, breaks_order, teaches_in, when, chain_asked, ruling, basis_of, asked_of}
 use Rattle.wit_model.specs.Rules.Step.{story_after, IsLegal}
 use Rattle.wit_model.specs.Rules.Ahead.{lock_type, IsAhead}
 use Rattle.wit_model.specs.Rules.Clean.{is_clean}
@@ -30,6 +32,7 @@ use Rattle.wit_model.proofs.Orders.Paths.{before_trans, before_from_test, test_f
 use Rattle.wit_model.proofs.Orders.Sound.{sound_legal}
 use Rattle.wit_model.proofs.Orders.Started.{sound_started}
 use Rattle.wit_model.proofs.Orders.TypedLocks.{made-known}
+use Rattle.wit_model.proofs.VerdictLaws.AllAhead.{before-checked_all}
 use Rattle.wit_model.proofs.VerdictLaws.Classes.{type-kind}
 use Rattle.wit_model.proofs.VerdictLaws.Judged.{checked}
 use Rattle.wit_model.proofs.VerdictLaws.Quiet.{clean-parts, watch-clean}
@@ -38,16 +41,16 @@ use Rattle.wit_model.proofs.VerdictLaws.Rising.{leads, leads-stays, before-check
 
 -- ---- no sleep lock passes under a spin lock
 
-sleep-passes : (g : Basis) (w : Watch) (sleep spin : List Instance) (q : Asked) (r : Reply) → is_on w ≡ true → is_spin (class_of q.type_no.0 g.types) ≡ false
-    → ruling g w sleep spin q ≡ Ok r → is_some (last_or None spin) ≡ false
-sleep-passes g w sleep spin q r on kind ok = go (is_on w) (is_spin (class_of q.type_no.0 g.types)) (is_some (last_or None spin)) refl on kind ok
+sleep-passes : (profile : Profile) (g : Basis) (w : Watch) (sleep spin : List Instance) (q : Asked) (r : Reply) → is_on w ≡ true → is_spin (class_of q.type_no.0 g.types) ≡ false
+    → ruling profile g w sleep spin q ≡ Ok r → is_some (last_or None spin) ≡ false
+sleep-passes profile g w sleep spin q r on kind ok = go (is_on w) (is_spin (class_of q.type_no.0 g.types)) (is_some (last_or None spin)) refl on kind ok
   where
     c : List Instance
     c = chain_asked g sleep spin q
 
     go : (watched spins some : Bool) → is_some (last_or None spin) ≡ some → watched ≡ true → spins ≡ false
-        → decided (when (not watched) (Ok Pass) ∷ when (not spins && some) (Err SleepUnderSpin) ∷ holds_nothing (last_or None c) ∷ holds_it c q ∷ doubles g (last_or None c) q
-        ∷ follows g (last_or None c) q ∷ breaks_order g c q ∷ teaches g (last_or None c) q ∷ []) ≡ Ok r → is_some (last_or None spin) ≡ false
+        → decided (when (not watched) (Ok Pass) ∷ when (not spins && some) (Err SleepUnderSpin) ∷ holds_nothing (last_or None c) ∷ holds_it c q ∷ doubles_in profile g c (last_or None c) q
+        ∷ follows_in profile g c (last_or None c) q ∷ breaks_order g c q ∷ teaches_in profile g c (last_or None c) q ∷ []) ≡ Ok r → is_some (last_or None spin) ≡ false
     go true false true is one two told = (cc)
     go true false false is one two told = is
     go true true some is one two told = absurd (true≢false two)
@@ -80,7 +83,7 @@ among-kind k t l h start files legal is kind =
     ∙ (in-held t l h (sane_legal start files h legal) ∙ is)
 
 -- what a clean history's check of a lock that isn't held says of each lock that is
-module _ (start : Start) (files : List (List ℕ)) (unblessed : start.blessed ≡ []) (e : Entry) (h : List Entry) (q : Request) (l : ℕ) (legal : IsLegal start files (e ∷ h)) (clean : is_clean (e ∷ h) ≡ true)
+module _ (start : Start) (files : List (List ℕ)) (unblessed : start.blessed ≡ []) (e : Entry) (h : List Entry) (q : Request) (l : ℕ) (legal : IsLegal start files (e ∷ h)) (clean : is_clean start.profile (e ∷ h) ≡ true)
     (asks : e.call ≡ Check q) (unheld : num e.seat.0 q.lock.0 h ≡ 0) (holds : 0 < num e.seat.0 l h) where
   is_held-l : is_held e.seat.0 l h ≡ true
   is_held-l = held-from e.seat.0 l h holds
@@ -98,15 +101,21 @@ module _ (start : Start) (files : List (List ℕ)) (unblessed : start.blessed �
       let there : find (is_of l) (chain true e.seat.0 h) ≡ if_some true (instance e.seat.0 h l)
       = found true e.seat.0 l h (sane_legal start files h legal.2) ∙ ap₂ (λ x y. if_some (x && y) (instance e.seat.0 h l)) is_held-l spins in
       let none : is_some (last_or None (seat_at s e.seat.0).spin) ≡ false
-      = sleep-passes (basis_of (known_of start h)) (watch_of h) (seat_at s e.seat.0).sleep (seat_at s e.seat.0).spin (asked_of (known_of start h) q) e.reply
-      (ap is_on (watch-clean h (clean-parts e h clean).1.1)) (type-kind start files h q.lock.0 legal.2 a.lock ∙ sleeps) a.verdict in
+      = sleep-passes start.profile (basis_of (known_of start h)) (watch_of h) (seat_at s e.seat.0).sleep (seat_at s e.seat.0).spin (asked_of (known_of start h) q) e.reply
+      (ap is_on (watch-clean start.profile h (clean-parts start.profile e h clean).1.1)) (type-kind start files h q.lock.0 legal.2 a.lock ∙ sleeps) a.verdict in
       true≢false (sym (last-some (is_of l) (chain true e.seat.0 h) (instance e.seat.0 h l) there)
       ∙ (ap (λ (seat : Seat). is_some (last_or None seat.spin)) (sym (seat_at-state start files h e.seat.0 a.seat)) ∙ none)))
+
+  -- whichever held locks it is compared with
+  all-before : (profile : Profile) → start.profile ≡ profile
+      → list_all (λ m. leads start (e ∷ h) m q.lock.0) (held_of (is_spin_lock (locks_of h) q.lock.0) e.seat.0 h) ≡ true
+  all-before Plain plain = before-checked start files plain unblessed e h q legal clean asks (held-not e.seat.0 q.lock.0 h unheld)
+  all-before AllHeld all = before-checked_all start files all unblessed e h q legal clean asks (held-not e.seat.0 q.lock.0 h unheld)
 
   same-kind : is_spin_lock (locks_of h) l ≡ is_spin_lock (locks_of h) q.lock.0 → leads start (e ∷ h) l q.lock.0 ≡ true
   same-kind same =
       in_all (λ m. leads start (e ∷ h) m q.lock.0) l (held_of (is_spin_lock (locks_of h) q.lock.0) e.seat.0 h)
-      (before-checked start files unblessed e h q legal clean asks (held-not e.seat.0 q.lock.0 h unheld))
+      (all-before start.profile refl)
       (among-kind (is_spin_lock (locks_of h) q.lock.0) e.seat.0 l h start files legal.2 is_held-l same)
 
   pub ahead-at_check : IsAhead start (e ∷ h) l q.lock.0

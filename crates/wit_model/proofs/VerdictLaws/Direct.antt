@@ -3,6 +3,7 @@ use Rattle.std.proofs.Common.{◌≡◌, ℕ, Bool, true, false, not, ◌&&◌, 
 use Rattle.std.specs.List.{last_or}
 use Rattle.std.specs.Option.{option_map}
 use Rattle.std.proofs.lemmas.Bool.{false_from_ne_true, eqb-true}
+use Rattle.wit_model.specs.declared.profiles.Profile.TheVariants.{Plain}
 use Rattle.wit_model.specs.declared.faults.Fault.TheVariants.{SleepUnderSpin}
 use Rattle.wit_model.specs.declared.locks.TypeNo.{TypeNo}
 use Rattle.wit_model.specs.declared.locks.Watch.{Watch}
@@ -33,7 +34,7 @@ use Rattle.wit_model.proofs.VerdictLaws.Passing.{last-map}
 
 ruling-passes : (g : Basis) (w : Watch) (sleep spin : List Instance) (q : Asked) (last : Instance) → (not (is_spin (class_of q.type_no.0 g.types)) && is_some (last_or None spin)) ≡ false
     → last_or None (chain_asked g sleep spin q) ≡ Some last → find (is_of q.lock.0) (chain_asked g sleep spin q) ≡ None
-    → has_type_of g q last ≡ false → is_direct g.orders (type_held g last).0 q.type_no.0 ≡ true → ruling g w sleep spin q ≡ Ok Pass
+    → has_type_of g q last ≡ false → is_direct g.orders (type_held g last).0 q.type_no.0 ≡ true → ruling Plain g w sleep spin q ≡ Ok Pass
 ruling-passes g w sleep spin q last awake is_last free apart direct =
     go (is_on w) (not (is_spin (class_of q.type_no.0 g.types)) && is_some (last_or None spin)) (last_or None (chain_asked g sleep spin q)) (find (is_of q.lock.0) (chain_asked g sleep spin q))
     awake is_last free
@@ -72,7 +73,7 @@ module _ (start : Start) (files : List (List ℕ)) (h : List Entry) (t : ℕ) (q
       (direct-before (orders_of start h) (lock_type start h last) (lock_type start h last)
       (subst (λ n. is_direct (orders_of start h) (lock_type start h last) n ≡ true) (sym one) direct)))
 
-  pub direct-judged : verdict (known_of start h) (watch_of h) (seat_of h t) q ≡ Ok Pass
+  pub direct-judged : verdict Plain (known_of start h) (watch_of h) (seat_of h t) q ≡ Ok Pass
   direct-judged =
       ruling-passes g (watch_of h) (chain false t h) (chain true t h) (asked_of (known_of start h) q) (instance t h last)
       (ap (λ b. not b && is_some (last_or None (chain true t h))) kind-of_type ∙ not-sleeping kind refl)

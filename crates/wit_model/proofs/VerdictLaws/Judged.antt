@@ -26,15 +26,15 @@ checked start files e h q legal asks =
 
 -- the chain by which it was judged is that of the lock's kind
 pub chain-of_kind : (start : Start) (files : List (List ℕ)) (e : Entry) (h : List Entry) (q : Request) → IsLegal start files (e ∷ h) → e.call ≡ Check q
-    → Says (basis_of (known_of start h)) (watch_of h) (asked_of (known_of start h) q) (chain (is_spin_lock (locks_of h) q.lock.0) e.seat.0 h) e.reply
+    → Says start.profile (basis_of (known_of start h)) (watch_of h) (asked_of (known_of start h) q) (chain (is_spin_lock (locks_of h) q.lock.0) e.seat.0 h) e.reply
 chain-of_kind start files e h q legal asks =
     let s = state_of (story_after start files h) in
     let g = basis_of (known_of start h) in
     let a = checked start files e h q legal asks in
-    subst (λ c. Says g (watch_of h) (asked_of (known_of start h) q) c e.reply)
+    subst (λ c. Says start.profile g (watch_of h) (asked_of (known_of start h) q) c e.reply)
     (chain-judged start files h e.seat.0 q a.seat
     ∙ ap (λ k. chain k e.seat.0 h) (type-kind start files h q.lock.0 legal.2 a.lock))
-    (ruled g s.watch (seat_at s e.seat.0).sleep (seat_at s e.seat.0).spin (asked_of (known_of start h) q) e.reply a.verdict)
+    (ruled start.profile g s.watch (seat_at s e.seat.0).sleep (seat_at s e.seat.0).spin (asked_of (known_of start h) q) e.reply a.verdict)
 
 -- a reply that tells of a violation
 abbrev pub is_told : Reply → Bool

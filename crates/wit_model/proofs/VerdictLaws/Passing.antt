@@ -5,6 +5,7 @@ use Rattle.std.specs.Str.{bytes_eq}
 use Rattle.std.proofs.lemmas.Bool.{true≢false, or_left, or_right, and_parts, and_from, eq-eqb, eqb-true}
 use Rattle.std.proofs.lemmas.List.{reverse-append}
 use Rattle.std.proofs.lemmas.List.Folds.{list_any-append}
+use Rattle.wit_model.specs.declared.profiles.Profile.TheVariants.{Plain, AllHeld}
 use Rattle.wit_model.specs.declared.faults.Fault.{Fault}
 use Rattle.wit_model.specs.declared.locks.Class.{Class}
 use Rattle.wit_model.specs.declared.locks.Class.TheVariants.{SleepMutex, Sx}
@@ -33,12 +34,16 @@ use Rattle.wit_model.proofs.Chains.Found.{if_some, found}
 use Rattle.wit_model.proofs.Chains.Held.{made_sane}
 use Rattle.wit_model.proofs.Histories.Legal.{sane_legal}
 use Rattle.wit_model.proofs.Orders.Paths.{direct-before}
-use Rattle.wit_model.proofs.Orders.Ruled.{Says, Passed, Learnt, Doubled, Broken, Unwatched, Empty, Recursion, Known, Untaught}
-use Rattle.wit_model.proofs.Orders.Sound.{last_whole, type-held, last-held, sound_legal}
+use Rattle.wit_model.proofs.Orders.Ruled.{Says, Passed, Learnt, LearntAll, Doubled, Broken, Unwatched, Empty, Recursion, Known, KnownAll, Untaught, UntaughtAll}
+use Rattle.wit_model.proofs.Orders.Ends.{last_whole}
+use Rattle.wit_model.proofs.Orders.Sound.{type-held, last-held, sound_legal}
 use Rattle.wit_model.proofs.Orders.Started.{sound_started}
 use Rattle.wit_model.proofs.Orders.TypedLocks.{known-made, lock_at-made}
 use Rattle.wit_model.proofs.VerdictLaws.Classes.{type-class, type-name}
 use Rattle.wit_model.proofs.VerdictLaws.Judged.{checked, chain-of_kind}
+
+pub not-all : Plain ≡ AllHeld → ⊥
+not-all same = (cc)
 
 -- ---- the last lock of a chain
 
@@ -91,7 +96,7 @@ may-learn false false false true t apart none = absurd (true≢false none)
 may-learn false false false false true apart none = absurd (true≢false none)
 may-learn false false false false false apart none = refl
 
-learnt-unless : (g : Basis) (q : Asked) (i : Instance) → has_flag q.ops.0 0x01 ≡ true
+pub learnt-unless : (g : Basis) (q : Asked) (i : Instance) → has_flag q.ops.0 0x01 ≡ true
     → ((is_giant g (type_held g i) && is_sleepable g q.type_no) || (is_sleepable g (type_held g i) && is_giant g q.type_no)) ≡ false
     → violates g q i ≡ false → is_learnt g q i ≡ true
 learnt-unless g q i new apart none =
@@ -102,14 +107,14 @@ learnt-unless g q i new apart none =
 
 -- ---- a violation doesn't pass, nor does a second lock of a type where none is allowed
 
-reported-no_pass : (g : Basis) (q : Asked) (c : List Instance) (i : Instance) → reported g q c i ≡ Ok Pass → ⊥
+pub reported-no_pass : (g : Basis) (q : Asked) (c : List Instance) (i : Instance) → reported g q c i ≡ Ok Pass → ⊥
 reported-no_pass g q c i ok = go (is_found g.found (type_held g i).0 q.type_no.0 || is_blessed g (type_held g i) q.type_no) ok
   where
     go : (f : Bool) → cond {A = Result Reply Fault} f (Ok (Silent (type_held g i) q.type_no)) (Ok (Reversal (conflict g q c i))) ≡ Ok Pass → ⊥
     go true same = (cc)
     go false same = (cc)
 
-doubled-no_pass : (g : Basis) (q : Asked) (i : Instance) → (has_flag q.flags.0 0x02 || has_flag q.ops.0 0x02) ≡ false → doubled g q i ≡ Ok Pass → ⊥
+pub doubled-no_pass : (g : Basis) (q : Asked) (i : Instance) → (has_flag q.flags.0 0x02 || has_flag q.ops.0 0x02) ≡ false → doubled g q i ≡ Ok Pass → ⊥
 doubled-no_pass g q i single ok = go (has_flag q.flags.0 0x02 || has_flag q.ops.0 0x02) (is_found g.found q.type_no.0 q.type_no.0) single ok
   where
     go : (allowed f : Bool) → allowed ≡ false
@@ -121,7 +126,7 @@ doubled-no_pass g q i single ok = go (has_flag q.flags.0 0x02 || has_flag q.ops.
 -- ---- Giant and sleepable locks, by their types
 
 module _ (start : Start) (files : List (List ℕ)) (h : List Entry) (l : ℕ) (legal : IsLegal start files h) (given : is_given (typed_locks start h) l ≡ true) where
-  giant-lock : is_giant (basis_of (known_of start h)) (lock_at (typed_locks start h) l).type_no ≡ is_giant_lock (lock_of (locks_of h) l)
+  pub giant-lock : is_giant (basis_of (known_of start h)) (lock_at (typed_locks start h) l).type_no ≡ is_giant_lock (lock_of (locks_of h) l)
   giant-lock =
       ap₂ (λ (name : List ℕ) (class : Class). is_same_class class SleepMutex && bytes_eq name (codes "Giant")) (type-name start h l given) (type-class start files h l legal given)
 
@@ -165,23 +170,28 @@ module _ (start : Start) (files : List (List ℕ)) (e : Entry) (h : List Entry) 
       sym (ap (λ (j : Instance). (type_held g j).0) (same-last (chain kind e.seat.0 h) i last is is-last) ∙ type-last)
       ∙ (eqb-true (type_held g i).0 q.type_no.0 same ∙ behind.child)
 
-  says : (r : Reply) → e.reply ≡ r → Says g (watch_of h) q (chain kind e.seat.0 h) r
-  says r is = subst (λ s. Says g (watch_of h) q (chain kind e.seat.0 h) s) is (chain-of_kind start files e h behind.request legal behind.asks)
+  says : start.profile ≡ Plain → (r : Reply) → e.reply ≡ r → Says Plain g (watch_of h) q (chain kind e.seat.0 h) r
+  says plain r is =
+      subst (λ s. Says Plain g (watch_of h) q (chain kind e.seat.0 h) s) is
+      (subst (λ p. Says p g (watch_of h) q (chain kind e.seat.0 h) e.reply) plain (chain-of_kind start files e h behind.request legal behind.asks))
 
   -- a direct order is never violated
-  pub direct-passes : IsSound (orders_of start h) → is_direct (orders_of start h) a b ≡ true → e.reply ≡ Pass
-  direct-passes sound direct = go (says e.reply refl)
+  pub direct-passes : start.profile ≡ Plain → IsSound (orders_of start h) → is_direct (orders_of start h) a b ≡ true → e.reply ≡ Pass
+  direct-passes plain sound direct = go (says plain e.reply refl)
     where
-      go : Says g (watch_of h) q (chain kind e.seat.0 h) e.reply → e.reply ≡ Pass
+      go : Says Plain g (watch_of h) q (chain kind e.seat.0 h) e.reply → e.reply ≡ Pass
       go (Passed passes why) = passes
-      go (Learnt l) = absurd (true≢false (sym direct ∙ (sym (direct-last l.last l.is_new.behind.is_last) ∙ l.is_new.new)))
+      go (LearntAll all l) = absurd (not-all all)
+      go (Learnt one l) = absurd (true≢false (sym direct ∙ (sym (direct-last l.last l.is_new.behind.is_last) ∙ l.is_new.new)))
       go (Doubled d) =
-          absurd (sound a (direct-before (orders_of start h) a a (subst (λ n. is_direct (orders_of start h) a n ≡ true) (sym (same-type d.last d.behind.is_last d.same)) direct)))
-      go (Broken v) = absurd (true≢false (sym direct ∙ (sym (direct-last v.last v.is_new.behind.is_last) ∙ v.is_new.new)))
+          absurd (sound a (direct-before (orders_of start h) a a (subst (λ n. is_direct (orders_of start h) a n ≡ true) (sym (same-type d.held (d.behind refl).is_last d.same)) direct)))
+      go (Broken v) =
+          let u = v.unknown refl in absurd (true≢false (sym direct ∙ (sym (direct-last u.last u.is_new.behind.is_last) ∙ u.is_new.new)))
 
 -- ---- what passed has a direct order
 
-module _ (start : Start) (files : List (List ℕ)) (e : Entry) (h : List Entry) (a b : ℕ) (legal : IsLegal start files (e ∷ h)) (has : HasPassed start h e a b) where
+module _ (start : Start) (files : List (List ℕ)) (e : Entry) (h : List Entry) (a b : ℕ) (plain : start.profile ≡ Plain) (legal : IsLegal start files (e ∷ h))
+    (has : HasPassed start h e a b) where
   abbrev basis : Basis
   basis = g start files e h a b legal has.behind
 
@@ -210,22 +220,25 @@ module _ (start : Start) (files : List (List ℕ)) (e : Entry) (h : List Entry) 
       (giant-lock start files h has.behind.request.lock.0 legal.2 asks))
       ∙ has.bound
 
-  passed-direct : Says basis (watch_of h) asked held_before Pass → is_direct (orders_of start h) a b ≡ true
+  passed-direct : Says Plain basis (watch_of h) asked held_before Pass → is_direct (orders_of start h) a b ≡ true
   passed-direct (Passed passes (Unwatched off)) = absurd (true≢false (sym (ap is_on has.on) ∙ off))
   passed-direct (Passed passes (Empty none)) =
       let e' : ◌≡◌ {A = Option Instance} None (Some (last start files e h a b legal has.behind)) = sym none ∙ is-last start files e h a b legal has.behind in (cc)
   passed-direct (Passed passes (Recursion r)) = let e' : ◌≡◌ {A = Option Instance} None (Some r.held) = sym unheld ∙ r.is_held in (cc)
-  passed-direct (Passed passes (Known f)) = sym (direct-last start files e h a b legal has.behind f.last f.behind.is_last) ∙ f.direct
-  passed-direct (Passed passes (Untaught u)) =
+  passed-direct (Passed passes (Known one f)) = sym (direct-last start files e h a b legal has.behind f.last f.behind.is_last) ∙ f.direct
+  passed-direct (Passed passes (Untaught one u)) =
       absurd (true≢false
       (sym (learnt-unless basis asked u.last has.teaches (bound-types u.last u.is_new.behind.is_last)
       (last-orderly (violates basis asked) held_before u.last u.is_new.behind.is_last u.orderly))
       ∙ u.barred))
-  passed-direct (Learnt l) = let e' = l.reply in (cc)
+  passed-direct (Passed passes (KnownAll all some)) = absurd (not-all all)
+  passed-direct (Passed passes (UntaughtAll all u)) = absurd (not-all all)
+  passed-direct (LearntAll all l) = absurd (not-all all)
+  passed-direct (Learnt one l) = let e' = l.reply in (cc)
   passed-direct (Doubled d) =
-      absurd (doubled-no_pass basis asked d.last
+      absurd (doubled-no_pass basis asked d.held
       (ap (λ (n : NewLock). has_flag n.flags.0 0x02 || has_flag has.behind.request.ops.0 0x02) (lock_at-made start h has.behind.request.lock.0)
-      ∙ has.single (same-type start files e h a b legal has.behind d.last d.behind.is_last d.same))
+      ∙ has.single (same-type start files e h a b legal has.behind d.held (d.behind refl).is_last d.same))
       d.reply)
   passed-direct (Broken v) = absurd (reported-no_pass basis asked held_before v.held v.reply)
 
@@ -235,7 +248,7 @@ module _ (start : Start) (files : List (List ℕ)) (e : Entry) (h : List Entry) 
   pub passed-is_direct : is_direct (orders_of start (e ∷ h)) a b ≡ true
   passed-is_direct =
       ⊎_elim
-      (λ passes. ap (λ os. is_direct os a b) (orders-after Pass passes) ∙ passed-direct (says start files e h a b legal has.behind Pass passes))
+      (λ passes. ap (λ os. is_direct os a b) (orders-after Pass passes) ∙ passed-direct (says start files e h a b legal has.behind plain Pass passes))
       (λ adopts. ap (λ os. is_direct os a b) (orders-after (Adopted (record { 0 = a }) (record { 0 = b })) adopts)
       ∙ or_left (eqb a a && eqb b b) (is_direct (orders_of start h) a b) (and_from (eqb a a) (eqb b b) (eq-eqb a a refl) (eq-eqb b b refl)))
       has.passed
@@ -253,8 +266,8 @@ direct-stays start (x ∷ later) h a b is =
     ∙ or_right (is_direct (adopted x.call x.reply) a b) (is_direct (orders_of start (later ++ h)) a b) (direct-stays start later h a b is)
 
 pub passed-on : (start : Start) (files : List (List ℕ)) (next : Entry) (later : List Entry) (e : Entry) (h : List Entry) (a b : ℕ)
-    → start_fault start ≡ None → IsLegal start files (next ∷ later ++ e ∷ h)
+    → start.profile ≡ Plain → start_fault start ≡ None → IsLegal start files (next ∷ later ++ e ∷ h)
     → HasPassed start h e a b → AsksBehind start (later ++ e ∷ h) next a b → next.reply ≡ Pass
-passed-on start files next later e h a b accepted legal has behind =
-    direct-passes start files next (later ++ e ∷ h) a b legal behind (sound_legal start files (later ++ e ∷ h) (sound_started start accepted) legal.2)
-    (direct-stays start later (e ∷ h) a b (passed-is_direct start files e h a b (legal-before start files later (e ∷ h) legal.2) has))
+passed-on start files next later e h a b plain accepted legal has behind =
+    direct-passes start files next (later ++ e ∷ h) a b legal behind plain (sound_legal start files (later ++ e ∷ h) (sound_started start accepted) legal.2)
+    (direct-stays start later (e ∷ h) a b (passed-is_direct start files e h a b plain (legal-before start files later (e ∷ h) legal.2) has))

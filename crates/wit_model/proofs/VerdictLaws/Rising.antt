@@ -5,6 +5,7 @@ use Rattle.std.specs.List.{list_all, last_or}
 use Rattle.std.proofs.lemmas.Bool.{and_parts, and_from, or_left, true≢false, false≢true, not-true, eq-eqb, lt-ltb, le-leb, ltb-true, leb-true}
 use Rattle.std.proofs.lemmas.Bool.Decides.{eqb_tells}
 use Rattle.std.proofs.lemmas.List.Elements.{filter-append}
+use Rattle.wit_model.specs.declared.profiles.Profile.TheVariants.{Plain}
 use Rattle.wit_model.specs.declared.calls.Adoption.{Adoption}
 use Rattle.wit_model.specs.declared.calls.NewLock.{NewLock}
 use Rattle.wit_model.specs.declared.calls.Request.{Request}
@@ -20,7 +21,7 @@ use Rattle.wit_model.specs.Rules.History.{Act, Nothing, Records, Releases, act, 
 use Rattle.wit_model.specs.Rules.State.{Start, state_of, seat_at, is_seat, orders_of}
 use Rattle.wit_model.specs.Rules.Step.{is_pending, answer_of, story_after, is_logged, IsLegal}
 use Rattle.wit_model.specs.Rules.Ahead.{lock_type}
-use Rattle.wit_model.specs.Rules.Clean.{is_clean_call, is_clean}
+use Rattle.wit_model.specs.Rules.Clean.{allows_tries, is_clean_call, is_clean}
 use Rattle.wit_model.proofs.Lists.{filter-swap, list_all-filter, list_all-both}
 use Rattle.wit_model.proofs.Chains.Sane.{IsSane, IsFit, fit_by}
 use Rattle.wit_model.proofs.Chains.Acts.{num-step}
@@ -43,12 +44,11 @@ leads start h l m = is_before (orders_of start h) (lock_type start h l) (lock_ty
 
 -- ---- which stays so
 
-before-adopted : (c : Call) (r : Reply) (os : List Adoption) (a b : ℕ) → is_before os a b ≡ true → is_before (adopted c r ++ os) a b ≡ true
-before-adopted (Check q) (Adopted p c) os a b is =
-    or_left (is_before os a b) ((eqb p.0 a || is_before os a p.0) && (eqb c.0 b || is_before os c.0 b)) is
-before-adopted (DefineOrder x y) (Adopted p c) os a b is =
-    or_left (is_before os a b) ((eqb p.0 a || is_before os a p.0) && (eqb c.0 b || is_before os c.0 b)) is
-before-adopted c r os a b is = is
+before-added : (new os : List Adoption) (a b : ℕ) → is_before os a b ≡ true → is_before (new ++ os) a b ≡ true
+before-added [] os a b is = is
+before-added (o ∷ new) os a b is =
+    or_left (is_before (new ++ os) a b) ((eqb o.parent.0 a || is_before (new ++ os) a o.parent.0) && (eqb o.child.0 b || is_before (new ++ os) o.child.0 b))
+    (before-added new os a b is)
 
 pub type-stays : (start : Start) (e : Entry) (h : List Entry) (l : ℕ) → IsGiven (locks_of h) l → lock_type start (e ∷ h) l ≡ lock_type start h l
 type-stays start e h l given = ap (λ k. k.type_no.0) (lock-stays start e h l given.0 (omega (arith, given.1, length-typed start h)))
@@ -56,18 +56,18 @@ type-stays start e h l given = ap (λ k. k.type_no.0) (lock-stays start e h l gi
 pub leads-stays : (start : Start) (e : Entry) (h : List Entry) (l m : ℕ) → IsGiven (locks_of h) l → IsGiven (locks_of h) m → leads start h l m ≡ true → leads start (e ∷ h) l m ≡ true
 leads-stays start e h l m first second is =
     ap₂ (λ a b. is_before (orders_of start (e ∷ h)) a b) (type-stays start e h l first) (type-stays start e h m second)
-    ∙ before-adopted e.call e.reply (orders_of start h) (lock_type start h l) (lock_type start h m) is
+    ∙ before-added (adopted e.call e.reply) (orders_of start h) (lock_type start h l) (lock_type start h m) is
 
 given-test : (h : List Entry) (l : ℕ) → IsGiven (locks_of h) l → is_given (locks_of h) l ≡ true
 given-test h l given = and_from _ _ (lt-ltb 0 l given.0) (le-leb l (length (locks_of h)) given.1)
 
-given-from : (h : List Entry) (l : ℕ) → is_given (locks_of h) l ≡ true → IsGiven (locks_of h) l
+pub given-from : (h : List Entry) (l : ℕ) → is_given (locks_of h) l ≡ true → IsGiven (locks_of h) l
 given-from h l is = let parts = and_parts _ _ is in (ltb-true 0 l parts.0, leb-true l (length (locks_of h)) parts.1)
 
 leads-more : (start : Start) (e : Entry) (h : List Entry) (l m : ℕ) → is_given (locks_of h) l ≡ true → is_given (locks_of h) m ≡ true → leads start h l m ≡ true → leads start (e ∷ h) l m ≡ true
 leads-more start e h l m first second is = leads-stays start e h l m (given-from h l first) (given-from h m second) is
 
-made-all : (k : Bool) (t : ℕ) (h : List Entry) → IsSane h → list_all (is_given (locks_of h)) (held_of k t h) ≡ true
+pub made-all : (k : Bool) (t : ℕ) (h : List Entry) → IsSane h → list_all (is_given (locks_of h)) (held_of k t h) ≡ true
 made-all k t h sane =
     list_all-both (λ l. is_held t l h && is_of_kind k (locks_of h) l) (is_given (locks_of h))
     (λ l is. given-test h l (made_sane t l h sane (and_parts (is_held t l h) (is_of_kind k (locks_of h) l) is).0)) (held_of k t h) (held_of-all k t h)
@@ -135,20 +135,20 @@ kind-from true ls l is = is
 kind-from false ls l is = not-true (is_spin_lock ls l) is
 
 module _ (start : Start) (files : List (List ℕ)) (h : List Entry) (t : ℕ) where
-  -- what a clean call newly records was asked for
-  asked-before : (c : Call) (r : Reply) (m : ℕ) → answer_of (story_after start files h) t c ≡ Ok r → is_clean_call c ≡ true → act c r ≡ Records m
+  -- what a clean call newly records, where nothing is tried, was asked for
+  asked-before : (c : Call) (r : Reply) (m : ℕ) → answer_of (story_after start files h) t c ≡ Ok r → start.profile ≡ Plain → is_clean_call start.profile c ≡ true → act c r ≡ Records m
       → (q : Request) × (pending t h ≡ Some q) × (q.lock.0 ≡ m)
-  asked-before (NoteTry l mode site) r m ok clean acts = absurd (false≢true clean)
-  asked-before (Note l) Recorded m ok clean acts =
+  asked-before (NoteTry l mode site) r m ok plain clean acts = absurd (false≢true (ap allows_tries (sym plain) ∙ clean))
+  asked-before (Note l) Recorded m ok plain clean acts =
       let a = note_accepted (state_of (story_after start files h)) t l.0 Recorded ok in
       let asks = asked-lock l.0 (seat_at (state_of (story_after start files h)) t).pending a.asked in
       (asks.0, sym (pending-state start files h t a.seat) ∙ asks.1, asks.2 ∙ (let e : l.0 ≡ m = cc in e))
-  asked-before (Unlock l mode) Unlocked m ok clean acts = let e : ◌≡◌ {A = Act} (Releases l.0) (Records m) = acts in (cc)
-  asked-before (Upgrade l) r m ok clean acts = absurd (plain-unrecorded (Upgrade l) r m refl acts)
-  asked-before (Downgrade l) r m ok clean acts = absurd (plain-unrecorded (Downgrade l) r m refl acts)
-  asked-before (NoRelease l) r m ok clean acts = absurd (plain-unrecorded (NoRelease l) r m refl acts)
-  asked-before (ReleaseOk l) r m ok clean acts = absurd (plain-unrecorded (ReleaseOk l) r m refl acts)
-  asked-before c r m ok clean acts = let e : ◌≡◌ {A = Act} Nothing (Records m) = acts in (cc)
+  asked-before (Unlock l mode) Unlocked m ok plain clean acts = let e : ◌≡◌ {A = Act} (Releases l.0) (Records m) = acts in (cc)
+  asked-before (Upgrade l) r m ok plain clean acts = absurd (plain-unrecorded (Upgrade l) r m refl acts)
+  asked-before (Downgrade l) r m ok plain clean acts = absurd (plain-unrecorded (Downgrade l) r m refl acts)
+  asked-before (NoRelease l) r m ok plain clean acts = absurd (plain-unrecorded (NoRelease l) r m refl acts)
+  asked-before (ReleaseOk l) r m ok plain clean acts = absurd (plain-unrecorded (ReleaseOk l) r m refl acts)
+  asked-before c r m ok plain clean acts = let e : ◌≡◌ {A = Act} Nothing (Records m) = acts in (cc)
 
   not-idle : (q : Request) → is_seat (state_of (story_after start files h)) t ≡ true → is_pending (state_of (story_after start files h)) t ≡ false → pending t h ≡ Some q → ⊥
   not-idle q seat idle is = true≢false (sym (ap (λ (o : Option Request). is_some o) (pending-state start files h t seat ∙ is)) ∙ idle)
@@ -180,8 +180,8 @@ act-if t e none = go (eqb e.seat.0 t)
 check-quiet : (t : ℕ) (e : Entry) (q : Request) → e.call ≡ Check q → act_by t e ≡ Nothing
 check-quiet t e q asks = act-if t e (ap (λ c. act c e.reply) asks)
 
-module _ (start : Start) (files : List (List ℕ)) (unblessed : start.blessed ≡ []) (e : Entry) (h : List Entry)
-    (legal : IsLegal start files (e ∷ h)) (clean : is_clean (e ∷ h) ≡ true) (was : IsRising start h) where
+module _ (start : Start) (files : List (List ℕ)) (plain : start.profile ≡ Plain) (unblessed : start.blessed ≡ []) (e : Entry) (h : List Entry)
+    (legal : IsLegal start files (e ∷ h)) (clean : is_clean start.profile (e ∷ h) ≡ true) (was : IsRising start h) where
   sane : IsSane (e ∷ h)
   sane = sane_legal start files (e ∷ h) legal
 
@@ -199,7 +199,7 @@ module _ (start : Start) (files : List (List ℕ)) (unblessed : start.blessed �
       let a = lock_type start h last in
       let b = lock_type start h q.lock.0 in
       let made = given-from h last (last_all (is_given (locks_of h)) (held_of kind e.seat.0 h) last (made-all kind e.seat.0 h sane.1) is) in
-      let direct = passed-is_direct start files e h a b legal (clean-passed start files unblessed e h q last legal clean asks is unheld) in
+      let direct = passed-is_direct start files e h a b plain legal (clean-passed start files unblessed e h q last legal clean asks is plain unheld) in
       let on : leads start (e ∷ h) last q.lock.0 ≡ true
       = ap₂ (λ x y. is_before (orders_of start (e ∷ h)) x y) (type-stays start e h last made) (type-stays start e h q.lock.0 (checked-given q asks))
       ∙ test_from_before (orders_of start (e ∷ h)) a b (direct-before (orders_of start (e ∷ h)) a b direct) in
@@ -216,7 +216,7 @@ module _ (start : Start) (files : List (List ℕ)) (unblessed : start.blessed �
   unfolding IsNext
   next-own k m acts free kind =
       let own : act_by e.seat.0 e ≡ act e.call e.reply = rw (eq-eqb e.seat.0 e.seat.0 refl) refl in
-      let asks = asked-before start files h e.seat.0 e.call e.reply m legal.0 (clean-parts e h clean).0 (sym own ∙ acts) in
+      let asks = asked-before start files h e.seat.0 e.call e.reply m legal.0 plain (clean-parts start.profile e h clean).0 (sym own ∙ acts) in
       let mine : is_spin_lock (locks_of h) asks.0.lock.0 ≡ k = ap (is_spin_lock (locks_of h)) asks.2 ∙ kind-from k (locks_of h) m kind in
       subst (λ n. list_all (λ l. leads start h l n) (held_of k e.seat.0 h) ≡ true) asks.2
       (subst (λ b. list_all (λ l. leads start h l asks.0.lock.0) (held_of b e.seat.0 h) ≡ true) mine
@@ -273,14 +273,14 @@ module _ (start : Start) (files : List (List ℕ)) (unblessed : start.blessed �
 rising-none : (start : Start) → IsRising start []
 rising-none start = record { rising = λ k t. refl; waiting = λ t q is unheld. refl }
 
-rising_clean : (start : Start) (files : List (List ℕ)) → start.blessed ≡ [] → (h : List Entry) → IsLegal start files h → is_clean h ≡ true → IsRising start h
-rising_clean start files unblessed [] legal clean = rising-none start
-rising_clean start files unblessed (e ∷ h) legal clean =
-    rising-next start files unblessed e h legal clean (rising_clean start files unblessed h legal.2 (clean-parts e h clean).1.1)
+rising_clean : (start : Start) (files : List (List ℕ)) → start.profile ≡ Plain → start.blessed ≡ [] → (h : List Entry) → IsLegal start files h → is_clean start.profile h ≡ true → IsRising start h
+rising_clean start files plain unblessed [] legal clean = rising-none start
+rising_clean start files plain unblessed (e ∷ h) legal clean =
+    rising-next start files plain unblessed e h legal clean (rising_clean start files plain unblessed h legal.2 (clean-parts start.profile e h clean).1.1)
 
 -- after a clean history's check of a lock that isn't held, all locks of its kind that its seat holds are before it
-pub before-checked : (start : Start) (files : List (List ℕ)) → start.blessed ≡ [] → (e : Entry) (h : List Entry) (q : Request)
-    → IsLegal start files (e ∷ h) → is_clean (e ∷ h) ≡ true → e.call ≡ Check q → is_held e.seat.0 q.lock.0 h ≡ false
+pub before-checked : (start : Start) (files : List (List ℕ)) → start.profile ≡ Plain → start.blessed ≡ [] → (e : Entry) (h : List Entry) (q : Request)
+    → IsLegal start files (e ∷ h) → is_clean start.profile (e ∷ h) ≡ true → e.call ≡ Check q → is_held e.seat.0 q.lock.0 h ≡ false
     → list_all (λ l. leads start (e ∷ h) l q.lock.0) (held_of (is_spin_lock (locks_of h) q.lock.0) e.seat.0 h) ≡ true
-before-checked start files unblessed e h q legal clean asks unheld =
-    before-asked start files unblessed e h legal clean (rising_clean start files unblessed h legal.2 (clean-parts e h clean).1.1) q asks unheld
+before-checked start files plain unblessed e h q legal clean asks unheld =
+    before-asked start files plain unblessed e h legal clean (rising_clean start files plain unblessed h legal.2 (clean-parts start.profile e h clean).1.1) q asks unheld

@@ -1,6 +1,7 @@
 -- What a reversal and a duplicate tell, and that no pair of types is told of twice.
 use Rattle.std.proofs.Common.{◌≡◌, ℕ, Bool, true, false, not, ◌&&◌, ◌||◌, cond, List, [], ◌∷◌, ◌++◌, Option, None, Some, Result, Ok, is_some, unwrap_or, find, reverse, refl, ap, sym, ◌∙◌, subst, ⊎_elim}
 use Rattle.std.proofs.lemmas.Bool.{false≢true, true≢false, or_cases, or_left, or_right, eqb-true, false_from_ne_true}
+use Rattle.wit_model.specs.declared.profiles.Profile.{Profile}
 use Rattle.wit_model.specs.declared.faults.Fault.{Fault}
 use Rattle.wit_model.specs.declared.locks.TypeNo.{TypeNo}
 use Rattle.wit_model.specs.declared.locks.Watch.{Watch}
@@ -25,9 +26,9 @@ use Rattle.wit_model.specs.Rules.Ahead.{lock_type}
 use Rattle.wit_model.specs.VerdictLaws.{reported_pair, reported_pairs, AreUnlike}
 use Rattle.wit_model.proofs.Histories.Accepted.{same_reply}
 use Rattle.wit_model.proofs.Orders.Paths.{before_from_test}
-use Rattle.wit_model.proofs.Orders.Ruled.{Says, Passed, Learnt, Doubled, Broken}
+use Rattle.wit_model.proofs.Orders.Ruled.{Says, Passed, Learnt, LearntAll, Doubled, Broken}
 use Rattle.wit_model.proofs.Orders.Sound.{type-held, chain-held}
-use Rattle.wit_model.proofs.Orders.Among.{found-last}
+use Rattle.wit_model.proofs.Orders.Ends.{found-last, found-passes}
 use Rattle.wit_model.proofs.VerdictLaws.Judged.{chain-of_kind, told-asked}
 
 -- ---- what the ruling says of a reversal
@@ -60,11 +61,12 @@ doubled-no_reversal g q i x ok = go (has_flag q.flags.0 0x02 || has_flag q.ops.0
     go false true same = (cc)
     go false false same = (cc)
 
-says-reversal : (g : Basis) (w : Watch) (q : Asked) (c : List Instance) (x : Conflict) → Says g w q c (Reversal x) → IsReversal g q c x
-says-reversal g w q c x (Passed passes why) = (cc)
-says-reversal g w q c x (Learnt l) = let e = l.reply in (cc)
-says-reversal g w q c x (Doubled d) = absurd (doubled-no_reversal g q d.last x d.reply)
-says-reversal g w q c x (Broken b) = reversal-broken g q c x b.held b.violation b.reply
+says-reversal : (profile : Profile) (g : Basis) (w : Watch) (q : Asked) (c : List Instance) (x : Conflict) → Says profile g w q c (Reversal x) → IsReversal g q c x
+says-reversal profile g w q c x (Passed passes why) = (cc)
+says-reversal profile g w q c x (LearntAll all l) = let e = l.reply in (cc)
+says-reversal profile g w q c x (Learnt plain l) = let e = l.reply in (cc)
+says-reversal profile g w q c x (Doubled d) = absurd (doubled-no_reversal g q d.held x d.reply)
+says-reversal profile g w q c x (Broken b) = reversal-broken g q c x b.held b.violation b.reply
 
 -- ---- and of a duplicate
 
@@ -94,11 +96,12 @@ reported-no_duplicate g q c i d ok = go (is_found g.found (type_held g i).0 q.ty
     go true same = (cc)
     go false same = (cc)
 
-says-duplicate : (g : Basis) (w : Watch) (q : Asked) (c : List Instance) (d : Doubling) → Says g w q c (Duplicate d) → IsDuplicate g q c d
-says-duplicate g w q c d (Passed passes why) = (cc)
-says-duplicate g w q c d (Learnt l) = let e = l.reply in (cc)
-says-duplicate g w q c d (Doubled b) = duplicate-doubled g q c d b.last b.same b.reply
-says-duplicate g w q c d (Broken b) = absurd (reported-no_duplicate g q c b.held d b.reply)
+says-duplicate : (profile : Profile) (g : Basis) (w : Watch) (q : Asked) (c : List Instance) (d : Doubling) → Says profile g w q c (Duplicate d) → IsDuplicate g q c d
+says-duplicate profile g w q c d (Passed passes why) = (cc)
+says-duplicate profile g w q c d (LearntAll all l) = let e = l.reply in (cc)
+says-duplicate profile g w q c d (Learnt plain l) = let e = l.reply in (cc)
+says-duplicate profile g w q c d (Doubled b) = duplicate-doubled g q c d b.held b.same b.reply
+says-duplicate profile g w q c d (Broken b) = absurd (reported-no_duplicate g q c b.held d b.reply)
 
 -- ---- a plain heading is that of an order which is violated
 
@@ -117,22 +120,13 @@ breach-plain g asked held some plain =
     plain-breach (is_giant g asked && is_sleepable g held) (is_sleepable g asked && is_giant g held) (is_sleepable g asked && not (is_sleepable g held))
     (is_giant g asked && not (is_sleepable g held)) (is_before g.orders asked.0 held.0) some plain
 
--- what is found passes the test
-found-passes : (p : Instance → Bool) (c : List Instance) (i : Instance) → find p c ≡ Some i → p i ≡ true
-found-passes p [] i is = (cc)
-found-passes p (x ∷ c) i is = go (p x) refl is (found-passes p c i)
-  where
-    go : (b : Bool) → p x ≡ b → cond b (Some x) (find p c) ≡ Some i → (find p c ≡ Some i → p i ≡ true) → p i ≡ true
-    go true here same ih = subst (λ j. p j ≡ true) (let e : x ≡ i = cc in e) here
-    go false here same ih = ih same
-
 -- ---- the laws
 
 module _ (start : Start) (files : List (List ℕ)) (e : Entry) (h : List Entry) (legal : IsLegal start files (e ∷ h)) where
   judged : (q : Request) → e.call ≡ Check q → (r : Reply) → e.reply ≡ r
-      → Says (basis_of (known_of start h)) (watch_of h) (asked_of (known_of start h) q) (chain (is_spin_lock (locks_of h) q.lock.0) e.seat.0 h) r
+      → Says start.profile (basis_of (known_of start h)) (watch_of h) (asked_of (known_of start h) q) (chain (is_spin_lock (locks_of h) q.lock.0) e.seat.0 h) r
   judged q asks r is =
-      subst (λ r'. Says (basis_of (known_of start h)) (watch_of h) (asked_of (known_of start h) q) (chain (is_spin_lock (locks_of h) q.lock.0) e.seat.0 h) r') is
+      subst (λ r'. Says start.profile (basis_of (known_of start h)) (watch_of h) (asked_of (known_of start h) q) (chain (is_spin_lock (locks_of h) q.lock.0) e.seat.0 h) r') is
       (chain-of_kind start files e h q legal asks)
 
   asked-reversal : (x : Conflict) → e.reply ≡ Reversal x → (q : Request) × (e.call ≡ Check q)
@@ -144,12 +138,12 @@ module _ (start : Start) (files : List (List ℕ)) (e : Entry) (h : List Entry) 
   as-reversal : (q : Request) → e.call ≡ Check q → (x : Conflict) → e.reply ≡ Reversal x
       → IsReversal (basis_of (known_of start h)) (asked_of (known_of start h) q) (chain (is_spin_lock (locks_of h) q.lock.0) e.seat.0 h) x
   as-reversal q asks x is =
-      says-reversal (basis_of (known_of start h)) (watch_of h) (asked_of (known_of start h) q) (chain (is_spin_lock (locks_of h) q.lock.0) e.seat.0 h) x (judged q asks (Reversal x) is)
+      says-reversal start.profile (basis_of (known_of start h)) (watch_of h) (asked_of (known_of start h) q) (chain (is_spin_lock (locks_of h) q.lock.0) e.seat.0 h) x (judged q asks (Reversal x) is)
 
   as-duplicate : (q : Request) → e.call ≡ Check q → (d : Doubling) → e.reply ≡ Duplicate d
       → IsDuplicate (basis_of (known_of start h)) (asked_of (known_of start h) q) (chain (is_spin_lock (locks_of h) q.lock.0) e.seat.0 h) d
   as-duplicate q asks d is =
-      says-duplicate (basis_of (known_of start h)) (watch_of h) (asked_of (known_of start h) q) (chain (is_spin_lock (locks_of h) q.lock.0) e.seat.0 h) d (judged q asks (Duplicate d) is)
+      says-duplicate start.profile (basis_of (known_of start h)) (watch_of h) (asked_of (known_of start h) q) (chain (is_spin_lock (locks_of h) q.lock.0) e.seat.0 h) d (judged q asks (Duplicate d) is)
 
   pub reversal-held : (x : Conflict) → e.reply ≡ Reversal x → (is_held e.seat.0 x.held.lock.0 h ≡ true) × (q : Request) × (e.call ≡ Check q) × (x.asked.lock ≡ q.lock)
   reversal-held x is =

@@ -1,7 +1,8 @@
 -- In a clean world a thread has recorded all shares that it has, but for one while it is in the midst of a sequence.
 use Rattle.std.proofs.Common.{◌≡◌, ℕ, ◌+◌, ◌-◌, ◌≤◌, Bool, true, false, cond, eqb, nat_lt, is_some, List, [], ◌∷◌, Ok, refl, ap, ap₂, sym, ◌∙◌, subst, inl, inr, arith}
-use Rattle.std.proofs.lemmas.Bool.{eqb-true, eq-eqb, ltb-true, false≢true, true≢false}
+use Rattle.std.proofs.lemmas.Bool.{and_parts, eqb-true, eq-eqb, ltb-true, false≢true, true≢false}
 use Rattle.std.proofs.lemmas.Bool.Decides.{eqb_tells}
+use Rattle.wit_model.specs.declared.profiles.Profile.{Profile}
 use Rattle.wit_model.specs.declared.locks.LockNo.{LockNo}
 use Rattle.wit_model.specs.declared.locks.Mode.{Mode}
 use Rattle.wit_model.specs.declared.locks.Site.{Site}
@@ -15,7 +16,7 @@ use Rattle.wit_model.specs.Rules.State.{Start, State, state_of}
 use Rattle.wit_model.specs.Rules.Step.{is_exhausted, held_by, recorded, answer_of, story_after, IsLegal}
 use Rattle.wit_model.specs.Rules.Clean.{is_clean_call, is_clean}
 use Rattle.wit_model.specs.World.Deeds.{Deed, Logged, PassedOver, Take, TryTake, Free, RawUp, RawDown, thread_of, own, log_of, are_these, shares}
-use Rattle.wit_model.specs.World.Stages.{Stage, Over, Asked, Taken, Tried, Forgot, Raised, Lowered, stage_logged, stage_passed, stage, is_over, call_follows, follows}
+use Rattle.wit_model.specs.World.Stages.{Stage, Over, Asked, Taken, Tried, Forgot, Raised, Lowered, stage_logged, stage_passed, stage, is_over, call_follows, follows, is_same_mode}
 use Rattle.wit_model.specs.World.Steps.{IsWorld}
 use Rattle.wit_model.proofs.Chains.Acts.{num_after, num-step, is_even, num_after-even, upgrade-even, downgrade-even, norelease-even, releaseok-even}
 use Rattle.wit_model.proofs.Histories.Accepted.{note_accepted, try_accepted, unlock_accepted}
@@ -35,14 +36,14 @@ legal_world start files (RawUp u m ∷ w) world = legal_world start files w worl
 legal_world start files (RawDown u m ∷ w) world = legal_world start files w world.1
 
 -- what came before is clean too
-pub clean-before : (d : Deed) (w : List Deed) → is_clean (log_of (d ∷ w)) ≡ true → is_clean (log_of w) ≡ true
-clean-before (Logged e) w clean = (clean-parts e (log_of w) clean).1.1
-clean-before (Take u m mode) w clean = clean
-clean-before (TryTake u m mode) w clean = clean
-clean-before (PassedOver u c) w clean = clean
-clean-before (Free u m) w clean = clean
-clean-before (RawUp u m) w clean = clean
-clean-before (RawDown u m) w clean = clean
+pub clean-before : (profile : Profile) (d : Deed) (w : List Deed) → is_clean profile (log_of (d ∷ w)) ≡ true → is_clean profile (log_of w) ≡ true
+clean-before profile (Logged e) w clean = (clean-parts profile e (log_of w) clean).1.1
+clean-before profile (Take u m mode) w clean = clean
+clean-before profile (TryTake u m mode) w clean = clean
+clean-before profile (PassedOver u c) w clean = clean
+clean-before profile (Free u m) w clean = clean
+clean-before profile (RawUp u m) w clean = clean
+clean-before profile (RawDown u m) w clean = clean
 
 -- ---- the shares of a lock that are still to be recorded, or to be freed
 
@@ -90,6 +91,13 @@ module _ (l : ℕ) (m : LockNo) (held : ℕ → Bool) where
   due-noting (Forgot k has_fewer) is = absurd (false≢true is)
   due-noting (Raised k) is = absurd (false≢true is)
   due-noting (Lowered k passed) is = absurd (false≢true is)
+
+  due-trying : (mode : Mode) (site : Site) (g : Stage) → call_follows (NoteTry m mode site) held g ≡ true → due l g ≤ cond (eqb m.0 l) 1 0
+  due-trying mode site (Tried k tried) is =
+      let same : due l (Tried k tried) ≡ cond (eqb m.0 l) 1 0
+      = ap (λ j. cond (eqb j l) 1 0) (eqb-true k m.0 (and_parts (eqb k m.0) (is_same_mode tried mode) is).0) in
+      omega arith
+  due-trying mode site _ is = absurd (false≢true is)
 
   due-upgrading : (g : Stage) → call_follows (Upgrade m) held g ≡ true → due l g ≡ 0
   due-upgrading (Raised k) is = refl
@@ -150,12 +158,13 @@ module _ (start : Start) (files : List (List ℕ)) (t l : ℕ) (w : List Deed) w
     even a after is le none = subst (λ k. Covers l k s after) (sym (num_after-even a l n is)) (settled l n s after le none)
 
     -- a logged call of the thread itself
-    entry-covers : (c : Call) (r : Reply) → ((m : LockNo) → c ≡ Note m → r ≡ Recorded) → ((m : LockNo) (mode : Mode) → c ≡ Unlock m mode → r ≡ Unlocked)
-        → is_clean_call c ≡ true → call_follows c held g ≡ true → Covers l (num_after (act c r) l n) s (stage_logged t c (own t w))
-    entry-covers (Note m) r notes unlocks clean may =
+    entry-covers : (c : Call) (r : Reply) → ((m : LockNo) → c ≡ Note m → r ≡ Recorded)
+        → ((m : LockNo) (mode : Mode) (site : Site) → c ≡ NoteTry m mode site → r ≡ Recorded) → ((m : LockNo) (mode : Mode) → c ≡ Unlock m mode → r ≡ Unlocked)
+        → is_clean_call start.profile c ≡ true → call_follows c held g ≡ true → Covers l (num_after (act c r) l n) s (stage_logged t c (own t w))
+    entry-covers (Note m) r notes tries unlocks clean may =
         subst (λ (x : Reply). Covers l (num_after (act (Note m) x) l n) s Over) (sym (notes m refl))
         (settled l (cond (eqb m.0 l) (n + 1) n) s Over (noted (eqb m.0 l) n s (due l g) was.all (due-noting l m held g may)) refl)
-    entry-covers (Unlock m mode) r notes unlocks clean may =
+    entry-covers (Unlock m mode) r notes tries unlocks clean may =
         subst (λ (x : Reply). Covers l (num_after (act (Unlock m mode) x) l n) s (stage_logged t (Unlock m mode) (own t w))) (sym (unlocks m mode refl))
         (record {
           all = let_go (eqb m.0 l) n s (was.at_end may);
@@ -163,14 +172,16 @@ module _ (start : Start) (files : List (List ℕ)) (t l : ℕ) (w : List Deed) w
               (λ same. ap (λ k. nat_lt (shares t k (own t w)) (num t k (log_of (own t w)))) same ∙ ap₂ (λ a b. nat_lt a b) (shares-own t l w) (num-own t l w))
               (was.at_end may);
         })
-    entry-covers (Check q) r notes unlocks clean may = settled l n s (Asked q) (was.at_end may) refl
-    entry-covers (NoteTry m mode site) r notes unlocks clean may = absurd (false≢true clean)
-    entry-covers (GiveUp m) r notes unlocks clean may = settled l n s Over (nothing-due l n s g (due-giving_up l m held g may) was) refl
-    entry-covers (Upgrade m) r notes unlocks clean may = even (act (Upgrade m) r) Over (upgrade-even m r) (nothing-due l n s g (due-upgrading l m held g may) was) refl
-    entry-covers (Downgrade m) r notes unlocks clean may = even (act (Downgrade m) r) (Lowered m.0 false) (downgrade-even m r) (was.at_end may) refl
-    entry-covers (NoRelease m) r notes unlocks clean may = even (act (NoRelease m) r) Over (norelease-even m r) (was.at_end may) refl
-    entry-covers (ReleaseOk m) r notes unlocks clean may = even (act (ReleaseOk m) r) Over (releaseok-even m r) (was.at_end may) refl
-    entry-covers c r notes unlocks clean may = settled l n s Over (was.at_end may) refl
+    entry-covers (Check q) r notes tries unlocks clean may = settled l n s (Asked q) (was.at_end may) refl
+    entry-covers (NoteTry m mode site) r notes tries unlocks clean may =
+        subst (λ (x : Reply). Covers l (num_after (act (NoteTry m mode site) x) l n) s Over) (sym (tries m mode site refl))
+        (settled l (cond (eqb m.0 l) (n + 1) n) s Over (noted (eqb m.0 l) n s (due l g) was.all (due-trying l m held mode site g may)) refl)
+    entry-covers (GiveUp m) r notes tries unlocks clean may = settled l n s Over (nothing-due l n s g (due-giving_up l m held g may) was) refl
+    entry-covers (Upgrade m) r notes tries unlocks clean may = even (act (Upgrade m) r) Over (upgrade-even m r) (nothing-due l n s g (due-upgrading l m held g may) was) refl
+    entry-covers (Downgrade m) r notes tries unlocks clean may = even (act (Downgrade m) r) (Lowered m.0 false) (downgrade-even m r) (was.at_end may) refl
+    entry-covers (NoRelease m) r notes tries unlocks clean may = even (act (NoRelease m) r) Over (norelease-even m r) (was.at_end may) refl
+    entry-covers (ReleaseOk m) r notes tries unlocks clean may = even (act (ReleaseOk m) r) Over (releaseok-even m r) (was.at_end may) refl
+    entry-covers c r notes tries unlocks clean may = settled l n s Over (was.at_end may) refl
 
     -- a call of it that is passed over, which is never an acquisition
     passed-covers : (c : Call) → ((m : LockNo) → c ≡ Note m → ⊥) → ((m : LockNo) (mode : Mode) (site : Site) → c ≡ NoteTry m mode site → ⊥)
@@ -201,14 +212,25 @@ module _ (start : Start) (files : List (List ℕ)) where
   CoversAll t l w = Covers l (num t l (log_of w)) (shares t l w) (stage t (own t w))
 
   -- in a clean world a note is recorded
-  notes-recorded : (e : Entry) (w : List Deed) → IsWorld start files (Logged e ∷ w) → is_clean (log_of (Logged e ∷ w)) ≡ true
+  notes-recorded : (e : Entry) (w : List Deed) → IsWorld start files (Logged e ∷ w) → is_clean start.profile (log_of (Logged e ∷ w)) ≡ true
       → (m : LockNo) → e.call ≡ Note m → e.reply ≡ Recorded
   notes-recorded e w world clean m is =
       let st = state_of (story_after start files (log_of w)) in
       let ok : answer_of (story_after start files (log_of w)) e.seat.0 (Note m) ≡ Ok e.reply = ap (λ c. answer_of (story_after start files (log_of w)) e.seat.0 c) (sym is) ∙ world.0.0 in
-      let parts = clean-parts e (log_of w) clean in
+      let parts = clean-parts start.profile e (log_of w) clean in
       recorded-by (is_off (watch_of (log_of w))) (is_some (held_by st e.seat.0 m.0)) (is_exhausted st e.seat.0 m.0) e.reply
-      (ap is_off (watch-clean (log_of w) parts.1.1)) parts.1.0 (note_accepted st e.seat.0 m.0 e.reply ok).reply
+      (ap is_off (watch-clean start.profile (log_of w) parts.1.1)) parts.1.0 (note_accepted st e.seat.0 m.0 e.reply ok).reply
+
+  -- and so is what was tried
+  tries-recorded : (e : Entry) (w : List Deed) → IsWorld start files (Logged e ∷ w) → is_clean start.profile (log_of (Logged e ∷ w)) ≡ true
+      → (m : LockNo) (mode : Mode) (site : Site) → e.call ≡ NoteTry m mode site → e.reply ≡ Recorded
+  tries-recorded e w world clean m mode site is =
+      let st = state_of (story_after start files (log_of w)) in
+      let ok : answer_of (story_after start files (log_of w)) e.seat.0 (NoteTry m mode site) ≡ Ok e.reply
+      = ap (λ c. answer_of (story_after start files (log_of w)) e.seat.0 c) (sym is) ∙ world.0.0 in
+      let parts = clean-parts start.profile e (log_of w) clean in
+      recorded-by (is_off (watch_of (log_of w))) (is_some (held_by st e.seat.0 m.0)) (is_exhausted st e.seat.0 m.0) e.reply
+      (ap is_off (watch-clean start.profile (log_of w) parts.1.1)) parts.1.0 (try_accepted st e.seat.0 m.0 mode site e.reply ok).reply
 
   unlocks-recorded : (e : Entry) (w : List Deed) → IsWorld start files (Logged e ∷ w) → (m : LockNo) (mode : Mode) → e.call ≡ Unlock m mode → e.reply ≡ Unlocked
   unlocks-recorded e w world m mode is =
@@ -243,14 +265,14 @@ module _ (start : Start) (files : List (List ℕ)) where
         not-passed passed_state u m.0 (try_accepted passed_state u m.0 mode site Ignored (answer-is (NoteTry m mode site) is)).reply
 
   -- a deed of the thread itself
-  mine : (d : Deed) (w : List Deed) → IsWorld start files (d ∷ w) → is_clean (log_of (d ∷ w)) ≡ true → (l : ℕ) → CoversAll (thread_of d) l w
+  mine : (d : Deed) (w : List Deed) → IsWorld start files (d ∷ w) → is_clean start.profile (log_of (d ∷ w)) ≡ true → (l : ℕ) → CoversAll (thread_of d) l w
       → Covers l (num (thread_of d) l (log_of (d ∷ w))) (shares (thread_of d) l (d ∷ w)) (stage (thread_of d) (d ∷ own (thread_of d) w))
   unfolding CoversAll
   mine (Logged e) w world clean l was =
       let sane = sane_legal start files (e ∷ log_of w) (legal_world start files (Logged e ∷ w) world) in
       let after = num-step e.seat.0 l e (log_of w) (act e.call e.reply) (act-mine e.seat.0 e (eq-eqb e.seat.0 e.seat.0 refl)) sane.1 in
       subst (λ k. Covers l k (shares e.seat.0 l w) (stage_logged e.seat.0 e.call (own e.seat.0 w))) (sym after)
-      (entry-covers start files e.seat.0 l w was e.call e.reply (notes-recorded e w world clean) (unlocks-recorded e w world) (clean-parts e (log_of w) clean).0 world.0.2)
+      (entry-covers start files e.seat.0 l w was e.call e.reply (notes-recorded e w world clean) (tries-recorded e w world clean) (unlocks-recorded e w world) (clean-parts start.profile e (log_of w) clean).0 world.0.2)
   mine (PassedOver u c) w world clean l was =
       passed-covers start files u l w was c (note-not_passed u c w world) (try-not_passed u c w world) world.0.1
   mine (Take u m mode) w world clean l was =
@@ -266,11 +288,11 @@ module _ (start : Start) (files : List (List ℕ)) where
   num-other : (t l : ℕ) (d : Deed) (w : List Deed) → eqb (thread_of d) t ≡ false → num t l (log_of (d ∷ w)) ≡ num t l (log_of w)
   num-other t l d w is = sym (num-own t l (d ∷ w)) ∙ (ap (λ o. num t l (log_of o)) (own-other t d w is) ∙ num-own t l w)
 
-  covers-all : (w : List Deed) → IsWorld start files w → is_clean (log_of w) ≡ true → (t l : ℕ) → CoversAll t l w
+  covers-all : (w : List Deed) → IsWorld start files w → is_clean start.profile (log_of w) ≡ true → (t l : ℕ) → CoversAll t l w
   unfolding CoversAll
   covers-all [] world clean t l = settled l (num t l []) 0 Over (omega arith) refl
   covers-all (d ∷ w) world clean t l =
-      let before = covers-all w world.1 (clean-before d w clean) in
+      let before = covers-all w world.1 (clean-before start.profile d w clean) in
       elim (eqb_tells (thread_of d) t) [
         | inl is ↦
             subst (λ k. Covers l (num k l (log_of (d ∷ w))) (shares k l (d ∷ w)) (stage k (own k (d ∷ w)))) is.1
@@ -284,6 +306,6 @@ module _ (start : Start) (files : List (List ℕ)) where
       ]
 
   -- between its sequences a thread has no share that isn't recorded
-  pub covered : (w : List Deed) → IsWorld start files w → is_clean (log_of w) ≡ true → (t l : ℕ) → is_over (stage t (own t w)) ≡ true → shares t l w ≤ num t l (log_of w)
+  pub covered : (w : List Deed) → IsWorld start files w → is_clean start.profile (log_of w) ≡ true → (t l : ℕ) → is_over (stage t (own t w)) ≡ true → shares t l w ≤ num t l (log_of w)
   unfolding CoversAll
   covered w world clean t l over = (covers-all w world clean t l).at_end over

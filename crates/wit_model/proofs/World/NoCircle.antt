@@ -50,18 +50,18 @@ module _ (start : Start) (files : List (List ℕ)) (unblessed : start.blessed �
       ap (λ c. call_follows c (λ l. is_held e.seat.0 l (log_of w)) (stage e.seat.0 (own e.seat.0 w))) (sym asks) ∙ world.0.2
 
   -- the check itself: all that its thread has is recorded
-  ahead-asking : (e : Entry) (w : List Deed) (q : Request) (l : ℕ) → IsWorld start files (Logged e ∷ w) → is_clean (log_of (Logged e ∷ w)) ≡ true → e.call ≡ Check q
+  ahead-asking : (e : Entry) (w : List Deed) (q : Request) (l : ℕ) → IsWorld start files (Logged e ∷ w) → is_clean start.profile (log_of (Logged e ∷ w)) ≡ true → e.call ≡ Check q
       → num e.seat.0 q.lock.0 (e ∷ log_of w) ≡ 0 → 0 < shares e.seat.0 l w → IsAhead start (e ∷ log_of w) l q.lock.0
   ahead-asking e w q l world clean asks unheld some =
       let legal = legal_world start files (Logged e ∷ w) world in
       let idle = act-mine e.seat.0 e (eq-eqb e.seat.0 e.seat.0 refl) ∙ ap (λ c. act c e.reply) asks in
       let same = num-step e.seat.0 q.lock.0 e (log_of w) Nothing idle (sane_legal start files (log_of w) legal.2) in
-      let all = covered start files w world.1 (clean-before (Logged e) w clean) e.seat.0 l (over-at_check e w q world asks) in
+      let all = covered start files w world.1 (clean-before start.profile (Logged e) w clean) e.seat.0 l (over-at_check e w q world asks) in
       ahead-at_check start files unblessed e (log_of w) q l legal clean asks (sym same ∙ unheld) (omega (arith, all, some))
 
   -- a thread in a reordering that has just done what d was
   module _ (q : Request) (l : ℕ) (o : List Deed) where
-    ahead-now : (d : Deed) (w : List Deed) → IsWorld start files (d ∷ w) → is_clean (log_of (d ∷ w)) ≡ true → map kept (own (thread_of d) (d ∷ w)) ≡ map kept o
+    ahead-now : (d : Deed) (w : List Deed) → IsWorld start files (d ∷ w) → is_clean start.profile (log_of (d ∷ w)) ≡ true → map kept (own (thread_of d) (d ∷ w)) ≡ map kept o
         → stage (thread_of d) o ≡ Asked q → num (thread_of d) q.lock.0 (log_of o) ≡ 0 → 0 < shares (thread_of d) l o → IsAhead start (log_of (d ∷ w)) l q.lock.0
     ahead-now d w world clean same asks unheld some =
         let made = asked-deed (thread_of d) o q asks in
@@ -73,7 +73,7 @@ module _ (start : Start) (files : List (List ℕ)) (unblessed : start.blessed �
         let some' = subst (λ n. 0 < n) (same-shares (thread_of d) l (d ∷ w) o same) some in
         go d check.0 check.1 check.2 world clean unheld' some'
       where
-        go : (x : Deed) (e : Entry) → x ≡ Logged e → e.call ≡ Check q → IsWorld start files (x ∷ w) → is_clean (log_of (x ∷ w)) ≡ true
+        go : (x : Deed) (e : Entry) → x ≡ Logged e → e.call ≡ Check q → IsWorld start files (x ∷ w) → is_clean start.profile (log_of (x ∷ w)) ≡ true
             → num (thread_of x) q.lock.0 (log_of (x ∷ w)) ≡ 0 → 0 < shares (thread_of x) l (x ∷ w) → IsAhead start (log_of (x ∷ w)) l q.lock.0
         go (Logged f) e is checks world clean unheld some =
             let same : f ≡ e = cc in
@@ -87,12 +87,12 @@ module _ (start : Start) (files : List (List ℕ)) (unblessed : start.blessed �
 
   -- who asks for a lock in a reordering asked for it in the run, when it had the same
   asked-in_run : (t : ℕ) (q : Request) (l : ℕ) (o : List Deed) → stage t o ≡ Asked q → num t q.lock.0 (log_of o) ≡ 0 → 0 < shares t l o
-      → (w : List Deed) → IsWorld start files w → is_clean (log_of w) ≡ true → (later : List Deed) → map kept (own t w) ≡ later ++ map kept o → IsAhead start (log_of w) l q.lock.0
+      → (w : List Deed) → IsWorld start files w → is_clean start.profile (log_of w) ≡ true → (later : List Deed) → map kept (own t w) ≡ later ++ map kept o → IsAhead start (log_of w) l q.lock.0
   asked-in_run t q l o asks unheld some [] world clean later same =
       let made = asked-deed t o q asks in
       absurd (none-longer later (kept (Logged made.0)) (map kept made.1) (same ∙ ap (λ x. later ++ map kept x) made.2))
   asked-in_run t q l o asks unheld some (d ∷ w) world clean later same =
-      let before = asked-in_run t q l o asks unheld some w world.1 (clean-before d w clean) in
+      let before = asked-in_run t q l o asks unheld some w world.1 (clean-before start.profile d w clean) in
       elim (eqb_tells (thread_of d) t) [
         | inl is ↦ last later same
             (λ now. subst (λ k. map kept (own k (d ∷ w)) ≡ map kept o → IsAhead start (log_of (d ∷ w)) l q.lock.0) is.1
@@ -120,7 +120,7 @@ module _ (start : Start) (files : List (List ℕ)) (unblessed : start.blessed �
   abbrev wanted : List Deed → ℕ → ℕ
   wanted v t = lock_asked (stage t (own t v))
 
-  module _ (v w : List Deed) (world : IsWorld start files w) (clean : is_clean (log_of w) ≡ true) (reordered : IsReordering start v w) where
+  module _ (v w : List Deed) (world : IsWorld start files w) (clean : is_clean start.profile (log_of w) ≡ true) (reordered : IsReordering start v w) where
     link : (t u x : ℕ) → IsWaiting v t u → IsWaiting v u x → IsAhead start (log_of w) (wanted v t) (wanted v u)
     link t u x one two =
         let first = reordered.same u in

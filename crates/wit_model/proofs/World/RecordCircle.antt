@@ -93,7 +93,7 @@ module _ (start : Start) (files : List (List ℕ)) (h : List Entry) (legal : IsL
 -- ---- what is held is ahead of what is asked for
 
 module _ (start : Start) (files : List (List ℕ)) (unblessed : start.blessed ≡ []) where
-  pending-ahead : (h : List Entry) → IsLegal start files h → is_clean h ≡ true → (t : ℕ) (q : Request) (l : ℕ)
+  pending-ahead : (h : List Entry) → IsLegal start files h → is_clean start.profile h ≡ true → (t : ℕ) (q : Request) (l : ℕ)
       → pending t h ≡ Some q → num t q.lock.0 h ≡ 0 → 0 < num t l h → IsAhead start h l q.lock.0
   pending-ahead [] legal clean t q l is unheld some = (cc)
   pending-ahead (e ∷ h) legal clean t q l is unheld some =
@@ -110,7 +110,7 @@ module _ (start : Start) (files : List (List ℕ)) (unblessed : start.blessed �
             let keep : pending t (e ∷ h) ≡ pending t h = rw other.0 refl in
             let none = act-other t e other.0 in
             ahead-stays start e h l q.lock.0
-            (pending-ahead h legal.2 (clean-parts e h clean).1.1 t q l (sym keep ∙ is)
+            (pending-ahead h legal.2 (clean-parts start.profile e h clean).1.1 t q l (sym keep ∙ is)
             (sym (num-step t q.lock.0 e h Nothing none sane) ∙ unheld) (subst (λ n. 0 < n) (num-step t l e h Nothing none sane) some))
       ]
 
@@ -120,7 +120,7 @@ module _ (start : Start) (files : List (List ℕ)) (unblessed : start.blessed �
   lock_asked None = 0
   lock_asked (Some q) = q.lock.0
 
-  module _ (h : List Entry) (legal : IsLegal start files h) (clean : is_clean h ≡ true) where
+  module _ (h : List Entry) (legal : IsLegal start files h) (clean : is_clean start.profile h ≡ true) where
     abbrev wanted : ℕ → ℕ
     wanted t = lock_asked (pending t h)
 

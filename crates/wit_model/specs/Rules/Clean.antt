@@ -2,6 +2,8 @@
 use Rattle.std.specs.Prelude.{ℕ, ◌≡◌, Bool, true, false, not, ◌&&◌, List, [], codes}
 use Rattle.std.specs.List.{list_all}
 use Rattle.std.specs.Str.{bytes_eq}
+use Rattle.wit_model.specs.declared.profiles.Profile.{Profile}
+use Rattle.wit_model.specs.declared.profiles.Profile.TheVariants.{Plain, AllHeld}
 use Rattle.wit_model.specs.declared.locks.Class.TheVariants.{SleepMutex}
 use Rattle.wit_model.specs.declared.calls.NewLock.{NewLock}
 use Rattle.wit_model.specs.declared.calls.Call.{Call}
@@ -17,22 +19,28 @@ use Rattle.wit_model.specs.Rules.Circles.{IsRecordCircle}
 abbrev pub is_giant_lock : NewLock → Bool
 is_giant_lock lock = is_same_class lock.class SleepMutex && bytes_eq (type_name_of lock) (codes "Giant")
 
--- no lock is Giant or allows a second one of its type (0x02); each check may teach an order (0x01) and allows no second lock of a type
--- (0x02); nothing is tried; and everything is watched
-abbrev pub is_clean_call : Call → Bool
-is_clean_call (Init lock) = not (has_flag lock.flags.0 0x02) && not (is_giant_lock lock)
-is_clean_call (Check q) = has_flag q.ops.0 0x01 && not (has_flag q.ops.0 0x02)
-is_clean_call (NoteTry l m s) = false
-is_clean_call (SetWatch level) = is_on level
-is_clean_call _ = true
+-- whether locks may be acquired by a try: the orders behind such a lock are learnt once all held
+-- locks are compared with
+abbrev pub allows_tries : Profile → Bool
+allows_tries Plain = false
+allows_tries AllHeld = true
 
-abbrev pub is_clean_entry : Entry → Bool
-is_clean_entry e = is_clean_call e.call && not (is_report e.reply)
+-- no lock is Giant or allows a second one of its type (0x02); each check may teach an order (0x01) and allows no second lock of a type
+-- (0x02); nothing is tried, unless the profile allows it; and everything is watched
+abbrev pub is_clean_call : Profile → Call → Bool
+is_clean_call profile (Init lock) = not (has_flag lock.flags.0 0x02) && not (is_giant_lock lock)
+is_clean_call profile (Check q) = has_flag q.ops.0 0x01 && not (has_flag q.ops.0 0x02)
+is_clean_call profile (NoteTry l m s) = allows_tries profile
+is_clean_call profile (SetWatch level) = is_on level
+is_clean_call profile _ = true
+
+abbrev pub is_clean_entry : Profile → Entry → Bool
+is_clean_entry profile e = is_clean_call profile e.call && not (is_report e.reply)
 
 -- whether a history is clean, where no pair of type names is blessed at its start
-abbrev pub is_clean : List Entry → Bool
-is_clean h = list_all is_clean_entry h
+abbrev pub is_clean : Profile → List Entry → Bool
+is_clean profile h = list_all (is_clean_entry profile) h
 
 -- where a story's history is clean, and it blesses no pair, no seats wait for one another in a circle
 abbrev pub CleanMeansNoCircle : Story → Type 0
-CleanMeansNoCircle s = s.start.blessed ≡ [] → is_clean s.history ≡ true → (seats : List ℕ) → IsRecordCircle (state_of s) seats → ⊥
+CleanMeansNoCircle s = s.start.blessed ≡ [] → is_clean s.start.profile s.history ≡ true → (seats : List ℕ) → IsRecordCircle (state_of s) seats → ⊥

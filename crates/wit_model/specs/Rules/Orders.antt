@@ -1,17 +1,18 @@
 -- Orders between lock types: witness "keeps track of the order in which locks are acquired with respect to each other" (witness(4)).
 -- Lists of adoptions are newest first.
-use Rattle.std.specs.Prelude.{ℕ, ◌+◌, ◌≡◌, Bool, true, false, ◌&&◌, ◌||◌, ◌==◌, List, [], ◌∷◌, ◌++◌, Option, find, if◌then◌else◌}
+use Rattle.std.specs.Prelude.{ℕ, ◌+◌, ◌≡◌, map, reverse, Bool, true, false, ◌&&◌, ◌||◌, ◌==◌, List, [], ◌∷◌, ◌++◌, Option, find, if◌then◌else◌}
 use Rattle.std.specs.List.{list_any}
 use Rattle.std.specs.Option.{option_map}
 use Rattle.wit_model.specs.declared.locks.Origin.{Origin}
 use Rattle.wit_model.specs.declared.locks.Origin.TheVariants.{Listed, Defined, At}
 use Rattle.wit_model.specs.declared.locks.Class.{Class}
+use Rattle.wit_model.specs.declared.locks.Site.{Site}
 use Rattle.wit_model.specs.declared.locks.TypeNo.{TypeNo}
 use Rattle.wit_model.specs.declared.calls.Adoption.{Adoption}
 use Rattle.wit_model.specs.declared.calls.Call.{Call}
 use Rattle.wit_model.specs.declared.calls.Call.TheVariants.{Check, DefineOrder}
 use Rattle.wit_model.specs.declared.calls.Reply.{Reply}
-use Rattle.wit_model.specs.declared.calls.Reply.TheVariants.{Adopted}
+use Rattle.wit_model.specs.declared.calls.Reply.TheVariants.{Adopted, AdoptedAll}
 use Rattle.wit_model.specs.declared.calls.Entry.{Entry}
 use Rattle.wit_model.specs.Rules.Types.{LockType, type_number, enrolled_all}
 
@@ -91,8 +92,14 @@ listed_orders [] types orders = orders
 listed_orders (list ∷ lists) types orders =
     listed_orders lists (enrolled_all list types) (listed_pairs (enrolled_all list types) list orders)
 
+-- the order of these types, as a request at this place teaches it
+abbrev pub taught_at : Site → TypeNo × TypeNo → Adoption
+taught_at site p = record { parent = p.0; child = p.1; origin = At site }
+
+-- what an entry adopts, newest first
 abbrev pub adopted : Call → Reply → List Adoption
 adopted (Check q) (Adopted p c) = record { parent = p; child = c; origin = At q.site } ∷ []
+adopted (Check q) (AdoptedAll pairs) = reverse (map (taught_at q.site) pairs)
 adopted (DefineOrder a b) (Adopted p c) = record { parent = p; child = c; origin = Defined } ∷ []
 adopted _ _ = []
 

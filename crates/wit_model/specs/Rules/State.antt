@@ -1,6 +1,7 @@
 -- The state of a verifier: what its rules speak of, taken over its history.
 use Rattle.std.specs.Prelude.{ℕ, ◌+◌, ◌-◌, Bool, true, false, not, ◌&&◌, ◌==◌, nat_le, List, [], ◌∷◌, ◌++◌, Option, None, Some, map, length, count_by, unwrap_or, sum_by, if◌then◌else◌}
 use Rattle.std.specs.List.{range_with_len}
+use Rattle.wit_model.specs.declared.profiles.Profile.{Profile}
 use Rattle.wit_model.specs.declared.locks.Class.{Class}
 use Rattle.wit_model.specs.declared.locks.TypeNo.{TypeNo}
 use Rattle.wit_model.specs.declared.locks.Watch.{Watch}
@@ -19,10 +20,11 @@ use Rattle.wit_model.specs.Rules.Orders.{listed_orders, orders_from, found_once}
 use Rattle.wit_model.specs.Rules.History.{chain, pending, watch_of}
 use Rattle.wit_model.specs.Rules.SeatGroups.{seat_groups}
 
--- what a verifier is made with: its sizes, static lists of types in order, and pairs of type names that may be
--- taken in either order
+-- what a verifier is made with: its sizes, which held locks a request is compared with, static lists of types in
+-- order, and pairs of type names that may be taken in either order
 pub record Start : Type 0 where
   pub sizes : Sizes
+  pub profile : Profile
   pub lists : List (List (Class × List ℕ))
   pub blessed : List (List ℕ × List ℕ)
 
@@ -103,6 +105,7 @@ known_of start h = record {
 
 pub record State : Type 0 where
   pub sizes : Sizes
+  pub profile : Profile
   pub files : ℕ
   pub known : Known
   pub destroyed : List ℕ
@@ -113,6 +116,7 @@ pub record State : Type 0 where
 abbrev pub state_of : Story → State
 state_of s = record {
   sizes = s.start.sizes;
+  profile = s.start.profile;
   files = length s.files;
   known = known_of s.start s.history;
   destroyed = destroyed_of s.history;

@@ -77,7 +77,7 @@ before_acquiring s t l m site rest =
 -- a check needs room for itself, its note and its unlock
 abbrev pub step_check : State → ℕ → Request → Result Reply Fault
 step_check s t q =
-    before_acquiring s t q.lock.0 q.mode q.site (with_room s 3 (verdict s.known s.watch (seat_at s t) q))
+    before_acquiring s t q.lock.0 q.mode q.site (with_room s 3 (verdict s.profile s.known s.watch (seat_at s t) q))
 
 -- whether the lock would lie in a new chunk, and none is free
 abbrev pub is_exhausted : State → ℕ → ℕ → Bool

@@ -1,9 +1,11 @@
 -- The verdict of a check: WITNESS compares the requested lock with the held ones (witness(4); the comments of
 -- witness_checkorder in subr_witness.c). The first rule that applies decides.
 use Rattle.std.specs.Prelude.{ℕ, Bool, true, false, not, ◌&&◌, ◌||◌, ◌==◌, List, [], ◌∷◌, Option, None, Some, is_some, is_none, unwrap_or, Result, Ok, Err, codes, map, reverse, find, if◌then◌else◌}
-use Rattle.std.specs.List.{list_any, last_or, before_first}
+use Rattle.std.specs.List.{list_any, list_all, last_or, before_first}
 use Rattle.std.specs.Option.{option_map}
 use Rattle.std.specs.Str.{bytes_eq}
+use Rattle.wit_model.specs.declared.profiles.Profile.{Profile}
+use Rattle.wit_model.specs.declared.profiles.Profile.TheVariants.{Plain, AllHeld}
 use Rattle.wit_model.specs.declared.faults.Fault.{Fault}
 use Rattle.wit_model.specs.declared.faults.Fault.TheVariants.{SleepUnderSpin, SharedOfExclusive, ExclusiveOfShared, Recursed}
 use Rattle.wit_model.specs.declared.locks.Class.TheVariants.{SleepMutex, Sx}
@@ -18,7 +20,7 @@ use Rattle.wit_model.specs.declared.calls.Heading.TheVariants as heading
 use Rattle.wit_model.specs.declared.calls.LockAt.{LockAt}
 use Rattle.wit_model.specs.declared.calls.Conflict.{Conflict}
 use Rattle.wit_model.specs.declared.calls.Reply.{Reply}
-use Rattle.wit_model.specs.declared.calls.Reply.TheVariants.{Pass, Adopted, Silent, Duplicate, Reversal}
+use Rattle.wit_model.specs.declared.calls.Reply.TheVariants.{Pass, Adopted, AdoptedAll, Silent, Duplicate, Reversal}
 use Rattle.wit_model.specs.declared.calls.Request.{Request}
 use Rattle.wit_model.specs.declared.calls.Asked.{Asked}
 use Rattle.wit_model.specs.Rules.Numbers.{with_number}
@@ -179,19 +181,76 @@ abbrev pub teaches : Basis → Option Instance → Asked → Rule
 teaches g None q = None
 teaches g (Some last) q = when (is_learnt g q last) (Ok (Adopted (type_held g last) q.type_no))
 
+-- ---- where all held locks are compared with, three of them are these
+
+-- 5: a held lock is of its type; the newest one is told
+abbrev pub doubles_any : Basis → List Instance → Asked → Rule
+doubles_any g chain q = option_map (doubled g q) (find (has_type_of g q) (reverse chain))
+
+-- whether the order behind a held lock is a direct one
+abbrev pub is_known : Basis → Asked → Instance → Bool
+is_known g q i = is_direct g.orders (type_held g i).0 q.type_no.0
+
+-- 6: its orders behind all held locks are direct ones
+abbrev pub follows_all : Basis → List Instance → Asked → Rule
+follows_all g chain q = when (list_all (is_known g q) chain) (Ok Pass)
+
+abbrev pub is_among : ℕ → List TypeNo → Bool
+is_among t types = list_any (λ (x : TypeNo). x.0 == t) types
+
+-- whether the order behind a held lock may be learnt and is new, those behind locks of these types
+-- being learnt before it
+abbrev pub is_new : Basis → Asked → List TypeNo → Instance → Bool
+is_new g q before i =
+    is_learnt g q i && not (is_known g q i) && not (is_among (type_held g i).0 before)
+
+-- the types behind which an order is learnt, of these held locks one after the other
+abbrev pub new_parents : Basis → Asked → List TypeNo → List Instance → List TypeNo
+new_parents g q before [] = []
+new_parents g q before (i ∷ held) =
+    if is_new g q before i then type_held g i ∷ new_parents g q (type_held g i ∷ before) held
+    else new_parents g q before held
+
+-- the orders behind these types
+abbrev pub orders_behind : Asked → List TypeNo → List (TypeNo × TypeNo)
+orders_behind q parents = map (λ p. (p, q.type_no)) parents
+
+-- where there is one at least, they are told
+abbrev pub told_orders : Asked → List TypeNo → Rule
+told_orders q [] = None
+told_orders q (p ∷ parents) = Some (Ok (AdoptedAll (orders_behind q (p ∷ parents))))
+
+-- 9: the orders behind all held locks are learnt, that behind the newest one first
+abbrev pub teaches_all : Basis → List Instance → Asked → Rule
+teaches_all g chain q = told_orders q (new_parents g q [] (reverse chain))
+
+-- ---- which of the two it is
+
+abbrev pub doubles_in : Profile → Basis → List Instance → Option Instance → Asked → Rule
+doubles_in Plain g chain last q = doubles g last q
+doubles_in AllHeld g chain last q = doubles_any g chain q
+
+abbrev pub follows_in : Profile → Basis → List Instance → Option Instance → Asked → Rule
+follows_in Plain g chain last q = follows g last q
+follows_in AllHeld g chain last q = follows_all g chain q
+
+abbrev pub teaches_in : Profile → Basis → List Instance → Option Instance → Asked → Rule
+teaches_in Plain g chain last q = teaches g last q
+teaches_in AllHeld g chain last q = teaches_all g chain q
+
 -- ---- the rules in their order, where these are the spin locks that the seat holds, its locks of the requested kind, oldest
 -- first, and the last of these
 
-abbrev pub rules : Basis → Watch → List Instance → List Instance → Option Instance → Asked → List Rule
-rules g watch spin chain last q =
+abbrev pub rules : Profile → Basis → Watch → List Instance → List Instance → Option Instance → Asked → List Rule
+rules profile g watch spin chain last q =
     isnt_watched watch
     ∷ sleeps_under_spin g spin q
     ∷ holds_nothing last
     ∷ holds_it chain q
-    ∷ doubles g last q
-    ∷ follows g last q
+    ∷ doubles_in profile g chain last q
+    ∷ follows_in profile g chain last q
     ∷ breaks_order g chain q
-    ∷ teaches g last q
+    ∷ teaches_in profile g chain last q
     ∷ []
 
 -- the one of a seat's two chains, of the sleep kind and of the spin kind, that a request is judged by
@@ -199,8 +258,9 @@ abbrev pub chain_asked : Basis → List Instance → List Instance → Asked →
 chain_asked g sleep spin q = if is_spin (class_of q.type_no.0 g.types) then spin else sleep
 
 -- the ruling on a request of a seat that holds these locks of the sleep kind and of the spin kind
-abbrev pub ruling : Basis → Watch → List Instance → List Instance → Asked → Result Reply Fault
-ruling g watch sleep spin q = decided (rules g watch spin (chain_asked g sleep spin q) (last_or None (chain_asked g sleep spin q)) q)
+abbrev pub ruling : Profile → Basis → Watch → List Instance → List Instance → Asked → Result Reply Fault
+ruling profile g watch sleep spin q =
+    decided (rules profile g watch spin (chain_asked g sleep spin q) (last_or None (chain_asked g sleep spin q)) q)
 
 -- ---- the verdict is the ruling over what a verifier knows
 
@@ -223,8 +283,8 @@ asked_of k q = record {
   site = q.site;
 }
 
-abbrev pub verdict : Known → Watch → Seat → Request → Result Reply Fault
-verdict k watch seat q = ruling (basis_of k) watch seat.sleep seat.spin (asked_of k q)
+abbrev pub verdict : Profile → Known → Watch → Seat → Request → Result Reply Fault
+verdict profile k watch seat q = ruling profile (basis_of k) watch seat.sleep seat.spin (asked_of k q)
 
 -- the seat's chain of the lock's kind, oldest first
 abbrev pub chain_of_kind : Known → Seat → ℕ → List Instance

@@ -2,6 +2,7 @@
 use Rattle.std.specs.Prelude.{◌≡◌, ℕ, ◌+◌, Bool, false, ◌||◌, nat_lt, List, [], ◌∷◌, ◌++◌, length, take, unwrap_or, Option, None, Some, is_some, Result, Ok, Err, codes, if◌then◌else◌}
 use Rattle.std.specs.Fmt.{decimal}
 use Rattle.std.specs.Str.{bytes_eq}
+use Rattle.wit_model.specs.declared.profiles.Profile.TheVariants.{Plain}
 use Rattle.wit_model.specs.declared.faults.Fault.{Fault}
 use Rattle.wit_model.specs.declared.lines.Line.{Line}
 use Rattle.wit_model.specs.declared.lines.Line.TheVariants.{Header, Order, Bless, Init, OnLock, Assert, Warn, Define, Watch}
@@ -61,7 +62,7 @@ pub data Outcome : Type 0 where
 -- nothing but the sizes
 abbrev pub empty_prelude : Sizes → Prelude
 empty_prelude sizes =
-    record { start = record { sizes = sizes; lists = []; blessed = [] }; lines = [] }
+    record { start = record { sizes = sizes; profile = Plain; lists = []; blessed = [] }; lines = [] }
 
 -- one more list, from the line with this number
 abbrev pub with_list : Prelude → ℕ → List (Class × List ℕ) → Prelude

@@ -1,5 +1,6 @@
 -- Small worlds of two threads.
 use Rattle.std.specs.Prelude.{ℕ, List, [], ◌∷◌, ◌++◌, None, reverse, codes}
+use Rattle.wit_model.specs.declared.profiles.Profile.TheVariants.{Plain}
 use Rattle.wit_model.specs.declared.locks.Class.TheVariants.{SleepMutex}
 use Rattle.wit_model.specs.declared.locks.Mode.TheVariants.{Exclusive}
 use Rattle.wit_model.specs.declared.locks.Site.{Site}
@@ -15,6 +16,7 @@ use Rattle.wit_model.specs.World.Deeds.{Deed, Logged, Take, Free}
 abbrev pub small : Start
 small = record {
   sizes = record { seats = 2; types = 8; locks = 16; chunks = 4; log = 16777216 };
+  profile = Plain;
   lists = [];
   blessed = [];
 }

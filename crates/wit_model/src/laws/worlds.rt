@@ -1,6 +1,7 @@
 //! Laws of worlds: of threads that take and free locks and tell the verifier of it. Each function
 //! is a theorem, and does nothing.
 
+ghost use Rattle.wit_model.specs.declared.profiles.Profile.TheVariants.{Plain, AllHeld};
 ghost use Rattle.wit_model.specs.WorldLaws.{
   CleanRunsNeverDeadlock,
   InTurnIsWorld,
@@ -30,7 +31,13 @@ ghost use Rattle.wit_model.specs.WorldLaws.{
 /// not being acquired in the wrong order": a deadlock shows in the orders before it happens, in
 /// runs in which the locks were taken one after the other.
 pub fn law_no_circle()
-    ensures { CleanRunsNeverDeadlock }
+    ensures { CleanRunsNeverDeadlock Plain }
+{}
+
+/// The same where requests are compared with all held locks, though locks are acquired by a try:
+/// the orders behind such a lock are learnt as those behind any other, whatever is held beside it.
+pub fn law_no_circle_all_held()
+    ensures { CleanRunsNeverDeadlock AllHeld }
 {}
 
 /// That law isn't empty: a world without a deadlock has a reordering with one.
