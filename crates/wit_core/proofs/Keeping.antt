@@ -7,6 +7,7 @@ use Rattle.wit_model.specs.declared.locks.Watch.{Watch}
 use Rattle.wit_model.specs.Rules.State.{Start, Story, State, Known, state_of, owed_by, orders_of}
 use Rattle.wit_model.specs.Rules.Step.{answer_of, story_after, logged, is_logged, IsLegal}
 use Rattle.wit_model.proofs.Chains.Seats.{entry}
+use Rattle.wit_model.proofs.Orders.Among.{orders-among}
 use Rattle.wit_model.proofs.Orders.Types.{types_legal}
 use Rattle.wit_model.proofs.Histories.Legal.{seat-within, seat_accepted}
 use Rattle.wit_model.proofs.Orders.Once.{distinct_legal}
@@ -14,6 +15,7 @@ use Rattle.wit_model.proofs.Orders.Sound.{sound_legal}
 use Rattle.wit_model.proofs.Orders.Started.{sound_started, types_started}
 use Rattle.wit_model.specs.Rules.Start.{start_fault}
 use Rattle.wit_model.specs.Rules.Orders.{AreDistinct, IsSound}
+use Rattle.wit_matrix.specs.Relation.{OrdersAmong}
 use Rattle.wit_core.specs.declared.verifier.Verifier.TheInside.{Inside}
 use Rattle.wit_core.specs.Known.{Facts}
 use Rattle.wit_core.specs.Held.{seat_view}
@@ -35,9 +37,9 @@ types_few v k =
 pub seat_in_range : (v : Inside) (t : ℕ) (call : Call) (r : Reply) → IsTied v → answer_of (story_in v) t call ≡ Ok r → (0 < t) × (t ≤ v.limits.seats)
 seat_in_range v t call r k ok = seat-within (start_in v) v.known.files (history_in v) t (seat_accepted (state_of (story_in v)) t call r ok)
 
--- a verifier with these parts
+-- a verifier with these parts, for which no call is prepared
 abbrev pub with_parts : Inside → Facts → Row → Watch → Journal → Inside
-with_parts v known seats watch log = record v { known = known; seats = seats; watch = watch; log = log }
+with_parts v known seats watch log = record v { known = known; seats = seats; watch = watch; log = log; ready = None }
 
 -- what an accepted call leaves: this is known, these locks are live, the seats are these, so much is watched, and so much is owed
 pub record Leaves (v : Inside) (t : ℕ) (call : Call) (reply : Reply) (known : Known) (live : List Bool) (row : Row) (watch : Watch) (owes : ℕ) : Type 0 where
@@ -65,9 +67,9 @@ noted_log log t call reply owes = record log {
 abbrev pub tried_log : Journal → ℕ → ℕ → Call → Reply → ℕ → Journal
 tried_log log spare t call reply owes = record log { history = entry t call reply ∷ log.history; owed = log.owed + owes; spare = spare - (owes + 1) }
 
--- a story by its parts
+-- a story by its parts, with no call prepared
 abbrev pub story : Start → List (List ℕ) → List Entry → Story
-story start files h = record { start = start; history = h; files = files }
+story start files h = record { start = start; history = h; files = files; ready = None }
 
 pub same_story : (s s' : Start) (f f' : List (List ℕ)) (h h' : List Entry) → s ≡ s' → f ≡ f' → h ≡ h' → story s f h ≡ story s' f' h'
 same_story s s' f f' h h' es ef eh = ap (λ x. story x f h) es ∙ (ap (λ x. story s' x h) ef ∙ ap (λ x. story s' f' x) eh)
@@ -104,6 +106,7 @@ module _ (v : Inside) (t : ℕ) (call : Call) (reply : Reply) (known : Known) (l
         limit = ap (λ (l : Journal). l.limit) log ∙ k.limit;
         types = ap (λ (f : Facts). f.most_types) knows ∙ k.types;
         chunks = ap (λ (r : Row). r.chunks) rows ∙ left.chunks ∙ k.chunks;
+        ready = tt;
       }
 
 -- no type is before itself
@@ -113,3 +116,14 @@ sound_kept v k = sound_legal (start_in v) v.known.files (history_in v) (sound_st
 -- no order stands twice
 pub distinct_kept : (v : Inside) → IsTied v → AreDistinct (orders_of (start_in v) (history_in v))
 distinct_kept v k = distinct_legal (start_in v) v.known.files (history_in v) k.legal
+
+-- the orders of an accepted start's legal history are between numbers of types
+pub orders_within : (start : Start) (files : List (List ℕ)) (h : List Entry) → start_fault start ≡ None → IsLegal start files h
+    → OrdersAmong start.sizes.types (orders_of start h)
+orders_within start files h started legal = λ a b direct.
+    let few = types_legal start files h (types_started start started) legal in
+    let known = orders-among start files h legal a b direct in
+    ((known.0.0, omega (arith, known.0.1, few)), (known.1.0, omega (arith, known.1.1, few)))
+
+pub among_kept : (v : Inside) → IsTied v → OrdersAmong v.limits.types (orders_of (start_in v) (history_in v))
+among_kept v k = orders_within (start_in v) v.known.files (history_in v) k.started k.legal

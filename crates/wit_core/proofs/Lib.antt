@@ -14,6 +14,7 @@ pub mod Now
 pub mod Owing
 pub mod Queues
 pub mod Reaching
+pub mod Readying
 pub mod Relating
 pub mod Releasing
 pub mod SeatRows

@@ -1,5 +1,7 @@
 -- A verifier as its callers see it, and what ties its parts to its history.
-use Rattle.std.specs.Prelude.{ℕ, ◌≡◌, Bool, List, None, map, length}
+use Rattle.std.specs.Prelude.{ℕ, ◌≡◌, ◌≤◌, Bool, true, List, None, Ok, IfSome, map, length}
+use Rattle.std.specs.Option.{option_map}
+use Rattle.wit_model.specs.declared.profiles.Profile.TheVariants.{Plain}
 use Rattle.wit_model.specs.declared.calls.Entry.{Entry}
 use Rattle.wit_model.specs.Rules.Chunks.{Chunks}
 use Rattle.wit_model.specs.Rules.Clean.{CleanMeansNoCircle}
@@ -8,26 +10,30 @@ use Rattle.wit_model.specs.Rules.Numbers.{IsNumber}
 use Rattle.wit_model.specs.Rules.Orders.{IsSound, cell}
 use Rattle.wit_model.specs.Rules.State.{Start, Story, State, state_of, orders_of, found_of, owed}
 use Rattle.wit_model.specs.Rules.Start.{start_fault}
-use Rattle.wit_model.specs.Rules.Step.{IsLegal}
+use Rattle.wit_model.specs.Rules.Step.{answer_of, is_logged, IsLegal}
 use Rattle.wit_model.specs.Rules.Locks.{destroyed_of}
 use Rattle.wit_core.specs.Live.{live_flags}
+use Rattle.wit_core.specs.declared.ready.Ready.{Ready}
 use Rattle.wit_core.specs.declared.verifier.Verifier.TheInside.{Inside}
 use Rattle.wit_core.specs.Held.{seat_view, HoldAll}
+use Rattle.wit_core.specs.Known.{IsRoomFor}
 use Rattle.wit_core.specs.Listed.{all_listed}
+use Rattle.wit_core.specs.Plans.{call_of, named, entries_for}
 use Rattle.wit_core.specs.Seats.{seat_in, locks_in, HoldFor}
 
 abbrev pub start_in : Inside → Start
-start_in v = record { sizes = v.limits; lists = all_listed v.lists.items; blessed = v.known.known.blessed }
+start_in v = record { sizes = v.limits; profile = Plain; lists = all_listed v.lists.items; blessed = v.known.known.blessed }
 
 abbrev pub history_in : Inside → List Entry
 history_in v = v.log.history
 
 abbrev pub story_in : Inside → Story
-story_in v = record { start = start_in v; history = history_in v; files = v.known.files }
+story_in v = record { start = start_in v; history = history_in v; files = v.known.files; ready = option_map named v.ready }
 
 abbrev pub state_in : Inside → State
 state_in v = record {
   sizes = v.limits;
+  profile = Plain;
   files = length v.known.files;
   known = v.known.known;
   destroyed = destroyed_of (history_in v);
@@ -36,8 +42,17 @@ state_in v = record {
   used = length v.log.history;
 }
 
+-- what is kept of a call that is prepared: its answer, which is logged, once more for the log, and room for its entries and for what it
+-- teaches
+pub record IsReady (v : Inside) (r : Ready) : Type 0 where
+  pub answer : answer_of (story_in v) r.seat.0 (call_of r.plan) ≡ Ok r.reply
+  pub kept : r.kept ≡ r.reply
+  pub logged : is_logged r.reply ≡ true
+  pub log : entries_for (call_of r.plan) ≤ v.log.spare
+  pub known : IsRoomFor r.reply v.known.spare
+
 -- the start is accepted, the log is a legal history, the parts are its state, the locks that weren't destroyed are live, the log owes
--- what the rules say, and the limits of the log, of types and of chunks are the start's
+-- what the rules say, the limits of the log, of types and of chunks are the start's, and what is prepared is ready
 pub record IsTied (v : Inside) : Type 0 where
   pub started : start_fault (start_in v) ≡ None
   pub legal : IsLegal (start_in v) v.known.files (history_in v)
@@ -47,6 +62,7 @@ pub record IsTied (v : Inside) : Type 0 where
   pub limit : v.log.limit ≡ v.limits.log
   pub types : v.known.most_types ≡ v.limits.types
   pub chunks : v.seats.chunks ≡ v.limits.chunks
+  pub ready : IfSome v.ready (IsReady v)
 
 -- what a verifier keeps between its calls: its parts are tied to its history, and so
 pub record IsKept (v : Inside) : Type 0 where

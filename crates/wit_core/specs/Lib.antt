@@ -11,6 +11,7 @@ pub mod Live
 pub mod Logged
 pub mod Numbered
 pub mod Ordering
+pub mod Plans
 pub mod Related
 pub mod Remembered
 pub mod Replies

@@ -11,6 +11,7 @@ mod init;
 mod mark;
 mod note;
 mod note_try;
+mod prepare;
 mod set_watch;
 mod turn;
 mod unlock;

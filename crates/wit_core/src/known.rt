@@ -145,6 +145,7 @@ impl Known {
     /// Want of memory alone.
     pub fn make_room(&mut self, reply: &Reply) -> Result<(), AllocError>
         ensures same { self.new ≡ record self.old { spare = self.new.spare } }
+        ensures grows { self.old.spare ≤ self.new.spare }
         ensures ok { OnOk result (IsRoomFor reply.now self.new.spare) }
     {
         match reply {

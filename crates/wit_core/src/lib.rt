@@ -12,6 +12,7 @@ mod names;
 mod orders;
 mod questions;
 mod readers;
+mod ready;
 mod seats;
 mod verifier;
 

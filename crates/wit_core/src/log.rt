@@ -79,6 +79,7 @@ impl Log {
     /// Want of memory alone.
     pub fn reserve(&mut self, more: u32) -> Result<(), AllocError>
         ensures same { self.new ≡ record self.old { spare = self.new.spare } }
+        ensures grows { self.old.spare ≤ self.new.spare }
         ensures ok { OnOk result (more ≤ self.new.spare) }
     {
         self.entries.reserve(self.owed as usize + more as usize)

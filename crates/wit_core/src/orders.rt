@@ -146,6 +146,7 @@ impl Orders {
     /// Want of memory alone.
     pub fn make_room(&mut self, more: usize) -> Result<(), AllocError>
         ensures same { self.new ≡ record self.old { spare = self.new.spare } }
+        ensures grows { self.old.spare ≤ self.new.spare }
         ensures ok { OnOk result (more ≤ self.new.spare) }
     {
         self.adopted.reserve(more)?;

@@ -8,11 +8,13 @@ ghost use Rattle.wit_model.specs.Rules.Orders.{AreDistinct, IsSound};
 ghost use Rattle.wit_model.specs.Rules.Start.{start_fault, IsRefused};
 ghost use Rattle.wit_model.specs.Rules.State.{fresh, orders_of};
 ghost use Rattle.wit_model.specs.Rules.Step.{IsLegal};
+ghost use Rattle.wit_matrix.specs.Relation.{OrdersAmong};
 ghost use Rattle.wit_core.specs.Fresh.{start_of};
 
 use crate::known::Known;
 use crate::lists::StartError;
 use crate::log::Log;
+use crate::ready::Ready;
 use crate::seats::Seats;
 use std::alloc::Global;
 use std::marker::Model;
@@ -22,8 +24,8 @@ use wit_model::{Adoption, Class, Entry, Fault, FileNo, Limits, Watch};
 /// what each seat holds, learns the orders in which types of locks are acquired, and reports a reversal of a
 /// known order, which is a possible deadlock.
 ///
-/// Clauses see it as how it began, its history, and the files that were named to it. A refused call changes
-/// nothing of these.
+/// Clauses see it as how it began, its history, the files that were named to it, and the call that is prepared. A refused call
+/// changes nothing of these.
 pub struct Verifier {
     pub(crate) alloc: Global,
     pub(crate) limits: Limits,
@@ -32,6 +34,8 @@ pub struct Verifier {
     pub(crate) seats: Seats,
     pub(crate) watch: Watch,
     pub(crate) log: Log,
+    /// The call that is prepared.
+    pub(crate) ready: Option<Ready>,
 }
 
 // Written by hand so that it is one call wherever a verifier goes, and not one for each field of each field.
@@ -45,6 +49,7 @@ impl Drop for Verifier {
             seats: _,
             watch: _,
             log: _,
+            ready: _,
         } = self;
     }
 }
@@ -97,6 +102,7 @@ impl Verifier {
             seats,
             watch: Watch::On,
             log: Log::new(alloc, limits.log()),
+            ready: None,
         })
     }
 
@@ -139,9 +145,11 @@ impl Verifier {
         self.watch
     }
 
-    /// The adopted orders with their origins, oldest first. None stands twice, and by them no type is before itself.
+    /// The adopted orders with their origins, oldest first: those of static lists, then those that calls taught. All are between
+    /// numbers of types, none stands twice, and by them no type is before itself.
     pub fn orders(&self) -> &[Adoption]
         ensures orders { reverse result.now ≡ orders_of self.now.start self.now.history }
+        ensures among { OrdersAmong self.now.start.sizes.types (orders_of self.now.start self.now.history) }
         ensures distinct { AreDistinct (orders_of self.now.start self.now.history) }
         ensures sound { IsSound (orders_of self.now.start self.now.history) }
     {

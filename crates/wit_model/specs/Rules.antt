@@ -15,6 +15,7 @@ pub mod Locks
 pub mod Names
 pub mod Numbers
 pub mod Orders
+pub mod Preparing
 pub mod Questions
 pub mod Refusals
 pub mod Rows

@@ -13,8 +13,8 @@ use Rattle.wit_model.specs.declared.calls.Reply.TheVariants as reply
 use Rattle.wit_model.specs.Rules.Numbers.{IsGiven}
 use Rattle.wit_model.specs.Rules.Types.{is_spin}
 use Rattle.wit_model.specs.Rules.Locks.{lock_at}
-use Rattle.wit_model.specs.Rules.History.{pending, is_off}
-use Rattle.wit_model.specs.Rules.State.{Story, state_of, owed, seat_at}
+use Rattle.wit_model.specs.Rules.History.{is_off}
+use Rattle.wit_model.specs.Rules.State.{Story, state_of, seat_at}
 use Rattle.wit_model.specs.Rules.Step.{answer_of, is_logged, held_by, recorded}
 use Rattle.wit_model.specs.Rules.Verdict.{is_of}
 use Rattle.wit_model.proofs.Chains.Owed.{owed-note, owed-unnoted, owed-try, owed-same}

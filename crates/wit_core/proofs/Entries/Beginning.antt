@@ -1,7 +1,9 @@
 -- A new verifier.
-use Rattle.std.proofs.Common.{◌≡◌, ℕ, zero, suc, ◌+◌, ◌-◌, true, false, List, [], ◌∷◌, None, String, length, map, replicate, refl, sym, ap, ap₂, ◌∙◌, subst}
+use Rattle.std.proofs.Common.{◌≡◌, ℕ, zero, suc, ◌+◌, true, false, List, [], ◌∷◌, Option, None, IfSome, String, length, map, replicate, refl, sym, ap, ap₂, ◌∙◌, subst}
 use Rattle.std.specs.List.{range_with_len}
+use Rattle.std.specs.Option.{option_map}
 use Rattle.std.specs.Global.{Vec, Global}
+use Rattle.wit_model.specs.declared.profiles.Profile.TheVariants.{Plain}
 use Rattle.wit_model.specs.declared.locks.Class.{Class}
 use Rattle.wit_model.specs.declared.locks.Watch.TheVariants.{On}
 use Rattle.wit_model.specs.Rules.Sizes.{Sizes}
@@ -15,7 +17,9 @@ use Rattle.wit_core.specs.declared.verifier.Verifier.TheInside.{Inside}
 use Rattle.wit_core.specs.Fresh.{start_of}
 use Rattle.wit_core.specs.Held.{seat_view}
 use Rattle.wit_core.specs.Journal.{Journal}
-use Rattle.wit_core.specs.Kept.{IsTied, start_in, history_in, story_in, state_in}
+use Rattle.wit_core.specs.Plans.{named}
+use Rattle.wit_core.specs.declared.ready.Ready.{Ready}
+use Rattle.wit_core.specs.Kept.{IsReady, IsTied, start_in, history_in, story_in, state_in}
 use Rattle.wit_core.specs.Listed.{all_listed, pairs_of}
 use Rattle.wit_core.specs.Seats.{Row, no_seat, idle_row}
 use Rattle.wit_core.proofs.Entering.{IsBegun}
@@ -33,12 +37,13 @@ seats-idle a (suc n) =
 -- a new verifier
 module _ (v : Inside) (sizes : Sizes) (lists : List (Vec (Class × String Global))) (blessed : List (String Global × String Global))
     (limits : v.limits ≡ sizes) (same_lists : v.lists.items ≡ lists) (begun : IsBegun sizes (all_listed lists) (pairs_of blessed) v.known)
-    (seats : v.seats ≡ idle_row sizes.seats sizes.chunks) (watch : v.watch ≡ On) (log : v.log ≡ record { limit = sizes.log; history = []; owed = 0; spare = v.log.spare }) where
+    (seats : v.seats ≡ idle_row sizes.seats sizes.chunks) (watch : v.watch ≡ On) (log : v.log ≡ record { limit = sizes.log; history = []; owed = 0; spare = v.log.spare })
+    (unready : v.ready ≡ None) where
   start_begun : start_in v ≡ start_of sizes lists blessed
   start_begun =
       ap (λ (x : Sizes). record (start_in v) { sizes = x }) limits
-      ∙ (ap (λ ls. record { sizes = sizes; lists = all_listed ls; blessed = v.known.known.blessed }) same_lists
-      ∙ ap (λ (x : Known). record { sizes = sizes; lists = all_listed lists; blessed = x.blessed }) (begun.known))
+      ∙ (ap (λ ls. record { sizes = sizes; profile = Plain; lists = all_listed ls; blessed = v.known.known.blessed }) same_lists
+      ∙ ap (λ (x : Known). record { sizes = sizes; profile = Plain; lists = all_listed lists; blessed = x.blessed }) (begun.known))
 
   no_history : history_in v ≡ []
   no_history = ap (λ (l : Journal). l.history) log
@@ -47,7 +52,7 @@ module _ (v : Inside) (sizes : Sizes) (lists : List (Vec (Class × String Global
   no_files = begun.files
 
   pub story_begun : story_in v ≡ fresh (start_of sizes lists blessed)
-  story_begun = same_story _ _ _ _ _ _ start_begun no_files no_history
+  story_begun = ap (λ (o : Option Ready). record (story_in v) { ready = option_map named o }) unready ∙ same_story _ _ _ _ _ _ start_begun no_files no_history
 
   state_begun : state_in v ≡ state_of (fresh (start_of sizes lists blessed))
   state_begun =
@@ -67,4 +72,5 @@ module _ (v : Inside) (sizes : Sizes) (lists : List (Vec (Class × String Global
         limit = ap (λ (l : Journal). l.limit) log ∙ ap (λ (x : Sizes). x.log) (sym limits);
         types = (begun.types ∙ sym (ap (λ (x : Sizes). x.types) limits));
         chunks = ap (λ (r : Row). r.chunks) seats ∙ sym (ap (λ (x : Sizes). x.chunks) limits);
+        ready = subst (λ (o : Option Ready). IfSome o (IsReady v)) (sym unready) tt;
       }

@@ -1,15 +1,18 @@
 -- A request.
-use Rattle.std.proofs.Common.{◌≡◌, ℕ, ◌+◌, ◌-◌, ◌<◌, true, false, Option, None, Some, Ok, length, refl, sym, ap, ◌∙◌, arith, is_some, append-nil}
+use Rattle.std.proofs.Common.{◌≡◌, ℕ, ◌+◌, ◌<◌, false, Option, None, Some, Ok, length, refl, sym, ap, ◌∙◌, arith, is_some, append-nil}
 use Rattle.std.proofs.lemmas.Bool.{true≢false}
 use Rattle.wit_model.specs.declared.locks.Watch.{Watch}
 use Rattle.wit_model.specs.declared.calls.Request.{Request}
 use Rattle.wit_model.specs.declared.calls.Call.TheVariants.{Check}
 use Rattle.wit_model.specs.declared.calls.Reply.{Reply}
+use Rattle.wit_model.specs.declared.calls.Reply.TheVariants.{Exhausted}
+use Rattle.wit_model.specs.Laws.{is_exhaustion}
 use Rattle.wit_model.specs.Rules.History.{watch_of, watch_after}
-use Rattle.wit_model.specs.Rules.State.{Story, Known, known_of, typed_locks, state_of, owed}
+use Rattle.wit_model.specs.Rules.State.{Story, Known, known_of, typed_locks, state_of}
 use Rattle.wit_model.specs.Rules.Step.{answer_of}
 use Rattle.wit_model.proofs.Chains.Owed.{owed-check}
 use Rattle.wit_model.proofs.Histories.Accepted.{check_accepted}
+use Rattle.wit_model.proofs.Histories.Exhaustion.{check-told}
 use Rattle.wit_model.proofs.Histories.Legal.{pending-state}
 use Rattle.wit_core.specs.declared.verifier.Verifier.TheInside.{Inside}
 use Rattle.wit_core.specs.Journal.{Journal}
@@ -20,6 +23,11 @@ use Rattle.wit_core.proofs.Keeping.{Leaves}
 use Rattle.wit_core.proofs.Steps.{same_locks, seats-quiet}
 use Rattle.wit_core.proofs.Entries.Accepting.{accepted, known-now, left-by, owed_now, room_left, sane_next, seats-now, watch-now, within}
 
+-- a check leaves the watch level
+same_watch : (q : Request) (r : Reply) (w : Watch) → is_exhaustion r ≡ false → watch_after (Check q) r w ≡ w
+same_watch q Exhausted w plain = absurd (true≢false plain)
+same_watch q r w plain = refl
+
 none_from : (o : Option Request) → is_some o ≡ false → o ≡ None
 none_from None e = refl
 none_from (Some q) e = absurd (true≢false e)
@@ -29,9 +37,9 @@ module _ (v : Inside) (k : IsTied v) (s : Story) (seen : story_in v ≡ s) where
       → length log.history + log.owed + 2 < log.limit
   check_room t q r log ok same = room_left v k s seen 2 log (check_accepted (state_of (story_in v)) t q r (accepted v k s seen t (Check q) r ok)).room same
 
-  pub leaves_check : (t : ℕ) (q : Request) (r : Reply) → answer_of s t (Check q) ≡ Ok r → ((w : Watch) → watch_after (Check q) r w ≡ w)
+  pub leaves_check : (t : ℕ) (q : Request) (r : Reply) → answer_of s t (Check q) ≡ Ok r
       → Leaves v t (Check q) r (learnt v.known.known q r) v.known.live (with_seat t (asking (Some q)) v.seats) v.watch (v.log.owed + 2)
-  leaves_check t q r ok keeps =
+  leaves_check t q r ok =
       let sane = sane_next v k s seen t (Check q) r ok in
       let in_row = within v k s seen t (Check q) r ok in
       let at = check_accepted (state_of (story_in v)) t q r (accepted v k s seen t (Check q) r ok) in
@@ -41,4 +49,4 @@ module _ (v : Inside) (k : IsTied v) (s : Story) (seen : story_in v ≡ s) where
       (ap (λ (x : Known). learnt x q r) (known-now v k s seen) ∙ sym (same_locks (learnt (known_of (start_in v) (history_in v)) q r) _ (append-nil (typed_locks (start_in v) (history_in v)))))
       k.live
       (seats-quiet (start_in v) v.known.files (history_in v) v.seats (seats-now v k s seen) t in_row.0 in_row.1 (Check q) r (Some q) sane refl refl)
-      (watch-now v k s seen ∙ sym (keeps (watch_of (history_in v)))) (omega (arith, more, owed_now v k s seen)) refl
+      (watch-now v k s seen ∙ sym (same_watch q r (watch_of (history_in v)) (check-told (state_of s) t q r ok))) (omega (arith, more, owed_now v k s seen)) refl

@@ -1,16 +1,18 @@
 -- A file that is named.
-use Rattle.std.proofs.Common.{◌≡◌, ℕ, ◌+◌, ◌-◌, Bool, true, false, cond, List, [], ◌∷◌, ◌++◌, Ok, Err, Result, IfOk, IfErr, OnOk, OnErr, length, sym, ap, subst}
+use Rattle.std.proofs.Common.{◌≡◌, ℕ, Bool, true, false, cond, List, [], ◌∷◌, ◌++◌, Option, None, Some, IfSome, Ok, Err, Result, IfOk, IfErr, OnOk, OnErr, length, sym, ap, subst}
 use Rattle.wit_model.specs.declared.faults.Fault.{Fault}
 use Rattle.wit_model.specs.declared.faults.Fault.TheVariants.{OutOfMemory}
 use Rattle.wit_model.specs.declared.locks.FileNo.{FileNo}
 use Rattle.wit_model.specs.declared.calls.Entry.{Entry}
 use Rattle.wit_model.specs.Rules.Refusals.{IsRefusal}
 use Rattle.wit_model.specs.Rules.Files.{is_known_file, file_answer, files_after, NamesFile}
-use Rattle.wit_model.specs.Rules.State.{Start, State, owed}
-use Rattle.wit_model.specs.Rules.Step.{IsLegal}
-use Rattle.wit_model.proofs.Histories.NamedFiles.{legal-named}
+use Rattle.wit_model.specs.Rules.State.{Start, State}
+use Rattle.wit_model.specs.Rules.Step.{answer_of, story_after, IsLegal}
+use Rattle.wit_model.proofs.Histories.NamedFiles.{answer-named, legal-named}
 use Rattle.wit_core.specs.declared.verifier.Verifier.TheInside.{Inside}
-use Rattle.wit_core.specs.Kept.{IsTied, start_in, history_in, story_in}
+use Rattle.wit_core.specs.Plans.{call_of}
+use Rattle.wit_core.specs.declared.ready.Ready.{Ready}
+use Rattle.wit_core.specs.Kept.{IsReady, IsTied, start_in, history_in, story_in}
 use Rattle.wit_core.specs.Known.{Facts}
 
 -- a verifier that knows this
@@ -36,6 +38,16 @@ files_legal start h old name legal = go (is_known_file name old)
     go true = legal
     go false = legal-named start old name h legal
 
+-- what is prepared is ready with one more file
+ready_named : (v : Inside) (name : List ℕ) (o : Option Ready) → IfSome o (IsReady v)
+    → IfSome o (IsReady (with_known v (record v.known { files = files_after name v.known.files })))
+ready_named v name None h = tt
+ready_named v name (Some r) h = record { answer = go (is_known_file name v.known.files); kept = h.kept; logged = h.logged; log = h.log; known = h.known }
+  where
+    go : (b : Bool) → answer_of (story_after (start_in v) (cond b v.known.files (v.known.files ++ name ∷ [])) (history_in v)) r.seat.0 (call_of r.plan) ≡ Ok r.reply
+    go true = h.answer
+    go false = answer-named (start_in v) v.known.files name (history_in v) r.seat.0 (call_of r.plan) r.reply h.answer
+
 -- naming a file keeps the invariant
 pub kept_file : (v : Inside) (name : List ℕ) (r : Result FileNo Fault) (new : Facts) → IsTied v
     → OnOk r (new ≡ record v.known { files = files_after name v.known.files }) → OnErr r (new ≡ v.known) → IsTied (with_known v new)
@@ -49,5 +61,6 @@ kept_file v name (Ok f) new k entered same =
       limit = k.limit;
       types = k.types;
       chunks = k.chunks;
+      ready = ready_named v name v.ready k.ready;
     })
 kept_file v name (Err fault) new k entered same = subst (λ n. IsTied (with_known v n)) (sym same) k

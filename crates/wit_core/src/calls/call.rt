@@ -1,6 +1,8 @@
 //! `call`: a logged call as a value.
 
+ghost use Rattle.std.specs.Prelude.{IsOk};
 ghost use Rattle.wit_model.specs.declared.calls.Call.TheVariants.{Init};
+ghost use Rattle.wit_model.specs.Rules.Preparing.{IsPreparable, IsPrepared};
 ghost use Rattle.wit_model.specs.Rules.Step.{AnswersOrFails};
 
 use crate::verifier::Verifier;
@@ -10,9 +12,10 @@ impl Verifier {
     /// Makes a call, whichever it is: each stands as a method too, which says what it is for.
     ///
     /// # Errors
-    /// Those of the call's method.
+    /// Those of the call's method; not `OutOfMemory` where the call is prepared.
     pub fn call(&mut self, seat: SeatNo, call: Call) -> Result<Reply, Fault>
-        ensures { AnswersOrFails self.old seat.0 call result self.new }
+        ensures answer { AnswersOrFails self.old seat.0 call result self.new }
+        ensures prepared { IsPreparable call → IsPrepared self.old seat.0 call → IsOk result }
     {
         match call {
             Call::Init(lock) => self.call_init(seat, lock),

@@ -1,14 +1,16 @@
 //! `check`: a seat asks for a lock.
 
-ghost use Rattle.std.specs.Prelude.{◌≡◌, true, IfOk, IfErr, Ok};
+ghost use Rattle.std.specs.Prelude.{◌≡◌, true, IsOk, IfOk, IfErr, Ok};
 ghost use Rattle.wit_model.specs.declared.calls.Call.TheVariants.{Check};
+ghost use Rattle.wit_model.specs.Rules.Preparing.{IsPrepared, Prepares};
 ghost use Rattle.wit_model.specs.Rules.Refusals.{IsRefusal};
 ghost use Rattle.wit_model.specs.Rules.State.{state_of, seat_at, is_seat, is_live};
-ghost use Rattle.wit_model.specs.Rules.Step.{AnswersOrFails, answer_of};
+ghost use Rattle.wit_model.specs.Rules.Step.{AnswersOrFails, answer_of, is_logged, logged};
 ghost use Rattle.wit_model.specs.Rules.Verdict.{verdict};
 ghost use Rattle.wit_core.specs.Verdict.{told, replied};
 
 use crate::known::{flags_of, type_of};
+use crate::ready::{Plan, Ready};
 use crate::verifier::Verifier;
 use std::alloc::Global;
 use wit_check::{Verdict, verdict};
@@ -27,7 +29,7 @@ impl Verifier {
     /// In this order: `UnknownSeat`; `UnknownLock`; `UnknownFile`; `ModeNotAllowed` for a mutex asked for shared;
     /// `Pending` where the seat has a request; `RecursionTooDeep`, unless nothing is watched, where it has acquired the lock 65,536 times;
     /// where everything is watched, `SleepUnderSpin` for a lock of the sleep kind where the seat holds a spin lock, and for a lock that
-    /// it holds `SharedOfExclusive`, `ExclusiveOfShared` and `Recursed`; `LogFull`; `OutOfMemory`.
+    /// it holds `SharedOfExclusive`, `ExclusiveOfShared` and `Recursed`; `LogFull`; `OutOfMemory`, but not where it is prepared.
     pub fn check(
         &mut self,
         seat: SeatNo,
@@ -36,8 +38,10 @@ impl Verifier {
         ops: OpFlags,
         site: Site,
     ) -> Result<Reply, Fault>
-        ensures { AnswersOrFails self.old seat.0
+        ensures answer { AnswersOrFails self.old seat.0
             (Check (record { lock = lock; site = site; mode = mode; ops = ops })) result self.new }
+        ensures prepared { IsPrepared self.old seat.0
+            (Check (record { lock = lock; site = site; mode = mode; ops = ops })) → IsOk result }
     {
         let request = Request {
             lock,
@@ -50,10 +54,23 @@ impl Verifier {
 
     // The same for a request as a value.
     pub(crate) fn ask(&mut self, seat: SeatNo, request: Request) -> Result<Reply, Fault>
-        ensures { AnswersOrFails self.old seat.0 (Check request) result self.new }
+        ensures answer { AnswersOrFails self.old seat.0 (Check request) result self.new }
+        ensures prepared { IsPrepared self.old seat.0 (Check request) → IsOk result }
+    {
+        if !self.is_ready(seat, Plan::Check(request)) {
+            let _reply = self.ready_check(seat, request)?;
+        }
+        Ok(self.enter_check(seat, request))
+    }
+
+    // Prepares a request.
+    pub(crate) fn ready_check(&mut self, seat: SeatNo, request: Request) -> Result<Reply, Fault>
+        ensures answer { Prepares self.old seat.0 (Check request) result self.new }
+        ensures logged { IfOk result (λ r. is_logged r ≡ true) }
     {
         let verdict = self.answer_check(seat, request)?;
-        self.enter_check(seat, request, verdict)
+        let reply = reply_to(self.alloc, verdict)?;
+        self.make_ready(seat, Plan::Check(request), reply)
     }
 
     fn answer_check(&self, seat: SeatNo, request: Request) -> Result<Verdict, Fault>
@@ -74,7 +91,7 @@ impl Verifier {
     fn verdict(&self, seat: SeatNo, request: Request) -> Verdict
         requires seat { is_seat (state_of self.now) seat.0 ≡ true }
         requires lock { is_live (state_of self.now) request.lock.0 ≡ true }
-        ensures { told result ≡ verdict (state_of self.now).known (state_of self.now).watch (seat_at (state_of self.now) seat.0) request }
+        ensures { told result ≡ verdict (state_of self.now).profile (state_of self.now).known (state_of self.now).watch (seat_at (state_of self.now) seat.0) request }
     {
         let known = &self.known;
         let locks = known.locks();
@@ -97,20 +114,14 @@ impl Verifier {
         )
     }
 
-    // Enters a request and what its verdict tells; the reply tells the same.
-    fn enter_check(
-        &mut self,
-        seat: SeatNo,
-        request: Request,
-        verdict: Verdict,
-    ) -> Result<Reply, Fault>
-        requires { answer_of self.old seat.0 (Check request) ≡ told verdict }
-        ensures { AnswersOrFails self.old seat.0 (Check request) result self.new }
+    // Enters a request that is prepared, and what its reply tells. It takes no memory.
+    fn enter_check(&mut self, seat: SeatNo, request: Request) -> Reply
+        requires { IsPrepared self.old seat.0 (Check request) }
+        ensures answer { answer_of self.old seat.0 (Check request) ≡ Ok result }
+        ensures logged { is_logged result ≡ true }
+        ensures entered { self.new ≡ logged self.old seat.0 (Check request) result }
     {
-        let reply = reply_to(self.alloc, verdict)?;
-        let kept = reply.share()?;
-        self.log.reserve(3)?;
-        self.known.make_room(&reply)?;
+        let Ready { reply, kept, .. } = self.ready.take().unwrap();
         self.known.learn(request, &reply);
         self.seats.ask(seat, request);
         let entry = Entry {
@@ -119,7 +130,7 @@ impl Verifier {
             reply: kept,
         };
         self.log.push(entry, 2);
-        Ok(reply)
+        reply
     }
 }
 

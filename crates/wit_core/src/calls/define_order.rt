@@ -1,13 +1,15 @@
 //! `define_order`: one lock's type is to be before another's.
 
-ghost use Rattle.std.specs.Prelude.{◌≡◌, true, Ok};
+ghost use Rattle.std.specs.Prelude.{◌≡◌, true, Ok, IsOk};
 ghost use Rattle.wit_model.specs.declared.calls.Call.TheVariants.{DefineOrder};
 ghost use Rattle.wit_model.specs.Rules.Defining.{define};
+ghost use Rattle.wit_model.specs.Rules.Preparing.{IsPrepared, Prepares};
 ghost use Rattle.wit_model.specs.Rules.State.{state_of, is_live};
-ghost use Rattle.wit_model.specs.Rules.Step.{AnswersOrFails, answer_of, is_logged};
+ghost use Rattle.wit_model.specs.Rules.Step.{AnswersOrFails, answer_of, is_logged, logged};
 
 use crate::defining::defined;
 use crate::known::type_of;
+use crate::ready::{Plan, Ready};
 use crate::verifier::Verifier;
 use wit_check::define;
 use wit_model::{Call, Entry, Fault, LockNo, Reply, SeatNo};
@@ -20,20 +22,39 @@ impl Verifier {
     /// # Errors
     /// In this order: `UnknownSeat`; `UnknownLock` for either lock; `Pending` where the seat has a request; and where something is watched:
     /// `KindMismatch` where one lock is a spin lock and the other isn't; `SameType` where both are of one type; `WrongOrder` where the
-    /// second one's type is before the first one's; `LogFull`; `OutOfMemory`.
+    /// second one's type is before the first one's; `LogFull`; `OutOfMemory`, but not where it is prepared.
     pub fn define_order(
         &mut self,
         seat: SeatNo,
         first: LockNo,
         second: LockNo,
     ) -> Result<Reply, Fault>
-        ensures { AnswersOrFails self.old seat.0 (DefineOrder first second) result self.new }
+        ensures answer { AnswersOrFails self.old seat.0 (DefineOrder first second) result self.new }
+        ensures prepared { IsPrepared self.old seat.0 (DefineOrder first second) → IsOk result }
+    {
+        if !self.is_ready(seat, Plan::Define(first, second)) {
+            let reply = self.ready_define(seat, first, second)?;
+            if !is_logged(&reply) {
+                return Ok(reply);
+            }
+        }
+        Ok(self.enter_define(seat, first, second))
+    }
+
+    // Prepares a definition.
+    pub(crate) fn ready_define(
+        &mut self,
+        seat: SeatNo,
+        first: LockNo,
+        second: LockNo,
+    ) -> Result<Reply, Fault>
+        ensures { Prepares self.old seat.0 (DefineOrder first second) result self.new }
     {
         let reply = self.answer_define(seat, first, second)?;
         if !is_logged(&reply) {
             return Ok(reply);
         }
-        self.enter_define(seat, first, second, reply)
+        self.make_ready(seat, Plan::Define(first, second), reply)
     }
 
     fn answer_define(&self, seat: SeatNo, first: LockNo, second: LockNo) -> Result<Reply, Fault>
@@ -71,21 +92,14 @@ impl Verifier {
         defined(verdict)
     }
 
-    // Enters a definition and what its reply tells.
-    fn enter_define(
-        &mut self,
-        seat: SeatNo,
-        first: LockNo,
-        second: LockNo,
-        reply: Reply,
-    ) -> Result<Reply, Fault>
-        requires answer { answer_of self.old seat.0 (DefineOrder first second) ≡ Ok reply }
-        requires logged { is_logged reply ≡ true }
-        ensures { AnswersOrFails self.old seat.0 (DefineOrder first second) result self.new }
+    // Enters a definition that is prepared, and what its reply tells. It takes no memory.
+    fn enter_define(&mut self, seat: SeatNo, first: LockNo, second: LockNo) -> Reply
+        requires { IsPrepared self.old seat.0 (DefineOrder first second) }
+        ensures answer { answer_of self.old seat.0 (DefineOrder first second) ≡ Ok result }
+        ensures logged { is_logged result ≡ true }
+        ensures entered { self.new ≡ logged self.old seat.0 (DefineOrder first second) result }
     {
-        let kept = reply.share()?;
-        self.log.reserve(1)?;
-        self.known.make_room(&reply)?;
+        let Ready { reply, kept, .. } = self.ready.take().unwrap();
         self.known.define(&reply);
         let entry = Entry {
             seat,
@@ -93,7 +107,7 @@ impl Verifier {
             reply: kept,
         };
         self.log.push(entry, 0);
-        Ok(reply)
+        reply
     }
 }
 

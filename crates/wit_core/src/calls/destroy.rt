@@ -50,6 +50,7 @@ impl Verifier {
             call: Call::Destroy(lock),
             reply: Reply::Done,
         };
+        self.ready = None;
         self.log.push(entry, 0);
         Ok(())
     }

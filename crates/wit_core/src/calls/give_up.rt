@@ -40,6 +40,7 @@ impl Verifier {
             call: Call::GiveUp(lock),
             reply: Reply::Done,
         };
+        self.ready = None;
         self.log.push_owed(entry, 1);
     }
 }

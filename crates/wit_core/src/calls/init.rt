@@ -142,6 +142,7 @@ impl Verifier {
             call: Call::Init(made),
             reply: Reply::Made(number),
         };
+        self.ready = None;
         self.log.push(entry, 0);
         Ok(())
     }

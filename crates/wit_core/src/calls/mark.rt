@@ -75,6 +75,7 @@ impl Verifier {
             call: Call::NoRelease(lock),
             reply: Reply::Done,
         };
+        self.ready = None;
         self.log.push(entry, 0);
         Ok(())
     }
@@ -92,6 +93,7 @@ impl Verifier {
             call: Call::ReleaseOk(lock),
             reply: Reply::Done,
         };
+        self.ready = None;
         self.log.push(entry, 0);
         Ok(())
     }

@@ -55,6 +55,7 @@ impl Verifier {
             call: Call::Note(lock),
             reply: acquisition.reply(),
         };
+        self.ready = None;
         self.log.push_owed(entry, 1 - acquisition.owed());
         acquisition
     }

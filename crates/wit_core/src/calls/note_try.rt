@@ -72,6 +72,7 @@ impl Verifier {
             call: Call::NoteTry(lock, mode, site),
             reply: acquisition.reply(),
         };
+        self.ready = None;
         self.log.push(entry, acquisition.owed());
         Ok(acquisition)
     }

@@ -56,6 +56,7 @@ impl Verifier {
             call: Call::SetWatch(watch),
             reply: Reply::Done,
         };
+        self.ready = None;
         self.log.push(entry, 0);
         Ok(())
     }

@@ -83,6 +83,7 @@ impl Verifier {
             call: turn_call(lock, mode),
             reply: Reply::Done,
         };
+        self.ready = None;
         self.log.push(entry, 0);
         Ok(())
     }

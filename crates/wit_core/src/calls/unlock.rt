@@ -45,6 +45,7 @@ impl Verifier {
             call: Call::Unlock(lock, mode),
             reply: Reply::Unlocked,
         };
+        self.ready = None;
         self.log.push_owed(entry, 0);
         Ok(true)
     }

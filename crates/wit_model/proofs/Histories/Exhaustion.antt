@@ -8,6 +8,7 @@ use Rattle.wit_model.specs.declared.locks.Watch.{Watch}
 use Rattle.wit_model.specs.declared.locks.Instance.{Instance}
 use Rattle.wit_model.specs.declared.calls.Asked.{Asked}
 use Rattle.wit_model.specs.declared.calls.Call.{Call}
+use Rattle.wit_model.specs.declared.calls.Request.{Request}
 use Rattle.wit_model.specs.declared.calls.Call.TheVariants.{Init, Check, Note, NoteTry, GiveUp, Unlock, SetWatch}
 use Rattle.wit_model.specs.declared.calls.Reply.{Reply}
 use Rattle.wit_model.specs.declared.calls.Reply.TheVariants.{Pass, Silent, Reversal, Duplicate, Recorded, Exhausted, Unrecorded}
@@ -48,6 +49,11 @@ told_ruled profile g w q c r (Learnt plain l) = ap is_exhaustion l.reply
 told_ruled profile g w q c r (Doubled d) = told_doubled g q d.held r d.reply
 told_ruled profile g w q c r (Broken b) = told_reported g q c b.held r b.reply
 
+pub check-told : (s : State) (t : ℕ) (q : Request) (r : Reply) → step s t (Check q) ≡ Ok r → is_exhaustion r ≡ false
+check-told s t q r ok =
+    let said = ruled s.profile (basis_of s.known) s.watch (seat_at s t).sleep (seat_at s t).spin (asked_of s.known q) r (check_accepted s t q r ok).verdict in
+    told_ruled s.profile (basis_of s.known) s.watch (asked_of s.known q) (chain_asked (basis_of s.known) (seat_at s t).sleep (seat_at s t).spin (asked_of s.known q)) r said
+
 -- an acquisition tells it only where something is watched
 told_recorded : (off held none : Bool) → is_exhaustion (cond off Unrecorded (cond held Recorded (cond none Exhausted Recorded))) ≡ true → off ≡ false
 told_recorded true held none is = absurd (false≢true is)
@@ -65,10 +71,7 @@ plain-told r plain = refl
 
 told_watched : (s : State) (t : ℕ) (c : Call) (r : Reply) → step s t c ≡ Ok r → is_logged r ≡ true → is_exhaustion r ≡ true → is_off s.watch ≡ false
 told_watched s t (Init lock) r ok kept is = not_told r (ap is_exhaustion (init_accepted s t lock r ok).reply) is
-told_watched s t (Check q) r ok kept is =
-    let said = ruled s.profile (basis_of s.known) s.watch (seat_at s t).sleep (seat_at s t).spin (asked_of s.known q) r (check_accepted s t q r ok).verdict in
-    not_told r
-    (told_ruled s.profile (basis_of s.known) s.watch (asked_of s.known q) (chain_asked (basis_of s.known) (seat_at s t).sleep (seat_at s t).spin (asked_of s.known q)) r said) is
+told_watched s t (Check q) r ok kept is = not_told r (check-told s t q r ok) is
 told_watched s t (Note l) r ok kept is = told_acquired s t l.0 r (note_accepted s t l.0 r ok).reply is
 told_watched s t (NoteTry l m site) r ok kept is = told_acquired s t l.0 r (try_accepted s t l.0 m site r ok).reply is
 told_watched s t (GiveUp l) r ok kept is = not_told r (ap is_exhaustion (give_up_accepted s t l.0 r ok).reply) is

@@ -128,3 +128,11 @@ legal-named start files name h legal =
     legal-other start files (files ++ name ∷ []) h legal
     (all_tell-more (length files) (length (files ++ name ∷ [])) h (omega (arith, length-append files (name ∷ [])))
     (legal-tells start files h legal))
+
+-- and a call that is accepted is accepted with one more
+pub answer-named : (start : Start) (files : List (List ℕ)) (name : List ℕ) (h : List Entry) (t : ℕ) (c : Call) (r : Reply)
+    → answer_of (story_after start files h) t c ≡ Ok r → answer_of (story_after start (files ++ name ∷ []) h) t c ≡ Ok r
+answer-named start files name h t c r ok =
+    answer-other start files (files ++ name ∷ []) h t c r
+    (tells-more (length files) (length (files ++ name ∷ [])) c (omega (arith, length-append files (name ∷ [])))
+    (told-now start files h t c r ok)) ok

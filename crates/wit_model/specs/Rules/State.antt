@@ -7,6 +7,7 @@ use Rattle.wit_model.specs.declared.locks.TypeNo.{TypeNo}
 use Rattle.wit_model.specs.declared.locks.Watch.{Watch}
 use Rattle.wit_model.specs.declared.locks.Instance.{Instance}
 use Rattle.wit_model.specs.declared.calls.Adoption.{Adoption}
+use Rattle.wit_model.specs.declared.calls.Call.{Call}
 use Rattle.wit_model.specs.declared.calls.Reply.{Reply}
 use Rattle.wit_model.specs.declared.calls.Reply.TheVariants.{Silent, Reversal, Duplicate}
 use Rattle.wit_model.specs.declared.calls.Request.{Request}
@@ -27,16 +28,17 @@ pub record Start : Type 0 where
   pub lists : List (List (Class × List ℕ))
   pub blessed : List (List ℕ × List ℕ)
 
--- a verifier as its callers see it: how it began, its history (newest entry first), and the files that were
--- named to it (in the order of their numbers, from 1)
+-- a verifier as its callers see it: how it began, its history (newest entry first), the files that were
+-- named to it (in the order of their numbers, from 1), and the call of a seat that is prepared, which no rule reads
 pub record Story : Type 0 where
   pub start : Start
   pub history : List Entry
   pub files : List (List ℕ)
+  pub ready : Option (ℕ × Call)
 
--- nothing has happened, and no file is named
+-- nothing has happened, no file is named, and no call is prepared
 abbrev pub fresh : Start → Story
-fresh start = record { start = start; history = []; files = [] }
+fresh start = record { start = start; history = []; files = []; ready = None }
 
 -- what a seat holds, of each kind oldest first, the groups in which these locks lie, and what it has asked for
 pub record Seat : Type 0 where

@@ -148,7 +148,7 @@ abbrev pub answer_of : Story → ℕ → Call → Result Reply Fault
 answer_of story t call = step (state_of story) t call
 
 abbrev pub story_after : Start → List (List ℕ) → List Entry → Story
-story_after start files h = record { start = start; history = h; files = files }
+story_after start files h = record { start = start; history = h; files = files; ready = None }
 
 -- a call that is passed over isn't logged
 abbrev pub is_logged : Reply → Bool
@@ -161,9 +161,10 @@ IsLegal start files [] = Unit {0}
 IsLegal start files (e ∷ h) =
     (answer_of (story_after start files h) e.seat.0 e.call ≡ Ok e.reply) × (is_logged e.reply ≡ true) × IsLegal start files h
 
--- the story with one more entry
+-- the story with one more entry, after which no call is prepared any longer
 abbrev pub logged : Story → ℕ → Call → Reply → Story
-logged s t call reply = record s { history = record { seat = record { 0 = t }; call = call; reply = reply } ∷ s.history }
+logged s t call reply =
+    record s { history = record { seat = record { 0 = t }; call = call; reply = reply } ∷ s.history; ready = None }
 
 -- the story after an accepted call
 abbrev pub grown : Story → ℕ → Call → Reply → Story

@@ -1,11 +1,11 @@
-use Rattle.std.proofs.Common.{refl}
+use Rattle.std.proofs.Common.{refl, arith}
 use Rattle.wit_model.specs.declared.calls.Call.TheVariants.{Destroy}
 use Rattle.wit_model.specs.declared.calls.Reply.TheVariants.{Done}
 use Rattle.wit_core.proofs.Keeping.{kept_entered, log_after}
 use Rattle.wit_core.proofs.Entries.Accepting.{accepted}
 use Rattle.wit_core.proofs.Entries.Destroying.{destroyed_live, destroyed_typed, leaves_destroy}
 use Rattle.wit_core.proofs.Entries.Plain.{plain_room}
-use Rattle.wit_core.proofs.Whole.{kept}
+use Rattle.wit_core.proofs.Whole.{kept, kept_roomy}
 use Rattle.wit_core.proofs.verifier.Verifier.enter_destroy.Goals as goal
 
 pub destroy-requires-clause-live : goal.destroy-requires-clause-live
@@ -25,3 +25,7 @@ invariant_of-self-2 c =
     (leaves_destroy c.self.inside c.self.invariant.tied c.args.self.now c.self.view_is c.args.seat.0 c.args.lock c.requires)
     c.destroy.ensures refl refl (log_after c.self.inside.log c.reserve.new.self c.push.new.self _ 0 _ c.reserve.ensures.same c.push.ensures)
     c.self.invariant.tied refl (accepted c.self.inside c.self.invariant.tied c.args.self.now c.self.view_is c.args.seat.0 (Destroy c.args.lock) Done c.requires))
+
+pub invariant_of-self : goal.invariant_of-self
+invariant_of-self c =
+    kept_roomy c.self.inside c.self.inside.known c.reserve.new.self c.self.invariant refl c.reserve.ensures.same (omega arith) c.reserve.ensures.grows

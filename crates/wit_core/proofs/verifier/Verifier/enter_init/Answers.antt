@@ -34,10 +34,11 @@ invariant_of-self-2 c =
     c.self.invariant.tied refl (accepted c.self.inside c.self.invariant.tied c.args.self.now c.self.view_is c.args.seat.0 (Init c.args.made) (Made c.args.number) c.requires))
 
 pub invariant_of-self : goal.invariant_of-self
-invariant_of-self c = kept_roomy c.self.inside c.self.inside.known c.reserve.new.self c.self.invariant refl c.reserve.ensures.same
+invariant_of-self c = kept_roomy c.self.inside c.self.inside.known c.reserve.new.self c.self.invariant refl c.reserve.ensures.same (omega arith) c.reserve.ensures.grows
 
 pub invariant_of-self-in_err-add_lock : goal.invariant_of-self-in_err-add_lock
 invariant_of-self-in_err-add_lock c =
     let same = c.in_err-add_lock.ensures.err in
     kept_roomy c.self.inside c.add_lock.new.self c.reserve.new.self c.self.invariant
     (same ∙ ap (λ (f : Facts). record c.self.inside.known { spare = f.spare }) (sym same)) c.reserve.ensures.same
+    (let spare = ap (λ (f : Facts). f.spare) same in omega (arith, spare)) c.reserve.ensures.grows

@@ -1,4 +1,4 @@
-use Rattle.std.proofs.Common.{true, refl, ap, ◌∙◌}
+use Rattle.std.proofs.Common.{true, refl, ap, ◌∙◌, arith}
 use Rattle.wit_model.specs.Rules.Types.{is_spin}
 use Rattle.wit_model.specs.declared.calls.Call.TheVariants.{NoRelease}
 use Rattle.wit_model.specs.declared.calls.Reply.TheVariants.{Done}
@@ -6,7 +6,7 @@ use Rattle.wit_core.proofs.Keeping.{kept_entered, log_after}
 use Rattle.wit_core.proofs.Entries.Accepting.{accepted, given}
 use Rattle.wit_core.proofs.Entries.Acquiring.{acquire_once}
 use Rattle.wit_core.proofs.Turning.{mark_room, leaves_mark}
-use Rattle.wit_core.proofs.Whole.{kept}
+use Rattle.wit_core.proofs.Whole.{kept, kept_roomy}
 use Rattle.wit_core.proofs.verifier.Verifier.enter_norelease.Goals as goal
 
 pub forbid-requires-clause-seat : goal.forbid-requires-clause-seat
@@ -25,3 +25,7 @@ invariant_of-self-2 c =
     (leaves_mark c.self.inside c.self.invariant.tied c.args.self.now c.self.view_is c.args.seat.0 c.args.lock c.is_spin-spin.result (c.is_spin-spin.ensures ∙ ap is_spin c.class_of_lock.ensures) true c.requires)
     refl c.forbid.ensures refl (log_after c.self.inside.log c.reserve.new.self c.push.new.self _ 0 _ c.reserve.ensures.same c.push.ensures)
     c.self.invariant.tied refl (accepted c.self.inside c.self.invariant.tied c.args.self.now c.self.view_is c.args.seat.0 (NoRelease c.args.lock) Done c.requires))
+
+pub invariant_of-self : goal.invariant_of-self
+invariant_of-self c =
+    kept_roomy c.self.inside c.self.inside.known c.reserve.new.self c.self.invariant refl c.reserve.ensures.same (omega arith) c.reserve.ensures.grows

@@ -5,7 +5,7 @@ use Rattle.wit_core.specs.Acquiring.{reply_to}
 use Rattle.wit_core.proofs.Keeping.{kept_entered, log_after, tried_log}
 use Rattle.wit_core.proofs.Entries.Accepting.{accepted, given}
 use Rattle.wit_core.proofs.Entries.Acquiring.{owed-few, reply-logged, reply-told, acquire_once, try_shallow, try_room, leaves_try}
-use Rattle.wit_core.proofs.Whole.{kept}
+use Rattle.wit_core.proofs.Whole.{kept, kept_roomy}
 use Rattle.wit_core.proofs.verifier.Verifier.enter_try.Goals as goal
 
 pub acquire-acquisition-requires-clause-seat : goal.acquire-acquisition-requires-clause-seat
@@ -37,3 +37,7 @@ invariant_of-self-2 c =
     (log_after c.self.inside.log c.reserve.new.self c.push.new.self _ _ _ c.reserve.ensures.same c.push.ensures
     ∙ ap₂ (tried_log c.self.inside.log c.reserve.new.self.spare c.args.seat.0 (NoteTry c.args.lock c.args.mode c.args.site)) c.reply.ensures c.owed.ensures)
     c.self.invariant.tied (reply-logged c.acquire-acquisition.result) (accepted c.self.inside c.self.invariant.tied c.args.self.now c.self.view_is c.args.seat.0 (NoteTry c.args.lock c.args.mode c.args.site) (reply_to c.acquire-acquisition.result) (c.requires ∙ ap (λ r. Ok r) (sym (reply-told c.self.inside c.self.invariant.tied c.args.self.now c.self.view_is c.args.seat.0 c.args.lock c.is_spin-spin.result (c.is_spin-spin.ensures ∙ ap is_spin c.class_of_lock.ensures) c.acquire-acquisition.result c.acquire-acquisition.ensures.result)))))
+
+pub invariant_of-self : goal.invariant_of-self
+invariant_of-self c =
+    kept_roomy c.self.inside c.self.inside.known c.reserve.new.self c.self.invariant refl c.reserve.ensures.same (omega arith) c.reserve.ensures.grows

@@ -1,4 +1,4 @@
-use Rattle.std.proofs.Common.{refl, ap, ◌∙◌}
+use Rattle.std.proofs.Common.{refl, ap, ◌∙◌, arith}
 use Rattle.wit_model.specs.Rules.Types.{is_spin}
 use Rattle.wit_model.specs.declared.calls.Reply.TheVariants.{Done}
 use Rattle.wit_core.specs.Turning.{turn_call}
@@ -6,7 +6,7 @@ use Rattle.wit_core.proofs.Keeping.{kept_entered, log_after, tried_log}
 use Rattle.wit_core.proofs.Entries.Accepting.{accepted, given}
 use Rattle.wit_core.proofs.Entries.Acquiring.{acquire_once}
 use Rattle.wit_core.proofs.Turning.{turn_room, leaves_turn}
-use Rattle.wit_core.proofs.Whole.{kept}
+use Rattle.wit_core.proofs.Whole.{kept, kept_roomy}
 use Rattle.wit_core.proofs.verifier.Verifier.enter_turn.Goals as goal
 
 pub turn-requires-clause-seat : goal.turn-requires-clause-seat
@@ -26,3 +26,7 @@ invariant_of-self-2 c =
     refl c.turn.ensures refl (log_after c.self.inside.log c.reserve.new.self c.push.new.self _ 0 _ c.reserve.ensures.same c.push.ensures
     ∙ ap (λ call. tried_log c.self.inside.log c.reserve.new.self.spare c.args.seat.0 call Done 0) c.turn_call.ensures)
     c.self.invariant.tied refl (accepted c.self.inside c.self.invariant.tied c.args.self.now c.self.view_is c.args.seat.0 (turn_call c.args.mode c.args.lock) Done c.requires))
+
+pub invariant_of-self : goal.invariant_of-self
+invariant_of-self c =
+    kept_roomy c.self.inside c.self.inside.known c.reserve.new.self c.self.invariant refl c.reserve.ensures.same (omega arith) c.reserve.ensures.grows

@@ -1,10 +1,10 @@
-use Rattle.std.proofs.Common.{refl}
+use Rattle.std.proofs.Common.{refl, arith}
 use Rattle.wit_model.specs.declared.calls.Call.TheVariants.{SetWatch}
 use Rattle.wit_model.specs.declared.calls.Reply.TheVariants.{Done}
 use Rattle.wit_core.proofs.Keeping.{kept_entered, log_after}
 use Rattle.wit_core.proofs.Entries.Accepting.{accepted}
 use Rattle.wit_core.proofs.Entries.Watching.{watch_room, leaves_watch}
-use Rattle.wit_core.proofs.Whole.{kept}
+use Rattle.wit_core.proofs.Whole.{kept, kept_roomy}
 use Rattle.wit_core.proofs.verifier.Verifier.enter_watch.Goals as goal
 
 pub push-requires-clause-room : goal.push-requires-clause-room
@@ -17,3 +17,7 @@ invariant_of-self-2 c =
     (leaves_watch c.self.inside c.self.invariant.tied c.args.self.now c.self.view_is c.args.seat.0 c.args.watch c.requires)
     refl refl refl (log_after c.self.inside.log c.reserve.new.self c.push.new.self _ 0 _ c.reserve.ensures.same c.push.ensures)
     c.self.invariant.tied refl (accepted c.self.inside c.self.invariant.tied c.args.self.now c.self.view_is c.args.seat.0 (SetWatch c.args.watch) Done c.requires))
+
+pub invariant_of-self : goal.invariant_of-self
+invariant_of-self c =
+    kept_roomy c.self.inside c.self.inside.known c.reserve.new.self c.self.invariant refl c.reserve.ensures.same (omega arith) c.reserve.ensures.grows

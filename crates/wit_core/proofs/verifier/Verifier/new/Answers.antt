@@ -35,7 +35,7 @@ invariant_of-result c =
     c.types-types.ensures.value c.deref.ensures.value c.deref-2.ensures.value c.in_ok-known.ensures.ok
     c.enter_lists.new.self c.bless_all.new.self c.in_ok-enter_lists.ensures.entered c.in_ok-bless_all.ensures.ok)
     (c.in_ok-seats.ensures.ok ∙ ap₂ idle_row c.seats.ensures.value c.chunks.ensures.value) refl
-    (subst (λ n. c.new-3.result ≡ record { limit = n; history = []; owed = 0; spare = c.new-3.result.spare }) c.log.ensures.value c.new-3.ensures)
+    (subst (λ n. c.new-3.result ≡ record { limit = n; history = []; owed = 0; spare = c.new-3.result.spare }) c.log.ensures.value c.new-3.ensures) refl
     (all-accepted c.args.limits c.types-types.result c.args.lists.items c.deref.result.now c.args.blessed.items c.deref-2.result.now c.in_ok-known.known
     c.types-types.ensures.value c.deref.ensures.value c.deref-2.ensures.value c.in_ok-known.ensures.ok
     c.in_ok-enter_lists.ensures.accepted c.in_ok-bless_all.ensures.good))

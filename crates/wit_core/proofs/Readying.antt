@@ -1,0 +1,65 @@
+-- What is known of a call that is prepared, and what the answer to one teaches.
+use Rattle.std.proofs.Common.{◌≡◌, ℕ, List, [], ◌∷◌, ◌++◌, Option, None, Some, IfSome, Result, Ok, Err, IfOk, refl, sym, ap, ◌∙◌, subst}
+use Rattle.std.specs.Option.{option_map}
+use Rattle.wit_model.specs.declared.faults.Fault.{Fault}
+use Rattle.wit_model.specs.declared.calls.Adoption.{Adoption}
+use Rattle.wit_model.specs.declared.calls.Call.{Call}
+use Rattle.wit_model.specs.declared.calls.Call.TheVariants.{Check, DefineOrder}
+use Rattle.wit_model.specs.declared.calls.Reply.{Reply}
+use Rattle.wit_model.specs.declared.calls.Reply.TheVariants.{Ignored}
+use Rattle.wit_model.specs.declared.calls.Entry.{Entry}
+use Rattle.wit_model.specs.Rules.Orders.{AreDistinct, adopted}
+use Rattle.wit_model.specs.Rules.Preparing.{IsPrepared, Prepares}
+use Rattle.wit_model.specs.Rules.Start.{start_fault}
+use Rattle.wit_model.specs.Rules.State.{Story, orders_of}
+use Rattle.wit_model.specs.Rules.Step.{answer_of, IsLegal}
+use Rattle.wit_model.proofs.Chains.Seats.{entry}
+use Rattle.wit_model.proofs.Orders.Once.{distinct_legal}
+use Rattle.wit_matrix.specs.Relation.{OrdersAmong}
+use Rattle.wit_core.specs.declared.ready.Ready.{Ready}
+use Rattle.wit_core.specs.declared.verifier.Verifier.TheInside.{Inside}
+use Rattle.wit_core.specs.Kept.{IsReady, IsTied, story_in}
+use Rattle.wit_core.specs.Plans.{call_of, named}
+use Rattle.wit_core.proofs.Keeping.{orders_within}
+
+same_pair : (p q : ℕ × Call) → ◌≡◌ {A = Option (ℕ × Call)} (Some p) (Some q) → p ≡ q
+same_pair p q is = cc
+
+module _ (v : Inside) (k : IsTied v) (s : Story) (seen : story_in v ≡ s) (r : Ready) (there : v.ready ≡ Some r) where
+  pub is_ready : IsReady v r
+  is_ready = subst (λ (o : Option Ready). IfSome o (IsReady v)) there k.ready
+
+  module _ (t : ℕ) (call : Call) (asked : IsPrepared s t call) where
+    same_call : named r ≡ (t, call)
+    same_call =
+        same_pair (named r) (t, call)
+        (sym (ap (λ (o : Option Ready). option_map named o) there) ∙ (ap (λ (x : Story). x.ready) seen ∙ asked))
+
+    pub ready_answer : answer_of s t call ≡ Ok r.reply
+    ready_answer =
+        subst (λ (p : ℕ × Call). answer_of s p.0 p.1 ≡ Ok r.reply) same_call
+        (subst (λ (x : Story). answer_of x r.seat.0 (call_of r.plan) ≡ Ok r.reply) seen is_ready.answer)
+
+no_more : (call : Call) → adopted call Ignored ≡ []
+no_more (Check q) = refl
+no_more (DefineOrder a b) = refl
+no_more _ = refl
+
+-- what holds of the orders of each legal history holds of those with what the answer to a call teaches
+teaches : (P : List Adoption → Type 0) (s : Story) → IsLegal s.start s.files s.history
+    → ((h : List Entry) → IsLegal s.start s.files h → P (orders_of s.start h))
+    → (t : ℕ) (call : Call) (r : Result Reply Fault) (new : Story) → Prepares s t call r new → IfOk r (λ reply. P (adopted call reply ++ orders_of s.start s.history))
+teaches P s legal all t call (Err fault) new told = tt
+teaches P s legal all t call (Ok reply) new told = go reply told.0
+  where
+    go : (r : Reply) → answer_of s t call ≡ Ok r → P (adopted call r ++ orders_of s.start s.history)
+    go Ignored ok = subst (λ os. P (os ++ orders_of s.start s.history)) (sym (no_more call)) (all s.history legal)
+    go r ok = all (entry t call r ∷ s.history) (ok, refl, legal)
+
+module _ (s : Story) (started : start_fault s.start ≡ None) (legal : IsLegal s.start s.files s.history) (t : ℕ) (call : Call) (r : Result Reply Fault) (new : Story)
+    (told : Prepares s t call r new) where
+  pub teaches_among : IfOk r (λ reply. OrdersAmong s.start.sizes.types (adopted call reply ++ orders_of s.start s.history))
+  teaches_among = teaches (OrdersAmong s.start.sizes.types) s legal (λ h is. orders_within s.start s.files h started is) t call r new told
+
+  pub teaches_distinct : IfOk r (λ reply. AreDistinct (adopted call reply ++ orders_of s.start s.history))
+  teaches_distinct = teaches AreDistinct s legal (λ h is. distinct_legal s.start s.files h is) t call r new told
