@@ -1,6 +1,7 @@
 -- The rules from the fourth on, each where the ones before it don't apply.
 use Rattle.std.proofs.Common.{◌≡◌, ℕ, ap, ◌∙◌, Bool, true, false, not, ◌&&◌, List, [], ◌∷◌, None, Some, is_some, Result, Ok, Err, find, reverse, refl}
 use Rattle.std.specs.List.{last_or}
+use Rattle.wit_model.specs.declared.profiles.Profile.TheVariants.{Plain}
 use Rattle.wit_model.specs.declared.faults.Fault.{Fault}
 use Rattle.wit_model.specs.declared.faults.Fault.TheVariants.{SleepUnderSpin}
 use Rattle.wit_model.specs.declared.locks.Watch.{Watch}
@@ -53,15 +54,15 @@ of-spin kind held is = rw is refl
 
 module _ (g : Basis) (watch : Watch) (sleep spin : List Instance) (q : Asked) (on : is_on watch ≡ true) where
   pub spin-decides : is_spin (class_of q.type_no.0 g.types) ≡ false → is_some (last_or None spin) ≡ true
-      → ◌≡◌ {A = Result Reply Fault} (Err SleepUnderSpin) (ruling g watch sleep spin q)
+      → ◌≡◌ {A = Result Reply Fault} (Err SleepUnderSpin) (ruling Plain g watch sleep spin q)
   spin-decides sleeps some = rw (on, sleeps, some) refl
 
   module _ (calm : (not (is_spin (class_of q.type_no.0 g.types)) && is_some (last_or None spin)) ≡ false) where
-    pub nothing-decides : last_or None (chain_asked g sleep spin q) ≡ None → ◌≡◌ {A = Result Reply Fault} (Ok Pass) (ruling g watch sleep spin q)
+    pub nothing-decides : last_or None (chain_asked g sleep spin q) ≡ None → ◌≡◌ {A = Result Reply Fault} (Ok Pass) (ruling Plain g watch sleep spin q)
     nothing-decides none = rw (on, calm, none) refl
 
     pub chain-decides : (last : Instance) → last_or None (chain_asked g sleep spin q) ≡ Some last
-        → decided (over g (chain_asked g sleep spin q) last q) ≡ ruling g watch sleep spin q
+        → decided (over g (chain_asked g sleep spin q) last q) ≡ ruling Plain g watch sleep spin q
     chain-decides last is = rw (on, calm, is) refl
 
 -- the list of the requested lock's kind is the chain that a request is judged by

@@ -2,6 +2,7 @@
 
 ghost use Rattle.std.specs.Prelude.{◌≡◌, ◌≤◌, true, length, None, Some, is_some};
 ghost use Rattle.std.specs.List.{last_or};
+ghost use Rattle.wit_model.specs.declared.profiles.Profile.TheVariants.{Plain};
 ghost use Rattle.wit_model.specs.Rules.Numbers.{IsNumber, IsGiven};
 ghost use Rattle.wit_model.specs.Rules.Chunks.{IsList, chain_of, list_of};
 ghost use Rattle.wit_model.specs.Rules.Verdict.{decided, ruling};
@@ -46,7 +47,7 @@ pub fn verdict<L: Lists>(
     requires types { AreTypes types.now lock_types.now }
     requires asked { IsGiven types.now.types request.type_no.0 }
     requires sized { length types.now.types ≤ matrix.now.size }
-    ensures { answer_of result ≡ ruling (basis types.now matrix.now lock_types.now) watch
+    ensures { answer_of result ≡ ruling Plain (basis types.now matrix.now lock_types.now) watch
         (sleep_chain (L.chunks lists.now) seat.0) (spin_chain (L.chunks lists.now) seat.0) request }
 {
     if !watch.is_on() {

@@ -4,6 +4,7 @@ use Rattle.std.specs.List.{All, AllByRecursion, list_all}
 use Rattle.std.proofs.lemmas.Bool.{and_parts, and_from, lt-ltb, le-leb}
 use Rattle.std.proofs.lemmas.List.{length-map, get_or_default}
 use Rattle.std.proofs.lemmas.List.Elements.{All-map, All-from_recursion}
+use Rattle.wit_model.specs.declared.profiles.Profile.TheVariants.{Plain}
 use Rattle.wit_model.specs.declared.flags.LockFlags.{LockFlags}
 use Rattle.wit_model.specs.declared.locks.Instance.{Instance}
 use Rattle.wit_model.specs.declared.locks.Lock.{Lock}
@@ -142,18 +143,18 @@ module _ (v : Inside) (k : IsTied v) (s : Story) (seen : story_in v ≡ s) where
         → names.types ≡ v.known.known.types → names.blessed ≡ v.known.known.blessed → HasSameOrders relation.orders v.known.known.orders → HasSameFound relation.found v.known.known.found
         → types ≡ map (λ (l : Lock). l.type_no) v.known.known.locks → watch ≡ v.watch
         → type_no ≡ (lock_at v.known.known.locks q.lock.0).type_no → flags ≡ (lock_at v.known.known.locks q.lock.0).made.flags
-        → ruling (basis names relation types) watch (sleep_chain c t) (spin_chain c t)
+        → ruling Plain (basis names relation types) watch (sleep_chain c t) (spin_chain c t)
         (record { lock = q.lock; type_no = type_no; flags = flags; mode = q.mode; ops = q.ops; site = q.site })
-        ≡ verdict (state_of s).known (state_of s).watch (seat_at (state_of s) t) q
+        ≡ verdict (state_of s).profile (state_of s).known (state_of s).watch (seat_at (state_of s) t) q
     verdict-told names relation types watch q type_no flags same_types same_blessed direct pairs are watches type_is flags_are =
         same-ruling (basis names relation types) v.known.known.orders v.known.known.found direct (same_before relation.orders v.known.known.orders direct) pairs
-        watch (sleep_chain c t) (spin_chain c t) (asked type_no flags)
-        ∙ ap₂ (λ ts bs. ruling (with_lists ts types bs) watch (sleep_chain c t) (spin_chain c t) (asked type_no flags)) same_types same_blessed
-        ∙ ap₂ (λ ls w. ruling (with_lists v.known.known.types ls v.known.known.blessed) w (sleep_chain c t) (spin_chain c t) (asked type_no flags)) are watches
-        ∙ ap₂ (λ sl sp. ruling (basis_of v.known.known) v.watch sl sp (asked type_no flags)) (chain-of-list false) (chain-of-list true)
-        ∙ ap₂ (λ n fs. ruling (basis_of v.known.known) v.watch (locks_in false (seat_in v.seats t)) (locks_in true (seat_in v.seats t)) (asked n fs)) type_is flags_are
-        ∙ ap (λ x. verdict v.known.known v.watch x q) (sym (view-is v.seats t))
-        ∙ ap (λ (x : State). verdict x.known x.watch (seat_at x t) q) (now v k s seen)
+        Plain watch (sleep_chain c t) (spin_chain c t) (asked type_no flags)
+        ∙ ap₂ (λ ts bs. ruling Plain (with_lists ts types bs) watch (sleep_chain c t) (spin_chain c t) (asked type_no flags)) same_types same_blessed
+        ∙ ap₂ (λ ls w. ruling Plain (with_lists v.known.known.types ls v.known.known.blessed) w (sleep_chain c t) (spin_chain c t) (asked type_no flags)) are watches
+        ∙ ap₂ (λ sl sp. ruling Plain (basis_of v.known.known) v.watch sl sp (asked type_no flags)) (chain-of-list false) (chain-of-list true)
+        ∙ ap₂ (λ n fs. ruling Plain (basis_of v.known.known) v.watch (locks_in false (seat_in v.seats t)) (locks_in true (seat_in v.seats t)) (asked n fs)) type_is flags_are
+        ∙ ap (λ x. verdict Plain v.known.known v.watch x q) (sym (view-is v.seats t))
+        ∙ ap (λ (x : State). verdict x.profile x.known x.watch (seat_at x t) q) (now v k s seen)
       where
         asked : TypeNo → LockFlags → Asked
         asked n fs = record { lock = q.lock; type_no = n; flags = fs; mode = q.mode; ops = q.ops; site = q.site }

@@ -2,6 +2,7 @@
 use Rattle.std.proofs.Common.{◌≡◌, ℕ, ◌-◌, ◌<◌, ◌≤◌, Bool, List, [], ◌∷◌, ◌++◌, Option, None, Some, length, map, set, get_or, refl, sym, ap, ◌∙◌, arith}
 use Rattle.std.proofs.lemmas.List.FromFn.{length-map-range_with_len}
 use Rattle.std.proofs.lemmas.List.{set-get_or, set-set, get_or-set_same, map-set, get_or-map, length-map}
+use Rattle.wit_model.specs.declared.profiles.Profile.TheVariants.{Plain}
 use Rattle.wit_model.specs.declared.locks.LockNo.{LockNo}
 use Rattle.wit_model.specs.declared.locks.Mode.{Mode}
 use Rattle.wit_model.specs.declared.locks.Site.{Site}
@@ -32,7 +33,7 @@ use Rattle.wit_core.proofs.HeldSeats.{acquired-view, released-view}
 -- a state by its parts
 abbrev pub state : Sizes → ℕ → Known → List ℕ → List model.Seat → Watch → ℕ → State
 state sizes files known destroyed seats watch used =
-    record { sizes = sizes; files = files; known = known; destroyed = destroyed; seats = seats; watch = watch; used = used }
+    record { sizes = sizes; profile = Plain; files = files; known = known; destroyed = destroyed; seats = seats; watch = watch; used = used }
 
 pub same_state : (sizes : Sizes) (f f' : ℕ) (k k' : Known) (d d' : List ℕ) (ss ss' : List model.Seat) (w w' : Watch) (u u' : ℕ)
     → f ≡ f' → k ≡ k' → d ≡ d' → ss ≡ ss' → w ≡ w' → u ≡ u' → state sizes f k d ss w u ≡ state sizes f' k' d' ss' w' u'

@@ -4,7 +4,7 @@ use Rattle.wit_model.specs.declared.locks.Lock.{Lock}
 use Rattle.wit_model.specs.declared.calls.Request.{Request}
 use Rattle.wit_model.specs.declared.calls.Call.TheVariants.{Check, DefineOrder}
 use Rattle.wit_model.specs.declared.calls.Reply.{Reply}
-use Rattle.wit_model.specs.declared.calls.Reply.TheVariants.{Adopted, Silent, Duplicate, Reversal}
+use Rattle.wit_model.specs.declared.calls.Reply.TheVariants.{Adopted, AdoptedAll, Silent, Duplicate, Reversal}
 use Rattle.wit_model.specs.Rules.Locks.{lock_at}
 use Rattle.wit_model.specs.Rules.Numbers.{IsNumber}
 use Rattle.wit_model.specs.Rules.Orders.{is_before, is_direct}
@@ -12,10 +12,12 @@ use Rattle.wit_model.specs.Rules.Defining.{are_of_two_kinds}
 use Rattle.wit_model.specs.declared.faults.Fault.TheVariants.{KindMismatch, SameType, WrongOrder}
 use Rattle.wit_model.specs.declared.locks.TypeNo.{TypeNo}
 use Rattle.wit_model.specs.declared.calls.Reply.TheVariants as reply
-use Rattle.wit_model.specs.Rules.State.{Known, state_of, types_of, typed_locks}
+use Rattle.wit_model.specs.Rules.State.{Known, seat_at, state_of, types_of, typed_locks}
+use Rattle.wit_model.specs.Rules.Verdict.{basis_of, asked_of}
 use Rattle.wit_model.specs.Rules.Step.{answer_of, is_logged}
 use Rattle.wit_model.proofs.Histories.Accepted.{same_reply, check_accepted, define_accepted}
 use Rattle.wit_model.proofs.Orders.Among.{adopted-orderly, defined-orderly, silent-known, duplicate-known, reversal-known}
+use Rattle.wit_model.proofs.Orders.Sound.{never-all}
 use Rattle.wit_core.specs.declared.verifier.Verifier.TheInside.{Inside}
 use Rattle.wit_core.specs.Known.{IsApt}
 use Rattle.wit_core.specs.Defining.{IsDefined}
@@ -77,6 +79,9 @@ module _ (v : Inside) (k : IsTied v) where
         apart = o.apart;
         orderly = ap (λ (x : Known). is_before x.orders c.0 p.0) (known-is v k) ∙ o.orderly;
       }
+  apt t q (AdoptedAll pairs) ok =
+      let s = state_of (story_in v) in
+      never-all (basis_of s.known) s.watch (seat_at s t).sleep (seat_at s t).spin (asked_of s.known q) pairs (check_accepted s t q _ ok).verdict
   apt t q (Silent a b) ok =
       let o = silent-known (start_in v) v.known.files (history_in v) t q a b k.legal (check_accepted (state_of (story_in v)) t q _ ok) in
       (number v k a.0 o.0, number v k b.0 o.1)

@@ -3,7 +3,7 @@ use Rattle.std.specs.Prelude.{ℕ, ◌<◌, Bool, List, [], ◌++◌, IsOk}
 use Rattle.wit_model.specs.declared.calls.Call.TheVariants.{Init, Check}
 use Rattle.wit_model.specs.declared.calls.NewLock.{NewLock}
 use Rattle.wit_model.specs.declared.calls.Reply.{Reply}
-use Rattle.wit_model.specs.declared.calls.Reply.TheVariants.{Adopted, Silent, Duplicate, Reversal}
+use Rattle.wit_model.specs.declared.calls.Reply.TheVariants.{Adopted, AdoptedAll, Silent, Duplicate, Reversal}
 use Rattle.wit_model.specs.declared.calls.Request.{Request}
 use Rattle.wit_model.specs.Rules.Types.{types_after, type_name_of}
 use Rattle.wit_model.specs.Rules.Locks.{lock_at, made_among}
@@ -29,9 +29,11 @@ nothing = record { types = []; locks = []; orders = []; found = []; blessed = []
 abbrev pub IsAdmitted : Facts → NewLock → Type 0
 IsAdmitted f lock = IsOk (enroll_answer (type_name_of lock) lock.class f.most_types f.known.types)
 
--- what a reply teaches is an order that can be adopted among n types, or a pair of them
+-- what a reply teaches is an order that can be adopted among n types, or a pair of them; no reply is
+-- of several orders, since the last held lock alone is compared with
 abbrev pub IsApt : ℕ → Known → Reply → Type 0
 IsApt n k (Adopted p c) = CanFollow n k.orders p.0 c.0
+IsApt n k (AdoptedAll pairs) = ⊥
 IsApt n k (Silent a b) = IsNumber n a.0 × IsNumber n b.0
 IsApt n k (Duplicate d) = IsNumber n (lock_at k.locks d.asked.lock.0).type_no.0
 IsApt n k (Reversal c) = IsNumber n (lock_at k.locks c.held.lock.0).type_no.0 × IsNumber n (lock_at k.locks c.asked.lock.0).type_no.0

@@ -22,7 +22,7 @@ impl Verifier {
     /// `OutOfMemory` alone.
     pub fn wait_circle(&self) -> Result<Option<Vec<SeatNo>>, Fault>
         ensures ok { IfOk result (λ c. TellsCircle (state_of self.now) (circle_numbers c)) }
-        ensures clean { self.now.start.blessed ≡ [] → is_clean self.now.history ≡ true → IfOk result (λ c. c ≡ None) }
+        ensures clean { self.now.start.blessed ≡ [] → is_clean self.now.start.profile self.now.history ≡ true → IfOk result (λ c. c ≡ None) }
         ensures err { IfErr result (λ e. e ≡ OutOfMemory) }
     {
         // Called for its clause that there are never more than 256 seats.

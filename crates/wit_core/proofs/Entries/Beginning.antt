@@ -3,6 +3,7 @@ use Rattle.std.proofs.Common.{◌≡◌, ℕ, zero, suc, ◌+◌, true, false, L
 use Rattle.std.specs.List.{range_with_len}
 use Rattle.std.specs.Option.{option_map}
 use Rattle.std.specs.Global.{Vec, Global}
+use Rattle.wit_model.specs.declared.profiles.Profile.TheVariants.{Plain}
 use Rattle.wit_model.specs.declared.locks.Class.{Class}
 use Rattle.wit_model.specs.declared.locks.Watch.TheVariants.{On}
 use Rattle.wit_model.specs.Rules.Sizes.{Sizes}
@@ -41,8 +42,8 @@ module _ (v : Inside) (sizes : Sizes) (lists : List (Vec (Class × String Global
   start_begun : start_in v ≡ start_of sizes lists blessed
   start_begun =
       ap (λ (x : Sizes). record (start_in v) { sizes = x }) limits
-      ∙ (ap (λ ls. record { sizes = sizes; lists = all_listed ls; blessed = v.known.known.blessed }) same_lists
-      ∙ ap (λ (x : Known). record { sizes = sizes; lists = all_listed lists; blessed = x.blessed }) (begun.known))
+      ∙ (ap (λ ls. record { sizes = sizes; profile = Plain; lists = all_listed ls; blessed = v.known.known.blessed }) same_lists
+      ∙ ap (λ (x : Known). record { sizes = sizes; profile = Plain; lists = all_listed lists; blessed = x.blessed }) (begun.known))
 
   no_history : history_in v ≡ []
   no_history = ap (λ (l : Journal). l.history) log

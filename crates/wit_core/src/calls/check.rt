@@ -91,7 +91,7 @@ impl Verifier {
     fn verdict(&self, seat: SeatNo, request: Request) -> Verdict
         requires seat { is_seat (state_of self.now) seat.0 ≡ true }
         requires lock { is_live (state_of self.now) request.lock.0 ≡ true }
-        ensures { told result ≡ verdict (state_of self.now).known (state_of self.now).watch (seat_at (state_of self.now) seat.0) request }
+        ensures { told result ≡ verdict (state_of self.now).profile (state_of self.now).known (state_of self.now).watch (seat_at (state_of self.now) seat.0) request }
     {
         let known = &self.known;
         let locks = known.locks();

@@ -3,6 +3,7 @@ use Rattle.std.proofs.Common.{◌≡◌, ℕ, Bool, true, false, not, ◌&&◌, 
 use Rattle.std.specs.List.{list_all, last_or}
 use Rattle.std.proofs.lemmas.Bool.{and_parts, and_from, eq-eqb, true≢false, not-true}
 use Rattle.std.proofs.lemmas.List.Folds.{list_all-append}
+use Rattle.wit_model.specs.declared.profiles.Profile.TheVariants.{Plain}
 use Rattle.wit_model.specs.declared.profiles.Profile.{Profile}
 use Rattle.wit_model.specs.declared.faults.Fault.{Fault}
 use Rattle.wit_model.specs.declared.locks.TypeNo.{TypeNo}
@@ -113,6 +114,18 @@ learnt-all profile g watch sleep spin q ps ok = go (ruled profile g watch sleep 
       orderly = l.orderly;
       pairs = (let same = l.reply in cc);
     }
+
+-- where the last held lock alone is compared with, no reply tells several
+pub never-all : (g : Basis) (watch : Watch) (sleep spin : List Instance) (q : Asked) (ps : List (TypeNo × TypeNo))
+    → ruling Plain g watch sleep spin q ≡ Ok (AdoptedAll ps) → ⊥
+never-all g watch sleep spin q ps ok = go (ruled Plain g watch sleep spin q (AdoptedAll ps) ok)
+  where
+    go : Says Plain g watch q (chain_asked g sleep spin q) (AdoptedAll ps) → ⊥
+    go (Passed passes why) = (cc)
+    go (Doubled d) = doubled_teaches_none g q d.held ps d.reply
+    go (Broken broken) = reported_teaches_none g q (chain_asked g sleep spin q) broken.held ps broken.reply
+    go (Learnt plain l) = (let same = l.reply in cc)
+    go (LearntAll all l) = (cc)
 
 through : (t : ℕ) (h : List Entry) (k : Bool) (ls : List ℕ) → list_all (λ l. is_held t l h && is_of_kind k (locks_of h) l) ls ≡ true
     → list_all (λ (i : Instance). is_held t i.lock.0 h) (map (instance t h) ls) ≡ true
