@@ -1,0 +1,5 @@
+//! The adopted orders, shown to observers that look at them without waiting: who adopts publishes each order, and an
+//! observer answers from a copy that nobody changes while it looks.
+#![tactic(auto)]
+
+mod cells;
