@@ -10,7 +10,7 @@ use Rattle.wit_model.specs.declared.calls.Adoption.{Adoption}
 use Rattle.wit_model.specs.Rules.Numbers.{is_number}
 use Rattle.wit_model.specs.Rules.Orders.{is_adoption_of, is_direct}
 use Rattle.wit_model.proofs.Orders.Types.{place-append, place-past, place-within}
-use Rattle.wit_observers.specs.Numbers.{number_in, fits, place, number_at, numbered, numbered_all, HasNumbers}
+use Rattle.wit_observers.specs.Numbers.{number_in, fits, place, number_at, numbered, numbered_all, all_fit, HasNumbers}
 
 -- ---- numbers in a longer list
 
@@ -170,18 +170,16 @@ module _ (n : ℕ) (os : List Adoption) (cells : List ℕ) (has : HasNumbers n o
   one_more : HasNumbers n (os ++ o ∷ []) more
   one_more = record { square = square_more; numbers = numbers_more }
 
-length-snoc : (os : List Adoption) (o : Adoption) → length (os ++ o ∷ []) ≡ length os + 1
-length-snoc os o = length-append os (o ∷ [])
-
 -- the square says the numbers of more orders once they are put in
-pub put_numbers : (n : ℕ) (os : List Adoption) (cells : List ℕ) (later : List Adoption) → HasNumbers n os cells
-    → list_all (λ (o : Adoption). fits n o.parent.0 o.child.0) later ≡ true → HasNumbers n (os ++ later) (numbered_all n cells (length os + 1) later)
+pub put_numbers : (n : ℕ) (os : List Adoption) (cells : List ℕ) (later : List Adoption) → HasNumbers n os cells → all_fit n later ≡ true
+    → HasNumbers n (os ++ later) (numbered_all n cells (length os) later)
 put_numbers n os cells [] has all = subst (λ l. HasNumbers n l cells) (sym (append-nil os)) has
 put_numbers n os cells (o ∷ later) has all =
-    let parts = and_parts (fits n o.parent.0 o.child.0) (list_all (λ (o : Adoption). fits n o.parent.0 o.child.0) later) all in
-    let rest = put_numbers n (os ++ o ∷ []) (numbered n cells o.parent.0 o.child.0 (length os + 1)) later (one_more n os cells has o parts.0) parts.1 in
-    subst (λ k. HasNumbers n (os ++ o ∷ later) (numbered_all n (numbered n cells o.parent.0 o.child.0 (length os + 1)) (k + 1) later)) (length-snoc os o)
-    (subst (λ l. HasNumbers n l (numbered_all n (numbered n cells o.parent.0 o.child.0 (length os + 1)) (length (os ++ o ∷ []) + 1) later)) (append_assoc os (o ∷ []) later) rest)
+    let parts = and_parts (fits n o.parent.0 o.child.0) (all_fit n later) all in
+    let first = numbered n cells o.parent.0 o.child.0 (length os + 1) in
+    let rest = put_numbers n (os ++ o ∷ []) first later (one_more n os cells has o parts.0) parts.1 in
+    subst (λ k. HasNumbers n (os ++ o ∷ later) (numbered_all n first k later)) (length-append os (o ∷ []))
+    (subst (λ l. HasNumbers n l (numbered_all n first (length (os ++ o ∷ [])) later)) (append_assoc os (o ∷ []) later) rest)
 
 -- a square with no numbers is that of no orders
 pub blank_numbers : (n : ℕ) → HasNumbers n [] (replicate (n * n) 0)

@@ -1,6 +1,6 @@
 -- The numbers of adopted orders: an order's number is its place in a list of them, oldest first, counted from 1.
 use Rattle.std.specs.Prelude.{ℕ, ◌+◌, ◌-◌, ◌*◌, ◌≡◌, Bool, ◌&&◌, ◌==◌, List, [], ◌∷◌, length, get_or, slice_set, if◌then◌else◌}
-use Rattle.std.specs.List.{position_or_len}
+use Rattle.std.specs.List.{list_all, position_or_len}
 use Rattle.wit_model.specs.declared.calls.Adoption.{Adoption}
 use Rattle.wit_model.specs.Rules.Numbers.{is_number}
 use Rattle.wit_model.specs.Rules.Orders.{is_adoption_of, is_direct}
@@ -26,10 +26,14 @@ abbrev pub numbered : ℕ → List ℕ → ℕ → ℕ → ℕ → List ℕ
 numbered n cells a b number =
     if fits n a b && (number_at n cells a b == 0) then slice_set cells (place n a b) number else cells
 
--- the cells once these orders have the numbers from this one on
+-- the cells once these orders have the numbers behind those of so many before them
 abbrev pub numbered_all : ℕ → List ℕ → ℕ → List Adoption → List ℕ
-numbered_all n cells number [] = cells
-numbered_all n cells number (o ∷ later) = numbered_all n (numbered n cells o.parent.0 o.child.0 number) (number + 1) later
+numbered_all n cells before [] = cells
+numbered_all n cells before (o ∷ later) = numbered_all n (numbered n cells o.parent.0 o.child.0 (before + 1)) (before + 1) later
+
+-- whether all these orders are between the first n types
+abbrev pub all_fit : ℕ → List Adoption → Bool
+all_fit n orders = list_all (λ o. fits n o.parent.0 o.child.0) orders
 
 -- the square says the number of each order
 pub record HasNumbers (n : ℕ) (orders : List Adoption) (cells : List ℕ) : Type 0 where

@@ -58,13 +58,13 @@ fn put(n: u16, cells: &mut [u32], order: Adoption, number: u32)
     }
 }
 
-/// Gives orders their numbers, from this one on. An order that has a number keeps it.
-pub fn put_all(n: u16, cells: &mut [u32], first: u32, orders: &[Adoption])
+/// Gives orders the numbers behind those of so many before them. An order that has a number keeps it.
+pub fn put_all(n: u16, cells: &mut [u32], before: u32, orders: &[Adoption])
     requires square { length cells.old ≡ n * n }
-    requires room { first + length orders.now ≤ 2 ^ 32 }
-    ensures { cells.new ≡ numbered_all n cells.old first orders.now }
+    requires room { before + length orders.now < 2 ^ 32 }
+    ensures { cells.new ≡ numbered_all n cells.old before orders.now }
 {
     for index in 0..orders.len() {
-        put(n, cells, orders[index], first + index as u32);
+        put(n, cells, orders[index], before + index as u32 + 1);
     }
 }

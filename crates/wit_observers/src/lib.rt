@@ -3,3 +3,8 @@
 #![tactic(auto)]
 
 mod cells;
+mod news;
+mod observer;
+mod publisher;
+mod rule;
+mod store;
