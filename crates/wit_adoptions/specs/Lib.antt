@@ -1,0 +1,4 @@
+pub mod Fronts
+pub mod Links
+pub mod Naming
+pub mod Steps
