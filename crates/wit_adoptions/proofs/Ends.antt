@@ -4,7 +4,6 @@ use Rattle.std.proofs.lemmas.List.{append-nil}
 use mathlib.Core.List.{IsPrefix}
 use Rattle.std.proofs.lemmas.Bool.Decides.{nat_tests}
 use Rattle.logbook.specs.Pages.{Cell, cell}
-use Rattle.wit_model.specs.declared.calls.Adoption.{Adoption}
 use Rattle.wit_adoptions.specs.declared.link.Link.{Link}
 use Rattle.wit_adoptions.specs.Links.{orders_behind, end_behind, AreUsedUp}
 

@@ -1,8 +1,7 @@
 //! A beginning of a list.
 
 ghost use Rattle.std.specs.Prelude.{◌≡◌, length};
-ghost use Rattle.std.specs.Ordering.{MatchOrdering};
-ghost use Rattle.wit_adoptions.specs.Fronts.{IsShorter};
+ghost use Rattle.wit_adoptions.specs.Fronts.{Compares};
 ghost use Rattle.wit_adoptions.specs.Naming.{IsOf, listed};
 
 use crate::law::Law;
@@ -80,7 +79,7 @@ impl<J: Naming> Front<J> {
     /// Whether this front is shorter than the other, is the same, or is longer. The longer one
     /// begins with the shorter one.
     pub fn compare(&self, other: &Front<J>) -> Ordering
-        ensures { MatchOrdering result (IsShorter self.now other.now) (self.now ≡ other.now) (IsShorter other.now self.now) }
+        ensures { Compares self.now other.now result }
     {
         let mut both = self.seen.again();
         both.learn(&other.seen);

@@ -2,8 +2,7 @@
 
 ghost use Rattle.std.specs.Prelude.{◌≡◌, ◌+◌, ◌<◌, ◌^◌, ◌++◌, [], length};
 ghost use mathlib.Core.List.{IsPrefix};
-ghost use Rattle.logbook.specs.Pages.{may_write};
-ghost use Rattle.wit_adoptions.specs.Naming.{head_of};
+ghost use Rattle.wit_adoptions.specs.Keeping.{IsUnused, head_of};
 
 use crate::front::Front;
 use crate::law::{Adding, Covering, Ending, Growth, Law, Nothing};
@@ -20,8 +19,7 @@ const STILL: u64 = 0;
 // A pen for an end that is new in the book.
 fn new_end(head: &Word<Link, u64, Law>, seen: &Seen<Link, u64, Law>) -> Pen
     requires { head.now ≡ head_of seen.now.book }
-    ensures book { result.book ≡ seen.now.book }
-    ensures right { result.nib.right ≡ may_write }
+    ensures { IsUnused seen.now.book result }
 {
     let mut now = seen.again();
     let mut offer: Offer<Link, u64, Law, Nothing> = now.plain::<Nothing, (), Covering>(&());
@@ -40,15 +38,14 @@ pub struct Opened {
 }
 
 impl Model for Opened {
-    ghost use Rattle.std.specs.Prelude.{◌≡◌, []};
-    ghost use Rattle.logbook.specs.Pages.{may_write};
-    ghost use Rattle.wit_adoptions.specs.Naming.{Name, head_of};
+    ghost use Rattle.wit_adoptions.specs.Keeping.{IsNew};
+    ghost use Rattle.wit_adoptions.specs.Naming.{Name, name};
 
     ghost Value = { Name };
 
-    ghost view = { λ o. record { book = o.seen.book; start = o.pen.nib.key } };
+    ghost view = { λ o. name o.seen.book o.pen.nib.key };
 
-    ghost invariant = { λ o. (o.seen.log ≡ []) × (o.head ≡ head_of o.seen.book) × (o.pen.book ≡ o.seen.book) × (o.pen.nib.right ≡ may_write) };
+    ghost invariant = { λ o. IsNew o.head o.seen.book o.seen.log o.pen };
 }
 
 impl Opened {
@@ -89,17 +86,16 @@ pub struct Keeper<J: Naming> {
 }
 
 impl<J: Naming> Model for Keeper<J> {
-    ghost use Rattle.std.specs.Prelude.{◌≡◌, List};
-    ghost use Rattle.logbook.specs.Pages.{may_write};
+    ghost use Rattle.std.specs.Prelude.{List};
     ghost use Rattle.wit_model.specs.declared.calls.Adoption.{Adoption};
-    ghost use Rattle.wit_adoptions.specs.Links.{end_behind};
-    ghost use Rattle.wit_adoptions.specs.Naming.{IsOf, head_of, listed, sheet};
+    ghost use Rattle.wit_adoptions.specs.Keeping.{IsKeeping};
+    ghost use Rattle.wit_adoptions.specs.Naming.{listed, sheet};
 
     ghost Value = { List Adoption };
 
     ghost view = { λ k. listed J.list (sheet k.seen.book k.seen.log k.count) };
 
-    ghost invariant = { λ k. IsOf J.list (sheet k.seen.book k.seen.log k.count) × (k.head ≡ head_of J.list.book) × (k.pen.book ≡ J.list.book) × (k.pen.nib.right ≡ may_write) × (end_behind J.list.start k.seen.log ≡ k.pen.nib.key) };
+    ghost invariant = { λ k. IsKeeping J.list k.head (sheet k.seen.book k.seen.log k.count) k.pen };
 }
 
 impl<J: Naming> Keeper<J> {

@@ -72,8 +72,9 @@ pub struct Growth<'a> {
 /// What a step asks for: the link.
 impl<'a> Plain<Growth<'a>, Link, u64> for Adding {
     ghost use Rattle.std.specs.Prelude.{None};
+    ghost use Rattle.wit_adoptions.specs.Links.{link};
 
-    ghost ask = { λ g. record { end = g.end.now.nib.key; next = g.next.now.nib.key; orders = g.orders.now } };
+    ghost ask = { λ g. link g.end.now.nib.key g.next.now.nib.key g.orders.now };
 
     ghost state = { λ g. None };
 }
@@ -81,8 +82,9 @@ impl<'a> Plain<Growth<'a>, Link, u64> for Adding {
 /// A step that adds nothing asks for nothing.
 impl Plain<(), Link, u64> for Covering {
     ghost use Rattle.std.specs.Prelude.{None, []};
+    ghost use Rattle.wit_adoptions.specs.Links.{link};
 
-    ghost ask = { λ _. record { end = 0; next = 0; orders = [] } };
+    ghost ask = { λ _. link 0 0 [] };
 
     ghost state = { λ _. None };
 }

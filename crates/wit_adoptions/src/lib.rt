@@ -19,3 +19,6 @@ pub use link::Link;
 pub use naming::Naming;
 pub use page::Page;
 pub use program::{Program, keep};
+
+#[cfg(test)]
+mod tests;

@@ -11,5 +11,7 @@ pub trait Naming {
 }
 
 impl Naming for Brand {
-    ghost list = { record { book = record { number = 0; log_name = 0; cells_name = 0 }; start = 0 } };
+    ghost use Rattle.wit_adoptions.specs.Naming.{name};
+
+    ghost list = { name (record { number = 0; log_name = 0; cells_name = 0 }) 0 };
 }

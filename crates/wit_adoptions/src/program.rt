@@ -6,7 +6,8 @@ use crate::keeper::{Keeper, Opened};
 use crate::naming::Naming;
 use std::marker::Brand;
 
-/// What a program does with a list, whatever name the list has.
+/// What a program does with a list, whatever name the list has. It needs no proof of its own that
+/// its types belong to one list.
 pub trait Program {
     ghost use Rattle.std.specs.Prelude.{◌≡◌, []};
 
@@ -16,7 +17,7 @@ pub trait Program {
     ghost done: { Self → Self.Out → Type 0 };
 
     /// Runs the program on a list with no orders.
-    fn run<J: Naming>(self, keeper: Keeper<J>) -> Self::Out
+    fn run<J: Naming + Send + Sync>(self, keeper: Keeper<J>) -> Self::Out
         requires { keeper ≡ [] }
         ensures { done self result };
 }
@@ -28,7 +29,7 @@ pub fn keep<S: Program>(program: S) -> S::Out
     keep_as::<Brand, S>(Opened::new(), program)
 }
 
-fn keep_as<J: Naming, S: Program>(opened: Opened, program: S) -> S::Out
+fn keep_as<J: Naming + Send + Sync, S: Program>(opened: Opened, program: S) -> S::Out
     requires { opened ≡ J.list }
     ensures { S.done program result }
 {

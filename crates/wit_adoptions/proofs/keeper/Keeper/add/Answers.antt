@@ -10,8 +10,8 @@ compare_exchange-requires g c =
     let book = sym (ap (λ w. w.book) kept.1) in (
       ap (λ w. w.tracked) kept.1,
       kept.0.0 ∙ book,
-      kept.2 ∙ book,
+      kept.2.0 ∙ book,
       offer.0,
       rw (ap (λ w. w.key) kept.1, offer.3)
-          (adds_moves c.self.inside.seen.log c.plain-offer.result.ask pen.nib kept.3 (sym (ap (λ l. l.end) offer.1))),
+          (adds_moves c.self.inside.seen.log c.plain-offer.result.ask pen.nib kept.2.1 (sym (ap (λ l. l.end) offer.1))),
     )
