@@ -1,5 +1,5 @@
 -- The steps under the rule: publish, tell, learn and look.
-use Rattle.std.proofs.Common.{◌≡◌, ◌≢◌, ℕ, ◌+◌, ◌<◌, ◌≤◌, Bool, true, false, cond, nat_le, List, [], ◌∷◌, ◌++◌, length, set, refl, ap, sym, ◌∙◌, subst, ⊎_elim, arith, append-nil, length-append, Option, None, Some, IfSome}
+use Rattle.std.proofs.Common.{◌≡◌, ◌≢◌, ℕ, Bool, true, false, cond, nat_le, List, [], ◌∷◌, ◌++◌, length, set, refl, ap, sym, ◌∙◌, subst, ⊎_elim, arith, length-append, Option, None, Some, IfSome}
 use mathlib.Core.List.{IsPrefix}
 use mathlib.Core.Option.{some, some-ne-none}
 use lib.ListN.{get_elem?}
@@ -48,10 +48,11 @@ module _ (name : Name) where
   pub goes : (seat : ℕ) (told : List Adoption) (s t : Store) → GoesOn name (shape_of s) (shape_of t)
       → TurnsAt Holds seat told s t (λ told before after told_then. Sees name told (shape_of after) told_then)
   goes seat told s t on views holds at =
-      let l = shown name (shape_of t) in
-      (l,
-       (on.0, begins_set l views seat l (begins_on (shown name (shape_of s)) l views holds.1 on.1) (prefix_refl l)),
-       (on.0, prefix_trans told (shown name (shape_of s)) l (holds.1 seat told at) on.1, refl))
+      let l = shown name (shape_of t) in (
+        l,
+        (on.0, begins_set l views seat l (begins_on (shown name (shape_of s)) l views holds.1 on.1) (prefix_refl l)),
+        (on.0, prefix_trans told (shown name (shape_of s)) l (holds.1 seat told at) on.1, refl),
+      )
 
   pub looks : (seat : ℕ) (told : List Adoption) → Turns Holds seat told (λ s. s) (λ told before after told_then. Sees name told (shape_of after) told_then)
   looks seat told s views holds at = goes seat told s s (holds.0, prefix_refl (shown name (shape_of s))) views holds at
@@ -66,8 +67,8 @@ module _ (name : Name) where
       let l = shown name (shape_of s) in
       let front = holds.1 seat told at in
       let front_too : IsPrefix w l =
-          ⊎_elim (λ (t : (other ≡ seat) × (longer told w ≡ w)). absurd (apart t.0)) (λ (t : (other ≢ seat) × (get_elem? views other ≡ some w)). holds.1 other w t.1)
-          (at_set views seat other (longer told w) w there) in
+      ⊎_elim (λ (t : (other ≡ seat) × (longer told w ≡ w)). absurd (apart t.0)) (λ (t : (other ≢ seat) × (get_elem? views other ≡ some w)). holds.1 other w t.1)
+      (at_set views seat other (longer told w) w there) in
       (holds.0, begins_set l (set views seat (longer told w)) other [] (begins_set l views seat (longer told w) holds.1 (chosen l front front_too (nat_le (length told) (length w)))) (prefix_none l))
     where
       chosen : (l : List Adoption) → IsPrefix told l → IsPrefix w l → (b : Bool) → IsPrefix (cond b w told) l

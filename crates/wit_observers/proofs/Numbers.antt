@@ -1,15 +1,14 @@
 -- The numbers of orders in a list that grows, and the square of cells that says them.
-use Rattle.std.proofs.Common.{◌≡◌, ◌≢◌, ◌⊎◌, ℕ, ◌+◌, ◌-◌, ◌*◌, ◌/◌, ◌<◌, ◌≤◌, Bool, true, false, ◌&&◌, ◌||◌, not, cond, eqb, List, [], ◌∷◌, ◌++◌, length, get_or, set, replicate, nat_lt, nat_le, refl, ap, sym, ◌∙◌, subst, inl, inr, ⊎_elim, arith, append-nil, length-append, append_assoc}
-use Rattle.std.specs.List.{list_any, list_all, position_or_len}
-use Rattle.std.proofs.lemmas.Bool.{cases_Bool, false≢true, lt-ltb, le-leb, leb-true, ltb-true, leb-false, and_parts, and_from, and_right, or_parts, or_left, or_right, eqb-true, eq-eqb, ne_eqb, or_from, cond-false}
-use Rattle.std.proofs.lemmas.Bool.Decides.{eqb_tells}
+use Rattle.std.proofs.Common.{◌≡◌, ◌⊎◌, ℕ, ◌+◌, ◌-◌, ◌*◌, ◌/◌, ◌<◌, ◌≤◌, Bool, true, false, ◌||◌, not, cond, eqb, List, [], ◌∷◌, ◌++◌, length, get_or, set, replicate, nat_lt, nat_le, refl, ap, sym, ◌∙◌, subst, inl, inr, ⊎_elim, arith, append-nil, length-append, append_assoc}
+use Rattle.std.specs.List.{list_any, position_or_len}
+use Rattle.std.proofs.lemmas.Bool.{cases_Bool, false≢true, lt-ltb, le-leb, leb-true, ltb-true, and_parts, and_from, and_right, or_parts, or_left, or_right, eqb-true, eq-eqb, ne_eqb, or_from, cond-false}
 use Rattle.std.proofs.lemmas.Nat.{div-mul-add, mul-add-lt}
 use Rattle.std.proofs.lemmas.List.{length-set, get_or-set_same, get_or-set_other, get_or-replicate, length-replicate}
 use Rattle.std.proofs.lemmas.List.Folds.{list_any-append}
 use Rattle.wit_model.specs.declared.calls.Adoption.{Adoption}
 use Rattle.wit_model.specs.Rules.Numbers.{is_number}
 use Rattle.wit_model.specs.Rules.Orders.{is_adoption_of, is_direct}
-use Rattle.wit_model.proofs.Orders.Types.{place-append, place-past, place-within}
+use Rattle.wit_model.proofs.Orders.Types.{place-append, place-within}
 use Rattle.wit_observers.specs.Numbers.{number_in, fits, place, number_at, numbered, numbered_all, all_fit, HasNumbers}
 
 -- ---- numbers in a longer list
@@ -60,7 +59,7 @@ number_within os later a b = ⊎_elim known (λ none. ⊎_elim (beyond none) (no
         let e = number-later os later a b none is in
         ⊎_elim
         (λ within. absurd (let parts = and_parts (nat_lt 0 (number_in (os ++ later) a b)) (nat_le (number_in (os ++ later) a b) (length os)) within in
-            let le = leb-true (number_in (os ++ later) a b) (length os) parts.1 in omega (arith, e, le)))
+        let le = leb-true (number_in (os ++ later) a b) (length os) parts.1 in omega (arith, e, le)))
         (λ past. past ∙ sym none)
         (cases_Bool (is_number (length os) (number_in (os ++ later) a b)))
 
@@ -83,8 +82,8 @@ places_apart n a b c d here there same =
     let h = fits_bounds n a b here in
     let t = fits_bounds n c d there in
     let rows : a - 1 ≡ c - 1 =
-        sym (div-mul-add (a - 1) n (b - 1) (let l = h.1 in omega (arith, l.0, l.1)))
-        ∙ (ap (λ k. k / n) same ∙ div-mul-add (c - 1) n (d - 1) (let l = t.1 in omega (arith, l.0, l.1))) in
+    sym (div-mul-add (a - 1) n (b - 1) (let l = h.1 in omega (arith, l.0, l.1)))
+    ∙ (ap (λ k. k / n) same ∙ div-mul-add (c - 1) n (d - 1) (let l = t.1 in omega (arith, l.0, l.1))) in
     let products : (a - 1) * n ≡ (c - 1) * n = ap (λ k. k * n) rows in
     let h0 = h.0 in let h1 = h.1 in let t0 = t.0 in let t1 = t.1 in
     (omega (arith, rows, h0.0, t0.0), omega (arith, products, same, h1.0, t1.0))

@@ -1,14 +1,11 @@
 -- What a change leaves of what is shown.
-use Rattle.std.proofs.Common.{◌≡◌, ℕ, ◌+◌, ◌*◌, ◌<◌, ◌^◌, Bool, true, List, [], ◌∷◌, ◌++◌, length, replicate, refl, ap, sym, ◌∙◌, subst, arith, append-nil, length-append, Result, Ok, Err, IfOk, IfErr}
-use mathlib.Core.List.{IsPrefix}
-use mathlib.Core.Option.{some}
-use lib.ListN.{get_elem?}
+use Rattle.std.proofs.Common.{◌≡◌, ℕ, ◌+◌, ◌*◌, ◌<◌, ◌^◌, true, List, [], ◌++◌, length, replicate, refl, ap, sym, ◌∙◌, subst, arith, append-nil, length-append, Result, Ok, Err, IfOk, IfErr}
 use Rattle.wit_model.specs.declared.calls.Adoption.{Adoption}
 use Rattle.wit_adoptions.specs.Naming.{Name, Sheet, IsOf, listed}
 use Rattle.wit_observers.specs.declared.store.Shape.{Shape}
 use Rattle.wit_observers.specs.declared.store.Change.{Change}
 use Rattle.wit_observers.specs.Numbers.{numbered_all, all_fit, HasNumbers}
-use Rattle.wit_observers.specs.Shown.{shape, changed, shown, IsExact, Begins, GoesOn}
+use Rattle.wit_observers.specs.Shown.{shape, changed, shown, IsExact, GoesOn}
 use Rattle.wit_observers.proofs.Numbers.{put_numbers, blank_numbers}
 
 -- the change has all orders that are shown on its page, and more that fit

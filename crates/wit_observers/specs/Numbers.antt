@@ -29,7 +29,8 @@ numbered n cells a b number =
 -- the cells once these orders have the numbers behind those of so many before them
 abbrev pub numbered_all : ℕ → List ℕ → ℕ → List Adoption → List ℕ
 numbered_all n cells before [] = cells
-numbered_all n cells before (o ∷ later) = numbered_all n (numbered n cells o.parent.0 o.child.0 (before + 1)) (before + 1) later
+numbered_all n cells before (o ∷ later) =
+    numbered_all n (numbered n cells o.parent.0 o.child.0 (before + 1)) (before + 1) later
 
 -- whether all these orders are between the first n types
 abbrev pub all_fit : ℕ → List Adoption → Bool

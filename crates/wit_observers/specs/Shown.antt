@@ -1,5 +1,5 @@
 -- What observers are shown, and the rule under which they look at it.
-use Rattle.std.specs.Prelude.{ℕ, ◌+◌, ◌^◌, ◌≡◌, ◌<◌, List, [], ◌++◌, length, nat_le, if◌then◌else◌}
+use Rattle.std.specs.Prelude.{ℕ, ◌^◌, ◌≡◌, ◌<◌, List, ◌++◌, length, nat_le, if◌then◌else◌}
 use mathlib.Core.List.{IsPrefix}
 use mathlib.Core.Option.{some}
 use lib.ListN.{get_elem?}
@@ -39,7 +39,8 @@ IsShown name s views = IsExact name s × Begins (shown name s) views
 
 -- who looks sees all orders that are shown, at least those that it was told
 abbrev pub Sees : Name → List Adoption → Shape → List Adoption → Type 0
-Sees name told s told_then = IsExact name s × IsPrefix told (shown name s) × (told_then ≡ shown name s)
+Sees name told s told_then =
+    IsExact name s × IsPrefix told (shown name s) × (told_then ≡ shown name s)
 
 -- the one goes on where the other ended
 abbrev pub GoesOn : Name → Shape → Shape → Type 0

@@ -1,5 +1,5 @@
-//! The numbers of adopted orders, in a square of cells: for each two types the number of the order from the row's to the
-//! column's, or 0.
+//! The numbers of adopted orders, in a square of cells: for each two types the number of the order
+//! from the row's to the column's, or 0.
 
 ghost use Rattle.std.specs.Prelude.{◌≡◌, ◌+◌, ◌*◌, ◌<◌, ◌≤◌, ◌^◌, ◌&&◌, IfOk, length, replicate};
 ghost use Rattle.wit_observers.specs.Numbers.{fits, place, number_at, numbered, numbered_all};
@@ -58,7 +58,8 @@ fn put(n: u16, cells: &mut [u32], order: Adoption, number: u32)
     }
 }
 
-/// Gives orders the numbers behind those of so many before them. An order that has a number keeps it.
+/// Gives orders the numbers behind those of so many before them. An order that has a number keeps
+/// it.
 pub fn put_all(n: u16, cells: &mut [u32], before: u32, orders: &[Adoption])
     requires square { length cells.old ≡ n * n }
     requires room { before + length orders.now < 2 ^ 32 }

@@ -22,5 +22,6 @@ impl<J: Naming> Model for News<J> {
 
     ghost view = { λ n. n.front };
 
-    ghost invariant = { λ n. (length n.front < 2 ^ 32) × IfSome n.place (λ p. IsPrefix n.front (told_at p.place)) };
+    ghost invariant = { λ n. (length n.front < 2 ^ 32)
+        × IfSome n.place (λ p. IsPrefix n.front (told_at p.place)) };
 }

@@ -16,8 +16,8 @@ use std::marker::Model;
 use wit_adoptions::{Front, Naming};
 use wit_model::TypeNo;
 
-/// Who looks at adopted orders without waiting for anybody. Contracts see it as a list: how the list of adopted
-/// orders began, as far as it has learnt or seen. That never gets shorter.
+/// Who looks at adopted orders without waiting for anybody. Contracts see it as a list: how the list
+/// of adopted orders begins, as far as it has learnt or seen. That never gets shorter.
 #[derive(Drop)]
 pub struct Observer<J: Naming> {
     front: Front<J>,
@@ -36,7 +36,8 @@ impl<J: Naming> Model for Observer<J> {
 
     ghost view = { λ o. o.front };
 
-    ghost invariant = { λ o. (length o.front < 2 ^ 32) × (o.told ≡ true → IfSome o.place (λ p. IsPrefix o.front (told_at p.place))) };
+    ghost invariant = { λ o. (length o.front < 2 ^ 32)
+        × (o.told ≡ true → IfSome o.place (λ p. IsPrefix o.front (told_at p.place))) };
 }
 
 // Looks from a place: the orders on the page that is shown, and the number of one order.
@@ -45,7 +46,9 @@ fn look<J: Naming>(
     parent: TypeNo,
     child: TypeNo,
 ) -> (Place<J>, Option<(Front<J>, u32)>)
-    ensures { MatchOption result.1 (told_at result.0.place ≡ told_at place.place) (λ seen. Tells (told_at place.place) seen.0 seen.1 parent.0 child.0 (told_at result.0.place)) }
+    ensures { let told = told_at place.place in
+        let all = told_at result.0.place in
+        MatchOption result.1 (all ≡ told) (λ seen. Tells told seen.0 seen.1 parent.0 child.0 all) }
 {
     match place.enter_as::<Looks<J>>() {
         Err(place) => (place, None),
@@ -58,13 +61,14 @@ fn look<J: Naming>(
     }
 }
 
-// Takes in what was seen, unless more was known. It returns whether the place was told all of it, where it was told
-// all that was known before if that is so.
+// Takes in what was seen, unless more was known. Where the place was told all that was known, as
+// `told` says, and all that was seen, the result says whether it was told all that is known now.
 fn rise<J: Naming>(front: &mut Front<J>, seen: Front<J>, told: bool) -> bool
     requires few { (length front.old < 2 ^ 32) × (length seen < 2 ^ 32) }
     ensures few { length front.new < 2 ^ 32 }
     ensures kept { IsPrefix front.old front.new }
-    ensures told { (all : List Adoption) → IsPrefix seen all → (told ≡ true → IsPrefix front.old all) → result ≡ true → IsPrefix front.new all }
+    ensures told { (all : List Adoption) → IsPrefix seen all → (told ≡ true → IsPrefix front.old all)
+        → result ≡ true → IsPrefix front.new all }
 {
     match front.compare(&seen) {
         Ordering::Greater => told,
@@ -94,7 +98,7 @@ impl<J: Naming> Observer<J> {
         }
     }
 
-    /// Takes in news. What was known stays known.
+    /// Takes in news: all of it is known then, and what was known stays known. It waits for nobody.
     pub fn learn(&mut self, news: News<J>)
         ensures kept { IsPrefix self.old self.new }
         ensures told { IsPrefix news self.new }
@@ -115,10 +119,11 @@ impl<J: Naming> Observer<J> {
         }
     }
 
-    // Looks for the number of an order.
+    // Looks, and gives the number of an order among those that are shown.
     fn number(&mut self, parent: TypeNo, child: TypeNo) -> Option<u32>
         ensures kept { IsPrefix self.old self.new }
-        ensures number { IfSome result (λ n. is_number (length self.new) n ≡ is_direct self.new parent.0 child.0) }
+        ensures number { IfSome result (λ n.
+            is_number (length self.new) n ≡ is_direct self.new parent.0 child.0) }
     {
         let place = self.place.take()?;
         let (place, seen) = look(place, parent, child);
@@ -128,8 +133,9 @@ impl<J: Naming> Observer<J> {
         if self.told { Some(number) } else { None }
     }
 
-    /// Whether the order from one type to another is among the adopted orders that it has learnt or sees now. It
-    /// waits for nobody. `None` stands only for a publisher that has ended, or a look that is refused.
+    /// Whether the order from one type to another is among the adopted orders that it has learnt or
+    /// sees now: the direct ones, as `isitmychild` of `subr_witness.c` tells. It waits for nobody.
+    /// `None` stands only for a publisher that has ended, or for a look that is refused.
     pub fn known(&mut self, parent: TypeNo, child: TypeNo) -> Option<bool>
         ensures kept { IsPrefix self.old self.new }
         ensures known { IfSome result (λ r. r ≡ is_direct self.new parent.0 child.0) }
@@ -138,7 +144,8 @@ impl<J: Naming> Observer<J> {
         Some(1 <= number && number as u64 <= self.front.len())
     }
 
-    /// How many adopted orders it has learnt or sees now. It waits for nobody. `None` as for `known`.
+    /// How many adopted orders it has learnt or sees now. It waits for nobody. `None` stands for what
+    /// it stands for in `known`.
     pub fn orders_seen(&mut self) -> Option<u32>
         ensures kept { IsPrefix self.old self.new }
         ensures seen { IfSome result (λ n. n ≡ length self.new) }

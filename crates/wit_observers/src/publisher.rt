@@ -38,9 +38,11 @@ fn first_store(alloc: Global, page: Page, size: u16) -> Result<Store, AllocError
 
 // Shows what was added, which can't fail.
 fn show<J: Naming, R: Wait>(rt: &R, writer: Showing<J>) -> Showing<J>
-    requires { GoesOn J.list (shape_of writer.desk.shown.value) (fold changed (shape_of writer.desk.shown.value) (drop writer.behind writer.log.items)) }
+    requires { let now = shape_of writer.desk.shown.value in
+        GoesOn J.list now (fold changed now (drop writer.behind writer.log.items)) }
     ensures none { drop result.behind result.log.items ≡ [] }
-    ensures shape { shape_of result.desk.shown.value ≡ fold changed (shape_of writer.desk.shown.value) (drop writer.behind writer.log.items) }
+    ensures shape { shape_of result.desk.shown.value
+        ≡ fold changed (shape_of writer.desk.shown.value) (drop writer.behind writer.log.items) }
     ensures view { told_at result.desk.place ≡ shown J.list (shape_of result.desk.shown.value) }
 {
     let (writer, _shown) = writer.publish_as::<Looks<J>, R>(rt);
@@ -48,12 +50,20 @@ fn show<J: Naming, R: Wait>(rt: &R, writer: Showing<J>) -> Showing<J>
 }
 
 // Adds a change, and shows it. At `Err` there is no memory for it, and the same is shown.
-fn show_change<J: Naming, R: Wait>(rt: &R, writer: &mut Showing<J>, change: Change) -> Result<(), AllocError>
+fn show_change<J: Naming, R: Wait>(
+    rt: &R,
+    writer: &mut Showing<J>,
+    change: Change,
+) -> Result<(), AllocError>
     requires none { drop writer.old.behind writer.old.log.items ≡ [] }
-    requires goes_on { GoesOn J.list (shape_of writer.old.desk.shown.value) (changed (shape_of writer.old.desk.shown.value) change) }
+    requires goes_on { let now = shape_of writer.old.desk.shown.value in GoesOn J.list now (changed now change) }
     ensures none { drop writer.new.behind writer.new.log.items ≡ [] }
-    ensures ok { IfOk result (λ _. (shape_of writer.new.desk.shown.value ≡ changed (shape_of writer.old.desk.shown.value) change) × (told_at writer.new.desk.place ≡ shown J.list (shape_of writer.new.desk.shown.value))) }
-    ensures err { IfErr result (λ _. (shape_of writer.new.desk.shown.value ≡ shape_of writer.old.desk.shown.value) × (told_at writer.new.desk.place ≡ told_at writer.old.desk.place)) }
+    ensures ok { let now = shape_of writer.new.desk.shown.value in
+        IfOk result (λ _. (now ≡ changed (shape_of writer.old.desk.shown.value) change)
+        × (told_at writer.new.desk.place ≡ shown J.list now)) }
+    ensures err { IfErr result (λ _.
+        (shape_of writer.new.desk.shown.value ≡ shape_of writer.old.desk.shown.value)
+        × (told_at writer.new.desk.place ≡ told_at writer.old.desk.place)) }
 {
     if writer.append(change).is_err() {
         return Err(AllocError);
@@ -90,8 +100,9 @@ fn free_place<J: Naming>(writer: &mut Showing<J>) -> Option<Place<J>>
 }
 
 /// Publishes the orders that are adopted, for observers to look at without waiting: it shows one of
-/// two copies of a square of cells, a number for each two types, while it changes the other. It can't be let go of,
-/// but ends by `end`.
+/// two copies of a square of cells, a number for each two types, while it changes the other. It
+/// can't be let go of, but ends by `end`. Contracts see it as the orders that it has published,
+/// oldest first, and the number of types.
 pub struct Publisher<J: Naming> {
     alloc: Global,
     keeper: Keeper<J>,
@@ -107,14 +118,16 @@ impl<J: Naming> Model for Publisher<J> {
 
     ghost view = { λ p. record { orders = p.keeper; size = p.writer.desk.shown.value.size } };
 
-    ghost invariant = { λ p. (drop p.writer.behind p.writer.log.items ≡ []) × IsExact J.list (shape_of p.writer.desk.shown.value)
-        × (shown J.list (shape_of p.writer.desk.shown.value) ≡ p.keeper) × (told_at p.writer.desk.place ≡ p.keeper) };
+    ghost invariant = { λ p. (drop p.writer.behind p.writer.log.items ≡ [])
+        × IsExact J.list (shape_of p.writer.desk.shown.value)
+        × (shown J.list (shape_of p.writer.desk.shown.value) ≡ p.keeper)
+        × (told_at p.writer.desk.place ≡ p.keeper) };
 }
 
 impl<J: Naming> Publisher<J> {
-    /// A publisher with no orders yet, for orders between this many types (1,023 types at most have
-    /// numbers), and room for this many observers and news on the way. The two copies take 8 bytes for each
-    /// two types: 8 MB for 1,023.
+    /// A publisher with no orders yet, for orders between this many types, which may be 1,023, with
+    /// places for this many observers and news on their way. A copy has 4 bytes for each two
+    /// types: for 1,023 types it takes 4 MB, and both take 8.
     ///
     /// # Errors
     /// Want of memory alone.
@@ -138,8 +151,9 @@ impl<J: Naming> Publisher<J> {
         })
     }
 
-    /// Publishes adopted orders, which observers then see. The growth of memory is asked for before anything
-    /// changes. It waits for observers that still look at the copy that it changes.
+    /// Publishes adopted orders, none, one or several, which observers then see all at once. The
+    /// growth of memory is asked for before anything changes. It waits for observers that still look
+    /// at the copy that it changes.
     ///
     /// # Errors
     /// Want of memory alone; then nothing has changed.
@@ -147,18 +161,21 @@ impl<J: Naming> Publisher<J> {
         requires room { length self.old.orders + length orders.now < 2 ^ 32 }
         requires fit { all_fit self.old.size orders.now ≡ true }
         ensures size { self.new.size ≡ self.old.size }
-        ensures orders { MatchResult result (λ _. self.new.orders ≡ self.old.orders ++ orders.now) (λ _. self.new.orders ≡ self.old.orders) }
+        ensures orders { MatchResult result (λ _. self.new.orders ≡ self.old.orders ++ orders.now)
+            (λ _. self.new.orders ≡ self.old.orders) }
     {
         let more = change(&self.keeper, Vec::from_slice(self.alloc, orders)?);
         show_change(rt, &mut self.writer, more)?;
         self.keeper.add(orders);
-        // The page that is shown is renewed. Where there is no memory for that, it stays the one before.
+        // With the page renewed, who hasn't heard of these orders sees them too. Where there is no
+        // memory for that, only who has learnt of them does.
         let fresh = change(&self.keeper, Vec::new(self.alloc));
         let _ = show_change(rt, &mut self.writer, fresh);
         Ok(())
     }
 
-    /// News of all that was published, with a place to look from where one is free.
+    /// News of all that was published, with a place to look from where one is free. It changes
+    /// nothing.
     pub fn news(&mut self) -> News<J>
         ensures given { result ≡ self.new.orders }
         ensures kept { self.new ≡ self.old }
@@ -170,7 +187,8 @@ impl<J: Naming> Publisher<J> {
         }
     }
 
-    /// Called for its clause: what is known of this publisher's list is how it begins.
+    /// What an observer of this publisher knows is how the published orders begin: it is called for
+    /// that clause, and changes nothing.
     pub fn covers(&mut self, front: &Front<J>)
         ensures kept { self.new ≡ self.old }
         ensures begins { IsPrefix front.now self.new.orders }

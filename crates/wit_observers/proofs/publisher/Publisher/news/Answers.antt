@@ -1,4 +1,4 @@
-use Rattle.std.proofs.Common.{◌≡◌, length, sym, ap, ◌∙◌, arith}
+use Rattle.std.proofs.Common.{length, sym, ap, ◌∙◌, arith}
 use Rattle.wit_observers.proofs.Looking.{told_all}
 use Rattle.wit_observers.proofs.publisher.Publisher.news.Goals as goal
 
