@@ -1,0 +1,5 @@
+pub mod Fronts
+pub mod Keeping
+pub mod Links
+pub mod Naming
+pub mod Steps

@@ -1,0 +1,163 @@
+//! Who adds to a list.
+
+ghost use Rattle.std.specs.Prelude.{◌≡◌, ◌+◌, ◌<◌, ◌^◌, ◌++◌, [], length};
+ghost use mathlib.Core.List.{IsPrefix};
+ghost use Rattle.wit_adoptions.specs.Keeping.{IsUnused, head_of};
+
+use crate::front::Front;
+use crate::law::{Adding, Covering, Ending, Growth, Law, Nothing};
+use crate::link::Link;
+use crate::naming::Naming;
+use crate::page::Page;
+use logbook::{Offer, Pen, Seen, Start, Word};
+use std::marker::{Model, PhantomData};
+use wit_model::Adoption;
+
+// What the word holds at which steps are taken, before and after each.
+const STILL: u64 = 0;
+
+// A pen for an end that is new in the book.
+fn new_end(head: &Word<Link, u64, Law>, seen: &Seen<Link, u64, Law>) -> Pen
+    requires { head.now ≡ head_of seen.now.book }
+    ensures { IsUnused seen.now.book result }
+{
+    let mut now = seen.again();
+    let mut offer: Offer<Link, u64, Law, Nothing> = now.plain::<Nothing, (), Covering>(&());
+    let mut pen = now.no_pen();
+    let _ = head.compare_exchange::<Ending, Nothing>(STILL, STILL, &mut now, &mut offer, &mut pen);
+    let _word: Word<Link, u64, Law> = Word::tracked(STILL, &mut pen);
+    pen
+}
+
+/// A new list, as yet with no name. Contracts see it as the name that it is to have.
+#[derive(Drop)]
+pub struct Opened {
+    head: Word<Link, u64, Law>,
+    seen: Seen<Link, u64, Law>,
+    pen: Pen,
+}
+
+impl Model for Opened {
+    ghost use Rattle.wit_adoptions.specs.Keeping.{IsNew};
+    ghost use Rattle.wit_adoptions.specs.Naming.{Name, name};
+
+    ghost Value = { Name };
+
+    ghost view = { λ o. name o.seen.book o.pen.nib.key };
+
+    ghost invariant = { λ o. IsNew o.head o.seen.book o.seen.log o.pen };
+}
+
+impl Opened {
+    /// A list with no orders. It takes no memory.
+    pub fn new() -> Opened {
+        let (seen, mut first, _second) = Seen::open(Start::alone(), STILL, STILL);
+        let head = Word::tracked(STILL, &mut first);
+        let pen = new_end(&head, &seen);
+        Opened { head, seen, pen }
+    }
+
+    /// The list's adder, under the name that the list is to have.
+    pub fn named<J: Naming>(self) -> Keeper<J>
+        requires { self ≡ J.list }
+        ensures { result ≡ [] }
+    {
+        let Opened { head, seen, pen } = self;
+        Keeper {
+            count: 0,
+            head,
+            seen,
+            pen,
+            of: PhantomData,
+        }
+    }
+}
+
+/// The one adder of a list of adopted orders. Contracts see it as the whole list, oldest order
+/// first. No call copies it, and none takes memory.
+#[derive(Drop)]
+pub struct Keeper<J: Naming> {
+    count: u64,
+    head: Word<Link, u64, Law>,
+    seen: Seen<Link, u64, Law>,
+    // The list's end.
+    pen: Pen,
+    of: PhantomData<J>,
+}
+
+impl<J: Naming> Model for Keeper<J> {
+    ghost use Rattle.std.specs.Prelude.{List};
+    ghost use Rattle.wit_model.specs.declared.calls.Adoption.{Adoption};
+    ghost use Rattle.wit_adoptions.specs.Keeping.{IsKeeping};
+    ghost use Rattle.wit_adoptions.specs.Naming.{listed, sheet};
+
+    ghost Value = { List Adoption };
+
+    ghost view = { λ k. listed J.list (sheet k.seen.book k.seen.log k.count) };
+
+    ghost invariant = { λ k. IsKeeping J.list k.head (sheet k.seen.book k.seen.log k.count) k.pen };
+}
+
+impl<J: Naming> Keeper<J> {
+    /// How many orders the list has.
+    pub fn len(&self) -> u64
+        ensures { result ≡ length self.now }
+    {
+        self.count
+    }
+
+    /// The whole list as it is now.
+    pub fn front(&self) -> Front<J>
+        ensures { result ≡ self.now }
+    {
+        Front::of(Page {
+            count: self.count,
+            seen: self.seen.again(),
+        })
+    }
+
+    /// Adds these orders in this order, none, one or more. It can't fail.
+    pub fn add(&mut self, orders: &[Adoption])
+        requires room { length self.old + length orders.now < 2 ^ 64 }
+        ensures { self.new ≡ self.old ++ orders.now }
+    {
+        let next = new_end(&self.head, &self.seen);
+        let mut offer: Offer<Link, u64, Law, Nothing> = self
+            .seen
+            .plain::<Nothing, Growth<'_>, Adding>(&Growth {
+                end: &self.pen,
+                next: &next,
+                orders,
+            });
+        let _ = self
+            .head
+            .compare_exchange::<Adding, Nothing>(
+                STILL,
+                STILL,
+                &mut self.seen,
+                &mut offer,
+                &mut self.pen,
+            );
+        self.pen = next;
+        self.count += orders.len() as u64;
+    }
+
+    /// Shows that a front is a beginning of the list as it is now.
+    pub fn covers(&mut self, front: &Front<J>)
+        ensures same { self.new ≡ self.old }
+        ensures begins { IsPrefix front.now self.new }
+    {
+        let mut both = self.seen.again();
+        both.learn(&front.seen);
+        let mut offer: Offer<Link, u64, Law, Nothing> = both.plain::<Nothing, (), Covering>(&());
+        let _ = self
+            .head
+            .compare_exchange::<Covering, Nothing>(
+                STILL,
+                STILL,
+                &mut both,
+                &mut offer,
+                &mut self.pen,
+            );
+    }
+}
