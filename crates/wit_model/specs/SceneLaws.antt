@@ -65,7 +65,7 @@ NamingKeepsWorlds =
     → IsWorld start files w → Shows start files w s
     → IsWorld start (files ++ name ∷ []) w
     × Shows start (files ++ name ∷ []) w
-      (record s { story = record s.story { files = files ++ name ∷ [] } })
+    (record s { story = record s.story { files = files ++ name ∷ [] } })
 
 -- a scene tells who waits for whom
 abbrev pub WaitsAreShown : Type 0

@@ -87,10 +87,11 @@ tidy-one_more u (x ∷ xs) tidy =
     elim (eqb_tells x.0 u) [
       | inl is ↦ rw is.0 (omega arith, ap (λ k. shares_among k xs) (sym is.1) ∙ tidy.1, tidy.2)
       | inr other ↦
-          rw other.0
-          (tidy.0,
-          shares-one_more u x.0 xs ∙ unmoved (eqb u x.0) (λ n. n + 1) (shares_among x.0 xs) (ne_eqb u x.0 (λ same. other.1 (sym same))) tidy.1,
-          tidy-one_more u xs tidy.2)
+          rw other.0 (
+            tidy.0,
+            shares-one_more u x.0 xs ∙ unmoved (eqb u x.0) (λ n. n + 1) (shares_among x.0 xs) (ne_eqb u x.0 (λ same. other.1 (sym same))) tidy.1,
+            tidy-one_more u xs tidy.2,
+          )
     ]
 
 pub tidy-one_fewer : (u : ℕ) (xs : List (ℕ × ℕ)) → IsTidy xs → IsTidy (one_fewer u xs)
@@ -99,10 +100,11 @@ tidy-one_fewer u (x ∷ xs) tidy =
     elim (eqb_tells x.0 u) [
       | inl is ↦ rw is.0 (go is.1 (nat_lt 1 x.1) refl)
       | inr other ↦
-          rw other.0
-          (tidy.0,
-          shares-one_fewer u x.0 xs tidy.2 ∙ unmoved (eqb u x.0) (λ n. n - 1) (shares_among x.0 xs) (ne_eqb u x.0 (λ same. other.1 (sym same))) tidy.1,
-          tidy-one_fewer u xs tidy.2)
+          rw other.0 (
+            tidy.0,
+            shares-one_fewer u x.0 xs tidy.2 ∙ unmoved (eqb u x.0) (λ n. n - 1) (shares_among x.0 xs) (ne_eqb u x.0 (λ same. other.1 (sym same))) tidy.1,
+            tidy-one_fewer u xs tidy.2,
+          )
     ]
   where
     go : x.0 ≡ u → (b : Bool) → nat_lt 1 x.1 ≡ b → IsTidy (cond b ((u, x.1 - 1) ∷ xs) xs)
@@ -137,7 +139,7 @@ all_numbers q a (suc n) each = and_from (q a) (list_all q (range_with_len (a + 1
 
 -- a test of all holders is a test of all threads that those pass who have no share
 module _ (threads : ℕ) (had : ℕ → ℕ) (p q : ℕ → Bool) (xs : List (ℕ × ℕ)) (tidy : IsTidy xs) (same : (t : ℕ) → shares_among t xs ≡ had t)
-  (seats : (t : ℕ) → 0 < had t → is_number threads t ≡ true) (without : (t : ℕ) → had t ≡ 0 → q t ≡ true) (having : (t : ℕ) → 0 < had t → q t ≡ p t) where
+    (seats : (t : ℕ) → 0 < had t → is_number threads t ≡ true) (without : (t : ℕ) → had t ≡ 0 → q t ≡ true) (having : (t : ℕ) → 0 < had t → q t ≡ p t) where
   none_or_some : (n : ℕ) (X : Type 0) → (n ≡ 0 → X) → (0 < n → X) → X
   none_or_some zero X none some = none refl
   none_or_some (suc n) X none some = some (omega arith)
