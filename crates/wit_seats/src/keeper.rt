@@ -13,13 +13,30 @@ use std::alloc::{AllocError, Global};
 use std::marker::{Model, PhantomData};
 use wit_model::SeatNo;
 
-/// A log that no type names yet: it has no entry and no file, and no seat is out.
+/// A log that no type names yet: it has no entry and no file, and no seat is out. Clauses see what no other log's table
+/// shares with its own.
 pub struct Opened {
-    pub(crate) ledger: Ledger,
-    pub(crate) card: Card,
-    ghost same: { card.table_id ≡ ledger.shared.table_id },
-    ghost words: { ledger.shared.table_id.words ≡ 1 },
-    ghost blank: { card.me.0 ≡ shows (Some (journal [] [] 0)) None },
+    ledger: Ledger,
+    card: Card,
+}
+
+impl Model for Opened {
+    ghost use Rattle.std.specs.Prelude.{◌≡◌, [], None, Some};
+    ghost use Rattle.atomic_table.specs.Seated.{TableId};
+    ghost use Rattle.wit_seats.specs.Rule.{shows, journal};
+
+    ghost Value = { TableId };
+
+    ghost view = { λ o. o.ledger.shared.table_id };
+
+    ghost invariant = { λ o. (o.card.table_id ≡ o.ledger.shared.table_id) × (o.ledger.shared.table_id.words ≡ 1)
+        × (o.card.me.0 ≡ shows (Some (journal [] [] 0)) None) };
+}
+
+impl Drop for Opened {
+    fn drop(self) {
+        let Opened { ledger: _, card: _ } = self;
+    }
 }
 
 /// The keeper of a log, which lies beside the verifier whose log it is. Clauses see it as the log's entries, newest first,
@@ -45,6 +62,16 @@ impl<J: Room> Model for Keeper<J> {
         × (k.card.me.0 ≡ shows (Some (log_in k.card.me.0)) None) };
 }
 
+impl<J: Room> Drop for Keeper<J> {
+    fn drop(self) {
+        let Keeper {
+            ledger: _,
+            card: _,
+            room: _,
+        } = self;
+    }
+}
+
 impl Opened {
     /// A new log.
     ///
@@ -57,7 +84,7 @@ impl Opened {
 
     /// The keeper of the log, under a name.
     pub fn named<J: Room>(self) -> Keeper<J>
-        requires { self.ledger.shared.table_id ≡ J.table }
+        requires { self ≡ J.table }
         ensures { result ≡ journal [] [] 0 }
     {
         let Opened { ledger, card } = self;

@@ -1,0 +1,92 @@
+-- Each call of the verifier goes on by entries of its seat alone, so that its seat may follow it.
+use Rattle.std.proofs.Common.{◌≡◌, ◌≢◌, ℕ, ◌==◌, Bool, true, false, cond, not, ◌&&◌, nat_le, List, [], ◌∷◌, ◌++◌, length, Result, Ok, Err, refl, ap, sym, ◌∙◌, subst, eqb, ne_eqb, append-nil}
+use Rattle.wit_model.specs.declared.faults.Fault.{Fault}
+use Rattle.wit_model.specs.declared.locks.FileNo.{FileNo}
+use Rattle.wit_model.specs.declared.calls.Call.{Call}
+use Rattle.wit_model.specs.declared.calls.Entry.{Entry}
+use Rattle.wit_model.specs.declared.calls.Reply.{Reply}
+use Rattle.wit_model.specs.Rules.Files.{NamesFile, is_known_file, files_after, naming_answer}
+use Rattle.wit_model.specs.Rules.History.{own_entries}
+use Rattle.wit_model.specs.Rules.State.{Start, Story}
+use Rattle.wit_model.specs.Rules.Step.{Answers, AnswersOrFails, answer_of, is_logged, logged, grown}
+use Rattle.wit_seats.specs.declared.views.Journal.{Journal}
+use Rattle.wit_seats.specs.declared.views.Known.{Known}
+use Rattle.wit_seats.specs.Rule.{journal}
+use Rattle.wit_seats.specs.Seats.{Grows, Entered, Told}
+use Rattle.wit_model.specs.declared.faults.Fault.TheVariants.{BadName, FilesFull}
+use Rattle.wit_model.specs.Rules.Files.{file_number}
+use Rattle.wit_model.specs.Rules.Names.{is_file_name}
+use Rattle.wit_model.specs.Rules.Numbers.{with_number}
+use Rattle.wit_model.proofs.Histories.Longer.{file-there}
+use Rattle.wit_seats.specs.Seats.{AreFiles}
+use Rattle.wit_shared.specs.Calls.{GoesOn}
+
+pub stays : (t : ℕ) (old new : Story) → new ≡ old → GoesOn t old new
+stays t old new e = record {
+  start = ap (λ (s : Story). s.start) e;
+  entries = ([], ap (λ (s : Story). s.history) e, λ other n. refl);
+  files = ([], ap (λ (s : Story). s.files) e ∙ sym (append-nil old.files));
+}
+
+-- one entry is of its seat alone
+one_of : (t other : ℕ) (call : Call) (reply : Reply) → other ≢ t → own_entries other (record { seat = record { 0 = t }; call = call; reply = reply } ∷ []) ≡ []
+one_of t other call reply n = ap (λ b. cond b (record { seat = record { 0 = t }; call = call; reply = reply } ∷ []) []) (ne_eqb t other (λ e. n (sym e)))
+
+logs : (old : Story) (t : ℕ) (call : Call) (reply : Reply) → GoesOn t old (logged old t call reply)
+logs old t call reply = record {
+  start = refl;
+  entries = (record { seat = record { 0 = t }; call = call; reply = reply } ∷ [], refl, λ other n. one_of t other call reply n);
+  files = ([], sym (append-nil old.files));
+}
+
+grows_if : (b : Bool) (old : Story) (t : ℕ) (call : Call) (reply : Reply) → GoesOn t old (cond b (logged old t call reply) old)
+grows_if true old t call reply = logs old t call reply
+grows_if false old t call reply = stays t old old refl
+
+grows : (old : Story) (t : ℕ) (call : Call) (reply : Reply) → GoesOn t old (grown old t call reply)
+grows old t call reply = grows_if (is_logged reply) old t call reply
+
+pub answers : (old : Story) (t : ℕ) (call : Call) (result : Result Reply Fault) (new : Story) → Answers old t call result new → GoesOn t old new
+answers old t call (Ok reply) new h = subst (GoesOn t old) (sym h.1) (grows old t call reply)
+answers old t call (Err fault) new h = stays t old new h.1
+
+pub fails : (old : Story) (t : ℕ) (call : Call) (result : Result Reply Fault) (new : Story) → AnswersOrFails old t call result new → GoesOn t old new
+fails old t call (Ok reply) new h = subst (GoesOn t old) (sym h.1) (grows old t call reply)
+fails old t call (Err fault) new h = stays t old new h.1
+
+names_if : (b : Bool) (t : ℕ) (name : List ℕ) (old : Story) → GoesOn t old (record old { files = cond b old.files (old.files ++ name ∷ []) })
+names_if true t name old = stays t old old refl
+names_if false t name old = record { start = refl; entries = ([], refl, λ other n. refl); files = (name ∷ [], refl) }
+
+pub names : (t : ℕ) (name : List ℕ) (old : Story) (result : Result FileNo Fault) (new : Story) → NamesFile old name result new → GoesOn t old new
+names t name old (Ok f) new h = subst (GoesOn t old) (sym h.1) (names_if (is_known_file name old.files) t name old)
+names t name old (Err fault) new h = stays t old new h.2
+
+-- the keeper that knew the old verifier may follow
+pub may_follow : (keeper : Journal) (old new : Story) (handed t : ℕ) → keeper ≡ journal old.history old.files handed → GoesOn t old new → Grows keeper t new
+may_follow keeper old new handed t is g = subst (λ (j : Journal). Grows j t new) (sym is) (record { entries = g.entries; files = g.files })
+
+-- what it then tells the seat
+pub tells : (start : Start) (given : List (FileNo × List ℕ)) (means : Story → Story → Type 0) (keeper : Journal) (old new : Story) (handed : ℕ) (v w : Known)
+    → old.start ≡ start → keeper ≡ journal old.history old.files handed → Entered start given keeper.entries keeper.files new v w → means old new → Told start given means v w
+tells start given means keeper old new handed v w began is e did = record {
+  before = old;
+  after = new;
+  began = began;
+  entered = subst (λ (j : Journal). Entered start given j.entries j.files new v w) is e;
+  did = did;
+}
+
+-- a number that was given is the file's
+given_number : (bad full : Bool) (number n : ℕ) → cond bad (Err BadName) (cond full (Err FilesFull) (Ok number)) ≡ Ok n → number ≡ n
+given_number true full number n e = (cc)
+given_number false true number n e = (cc)
+given_number false false number n e = (cc)
+
+-- so the file stands under it
+pub named_there : (name : List ℕ) (old : Story) (f : FileNo) (new : Story) → NamesFile old name (Ok f) new → AreFiles new.files ((f, name) ∷ [])
+named_there name old f new h =
+    let number = given_number (not (is_file_name name)) (not (is_known_file name old.files) && nat_le 65535 (length old.files)) (file_number name old.files) f.0 h.0 in (
+      ap (λ (s : Story). with_number s.files f.0) h.1 ∙ ap (λ n. with_number (files_after name old.files) n) (sym number) ∙ file-there name old.files,
+      tt,
+    )

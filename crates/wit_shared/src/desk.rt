@@ -1,0 +1,165 @@
+//! What lies behind the lock: the verifier, and the keeper of its log.
+
+ghost use Rattle.std.specs.Prelude.{◌≡◌, ◌+◌, ◌≤◌, [], IfOk, IfErr};
+ghost use Rattle.std.specs.Option.{option_copied};
+ghost use Rattle.wit_model.specs.declared.calls.Call.TheVariants.{Init, Note, GiveUp, Unlock};
+ghost use Rattle.wit_model.specs.declared.faults.Fault.TheVariants.{UnknownSeat};
+ghost use Rattle.wit_model.specs.Rules.Assertions.{step_assert};
+ghost use Rattle.wit_model.specs.Rules.Files.{NamesFile};
+ghost use Rattle.wit_model.specs.Rules.State.{state_of};
+ghost use Rattle.wit_model.specs.Rules.Step.{Answers, AnswersOrFails};
+ghost use Rattle.wit_model.specs.Rules.Warnings.{step_warn};
+ghost use Rattle.wit_core.specs.Replies.{new_lock, made_reply};
+ghost use Rattle.wit_seats.specs.Rule.{newcomer};
+ghost use Rattle.wit_seats.specs.Seats.{Told};
+ghost use Rattle.wit_shared.specs.Calls.{given_by};
+
+use crate::following::{follow, follow_file, look};
+use std::marker::Model;
+use wit_core::Verifier;
+use wit_model::{
+    AssertAnswer, Call, Class, Fault, FileNo, LockAssert, LockFlags, LockNo, Mode, Reply, SeatNo,
+    WarnFlags,
+};
+use wit_seats::{Keeper, Room, Seat};
+
+/// A verifier whose log is legal behind the start given, with the keeper that knows it as it is.
+pub struct Desk<J: Room> {
+    pub(crate) verifier: Verifier,
+    pub(crate) handed: u16,
+    pub(crate) keeper: Keeper<J>,
+}
+
+impl<J: Room> Model for Desk<J> {
+    ghost use Rattle.std.specs.Prelude.{◌≡◌};
+    ghost use Rattle.wit_shared.specs.Desk.{Kept};
+
+    ghost Value = { Kept };
+
+    ghost use Rattle.wit_seats.specs.Rule.{journal};
+
+    ghost view = { λ d. record { story = d.verifier; handed = d.handed } };
+
+    ghost invariant = { λ d. (d.verifier.start ≡ J.start) × (d.keeper ≡ journal d.verifier.history d.verifier.files d.handed) };
+}
+
+impl<J: Room> Desk<J> {
+    /// Hands out the next seat.
+    pub fn seat(&mut self) -> Result<Seat<J>, Fault>
+        ensures ok { IfOk result (λ s. (s.seat ≡ self.old.handed + 1) × (s.seat ≤ J.start.sizes.seats) × (s.own ≡ []) × (s.given ≡ [])) }
+        ensures err { IfErr result (λ e. (e ≡ UnknownSeat) × (J.start.sizes.seats ≤ self.old.handed)) }
+    {
+        // Called for its clause that the log is legal.
+        let _log = self.verifier.history();
+        if self.handed >= self.verifier.seats() {
+            return Err(Fault::UnknownSeat);
+        }
+        look(&mut self.keeper, &self.verifier);
+        let number = self.handed + 1;
+        let seat = self.keeper.hand_out(SeatNo(number));
+        self.handed = number;
+        Ok(seat)
+    }
+
+    /// Makes a logged call, whichever it is.
+    pub fn call(&mut self, seat: &mut Seat<J>, call: Call) -> Result<Reply, Fault>
+        ensures { Told J.start [] (λ s new. AnswersOrFails s seat.old.seat call result new) seat.old seat.new }
+    {
+        let answer = self.verifier.call(seat.number(), call);
+        follow(&mut self.keeper, &self.verifier, seat);
+        answer
+    }
+
+    /// Makes a lock.
+    pub fn init(
+        &mut self,
+        seat: &mut Seat<J>,
+        name: &str,
+        type_name: Option<&str>,
+        class: Class,
+        flags: LockFlags,
+    ) -> Result<LockNo, Fault>
+        ensures { Told J.start [] (λ s new. AnswersOrFails s seat.old.seat
+            (Init (new_lock name.now (option_copied type_name.entry) class flags)) (made_reply result) new) seat.old seat.new }
+    {
+        let answer = self
+            .verifier
+            .init(seat.number(), name, type_name, class, flags);
+        follow(&mut self.keeper, &self.verifier, seat);
+        answer
+    }
+
+    /// Notes an acquisition.
+    pub fn note(&mut self, seat: &mut Seat<J>, lock: LockNo) -> Result<Reply, Fault>
+        ensures { Told J.start [] (λ s new. Answers s seat.old.seat (Note lock) result new) seat.old seat.new }
+    {
+        let answer = self.verifier.note(seat.number(), lock);
+        follow(&mut self.keeper, &self.verifier, seat);
+        answer
+    }
+
+    /// Drops a request.
+    pub fn give_up(&mut self, seat: &mut Seat<J>, lock: LockNo) -> Result<Reply, Fault>
+        ensures { Told J.start [] (λ s new. Answers s seat.old.seat (GiveUp lock) result new) seat.old seat.new }
+    {
+        let answer = self.verifier.give_up(seat.number(), lock);
+        follow(&mut self.keeper, &self.verifier, seat);
+        answer
+    }
+
+    /// Notes a release.
+    pub fn unlock(
+        &mut self,
+        seat: &mut Seat<J>,
+        lock: LockNo,
+        mode: Mode,
+    ) -> Result<Reply, Fault>
+        ensures { Told J.start [] (λ s new. Answers s seat.old.seat (Unlock lock mode) result new) seat.old seat.new }
+    {
+        let answer = self.verifier.unlock(seat.number(), lock, mode);
+        follow(&mut self.keeper, &self.verifier, seat);
+        answer
+    }
+
+    /// Names a file.
+    pub fn file(&mut self, seat: &mut Seat<J>, name: &str) -> Result<FileNo, Fault>
+        ensures { Told J.start (given_by result name.now) (λ s new. NamesFile s name.now result new) seat.old seat.new }
+    {
+        match self.verifier.file(name) {
+            Ok(file) => {
+                follow_file(&mut self.keeper, &self.verifier, seat, file, name);
+                Ok(file)
+            }
+            Err(fault) => {
+                follow(&mut self.keeper, &self.verifier, seat);
+                Err(fault)
+            }
+        }
+    }
+
+    /// Asserts how a lock is held.
+    pub fn assert_lock(
+        &mut self,
+        seat: &mut Seat<J>,
+        lock: LockNo,
+        flags: LockAssert,
+    ) -> Result<AssertAnswer, Fault>
+        ensures { Told J.start [] (λ s new. (result ≡ step_assert (state_of s) seat.old.seat lock.0 flags) × (new ≡ s)) seat.old seat.new }
+    {
+        follow(&mut self.keeper, &self.verifier, seat);
+        self.verifier.assert_lock(seat.number(), lock, flags)
+    }
+
+    /// Counts held locks.
+    pub fn warn(
+        &mut self,
+        seat: &mut Seat<J>,
+        named: Option<LockNo>,
+        flags: WarnFlags,
+    ) -> Result<usize, Fault>
+        ensures { Told J.start [] (λ s new. (result ≡ step_warn (state_of s) seat.old.seat named flags) × (new ≡ s)) seat.old seat.new }
+    {
+        follow(&mut self.keeper, &self.verifier, seat);
+        self.verifier.warn(seat.number(), named, flags)
+    }
+}
