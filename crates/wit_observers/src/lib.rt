@@ -12,6 +12,3 @@ mod store;
 pub use news::News;
 pub use observer::Observer;
 pub use publisher::Publisher;
-
-#[cfg(test)]
-mod tests;
