@@ -9,7 +9,7 @@ use prog.Atomic.{either}
 use Rattle.atomic_table.specs.Table.{State, Act, keeps, Valid, stepped, carried_after, Allows, Enters, Joins, Splits}
 use Rattle.wit_model.specs.declared.locks.Mode.{Mode}
 use Rattle.wit_model.specs.declared.locks.Mode.TheVariants.{Shared, Exclusive}
-use Rattle.wit_model.specs.Gates.{IsGateWord, AddsUp}
+use Rattle.wit_model.specs.Gates.{AddsUp}
 use Rattle.wit_model.proofs.Gates.{adds_up, from_sum}
 use Rattle.wit_gates.specs.declared.claim.Claim.{Claim}
 use Rattle.wit_gates.specs.Claims.{claim, nothing, claim_of, mode_of, both, less_one, shares_of, exclusives_of, IsOfClaims, IsCounted}
@@ -162,9 +162,28 @@ pub some_shares : (c d after : Claim) (m n : Mode) → c ≡ claim_of m → d �
 some_shares c d after m n p q e none =
     omega (arith, weigh_two c d m n p q, ap (λ (c : Claim). c.shares) e, ap (λ (c : Claim). c.exclusives) e)
 
--- the word at the end
-pub ended : (s : Board) (words : List ℕ) (word : ℕ) → Rule s → s.words ≡ words → get_elem? words 0 ≡ some word
-    → IsOfClaims word
-ended s words word (last, only, fits) same read =
+read_back : (s : Board) (words : List ℕ) (word : ℕ) → Rule s → s.words ≡ words → get_elem? words 0 ≡ some word → AddsUp word (shares_of s.views) (exclusives_of s.views)
+read_back s words word (last, only, fits) same read =
     let e : some last ≡ some word = subst (λ (ws : List ℕ). get_elem? ws 0 ≡ some word) (sym same ∙ only) read in
-    (s.views, subst (λ n. IsGateWord n (shares_of s.views) (exclusives_of s.views)) (some-injective last word e) fits)
+    subst (λ n. AddsUp n (shares_of s.views) (exclusives_of s.views)) (some-injective last word e) (adds_up last (shares_of s.views) (exclusives_of s.views) fits)
+
+-- the word at the end
+pub ended : (s : Board) (words : List ℕ) (word : ℕ) → Rule s → s.words ≡ words → get_elem? words 0 ≡ some word → IsOfClaims word
+ended s words word rule same read = (s.views, from_sum word (shares_of s.views) (exclusives_of s.views) (read_back s words word rule same read))
+
+-- the word at the end, with a claim that is still out
+pub ended_alone : (s : Board) (words : List ℕ) (word id : ℕ) (c : Claim) → Rule s → s.words ≡ words → get_elem? words 0 ≡ some word
+    → get_elem? s.views id ≡ some c → c ≡ claim 0 1 → word ≡ 4294967295
+ended_alone s words word id c rule same read there e =
+    let sum : AddsUp word (shares_of s.views) (exclusives_of s.views) = read_back s words word rule same read in
+    let part : c.exclusives ≤ exclusives_of s.views = part-le-sum (λ (c : Claim). c.exclusives) s.views id c there in
+    let one : c.exclusives ≡ 1 = ap (λ (c : Claim). c.exclusives) e in
+    omega arith
+
+pub ended_shared : (s : Board) (words : List ℕ) (word id : ℕ) (c : Claim) → Rule s → s.words ≡ words → get_elem? words 0 ≡ some word
+    → get_elem? s.views id ≡ some c → c ≡ claim 1 0 → (1 ≤ word) × (word ≤ 4294967294)
+ended_shared s words word id c rule same read there e =
+    let sum : AddsUp word (shares_of s.views) (exclusives_of s.views) = read_back s words word rule same read in
+    let part : c.shares ≤ shares_of s.views = part-le-sum (λ (c : Claim). c.shares) s.views id c there in
+    let one : c.shares ≡ 1 = ap (λ (c : Claim). c.shares) e in
+    (omega arith, omega arith)

@@ -36,8 +36,9 @@ impl Model for Word {
 }
 
 impl Word {
-    ghost use Rattle.std.specs.Prelude.{◌≡◌, IfSome, MatchResult};
+    ghost use Rattle.std.specs.Prelude.{◌≡◌, ◌≤◌, IfSome, MatchResult};
     ghost use Rattle.wit_model.specs.declared.locks.Mode.TheVariants.{Shared, Exclusive};
+    ghost use Rattle.wit_model.specs.Gates.{exclusive_word, most_shares};
     ghost use Rattle.wit_gates.specs.Claims.{IsOfClaims};
     ghost use Rattle.wit_gates.specs.Tickets.{pass};
 
@@ -154,5 +155,19 @@ impl Word {
         let word = closed.word(0);
         closed.free();
         word
+    }
+
+    /// The word at the end, with one of its tickets still in hand.
+    pub fn into_word_with(self, ticket: Ticket) -> u64
+        requires { ticket.word ≡ self }
+        ensures alone { ticket.mode ≡ Exclusive → result ≡ exclusive_word }
+        ensures shared { ticket.mode ≡ Shared → (1 ≤ result) × (result ≤ most_shares) }
+    {
+        let Word { table } = self;
+        let Ticket { seat } = ticket;
+        let closed = table.close_with(seat);
+        let last = closed.word(0);
+        closed.free();
+        last
     }
 }
