@@ -22,4 +22,4 @@ abbrev pub Adds : Step Link → View Link ℕ → ℕ → View Link ℕ → Type
 Adds s before found after =
     (start : ℕ) → end_behind start before.0 ≡ s.ask.end
     → (orders_behind start after.0 ≡ orders_behind start before.0 ++ s.ask.orders)
-        × (end_behind start after.0 ≡ s.ask.next)
+    × (end_behind start after.0 ≡ s.ask.next)

@@ -83,6 +83,6 @@ impl<J: Naming> Front<J> {
     {
         let mut both = self.seen.again();
         both.learn(&other.seen);
-        self.count.cmp(&other.count)
+        Ord::cmp(&self.count, &other.count)
     }
 }
