@@ -9,3 +9,4 @@ pub mod Own
 pub mod RecordCircle
 pub mod Rounds
 pub mod Runs
+pub mod TriedCrossed

@@ -5,4 +5,5 @@ pub mod Reordering
 pub mod Sequences
 pub mod Stages
 pub mod Steps
+pub mod Tried
 pub mod Waiting
