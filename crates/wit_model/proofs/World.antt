@@ -16,3 +16,4 @@ pub mod Rounds
 pub mod Runs
 pub mod Shown
 pub mod Stepping
+pub mod TriedCrossed

@@ -8,4 +8,5 @@ pub mod Shown
 pub mod Stages
 pub mod StepTable
 pub mod Steps
+pub mod Tried
 pub mod Waiting

@@ -1,15 +1,15 @@
 -- The orders that a request learns behind all held locks: each can be learnt when its turn comes, and then each held type is before the
 -- requested one.
 use Rattle.std.proofs.Common.{◌≡◌, ℕ, Bool, true, false, not, ◌&&◌, ◌||◌, cond, eqb, List, [], ◌∷◌, ◌++◌, map, reverse, refl, ap, sym, ◌∙◌, append_assoc}
-use Rattle.std.specs.List.{list_any, list_all}
-use Rattle.std.proofs.lemmas.Bool.{and_parts, and_from, and_left, or_left, or_right, or_from, ne_eqb, eq-eqb, eqb-true, not-true, true≢false}
+use Rattle.std.specs.List.{list_all}
+use Rattle.std.proofs.lemmas.Bool.{and_parts, and_from, and_left, or_left, or_right, or_from, ne_eqb, eq-eqb, not-true, true≢false}
 use Rattle.std.proofs.lemmas.List.{reverse-append}
 use Rattle.wit_model.specs.declared.locks.TypeNo.{TypeNo}
 use Rattle.wit_model.specs.declared.locks.Instance.{Instance}
 use Rattle.wit_model.specs.declared.calls.Adoption.{Adoption}
 use Rattle.wit_model.specs.declared.calls.Asked.{Asked}
 use Rattle.wit_model.specs.Rules.Locks.{has_flag}
-use Rattle.wit_model.specs.Rules.Orders.{is_adoption_of, is_direct, is_before, AreDistinct, IsSound, taught_at}
+use Rattle.wit_model.specs.Rules.Orders.{is_direct, is_before, AreDistinct, IsSound, taught_at}
 use Rattle.wit_model.specs.Rules.Verdict.{Basis, type_held, has_type_of, is_sleepable, is_giant, is_learnt, is_known, is_among, is_new, new_parents, orders_behind}
 use Rattle.wit_model.proofs.Orders.Paths.{sound_adopt}
 
@@ -136,7 +136,7 @@ module _ (q : Asked) where
     pub parents-have : (has : TypeNo → Bool) (c : List Instance) (before : List TypeNo) → list_all (λ i. has (type_held g i)) c ≡ true
         → list_all has (new_parents g q before c) ≡ true
     parents-have has [] before all = refl
-    parents-have has (i ∷ c) before all = 
+    parents-have has (i ∷ c) before all =
         go (is_new g q before i) (and_parts (has (type_held g i)) (list_all (λ j. has (type_held g j)) c) all)
         (λ ps rest. parents-have has c ps rest)
       where

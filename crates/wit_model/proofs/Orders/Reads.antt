@@ -17,7 +17,7 @@ use Rattle.wit_model.specs.declared.calls.Reply.{Reply}
 use Rattle.wit_model.specs.declared.calls.Reply.TheVariants.{Pass, Adopted, Silent, Duplicate, Reversal}
 use Rattle.wit_model.specs.Rules.Locks.{has_flag}
 use Rattle.wit_model.specs.Rules.Orders.{is_direct, is_before, is_found}
-use Rattle.wit_model.specs.Rules.Verdict.{Basis, Rule, is_of, type_held, has_type_of, is_sleepable, is_giant, is_blessed, place_of, place_asked, doubled, breach, violates, conflict, reported, is_learnt, is_known, is_among, is_new, new_parents, told_orders, doubles, doubles_any, follows, follows_all, breaks_order, teaches, teaches_all, doubles_in, follows_in, teaches_in, when, decided, isnt_watched, sleeps_under_spin, holds_nothing, holds_it, chain_asked, ruling}
+use Rattle.wit_model.specs.Rules.Verdict.{Basis, Rule, is_of, type_held, has_type_of, is_sleepable, is_giant, is_blessed, place_of, place_asked, doubled, breach, violates, conflict, reported, is_learnt, is_known, is_among, is_new, new_parents, told_orders, doubles, follows, breaks_order, teaches, doubles_in, follows_in, teaches_in, when, decided, isnt_watched, sleeps_under_spin, holds_nothing, holds_it, chain_asked, ruling}
 
 find-same : {X : Type 0} (p r : X → Bool) → ((x : X) → p x ≡ r x) → (xs : List X) → find p xs ≡ find r xs
 find-same p r same [] = refl

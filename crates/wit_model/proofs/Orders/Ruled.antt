@@ -15,7 +15,7 @@ use Rattle.wit_model.specs.Rules.Locks.{has_flag}
 use Rattle.wit_model.specs.Rules.Orders.{is_direct}
 use Rattle.wit_model.specs.Rules.History.{is_on}
 use Rattle.wit_model.specs.Rules.Types.{is_spin, class_of}
-use Rattle.wit_model.specs.Rules.Verdict.{Basis, Rule, is_exclusive, is_of, type_held, has_type_of, again, doubled, violates, reported, is_learnt, when, decided, doubles, follows, breaks_order, teaches, doubles_any, is_known, follows_all, new_parents, orders_behind, told_orders, teaches_all, doubles_in, follows_in, teaches_in, holds_it, holds_nothing, sleeps_under_spin, chain_asked, ruling}
+use Rattle.wit_model.specs.Rules.Verdict.{Basis, Rule, is_exclusive, is_of, type_held, has_type_of, again, doubled, violates, reported, is_learnt, when, decided, follows, breaks_order, teaches, is_known, follows_all, new_parents, orders_behind, told_orders, teaches_all, doubles_in, follows_in, teaches_in, holds_it, holds_nothing, sleeps_under_spin, chain_asked, ruling}
 use Rattle.wit_model.proofs.Histories.Accepted.{passed, same_reply}
 use Rattle.wit_model.proofs.Orders.Ends.{found-last, all-last, found-passes}
 

@@ -1,7 +1,7 @@
 -- Where all held locks are compared with: after a clean history's check of a lock that isn't held, each lock of its kind that its seat
 -- holds is before it.
-use Rattle.std.proofs.Common.{◌≡◌, ℕ, Bool, true, false, not, ◌&&◌, ◌||◌, cond, eqb, List, [], ◌∷◌, ◌++◌, map, reverse, find, Option, None, Some, Result, Ok, is_some, refl, ap, ap₂, sym, ◌∙◌, subst, ⊎_elim}
-use Rattle.std.specs.List.{list_all, last_or}
+use Rattle.std.proofs.Common.{◌≡◌, ℕ, Bool, true, false, not, ◌&&◌, ◌||◌, cond, eqb, List, [], ◌∷◌, ◌++◌, map, reverse, find, Option, None, Some, Result, Ok, refl, ap, ap₂, sym, ◌∙◌, subst, ⊎_elim}
+use Rattle.std.specs.List.{list_all}
 use Rattle.std.proofs.lemmas.Bool.{and_parts, and_from, and_left, and_right, or_left, or_cases, or_from, true≢false, false≢true, not-true}
 use Rattle.std.proofs.lemmas.List.{reverse-reverse}
 use Rattle.wit_model.specs.declared.profiles.Profile.TheVariants.{Plain, AllHeld}
@@ -16,7 +16,7 @@ use Rattle.wit_model.specs.declared.calls.Reply.{Reply}
 use Rattle.wit_model.specs.declared.calls.Reply.TheVariants.{Pass, AdoptedAll, Silent, Reversal, Duplicate}
 use Rattle.wit_model.specs.declared.calls.Entry.{Entry}
 use Rattle.wit_model.specs.Rules.Numbers.{is_given}
-use Rattle.wit_model.specs.Rules.Locks.{locks_of, lock_of, lock_at, has_flag, is_spin_lock, is_of_kind}
+use Rattle.wit_model.specs.Rules.Locks.{locks_of, lock_at, has_flag, is_spin_lock, is_of_kind}
 use Rattle.wit_model.specs.Rules.Orders.{is_before, is_found, adopted}
 use Rattle.wit_model.specs.Rules.History.{is_on, is_report, is_held, held_of, chain, instance, watch_of}
 use Rattle.wit_model.specs.Rules.State.{Start, known_of, typed_locks, orders_of}

@@ -29,7 +29,7 @@ abbrev pub by : ℕ → Call → Reply → Deed
 by t call reply = Logged (record { seat = record { 0 = t }; call = call; reply = reply })
 
 -- thread 1 makes a mutex of this name, whose type has the same
-abbrev makes : List ℕ → ℕ → List Deed
+abbrev pub makes : List ℕ → ℕ → List Deed
 makes name l =
     by 1 (Init (record {
       class = SleepMutex;
@@ -51,15 +51,15 @@ request l line = record {
 }
 
 -- t asks for lock l, and is answered so
-abbrev asks : ℕ → ℕ → ℕ → Reply → List Deed
+abbrev pub asks : ℕ → ℕ → ℕ → Reply → List Deed
 asks t l line reply = by t (Check (request l line)) reply ∷ []
 
 -- it asks for it and gets it
-abbrev locks : ℕ → ℕ → ℕ → Reply → List Deed
+abbrev pub locks : ℕ → ℕ → ℕ → Reply → List Deed
 locks t l line reply =
     asks t l line reply ++ Take t l Exclusive ∷ by t (Note (record { 0 = l })) Recorded ∷ []
 
-abbrev unlocks : ℕ → ℕ → List Deed
+abbrev pub unlocks : ℕ → ℕ → List Deed
 unlocks t l = by t (Unlock (record { 0 = l }) Exclusive) Unlocked ∷ Free t l ∷ []
 
 -- the order from the one lock's type to the other's is learnt; lock l is the first of its type, and
@@ -69,7 +69,7 @@ learns l m = Adopted (record { 0 = l }) (record { 0 = m })
 
 -- lock m is asked for at this line under lock l, which was taken at that one, against the order
 -- learnt
-abbrev reverses : ℕ → ℕ → ℕ → ℕ → Reply
+abbrev pub reverses : ℕ → ℕ → ℕ → ℕ → Reply
 reverses l taken m line = Reversal (record {
   heading = heading.Order;
   held = record { lock = record { 0 = l }; site = at_line taken };

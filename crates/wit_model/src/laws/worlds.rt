@@ -12,6 +12,11 @@ ghost use Rattle.wit_model.specs.WorldLaws.{
   DefinedBeforeReorders,
   AgreedIsWorld,
   AgreedIsClean,
+  TriedIsWorld,
+  TriedIsClean,
+  TriedInTurnIsWorld,
+  TriedCrossedReorders,
+  TriedCrossedDeadlocks,
   VariedIsWorld,
   ExhaustedIsWorld,
   ExclusiveIsAlone,
@@ -59,6 +64,21 @@ pub fn law_replies_differ()
 pub fn law_clean_run()
     ensures run { AgreedIsWorld }
     ensures clean { AgreedIsClean }
+{}
+
+/// Nor is it empty where requests are compared with all held locks: here is a world with a try
+/// whose log is clean.
+pub fn law_clean_run_all_held()
+    ensures run { TriedIsWorld }
+    ensures clean { TriedIsClean }
+{}
+
+/// And there a world with a report has a reordering with a deadlock. The report is of the order
+/// behind a lock that wasn't the last one held, since another one was acquired by a try after it.
+pub fn law_circle_reached_all_held()
+    ensures run { TriedInTurnIsWorld }
+    ensures reordering { TriedCrossedReorders }
+    ensures circle { TriedCrossedDeadlocks }
 {}
 
 /// Every sequence of steps can be done, and every call made, while another thread does its own:
