@@ -20,10 +20,32 @@ flags=
 example named "locks of one array"
 example named "locks of one array" --full
 
-for words in 0 1 2 3; do
+for words in 0 2 3; do
     example dropped "rights that are given up before the first nested request"
 done
+words=1
+if [ "$(id -u)" -eq 0 ]; then
+    example dropped "another root and another user before the first nested request"
+elif wanted dropped; then
+    echo "left out  dropped: only root changes root and user"
+fi
 words=
+
+# What other threads held at a fork is held by nobody in the child: its trace has those locks free.
+example orphans "locks that other threads hold at a fork"
+example orphans "locks that other threads hold at a fork" --full
+if wanted orphans; then
+    compile orphans
+    for stream in "" --full; do
+        "$record" $stream -o kept -- ./orphans 2>/dev/null
+        bad=0
+        for trace in kept kept.1; do
+            awk -f "$here/judge.awk" $trace && "$WITNESS" locks <$trace >left && ! grep -q '^seat\|^ ' left || bad=1
+        done
+        [ "$bad" -eq 0 ]
+        tell orphans "nothing is left held in either trace $stream" $?
+    done
+fi
 
 # A call that was left is told of, and its thread is recorded as before.
 if wanted jump; then
