@@ -9,6 +9,7 @@
 #   pending N               so many requests never ended
 #   again SEAT LOCK SITE    the seat waited for a lock that it held
 #   foreign "NAME" @ SITE   the lock was released by a thread that didn't hold it
+#   alias "TYPE" "FUNCTIONS"  what the type is called in the ignore file by the functions of its places: no lines are in it
 # The directory in RECORD_DIRECTORY is left out at the head of the names of source files.
 
 # Giant is the kernel's own lock, with rules that no program's has.
@@ -141,28 +142,31 @@ function decimal(digits,   value, i) {
 }
 
 # One caller more of the type that is being named: so many as it has places, whether they were inlined or not.
-function step(type, identity, name) {
+function step(type, identity, name, called) {
     if (steps == deepest)
         return
     source[type] = source[type] " < " identity
-    if (!(type in object_at))
+    if (!(type in object_at)) {
         plain[type] = plain[type] (steps ? "<" : "") name
+        by_functions[type] = by_functions[type] (steps ? "<" : "") clean(called) "()"
+    }
     steps++
 }
 
 function steps_of(type, place,   key, number, any) {
     key = key_of(place)
     for (number = 1; (number = telling(key, number)) > 0; number++) {
-        step(type, frame_line[key, number], base(frame_line[key, number]))
+        step(type, frame_line[key, number], base(frame_line[key, number]), frame_name[key, number])
         any = 1
     }
     if (any)
         return
     if (frames[key] > 0)
-        step(type, frame_line[key, frames[key]], base(frame_line[key, frames[key]]))
+        step(type, frame_line[key, frames[key]], base(frame_line[key, frames[key]]), frame_name[key, frames[key]])
     else
         step(type, path_of[object_of[place]] "+" offset_of[place], \
-            function_of[place] == "-" ? unknown(place) : function_name(place) "+0x" within_of[place])
+            function_of[place] == "-" ? unknown(place) : function_name(place) "+0x" within_of[place], \
+            function_of[place] == "-" ? unknown(place) : function_name(place))
 }
 
 # Where a type comes from: types that come from the same source are one, whatever the compiler made of it.
@@ -250,8 +254,47 @@ function name_types(   type, name, i) {
         for (i = 1; i <= claimants[name]; i++)
             type_name[claimed[name, i]] = single(name)
     }
-    for (type = 1; type <= types; type++)
-        known[type_name[type] = type_name[one[type]]] = 1
+    for (type = 1; type <= types; type++) {
+        type_name[type] = type_name[one[type]]
+        if (one[type] == type)
+            call(type)
+    }
+}
+
+# What the ignore file may call the type: its name, or the functions of its places, which others may have too.
+function call(type,   name) {
+    name = type_name[type]
+    add_called(name, name)
+    if ((type in by_functions) && by_functions[type] != name) {
+        add_called(by_functions[type], name)
+        print "alias \"" name "\" \"" by_functions[type] "\"" >notes
+    }
+}
+
+function add_called(word, name) {
+    called[word, ++calls[word]] = name
+    if (!(word in ignored))
+        return
+    left_in_peace[name] = 1
+    print "matched " ignored[word] >notes
+}
+
+# All pairs of types that the two words of a line stand for.
+function bless(number,   first, second, i, j, this, other) {
+    first = bless_first[number]
+    second = bless_second[number]
+    if (!(first in calls) || !(second in calls))
+        return
+    print "matched " bless_line[number] >notes
+    for (i = 1; i <= calls[first]; i++)
+        for (j = 1; j <= calls[second]; j++) {
+            this = called[first, i]
+            other = called[second, j]
+            if (this == other || ((this, other) in blessed) || ((other, this) in blessed))
+                continue
+            blessed[this, other] = 1
+            print "bless \"" this "\" \"" other "\""
+        }
 }
 
 # `init SEAT CLASS FLAGS TYPE NUMBER-IN-TYPE`, then the variable where the lock stands in one.
@@ -259,7 +302,7 @@ function init_line(   type, name, own, flags, number) {
     type = one[$5]
     number = merged[type] > 1 ? ++made[type] : $6
     name = type_name[type]
-    flags = $4 (name in ignored ? "d" : "")
+    flags = $4 (name in left_in_peace ? "d" : "")
     if (flags == "-d")
         flags = "d"
     if (NF > 6) {
@@ -291,13 +334,7 @@ function header(   chunks, i) {
     print "witness-trace 1 seats " (seats ? seats : 1) " types " (different ? different : 1) " locks " \
         (locks ? locks : 1) " chunks " (chunks ? chunks : 1)
     for (i = 1; i <= blessings; i++)
-        if ((bless_first[i] in known) && (bless_second[i] in known)) {
-            print "bless \"" bless_first[i] "\" \"" bless_second[i] "\""
-            print "matched " bless_line[i] >notes
-        }
-    for (i in ignored)
-        if (i in known)
-            print "matched " ignored[i] >notes
+        bless(i)
     if (waiting > 0)
         print "pending " waiting >notes
 }
@@ -339,7 +376,8 @@ kind == "record" {
 
 kind == "ignore" && /^#/ { next }
 kind == "ignore" {
-    if (split($0, quoted, "\"") == 3) {
+    match($0, /^"[^"]+"([ \t]+"[^"]+")?/)
+    if (split(substr($0, 1, RLENGTH), quoted, "\"") == 3) {
         ignored[quoted[2]] = FNR
     } else if (split($0, quoted, "\"") == 5) {
         bless_first[++blessings] = quoted[2]

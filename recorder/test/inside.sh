@@ -6,7 +6,7 @@ if wanted atfork; then
         cc -g -pthread -o atfork atfork.c -L. -latfork -Wl,-rpath,"$PWD"
     for forks in 1 12; do
         timeout -s KILL 60 "$record" -- ./atfork $forks >recorded.out 2>recorded.err
-        [ $? -eq 0 ] && [ "$(cat recorded.out)" = forked ] && sed '/^record: /d' recorded.err | diff "$here/atfork.want" -
+        [ $? -eq 0 ] && [ "$(cat recorded.out)" = forked ] && sed '/^record: /d; s/^==[0-9]*== //' recorded.err | diff "$here/atfork.want" -
         tell atfork "$forks forks in a library's handlers" $?
     done
 fi
