@@ -10,12 +10,22 @@
 #   again SEAT LOCK SITE    the seat waited for a lock that it held
 #   foreign "NAME" @ SITE   the lock was released by a thread that didn't hold it
 #   alias "TYPE" "FUNCTIONS"  what the type is called in the ignore file by the functions of its places: no lines are in it
-# The directory in RECORD_DIRECTORY is left out at the head of the names of source files.
+#   site NUMBER SITE        what `@:NUMBER` stands for as a place of the trace; such places are written where the recorder
+#   frame NUMBER FUNCTION SITE   has written stacks and there are notes: below it are the frames of that place's stack
+# RECORDER_SKIP has the patterns of functions that say nothing about a call, by colons, and RECORDER_FRAMES how many frames
+# of a stack are wanted. The directory in RECORD_DIRECTORY is left out at the head of the names of source files.
 
 # Giant is the kernel's own lock, with rules that no program's has.
 BEGIN {
     taken["Giant"] = 1
     directory = ENVIRON["RECORD_DIRECTORY"]
+    most_frames = ENVIRON["RECORDER_FRAMES"] + 0
+    patterns = split(ENVIRON["RECORDER_SKIP"], pattern, ":")
+    for (i = 1; i <= patterns; i++) {
+        gsub(/[^A-Za-z0-9_*?]/, "[&]", pattern[i])
+        gsub(/[*]/, ".*", pattern[i])
+        gsub(/[?]/, ".", pattern[i])
+    }
 }
 
 function base(path) {
@@ -42,17 +52,23 @@ function is_library(name, file) {
 }
 
 # An inlined function that has the name of one whose only work is to lock: places.c goes by the same names.
-function is_wrapper(name) {
+function is_wrapper(name,   i) {
     sub(/.*::/, "", name)
+    for (i = 1; i <= patterns; i++)
+        if (name ~ ("^(" pattern[i] ")$"))
+            return 1
     name = tolower(name)
     return name !~ /(unlock|clock|block)$/ \
         && name ~ /(lock|mutex|monitor|mutex_?enter|(mutex|lock)_acquire|(mutex|lock)_?init|mutex_(create|new|alloc)|cond_?wait|cond_timedwait)$/
 }
 
-# A function's name without what it takes.
+# A function's name without what it takes, and without what a template was made for.
 function short(name) {
-    if (name !~ /operator/)
-        sub(/\(.*/, "", name)
+    if (name ~ /operator/)
+        return name
+    while (gsub(/<[^<>]*>/, "", name))
+        ;
+    sub(/\(.*/, "", name)
     return name
 }
 
@@ -91,6 +107,11 @@ function key_of(place) {
     return object_of[place] " " offset_of[place]
 }
 
+# A line of a source file, without the directory that everybody knows.
+function shown(text) {
+    return index(text, directory "/") == 1 ? substr(text, length(directory) + 2) : text
+}
+
 # FILE:LINE of a place as it stands in a trace; where nothing is known of it, OBJECT+OFFSET(FUNCTION) and line 0.
 function site(place,   text, key, line, number) {
     if (place in site_of)
@@ -100,9 +121,7 @@ function site(place,   text, key, line, number) {
     key = key_of(place)
     if (frames[key] > 0) {
         number = telling(key, 1)
-        text = frame_line[key, number ? number : frames[key]]
-        if (index(text, directory "/") == 1)
-            text = substr(text, length(directory) + 2)
+        text = shown(frame_line[key, number ? number : frames[key]])
     } else {
         text = unknown(place) ":0"
     }
@@ -346,10 +365,49 @@ function tell_progress() {
     fflush("/dev/stderr")
 }
 
-# A call's line with its place in the last field.
-function placed(   place) {
-    place = $NF
-    return substr($0, 1, length($0) - length(place)) ((place in site_of) ? site_of[place] : site(place))
+# A call's line with its place, which is the field of that number; behind it may be a stack.
+function placed(field,   place, head) {
+    place = $field
+    if (NF == field)
+        return substr($0, 1, length($0) - length(place)) (with_stacks ? site_number(place, 0) : \
+            (place in site_of) ? site_of[place] : site(place))
+    head = substr($0, 1, length($0) - length(place) - length($NF) - 1)
+    return head (with_stacks ? site_number(place, $NF) : site(place))
+}
+
+# The place as a number, under which the notes have its site and its stack.
+function site_number(place, stack) {
+    if (!((place, stack) in number_of_site)) {
+        number_of_site[place, stack] = ++sites
+        print "site", sites, site(place) >notes
+        if (stack)
+            note_frames(sites, stack)
+    }
+    return "@:" number_of_site[place, stack]
+}
+
+# Where a thread begins.
+function is_end(name) {
+    return name ~ /^(_start|__libc_start_.*|start_thread|clone3?|__clone3?)$/
+}
+
+function note_frames(id, stack,   part, count, i, key, number, noted) {
+    count = split(stack_line[stack], part, " ")
+    for (i = 3; i <= count && noted < most_frames; i++) {
+        key = key_of(part[i])
+        if (is_end(function_name(part[i])))
+            return
+        if (frames[key] == 0 && function_of[part[i]] != "-") {
+            print "frame " id " " escaped(function_name(part[i])) " " escaped(unknown(part[i])) >notes
+            noted++
+        }
+        for (number = 1; (number = telling(key, number)) > 0 && noted < most_frames; number++) {
+            print "frame " id " " escaped(frame_name[key, number]) " " escaped(shown(frame_line[key, number])) >notes
+            noted++
+        }
+        if (function_name(part[i]) == "main")
+            return
+    }
 }
 
 kind == "record" {
@@ -361,8 +419,10 @@ kind == "record" {
     word = $1
     if (word == "lock" || word == "unlock" || word == "giveup")
         print
-    else if (word == "check" || word == "try")
-        print placed()
+    else if (word == "check")
+        print placed(6)
+    else if (word == "try")
+        print placed(5)
     else if (word == "init")
         print init_line()
     else if (word == "again")
@@ -407,6 +467,7 @@ kind == "lines" {
 kind == "names" { if (split($0, pair, "\t") == 2) demangled[pair[1]] = pair[2]; next }
 
 $1 == "object" { path_of[$2] = substr($0, length($2) + 9); next }
+$1 == "stack" { stack_line[$2] = $0; with_stacks = notes != "/dev/null"; next }
 $1 == "place" { object_of[$2] = $3; offset_of[$2] = $4; function_of[$2] = $5; within_of[$2] = $6; next }
 $1 == "type" {
     type_line[$2] = $0

@@ -83,13 +83,24 @@ static void put_mode(int stream, uint8_t mode)
     put_text(stream, mode == SHARED ? " s" : " x");
 }
 
-static void write_check(int stream, const struct thread *thread, uint32_t lock, uint8_t mode, uint32_t place)
+/* The place, and behind it the stack where there is one. */
+static void put_site(int stream, uint32_t site, uint32_t stack)
+{
+    put_number(stream, site);
+    if (stack)
+        put_number(stream, stack);
+}
+
+static void write_check(
+    int stream, const struct thread *thread, uint32_t lock, uint8_t mode, uint32_t place, uint32_t stack)
 {
     uint32_t site = place_number(stream, place);
+    if (stack)
+        stack_stands(stream, stack);
     write_call(stream, "check", thread, lock);
     put_mode(stream, mode);
     put_text(stream, " n");
-    put_number(stream, site);
+    put_site(stream, site, stack);
     end_call(stream);
 }
 
@@ -99,12 +110,20 @@ static void write_lock(int stream, const struct thread *thread, uint32_t lock)
     end_call(stream);
 }
 
+/* The stack of what is held, where all have one. */
+static uint32_t held_stack(const struct held *held)
+{
+    return stacks_all ? held->stack : 0;
+}
+
 static void write_try(int stream, const struct thread *thread, const struct held *held)
 {
-    uint32_t site = place_number(stream, held->place);
+    uint32_t site = place_number(stream, held->place), stack = held_stack(held);
+    if (stack)
+        stack_stands(stream, stack);
     write_call(stream, "try", thread, held->number[stream]);
     put_mode(stream, held->mode);
-    put_number(stream, site);
+    put_site(stream, site, stack);
     end_call(stream);
 }
 
@@ -128,7 +147,7 @@ static void write_chain(int stream, struct thread *thread)
             if (held->tried || (i > 0 && (stream == FULL || !node_is_requested(held->node)))) {
                 write_try(stream, thread, held);
             } else {
-                write_check(stream, thread, number, held->mode, held->place);
+                write_check(stream, thread, number, held->mode, held->place, held_stack(held));
                 write_lock(stream, thread, number);
             }
         }
@@ -144,7 +163,7 @@ static bool write_behind_chain(int stream, struct request *request)
     write_chain(stream, thread);
     uint32_t number = lock_number(stream, thread, request->lock);
     if (number != 0) {
-        write_check(stream, thread, number, request->mode, request->place);
+        write_check(stream, thread, number, request->mode, request->place, request->stack);
         request->number[stream] = thread->asked[stream] = number;
         request->pending |= bit(stream);
         stands(stream, thread, number);
@@ -179,7 +198,7 @@ void write_again(struct request *request, struct held *held)
 {
     if (!(held->written & bit(FULL)) || !recorder_enters())
         return;
-    write_check(FULL, request->thread, held->number[FULL], request->mode, request->place);
+    write_check(FULL, request->thread, held->number[FULL], request->mode, request->place, request->stack);
     request->number[FULL] = request->thread->asked[FULL] = held->number[FULL];
     request->pending |= bit(FULL);
     stands(FULL, request->thread, held->number[FULL]);

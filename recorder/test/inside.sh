@@ -47,6 +47,23 @@ if wanted orphans; then
     done
 fi
 
+# Stacks: of requests, of what was held too, and through functions that are passed over.
+want=helper.callers example helper "the callers of requests" --frames 8
+want=helper.callers example helper "the callers of requests" --frames 3
+want=helper.held example helper "the callers of what was held" --frames 8 --held-callers
+want=helper.skip example helper "functions that are passed over" --skip 'cache_*'
+example helper "no callers" --frames 1
+flags=-O2
+want=helper.callers example helper "the callers of requests" --frames 8
+want=with example with "the callers through templates and lambdas" --frames 8 --skip with
+flags=
+if wanted helper; then
+    compile helper
+    "$record" --frames 2 -o kept -- ./helper 2>recorded.err
+    "$WITNESS" replay <kept | diff - "$here/helper.first" && ! grep -q 'main' recorded.err && grep -q audit recorded.err
+    tell helper "two frames, and a trace with its places" $?
+fi
+
 # A call that was left is told of, and its thread is recorded as before.
 if wanted jump; then
     "$record" -- true 2>/dev/null
