@@ -235,7 +235,7 @@ static inline void add_held(struct request *request)
     }
     struct held *held = held_filled(thread, request->lock, request->place, request->node, request->mode);
     held->tried = request->tried;
-    held->stack = request->stack;
+    held->stack = (uint16_t)request->stack;
     if (request->pending || (writes_all && request->tried))
         write_acquired(request, held);
     thread->count++;

@@ -66,7 +66,7 @@ static inline struct held *held_filled(struct thread *thread, struct lock *lock,
     held->place = place;
     held->node = node;
     held->count = 1;
-    held->mode = (uint8_t)mode;
+    held->mode = mode & 0x7f;
     held->tried = held->written = 0;
     return held;
 }

@@ -128,11 +128,10 @@ struct held {
     uint32_t place;
     uint32_t node;    /* of the chain up to this lock; 0 where it wasn't looked for */
     uint32_t count;   /* acquisitions not yet released */
-    uint8_t mode;
-    uint8_t tried;
+    uint8_t mode : 7, tried : 1;
     uint8_t written;  /* a bit for each stream */
+    uint16_t stack;   /* of the acquisition, where all have one */
     uint32_t number[STREAMS];
-    uint32_t stack;   /* of the acquisition, where all have one */
 };
 
 /*
@@ -371,6 +370,7 @@ void write_left(struct thread *thread);
 void write_unlock(struct thread *thread, struct held *held, bool whole);
 void write_waits_for_itself(struct request *request);
 void write_released_by_another(struct thread *thread, struct lock *lock, uint32_t place);
+void write_thread(int stream, const struct thread *thread);
 void write_place(int stream, uint32_t place);
 void write_type(int stream, struct type *type);
 void write_init(int stream, struct thread *thread, struct lock *lock);

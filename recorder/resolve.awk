@@ -10,6 +10,7 @@
 #   again SEAT LOCK SITE    the seat waited for a lock that it held
 #   foreign "NAME" @ SITE   the lock was released by a thread that didn't hold it
 #   alias "TYPE" "FUNCTIONS"  what the type is called in the ignore file by the functions of its places: no lines are in it
+#   thread SEAT NAME        from here on the seat is that thread's, whose name is - where it was given none
 #   site NUMBER SITE        what `@:NUMBER` stands for as a place of the trace; such places are written where the recorder
 #   frame NUMBER FUNCTION SITE   has written stacks and there are notes: below it are the frames of that place's stack
 # RECORDER_SKIP has the patterns of functions that say nothing about a call, by colons, and RECORDER_FRAMES how many frames
@@ -427,6 +428,8 @@ kind == "record" {
         print init_line()
     else if (word == "again")
         print "again", $2, $3, site($4) >notes
+    else if (word == "thread")
+        print >notes
     else if (word == "foreign")
         print "foreign \"" lock_name[$3] "\" @ " site($4) >notes
     if (progress && FNR % 262144 == 0)

@@ -6,6 +6,7 @@
 
 #include <string.h>
 
+/* A number of one has room in a held lock. */
 enum { STACKS = 1 << 15 };
 
 struct stack {

@@ -32,8 +32,28 @@
  */
 #include "quick.h"
 
+#include <string.h>
+#include <sys/prctl.h>
+
 /* What the seats may owe the log at most: all locks that they hold, and a request for each seat. */
 #define OWED_MOST (SEATS * (HELD_MOST + 2))
+
+/* `thread SEAT NAME`, where the thread was given a name; `-` where it has its program's. */
+void write_thread(int stream, const struct thread *thread)
+{
+    extern char *program_invocation_short_name;
+    char name[17] = "";
+    if (prctl(PR_GET_NAME, name) != 0 || strncmp(name, program_invocation_short_name, 15) == 0)
+        name[0] = '\0';
+    for (char *at = name; *at; at++)
+        if (*at <= ' ' || *at > '~' || *at == '&' || *at == '\\')
+            *at = '_';
+    put_text(stream, "thread");
+    put_number(stream, thread->seat[stream]);
+    put_name(stream, name);
+    put_text(stream, "\n");
+    stream_append(stream, false);
+}
 
 static uint32_t bit(int stream)
 {
@@ -182,8 +202,12 @@ COLD void write_request(struct request *request)
     if (writes[CONDENSED]) {
         request->node = node_made(request->parent, request->lock->type->number);
         if (nested && (request->patient || !node_is_requested(request->node))) {
-            if (write_behind_chain(CONDENSED, request))
+            if (write_behind_chain(CONDENSED, request)) {
                 node_set_requested(request->node);
+                /* It may have got its name since it was given the seat. */
+                if (request->patient)
+                    write_thread(CONDENSED, thread);
+            }
         } else {
             request->patient = nested;
         }
