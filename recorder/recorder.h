@@ -3,6 +3,7 @@
  * `recorder/resolve` makes a trace. This file has what its parts share:
  *
  *   calls.c     the interposed calls of pthread, C11 and the C library
+ *   annotations.c  what a program tells of its own locks by witness.h
  *   start.c     the real functions behind them, the start, fork
  *   chains.c    what each thread holds, and the tree of chains of types; quick.h, where nothing is to be written
  *   locks.c     the locks at their addresses, and their types

@@ -64,6 +64,15 @@ if wanted helper; then
     tell helper "two frames, and a trace with its places" $?
 fi
 
+# Locks of the program's own, annotated.
+for flags in -O0 -O2; do
+    example futex "locks on futexes"
+    example futex "locks on futexes" --full
+    example atomics "locks on std::atomic, by C++'s guards"
+    example atomics "locks on std::atomic, by C++'s guards" --full
+done
+flags=
+
 # A call that was left is told of, and its thread is recorded as before.
 if wanted jump; then
     "$record" -- true 2>/dev/null
