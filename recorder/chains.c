@@ -181,6 +181,7 @@ static void consider(struct request *request)
         request->patient = request->node != 0 && node_is_requested(request->node);
         if (LIKELY(request->patient))
             return;
+        request->stack = stack_of(request->caller);
     }
     write_request(request);
 }
@@ -199,7 +200,9 @@ bool request_begins(struct request *request, const void *address, enum class cla
     request->thread = thread;
     request->lock = lock;
     request->again = held_of(thread, lock);
+    request->caller = caller;
     request->place = place_of(caller);
+    request->stack = stacks_all ? stack_of(caller) : 0;
     request->node = 0;
     request->mode = mode;
     request->tried = tried;
@@ -213,6 +216,7 @@ bool request_begins(struct request *request, const void *address, enum class cla
 /* A patient request has waited for a second: now it is written, so that the trace shows a circle where there is one. */
 COLD void request_waits(struct request *request)
 {
+    request->stack = stack_of(request->caller);
     if (request->again_refused)
         write_waits_for_itself(request);
     else if (!request->again)
@@ -231,6 +235,7 @@ static inline void add_held(struct request *request)
     }
     struct held *held = held_filled(thread, request->lock, request->place, request->node, request->mode);
     held->tried = request->tried;
+    held->stack = (uint16_t)request->stack;
     if (request->pending || (writes_all && request->tried))
         write_acquired(request, held);
     thread->count++;
@@ -306,7 +311,9 @@ bool wait_begins(struct request *request, const void *address, struct caller cal
     memset(request, 0, sizeof *request);
     request->thread = thread;
     request->lock = held->lock;
+    request->caller = caller;
     request->place = place_of(caller);
+    request->stack = stacks_all ? stack_of(caller) : 0;
     request->mode = EXCLUSIVE;
     released(thread, held);
     return true;

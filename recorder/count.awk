@@ -13,6 +13,8 @@
             most = held[$2]
     } else if (word == "unlock") {
         held[$2]--
+    } else if (word == "thread") {
+        next
     } else if (word == "giveup") {
         pending[$2] = 0
     } else if (word == "try") {

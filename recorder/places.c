@@ -70,6 +70,33 @@ static void last_word(const char *name, char word[WORD_MOST])
     word[length] = '\0';
 }
 
+/* Whether the pattern, which ends at a colon or a zero, is for the word: * stands for any bytes, ? for one. */
+static bool is_for(const char *pattern, const char *word)
+{
+    for (; *pattern && *pattern != ':'; pattern++, word++) {
+        if (*pattern == '*') {
+            for (; *word; word++)
+                if (is_for(pattern + 1, word))
+                    return true;
+            return is_for(pattern + 1, word);
+        }
+        if (*word == '\0' || (*pattern != '?' && *pattern != *word))
+            return false;
+    }
+    return *word == '\0';
+}
+
+/* Whether the user said that the function is to be passed over. */
+static bool is_passed_over(const char *name)
+{
+    char word[WORD_MOST];
+    last_word(name, word);
+    for (const char *at = skipped; *at; at += strcspn(at, ":"), at += *at == ':')
+        if (is_for(at, word) || is_for(at, name))
+            return true;
+    return false;
+}
+
 /* By the name of a function and its size: C++'s own, or one that does something with a lock and little else. */
 static bool is_wrapper(const char *name, uint64_t size)
 {
@@ -126,7 +153,7 @@ static void add(uintptr_t pc, int32_t step)
         place->name = object_symbol(place->object, pc - 1, true, &from, &size);
         if (*place->name) {
             place->within = pc - from;
-            place->wrapper = is_wrapper(place->name, size);
+            place->wrapper = is_wrapper(place->name, size) || is_passed_over(place->name);
         }
     }
     places_met++;
@@ -240,7 +267,7 @@ static bool follow(struct caller caller, uint32_t wanted, uint32_t *found, uint3
 }
 
 /* The first callers that aren't wrappers, at most as many as wanted; where all are, the first of all. */
-static uint32_t callers(struct caller caller, uint32_t wanted, uint32_t *found)
+uint32_t callers(struct caller caller, uint32_t wanted, uint32_t *found)
 {
     uint32_t count;
     if (!follow(caller, wanted, found, &count)) {

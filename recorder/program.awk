@@ -36,4 +36,4 @@ function misfit(   at, n, linker) {
     return "it is linked statically"
 }
 
-END { print misfit() }
+END { if ((why = misfit()) != "") print why }

@@ -66,7 +66,7 @@ static inline struct held *held_filled(struct thread *thread, struct lock *lock,
     held->place = place;
     held->node = node;
     held->count = 1;
-    held->mode = (uint8_t)mode;
+    held->mode = mode & 0x7f;
     held->tried = held->written = 0;
     return held;
 }
@@ -125,7 +125,7 @@ QUICK bool quick_is_known(struct quick *quick, const void *address, struct calle
 QUICK bool quick_begins(struct quick *quick, const void *address, struct caller caller)
 {
     quick->thread = &self;
-    if (UNLIKELY(writes_all) || !goes_inside(quick->thread, caller.stack))
+    if (UNLIKELY(all_slow) || !goes_inside(quick->thread, caller.stack))
         return false;
     if (LIKELY(quick_is_known(quick, address, caller)))
         return true;

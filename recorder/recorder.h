@@ -3,10 +3,12 @@
  * `recorder/resolve` makes a trace. This file has what its parts share:
  *
  *   calls.c     the interposed calls of pthread, C11 and the C library
+ *   annotations.c  what a program tells of its own locks by witness.h
  *   start.c     the real functions behind them, the start, fork
  *   chains.c    what each thread holds, and the tree of chains of types; quick.h, where nothing is to be written
  *   locks.c     the locks at their addresses, and their types
  *   places.c    the callers of a call; objects.c finds their object and name
+ *   stacks.c    the callers of what is written
  *   seats.c     seats, and the numbers of types, locks and places in a stream
  *   write.c     the lines, and why they are a legal history
  *   stream.c    the files that the lines stand in
@@ -47,6 +49,7 @@ enum { SEATS = 256, TYPES = 1023, LOCKS = 65536 };
 #define HELD_MOST 512u
 #define HELD_FEW 8u
 #define DEPTH_MOST 4u
+#define FRAMES_MOST 16u
 
 enum class { MUTEX, RWLOCK, SPIN };
 enum mode { SHARED, EXCLUSIVE };
@@ -126,9 +129,9 @@ struct held {
     uint32_t place;
     uint32_t node;    /* of the chain up to this lock; 0 where it wasn't looked for */
     uint32_t count;   /* acquisitions not yet released */
-    uint8_t mode;
-    uint8_t tried;
+    uint8_t mode : 7, tried : 1;
     uint8_t written;  /* a bit for each stream */
+    uint16_t stack;   /* of the acquisition, where all have one */
     uint32_t number[STREAMS];
 };
 
@@ -157,7 +160,9 @@ struct request {
     struct thread *thread;
     struct lock *lock;
     struct held *again; /* where the thread holds the lock already */
+    struct caller caller;
     uint32_t place;
+    uint32_t stack;     /* 0 where it has none */
     uint32_t parent;    /* the node of what is held */
     uint32_t node;      /* of the chain with the lock; 0 where it wasn't looked for */
     uint8_t mode;
@@ -227,6 +232,8 @@ extern struct real real;
 extern __thread struct thread self __attribute__((tls_model("initial-exec")));
 extern bool writes[STREAMS];
 extern bool writes_all; /* a line for every call: the full stream is written */
+extern bool all_slow;   /* every call takes the long way */
+extern const char *skipped; /* patterns of functions that say nothing about a call, parted by colons */
 extern uint32_t depth;  /* how many callers name a type */
 extern uint32_t life;   /* how many forks lie between the recorded program's start and this process */
 extern bool watches_free;
@@ -322,6 +329,7 @@ static inline uint32_t place_of(struct caller caller)
 }
 
 uint32_t places_of(struct caller caller, uint32_t places[DEPTH_MOST]);
+uint32_t callers(struct caller caller, uint32_t wanted, uint32_t *found);
 bool call_goes_on(uintptr_t stack);
 void places_closed(uintptr_t from, uintptr_t to);
 
@@ -335,6 +343,14 @@ const char *object_symbol(uint32_t object, uintptr_t address, bool function, uin
 const char *object_symbol_file(uint32_t object, uintptr_t address);
 void objects_begin(void);
 void objects_closed(void (*gone)(uintptr_t from, uintptr_t to));
+
+/* stacks.c */
+extern uint32_t frames_shown; /* how many frames a stack has at most; with 1 there are no stacks */
+extern bool stacks_all;       /* what is held has its stack, too */
+
+bool stacks_made(void);
+uint32_t stack_of(struct caller caller);
+void stack_stands(int stream, uint32_t number);
 
 /* seats.c */
 bool seat_taken(int stream, struct thread *thread);
@@ -355,6 +371,7 @@ void write_left(struct thread *thread);
 void write_unlock(struct thread *thread, struct held *held, bool whole);
 void write_waits_for_itself(struct request *request);
 void write_released_by_another(struct thread *thread, struct lock *lock, uint32_t place);
+void write_thread(int stream, const struct thread *thread);
 void write_place(int stream, uint32_t place);
 void write_type(int stream, struct type *type);
 void write_init(int stream, struct thread *thread, struct lock *lock);

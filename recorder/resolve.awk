@@ -9,12 +9,24 @@
 #   pending N               so many requests never ended
 #   again SEAT LOCK SITE    the seat waited for a lock that it held
 #   foreign "NAME" @ SITE   the lock was released by a thread that didn't hold it
-# The directory in RECORD_DIRECTORY is left out at the head of the names of source files.
+#   alias "TYPE" "FUNCTIONS"  what the type is called in the ignore file by the functions of its places: no lines are in it
+#   thread SEAT NAME        from here on the seat is that thread's, whose name is - where it was given none
+#   site NUMBER SITE        what `@:NUMBER` stands for as a place of the trace; such places are written where the recorder
+#   frame NUMBER FUNCTION SITE   has written stacks and there are notes: below it are the frames of that place's stack
+# RECORDER_SKIP has the patterns of functions that say nothing about a call, by colons, and RECORDER_FRAMES how many frames
+# of a stack are wanted. The directory in RECORD_DIRECTORY is left out at the head of the names of source files.
 
 # Giant is the kernel's own lock, with rules that no program's has.
 BEGIN {
     taken["Giant"] = 1
     directory = ENVIRON["RECORD_DIRECTORY"]
+    most_frames = ENVIRON["RECORDER_FRAMES"] + 0
+    patterns = split(ENVIRON["RECORDER_SKIP"], pattern, ":")
+    for (i = 1; i <= patterns; i++) {
+        gsub(/[^A-Za-z0-9_*?]/, "[&]", pattern[i])
+        gsub(/[*]/, ".*", pattern[i])
+        gsub(/[?]/, ".", pattern[i])
+    }
 }
 
 function base(path) {
@@ -41,17 +53,23 @@ function is_library(name, file) {
 }
 
 # An inlined function that has the name of one whose only work is to lock: places.c goes by the same names.
-function is_wrapper(name) {
+function is_wrapper(name,   i) {
     sub(/.*::/, "", name)
+    for (i = 1; i <= patterns; i++)
+        if (name ~ ("^(" pattern[i] ")$"))
+            return 1
     name = tolower(name)
     return name !~ /(unlock|clock|block)$/ \
         && name ~ /(lock|mutex|monitor|mutex_?enter|(mutex|lock)_acquire|(mutex|lock)_?init|mutex_(create|new|alloc)|cond_?wait|cond_timedwait)$/
 }
 
-# A function's name without what it takes.
+# A function's name without what it takes, and without what a template was made for.
 function short(name) {
-    if (name !~ /operator/)
-        sub(/\(.*/, "", name)
+    if (name ~ /operator/)
+        return name
+    while (gsub(/<[^<>]*>/, "", name))
+        ;
+    sub(/\(.*/, "", name)
     return name
 }
 
@@ -90,6 +108,11 @@ function key_of(place) {
     return object_of[place] " " offset_of[place]
 }
 
+# A line of a source file, without the directory that everybody knows.
+function shown(text) {
+    return index(text, directory "/") == 1 ? substr(text, length(directory) + 2) : text
+}
+
 # FILE:LINE of a place as it stands in a trace; where nothing is known of it, OBJECT+OFFSET(FUNCTION) and line 0.
 function site(place,   text, key, line, number) {
     if (place in site_of)
@@ -99,9 +122,7 @@ function site(place,   text, key, line, number) {
     key = key_of(place)
     if (frames[key] > 0) {
         number = telling(key, 1)
-        text = frame_line[key, number ? number : frames[key]]
-        if (index(text, directory "/") == 1)
-            text = substr(text, length(directory) + 2)
+        text = shown(frame_line[key, number ? number : frames[key]])
     } else {
         text = unknown(place) ":0"
     }
@@ -141,28 +162,31 @@ function decimal(digits,   value, i) {
 }
 
 # One caller more of the type that is being named: so many as it has places, whether they were inlined or not.
-function step(type, identity, name) {
+function step(type, identity, name, called) {
     if (steps == deepest)
         return
     source[type] = source[type] " < " identity
-    if (!(type in object_at))
+    if (!(type in object_at)) {
         plain[type] = plain[type] (steps ? "<" : "") name
+        by_functions[type] = by_functions[type] (steps ? "<" : "") clean(called) "()"
+    }
     steps++
 }
 
 function steps_of(type, place,   key, number, any) {
     key = key_of(place)
     for (number = 1; (number = telling(key, number)) > 0; number++) {
-        step(type, frame_line[key, number], base(frame_line[key, number]))
+        step(type, frame_line[key, number], base(frame_line[key, number]), frame_name[key, number])
         any = 1
     }
     if (any)
         return
     if (frames[key] > 0)
-        step(type, frame_line[key, frames[key]], base(frame_line[key, frames[key]]))
+        step(type, frame_line[key, frames[key]], base(frame_line[key, frames[key]]), frame_name[key, frames[key]])
     else
         step(type, path_of[object_of[place]] "+" offset_of[place], \
-            function_of[place] == "-" ? unknown(place) : function_name(place) "+0x" within_of[place])
+            function_of[place] == "-" ? unknown(place) : function_name(place) "+0x" within_of[place], \
+            function_of[place] == "-" ? unknown(place) : function_name(place))
 }
 
 # Where a type comes from: types that come from the same source are one, whatever the compiler made of it.
@@ -250,8 +274,47 @@ function name_types(   type, name, i) {
         for (i = 1; i <= claimants[name]; i++)
             type_name[claimed[name, i]] = single(name)
     }
-    for (type = 1; type <= types; type++)
-        known[type_name[type] = type_name[one[type]]] = 1
+    for (type = 1; type <= types; type++) {
+        type_name[type] = type_name[one[type]]
+        if (one[type] == type)
+            call(type)
+    }
+}
+
+# What the ignore file may call the type: its name, or the functions of its places, which others may have too.
+function call(type,   name) {
+    name = type_name[type]
+    add_called(name, name)
+    if ((type in by_functions) && by_functions[type] != name) {
+        add_called(by_functions[type], name)
+        print "alias \"" name "\" \"" by_functions[type] "\"" >notes
+    }
+}
+
+function add_called(word, name) {
+    called[word, ++calls[word]] = name
+    if (!(word in ignored))
+        return
+    left_in_peace[name] = 1
+    print "matched " ignored[word] >notes
+}
+
+# All pairs of types that the two words of a line stand for.
+function bless(number,   first, second, i, j, this, other) {
+    first = bless_first[number]
+    second = bless_second[number]
+    if (!(first in calls) || !(second in calls))
+        return
+    print "matched " bless_line[number] >notes
+    for (i = 1; i <= calls[first]; i++)
+        for (j = 1; j <= calls[second]; j++) {
+            this = called[first, i]
+            other = called[second, j]
+            if (this == other || ((this, other) in blessed) || ((other, this) in blessed))
+                continue
+            blessed[this, other] = 1
+            print "bless \"" this "\" \"" other "\""
+        }
 }
 
 # `init SEAT CLASS FLAGS TYPE NUMBER-IN-TYPE`, then the variable where the lock stands in one.
@@ -259,7 +322,7 @@ function init_line(   type, name, own, flags, number) {
     type = one[$5]
     number = merged[type] > 1 ? ++made[type] : $6
     name = type_name[type]
-    flags = $4 (name in ignored ? "d" : "")
+    flags = $4 (name in left_in_peace ? "d" : "")
     if (flags == "-d")
         flags = "d"
     if (NF > 6) {
@@ -291,13 +354,7 @@ function header(   chunks, i) {
     print "witness-trace 1 seats " (seats ? seats : 1) " types " (different ? different : 1) " locks " \
         (locks ? locks : 1) " chunks " (chunks ? chunks : 1)
     for (i = 1; i <= blessings; i++)
-        if ((bless_first[i] in known) && (bless_second[i] in known)) {
-            print "bless \"" bless_first[i] "\" \"" bless_second[i] "\""
-            print "matched " bless_line[i] >notes
-        }
-    for (i in ignored)
-        if (i in known)
-            print "matched " ignored[i] >notes
+        bless(i)
     if (waiting > 0)
         print "pending " waiting >notes
 }
@@ -309,10 +366,49 @@ function tell_progress() {
     fflush("/dev/stderr")
 }
 
-# A call's line with its place in the last field.
-function placed(   place) {
-    place = $NF
-    return substr($0, 1, length($0) - length(place)) ((place in site_of) ? site_of[place] : site(place))
+# A call's line with its place, which is the field of that number; behind it may be a stack.
+function placed(field,   place, head) {
+    place = $field
+    if (NF == field)
+        return substr($0, 1, length($0) - length(place)) (with_stacks ? site_number(place, 0) : \
+            (place in site_of) ? site_of[place] : site(place))
+    head = substr($0, 1, length($0) - length(place) - length($NF) - 1)
+    return head (with_stacks ? site_number(place, $NF) : site(place))
+}
+
+# The place as a number, under which the notes have its site and its stack.
+function site_number(place, stack) {
+    if (!((place, stack) in number_of_site)) {
+        number_of_site[place, stack] = ++sites
+        print "site", sites, site(place) >notes
+        if (stack)
+            note_frames(sites, stack)
+    }
+    return "@:" number_of_site[place, stack]
+}
+
+# Where a thread begins.
+function is_end(name) {
+    return name ~ /^(_start|__libc_start_.*|start_thread|clone3?|__clone3?)$/
+}
+
+function note_frames(id, stack,   part, count, i, key, number, noted) {
+    count = split(stack_line[stack], part, " ")
+    for (i = 3; i <= count && noted < most_frames; i++) {
+        key = key_of(part[i])
+        if (is_end(function_name(part[i])))
+            return
+        if (frames[key] == 0 && function_of[part[i]] != "-") {
+            print "frame " id " " escaped(function_name(part[i])) " " escaped(unknown(part[i])) >notes
+            noted++
+        }
+        for (number = 1; (number = telling(key, number)) > 0 && noted < most_frames; number++) {
+            print "frame " id " " escaped(frame_name[key, number]) " " escaped(shown(frame_line[key, number])) >notes
+            noted++
+        }
+        if (function_name(part[i]) == "main")
+            return
+    }
 }
 
 kind == "record" {
@@ -324,12 +420,16 @@ kind == "record" {
     word = $1
     if (word == "lock" || word == "unlock" || word == "giveup")
         print
-    else if (word == "check" || word == "try")
-        print placed()
+    else if (word == "check")
+        print placed(6)
+    else if (word == "try")
+        print placed(5)
     else if (word == "init")
         print init_line()
     else if (word == "again")
         print "again", $2, $3, site($4) >notes
+    else if (word == "thread")
+        print >notes
     else if (word == "foreign")
         print "foreign \"" lock_name[$3] "\" @ " site($4) >notes
     if (progress && FNR % 262144 == 0)
@@ -339,7 +439,8 @@ kind == "record" {
 
 kind == "ignore" && /^#/ { next }
 kind == "ignore" {
-    if (split($0, quoted, "\"") == 3) {
+    match($0, /^"[^"]+"([ \t]+"[^"]+")?/)
+    if (split(substr($0, 1, RLENGTH), quoted, "\"") == 3) {
         ignored[quoted[2]] = FNR
     } else if (split($0, quoted, "\"") == 5) {
         bless_first[++blessings] = quoted[2]
@@ -369,6 +470,7 @@ kind == "lines" {
 kind == "names" { if (split($0, pair, "\t") == 2) demangled[pair[1]] = pair[2]; next }
 
 $1 == "object" { path_of[$2] = substr($0, length($2) + 9); next }
+$1 == "stack" { stack_line[$2] = $0; with_stacks = notes != "/dev/null"; next }
 $1 == "place" { object_of[$2] = $3; offset_of[$2] = $4; function_of[$2] = $5; within_of[$2] = $6; next }
 $1 == "type" {
     type_line[$2] = $0

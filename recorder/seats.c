@@ -12,6 +12,8 @@
 /* The number of what didn't fit; it was counted. */
 #define NUMBER_NONE UINT32_MAX
 
+/* Who had each seat last, and is named for it. */
+static const struct thread *sitters[STREAMS][SEATS + 1];
 static uint64_t seats_lent[STREAMS][SEATS / 64];
 static uint32_t types_numbered[STREAMS];
 static uint32_t locks_numbered[STREAMS];
@@ -43,7 +45,11 @@ bool seat_taken(int stream, struct thread *thread)
         return false;
     }
     seats_lent[stream][(seat - 1) / 64] |= (uint64_t)1 << (seat - 1) % 64;
+    bool is_named = sitters[stream][seat] == thread && thread->last_seat[stream] == seat;
     thread->seat[stream] = thread->last_seat[stream] = seat;
+    sitters[stream][seat] = thread;
+    if (!is_named)
+        write_thread(stream, thread);
     return true;
 }
 

@@ -20,6 +20,8 @@ struct real real;
 __thread struct thread self __attribute__((tls_model("initial-exec")));
 bool writes[STREAMS];
 bool writes_all;
+bool all_slow;
+const char *skipped = "";
 uint32_t depth = 2;
 uint32_t life = 1;
 bool watches_free;
@@ -106,6 +108,15 @@ static bool settings_read(void)
     writes_all = writes[FULL];
     if (frames && frames[0] >= '1' && frames[0] <= '0' + (int)DEPTH_MOST && frames[1] == '\0')
         depth = (uint32_t)(frames[0] - '0');
+    const char *shown = getenv("RECORDER_FRAMES"), *skip = getenv("RECORDER_SKIP");
+    if (shown && atoi(shown) > 1 && atoi(shown) <= (int)FRAMES_MOST)
+        frames_shown = (uint32_t)atoi(shown);
+    if (skip)
+        skipped = skip;
+    stacks_all = frames_shown > 1 && getenv("RECORDER_HELD") != NULL;
+    if (writes_all && !stacks_all)
+        frames_shown = 1;
+    all_slow = writes_all || stacks_all;
     return true;
 }
 
@@ -118,7 +129,7 @@ void start(void)
     self.state = STARTING;
     find_real_functions();
     status_made();
-    if (settings_read() && locks_made() && places_made() && chains_made() && streams_made()) {
+    if (settings_read() && locks_made() && places_made() && stacks_made() && chains_made() && streams_made()) {
         alive = table(4096);
         if (alive) {
             *alive = 1;

@@ -3,10 +3,12 @@
 
 kind == "circle" { line[++lines] = $0; if ($1 == "seat") wanted[$2] = 1; next }
 
+kind == "notes" && $1 == "thread" { called[$2] = $3 == "-" ? "" : " (" $3 ")"; next }
 kind == "notes" {
     if ($1 == "again") {
         again[++agains] = $2 " " $3
         again_site[agains] = $4
+        again_name[agains] = called[$2]
         wanted[$2] = 1
     }
     next
@@ -43,10 +45,15 @@ function left(seat, lock,   part, n, i) {
             chain[seat] = chain[seat] part[i] " "
 }
 
-function tell_held(seat,   part, n, i) {
+function line_seat(number,   part) {
+    split(line[number], part, " ")
+    return part[2]
+}
+
+function tell_held(seat, name_of_seat,   part, n, i) {
     n = split(chain[seat], part, " ")
     for (i = 1; i <= n; i++)
-        print " seat " seat " holds \"" name[part[i]] "\" @ " where_taken[seat, part[i]]
+        print " seat " seat name_of_seat " holds \"" name[part[i]] "\" @ " where_taken[seat, part[i]]
 }
 
 END {
@@ -56,13 +63,15 @@ END {
             print
             continue
         }
-        print $0 " @ " site[$2]
-        tell_held($2)
+        sub(/held by seat [0-9]+/, "&" called[$NF])
+        sub(/^ seat [0-9]+/, "&" called[$2])
+        print $0 " @ " site[line_seat(i)]
+        tell_held(line_seat(i), called[line_seat(i)])
     }
     for (i = 1; i <= agains; i++) {
         split(again[i], part, " ")
         print "a thread waited for a lock that it held itself:"
-        print " seat " part[1] " waited for \"" name[part[2]] "\" @ " again_site[i]
-        tell_held(part[1])
+        print " seat " part[1] again_name[i] " waited for \"" name[part[2]] "\" @ " again_site[i]
+        tell_held(part[1], again_name[i])
     }
 }

@@ -32,8 +32,28 @@
  */
 #include "quick.h"
 
+#include <string.h>
+#include <sys/prctl.h>
+
 /* What the seats may owe the log at most: all locks that they hold, and a request for each seat. */
 #define OWED_MOST (SEATS * (HELD_MOST + 2))
+
+/* `thread SEAT NAME`, where the thread was given a name; `-` where it has its program's. */
+void write_thread(int stream, const struct thread *thread)
+{
+    extern char *program_invocation_short_name;
+    char name[17] = "";
+    if (prctl(PR_GET_NAME, name) != 0 || strncmp(name, program_invocation_short_name, 15) == 0)
+        name[0] = '\0';
+    for (char *at = name; *at; at++)
+        if (*at <= ' ' || *at > '~' || *at == '&' || *at == '\\')
+            *at = '_';
+    put_text(stream, "thread");
+    put_number(stream, thread->seat[stream]);
+    put_name(stream, name);
+    put_text(stream, "\n");
+    stream_append(stream, false);
+}
 
 static uint32_t bit(int stream)
 {
@@ -83,13 +103,24 @@ static void put_mode(int stream, uint8_t mode)
     put_text(stream, mode == SHARED ? " s" : " x");
 }
 
-static void write_check(int stream, const struct thread *thread, uint32_t lock, uint8_t mode, uint32_t place)
+/* The place, and behind it the stack where there is one. */
+static void put_site(int stream, uint32_t site, uint32_t stack)
+{
+    put_number(stream, site);
+    if (stack)
+        put_number(stream, stack);
+}
+
+static void write_check(
+    int stream, const struct thread *thread, uint32_t lock, uint8_t mode, uint32_t place, uint32_t stack)
 {
     uint32_t site = place_number(stream, place);
+    if (stack)
+        stack_stands(stream, stack);
     write_call(stream, "check", thread, lock);
     put_mode(stream, mode);
     put_text(stream, " n");
-    put_number(stream, site);
+    put_site(stream, site, stack);
     end_call(stream);
 }
 
@@ -99,12 +130,20 @@ static void write_lock(int stream, const struct thread *thread, uint32_t lock)
     end_call(stream);
 }
 
+/* The stack of what is held, where all have one. */
+static uint32_t held_stack(const struct held *held)
+{
+    return stacks_all ? held->stack : 0;
+}
+
 static void write_try(int stream, const struct thread *thread, const struct held *held)
 {
-    uint32_t site = place_number(stream, held->place);
+    uint32_t site = place_number(stream, held->place), stack = held_stack(held);
+    if (stack)
+        stack_stands(stream, stack);
     write_call(stream, "try", thread, held->number[stream]);
     put_mode(stream, held->mode);
-    put_number(stream, site);
+    put_site(stream, site, stack);
     end_call(stream);
 }
 
@@ -128,7 +167,7 @@ static void write_chain(int stream, struct thread *thread)
             if (held->tried || (i > 0 && (stream == FULL || !node_is_requested(held->node)))) {
                 write_try(stream, thread, held);
             } else {
-                write_check(stream, thread, number, held->mode, held->place);
+                write_check(stream, thread, number, held->mode, held->place, held_stack(held));
                 write_lock(stream, thread, number);
             }
         }
@@ -144,7 +183,7 @@ static bool write_behind_chain(int stream, struct request *request)
     write_chain(stream, thread);
     uint32_t number = lock_number(stream, thread, request->lock);
     if (number != 0) {
-        write_check(stream, thread, number, request->mode, request->place);
+        write_check(stream, thread, number, request->mode, request->place, request->stack);
         request->number[stream] = thread->asked[stream] = number;
         request->pending |= bit(stream);
         stands(stream, thread, number);
@@ -163,8 +202,12 @@ COLD void write_request(struct request *request)
     if (writes[CONDENSED]) {
         request->node = node_made(request->parent, request->lock->type->number);
         if (nested && (request->patient || !node_is_requested(request->node))) {
-            if (write_behind_chain(CONDENSED, request))
+            if (write_behind_chain(CONDENSED, request)) {
                 node_set_requested(request->node);
+                /* It may have got its name since it was given the seat. */
+                if (request->patient)
+                    write_thread(CONDENSED, thread);
+            }
         } else {
             request->patient = nested;
         }
@@ -179,7 +222,7 @@ void write_again(struct request *request, struct held *held)
 {
     if (!(held->written & bit(FULL)) || !recorder_enters())
         return;
-    write_check(FULL, request->thread, held->number[FULL], request->mode, request->place);
+    write_check(FULL, request->thread, held->number[FULL], request->mode, request->place, request->stack);
     request->number[FULL] = request->thread->asked[FULL] = held->number[FULL];
     request->pending |= bit(FULL);
     stands(FULL, request->thread, held->number[FULL]);

@@ -1,7 +1,7 @@
 /*
  * launch PRELOAD COUNT WORD.. PROGRAM ARGS..: runs the program with PRELOAD before its objects (none where the word is
  * empty), passes on the signals that it is sent itself, and when the program has ended becomes the command of COUNT
- * words, to which it adds how: `exit STATUS`, `signal NUMBER`, or `unstarted STATUS`.
+ * words, to which it adds how: `exit STATUS`, `signal NUMBER`, or `unstarted STATUS`; and the program's process number.
  *
  * A shell can't do this: what it runs in the background doesn't get the signals of the terminal, and while it runs
  * something in the foreground it takes none itself.
@@ -100,15 +100,17 @@ int main(int count, char **words)
     }
     close(told[1]);
     int status = wait_for(program, &set);
-    char number[16];
+    char number[16], process[16];
+    snprintf(process, sizeof process, "%d", (int)program);
     const char *how = is_unstarted(told[0]) ? "unstarted" : WIFSIGNALED(status) ? "signal" : "exit";
     snprintf(number, sizeof number, "%d", WIFSIGNALED(status) ? WTERMSIG(status) : WEXITSTATUS(status));
-    char **next = calloc((size_t)show + 3, sizeof *next);
+    char **next = calloc((size_t)show + 4, sizeof *next);
     if (!next)
         fail("calloc");
     memcpy(next, words + 3, (size_t)show * sizeof *next);
     next[show] = (char *)how;
     next[show + 1] = number;
+    next[show + 2] = process;
     /* What `timeout` sends to all of them may come late: the program's end is told all the same. */
     signal(SIGTERM, SIG_IGN);
     signal(SIGHUP, SIG_IGN);

@@ -6,7 +6,7 @@ if wanted atfork; then
         cc -g -pthread -o atfork atfork.c -L. -latfork -Wl,-rpath,"$PWD"
     for forks in 1 12; do
         timeout -s KILL 60 "$record" -- ./atfork $forks >recorded.out 2>recorded.err
-        [ $? -eq 0 ] && [ "$(cat recorded.out)" = forked ] && sed '/^record: /d' recorded.err | diff "$here/atfork.want" -
+        [ $? -eq 0 ] && [ "$(cat recorded.out)" = forked ] && sed '/^record: /d; s/^==[0-9]*== //' recorded.err | diff "$here/atfork.want" -
         tell atfork "$forks forks in a library's handlers" $?
     done
 fi
@@ -20,10 +20,58 @@ flags=
 example named "locks of one array"
 example named "locks of one array" --full
 
-for words in 0 1 2 3; do
+for words in 0 2 3; do
     example dropped "rights that are given up before the first nested request"
 done
+words=1
+if [ "$(id -u)" -eq 0 ]; then
+    example dropped "another root and another user before the first nested request"
+elif wanted dropped; then
+    echo "left out  dropped: only root changes root and user"
+fi
 words=
+
+# What other threads held at a fork is held by nobody in the child: its trace has those locks free.
+example orphans "locks that other threads hold at a fork"
+example orphans "locks that other threads hold at a fork" --full
+if wanted orphans; then
+    compile orphans
+    for stream in "" --full; do
+        "$record" $stream -o kept -- ./orphans 2>/dev/null
+        bad=0
+        for trace in kept kept.1; do
+            awk -f "$here/judge.awk" $trace && "$WITNESS" locks <$trace >left && ! grep -q '^seat\|^ ' left || bad=1
+        done
+        [ "$bad" -eq 0 ]
+        tell orphans "nothing is left held in either trace $stream" $?
+    done
+fi
+
+# Stacks: of requests, of what was held too, and through functions that are passed over.
+want=helper.callers example helper "the callers of requests" --frames 8
+want=helper.callers example helper "the callers of requests" --frames 3
+want=helper.held example helper "the callers of what was held" --frames 8 --held-callers
+want=helper.skip example helper "functions that are passed over" --skip 'cache_*'
+example helper "no callers" --frames 1
+flags=-O2
+want=helper.callers example helper "the callers of requests" --frames 8
+want=with example with "the callers through templates and lambdas" --frames 8 --skip with
+flags=
+if wanted helper; then
+    compile helper
+    "$record" --frames 2 -o kept -- ./helper 2>recorded.err
+    "$WITNESS" replay <kept | diff - "$here/helper.first" && ! grep -q 'main' recorded.err && grep -q audit recorded.err
+    tell helper "two frames, and a trace with its places" $?
+fi
+
+# Locks of the program's own, annotated.
+for flags in -O0 -O2; do
+    example futex "locks on futexes"
+    example futex "locks on futexes" --full
+    example atomics "locks on std::atomic, by C++'s guards"
+    example atomics "locks on std::atomic, by C++'s guards" --full
+done
+flags=
 
 # A call that was left is told of, and its thread is recorded as before.
 if wanted jump; then

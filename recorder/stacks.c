@@ -1,0 +1,81 @@
+/*
+ * Stacks: the callers of a request, as numbers of places. A request that is written has one, since new requests are few;
+ * what a thread holds has one where it was asked for (then every call takes the long way). Equal stacks are one.
+ */
+#include "recorder.h"
+
+#include <string.h>
+
+/* A number of one has room in a held lock. */
+enum { STACKS = 1 << 15 };
+
+struct stack {
+    uint32_t count; /* 0 where the slot is free */
+    uint32_t places[FRAMES_MOST];
+    struct marks marks;
+};
+
+uint32_t frames_shown = 1;
+bool stacks_all;
+static struct stack *stacks;
+static uint32_t stacks_met;
+
+bool stacks_made(void)
+{
+    stacks = frames_shown > 1 ? table(STACKS * sizeof *stacks) : NULL;
+    return frames_shown == 1 || stacks != NULL;
+}
+
+/* The slot of the stack, or a free one for it; under the mutex. */
+static uint32_t slot_of(const uint32_t *found, uint32_t count)
+{
+    uint64_t hash = count;
+    for (uint32_t i = 0; i < count; i++)
+        hash = (hash ^ found[i]) * 0x9e3779b97f4a7c15u;
+    for (uint32_t slot = (uint32_t)(hash >> 40) % STACKS;; slot = (slot + 1) % STACKS) {
+        const struct stack *stack = &stacks[slot];
+        if (stack->count == 0
+            || (stack->count == count && memcmp(stack->places, found, count * sizeof *found) == 0))
+            return slot;
+    }
+}
+
+/* The number of the callers' stack; 0 where none is wanted, or there is no room. Outside the mutex. */
+COLD uint32_t stack_of(struct caller caller)
+{
+    uint32_t found[FRAMES_MOST], number = 0;
+    if (!stacks || caller.pc == 0)
+        return 0;
+    uint32_t count = callers(caller, frames_shown, found);
+    if (count == 0 || found[0] == 0 || !recorder_enters())
+        return 0;
+    uint32_t slot = slot_of(found, count);
+    if (stacks[slot].count != 0) {
+        number = slot + 1;
+    } else if (stacks_met < STACKS / 4 * 3) {
+        stacks_met++;
+        stacks[slot].count = count;
+        memcpy(stacks[slot].places, found, count * sizeof *found);
+        number = slot + 1;
+    }
+    recorder_leaves();
+    return number;
+}
+
+/* `stack NUMBER PLACE..`, innermost first, once in a stream: before the first line that has it. Under the mutex. */
+void stack_stands(int stream, uint32_t number)
+{
+    struct stack *stack = &stacks[number - 1];
+    uint32_t *written = mark(&stack->marks, stream);
+    if (*written)
+        return;
+    *written = 1;
+    for (uint32_t i = 0; i < stack->count; i++)
+        place_number(stream, stack->places[i]);
+    put_text(stream, "stack");
+    put_number(stream, number);
+    for (uint32_t i = 0; i < stack->count; i++)
+        put_number(stream, stack->places[i]);
+    put_text(stream, "\n");
+    stream_append(stream, false);
+}
