@@ -1,3 +1,3 @@
 pub mod Calls
 pub mod Desk
-pub mod Closing
+pub mod Opening

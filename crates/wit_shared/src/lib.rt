@@ -3,7 +3,9 @@
 
 mod desk;
 mod following;
+mod program;
 mod shared;
 
+pub use program::{Opened, Program, Reason, Refused, Unopened, share};
 pub use shared::Shared;
 pub use wit_seats::{Known, Room, Seat};
