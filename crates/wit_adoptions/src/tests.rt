@@ -2,7 +2,7 @@
 
 use crate::{Front, Keeper, Naming, Program, keep};
 use std::cmp::Ordering;
-use std::test::*;
+use std::test::Fail;
 use wit_model::{Adoption, Origin, TypeNo};
 
 fn order(parent: u16, child: u16) -> Adoption {
