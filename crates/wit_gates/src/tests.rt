@@ -82,6 +82,9 @@ fn words_tell_what_is_out(rt: HostRuntime) -> Result<(), Fail> {
     word.free(Mode::Shared, one);
     drop(other);
     assert_eq!(rt; word.into_word(), 1, "a dropped ticket counts as still out");
+    let word = Word::new(rt.alloc())?;
+    let alone = word.try_exclusive().expect(&rt, "alone at a free word");
+    assert_eq!(rt; word.into_word_with(alone), 4_294_967_295);
     Ok(())
 }
 

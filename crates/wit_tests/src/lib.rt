@@ -18,8 +18,6 @@ mod matrices;
 #[cfg(test)]
 mod pools;
 #[cfg(test)]
-mod prepared;
-#[cfg(test)]
 mod refusals;
 #[cfg(test)]
 mod sizes;
