@@ -18,6 +18,8 @@ mod matrices;
 #[cfg(test)]
 mod pools;
 #[cfg(test)]
+mod prepared;
+#[cfg(test)]
 mod refusals;
 #[cfg(test)]
 mod sizes;
