@@ -48,7 +48,7 @@ same_answer v known log ready r knows logs ok =
 -- more room, and a call that is ready, leave all of it
 pub kept_ready : (v : Inside) (known : Facts) (log : Journal) (ready : Option Ready) → IsKept v → known ≡ record v.known { spare = known.spare }
     → log ≡ record v.log { spare = log.spare } → IfSome ready (IsReady (with_ready v known log ready)) → IsKept (with_ready v known log ready)
-kept_ready v known log ready k knows logs = 
+kept_ready v known log ready k knows logs =
     subst (λ (f : Facts). IfSome ready (IsReady (with_ready v f log ready)) → IsKept (with_ready v f log ready)) (sym knows)
     (subst (λ (l : Journal). IfSome ready (IsReady (with_ready v (record v.known { spare = known.spare }) l ready)) → IsKept (with_ready v (record v.known { spare = known.spare }) l ready)) (sym logs)
     (λ is. kept (record {

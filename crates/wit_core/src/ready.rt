@@ -54,7 +54,12 @@ impl Verifier {
     }
 
     // Prepares a call that gets this reply.
-    pub(crate) fn make_ready(&mut self, seat: SeatNo, plan: Plan, reply: Reply) -> Result<Reply, Fault>
+    pub(crate) fn make_ready(
+        &mut self,
+        seat: SeatNo,
+        plan: Plan,
+        reply: Reply,
+    ) -> Result<Reply, Fault>
         requires answer { answer_of self.old seat.0 (call_of plan) ≡ Ok reply }
         requires logged { is_logged reply ≡ true }
         ensures { Prepares self.old seat.0 (call_of plan) result self.new }

@@ -45,7 +45,7 @@ others_alone start j k known f =
     let later = f.seen.0 in
     let mine = λ (e : Entry). e.seat.0 == k.seat in
     append_cancel_right (own_entries k.seat later) [] (own_entries k.seat k.seen)
-        (sym (filter-append mine later k.seen) ∙ ap (own_entries k.seat) (sym f.seen.1) ∙ f.own ∙ sym known.own)
+    (sym (filter-append mine later k.seen) ∙ ap (own_entries k.seat) (sym f.seen.1) ∙ f.own ∙ sym known.own)
 
 pub enters : (start : Start) (given : List (FileNo × List ℕ)) (j : Journal) (after : Story) (k w : Known) → IsKnown start k → IsOf j k
     → IsLegal start after.files after.history → w ≡ caught_up after given k → Entered start given j.entries j.files after k w

@@ -41,7 +41,7 @@ gives id v s h at =
       outside = h.outside;
       each = all_push (Fits h.keeper place h.log) views (alone v)
           (all_set (Fits h.keeper place h.log) s.views id (without v) (record { keeps = mine.keeps; sits = tt })
-              (λ j u n e. fits_else h.place h.log h.keeper v.holder id to j mine.sits n u (h.each j u e)))
+          (λ j u n e. fits_else h.place h.log h.keeper v.holder id to j mine.sits n u (h.each j u e)))
           (record { keeps = tt; sits = sits_moved h.place h.log v.holder id to mine.sits });
     }
 
@@ -58,8 +58,8 @@ takes_in id v other w s h at apart there =
       outside = h.outside;
       each = all_set (Fits h.keeper place h.log) views other (shows None None) (record { keeps = tt; sits = tt })
           (λ j u n e. all_set (λ i x. i ≢ other → Fits h.keeper place h.log i x) s.views id both
-              (λ m. record { keeps = mine.keeps; sits = sits_moved h.place h.log w.holder other id theirs.sits })
-              (λ i x k f m. fits_else h.place h.log h.keeper w.holder other id i theirs.sits m x (h.each i x f)) j u e n);
+          (λ m. record { keeps = mine.keeps; sits = sits_moved h.place h.log w.holder other id theirs.sits })
+          (λ i x k f m. fits_else h.place h.log h.keeper w.holder other id i theirs.sits m x (h.each i x f)) j u e n);
     }
 
 -- ---- one more seat
@@ -98,14 +98,14 @@ hands_to id j k s h at =
       outside = λ t o. h.outside t (⊎_elim (λ (z : t ≡ 0). inl z) (λ (l : h.log.handed + 1 < t). inr (omega arith)) o);
       each = all_push all views (shows None (Some (newcomer j)))
           (all_set all s.views id (shows (Some (grown j)) k)
-              (record {
-                keeps = record { card = mine.keeps.card; log = ap grown mine.keeps.log };
-                sits = each_some k (Sits h.place h.log id) (Sits place (grown h.log) id) (sits_wider h.place h.log to id) mine.sits;
-              })
-              (λ m u n e. record {
-                keeps = each_some u.journal (Keeps h.keeper h.log m) (Keeps h.keeper (grown h.log) m) (λ x f. absurd (n (f.card ∙ sym mine.keeps.card))) (h.each m u e).keeps;
-                sits = each_some u.holder (Sits h.place h.log m) (Sits place (grown h.log) m) (sits_wider h.place h.log to m) (h.each m u e).sits;
-              }))
+          (record {
+            keeps = record { card = mine.keeps.card; log = ap grown mine.keeps.log };
+            sits = each_some k (Sits h.place h.log id) (Sits place (grown h.log) id) (sits_wider h.place h.log to id) mine.sits;
+          })
+          (λ m u n e. record {
+            keeps = each_some u.journal (Keeps h.keeper h.log m) (Keeps h.keeper (grown h.log) m) (λ x f. absurd (n (f.card ∙ sym mine.keeps.card))) (h.each m u e).keeps;
+            sits = each_some u.holder (Sits h.place h.log m) (Sits place (grown h.log) m) (sits_wider h.place h.log to m) (h.each m u e).sits;
+          }))
           (record {
             keeps = tt;
             sits = subst (λ (x : Journal). Sits place (grown h.log) to (newcomer x)) (sym mine.keeps.log)
@@ -167,7 +167,7 @@ other_seat place log id m o k mine n s = each_some o (Sits place log id) (λ (x 
 no_seat : (place : ℕ → ℕ) (log : Journal) (id t : ℕ) (o : Option Known) → IfSome o (Sits place log id) → IsOutside log.handed t → IfSome o (λ (x : Known). t ≢ x.seat)
 no_seat place log id t o mine out = each_some o (Sits place log id) (λ (x : Known). t ≢ x.seat)
     (λ x f e. let low : 0 < x.seat = f.known.number.0 in let high : x.seat ≤ log.handed = f.known.number.1 in
-        ⊎_elim (λ (z : t ≡ 0). omega arith) (λ (l : log.handed < t). omega arith) out) mine
+    ⊎_elim (λ (z : t ≡ 0). omega arith) (λ (l : log.handed < t). omega arith) out) mine
 
 goes_on : (after : Story) (given : List (FileNo × List ℕ)) (id : ℕ) (j : Journal) (k : Option Known) (s : State (Unit {0}) View) → MayBecome after k j → AreFiles after.files given
     → (h : Kept s.views) → j ≡ h.log → get_elem? s.views id ≡ some (shows (Some j) k)

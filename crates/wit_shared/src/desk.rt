@@ -108,12 +108,7 @@ impl<J: Room> Desk<J> {
     }
 
     /// Notes a release.
-    pub fn unlock(
-        &mut self,
-        seat: &mut Seat<J>,
-        lock: LockNo,
-        mode: Mode,
-    ) -> Result<Reply, Fault>
+    pub fn unlock(&mut self, seat: &mut Seat<J>, lock: LockNo, mode: Mode) -> Result<Reply, Fault>
         ensures { Told J.start [] (λ s new. Answers s seat.old.seat (Unlock lock mode) result new) seat.old seat.new }
     {
         let answer = self.verifier.unlock(seat.number(), lock, mode);

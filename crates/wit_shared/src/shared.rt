@@ -136,12 +136,7 @@ impl<J: Room> Shared<J> {
     ///
     /// # Errors
     /// Those of `Verifier::give_up`.
-    pub fn give_up<R: Wait>(
-        &self,
-        rt: &R,
-        seat: &mut Seat<J>,
-        lock: LockNo,
-    ) -> Result<Reply, Fault>
+    pub fn give_up<R: Wait>(&self, rt: &R, seat: &mut Seat<J>, lock: LockNo) -> Result<Reply, Fault>
         ensures { Told J.start [] (λ s new. Answers s seat.old.seat (GiveUp lock) result new) seat.old seat.new }
     {
         let mut desk = self.desk.lock(rt);
@@ -173,12 +168,7 @@ impl<J: Room> Shared<J> {
     ///
     /// # Errors
     /// Those of `Verifier::upgrade`.
-    pub fn upgrade<R: Wait>(
-        &self,
-        rt: &R,
-        seat: &mut Seat<J>,
-        lock: LockNo,
-    ) -> Result<Reply, Fault>
+    pub fn upgrade<R: Wait>(&self, rt: &R, seat: &mut Seat<J>, lock: LockNo) -> Result<Reply, Fault>
         ensures { Told J.start [] (λ s new. AnswersOrFails s seat.old.seat (Upgrade lock) result new) seat.old seat.new }
     {
         self.call(rt, seat, Call::Upgrade(lock))
@@ -233,12 +223,7 @@ impl<J: Room> Shared<J> {
     ///
     /// # Errors
     /// Those of `Verifier::destroy`.
-    pub fn destroy<R: Wait>(
-        &self,
-        rt: &R,
-        seat: &mut Seat<J>,
-        lock: LockNo,
-    ) -> Result<Reply, Fault>
+    pub fn destroy<R: Wait>(&self, rt: &R, seat: &mut Seat<J>, lock: LockNo) -> Result<Reply, Fault>
         ensures { Told J.start [] (λ s new. AnswersOrFails s seat.old.seat (Destroy lock) result new) seat.old seat.new }
     {
         self.call(rt, seat, Call::Destroy(lock))

@@ -31,7 +31,13 @@ fn holding_one(alloc: Global) -> Result<Verifier, Fail> {
     let mut verifier = Verifier::new(alloc, limits, Vec::new(alloc), Vec::new(alloc))?;
     verifier.file("f")?;
     for name in ["a", "b", "c"] {
-        verifier.init(SeatNo(1), name, None, Class::SleepMutex, LockFlags::RECURSABLE)?;
+        verifier.init(
+            SeatNo(1),
+            name,
+            None,
+            Class::SleepMutex,
+            LockFlags::RECURSABLE,
+        )?;
     }
     take(&mut verifier, 1)?;
     Ok(verifier)

@@ -47,6 +47,9 @@ fn shown_at_once(rt: HostRuntime) -> Result<(), Fail> {
     let outcome = replayed(alloc, &mut input, &mut written, View::Reports);
     let told = outcome.ok().map(|s| (s.calls, s.reports, s.bad));
     assert_eq!(rt; told, Some((3, 1, None)));
-    assert_eq!(rt; String::from_utf8(written).ok().as_deref(), Some("assert \"a\": locked\n"));
+    assert_eq!(rt;
+        String::from_utf8(written).ok().as_deref(),
+        Some("assert \"a\": locked\n")
+    );
     Ok(())
 }
