@@ -4,6 +4,7 @@
  *
  *   calls.c     the interposed calls of pthread, C11 and the C library
  *   annotations.c  what a program tells of its own locks by witness.h
+ *   threads.c   who made each thread
  *   start.c     the real functions behind them, the start, fork
  *   chains.c    what each thread holds, and the tree of chains of types; quick.h, where nothing is to be written
  *   locks.c     the locks at their addresses, and their types
@@ -153,6 +154,7 @@ struct thread {
     uint32_t written[STREAMS];   /* locks in the chain, and requests, that stand in the stream */
     uint32_t asked[STREAMS];     /* the number of the lock whose request is pending there, 0 for none */
     struct held few[HELD_FEW];
+    uint32_t made; /* the place where the thread was made; 0 of the first one, or where that isn't known */
 };
 
 /* A request from its check to its end. */
@@ -218,6 +220,8 @@ struct real {
     int (*cond_timedwait)(pthread_cond_t *, pthread_mutex_t *, const struct timespec *);
     int (*cond_clockwait)(pthread_cond_t *, pthread_mutex_t *, clockid_t, const struct timespec *);
     int (*c11_init)(mtx_t *, int);
+    int (*create)(pthread_t *, const pthread_attr_t *, void *(*)(void *), void *);
+    int (*c11_create)(thrd_t *, thrd_start_t, void *);
     int (*dlclose)(void *);
     int (*sigaction)(int, const struct sigaction *, struct sigaction *);
     handler *(*signal)(int, handler *);
@@ -228,6 +232,10 @@ struct real {
 };
 /* The stack pointer of the function's caller. */
 #define HERE ((uintptr_t)__builtin_frame_address(0) + 16)
+#define EXPORT __attribute__((visibility("default")))
+/* To ask for the frame's address makes it one with a frame pointer: what is saved there is the caller's. */
+#define CALLER                                                                                             \
+    ((struct caller){(uintptr_t)__builtin_return_address(0), HERE, *(const uintptr_t *)__builtin_frame_address(0)})
 extern struct real real;
 extern __thread struct thread self __attribute__((tls_model("initial-exec")));
 extern bool writes[STREAMS];
@@ -351,6 +359,9 @@ extern bool stacks_all;       /* what is held has its stack, too */
 bool stacks_made(void);
 uint32_t stack_of(struct caller caller);
 void stack_stands(int stream, uint32_t number);
+
+/* threads.c */
+void threads_forked(void);
 
 /* seats.c */
 bool seat_taken(int stream, struct thread *thread);

@@ -10,7 +10,8 @@
 #   again SEAT LOCK SITE    the seat waited for a lock that it held
 #   foreign "NAME" @ SITE   the lock was released by a thread that didn't hold it
 #   alias "TYPE" "FUNCTIONS"  what the type is called in the ignore file by the functions of its places: no lines are in it
-#   thread SEAT NAME        from here on the seat is that thread's, whose name is - where it was given none
+#   thread SEAT NAME FUNCTION SITE   from here on the seat is that thread's: its name, - where it was given none, and where
+#                           it was made, - where that isn't known
 #   site NUMBER SITE        what `@:NUMBER` stands for as a place of the trace; such places are written where the recorder
 #   frame NUMBER FUNCTION SITE   has written stacks and there are notes: below it are the frames of that place's stack
 # RECORDER_SKIP has the patterns of functions that say nothing about a call, by colons, and RECORDER_FRAMES how many frames
@@ -139,6 +140,15 @@ function site(place,   text, key, line, number) {
 function function_name(place,   key) {
     key = key_of(place)
     return key in name_of ? name_of[key] : function_of[place]
+}
+
+# The function that made a thread, and where.
+function maker(place,   key, number) {
+    if (!(place in object_of))
+        return "- -"
+    key = key_of(place)
+    number = telling(key, 1)
+    return escaped(number ? frame_name[key, number] : function_name(place)) " " site(place)
 }
 
 function unknown(place,   text) {
@@ -429,7 +439,7 @@ kind == "record" {
     else if (word == "again")
         print "again", $2, $3, site($4) >notes
     else if (word == "thread")
-        print >notes
+        print "thread", $2, $3, maker($4) >notes
     else if (word == "foreign")
         print "foreign \"" lock_name[$3] "\" @ " site($4) >notes
     if (progress && FNR % 262144 == 0)

@@ -38,7 +38,7 @@
 /* What the seats may owe the log at most: all locks that they hold, and a request for each seat. */
 #define OWED_MOST (SEATS * (HELD_MOST + 2))
 
-/* `thread SEAT NAME`, where the thread was given a name; `-` where it has its program's. */
+/* `thread SEAT NAME PLACE`: its name, `-` where it has its program's, and where it was made, 0 where that isn't known. */
 void write_thread(int stream, const struct thread *thread)
 {
     extern char *program_invocation_short_name;
@@ -48,9 +48,11 @@ void write_thread(int stream, const struct thread *thread)
     for (char *at = name; *at; at++)
         if (*at <= ' ' || *at > '~' || *at == '&' || *at == '\\')
             *at = '_';
+    uint32_t made = place_number(stream, thread->made);
     put_text(stream, "thread");
     put_number(stream, thread->seat[stream]);
     put_name(stream, name);
+    put_number(stream, made);
     put_text(stream, "\n");
     stream_append(stream, false);
 }
