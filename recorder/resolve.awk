@@ -15,7 +15,8 @@
 #   site NUMBER SITE        what `@:NUMBER` stands for as a place of the trace; such places are written where the recorder
 #   frame NUMBER FUNCTION SITE   has written stacks and there are notes: below it are the frames of that place's stack
 # RECORDER_SKIP has the patterns of functions that say nothing about a call, by colons, and RECORDER_FRAMES how many frames
-# of a stack are wanted. The directory in RECORD_DIRECTORY is left out at the head of the names of source files.
+# of a stack are wanted. The directory in RECORD_DIRECTORY is left out at the head of the names of source files. With `all` in
+# RECORD_PROFILE the trace is one of the all-held profile.
 
 # Giant is the kernel's own lock, with rules that no program's has.
 BEGIN {
@@ -363,6 +364,8 @@ function header(   chunks, i) {
         chunks = 65536
     print "witness-trace 1 seats " (seats ? seats : 1) " types " (different ? different : 1) " locks " \
         (locks ? locks : 1) " chunks " (chunks ? chunks : 1)
+    if (ENVIRON["RECORD_PROFILE"] == "all")
+        print "profile all"
     for (i = 1; i <= blessings; i++)
         bless(i)
     if (waiting > 0)
