@@ -23,6 +23,8 @@
  *     of a type whose duplicates are all right pass each time, too, and adopt nothing.)
  *   - Was it written, then it stands behind the same chain and the same orders in both. So both have the same answer:
  *     it passes, adopts the same order, or is the first report in both.
+ * PassedPassesOn is a law of the plain profile. In the all-held one the locks below the last one teach orders too, so there
+ * `record` writes the full stream alone.
  * A held lock that is written late adopts nothing: either its type was asked for before behind the chain that it is
  * written behind, and the same law holds, or it is written as a try, which isn't judged.
  *

@@ -3,7 +3,7 @@
 # Each recording of every call is one of locks that were free when they were taken.
 if wanted judged; then
     for program in reversal cycle philosophers rwlock tryfirst trysecond trythen late condition recursive c11 kinds cancel \
-        signals odd long ending forking forks threads orphans named reused guards futex atomics; do
+        signals long ending forking forks threads orphans named reused guards futex atomics; do
         compile $program
         recorded_by "$record" --full --judge -- ./$program
         grep -q ' judged: each lock was free' recorded.err && [ "$(grep -c 'judged' recorded.err)" -eq "$(grep -c 'judged: each' recorded.err)" ]
