@@ -21,8 +21,8 @@ if wanted judged; then
     # Whether its threads meet is a matter of luck: one run of ten is enough.
     compile contend -O1
     caught=1
-    plant late && for run in 1 2 3 4 5 6 7 8 9 10; do
-        recorded_by late/record --full --judge -- ./contend
+    plant overlapping && for run in 1 2 3 4 5 6 7 8 9 10; do
+        recorded_by overlapping/record --full --judge -- ./contend
         place=$(sed -n 's/^record: the recording is kept: //p' recorded.err)
         [ -z "$place" ] || rm -rf "$(dirname "$place")"
         grep -q 'judged: line [0-9]*: F35 RawNotFree: seat [0-9]* gets ' recorded.err && caught=0 && break
