@@ -1,13 +1,23 @@
-# Says what the threads of a recording hold and ask for when it ends. It reads the notes of resolve.awk (kind=notes), what
-# `witness locks` answered (kind=held), and the trace (kind=trace), which has the requests. threads.awk has `label`.
+# Says what the threads of a program that goes on hold and ask for. It reads the notes of resolve.awk (kind=notes), what
+# `witness locks` answered (kind=held), the names of the threads (kind=tasks), and the trace (kind=trace), which has the
+# requests. With `answered` what the program has told of mutexes is added, as far as the trace doesn't have it.
+# threads.awk has `label`.
 
 kind == "notes" && $1 == "thread" { known[$2] = label($3, $4, $5); next }
 kind == "notes" && $1 == "site" { site["@:" $2] = $3; next }
+kind == "notes" && $1 == "answer" { others = 0; next }
+kind == "notes" && $1 == "holder" {
+    other[++others] = $2
+    other_name[others] = "\"" substr($0, length($1 $2) + 3) "\""
+    next
+}
 kind == "notes" { next }
+kind == "tasks" { task[$1] = " (" substr($0, length($1) + 2) ")"; next }
 
 kind == "held" && /^seat [0-9]+ holds:$/ { seat = $2; next }
 kind == "held" && /^(exclusive|shared) / {
     match($0, /"[^"]*"/)
+    is_told[substr($0, RSTART, RLENGTH)] = 1
     add(seat, "holds " substr($0, RSTART, RLENGTH) ($1 == "shared" ? " (shared)" : ""), $NF)
     next
 }
@@ -30,6 +40,9 @@ END {
     for (seat = 1; seat <= most; seat++)
         if (seat in text)
             all = all text[seat]
+    for (i = 1; answered && i <= others; i++)
+        if (!(other_name[i] in is_told))
+            all = all " thread " other[i] task[other[i]] " holds " other_name[i] "\n"
     if (all != "")
         printf "held now:\n%s", all
 }

@@ -9,6 +9,8 @@
 #   pending N               so many requests never ended
 #   again SEAT LOCK SITE    the seat waited for a lock that it held
 #   foreign "NAME" @ SITE   the lock was released by a thread that didn't hold it
+#   answer                  it was asked which mutexes are held: below it, until the next one, stand
+#   holder THREAD NAME      those that are, each with its thread as the kernel counts them
 #   alias "TYPE" "FUNCTIONS"  what the type is called in the ignore file by the functions of its places: no lines are in it
 #   thread SEAT NAME FUNCTION SITE   from here on the seat is that thread's: its name, - where it was given none, and where
 #                           it was made, - where that isn't known
@@ -443,6 +445,10 @@ kind == "record" {
         print "again", $2, $3, site($4) >notes
     else if (word == "thread")
         print "thread", $2, $3, maker($4) >notes
+    else if (word == "answer")
+        print "answer" >notes
+    else if (word == "holder")
+        print "holder", $3, lock_name[$2] >notes
     else if (word == "foreign")
         print "foreign \"" lock_name[$3] "\" @ " site($4) >notes
     if (progress && FNR % 262144 == 0)

@@ -119,6 +119,8 @@ static bool settings_read(void)
     if (writes_all && !stacks_all)
         frames_shown = 1;
     all_slow = writes_all || stacks_all;
+    if (all_slow)
+        asked_page[ASKED_AT] = '3';
     return true;
 }
 

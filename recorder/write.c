@@ -78,7 +78,7 @@ static void stands_no_more(int stream, struct thread *thread, uint32_t number)
     seat_given_back(stream, thread);
 }
 
-static bool has_room(int stream)
+bool stream_has_room(int stream)
 {
     if (!writes[stream] || !stream_opens(stream))
         return false;
@@ -182,7 +182,7 @@ static void write_chain(int stream, struct thread *thread)
 static bool write_behind_chain(int stream, struct request *request)
 {
     struct thread *thread = request->thread;
-    if (!has_room(stream) || !seat_taken(stream, thread))
+    if (!stream_has_room(stream) || !seat_taken(stream, thread))
         return false;
     write_chain(stream, thread);
     uint32_t number = lock_number(stream, thread, request->lock);
@@ -241,7 +241,7 @@ static void write_tried(struct request *request, struct held *held)
         write_try(FULL, thread, held);
         return;
     }
-    if (request->again || !has_room(FULL) || !seat_taken(FULL, thread))
+    if (request->again || !stream_has_room(FULL) || !seat_taken(FULL, thread))
         return;
     write_chain(FULL, thread);
     held->number[FULL] = lock_number(FULL, thread, request->lock);
@@ -337,7 +337,7 @@ COLD void write_waits_for_itself(struct request *request)
         return;
     for (int stream = 0; stream < STREAMS; stream++) {
         count_missed(stream, MISSED_AGAIN);
-        if (!has_room(stream) || !seat_taken(stream, thread))
+        if (!stream_has_room(stream) || !seat_taken(stream, thread))
             continue;
         write_chain(stream, thread);
         if (request->again->written & bit(stream)) {
@@ -360,7 +360,7 @@ COLD void write_released_by_another(struct thread *thread, struct lock *lock, ui
     for (int stream = 0; stream < STREAMS; stream++) {
         count_missed(stream, MISSED_RELEASES);
         uint32_t *known = place ? mark(&place_at(place)->releases, stream) : NULL;
-        if (!lock || !known || *known || !has_room(stream) || !seat_taken(stream, thread))
+        if (!lock || !known || *known || !stream_has_room(stream) || !seat_taken(stream, thread))
             continue;
         uint32_t number = lock_number(stream, thread, lock);
         if (number != 0) {

@@ -16,7 +16,8 @@ if wanted live; then
     tell live "a circle of a program that goes on" $?
     sed -n '/^held now:/,$p' recorded.err | sed 's/seat [12] ([^)]*)/seat N/; s/seat [12]/seat N/' | sort >held
     printf '%s\n' ' seat N holds "journal" @ crew.c:22' ' seat N holds "pool" @ crew.c:13' ' seat N waits for "journal" @ crew.c:15' \
-        ' seat N waits for "pool" @ crew.c:24' 'held now:' 'record: so far: 1 report, 1 circle, 1 process' | diff - held
+        ' seat N waits for "pool" @ crew.c:24' 'held now:' \
+        'record: crew: no thread asked for a lock meanwhile, so of what is held only what the trace has is told' 'record: so far: 1 report, 1 circle, 1 process' | diff - held
     tell live "what its threads hold and wait for" $?
     cp recorded.err by_number.err
     recorded_by "$record" --error-exitcode 9 --show $recorder_pid
@@ -26,6 +27,17 @@ if wanted live; then
     wait $recorder_pid
     [ $? -eq 138 ] && grep -q '^record: sh was ended by signal 10$' ended.err && grep -q '^record: 1 report, 1 circle, 1 process$' ended.err
     tell live "it was left in peace, and USR1 ends it" $?
+    compile slow
+    "$record" -- sh -c 'echo $$ >slow.pid; exec ./slow' 2>ended.err &
+    : >recorded.err
+    for look in 1 2 3 4 5 6 7 8 9 10 11 12 13 14 15 16 17 18 19 20; do
+        [ ! -s slow.pid ] || recorded_by "$record" --show "$(cat slow.pid)"
+        ! grep -q '^held now:' recorded.err || break
+        sleep 0.2
+    done
+    printf '%s\n' 'held now:' ' thread N (slow writer) holds "table"' 'record: so far: nothing to report' >wanted.err
+    sed 's/thread [0-9]* /thread N /' recorded.err | diff wanted.err - && kill "$(cat slow.pid)" && wait $! ; [ $? -eq 143 ]
+    tell live "a mutex that a thread holds behind which it asked for nothing" $?
     for words in "$$" 4194305 none; do
         recorded_by "$record" --show $words
         [ "$recorded" -eq 2 ] && [ "$(wc -l <recorded.err)" -eq 1 ] && grep -q "$words" recorded.err
