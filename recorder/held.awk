@@ -1,6 +1,7 @@
 # Says what the threads of a program that goes on hold and ask for. It reads the notes of resolve.awk (kind=notes), what
 # `witness locks` answered (kind=held), the names of the threads (kind=tasks), and the trace (kind=trace), which has the
-# requests. With `answered` what the program has told of mutexes is added, as far as the trace doesn't have it.
+# requests. With `answered` what the program has told of mutexes is added, as far as the trace doesn't have it and the thread
+# is one of the process: after a fork a mutex may be held by one of the parent.
 # threads.awk has `label`.
 
 kind == "notes" && $1 == "thread" { known[$2] = label($3, $4, $5); next }
@@ -41,7 +42,7 @@ END {
         if (seat in text)
             all = all text[seat]
     for (i = 1; answered && i <= others; i++)
-        if (!(other_name[i] in is_told))
+        if (other[i] in task && !(other_name[i] in is_told))
             all = all " thread " other[i] task[other[i]] " holds " other_name[i] "\n"
     if (all != "")
         printf "held now:\n%s", all
