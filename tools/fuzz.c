@@ -1,7 +1,7 @@
 /*
  * fuzz PROGRAM SECONDS SEED FOLDER TRACE..: changes the traces here and there, replays each with
- * all four words, migrates it where the program can, and looks for what must never be. See tools/fuzz, which calls it. A trace that
- * is kept goes into the folder.
+ * all four words, migrates it where the program can, and looks for what must never be. See
+ * tools/fuzz, which calls it. A trace that is kept goes into the folder.
  */
 #define _GNU_SOURCE
 #include <fcntl.h>
