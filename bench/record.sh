@@ -1,7 +1,7 @@
 #!/bin/sh
 # Measures what the recorder costs: the nanoseconds of processor time that a pair of lock and unlock takes in a loop
-# that does nothing else, plain, recorded, recorded with --full and under helgrind (where valgrind is installed), and
-# each as a ratio to the plain one. Then what taking and freeing a block costs while a mutex stands in the heap, the
+# that does nothing else, plain, recorded, recorded with --held-callers, with --full, and under helgrind (where valgrind is
+# installed), and each as a ratio to the plain one. Then what taking and freeing a block costs while a mutex stands in the heap, the
 # processor time of node under work, and how long a recorder's file takes to become a trace. The least of RUNS runs each
 # (5), in turn, so that all meet the same machine. RECORDER names another recorder's folder, to compare with.
 set -eu
@@ -27,12 +27,13 @@ once() {
     case $1 in
     plain) "$folder/pairs" "$2" "$3" 400000 ;;
     recorded) recorded condensed "$folder/pairs" "$2" "$3" 400000 ;;
+    held) RECORDER_HELD=1 RECORDER_FRAMES=8 recorded condensed "$folder/pairs" "$2" "$3" 400000 ;;
     full) recorded full "$folder/pairs" "$2" "$3" 100000 ;;
     helgrind) valgrind -q --tool=helgrind "$folder/pairs" "$2" "$3" 20000 2>/dev/null ;;
     esac
 }
 
-ways="plain recorded full"
+ways="plain recorded held full"
 if command -v valgrind >/dev/null; then
     ways="$ways helgrind"
 fi

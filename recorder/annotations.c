@@ -7,10 +7,6 @@
 
 #include "witness.h"
 
-#define EXPORT __attribute__((visibility("default")))
-#define CALLER                                                                                             \
-    ((struct caller){(uintptr_t)__builtin_return_address(0), HERE, *(const uintptr_t *)__builtin_frame_address(0)})
-
 static __thread struct request asked __attribute__((tls_model("initial-exec")));
 static __thread bool asks __attribute__((tls_model("initial-exec")));
 

@@ -9,11 +9,6 @@
 
 #include <errno.h>
 
-#define EXPORT __attribute__((visibility("default")))
-/* To ask for the frame's address makes it one with a frame pointer: what is saved there is the caller's. */
-#define CALLER                                                                                             \
-    ((struct caller){(uintptr_t)__builtin_return_address(0), HERE, *(const uintptr_t *)__builtin_frame_address(0)})
-
 /* The three ways to ask for a lock. */
 struct way {
     enum class class;

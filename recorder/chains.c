@@ -192,6 +192,8 @@ bool request_begins(struct request *request, const void *address, enum class cla
     struct thread *thread = &self;
     if (UNLIKELY(!opens(thread, caller.stack)))
         return false;
+    if (UNLIKELY(takes_long_way()))
+        answer(thread);
     struct lock *lock = lock_at(address);
     if (UNLIKELY(!lock) && !(lock = lock_met(address, class, caller))) {
         goes_outside(thread);

@@ -13,7 +13,7 @@
             most = held[$2]
     } else if (word == "unlock") {
         held[$2]--
-    } else if (word == "thread") {
+    } else if (word == "thread" || word == "answer" || word == "holder") {
         next
     } else if (word == "giveup") {
         pending[$2] = 0

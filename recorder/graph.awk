@@ -1,5 +1,5 @@
-# Draws the orders of a trace for Graphviz: types, orders with the place where each was first asked for, and reversals
-# in red. It reads what `witness graph` answered (kind=orders), the reports (kind=told), and the trace (kind=trace).
+# Draws the orders of a trace for Graphviz: types, orders with the place where each was first asked for, and in red the
+# reversals, dashed, with the orders that they break. It reads what `witness graph` answered (kind=orders), the reports (kind=told), and the trace (kind=trace).
 
 function edge_of(parent, child) { return "\"" escaped(parent) "\" -> \"" escaped(child) "\"" }
 
@@ -24,6 +24,7 @@ kind == "told" && reversal && /^ [0-9]*(st|nd|rd) "[^"]*" \(.*\) @ / {
         reversed[first_pair] = before SUBSEP last
     next
 }
+kind == "told" && reversal && /^ "[^"]*" -> "[^"]*" @ / { split($0, quoted, "\""); broken[quoted[2] SUBSEP quoted[4]] = 1 }
 kind == "told" { next }
 
 $1 == "init" { n = split($0, quoted, "\""); type_of[++locks] = n > 4 ? quoted[4] : quoted[2]; next }
@@ -47,17 +48,13 @@ function top(seat) { return count[seat] > 0 ? type_of[held[seat, count[seat]]] :
 
 function draw(pair, look,   part) {
     split(pair, part, SUBSEP)
-    print "    " edge_of(part[1], part[2]) " [label=\"" escaped(place[pair]) "\"" look "]"
+    print "    " edge_of(part[1], part[2]) " [label=\" " escaped(place[pair]) "\"" look "]"
 }
 
 END {
-    print "digraph orders {\n    node [shape=box]"
-    for (i = 1; i <= reversals; i++) {
-        split(reversed[i], part, SUBSEP)
-        opposite[part[2] SUBSEP part[1]] = 1
-    }
+    print "digraph orders {\n    node [shape=box]\n    edge [fontsize=10]"
     for (i = 1; i <= orders; i++)
-        draw(order[i], order[i] in opposite ? ", color=red" : "")
+        draw(order[i], order[i] in broken ? ", color=red" : "")
     for (i = 1; i <= reversals; i++)
         draw(reversed[i], ", color=red, style=dashed")
     print "}"

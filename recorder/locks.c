@@ -297,6 +297,18 @@ void lock_gone(const void *address)
     self.state = OPEN;
 }
 
+struct lock *lock_held_from(uint32_t *at, int32_t *holder)
+{
+    for (; *at < locks_taken; (*at)++) {
+        struct lock *lock = &locks[*at];
+        uintptr_t address = atomic_load(&lock->address);
+        if (address && lock->type->class == MUTEX && (*holder = mutex_holder(address)) != 0)
+            return lock;
+    }
+    *at = LOCKS_ALIVE;
+    return NULL;
+}
+
 /* A lock in the block, from the piece on that *at stands in, NULL where there is none. */
 static struct lock *lock_in(uintptr_t *at, uintptr_t end)
 {

@@ -125,7 +125,7 @@ QUICK bool quick_is_known(struct quick *quick, const void *address, struct calle
 QUICK bool quick_begins(struct quick *quick, const void *address, struct caller caller)
 {
     quick->thread = &self;
-    if (UNLIKELY(all_slow) || !goes_inside(quick->thread, caller.stack))
+    if (UNLIKELY(takes_long_way()) || !goes_inside(quick->thread, caller.stack))
         return false;
     if (LIKELY(quick_is_known(quick, address, caller)))
         return true;

@@ -4,6 +4,8 @@
  *
  *   calls.c     the interposed calls of pthread, C11 and the C library
  *   annotations.c  what a program tells of its own locks by witness.h
+ *   threads.c   who made each thread
+ *   asked.c     which mutexes are held, where `record --show` asks
  *   start.c     the real functions behind them, the start, fork
  *   chains.c    what each thread holds, and the tree of chains of types; quick.h, where nothing is to be written
  *   locks.c     the locks at their addresses, and their types
@@ -153,6 +155,7 @@ struct thread {
     uint32_t written[STREAMS];   /* locks in the chain, and requests, that stand in the stream */
     uint32_t asked[STREAMS];     /* the number of the lock whose request is pending there, 0 for none */
     struct held few[HELD_FEW];
+    uint32_t made; /* the place where the thread was made; 0 of the first one, or where that isn't known */
 };
 
 /* A request from its check to its end. */
@@ -218,6 +221,8 @@ struct real {
     int (*cond_timedwait)(pthread_cond_t *, pthread_mutex_t *, const struct timespec *);
     int (*cond_clockwait)(pthread_cond_t *, pthread_mutex_t *, clockid_t, const struct timespec *);
     int (*c11_init)(mtx_t *, int);
+    int (*create)(pthread_t *, const pthread_attr_t *, void *(*)(void *), void *);
+    int (*c11_create)(thrd_t *, thrd_start_t, void *);
     int (*dlclose)(void *);
     int (*sigaction)(int, const struct sigaction *, struct sigaction *);
     handler *(*signal)(int, handler *);
@@ -228,11 +233,24 @@ struct real {
 };
 /* The stack pointer of the function's caller. */
 #define HERE ((uintptr_t)__builtin_frame_address(0) + 16)
+#define EXPORT __attribute__((visibility("default")))
+/* To ask for the frame's address makes it one with a frame pointer: what is saved there is the caller's. */
+#define CALLER                                                                                             \
+    ((struct caller){(uintptr_t)__builtin_return_address(0), HERE, *(const uintptr_t *)__builtin_frame_address(0)})
 extern struct real real;
 extern __thread struct thread self __attribute__((tls_model("initial-exec")));
 extern bool writes[STREAMS];
 extern bool writes_all; /* a line for every call: the full stream is written */
 extern bool all_slow;   /* every call takes the long way */
+/* The first page of the stream, as long as not every call takes the long way in any case. */
+enum { PAGE_BYTES = 4096, ASKED_AT = 6 };
+extern char asked_page[PAGE_BYTES];
+
+/* Whether every call does, or something is asked: then the byte there is '3' or '1', and else '0', or none yet. */
+static inline bool takes_long_way(void)
+{
+    return *(const volatile char *)&asked_page[ASKED_AT] & 1;
+}
 extern const char *skipped; /* patterns of functions that say nothing about a call, parted by colons */
 extern uint32_t depth;  /* how many callers name a type */
 extern uint32_t life;   /* how many forks lie between the recorded program's start and this process */
@@ -292,6 +310,8 @@ void lock_gone(const void *address);
 void locks_freed(const void *block);
 void library_closed(void);
 void lock_given_up(struct lock *lock);
+/* The first held mutex whose record has that number or a higher one; *at becomes its number. Under the mutex. */
+struct lock *lock_held_from(uint32_t *at, int32_t *holder);
 
 /* places.c */
 bool places_made(void);
@@ -352,6 +372,13 @@ bool stacks_made(void);
 uint32_t stack_of(struct caller caller);
 void stack_stands(int stream, uint32_t number);
 
+/* asked.c */
+int32_t mutex_holder(uintptr_t address);
+void answer(struct thread *thread);
+
+/* threads.c */
+void threads_forked(void);
+
 /* seats.c */
 bool seat_taken(int stream, struct thread *thread);
 void seat_given_back(int stream, struct thread *thread);
@@ -371,6 +398,7 @@ void write_left(struct thread *thread);
 void write_unlock(struct thread *thread, struct held *held, bool whole);
 void write_waits_for_itself(struct request *request);
 void write_released_by_another(struct thread *thread, struct lock *lock, uint32_t place);
+bool stream_has_room(int stream);
 void write_thread(int stream, const struct thread *thread);
 void write_place(int stream, uint32_t place);
 void write_type(int stream, struct type *type);
@@ -383,6 +411,8 @@ void put_hexadecimal(int stream, uint64_t number);
 void put_name(int stream, const char *name);
 void stream_append(int stream, bool is_entry);
 bool stream_opens(int stream);
+bool stream_is_asked(int stream);
+void stream_is_answered(int stream);
 uint32_t stream_entries(int stream);
 void count_missed(int stream, enum missed what);
 void count_missed_all(enum missed what);

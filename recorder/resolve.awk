@@ -9,12 +9,16 @@
 #   pending N               so many requests never ended
 #   again SEAT LOCK SITE    the seat waited for a lock that it held
 #   foreign "NAME" @ SITE   the lock was released by a thread that didn't hold it
+#   answer                  it was asked which mutexes are held: below it, until the next one, stand
+#   holder THREAD NAME      those that are, each with its thread as the kernel counts them
 #   alias "TYPE" "FUNCTIONS"  what the type is called in the ignore file by the functions of its places: no lines are in it
-#   thread SEAT NAME        from here on the seat is that thread's, whose name is - where it was given none
+#   thread SEAT NAME FUNCTION SITE   from here on the seat is that thread's: its name, - where it was given none, and where
+#                           it was made, - where that isn't known
 #   site NUMBER SITE        what `@:NUMBER` stands for as a place of the trace; such places are written where the recorder
 #   frame NUMBER FUNCTION SITE   has written stacks and there are notes: below it are the frames of that place's stack
 # RECORDER_SKIP has the patterns of functions that say nothing about a call, by colons, and RECORDER_FRAMES how many frames
-# of a stack are wanted. The directory in RECORD_DIRECTORY is left out at the head of the names of source files.
+# of a stack are wanted. The directory in RECORD_DIRECTORY is left out at the head of the names of source files. With `all` in
+# RECORD_PROFILE the trace is one of the all-held profile.
 
 # Giant is the kernel's own lock, with rules that no program's has.
 BEGIN {
@@ -139,6 +143,15 @@ function site(place,   text, key, line, number) {
 function function_name(place,   key) {
     key = key_of(place)
     return key in name_of ? name_of[key] : function_of[place]
+}
+
+# The function that made a thread, and where.
+function maker(place,   key, number) {
+    if (!(place in object_of))
+        return "- -"
+    key = key_of(place)
+    number = telling(key, 1)
+    return escaped(number ? frame_name[key, number] : function_name(place)) " " site(place)
 }
 
 function unknown(place,   text) {
@@ -353,6 +366,8 @@ function header(   chunks, i) {
         chunks = 65536
     print "witness-trace 1 seats " (seats ? seats : 1) " types " (different ? different : 1) " locks " \
         (locks ? locks : 1) " chunks " (chunks ? chunks : 1)
+    if (ENVIRON["RECORD_PROFILE"] == "all")
+        print "profile all"
     for (i = 1; i <= blessings; i++)
         bless(i)
     if (waiting > 0)
@@ -429,7 +444,11 @@ kind == "record" {
     else if (word == "again")
         print "again", $2, $3, site($4) >notes
     else if (word == "thread")
-        print >notes
+        print "thread", $2, $3, maker($4) >notes
+    else if (word == "answer")
+        print "answer" >notes
+    else if (word == "holder")
+        print "holder", $3, lock_name[$2] >notes
     else if (word == "foreign")
         print "foreign \"" lock_name[$3] "\" @ " site($4) >notes
     if (progress && FNR % 262144 == 0)

@@ -1,6 +1,7 @@
 /*
  * Stacks: the callers of a request, as numbers of places. A request that is written has one, since new requests are few;
- * what a thread holds has one where it was asked for (then every call takes the long way). Equal stacks are one.
+ * what a thread holds has one where it was asked for (then every call takes the long way). Equal stacks are one. A stack
+ * that is there never changes, so it is found without the mutex.
  */
 #include "recorder.h"
 
@@ -10,7 +11,7 @@
 enum { STACKS = 1 << 15 };
 
 struct stack {
-    uint32_t count; /* 0 where the slot is free */
+    _Atomic uint32_t count; /* 0 where the slot is free; set last */
     uint32_t places[FRAMES_MOST];
     struct marks marks;
 };
@@ -26,7 +27,7 @@ bool stacks_made(void)
     return frames_shown == 1 || stacks != NULL;
 }
 
-/* The slot of the stack, or a free one for it; under the mutex. */
+/* The slot of the stack, or a free one for it. */
 static uint32_t slot_of(const uint32_t *found, uint32_t count)
 {
     uint64_t hash = count;
@@ -34,8 +35,8 @@ static uint32_t slot_of(const uint32_t *found, uint32_t count)
         hash = (hash ^ found[i]) * 0x9e3779b97f4a7c15u;
     for (uint32_t slot = (uint32_t)(hash >> 40) % STACKS;; slot = (slot + 1) % STACKS) {
         const struct stack *stack = &stacks[slot];
-        if (stack->count == 0
-            || (stack->count == count && memcmp(stack->places, found, count * sizeof *found) == 0))
+        uint32_t there = atomic_load_explicit(&stack->count, memory_order_acquire);
+        if (there == 0 || (there == count && memcmp(stack->places, found, count * sizeof *found) == 0))
             return slot;
     }
 }
@@ -47,15 +48,20 @@ COLD uint32_t stack_of(struct caller caller)
     if (!stacks || caller.pc == 0)
         return 0;
     uint32_t count = callers(caller, frames_shown, found);
-    if (count == 0 || found[0] == 0 || !recorder_enters())
+    if (count == 0 || found[0] == 0)
         return 0;
     uint32_t slot = slot_of(found, count);
+    if (atomic_load(&stacks[slot].count) != 0)
+        return slot + 1;
+    if (!recorder_enters())
+        return 0;
+    slot = slot_of(found, count);
     if (stacks[slot].count != 0) {
         number = slot + 1;
     } else if (stacks_met < STACKS / 4 * 3) {
         stacks_met++;
-        stacks[slot].count = count;
         memcpy(stacks[slot].places, found, count * sizeof *found);
+        atomic_store_explicit(&stacks[slot].count, count, memory_order_release);
         number = slot + 1;
     }
     recorder_leaves();

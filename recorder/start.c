@@ -61,6 +61,8 @@ static const struct {
     {offsetof(struct real, cond_timedwait), "pthread_cond_timedwait", "GLIBC_2.3.2"},
     {offsetof(struct real, cond_clockwait), "pthread_cond_clockwait", NULL},
     {offsetof(struct real, c11_init), "mtx_init", NULL},
+    {offsetof(struct real, create), "pthread_create", NULL},
+    {offsetof(struct real, c11_create), "thrd_create", NULL},
     {offsetof(struct real, dlclose), "dlclose", NULL},
     {offsetof(struct real, sigaction), "sigaction", NULL},
     {offsetof(struct real, signal), "signal", NULL},
@@ -117,6 +119,8 @@ static bool settings_read(void)
     if (writes_all && !stacks_all)
         frames_shown = 1;
     all_slow = writes_all || stacks_all;
+    if (all_slow)
+        asked_page[ASKED_AT] = '3';
     return true;
 }
 
@@ -255,6 +259,7 @@ static void fork_ends_in_child(void)
     streams_forked();
     locks_forked();
     chains_forked();
+    threads_forked();
     recorder_leaves();
 }
 

@@ -42,6 +42,7 @@ static struct stream {
     [CONDENSED] = {.suffix = "", .window = 1 << 20},
     [FULL] = {.suffix = ".full", .window = 1 << 22},
 };
+__attribute__((aligned(4096))) char asked_page[PAGE_BYTES];
 static size_t name_at; /* where the file's name begins in its path */
 static const char *const missed_names[MISSES] = {
     " seats ", " types ", " locks ", " held ", " log ", " releases ", " again ",
@@ -109,6 +110,8 @@ static bool window_opens(struct stream *stream, int flags)
         return false;
     if (ftruncate(file, (off_t)size) == 0)
         window = mmap(NULL, stream->window, PROT_READ | PROT_WRITE, MAP_SHARED, file, (off_t)stream->offset);
+    if (window != MAP_FAILED && stream->offset == 0 && !all_slow)
+        mmap(asked_page, PAGE_BYTES, PROT_READ | PROT_WRITE, MAP_SHARED | MAP_FIXED, file, 0);
     close(file);
     if (window == MAP_FAILED)
         return false;
@@ -198,7 +201,7 @@ static void begin(int number)
     extern char *program_invocation_short_name;
     struct stream *stream = &streams[number];
     stream->begun = true;
-    put_text(number, "missed");
+    put_text(number, "asked 0 missed");
     for (int what = 0; what < MISSES; what++) {
         put_text(number, missed_names[what]);
         stream->counts[what] = stream->at + stream->length;
@@ -232,6 +235,18 @@ bool stream_opens(int number)
     }
     begin(number);
     return true;
+}
+
+/* Whether somebody who looks on has set the byte. */
+bool stream_is_asked(int number)
+{
+    const struct stream *stream = &streams[number];
+    return writes[number] && stream->first && *(const volatile char *)&stream->first[ASKED_AT] == '1';
+}
+
+void stream_is_answered(int number)
+{
+    streams[number].first[ASKED_AT] = '0';
 }
 
 /* Makes the files. Where that fails, it is tried again when there is something to write. */
@@ -284,6 +299,8 @@ static void unmap(struct stream *stream)
     if (stream->first != stream->end - stream->window)
         munmap(stream->first, stream->window);
     munmap(stream->end - stream->window, stream->window);
+    if (!all_slow)
+        mmap(asked_page, PAGE_BYTES, PROT_READ | PROT_WRITE, MAP_PRIVATE | MAP_ANONYMOUS | MAP_FIXED, -1, 0);
     stream->at = stream->ready = stream->end = stream->first = NULL;
     stream->offset = 0;
 }

@@ -1,14 +1,20 @@
 # Says where the threads of a circle stand, and those that wait for themselves. It reads what `witness circle` answered
-# (kind=circle), the notes of resolve.awk (kind=notes), and the trace (kind=trace).
+# (kind=circle), the notes of resolve.awk (kind=notes), and the trace (kind=trace). Where a thread is first named it is
+# told by its name and by who made it, further on by its name alone. threads.awk has `label`.
 
 kind == "circle" { line[++lines] = $0; if ($1 == "seat") wanted[$2] = 1; next }
 
-kind == "notes" && $1 == "thread" { called[$2] = $3 == "-" ? "" : " (" $3 ")"; next }
+kind == "notes" && $1 == "thread" {
+    called[$2] = $3 == "-" ? "" : " (" $3 ")"
+    known[$2] = label($3, $4, $5)
+    next
+}
 kind == "notes" {
     if ($1 == "again") {
         again[++agains] = $2 " " $3
         again_site[agains] = $4
         again_name[agains] = called[$2]
+        again_known[agains] = known[$2]
         wanted[$2] = 1
     }
     next
@@ -63,15 +69,14 @@ END {
             print
             continue
         }
-        sub(/held by seat [0-9]+/, "&" called[$NF])
-        sub(/^ seat [0-9]+/, "&" called[$2])
-        print $0 " @ " site[line_seat(i)]
+        match($0, /^ seat [0-9]+/)
+        print substr($0, 1, RLENGTH) known[$2] substr($0, RLENGTH + 1) called[$NF] " @ " site[line_seat(i)]
         tell_held(line_seat(i), called[line_seat(i)])
     }
     for (i = 1; i <= agains; i++) {
         split(again[i], part, " ")
         print "a thread waited for a lock that it held itself:"
-        print " seat " part[1] again_name[i] " waited for \"" name[part[2]] "\" @ " again_site[i]
+        print " seat " part[1] again_known[i] " waited for \"" name[part[2]] "\" @ " again_site[i]
         tell_held(part[1], again_name[i])
     }
 }

@@ -23,6 +23,8 @@
  *     of a type whose duplicates are all right pass each time, too, and adopt nothing.)
  *   - Was it written, then it stands behind the same chain and the same orders in both. So both have the same answer:
  *     it passes, adopts the same order, or is the first report in both.
+ * PassedPassesOn is a law of the plain profile. In the all-held one the locks below the last one teach orders too, so there
+ * `record` writes the full stream alone.
  * A held lock that is written late adopts nothing: either its type was asked for before behind the chain that it is
  * written behind, and the same law holds, or it is written as a try, which isn't judged.
  *
@@ -38,7 +40,7 @@
 /* What the seats may owe the log at most: all locks that they hold, and a request for each seat. */
 #define OWED_MOST (SEATS * (HELD_MOST + 2))
 
-/* `thread SEAT NAME`, where the thread was given a name; `-` where it has its program's. */
+/* `thread SEAT NAME PLACE`: its name, `-` where it has its program's, and where it was made, 0 where that isn't known. */
 void write_thread(int stream, const struct thread *thread)
 {
     extern char *program_invocation_short_name;
@@ -48,9 +50,11 @@ void write_thread(int stream, const struct thread *thread)
     for (char *at = name; *at; at++)
         if (*at <= ' ' || *at > '~' || *at == '&' || *at == '\\')
             *at = '_';
+    uint32_t made = place_number(stream, thread->made);
     put_text(stream, "thread");
     put_number(stream, thread->seat[stream]);
     put_name(stream, name);
+    put_number(stream, made);
     put_text(stream, "\n");
     stream_append(stream, false);
 }
@@ -74,7 +78,7 @@ static void stands_no_more(int stream, struct thread *thread, uint32_t number)
     seat_given_back(stream, thread);
 }
 
-static bool has_room(int stream)
+bool stream_has_room(int stream)
 {
     if (!writes[stream] || !stream_opens(stream))
         return false;
@@ -178,7 +182,7 @@ static void write_chain(int stream, struct thread *thread)
 static bool write_behind_chain(int stream, struct request *request)
 {
     struct thread *thread = request->thread;
-    if (!has_room(stream) || !seat_taken(stream, thread))
+    if (!stream_has_room(stream) || !seat_taken(stream, thread))
         return false;
     write_chain(stream, thread);
     uint32_t number = lock_number(stream, thread, request->lock);
@@ -237,7 +241,7 @@ static void write_tried(struct request *request, struct held *held)
         write_try(FULL, thread, held);
         return;
     }
-    if (request->again || !has_room(FULL) || !seat_taken(FULL, thread))
+    if (request->again || !stream_has_room(FULL) || !seat_taken(FULL, thread))
         return;
     write_chain(FULL, thread);
     held->number[FULL] = lock_number(FULL, thread, request->lock);
@@ -333,7 +337,7 @@ COLD void write_waits_for_itself(struct request *request)
         return;
     for (int stream = 0; stream < STREAMS; stream++) {
         count_missed(stream, MISSED_AGAIN);
-        if (!has_room(stream) || !seat_taken(stream, thread))
+        if (!stream_has_room(stream) || !seat_taken(stream, thread))
             continue;
         write_chain(stream, thread);
         if (request->again->written & bit(stream)) {
@@ -356,7 +360,7 @@ COLD void write_released_by_another(struct thread *thread, struct lock *lock, ui
     for (int stream = 0; stream < STREAMS; stream++) {
         count_missed(stream, MISSED_RELEASES);
         uint32_t *known = place ? mark(&place_at(place)->releases, stream) : NULL;
-        if (!lock || !known || *known || !has_room(stream) || !seat_taken(stream, thread))
+        if (!lock || !known || *known || !stream_has_room(stream) || !seat_taken(stream, thread))
             continue;
         uint32_t number = lock_number(stream, thread, lock);
         if (number != 0) {

@@ -1,7 +1,7 @@
 /*
  * fuzz PROGRAM SECONDS SEED FOLDER TRACE..: changes the traces here and there, replays each with
- * all four words, and looks for what must never be. See tools/fuzz, which calls it. A trace that
- * is kept goes into the folder.
+ * all four words, migrates it where the program can, and looks for what must never be. See
+ * tools/fuzz, which calls it. A trace that is kept goes into the folder.
  */
 #define _GNU_SOURCE
 #include <fcntl.h>
@@ -24,6 +24,7 @@ struct text {
 static const char *const words[] = {"replay", "graph", "locks", "circle"};
 static const char *program;
 static uint64_t state;
+static int migrates; /* the program has the word `migrate` */
 
 /* A number below the bound, by xorshift: the same from the same seed everywhere. */
 static size_t below(size_t bound)
@@ -212,13 +213,13 @@ static void change(struct text *text, const struct text *other)
     }
 }
 
-/* Runs the program over `in`. What it writes is in `out`; what it says aside goes to `err`. Below 0: it ended by that signal. */
-static int run(const char *word, struct text *out, size_t *aside)
+/* Runs the program over the file. What it writes is in `out`; what it says aside goes to `err`. Below 0: it ended by that signal. */
+static int run_over(const char *from, const char *word, struct text *out, size_t *aside)
 {
     int status, file;
     pid_t child = fork();
     if (child == 0) {
-        int in = open("in", O_RDONLY), to = open("out", O_WRONLY | O_CREAT | O_TRUNC, 0666);
+        int in = open(from, O_RDONLY), to = open("out", O_WRONLY | O_CREAT | O_TRUNC, 0666);
         int err = open("err", O_WRONLY | O_CREAT | O_TRUNC, 0666);
         if (dup2(in, 0) < 0 || dup2(to, 1) < 0 || dup2(err, 2) < 0)
             _exit(99);
@@ -235,6 +236,11 @@ static int run(const char *word, struct text *out, size_t *aside)
     *aside = (size_t)lseek(file, 0, SEEK_END);
     close(file);
     return WIFEXITED(status) ? WEXITSTATUS(status) : -WTERMSIG(status);
+}
+
+static int run(const char *word, struct text *out, size_t *aside)
+{
+    return run_over("in", word, out, aside);
 }
 
 /* Where the last line begins. */
@@ -254,6 +260,61 @@ static int begins(const struct text *text, size_t at, const char *words_of)
 static int same(const struct text *a, const struct text *b, size_t from)
 {
     return a->size == b->size - from && memcmp(a->bytes, b->bytes + from, a->size) == 0;
+}
+
+static void write_file(const char *name, const struct text *text)
+{
+    int file = open(name, O_WRONLY | O_CREAT | O_TRUNC, 0666);
+    size_t done = 0;
+    while (file >= 0 && done < text->size) {
+        ssize_t put = write(file, text->bytes + done, text->size - done);
+        if (put <= 0)
+            break;
+        done += (size_t)put;
+    }
+    if (file < 0 || done < text->size) {
+        perror(name);
+        exit(2);
+    }
+    close(file);
+}
+
+static int ends(const struct text *text, const char *words_of)
+{
+    return text->size >= strlen(words_of) && begins(text, text->size - strlen(words_of), words_of);
+}
+
+/* What is wrong with the trace's migration, or NULL. A bad line is that of replay, or one before it that only raw steps
+ * are at odds with; where there is none, what is migrated tells the same. */
+static const char *judge_migration(const struct text *bad, const char **word)
+{
+    struct text moved, shown, again;
+    size_t aside;
+    const char *why = NULL;
+    *word = "migrate";
+    int status = run(*word, &moved, &aside);
+    if (status < 0)
+        why = "it ended by a signal";
+    else if (status != 0 && status != 3)
+        why = "a status that it can't have";
+    else if (aside > 0)
+        why = "words on standard error";
+    else if (status == 0 && bad->size > 0)
+        why = "no bad line where replay has one";
+    else if (status == 3 && !ends(&moved, ": F35 RawNotFree\n") && !ends(&moved, ": version\n")
+        && !same(bad, &moved, last_line(&moved)))
+        why = "another bad line than that of replay";
+    if (why == NULL && status == 0)
+        write_file("moved", &moved);
+    for (size_t view = 0; why == NULL && status == 0 && view < 3; view++) {
+        int wanted = run(words[view], &shown, &aside);
+        if (run_over("moved", words[view], &again, &aside) != wanted || !same(&again, &shown, 0))
+            why = "another output of what is migrated";
+        free(shown.bytes);
+        free(again.bytes);
+    }
+    free(moved.bytes);
+    return why;
 }
 
 /* What is wrong with this trace, or NULL. */
@@ -305,25 +366,23 @@ static const char *judge(const char **word)
             why = "another output the second time";
         free(again.bytes);
     }
+    if (why == NULL && migrates) {
+        struct text bad = {told.bytes + at, is_bad ? told.size - at : 0};
+        why = judge_migration(&bad, word);
+    }
     free(told.bytes);
     return why;
 }
 
-static void write_file(const char *name, const struct text *text)
+static int knows_migrate(void)
 {
-    int file = open(name, O_WRONLY | O_CREAT | O_TRUNC, 0666);
-    size_t done = 0;
-    while (file >= 0 && done < text->size) {
-        ssize_t put = write(file, text->bytes + done, text->size - done);
-        if (put <= 0)
-            break;
-        done += (size_t)put;
-    }
-    if (file < 0 || done < text->size) {
-        perror(name);
-        exit(2);
-    }
-    close(file);
+    static char header[] = "witness-trace 1 seats 1 types 1 locks 1 chunks 1\n";
+    struct text text = {header, sizeof header - 1}, moved;
+    size_t aside;
+    write_file("in", &text);
+    int status = run("migrate", &moved, &aside);
+    free(moved.bytes);
+    return status == 0;
 }
 
 int main(int count, char **arguments)
@@ -336,6 +395,7 @@ int main(int count, char **arguments)
     int traces = count - 5;
     struct text *corpus = have(calloc((size_t)traces, sizeof *corpus)), text = {have(malloc(MOST)), 0};
     state = seed * 2654435761u + 88172645463325252u;
+    migrates = knows_migrate();
     for (int at = 0; at < traces; at++)
         corpus[at] = read_file(arguments[5 + at]);
     while (time(NULL) < end) {

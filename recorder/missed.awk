@@ -1,0 +1,21 @@
+# Counts that aren't zero, of lines `.. missed NAME N NAME N ..`, each with what it means.
+function said(what) {
+    if (what == "seats") return "requests (256 threads were busy at once)"
+    if (what == "types") return "types (a trace has room for 1,023)"
+    if (what == "locks") return "locks (a trace has room for 65,536)"
+    if (what == "held") return "acquisitions (by a thread that holds 512 locks)"
+    if (what == "log") return "requests (a trace has room for 16,777,216 calls)"
+    if (what == "room") return "lines (no room: a full disk, or a limit on the size of files)"
+    if (what == "open") return "requests (its file could not be made)"
+    if (what == "jumped") return "calls of a lock that were left by a jump or a cancellation"
+    if (what == "handlers") return "calls (by handlers of signals that interrupted a call)"
+    return what
+}
+{
+    for (i = 1; i <= NF && $i != "missed"; i++)
+        ;
+    for (i++; i < NF; i += 2)
+        if ($i != "releases" && $i != "again" && $i != "ended" && $(i + 1) + 0 > 0)
+            text = text (text == "" ? "" : ", ") $(i + 1) + 0 " " said($i)
+}
+END { if (text != "") print text }

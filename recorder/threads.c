@@ -1,0 +1,88 @@
+/*
+ * Who made each thread: the place of its pthread_create or thrd_create, which is told beside its seat.
+ *
+ * A thread begins in the recorder, which goes on by a jump to what the program wants to run: among its callers there
+ * is no more than without the recorder.
+ */
+#include "quick.h"
+
+/* Threads that are made and haven't begun. Where all of these are taken, a thread's maker isn't known. */
+enum { BEGINNINGS = 1024 };
+
+static struct beginning {
+    _Atomic bool taken;
+    uint32_t place;
+    union {
+        void *(*posix)(void *);
+        thrd_start_t c11;
+    } routine;
+    void *argument;
+} beginnings[BEGINNINGS];
+
+static void *begin_posix(void *given)
+{
+    struct beginning beginning = *(struct beginning *)given;
+    self.made = beginning.place;
+    atomic_store(&((struct beginning *)given)->taken, false);
+    return beginning.routine.posix(beginning.argument);
+}
+
+static int begin_c11(void *given)
+{
+    struct beginning beginning = *(struct beginning *)given;
+    self.made = beginning.place;
+    atomic_store(&((struct beginning *)given)->taken, false);
+    return beginning.routine.c11(beginning.argument);
+}
+
+/* NULL where the maker isn't to be known: nothing is recorded, or there is no room. */
+static struct beginning *taken_by(struct caller caller, void *argument)
+{
+    struct beginning *found = NULL;
+    if (!goes_far_inside(caller.stack))
+        return NULL;
+    for (uint32_t i = 0; i < BEGINNINGS && !found; i++)
+        if (!atomic_load_explicit(&beginnings[i].taken, memory_order_relaxed)
+            && !atomic_exchange(&beginnings[i].taken, true))
+            found = &beginnings[i];
+    if (found) {
+        found->place = place_of(caller);
+        found->argument = argument;
+    }
+    goes_outside(&self);
+    return found;
+}
+
+EXPORT int pthread_create(
+    pthread_t *thread, const pthread_attr_t *attributes, void *(*routine)(void *), void *argument)
+{
+    start();
+    struct beginning *beginning = taken_by(CALLER, argument);
+    if (!beginning)
+        return real.create(thread, attributes, routine, argument);
+    beginning->routine.posix = routine;
+    int answer = real.create(thread, attributes, begin_posix, beginning);
+    if (answer != 0)
+        atomic_store(&beginning->taken, false);
+    return answer;
+}
+
+EXPORT int thrd_create(thrd_t *thread, thrd_start_t routine, void *argument)
+{
+    start();
+    struct beginning *beginning = taken_by(CALLER, argument);
+    if (!beginning)
+        return real.c11_create(thread, routine, argument);
+    beginning->routine.c11 = routine;
+    int answer = real.c11_create(thread, begin_c11, beginning);
+    if (answer != thrd_success)
+        atomic_store(&beginning->taken, false);
+    return answer;
+}
+
+/* In the child no thread is about to begin. */
+void threads_forked(void)
+{
+    for (uint32_t i = 0; i < BEGINNINGS; i++)
+        atomic_store_explicit(&beginnings[i].taken, false, memory_order_relaxed);
+}
