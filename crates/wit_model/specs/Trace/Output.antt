@@ -2,10 +2,10 @@
 use Rattle.std.specs.Prelude.{◌≡◌, ℕ, ◌+◌, Bool, false, ◌&&◌, ◌||◌, ◌==◌, nat_lt, List, [], ◌∷◌, ◌++◌, length, take, unwrap_or, Option, None, Some, is_some, Result, Ok, Err, codes, if◌then◌else◌}
 use Rattle.std.specs.Fmt.{decimal}
 use Rattle.std.specs.Str.{bytes_eq}
-use Rattle.wit_model.specs.declared.profiles.Profile.TheVariants.{Plain}
+use Rattle.wit_model.specs.declared.profiles.Profile.TheVariants.{Plain, AllHeld}
 use Rattle.wit_model.specs.declared.faults.Fault.{Fault}
 use Rattle.wit_model.specs.declared.lines.Line.{Line}
-use Rattle.wit_model.specs.declared.lines.Line.TheVariants.{Header, Order, Bless, Init, OnLock, Assert, Warn, Define, Watch}
+use Rattle.wit_model.specs.declared.lines.Line.TheVariants.{Header, Profile, Order, Bless, Init, OnLock, Assert, Warn, Define, Watch}
 use Rattle.wit_model.specs.declared.lines.LockLine.{LockLine}
 use Rattle.wit_model.specs.declared.lines.LockLine.TheVariants.{Check, Try, Unlock, Plain, Step}
 use Rattle.wit_model.specs.declared.lines.Version.{Version}
@@ -76,6 +76,10 @@ empty_prelude version sizes =
       start = record { sizes = sizes; profile = Plain; lists = []; blessed = [] };
       lines = [];
     }
+
+-- held locks are all compared with
+abbrev pub with_profile : Prelude → Prelude
+with_profile p = record p { start = record p.start { profile = AllHeld } }
 
 -- one more list, from the line with this number
 abbrev pub with_list : Prelude → ℕ → List (Class × List ℕ) → Prelude
@@ -270,6 +274,7 @@ abbrev pub entered : Progress → ℕ → Line → Outcome
 entered Unstarted n (Header version seats types locks chunks) =
     let sizes = sizes_of seats types locks chunks log_limit in
     if are_within sizes then Goes (Opening (empty_prelude version sizes)) [] else Bad why.Limit
+entered (Opening p) n Profile = if n == 2 then Goes (Opening (with_profile p)) [] else Bad why.Syntax
 entered (Opening p) n (Order list) = Goes (Opening (with_list p n list)) []
 entered (Opening p) n (Bless first second) = Goes (Opening (with_pair p first second)) []
 entered (Reading s m) n line = calls s m (call_of line)
