@@ -1,5 +1,5 @@
 -- The last chunks of a list, one more at each step.
-use Rattle.std.proofs.Common.{◌≡◌, ℕ, zero, suc, ◌+◌, ◌<◌, Bool, true, false, List, [], ◌∷◌, ◌++◌, Option, None, Some, is_some, length, drop, get_or, find, reverse, ap, sym, ◌∙◌}
+use Rattle.std.proofs.Common.{◌≡◌, ℕ, zero, suc, ◌+◌, ◌<◌, Bool, true, false, List, [], ◌∷◌, ◌++◌, Option, None, Some, is_some, cond, length, drop, get_or, find, reverse, refl, ap, sym, ◌∙◌}
 use Rattle.std.specs.Option.{option_or}
 use Rattle.std.proofs.lemmas.List.{drop_more, reverse-append}
 use Rattle.std.proofs.lemmas.List.Folds.{find-append}
@@ -44,3 +44,19 @@ module _ {X : Type 0} (p : X → Bool) (gs : List (List X)) (i n : ℕ) (chunk :
       go : (o : Option X) → is_some o ≡ false → find p (reverse (flat (drop i gs))) ≡ o → find p (reverse (flat (drop i gs))) ≡ None
       go (Some x) none at = (cc)
       go None none at = at
+
+-- a look that goes on from a list's later part to the earlier one: one chunk more
+pub chunk-looked : {X S : Type 0} (all : List X → S → S) → ((c e : List X) (s : S) → all (c ++ e) s ≡ all c (all e s)) → (gs : List (List X)) (s : S) (i n : ℕ) → i < length gs
+    → n ≡ i + 1 → all (get_or gs i []) (all (flat (drop n gs)) s) ≡ all (flat (drop i gs)) s
+chunk-looked all appends gs s i n lt next = sym (ap (λ e. all e s) (chunk-more gs i n lt next) ∙ appends (get_or gs i []) (flat (drop n gs)) s)
+
+newer-or : {X : Type 0} (o : Option X) (b : Bool) (x : X) → cond (is_some o) o (cond b (Some x) None) ≡ option_or o (cond b (Some x) None)
+newer-or None b x = refl
+newer-or (Some y) b x = refl
+
+-- the newest that passes, one older more
+pub newest-older : {X : Type 0} (p : X → Bool) (x : X) (c : List X)
+    → cond (is_some (find p (reverse c))) (find p (reverse c)) (cond (p x) (Some x) None) ≡ find p (reverse (x ∷ c))
+newest-older p x c =
+    newer-or (find p (reverse c)) (p x) x
+    ∙ sym (ap (find p) (reverse-append (x ∷ []) c) ∙ find-append p (reverse c) (x ∷ []))

@@ -12,7 +12,7 @@ use Rattle.wit_model.specs.Rules.Verdict.{Basis, is_of, has_type_of, violates}
 use Rattle.wit_check.specs.declared.held.Seen.{Seen}
 use Rattle.wit_check.specs.Held.{IsOnce}
 use Rattle.wit_check.specs.Looks.{older_than, seen_in, nothing_seen, with_lock, with_locks}
-use Rattle.wit_check.proofs.Chunks.{chunk-more}
+use Rattle.wit_check.proofs.Chunks.{chunk-looked, newest-older}
 
 module _ (g : Basis) (q : Asked) where
   look-append : (c e : List Instance) (s : Seen) → with_locks g q (c ++ e) s ≡ with_locks g q c (with_locks g q e s)
@@ -22,25 +22,18 @@ module _ (g : Basis) (q : Asked) where
   -- one chunk more
   pub look-chunk : (gs : List (List Instance)) (s : Seen) (i n : ℕ) → i < length gs → n ≡ i + 1
       → with_locks g q (get_or gs i []) (with_locks g q (flat (drop n gs)) s) ≡ with_locks g q (flat (drop i gs)) s
-  look-chunk gs s i n lt next =
-      sym (ap (λ e. with_locks g q e s) (chunk-more gs i n lt next) ∙ look-append (get_or gs i []) (flat (drop n gs)) s)
+  look-chunk gs s i n lt next = chunk-looked (λ c r. with_locks g q c r) look-append gs s i n lt next
 
   -- the lock itself
   held-seen : (c : List Instance) → (with_locks g q c nothing_seen).held ≡ find (is_of q.lock.0) c
   held-seen [] = refl
   held-seen (i ∷ c) = ap (λ o. cond (is_of q.lock.0 i) (Some i) o) (held-seen c)
 
-  newer-or : (o : Option Instance) (b : Bool) (i : Instance) → cond (is_some o) o (cond b (Some i) None) ≡ option_or o (cond b (Some i) None)
-  newer-or None b i = refl
-  newer-or (Some j) b i = refl
-
   -- the newest violation
   broken-seen : (c : List Instance) → (with_locks g q c nothing_seen).broken ≡ find (violates g q) (reverse c)
   broken-seen [] = refl
   broken-seen (i ∷ c) =
-      ap (λ o. cond (is_some o) o (cond (violates g q i) (Some i) None)) (broken-seen c)
-      ∙ newer-or (find (violates g q) (reverse c)) (violates g q i) i
-      ∙ sym (ap (find (violates g q)) (reverse-append (i ∷ []) c) ∙ find-append (violates g q) (reverse c) (i ∷ []))
+      ap (λ o. cond (is_some o) o (cond (violates g q i) (Some i) None)) (broken-seen c) ∙ newest-older (violates g q) i c
 
   -- a lock that is found stands in the chain
   stands-found : (p : Instance → Bool) (c : List Instance) (h : Instance) → find p (reverse c) ≡ Some h → 1 ≤ length (filter (is_of h.lock.0) c)

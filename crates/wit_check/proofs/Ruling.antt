@@ -1,6 +1,7 @@
 -- The rules from the fourth on, each where the ones before it don't apply.
 use Rattle.std.proofs.Common.{◌≡◌, ℕ, ap, ◌∙◌, Bool, true, false, not, ◌&&◌, List, [], ◌∷◌, None, Some, is_some, Result, Ok, Err, find, reverse, refl}
-use Rattle.std.specs.List.{last_or}
+use Rattle.std.specs.List.{last_or, list_all}
+use Rattle.wit_model.specs.declared.profiles.Profile.{Profile}
 use Rattle.wit_model.specs.declared.profiles.Profile.TheVariants.{Plain}
 use Rattle.wit_model.specs.declared.faults.Fault.{Fault}
 use Rattle.wit_model.specs.declared.faults.Fault.TheVariants.{SleepUnderSpin}
@@ -12,29 +13,34 @@ use Rattle.wit_model.specs.declared.calls.Reply.TheVariants.{Pass}
 use Rattle.wit_model.specs.Rules.Types.{is_spin, class_of}
 use Rattle.wit_model.specs.Rules.Orders.{is_direct}
 use Rattle.wit_model.specs.Rules.History.{is_on}
-use Rattle.wit_model.specs.Rules.Verdict.{Basis, is_of, type_held, has_type_of, again, doubled, violates, reported, decided, teaches, chain_asked, ruling}
+use Rattle.wit_model.specs.Rules.Verdict.{Basis, is_of, type_held, has_type_of, again, doubled, violates, reported, is_known, decided, teaches, teaches_all, chain_asked, ruling}
 use Rattle.wit_model.specs.Rules.Chunks.{Chunks, chain_of, list_of}
-use Rattle.wit_check.specs.Behind.{over}
+use Rattle.wit_check.specs.Behind.{over, over_all}
 use Rattle.wit_check.specs.Held.{sleep_chain, spin_chain}
 
 module _ (g : Basis) (c : List Instance) (last : Instance) (q : Asked) where
-  pub again-decides : (i : Instance) → find (is_of q.lock.0) c ≡ Some i → again q i ≡ decided (over g c last q)
+  pub again-decides : (i : Instance) → find (is_of q.lock.0) c ≡ Some i → again q i ≡ decided (over Plain g c last q)
   again-decides i is = rw is refl
 
   module _ (free : find (is_of q.lock.0) c ≡ None) where
-    pub double-decides : has_type_of g q last ≡ true → doubled g q last ≡ decided (over g c last q)
+    pub double-decides : has_type_of g q last ≡ true → doubled g q last ≡ decided (over Plain g c last q)
     double-decides same = rw (free, same) refl
 
     module _ (apart : has_type_of g q last ≡ false) where
-      pub direct-decides : is_direct g.orders (type_held g last).0 q.type_no.0 ≡ true → ◌≡◌ {A = Result Reply Fault} (Ok Pass) (decided (over g c last q))
+      pub direct-decides : is_direct g.orders (type_held g last).0 q.type_no.0 ≡ true → ◌≡◌ {A = Result Reply Fault} (Ok Pass) (decided (over Plain g c last q))
       direct-decides direct = rw (free, apart, direct) refl
 
       module _ (new : is_direct g.orders (type_held g last).0 q.type_no.0 ≡ false) where
-        pub violation-decides : (i : Instance) → find (violates g q) (reverse c) ≡ Some i → reported g q c i ≡ decided (over g c last q)
+        pub violation-decides : (i : Instance) → find (violates g q) (reverse c) ≡ Some i → reported g q c i ≡ decided (over Plain g c last q)
         violation-decides i is = rw (free, apart, new, is) refl
 
-        pub learning-decides : find (violates g q) (reverse c) ≡ None → decided (teaches g (Some last) q ∷ []) ≡ decided (over g c last q)
+        pub learning-decides : find (violates g q) (reverse c) ≡ None → decided (teaches g (Some last) q ∷ []) ≡ decided (over Plain g c last q)
         learning-decides none = rw (free, apart, new, none) refl
+
+-- the last one where it is compared with all of the chain
+pub teaching-decides : (g : Basis) (c : List Instance) (q : Asked) → find (is_of q.lock.0) c ≡ None → find (has_type_of g q) (reverse c) ≡ None
+    → list_all (is_known g q) c ≡ false → find (violates g q) (reverse c) ≡ None → decided (teaches_all g c q ∷ []) ≡ decided (over_all g c q)
+teaching-decides g c q free apart new none = rw (free, apart, new, none) refl
 
 -- the chain that a request is judged by
 module _ (g : Basis) (sleep spin : List Instance) (q : Asked) where
@@ -52,17 +58,17 @@ none-held false held none = none
 pub of-spin : (kind held : Bool) → kind ≡ true → (not kind && held) ≡ false
 of-spin kind held is = rw is refl
 
-module _ (g : Basis) (watch : Watch) (sleep spin : List Instance) (q : Asked) (on : is_on watch ≡ true) where
+module _ (profile : Profile) (g : Basis) (watch : Watch) (sleep spin : List Instance) (q : Asked) (on : is_on watch ≡ true) where
   pub spin-decides : is_spin (class_of q.type_no.0 g.types) ≡ false → is_some (last_or None spin) ≡ true
-      → ◌≡◌ {A = Result Reply Fault} (Err SleepUnderSpin) (ruling Plain g watch sleep spin q)
+      → ◌≡◌ {A = Result Reply Fault} (Err SleepUnderSpin) (ruling profile g watch sleep spin q)
   spin-decides sleeps some = rw (on, sleeps, some) refl
 
   module _ (calm : (not (is_spin (class_of q.type_no.0 g.types)) && is_some (last_or None spin)) ≡ false) where
-    pub nothing-decides : last_or None (chain_asked g sleep spin q) ≡ None → ◌≡◌ {A = Result Reply Fault} (Ok Pass) (ruling Plain g watch sleep spin q)
+    pub nothing-decides : last_or None (chain_asked g sleep spin q) ≡ None → ◌≡◌ {A = Result Reply Fault} (Ok Pass) (ruling profile g watch sleep spin q)
     nothing-decides none = rw (on, calm, none) refl
 
     pub chain-decides : (last : Instance) → last_or None (chain_asked g sleep spin q) ≡ Some last
-        → decided (over g (chain_asked g sleep spin q) last q) ≡ ruling Plain g watch sleep spin q
+        → decided (over profile g (chain_asked g sleep spin q) last q) ≡ ruling profile g watch sleep spin q
     chain-decides last is = rw (on, calm, is) refl
 
 -- the list of the requested lock's kind is the chain that a request is judged by

@@ -1,23 +1,34 @@
 -- A verdict as the answer of a check: the reply that tells it, or the fault.
-use Rattle.std.specs.Prelude.{Result, Ok, Err}
+use Rattle.std.specs.Prelude.{List, [], Result, Ok, Err, reverse}
+use Rattle.wit_model.specs.declared.locks.Instance.{Instance}
+use Rattle.wit_model.specs.declared.locks.TypeNo.{TypeNo}
+use Rattle.wit_model.specs.declared.calls.Asked.{Asked}
 use Rattle.wit_model.specs.declared.faults.Fault.{Fault}
 use Rattle.wit_model.specs.declared.calls.Reply.{Reply}
 use Rattle.wit_model.specs.declared.calls.Reply.TheVariants as reply
+use Rattle.wit_model.specs.Rules.Verdict.{Basis, new_parents, orders_behind}
 use Rattle.wit_check.specs.declared.answers.Verdict.{Verdict}
 use Rattle.wit_check.specs.declared.answers.Verdict.TheVariants as verdict
 
-abbrev pub answer_of : Verdict → Result Reply Fault
-answer_of verdict.Pass = Ok reply.Pass
-answer_of (verdict.Adopt p c) = Ok (reply.Adopted p c)
-answer_of (verdict.Silent held asked) = Ok (reply.Silent held asked)
-answer_of (verdict.Duplicate d) = Ok (reply.Duplicate d)
-answer_of (verdict.Reversal c) = Ok (reply.Reversal c)
-answer_of (verdict.Fault fault) = Err fault
+-- the orders that a request teaches behind all these held locks (oldest first), that behind the newest one first
+abbrev pub new_orders : Basis → List Instance → Asked → List (TypeNo × TypeNo)
+new_orders g chain q = orders_behind q (new_parents g q [] (reverse chain))
+
+-- the answer, where the orders that are new behind all held locks are these
+abbrev pub answer_of : List (TypeNo × TypeNo) → Verdict → Result Reply Fault
+answer_of new verdict.Pass = Ok reply.Pass
+answer_of new (verdict.Adopt p c) = Ok (reply.Adopted p c)
+answer_of new verdict.AdoptAll = Ok (reply.AdoptedAll new)
+answer_of new (verdict.Silent held asked) = Ok (reply.Silent held asked)
+answer_of new (verdict.Duplicate d) = Ok (reply.Duplicate d)
+answer_of new (verdict.Reversal c) = Ok (reply.Reversal c)
+answer_of new (verdict.Fault fault) = Err fault
 
 -- the same where an order is defined: nothing is to be said of one that is known
 abbrev pub definition_of : Verdict → Result Reply Fault
 definition_of verdict.Pass = Ok reply.Known
 definition_of (verdict.Adopt p c) = Ok (reply.Adopted p c)
+definition_of verdict.AdoptAll = Ok (reply.AdoptedAll [])
 definition_of (verdict.Silent held asked) = Ok (reply.Silent held asked)
 definition_of (verdict.Duplicate d) = Ok (reply.Duplicate d)
 definition_of (verdict.Reversal c) = Ok (reply.Reversal c)
@@ -27,6 +38,7 @@ definition_of (verdict.Fault fault) = Err fault
 abbrev pub IsDefinition : Verdict → Type 0
 IsDefinition verdict.Pass = Unit {0}
 IsDefinition (verdict.Adopt p c) = Unit {0}
+IsDefinition verdict.AdoptAll = ⊥
 IsDefinition (verdict.Silent held asked) = ⊥
 IsDefinition (verdict.Duplicate d) = ⊥
 IsDefinition (verdict.Reversal c) = ⊥

@@ -3,3 +3,4 @@ pub mod Bases
 pub mod Behind
 pub mod Held
 pub mod Looks
+pub mod Meets

@@ -1,6 +1,7 @@
 //! A held lock that is asked for again.
 
-ghost use Rattle.std.specs.Prelude.{◌≡◌};
+ghost use Rattle.std.specs.Prelude.{◌≡◌, List};
+ghost use Rattle.wit_model.specs.declared.locks.TypeNo.{TypeNo};
 ghost use Rattle.wit_model.specs.Rules.Verdict.{again};
 ghost use Rattle.wit_check.specs.Answers.{answer_of};
 
@@ -11,7 +12,7 @@ use wit_model::{Asked, Fault, Instance, LockFlags, OpFlags};
 /// The verdict on a request for a lock that its seat holds: `SharedOfExclusive` and `ExclusiveOfShared` where the modes differ; `Recursed`
 /// where the request says that the lock isn't held, or where it is held exclusive and isn't recursable; else `Pass`.
 pub fn again(request: Asked, held: Instance) -> Verdict
-    ensures { answer_of result ≡ again request held }
+    ensures { (new : List (TypeNo × TypeNo)) → answer_of new result ≡ again request held }
 {
     let wanted = request.mode.is_exclusive();
     let exclusive = held.mode.is_exclusive();

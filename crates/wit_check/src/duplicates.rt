@@ -1,6 +1,7 @@
 //! Two locks of one type.
 
-ghost use Rattle.std.specs.Prelude.{◌≡◌};
+ghost use Rattle.std.specs.Prelude.{◌≡◌, List};
+ghost use Rattle.wit_model.specs.declared.locks.TypeNo.{TypeNo};
 ghost use Rattle.wit_model.specs.Rules.Numbers.{IsGiven};
 ghost use Rattle.wit_model.specs.Rules.Verdict.{doubled, place_of, place_asked};
 ghost use Rattle.wit_check.specs.Answers.{answer_of};
@@ -10,11 +11,11 @@ use crate::basis::Basis;
 use bitflags::Flags;
 use wit_model::{Asked, Doubling, Instance, LockAt, LockFlags, OpFlags};
 
-/// The verdict where the last held lock is of the requested type: reported once for a type, and never where the lock, or the request,
+/// The verdict where this held lock is of the requested type: reported once for a type, and never where the lock, or the request,
 /// allows it.
 pub fn doubled(basis: &Basis, request: Asked, last: Instance) -> Verdict
     requires { IsGiven basis.now.types request.type_no.0 }
-    ensures { answer_of result ≡ doubled basis.now request last }
+    ensures { (new : List (TypeNo × TypeNo)) → answer_of new result ≡ doubled basis.now request last }
 {
     let asked = request.type_no;
     if request.flags.contains(LockFlags::DUPOK) || request.ops.contains(OpFlags::DUPOK) {

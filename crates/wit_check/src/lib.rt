@@ -2,11 +2,13 @@
 #![tactic(auto)]
 
 mod again;
+mod all_held;
 mod answers;
 mod basis;
 mod definitions;
 mod duplicates;
 mod held;
+mod learning;
 mod orders;
 mod reversals;
 mod rules;
@@ -14,4 +16,5 @@ mod rules;
 pub use answers::Verdict;
 pub use basis::Basis;
 pub use definitions::define;
+pub use learning::new_orders;
 pub use rules::verdict;

@@ -1,8 +1,9 @@
 //! Which orders a request breaks, and which it teaches.
 
-ghost use Rattle.std.specs.Prelude.{◌≡◌, [], ◌∷◌, Some};
+ghost use Rattle.std.specs.Prelude.{◌≡◌, List, [], ◌∷◌, Some};
+ghost use Rattle.wit_model.specs.declared.locks.TypeNo.{TypeNo};
 ghost use Rattle.wit_model.specs.Rules.Numbers.{IsGiven};
-ghost use Rattle.wit_model.specs.Rules.Verdict.{breach, teaches, decided};
+ghost use Rattle.wit_model.specs.Rules.Verdict.{breach, is_learnt, teaches, decided};
 ghost use Rattle.wit_check.specs.Answers.{answer_of};
 ghost use Rattle.wit_check.specs.Looks.{sort_of};
 
@@ -53,23 +54,33 @@ pub fn breach(basis: &Basis, sort: Sort, asked: TypeNo, held: TypeNo) -> Option<
     }
 }
 
-/// The verdict where no order is broken: the one behind the last held lock is learnt, where the request allows it, unless it is that of
-/// a sleepable lock behind Giant, or turns an order round.
+/// Whether the order behind a held lock may be learnt: where the request allows it, unless it is that of a sleepable lock behind Giant,
+/// or turns an order round.
+pub fn is_learnt(basis: &Basis, request: Asked, held: Instance) -> bool
+    requires held { IsGiven basis.now.lock_types held.lock.0 }
+    requires asked { IsGiven basis.now.types request.type_no.0 }
+    ensures { result ≡ is_learnt basis.now request held }
+{
+    let parent = basis.type_held(held);
+    let asked = request.type_no;
+    if !request.ops.contains(OpFlags::NEWORDER) {
+        return false;
+    }
+    if basis.is_giant(parent) && basis.is_sleepable(asked) {
+        return false;
+    }
+    !basis.is_before(asked, parent)
+}
+
+/// The verdict where no order is broken: the one behind the last held lock is learnt, where it may be.
 pub fn learnt(basis: &Basis, request: Asked, last: Instance) -> Verdict
     requires last { IsGiven basis.now.lock_types last.lock.0 }
     requires asked { IsGiven basis.now.types request.type_no.0 }
-    ensures { answer_of result ≡ decided (teaches basis.now (Some last) request ∷ []) }
+    ensures { (new : List (TypeNo × TypeNo)) → answer_of new result ≡ decided (teaches basis.now (Some last) request ∷ []) }
 {
-    let parent = basis.type_held(last);
-    let asked = request.type_no;
-    if !request.ops.contains(OpFlags::NEWORDER) {
-        return Verdict::Pass;
+    if is_learnt(basis, request, last) {
+        Verdict::Adopt(basis.type_held(last), request.type_no)
+    } else {
+        Verdict::Pass
     }
-    if basis.is_giant(parent) && basis.is_sleepable(asked) {
-        return Verdict::Pass;
-    }
-    if basis.is_before(asked, parent) {
-        return Verdict::Pass;
-    }
-    Verdict::Adopt(parent, asked)
 }

@@ -5,6 +5,7 @@ ghost use Rattle.std.specs.List.{before_first};
 ghost use Rattle.wit_model.specs.Rules.Numbers.{IsGiven};
 ghost use Rattle.wit_model.specs.Rules.Verdict.{is_of, has_type_of, reported};
 ghost use Rattle.wit_model.specs.declared.locks.Instance.{Instance};
+ghost use Rattle.wit_model.specs.declared.locks.TypeNo.{TypeNo};
 ghost use Rattle.wit_check.specs.Answers.{answer_of};
 
 use crate::answers::Verdict;
@@ -18,8 +19,8 @@ use wit_model::{Asked, Conflict, Heading, Instance};
 pub fn reported(basis: &Basis, request: Asked, broken: Instance, older: Option<Instance>) -> Verdict
     requires held { IsGiven basis.now.lock_types broken.lock.0 }
     requires asked { IsGiven basis.now.types request.type_no.0 }
-    ensures { (chain : List Instance) → older ≡ find (has_type_of basis.now request) (reverse (before_first (is_of broken.lock.0) chain))
-        → answer_of result ≡ reported basis.now request chain broken }
+    ensures { (new : List (TypeNo × TypeNo)) (chain : List Instance) → older ≡ find (has_type_of basis.now request) (reverse (before_first (is_of broken.lock.0) chain))
+        → answer_of new result ≡ reported basis.now request chain broken }
 {
     let held = basis.type_held(broken);
     let asked = request.type_no;

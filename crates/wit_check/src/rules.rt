@@ -1,17 +1,19 @@
 //! The rules in their order.
 
-ghost use Rattle.std.specs.Prelude.{◌≡◌, ◌≤◌, true, length, None, Some, is_some};
+ghost use Rattle.std.specs.Prelude.{◌≡◌, ◌≤◌, true, List, length, None, Some, is_some};
 ghost use Rattle.std.specs.List.{last_or};
+ghost use Rattle.wit_model.specs.declared.locks.TypeNo.{TypeNo};
 ghost use Rattle.wit_model.specs.declared.profiles.Profile.TheVariants.{Plain};
 ghost use Rattle.wit_model.specs.Rules.Numbers.{IsNumber, IsGiven};
 ghost use Rattle.wit_model.specs.Rules.Chunks.{IsList, chain_of, list_of};
-ghost use Rattle.wit_model.specs.Rules.Verdict.{decided, ruling};
-ghost use Rattle.wit_check.specs.Answers.{answer_of};
+ghost use Rattle.wit_model.specs.Rules.Verdict.{chain_asked, decided, ruling};
+ghost use Rattle.wit_check.specs.Answers.{answer_of, new_orders};
 ghost use Rattle.wit_check.specs.Bases.{basis, AreTypes};
 ghost use Rattle.wit_check.specs.Behind.{over};
 ghost use Rattle.wit_check.specs.Held.{sleep_chain, spin_chain, IsJudgeable};
 
 use crate::again::again;
+use crate::all_held::behind_all;
 use crate::answers::Verdict;
 use crate::basis::Basis;
 use crate::duplicates::doubled;
@@ -20,14 +22,14 @@ use crate::orders::learnt;
 use crate::reversals::reported;
 use wit_matrix::Matrix;
 use wit_model::chunks::{Lists, list_of};
-use wit_model::{Asked, Fault, Instance, SeatNo, TypeNo, Watch};
+use wit_model::{Asked, Fault, Instance, Profile, SeatNo, TypeNo, Watch};
 use wit_table::Table;
 
 /// The verdict of a check: the first of WITNESS's rules that applies decides (witness(4); `witness_checkorder` in subr_witness.c).
 ///
 /// The seat, one of 256, holds each lock once in its lists, those of the sleep kind in one and those of the spin kind in the other.
 /// `lock_types` has the type of each lock that was made, by the lock's number from 1. All types are the table's, and the matrix has
-/// room for them.
+/// room for them. The profile says which of the held locks the request is compared with.
 ///
 /// It takes no memory and changes nothing: what is to be adopted, or found in violation, is the caller's to enter. How often a lock was
 /// acquired again isn't looked at. Its faults are `SleepUnderSpin`, `SharedOfExclusive`, `ExclusiveOfShared` and `Recursed`.
@@ -39,6 +41,7 @@ pub fn verdict<L: Lists>(
     lock_types: &[TypeNo],
     watch: Watch,
     request: Asked,
+    profile: Profile,
 ) -> Verdict
     requires seat { IsNumber 256 seat.0 }
     requires lists { IsList (L.chunks lists.now) (list_of true seat.0) }
@@ -47,8 +50,10 @@ pub fn verdict<L: Lists>(
     requires types { AreTypes types.now lock_types.now }
     requires asked { IsGiven types.now.types request.type_no.0 }
     requires sized { length types.now.types ≤ matrix.now.size }
-    ensures { answer_of result ≡ ruling Plain (basis types.now matrix.now lock_types.now) watch
-        (sleep_chain (L.chunks lists.now) seat.0) (spin_chain (L.chunks lists.now) seat.0) request }
+    ensures { let basis = basis types.now matrix.now lock_types.now in
+        let sleep = sleep_chain (L.chunks lists.now) seat.0 in
+        let spin = spin_chain (L.chunks lists.now) seat.0 in
+        answer_of (new_orders basis (chain_asked basis sleep spin request) request) result ≡ ruling profile basis watch sleep spin request }
 {
     if !watch.is_on() {
         return Verdict::Pass;
@@ -64,7 +69,7 @@ pub fn verdict<L: Lists>(
     }
     let list = list_of(seat, spin);
     match lists.last(list) {
-        Some(last) => behind(&basis, lists, list, request, last),
+        Some(last) => judge(&basis, lists, list, request, last, profile),
         None => Verdict::Pass,
     }
 }
@@ -79,12 +84,35 @@ fn holds_spin<L: Lists>(lists: &L, seat: SeatNo) -> bool
 }
 
 // A lock is asked for behind others.
+fn judge<L: Lists>(
+    basis: &Basis,
+    lists: &L,
+    list: u16,
+    request: Asked,
+    last: Instance,
+    profile: Profile,
+) -> Verdict
+    requires list { IsList (L.chunks lists.now) list }
+    requires chain { IsJudgeable basis.now.lock_types (chain_of (L.chunks lists.now) list) }
+    requires last { last_or None (chain_of (L.chunks lists.now) list) ≡ Some last }
+    requires asked { IsGiven basis.now.types request.type_no.0 }
+    ensures { let chain = chain_of (L.chunks lists.now) list in
+        answer_of (new_orders basis.now chain request) result ≡ decided (over profile basis.now chain last request) }
+{
+    match profile {
+        Profile::Plain => behind(basis, lists, list, request, last),
+        Profile::AllHeld => behind_all(basis, lists, list, request),
+    }
+}
+
+// A lock is asked for behind others, and compared with the last one.
 fn behind<L: Lists>(basis: &Basis, lists: &L, list: u16, request: Asked, last: Instance) -> Verdict
     requires list { IsList (L.chunks lists.now) list }
     requires chain { IsJudgeable basis.now.lock_types (chain_of (L.chunks lists.now) list) }
     requires last { last_or None (chain_of (L.chunks lists.now) list) ≡ Some last }
     requires asked { IsGiven basis.now.types request.type_no.0 }
-    ensures { answer_of result ≡ decided (over basis.now (chain_of (L.chunks lists.now) list) last request) }
+    ensures { (new : List (TypeNo × TypeNo))
+        → answer_of new result ≡ decided (over Plain basis.now (chain_of (L.chunks lists.now) list) last request) }
 {
     let parent = basis.type_held(last);
     let is_double = parent.0 == request.type_no.0;

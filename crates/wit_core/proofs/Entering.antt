@@ -4,6 +4,7 @@ use Rattle.std.specs.Option.{option_or}
 use Rattle.std.specs.Global.{Vec, Global}
 use Rattle.std.proofs.lemmas.Bool.{cases_lt}
 use Rattle.std.proofs.lemmas.List.{drop_more, length-map}
+use Rattle.wit_model.specs.declared.profiles.Profile.{Profile}
 use Rattle.wit_model.specs.declared.faults.Fault.{Fault}
 use Rattle.wit_model.specs.declared.faults.Fault.TheVariants.{BadName, OutOfMemory}
 use Rattle.wit_model.specs.declared.locks.Class.{Class}
@@ -130,7 +131,7 @@ pub record IsBegun (sizes : Sizes) (lists : List (List (Class × List ℕ))) (bl
   pub types : k.most_types ≡ sizes.types
 
 -- what `new` finds once the lists are entered, and where they are refused
-module _ (sizes : Sizes) (most : ℕ) (lists passed_lists : List (Vec (Class × String Global))) (blessed passed_pairs : List (String Global × String Global)) (old : Facts)
+module _ (profile : Profile) (sizes : Sizes) (most : ℕ) (lists passed_lists : List (Vec (Class × String Global))) (blessed passed_pairs : List (String Global × String Global)) (old : Facts)
     (most_is : most ≡ sizes.types) (lists_are : passed_lists ≡ lists) (pairs_are : passed_pairs ≡ blessed)
     (old_is : old ≡ record { known = nothing; live = []; files = []; most_types = most; spare = old.spare }) where
   same-answer : lists_fault most 1 (all_listed passed_lists) old.known.types old.known.orders ≡ lists_fault sizes.types 1 (all_listed lists) [] []
@@ -143,26 +144,26 @@ module _ (sizes : Sizes) (most : ℕ) (lists passed_lists : List (Vec (Class × 
   lists-accepted none = sym same-answer ∙ none
 
   pub lists-refused : (number : ℕ) (fault : Fault) → AreRefused (lists_fault most 1 (all_listed passed_lists) old.known.types old.known.orders) (all_listed passed_lists) number fault
-      → IsRefused (start_of sizes lists blessed) number fault
+      → IsRefused (start_of profile sizes lists blessed) number fault
   lists-refused number fault refused =
-      start-refused (start_of sizes lists blessed) number fault
+      start-refused (start_of profile sizes lists blessed) number fault
       (subst (λ ls. AreRefused (lists_fault sizes.types 1 (all_listed lists) [] []) (all_listed ls) number fault) lists_are
       (subst (λ o. AreRefused o (all_listed passed_lists) number fault) same-answer refused))
 
   -- the blessed pairs are refused
   pub pairs-refused : (fault : Fault) → lists_fault most 1 (all_listed passed_lists) old.known.types old.known.orders ≡ None
-      → ((fault ≡ BadName) × (has_bad_pair (pairs_of passed_pairs) ≡ true)) ⊎ (fault ≡ OutOfMemory) → IsRefused (start_of sizes lists blessed) 0 fault
+      → ((fault ≡ BadName) × (has_bad_pair (pairs_of passed_pairs) ≡ true)) ⊎ (fault ≡ OutOfMemory) → IsRefused (start_of profile sizes lists blessed) 0 fault
   pairs-refused fault none why =
       ⊎_elim
-      (λ bad. subst (IsRefused (start_of sizes lists blessed) 0) (sym bad.0)
-      (start-misnamed (start_of sizes lists blessed) (lists-accepted none) (ap (λ ps. has_bad_pair (pairs_of ps)) (sym pairs_are) ∙ bad.1)))
-      (λ out. start-unmade (start_of sizes lists blessed) fault out)
+      (λ bad. subst (IsRefused (start_of profile sizes lists blessed) 0) (sym bad.0)
+      (start-misnamed (start_of profile sizes lists blessed) (lists-accepted none) (ap (λ ps. has_bad_pair (pairs_of ps)) (sym pairs_are) ∙ bad.1)))
+      (λ out. start-unmade (start_of profile sizes lists blessed) fault out)
       why
 
   -- all are accepted
   pub all-accepted : lists_fault most 1 (all_listed passed_lists) old.known.types old.known.orders ≡ None → has_bad_pair (pairs_of passed_pairs) ≡ false
-      → start_fault (start_of sizes lists blessed) ≡ None
-  all-accepted none good = start-accepted (start_of sizes lists blessed) (lists-accepted none) (ap (λ ps. has_bad_pair (pairs_of ps)) (sym pairs_are) ∙ good)
+      → start_fault (start_of profile sizes lists blessed) ≡ None
+  all-accepted none good = start-accepted (start_of profile sizes lists blessed) (lists-accepted none) (ap (λ ps. has_bad_pair (pairs_of ps)) (sym pairs_are) ∙ good)
 
   pub is-begun : (entered new : Facts) → entered ≡ record old { known = with_lists old.known (all_listed passed_lists); spare = entered.spare }
       → new ≡ record entered { known = record entered.known { blessed = entered.known.blessed ++ pairs_of passed_pairs } }

@@ -1,11 +1,10 @@
 -- What the verdict on a request needs, and that it is the rules' verdict.
-use Rattle.std.proofs.Common.{◌≡◌, ℕ, ◌+◌, ◌-◌, ◌*◌, ◌≤◌, Bool, true, false, cond, eqb, List, [], ◌∷◌, length, map, get_or, refl, sym, ap, ap₂, ◌∙◌, subst, arith, Err, Ok, Result}
+use Rattle.std.proofs.Common.{◌≡◌, ℕ, ◌+◌, ◌-◌, ◌*◌, ◌≤◌, Bool, true, false, cond, eqb, List, [], ◌∷◌, length, map, reverse, get_or, refl, sym, ap, ap₂, ◌∙◌, subst, arith, Err, Ok, Result}
 use Rattle.std.specs.List.{All, AllByRecursion, list_all}
 use Rattle.std.proofs.lemmas.Bool.{and_parts, and_from, lt-ltb, le-leb}
 use Rattle.std.proofs.lemmas.List.{length-map, get_or_default}
 use Rattle.std.proofs.lemmas.List.Elements.{All-map, All-from_recursion}
-use Rattle.wit_model.specs.declared.profiles.Profile.TheVariants.{Plain}
-use Rattle.wit_model.specs.declared.flags.LockFlags.{LockFlags}
+use Rattle.wit_model.specs.declared.profiles.Profile.{Profile}
 use Rattle.wit_model.specs.declared.locks.Instance.{Instance}
 use Rattle.wit_model.specs.declared.locks.Lock.{Lock}
 use Rattle.wit_model.specs.declared.locks.LockType.{LockType}
@@ -18,14 +17,14 @@ use Rattle.wit_model.specs.Rules.Groups.{flat}
 use Rattle.wit_model.specs.Rules.History.{chain, is_held}
 use Rattle.wit_model.specs.Rules.Locks.{locks_of, lock_at, unknown_lock}
 use Rattle.wit_model.specs.Rules.Numbers.{is_given, IsGiven, IsNumber}
-use Rattle.wit_model.specs.Rules.State.{Story, State, Known, state_of, typed_locks, seat_at, chain_in, is_seat}
-use Rattle.wit_model.specs.Rules.Verdict.{Basis, ruling, basis_of, verdict}
+use Rattle.wit_model.specs.Rules.State.{Story, State, Seat, Known, state_of, typed_locks, seat_at, chain_in, is_seat}
+use Rattle.wit_model.specs.Rules.Verdict.{Basis, ruling, basis_of, asked_of, chain_asked, orders_behind, verdict}
 use Rattle.wit_model.proofs.Chains.Held.{made_sane}
 use Rattle.wit_model.proofs.Chains.Stands.{stands-chain}
 use Rattle.wit_model.proofs.Histories.Legal.{seat_at-state, one_chain, sane_legal}
 use Rattle.wit_model.proofs.Numbered.{with_number-or}
 use Rattle.wit_model.proofs.Orders.Among.{lock-type}
-use Rattle.wit_model.proofs.Orders.Reads.{same-ruling}
+use Rattle.wit_model.proofs.Orders.Reads.{same-ruling, parents-same}
 use Rattle.wit_model.proofs.Orders.Sound.{chain-held}
 use Rattle.wit_model.proofs.Orders.TypedLocks.{length-typed}
 use Rattle.wit_table.specs.Known.{Names}
@@ -38,10 +37,12 @@ use Rattle.wit_model.specs.declared.calls.Adoption.{Adoption}
 use Rattle.wit_model.specs.declared.faults.Fault.{Fault}
 use Rattle.wit_model.specs.declared.faults.Fault.TheVariants.{KindMismatch, SameType, WrongOrder}
 use Rattle.wit_check.specs.Bases.{basis, AreTypes}
+use Rattle.wit_check.specs.Answers.{new_orders}
 use Rattle.wit_check.specs.Held.{sleep_chain, spin_chain, IsJudgeable}
 use Rattle.wit_core.specs.declared.verifier.Verifier.TheInside.{Inside}
 use Rattle.wit_core.specs.Kept.{IsTied, start_in, history_in, story_in}
 use Rattle.wit_core.specs.Seats.{seat_in, locks_in, HoldFor}
+use Rattle.wit_core.specs.Verdict.{orders_taught}
 use Rattle.wit_core.proofs.Apt.{known-is}
 use Rattle.wit_core.proofs.HeldSeats.{stands-filter}
 use Rattle.wit_core.proofs.Keeping.{types_few}
@@ -60,6 +61,10 @@ defining-same types os ps a b direct =
     (same_before os ps direct b.0 a.0) (direct a.0 b.0)
 
 module _ (v : Inside) (k : IsTied v) (s : Story) (seen : story_in v ≡ s) where
+  -- what is known of types and locks by these, with the orders and the pairs that are kept
+  abbrev with_names : List LockType → List TypeNo → List (List ℕ × List ℕ) → Basis
+  with_names ts ls bs = record { types = ts; lock_types = ls; orders = v.known.known.orders; found = v.known.known.found; blessed = bs }
+
   locks-are : v.known.known.locks ≡ typed_locks (start_in v) (history_in v)
   locks-are = ap (λ (x : Known). x.locks) (known-is v k)
 
@@ -71,6 +76,14 @@ module _ (v : Inside) (k : IsTied v) (s : Story) (seen : story_in v ≡ s) where
 
   pub asked-given : (l : ℕ) → is_given (state_of s).known.locks l ≡ true → IsGiven v.known.known.types (lock_at v.known.known.locks l).type_no.0
   asked-given l is = type-given l (subst (λ (x : State). is_given x.known.locks l ≡ true) (sym (now v k s seen)) is)
+
+  -- so has the lock of a request
+  pub request-given : (q : Request) (asked : Asked) (types : List LockType) → types ≡ v.known.known.types → asked ≡ asked_of (state_of s).known q
+      → is_given (state_of s).known.locks q.lock.0 ≡ true → IsGiven types asked.type_no.0
+  request-given q asked types same is given =
+      subst (λ ts. IsGiven ts asked.type_no.0) (sym same)
+      (subst (λ (n : TypeNo). IsGiven v.known.known.types n.0)
+      (ap (λ (x : State). (lock_at x.known.locks q.lock.0).type_no) (now v k s seen) ∙ sym (ap (λ (a : Asked). a.type_no) is)) (asked-given q.lock.0 given))
 
   -- so has each lock's place
   pub types-given : (names : Names) (types : List TypeNo) → names.types ≡ v.known.known.types → types ≡ map (λ (l : Lock). l.type_no) v.known.known.locks → AreTypes names types
@@ -138,26 +151,37 @@ module _ (v : Inside) (k : IsTied v) (s : Story) (seen : story_in v ≡ s) where
               (chain spin t (history_in v)) (chain-held spin t (history_in v)));
         })
 
-    -- the ruling over the table and the matrix is the rules' verdict
-    pub verdict-told : (names : Names) (relation : Relation) (types : List TypeNo) (watch : Watch) (q : Request) (type_no : TypeNo) (flags : LockFlags)
-        → names.types ≡ v.known.known.types → names.blessed ≡ v.known.known.blessed → HasSameOrders relation.orders v.known.known.orders → HasSameFound relation.found v.known.known.found
-        → types ≡ map (λ (l : Lock). l.type_no) v.known.known.locks → watch ≡ v.watch
-        → type_no ≡ (lock_at v.known.known.locks q.lock.0).type_no → flags ≡ (lock_at v.known.known.locks q.lock.0).made.flags
-        → ruling Plain (basis names relation types) watch (sleep_chain c t) (spin_chain c t)
-        (record { lock = q.lock; type_no = type_no; flags = flags; mode = q.mode; ops = q.ops; site = q.site })
-        ≡ verdict (state_of s).profile (state_of s).known (state_of s).watch (seat_at (state_of s) t) q
-    verdict-told names relation types watch q type_no flags same_types same_blessed direct pairs are watches type_is flags_are =
-        same-ruling (basis names relation types) v.known.known.orders v.known.known.found direct (same_before relation.orders v.known.known.orders direct) pairs
-        Plain watch (sleep_chain c t) (spin_chain c t) (asked type_no flags)
-        ∙ ap₂ (λ ts bs. ruling Plain (with_lists ts types bs) watch (sleep_chain c t) (spin_chain c t) (asked type_no flags)) same_types same_blessed
-        ∙ ap₂ (λ ls w. ruling Plain (with_lists v.known.known.types ls v.known.known.blessed) w (sleep_chain c t) (spin_chain c t) (asked type_no flags)) are watches
-        ∙ ap₂ (λ sl sp. ruling Plain (basis_of v.known.known) v.watch sl sp (asked type_no flags)) (chain-of-list false) (chain-of-list true)
-        ∙ ap₂ (λ n fs. ruling Plain (basis_of v.known.known) v.watch (locks_in false (seat_in v.seats t)) (locks_in true (seat_in v.seats t)) (asked n fs)) type_is flags_are
-        ∙ ap (λ x. verdict Plain v.known.known v.watch x q) (sym (view-is v.seats t))
-        ∙ ap (λ (x : State). verdict x.profile x.known x.watch (seat_at x t) q) (now v k s seen)
-      where
-        asked : TypeNo → LockFlags → Asked
-        asked n fs = record { lock = q.lock; type_no = n; flags = fs; mode = q.mode; ops = q.ops; site = q.site }
+    -- what is told of the table, the matrix's orders and the lists is told of the state
+    told-now : {X : Type 0} (F : Basis → Watch → List Instance → List Instance → Asked → X) (names : Names) (types : List TypeNo) (watch : Watch) (q : Request) (asked : Asked)
+        → names.types ≡ v.known.known.types → names.blessed ≡ v.known.known.blessed → types ≡ map (λ (l : Lock). l.type_no) v.known.known.locks → watch ≡ v.watch
+        → asked ≡ asked_of (state_of s).known q
+        → F (with_names names.types types names.blessed) watch (sleep_chain c t) (spin_chain c t) asked
+        ≡ F (basis_of (state_of s).known) (state_of s).watch (seat_at (state_of s) t).sleep (seat_at (state_of s) t).spin (asked_of (state_of s).known q)
+    told-now F names types watch q asked same_types same_blessed are watches is =
+        ap₂ (λ ts bs. F (with_names ts types bs) watch (sleep_chain c t) (spin_chain c t) asked) same_types same_blessed
+        ∙ ap₂ (λ ls w. F (with_names v.known.known.types ls v.known.known.blessed) w (sleep_chain c t) (spin_chain c t) asked) are watches
+        ∙ ap₂ (λ sl sp. F (basis_of v.known.known) v.watch sl sp asked) (chain-of-list false) (chain-of-list true)
+        ∙ ap (F (basis_of v.known.known) v.watch (locks_in false (seat_in v.seats t)) (locks_in true (seat_in v.seats t))) is
+        ∙ ap (λ (x : Seat). F (basis_of v.known.known) v.watch x.sleep x.spin (asked_of (state_of s).known q)) (sym (view-is v.seats t))
+        ∙ ap (λ (x : State). F (basis_of x.known) x.watch (seat_at x t).sleep (seat_at x t).spin (asked_of (state_of s).known q)) (now v k s seen)
 
-        with_lists : List LockType → List TypeNo → List (List ℕ × List ℕ) → Basis
-        with_lists ts ls bs = record { types = ts; lock_types = ls; orders = v.known.known.orders; found = v.known.known.found; blessed = bs }
+    module _ (names : Names) (relation : Relation) (types : List TypeNo) (q : Request) (asked : Asked)
+        (same_types : names.types ≡ v.known.known.types) (same_blessed : names.blessed ≡ v.known.known.blessed) (direct : HasSameOrders relation.orders v.known.known.orders)
+        (pairs : HasSameFound relation.found v.known.known.found) (are : types ≡ map (λ (l : Lock). l.type_no) v.known.known.locks) (is_asked : asked ≡ asked_of (state_of s).known q) where
+      -- the ruling over the table and the matrix is the rules' verdict
+      pub verdict-told : (profile : Profile) (watch : Watch) → profile ≡ v.profile → watch ≡ v.watch
+          → ruling profile (basis names relation types) watch (sleep_chain c t) (spin_chain c t) asked
+          ≡ verdict (state_of s).profile (state_of s).known (state_of s).watch (seat_at (state_of s) t) q
+      verdict-told profile watch profile_is watches =
+          same-ruling (basis names relation types) v.known.known.orders v.known.known.found direct (same_before relation.orders v.known.known.orders direct) pairs
+          profile watch (sleep_chain c t) (spin_chain c t) asked
+          ∙ told-now (ruling profile) names types watch q asked same_types same_blessed are watches is_asked
+          ∙ ap (λ p. verdict p (state_of s).known (state_of s).watch (seat_at (state_of s) t) q) (profile_is ∙ ap (λ (x : State). x.profile) (now v k s seen))
+
+      -- and so are the orders that it teaches
+      pub orders-told : new_orders (basis names relation types) (chain_asked (basis names relation types) (sleep_chain c t) (spin_chain c t) asked) asked ≡ orders_taught (state_of s) t q
+      orders-told =
+          ap (orders_behind asked)
+          (parents-same (basis names relation types) v.known.known.orders v.known.known.found direct (same_before relation.orders v.known.known.orders direct) pairs
+          asked [] (reverse (chain_asked (basis names relation types) (sleep_chain c t) (spin_chain c t) asked)))
+          ∙ told-now (λ g w sleep spin a. new_orders g (chain_asked g sleep spin a) a) names types v.watch q asked same_types same_blessed are refl is_asked

@@ -43,7 +43,7 @@ with_parts v known seats watch log = record v { known = known; seats = seats; wa
 
 -- what an accepted call leaves: this is known, these locks are live, the seats are these, so much is watched, and so much is owed
 pub record Leaves (v : Inside) (t : ℕ) (call : Call) (reply : Reply) (known : Known) (live : List Bool) (row : Row) (watch : Watch) (owes : ℕ) : Type 0 where
-  pub state : state v.limits (length v.known.files) known (destroyed_of (entry t call reply ∷ history_in v)) (map seat_view row.seats) watch (length (history_in v) + 1)
+  pub state : state v.limits v.profile (length v.known.files) known (destroyed_of (entry t call reply ∷ history_in v)) (map seat_view row.seats) watch (length (history_in v) + 1)
       ≡ state_of (story_after (start_in v) v.known.files (entry t call reply ∷ history_in v))
   pub flags : live ≡ live_flags (length known.locks) (destroyed_of (entry t call reply ∷ history_in v))
   pub owed : owes ≡ sum_by owed_by (map seat_view row.seats)
@@ -92,8 +92,8 @@ module _ (v : Inside) (t : ℕ) (call : Call) (reply : Reply) (known : Known) (l
       let same = story_entered in
       let seats : map seat_view new_seats.seats ≡ map seat_view row.seats = ap (λ (r : Row). map seat_view r.seats) rows in
       let here : state_in (with_parts v new_known new_seats new_watch new_log)
-      ≡ state v.limits (length v.known.files) known (destroyed_of (entry t call reply ∷ history_in v)) (map seat_view row.seats) watch (length (history_in v) + 1) =
-      same_state v.limits _ _ _ _ _ _ _ _ _ _ _ _ (ap (λ (f : Facts). length f.files) knows) (ap (λ (f : Facts). f.known) knows)
+      ≡ state v.limits v.profile (length v.known.files) known (destroyed_of (entry t call reply ∷ history_in v)) (map seat_view row.seats) watch (length (history_in v) + 1) =
+      same_state v.limits v.profile _ _ _ _ _ _ _ _ _ _ _ _ (ap (λ (f : Facts). length f.files) knows) (ap (λ (f : Facts). f.known) knows)
       (ap (λ (l : Journal). destroyed_of l.history) log) seats watches
       (ap (λ (l : Journal). length l.history) log ∙ omega arith) in
       record {

@@ -3,6 +3,7 @@ pub mod Apt
 pub mod Enrolling
 pub mod Entering
 pub mod Entries
+pub mod Following
 pub mod Going
 pub mod HeldSeats
 pub mod Holding

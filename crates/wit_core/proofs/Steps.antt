@@ -2,7 +2,7 @@
 use Rattle.std.proofs.Common.{◌≡◌, ℕ, ◌-◌, ◌<◌, ◌≤◌, Bool, List, [], ◌∷◌, ◌++◌, Option, None, Some, length, map, set, get_or, refl, sym, ap, ◌∙◌, arith}
 use Rattle.std.proofs.lemmas.List.FromFn.{length-map-range_with_len}
 use Rattle.std.proofs.lemmas.List.{set-get_or, set-set, get_or-set_same, map-set, get_or-map, length-map}
-use Rattle.wit_model.specs.declared.profiles.Profile.TheVariants.{Plain}
+use Rattle.wit_model.specs.declared.profiles.Profile.{Profile}
 use Rattle.wit_model.specs.declared.locks.LockNo.{LockNo}
 use Rattle.wit_model.specs.declared.locks.Mode.{Mode}
 use Rattle.wit_model.specs.declared.locks.Site.{Site}
@@ -31,16 +31,16 @@ use Rattle.wit_core.specs.Seats.{Seat, Row, no_seat, with_seat, asking, acquired
 use Rattle.wit_core.proofs.HeldSeats.{acquired-view, released-view}
 
 -- a state by its parts
-abbrev pub state : Sizes → ℕ → Known → List ℕ → List model.Seat → Watch → ℕ → State
-state sizes files known destroyed seats watch used =
-    record { sizes = sizes; profile = Plain; files = files; known = known; destroyed = destroyed; seats = seats; watch = watch; used = used }
+abbrev pub state : Sizes → Profile → ℕ → Known → List ℕ → List model.Seat → Watch → ℕ → State
+state sizes profile files known destroyed seats watch used =
+    record { sizes = sizes; profile = profile; files = files; known = known; destroyed = destroyed; seats = seats; watch = watch; used = used }
 
-pub same_state : (sizes : Sizes) (f f' : ℕ) (k k' : Known) (d d' : List ℕ) (ss ss' : List model.Seat) (w w' : Watch) (u u' : ℕ)
-    → f ≡ f' → k ≡ k' → d ≡ d' → ss ≡ ss' → w ≡ w' → u ≡ u' → state sizes f k d ss w u ≡ state sizes f' k' d' ss' w' u'
-same_state sizes f f' k k' d d' ss ss' w w' u u' ef ek ed es ew eu =
-    ap (λ x. state sizes x k d ss w u) ef ∙ (ap (λ x. state sizes f' x d ss w u) ek
-    ∙ (ap (λ x. state sizes f' k' x ss w u) ed ∙ (ap (λ x. state sizes f' k' d' x w u) es
-    ∙ (ap (λ x. state sizes f' k' d' ss' x u) ew ∙ ap (λ x. state sizes f' k' d' ss' w' x) eu))))
+pub same_state : (sizes : Sizes) (profile : Profile) (f f' : ℕ) (k k' : Known) (d d' : List ℕ) (ss ss' : List model.Seat) (w w' : Watch) (u u' : ℕ)
+    → f ≡ f' → k ≡ k' → d ≡ d' → ss ≡ ss' → w ≡ w' → u ≡ u' → state sizes profile f k d ss w u ≡ state sizes profile f' k' d' ss' w' u'
+same_state sizes profile f f' k k' d d' ss ss' w w' u u' ef ek ed es ew eu =
+    ap (λ x. state sizes profile x k d ss w u) ef ∙ (ap (λ x. state sizes profile f' x d ss w u) ek
+    ∙ (ap (λ x. state sizes profile f' k' x ss w u) ed ∙ (ap (λ x. state sizes profile f' k' d' x w u) es
+    ∙ (ap (λ x. state sizes profile f' k' d' ss' x u) ew ∙ ap (λ x. state sizes profile f' k' d' ss' w' x) eu))))
 
 pub same_locks : (k : Known) (locks : List Lock) → locks ≡ k.locks → record k { locks = locks } ≡ k
 same_locks k locks e = ap (λ (ls : List Lock). record k { locks = ls }) e

@@ -1,24 +1,30 @@
 -- What an accepted check's reply teaches can be learnt.
-use Rattle.std.proofs.Common.{◌≡◌, ℕ, Bool, true, false, cond, eqb, List, Ok, Err, length, refl, sym, ap, ◌∙◌, subst}
+use Rattle.std.proofs.Common.{◌≡◌, ℕ, Bool, true, false, cond, eqb, ◌||◌, List, [], ◌∷◌, Ok, Err, length, refl, sym, ap, ◌∙◌, subst}
+use Rattle.std.specs.List.{AllByRecursion, list_all}
+use Rattle.std.proofs.lemmas.Bool.{and_parts}
 use Rattle.wit_model.specs.declared.locks.Lock.{Lock}
+use Rattle.wit_model.specs.declared.calls.Adoption.{Adoption}
+use Rattle.wit_model.specs.declared.calls.Asked.{Asked}
 use Rattle.wit_model.specs.declared.calls.Request.{Request}
 use Rattle.wit_model.specs.declared.calls.Call.TheVariants.{Check, DefineOrder}
 use Rattle.wit_model.specs.declared.calls.Reply.{Reply}
 use Rattle.wit_model.specs.declared.calls.Reply.TheVariants.{Adopted, AdoptedAll, Silent, Duplicate, Reversal}
 use Rattle.wit_model.specs.Rules.Locks.{lock_at}
-use Rattle.wit_model.specs.Rules.Numbers.{IsNumber}
-use Rattle.wit_model.specs.Rules.Orders.{is_before, is_direct}
+use Rattle.wit_model.specs.Rules.Numbers.{is_number, IsNumber}
+use Rattle.wit_model.specs.Rules.Orders.{is_before, is_direct, taught_at}
 use Rattle.wit_model.specs.Rules.Defining.{are_of_two_kinds}
 use Rattle.wit_model.specs.declared.faults.Fault.TheVariants.{KindMismatch, SameType, WrongOrder}
 use Rattle.wit_model.specs.declared.locks.TypeNo.{TypeNo}
 use Rattle.wit_model.specs.declared.calls.Reply.TheVariants as reply
-use Rattle.wit_model.specs.Rules.State.{Known, seat_at, state_of, types_of, typed_locks}
-use Rattle.wit_model.specs.Rules.Verdict.{basis_of, asked_of}
+use Rattle.wit_model.specs.Rules.State.{Known, state_of, known_of, types_of, typed_locks, orders_of}
+use Rattle.wit_model.specs.Rules.Verdict.{asked_of, orders_behind}
 use Rattle.wit_model.specs.Rules.Step.{answer_of, is_logged}
 use Rattle.wit_model.proofs.Histories.Accepted.{same_reply, check_accepted, define_accepted}
-use Rattle.wit_model.proofs.Orders.Among.{adopted-orderly, defined-orderly, silent-known, duplicate-known, reversal-known}
-use Rattle.wit_model.proofs.Orders.Sound.{never-all}
+use Rattle.wit_model.proofs.Orders.AllHeld.{AreFree}
+use Rattle.wit_model.proofs.Orders.Among.{adopted-orderly, defined-orderly, silent-known, duplicate-known, reversal-known, lock-type, number-from, parents-known}
+use Rattle.wit_model.proofs.Orders.Sound.{taught-all}
 use Rattle.wit_core.specs.declared.verifier.Verifier.TheInside.{Inside}
+use Rattle.wit_core.specs.Following.{CanFollow, CanAllFollow}
 use Rattle.wit_core.specs.Known.{IsApt}
 use Rattle.wit_core.specs.Defining.{IsDefined}
 use Rattle.wit_model.specs.declared.locks.LockNo.{LockNo}
@@ -35,7 +41,29 @@ defined-by false false true direct p c r is = absurd (cc)
 defined-by false false false true p c r is = subst IsDefined (same_reply is) tt
 defined-by false false false false p c r is = subst IsDefined (same_reply is) tt
 
+-- orders that can be learnt one after the other behind these types can all be adopted
+all-can-follow : (q : Asked) (n : ℕ) (base : List Adoption) → IsNumber n q.type_no.0 → (ps : List TypeNo) (os : List Adoption)
+    → ((x : ℕ) → is_before os q.type_no.0 x ≡ false → is_before base q.type_no.0 x ≡ false) → AreFree q os ps → AllByRecursion (λ (p : TypeNo). IsNumber n p.0) ps
+    → AllByRecursion (λ (p : TypeNo × TypeNo). (p.1 ≡ q.type_no) × CanFollow n base p.0.0 p.1.0) (orders_behind q ps)
+all-can-follow q n base child [] os grown free all = tt
+all-can-follow q n base child (p ∷ ps) os grown free all = (
+  (refl, record { parent = all.0; child = child; apart = free.0.apart; orderly = grown p.0 free.0.orderly }),
+  all-can-follow q n base child ps (taught_at q.site (p, q.type_no) ∷ os) (λ x none. grown x (first (is_before os q.type_no.0 x) _ none)) free.1 all.1,
+)
+  where
+    first : (a b : Bool) → (a || b) ≡ false → a ≡ false
+    first true b none = none
+    first false b none = refl
+
 module _ (v : Inside) (k : IsTied v) where
+  all-numbers : (ps : List TypeNo) → list_all (λ (p : TypeNo). is_number (length (types_of (start_in v) (history_in v))) p.0) ps ≡ true
+      → AllByRecursion (λ (p : TypeNo). IsNumber v.known.most_types p.0) ps
+  all-numbers [] all = tt
+  all-numbers (p ∷ ps) all =
+      let parts = and_parts (is_number (length (types_of (start_in v) (history_in v))) p.0)
+      (list_all (λ (x : TypeNo). is_number (length (types_of (start_in v) (history_in v))) x.0) ps) all in
+      (number v k p.0 (number-from (length (types_of (start_in v) (history_in v))) p.0 parts.0), all-numbers ps parts.1)
+
   locks-are : v.known.known.locks ≡ typed_locks (start_in v) (history_in v)
   locks-are = ap (λ (y : Known). y.locks) (known-is v k)
 
@@ -80,8 +108,16 @@ module _ (v : Inside) (k : IsTied v) where
         orderly = ap (λ (x : Known). is_before x.orders c.0 p.0) (known-is v k) ∙ o.orderly;
       }
   apt t q (AdoptedAll pairs) ok =
-      let s = state_of (story_in v) in
-      never-all (basis_of s.known) s.watch (seat_at s t).sleep (seat_at s t).spin (asked_of s.known q) pairs (check_accepted s t q _ ok).verdict
+      let accepted = check_accepted (state_of (story_in v)) t q _ ok in
+      let l = taught-all (start_in v) v.known.files (history_in v) t q pairs accepted in
+      let asked = asked_of (known_of (start_in v) (history_in v)) q in
+      subst (λ os. CanAllFollow v.known.most_types os pairs) (sym (ap (λ (x : Known). x.orders) (known-is v k)))
+      (subst (CanAllFollow v.known.most_types (orders_of (start_in v) (history_in v))) (sym l.pairs) (
+        asked.type_no,
+        all-can-follow asked v.known.most_types (orders_of (start_in v) (history_in v))
+            (number v k asked.type_no.0 (lock-type (start_in v) (history_in v) q.lock.0 accepted.lock)) l.parents (orders_of (start_in v) (history_in v)) (λ x none. none) l.free
+            (all-numbers l.parents (parents-known (start_in v) v.known.files (history_in v) t q pairs k.legal l)),
+      ))
   apt t q (Silent a b) ok =
       let o = silent-known (start_in v) v.known.files (history_in v) t q a b k.legal (check_accepted (state_of (story_in v)) t q _ ok) in
       (number v k a.0 o.0, number v k b.0 o.1)

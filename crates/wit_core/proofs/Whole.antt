@@ -1,7 +1,7 @@
 -- What a verifier keeps follows from what ties its parts to its history.
 use Rattle.std.proofs.Common.{◌≡◌, ℕ, ◌≤◌, Option, None, Some, IfSome, Ok, true, ap, sym, subst, refl, arith}
 use Rattle.wit_model.specs.declared.calls.Reply.{Reply}
-use Rattle.wit_model.specs.declared.calls.Reply.TheVariants.{Adopted, Silent, Duplicate, Reversal}
+use Rattle.wit_model.specs.declared.calls.Reply.TheVariants.{Adopted, AdoptedAll, Silent, Duplicate, Reversal}
 use Rattle.wit_model.specs.Rules.Orders.{IsSound, cell}
 use Rattle.wit_model.specs.Rules.State.{Known}
 use Rattle.wit_model.specs.Rules.Step.{answer_of, is_logged}
@@ -19,6 +19,7 @@ use Rattle.wit_core.proofs.Keeping.{sound_kept}
 -- room for what a reply teaches
 room_more : (r : Reply) (n m : ℕ) → n ≤ m → IsRoomFor r n → IsRoomFor r m
 room_more (Adopted p c) n m le room = omega arith
+room_more (AdoptedAll pairs) n m le room = omega arith
 room_more (Silent a b) n m le room = omega arith
 room_more (Duplicate d) n m le room = omega arith
 room_more (Reversal x) n m le room = omega arith

@@ -1,7 +1,6 @@
 -- A verifier as its callers see it, and what ties its parts to its history.
 use Rattle.std.specs.Prelude.{ℕ, ◌≡◌, ◌≤◌, Bool, true, List, None, Ok, IfSome, map, length}
 use Rattle.std.specs.Option.{option_map}
-use Rattle.wit_model.specs.declared.profiles.Profile.TheVariants.{Plain}
 use Rattle.wit_model.specs.declared.calls.Entry.{Entry}
 use Rattle.wit_model.specs.Rules.Chunks.{Chunks}
 use Rattle.wit_model.specs.Rules.Clean.{CleanMeansNoCircle}
@@ -22,7 +21,7 @@ use Rattle.wit_core.specs.Plans.{call_of, named, entries_for}
 use Rattle.wit_core.specs.Seats.{seat_in, locks_in, HoldFor}
 
 abbrev pub start_in : Inside → Start
-start_in v = record { sizes = v.limits; profile = Plain; lists = all_listed v.lists.items; blessed = v.known.known.blessed }
+start_in v = record { sizes = v.limits; profile = v.profile; lists = all_listed v.lists.items; blessed = v.known.known.blessed }
 
 abbrev pub history_in : Inside → List Entry
 history_in v = v.log.history
@@ -33,7 +32,7 @@ story_in v = record { start = start_in v; history = history_in v; files = v.know
 abbrev pub state_in : Inside → State
 state_in v = record {
   sizes = v.limits;
-  profile = Plain;
+  profile = v.profile;
   files = length v.known.files;
   known = v.known.known;
   destroyed = destroyed_of (history_in v);

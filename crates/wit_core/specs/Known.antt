@@ -1,5 +1,5 @@
 -- What a verifier knows, and what its calls add to it.
-use Rattle.std.specs.Prelude.{ℕ, ◌<◌, Bool, List, [], ◌++◌, IsOk}
+use Rattle.std.specs.Prelude.{ℕ, ◌<◌, ◌≤◌, Bool, List, [], ◌++◌, length, IsOk}
 use Rattle.wit_model.specs.declared.calls.Call.TheVariants.{Init, Check}
 use Rattle.wit_model.specs.declared.calls.NewLock.{NewLock}
 use Rattle.wit_model.specs.declared.calls.Reply.{Reply}
@@ -11,7 +11,7 @@ use Rattle.wit_model.specs.Rules.Orders.{adopted}
 use Rattle.wit_model.specs.Rules.State.{Known, found_after}
 use Rattle.wit_model.specs.Rules.Numbers.{IsNumber}
 use Rattle.wit_table.specs.Known.{enroll_answer}
-use Rattle.wit_core.specs.Following.{CanFollow}
+use Rattle.wit_core.specs.Following.{CanFollow, CanAllFollow}
 
 -- what is known, whether each lock is live, the files that were named, how many types there may be, and for how many more orders, and
 -- pairs found in violation, there is memory
@@ -29,11 +29,10 @@ nothing = record { types = []; locks = []; orders = []; found = []; blessed = []
 abbrev pub IsAdmitted : Facts → NewLock → Type 0
 IsAdmitted f lock = IsOk (enroll_answer (type_name_of lock) lock.class f.most_types f.known.types)
 
--- what a reply teaches is an order that can be adopted among n types, or a pair of them; no reply is
--- of several orders, since the last held lock alone is compared with
+-- what a reply teaches is orders that can be adopted among n types, or a pair of them
 abbrev pub IsApt : ℕ → Known → Reply → Type 0
 IsApt n k (Adopted p c) = CanFollow n k.orders p.0 c.0
-IsApt n k (AdoptedAll pairs) = ⊥
+IsApt n k (AdoptedAll pairs) = CanAllFollow n k.orders pairs
 IsApt n k (Silent a b) = IsNumber n a.0 × IsNumber n b.0
 IsApt n k (Duplicate d) = IsNumber n (lock_at k.locks d.asked.lock.0).type_no.0
 IsApt n k (Reversal c) = IsNumber n (lock_at k.locks c.held.lock.0).type_no.0 × IsNumber n (lock_at k.locks c.asked.lock.0).type_no.0
@@ -42,6 +41,7 @@ IsApt n k _ = Unit {0}
 -- memory for n more orders and pairs is enough for what a reply teaches
 abbrev pub IsRoomFor : Reply → ℕ → Type 0
 IsRoomFor (Adopted p c) n = 0 < n
+IsRoomFor (AdoptedAll pairs) n = length pairs ≤ n
 IsRoomFor (Silent a b) n = 0 < n
 IsRoomFor (Duplicate d) n = 0 < n
 IsRoomFor (Reversal c) n = 0 < n

@@ -1,14 +1,25 @@
 -- The answer of a check, by its verdict.
-use Rattle.std.specs.Prelude.{Result, Ok, Err}
+use Rattle.std.specs.Prelude.{ℕ, List, Result, Ok, Err}
 use Rattle.wit_model.specs.declared.faults.Fault.{Fault}
+use Rattle.wit_model.specs.declared.locks.TypeNo.{TypeNo}
 use Rattle.wit_model.specs.declared.calls.Reply.{Reply}
+use Rattle.wit_model.specs.declared.calls.Request.{Request}
+use Rattle.wit_model.specs.Rules.State.{State, seat_at}
+use Rattle.wit_model.specs.Rules.Verdict.{basis_of, asked_of, chain_asked}
 use Rattle.wit_check.specs.declared.answers.Verdict.{Verdict}
-use Rattle.wit_check.specs.Answers.{answer_of}
+use Rattle.wit_check.specs.Answers.{answer_of, new_orders}
 
-abbrev pub told : Verdict → Result Reply Fault
-told verdict = answer_of verdict
+-- the orders that a seat's request teaches behind all the locks of its kind that it holds
+abbrev pub orders_taught : State → ℕ → Request → List (TypeNo × TypeNo)
+orders_taught s t q =
+    let g = basis_of s.known in
+    let asked = asked_of s.known q in
+    new_orders g (chain_asked g (seat_at s t).sleep (seat_at s t).spin asked) asked
+
+abbrev pub told : List (TypeNo × TypeNo) → Verdict → Result Reply Fault
+told new verdict = answer_of new verdict
 
 -- the reply that tells the verdict, or the fault
-abbrev pub replied : Result Verdict Fault → Result Reply Fault
-replied (Ok verdict) = told verdict
-replied (Err fault) = Err fault
+abbrev pub replied : List (TypeNo × TypeNo) → Result Verdict Fault → Result Reply Fault
+replied new (Ok verdict) = told new verdict
+replied new (Err fault) = Err fault

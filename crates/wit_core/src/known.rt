@@ -139,7 +139,7 @@ impl Known {
         self.names.file(name)
     }
 
-    /// Makes room for what a reply tells, where it tells of an order or of a pair.
+    /// Makes room for what a reply tells, where it tells of orders or of a pair.
     ///
     /// # Errors
     /// Want of memory alone.
@@ -151,12 +151,13 @@ impl Known {
         match reply {
             Reply::Adopted(_, _) | Reply::Silent(_, _) | Reply::Duplicate(_) | Reply::Reversal(_) =>
                 self.orders.make_room(1),
+            Reply::AdoptedAll(orders) => self.orders.make_room(orders.get().pairs().len()),
             _ => Ok(()),
         }
     }
 
-    /// Learns what the reply to a request tells: the order behind the last held lock, or a pair of types found in violation. It takes
-    /// no memory.
+    /// Learns what the reply to a request tells: the orders behind held locks, or a pair of types found in violation. It takes no
+    /// memory.
     pub fn learn(&mut self, request: Request, reply: &Reply)
         requires apt { IsApt self.old.most_types self.old.known reply.now }
         requires room { IsRoomFor reply.now self.old.spare }
@@ -168,6 +169,7 @@ impl Known {
                 child: *child,
                 origin: Origin::At(request.site),
             }),
+            Reply::AdoptedAll(orders) => self.orders.adopt_all(orders.get().pairs(), request.site),
             Reply::Silent(held, asked) => self.orders.find(*held, *asked),
             Reply::Duplicate(doubling) => {
                 let asked = type_of(&self.locks, doubling.get().asked.lock);

@@ -1,18 +1,18 @@
 //! The adopted orders, which types are before one another, and which were found in violation.
 
-ghost use Rattle.std.specs.Prelude.{◌≡◌, ◌<◌, ◌≤◌, ◌+◌, ◌&&◌, ◌∷◌, ℕ, true, [], IfSome, OnOk, IfOk, IfErr, reverse};
+ghost use Rattle.std.specs.Prelude.{◌≡◌, ◌<◌, ◌≤◌, ◌+◌, ◌&&◌, ◌∷◌, ◌++◌, ℕ, true, [], IfSome, OnOk, IfOk, IfErr, length, map, reverse};
 ghost use Rattle.wit_model.specs.declared.faults.Fault.TheVariants.{OutOfMemory};
-ghost use Rattle.wit_model.specs.Rules.Orders.{is_direct, is_before, is_found, found_once, origin_of, cell};
+ghost use Rattle.wit_model.specs.Rules.Orders.{is_direct, is_before, is_found, found_once, origin_of, cell, taught_at};
 ghost use Rattle.wit_model.specs.Rules.Numbers.{IsNumber, is_number};
 ghost use Rattle.wit_model.specs.Trace.Paths.{path, path_numbers};
 ghost use Rattle.wit_matrix.specs.Relation.{HasSameOrders, HasSameFound, OrdersAmong, LeadsBy};
-ghost use Rattle.wit_core.specs.Following.{CanFollow};
+ghost use Rattle.wit_core.specs.Following.{CanFollow, CanAllFollow};
 
 use indexmap::IndexMap;
 use std::alloc::{AllocError, Global};
 use std::marker::Model;
 use wit_matrix::Matrix;
-use wit_model::{Adoption, Fault, Origin, TypeNo};
+use wit_model::{Adoption, Fault, Origin, Site, TypeNo};
 
 /// The orders that were adopted, and the pairs of types that were found in violation, for up to a number of types.
 /// A type beyond that number is before none, and none before it.
@@ -170,6 +170,20 @@ impl Orders {
         self.matrix.adopt(order.parent, order.child);
     }
 
+    /// Adopts the orders that a request at this place teaches, one after the other. It takes no memory.
+    pub fn adopt_all(&mut self, pairs: &[(TypeNo, TypeNo)], site: Site)
+        requires follow { CanAllFollow self.old.size self.old.orders pairs.now }
+        requires room { length pairs.now ≤ self.old.spare }
+        ensures { self.new ≡ record self.old {
+          orders = reverse (map (taught_at site) pairs.now) ++ self.old.orders;
+          spare = self.new.spare;
+        } }
+    {
+        for place in 0..pairs.len() {
+            self.adopt(taught_at(&pairs[place], site));
+        }
+    }
+
     /// Finds the unordered pair of a and b in violation; a pair that was found stays as it is. It takes no memory.
     pub fn find(&mut self, a: TypeNo, b: TypeNo)
         requires a { IsNumber self.old.size a.0 }
@@ -182,5 +196,16 @@ impl Orders {
             self.found.push_reserved((a, b));
             self.matrix.set_reversal(a, b);
         }
+    }
+}
+
+// The order of these types, as a request at this place teaches it.
+fn taught_at(pair: &(TypeNo, TypeNo), site: Site) -> Adoption
+    ensures { result ≡ taught_at site pair.now }
+{
+    Adoption {
+        parent: pair.0,
+        child: pair.1,
+        origin: Origin::At(site),
     }
 }

@@ -1,6 +1,7 @@
 //! The verifier of lock orders.
 
 ghost use Rattle.std.specs.Prelude.{◌≡◌, None, reverse, IfOk, IfErr};
+ghost use Rattle.wit_model.specs.declared.profiles.Profile.TheVariants.{Plain, AllHeld};
 ghost use Rattle.wit_model.specs.Rules.Clean.{CleanMeansNoCircle};
 ghost use Rattle.wit_model.specs.Rules.Files.{NamesFile};
 ghost use Rattle.wit_model.specs.Rules.History.{reports_of, watch_of};
@@ -18,7 +19,7 @@ use crate::ready::Ready;
 use crate::seats::Seats;
 use std::alloc::Global;
 use std::marker::Model;
-use wit_model::{Adoption, Class, Entry, Fault, FileNo, Limits, Watch};
+use wit_model::{Adoption, Class, Entry, Fault, FileNo, Limits, Profile, Watch};
 
 /// A verifier of lock orders, as witness(4) describes it: it is told of each acquisition and release, keeps
 /// what each seat holds, learns the orders in which types of locks are acquired, and reports a reversal of a
@@ -29,6 +30,7 @@ use wit_model::{Adoption, Class, Entry, Fault, FileNo, Limits, Watch};
 pub struct Verifier {
     pub(crate) alloc: Global,
     pub(crate) limits: Limits,
+    pub(crate) profile: Profile,
     lists: Vec<Vec<(Class, String)>>,
     pub(crate) known: Known,
     pub(crate) seats: Seats,
@@ -44,6 +46,7 @@ impl Drop for Verifier {
         let Verifier {
             alloc: _,
             limits: _,
+            profile: _,
             lists: _,
             known: _,
             seats: _,
@@ -85,9 +88,42 @@ impl Verifier {
         lists: Vec<Vec<(Class, String)>>,
         blessed: Vec<(String, String)>,
     ) -> Result<Verifier, StartError>
-        ensures ok { IfOk result (λ v. (start_fault (start_of limits lists.items blessed.items) ≡ None)
-            × (v ≡ fresh (start_of limits lists.items blessed.items))) }
-        ensures err { IfErr result (λ e. IsRefused (start_of limits lists.items blessed.items) e.list e.fault) }
+        ensures ok { IfOk result (λ v. (start_fault (start_of Plain limits lists.items blessed.items) ≡ None)
+            × (v ≡ fresh (start_of Plain limits lists.items blessed.items))) }
+        ensures err { IfErr result (λ e. IsRefused (start_of Plain limits lists.items blessed.items) e.list e.fault) }
+    {
+        Verifier::start(alloc, Profile::Plain, limits, lists, blessed)
+    }
+
+    /// The same, of the profile in which a request is compared with all locks of its kind that its seat holds, and not with the last
+    /// one alone: what `new` says of its arguments, its errors and what it makes holds here too. It is for programs that try locks.
+    ///
+    /// # Errors
+    /// Those of `new`.
+    pub fn new_all_held(
+        alloc: Global,
+        limits: Limits,
+        lists: Vec<Vec<(Class, String)>>,
+        blessed: Vec<(String, String)>,
+    ) -> Result<Verifier, StartError>
+        ensures ok { IfOk result (λ v. (start_fault (start_of AllHeld limits lists.items blessed.items) ≡ None)
+            × (v ≡ fresh (start_of AllHeld limits lists.items blessed.items))) }
+        ensures err { IfErr result (λ e. IsRefused (start_of AllHeld limits lists.items blessed.items) e.list e.fault) }
+    {
+        Verifier::start(alloc, Profile::AllHeld, limits, lists, blessed)
+    }
+
+    // A verifier of a profile.
+    fn start(
+        alloc: Global,
+        profile: Profile,
+        limits: Limits,
+        lists: Vec<Vec<(Class, String)>>,
+        blessed: Vec<(String, String)>,
+    ) -> Result<Verifier, StartError>
+        ensures ok { IfOk result (λ v. (start_fault (start_of profile limits lists.items blessed.items) ≡ None)
+            × (v ≡ fresh (start_of profile limits lists.items blessed.items))) }
+        ensures err { IfErr result (λ e. IsRefused (start_of profile limits lists.items blessed.items) e.list e.fault) }
     {
         let types = limits.types();
         let mut known = Known::new(alloc, types)?;
@@ -97,6 +133,7 @@ impl Verifier {
         Ok(Verifier {
             alloc,
             limits,
+            profile,
             lists,
             known,
             seats,

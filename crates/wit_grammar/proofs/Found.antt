@@ -2,7 +2,7 @@
 use Rattle.std.proofs.Common.{◌≡◌, ℕ, ◌≤◌, List, length, Option, Some, None, Result, Ok, Err, sym, subst, ◌∙◌}
 use Rattle.std.specs.Prelude.{IfOk, IfErr}
 use Rattle.wit_model.specs.declared.lines.Line.{Line}
-use Rattle.wit_model.specs.declared.lines.Cause.TheVariants.{Long, Syntax, Cut, Limit, Fault}
+use Rattle.wit_model.specs.declared.lines.Cause.TheVariants.{Long, Syntax, Cut, Version, Limit, Fault}
 use Rattle.wit_model.specs.Trace.Spelling.{Spells}
 use Rattle.wit_model.specs.Trace.Reading.{line_of}
 use Rattle.wit_model.proofs.Spelling.Laws.{line_takes, spelled_again}
@@ -26,5 +26,6 @@ why bytes (Err Memory) given small = tt
 why bytes (Err (Bad Syntax)) given small = (small, λ line spells. let e : None ≡ Some line = sym given.1 ∙ spelled_again bytes line spells in absurd cc)
 why bytes (Err (Bad Long)) given small = let e = given.0 in absurd cc
 why bytes (Err (Bad Cut)) given small = let e = given.0 in absurd cc
+why bytes (Err (Bad Version)) given small = let e = given.0 in absurd cc
 why bytes (Err (Bad Limit)) given small = let e = given.0 in absurd cc
 why bytes (Err (Bad (Fault f))) given small = let e = given.0 in absurd cc

@@ -6,16 +6,20 @@ use Rattle.std.proofs.lemmas.Bool.{and_parts, leb-true}
 use Rattle.std.proofs.lemmas.Fmt.{length-decimal-le}
 use Rattle.std.proofs.lemmas.List.{length-append}
 use Rattle.wit_model.specs.declared.lines.Line.{Line}
-use Rattle.wit_model.specs.declared.lines.Line.TheVariants.{Header, Order, Bless, Init, OnLock, Assert, Warn, Define, Watch}
+use Rattle.wit_model.specs.declared.lines.Line.TheVariants.{Header, Profile, Order, Bless, Init, OnLock, Assert, Warn, Define, Watch}
 use Rattle.wit_model.specs.declared.lines.LockLine.{LockLine}
-use Rattle.wit_model.specs.declared.lines.LockLine.TheVariants.{Check, Try, Unlock, Plain}
+use Rattle.wit_model.specs.declared.lines.LockLine.TheVariants.{Check, Try, Unlock, Plain, Step}
+use Rattle.wit_model.specs.declared.raw_steps.RawStep.{RawStep}
+use Rattle.wit_model.specs.declared.raw_steps.RawStep.TheVariants as raw_step
 use Rattle.wit_model.specs.declared.lines.Version.{Version}
-use Rattle.wit_model.specs.declared.lines.Version.TheVariants.{One}
+use Rattle.wit_model.specs.declared.lines.Version.TheVariants.{One, Two}
 use Rattle.wit_model.specs.declared.lines.Verb.{Verb}
 use Rattle.wit_model.specs.declared.lines.Verb.TheVariants.{Note, GiveUp, Destroy, Upgrade, Downgrade, NoRelease, ReleaseOk}
 use Rattle.wit_model.specs.declared.lines.Keyword.{Keyword}
 use Rattle.wit_model.specs.declared.lines.Keyword.TheVariants as keyword
 use Rattle.wit_model.proofs.Spelling.CallKinds.{number-lt}
+use Rattle.wit_model.specs.declared.locks.LockNo.{LockNo}
+use Rattle.wit_model.specs.declared.locks.SeatNo.{SeatNo}
 use Rattle.wit_model.specs.declared.locks.Class.{Class}
 use Rattle.wit_model.specs.declared.locks.Class.TheVariants.{SleepMutex, SpinMutex, Rw, Sx}
 use Rattle.wit_model.specs.declared.locks.Mode.{Mode}
@@ -23,7 +27,7 @@ use Rattle.wit_model.specs.declared.locks.Mode.TheVariants.{Shared, Exclusive}
 use Rattle.wit_model.specs.declared.locks.Watch as level
 use Rattle.wit_model.specs.declared.locks.Watch.TheVariants.{On, Quiet, Off}
 use Rattle.wit_model.specs.Rules.Names.{is_name, is_file_name}
-use Rattle.wit_model.specs.Trace.Spelling.{version_text, keyword_text, with_keyword, lock_keyword, lock_line_fields, class_text, mode_text, level_text, lock_letters, op_letters, assert_letters, warn_letters, number_if_any, chosen_letters, flags_text, site_text, quoted, joined, type_field, spelling, IsSpellableOnLock, IsSpellable}
+use Rattle.wit_model.specs.Trace.Spelling.{version_text, keyword_text, with_keyword, step_keyword, lock_keyword, lock_line_fields, class_text, mode_text, level_text, lock_letters, op_letters, assert_letters, warn_letters, number_if_any, chosen_letters, flags_text, site_text, quoted, joined, type_field, spelling, IsSpellableOnLock, IsSpellable}
 
 -- a field that takes little of a line
 abbrev IsShort : List ℕ → Type 0
@@ -39,6 +43,7 @@ joined-le (field ∷ fields) short = let rest : length (joined fields) ≤ 301 *
 
 keyword-le : (word : Keyword) → length (keyword_text word) ≤ 13
 keyword-le keyword.Header = omega arith
+keyword-le keyword.Profile = omega arith
 keyword-le keyword.Order = omega arith
 keyword-le keyword.Bless = omega arith
 keyword-le keyword.Init = omega arith
@@ -52,6 +57,11 @@ keyword-le (keyword.Plain Upgrade) = omega arith
 keyword-le (keyword.Plain Downgrade) = omega arith
 keyword-le (keyword.Plain NoRelease) = omega arith
 keyword-le (keyword.Plain ReleaseOk) = omega arith
+keyword-le keyword.Take = omega arith
+keyword-le keyword.TryTake = omega arith
+keyword-le keyword.Free = omega arith
+keyword-le keyword.RawUp = omega arith
+keyword-le keyword.RawDown = omega arith
 keyword-le keyword.Assert = omega arith
 keyword-le keyword.Warn = omega arith
 keyword-le keyword.Define = omega arith
@@ -68,6 +78,7 @@ number-short n small = let e : length (decimal n) ≤ 10 = length-decimal-le 10 
 
 version-short : (version : Version) → IsShort (version_text version)
 version-short One = omega arith
+version-short Two = omega arith
 
 class-short : (class : Class) → IsShort (class_text class)
 class-short SleepMutex = omega arith
@@ -118,6 +129,21 @@ init-le : (seat : ℕ) (class : Class) (flags : ℕ) (name : List ℕ) (type_nam
 init-le seat class flags name None p q r = line-le keyword.Init (decimal seat ∷ class_text class ∷ flags_text lock_letters flags ∷ quoted name ∷ []) (omega arith) (number-short seat (omega arith), (class-short class, (flags-short lock_letters flags (omega arith), (name-short name q, tt))))
 init-le seat class flags name (Some t) p q r = line-le keyword.Init (decimal seat ∷ class_text class ∷ flags_text lock_letters flags ∷ quoted name ∷ quoted t ∷ []) (omega arith) (number-short seat (omega arith), (class-short class, (flags-short lock_letters flags (omega arith), (name-short name q, (name-short t r, tt)))))
 
+plain-le : (word : Keyword) (s l : ℕ) → s < 2 ^ 16 → l < 2 ^ 32
+    → length (with_keyword word (decimal s ∷ decimal l ∷ [])) ≤ 4096
+plain-le word s l p q =
+    line-le word (decimal s ∷ decimal l ∷ []) (omega arith) (number-short s (omega arith), (number-short l q, tt))
+
+step-le : (s : SeatNo) (l : LockNo) (step : RawStep) → s.0 < 2 ^ 16 → l.0 < 2 ^ 32
+    → length (with_keyword (step_keyword step) (lock_line_fields (Step s l step))) ≤ 4096
+step-le s l (raw_step.TryTake m) p q =
+    line-le keyword.TryTake (decimal s.0 ∷ decimal l.0 ∷ mode_text m ∷ []) (omega arith)
+    (number-short s.0 (omega arith), (number-short l.0 q, (mode-short m, tt)))
+step-le s l raw_step.Take p q = plain-le keyword.Take s.0 l.0 p q
+step-le s l raw_step.Free p q = plain-le keyword.Free s.0 l.0 p q
+step-le s l raw_step.Up p q = plain-le keyword.RawUp s.0 l.0 p q
+step-le s l raw_step.Down p q = plain-le keyword.RawDown s.0 l.0 p q
+
 on-lock-le : (line : LockLine (List ℕ)) → IsSpellableOnLock line
     → length (with_keyword (lock_keyword line) (lock_line_fields line)) ≤ 4096
 on-lock-le (Check s l m o f n) (p0, p1, p2, p3, p4) =
@@ -137,8 +163,8 @@ on-lock-le (Try s l m f n) (p0, p1, p2, p3) =
 on-lock-le (Unlock s l m) (p0, p1) =
     line-le keyword.Unlock (lock_line_fields (Unlock s l m)) (omega arith)
     (number-short s.0 (omega arith), (number-short l.0 p1, (mode-short m, tt)))
-on-lock-le (Plain verb s l) (p0, p1) =
-    line-le (keyword.Plain verb) (lock_line_fields (Plain verb s l)) (omega arith) (number-short s.0 (omega arith), (number-short l.0 p1, tt))
+on-lock-le (Plain verb s l) (p0, p1) = plain-le (keyword.Plain verb) s.0 l.0 p0 p1
+on-lock-le (Step s l step) (p0, p1) = step-le s l step p0 p1
 
 -- a line of another kind than a list
 pub spelled-le : (line : Line) → IsSpellable line
@@ -162,6 +188,7 @@ spelled-le (Header v s t l c) (p0, p1, p2, p3) other =
         ),
       ),
     )
+spelled-le Profile spellable other = line-le keyword.Profile (codes "all" ∷ []) (omega arith) (omega arith, tt)
 spelled-le (Order list) spellable other = absurd (other list refl)
 spelled-le (Bless a b) (p0, p1) other =
     line-le keyword.Bless (quoted a ∷ quoted b ∷ []) (omega arith) (name-short a p0, (name-short b p1, tt))

@@ -4,13 +4,13 @@ use Rattle.std.specs.Borrow.{Bor}
 use Rattle.wit_model.specs.declared.faults.Fault.{Fault}
 use Rattle.wit_model.specs.declared.faults.Fault.TheVariants.{OutOfMemory}
 use Rattle.wit_model.specs.declared.lines.Line.{Line}
-use Rattle.wit_model.specs.declared.lines.Line.TheVariants.{Header, Order, Bless, OnLock}
+use Rattle.wit_model.specs.declared.lines.Line.TheVariants.{Header, Profile, Order, Bless, OnLock}
 use Rattle.wit_model.specs.declared.lines.LockLine.{LockLine}
-use Rattle.wit_model.specs.declared.lines.LockLine.TheVariants.{Check, Try, Unlock, Plain}
+use Rattle.wit_model.specs.declared.lines.LockLine.TheVariants.{Check, Try, Unlock, Plain, Step}
 use Rattle.wit_model.specs.declared.lines.Keyword.{Keyword}
 use Rattle.wit_model.specs.declared.lines.Keyword.TheVariants as keyword
 use Rattle.wit_model.specs.declared.lines.Cause.{Cause}
-use Rattle.wit_model.specs.declared.lines.Cause.TheVariants.{Long, Syntax, Cut, Limit}
+use Rattle.wit_model.specs.declared.lines.Cause.TheVariants.{Long, Syntax, Cut, Version, Limit}
 use Rattle.wit_model.specs.declared.lines.Cause.TheVariants as why
 use Rattle.wit_model.specs.Trace.Reading.{◌>>=◌, named, number_of, until}
 use Rattle.wit_model.specs.Trace.Spelling.{Spells, IsSpellable, keyword_text, spelling}
@@ -48,6 +48,7 @@ as_line (Check seat lock mode ops file line) = OnLock (Check seat lock mode ops 
 as_line (Try seat lock mode file line) = OnLock (Try seat lock mode file.now line)
 as_line (Unlock seat lock mode) = OnLock (Unlock seat lock mode)
 as_line (Plain verb seat lock) = OnLock (Plain verb seat lock)
+as_line (Step seat lock step) = OnLock (Step seat lock step)
 
 -- the bytes spell no line
 abbrev pub SpellsNone : List ℕ → Type 0
@@ -58,6 +59,7 @@ abbrev pub IsWhyBad : List ℕ → Cause → Type 0
 IsWhyBad bytes Long = LONGEST < length bytes
 IsWhyBad bytes Syntax = (length bytes ≤ LONGEST) × SpellsNone bytes
 IsWhyBad bytes Cut = ⊥
+IsWhyBad bytes Version = ⊥
 IsWhyBad bytes Limit = ⊥
 IsWhyBad bytes (why.Fault f) = ⊥
 
@@ -68,6 +70,7 @@ IsWhy bytes (Bad cause) = IsWhyBad bytes cause
 -- a line that stands before the calls
 abbrev pub IsPrelude : Line → Type 0
 IsPrelude (Header version seats types locks chunks) = Unit {0}
+IsPrelude Profile = Unit {0}
 IsPrelude (Order list) = Unit {0}
 IsPrelude (Bless first second) = Unit {0}
 IsPrelude _ = ⊥

@@ -9,6 +9,8 @@ use wit_model::{Keyword, Verb};
 
 const HEADER: &[u8] = b"witness-trace";
 
+const PROFILE: &[u8] = b"profile";
+
 const ORDER: &[u8] = b"order";
 
 const BLESS: &[u8] = b"bless";
@@ -34,6 +36,16 @@ const DOWNGRADE: &[u8] = b"downgrade";
 const NO_RELEASE: &[u8] = b"norelease";
 
 const RELEASE_OK: &[u8] = b"releaseok";
+
+const TAKE: &[u8] = b"take";
+
+const TRY_TAKE: &[u8] = b"trytake";
+
+const FREE: &[u8] = b"free";
+
+const RAW_UP: &[u8] = b"rawup";
+
+const RAW_DOWN: &[u8] = b"rawdown";
 
 const ASSERT: &[u8] = b"assert";
 
@@ -83,6 +95,11 @@ fn compared(word: &[u8]) -> Option<Keyword>
         DOWNGRADE => Some(Keyword::Plain(Verb::Downgrade)),
         NO_RELEASE => Some(Keyword::Plain(Verb::NoRelease)),
         RELEASE_OK => Some(Keyword::Plain(Verb::ReleaseOk)),
+        TAKE => Some(Keyword::Take),
+        FREE => Some(Keyword::Free),
+        TRY_TAKE => Some(Keyword::TryTake),
+        RAW_UP => Some(Keyword::RawUp),
+        RAW_DOWN => Some(Keyword::RawDown),
         INIT => Some(Keyword::Init),
         ASSERT => Some(Keyword::Assert),
         WARN => Some(Keyword::Warn),
@@ -90,6 +107,7 @@ fn compared(word: &[u8]) -> Option<Keyword>
         WATCH => Some(Keyword::Watch),
         ORDER => Some(Keyword::Order),
         BLESS => Some(Keyword::Bless),
+        PROFILE => Some(Keyword::Profile),
         _ => None,
     }
 }
@@ -100,6 +118,7 @@ pub fn keyword_text(keyword: Keyword) -> &'static [u8]
 {
     match keyword {
         Keyword::Header => HEADER,
+        Keyword::Profile => PROFILE,
         Keyword::Order => ORDER,
         Keyword::Bless => BLESS,
         Keyword::Init => INIT,
@@ -107,6 +126,11 @@ pub fn keyword_text(keyword: Keyword) -> &'static [u8]
         Keyword::Try => TRY,
         Keyword::Unlock => UNLOCK,
         Keyword::Plain(verb) => verb_text(verb),
+        Keyword::Take => TAKE,
+        Keyword::TryTake => TRY_TAKE,
+        Keyword::Free => FREE,
+        Keyword::RawUp => RAW_UP,
+        Keyword::RawDown => RAW_DOWN,
         Keyword::Assert => ASSERT,
         Keyword::Warn => WARN,
         Keyword::Define => DEFINE,

@@ -1,7 +1,7 @@
 //! Lines on a lock, read where they lie.
 
 ghost use Rattle.std.specs.Prelude.{◌≡◌, IfOk};
-ghost use Rattle.wit_model.specs.Trace.Reading.{check_of, try_of, unlock_of, plain_of, line_of};
+ghost use Rattle.wit_model.specs.Trace.Reading.{check_of, try_of, unlock_of, plain_of, step_of, try_take_of, line_of};
 ghost use Rattle.wit_model.specs.declared.lines.Line.TheVariants.{OnLock};
 ghost use Rattle.wit_grammar.specs.Lines.{Finds, Gives, as_line};
 
@@ -9,7 +9,7 @@ use crate::errors::LineError;
 use crate::keywords::keyword_of;
 use crate::{letters, names, numbers, words};
 use std::alloc::{AllocError, Global};
-use wit_model::{FileName, Keyword, Line, LockLine, OpFlags, Verb};
+use wit_model::{FileName, Keyword, Line, LockLine, OpFlags, RawStep, Verb};
 
 /// The line that the bytes spell, where it is one on a lock, without a copy. `None` says nothing.
 #[tactic(auto, unfolding(wit_model::specs::Trace::Reading::line_of))]
@@ -23,6 +23,11 @@ pub fn parse_lock_line(bytes: &[u8]) -> Option<LockLine<&str>>
         Keyword::Unlock => unlock(rest).ok(),
         Keyword::Try => try_lock(rest).ok(),
         Keyword::Plain(verb) => plain(verb, rest).ok(),
+        Keyword::Take => step(RawStep::Take, rest).ok(),
+        Keyword::Free => step(RawStep::Free, rest).ok(),
+        Keyword::TryTake => try_take(rest).ok(),
+        Keyword::RawUp => step(RawStep::Up, rest).ok(),
+        Keyword::RawDown => step(RawStep::Down, rest).ok(),
         _ => None,
     }
 }
@@ -65,6 +70,7 @@ pub fn owned(alloc: Global, line: LockLine<&str>) -> Result<Line, AllocError>
         },
         LockLine::Unlock { seat, lock, mode } => LockLine::Unlock { seat, lock, mode },
         LockLine::Plain { verb, seat, lock } => LockLine::Plain { verb, seat, lock },
+        LockLine::Step { seat, lock, step } => LockLine::Step { seat, lock, step },
     };
     Ok(Line::OnLock(line))
 }
@@ -111,6 +117,11 @@ pub fn borrowed(line: &LockLine<FileName>) -> LockLine<&str>
             verb: *verb,
             seat: *seat,
             lock: *lock,
+        },
+        LockLine::Step { seat, lock, step } => LockLine::Step {
+            seat: *seat,
+            lock: *lock,
+            step: *step,
         },
     }
 }
@@ -181,6 +192,40 @@ pub fn plain(verb: Verb, bytes: &[u8]) -> Result<LockLine<&str>, LineError>
         return Err(LineError::SYNTAX);
     }
     Ok(LockLine::Plain { verb, seat, lock })
+}
+
+/// What stands behind the keyword of a step of a lock that names nothing but a seat and the lock.
+///
+/// # Errors
+/// `LineError::SYNTAX` where that isn't its fields.
+#[tactic(auto, unfolding(wit_model::specs::Trace::Reading::step_of))]
+pub fn step(step: RawStep, bytes: &[u8]) -> Result<LockLine<&str>, LineError>
+    ensures { Gives as_line result (step_of step bytes.now) }
+{
+    let (seat, rest) = numbers::seat(bytes)?;
+    let (lock, rest) = numbers::lock(rest)?;
+    if !rest.is_empty() {
+        return Err(LineError::SYNTAX);
+    }
+    Ok(LockLine::Step { seat, lock, step })
+}
+
+/// What stands behind the word `trytake`.
+///
+/// # Errors
+/// `LineError::SYNTAX` where that isn't its fields.
+#[tactic(auto, unfolding(wit_model::specs::Trace::Reading::try_take_of))]
+pub fn try_take(bytes: &[u8]) -> Result<LockLine<&str>, LineError>
+    ensures { Gives as_line result (try_take_of bytes.now) }
+{
+    let (seat, rest) = numbers::seat(bytes)?;
+    let (lock, rest) = numbers::lock(rest)?;
+    let (mode, rest) = words::mode(rest)?;
+    if !rest.is_empty() {
+        return Err(LineError::SYNTAX);
+    }
+    let step = RawStep::TryTake(mode);
+    Ok(LockLine::Step { seat, lock, step })
 }
 
 /// What stands behind the word `unlock`.

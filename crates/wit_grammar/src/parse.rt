@@ -4,17 +4,17 @@ ghost use Rattle.std.specs.Prelude.{◌≡◌, ◌≤◌, ◌<◌, ◌↔◌, le
 ghost use Rattle.wit_model.specs.declared.lines.Line.{Line};
 ghost use Rattle.wit_model.specs.declared.lines.Cause.TheVariants.{Long};
 ghost use Rattle.wit_model.specs.Trace.Spelling.{Spells};
-ghost use Rattle.wit_model.specs.Trace.Reading.{header_of, order_of, bless_of, init_of, fields_of, line_of};
+ghost use Rattle.wit_model.specs.Trace.Reading.{header_of, profile_of, order_of, bless_of, init_of, fields_of, line_of};
 ghost use Rattle.wit_grammar.specs.declared.errors.LineError.TheVariants.{Bad};
 ghost use Rattle.wit_grammar.specs.Lines.{Gives, IsWhy};
 
 use crate::errors::LineError;
 use crate::keywords::keyword_of;
-use crate::lock_lines::{check, owned, plain, try_lock, unlock};
+use crate::lock_lines::{check, owned, plain, step, try_lock, try_take, unlock};
 use crate::plain_lines::{assert_lock, define, warn, watch};
 use crate::{letters, names, numbers, words};
 use std::alloc::Global;
-use wit_model::{Cause, Keyword, Line, LockFlags, NewLock};
+use wit_model::{Cause, Keyword, Line, LockFlags, NewLock, RawStep};
 
 /// The greatest number of bytes in a line; its line feed isn't among them.
 pub const LONGEST: usize = 4096;
@@ -55,6 +55,7 @@ fn fields(alloc: Global, keyword: Keyword, bytes: &[u8]) -> Result<Line, LineErr
 {
     match keyword {
         Keyword::Header => header(bytes),
+        Keyword::Profile => profile(bytes),
         Keyword::Order => order(alloc, bytes),
         Keyword::Bless => bless(alloc, bytes),
         Keyword::Init => init(alloc, bytes),
@@ -62,6 +63,11 @@ fn fields(alloc: Global, keyword: Keyword, bytes: &[u8]) -> Result<Line, LineErr
         Keyword::Try => Ok(owned(alloc, try_lock(bytes)?)?),
         Keyword::Unlock => Ok(owned(alloc, unlock(bytes)?)?),
         Keyword::Plain(verb) => Ok(owned(alloc, plain(verb, bytes)?)?),
+        Keyword::Take => Ok(owned(alloc, step(RawStep::Take, bytes)?)?),
+        Keyword::TryTake => Ok(owned(alloc, try_take(bytes)?)?),
+        Keyword::Free => Ok(owned(alloc, step(RawStep::Free, bytes)?)?),
+        Keyword::RawUp => Ok(owned(alloc, step(RawStep::Up, bytes)?)?),
+        Keyword::RawDown => Ok(owned(alloc, step(RawStep::Down, bytes)?)?),
         Keyword::Assert => assert_lock(bytes),
         Keyword::Warn => warn(bytes),
         Keyword::Define => define(bytes),
@@ -88,6 +94,17 @@ fn header(bytes: &[u8]) -> Result<Line, LineError>
         locks,
         chunks,
     })
+}
+
+#[tactic(auto, unfolding(wit_model::specs::Trace::Reading::profile_of))]
+fn profile(bytes: &[u8]) -> Result<Line, LineError>
+    ensures { Gives (λ l. l) result (profile_of bytes.now) }
+{
+    let rest = words::fixed(b"all", bytes)?;
+    if !rest.is_empty() {
+        return Err(LineError::SYNTAX);
+    }
+    Ok(Line::Profile)
 }
 
 #[tactic(auto, unfolding(wit_model::specs::Trace::Reading::order_of))]

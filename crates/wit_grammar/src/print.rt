@@ -6,6 +6,8 @@ ghost use Rattle.wit_model.specs.Trace.Spelling.{keyword_text, number_if_any, sp
 ghost use Rattle.wit_model.specs.declared.lines.Line.TheVariants.{Header, Order, Bless, Init, OnLock, Assert, Warn, Define};
 ghost use Rattle.wit_model.specs.declared.lines.Line.TheVariants as lines;
 ghost use Rattle.wit_model.specs.declared.lines.LockLine.TheVariants.{Check, Try, Unlock, Plain};
+ghost use Rattle.wit_model.specs.declared.lines.LockLine.TheVariants as lock_lines;
+ghost use Rattle.wit_model.specs.declared.raw_steps.RawStep.TheVariants as raw_step;
 ghost use Rattle.wit_grammar.specs.Lines.{IsPrelude, IsSpelled};
 ghost use Rattle.wit_model.specs.declared.faults.Fault.TheVariants.{OutOfMemory};
 
@@ -18,7 +20,7 @@ use crate::put::{
 use std::alloc::{AllocError, Global};
 use wit_model::{
     Fault, FileName, Keyword, Line, LockAssert, LockLine, LockNo, Mode, Name, NewLock, OpFlags,
-    SeatNo, TypeList, Verb, Version, WarnFlags, Watch,
+    RawStep, SeatNo, TypeList, Verb, Version, WarnFlags, Watch,
 };
 
 /// The spelling of a line, without a line feed.
@@ -37,7 +39,9 @@ fn spell(alloc: Global, line: &Line) -> Result<Vec<u8>, AllocError>
     ensures { IfOk result (λ bytes. bytes.items ≡ spelling line.now) }
 {
     match line {
-        Line::Header { .. } | Line::Order { .. } | Line::Bless { .. } => spell_prelude(alloc, line),
+        Line::Header { .. } | Line::Profile | Line::Order { .. } | Line::Bless { .. } => {
+            spell_prelude(alloc, line)
+        }
         Line::Init { seat, lock } => spell_init(alloc, *seat, lock),
         Line::OnLock(line) => spell_on_lock(alloc, line),
         Line::Assert {
@@ -68,6 +72,7 @@ fn spell_prelude(alloc: Global, line: &Line) -> Result<Vec<u8>, AllocError>
             locks,
             chunks,
         } => spell_header(alloc, *version, *seats, *types, *locks, *chunks),
+        Line::Profile => spell_profile(alloc),
         Line::Order { list } => spell_order(alloc, list),
         Line::Bless { first, second } => spell_bless(alloc, first, second),
         _ => unreachable!(),
@@ -90,6 +95,14 @@ fn spell_header(
     put_count(alloc, &mut out, b"types", types)?;
     put_count(alloc, &mut out, b"locks", locks)?;
     put_count(alloc, &mut out, b"chunks", chunks)?;
+    Ok(out)
+}
+
+fn spell_profile(alloc: Global) -> Result<Vec<u8>, AllocError>
+    ensures { IfOk result (λ bytes. bytes.items ≡ spelling lines.Profile) }
+{
+    let mut out = Vec::from_slice(alloc, keyword_text(Keyword::Profile))?;
+    put_word(&mut out, b"all")?;
     Ok(out)
 }
 
@@ -139,6 +152,7 @@ fn spell_on_lock(alloc: Global, line: &LockLine<FileName>) -> Result<Vec<u8>, Al
         } => spell_try(alloc, *seat, *lock, *mode, file, *line),
         LockLine::Unlock { seat, lock, mode } => spell_unlock(alloc, *seat, *lock, *mode),
         LockLine::Plain { verb, seat, lock } => spell_plain(alloc, *verb, *seat, *lock),
+        LockLine::Step { seat, lock, step } => spell_step(alloc, *seat, *lock, *step),
     }
 }
 
@@ -188,6 +202,37 @@ fn spell_plain(alloc: Global, verb: Verb, seat: SeatNo, lock: LockNo) -> Result<
     ensures { IfOk result (λ bytes. bytes.items ≡ spelling (OnLock (Plain verb seat lock))) }
 {
     call_on_lock(alloc, Keyword::Plain(verb), seat, lock)
+}
+
+fn spell_step(
+    alloc: Global,
+    seat: SeatNo,
+    lock: LockNo,
+    step: RawStep,
+) -> Result<Vec<u8>, AllocError>
+    ensures { IfOk result (λ bytes. bytes.items ≡ spelling (OnLock (lock_lines.Step seat lock step))) }
+{
+    match step {
+        RawStep::Take => call_on_lock(alloc, Keyword::Take, seat, lock),
+        RawStep::TryTake(mode) => spell_try_take(alloc, seat, lock, mode),
+        RawStep::Free => call_on_lock(alloc, Keyword::Free, seat, lock),
+        RawStep::Up => call_on_lock(alloc, Keyword::RawUp, seat, lock),
+        RawStep::Down => call_on_lock(alloc, Keyword::RawDown, seat, lock),
+    }
+}
+
+fn spell_try_take(
+    alloc: Global,
+    seat: SeatNo,
+    lock: LockNo,
+    mode: Mode,
+) -> Result<Vec<u8>, AllocError>
+    ensures { IfOk result (λ bytes. bytes.items
+        ≡ spelling (OnLock (lock_lines.Step seat lock (raw_step.TryTake mode)))) }
+{
+    let mut out = call_on_lock(alloc, Keyword::TryTake, seat, lock)?;
+    put_word(&mut out, mode_text(mode))?;
+    Ok(out)
 }
 
 fn spell_try(

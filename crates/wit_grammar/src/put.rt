@@ -122,6 +122,7 @@ pub fn version_text(version: Version) -> &'static [u8]
 {
     match version {
         Version::One => b"1",
+        Version::Two => b"2",
     }
 }
 

@@ -48,7 +48,9 @@ fn is_spellable(line: &Line) -> bool
     ensures { IsTrue result ↔ IsSpellable line.now }
 {
     match line {
-        Line::Header { .. } | Line::Order { .. } | Line::Bless { .. } => is_spellable_prelude(line),
+        Line::Header { .. } | Line::Profile | Line::Order { .. } | Line::Bless { .. } => {
+            is_spellable_prelude(line)
+        }
         Line::Init { seat, lock } => is_seat(*seat) && is_spellable_lock(lock),
         Line::OnLock(line) => is_spellable_on_lock(line),
         Line::Assert {
@@ -87,6 +89,7 @@ fn is_spellable_on_lock(line: &LockLine<FileName>) -> bool
         } => are_seat_and_lock(*seat, *lock) && is_spellable_site(file, *line),
         LockLine::Unlock { seat, lock, .. } => are_seat_and_lock(*seat, *lock),
         LockLine::Plain { seat, lock, .. } => are_seat_and_lock(*seat, *lock),
+        LockLine::Step { seat, lock, .. } => are_seat_and_lock(*seat, *lock),
     }
 }
 
@@ -107,6 +110,7 @@ fn is_spellable_prelude(line: &Line) -> bool
             let _counts = [*seats, *types, *locks, *chunks];
             true
         }
+        Line::Profile => true,
         Line::Order { list } => is_spellable_list(list.types()),
         Line::Bless { first, second } => {
             Name::accepts(first.as_str()) && Name::accepts(second.as_str())

@@ -86,7 +86,7 @@ pub fn fixed<'a>(text: &[u8], bytes: &'a [u8]) -> Result<&'a [u8], LineError>
     }
 }
 
-/// A version of the format: `1`.
+/// A version of the format: `1` or `2`.
 #[tactic(auto, unfolding(wit_model::specs::Trace::Reading::version_of))]
 pub fn version(bytes: &[u8]) -> Result<(Version, &[u8]), LineError>
     ensures { Gives (λ x. (x.0, x.1.now)) result (field_at version_of bytes.now) }
@@ -94,6 +94,7 @@ pub fn version(bytes: &[u8]) -> Result<(Version, &[u8]), LineError>
     let (word, rest) = word(bytes)?;
     match word {
         b"1" => Ok((Version::One, rest)),
+        b"2" => Ok((Version::Two, rest)),
         _ => Err(LineError::SYNTAX),
     }
 }

@@ -159,7 +159,7 @@ module _ (waits : ℕ → ℕ → Bool) (n : ℕ) (among : (t u : ℕ) → waits
           and_from (leb t v) (list_all (leb t) way) least (all_at_least t v way lower there p.1)
 
   -- one that starts with its least, or none at all
-  abbrev Told : Option (List ℕ) → Type 0
+  abbrev pub Told : Option (List ℕ) → Type 0
   Told None = (seats : List ℕ) → IsCircle Waiting seats → ⊥
   Told (Some seats) = IsCircle Waiting seats × (starts_with_least seats ≡ true)
 
@@ -167,7 +167,7 @@ module _ (waits : ℕ → ℕ → Bool) (n : ℕ) (among : (t u : ℕ) → waits
   none_told none [] c = c
   none_told none (t ∷ others) c = false≢true (sym (none t (first_among t others t c)) ∙ test_from_before pairs t t (others, queue_path t others t c))
 
-  told : (c : Option (List ℕ)) × Told c
+  pub told : (c : Option (List ℕ)) × Told c
   told =
       ⊎_elim {A = (k : ℕ) → k ≤ n → is_in_circle k ≡ false} {B = (t : ℕ) × ((is_in_circle t ≡ true) × ((k : ℕ) → k < t → is_in_circle k ≡ false))}
       (λ none. (None, none_told none))

@@ -14,6 +14,7 @@ pub mod Placed
 pub mod RecordCircle
 pub mod Rounds
 pub mod Runs
+pub mod SceneCircles
 pub mod Shown
 pub mod Stepping
 pub mod TriedCrossed

@@ -5,13 +5,16 @@ use crate::faults::Fault;
 use crate::flags::{LockAssert, OpFlags, WarnFlags};
 use crate::locks::{LockNo, Mode, SeatNo, Watch};
 use crate::names::{FileName, Name};
+use crate::raw_steps::RawStep;
 use crate::type_lists::TypeList;
 
 /// A version of the format.
 #[derive(Clone, Copy, Debug, PartialEq, Eq, Hash)]
 pub enum Version {
-    /// The first.
+    /// The first: the calls alone.
     One,
+    /// The second: the steps of the locks themselves too.
+    Two,
 }
 
 /// What becomes of a lock by a line that names nothing but it and a seat.
@@ -38,6 +41,8 @@ pub enum Verb {
 pub enum Keyword {
     /// `witness-trace`.
     Header,
+    /// `profile`.
+    Profile,
     /// `order`.
     Order,
     /// `bless`.
@@ -52,6 +57,16 @@ pub enum Keyword {
     Unlock,
     /// That of a verb.
     Plain(Verb),
+    /// `take`.
+    Take,
+    /// `trytake`.
+    TryTake,
+    /// `free`.
+    Free,
+    /// `rawup`.
+    RawUp,
+    /// `rawdown`.
+    RawDown,
     /// `assert`.
     Assert,
     /// `warn`.
@@ -62,8 +77,8 @@ pub enum Keyword {
     Watch,
 }
 
-/// A line by which a lock is asked for, acquired or released, or what is recorded of it changes.
-/// `F` is what names a file.
+/// A line by which a lock is asked for, acquired or released, what is recorded of it changes, or a
+/// seat does something to the lock itself. `F` is what names a file.
 #[derive(Debug, Drop)]
 pub enum LockLine<F> {
     /// `check`: a lock is about to be acquired, at a line of a file.
@@ -95,6 +110,13 @@ pub enum LockLine<F> {
         seat: SeatNo,
         lock: LockNo,
     },
+    /// `take`, `trytake`, `free`, `rawup`, `rawdown`: a step of the lock itself, of which the
+    /// verifier isn't told. Only the second version has it.
+    Step {
+        seat: SeatNo,
+        lock: LockNo,
+        step: RawStep,
+    },
 }
 
 /// A line of a trace.
@@ -109,6 +131,8 @@ pub enum Line {
         locks: u32,
         chunks: u32,
     },
+    /// `profile all`: requests are compared with all held locks. It may only be the second line.
+    Profile,
     /// `order`: types whose locks are taken in this order, one or more.
     Order {
         list: TypeList,
@@ -160,6 +184,8 @@ pub enum Cause {
     Cut,
     /// No such line, or none such there.
     Syntax,
+    /// The trace has another version than the one that is read.
+    Version,
     /// A number of the header is 0 or over its greatest value.
     Limit,
     /// The call was refused, or the static list.

@@ -63,7 +63,7 @@ module _ (v : Inside) (k : IsTied v) (s : Story) (seen : story_in v ≡ s) where
       → watch ≡ watch_of (entry t call reply ∷ history_in v) → owes ≡ owed_to v.limits.seats (entry t call reply ∷ history_in v) → row.chunks ≡ v.seats.chunks
       → Leaves v t call reply known live row watch owes
   left-by t call reply known live row watch owes knows lives rows watches sum size = record {
-    state = same_state v.limits _ _ _ _ _ _ _ _ _ _ _ _ refl knows refl rows watches (omega arith);
+    state = same_state v.limits v.profile _ _ _ _ _ _ _ _ _ _ _ _ refl knows refl rows watches (omega arith);
     flags = lives;
     owed = sum ∙ ap (sum_by owed_by) (sym rows);
     chunks = size;

@@ -3,7 +3,6 @@ use Rattle.std.proofs.Common.{◌≡◌, ℕ, zero, suc, ◌+◌, true, false, L
 use Rattle.std.specs.List.{range_with_len}
 use Rattle.std.specs.Option.{option_map}
 use Rattle.std.specs.Global.{Vec, Global}
-use Rattle.wit_model.specs.declared.profiles.Profile.TheVariants.{Plain}
 use Rattle.wit_model.specs.declared.locks.Class.{Class}
 use Rattle.wit_model.specs.declared.locks.Watch.TheVariants.{On}
 use Rattle.wit_model.specs.Rules.Sizes.{Sizes}
@@ -39,11 +38,11 @@ module _ (v : Inside) (sizes : Sizes) (lists : List (Vec (Class × String Global
     (limits : v.limits ≡ sizes) (same_lists : v.lists.items ≡ lists) (begun : IsBegun sizes (all_listed lists) (pairs_of blessed) v.known)
     (seats : v.seats ≡ idle_row sizes.seats sizes.chunks) (watch : v.watch ≡ On) (log : v.log ≡ record { limit = sizes.log; history = []; owed = 0; spare = v.log.spare })
     (unready : v.ready ≡ None) where
-  start_begun : start_in v ≡ start_of sizes lists blessed
+  start_begun : start_in v ≡ start_of v.profile sizes lists blessed
   start_begun =
       ap (λ (x : Sizes). record (start_in v) { sizes = x }) limits
-      ∙ (ap (λ ls. record { sizes = sizes; profile = Plain; lists = all_listed ls; blessed = v.known.known.blessed }) same_lists
-      ∙ ap (λ (x : Known). record { sizes = sizes; profile = Plain; lists = all_listed lists; blessed = x.blessed }) (begun.known))
+      ∙ (ap (λ ls. record { sizes = sizes; profile = v.profile; lists = all_listed ls; blessed = v.known.known.blessed }) same_lists
+      ∙ ap (λ (x : Known). record { sizes = sizes; profile = v.profile; lists = all_listed lists; blessed = x.blessed }) (begun.known))
 
   no_history : history_in v ≡ []
   no_history = ap (λ (l : Journal). l.history) log
@@ -51,16 +50,16 @@ module _ (v : Inside) (sizes : Sizes) (lists : List (Vec (Class × String Global
   no_files : v.known.files ≡ []
   no_files = begun.files
 
-  pub story_begun : story_in v ≡ fresh (start_of sizes lists blessed)
+  pub story_begun : story_in v ≡ fresh (start_of v.profile sizes lists blessed)
   story_begun = ap (λ (o : Option Ready). record (story_in v) { ready = option_map named o }) unready ∙ same_story _ _ _ _ _ _ start_begun no_files no_history
 
-  state_begun : state_in v ≡ state_of (fresh (start_of sizes lists blessed))
+  state_begun : state_in v ≡ state_of (fresh (start_of v.profile sizes lists blessed))
   state_begun =
       ap (λ (x : Sizes). record (state_in v) { sizes = x }) limits
-      ∙ same_state sizes _ _ _ _ _ _ _ _ _ _ _ _ (ap (λ (l : List (List ℕ)). length l) no_files) (begun.known) (ap destroyed_of no_history)
+      ∙ same_state sizes v.profile _ _ _ _ _ _ _ _ _ _ _ _ (ap (λ (l : List (List ℕ)). length l) no_files) (begun.known) (ap destroyed_of no_history)
       (ap (λ (r : Row). map seat_view r.seats) seats ∙ seats-idle 1 sizes.seats) watch (ap (λ (l : Journal). length l.history) log)
 
-  pub kept_begun : start_fault (start_of sizes lists blessed) ≡ None → IsTied v
+  pub kept_begun : start_fault (start_of v.profile sizes lists blessed) ≡ None → IsTied v
   kept_begun accepted =
       let owes : owed (state_in v) ≡ 0 = ap owed state_begun ∙ owed_to-nil sizes.seats in
       record {

@@ -1,21 +1,22 @@
 //! `check`: a seat asks for a lock.
 
-ghost use Rattle.std.specs.Prelude.{◌≡◌, true, IsOk, IfOk, IfErr, Ok};
+ghost use Rattle.std.specs.Prelude.{◌≡◌, true, IsOk, IfOk, IfErr, OnOk, Ok};
 ghost use Rattle.wit_model.specs.declared.calls.Call.TheVariants.{Check};
 ghost use Rattle.wit_model.specs.Rules.Preparing.{IsPrepared, Prepares};
 ghost use Rattle.wit_model.specs.Rules.Refusals.{IsRefusal};
 ghost use Rattle.wit_model.specs.Rules.State.{state_of, seat_at, is_seat, is_live};
 ghost use Rattle.wit_model.specs.Rules.Step.{AnswersOrFails, answer_of, is_logged, logged};
-ghost use Rattle.wit_model.specs.Rules.Verdict.{verdict};
-ghost use Rattle.wit_core.specs.Verdict.{told, replied};
+ghost use Rattle.wit_model.specs.Rules.Verdict.{asked_of, verdict};
+ghost use Rattle.wit_core.specs.Verdict.{orders_taught, told, replied};
 
 use crate::known::{flags_of, type_of};
 use crate::ready::{Plan, Ready};
 use crate::verifier::Verifier;
-use std::alloc::Global;
-use wit_check::{Verdict, verdict};
+use std::alloc::AllocError;
+use wit_check::{Verdict, new_orders, verdict};
 use wit_model::{
-    Asked, Boxed, Call, Entry, Fault, LockNo, Mode, OpFlags, Reply, Request, SeatNo, Site,
+    Asked, Boxed, Call, Entry, Fault, LockNo, Mode, NewOrders, OpFlags, Reply, Request, SeatNo,
+    Site,
 };
 
 impl Verifier {
@@ -24,6 +25,9 @@ impl Verifier {
     /// requested type, and `Reversal` where the request breaks an order, which are reports; or `Silent` where that was reported
     /// before, or where the broken order is that of a blessed pair. A second lock of a type that the lock or the request allows passes.
     /// Where not everything is watched it is always `Pass`.
+    ///
+    /// In the profile that compares with all held locks it is `AdoptedAll` in place of `Adopted`, where new orders were learnt, with all
+    /// of them, that behind the newest lock first; and `Duplicate` where any of them has the requested type, the newest of which is told.
     ///
     /// # Errors
     /// In this order: `UnknownSeat`; `UnknownLock`; `UnknownFile`; `ModeNotAllowed` for a mutex asked for shared;
@@ -69,12 +73,14 @@ impl Verifier {
         ensures logged { IfOk result (λ r. is_logged r ≡ true) }
     {
         let verdict = self.answer_check(seat, request)?;
-        let reply = reply_to(self.alloc, verdict)?;
+        let reply = self.reply_to(seat, request, verdict)?;
         self.make_ready(seat, Plan::Check(request), reply)
     }
 
     fn answer_check(&self, seat: SeatNo, request: Request) -> Result<Verdict, Fault>
-        ensures { replied result ≡ answer_of self.now seat.0 (Check request) }
+        ensures answer { replied (orders_taught (state_of self.now) seat.0 request) result ≡ answer_of self.now seat.0 (Check request) }
+        ensures seat { OnOk result (is_seat (state_of self.now) seat.0 ≡ true) }
+        ensures lock { OnOk result (is_live (state_of self.now) request.lock.0 ≡ true) }
     {
         self.before_acquiring(seat, request.lock, request.mode, request.site)?;
         let verdict = self.verdict(seat, request);
@@ -91,18 +97,10 @@ impl Verifier {
     fn verdict(&self, seat: SeatNo, request: Request) -> Verdict
         requires seat { is_seat (state_of self.now) seat.0 ≡ true }
         requires lock { is_live (state_of self.now) request.lock.0 ≡ true }
-        ensures { told result ≡ verdict (state_of self.now).profile (state_of self.now).known (state_of self.now).watch (seat_at (state_of self.now) seat.0) request }
+        ensures { let s = state_of self.now in
+            told (orders_taught s seat.0 request) result ≡ verdict s.profile s.known s.watch (seat_at s seat.0) request }
     {
         let known = &self.known;
-        let locks = known.locks();
-        let asked = Asked {
-            lock: request.lock,
-            type_no: type_of(locks, request.lock),
-            flags: flags_of(locks, request.lock),
-            mode: request.mode,
-            ops: request.ops,
-            site: request.site,
-        };
         verdict(
             known.names(),
             known.orders().matrix(),
@@ -110,8 +108,64 @@ impl Verifier {
             seat,
             known.lock_types(),
             self.watch,
-            asked,
+            self.asked(request),
+            self.profile,
         )
+    }
+
+    // The orders that the request of a seat for a live lock teaches behind all the locks of its kind that it holds.
+    fn new_orders(&self, seat: SeatNo, request: Request) -> Result<NewOrders, AllocError>
+        requires seat { is_seat (state_of self.now) seat.0 ≡ true }
+        requires lock { is_live (state_of self.now) request.lock.0 ≡ true }
+        ensures { IfOk result (λ new. new ≡ orders_taught (state_of self.now) seat.0 request) }
+    {
+        let known = &self.known;
+        new_orders(
+            self.alloc,
+            known.names(),
+            known.orders().matrix(),
+            self.seats.lists(),
+            seat,
+            known.lock_types(),
+            self.asked(request),
+        )
+    }
+
+    // A request, with what is known of its lock.
+    fn asked(&self, request: Request) -> Asked
+        ensures { result ≡ asked_of (state_of self.now).known request }
+    {
+        let locks = self.known.locks();
+        Asked {
+            lock: request.lock,
+            type_no: type_of(locks, request.lock),
+            flags: flags_of(locks, request.lock),
+            mode: request.mode,
+            ops: request.ops,
+            site: request.site,
+        }
+    }
+
+    // The reply that tells the verdict on a request; its fault, or want of memory, where it has none.
+    fn reply_to(&self, seat: SeatNo, request: Request, verdict: Verdict) -> Result<Reply, Fault>
+        requires seat { is_seat (state_of self.now) seat.0 ≡ true }
+        requires lock { is_live (state_of self.now) request.lock.0 ≡ true }
+        ensures ok { IfOk result (λ reply. told (orders_taught (state_of self.now) seat.0 request) verdict ≡ Ok reply) }
+        ensures err { IfErr result (IsRefusal (told (orders_taught (state_of self.now) seat.0 request) verdict)) }
+    {
+        let alloc = self.alloc;
+        match verdict {
+            Verdict::Pass => Ok(Reply::Pass),
+            Verdict::Adopt(parent, child) => Ok(Reply::Adopted(parent, child)),
+            Verdict::AdoptAll => {
+                let orders = self.new_orders(seat, request)?;
+                Ok(Reply::AdoptedAll(Boxed::new(alloc, orders)?))
+            }
+            Verdict::Silent(held, asked) => Ok(Reply::Silent(held, asked)),
+            Verdict::Duplicate(doubling) => Ok(Reply::Duplicate(Boxed::new(alloc, doubling)?)),
+            Verdict::Reversal(conflict) => Ok(Reply::Reversal(Boxed::new(alloc, conflict)?)),
+            Verdict::Fault(fault) => Err(fault),
+        }
     }
 
     // Enters a request that is prepared, and what its reply tells. It takes no memory.
@@ -131,20 +185,5 @@ impl Verifier {
         };
         self.log.push(entry, 2);
         reply
-    }
-}
-
-// The reply that tells a verdict; its fault, or want of memory, where it has none.
-fn reply_to(alloc: Global, verdict: Verdict) -> Result<Reply, Fault>
-    ensures ok { IfOk result (λ reply. told verdict ≡ Ok reply) }
-    ensures err { IfErr result (IsRefusal (told verdict)) }
-{
-    match verdict {
-        Verdict::Pass => Ok(Reply::Pass),
-        Verdict::Adopt(parent, child) => Ok(Reply::Adopted(parent, child)),
-        Verdict::Silent(held, asked) => Ok(Reply::Silent(held, asked)),
-        Verdict::Duplicate(doubling) => Ok(Reply::Duplicate(Boxed::new(alloc, doubling)?)),
-        Verdict::Reversal(conflict) => Ok(Reply::Reversal(Boxed::new(alloc, conflict)?)),
-        Verdict::Fault(fault) => Err(fault),
     }
 }

@@ -84,7 +84,7 @@ defined-orderly start files h t a b p c accepted =
 number-test : (n x : ℕ) → IsNumber n x → is_number n x ≡ true
 number-test n x is = and_from (nat_lt 0 x) (nat_le x n) (lt-ltb 0 x is.0) (le-leb x n is.1)
 
-number-from : (n x : ℕ) → is_number n x ≡ true → IsNumber n x
+pub number-from : (n x : ℕ) → is_number n x ≡ true → IsNumber n x
 number-from n x is = let parts = and_parts (nat_lt 0 x) (nat_le x n) is in (ltb-true 0 x parts.0, leb-true x n parts.1)
 
 -- orders that a check teaches behind all held locks are behind known types

@@ -97,7 +97,7 @@ module _ (g : Basis) (orders : List Adoption) (found : List (TypeNo × TypeNo)) 
   new-same q ps i =
       ap₂ (λ a b. a && not b && not (is_among (type_held g i).0 ps)) (learnt-same q i) (direct (type_held g i).0 q.type_no.0)
 
-  parents-same : (q : Asked) (ps : List TypeNo) (c : List Instance) → new_parents g q ps c ≡ new_parents other q ps c
+  pub parents-same : (q : Asked) (ps : List TypeNo) (c : List Instance) → new_parents g q ps c ≡ new_parents other q ps c
   parents-same q ps [] = refl
   parents-same q ps (i ∷ c) =
       ap (λ b. cond b (type_held g i ∷ new_parents g q (type_held g i ∷ ps) c) (new_parents g q ps c)) (new-same q ps i)

@@ -6,8 +6,10 @@ use Rattle.std.proofs.lemmas.Bool.{cases_eq, ne_eqb}
 use Rattle.wit_model.specs.declared.lines.Line.{Line}
 use Rattle.wit_model.specs.declared.lines.Line.TheVariants.{OnLock, Assert, Warn, Define, Watch}
 use Rattle.wit_model.specs.declared.lines.LockLine.{LockLine}
-use Rattle.wit_model.specs.declared.lines.LockLine.TheVariants.{Check, Try, Unlock, Plain}
+use Rattle.wit_model.specs.declared.lines.LockLine.TheVariants.{Check, Try, Unlock, Plain, Step}
 use Rattle.wit_model.specs.declared.lines.Verb.{Verb}
+use Rattle.wit_model.specs.declared.raw_steps.RawStep.{RawStep}
+use Rattle.wit_model.specs.declared.raw_steps.RawStep.TheVariants as raw_step
 use Rattle.wit_model.specs.declared.flags.LockAssert.{LockAssert}
 use Rattle.wit_model.specs.declared.flags.WarnFlags.{WarnFlags}
 use Rattle.wit_model.specs.declared.locks.LockNo.{LockNo}
@@ -15,8 +17,8 @@ use Rattle.wit_model.specs.declared.locks.SeatNo.{SeatNo}
 use Rattle.wit_model.specs.declared.locks.Mode.{Mode}
 use Rattle.wit_model.specs.declared.locks.Watch as level
 use Rattle.wit_model.specs.Rules.Names.{is_file_name}
-use Rattle.wit_model.specs.Trace.Spelling.{verb_text, mode_text, level_text, op_letters, assert_letters, warn_letters, number_if_any, flags_text, site_text, joined, lock_keyword, lock_line_fields, IsNamed, IsSpellableOnLock, Spells}
-use Rattle.wit_model.specs.Trace.Reading.{mode_of, level_of, flags_of, site_of, field_at, both, seat_at, lock_at, check_of, try_of, unlock_of, plain_of, assert_of, lock_if_any, warn_of, define_of, watch_of, fields_of}
+use Rattle.wit_model.specs.Trace.Spelling.{verb_text, mode_text, level_text, op_letters, assert_letters, warn_letters, number_if_any, flags_text, site_text, joined, step_keyword, lock_keyword, lock_line_fields, IsNamed, IsSpellableOnLock, Spells}
+use Rattle.wit_model.specs.Trace.Reading.{mode_of, level_of, flags_of, site_of, field_at, both, seat_at, lock_at, check_of, try_of, unlock_of, plain_of, step_of, try_take_of, assert_of, lock_if_any, warn_of, define_of, watch_of, fields_of}
 use Rattle.wit_model.proofs.Spelling.Codecs.{IsCodec, Ends, print_field, print_both, both_codec}
 use Rattle.wit_model.proofs.Spelling.Fields.{IsBelow, seat_codec, lock_codec, mode_codec, op_flags_codec, assert_flags_codec, warn_flags_codec, level_codec, site_codec}
 use Rattle.wit_model.proofs.Spelling.Kinds.{kind_takes, kind_again}
@@ -66,6 +68,47 @@ pub plain_takes : (verb : Verb) (rest : List ℕ) (line : Line) → plain_of ver
 unfolding plain_of
 plain_takes verb = kind_takes plain_codec (plain_make verb) (verb_text verb) (λ x fits. (refl, (fits.0, fits.1)))
 
+-- ---- steps of the lock itself
+
+abbrev step_make : RawStep → (ℕ × ℕ) → Line
+step_make step x = OnLock (Step (record { 0 = x.0 }) (record { 0 = x.1 }) step)
+
+-- a step that has no field behind the lock
+pub step_takes : (word : List ℕ) (step : RawStep)
+    → ((x : ℕ × ℕ) → (x.0 < 2 ^ 16) × (x.1 < 2 ^ 32) → Spells (word ++ print_both (print_field decimal) (print_field decimal) x []) (step_make step x))
+    → (rest : List ℕ) (line : Line) → step_of step rest ≡ Some line → Spells (word ++ rest) line
+unfolding step_of
+step_takes word step = kind_takes plain_codec (step_make step) word
+
+pub take_takes : (rest : List ℕ) (line : Line) → step_of raw_step.Take rest ≡ Some line → Spells (codes "take" ++ rest) line
+take_takes = step_takes (codes "take") raw_step.Take (λ x fits. (refl, fits))
+
+pub free_takes : (rest : List ℕ) (line : Line) → step_of raw_step.Free rest ≡ Some line → Spells (codes "free" ++ rest) line
+free_takes = step_takes (codes "free") raw_step.Free (λ x fits. (refl, fits))
+
+pub raw_up_takes : (rest : List ℕ) (line : Line) → step_of raw_step.Up rest ≡ Some line → Spells (codes "rawup" ++ rest) line
+raw_up_takes = step_takes (codes "rawup") raw_step.Up (λ x fits. (refl, fits))
+
+pub raw_down_takes : (rest : List ℕ) (line : Line) → step_of raw_step.Down rest ≡ Some line → Spells (codes "rawdown" ++ rest) line
+raw_down_takes = step_takes (codes "rawdown") raw_step.Down (λ x fits. (refl, fits))
+
+abbrev try_take_make : (ℕ × (ℕ × Mode)) → Line
+try_take_make x = OnLock (Step (record { 0 = x.0 }) (record { 0 = x.1.0 }) (raw_step.TryTake x.1.1))
+
+pub try_take_takes : (rest : List ℕ) (line : Line) → try_take_of rest ≡ Some line → Spells (codes "trytake" ++ rest) line
+unfolding try_take_of
+try_take_takes = kind_takes unlock_codec try_take_make (codes "trytake") (λ x fits. (refl, (fits.0, fits.1.0)))
+
+-- what is spelled of a step is read again
+step_again : (s : SeatNo) (l : LockNo) (step : RawStep) → s.0 < 2 ^ 16 → l.0 < 2 ^ 32
+    → fields_of (step_keyword step) (joined (lock_line_fields (Step s l step))) ≡ Some (OnLock (Step s l step))
+unfolding step_of try_take_of
+step_again s l raw_step.Take p q = kind_again plain_codec tt (step_make raw_step.Take) (s.0, l.0) (p, q)
+step_again s l (raw_step.TryTake m) p q = kind_again unlock_codec tt try_take_make (s.0, (l.0, m)) (p, (q, tt))
+step_again s l raw_step.Free p q = kind_again plain_codec tt (step_make raw_step.Free) (s.0, l.0) (p, q)
+step_again s l raw_step.Up p q = kind_again plain_codec tt (step_make raw_step.Up) (s.0, l.0) (p, q)
+step_again s l raw_step.Down p q = kind_again plain_codec tt (step_make raw_step.Down) (s.0, l.0) (p, q)
+
 -- what is spelled of a line on a lock is read again
 pub lock_line_again : (line : LockLine (List ℕ)) → IsSpellableOnLock line
     → fields_of (lock_keyword line) (joined (lock_line_fields line)) ≡ Some (OnLock line)
@@ -75,6 +118,7 @@ lock_line_again (Check s l m o f n) (p0, p1, p2, p3, p4) =
 lock_line_again (Try s l m f n) (p0, p1, p2, p3) =
     kind_again try_codec tt try_make (s.0, (l.0, (m, (f, n)))) (p0, (p1, (tt, (p2, p3))))
 lock_line_again (Unlock s l m) (p0, p1) = kind_again unlock_codec tt unlock_make (s.0, (l.0, m)) (p0, (p1, tt))
+lock_line_again (Step s l step) (p0, p1) = step_again s l step p0 p1
 lock_line_again (Plain verb s l) (p0, p1) = kind_again plain_codec tt (plain_make verb) (s.0, l.0) (p0, p1)
 
 -- ---- assertions, warnings, orders, watch levels

@@ -1,20 +1,21 @@
 -- The lines that begin a trace, and those that make a lock, are printed and read alike.
-use Rattle.std.proofs.Common.{◌≡◌, ℕ, ◌^◌, ◌<◌, true, not, eqb, List, [], ◌∷◌, ◌++◌, length, Option, Some, None, refl, sym, ap, subst, ◌∙◌, arith, codes}
+use Rattle.std.proofs.Common.{◌≡◌, ℕ, ◌^◌, ◌<◌, true, cond, not, eqb, List, [], ◌∷◌, ◌++◌, length, Option, Some, None, refl, sym, ap, subst, ◌∙◌, arith, codes}
 use Rattle.std.specs.Prelude.{IsTrue, IfSome}
 use Rattle.std.specs.Fmt.{decimal}
 use Rattle.std.specs.List.{list_all}
-use Rattle.std.proofs.lemmas.Bool.{and_parts}
-use Rattle.std.proofs.lemmas.List.{length-append}
+use Rattle.std.proofs.lemmas.Bool.{and_parts, eqb-true}
+use Rattle.std.proofs.lemmas.List.{length-append, nil_from_length}
+use Rattle.std.proofs.lemmas.Option.{cond_some}
 use Rattle.wit_model.specs.declared.lines.Line.{Line}
-use Rattle.wit_model.specs.declared.lines.Line.TheVariants.{Header, Order, Bless, Init}
+use Rattle.wit_model.specs.declared.lines.Line.TheVariants.{Header, Profile, Order, Bless, Init}
 use Rattle.wit_model.specs.declared.lines.Version.{Version}
 use Rattle.wit_model.specs.declared.calls.NewLock.{NewLock}
 use Rattle.wit_model.specs.declared.locks.SeatNo.{SeatNo}
 use Rattle.wit_model.specs.declared.locks.Class.{Class}
 use Rattle.wit_model.specs.Rules.Names.{is_name}
 use Rattle.wit_model.specs.Trace.Spelling.{version_text, class_text, lock_letters, flags_text, quoted, joined, lock_fields, list_fields, IsSpellableLock, Spells}
-use Rattle.wit_model.specs.Trace.Reading.{◌>>=◌, version_of, class_of, flags_of, field_at, labelled, quoted_at, optional, both, whole, one_or_more, seat_at, type_at, list_of, header_of, order_of, bless_of, init_of}
-use Rattle.wit_model.proofs.Spelling.Codecs.{IsCodec, IsLast, FitsIfAny, Lacks-test, Ends, print_field, print_behind, print_both, print_optional, behind_codec, both_codec, whole_again, made_takes}
+use Rattle.wit_model.specs.Trace.Reading.{◌>>=◌, version_of, class_of, flags_of, field_at, labelled, quoted_at, optional, both, whole, one_or_more, seat_at, type_at, list_of, fixed_at, header_of, profile_of, order_of, bless_of, init_of}
+use Rattle.wit_model.proofs.Spelling.Codecs.{IsCodec, IsLast, FitsIfAny, Lacks-test, Ends, bind_some, fixed_again, fixed_takes, print_field, print_behind, print_both, print_optional, behind_codec, both_codec, whole_again, made_takes}
 use Rattle.wit_model.proofs.Spelling.Fields.{IsBelow, quoted_codec, type_name_codec, version_codec, count_codec, seat_codec, class_codec, lock_flags_codec}
 use Rattle.wit_model.proofs.Spelling.Repeats.{print_each, AllFit, one_or_more_codec}
 
@@ -76,6 +77,21 @@ header_takes =
 pub header_again : (x : Version × (ℕ × (ℕ × (ℕ × ℕ)))) → FitsHeader x → header_of (print_header x []) ≡ Some (header_make x)
 unfolding header_of
 header_again = kind_again header_codec tt header_make
+
+-- ---- the profile
+
+pub profile_takes : (rest : List ℕ) (line : Line) → profile_of rest ≡ Some line → Spells (codes "profile" ++ rest) line
+unfolding profile_of
+profile_takes rest line e =
+    let b = bind_some (fixed_at (codes "all") rest) (λ more. cond (eqb (length more) 0) (Some Profile) None) line e in
+    let h = cond_some (eqb (length b.0) 0) Profile line b.2 in
+    let nothing : b.0 ≡ [] = nil_from_length b.0 (eqb-true _ _ h.0) in
+    let printed : rest ≡ codes " all" = fixed_takes (codes "all") rest b.0 b.1 ∙ ap (λ (w : List ℕ). codes " all" ++ w) nothing in
+    subst (λ (l : Line). Spells (codes "profile" ++ rest) l) h.1 (ap (λ (w : List ℕ). codes "profile" ++ w) printed, tt)
+
+pub profile_again : profile_of (codes " all") ≡ Some Profile
+unfolding profile_of
+profile_again = rw (fixed_again (codes "all") [] (Lacks-test 32 (codes "all") refl) tt) refl
 
 -- ---- the prelude
 

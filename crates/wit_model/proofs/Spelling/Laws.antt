@@ -1,9 +1,9 @@
 -- The lines of a trace are printed and read alike.
 use Rattle.std.proofs.Common.{◌≡◌, List, ◌∷◌, ◌++◌, Some, refl, sym, ap, subst, ◌∙◌, ℕ, []}
 use Rattle.wit_model.specs.declared.lines.Line.{Line}
-use Rattle.wit_model.specs.declared.lines.Line.TheVariants.{Header, Order, Bless, Init, OnLock, Assert, Warn, Define, Watch}
+use Rattle.wit_model.specs.declared.lines.Line.TheVariants.{Header, Profile, Order, Bless, Init, OnLock, Assert, Warn, Define, Watch}
 use Rattle.wit_model.specs.declared.lines.LockLine.{LockLine}
-use Rattle.wit_model.specs.declared.lines.LockLine.TheVariants.{Check, Try, Unlock, Plain}
+use Rattle.wit_model.specs.declared.lines.LockLine.TheVariants.{Check, Try, Unlock, Plain, Step}
 use Rattle.wit_model.specs.declared.lines.Keyword.{Keyword}
 use Rattle.wit_model.specs.declared.lines.Keyword.TheVariants as keyword
 use Rattle.wit_model.specs.declared.locks.Class.{Class}
@@ -11,13 +11,14 @@ use Rattle.wit_model.specs.Trace.Spelling.{keyword_text, joined, list_fields, lo
 use Rattle.wit_model.specs.Trace.Reading.{◌>>=◌, until, keyword_of, fields_of, line_of}
 use Rattle.wit_model.proofs.Spelling.Codecs.{Ends, bind_some, until_end, until_whole}
 use Rattle.wit_model.proofs.Spelling.Named.{keyword_plain, keyword_takes, keyword_again}
-use Rattle.wit_model.proofs.Spelling.Kinds.{header_takes, header_again, order_takes, order_again, bless_takes, bless_again, init_takes, init_again}
-use Rattle.wit_model.proofs.Spelling.CallKinds.{check_takes, try_takes, unlock_takes, plain_takes, lock_line_again, assert_takes, assert_again, warn_takes, warn_again, define_takes, define_again, watch_takes, watch_again}
+use Rattle.wit_model.proofs.Spelling.Kinds.{header_takes, header_again, profile_takes, profile_again, order_takes, order_again, bless_takes, bless_again, init_takes, init_again}
+use Rattle.wit_model.proofs.Spelling.CallKinds.{check_takes, try_takes, unlock_takes, plain_takes, take_takes, try_take_takes, free_takes, raw_up_takes, raw_down_takes, lock_line_again, assert_takes, assert_again, warn_takes, warn_again, define_takes, define_again, watch_takes, watch_again}
 
 -- the fields that are read behind a keyword are the rest of the line's spelling
 fields_take : (word : Keyword) (rest : List ℕ) (line : Line) → fields_of word rest ≡ Some line
     → Spells (keyword_text word ++ rest) line
 fields_take keyword.Header = header_takes
+fields_take keyword.Profile = profile_takes
 fields_take keyword.Order = order_takes
 fields_take keyword.Bless = bless_takes
 fields_take keyword.Init = init_takes
@@ -25,6 +26,11 @@ fields_take keyword.Check = check_takes
 fields_take keyword.Try = try_takes
 fields_take keyword.Unlock = unlock_takes
 fields_take (keyword.Plain verb) = plain_takes verb
+fields_take keyword.Take = take_takes
+fields_take keyword.TryTake = try_take_takes
+fields_take keyword.Free = free_takes
+fields_take keyword.RawUp = raw_up_takes
+fields_take keyword.RawDown = raw_down_takes
 fields_take keyword.Assert = assert_takes
 fields_take keyword.Warn = warn_takes
 fields_take keyword.Define = define_takes
@@ -57,11 +63,13 @@ lock_line_starts (Check s l m o f n) = refl
 lock_line_starts (Try s l m f n) = refl
 lock_line_starts (Unlock s l m) = refl
 lock_line_starts (Plain verb s l) = refl
+lock_line_starts (Step s l step) = refl
 
 -- what is spelled so is read
 pub line_again : (line : Line) → IsSpellable line → line_of (spelling line) ≡ Some line
 line_again (Header v s t l c) (p0, p1, p2, p3) =
     by_keyword keyword.Header _ refl ∙ header_again (v, (s, (t, (l, c)))) (tt, (p0, (p1, (p2, p3))))
+line_again Profile p = by_keyword keyword.Profile _ refl ∙ profile_again
 line_again (Order list) (p0, p1) = by_keyword keyword.Order _ (list_starts list) ∙ order_again list p0 p1
 line_again (Bless a b) (p0, p1) = by_keyword keyword.Bless _ refl ∙ bless_again (a, b) (p0, p1)
 line_again (Init seat lock) (p0, p1) = by_keyword keyword.Init _ refl ∙ init_again seat lock p0 p1

@@ -4,7 +4,7 @@ use Rattle.std.specs.List.{list_all}
 use Rattle.wit_model.specs.Trace.Reading.{named, version_of, class_of, mode_of, level_of, keyword_of, keywords}
 use Rattle.wit_model.specs.Trace.Spelling.{version_text, class_text, mode_text, level_text, keyword_text}
 use Rattle.wit_model.specs.declared.lines.Version.{Version}
-use Rattle.wit_model.specs.declared.lines.Version.TheVariants.{One}
+use Rattle.wit_model.specs.declared.lines.Version.TheVariants.{One, Two}
 use Rattle.wit_model.specs.declared.lines.Verb.TheVariants.{Note, GiveUp, Destroy, Upgrade, Downgrade, NoRelease, ReleaseOk}
 use Rattle.wit_model.specs.declared.lines.Keyword.{Keyword}
 use Rattle.wit_model.specs.declared.lines.Keyword.TheVariants as keyword
@@ -18,13 +18,15 @@ use Rattle.wit_model.proofs.Spelling.Codecs.{IsWord, Lacks, Lacks-test, named_ta
 
 pub version_word : IsWord version_text version_of (λ version. Unit {0})
 unfolding version_of
-version_word = named_word version_text (One ∷ []) plain again
+version_word = named_word version_text (One ∷ Two ∷ []) plain again
   where
     plain : (version : Version) → list_all (λ b. not (eqb b 32)) (version_text version) ≡ true
     plain One = refl
+    plain Two = refl
 
     again : (version : Version) → version_of (version_text version) ≡ Some version
     again One = refl
+    again Two = refl
 
 pub class_word : IsWord class_text class_of (λ class. Unit {0})
 unfolding class_of
@@ -70,6 +72,7 @@ level_word = named_word level_text (On ∷ Quiet ∷ Off ∷ []) plain again
 
 no_space : (word : Keyword) → list_all (λ b. not (eqb b 32)) (keyword_text word) ≡ true
 no_space keyword.Header = refl
+no_space keyword.Profile = refl
 no_space keyword.Order = refl
 no_space keyword.Bless = refl
 no_space keyword.Init = refl
@@ -83,6 +86,11 @@ no_space (keyword.Plain Upgrade) = refl
 no_space (keyword.Plain Downgrade) = refl
 no_space (keyword.Plain NoRelease) = refl
 no_space (keyword.Plain ReleaseOk) = refl
+no_space keyword.Take = refl
+no_space keyword.TryTake = refl
+no_space keyword.Free = refl
+no_space keyword.RawUp = refl
+no_space keyword.RawDown = refl
 no_space keyword.Assert = refl
 no_space keyword.Warn = refl
 no_space keyword.Define = refl
@@ -99,6 +107,7 @@ keyword_takes = named_takes keyword_text keywords
 pub keyword_again : (word : Keyword) → keyword_of (keyword_text word) ≡ Some word
 unfolding keyword_of
 keyword_again keyword.Header = refl
+keyword_again keyword.Profile = refl
 keyword_again keyword.Order = refl
 keyword_again keyword.Bless = refl
 keyword_again keyword.Init = refl
@@ -112,6 +121,11 @@ keyword_again (keyword.Plain Upgrade) = refl
 keyword_again (keyword.Plain Downgrade) = refl
 keyword_again (keyword.Plain NoRelease) = refl
 keyword_again (keyword.Plain ReleaseOk) = refl
+keyword_again keyword.Take = refl
+keyword_again keyword.TryTake = refl
+keyword_again keyword.Free = refl
+keyword_again keyword.RawUp = refl
+keyword_again keyword.RawDown = refl
 keyword_again keyword.Assert = refl
 keyword_again keyword.Warn = refl
 keyword_again keyword.Define = refl

@@ -1,13 +1,15 @@
 -- What a replay writes for a trace, and what it sums up.
-use Rattle.std.specs.Prelude.{◌≡◌, ℕ, ◌+◌, Bool, false, ◌||◌, nat_lt, List, [], ◌∷◌, ◌++◌, length, take, unwrap_or, Option, None, Some, is_some, Result, Ok, Err, codes, if◌then◌else◌}
+use Rattle.std.specs.Prelude.{◌≡◌, ℕ, ◌+◌, Bool, false, ◌&&◌, ◌||◌, ◌==◌, nat_lt, List, [], ◌∷◌, ◌++◌, length, take, unwrap_or, Option, None, Some, is_some, Result, Ok, Err, codes, if◌then◌else◌}
 use Rattle.std.specs.Fmt.{decimal}
 use Rattle.std.specs.Str.{bytes_eq}
-use Rattle.wit_model.specs.declared.profiles.Profile.TheVariants.{Plain}
+use Rattle.wit_model.specs.declared.profiles.Profile.TheVariants.{Plain, AllHeld}
 use Rattle.wit_model.specs.declared.faults.Fault.{Fault}
 use Rattle.wit_model.specs.declared.lines.Line.{Line}
-use Rattle.wit_model.specs.declared.lines.Line.TheVariants.{Header, Order, Bless, Init, OnLock, Assert, Warn, Define, Watch}
+use Rattle.wit_model.specs.declared.lines.Line.TheVariants.{Header, Profile, Order, Bless, Init, OnLock, Assert, Warn, Define, Watch}
 use Rattle.wit_model.specs.declared.lines.LockLine.{LockLine}
-use Rattle.wit_model.specs.declared.lines.LockLine.TheVariants.{Check, Try, Unlock, Plain}
+use Rattle.wit_model.specs.declared.lines.LockLine.TheVariants.{Check, Try, Unlock, Plain, Step}
+use Rattle.wit_model.specs.declared.lines.Version.{Version}
+use Rattle.wit_model.specs.declared.lines.Version.TheVariants.{One, Two}
 use Rattle.wit_model.specs.declared.lines.Verb.{Verb}
 use Rattle.wit_model.specs.declared.lines.Verb.TheVariants.{Note, GiveUp, Destroy, Upgrade, Downgrade, NoRelease, ReleaseOk}
 use Rattle.wit_model.specs.declared.lines.View as view
@@ -17,6 +19,7 @@ use Rattle.wit_model.specs.declared.lines.Cause.TheVariants as why
 use Rattle.wit_model.specs.declared.flags.LockAssert.{LockAssert}
 use Rattle.wit_model.specs.declared.flags.OpFlags.{OpFlags}
 use Rattle.wit_model.specs.declared.flags.WarnFlags.{WarnFlags}
+use Rattle.wit_model.specs.declared.raw_steps.RawStep.{RawStep}
 use Rattle.wit_model.specs.declared.locks.Class.{Class}
 use Rattle.wit_model.specs.declared.locks.Instance.{Instance}
 use Rattle.wit_model.specs.declared.locks.LockNo.{LockNo}
@@ -38,36 +41,50 @@ use Rattle.wit_model.specs.Rules.Circles.{TellsCircle}
 use Rattle.wit_model.specs.Rules.Warnings.{warned, step_warn}
 use Rattle.wit_model.specs.Rules.State.{Start, Story, fresh, known_of, state_of, typed_locks}
 use Rattle.wit_model.specs.Rules.Step.{answer_of, grown}
+use Rattle.wit_model.specs.World.Scenes.{Scene, opening, step_raw, answer_in, scene_after}
+use Rattle.wit_model.specs.World.Shown.{TellsCircleIn}
 use Rattle.wit_model.specs.Trace.Texts.{report_text}
 use Rattle.wit_model.specs.Trace.Texts as texts
 use Rattle.wit_model.specs.Trace.Views.{graph_text, all_locks_text, circle_text, assert_text, warn_text}
 
--- a prelude so far: how the verifier is to start, and the number of each list's line
+-- a prelude so far: the version of the format, how the verifier is to start, and the number of each
+-- list's line
 pub record Prelude : Type 0 where
+  pub version : Version
   pub start : Start
   pub lines : List ℕ
 
--- how far the reading is: before the header, in the prelude, or behind it, with the verifier's story
--- and the number of failed assertions and warnings so far, which no log holds
+-- how far the reading is: before the header, in the prelude, or behind it, with the verifier's story,
+-- in the second version the scene, and the number of failed assertions and warnings so far, which no
+-- log holds
 pub data Progress : Type 0 where
   Unstarted : Progress
   Opening : Prelude → Progress
   Reading : Story → ℕ → Progress
+  Stepping : Scene → ℕ → Progress
 
 -- what becomes of a line: the reading goes on, having told a text; or the line is bad
 pub data Outcome : Type 0 where
   Goes : Progress → List ℕ → Outcome
   Bad : cause.Cause → Outcome
 
--- nothing but the sizes
-abbrev pub empty_prelude : Sizes → Prelude
-empty_prelude sizes =
-    record { start = record { sizes = sizes; profile = Plain; lists = []; blessed = [] }; lines = [] }
+-- nothing but the version and the sizes
+abbrev pub empty_prelude : Version → Sizes → Prelude
+empty_prelude version sizes =
+    record {
+      version = version;
+      start = record { sizes = sizes; profile = Plain; lists = []; blessed = [] };
+      lines = [];
+    }
+
+-- held locks are all compared with
+abbrev pub with_profile : Prelude → Prelude
+with_profile p = record p { start = record p.start { profile = AllHeld } }
 
 -- one more list, from the line with this number
 abbrev pub with_list : Prelude → ℕ → List (Class × List ℕ) → Prelude
 with_list p n list =
-    record {
+    record p {
       start = record p.start { lists = p.start.lists ++ list ∷ [] };
       lines = p.lines ++ n ∷ [];
     }
@@ -85,17 +102,26 @@ BadLine = ℕ × cause.Cause
 abbrev pub is_prelude : List ℕ → Bool
 is_prelude line = bytes_eq (take 6 line) (codes "order ") || bytes_eq (take 6 line) (codes "bless ")
 
+-- whether it names a profile where that may be named: in the second line
+abbrev pub is_profile : ℕ → List ℕ → Bool
+is_profile n line = (n == 2) && bytes_eq line (codes "profile all")
+
+-- a verifier that starts so was told nothing yet
+abbrev pub begun : Version → Start → Progress
+begun One start = Reading (fresh start) 0
+begun Two start = Stepping (opening (fresh start)) 0
+
 -- the lists are entered: one that is refused is bad at its own line
 abbrev pub opened : Prelude → Option (ℕ × Fault) → Result Progress BadLine
-opened p None = Ok (Reading (fresh p.start) 0)
+opened p None = Ok (begun p.version p.start)
 opened p (Some refused) = Err (unwrap_or (with_number p.lines refused.0) 0, why.Fault refused.1)
 
--- where the reading stands when a line is looked at: before a line that doesn't begin as those of the
--- prelude do, and at the end of the input, the prelude ends
-abbrev pub reached : Progress → List ℕ → Result Progress BadLine
-reached (Opening p) line =
-    if is_prelude line then Ok (Opening p) else opened p (start_fault p.start)
-reached p line = Ok p
+-- where the reading stands when a line, with its number, is looked at: before one that is none of
+-- the prelude's, and at the end of the input, the prelude ends
+abbrev pub reached : Progress → ℕ → List ℕ → Result Progress BadLine
+reached (Opening p) n line =
+    if is_prelude line || is_profile n line then Ok (Opening p) else opened p (start_fault p.start)
+reached p n line = Ok p
 
 -- the text of a reply, as things stand once it was given
 abbrev pub told : Story → Reply → List ℕ
@@ -144,12 +170,13 @@ warns s n counted (Ok count) =
 warns s n counted (Err fault) = Bad (why.Fault fault)
 
 -- what a line has a verifier do: a call of a seat, perhaps with the number of a file; an assertion or
--- a warning, which aren't logged; or nothing
+-- a warning, which aren't logged; nothing where a seat does something to a lock itself; or nothing
 pub data LineCall : Type 0 where
   Logs : ℕ → Call → LineCall
   LogsAt : ℕ → List ℕ → (ℕ → Call) → LineCall
   Asserts : ℕ → LockNo → LockAssert → LineCall
   Warns : ℕ → Option LockNo → WarnFlags → LineCall
+  Steps : ℕ → LockNo → RawStep → LineCall
   NoCall : LineCall
 
 -- the call of a verb
@@ -179,6 +206,7 @@ lock_call (Check seat lock mode ops file line) = LogsAt seat.0 file (check_in lo
 lock_call (Try seat lock mode file line) = LogsAt seat.0 file (try_in lock mode line)
 lock_call (Unlock seat lock mode) = Logs seat.0 (call.Unlock lock mode)
 lock_call (Plain verb seat lock) = Logs seat.0 (verb_call verb lock)
+lock_call (Step seat lock step) = Steps seat.0 lock step
 
 -- the call that a line makes
 abbrev pub call_of : Line → LineCall
@@ -198,16 +226,59 @@ calls s n (LogsAt t file call) =
 calls s n (Asserts t lock flags) = asserts s n lock.0 (step_assert (state_of s) t lock.0 flags)
 calls s n (Warns t lock flags) =
     warns s n (warned (state_of s) t lock flags) (step_warn (state_of s) t lock flags)
-calls s n NoCall = Bad why.Syntax
+calls s n _ = Bad why.Syntax
+
+-- ---- the second version
+
+-- a call is made in a scene
+abbrev pub called_in : Scene → ℕ → ℕ → Call → Result Reply Fault → Outcome
+called_in s n t call (Ok reply) =
+    Goes (Stepping (scene_after s t call reply) n) (told (grown s.story t call reply) reply)
+called_in s n t call (Err fault) = Bad (why.Fault fault)
+
+abbrev pub makes_in : Scene → ℕ → ℕ → Call → Outcome
+makes_in s n t call = called_in s n t call (answer_in s t call)
+
+-- a scene in which one more file is named
+abbrev pub with_file : List ℕ → Scene → Scene
+with_file file s =
+    record s { story = record s.story { files = files_after file s.story.files } }
+
+abbrev pub at_file_in : Scene → (Scene → ℕ → Outcome) → List ℕ → Result ℕ Fault → Outcome
+at_file_in s next file (Ok f) = next (with_file file s) f
+at_file_in s next file (Err fault) = Bad (why.Fault fault)
+
+-- a step of a lock itself
+abbrev pub steps : ℕ → Result Scene Fault → Outcome
+steps n (Ok s) = Goes (Stepping s n) []
+steps n (Err fault) = Bad (why.Fault fault)
+
+-- a line that changes nothing of the story leaves the scene
+abbrev pub in_scene : Scene → Outcome → Outcome
+in_scene s (Goes (Reading story n) text) = Goes (Stepping s n) text
+in_scene s (Goes p text) = Goes p text
+in_scene s (Bad why) = Bad why
+
+-- a line behind the prelude makes its call, or its step
+abbrev pub calls_in : Scene → ℕ → LineCall → Outcome
+calls_in s n (Logs t call) = makes_in s n t call
+calls_in s n (LogsAt t file call) =
+    at_file_in s (λ s' f. makes_in s' n t (call f)) file (naming_answer s.story file)
+calls_in s n (Steps t lock step) = steps n (step_raw s t lock.0 step)
+calls_in s n call = in_scene s (calls s.story n call)
+
+-- ---- a line
 
 -- a line in its place, with its number
 abbrev pub entered : Progress → ℕ → Line → Outcome
 entered Unstarted n (Header version seats types locks chunks) =
     let sizes = sizes_of seats types locks chunks log_limit in
-    if are_within sizes then Goes (Opening (empty_prelude sizes)) [] else Bad why.Limit
+    if are_within sizes then Goes (Opening (empty_prelude version sizes)) [] else Bad why.Limit
+entered (Opening p) n Profile = if n == 2 then Goes (Opening (with_profile p)) [] else Bad why.Syntax
 entered (Opening p) n (Order list) = Goes (Opening (with_list p n list)) []
 entered (Opening p) n (Bless first second) = Goes (Opening (with_pair p first second)) []
 entered (Reading s m) n line = calls s m (call_of line)
+entered (Stepping s m) n line = calls_in s m (call_of line)
 entered _ n line = Bad why.Syntax
 
 abbrev pub read_as : Progress → ℕ → Option Line → Outcome
@@ -223,6 +294,7 @@ abbrev pub cause_text : cause.Cause → List ℕ
 cause_text why.Long = codes "long"
 cause_text why.Cut = codes "cut"
 cause_text why.Syntax = codes "syntax"
+cause_text why.Version = codes "version"
 cause_text why.Limit = codes "limit"
 cause_text (why.Fault fault) = fault_text fault
 
@@ -230,10 +302,11 @@ cause_text (why.Fault fault) = fault_text fault
 abbrev pub bad_text : ℕ → cause.Cause → List ℕ
 bad_text n cause = texts.line (codes "line " ∷ decimal n ∷ codes ": " ∷ cause_text cause ∷ [])
 
--- how a reading ends: all was read, and this is the story, with the number of failed assertions and
--- warnings; or a line is bad
+-- how a reading ends: all was read, and this is the story or the scene, with the number of failed
+-- assertions and warnings; or a line is bad
 pub data Ending : Type 0 where
   AllRead : Story → ℕ → Ending
+  AllStepped : Scene → ℕ → Ending
   EndsBad : Progress → BadLine → Ending
 
 -- what a reading comes to: the texts told of its lines, one behind another, and how it ends
@@ -248,6 +321,7 @@ ends_bad p bad = record { text = []; ending = EndsBad p bad }
 -- or after the last whole line, if the header came
 abbrev pub ends : Progress → ℕ → List ℕ → Course
 ends (Reading s m) n [] = record { text = []; ending = AllRead s m }
+ends (Stepping s m) n [] = record { text = []; ending = AllStepped s m }
 ends p n [] = ends_bad p (n, why.Cut)
 ends p n (b ∷ tail) =
     ends_bad p (n, if nat_lt longest_line (length (b ∷ tail)) then why.Long else why.Cut)
@@ -268,9 +342,9 @@ course_at p (Err bad) next = ends_bad p bad
 -- from here on, where the next line has number n, these whole lines and this unfinished one are to
 -- come
 abbrev pub course_from : Progress → ℕ → List (List ℕ) → List ℕ → Course
-course_from p n [] tail = course_at p (reached p tail) (λ q. ends q n tail)
+course_from p n [] tail = course_at p (reached p n tail) (λ q. ends q n tail)
 course_from p n (line ∷ lines) tail =
-    course_at p (reached p line)
+    course_at p (reached p n line)
     (λ q. course_after q n (outcome q n line) (λ r. course_from r (n + 1) lines tail))
 
 -- ---- what is written
@@ -290,10 +364,18 @@ IsViewOf Circle s text circle =
     (seats : Option (List ℕ)) × TellsCircle (state_of s) seats
     × (text ≡ circle_text (state_of s) seats) × (circle ≡ is_some seats)
 
+-- of a scene the same, but that a circle is one of seats that wait for one another's shares
+abbrev pub IsViewIn : view.View → Scene → List ℕ → Bool → Type 0
+IsViewIn Circle s text circle =
+    (seats : Option (List ℕ)) × TellsCircleIn s seats
+    × (text ≡ circle_text (state_of s.story) seats) × (circle ≡ is_some seats)
+IsViewIn v s text circle = IsViewOf v s.story text circle
+
 -- what is shown at the end: of a bad line its text, whatever the view
 abbrev pub IsLast : view.View → Ending → List ℕ → Bool → Type 0
 IsLast v (EndsBad p bad) text circle = (text ≡ bad_text bad.0 bad.1) × (circle ≡ false)
 IsLast v (AllRead s m) text circle = IsViewOf v s text circle
+IsLast v (AllStepped s m) text circle = IsViewIn v s text circle
 
 -- the text that a view shows of a reading, and whether it shows a circle
 pub record IsShown (v : view.View) (c : Course) (text : List ℕ) (circle : Bool) : Type 0 where
@@ -311,8 +393,11 @@ pub record Total : Type 0 where
 abbrev pub summed : Progress → Option BadLine → Total
 summed (Reading s m) bad =
     record { calls = length s.history; reports = reports_of s.history + m; bad = bad }
+summed (Stepping s m) bad =
+    record { calls = length s.story.history; reports = reports_of s.story.history + m; bad = bad }
 summed _ bad = record { calls = 0; reports = 0; bad = bad }
 
 abbrev pub total_of : Ending → Total
 total_of (AllRead s m) = summed (Reading s m) None
+total_of (AllStepped s m) = summed (Stepping s m) None
 total_of (EndsBad p bad) = summed p (Some bad)

@@ -5,14 +5,16 @@ use Rattle.std.specs.Char.{is_ascii_digit}
 use Rattle.std.specs.Str.{bytes_eq}
 use Rattle.std.specs.Str.Parse.{digits_value}
 use Rattle.wit_model.specs.declared.lines.Line.{Line}
-use Rattle.wit_model.specs.declared.lines.Line.TheVariants.{Header, Order, Bless, Init, OnLock, Assert, Warn, Define, Watch}
-use Rattle.wit_model.specs.declared.lines.LockLine.TheVariants.{Check, Try, Unlock, Plain}
+use Rattle.wit_model.specs.declared.lines.Line.TheVariants.{Header, Profile, Order, Bless, Init, OnLock, Assert, Warn, Define, Watch}
+use Rattle.wit_model.specs.declared.lines.LockLine.TheVariants.{Check, Try, Unlock, Plain, Step}
 use Rattle.wit_model.specs.declared.lines.Version.{Version}
-use Rattle.wit_model.specs.declared.lines.Version.TheVariants.{One}
+use Rattle.wit_model.specs.declared.lines.Version.TheVariants.{One, Two}
 use Rattle.wit_model.specs.declared.lines.Verb.{Verb}
 use Rattle.wit_model.specs.declared.lines.Verb.TheVariants.{Note, GiveUp, Destroy, Upgrade, Downgrade, NoRelease, ReleaseOk}
 use Rattle.wit_model.specs.declared.lines.Keyword.{Keyword}
 use Rattle.wit_model.specs.declared.lines.Keyword.TheVariants as keyword
+use Rattle.wit_model.specs.declared.raw_steps.RawStep.{RawStep}
+use Rattle.wit_model.specs.declared.raw_steps.RawStep.TheVariants as raw_step
 use Rattle.wit_model.specs.declared.locks.LockNo.{LockNo}
 use Rattle.wit_model.specs.declared.locks.Class.{Class}
 use Rattle.wit_model.specs.declared.locks.Class.TheVariants.{SleepMutex, SpinMutex, Rw, Sx}
@@ -73,7 +75,7 @@ named text (value ∷ values) word =
     if bytes_eq word (text value) then Some value else named text values word
 
 unfoldable pub version_of : List ℕ → Option Version
-version_of = named version_text (One ∷ [])
+version_of = named version_text (One ∷ Two ∷ [])
 
 unfoldable pub class_of : List ℕ → Option Class
 class_of = named class_text (SleepMutex ∷ SpinMutex ∷ Rw ∷ Sx ∷ [])
@@ -89,9 +91,10 @@ abbrev pub keywords : List Keyword
 keywords =
     keyword.Check ∷ keyword.Plain Note ∷ keyword.Unlock ∷ keyword.Try ∷ keyword.Plain GiveUp
     ∷ keyword.Plain Destroy ∷ keyword.Plain Upgrade ∷ keyword.Plain Downgrade
-    ∷ keyword.Plain NoRelease ∷ keyword.Plain ReleaseOk ∷ keyword.Init ∷ keyword.Assert
+    ∷ keyword.Plain NoRelease ∷ keyword.Plain ReleaseOk ∷ keyword.Take ∷ keyword.Free
+    ∷ keyword.TryTake ∷ keyword.RawUp ∷ keyword.RawDown ∷ keyword.Init ∷ keyword.Assert
     ∷ keyword.Warn ∷ keyword.Define ∷ keyword.Watch ∷ keyword.Order ∷ keyword.Bless
-    ∷ keyword.Header ∷ []
+    ∷ keyword.Profile ∷ keyword.Header ∷ []
 
 unfoldable pub keyword_of : List ℕ → Option Keyword
 keyword_of = named keyword_text keywords
@@ -202,6 +205,10 @@ header_of bytes =
     (labelled (codes "chunks")))))) bytes
     >>= λ x. Some (Header x.0 x.1.0 x.1.1.0 x.1.1.1.0 x.1.1.1.1)
 
+unfoldable pub profile_of : List ℕ → Option Line
+profile_of bytes =
+    fixed_at (codes "all") bytes >>= λ rest. if length rest == 0 then Some Profile else None
+
 unfoldable pub order_of : List ℕ → Option Line
 order_of bytes = list_of bytes >>= λ list. Some (Order list)
 
@@ -242,6 +249,17 @@ plain_of verb bytes =
     whole (both seat_at lock_at) bytes
     >>= λ x. Some (OnLock (Plain verb (record { 0 = x.0 }) (record { 0 = x.1 })))
 
+-- a step that names nothing but a seat and a lock
+unfoldable pub step_of : RawStep → List ℕ → Option Line
+step_of step bytes =
+    whole (both seat_at lock_at) bytes
+    >>= λ x. Some (OnLock (Step (record { 0 = x.0 }) (record { 0 = x.1 }) step))
+
+unfoldable pub try_take_of : List ℕ → Option Line
+try_take_of bytes =
+    whole (both seat_at (both lock_at (field_at mode_of))) bytes
+    >>= λ x. Some (OnLock (Step (record { 0 = x.0 }) (record { 0 = x.1.0 }) (raw_step.TryTake x.1.1)))
+
 unfoldable pub assert_of : List ℕ → Option Line
 assert_of bytes =
     whole (both seat_at (both lock_at (field_at (flags_of assert_letters)))) bytes
@@ -268,6 +286,7 @@ watch_of bytes =
 -- the fields of a line, by its keyword
 abbrev pub fields_of : Keyword → List ℕ → Option Line
 fields_of keyword.Header = header_of
+fields_of keyword.Profile = profile_of
 fields_of keyword.Order = order_of
 fields_of keyword.Bless = bless_of
 fields_of keyword.Init = init_of
@@ -275,6 +294,11 @@ fields_of keyword.Check = check_of
 fields_of keyword.Try = try_of
 fields_of keyword.Unlock = unlock_of
 fields_of (keyword.Plain verb) = plain_of verb
+fields_of keyword.Take = step_of raw_step.Take
+fields_of keyword.TryTake = try_take_of
+fields_of keyword.Free = step_of raw_step.Free
+fields_of keyword.RawUp = step_of raw_step.Up
+fields_of keyword.RawDown = step_of raw_step.Down
 fields_of keyword.Assert = assert_of
 fields_of keyword.Warn = warn_of
 fields_of keyword.Define = define_of

@@ -3,15 +3,17 @@ use Rattle.std.specs.Prelude.{◌≡◌, ℕ, ◌%◌, ◌/◌, ◌^◌, ◌<◌
 use Rattle.std.specs.Fmt.{decimal}
 use Rattle.std.specs.List.{list_all}
 use Rattle.wit_model.specs.declared.lines.Line.{Line}
-use Rattle.wit_model.specs.declared.lines.Line.TheVariants.{Header, Order, Bless, Init, OnLock, Assert, Warn, Define, Watch}
+use Rattle.wit_model.specs.declared.lines.Line.TheVariants.{Header, Profile, Order, Bless, Init, OnLock, Assert, Warn, Define, Watch}
 use Rattle.wit_model.specs.declared.lines.LockLine.{LockLine}
-use Rattle.wit_model.specs.declared.lines.LockLine.TheVariants.{Check, Try, Unlock, Plain}
+use Rattle.wit_model.specs.declared.lines.LockLine.TheVariants.{Check, Try, Unlock, Plain, Step}
 use Rattle.wit_model.specs.declared.lines.Version.{Version}
-use Rattle.wit_model.specs.declared.lines.Version.TheVariants.{One}
+use Rattle.wit_model.specs.declared.lines.Version.TheVariants.{One, Two}
 use Rattle.wit_model.specs.declared.lines.Verb.{Verb}
 use Rattle.wit_model.specs.declared.lines.Verb.TheVariants.{Note, GiveUp, Destroy, Upgrade, Downgrade, NoRelease, ReleaseOk}
 use Rattle.wit_model.specs.declared.lines.Keyword.{Keyword}
 use Rattle.wit_model.specs.declared.lines.Keyword.TheVariants as keyword
+use Rattle.wit_model.specs.declared.raw_steps.RawStep.{RawStep}
+use Rattle.wit_model.specs.declared.raw_steps.RawStep.TheVariants as raw_step
 use Rattle.wit_model.specs.declared.calls.NewLock.{NewLock}
 use Rattle.wit_model.specs.declared.locks.LockNo.{LockNo}
 use Rattle.wit_model.specs.declared.locks.Class.{Class}
@@ -25,6 +27,7 @@ use Rattle.wit_model.specs.Rules.Names.{is_name, is_file_name}
 -- a version of the format
 abbrev pub version_text : Version → List ℕ
 version_text One = codes "1"
+version_text Two = codes "2"
 
 -- the keyword of each verb
 abbrev pub verb_text : Verb → List ℕ
@@ -39,6 +42,7 @@ verb_text ReleaseOk = codes "releaseok"
 -- the keywords of all lines
 abbrev pub keyword_text : Keyword → List ℕ
 keyword_text keyword.Header = codes "witness-trace"
+keyword_text keyword.Profile = codes "profile"
 keyword_text keyword.Order = codes "order"
 keyword_text keyword.Bless = codes "bless"
 keyword_text keyword.Init = codes "init"
@@ -46,6 +50,11 @@ keyword_text keyword.Check = codes "check"
 keyword_text keyword.Try = codes "try"
 keyword_text keyword.Unlock = codes "unlock"
 keyword_text (keyword.Plain verb) = verb_text verb
+keyword_text keyword.Take = codes "take"
+keyword_text keyword.TryTake = codes "trytake"
+keyword_text keyword.Free = codes "free"
+keyword_text keyword.RawUp = codes "rawup"
+keyword_text keyword.RawDown = codes "rawdown"
 keyword_text keyword.Assert = codes "assert"
 keyword_text keyword.Warn = codes "warn"
 keyword_text keyword.Define = codes "define"
@@ -128,12 +137,25 @@ abbrev pub list_fields : List (Class × List ℕ) → List (List ℕ)
 list_fields [] = []
 list_fields (entry ∷ entries) = class_text entry.0 ∷ quoted entry.1 ∷ list_fields entries
 
+-- the keyword of a step of the lock itself, and its field behind the lock
+abbrev pub step_keyword : RawStep → Keyword
+step_keyword raw_step.Take = keyword.Take
+step_keyword (raw_step.TryTake mode) = keyword.TryTake
+step_keyword raw_step.Free = keyword.Free
+step_keyword raw_step.Up = keyword.RawUp
+step_keyword raw_step.Down = keyword.RawDown
+
+abbrev pub step_field : RawStep → List (List ℕ)
+step_field (raw_step.TryTake mode) = mode_text mode ∷ []
+step_field _ = []
+
 -- the keyword of a line on a lock, and its fields
 abbrev pub lock_keyword : LockLine (List ℕ) → Keyword
 lock_keyword (Check seat lock mode ops file line) = keyword.Check
 lock_keyword (Try seat lock mode file line) = keyword.Try
 lock_keyword (Unlock seat lock mode) = keyword.Unlock
 lock_keyword (Plain verb seat lock) = keyword.Plain verb
+lock_keyword (Step seat lock step) = step_keyword step
 
 abbrev pub lock_line_fields : LockLine (List ℕ) → List (List ℕ)
 lock_line_fields (Check seat lock mode ops file line) =
@@ -143,6 +165,7 @@ lock_line_fields (Try seat lock mode file line) =
     decimal seat.0 ∷ decimal lock.0 ∷ mode_text mode ∷ site_text file line ∷ []
 lock_line_fields (Unlock seat lock mode) = decimal seat.0 ∷ decimal lock.0 ∷ mode_text mode ∷ []
 lock_line_fields (Plain verb seat lock) = decimal seat.0 ∷ decimal lock.0 ∷ []
+lock_line_fields (Step seat lock step) = decimal seat.0 ∷ decimal lock.0 ∷ step_field step
 
 -- a keyword, and fields behind it
 abbrev pub with_keyword : Keyword → List (List ℕ) → List ℕ
@@ -154,6 +177,7 @@ spelling (Header version seats types locks chunks) =
     with_keyword keyword.Header
     (version_text version ∷ codes "seats" ∷ decimal seats ∷ codes "types" ∷ decimal types
     ∷ codes "locks" ∷ decimal locks ∷ codes "chunks" ∷ decimal chunks ∷ [])
+spelling Profile = with_keyword keyword.Profile (codes "all" ∷ [])
 spelling (Order list) = with_keyword keyword.Order (list_fields list)
 spelling (Bless first second) = with_keyword keyword.Bless (quoted first ∷ quoted second ∷ [])
 spelling (Init seat lock) = with_keyword keyword.Init (decimal seat.0 ∷ lock_fields lock)
@@ -192,11 +216,13 @@ IsSpellableOnLock (Try seat lock mode file line) =
     (seat.0 < 2 ^ 16) × (lock.0 < 2 ^ 32) × IsTrue (is_file_name file) × (line < 2 ^ 32)
 IsSpellableOnLock (Unlock seat lock mode) = (seat.0 < 2 ^ 16) × (lock.0 < 2 ^ 32)
 IsSpellableOnLock (Plain verb seat lock) = (seat.0 < 2 ^ 16) × (lock.0 < 2 ^ 32)
+IsSpellableOnLock (Step seat lock step) = (seat.0 < 2 ^ 16) × (lock.0 < 2 ^ 32)
 
 -- a line that can be written: numbers within their types, known flags, true names
 abbrev pub IsSpellable : Line → Type 0
 IsSpellable (Header version seats types locks chunks) =
     (seats < 2 ^ 32) × (types < 2 ^ 32) × (locks < 2 ^ 32) × (chunks < 2 ^ 32)
+IsSpellable Profile = Unit {0}
 IsSpellable (Order list) = IsSpellableList list
 IsSpellable (Bless first second) = IsTrue (is_name first) × IsTrue (is_name second)
 IsSpellable (Init seat lock) = (seat.0 < 2 ^ 16) × IsSpellableLock lock

@@ -24,20 +24,20 @@ reported-requires-clause-held g c =
     (sym (ap (λ (s : Seen). s.broken) c.look-seen.ensures) ∙ c.in-None-Some.is-1)
 
 pub returns-in-Some : goal.returns-in-Some
-returns-in-Some g c =
-    c.again.ensures
+returns-in-Some g c = λ new.
+    c.again.ensures new
     ∙ again-decides c.args.basis.now (chain_of (g.L.Lists.chunks c.args.lists.now) c.args.list) c.args.last c.args.request c.in-Some.held
     (sym (once-found c.args.basis.now c.args.request c.args.request.lock.0 (chain_of (g.L.Lists.chunks c.args.lists.now) c.args.list) c.requires.chain.once) ∙ sym c.held_lock.ensures ∙ c.in-Some.is)
 
 pub returns-in-None : goal.returns-in-None
-returns-in-None g c =
-    c.doubled.ensures
+returns-in-None g c = λ new.
+    c.doubled.ensures new
     ∙ double-decides c.args.basis.now (chain_of (g.L.Lists.chunks c.args.lists.now) c.args.list) c.args.last c.args.request
     (sym (once-found c.args.basis.now c.args.request c.args.request.lock.0 (chain_of (g.L.Lists.chunks c.args.lists.now) c.args.list) c.requires.chain.once) ∙ sym c.held_lock.ensures ∙ c.in-None.is)
     (ap (λ (t : TypeNo). eqb t.0 c.args.request.type_no.0) (sym c.type_held-parent.ensures.value) ∙ eq-eqb c.type_held-parent.result.0 c.args.request.type_no.0 c.if-is_double-2.true)
 
 pub returns-in-None-2 : goal.returns-in-None-2
-returns-in-None-2 g c =
+returns-in-None-2 g c = λ new.
     direct-decides c.args.basis.now (chain_of (g.L.Lists.chunks c.args.lists.now) c.args.list) c.args.last c.args.request
     (sym (once-found c.args.basis.now c.args.request c.args.request.lock.0 (chain_of (g.L.Lists.chunks c.args.lists.now) c.args.list) c.requires.chain.once) ∙ sym c.held_lock.ensures ∙ c.in-None.is)
     (ap (λ (t : TypeNo). eqb t.0 c.args.request.type_no.0) (sym c.type_held-parent.ensures.value) ∙ ne_eqb c.type_held-parent.result.0 c.args.request.type_no.0 c.if-is_double-2.false)
@@ -48,16 +48,16 @@ returns-in-None-2 g c =
     ])
 
 pub returns-in-Some-default : goal.returns-in-Some-default
-returns-in-Some-default g c =
-    c.again-in-Some-default.ensures
+returns-in-Some-default g c = λ new.
+    c.again-in-Some-default.ensures new
     ∙ again-decides c.args.basis.now (chain_of (g.L.Lists.chunks c.args.lists.now) c.args.list) c.args.last c.args.request c.in-Some-default.held
     (sym (ap (λ (s : Seen). s.held) c.look-seen.ensures) ∙ c.in-Some-default.is-0)
 
 pub returns-in-None-Some : goal.returns-in-None-Some
-returns-in-None-Some g c =
+returns-in-None-Some g c = λ new.
     let sees : find (violates c.args.basis.now c.args.request) (reverse (chain_of (g.L.Lists.chunks c.args.lists.now) c.args.list)) ≡ Some c.in-None-Some.broken =
     sym (ap (λ (s : Seen). s.broken) c.look-seen.ensures) ∙ c.in-None-Some.is-1 in
-    c.reported.ensures (chain_of (g.L.Lists.chunks c.args.lists.now) c.args.list)
+    c.reported.ensures new (chain_of (g.L.Lists.chunks c.args.lists.now) c.args.list)
     (ap (λ (s : Seen). s.older) c.look-seen.ensures ∙ ap (λ o. older_than c.args.basis.now c.args.request o (chain_of (g.L.Lists.chunks c.args.lists.now) c.args.list)) sees)
     ∙ violation-decides c.args.basis.now (chain_of (g.L.Lists.chunks c.args.lists.now) c.args.list) c.args.last c.args.request
     (sym (ap (λ (s : Seen). s.held) c.look-seen.ensures) ∙ c.in-None-Some.is-0)
@@ -66,8 +66,8 @@ returns-in-None-Some g c =
     c.in-None-Some.broken sees
 
 pub returns-in-None-None : goal.returns-in-None-None
-returns-in-None-None g c =
-    c.learnt.ensures
+returns-in-None-None g c = λ new.
+    c.learnt.ensures new
     ∙ learning-decides c.args.basis.now (chain_of (g.L.Lists.chunks c.args.lists.now) c.args.list) c.args.last c.args.request
     (sym (ap (λ (s : Seen). s.held) c.look-seen.ensures) ∙ c.in-None-None.is-0)
     (ap (λ (t : TypeNo). eqb t.0 c.args.request.type_no.0) (sym c.type_held-parent.ensures.value) ∙ ne_eqb c.type_held-parent.result.0 c.args.request.type_no.0 c.if-is_double.false)

@@ -4,6 +4,7 @@ use Rattle.wit_model.specs.declared.locks.Instance.{Instance}
 use Rattle.wit_model.specs.Rules.Chunks.{chain_of}
 use Rattle.wit_model.specs.Rules.Types.{is_spin, class_of}
 use Rattle.wit_model.specs.Rules.Verdict.{chain_asked, decided}
+use Rattle.wit_check.specs.Answers.{answer_of, new_orders}
 use Rattle.wit_check.specs.Bases.{basis}
 use Rattle.wit_check.specs.Behind.{over}
 use Rattle.wit_check.specs.Held.{sleep_chain, spin_chain}
@@ -12,12 +13,12 @@ use Rattle.wit_check.proofs.Ruling.{asked-of, none-held, of-spin, spin-decides, 
 use Rattle.wit_check.proofs.rules.verdict.Goals as goal
 use Rattle.wit_check.proofs.rules.verdict.Goals.{else-not-spin-via-then-not-spin+else-holds_spin, else-not-spin-via-else-not-spin}
 
-pub behind-requires-clause-last : goal.behind-requires-clause-last
-behind-requires-clause-last g c = sym (at-the-end (chain_of (g.L.Lists.chunks c.args.lists.now) c.list_of-list.result)) ∙ sym c.last.ensures ∙ c.in-Some.is
+pub judge-requires-clause-last : goal.judge-requires-clause-last
+judge-requires-clause-last g c = sym (at-the-end (chain_of (g.L.Lists.chunks c.args.lists.now) c.list_of-list.result)) ∙ sym c.last.ensures ∙ c.in-Some.is
 
 pub returns-then-holds_spin : goal.returns-then-holds_spin
 returns-then-holds_spin g c =
-    spin-decides (basis c.args.types.now c.args.matrix.now c.args.lock_types.now) c.args.watch (sleep_chain (g.L.Lists.chunks c.args.lists.now) c.args.seat.0) (spin_chain (g.L.Lists.chunks c.args.lists.now) c.args.seat.0) c.args.request (sym c.is_on.ensures ∙ c.if-not-is_on.false) (sym (c.is_spin-spin.ensures ∙ ap is_spin c.class_of.ensures) ∙ c.if-not-spin.true) (sym c.holds_spin.ensures ∙ c.if-holds_spin.true)
+    spin-decides c.args.profile (basis c.args.types.now c.args.matrix.now c.args.lock_types.now) c.args.watch (sleep_chain (g.L.Lists.chunks c.args.lists.now) c.args.seat.0) (spin_chain (g.L.Lists.chunks c.args.lists.now) c.args.seat.0) c.args.request (sym c.is_on.ensures ∙ c.if-not-is_on.false) (sym (c.is_spin-spin.ensures ∙ ap is_spin c.class_of.ensures) ∙ c.if-not-spin.true) (sym c.holds_spin.ensures ∙ c.if-holds_spin.true)
 
 pub returns-in-Some : goal.returns-in-Some
 returns-in-Some g c =
@@ -29,9 +30,10 @@ returns-in-Some g c =
     let chain : chain_of (g.L.Lists.chunks c.args.lists.now) c.list_of-list.result ≡ chain_asked (basis c.args.types.now c.args.matrix.now c.args.lock_types.now) (sleep_chain (g.L.Lists.chunks c.args.lists.now) c.args.seat.0) (spin_chain (g.L.Lists.chunks c.args.lists.now) c.args.seat.0) c.args.request =
     asked-of (basis c.args.types.now c.args.matrix.now c.args.lock_types.now) (g.L.Lists.chunks c.args.lists.now) c.args.seat.0 c.args.request c.is_spin-spin.result c.list_of-list.result
     (sym (c.is_spin-spin.ensures ∙ ap is_spin c.class_of.ensures)) c.list_of-list.ensures in
-    c.behind.ensures
-    ∙ ap (λ (e : List Instance). decided (over (basis c.args.types.now c.args.matrix.now c.args.lock_types.now) e c.in-Some.last c.args.request)) chain
-    ∙ chain-decides (basis c.args.types.now c.args.matrix.now c.args.lock_types.now) c.args.watch (sleep_chain (g.L.Lists.chunks c.args.lists.now) c.args.seat.0) (spin_chain (g.L.Lists.chunks c.args.lists.now) c.args.seat.0) c.args.request (sym c.is_on.ensures ∙ c.if-not-is_on.false) calm c.in-Some.last
+    ap (λ (e : List Instance). answer_of (new_orders (basis c.args.types.now c.args.matrix.now c.args.lock_types.now) e c.args.request) c.judge.result) (sym chain)
+    ∙ c.judge.ensures
+    ∙ ap (λ (e : List Instance). decided (over c.args.profile (basis c.args.types.now c.args.matrix.now c.args.lock_types.now) e c.in-Some.last c.args.request)) chain
+    ∙ chain-decides c.args.profile (basis c.args.types.now c.args.matrix.now c.args.lock_types.now) c.args.watch (sleep_chain (g.L.Lists.chunks c.args.lists.now) c.args.seat.0) (spin_chain (g.L.Lists.chunks c.args.lists.now) c.args.seat.0) c.args.request (sym c.is_on.ensures ∙ c.if-not-is_on.false) calm c.in-Some.last
     (ap (λ (e : List Instance). last_or None e) (sym chain) ∙ sym (at-the-end (chain_of (g.L.Lists.chunks c.args.lists.now) c.list_of-list.result)) ∙ sym c.last.ensures ∙ c.in-Some.is)
 
 pub returns-in-None : goal.returns-in-None
@@ -44,5 +46,5 @@ returns-in-None g c =
     let chain : chain_of (g.L.Lists.chunks c.args.lists.now) c.list_of-list.result ≡ chain_asked (basis c.args.types.now c.args.matrix.now c.args.lock_types.now) (sleep_chain (g.L.Lists.chunks c.args.lists.now) c.args.seat.0) (spin_chain (g.L.Lists.chunks c.args.lists.now) c.args.seat.0) c.args.request =
     asked-of (basis c.args.types.now c.args.matrix.now c.args.lock_types.now) (g.L.Lists.chunks c.args.lists.now) c.args.seat.0 c.args.request c.is_spin-spin.result c.list_of-list.result
     (sym (c.is_spin-spin.ensures ∙ ap is_spin c.class_of.ensures)) c.list_of-list.ensures in
-    nothing-decides (basis c.args.types.now c.args.matrix.now c.args.lock_types.now) c.args.watch (sleep_chain (g.L.Lists.chunks c.args.lists.now) c.args.seat.0) (spin_chain (g.L.Lists.chunks c.args.lists.now) c.args.seat.0) c.args.request (sym c.is_on.ensures ∙ c.if-not-is_on.false) calm
+    nothing-decides c.args.profile (basis c.args.types.now c.args.matrix.now c.args.lock_types.now) c.args.watch (sleep_chain (g.L.Lists.chunks c.args.lists.now) c.args.seat.0) (spin_chain (g.L.Lists.chunks c.args.lists.now) c.args.seat.0) c.args.request (sym c.is_on.ensures ∙ c.if-not-is_on.false) calm
     (ap (λ (e : List Instance). last_or None e) (sym chain) ∙ sym (at-the-end (chain_of (g.L.Lists.chunks c.args.lists.now) c.list_of-list.result)) ∙ sym c.last.ensures ∙ c.in-None.is)

@@ -1,12 +1,9 @@
-use Rattle.std.proofs.Common.{◌≤◌, true, false, List, length, refl, ap, subst, sym, ◌∙◌}
-use Rattle.wit_model.specs.declared.locks.Lock.{Lock}
-use Rattle.wit_model.specs.declared.locks.TypeNo.{TypeNo}
-use Rattle.wit_model.specs.Rules.Locks.{lock_at}
-use Rattle.wit_model.specs.Rules.Numbers.{IsGiven}
+use Rattle.std.proofs.Common.{◌≤◌, true, false, length, refl, ap, subst, sym, ◌∙◌}
 use Rattle.wit_model.specs.Rules.State.{state_of}
 use Rattle.wit_model.specs.Rules.Orders.{is_direct, is_found}
 use Rattle.wit_model.proofs.Histories.Accepted.{live-given}
-use Rattle.wit_core.proofs.Judged.{asked-given, types-given, matrix-sized, seat-within, list-within, judgeable, verdict-told}
+use Rattle.wit_core.specs.Verdict.{told}
+use Rattle.wit_core.proofs.Judged.{request-given, types-given, matrix-sized, seat-within, list-within, judgeable, verdict-told, orders-told}
 use Rattle.wit_core.proofs.verifier.Verifier.verdict.Goals as goal
 
 pub verdict-requires-clause-seat : goal.verdict-requires-clause-seat
@@ -26,9 +23,8 @@ verdict-requires-clause-types c = types-given c.self.inside c.self.invariant.tie
 
 pub verdict-requires-clause-asked : goal.verdict-requires-clause-asked
 verdict-requires-clause-asked c =
-    subst (λ ts. IsGiven ts c.type_of.result.0) (sym c.names.ensures.types)
-    (subst (λ (n : TypeNo). IsGiven c.self.inside.known.known.types n.0) (sym (c.type_of.ensures ∙ ap (λ (ls : List Lock). (lock_at ls c.args.request.lock.0).type_no) c.locks-locks.ensures))
-    (asked-given c.self.inside c.self.invariant.tied c.args.self.now c.self.view_is c.args.request.lock.0 (live-given (state_of c.args.self.now) c.args.request.lock.0 c.requires.lock)))
+    request-given c.self.inside c.self.invariant.tied c.args.self.now c.self.view_is c.args.request c.asked.result c.names.result.now.types c.names.ensures.types c.asked.ensures
+    (live-given (state_of c.args.self.now) c.args.request.lock.0 c.requires.lock)
 
 pub verdict-requires-clause-sized : goal.verdict-requires-clause-sized
 verdict-requires-clause-sized c =
@@ -37,12 +33,15 @@ verdict-requires-clause-sized c =
 
 pub returns : goal.returns
 returns c =
-    c.verdict.ensures
-    ∙ verdict-told c.self.inside c.self.invariant.tied c.args.self.now c.self.view_is c.args.seat.0 c.requires.seat c.lists.result.now c.lists.ensures
-    c.names.result.now c.matrix.result.now c.lock_types.result.now c.self.inside.watch c.args.request c.type_of.result c.flags_of.result
-    c.names.ensures.types c.names.ensures.blessed
+    ap (λ new. told new c.verdict.result)
+    (sym (orders-told c.self.inside c.self.invariant.tied c.args.self.now c.self.view_is c.args.seat.0 c.requires.seat c.lists.result.now c.lists.ensures
+    c.names.result.now c.matrix.result.now c.lock_types.result.now c.args.request c.asked.result c.names.ensures.types c.names.ensures.blessed
     (λ a b. c.matrix.ensures.orders a b ∙ ap (λ os. is_direct os a b) c.orders.ensures.orders)
     (λ a b. c.matrix.ensures.found a b ∙ ap (λ fs. is_found fs a b) c.orders.ensures.found)
-    c.lock_types.ensures refl
-    (c.type_of.ensures ∙ ap (λ (ls : List Lock). (lock_at ls c.args.request.lock.0).type_no) c.locks-locks.ensures)
-    (c.flags_of.ensures ∙ ap (λ (ls : List Lock). (lock_at ls c.args.request.lock.0).made.flags) c.locks-locks.ensures)
+    c.lock_types.ensures c.asked.ensures))
+    ∙ c.verdict.ensures
+    ∙ verdict-told c.self.inside c.self.invariant.tied c.args.self.now c.self.view_is c.args.seat.0 c.requires.seat c.lists.result.now c.lists.ensures
+    c.names.result.now c.matrix.result.now c.lock_types.result.now c.args.request c.asked.result c.names.ensures.types c.names.ensures.blessed
+    (λ a b. c.matrix.ensures.orders a b ∙ ap (λ os. is_direct os a b) c.orders.ensures.orders)
+    (λ a b. c.matrix.ensures.found a b ∙ ap (λ fs. is_found fs a b) c.orders.ensures.found)
+    c.lock_types.ensures c.asked.ensures c.self.inside.profile c.self.inside.watch refl refl
