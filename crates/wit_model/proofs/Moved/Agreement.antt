@@ -82,7 +82,7 @@ record Answered (s : Story) (raw : List RawLock) (m : ℕ) (bytes : List ℕ) (t
   is : a ≡ Ok reply
   free : is_free_beside s.history raw t (step_before s.history t call) ≡ true
   next : q ≡ Moved (grown s t call reply) (raw_moved s.history raw t call reply) m
-  written : lines ≡ step_line t (step_before s.history t call) ++ bytes ∷ step_line t (step_behind s.history raw t call reply)
+  written : lines ≡ step_line t (step_before s.history t call) ++ bytes ∷ step_line t (step_behind s.history raw t call)
 
 was-answered : (s : Story) (raw : List RawLock) (m : ℕ) (bytes : List ℕ) (t : ℕ) (call : Call) (a : Result Reply Fault) (q : Moving) (lines : List (List ℕ))
     → answered s raw m bytes t call a ≡ moving.Goes q lines → Answered s raw m bytes t call a q lines
@@ -93,10 +93,10 @@ was-answered s raw m bytes t call (Ok r) q lines is = go (is_free_beside s.histo
     moved = Moved (grown s t call r) (raw_moved s.history raw t call r) m
 
     written_lines : List (List ℕ)
-    written_lines = step_line t (step_before s.history t call) ++ bytes ∷ step_line t (step_behind s.history raw t call r)
+    written_lines = step_line t (step_before s.history t call) ++ bytes ∷ step_line t (step_behind s.history raw t call)
 
     go : (b : Bool) → is_free_beside s.history raw t (step_before s.history t call) ≡ b
-        → cond b (moving.Goes (Moved (grown s t call r) (raw_moved s.history raw t call r) m) (step_line t (step_before s.history t call) ++ bytes ∷ step_line t (step_behind s.history raw t call r)))
+        → cond b (moving.Goes (Moved (grown s t call r) (raw_moved s.history raw t call r) m) (step_line t (step_before s.history t call) ++ bytes ∷ step_line t (step_behind s.history raw t call)))
         (moving.Bad (why.Fault RawNotFree)) ≡ moving.Goes q lines → Answered s raw m bytes t call (Ok r) q lines
     go true free same = record { reply = r; is = refl; free = free; next = cc; written = cc }
     go false free same = (cc)
@@ -133,7 +133,7 @@ module _ (x : Scene) (fits : Fits x) (m : ℕ) (bytes : List ℕ) where
           was = was a.reply a.is ∙ ap (λ (s : Story). output.Goes (Reading s m) (told (grown z.story t call a.reply) a.reply)) (sym d.story);
           now = λ rest text s k tells.
               subst (λ ls. Tells x m (ls ++ rest) (told (grown z.story t call a.reply) a.reply ++ text) s k) (sym a.written)
-              (call-tells x y.0 m t call a.reply z d bytes rest text s k seat (small-before z.story.history t call small) (small-behind z.story.history z.raw t call a.reply small)
+              (call-tells x y.0 m t call a.reply z d bytes rest text s k seat (small-before z.story.history t call small) (small-behind z.story.history z.raw t call small)
               y.1 y.2 tells);
         }
 

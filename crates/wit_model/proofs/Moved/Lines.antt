@@ -65,10 +65,10 @@ small-before h t (NoteTry l m site) small = small
 small-before h t (Upgrade l) small = small
 small-before h t _ small = tt
 
-pub small-behind : (h : List Entry) (raw : List RawLock) (t : ℕ) (call : Call) (r : Reply) → IsSmallCall call → IsSmallStep (step_behind h raw t call r)
-small-behind h raw t (Unlock l m) r small = if-small (is_kept h raw t l.0 r) _ small
-small-behind h raw t (Downgrade l) r small = if-small' (is_free raw (RawDown t l.0)) _ small
-small-behind h raw t _ r small = tt
+pub small-behind : (h : List Entry) (raw : List RawLock) (t : ℕ) (call : Call) → IsSmallCall call → IsSmallStep (step_behind h raw t call)
+small-behind h raw t (Unlock l m) small = if-small (is_kept h raw t l.0) _ small
+small-behind h raw t (Downgrade l) small = if-small' (is_free raw (RawDown t l.0)) _ small
+small-behind h raw t _ small = tt
 
 small-verb : (v : Verb) (l : LockNo) → l.0 < 2 ^ 32 → IsSmallCall (verb_call v l)
 small-verb verb.Note l small = small

@@ -45,17 +45,17 @@ step-tells x y t (Some j) m rest text s k seat small is tells =
 
 -- a call's line in front, with the steps beside it
 pub call-tells : (x y : Scene) (m t : ℕ) (call : Call) (r : Reply) (z : Scene) (d : Does t call r z) (line : List ℕ) (rest : List (List ℕ)) (text : List ℕ) (s : Story) (k : ℕ)
-    → t < 2 ^ 16 → IsSmallStep (step_before z.story.history t call) → IsSmallStep (step_behind z.story.history z.raw t call r)
+    → t < 2 ^ 16 → IsSmallStep (step_before z.story.history t call) → IsSmallStep (step_behind z.story.history z.raw t call)
     → DoesStep x t (step_before z.story.history t call) y → ((n : ℕ) → outcome (Stepping y m) n line ≡ makes_in d.first m t call)
     → Tells d.last m rest text s k
-    → Tells x m ((step_line t (step_before z.story.history t call) ++ line ∷ step_line t (step_behind z.story.history z.raw t call r)) ++ rest) (told (grown z.story t call r) r ++ text) s k
+    → Tells x m ((step_line t (step_before z.story.history t call) ++ line ∷ step_line t (step_behind z.story.history z.raw t call)) ++ rest) (told (grown z.story t call r) r ++ text) s k
 call-tells x y m t call r z d line rest text s k seat small_before small_behind before is tells =
     subst (λ ls. Tells x m ls (told (grown z.story t call r) r ++ text) s k)
-    (sym (append_assoc (step_line t (step_before z.story.history t call)) (line ∷ step_line t (step_behind z.story.history z.raw t call r)) rest))
+    (sym (append_assoc (step_line t (step_before z.story.history t call)) (line ∷ step_line t (step_behind z.story.history z.raw t call)) rest))
     (step-tells x y t (step_before z.story.history t call) m _ _ s k seat small_before before
     (line-tells y (scene_after d.first t call r) m m line _ (told (grown z.story t call r) r) text s k
     (λ n. is n ∙ (ap (λ a. called_in d.first m t call a) d.made ∙ ap (λ (u : Story). Goes (Stepping (scene_after d.first t call r) m) (told (grown u t call r) r)) d.same))
-    (step-tells (scene_after d.first t call r) d.last t (step_behind z.story.history z.raw t call r) m rest text s k seat small_behind d.behind tells)))
+    (step-tells (scene_after d.first t call r) d.last t (step_behind z.story.history z.raw t call) m rest text s k seat small_behind d.behind tells)))
 
 -- a step is the same before a file is named
 pub record Unnamed (file : List ℕ) (x : Scene) (t : ℕ) (o : Option LockStep) (y : Scene) : Type 0 where

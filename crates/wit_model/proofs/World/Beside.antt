@@ -132,7 +132,7 @@ pub record Does (t : ℕ) (call : Call) (r : Reply) (x : Scene) : Type 0 where
   pub before : DoesStep x t (step_before x.story.history t call) first
   pub same : first.story ≡ x.story
   pub made : answer_in first t call ≡ Ok r
-  pub behind : DoesStep (scene_after first t call r) t (step_behind x.story.history x.raw t call r) last
+  pub behind : DoesStep (scene_after first t call r) t (step_behind x.story.history x.raw t call) last
   pub story : last.story ≡ grown x.story t call r
   pub shares : last.raw ≡ raw_moved x.story.history x.raw t call r
   pub fits : Fits last

@@ -33,7 +33,7 @@ module _ (x : Scene) (fits : Fits x) (t : ℕ) where
   st = state_of (story_after fits.start fits.files (log_of w))
 
   -- a call that acts on no lock's record
-  quiet : (call : Call) (r : Reply) → step_before x.story.history t call ≡ None → step_behind x.story.history x.raw t call r ≡ None
+  quiet : (call : Call) (r : Reply) → step_before x.story.history t call ≡ None → step_behind x.story.history x.raw t call ≡ None
       → answer_of x.story t call ≡ Ok r → may_call x t call ≡ true → StandsIdle t (deed_called t call r ∷ w) → ((k : ℕ) → IsApart (act call r) k) → Does t call r x
   quiet call r no_before no_behind ok may stands apart =
       plain x fits t call r no_before no_behind ok may stands

@@ -1,5 +1,5 @@
 -- Releases and downgrades of a log, with the steps behind them.
-use Rattle.std.proofs.Common.{◌≡◌, ◌⊎◌, ℕ, suc, ◌+◌, ◌-◌, ◌<◌, ◌≤◌, Bool, true, false, not, ◌&&◌, cond, eqb, nat_lt, is_some, List, [], ◌∷◌, ◌++◌, Option, None, Some, Result, Ok, Err, refl, ap, ap₂, sym, ◌∙◌, subst, inl, inr, arith}
+use Rattle.std.proofs.Common.{◌≡◌, ◌⊎◌, ℕ, suc, ◌+◌, ◌-◌, ◌<◌, ◌≤◌, Bool, true, false, not, ◌&&◌, ◌||◌, cond, eqb, nat_lt, is_some, List, [], ◌∷◌, ◌++◌, Option, None, Some, Result, Ok, Err, refl, ap, ap₂, sym, ◌∙◌, subst, inl, inr, arith}
 use Rattle.std.proofs.lemmas.Bool.{and_parts, and_from, eq-eqb, cases_Bool, lt-ltb, ltb-true, ltb-false, not-true, false≢true, true≢false}
 use Rattle.wit_model.specs.declared.faults.Fault.{Fault}
 use Rattle.wit_model.specs.declared.faults.Fault.TheVariants.{NotLocked}
@@ -45,6 +45,18 @@ use Rattle.wit_model.proofs.World.MovedCalls.{naming, entered-ignored, none-rele
 use Rattle.wit_model.proofs.World.Own.{shares-own, num-own}
 use Rattle.wit_model.proofs.World.Shown.{both-shared}
 
+either-false : (a b : Bool) → (not a || b) ≡ false → (a ≡ true) × (b ≡ false)
+either-false true b is = (refl, is)
+either-false false b is = absurd (true≢false is)
+
+-- who has recorded more than none and keeps a lock has fewer shares
+keeps-fewer : (s n : ℕ) → 0 < n → (not (nat_lt 0 s) || nat_lt s n) ≡ true → nat_lt s n ≡ true
+keeps-fewer s n some is =
+    elim (cases_Bool (nat_lt 0 s)) [
+      | inl had ↦ ap (λ b. not b || nat_lt s n) (sym had) ∙ is
+      | inr none ↦ let few = ltb-false 0 s none in lt-ltb s n (omega (arith, few, some))
+    ]
+
 module _ (x : Scene) (fits : Fits x) (t : ℕ) (l : LockNo) where
   abbrev w : List Deed
   w = fits.deeds
@@ -70,14 +82,14 @@ module _ (x : Scene) (fits : Fits x) (t : ℕ) (l : LockNo) where
     only-unlock r k other = apart-nothing k
 
     -- it stays, or it is freed
-    unlock-stays : (r : Reply) → answer_of x.story t (Unlock l m) ≡ Ok r → is_kept x.story.history x.raw t l.0 r ≡ true
+    unlock-stays : (r : Reply) → answer_of x.story t (Unlock l m) ≡ Ok r → is_kept x.story.history x.raw t l.0 ≡ true
         → IsBacked t l.0 (deed_called t (Unlock l m) r ∷ w) → StandsIdle t (deed_called t (Unlock l m) r ∷ w) → Does t (Unlock l m) r x
     unlock-stays r ok kept mine stands =
         let b = naming st t l.0 _ r (ok-log x fits t (Unlock l m) r ok) in
         plain x fits t (Unlock l m) r refl (rw kept refl) ok (over x fits t (idle-now x fits t b.0 b.2)) stands
         (all-backed t l.0 w (deed_called t (Unlock l m) r ∷ w) (all-safe x fits t l.0 (Unlock l m) r (only-unlock r) w refl) fits.backed mine)
 
-    unlock-freed : (r : Reply) (g : Bool) → answer_of x.story t (Unlock l m) ≡ Ok r → is_kept x.story.history x.raw t l.0 r ≡ false
+    unlock-freed : (r : Reply) (g : Bool) → answer_of x.story t (Unlock l m) ≡ Ok r → is_kept x.story.history x.raw t l.0 ≡ false
         → stage_at (scene_after x t (Unlock l m) r) t ≡ Forgot l.0 g → nat_lt 0 (shares_of (raw_then x.raw (Unlock l m) r) t l.0) ≡ true
         → is_given (state_of (grown x.story t (Unlock l m) r)).known.locks l.0 ≡ true
         → IsBacked t l.0 (Free t l.0 ∷ deed_called t (Unlock l m) r ∷ w) → StandsIdle t (Free t l.0 ∷ deed_called t (Unlock l m) r ∷ w) → Does t (Unlock l m) r x
@@ -92,17 +104,18 @@ module _ (x : Scene) (fits : Fits x) (t : ℕ) (l : LockNo) where
 
     unlocked-does : answer_of x.story t (Unlock l m) ≡ Ok Unlocked → Does t (Unlock l m) Unlocked x
     unlocked-does ok =
-        elim (cases_Bool (is_kept x.story.history x.raw t l.0 Unlocked)) [
+        elim (cases_Bool (is_kept x.story.history x.raw t l.0)) [
           | inl kept ↦
               unlock-stays Unlocked ok kept called
-              (called-stands t (Unlock l m) Unlocked w (λ still. subst (λ o. IsIdle o (stage_logged t (Unlock l m) (own t w))) (sym none) (fewer-own ∙ kept)) (λ skipped. absurd (true≢false skipped)))
+              (called-stands t (Unlock l m) Unlocked w (λ still. subst (λ o. IsIdle o (stage_logged t (Unlock l m) (own t w))) (sym none) (fewer-own ∙ keeps-fewer (shares_of x.raw t l.0) (num t l.0 x.story.history) (subst (λ h. 0 < num t l.0 h) (sym fits.shown.logs) held) kept)) (λ skipped. absurd (true≢false skipped)))
           | inr freed ↦
-              let few = ltb-false (shares_of x.raw t l.0) (num t l.0 x.story.history) freed in
+              let both = either-false (nat_lt 0 (shares_of x.raw t l.0)) (nat_lt (shares_of x.raw t l.0) (num t l.0 x.story.history)) freed in
+              let few = ltb-false (shares_of x.raw t l.0) (num t l.0 x.story.history) both.1 in
               let same = ap (λ h. num t l.0 h) fits.shown.logs in
               let a = naming (state_of x.story) t l.0 _ Unlocked ok in
               unlock-freed Unlocked false ok freed
-              (stage-called fits.start fits.files w x fits.world fits.shown t (Unlock l m) Unlocked a.0 ∙ ap (λ g. Forgot l.0 g) freed)
-              (lt-ltb 0 (shares_of x.raw t l.0) (omega (arith, few, same, held))) (given-later (entry (Unlock l m) Unlocked) a.1)
+              (stage-called fits.start fits.files w x fits.world fits.shown t (Unlock l m) Unlocked a.0 ∙ ap (λ g. Forgot l.0 g) both.1)
+              both.0 (given-later (entry (Unlock l m) Unlocked) a.1)
               (λ some.
               (let one = num-step t l.0 (entry (Unlock l m) Unlocked) (log_of w) (Releases l.0) (rw (eq-eqb t t refl) refl) (sane fits.start fits.files w x fits.world fits.shown t) in
               let one' : num t l.0 (entry (Unlock l m) Unlocked ∷ log_of w) ≡ num t l.0 (log_of w) - 1 = one ∙ (rw (eq-eqb l.0 l.0 refl) refl) in
@@ -127,21 +140,17 @@ module _ (x : Scene) (fits : Fits x) (t : ℕ) (l : LockNo) where
 
     passed-does : answer_of x.story t (Unlock l m) ≡ Ok Ignored → Does t (Unlock l m) Ignored x
     passed-does ok =
-        elim (cases_Bool (is_kept x.story.history x.raw t l.0 Ignored)) [
+        elim (cases_Bool (is_kept x.story.history x.raw t l.0)) [
           | inl kept ↦
               unlock-stays Ignored ok kept (λ some. absurd (omega (arith, unheld, some)))
               (called-stands t (Unlock l m) Ignored w (λ still. absurd (false≢true still)) (λ skipped. subst (λ o. IsIdle o (Forgot l.0 true)) (sym none) refl))
           | inr freed ↦
               let a = naming (state_of x.story) t l.0 _ Ignored ok in
               unlock-freed Ignored true ok freed (stage-called fits.start fits.files w x fits.world fits.shown t (Unlock l m) Ignored a.0)
-              (untrue (nat_lt 0 (shares_of x.raw t l.0)) freed) (live-given (state_of x.story) l.0 a.1)
+              (either-false (nat_lt 0 (shares_of x.raw t l.0)) (nat_lt (shares_of x.raw t l.0) (num t l.0 x.story.history)) freed).0 (live-given (state_of x.story) l.0 a.1)
               (λ some. absurd (omega (arith, unheld, some))) (rw (eq-eqb t t refl) (subst (λ o. IsIdle o Over) (sym none) refl))
         ]
       where
-        untrue : (b : Bool) → not b ≡ false → b ≡ true
-        untrue true is = refl
-        untrue false is = absurd (true≢false is)
-
         none : pending t (log_of w) ≡ None
         none = let b = naming st t l.0 _ Ignored (ok-log x fits t (Unlock l m) Ignored ok) in idle-now x fits t b.0 b.2
 

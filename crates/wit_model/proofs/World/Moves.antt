@@ -71,7 +71,7 @@ module _ (x : Scene) (fits : Fits x) (t : ℕ) where
 
   -- ---- a call with no step beside it, with one before it, with one behind
 
-  pub plain : (call : Call) (r : Reply) → step_before x.story.history t call ≡ None → step_behind x.story.history x.raw t call r ≡ None
+  pub plain : (call : Call) (r : Reply) → step_before x.story.history t call ≡ None → step_behind x.story.history x.raw t call ≡ None
       → answer_of x.story t call ≡ Ok r → may_call x t call ≡ true → StandsIdle t (deed_called t call r ∷ w)
       → ((u k : ℕ) → IsBacked u k (deed_called t call r ∷ w)) → Does t call r x
   plain call r no_before no_behind ok may stands backed =
@@ -97,7 +97,7 @@ module _ (x : Scene) (fits : Fits x) (t : ℕ) where
         };
       }
 
-  pub stepped-call : (call : Call) (r : Reply) (k : LockStep) (d : Deed) → step_before x.story.history t call ≡ Some k → step_behind x.story.history x.raw t call r ≡ None
+  pub stepped-call : (call : Call) (r : Reply) (k : LockStep) (d : Deed) → step_before x.story.history t call ≡ Some k → step_behind x.story.history x.raw t call ≡ None
       → deed_beside x.story.history t k ≡ d → thread_of d ≡ t
       → (step_raw x t k.0.0 k.1 ≡ Ok (stepped x d)) × IsWorld fits.start fits.files (d ∷ w) × Shows fits.start fits.files (d ∷ w) (stepped x d)
       → answer_of x.story t call ≡ Ok r → may_call (stepped x d) t call ≡ true → StandsIdle t (deed_called t call r ∷ d ∷ w)
@@ -127,7 +127,7 @@ module _ (x : Scene) (fits : Fits x) (t : ℕ) where
         };
       }
 
-  pub call-stepped : (call : Call) (r : Reply) (k : LockStep) (d : Deed) → step_before x.story.history t call ≡ None → step_behind x.story.history x.raw t call r ≡ Some k
+  pub call-stepped : (call : Call) (r : Reply) (k : LockStep) (d : Deed) → step_before x.story.history t call ≡ None → step_behind x.story.history x.raw t call ≡ Some k
       → deed_beside x.story.history t k ≡ d → deed_of (stage_at (scene_after x t call r) t) t k.0.0 k.1 ≡ d → thread_of d ≡ t
       → answer_of x.story t call ≡ Ok r → may_call x t call ≡ true → is_known (state_of (grown x.story t call r)) k.0.0 k.1 ≡ true
       → may_come (scene_after x t call r) d ≡ true → is_free (raw_then x.raw call r) d ≡ true → StandsIdle t (d ∷ deed_called t call r ∷ w)

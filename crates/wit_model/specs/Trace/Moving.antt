@@ -60,7 +60,7 @@ answered s raw n line t call (Ok r) =
     let before = step_before s.history t call in
     if is_free_beside s.history raw t before
     then Goes (Moved (grown s t call r) (raw_moved s.history raw t call r) n)
-    (step_line t before ++ line ∷ step_line t (step_behind s.history raw t call r))
+    (step_line t before ++ line ∷ step_line t (step_behind s.history raw t call))
     else Bad (why.Fault RawNotFree)
 answered s raw n line t call (Err fault) = Bad (why.Fault fault)
 

@@ -1,5 +1,5 @@
 -- Which steps of the locks themselves go with the calls of a log that tells of calls alone.
-use Rattle.std.specs.Prelude.{ℕ, Bool, true, not, nat_lt, List, Option, None, Some, if◌then◌else◌}
+use Rattle.std.specs.Prelude.{ℕ, Bool, true, not, ◌||◌, nat_lt, List, Option, None, Some, if◌then◌else◌}
 use Rattle.wit_model.specs.declared.calls.Call.{Call}
 use Rattle.wit_model.specs.declared.calls.Call.TheVariants.{Note, NoteTry, Unlock, Upgrade, Downgrade}
 use Rattle.wit_model.specs.declared.calls.Reply.{Reply}
@@ -9,7 +9,6 @@ use Rattle.wit_model.specs.declared.locks.LockNo.{LockNo}
 use Rattle.wit_model.specs.declared.raw_steps.RawStep.{RawStep}
 use Rattle.wit_model.specs.declared.raw_steps.RawStep.TheVariants as raw_step
 use Rattle.wit_model.specs.Rules.History.{num, is_held, pending}
-use Rattle.wit_model.specs.Rules.Step.{is_logged}
 use Rattle.wit_model.specs.World.Deeds.{Deed, RawDown}
 use Rattle.wit_model.specs.World.Stages.{Stage, Over, Asked}
 use Rattle.wit_model.specs.World.Scenes.{RawLock, shares_of, is_free, raw_after, deed_of, raw_then}
@@ -26,19 +25,18 @@ step_before h t (NoteTry l mode site) = Some (l, raw_step.TryTake mode)
 step_before h t (Upgrade l) = Some (l, raw_step.Up)
 step_before h t _ = None
 
--- whether an unlock leaves the lock as it is: where more was recorded than t has shares; of one that
--- was passed over, where it has none
-abbrev pub is_kept : List Entry → List RawLock → ℕ → ℕ → Reply → Bool
-is_kept h raw t l r =
-    if is_logged r then nat_lt (shares_of raw t l) (num t l h) else not (nat_lt 0 (shares_of raw t l))
+-- whether an unlock leaves the lock as it is: where t has no share, or more was recorded than it has
+abbrev pub is_kept : List Entry → List RawLock → ℕ → ℕ → Bool
+is_kept h raw t l = not (nat_lt 0 (shares_of raw t l)) || nat_lt (shares_of raw t l) (num t l h)
 
--- behind a call that got this reply: a lock that it unlocked is freed; one that it downgraded is
--- turned, where it has it exclusively
-abbrev pub step_behind : List Entry → List RawLock → ℕ → Call → Reply → Option LockStep
-step_behind h raw t (Unlock l mode) r = if is_kept h raw t l.0 r then None else Some (l, raw_step.Free)
-step_behind h raw t (Downgrade l) r =
+-- behind a call: a lock that it unlocks is freed; one that it downgrades is turned, where it has it
+-- exclusively
+abbrev pub step_behind : List Entry → List RawLock → ℕ → Call → Option LockStep
+step_behind h raw t (Unlock l mode) =
+    if is_kept h raw t l.0 then None else Some (l, raw_step.Free)
+step_behind h raw t (Downgrade l) =
     if is_free raw (RawDown t l.0) then Some (l, raw_step.Down) else None
-step_behind h raw t _ r = None
+step_behind h raw t _ = None
 
 -- the stage of a thread that asked for this, or for nothing
 abbrev pub stage_asked : Option Request → Stage
@@ -61,5 +59,5 @@ raw_beside h t (Some x) raw = raw_after (deed_beside h t x) raw
 -- what threads have of the locks after a call of t with this reply, and the steps beside it
 abbrev pub raw_moved : List Entry → List RawLock → ℕ → Call → Reply → List RawLock
 raw_moved h raw t call r =
-    raw_beside h t (step_behind h raw t call r)
+    raw_beside h t (step_behind h raw t call)
     (raw_then (raw_beside h t (step_before h t call) raw) call r)
