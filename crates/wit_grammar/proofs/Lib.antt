@@ -1,7 +1,6 @@
 pub mod Digits
 pub mod Found
 pub mod Leading
-pub mod Lengths
 pub mod ListReading
 pub mod Places
 pub mod Texts

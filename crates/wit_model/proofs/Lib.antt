@@ -2,6 +2,7 @@ pub mod Chains
 pub mod Gates
 pub mod Histories
 pub mod Lists
+pub mod Moved
 pub mod Numbered
 pub mod Orders
 pub mod Rows

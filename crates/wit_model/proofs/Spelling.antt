@@ -4,6 +4,7 @@ pub mod Codecs
 pub mod Fields
 pub mod Kinds
 pub mod Laws
+pub mod Lengths
 pub mod Named
 pub mod Repeats
 pub mod Words

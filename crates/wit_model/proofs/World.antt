@@ -1,5 +1,7 @@
 -- Laws of worlds.
+pub mod Backed
 pub mod Barred
+pub mod Beside
 pub mod Calling
 pub mod Circled
 pub mod Covered
@@ -7,6 +9,10 @@ pub mod Crossed
 pub mod Exclusion
 pub mod Holders
 pub mod Moments
+pub mod MovedAll
+pub mod MovedCalls
+pub mod MovedReleases
+pub mod Moves
 pub mod NoCircle
 pub mod Opening
 pub mod Own

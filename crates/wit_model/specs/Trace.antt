@@ -1,4 +1,5 @@
 -- Traces: their lines, the texts of reports, and what a replay writes.
+pub mod Moving
 pub mod Output
 pub mod Paths
 pub mod Reading

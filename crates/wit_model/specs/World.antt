@@ -1,6 +1,7 @@
 -- Worlds: threads that take, hold and free locks, and tell the verifier of it.
 pub mod Deeds
 pub mod Examples
+pub mod Moving
 pub mod Reordering
 pub mod Scenes
 pub mod Sequences

@@ -4,6 +4,7 @@
 pub mod gates;
 pub mod groups;
 pub mod histories;
+pub mod migrations;
 pub mod rules;
 pub mod scenes;
 pub mod verdicts;

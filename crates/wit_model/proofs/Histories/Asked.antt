@@ -31,7 +31,7 @@ record IsGood (start : Start) (h : List Entry) (t : ℕ) (q : Request) : Type 0 
 Asks : Start → List Entry → ℕ → Option Request → Type 0
 Asks start h t o = (q : Request) → o ≡ Some q → IsGood start h t q
 
-made-later : (start : Start) (x : Entry) (h : List Entry) (l : ℕ) → is_given (typed_locks start h) l ≡ true → is_given (typed_locks start (x ∷ h)) l ≡ true
+pub made-later : (start : Start) (x : Entry) (h : List Entry) (l : ℕ) → is_given (typed_locks start h) l ≡ true → is_given (typed_locks start (x ∷ h)) l ≡ true
 made-later start x h l is =
     let was = made-known start h l is in
     known-made start (x ∷ h) l (was.0, omega (arith, was.1, length-more x, length-typed start h, length-typed start (x ∷ h)))

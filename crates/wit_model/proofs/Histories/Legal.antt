@@ -82,7 +82,7 @@ held_by-state start files h t l is sane =
     ∙ found (is_spin_lock (locks_of h) l) t l h sane
     ∙ if_both (is_held t l h) (is_of_kind (is_spin_lock (locks_of h) l) (locks_of h) l) (instance t h l) (own_kind (is_spin_lock (locks_of h) l) h l refl)
 
-some-held : (b : Bool) (i j : Instance) → if_some b i ≡ Some j → (b ≡ true) × (i ≡ j)
+pub some-held : (b : Bool) (i j : Instance) → if_some b i ≡ Some j → (b ≡ true) × (i ≡ j)
 some-held true i j e = (refl, let same : i ≡ j = cc in same)
 some-held false i j e = (cc)
 

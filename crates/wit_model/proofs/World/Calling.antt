@@ -78,7 +78,7 @@ call-answered s t call may =
 
 -- ---- calls as deeds
 
-passed-ignored : (r : Reply) → is_logged r ≡ false → r ≡ Ignored
+pub passed-ignored : (r : Reply) → is_logged r ≡ false → r ≡ Ignored
 passed-ignored Ignored is = refl
 passed-ignored r is = absurd (true≢false is)
 

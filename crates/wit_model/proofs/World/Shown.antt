@@ -39,7 +39,7 @@ these-here t l u m same = either_true (eqb u t) (eqb m l) (eq-eqb m l same)
 these-elsewhere : (t l u m : ℕ) → eqb m l ≡ false → are_these t l u m ≡ false
 these-elsewhere t l u m other = either_false (eqb u t) (eqb m l) other
 
-both-shared : (a b : Mode) → is_exclusive a ≡ false → is_exclusive b ≡ false → a ≡ b
+pub both-shared : (a b : Mode) → is_exclusive a ≡ false → is_exclusive b ≡ false → a ≡ b
 both-shared Exclusive b one two = absurd (true≢false one)
 both-shared Shared Exclusive one two = absurd (true≢false two)
 both-shared Shared Shared one two = refl

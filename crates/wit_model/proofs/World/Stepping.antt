@@ -33,14 +33,14 @@ pub let-by : {X : Type 0} (b : Bool) (f : Fault) (rest : Result X Fault) → b �
 let-by true f rest is = refl
 let-by false f rest is = absurd (false≢true is)
 
-record Accepted (s : Scene) (d : Deed) (known : Bool) (then : Scene) : Type 0 where
-  seat : is_seat (state_of s.story) (thread_of d) ≡ true
-  lock : known ≡ true
-  comes : may_come s d ≡ true
-  free : is_free s.raw d ≡ true
-  next : stepped s d ≡ then
+pub record Accepted (s : Scene) (d : Deed) (known : Bool) (then : Scene) : Type 0 where
+  pub seat : is_seat (state_of s.story) (thread_of d) ≡ true
+  pub lock : known ≡ true
+  pub comes : may_come s d ≡ true
+  pub free : is_free s.raw d ≡ true
+  pub next : stepped s d ≡ then
 
-accepted : (s : Scene) (d : Deed) (known : Bool) (then : Scene) → step_deed s d known ≡ Ok then → Accepted s d known then
+pub accepted : (s : Scene) (d : Deed) (known : Bool) (then : Scene) → step_deed s d known ≡ Ok then → Accepted s d known then
 accepted s d known then ok =
     let a = gone-by (is_seat (state_of s.story) (thread_of d)) UnknownSeat _ then ok in
     let b = gone-by known UnknownLock _ then a.1 in
@@ -49,7 +49,7 @@ accepted s d known then ok =
     let same : ◌≡◌ {A = Result Scene Fault} (Ok (stepped s d)) (Ok then) = e.1 in
     record { seat = a.0; lock = b.0; comes = c.0; free = e.0; next = (let eq : stepped s d ≡ then = cc in eq) }
 
-accepts : (s : Scene) (d : Deed) (known : Bool) → is_seat (state_of s.story) (thread_of d) ≡ true → known ≡ true → may_come s d ≡ true → is_free s.raw d ≡ true
+pub accepts : (s : Scene) (d : Deed) (known : Bool) → is_seat (state_of s.story) (thread_of d) ≡ true → known ≡ true → may_come s d ≡ true → is_free s.raw d ≡ true
     → step_deed s d known ≡ Ok (stepped s d)
 accepts s d known seat lock comes free =
     let-by (is_seat (state_of s.story) (thread_of d)) UnknownSeat _ seat

@@ -1,5 +1,5 @@
 use Rattle.std.proofs.Common.{refl}
-use Rattle.wit_grammar.proofs.Lengths.{spelled-le}
+use Rattle.wit_model.proofs.Spelling.Lengths.{spelled-le}
 use Rattle.wit_grammar.proofs.spellable.is_short.Goals as goal
 
 pub returns-in_default : goal.returns-in_default

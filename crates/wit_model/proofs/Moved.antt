@@ -1,0 +1,5 @@
+-- A migrated trace tells what the trace told.
+pub mod Agreement
+pub mod Lines
+pub mod Preludes
+pub mod Tells

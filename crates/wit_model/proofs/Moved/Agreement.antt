@@ -1,0 +1,317 @@
+-- Behind the prelude each line and what is written of it tell the same.
+use Rattle.std.proofs.Common.{◌≡◌, ℕ, ◌+◌, ◌^◌, ◌<◌, ◌≤◌, Bool, true, false, ◌&&◌, ◌||◌, cond, eqb, nat_lt, List, [], ◌∷◌, ◌++◌, length, Option, None, Some, Result, Ok, Err, refl, ap, ap₂, sym, ◌∙◌, subst, arith}
+use Rattle.std.proofs.lemmas.Bool.{ltb-false}
+use Rattle.wit_model.specs.declared.assertions.AssertAnswer.{AssertAnswer}
+use Rattle.wit_model.specs.declared.faults.Fault.{Fault}
+use Rattle.wit_model.specs.declared.faults.Fault.TheVariants.{RawNotFree}
+use Rattle.wit_model.specs.declared.flags.LockAssert.{LockAssert}
+use Rattle.wit_model.specs.declared.flags.WarnFlags.{WarnFlags}
+use Rattle.wit_model.specs.declared.locks.Instance.{Instance}
+use Rattle.wit_model.specs.declared.locks.LockNo.{LockNo}
+use Rattle.wit_model.specs.declared.calls.Call.{Call}
+use Rattle.wit_model.specs.declared.calls.Reply.{Reply}
+use Rattle.wit_model.specs.declared.lines.Line.{Line}
+use Rattle.wit_model.specs.declared.lines.Line.TheVariants.{OnLock}
+use Rattle.wit_model.specs.declared.lines.LockLine.TheVariants.{Step}
+use Rattle.wit_model.specs.declared.raw_steps.RawStep.TheVariants as raw_step
+use Rattle.wit_model.specs.declared.lines.Cause.{Cause}
+use Rattle.wit_model.specs.declared.lines.Cause.TheVariants as why
+use Rattle.wit_model.specs.Rules.Assertions.{step_assert}
+use Rattle.wit_model.specs.Rules.Files.{naming_answer, files_after}
+use Rattle.wit_model.specs.Rules.State.{Story, state_of}
+use Rattle.wit_model.specs.Rules.Step.{answer_of, grown}
+use Rattle.wit_model.specs.Rules.Warnings.{warned, step_warn}
+use Rattle.wit_model.specs.World.Moving.{LockStep, step_before, step_behind, is_free_beside, raw_moved}
+use Rattle.wit_model.specs.World.Scenes.{RawLock, Scene}
+use Rattle.wit_model.specs.Trace.Moving.{Moving, Moved, Written, read_to, kept_lines, step_line, answered, answered_at, alone, moves, moving_after, moving_from}
+use Rattle.wit_model.specs.Trace.Moving as moving
+use Rattle.wit_model.specs.Trace.Output.{Course, Progress, Reading, Stepping, AllRead, LineCall, Logs, LogsAt, Asserts, Warns, Steps, NoCall, BadLine, told, called, makes, at_file, with_file, makes_in, at_file_in, in_scene, asserts, warns, is_prelude, is_profile, call_of, calls, calls_in, longest_line, before, course_after, course_from}
+use Rattle.wit_model.specs.Trace.Output as output
+use Rattle.wit_model.specs.Trace.Reading.{line_of}
+use Rattle.wit_model.specs.Trace.Spelling.{spelling, IsSpellable}
+use Rattle.wit_model.proofs.Moved.Lines.{read-short, IsSmall, IsSmallCall, small-before, small-behind, small-line}
+use Rattle.wit_model.proofs.Moved.Tells.{all_stepped, Tells, line-tells, call-tells, unnamed}
+use Rattle.wit_model.proofs.Spelling.Laws.{line_takes}
+use Rattle.wit_model.proofs.World.Beside.{Fits, DoesStep, Does}
+use Rattle.wit_model.proofs.World.MovedAll.{does, naming-fits}
+
+abbrev pub all_read : List ℕ → Story → ℕ → Course
+all_read text s m = record { text = text; ending = AllRead s m }
+
+-- ---- where no line is bad, a line was good
+
+pub record GoneOn (q : Moving) (o : moving.Outcome) (next : Moving → Written) (s : Story) (k : ℕ) : Type 0 where
+  pub then : Moving
+  pub lines : List (List ℕ)
+  pub is : o ≡ moving.Goes then lines
+  pub ends : (next then).ending ≡ AllRead s k
+
+pub gone-on : (q : Moving) (n : ℕ) (o : moving.Outcome) (next : Moving → Written) (s : Story) (k : ℕ) → (moving_after q n o next).ending ≡ AllRead s k → GoneOn q o next s k
+gone-on q n (moving.Goes then lines) next s k ends = record { then = then; lines = lines; is = refl; ends = ends }
+gone-on q n (moving.Bad cause) next s k ends = (cc)
+
+pub record Read (q : Moving) (n : ℕ) (bytes : List ℕ) (then : Moving) (lines : List (List ℕ)) : Type 0 where
+  pub line : Line
+  pub short : length bytes ≤ 4096
+  pub spelled : line_of bytes ≡ Some line
+  pub enters : moving.entered q n bytes line ≡ moving.Goes then lines
+
+pub was-read : (q : Moving) (n : ℕ) (bytes : List ℕ) (then : Moving) (lines : List (List ℕ)) → moving.outcome q n bytes ≡ moving.Goes then lines → Read q n bytes then lines
+was-read q n bytes then lines is = go (nat_lt longest_line (length bytes)) refl (line_of bytes) refl is
+  where
+    go : (b : Bool) → nat_lt longest_line (length bytes) ≡ b → (o : Option Line) → line_of bytes ≡ o
+        → cond b (moving.Bad why.Long) (moving.read_as q n bytes o) ≡ moving.Goes then lines → Read q n bytes then lines
+    go true long o spelled is = (cc)
+    go false long None spelled is = (cc)
+    go false long (Some line) spelled is = record { line = line; short = (let le = ltb-false longest_line (length bytes) long in omega arith); spelled = spelled; enters = is }
+
+-- ---- a line's call
+
+-- what a line and what is written of it come to, from this scene on
+record LineAgrees (x : Scene) (m : ℕ) (c : LineCall) (bytes : List ℕ) (q : Moving) (lines : List (List ℕ)) : Type 0 where
+  scene : Scene
+  count : ℕ
+  said : List ℕ
+  fits : Fits scene
+  next : q ≡ Moved scene.story scene.raw count
+  was : calls x.story m c ≡ output.Goes (Reading scene.story count) said
+  now : (rest : List (List ℕ)) (text : List ℕ) (s : Story) (k : ℕ) → Tells scene count rest text s k → Tells x m (lines ++ rest) (said ++ text) s k
+
+record Answered (s : Story) (raw : List RawLock) (m : ℕ) (bytes : List ℕ) (t : ℕ) (call : Call) (a : Result Reply Fault) (q : Moving) (lines : List (List ℕ)) : Type 0 where
+  reply : Reply
+  is : a ≡ Ok reply
+  free : is_free_beside s.history raw t (step_before s.history t call) ≡ true
+  next : q ≡ Moved (grown s t call reply) (raw_moved s.history raw t call reply) m
+  written : lines ≡ step_line t (step_before s.history t call) ++ bytes ∷ step_line t (step_behind s.history raw t call)
+
+was-answered : (s : Story) (raw : List RawLock) (m : ℕ) (bytes : List ℕ) (t : ℕ) (call : Call) (a : Result Reply Fault) (q : Moving) (lines : List (List ℕ))
+    → answered s raw m bytes t call a ≡ moving.Goes q lines → Answered s raw m bytes t call a q lines
+was-answered s raw m bytes t call (Err fault) q lines is = (cc)
+was-answered s raw m bytes t call (Ok r) q lines is = go (is_free_beside s.history raw t (step_before s.history t call)) refl is
+  where
+    moved : Moving
+    moved = Moved (grown s t call r) (raw_moved s.history raw t call r) m
+
+    written_lines : List (List ℕ)
+    written_lines = step_line t (step_before s.history t call) ++ bytes ∷ step_line t (step_behind s.history raw t call)
+
+    go : (b : Bool) → is_free_beside s.history raw t (step_before s.history t call) ≡ b
+        → cond b (moving.Goes (Moved (grown s t call r) (raw_moved s.history raw t call r) m) (step_line t (step_before s.history t call) ++ bytes ∷ step_line t (step_behind s.history raw t call)))
+        (moving.Bad (why.Fault RawNotFree)) ≡ moving.Goes q lines → Answered s raw m bytes t call (Ok r) q lines
+    go true free same = record { reply = r; is = refl; free = free; next = cc; written = cc }
+    go false free same = (cc)
+
+-- the scene after a call and the steps beside it
+after : {t : ℕ} {call : Call} {r : Reply} {z : Scene} (d : Does t call r z) (m : ℕ) → Moved (grown z.story t call r) (raw_moved z.story.history z.raw t call r) m ≡ Moved d.last.story d.last.raw m
+after d m = ap₂ (λ s raw. Moved s raw m) (sym d.story) (sym d.shares)
+
+module _ (x : Scene) (fits : Fits x) (m : ℕ) (bytes : List ℕ) where
+  abbrev Reads : LineCall → Type 0
+  Reads c = (z : Scene) (n : ℕ) → output.outcome (Stepping z m) n bytes ≡ calls_in z m c
+
+  -- a call that a line makes where this scene stands, once its file is named
+  module _ (z : Scene) (c : LineCall) (t : ℕ) (call : Call) (seat : t < 2 ^ 16) (small : IsSmallCall call) where
+    -- the scene at the line, behind the step before it
+    Before : Scene → Type 0
+    Before first = (y : Scene) × DoesStep x t (step_before z.story.history t call) y × ((n : ℕ) → output.outcome (Stepping y m) n bytes ≡ makes_in first m t call)
+
+    answered-agrees : Fits z → (q : Moving) (lines : List (List ℕ))
+        → ((r : Reply) → answer_of z.story t call ≡ Ok r → calls x.story m c ≡ output.Goes (Reading (grown z.story t call r) m) (told (grown z.story t call r) r))
+        → ((first : Scene) → DoesStep z t (step_before z.story.history t call) first → Before first)
+        → answered z.story z.raw m bytes t call (answer_of z.story t call) ≡ moving.Goes q lines → LineAgrees x m c bytes q lines
+    unfolding Before
+    answered-agrees fits_z q lines was before goes =
+        let a = was-answered z.story z.raw m bytes t call (answer_of z.story t call) q lines goes in
+        let d = does z fits_z t call a.reply a.is a.free in
+        let y = before d.first d.before in
+        record {
+          scene = d.last;
+          count = m;
+          said = told (grown z.story t call a.reply) a.reply;
+          fits = d.fits;
+          next = a.next ∙ after d m;
+          was = was a.reply a.is ∙ ap (λ (s : Story). output.Goes (Reading s m) (told (grown z.story t call a.reply) a.reply)) (sym d.story);
+          now = λ rest text s k tells.
+              subst (λ ls. Tells x m (ls ++ rest) (told (grown z.story t call a.reply) a.reply ++ text) s k) (sym a.written)
+              (call-tells x y.0 m t call a.reply z d bytes rest text s k seat (small-before z.story.history t call small) (small-behind z.story.history z.raw t call small)
+              y.1 y.2 tells);
+        }
+
+  logs-agree : (t : ℕ) (call : Call) (q : Moving) (lines : List (List ℕ)) → IsSmall (Logs t call) → Reads (Logs t call)
+      → answered x.story x.raw m bytes t call (answer_of x.story t call) ≡ moving.Goes q lines → LineAgrees x m (Logs t call) bytes q lines
+  unfolding Before
+  logs-agree t call q lines small reads goes =
+      answered-agrees x (Logs t call) t call small.0 small.1 fits q lines (λ r is. ap (λ b. called x.story m t call b) is)
+      (λ first done. (first, done, λ n. reads first n)) goes
+
+  at-line : (t : ℕ) (file : List ℕ) (call : ℕ → Call) (f : ℕ) → Reads (LogsAt t file call) → naming_answer x.story file ≡ Ok f
+      → (o : Option LockStep) (first : Scene) → DoesStep (with_file file x) t o first
+      → (y : Scene) × DoesStep x t o y × ((n : ℕ) → output.outcome (Stepping y m) n bytes ≡ makes_in first m t (call f))
+  at-line t file call f reads named o first done =
+      let u = unnamed file x t o first done in (
+        u.scene,
+        u.does,
+        λ n. reads u.scene n
+            ∙ (ap (λ (a : Result ℕ Fault). at_file_in u.scene (λ s' g. makes_in s' m t (call g)) file a) (ap (λ (y : Story). naming_answer y file) u.story ∙ named)
+            ∙ ap (λ y. makes_in y m t (call f)) u.named),
+      )
+
+  file-named : (t : ℕ) (file : List ℕ) (call : ℕ → Call) (q : Moving) (lines : List (List ℕ)) (na : Result ℕ Fault)
+      → answered_at x.story x.raw m bytes t call file na ≡ moving.Goes q lines
+      → (f : ℕ) × (na ≡ Ok f) × (answered (with_file file x).story x.raw m bytes t (call f) (answer_of (with_file file x).story t (call f)) ≡ moving.Goes q lines)
+  file-named t file call q lines (Err fault) goes = (cc)
+  file-named t file call q lines (Ok f) goes = (f, refl, goes)
+
+  called-at : (t : ℕ) (file : List ℕ) (call : ℕ → Call) (f : ℕ) → naming_answer x.story file ≡ Ok f → (r : Reply) → answer_of (with_file file x).story t (call f) ≡ Ok r
+      → calls x.story m (LogsAt t file call) ≡ output.Goes (Reading (grown (with_file file x).story t (call f) r) m) (told (grown (with_file file x).story t (call f) r) r)
+  called-at t file call f named r is =
+      ap (λ (o : Result ℕ Fault). at_file x.story (λ s' g. makes s' m t (call g)) file o) named ∙ ap (λ b. called (with_file file x).story m t (call f) b) is
+
+  logs_at-agree : (t : ℕ) (file : List ℕ) (call : ℕ → Call) (q : Moving) (lines : List (List ℕ)) → IsSmall (LogsAt t file call) → Reads (LogsAt t file call)
+      → answered_at x.story x.raw m bytes t call file (naming_answer x.story file) ≡ moving.Goes q lines → LineAgrees x m (LogsAt t file call) bytes q lines
+  unfolding Before
+  logs_at-agree t file call q lines small reads goes =
+      let n = file-named t file call q lines (naming_answer x.story file) goes in
+      answered-agrees (with_file file x) (LogsAt t file call) t (call n.0) small.0 (small.1 n.0) (naming-fits file x fits) q lines
+      (called-at t file call n.0 n.1) (λ first done. at-line t file call n.0 reads n.1 _ first done) n.2
+
+  -- a line that changes nothing of the story
+  alone-agrees : (c : LineCall) (q : Moving) (lines : List (List ℕ)) (count : ℕ) (said : List ℕ) → Reads c → calls_in x m c ≡ in_scene x (calls x.story m c)
+      → calls x.story m c ≡ output.Goes (Reading x.story count) said → alone x.raw bytes (calls x.story m c) ≡ moving.Goes q lines → LineAgrees x m c bytes q lines
+  alone-agrees c q lines count said reads same is goes =
+      let e : ◌≡◌ {A = moving.Outcome} (moving.Goes (Moved x.story x.raw count) (bytes ∷ [])) (moving.Goes q lines) = ap (λ o. alone x.raw bytes o) (sym is) ∙ goes in
+      record {
+        scene = x;
+        count = count;
+        said = said;
+        fits = fits;
+        next = cc;
+        was = is;
+        now = λ rest text s k tells.
+            subst (λ ls. Tells x m (ls ++ rest) (said ++ text) s k) (let written : bytes ∷ [] ≡ lines = cc in written)
+            (line-tells x x m count bytes rest said text s k (λ n. reads x n ∙ (same ∙ ap (λ o. in_scene x o) is)) tells);
+      }
+
+  asserts-say : (l : ℕ) (a : Result AssertAnswer Fault) (q : Moving) (lines : List (List ℕ)) → alone x.raw bytes (asserts x.story m l a) ≡ moving.Goes q lines
+      → (count : ℕ) × (said : List ℕ) × (asserts x.story m l a ≡ output.Goes (Reading x.story count) said)
+  asserts-say l (Ok a) q lines goes = (_, _, refl)
+  asserts-say l (Err fault) q lines goes = (cc)
+
+  warns-say : (counted : List Instance) (a : Result ℕ Fault) (q : Moving) (lines : List (List ℕ)) → alone x.raw bytes (warns x.story m counted a) ≡ moving.Goes q lines
+      → (count : ℕ) × (said : List ℕ) × (warns x.story m counted a ≡ output.Goes (Reading x.story count) said)
+  warns-say counted (Ok a) q lines goes = (_, _, refl)
+  warns-say counted (Err fault) q lines goes = (cc)
+
+  asserts-agree : (t : ℕ) (l : LockNo) (flags : LockAssert) (q : Moving) (lines : List (List ℕ)) → Reads (Asserts t l flags)
+      → alone x.raw bytes (asserts x.story m l.0 (step_assert (state_of x.story) t l.0 flags)) ≡ moving.Goes q lines → LineAgrees x m (Asserts t l flags) bytes q lines
+  asserts-agree t l flags q lines reads goes =
+      let said = asserts-say l.0 (step_assert (state_of x.story) t l.0 flags) q lines goes in
+      alone-agrees (Asserts t l flags) q lines said.0 said.1 reads refl said.2 goes
+
+  warns-agree : (t : ℕ) (l : Option LockNo) (flags : WarnFlags) (q : Moving) (lines : List (List ℕ)) → Reads (Warns t l flags)
+      → alone x.raw bytes (warns x.story m (warned (state_of x.story) t l flags) (step_warn (state_of x.story) t l flags)) ≡ moving.Goes q lines → LineAgrees x m (Warns t l flags) bytes q lines
+  warns-agree t l flags q lines reads goes =
+      let said = warns-say (warned (state_of x.story) t l flags) (step_warn (state_of x.story) t l flags) q lines goes in
+      alone-agrees (Warns t l flags) q lines said.0 said.1 reads refl said.2 goes
+
+  none-agrees : (c : LineCall) (q : Moving) (lines : List (List ℕ)) → ◌≡◌ {A = moving.Outcome} (moving.Bad why.Syntax) (moving.Goes q lines) → LineAgrees x m c bytes q lines
+  none-agrees c q lines goes = (cc)
+
+  line-agrees : (c : LineCall) (q : Moving) (lines : List (List ℕ)) → IsSmall c → Reads c → moves x.story x.raw m bytes c ≡ moving.Goes q lines → LineAgrees x m c bytes q lines
+  line-agrees (Logs t call) q lines small reads goes = logs-agree t call q lines small reads goes
+  line-agrees (LogsAt t file call) q lines small reads goes = logs_at-agree t file call q lines small reads goes
+  line-agrees (Asserts t l flags) q lines small reads goes = asserts-agree t l flags q lines reads goes
+  line-agrees (Warns t l flags) q lines small reads goes = warns-agree t l flags q lines reads goes
+  line-agrees (Steps t l step) q lines small reads goes = none-agrees (Steps t l step) q lines goes
+  line-agrees NoCall q lines small reads goes = none-agrees NoCall q lines goes
+
+-- ---- what is written of a line begins with it, or with a step
+
+-- whether a line, with its number, stands in the prelude
+abbrev pub opens : ℕ → List ℕ → Bool
+opens n line = is_prelude line || is_profile n line
+
+pub record Starts (n : ℕ) (lines : List (List ℕ)) : Type 0 where
+  pub first : List ℕ
+  pub rest : List (List ℕ)
+  pub is : lines ≡ first ∷ rest
+  pub ends : opens n first ≡ false
+
+never : (b : Bool) → (b && false) ≡ false
+never true = refl
+never false = refl
+
+step-ends : (n t : ℕ) (k : LockStep) → opens n (spelling (OnLock (Step (record { 0 = t }) k.0 k.1))) ≡ false
+step-ends n t (l, raw_step.Take) = never (eqb n 2)
+step-ends n t (l, raw_step.TryTake m) = never (eqb n 2)
+step-ends n t (l, raw_step.Free) = never (eqb n 2)
+step-ends n t (l, raw_step.Up) = never (eqb n 2)
+step-ends n t (l, raw_step.Down) = never (eqb n 2)
+
+step-starts : (n t : ℕ) (o : Option LockStep) (bytes : List ℕ) (rest lines : List (List ℕ)) → opens n bytes ≡ false → lines ≡ step_line t o ++ bytes ∷ rest → Starts n lines
+step-starts n t None bytes rest lines ends is = record { first = bytes; rest = rest; is = is; ends = ends }
+step-starts n t (Some k) bytes rest lines ends is = record { first = spelling (OnLock (Step (record { 0 = t }) k.0 k.1)); rest = bytes ∷ rest; is = is; ends = step-ends n t k }
+
+module _ (n : ℕ) (s : Story) (raw : List RawLock) (m : ℕ) (bytes : List ℕ) (q : Moving) (lines : List (List ℕ)) (ends : opens n bytes ≡ false) where
+  answered-starts : (z : Story) (t : ℕ) (call : Call) → answered z raw m bytes t call (answer_of z t call) ≡ moving.Goes q lines → Starts n lines
+  answered-starts z t call goes =
+      let a = was-answered z raw m bytes t call (answer_of z t call) q lines goes in
+      step-starts n t (step_before z.history t call) bytes _ lines ends a.written
+
+  answered_at-starts : (t : ℕ) (file : List ℕ) (call : ℕ → Call) (na : Result ℕ Fault) → answered_at s raw m bytes t call file na ≡ moving.Goes q lines → Starts n lines
+  answered_at-starts t file call (Err fault) goes = (cc)
+  answered_at-starts t file call (Ok f) goes = answered-starts (record s { files = files_after file s.files }) t (call f) goes
+
+  alone-starts : (o : output.Outcome) → alone raw bytes o ≡ moving.Goes q lines → Starts n lines
+  alone-starts (output.Goes (Reading z k) text) goes = record { first = bytes; rest = []; is = (let is : bytes ∷ [] ≡ lines = cc in sym is); ends = ends }
+  alone-starts (output.Goes output.Unstarted text) goes = (cc)
+  alone-starts (output.Goes (output.Opening p) text) goes = (cc)
+  alone-starts (output.Goes (Stepping z k) text) goes = (cc)
+  alone-starts (output.Bad cause) goes = (cc)
+
+  pub moves-start : (c : LineCall) → moves s raw m bytes c ≡ moving.Goes q lines → Starts n lines
+  moves-start (Logs t call) goes = answered-starts s t call goes
+  moves-start (LogsAt t file call) goes = answered_at-starts t file call (naming_answer s file) goes
+  moves-start (Asserts t l flags) goes = alone-starts (calls s m (Asserts t l flags)) goes
+  moves-start (Warns t l flags) goes = alone-starts (calls s m (Warns t l flags)) goes
+  moves-start (Steps t l step) goes = (cc)
+  moves-start NoCall goes = (cc)
+
+-- ---- all lines behind the prelude
+
+pub record Agrees (s : Story) (m n : ℕ) (lines : List (List ℕ)) (tail : List ℕ) (x : Scene) (moved : List (List ℕ)) (story : Story) (count : ℕ) : Type 0 where
+  pub text : List ℕ
+  pub none : tail ≡ []
+  pub was : course_from (Reading s m) n lines [] ≡ all_read text story count
+  pub now : Tells x m moved text story count
+
+pub calls-agree : (lines : List (List ℕ)) (x : Scene) → Fits x → (m n : ℕ) (tail : List ℕ) (story : Story) (count : ℕ)
+    → (moving_from (Moved x.story x.raw m) n lines tail).ending ≡ AllRead story count
+    → Agrees x.story m n lines tail x (moving_from (Moved x.story x.raw m) n lines tail).lines story count
+calls-agree [] x fits m n [] story count ends =
+    let same : ◌≡◌ {A = output.Ending} (AllRead x.story m) (AllRead story count) = ends in
+    let counts : m ≡ count = cc in
+    record {
+      text = [];
+      none = refl;
+      was = ap (λ e. record { text = []; ending = e }) same;
+      now = record { scene = x; same = cc; ends = λ k. ap (λ c. all_stepped [] x c) counts };
+    }
+calls-agree [] x fits m n (b ∷ tail) story count ends = (cc)
+calls-agree (bytes ∷ lines) x fits m n tail story count ends =
+    let q = Moved x.story x.raw m in
+    let o = moving.outcome q n bytes in
+    let g = gone-on q n o (λ r. moving_from r (n + 1) lines tail) story count ends in
+    let r = was-read q n bytes g.then g.lines g.is in
+    let spells = line_takes bytes r.line r.spelled in
+    let a = line-agrees x fits m bytes (call_of r.line) g.then g.lines (small-line r.line spells.1) (λ z k. read-short (Stepping z m) k bytes r.line r.short r.spelled) r.enters in
+    let rest = calls-agree lines a.scene a.fits a.count (n + 1) tail story count (ap (λ p. (moving_from p (n + 1) lines tail).ending) (sym a.next) ∙ g.ends) in
+    let written : (moving_from q n (bytes ∷ lines) tail).lines ≡ g.lines ++ (moving_from (Moved a.scene.story a.scene.raw a.count) (n + 1) lines tail).lines
+    = ap (λ p. (moving_after q n p (λ r. moving_from r (n + 1) lines tail)).lines) g.is ∙ ap (λ p. g.lines ++ (moving_from p (n + 1) lines tail).lines) a.next in
+    record {
+      text = a.said ++ rest.text;
+      none = rest.none;
+      was = ap (λ p. course_after (Reading x.story m) n p (λ r. course_from r (n + 1) lines [])) (read-short (Reading x.story m) n bytes r.line r.short r.spelled ∙ a.was)
+          ∙ ap (λ c. before a.said c) rest.was;
+      now = subst (λ ls. Tells x m ls (a.said ++ rest.text) story count) (sym written) (a.now _ rest.text story count rest.now);
+    }

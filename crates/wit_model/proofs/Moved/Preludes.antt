@@ -1,0 +1,262 @@
+-- The prelude and the header of a migrated trace, and so all of it.
+use Rattle.std.proofs.Common.{◌≡◌, ℕ, ◌+◌, ◌-◌, ◌^◌, ◌<◌, ◌≤◌, Bool, true, false, ◌||◌, cond, List, [], ◌∷◌, ◌++◌, take, Option, None, Some, Result, Ok, Err, refl, ap, ap₂, sym, ◌∙◌, subst, append_assoc, codes}
+use Rattle.std.proofs.lemmas.Bool.{false≢true, true≢false}
+use Rattle.wit_model.specs.declared.faults.Fault.{Fault}
+use Rattle.wit_model.specs.declared.locks.Class.{Class}
+use Rattle.wit_model.specs.declared.calls.Call.{Call}
+use Rattle.wit_model.specs.declared.calls.Reply.{Reply}
+use Rattle.wit_model.specs.declared.lines.Line.{Line}
+use Rattle.wit_model.specs.declared.lines.Line.TheVariants.{Header, Order, Bless, OnLock}
+use Rattle.wit_model.specs.declared.lines.Line.TheVariants as kind
+use Rattle.wit_model.specs.declared.lines.LockLine.TheVariants.{Step}
+use Rattle.wit_model.specs.declared.lines.Version.TheVariants.{One, Two}
+use Rattle.wit_model.specs.declared.lines.Cause.TheVariants as why
+use Rattle.wit_model.specs.declared.raw_steps.RawStep.TheVariants as raw_step
+use Rattle.wit_model.specs.Rules.Sizes.{sizes_of, are_within}
+use Rattle.wit_model.specs.Rules.Start.{start_fault}
+use Rattle.wit_model.specs.Rules.State.{Story, fresh}
+use Rattle.wit_model.specs.World.Moving.{LockStep}
+use Rattle.wit_model.specs.World.Scenes.{Scene, opening}
+use Rattle.wit_model.specs.Trace.Moving.{Moving, Unmoved, Keeping, Moved, Written, TellsTheSame, MigrationsTellTheSame, keeps, step_line, moving_from}
+use Rattle.wit_model.specs.Trace.Moving as moving
+use Rattle.wit_model.specs.Trace.Output.{Prelude, Unstarted, Opening, Reading, Stepping, AllRead, BadLine, empty_prelude, is_prelude, is_profile, log_limit, before, course_at, course_after, course_from}
+use Rattle.wit_model.specs.Trace.Output as output
+use Rattle.wit_model.specs.Trace.Reading.{line_of}
+use Rattle.wit_model.specs.Trace.Spelling.{spelling, IsSpellable}
+use Rattle.wit_model.proofs.Moved.Agreement.{all_read, gone-on, was-read, opens, Starts, moves-start, calls-agree}
+use Rattle.wit_model.proofs.Moved.Lines.{read-short, read-spelled}
+use Rattle.wit_model.proofs.Moved.Tells.{all_stepped, Tells}
+use Rattle.wit_model.proofs.Spelling.Laws.{line_takes}
+use Rattle.wit_model.proofs.World.MovedAll.{opening-fits}
+
+-- the same prelude in the second version
+abbrev two : Prelude → Prelude
+two p = record p { version = Two }
+
+two-goes : (p : Prelude) → p.version ≡ One → output.begun p.version p.start ≡ Reading (fresh p.start) 0
+two-goes p is = ap (λ v. output.begun v p.start) is
+
+-- ---- the prelude ends
+
+module _ (p : Prelude) (version : p.version ≡ One) (good : start_fault p.start ≡ None) (n : ℕ) (first : List ℕ) (ends : opens n first ≡ false) where
+  reached-one : output.reached (Opening p) n first ≡ Ok (Reading (fresh p.start) 0)
+  reached-one =
+      ap (λ b. cond b (Ok (Opening p)) (output.opened p (start_fault p.start))) ends
+      ∙ (ap (λ o. output.opened p o) good ∙ ap (λ q. Ok q) (two-goes p version))
+
+  reached-two : output.reached (Opening (two p)) n first ≡ Ok (Stepping (opening (fresh p.start)) 0)
+  reached-two = ap (λ b. cond b (Ok (Opening (two p))) (output.opened (two p) (start_fault p.start))) ends ∙ ap (λ o. output.opened (two p) o) good
+
+  pub over-one : (rest : List (List ℕ)) → course_from (Opening p) n (first ∷ rest) [] ≡ course_from (Reading (fresh p.start) 0) n (first ∷ rest) []
+  over-one rest =
+      ap (λ (r : Result output.Progress BadLine). course_at (Opening p) r (λ q. course_after q n (output.outcome q n first) (λ u. course_from u (n + 1) rest []))) reached-one
+
+  pub over-two : (rest : List (List ℕ)) → course_from (Opening (two p)) n (first ∷ rest) [] ≡ course_from (Stepping (opening (fresh p.start)) 0) n (first ∷ rest) []
+  over-two rest =
+      ap (λ (r : Result output.Progress BadLine). course_at (Opening (two p)) r (λ q. course_after q n (output.outcome q n first) (λ u. course_from u (n + 1) rest []))) reached-two
+
+-- ---- lines of the prelude
+
+record KeptOn (p : Prelude) (kept : List (List ℕ)) (n : ℕ) (bytes : List ℕ) (line : Line) (then : Moving) (lines : List (List ℕ)) : Type 0 where
+  prelude : Prelude
+  version : prelude.version ≡ One
+  next : then ≡ Keeping prelude (kept ++ bytes ∷ [])
+  none : lines ≡ []
+  one : output.entered (Opening p) n line ≡ output.Goes (Opening prelude) []
+  both : output.entered (Opening (two p)) n line ≡ output.Goes (Opening (two prelude)) []
+
+kept-on : (p : Prelude) (kept : List (List ℕ)) (n : ℕ) (bytes : List ℕ) (line : Line) (then : Moving) (lines : List (List ℕ)) → p.version ≡ One
+    → keeps kept bytes (output.entered (Opening p) n line) ≡ moving.Goes then lines → KeptOn p kept n bytes line then lines
+kept-on p kept n bytes (Order list) then lines version goes = record { prelude = output.with_list p n list; version = version; next = cc; none = cc; one = refl; both = refl }
+kept-on p kept n bytes (Bless a b) then lines version goes = record { prelude = output.with_pair p a b; version = version; next = cc; none = cc; one = refl; both = refl }
+kept-on p kept n bytes (Header v s t l c) then lines version goes = (cc)
+kept-on p kept n bytes kind.Profile then lines version goes = (cc)
+kept-on p kept n bytes (kind.Init s lock) then lines version goes = (cc)
+kept-on p kept n bytes (OnLock l) then lines version goes = (cc)
+kept-on p kept n bytes (kind.Assert s l a) then lines version goes = (cc)
+kept-on p kept n bytes (kind.Warn s l f) then lines version goes = (cc)
+kept-on p kept n bytes (kind.Define s a b) then lines version goes = (cc)
+kept-on p kept n bytes (kind.Watch s w) then lines version goes = (cc)
+
+record KeptAgrees (p : Prelude) (n : ℕ) (lines : List (List ℕ)) (tail : List ℕ) (kept written : List (List ℕ)) (story : Story) (count : ℕ) : Type 0 where
+  text : List ℕ
+  scene : Scene
+  rest : List (List ℕ)
+  none : tail ≡ []
+  is : written ≡ kept ++ rest
+  was : course_from (Opening p) n lines [] ≡ all_read text story count
+  now : course_from (Opening (two p)) n rest [] ≡ all_stepped text scene count
+  same : scene.story ≡ story
+
+abbrev end_at : Prelude → List (List ℕ) → ℕ → Bool → Option (ℕ × Fault) → Written
+end_at p kept n b o = cond b (moving.ends (Keeping p kept) n []) (moving.opened p kept o (λ q. moving.ends q n []))
+
+-- the input ends with the prelude
+end-agrees : (p : Prelude) (kept : List (List ℕ)) (n : ℕ) (tail : List ℕ) (story : Story) (count : ℕ) → p.version ≡ One
+    → (moving_from (Keeping p kept) n [] tail).ending ≡ AllRead story count → KeptAgrees p n [] tail kept (moving_from (Keeping p kept) n [] tail).lines story count
+end-agrees p kept n [] story count version ends = go (opens n []) refl (start_fault p.start) refl ends
+  where
+    go : (b : Bool) → opens n [] ≡ b → (o : Option (ℕ × Fault)) → start_fault p.start ≡ o → (end_at p kept n b o).ending ≡ AllRead story count
+        → KeptAgrees p n [] [] kept (end_at p kept n b o).lines story count
+    go true opened o good ends = (cc)
+    go false opened (Some refused) good ends = (cc)
+    go false opened None good ends =
+        let same : ◌≡◌ {A = output.Ending} (AllRead (fresh p.start) 0) (AllRead story count) = ends in
+        let counts : 0 ≡ count = cc in
+        record {
+          text = [];
+          scene = opening (fresh p.start);
+          rest = [];
+          none = refl;
+          is = refl;
+          was = ap (λ (r : Result output.Progress BadLine). course_at (Opening p) r (λ q. output.ends q n [])) (reached-one p version good n [] opened) ∙ ap (λ e. record { text = []; ending = e }) same;
+          now = ap (λ (r : Result output.Progress BadLine). course_at (Opening (two p)) r (λ q. output.ends q n [])) (reached-two p version good n [] opened)
+              ∙ ap (λ c. all_stepped [] (opening (fresh p.start)) c) counts;
+          same = cc;
+        }
+end-agrees p kept n (b ∷ tail) story count version ends = go (opens n (b ∷ tail)) (start_fault p.start) ends
+  where
+    go : (c : Bool) (o : Option (ℕ × Fault)) → (cond c (moving.ends (Keeping p kept) n (b ∷ tail)) (moving.opened p kept o (λ q. moving.ends q n (b ∷ tail)))).ending ≡ AllRead story count
+        → KeptAgrees p n [] (b ∷ tail) kept (moving_from (Keeping p kept) n [] (b ∷ tail)).lines story count
+    go true o ends = (cc)
+    go false (Some refused) ends = (cc)
+    go false None ends = (cc)
+
+-- what comes of this line and those behind it, once the prelude is over or not
+abbrev next_of : ℕ → List ℕ → List (List ℕ) → List ℕ → Moving → Written
+next_of n bytes lines tail q = moving.moving_after q n (moving.outcome q n bytes) (λ r. moving_from r (n + 1) lines tail)
+
+abbrev line_at : Prelude → List (List ℕ) → (Moving → Written) → Bool → Option (ℕ × Fault) → Written
+line_at p kept next b o = cond b (next (Keeping p kept)) (moving.opened p kept o next)
+
+-- what follows a line of the prelude agrees
+inside : (p : Prelude) (kept : List (List ℕ)) (n : ℕ) (bytes : List ℕ) (lines : List (List ℕ)) (tail : List ℕ) (story : Story) (count : ℕ) → p.version ≡ One
+    → ((p' : Prelude) (kept' : List (List ℕ)) → p'.version ≡ One → (moving_from (Keeping p' kept') (n + 1) lines tail).ending ≡ AllRead story count
+    → KeptAgrees p' (n + 1) lines tail kept' (moving_from (Keeping p' kept') (n + 1) lines tail).lines story count)
+    → opens n bytes ≡ true → (next_of n bytes lines tail (Keeping p kept)).ending ≡ AllRead story count → KeptAgrees p n (bytes ∷ lines) tail kept (next_of n bytes lines tail (Keeping p kept)).lines story count
+inside p kept n bytes lines tail story count version on opened ends =
+    let g = gone-on (Keeping p kept) n (moving.outcome (Keeping p kept) n bytes) (λ r. moving_from r (n + 1) lines tail) story count ends in
+    let r = was-read (Keeping p kept) n bytes g.then g.lines g.is in
+    let k = kept-on p kept n bytes r.line g.then g.lines version r.enters in
+    let ih = on k.prelude (kept ++ bytes ∷ []) k.version (ap (λ q. (moving_from q (n + 1) lines tail).ending) (sym k.next) ∙ g.ends) in
+    record {
+      text = ih.text;
+      scene = ih.scene;
+      rest = bytes ∷ ih.rest;
+      none = ih.none;
+      is = ap (λ o. (moving.moving_after (Keeping p kept) n o (λ r. moving_from r (n + 1) lines tail)).lines) g.is
+          ∙ (ap₂ (λ ls q. ls ++ (moving_from q (n + 1) lines tail).lines) k.none k.next ∙ (ih.is ∙ append_assoc kept (bytes ∷ []) ih.rest));
+      was = ap (λ b. course_at (Opening p) (cond b (Ok (Opening p)) (output.opened p (start_fault p.start))) (λ q. course_after q n (output.outcome q n bytes) (λ u. course_from u (n + 1) lines []))) opened
+          ∙ (ap (λ o. course_after (Opening p) n o (λ u. course_from u (n + 1) lines [])) (read-short (Opening p) n bytes r.line r.short r.spelled ∙ k.one) ∙ ap (λ c. before [] c) ih.was);
+      now = ap (λ b. course_at (Opening (two p)) (cond b (Ok (Opening (two p))) (output.opened (two p) (start_fault p.start))) (λ q. course_after q n (output.outcome q n bytes) (λ u. course_from u (n + 1) ih.rest []))) opened
+          ∙ (ap (λ o. course_after (Opening (two p)) n o (λ u. course_from u (n + 1) ih.rest [])) (read-short (Opening (two p)) n bytes r.line r.short r.spelled ∙ k.both) ∙ ap (λ c. before [] c) ih.now);
+      same = ih.same;
+    }
+
+-- and so does what follows the first line behind it
+behind : (p : Prelude) (kept : List (List ℕ)) (n : ℕ) (bytes : List ℕ) (lines : List (List ℕ)) (tail : List ℕ) (story : Story) (count : ℕ) → p.version ≡ One
+    → opens n bytes ≡ false → start_fault p.start ≡ None → (next_of n bytes lines tail (Moved (fresh p.start) [] 0)).ending ≡ AllRead story count
+    → KeptAgrees p n (bytes ∷ lines) tail kept (kept ++ (next_of n bytes lines tail (Moved (fresh p.start) [] 0)).lines) story count
+behind p kept n bytes lines tail story count version over good ends =
+    let x = opening (fresh p.start) in
+    let a = calls-agree (bytes ∷ lines) x (opening-fits (fresh p.start) refl) 0 n tail story count ends in
+    let q = Moved (fresh p.start) [] 0 in
+    let g = gone-on q n (moving.outcome q n bytes) (λ r. moving_from r (n + 1) lines tail) story count ends in
+    let r = was-read q n bytes g.then g.lines g.is in
+    let first = moves-start n (fresh p.start) [] 0 bytes g.then g.lines over (output.call_of r.line) r.enters in
+    let more = first.rest ++ (moving_from g.then (n + 1) lines tail).lines in
+    let written : (next_of n bytes lines tail q).lines ≡ first.first ∷ more
+    = ap (λ o. (moving.moving_after q n o (λ r. moving_from r (n + 1) lines tail)).lines) g.is ∙ ap (λ ls. ls ++ (moving_from g.then (n + 1) lines tail).lines) first.is in
+    record {
+      text = a.text;
+      scene = a.now.scene;
+      rest = (next_of n bytes lines tail q).lines;
+      none = a.none;
+      is = refl;
+      was = over-one p version good n bytes over lines ∙ a.was;
+      now = ap (λ ls. course_from (Opening (two p)) n ls []) written
+          ∙ (over-two p version good n first.first first.ends more ∙ (ap (λ ls. course_from (Stepping x 0) n ls []) (sym written) ∙ a.now.ends n));
+      same = a.now.same;
+    }
+
+by-line : (p : Prelude) (kept : List (List ℕ)) (n : ℕ) (bytes : List ℕ) (lines : List (List ℕ)) (tail : List ℕ) (story : Story) (count : ℕ) → p.version ≡ One
+    → ((p' : Prelude) (kept' : List (List ℕ)) → p'.version ≡ One → (moving_from (Keeping p' kept') (n + 1) lines tail).ending ≡ AllRead story count
+    → KeptAgrees p' (n + 1) lines tail kept' (moving_from (Keeping p' kept') (n + 1) lines tail).lines story count)
+    → (moving_from (Keeping p kept) n (bytes ∷ lines) tail).ending ≡ AllRead story count
+    → KeptAgrees p n (bytes ∷ lines) tail kept (moving_from (Keeping p kept) n (bytes ∷ lines) tail).lines story count
+by-line p kept n bytes lines tail story count version on ends = go (opens n bytes) refl (start_fault p.start) refl ends
+  where
+    go : (b : Bool) → opens n bytes ≡ b → (o : Option (ℕ × Fault)) → start_fault p.start ≡ o → (line_at p kept (next_of n bytes lines tail) b o).ending ≡ AllRead story count
+        → KeptAgrees p n (bytes ∷ lines) tail kept (line_at p kept (next_of n bytes lines tail) b o).lines story count
+    go true opened o good ends = inside p kept n bytes lines tail story count version on opened ends
+    go false over (Some refused) good ends = (cc)
+    go false over None good ends = behind p kept n bytes lines tail story count version over good ends
+
+prelude-agrees : (lines : List (List ℕ)) (p : Prelude) (kept : List (List ℕ)) (n : ℕ) (tail : List ℕ) (story : Story) (count : ℕ) → p.version ≡ One
+    → (moving_from (Keeping p kept) n lines tail).ending ≡ AllRead story count → KeptAgrees p n lines tail kept (moving_from (Keeping p kept) n lines tail).lines story count
+prelude-agrees [] p kept n tail story count version ends = end-agrees p kept n tail story count version ends
+prelude-agrees (bytes ∷ lines) p kept n tail story count version ends =
+    by-line p kept n bytes lines tail story count version (λ p' kept' v e. prelude-agrees lines p' kept' (n + 1) tail story count v e) ends
+
+-- ---- the header
+
+record Headed (then : Moving) (lines : List (List ℕ)) (line : Line) : Type 0 where
+  prelude : Prelude
+  version : prelude.version ≡ One
+  header : Line
+  next : then ≡ Keeping prelude []
+  written : lines ≡ spelling header ∷ []
+  one : output.entered Unstarted 1 line ≡ output.Goes (Opening prelude) []
+  both : output.outcome Unstarted 1 (spelling header) ≡ output.Goes (Opening (two prelude)) []
+
+headed : (bytes : List ℕ) (line : Line) (then : Moving) (lines : List (List ℕ)) → IsSpellable line → moving.entered Unmoved 1 bytes line ≡ moving.Goes then lines → Headed then lines line
+headed bytes (Header One s t l c) then lines fits goes = go (are_within (sizes_of s t l c log_limit)) refl goes
+  where
+    go : (b : Bool) → are_within (sizes_of s t l c log_limit) ≡ b
+        → cond b (moving.Goes (Keeping (empty_prelude One (sizes_of s t l c log_limit)) []) (spelling (Header Two s t l c) ∷ [])) (moving.Bad why.Limit) ≡ moving.Goes then lines
+        → Headed then lines (Header One s t l c)
+    go true within goes = record {
+      prelude = empty_prelude One (sizes_of s t l c log_limit);
+      version = refl;
+      header = Header Two s t l c;
+      next = cc;
+      written = cc;
+      one = ap (λ b. cond b (output.Goes (Opening (empty_prelude One (sizes_of s t l c log_limit))) []) (output.Bad why.Limit)) within;
+      both = read-spelled Unstarted 1 (Header Two s t l c) fits (λ list same. (cc))
+          ∙ ap (λ b. cond b (output.Goes (Opening (empty_prelude Two (sizes_of s t l c log_limit))) []) (output.Bad why.Limit)) within;
+    }
+    go false within goes = (cc)
+headed bytes (Header Two s t l c) then lines fits goes = (cc)
+headed bytes kind.Profile then lines fits goes = (cc)
+headed bytes (Order list) then lines fits goes = (cc)
+headed bytes (Bless a b) then lines fits goes = (cc)
+headed bytes (kind.Init s lock) then lines fits goes = (cc)
+headed bytes (OnLock l) then lines fits goes = (cc)
+headed bytes (kind.Assert s l a) then lines fits goes = (cc)
+headed bytes (kind.Warn s l f) then lines fits goes = (cc)
+headed bytes (kind.Define s a b) then lines fits goes = (cc)
+headed bytes (kind.Watch s w) then lines fits goes = (cc)
+
+pub tells-same : MigrationsTellTheSame
+tells-same [] [] story count ends = (cc)
+tells-same [] (b ∷ tail) story count ends = (cc)
+tells-same (bytes ∷ lines) tail story count ends =
+    let g = gone-on Unmoved 1 (moving.outcome Unmoved 1 bytes) (λ r. moving_from r 2 lines tail) story count ends in
+    let r = was-read Unmoved 1 bytes g.then g.lines g.is in
+    let h = headed bytes r.line g.then g.lines (line_takes bytes r.line r.spelled).1 r.enters in
+    let a = prelude-agrees lines h.prelude [] 2 tail story count h.version (ap (λ q. (moving_from q 2 lines tail).ending) (sym h.next) ∙ g.ends) in
+    let written : (moving_from Unmoved 1 (bytes ∷ lines) tail).lines ≡ spelling h.header ∷ a.rest
+    = ap (λ o. (moving.moving_after Unmoved 1 o (λ r. moving_from r 2 lines tail)).lines) g.is
+    ∙ (ap₂ (λ ls q. ls ++ (moving_from q 2 lines tail).lines) h.written h.next ∙ ap (λ ls. spelling h.header ∷ ls) a.is) in (
+      a.none,
+      record {
+        text = a.text;
+        story = story;
+        scene = a.scene;
+        count = count;
+        was = ap (λ o. course_after Unstarted 1 o (λ u. course_from u 2 lines [])) (read-short Unstarted 1 bytes r.line r.short r.spelled ∙ h.one) ∙ ap (λ c. before [] c) a.was;
+        now = ap (λ ls. course_from Unstarted 1 ls []) written
+            ∙ (ap (λ o. course_after Unstarted 1 o (λ u. course_from u 2 a.rest [])) h.both ∙ ap (λ c. before [] c) a.now);
+        same = a.same;
+      },
+    )
