@@ -30,7 +30,26 @@ pub struct Shared<J: Room> {
     pub(crate) desk: Mutex<Desk<J>>,
 }
 
+impl<J: Room> Drop for Shared<J> {
+    fn drop(self) {
+        let Shared { desk: _ } = self;
+    }
+}
+
 impl<J: Room> Shared<J> {
+    // Behind a lock.
+    pub(crate) fn of(desk: Desk<J>) -> Shared<J> {
+        Shared {
+            desk: Mutex::new(desk),
+        }
+    }
+
+    // From behind its lock.
+    pub(crate) fn into_desk(self) -> Desk<J> {
+        let Shared { desk } = self;
+        desk.into_inner()
+    }
+
     /// Hands out a seat: their numbers are given from 1, in order. It has made no entry and was given no file.
     ///
     /// # Errors
