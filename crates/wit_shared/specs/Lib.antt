@@ -1,3 +1,4 @@
 pub mod Calls
 pub mod Desk
 pub mod Opening
+pub mod Own

@@ -43,6 +43,16 @@ impl<J: Room> Model for Desk<J> {
     ghost invariant = { λ d. (d.verifier.start ≡ J.start) × (d.keeper ≡ journal d.verifier.history d.verifier.files d.handed) };
 }
 
+impl<J: Room> Drop for Desk<J> {
+    fn drop(self) {
+        let Desk {
+            verifier: _,
+            handed: _,
+            keeper: _,
+        } = self;
+    }
+}
+
 impl<J: Room> Desk<J> {
     /// Hands out the next seat.
     pub fn seat(&mut self) -> Result<Seat<J>, Fault>

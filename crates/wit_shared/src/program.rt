@@ -41,6 +41,7 @@ pub enum Reason {
 }
 
 /// A verifier that isn't shared, as it was.
+#[derive(Drop)]
 pub struct Unopened {
     /// The verifier.
     pub verifier: Verifier,
@@ -49,6 +50,7 @@ pub struct Unopened {
 }
 
 /// What wasn't run, with its verifier, both as they were.
+#[derive(Drop)]
 pub struct Refused<S> {
     /// The verifier.
     pub verifier: Verifier,
