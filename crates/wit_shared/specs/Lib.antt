@@ -2,3 +2,4 @@ pub mod Calls
 pub mod Closing
 pub mod Desk
 pub mod Opening
+pub mod Own
