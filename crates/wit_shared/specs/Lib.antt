@@ -1,3 +1,5 @@
 pub mod Calls
+pub mod Closing
 pub mod Desk
 pub mod Opening
+pub mod Own

@@ -10,7 +10,7 @@ ghost use Rattle.wit_model.specs.Rules.State.{state_of};
 ghost use Rattle.wit_model.specs.Rules.Step.{Answers, AnswersOrFails};
 ghost use Rattle.wit_model.specs.Rules.Warnings.{step_warn};
 ghost use Rattle.wit_core.specs.Replies.{new_lock, made_reply};
-ghost use Rattle.wit_seats.specs.Rule.{newcomer};
+ghost use Rattle.wit_seats.specs.Rule.{journal, newcomer};
 ghost use Rattle.wit_seats.specs.Seats.{Told};
 ghost use Rattle.wit_shared.specs.Calls.{given_by};
 
@@ -43,7 +43,31 @@ impl<J: Room> Model for Desk<J> {
     ghost invariant = { λ d. (d.verifier.start ≡ J.start) × (d.keeper ≡ journal d.verifier.history d.verifier.files d.handed) };
 }
 
+impl<J: Room> Drop for Desk<J> {
+    fn drop(self) {
+        let Desk {
+            verifier: _,
+            handed: _,
+            keeper: _,
+        } = self;
+    }
+}
+
 impl<J: Room> Desk<J> {
+    // The verifier, and the keeper that knows its log.
+    pub(crate) fn into_parts(self) -> (Verifier, Keeper<J>)
+        ensures verifier { result.0 ≡ self.story }
+        ensures start { result.0.start ≡ J.start }
+        ensures keeper { result.1 ≡ journal self.story.history self.story.files self.handed }
+    {
+        let Desk {
+            verifier,
+            handed: _,
+            keeper,
+        } = self;
+        (verifier, keeper)
+    }
+
     /// Hands out the next seat.
     pub fn seat(&mut self) -> Result<Seat<J>, Fault>
         ensures ok { IfOk result (λ s. (s.seat ≡ self.old.handed + 1) × (s.seat ≤ J.start.sizes.seats) × (s.own ≡ []) × (s.given ≡ [])) }

@@ -8,7 +8,6 @@ use crate::following::look;
 use crate::shared::Shared;
 use std::alloc::Global;
 use std::marker::{Brand, Model};
-use std::sync::Mutex;
 use wit_core::Verifier;
 use wit_seats::Room;
 
@@ -41,6 +40,7 @@ pub enum Reason {
 }
 
 /// A verifier that isn't shared, as it was.
+#[derive(Drop)]
 pub struct Unopened {
     /// The verifier.
     pub verifier: Verifier,
@@ -49,6 +49,7 @@ pub struct Unopened {
 }
 
 /// What wasn't run, with its verifier, both as they were.
+#[derive(Drop)]
 pub struct Refused<S> {
     /// The verifier.
     pub verifier: Verifier,
@@ -102,13 +103,11 @@ impl Opened {
         let Opened { verifier, log } = self;
         let mut keeper = log.named::<J>();
         look(&mut keeper, &verifier);
-        Shared {
-            desk: Mutex::new(Desk {
-                verifier,
-                handed: 0,
-                keeper,
-            }),
-        }
+        Shared::of(Desk {
+            verifier,
+            handed: 0,
+            keeper,
+        })
     }
 }
 

@@ -1,9 +1,9 @@
 //! The shared verifier's calls.
 
-ghost use Rattle.std.specs.Prelude.{◌≡◌, ◌≤◌, [], IfOk, IfErr};
+ghost use Rattle.std.specs.Prelude.{◌≡◌, ◌≢◌, ◌≤◌, [], Err, IfOk, IfErr, IsOk};
 ghost use Rattle.std.specs.Option.{option_copied};
 ghost use Rattle.wit_model.specs.declared.calls.Call.TheVariants.{Init, Check, Note, NoteTry, GiveUp, Unlock, SetWatch, Destroy, Upgrade, Downgrade, NoRelease, ReleaseOk, DefineOrder};
-ghost use Rattle.wit_model.specs.declared.faults.Fault.TheVariants.{UnknownSeat};
+ghost use Rattle.wit_model.specs.declared.faults.Fault.TheVariants.{UnknownFile, UnknownSeat};
 ghost use Rattle.wit_model.specs.Rules.Assertions.{step_assert};
 ghost use Rattle.wit_model.specs.Rules.Files.{NamesFile};
 ghost use Rattle.wit_model.specs.Rules.State.{state_of};
@@ -12,6 +12,7 @@ ghost use Rattle.wit_model.specs.Rules.Warnings.{step_warn};
 ghost use Rattle.wit_core.specs.Replies.{new_lock, made_reply};
 ghost use Rattle.wit_seats.specs.Seats.{Told};
 ghost use Rattle.wit_shared.specs.Calls.{given_by};
+ghost use Rattle.wit_shared.specs.Own.{AsksFor, HasFile};
 
 use crate::desk::Desk;
 use std::sync::{Mutex, MutexGuard, Wait};
@@ -30,7 +31,26 @@ pub struct Shared<J: Room> {
     pub(crate) desk: Mutex<Desk<J>>,
 }
 
+impl<J: Room> Drop for Shared<J> {
+    fn drop(self) {
+        let Shared { desk: _ } = self;
+    }
+}
+
 impl<J: Room> Shared<J> {
+    // Behind a lock.
+    pub(crate) fn of(desk: Desk<J>) -> Shared<J> {
+        Shared {
+            desk: Mutex::new(desk),
+        }
+    }
+
+    // From behind its lock.
+    pub(crate) fn into_desk(self) -> Desk<J> {
+        let Shared { desk } = self;
+        desk.into_inner()
+    }
+
     /// Hands out a seat: their numbers are given from 1, in order. It has made no entry and was given no file.
     ///
     /// # Errors
@@ -80,7 +100,7 @@ impl<J: Room> Shared<J> {
     /// Asks whether a lock may be acquired: `Verifier::check`.
     ///
     /// # Errors
-    /// Those of `Verifier::check`.
+    /// Those of `Verifier::check`; not `UnknownFile` for a file that the seat was given.
     pub fn check<R: Wait>(
         &self,
         rt: &R,
@@ -90,8 +110,9 @@ impl<J: Room> Shared<J> {
         ops: OpFlags,
         site: Site,
     ) -> Result<Reply, Fault>
-        ensures { Told J.start [] (λ s new. AnswersOrFails s seat.old.seat
+        ensures told { Told J.start [] (λ s new. AnswersOrFails s seat.old.seat
             (Check (record { lock = lock; site = site; mode = mode; ops = ops })) result new) seat.old seat.new }
+        ensures file { HasFile seat.old.given site.file → result ≢ Err UnknownFile }
     {
         let request = Request {
             lock,
@@ -102,12 +123,13 @@ impl<J: Room> Shared<J> {
         self.call(rt, seat, Call::Check(request))
     }
 
-    /// A requested lock was acquired: `Verifier::note`. It takes no memory.
+    /// A requested lock was acquired: `Verifier::note`. It takes no memory, and is accepted where the seat asks for the lock.
     ///
     /// # Errors
     /// Those of `Verifier::note`.
     pub fn note<R: Wait>(&self, rt: &R, seat: &mut Seat<J>, lock: LockNo) -> Result<Reply, Fault>
-        ensures { Told J.start [] (λ s new. Answers s seat.old.seat (Note lock) result new) seat.old seat.new }
+        ensures told { Told J.start [] (λ s new. Answers s seat.old.seat (Note lock) result new) seat.old seat.new }
+        ensures asked { AsksFor seat.old lock → IsOk result }
     {
         let mut desk = self.desk.lock(rt);
         let answer = desk.note(seat, lock);
@@ -118,7 +140,7 @@ impl<J: Room> Shared<J> {
     /// A lock was acquired without waiting: `Verifier::note_try`.
     ///
     /// # Errors
-    /// Those of `Verifier::note_try`.
+    /// Those of `Verifier::note_try`; not `UnknownFile` for a file that the seat was given.
     pub fn note_try<R: Wait>(
         &self,
         rt: &R,
@@ -127,17 +149,19 @@ impl<J: Room> Shared<J> {
         mode: Mode,
         site: Site,
     ) -> Result<Reply, Fault>
-        ensures { Told J.start [] (λ s new. AnswersOrFails s seat.old.seat (NoteTry lock mode site) result new) seat.old seat.new }
+        ensures told { Told J.start [] (λ s new. AnswersOrFails s seat.old.seat (NoteTry lock mode site) result new) seat.old seat.new }
+        ensures file { HasFile seat.old.given site.file → result ≢ Err UnknownFile }
     {
         self.call(rt, seat, Call::NoteTry(lock, mode, site))
     }
 
-    /// A requested lock wasn't acquired: `Verifier::give_up`. It takes no memory.
+    /// A requested lock wasn't acquired: `Verifier::give_up`. It takes no memory, and is accepted where the seat asks for the lock.
     ///
     /// # Errors
     /// Those of `Verifier::give_up`.
     pub fn give_up<R: Wait>(&self, rt: &R, seat: &mut Seat<J>, lock: LockNo) -> Result<Reply, Fault>
-        ensures { Told J.start [] (λ s new. Answers s seat.old.seat (GiveUp lock) result new) seat.old seat.new }
+        ensures told { Told J.start [] (λ s new. Answers s seat.old.seat (GiveUp lock) result new) seat.old seat.new }
+        ensures asked { AsksFor seat.old lock → IsOk result }
     {
         let mut desk = self.desk.lock(rt);
         let answer = desk.give_up(seat, lock);

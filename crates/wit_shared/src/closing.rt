@@ -1,0 +1,136 @@
+//! A shared verifier comes back once all its seats are given back.
+
+ghost use Rattle.std.specs.Prelude.{◌≡◌, ◌≤◌, IfOk, IfErr, MatchOption};
+ghost use Rattle.wit_seats.specs.Rule.{journal};
+ghost use Rattle.wit_shared.specs.Closing.{has_seat, HasSeatsTo, IsMissing, IsLeft, AreLeft, IsClosed};
+
+use crate::desk::Desk;
+use crate::following::{follow, look};
+use crate::shared::Shared;
+use std::sync::Wait;
+use wit_core::Verifier;
+use wit_model::SeatNo;
+use wit_seats::{Keeper, Room, Seat};
+
+/// A shared verifier that wasn't closed, with the seats that were given back, all as they were.
+pub struct Unclosed<J: Room> {
+    /// The shared verifier.
+    pub shared: Shared<J>,
+    /// The seats.
+    pub seats: Vec<Seat<J>>,
+    /// The least number of a seat that was handed out and isn't among them.
+    pub missing: SeatNo,
+}
+
+impl<J: Room> Drop for Unclosed<J> {
+    fn drop(self) {
+        let Unclosed {
+            shared: _,
+            seats: _,
+            missing: _,
+        } = self;
+    }
+}
+
+impl<J: Room> Unclosed<J> {
+    /// The shared verifier and the seats, to go on with.
+    pub fn into_parts(self) -> (Shared<J>, Vec<Seat<J>>)
+        ensures { result.1 ≡ self.seats }
+    {
+        let Unclosed {
+            shared,
+            seats,
+            missing: _,
+        } = self;
+        (shared, seats)
+    }
+}
+
+impl<J: Room> Shared<J> {
+    /// Gives the verifier back for all its seats. For each of them the log has just the entries of its list, and began with
+    /// what it has seen, and its files stand; nobody else has entries; the verifier began as it did when it was shared.
+    ///
+    /// # Errors
+    /// Where a seat that was handed out isn't there; the shared verifier and the seats come back.
+    pub fn close<R: Wait>(self, rt: &R, seats: Vec<Seat<J>>) -> Result<Verifier, Unclosed<J>>
+        ensures ok { IfOk result (λ v. IsClosed J.start v seats.items) }
+        ensures err { IfErr result (λ u. (u.seats ≡ seats) × IsMissing u.missing.0 seats.items) }
+    {
+        let _rt = rt;
+        self.into_desk().close(seats)
+    }
+}
+
+impl<J: Room> Desk<J> {
+    /// Gives the verifier back where all seats that were handed out are there.
+    ///
+    /// # Errors
+    /// Where one is missing.
+    pub fn close(self, seats: Vec<Seat<J>>) -> Result<Verifier, Unclosed<J>>
+        ensures same { IfOk result (λ v. v ≡ self.story) }
+        ensures all { IfOk result (λ v. HasSeatsTo self.handed seats.items) }
+        ensures ok { IfOk result (λ v. IsClosed J.start v seats.items) }
+        ensures err { IfErr result (λ u. (u.seats ≡ seats) × (u.missing.0 ≤ self.handed) × IsMissing u.missing.0 seats.items) }
+    {
+        match missing_of(&seats, self.handed) {
+            Some(missing) => Err(Unclosed {
+                shared: Shared::of(self),
+                seats,
+                missing,
+            }),
+            None => Ok(self.settle(seats)),
+        }
+    }
+
+    // Gives the verifier back.
+    fn settle(self, seats: Vec<Seat<J>>) -> Verifier
+        requires { HasSeatsTo self.handed seats.items }
+        ensures same { result ≡ self.story }
+        ensures closed { IsClosed J.start result seats.items }
+    {
+        let (verifier, mut keeper) = self.into_parts();
+        settle_all(&mut keeper, &verifier, seats);
+        look(&mut keeper, &verifier);
+        verifier
+    }
+}
+
+// The least number up to this one of a seat that isn't among these.
+fn missing_of<J: Room>(seats: &[Seat<J>], handed: u16) -> Option<SeatNo>
+    ensures { MatchOption result (HasSeatsTo handed seats.now) (λ n. (n.0 ≤ handed) × IsMissing n.0 seats.now) }
+{
+    for number in 1..=handed {
+        if !has_seat(seats, SeatNo(number)) {
+            return Some(SeatNo(number));
+        }
+    }
+    None
+}
+
+fn has_seat<J: Room>(seats: &[Seat<J>], number: SeatNo) -> bool
+    ensures { result ≡ has_seat number.0 seats.now }
+{
+    seats.iter().any(|seat| seat.number() == number)
+}
+
+// Settles each seat.
+fn settle_all<J: Room>(keeper: &mut Keeper<J>, verifier: &Verifier, seats: Vec<Seat<J>>)
+    requires start { verifier.now.start ≡ J.start }
+    requires same { keeper.old ≡ journal verifier.now.history verifier.now.files keeper.old.handed }
+    ensures kept { keeper.new ≡ keeper.old }
+    ensures left { AreLeft verifier.now seats.items }
+{
+    for seat in seats {
+        settle(keeper, verifier, seat);
+    }
+}
+
+// A seat sees what became of the log.
+fn settle<J: Room>(keeper: &mut Keeper<J>, verifier: &Verifier, mut seat: Seat<J>)
+    requires start { verifier.now.start ≡ J.start }
+    requires same { keeper.old ≡ journal verifier.now.history verifier.now.files keeper.old.handed }
+    ensures kept { keeper.new ≡ keeper.old }
+    ensures left { IsLeft verifier.now seat }
+{
+    follow(keeper, verifier, &mut seat);
+}
