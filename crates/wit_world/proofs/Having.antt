@@ -1,7 +1,7 @@
 -- Where a seat stands among those who have shares, and what one share more or fewer is there.
-use Rattle.std.proofs.Common.{◌≡◌, ℕ, zero, suc, ◌+◌, ◌-◌, ◌<◌, ◌≤◌, Bool, true, false, not, ◌&&◌, cond, eqb, nat_lt, List, [], ◌∷◌, ◌++◌, length, get_or, set, Option, None, Some, refl, ap, ap₂, sym, ◌∙◌, inl, inr, arith}
-use Rattle.std.specs.List.{list_all, position, position_or_len, prefix_len, remove}
-use Rattle.std.proofs.lemmas.Bool.{cases_Bool, eqb-true, ltb-false, not-true}
+use Rattle.std.proofs.Common.{◌≡◌, ℕ, zero, suc, ◌+◌, ◌-◌, ◌<◌, ◌≤◌, Bool, true, false, not, ◌&&◌, cond, eqb, nat_lt, List, [], ◌∷◌, ◌++◌, length, get_or, set, None, Some, refl, ap, ap₂, sym, ◌∙◌, arith}
+use Rattle.std.specs.List.{list_all, position, position_or_len, remove}
+use Rattle.std.proofs.lemmas.Bool.{eqb-true, ltb-false, not-true}
 use Rattle.std.proofs.lemmas.List.Quantifiers.{position-Some}
 use Rattle.std.proofs.lemmas.List.Sums.{prefix_len_passes}
 use Rattle.wit_model.specs.World.Scenes.{RawLock, shares_among, is_only, one_more, one_fewer}

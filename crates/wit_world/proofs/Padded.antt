@@ -1,8 +1,8 @@
 -- Locks of which the last ones are nobody's.
-use Rattle.std.proofs.Common.{◌≡◌, ℕ, zero, suc, ◌+◌, ◌-◌, ◌<◌, ◌≤◌, Bool, true, false, nat_lt, nat_le, List, [], ◌∷◌, ◌++◌, length, get_or, set, max, replicate, unwrap_or, Result, Ok, Err, OnErr, refl, ap, sym, ◌∙◌, subst, inl, inr, arith, append_assoc, length-append}
+use Rattle.std.proofs.Common.{◌≡◌, ℕ, zero, suc, ◌+◌, ◌-◌, ◌<◌, ◌≤◌, nat_lt, List, [], ◌∷◌, ◌++◌, length, get_or, set, replicate, Result, Ok, Err, OnErr, refl, ap, sym, ◌∙◌, subst, inl, inr, arith, append_assoc, length-append}
 use Rattle.std.proofs.lemmas.Bool.{cases_Bool, ltb-true, ltb-false}
 use Rattle.std.proofs.lemmas.List.{length-set, length-replicate, length_push, replicate_more, replicate-append-replicate, set-append_left, get_or_read, get_or_past}
-use Rattle.wit_model.specs.Rules.Numbers.{with_number, with_changed}
+use Rattle.wit_model.specs.Rules.Numbers.{with_changed}
 use Rattle.wit_model.specs.World.Scenes.{RawLock, nobodys, raw_of, shares_among, shares_of}
 use Rattle.wit_model.proofs.Numbered.{with_number-or, with_changed-at}
 use Rattle.wit_world.specs.Shares.{up_to}

@@ -18,7 +18,7 @@ pub struct Raw {
     alloc: Global,
     /// How many locks were made.
     made: usize,
-    /// The first of them, up to one at least of which somebody had a share; the others are nobody's.
+    /// The first of them; nobody ever had a share of the others.
     locks: Vec<Shares>,
 }
 

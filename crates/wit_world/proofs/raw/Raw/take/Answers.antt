@@ -1,4 +1,4 @@
-use Rattle.std.proofs.Common.{◌≡◌, ◌-◌, ◌<◌, ◌≤◌, List, length, get_or, set, ap, sym, subst, ◌∙◌, arith}
+use Rattle.std.proofs.Common.{◌≡◌, ◌-◌, ◌<◌, List, length, set, ap, sym, subst, ◌∙◌, arith}
 use Rattle.std.proofs.lemmas.List.{set-get_or}
 use Rattle.wit_model.specs.Rules.Numbers.{with_changed}
 use Rattle.wit_model.specs.World.Scenes.{RawLock, raw_of, shares_among, shares_of, one_more}
