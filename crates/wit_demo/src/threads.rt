@@ -54,9 +54,12 @@ pub(crate) fn run<J: Room + Send + Sync, R: Threads + Wait + Sync>(
     four_did?;
     five_did?;
     take_both(rt, &shared, &mut six, &b, &a, 3)?;
-    for seat in [one, two, three, four, five, six] {
-        seats.push_reserved(seat);
-    }
+    seats.push_reserved(one);
+    seats.push_reserved(two);
+    seats.push_reserved(three);
+    seats.push_reserved(four);
+    seats.push_reserved(five);
+    seats.push_reserved(six);
     match shared.close(rt, seats) {
         Ok(verifier) => Ok(verifier),
         Err(_) => Err(Fault::UnknownSeat),
