@@ -1,4 +1,4 @@
--- What clap's definitions make of one word, and which view it names.
+-- What clap's definitions make of one word, and what it asks for.
 use Rattle.std.proofs.Common.{◌≡◌, ◌∙◌, ℕ, Bool, true, false, zero, suc, List, [], ◌∷◌, Option, Some, None, IfNone, Result, Ok, Err, MatchResult, length, refl, sym, ap, subst, codes, if◌then◌else◌, get_or, slice_get, IsUtf8, arith}
 use Rattle.std.proofs.lemmas.Slice.Eq.{bytes_eq-Decides}
 use Rattle.std.specs.Global.{Vec}
@@ -8,13 +8,14 @@ use Rattle.clap.specs.Words.{Rule, Text, first_of, matches_of, takes, built}
 use Rattle.clap.specs.Lexer.{long_of, short_of}
 use Rattle.clap.specs.Walk.{Held, Step, trailing, after_flag, after_step, bundle_met, bundle_step, finished, idle, long_or_other, nothing_held, plain, short_or_plain, value, walk_from, walked}
 use Rattle.clap.proofs.OnLiterals.{clap_on_literals}
-use Rattle.wit_model.specs.declared.lines.View.{View}
 use Rattle.wit_model.specs.declared.lines.View.TheVariants.{Reports, Graph, Locks, Circle}
-use Rattle.witness.specs.CommandLine.{asked, bytes_of, command, named, only_word, option_named}
+use Rattle.witness.specs.declared.command.Command.{Command}
+use Rattle.witness.specs.declared.command.Command.TheVariants.{Show, Demo}
+use Rattle.witness.specs.CommandLine.{asked, bytes_of, line, named, only_word, option_named}
 
 -- the rules that clap reads the words by
 abbrev pub rules : List Rule
-rules = (built command).top.rules
+rules = (built line).top.rules
 
 -- a short flag is unknown, so that its word is a value
 char_is_value : (word flags : Text) (k : ℕ) (o : Option ℕ)
@@ -52,7 +53,7 @@ given word false = ap (text_of word) (other_is_value word (long_of word))
 
 -- clap gives the word, but for `--`
 pub text_given : (name word : Text)
-    → first_of (codes "word") (matches_of command (name ∷ word ∷ [])) ≡ (if bytes_eq word (45 ∷ 45 ∷ []) then None else Some word)
+    → first_of (codes "word") (matches_of line (name ∷ word ∷ [])) ≡ (if bytes_eq word (45 ∷ 45 ∷ []) then None else Some word)
 unfolding walked
 text_given name word = given word (bytes_eq word (45 ∷ 45 ∷ []))
 
@@ -66,70 +67,74 @@ kept false word given e = sym e
 
 -- the text that clap gives is the only word
 pub given_is_asked : (words : List Text) (given : Text) → length words ≡ 2
-    → Some given ≡ first_of (codes "word") (matches_of command words) → only_word words ≡ Some given
+    → Some given ≡ first_of (codes "word") (matches_of line words) → only_word words ≡ Some given
 given_is_asked [] given two e = absurd (omega arith)
 given_is_asked (name ∷ []) given two e = absurd (omega arith)
 given_is_asked (name ∷ word ∷ []) given two e = kept (bytes_eq word (45 ∷ 45 ∷ [])) word given (e ∙ text_given name word)
 given_is_asked (name ∷ word ∷ third ∷ more) given two e = absurd (omega arith)
 
--- what each word has that names a view
-pub for_views : (P : Text → Type 0) → P (codes "replay") → P (codes "graph") → P (codes "locks") → P (codes "circle")
-    → (word : Text) (view : View) → named word ≡ Some view → P word
-for_views P replay graph locks circle word view is =
-    go (bytes_eq word (codes "replay")) refl (bytes_eq word (codes "graph")) refl (bytes_eq word (codes "locks")) refl (bytes_eq word (codes "circle")) refl is
+-- what each word has that asks for something
+pub for_words : (P : Text → Type 0) → P (codes "replay") → P (codes "graph") → P (codes "locks") → P (codes "circle") → P (codes "demo")
+    → (word : Text) (what : Command) → named word ≡ Some what → P word
+for_words P replay graph locks circle demo word what is =
+    go (bytes_eq word (codes "replay")) refl (bytes_eq word (codes "graph")) refl (bytes_eq word (codes "locks")) refl (bytes_eq word (codes "circle")) refl
+    (bytes_eq word (codes "demo")) refl is
   where
     same : (literal : Text) → bytes_eq word literal ≡ true → P literal → P word
     same literal e has = subst P (sym ((bytes_eq-Decides word literal).0 e)) has
 
     go : (r : Bool) → bytes_eq word (codes "replay") ≡ r → (g : Bool) → bytes_eq word (codes "graph") ≡ g
         → (l : Bool) → bytes_eq word (codes "locks") ≡ l → (c : Bool) → bytes_eq word (codes "circle") ≡ c
-        → (if r then Some Reports else if g then Some Graph else if l then Some Locks else if c then Some Circle else None) ≡ Some view → P word
-    go true at g isg l isl c isc e = same (codes "replay") at replay
-    go false at true isg l isl c isc e = same (codes "graph") isg graph
-    go false at false isg true isl c isc e = same (codes "locks") isl locks
-    go false at false isg false isl true isc e = same (codes "circle") isc circle
-    go false at false isg false isl false isc e = cc
+        → (d : Bool) → bytes_eq word (codes "demo") ≡ d
+        → (if r then Some (Show Reports) else if g then Some (Show Graph) else if l then Some (Show Locks) else if c then Some (Show Circle) else if d then Some Demo else None)
+        ≡ Some what → P word
+    go true at g isg l isl c isc d isd e = same (codes "replay") at replay
+    go false at true isg l isl c isc d isd e = same (codes "graph") isg graph
+    go false at false isg true isl c isc d isd e = same (codes "locks") isl locks
+    go false at false isg false isl true isc d isd e = same (codes "circle") isc circle
+    go false at false isg false isl false isc true isd e = same (codes "demo") isd demo
+    go false at false isg false isl false isc false isd e = cc
 
--- clap gives a text where the only word names a view
-pub view_is_given : (words : List Text) (word : Text) (view : View) → only_word words ≡ Some word → named word ≡ Some view
-    → first_of (codes "word") (matches_of command words) ≡ Some word
-view_is_given [] word view e is = cc
-view_is_given (name ∷ []) word view e is = cc
-view_is_given (name ∷ only ∷ []) word view e is =
+-- clap gives a text where the only word asks for something
+pub word_is_given : (words : List Text) (word : Text) (what : Command) → only_word words ≡ Some word → named word ≡ Some what
+    → first_of (codes "word") (matches_of line words) ≡ Some word
+word_is_given [] word what e is = cc
+word_is_given (name ∷ []) word what e is = cc
+word_is_given (name ∷ only ∷ []) word what e is =
     text_given name only ∙ ap (λ (w : Text). if bytes_eq w (45 ∷ 45 ∷ []) then None else Some w) (same_text _ _ e)
-    ∙ ap (λ b. if b then None else Some word) (for_views (λ w. bytes_eq w (45 ∷ 45 ∷ []) ≡ false) refl refl refl refl word view is)
-view_is_given (name ∷ only ∷ third ∷ more) word view e is = cc
+    ∙ ap (λ b. if b then None else Some word) (for_words (λ w. bytes_eq w (45 ∷ 45 ∷ []) ≡ false) refl refl refl refl refl word what is)
+word_is_given (name ∷ only ∷ third ∷ more) word what e is = cc
 
-literal_passes : (name word : Text) (view : View) → named word ≡ Some view → takes command (name ∷ word ∷ []) ≡ true
+literal_passes : (name word : Text) (what : Command) → named word ≡ Some what → takes line (name ∷ word ∷ []) ≡ true
 unfolding clap_on_literals
-literal_passes name word view is = for_views (λ w. takes command (name ∷ w ∷ []) ≡ true) refl refl refl refl word view is
+literal_passes name word what is = for_words (λ w. takes line (name ∷ w ∷ []) ≡ true) refl refl refl refl refl word what is
 
--- clap accepts a command line whose only word names a view
-pub view_passes : (words : List Text) (word : Text) (view : View) → only_word words ≡ Some word → named word ≡ Some view → takes command words ≡ true
-view_passes [] word view e is = cc
-view_passes (name ∷ []) word view e is = cc
-view_passes (name ∷ only ∷ []) word view e is = ap (λ (w : Text). takes command (name ∷ w ∷ [])) (same_text _ _ e) ∙ literal_passes name word view is
-view_passes (name ∷ only ∷ third ∷ more) word view e is = cc
+-- clap accepts a command line whose only word asks for something
+pub word_passes : (words : List Text) (word : Text) (what : Command) → only_word words ≡ Some word → named word ≡ Some what → takes line words ≡ true
+word_passes [] word what e is = cc
+word_passes (name ∷ []) word what e is = cc
+word_passes (name ∷ only ∷ []) word what e is = ap (λ (w : Text). takes line (name ∷ w ∷ [])) (same_text _ _ e) ∙ literal_passes name word what is
+word_passes (name ∷ only ∷ third ∷ more) word what e is = cc
 
--- where no view can be named none is
-unnamed_by : (word : Text) (o : Option View) → named word ≡ o → ((view : View) → named word ≡ Some view → ⊥) → named word ≡ None
+-- where nothing can be asked for nothing is
+unnamed_by : (word : Text) (o : Option Command) → named word ≡ o → ((what : Command) → named word ≡ Some what → ⊥) → named word ≡ None
 unnamed_by word None is never = is
-unnamed_by word (Some view) is never = absurd (never view is)
+unnamed_by word (Some what) is never = absurd (never what is)
 
-pub unnamed_option : (word : Option Text) → ((w : Text) (view : View) → word ≡ Some w → named w ≡ Some view → ⊥) → None ≡ option_named word
+pub unnamed_option : (word : Option Text) → ((w : Text) (what : Command) → word ≡ Some w → named w ≡ Some what → ⊥) → None ≡ option_named word
 unnamed_option None never = refl
-unnamed_option (Some word) never = sym (unnamed_by word (named word) refl (λ view is. never word view refl is))
+unnamed_option (Some word) never = sym (unnamed_by word (named word) refl (λ what is. never word what refl is))
 
-view_is_text : (word : Text) (view : View) → named word ≡ Some view → IsUtf8 word
+word_is_text : (word : Text) (what : Command) → named word ≡ Some what → IsUtf8 word
 unfolding clap_on_literals
-view_is_text word view is =
-    for_views IsUtf8 (codes "replay", (refl, refl)) (codes "graph", (refl, refl)) (codes "locks", (refl, refl)) (codes "circle", (refl, refl)) word view is
+word_is_text word what is =
+    for_words IsUtf8 (codes "replay", (refl, refl)) (codes "graph", (refl, refl)) (codes "locks", (refl, refl)) (codes "circle", (refl, refl)) (codes "demo", (refl, refl)) word what is
 
--- bytes that are no text name no view
+-- bytes that are no text ask for nothing
 pub unnamed_bytes : (word : List ℕ) → (IsUtf8 word → ⊥) → named word ≡ None
-unnamed_bytes word h = unnamed_by word (named word) refl (λ view is. h (view_is_text word view is))
+unnamed_bytes word h = unnamed_by word (named word) refl (λ what is. h (word_is_text word what is))
 
--- words of which the first names no view ask for none
+-- words of which the first asks for nothing ask for nothing
 pub unasked : (words : List (Vec ℕ)) (word : Vec ℕ) → word ≡ get_or words 0 word → named word.items ≡ None → asked (bytes_of words) ≡ None
 unasked [] word at unnamed = refl
 unasked (first ∷ []) word at unnamed = ap (λ (w : Vec ℕ). named w.items) (sym at) ∙ unnamed

@@ -7,12 +7,19 @@ use Rattle.wit_trace.specs.Replays.{Shows, ShowsFrom}
 use Rattle.wit_trace.specs.Status.{exit_status}
 use Rattle.wit_trace.specs.Stream.{WritesOutput, WritesFront, WritesLines}
 use Rattle.wit_trace.specs.declared.summary.Summary.{Summary}
+use Rattle.witness.specs.declared.program.Ended.{Ended}
+use Rattle.witness.specs.declared.program.Ended.TheVariants.{Exits, ShowsThreads}
 
 -- the whole of what the view shows of the input was written, and this is its status
 pub record IsShown (view : View) (read written_old written_new : Option (List ℕ)) (ended : ℕ) : Type 0 where
   pub summary : Summary
   pub written : WritesOutput (Shows view) read written_old written_new summary
   pub status : ended ≡ exit_status view (Ok summary)
+
+-- and that is what is left to do
+abbrev pub IsShownAndExits : View → Option (List ℕ) → Option (List ℕ) → Option (List ℕ) → Ended → Type 0
+IsShownAndExits view read written_old written_new (Exits status) = IsShown view read written_old written_new status
+IsShownAndExits view read written_old written_new ShowsThreads = ⊥
 
 -- a beginning was written of what the view shows of the input, which may be nothing
 abbrev pub IsCutShort : View → Option (List ℕ) → Option (List ℕ) → Option (List ℕ) → Type 0

@@ -10,13 +10,15 @@ pub const BAD_USAGE: u8 = 2;
 
 /// How the program is used.
 pub const USAGE: &str = "usage: witness replay|graph|locks|circle < TRACE
+       witness demo
 
 Reads a trace of lock calls from standard input, and writes
   replay  the text of each report, failed assertion and warning as it comes
   graph   the direct orders between lock types, after the whole trace
   locks   the locks that the seats hold, after the whole trace
   circle  a circle of seats that wait for one another, or that there is none, after the whole trace
-Status: 0 nothing was reported, 1 something was reported (replay) or there is a circle (circle), 2 bad usage,
+With demo it reads nothing: threads take two locks in one order, and then one takes them in the other, which is reported.
+Status: 0 nothing was reported, 1 something was reported (replay, demo) or there is a circle (circle), 2 bad usage,
 3 a bad line (the last line of the output says which and why), 4 no memory, or reading or writing failed.
 The format of a trace: docs/man/witness-trace.5
 ";

@@ -1,13 +1,17 @@
-//! The program `witness`: reads a trace of lock calls from standard input, and reports on it.
+//! The program `witness`: reads a trace of lock calls from standard input, and reports on it, or
+//! demonstrates the verifier.
 #![tactic(auto)]
 
+mod command;
 mod command_line;
 mod complaints;
+mod demonstration;
 mod program;
 mod words;
 
 use crate::complaints::fail;
-use crate::program::run;
+use crate::demonstration::demonstrate;
+use crate::program::{Ended, run};
 use crate::words::words_of;
 use std::process::ExitCode;
 use wit_trace::ReplayError;
@@ -24,7 +28,12 @@ fn main(rt: HostRuntime) -> ExitCode {
         ),
         Err(error) => Err(ReplayError::from(error)),
     };
-    ExitCode::from(match ended {
+    let status = match ended {
+        Ok(Ended::Exits(status)) => Ok(status),
+        Ok(Ended::ShowsThreads) => demonstrate(&rt, rt.alloc(), &mut output),
+        Err(error) => Err(error),
+    };
+    ExitCode::from(match status {
         Ok(status) => status,
         Err(error) => fail(&mut complaints, &error),
     })

@@ -7,17 +7,29 @@ ghost use Rattle.wit_trace.specs.Stream.{WritesOutput};
 ghost use Rattle.witness.specs.CommandLine.{asked, bytes_of};
 ghost use Rattle.wit_trace.specs.declared.summary.ReplayError.TheVariants as ReplayError;
 ghost use Rattle.wit_trace.specs.declared.summary.ReplayError.TheVariants.{Memory};
-ghost use Rattle.witness.specs.Program.{IsCutShort, IsShown, TellsLines};
+ghost use Rattle.witness.specs.declared.command.Command.TheVariants.{Demo, Show};
+ghost use Rattle.witness.specs.declared.program.Ended.TheVariants.{Exits, ShowsThreads};
+ghost use Rattle.witness.specs.Program.{IsCutShort, IsShownAndExits, TellsLines};
 
-use crate::command_line::asked_view;
+use crate::command::Command;
+use crate::command_line::asked_command;
 use crate::complaints::refuse;
 use std::alloc::Global;
 use std::io::{BufReader, Read, Write};
 use wit_model::View;
 use wit_trace::{ReplayError, Summary, replay, status_of};
 
-/// Runs the program on the words behind its name, and gives its exit status: where they ask for a view of
-/// the input, that of the replay, else 2.
+/// What is left to do.
+#[derive(Clone, Copy, Debug, PartialEq, Eq)]
+pub enum Ended {
+    /// To exit, with this status.
+    Exits(u8),
+    /// The demonstration, for which threads are needed.
+    ShowsThreads,
+}
+
+/// Runs the program on the words behind its name, up to its exit status: where they ask for a view of
+/// the input, that of the replay; where they ask for nothing, 2. The demonstration is left to the caller.
 ///
 /// Only the input is read through a buffer: what is written is in the output when this returns. What goes
 /// to `complaints` is how the program is used, at status 2, and nothing else.
@@ -31,32 +43,35 @@ pub fn run<R: Read + Drop, W: Write, E: Write>(
     input: R,
     output: &mut W,
     complaints: &mut E,
-) -> Result<u8, ReplayError>
-    ensures usage { asked (bytes_of words.now) ≡ None → (result ≡ Ok 2) ⊎ (result ≡ Err Memory) }
+) -> Result<Ended, ReplayError>
+    ensures usage { asked (bytes_of words.now) ≡ None → (result ≡ Ok (Exits 2)) ⊎ (result ≡ Err Memory) }
     ensures unread { asked (bytes_of words.now) ≡ None → Keeps (W.contents output.old) (W.contents output.new) }
-    ensures shown { (view : View) → asked (bytes_of words.now) ≡ Some view
-        → IfOk result (IsShown view (R.remaining input) (W.contents output.old) (W.contents output.new)) }
-    ensures cut_short { (view : View) → asked (bytes_of words.now) ≡ Some view
+    ensures demo { asked (bytes_of words.now) ≡ Some Demo → (result ≡ Ok ShowsThreads) ⊎ (result ≡ Err Memory) }
+    ensures untouched { asked (bytes_of words.now) ≡ Some Demo → Keeps (W.contents output.old) (W.contents output.new) }
+    ensures shown { (view : View) → asked (bytes_of words.now) ≡ Some (Show view)
+        → IfOk result (IsShownAndExits view (R.remaining input) (W.contents output.old) (W.contents output.new)) }
+    ensures cut_short { (view : View) → asked (bytes_of words.now) ≡ Some (Show view)
         → OnErr result (IsCutShort view (R.remaining input) (W.contents output.old) (W.contents output.new)) }
-    ensures told { (view : View) → asked (bytes_of words.now) ≡ Some view → result ≡ Err ReplayError.Read
+    ensures told { (view : View) → asked (bytes_of words.now) ≡ Some (Show view) → result ≡ Err ReplayError.Read
         → TellsLines view (R.remaining input) (W.contents output.old) (W.contents output.new) }
-    ensures quiet { result ≢ Ok 2 → Keeps (E.contents complaints.old) (E.contents complaints.new) }
+    ensures quiet { result ≢ Ok (Exits 2) → Keeps (E.contents complaints.old) (E.contents complaints.new) }
 {
-    match asked_view(alloc, words) {
-        Ok(Some(view)) => show(alloc, view, input, output),
-        Ok(None) => Ok(refuse(complaints)),
+    match asked_command(alloc, words) {
+        Ok(Some(Command::Show(view))) => show(alloc, view, input, output),
+        Ok(Some(Command::Demo)) => Ok(Ended::ShowsThreads),
+        Ok(None) => Ok(Ended::Exits(refuse(complaints))),
         Err(error) => Err(ReplayError::from(error)),
     }
 }
 
-// Shows a view of the input, and gives the status.
+// Shows a view of the input, and says with which status to exit.
 fn show<R: Read + Drop, W: Write>(
     alloc: Global,
     view: View,
     input: R,
     output: &mut W,
-) -> Result<u8, ReplayError>
-    ensures shown { IfOk result (IsShown view (R.remaining input) (W.contents output.old) (W.contents output.new)) }
+) -> Result<Ended, ReplayError>
+    ensures shown { IfOk result (IsShownAndExits view (R.remaining input) (W.contents output.old) (W.contents output.new)) }
     ensures cut_short { OnErr result (IsCutShort view
         (R.remaining input) (W.contents output.old) (W.contents output.new)) }
     ensures told { result ≡ Err ReplayError.Read → TellsLines view
@@ -65,7 +80,7 @@ fn show<R: Read + Drop, W: Write>(
     let outcome = replay_through_buffer(alloc, view, input, output);
     let status = status_of(view, &outcome);
     match outcome {
-        Ok(_) => Ok(status),
+        Ok(_) => Ok(Ended::Exits(status)),
         Err(error) => Err(error),
     }
 }

@@ -1,0 +1,16 @@
+//! Locks that a shared verifier watches: a gate each, and the calls that tell the verifier of it. They guard no
+//! data, as FreeBSD's.
+#![tactic(auto)]
+
+mod acquiring;
+mod held;
+mod kinds;
+mod lock;
+mod mutexes;
+mod releasing;
+mod shareable;
+mod turning;
+
+pub use held::{Held, abandon};
+pub use kinds::{Kind, RwKind, SleepMutexKind, SpinMutexKind, SxKind};
+pub use lock::{Lock, Mtx, Rw, Spin, Sx};

@@ -1,0 +1,90 @@
+//! Two seats share a lock, over each gate that there is.
+
+use crate::tokens::{granted, kept, left, refused, released, shut, tried};
+use crate::verifiers::{pair_of, run_with};
+use std::alloc::Global;
+use std::process::Abort;
+use std::sync::Wait;
+use std::test::Fail;
+use wit_gates::{CondGate, Gate, SpinGate};
+use wit_locks::Rw;
+use wit_model::{Fault, LockFlags, Mode, Site};
+use wit_shared::{Program, Room, Seat, Shared};
+
+/// A reader/writer lock that two seats share, and that one of them then has alone.
+#[derive(Drop)]
+struct SharedByTwo<G> {
+    alloc: Global,
+    gate: G,
+}
+
+impl<R: Wait + Abort, G: Gate + Drop> Program<R> for SharedByTwo<G>
+where
+    G::Ticket: Drop,
+{
+    type Out = usize;
+
+    ghost done = { λ program out. Unit {0} };
+
+    fn run<J: Room + Send + Sync>(self, rt: &R, shared: Shared<J>) -> usize {
+        let mut one = shared.seat(rt).ok().expect(rt, "a seat");
+        let mut two = shared.seat(rt).ok().expect(rt, "a seat");
+        let file = shared.file(rt, &mut one, "f").ok().expect(rt, "a file");
+        let site = Site { file, line: 1 };
+        let flags = LockFlags::RECURSABLE;
+        let lock = match Rw::new(rt, &shared, &mut one, "rw", None, flags, self.gate) {
+            Ok(lock) => lock,
+            Err((_, fault)) => panic!(rt; "no lock: {fault}"),
+        };
+        share_and_have_alone(rt, &shared, &mut one, &mut two, &lock, site);
+        match shared.close(rt, pair_of(rt, self.alloc, one, two)) {
+            Ok(verifier) => verifier.history().len(),
+            Err(_) => panic!(rt; "not closed"),
+        }
+    }
+}
+
+fn share_and_have_alone<R: Wait + Abort, J: Room, G: Gate>(
+    rt: &R,
+    shared: &Shared<J>,
+    one: &mut Seat<J>,
+    two: &mut Seat<J>,
+    lock: &Rw<J, G>,
+    site: Site,
+)
+where
+    G::Ticket: Drop,
+{
+    let first = granted(rt, lock.lock(rt, shared, one, Mode::Shared, site));
+    shut(rt, lock.try_lock(rt, shared, two, Mode::Exclusive, site));
+    let second = tried(rt, lock.try_lock(rt, shared, two, Mode::Shared, site));
+    let first = refused(
+        rt,
+        lock.try_upgrade(rt, shared, one, first),
+        Fault::GateRefused,
+    );
+    released(rt, lock.unlock(rt, shared, two, second));
+    let first = kept(rt, lock.try_upgrade(rt, shared, one, first));
+    let first = kept(rt, lock.downgrade(rt, shared, one, first));
+    let first = kept(rt, lock.recurse(rt, shared, one, site, first));
+    assert_eq!(rt; first.depth(), 1);
+    let first = left(rt, lock.unlock(rt, shared, one, first));
+    assert_eq!(rt; first.depth(), 0);
+    released(rt, lock.unlock(rt, shared, one, first));
+}
+
+#[test]
+fn two_seats_share_over_both_gates(rt: HostRuntime) -> Result<(), Fail> {
+    let alloc = rt.alloc();
+    let gate = CondGate::new(alloc)?;
+    assert_eq!(rt;
+        run_with(&rt, alloc, 2, 64, SharedByTwo { alloc, gate }),
+        11
+    );
+    let gate = SpinGate::new(alloc)?;
+    assert_eq!(rt;
+        run_with(&rt, alloc, 2, 64, SharedByTwo { alloc, gate }),
+        11
+    );
+    Ok(())
+}

@@ -1,0 +1,172 @@
+//! A thread that waits at a gate doesn't keep others from the verifier.
+
+ghost use Rattle.std.specs.Prelude.{◌≡◌};
+ghost use Rattle.wit_gates.specs.Tickets.{pass};
+
+use crate::tokens::{granted, released};
+use crate::verifiers::opened;
+use bitflags::Flags;
+use std::alloc::Global;
+use std::marker::Brand;
+use std::process::Abort;
+use std::sync::Wait;
+use std::sync::atomic::{AtomicBool, Ordering};
+use std::test::Fail;
+use std::thread::{self, Threads, join};
+use wit_gates::{CondGate, Gate};
+use wit_locks::Mtx;
+use wit_model::{Fault, LockFlags, Mode, Site};
+use wit_shared::{Opened, Room, Seat, Shared};
+
+// How often a thread looks whether the other one has got on.
+const LOOKS: u32 = 1_000_000;
+
+/// What two threads tell each other.
+#[derive(Drop)]
+struct Signals {
+    begin: AtomicBool,
+    finished: AtomicBool,
+}
+
+impl Signals {
+    /// Looks whether a signal was given, for a while.
+    fn is_given(signal: &AtomicBool) -> bool {
+        for _ in 0..LOOKS {
+            if signal.load(Ordering::SeqCst) {
+                return true;
+            }
+            thread::yield_now();
+        }
+        false
+    }
+}
+
+/// A gate that lets another thread begin, and is entered only once that has finished.
+#[derive(Drop)]
+struct Patient<'a> {
+    inner: CondGate,
+    signals: &'a Signals,
+}
+
+impl Gate for Patient<'_> {
+    type Ticket = wit_gates::Ticket;
+
+    ghost admits = { λ gate mode ticket. ticket ≡ pass gate.inner mode };
+
+    fn acquire<J: Room, R: Wait>(
+        &self,
+        rt: &R,
+        seat: &Seat<J>,
+        mode: Mode,
+    ) -> Option<wit_gates::Ticket> {
+        self.signals.begin.store(true, Ordering::SeqCst);
+        if !Signals::is_given(&self.signals.finished) {
+            return None;
+        }
+        self.inner.acquire(rt, seat, mode)
+    }
+
+    fn try_acquire<R: Wait>(&self, rt: &R, mode: Mode) -> Option<wit_gates::Ticket> {
+        self.inner.try_acquire(rt, mode)
+    }
+
+    fn release<R: Wait>(&self, rt: &R, mode: Mode, ticket: wit_gates::Ticket) {
+        self.inner.release(rt, mode, ticket)
+    }
+
+    fn try_upgrade<R: Wait>(
+        &self,
+        rt: &R,
+        ticket: wit_gates::Ticket,
+    ) -> Result<wit_gates::Ticket, wit_gates::Ticket> {
+        self.inner.try_upgrade(rt, ticket)
+    }
+
+    fn downgrade<R: Wait>(&self, rt: &R, ticket: wit_gates::Ticket) -> wit_gates::Ticket {
+        self.inner.downgrade(rt, ticket)
+    }
+}
+
+/// Takes a mutex and lets it go.
+fn take<J: Room, G: Gate, R: Wait + Abort>(
+    rt: &R,
+    shared: &Shared<J>,
+    seat: &mut Seat<J>,
+    mutex: &Mtx<J, G>,
+    site: Site,
+)
+where
+    G::Ticket: Drop,
+{
+    let held = granted(rt, mutex.lock(rt, shared, seat, site));
+    released(rt, mutex.unlock(rt, shared, seat, held));
+}
+
+/// Takes a mutex once the other thread lets it begin, and tells that it has.
+fn take_meanwhile<J: Room, R: Wait + Abort>(
+    rt: &R,
+    shared: &Shared<J>,
+    mut seat: Seat<J>,
+    mutex: &Mtx<J, CondGate>,
+    site: Site,
+    signals: &Signals,
+) -> bool {
+    let begun = Signals::is_given(&signals.begin);
+    take(rt, shared, &mut seat, mutex, site);
+    signals.finished.store(true, Ordering::SeqCst);
+    begun
+}
+
+/// One thread waits at a gate for the other, which takes another mutex meanwhile.
+fn wait_for_one_another<J: Room + Send + Sync, R: Threads + Wait + Abort + Sync>(
+    rt: &R,
+    alloc: Global,
+    opened: Opened,
+    signals: &Signals,
+) -> Result<bool, Fault>
+    requires { (opened.0.start ≡ J.start) × (opened.1 ≡ J.table) }
+{
+    let shared = opened.named::<J>();
+    let mut one = shared.seat(rt)?;
+    let two = shared.seat(rt)?;
+    let file = shared.file(rt, &mut one, "f")?;
+    let site = Site { file, line: 1 };
+    let flags = LockFlags::empty();
+    let gate = Patient {
+        inner: CondGate::new(alloc)?,
+        signals,
+    };
+    let patient = match Mtx::new(rt, &shared, &mut one, "a", None, flags, gate) {
+        Ok(mutex) => mutex,
+        Err((_, fault)) => return Err(fault),
+    };
+    let gate = CondGate::new(alloc)?;
+    let other = match Mtx::new(rt, &shared, &mut one, "b", None, flags, gate) {
+        Ok(mutex) => mutex,
+        Err((_, fault)) => return Err(fault),
+    };
+    let (watched, mutex) = (&shared, &other);
+    let ((), begun) = join(
+        rt,
+        || take(rt, watched, &mut one, &patient, site),
+        || take_meanwhile(rt, watched, two, mutex, site, signals),
+    );
+    Ok(begun)
+}
+
+#[test]
+fn a_gate_is_entered_outside_the_lock_of_the_verifier(rt: HostRuntime) -> Result<(), Fail> {
+    let signals = Signals {
+        begin: AtomicBool::new(false),
+        finished: AtomicBool::new(false),
+    };
+    let alloc = rt.alloc();
+    let begun = wait_for_one_another::<Brand, HostRuntime>(
+        &rt,
+        alloc,
+        opened(&rt, alloc, 2, 64),
+        &signals,
+    )?;
+    assert!(rt; begun);
+    Ok(())
+}

@@ -1,0 +1,161 @@
+//! What calls of locks answer, each where no other answer is right.
+
+ghost use Rattle.std.specs.Prelude.{◌≡◌, Ok, Err, Some};
+ghost use Rattle.wit_model.specs.declared.faults.Fault.{Fault};
+
+use std::process::Abort;
+use wit_gates::Gate;
+use wit_locks::{Held, abandon};
+use wit_model::Fault;
+
+/// The token.
+pub(crate) fn granted<R: Abort, G: Gate>(rt: &R, answer: Result<Held<G>, Fault>) -> Held<G>
+where
+    G::Ticket: Drop,
+    ensures { answer ≡ Ok result }
+{
+    match answer {
+        Ok(held) => held,
+        Err(fault) => panic!(rt; "refused: {fault}"),
+    }
+}
+
+/// The token of a try.
+pub(crate) fn tried<R: Abort, G: Gate>(rt: &R, answer: Result<Option<Held<G>>, Fault>) -> Held<G>
+where
+    G::Ticket: Drop,
+    ensures { answer ≡ Ok (Some result) }
+{
+    match answer {
+        Ok(held) => match held {
+            Some(held) => held,
+            None => panic!(rt; "not tried successfully"),
+        },
+        Err(fault) => panic!(rt; "refused: {fault}"),
+    }
+}
+
+/// None: the try came in vain.
+pub(crate) fn shut<R: Abort, G: Gate>(rt: &R, answer: Result<Option<Held<G>>, Fault>)
+where
+    G::Ticket: Drop,
+{
+    match answer {
+        Ok(held) => match held {
+            Some(held) => {
+                abandon(held);
+                panic!(rt; "the gate was entered")
+            }
+            None => {}
+        },
+        Err(fault) => panic!(rt; "refused: {fault}"),
+    }
+}
+
+/// The token that a call takes and gives.
+pub(crate) fn kept<R: Abort, G: Gate>(rt: &R, answer: Result<Held<G>, (Held<G>, Fault)>) -> Held<G>
+where
+    G::Ticket: Drop,
+    ensures { answer ≡ Ok result }
+{
+    match answer {
+        Ok(held) => held,
+        Err((held, fault)) => {
+            abandon(held);
+            panic!(rt; "refused: {fault}")
+        }
+    }
+}
+
+/// The token that comes back with a fault.
+pub(crate) fn refused<R: Abort, G: Gate>(
+    rt: &R,
+    answer: Result<Held<G>, (Held<G>, Fault)>,
+    wanted: Fault,
+) -> Held<G>
+where
+    G::Ticket: Drop,
+    ensures { (fault : Fault) × (answer ≡ Err (result, fault)) }
+{
+    match answer {
+        Ok(held) => {
+            abandon(held);
+            panic!(rt; "not refused")
+        }
+        Err((held, fault)) => {
+            if fault != wanted {
+                abandon(held);
+                panic!(rt; "{fault}")
+            }
+            held
+        }
+    }
+}
+
+/// The token that a release gives back, which is one of several.
+pub(crate) fn left<R: Abort, G: Gate>(
+    rt: &R,
+    answer: Result<Option<Held<G>>, (Held<G>, Fault)>,
+) -> Held<G>
+where
+    G::Ticket: Drop,
+    ensures { answer ≡ Ok (Some result) }
+{
+    match answer {
+        Ok(held) => match held {
+            Some(held) => held,
+            None => panic!(rt; "released for good"),
+        },
+        Err((held, fault)) => {
+            abandon(held);
+            panic!(rt; "refused: {fault}")
+        }
+    }
+}
+
+/// The last release.
+pub(crate) fn released<R: Abort, G: Gate>(rt: &R, answer: Result<Option<Held<G>>, (Held<G>, Fault)>)
+where
+    G::Ticket: Drop,
+{
+    match answer {
+        Ok(held) => match held {
+            None => {}
+            Some(held) => {
+                abandon(held);
+                panic!(rt; "still held")
+            }
+        },
+        Err((held, fault)) => {
+            abandon(held);
+            panic!(rt; "refused: {fault}")
+        }
+    }
+}
+
+/// The token that comes back from a release with a fault.
+pub(crate) fn not_released<R: Abort, G: Gate>(
+    rt: &R,
+    answer: Result<Option<Held<G>>, (Held<G>, Fault)>,
+    wanted: Fault,
+) -> Held<G>
+where
+    G::Ticket: Drop,
+    ensures { (fault : Fault) × (answer ≡ Err (result, fault)) }
+{
+    match answer {
+        Ok(held) => {
+            if let Some(held) = held {
+                abandon(held);
+            }
+            panic!(rt; "released")
+        }
+        Err((held, fault)) => {
+            if fault != wanted {
+                abandon(held);
+                panic!(rt; "{fault}")
+            }
+            held
+        }
+    }
+}

@@ -1,0 +1,26 @@
+//! The demonstration, and its exit status.
+
+use std::alloc::Global;
+use std::io::Write;
+use std::sync::Wait;
+use std::thread::Threads;
+use wit_demo::demo;
+use wit_model::View;
+use wit_trace::{ReplayError, status_of};
+
+/// Runs the demonstration, and gives the exit status: that of a replay that reports what was reported.
+///
+/// # Errors
+/// Those of `demo`.
+pub fn demonstrate<R: Threads + Wait + Sync, W: Write>(
+    rt: &R,
+    alloc: Global,
+    output: &mut W,
+) -> Result<u8, ReplayError> {
+    let outcome = demo(rt, alloc, output);
+    let status = status_of(View::Reports, &outcome);
+    match outcome {
+        Ok(_) => Ok(status),
+        Err(error) => Err(error),
+    }
+}
