@@ -4,3 +4,4 @@ pub mod ReplayLemmas
 pub mod ReportLemmas
 pub mod StreamLemmas
 pub mod TextLemmas
+pub mod WorldLemmas

@@ -1,11 +1,12 @@
 -- What becomes of a line, and what is written for it.
-use Rattle.std.proofs.Common.{◌≡◌, ℕ, ◌+◌, ◌<◌, ◌≤◌, Bool, ◌||◌, cond, ltb, List, [], ◌∷◌, ◌++◌, length, take, length-take, arith, codes, Option, Some, None, Result, Ok, Err, IfOk, OnErr, refl, sym, ap, ap₂, append_assoc, subst, ◌∙◌, false, ◌⊎◌, inl, inr, unwrap_or}
+use Rattle.std.proofs.Common.{◌≡◌, ℕ, ◌+◌, ◌<◌, ◌≤◌, Bool, ◌||◌, ◌&&◌, true, cond, eqb, ltb, List, [], ◌∷◌, ◌++◌, length, take, length-take, arith, codes, Option, Some, None, Result, Ok, Err, IfOk, OnErr, refl, sym, ap, ap₂, append_assoc, subst, ◌∙◌, false, ◌⊎◌, inl, inr, unwrap_or}
 use Rattle.std.specs.Global.{Vec}
 use Rattle.std.specs.Io.{StartsWith}
 use Rattle.std.specs.Result.{IsErrAnd}
 use Rattle.std.specs.Str.{bytes_eq}
 use Rattle.std.proofs.lemmas.Bool.{lt-ltb, le-ltb}
 use Rattle.std.proofs.lemmas.List.{take-take}
+use Rattle.std.proofs.lemmas.Slice.Eq.{bytes_eq-Decides}
 use Rattle.wit_model.specs.declared.calls.Call.{Call}
 use Rattle.wit_model.specs.declared.calls.Reply.{Reply}
 use Rattle.wit_model.specs.declared.faults.Fault.{Fault}
@@ -132,7 +133,7 @@ told_after view (output.Goes to said) p q n raw text next more summary goes is w
     subst (λ (x : output.Progress). IsWritten view (output.before said (next x)) (text ++ more) summary) goes.0
     (record { is_shown = shown_before view said text more (next q) summary.circle (is ∙ ap (output.shown view) goes.1) written.is_shown; summed = written.summed })
 
-pub told : (view : View) (from p q : output.Progress) (n : ℕ) (line : List ℕ) (r : Result (Vec ℕ) LineError) (raw text : Vec ℕ) → output.reached from line ≡ Ok p → Passes (output.outcome p n line) p q r → r ≡ Ok raw → text.items ≡ output.shown view raw.items
+pub told : (view : View) (from p q : output.Progress) (n : ℕ) (line : List ℕ) (r : Result (Vec ℕ) LineError) (raw text : Vec ℕ) → output.reached from n line ≡ Ok p → Passes (output.outcome p n line) p q r → r ≡ Ok raw → text.items ≡ output.shown view raw.items
     → (lines : List (List ℕ)) (tail more : List ℕ) (summary : Summary) → IsWritten view (output.course_from q (n + 1) lines tail) more summary
     → IsWritten view (output.course_from from n (line ∷ lines) tail) (text.items ++ more) summary
 told view from p q n line r raw text stands passes is shows lines tail more summary written =
@@ -153,7 +154,7 @@ bad_after view (output.Bad why) p q n cause next text summary bad ends =
     ends.is_shown.ends.1
 
 -- what becomes of a line that is bad
-pub line_ends : (view : View) (m q : Replaying) (p : output.Progress) (n : ℕ) (line : List ℕ) (r : Result (Vec ℕ) LineError) (e : LineError) (s : Step) → output.reached (progress m) line ≡ Ok p → Passes (output.outcome p n line) p (progress q) r
+pub line_ends : (view : View) (m q : Replaying) (p : output.Progress) (n : ℕ) (line : List ℕ) (r : Result (Vec ℕ) LineError) (e : LineError) (s : Step) → output.reached (progress m) n line ≡ Ok p → Passes (output.outcome p n line) p (progress q) r
     → r ≡ Err e → EndsFor view (progress q) n e s → Follows (allowed view) m q n line s
 line_ends view m q p n line r Memory s stands passes is ends = elim ends [ ]
 line_ends view m q p n line r (Bad cause) (step.Goes text) stands passes is ends = elim ends [ ]
@@ -185,40 +186,65 @@ refused_at : (view : View) (due : Result output.Progress output.BadLine) (p q : 
 refused_at view due p q line next text summary is keeps texts sums circle = rw is (bad_written view p line text summary texts (sums ∙ keeps (Some line)) circle)
 
 -- a list is refused at a line, whatever follows it
-pub refused : (view : View) (p q : output.Progress) (n : ℕ) (line : List ℕ) (list : output.BadLine) (text : List ℕ) (summary : Summary) → output.reached p line ≡ Err list → KeepsTotal p q
+pub refused : (view : View) (p q : output.Progress) (n : ℕ) (line : List ℕ) (list : output.BadLine) (text : List ℕ) (summary : Summary) → output.reached p n line ≡ Err list → KeepsTotal p q
     → text ≡ output.bad_text list.0 list.1 → total summary ≡ output.summed q (Some list) → summary.circle ≡ false
     → (lines : List (List ℕ)) (tail : List ℕ) → IsWritten view (output.course_from p n (line ∷ lines) tail) text summary
-refused view p q n line list text summary is keeps texts sums circle lines tail = refused_at view (output.reached p line) p q list _ text summary is keeps texts sums circle
+refused view p q n line list text summary is keeps texts sums circle lines tail = refused_at view (output.reached p n line) p q list _ text summary is keeps texts sums circle
 
 -- the step that ends the reading then
-pub refused_step : (view : View) (m q : Replaying) (n : ℕ) (line : List ℕ) (list : output.BadLine) (s : Step) → Reaches (output.reached (progress m) line) (progress m) (progress q) (Some list) → EndsFor view (progress q) list.0 (Bad list.1) s
+pub refused_step : (view : View) (m q : Replaying) (n : ℕ) (line : List ℕ) (list : output.BadLine) (s : Step) → Reaches (output.reached (progress m) n line) (progress m) (progress q) (Some list) → EndsFor view (progress q) list.0 (Bad list.1) s
     → Follows (allowed view) m q n line s
 refused_step view m q n line list (step.Goes text) reaches ends = elim ends [ ]
 refused_step view m q n line list (step.Ends text summary) reaches ends =
     refused view (progress m) (progress q) n line list text.items summary reaches.0 reaches.1 (written_bad view (progress q) list text.items summary ends) ends.summed ends.is_shown.ends.1
 
 -- or at the end of the input
-pub refused_at_end : (view : View) (p q : output.Progress) (n : ℕ) (tail : List ℕ) (list : output.BadLine) (text : List ℕ) (summary : Summary) → output.reached p tail ≡ Err list → KeepsTotal p q
+pub refused_at_end : (view : View) (p q : output.Progress) (n : ℕ) (tail : List ℕ) (list : output.BadLine) (text : List ℕ) (summary : Summary) → output.reached p n tail ≡ Err list → KeepsTotal p q
     → text ≡ output.bad_text list.0 list.1 → total summary ≡ output.summed q (Some list) → summary.circle ≡ false
     → IsWritten view (output.course_from p n [] tail) text summary
-refused_at_end view p q n tail list text summary is keeps texts sums circle = refused_at view (output.reached p tail) p q list _ text summary is keeps texts sums circle
+refused_at_end view p q n tail list text summary is keeps texts sums circle = refused_at view (output.reached p n tail) p q list _ text summary is keeps texts sums circle
+
+-- what is answered then
+pub refused_end : {E : Type 0} (view : View) (p q : output.Progress) (n : ℕ) (list : output.BadLine) (answer : Result (Vec ℕ × Summary) E) → Reaches (output.reached p n []) p q (Some list) → IfOk answer (λ a. a.0.items ≡ output.bad_text list.0 list.1)
+    → IfOk answer (λ a. total a.1 ≡ output.summed q (Some list)) → IfOk answer (λ a. a.1.circle ≡ false) → IfOk answer (λ a. IsWritten view (output.course_from p n [] []) a.0.items a.1)
+refused_end view p q n list (Err e) reaches texts sums circle = tt
+refused_end view p q n list (Ok a) reaches texts sums circle = refused_at_end view p q n [] list a.0.items a.1 reaches.0 reaches.1 texts sums circle
 
 -- the beginning of a long line decides whether it ends the prelude
 begins_prelude : (bytes line : List ℕ) → 4096 < length bytes → StartsWith line bytes → output.is_prelude line ≡ output.is_prelude bytes
 begins_prelude bytes line long starts =
     ap (λ (w : List ℕ). bytes_eq w (codes "order ") || bytes_eq w (codes "bless ")) (sym (take-take 6 (length bytes) line (omega arith)) ∙ ap (take 6) starts)
 
-begins_reached : (p : output.Progress) (bytes line : List ℕ) → 4096 < length bytes → StartsWith line bytes → output.reached p line ≡ output.reached p bytes
-begins_reached output.Unstarted bytes line long starts = refl
-begins_reached (output.Opening o) bytes line long starts = ap (λ (t : Bool). cond t (Ok (output.Opening o)) (output.opened o (start_fault o.start))) (begins_prelude bytes line long starts)
-begins_reached (output.Reading s m) bytes line long starts = refl
+-- and no long line names a profile
+no_profile : (n : ℕ) (line : List ℕ) → 4096 < length line → output.is_profile n line ≡ false
+no_profile n line long = rw (is_false (bytes_eq line (codes "profile all")) (λ is. omega (arith, ap length ((bytes_eq-Decides line (codes "profile all")).0 is)))) (and_false (eqb n 2))
+  where
+    is_false : (b : Bool) → (b ≡ true → ⊥) → b ≡ false
+    is_false true h = absurd (h refl)
+    is_false false h = refl
 
-first_reached : (p : output.Progress) (cause : Cause) (bytes : List ℕ) (lines : List (List ℕ)) (tail : List ℕ) → BreaksAt cause bytes lines tail → output.reached p (first_of lines tail) ≡ output.reached p bytes
-first_reached p why.Long bytes lines tail h = begins_reached p bytes (first_of lines tail) h.0 h.1
-first_reached p why.Cut bytes lines tail h = ap (λ (ls : List (List ℕ)). output.reached p (first_of ls tail)) h.2 ∙ ap (output.reached p) h.3
-first_reached p why.Syntax bytes lines tail h = elim h [ ]
-first_reached p why.Limit bytes lines tail h = elim h [ ]
-first_reached p (why.Fault fault) bytes lines tail h = elim h [ ]
+    and_false : (b : Bool) → (b && false) ≡ false
+    and_false true = refl
+    and_false false = refl
+
+starts-le : (bytes line : List ℕ) → StartsWith line bytes → length bytes ≤ length line
+starts-le bytes line starts = let e : length (take (length bytes) line) ≡ length bytes = ap length starts in omega (arith, length-take {A = ℕ})
+
+begins_reached : (p : output.Progress) (n : ℕ) (bytes line : List ℕ) → 4096 < length bytes → StartsWith line bytes → output.reached p n line ≡ output.reached p n bytes
+begins_reached output.Unstarted n bytes line long starts = refl
+begins_reached (output.Opening o) n bytes line long starts =
+    ap₂ (λ (t u : Bool). cond (t || u) (Ok (output.Opening o)) (output.opened o (start_fault o.start)))
+    (begins_prelude bytes line long starts) (no_profile n line (omega (arith, long, starts-le bytes line starts)) ∙ sym (no_profile n bytes long))
+begins_reached (output.Reading s m) n bytes line long starts = refl
+begins_reached (output.Stepping s m) n bytes line long starts = refl
+
+first_reached : (p : output.Progress) (n : ℕ) (cause : Cause) (bytes : List ℕ) (lines : List (List ℕ)) (tail : List ℕ) → BreaksAt cause bytes lines tail → output.reached p n (first_of lines tail) ≡ output.reached p n bytes
+first_reached p n why.Long bytes lines tail h = begins_reached p n bytes (first_of lines tail) h.0 h.1
+first_reached p n why.Cut bytes lines tail h = ap (λ (ls : List (List ℕ)). output.reached p n (first_of ls tail)) h.2 ∙ ap (output.reached p n) h.3
+first_reached p n why.Syntax bytes lines tail h = elim h [ ]
+first_reached p n why.Version bytes lines tail h = elim h [ ]
+first_reached p n why.Limit bytes lines tail h = elim h [ ]
+first_reached p n (why.Fault fault) bytes lines tail h = elim h [ ]
 
 -- an unfinished line is bad
 ends_some : (p : output.Progress) (n : ℕ) (tail : List ℕ) (cause : Cause) → 0 < length tail → cond (ltb 4096 (length tail)) why.Long why.Cut ≡ cause → output.ends p n tail ≡ output.ends_bad p (n, cause)
@@ -226,49 +252,48 @@ ends_some p n [] cause some is = absurd (omega arith)
 ends_some output.Unstarted n (b ∷ tail) cause some is = ap (λ (c : Cause). output.ends_bad output.Unstarted (n, c)) is
 ends_some (output.Opening o) n (b ∷ tail) cause some is = ap (λ (c : Cause). output.ends_bad (output.Opening o) (n, c)) is
 ends_some (output.Reading s m) n (b ∷ tail) cause some is = ap (λ (c : Cause). output.ends_bad (output.Reading s m) (n, c)) is
-
-starts-le : (bytes line : List ℕ) → StartsWith line bytes → length bytes ≤ length line
-starts-le bytes line starts = let e : length (take (length bytes) line) ≡ length bytes = ap length starts in omega (arith, length-take {A = ℕ})
+ends_some (output.Stepping s m) n (b ∷ tail) cause some is = ap (λ (c : Cause). output.ends_bad (output.Stepping s m) (n, c)) is
 
 -- where a line breaks off, it is bad
-broken_output : (from p : output.Progress) (n : ℕ) (cause : Cause) (bytes : List ℕ) (lines : List (List ℕ)) (tail : List ℕ) → output.reached from bytes ≡ Ok p → BreaksAt cause bytes lines tail
+broken_output : (from p : output.Progress) (n : ℕ) (cause : Cause) (bytes : List ℕ) (lines : List (List ℕ)) (tail : List ℕ) → output.reached from n bytes ≡ Ok p → BreaksAt cause bytes lines tail
     → output.course_from from n lines tail ≡ output.ends_bad p (n, cause)
 broken_output from p n why.Long bytes [] tail stands h =
     let long : 4096 < length tail = omega (arith, starts-le bytes tail h.1, h.0) in
-    ap (λ (due : Result output.Progress output.BadLine). output.course_at from due (λ q. output.ends q n tail)) (first_reached from why.Long bytes [] tail h ∙ stands)
+    ap (λ (due : Result output.Progress output.BadLine). output.course_at from due (λ q. output.ends q n tail)) (first_reached from n why.Long bytes [] tail h ∙ stands)
     ∙ ends_some p n tail why.Long (omega arith) (rw (lt-ltb 4096 (length tail) long) refl)
 broken_output from p n why.Long bytes (line ∷ lines) tail stands h =
     let long : 4096 < length line = omega (arith, starts-le bytes line h.1, h.0) in
-    ap (λ (due : Result output.Progress output.BadLine). output.course_at from due (λ q. output.course_after q n (output.outcome q n line) (λ r. output.course_from r (n + 1) lines tail))) (first_reached from why.Long bytes (line ∷ lines) tail h ∙ stands)
+    ap (λ (due : Result output.Progress output.BadLine). output.course_at from due (λ q. output.course_after q n (output.outcome q n line) (λ r. output.course_from r (n + 1) lines tail))) (first_reached from n why.Long bytes (line ∷ lines) tail h ∙ stands)
     ∙ rw (lt-ltb 4096 (length line) long) refl
 broken_output from p n why.Cut bytes lines tail stands h =
     let same : length tail ≡ length bytes = ap length h.3 in
     ap (λ (ls : List (List ℕ)). output.course_from from n ls tail) h.2
-    ∙ ap (λ (due : Result output.Progress output.BadLine). output.course_at from due (λ q. output.ends q n tail)) (ap (output.reached from) h.3 ∙ stands)
+    ∙ ap (λ (due : Result output.Progress output.BadLine). output.course_at from due (λ q. output.ends q n tail)) (ap (output.reached from n) h.3 ∙ stands)
     ∙ ends_some p n tail why.Cut (omega (arith, h.0)) (rw (le-ltb 4096 (length tail) (omega (arith, h.1))) refl)
 broken_output from p n why.Syntax bytes lines tail stands h = elim h [ ]
+broken_output from p n why.Version bytes lines tail stands h = elim h [ ]
 broken_output from p n why.Limit bytes lines tail stands h = elim h [ ]
 broken_output from p n (why.Fault fault) bytes lines tail stands h = elim h [ ]
 
 -- the text and the summary at a line that breaks off
-pub broken : (view : View) (from p : output.Progress) (n : ℕ) (cause : Cause) (bytes : List ℕ) (text : List ℕ) (summary : Summary) → output.reached from bytes ≡ Ok p
+pub broken : (view : View) (from p : output.Progress) (n : ℕ) (cause : Cause) (bytes : List ℕ) (text : List ℕ) (summary : Summary) → output.reached from n bytes ≡ Ok p
     → text ≡ output.bad_text n cause → total summary ≡ output.summed p (Some (n, cause)) → summary.circle ≡ false
     → (lines : List (List ℕ)) (tail : List ℕ) → BreaksAt cause bytes lines tail → IsWritten view (output.course_from from n lines tail) text summary
 broken view from p n cause bytes text summary stands texts sums circle lines tail h =
     subst (λ w. IsWritten view w text summary) (sym (broken_output from p n cause bytes lines tail stands h)) (bad_written view p (n, cause) text summary texts sums circle)
 
 -- a list may be refused there
-pub refused_broken : (view : View) (p q : output.Progress) (n : ℕ) (cause : Cause) (bytes : List ℕ) (list : output.BadLine) (text : List ℕ) (summary : Summary) → output.reached p bytes ≡ Err list → KeepsTotal p q
+pub refused_broken : (view : View) (p q : output.Progress) (n : ℕ) (cause : Cause) (bytes : List ℕ) (list : output.BadLine) (text : List ℕ) (summary : Summary) → output.reached p n bytes ≡ Err list → KeepsTotal p q
     → text ≡ output.bad_text list.0 list.1 → total summary ≡ output.summed q (Some list) → summary.circle ≡ false
     → (lines : List (List ℕ)) (tail : List ℕ) → BreaksAt cause bytes lines tail → IsWritten view (output.course_from p n lines tail) text summary
-refused_broken view p q n cause bytes list text summary is keeps texts sums circle lines tail h = at lines (first_reached p cause bytes lines tail h ∙ is)
+refused_broken view p q n cause bytes list text summary is keeps texts sums circle lines tail h = at lines (first_reached p n cause bytes lines tail h ∙ is)
   where
-    at : (ls : List (List ℕ)) → output.reached p (first_of ls tail) ≡ Err list → IsWritten view (output.course_from p n ls tail) text summary
+    at : (ls : List (List ℕ)) → output.reached p n (first_of ls tail) ≡ Err list → IsWritten view (output.course_from p n ls tail) text summary
     at [] e = refused_at_end view p q n tail list text summary e keeps texts sums circle
     at (line ∷ ls) e = refused view p q n line list text summary e keeps texts sums circle ls tail
 
 -- what is answered at a line that breaks off, where a list may be refused
-pub broken_answer : {E : Type 0} (view : View) (m r : Replaying) (n : ℕ) (cause : Cause) (bytes : List ℕ) (list : Option output.BadLine) (at : output.BadLine) (answer : Result (Vec ℕ × Summary) E) → Reaches (output.reached (progress m) bytes) (progress m) (progress r) list → at ≡ unwrap_or list (n, cause)
+pub broken_answer : {E : Type 0} (view : View) (m r : Replaying) (n : ℕ) (cause : Cause) (bytes : List ℕ) (list : Option output.BadLine) (at : output.BadLine) (answer : Result (Vec ℕ × Summary) E) → Reaches (output.reached (progress m) n bytes) (progress m) (progress r) list → at ≡ unwrap_or list (n, cause)
     → IfOk answer (λ a. a.0.items ≡ output.bad_text at.0 at.1) → IfOk answer (λ a. total a.1 ≡ output.summed (progress r) (Some at)) → IfOk answer (λ a. a.1.circle ≡ false)
     → IfOk answer (λ a. (lines : List (List ℕ)) (tail : List ℕ) → BreaksAt cause bytes lines tail → IsWritten view (output.course_from (progress m) n lines tail) a.0.items a.1)
 broken_answer view m r n cause bytes list at (Err e) reaches is texts sums circle = tt

@@ -2,7 +2,7 @@
 use Rattle.std.specs.Prelude.{◌≡◌, ℕ, ◌+◌, ◌<◌, ◌≤◌, List, [], ◌∷◌, ◌++◌, length}
 use Rattle.std.specs.Io.{StartsWith}
 use Rattle.wit_model.specs.declared.lines.Cause.{Cause}
-use Rattle.wit_model.specs.declared.lines.Cause.TheVariants.{Long, Cut, Syntax, Limit, Fault}
+use Rattle.wit_model.specs.declared.lines.Cause.TheVariants.{Long, Cut, Syntax, Version, Limit, Fault}
 use Rattle.wit_trace.specs.declared.summary.Summary.{Summary}
 use Rattle.wit_trace.specs.declared.stream.machine.Step.{Step}
 use Rattle.wit_trace.specs.declared.stream.machine.Step.TheVariants.{Goes, Ends}
@@ -23,5 +23,6 @@ abbrev pub BreaksAt : Cause → List ℕ → List (List ℕ) → List ℕ → Ty
 BreaksAt Long bytes lines tail = (LONGEST < length bytes) × StartsWith (first_of lines tail) bytes
 BreaksAt Cut bytes lines tail = (0 < length bytes) × (length bytes ≤ LONGEST) × (lines ≡ []) × (tail ≡ bytes)
 BreaksAt Syntax bytes lines tail = ⊥
+BreaksAt Version bytes lines tail = ⊥
 BreaksAt Limit bytes lines tail = ⊥
 BreaksAt (Fault fault) bytes lines tail = ⊥

@@ -5,7 +5,9 @@ use Rattle.wit_model.specs.declared.lines.View.TheVariants.{Reports, Graph, Lock
 use Rattle.wit_model.specs.Rules.State.{Story, state_of}
 use Rattle.wit_model.specs.Trace.Output as output
 use Rattle.wit_model.specs.Trace.Views.{graph_text, all_locks_text, circle_text}
+use Rattle.wit_model.specs.World.Scenes.{Scene}
 use Rattle.wit_model.proofs.Waits.{circle_told}
+use Rattle.wit_model.proofs.World.SceneCircles.{scene_circle_told}
 use Rattle.wit_trace.specs.Replays.{IsWritten}
 use Rattle.wit_trace.specs.declared.summary.Summary.{Summary}
 
@@ -16,8 +18,16 @@ some_view Graph s = (graph_text s, (false, (refl, refl)))
 some_view Locks s = (all_locks_text s, (false, (refl, refl)))
 some_view Circle s = let told = circle_told (state_of s) in (circle_text (state_of s) told.0, (is_some told.0, (told.0, told.1, refl, refl)))
 
+-- what it shows of a scene
+abbrev pub some_view_in : (view : View) (s : Scene) → (text : List ℕ) × ((circle : Bool) × output.IsViewIn view s text circle)
+some_view_in Reports s = some_view Reports s.story
+some_view_in Graph s = some_view Graph s.story
+some_view_in Locks s = some_view Locks s.story
+some_view_in Circle s = let told = scene_circle_told s in (circle_text (state_of s.story) told.0, (is_some told.0, (told.0, told.1, refl, refl)))
+
 abbrev pub some_last : (view : View) (ending : output.Ending) → (text : List ℕ) × ((circle : Bool) × output.IsLast view ending text circle)
 some_last view (output.AllRead s m) = some_view view s
+some_last view (output.AllStepped s m) = some_view_in view s
 some_last view (output.EndsBad p bad) = (output.bad_text bad.0 bad.1, (false, (refl, refl)))
 
 -- a summary with these figures

@@ -1,5 +1,5 @@
 -- What a replay of a trace writes and sums up.
-use Rattle.std.specs.Prelude.{Bool, not, ℕ, ◌≡◌, List, Option, None, Some, Result, Ok, Err, false}
+use Rattle.std.specs.Prelude.{Bool, not, ◌||◌, ℕ, ◌≡◌, List, Option, None, Some, Result, Ok, Err, false}
 use Rattle.std.specs.Global.{Vec}
 use Rattle.wit_model.specs.declared.calls.Reply.{Reply}
 use Rattle.wit_model.specs.declared.lines.Cause.{Cause}
@@ -14,25 +14,30 @@ use Rattle.wit_grammar.specs.declared.errors.LineError.TheVariants.{Bad, Memory}
 use Rattle.wit_trace.specs.Text.{text_of}
 use Rattle.wit_trace.specs.declared.replaying.prelude.Prelude.{Prelude}
 use Rattle.wit_trace.specs.declared.replaying.Replaying.{Replaying}
-use Rattle.wit_trace.specs.declared.replaying.Replaying.TheVariants.{Unstarted, Opening, Reading}
+use Rattle.wit_trace.specs.declared.replaying.Replaying.TheVariants.{Unstarted, Opening, Reading, Stepping}
 use Rattle.wit_trace.specs.declared.stream.machine.Step.{Step}
 use Rattle.wit_trace.specs.declared.stream.machine.Step.TheVariants as step
 use Rattle.wit_trace.specs.declared.summary.Summary.{Summary}
 
 -- what was read of a prelude
 abbrev pub prelude_of : Prelude → output.Prelude
-prelude_of p = record { start = start_of p.limits p.lists.items p.blessed.items; lines = p.lines.items }
+prelude_of p = record {
+  version = p.version;
+  start = start_of p.profile p.limits p.lists.items p.blessed.items;
+  lines = p.lines.items;
+}
 
 -- how far a reading is
 abbrev pub progress : Replaying → output.Progress
 progress Unstarted = output.Unstarted
 progress (Opening prelude) = output.Opening (prelude_of prelude)
 progress (Reading story remarks) = output.Reading story remarks
+progress (Stepping scene remarks) = output.Stepping scene remarks
 
--- whether the prelude ends before this line
-abbrev pub ends_prelude : output.Progress → List ℕ → Bool
-ends_prelude (output.Opening p) line = not (output.is_prelude line)
-ends_prelude _ line = false
+-- whether the prelude ends before the line with this number
+abbrev pub ends_prelude : output.Progress → ℕ → List ℕ → Bool
+ends_prelude (output.Opening p) n line = not (output.is_prelude line || output.is_profile n line)
+ends_prelude _ n line = false
 
 abbrev pub total : Summary → output.Total
 total s = record { calls = s.calls; reports = s.reports; bad = s.bad }
@@ -110,8 +115,8 @@ abbrev pub allowed : View → Replaying → ℕ → List (List ℕ) → List ℕ
 allowed view m number lines tail text summary = IsWritten view (output.course_from (progress m) number lines tail) text summary
 
 -- the verifier was made, or a list refused, as it should be
-abbrev pub Opens : Result output.Progress output.BadLine → Result Story (ℕ × Cause) → Type 0
-Opens due (Ok story) = due ≡ Ok (output.Reading story 0)
+abbrev pub Opens : Result output.Progress output.BadLine → Result Replaying (ℕ × Cause) → Type 0
+Opens due (Ok m) = due ≡ Ok (progress m)
 Opens due (Err bad) = due ≡ Err bad
 
 -- the reading came to where it should stand, or to the refusal of a list, which changes nothing of what is summed up

@@ -13,6 +13,7 @@ mod calls;
 mod endings;
 mod prelude;
 mod views;
+mod world_lines;
 
 use crate::stream::machine::{Machine, Step};
 use crate::stream::ports::{Failures, Ports};
@@ -23,10 +24,12 @@ use prelude::{Prelude, add_line, is_prelude, new_prelude, open};
 use std::alloc::{AllocError, Global};
 use std::io::{BufRead, Write};
 use std::mem;
-use views::{last_text, shown};
+use views::{last_text, last_world_text, shown};
 use wit_core::Verifier;
 use wit_grammar::{LineError, parse_line, parse_lock_line};
 use wit_model::{Cause, Limits, Line, View};
+use wit_world::World;
+use world_lines::{enter_world_line, step_on_lock};
 
 /// The log's limit in a replay.
 const LOG: u32 = 16_777_216;
@@ -107,16 +110,23 @@ enum Replaying {
         /// Failed assertions and warnings: no log holds them.
         remarks: u64,
     },
+    /// The same in the second version.
+    Stepping { world: World, remarks: u64 },
 }
 
 impl Replaying {
     // The prelude ends before a line that begins otherwise; a list that is refused then is the bad line.
     #[inline(always)]
-    fn reach(&mut self, alloc: Global, line: &[u8]) -> Result<Option<(u64, Cause)>, AllocError>
-        ensures stands { IfOk result (Reaches (reached (progress self.old) line.now) (progress self.old) (progress self.new)) }
+    fn reach(
+        &mut self,
+        alloc: Global,
+        number: u64,
+        line: &[u8],
+    ) -> Result<Option<(u64, Cause)>, AllocError>
+        ensures stands { IfOk result (Reaches (reached (progress self.old) number line.now) (progress self.old) (progress self.new)) }
         ensures counted { IfOk result (λ r. reported (progress self.new) ≡ reported (progress self.old)) }
     {
-        if self.ends_prelude(line) {
+        if self.ends_prelude(number, line) {
             self.end_prelude(alloc)
         } else {
             Ok(None)
@@ -127,16 +137,13 @@ impl Replaying {
     #[cold]
     #[inline(never)]
     fn end_prelude(&mut self, alloc: Global) -> Result<Option<(u64, Cause)>, AllocError>
-        ensures { (line : List ℕ) → ends_prelude (progress self.old) line ≡ true
-            → IfOk result (Reaches (reached (progress self.old) line) (progress self.old) (progress self.new)) }
+        ensures { (number : ℕ) (line : List ℕ) → ends_prelude (progress self.old) number line ≡ true
+            → IfOk result (Reaches (reached (progress self.old) number line) (progress self.old) (progress self.new)) }
     {
         match mem::replace(self, Replaying::Unstarted) {
             Replaying::Opening(prelude) => match open(alloc, prelude)? {
-                Ok(verifier) => {
-                    *self = Replaying::Reading {
-                        verifier,
-                        remarks: 0,
-                    };
+                Ok(begun) => {
+                    *self = begun;
                     Ok(None)
                 }
                 Err(bad) => Ok(Some(bad)),
@@ -149,11 +156,11 @@ impl Replaying {
     }
 
     #[inline(always)]
-    fn ends_prelude(&self, line: &[u8]) -> bool
-        ensures { result ≡ ends_prelude (progress self.now) line.now }
+    fn ends_prelude(&self, number: u64, line: &[u8]) -> bool
+        ensures { result ≡ ends_prelude (progress self.now) number line.now }
     {
         match self {
-            Replaying::Opening(_) => !is_prelude(line),
+            Replaying::Opening(_) => !is_prelude(number, line),
             _ => false,
         }
     }
@@ -173,7 +180,7 @@ impl Replaying {
         ensures step { IfOk result (Follows (allowed view) self.old self.new number bytes.now) }
         ensures counted { IfOk result (λ s. reported (progress self.new) ≤ reported (progress self.old) + 1) }
     {
-        if let Some((number, cause)) = self.reach(alloc, bytes)? {
+        if let Some((number, cause)) = self.reach(alloc, number, bytes)? {
             return self.ended_step(alloc, number, LineError::Bad(cause));
         }
         match self.read(alloc, number, bytes) {
@@ -183,6 +190,22 @@ impl Replaying {
     }
 
     fn read(&mut self, alloc: Global, number: u64, bytes: &[u8]) -> Result<Vec<u8>, LineError>
+        requires room { reported (progress self.old) < number }
+        requires short { length bytes.now ≤ LONGEST }
+        ensures { Passes (outcome (progress self.old) number bytes.now)
+            (progress self.old) (progress self.new) result }
+    {
+        if let Replaying::Stepping { world, .. } = self {
+            if let Some(line) = parse_lock_line(bytes) {
+                return step_on_lock(alloc, world, line);
+            }
+        }
+        self.read_any(alloc, number, bytes)
+    }
+
+    // By itself, so that a line on a lock in a world doesn't pay for its large locals.
+    #[inline(never)]
+    fn read_any(&mut self, alloc: Global, number: u64, bytes: &[u8]) -> Result<Vec<u8>, LineError>
         requires room { reported (progress self.old) < number }
         requires short { length bytes.now ≤ LONGEST }
         ensures { Passes (outcome (progress self.old) number bytes.now)
@@ -201,6 +224,7 @@ impl Replaying {
             Replaying::Unstarted => self.start(alloc, line),
             Replaying::Opening(prelude) => add_line(alloc, prelude, number, line),
             Replaying::Reading { verifier, remarks } => enter_line(alloc, verifier, remarks, line),
+            Replaying::Stepping { world, remarks } => enter_world_line(alloc, world, remarks, line),
         }
     }
 
@@ -210,11 +234,11 @@ impl Replaying {
         ensures { (number : ℕ) → Passes (entered Unstarted number line) Unstarted (progress self.new) result }
     {
         let Line::Header {
+            version,
             seats,
             types,
             locks,
             chunks,
-            ..
         } = line
         else {
             return Err(LineError::SYNTAX);
@@ -222,7 +246,7 @@ impl Replaying {
         let Some(limits) = Limits::new(seats, types, locks, chunks, LOG) else {
             return Err(LineError::Bad(Cause::Limit));
         };
-        *self = Replaying::Opening(new_prelude(alloc, limits));
+        *self = Replaying::Opening(new_prelude(alloc, version, limits));
         Ok(Vec::new(alloc))
     }
 }
@@ -258,7 +282,7 @@ impl Machine for Replaying {
         beginning: &[u8],
         cause: Cause,
     ) -> Result<(Vec<u8>, Summary), AllocError> {
-        let (number, cause) = self.reach(alloc, beginning)?.unwrap_or((number, cause));
+        let (number, cause) = self.reach(alloc, number, beginning)?.unwrap_or((number, cause));
         self.ended(alloc, number, cause)
     }
 
@@ -268,17 +292,25 @@ impl Machine for Replaying {
         view: View,
         number: u64,
     ) -> Result<(Vec<u8>, Summary), AllocError> {
-        if let Some((number, cause)) = self.reach(alloc, b"")? {
+        if let Some((number, cause)) = self.reach(alloc, number, b"")? {
             return self.ended(alloc, number, cause);
         }
-        if let Replaying::Reading { verifier, .. } = self {
-            let Ok((text, circle)) = last_text(alloc, view, verifier) else {
-                // It fails for want of memory alone.
-                return Err(AllocError);
-            };
-            return Ok((text, self.summary(circle, None)));
+        // A last text fails for want of memory alone.
+        match self {
+            Replaying::Reading { verifier, .. } => {
+                let Ok((text, circle)) = last_text(alloc, view, verifier) else {
+                    return Err(AllocError);
+                };
+                Ok((text, self.summary(circle, None)))
+            }
+            Replaying::Stepping { world, .. } => {
+                let Ok((text, circle)) = last_world_text(alloc, view, world) else {
+                    return Err(AllocError);
+                };
+                Ok((text, self.summary(circle, None)))
+            }
+            Replaying::Unstarted | Replaying::Opening(_) => self.ended(alloc, number, Cause::Cut),
         }
-        self.ended(alloc, number, Cause::Cut)
     }
 
     ghost answers = { λ view m n lines tail. some_output view (progress m) n lines tail };

@@ -29,6 +29,7 @@ fn cause_words(cause: Cause) -> &'static str
         Cause::Long => "long",
         Cause::Cut => "cut",
         Cause::Syntax => "syntax",
+        Cause::Version => "version",
         Cause::Limit => "limit",
         Cause::Fault(fault) => fault.text(),
     }

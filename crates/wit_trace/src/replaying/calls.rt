@@ -69,10 +69,13 @@ pub fn reply_step(
     }
 }
 
-// The text of a reply.
+/// The text of a reply.
+///
+/// # Errors
+/// Want of memory alone.
 #[cold]
 #[inline(never)]
-fn reply_text(alloc: Global, verifier: &Verifier, reply: &Reply) -> Result<Vec<u8>, AllocError>
+pub fn reply_text(alloc: Global, verifier: &Verifier, reply: &Reply) -> Result<Vec<u8>, AllocError>
     ensures { IfOk result (λ text. text.items ≡ told verifier.now reply.now) }
 {
     match report_text(alloc, verifier, reply) {
@@ -82,8 +85,11 @@ fn reply_text(alloc: Global, verifier: &Verifier, reply: &Reply) -> Result<Vec<u
     }
 }
 
-// A failed assertion or a warning is counted; one that says nothing isn't.
-fn remark(remarks: &mut u64, text: Result<Vec<u8>, LineError>) -> Result<Vec<u8>, LineError>
+/// A failed assertion or a warning is counted; one that says nothing isn't.
+///
+/// # Errors
+/// That of the text.
+pub fn remark(remarks: &mut u64, text: Result<Vec<u8>, LineError>) -> Result<Vec<u8>, LineError>
     requires { remarks.old < 2 ^ 64 - 1 }
     ensures same { result ≡ text }
     ensures counted { IfOk text (λ t. remarks.new ≡ remarks.old + said t.items) }
@@ -96,8 +102,11 @@ fn remark(remarks: &mut u64, text: Result<Vec<u8>, LineError>) -> Result<Vec<u8>
     Ok(text)
 }
 
-// What an assertion comes to, in text.
-fn assertion(
+/// What an assertion comes to, in text.
+///
+/// # Errors
+/// `Bad` where the call is refused; `Memory`.
+pub fn assertion(
     alloc: Global,
     verifier: &Verifier,
     seat: SeatNo,
@@ -110,8 +119,11 @@ fn assertion(
     Ok(assert_text(alloc, verifier, lock, answer)?.into_bytes())
 }
 
-// The locks that a seat is warned of, in text.
-fn warning(
+/// The locks that a seat is warned of, in text.
+///
+/// # Errors
+/// `Bad` where the call is refused; `Memory`.
+pub fn warning(
     alloc: Global,
     verifier: &Verifier,
     seat: SeatNo,
@@ -130,7 +142,9 @@ fn make_call(verifier: &mut Verifier, line: Line) -> Result<Reply, LineError>
     ensures { Calls (λ n. calls verifier.old n (call_of line)) verifier.old verifier.new result }
 {
     match line {
-        Line::Header { .. } | Line::Order { .. } | Line::Bless { .. } => Err(LineError::SYNTAX),
+        Line::Header { .. } | Line::Profile | Line::Order { .. } | Line::Bless { .. } => {
+            Err(LineError::SYNTAX)
+        }
         Line::Init { seat, lock } => Ok(Reply::Made(verifier.make(seat, lock)?)),
         Line::OnLock(line) => call_on_lock(verifier, borrowed(&line)),
         Line::Define {
@@ -169,6 +183,8 @@ pub fn call_on_lock(verifier: &mut Verifier, line: LockLine<&str>) -> Result<Rep
         } => try_at(verifier, seat, lock, mode, file, line),
         LockLine::Unlock { seat, lock, mode } => Ok(verifier.unlock(seat, lock, mode)?),
         LockLine::Plain { verb, seat, lock } => call_of_verb(verifier, verb, seat, lock),
+        // The first version has no such line.
+        LockLine::Step { .. } => Err(LineError::SYNTAX),
     }
 }
 

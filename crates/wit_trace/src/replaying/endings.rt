@@ -27,6 +27,10 @@ impl Replaying {
                 verifier.history().len() as u64,
                 u64::from(verifier.reports()) + *remarks,
             ),
+            Replaying::Stepping { world, remarks } => (
+                world.verifier().history().len() as u64,
+                u64::from(world.verifier().reports()) + *remarks,
+            ),
             Replaying::Unstarted | Replaying::Opening(_) => (0, 0),
         };
         Summary {

@@ -1,20 +1,27 @@
 //! The prelude of a trace.
 
-ghost use Rattle.std.specs.Prelude.{◌≡◌, unwrap_or, IfOk, OnOk};
+ghost use Rattle.std.specs.Prelude.{◌≡◌, ◌||◌, None, unwrap_or, IfOk, IfErr, OnOk};
 ghost use Rattle.wit_model.specs.Rules.Numbers.{with_number};
 ghost use Rattle.wit_core.specs.Listed.{listed};
-ghost use Rattle.wit_model.specs.Trace.Output.{Opening, empty_prelude, entered, is_prelude, opened, with_list, with_pair};
-ghost use Rattle.wit_model.specs.Rules.Start.{start_fault};
-ghost use Rattle.wit_trace.specs.Replays.{Opens, Passes, prelude_of};
+ghost use Rattle.wit_model.specs.Trace.Output.{Opening, begun, empty_prelude, entered, is_prelude, is_profile, opened, with_list, with_pair};
+ghost use Rattle.wit_model.specs.Rules.Start.{start_fault, IsRefused};
+ghost use Rattle.wit_core.specs.Fresh.{start_of};
+ghost use Rattle.wit_model.specs.Rules.State.{fresh};
+ghost use Rattle.wit_trace.specs.Replays.{Opens, Passes, prelude_of, progress};
 
+use crate::replaying::Replaying;
 use std::alloc::{AllocError, Global};
 use wit_core::{StartError, Verifier};
 use wit_grammar::LineError;
-use wit_model::{Cause, Class, Fault, Limits, Line, Name, TypeList};
+use wit_model::{Cause, Class, Fault, Limits, Line, Name, Profile, TypeList, Version};
+use wit_world::World;
 
-/// What a prelude says so far: how the verifier is to start, and where each list stands.
+/// What a prelude says so far: the version of the format, how the verifier is to start, and where
+/// each list stands.
 #[derive(Drop)]
 pub struct Prelude {
+    version: Version,
+    profile: Profile,
     limits: Limits,
     lists: Vec<Vec<(Class, String)>>,
     /// The number of each list's line.
@@ -22,11 +29,13 @@ pub struct Prelude {
     blessed: Vec<(String, String)>,
 }
 
-/// A prelude that says nothing but the limits.
-pub fn new_prelude(alloc: Global, limits: Limits) -> Prelude
-    ensures { prelude_of result ≡ empty_prelude limits }
+/// A prelude that says nothing but the version and the limits.
+pub fn new_prelude(alloc: Global, version: Version, limits: Limits) -> Prelude
+    ensures { prelude_of result ≡ empty_prelude version limits }
 {
     Prelude {
+        version,
+        profile: Profile::Plain,
         limits,
         lists: Vec::new(alloc),
         lines: Vec::new(alloc),
@@ -34,11 +43,24 @@ pub fn new_prelude(alloc: Global, limits: Limits) -> Prelude
     }
 }
 
-/// Whether a line begins as those of the prelude do; its first six bytes decide it.
-pub fn is_prelude(line: &[u8]) -> bool
+/// Whether a line, with its number, stands in the prelude: its first six bytes decide it, but for the
+/// second line, which may name a profile.
+pub fn is_prelude(number: u64, line: &[u8]) -> bool
+    ensures { result ≡ (is_prelude line.now || is_profile number line.now) }
+{
+    begins_prelude(line) || is_profile(number, line)
+}
+
+fn begins_prelude(line: &[u8]) -> bool
     ensures { result ≡ is_prelude line.now }
 {
     line.starts_with(b"order ") || line.starts_with(b"bless ")
+}
+
+fn is_profile(number: u64, line: &[u8]) -> bool
+    ensures { result ≡ is_profile number line.now }
+{
+    number == 2 && line == b"profile all".as_slice()
 }
 
 /// A line of the prelude adds its list or its pair.
@@ -55,6 +77,7 @@ pub fn add_line(
         (Opening (prelude_of prelude.old)) (Opening (prelude_of prelude.new)) result }
 {
     match line {
+        Line::Profile if number == 2 => prelude.profile = Profile::AllHeld,
         Line::Order { list } => add_list(alloc, prelude, number, list)?,
         Line::Bless { first, second } => add_pair(prelude, first, second)?,
         _ => return Err(LineError::SYNTAX),
@@ -94,15 +117,23 @@ fn names_of(alloc: Global, list: TypeList) -> Result<Vec<(Class, String)>, Alloc
     Ok(types)
 }
 
-/// The verifier that the prelude asks for, or the number of the first line whose list is refused, and why.
+/// A replay with the verifier that the prelude asks for, or the number of the first line whose list is
+/// refused, and why.
 ///
 /// # Errors
 /// Want of memory alone.
-pub fn open(alloc: Global, prelude: Prelude) -> Result<Result<Verifier, (u64, Cause)>, AllocError>
+pub fn open(alloc: Global, prelude: Prelude) -> Result<Result<Replaying, (u64, Cause)>, AllocError>
     ensures { IfOk result (Opens (opened (prelude_of prelude) (start_fault (prelude_of prelude).start))) }
 {
-    match Verifier::new(alloc, prelude.limits, prelude.lists, prelude.blessed) {
-        Ok(verifier) => Ok(Ok(verifier)),
+    let made = make(
+        alloc,
+        prelude.profile,
+        prelude.limits,
+        prelude.lists,
+        prelude.blessed,
+    );
+    match made {
+        Ok(verifier) => Ok(Ok(begin(alloc, prelude.version, verifier)?)),
         Err(
             StartError {
                 fault: Fault::OutOfMemory,
@@ -113,6 +144,41 @@ pub fn open(alloc: Global, prelude: Prelude) -> Result<Result<Verifier, (u64, Ca
             let number = line_of_list(&prelude.lines, list);
             Ok(Err((number, Cause::Fault(fault))))
         }
+    }
+}
+
+// A verifier of a profile.
+fn make(
+    alloc: Global,
+    profile: Profile,
+    limits: Limits,
+    lists: Vec<Vec<(Class, String)>>,
+    blessed: Vec<(String, String)>,
+) -> Result<Verifier, StartError>
+    ensures ok { IfOk result (λ v. (start_fault (start_of profile limits lists.items blessed.items) ≡ None)
+        × (v ≡ fresh (start_of profile limits lists.items blessed.items))) }
+    ensures err { IfErr result (λ e. IsRefused (start_of profile limits lists.items blessed.items) e.list e.fault) }
+{
+    match profile {
+        Profile::Plain => Verifier::new(alloc, limits, lists, blessed),
+        Profile::AllHeld => Verifier::new_all_held(alloc, limits, lists, blessed),
+    }
+}
+
+// A replay by a verifier that was told nothing yet.
+fn begin(alloc: Global, version: Version, verifier: Verifier) -> Result<Replaying, AllocError>
+    requires { verifier ≡ fresh verifier.start }
+    ensures { IfOk result (λ m. progress m ≡ begun version verifier.start) }
+{
+    match version {
+        Version::One => Ok(Replaying::Reading {
+            verifier,
+            remarks: 0,
+        }),
+        Version::Two => match World::new(alloc, verifier) {
+            Ok(world) => Ok(Replaying::Stepping { world, remarks: 0 }),
+            Err(_) => Err(AllocError),
+        },
     }
 }
 

@@ -1,7 +1,7 @@
 //! What a view shows.
 
 ghost use Rattle.std.specs.Prelude.{◌≡◌, IfOk, IfErr};
-ghost use Rattle.wit_model.specs.Trace.Output.{shown, IsViewOf};
+ghost use Rattle.wit_model.specs.Trace.Output.{shown, IsViewOf, IsViewIn};
 ghost use Rattle.wit_model.specs.declared.lines.View.TheVariants.{Circle};
 ghost use Rattle.wit_model.specs.declared.faults.Fault.TheVariants.{OutOfMemory};
 
@@ -9,6 +9,7 @@ use std::alloc::Global;
 use wit_core::Verifier;
 use wit_model::{Fault, View};
 use wit_report::{all_locks, circle_text, graph};
+use wit_world::World;
 
 /// What is shown of the text that is told of a line.
 pub fn shown(alloc: Global, view: View, told: Vec<u8>) -> Vec<u8>
@@ -42,5 +43,28 @@ fn last_circle(alloc: Global, verifier: &Verifier) -> Result<(Vec<u8>, bool), Fa
 {
     let circle = verifier.wait_circle()?;
     let text = circle_text(alloc, verifier, circle.as_deref())?;
+    Ok((text.into_bytes(), circle.is_some()))
+}
+
+/// The same of a world: a circle is one of seats that wait for one another's shares.
+///
+/// # Errors
+/// `OutOfMemory` alone.
+pub fn last_world_text(alloc: Global, view: View, world: &World) -> Result<(Vec<u8>, bool), Fault>
+    ensures ok { IfOk result (λ r. IsViewIn view world.now r.0.items r.1) }
+    ensures err { IfErr result (λ e. e ≡ OutOfMemory) }
+{
+    match view {
+        View::Circle => last_world_circle(alloc, world),
+        View::Reports | View::Graph | View::Locks => last_text(alloc, view, world.verifier()),
+    }
+}
+
+fn last_world_circle(alloc: Global, world: &World) -> Result<(Vec<u8>, bool), Fault>
+    ensures ok { IfOk result (λ r. IsViewIn Circle world.now r.0.items r.1) }
+    ensures err { IfErr result (λ e. e ≡ OutOfMemory) }
+{
+    let circle = world.wait_circle()?;
+    let text = circle_text(alloc, world.verifier(), circle.as_deref())?;
     Ok((text.into_bytes(), circle.is_some()))
 }

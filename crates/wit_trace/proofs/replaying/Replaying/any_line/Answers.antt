@@ -9,12 +9,12 @@ use Rattle.wit_trace.proofs.replaying.Replaying.any_line.Goals as goal
 
 pub returns-in-Ok-clause-step : goal.returns-in-Ok-clause-step
 returns-in-Ok-clause-step c =
-    let stands = subst (Reaches (reached (progress c.args.self.now) c.args.bytes.now) (progress c.args.self.now) (progress c.reach.new.self)) c.in_default.is c.in_ok-number.ensures.stands in
+    let stands = subst (Reaches (reached (progress c.args.self.now) c.args.number c.args.bytes.now) (progress c.args.self.now) (progress c.reach.new.self)) c.in_default.is c.in_ok-number.ensures.stands in
     told c.args.view (progress c.args.self.now) (progress c.reach.new.self) (progress c.read.new.self) c.args.number c.args.bytes.now c.read.result c.in-Ok.text c.shown.result stands c.read.ensures c.in-Ok.is c.shown.ensures
 
 pub returns-in-Err-clause-step : goal.returns-in-Err-clause-step
 returns-in-Err-clause-step c =
-    let stands = subst (Reaches (reached (progress c.args.self.now) c.args.bytes.now) (progress c.args.self.now) (progress c.reach.new.self)) c.in_default.is c.in_ok-number.ensures.stands in
+    let stands = subst (Reaches (reached (progress c.args.self.now) c.args.number c.args.bytes.now) (progress c.args.self.now) (progress c.reach.new.self)) c.in_default.is c.in_ok-number.ensures.stands in
     if_ok (EndsFor c.args.view (progress c.read.new.self) c.args.number c.in-Err.error) (Follows (allowed c.args.view) c.args.self.now c.read.new.self c.args.number c.args.bytes.now) c.ended_step-in-Err.result
     (λ s ends. line_ends c.args.view c.args.self.now c.read.new.self (progress c.reach.new.self) c.args.number c.args.bytes.now c.read.result c.in-Err.error s stands c.read.ensures c.in-Err.is ends)
     (c.ended_step-in-Err.ensures c.args.view)
@@ -22,7 +22,7 @@ returns-in-Err-clause-step c =
 pub returns-in-Some-clause-step : goal.returns-in-Some-clause-step
 returns-in-Some-clause-step c =
     let list : BadLine = (c.in-Some.number, c.in-Some.cause) in
-    let refused = subst (Reaches (reached (progress c.args.self.now) c.args.bytes.now) (progress c.args.self.now) (progress c.reach.new.self)) c.in-Some.is c.in_ok-number.ensures.stands in
+    let refused = subst (Reaches (reached (progress c.args.self.now) c.args.number c.args.bytes.now) (progress c.args.self.now) (progress c.reach.new.self)) c.in-Some.is c.in_ok-number.ensures.stands in
     if_ok (EndsFor c.args.view (progress c.reach.new.self) c.in-Some.number (Bad c.in-Some.cause)) (Follows (allowed c.args.view) c.args.self.now c.reach.new.self c.args.number c.args.bytes.now) c.ended_step.result
     (λ s ends. refused_step c.args.view c.args.self.now c.reach.new.self c.args.number c.args.bytes.now list s refused ends)
     (c.ended_step.ensures c.args.view)
