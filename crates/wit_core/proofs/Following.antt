@@ -1,5 +1,5 @@
 -- Orders behind one child, adopted one after the other.
-use Rattle.std.proofs.Common.{◌≡◌, ℕ, ◌+◌, ◌<◌, Bool, false, ◌&&◌, ◌||◌, eqb, List, [], ◌∷◌, ◌++◌, length, drop, get_or, map, reverse, refl, sym, ap, ◌∙◌, subst, append_assoc}
+use Rattle.std.proofs.Common.{◌≡◌, ℕ, ◌+◌, ◌<◌, ◌&&◌, ◌||◌, eqb, List, [], ◌∷◌, ◌++◌, length, drop, get_or, map, reverse, sym, ap, ◌∙◌, subst, append_assoc}
 use Rattle.std.specs.List.{AllByRecursion}
 use Rattle.std.proofs.lemmas.Bool.{or_from, and_left, ne_eqb}
 use Rattle.std.proofs.lemmas.List.{drop_more, reverse-append}
@@ -8,7 +8,6 @@ use Rattle.wit_model.specs.declared.locks.TypeNo.{TypeNo}
 use Rattle.wit_model.specs.declared.calls.Adoption.{Adoption}
 use Rattle.wit_model.specs.Rules.Orders.{is_before, taught_at}
 use Rattle.wit_core.specs.Following.{CanFollow, CanAllFollow}
-use Rattle.wit_core.specs.Ordering.{Ordering}
 
 -- no types
 abbrev pub no-pair : TypeNo × TypeNo

@@ -1,10 +1,10 @@
 -- An order that is defined.
-use Rattle.std.proofs.Common.{◌≡◌, ℕ, ◌+◌, ◌-◌, Ok, refl, sym, ap, ◌∙◌, arith, append-nil}
+use Rattle.std.proofs.Common.{◌≡◌, ℕ, ◌+◌, Ok, refl, sym, ap, ◌∙◌, arith, append-nil}
 use Rattle.wit_model.specs.declared.locks.LockNo.{LockNo}
 use Rattle.wit_model.specs.declared.calls.Call.TheVariants.{DefineOrder}
 use Rattle.wit_model.specs.declared.calls.Reply.{Reply}
 use Rattle.wit_model.specs.declared.calls.Reply.TheVariants as reply
-use Rattle.wit_model.specs.Rules.State.{Story, Known, known_of, typed_locks, owed}
+use Rattle.wit_model.specs.Rules.State.{Story, Known, known_of, typed_locks}
 use Rattle.wit_model.specs.Rules.Step.{answer_of}
 use Rattle.wit_model.proofs.Chains.Owed.{owed-same}
 use Rattle.wit_core.specs.declared.verifier.Verifier.TheInside.{Inside}

@@ -5,7 +5,7 @@ use Rattle.wit_model.specs.declared.calls.Call.TheVariants.{Destroy}
 use Rattle.wit_model.specs.declared.calls.Reply.TheVariants.{Done}
 use Rattle.wit_model.specs.Rules.Numbers.{IsGiven, with_changed}
 use Rattle.wit_model.specs.Rules.Locks.{lock_at, destroyed_of}
-use Rattle.wit_model.specs.Rules.State.{Story, state_of, owed}
+use Rattle.wit_model.specs.Rules.State.{Story, state_of}
 use Rattle.wit_model.specs.Rules.Step.{answer_of}
 use Rattle.wit_model.proofs.Chains.Owed.{owed-same}
 use Rattle.wit_model.proofs.Histories.Accepted.{destroy_accepted}

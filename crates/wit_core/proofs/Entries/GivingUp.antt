@@ -5,7 +5,7 @@ use Rattle.wit_model.specs.declared.calls.Request.{Request}
 use Rattle.wit_model.specs.declared.calls.Call.TheVariants.{GiveUp}
 use Rattle.wit_model.specs.declared.calls.Reply.TheVariants.{Done}
 use Rattle.wit_model.specs.Rules.History.{pending}
-use Rattle.wit_model.specs.Rules.State.{Story, state_of, owed}
+use Rattle.wit_model.specs.Rules.State.{Story, state_of}
 use Rattle.wit_model.specs.Rules.Step.{answer_of, is_for}
 use Rattle.wit_model.proofs.Chains.Owed.{owed-give_up}
 use Rattle.wit_model.proofs.Histories.Accepted.{asked-lock, give_up_accepted}

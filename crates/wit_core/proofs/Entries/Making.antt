@@ -1,5 +1,5 @@
 -- A lock that is made.
-use Rattle.std.proofs.Common.{◌≡◌, ℕ, ◌+◌, ◌-◌, ◌<◌, ◌&&◌, true, false, List, [], ◌∷◌, ◌++◌, Option, None, Some, Ok, IsOk, length, unwrap_or, refl, sym, ap, ◌∙◌, subst, arith, length-append}
+use Rattle.std.proofs.Common.{◌≡◌, ℕ, ◌+◌, ◌<◌, ◌&&◌, true, false, List, [], ◌∷◌, ◌++◌, Option, None, Some, Ok, IsOk, length, unwrap_or, refl, sym, ap, ◌∙◌, subst, arith, length-append}
 use Rattle.std.proofs.lemmas.Bool.{and_parts, leb-false}
 use Rattle.wit_model.specs.declared.locks.LockNo.{LockNo}
 use Rattle.wit_model.specs.declared.calls.NewLock.{NewLock}
@@ -8,7 +8,7 @@ use Rattle.wit_model.specs.declared.calls.Reply.TheVariants.{Made}
 use Rattle.wit_model.specs.Rules.Names.{is_name}
 use Rattle.wit_model.specs.Rules.Types.{type_name_of}
 use Rattle.wit_model.specs.Rules.Locks.{destroyed_of, is_destroyed, made_among}
-use Rattle.wit_model.specs.Rules.State.{Story, State, Known, types_of, typed_locks, state_of, owed}
+use Rattle.wit_model.specs.Rules.State.{Story, State, Known, types_of, typed_locks, state_of}
 use Rattle.wit_model.specs.Rules.Step.{answer_of, is_good_name}
 use Rattle.wit_model.proofs.Chains.Owed.{owed-init}
 use Rattle.wit_model.proofs.Histories.Accepted.{init_accepted}

@@ -7,7 +7,7 @@ use Rattle.wit_model.specs.declared.calls.Reply.TheVariants.{Unlocked}
 use Rattle.wit_model.specs.Rules.Types.{is_spin}
 use Rattle.wit_model.specs.Rules.Locks.{lock_at}
 use Rattle.wit_model.specs.Rules.History.{is_held}
-use Rattle.wit_model.specs.Rules.State.{Story, state_of, owed}
+use Rattle.wit_model.specs.Rules.State.{Story, state_of}
 use Rattle.wit_model.specs.Rules.Step.{answer_of}
 use Rattle.wit_model.proofs.Chains.Owed.{owed-unlock}
 use Rattle.wit_model.proofs.Histories.Accepted.{unlock_accepted}

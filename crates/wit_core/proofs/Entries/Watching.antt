@@ -1,9 +1,9 @@
 -- How much is watched.
-use Rattle.std.proofs.Common.{◌≡◌, ℕ, ◌+◌, ◌-◌, ◌<◌, Ok, length, refl, ◌∙◌, arith}
+use Rattle.std.proofs.Common.{◌≡◌, ℕ, ◌+◌, ◌<◌, Ok, length, refl, ◌∙◌, arith}
 use Rattle.wit_model.specs.declared.locks.Watch.{Watch}
 use Rattle.wit_model.specs.declared.calls.Call.TheVariants.{SetWatch}
 use Rattle.wit_model.specs.declared.calls.Reply.TheVariants.{Done}
-use Rattle.wit_model.specs.Rules.State.{Story, state_of, owed}
+use Rattle.wit_model.specs.Rules.State.{Story, state_of}
 use Rattle.wit_model.specs.Rules.Step.{answer_of}
 use Rattle.wit_model.proofs.Chains.Owed.{owed-same}
 use Rattle.wit_model.proofs.Histories.Accepted.{watch_accepted}

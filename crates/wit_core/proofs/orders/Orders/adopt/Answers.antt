@@ -1,4 +1,4 @@
-use Rattle.std.proofs.Common.{◌∷◌, ◌++◌, [], refl, sym, ap, ◌∙◌, subst}
+use Rattle.std.proofs.Common.{refl, sym, ◌∙◌, subst}
 use Rattle.wit_core.specs.Ordering.{Ordering}
 use Rattle.wit_core.specs.Following.{CanFollow}
 use Rattle.wit_core.proofs.Relating.{before-by, related-adopted}

@@ -2,7 +2,6 @@ use Rattle.std.proofs.Common.{ap, ap₂, ◌∙◌, List}
 use Rattle.wit_model.specs.declared.flags.LockFlags.{LockFlags}
 use Rattle.wit_model.specs.declared.locks.Lock.{Lock}
 use Rattle.wit_model.specs.declared.locks.TypeNo.{TypeNo}
-use Rattle.wit_model.specs.declared.calls.Asked.{Asked}
 use Rattle.wit_model.specs.Rules.Locks.{lock_at}
 use Rattle.wit_model.specs.Rules.State.{State}
 use Rattle.wit_model.specs.Rules.Verdict.{asked_of}
