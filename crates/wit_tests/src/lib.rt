@@ -4,6 +4,8 @@
 #![tactic(auto)]
 
 #[cfg(test)]
+mod all_held;
+#[cfg(test)]
 mod chains;
 #[cfg(test)]
 mod ends;
