@@ -5,6 +5,7 @@ use Rattle.wit_model.specs.declared.calls.Reply.{Reply}
 use Rattle.wit_model.specs.declared.lines.Cause.{Cause}
 use Rattle.wit_model.specs.declared.lines.Line.{Line}
 use Rattle.wit_model.specs.declared.lines.Line.TheVariants.{Assert, Warn}
+use Rattle.wit_model.specs.declared.profiles.Profile.TheVariants.{Plain}
 use Rattle.wit_model.specs.declared.lines.View.{View}
 use Rattle.wit_model.specs.Rules.State.{Story}
 use Rattle.wit_model.specs.Trace.Output as output
@@ -21,7 +22,7 @@ use Rattle.wit_trace.specs.declared.summary.Summary.{Summary}
 
 -- what was read of a prelude
 abbrev pub prelude_of : Prelude → output.Prelude
-prelude_of p = record { start = start_of p.limits p.lists.items p.blessed.items; lines = p.lines.items }
+prelude_of p = record { start = start_of Plain p.limits p.lists.items p.blessed.items; lines = p.lines.items }
 
 -- how far a reading is
 abbrev pub progress : Replaying → output.Progress
