@@ -28,13 +28,6 @@ impl Verifier {
         self.seats.pending(seat)
     }
 
-    // Whether a lock was made under this number and isn't destroyed.
-    pub(crate) fn is_live(&self, lock: LockNo) -> bool
-        ensures { result ≡ is_live (state_of self.now) lock.0 }
-    {
-        self.known.is_live(lock)
-    }
-
     // Whether some seat holds a lock or asks for it.
     pub(crate) fn is_used(&self, lock: LockNo) -> bool
         ensures { result ≡ is_used (state_of self.now) lock.0 }

@@ -7,7 +7,7 @@ ghost use Rattle.wit_model.specs.declared.locks.Instance.{Instance};
 ghost use Rattle.wit_model.specs.declared.faults.Fault.TheVariants.{OutOfMemory};
 ghost use Rattle.wit_model.specs.Rules.Numbers.{with_number, IsNumber};
 ghost use Rattle.wit_model.specs.Rules.Orders.{Before, is_direct, origin_of};
-ghost use Rattle.wit_model.specs.Rules.State.{state_of, seat_at, chain_in, free, known_of, orders_of, types_of, typed_locks};
+ghost use Rattle.wit_model.specs.Rules.State.{state_of, seat_at, chain_in, free, is_live, known_of, orders_of, types_of, typed_locks};
 ghost use Rattle.wit_model.specs.Rules.Step.{held_by};
 ghost use Rattle.wit_model.specs.Trace.Paths.{path, path_numbers};
 ghost use Rattle.wit_matrix.specs.Relation.{LeadsBy};
@@ -85,6 +85,13 @@ impl Verifier {
     {
         let named = lock_with(self.known.locks(), lock)?;
         Some(named.made.name.as_str())
+    }
+
+    /// Whether a lock was made under this number and isn't destroyed.
+    pub fn is_live(&self, lock: LockNo) -> bool
+        ensures { result ≡ is_live (state_of self.now) lock.0 }
+    {
+        self.known.is_live(lock)
     }
 
     /// The type of a lock.

@@ -111,7 +111,10 @@ enum Replaying {
         remarks: u64,
     },
     /// The same in the second version.
-    Stepping { world: World, remarks: u64 },
+    Stepping {
+        world: World,
+        remarks: u64,
+    },
 }
 
 impl Replaying {
@@ -282,7 +285,9 @@ impl Machine for Replaying {
         beginning: &[u8],
         cause: Cause,
     ) -> Result<(Vec<u8>, Summary), AllocError> {
-        let (number, cause) = self.reach(alloc, number, beginning)?.unwrap_or((number, cause));
+        let (number, cause) = self
+            .reach(alloc, number, beginning)?
+            .unwrap_or((number, cause));
         self.ended(alloc, number, cause)
     }
 

@@ -9,9 +9,7 @@ use crate::replaying::calls::{assertion, remark, reply_text, warning};
 use std::alloc::{AllocError, Global};
 use wit_core::Verifier;
 use wit_grammar::{LineError, borrowed};
-use wit_model::{
-    Boxed, Call, Line, LockLine, LockNo, RawStep, Reply, Request, SeatNo, Site, Verb,
-};
+use wit_model::{Boxed, Call, Line, LockLine, LockNo, RawStep, Reply, Request, SeatNo, Site, Verb};
 use wit_world::World;
 
 /// A line behind the prelude makes its call, or its step, and tells of it.
@@ -139,12 +137,7 @@ fn step_in(
     Ok(Vec::new(alloc))
 }
 
-fn call_in(
-    alloc: Global,
-    world: &mut World,
-    seat: SeatNo,
-    call: Call,
-) -> Result<Vec<u8>, LineError>
+fn call_in(alloc: Global, world: &mut World, seat: SeatNo, call: Call) -> Result<Vec<u8>, LineError>
     ensures { (n : ℕ) → Passes (makes_in world.old n seat.0 call)
         (Stepping world.old n) (Stepping world.new n) result }
 {

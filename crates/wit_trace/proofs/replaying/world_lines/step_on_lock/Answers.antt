@@ -20,7 +20,7 @@ pub returns-in-Unlock : goal.returns-in-Unlock
 returns-in-Unlock c = rw c.in-Unlock.is c.call_in-in-Unlock.ensures
 
 pub returns-in-Plain : goal.returns-in-Plain
-returns-in-Plain c = rw (c.in-Plain.is, c.verb_call.ensures) c.call_in-in-Plain.ensures
+returns-in-Plain c = rw (c.in-Plain.is, ← c.verb_call.ensures) c.call_in-in-Plain.ensures
 
 pub returns-in-Step : goal.returns-in-Step
 returns-in-Step c = rw c.in-Step.is c.step_in.ensures

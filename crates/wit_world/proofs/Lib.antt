@@ -1,0 +1,7 @@
+pub mod Bounded
+pub mod Circling
+pub mod Having
+pub mod Keeping
+pub mod Ladder
+pub mod Padded
+pub mod Stepped

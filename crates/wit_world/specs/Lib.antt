@@ -1,0 +1,5 @@
+pub mod Holders
+pub mod Kept
+pub mod Shares
+pub mod Stages
+pub mod Steps
