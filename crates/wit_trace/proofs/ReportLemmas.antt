@@ -170,14 +170,10 @@ header_one : (version : Version) (sizes : Sizes) (fits : Bool) → CountsOne 0 (
 header_one version sizes true = omega arith
 header_one version sizes false = tt
 
-profile_one : (p : output.Prelude) (second : Bool) → CountsOne 0 (cond second (output.Goes (output.Opening (output.with_profile p)) []) (output.Bad why.Syntax))
-profile_one p true = omega arith
-profile_one p false = tt
-
 entered_one : (p : output.Progress) (n : ℕ) (line : Line) → CountsOne (reported p) (output.entered p n line)
 entered_one output.Unstarted n (Header version seats types locks chunks) = header_one version (sizes_of seats types locks chunks output.log_limit) (are_within (sizes_of seats types locks chunks output.log_limit))
 entered_one output.Unstarted n _ = tt
-entered_one (output.Opening p) n Profile = profile_one p (eqb n 2)
+entered_one (output.Opening p) n Profile = omega arith
 entered_one (output.Opening p) n (Order list) = omega arith
 entered_one (output.Opening p) n (Bless first second) = omega arith
 entered_one (output.Opening p) n _ = tt

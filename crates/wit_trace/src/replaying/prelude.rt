@@ -77,7 +77,7 @@ pub fn add_line(
         (Opening (prelude_of prelude.old)) (Opening (prelude_of prelude.new)) result }
 {
     match line {
-        Line::Profile if number == 2 => prelude.profile = Profile::AllHeld,
+        Line::Profile => prelude.profile = Profile::AllHeld,
         Line::Order { list } => add_list(alloc, prelude, number, list)?,
         Line::Bless { first, second } => add_pair(prelude, first, second)?,
         _ => return Err(LineError::SYNTAX),
