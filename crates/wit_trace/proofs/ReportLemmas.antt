@@ -9,7 +9,7 @@ use Rattle.wit_model.specs.declared.faults.Fault.TheVariants.{UnknownSeat, Unkno
 use Rattle.wit_model.specs.declared.lines.Cause.{Cause}
 use Rattle.wit_model.specs.declared.lines.Cause.TheVariants as why
 use Rattle.wit_model.specs.declared.lines.Line.{Line}
-use Rattle.wit_model.specs.declared.lines.Line.TheVariants.{Header, Order, Bless}
+use Rattle.wit_model.specs.declared.lines.Line.TheVariants.{Header, Profile, Order, Bless}
 use Rattle.wit_model.specs.declared.assertions.AssertAnswer.{AssertAnswer}
 use Rattle.wit_model.specs.declared.locks.Instance.{Instance}
 use Rattle.wit_model.specs.Rules.Assertions.{step_assert}
@@ -173,6 +173,7 @@ header_one version sizes false = tt
 entered_one : (p : output.Progress) (n : ℕ) (line : Line) → CountsOne (reported p) (output.entered p n line)
 entered_one output.Unstarted n (Header version seats types locks chunks) = header_one version (sizes_of seats types locks chunks output.log_limit) (are_within (sizes_of seats types locks chunks output.log_limit))
 entered_one output.Unstarted n _ = tt
+entered_one (output.Opening p) n Profile = omega arith
 entered_one (output.Opening p) n (Order list) = omega arith
 entered_one (output.Opening p) n (Bless first second) = omega arith
 entered_one (output.Opening p) n _ = tt

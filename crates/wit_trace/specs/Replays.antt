@@ -23,7 +23,7 @@ use Rattle.wit_trace.specs.declared.summary.Summary.{Summary}
 abbrev pub prelude_of : Prelude → output.Prelude
 prelude_of p = record {
   version = p.version;
-  start = start_of p.limits p.lists.items p.blessed.items;
+  start = start_of p.profile p.limits p.lists.items p.blessed.items;
   lines = p.lines.items;
 }
 

@@ -269,12 +269,13 @@ calls_in s n call = in_scene s (calls s.story n call)
 
 -- ---- a line
 
--- a line in its place, with its number
+-- a line in its place, with its number; of those that name a profile the prelude is still open at the
+-- second line alone
 abbrev pub entered : Progress → ℕ → Line → Outcome
 entered Unstarted n (Header version seats types locks chunks) =
     let sizes = sizes_of seats types locks chunks log_limit in
     if are_within sizes then Goes (Opening (empty_prelude version sizes)) [] else Bad why.Limit
-entered (Opening p) n Profile = if n == 2 then Goes (Opening (with_profile p)) [] else Bad why.Syntax
+entered (Opening p) n Profile = Goes (Opening (with_profile p)) []
 entered (Opening p) n (Order list) = Goes (Opening (with_list p n list)) []
 entered (Opening p) n (Bless first second) = Goes (Opening (with_pair p first second)) []
 entered (Reading s m) n line = calls s m (call_of line)

@@ -1,10 +1,11 @@
 //! The prelude of a trace.
 
-ghost use Rattle.std.specs.Prelude.{◌≡◌, ◌||◌, unwrap_or, IfOk, OnOk};
+ghost use Rattle.std.specs.Prelude.{◌≡◌, ◌||◌, None, unwrap_or, IfOk, IfErr, OnOk};
 ghost use Rattle.wit_model.specs.Rules.Numbers.{with_number};
 ghost use Rattle.wit_core.specs.Listed.{listed};
 ghost use Rattle.wit_model.specs.Trace.Output.{Opening, begun, empty_prelude, entered, is_prelude, is_profile, opened, with_list, with_pair};
-ghost use Rattle.wit_model.specs.Rules.Start.{start_fault};
+ghost use Rattle.wit_model.specs.Rules.Start.{start_fault, IsRefused};
+ghost use Rattle.wit_core.specs.Fresh.{start_of};
 ghost use Rattle.wit_model.specs.Rules.State.{fresh};
 ghost use Rattle.wit_trace.specs.Replays.{Opens, Passes, prelude_of, progress};
 
@@ -12,7 +13,7 @@ use crate::replaying::Replaying;
 use std::alloc::{AllocError, Global};
 use wit_core::{StartError, Verifier};
 use wit_grammar::LineError;
-use wit_model::{Cause, Class, Fault, Limits, Line, Name, TypeList, Version};
+use wit_model::{Cause, Class, Fault, Limits, Line, Name, Profile, TypeList, Version};
 use wit_world::World;
 
 /// What a prelude says so far: the version of the format, how the verifier is to start, and where
@@ -20,6 +21,7 @@ use wit_world::World;
 #[derive(Drop)]
 pub struct Prelude {
     version: Version,
+    profile: Profile,
     limits: Limits,
     lists: Vec<Vec<(Class, String)>>,
     /// The number of each list's line.
@@ -33,6 +35,7 @@ pub fn new_prelude(alloc: Global, version: Version, limits: Limits) -> Prelude
 {
     Prelude {
         version,
+        profile: Profile::Plain,
         limits,
         lists: Vec::new(alloc),
         lines: Vec::new(alloc),
@@ -74,6 +77,7 @@ pub fn add_line(
         (Opening (prelude_of prelude.old)) (Opening (prelude_of prelude.new)) result }
 {
     match line {
+        Line::Profile => prelude.profile = Profile::AllHeld,
         Line::Order { list } => add_list(alloc, prelude, number, list)?,
         Line::Bless { first, second } => add_pair(prelude, first, second)?,
         _ => return Err(LineError::SYNTAX),
@@ -121,7 +125,14 @@ fn names_of(alloc: Global, list: TypeList) -> Result<Vec<(Class, String)>, Alloc
 pub fn open(alloc: Global, prelude: Prelude) -> Result<Result<Replaying, (u64, Cause)>, AllocError>
     ensures { IfOk result (Opens (opened (prelude_of prelude) (start_fault (prelude_of prelude).start))) }
 {
-    match Verifier::new(alloc, prelude.limits, prelude.lists, prelude.blessed) {
+    let made = make(
+        alloc,
+        prelude.profile,
+        prelude.limits,
+        prelude.lists,
+        prelude.blessed,
+    );
+    match made {
         Ok(verifier) => Ok(Ok(begin(alloc, prelude.version, verifier)?)),
         Err(
             StartError {
@@ -133,6 +144,24 @@ pub fn open(alloc: Global, prelude: Prelude) -> Result<Result<Replaying, (u64, C
             let number = line_of_list(&prelude.lines, list);
             Ok(Err((number, Cause::Fault(fault))))
         }
+    }
+}
+
+// A verifier of a profile.
+fn make(
+    alloc: Global,
+    profile: Profile,
+    limits: Limits,
+    lists: Vec<Vec<(Class, String)>>,
+    blessed: Vec<(String, String)>,
+) -> Result<Verifier, StartError>
+    ensures ok { IfOk result (λ v. (start_fault (start_of profile limits lists.items blessed.items) ≡ None)
+        × (v ≡ fresh (start_of profile limits lists.items blessed.items))) }
+    ensures err { IfErr result (λ e. IsRefused (start_of profile limits lists.items blessed.items) e.list e.fault) }
+{
+    match profile {
+        Profile::Plain => Verifier::new(alloc, limits, lists, blessed),
+        Profile::AllHeld => Verifier::new_all_held(alloc, limits, lists, blessed),
     }
 }
 
