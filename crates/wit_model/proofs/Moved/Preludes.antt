@@ -1,5 +1,5 @@
 -- The prelude and the header of a migrated trace, and so all of it.
-use Rattle.std.proofs.Common.{◌≡◌, ℕ, ◌+◌, ◌-◌, ◌==◌, ◌^◌, ◌<◌, ◌≤◌, Bool, true, false, ◌||◌, cond, List, [], ◌∷◌, ◌++◌, take, Option, None, Some, Result, Ok, Err, refl, ap, ap₂, sym, ◌∙◌, subst, append_assoc, codes}
+use Rattle.std.proofs.Common.{◌≡◌, ℕ, ◌+◌, ◌-◌, ◌^◌, ◌<◌, ◌≤◌, Bool, true, false, ◌||◌, cond, List, [], ◌∷◌, ◌++◌, take, Option, None, Some, Result, Ok, Err, refl, ap, ap₂, sym, ◌∙◌, subst, append_assoc, codes}
 use Rattle.std.proofs.lemmas.Bool.{false≢true, true≢false}
 use Rattle.wit_model.specs.declared.faults.Fault.{Fault}
 use Rattle.wit_model.specs.declared.locks.Class.{Class}
@@ -70,14 +70,7 @@ kept-on : (p : Prelude) (kept : List (List ℕ)) (n : ℕ) (bytes : List ℕ) (l
 kept-on p kept n bytes (Order list) then lines version goes = record { prelude = output.with_list p n list; version = version; next = cc; none = cc; one = refl; both = refl }
 kept-on p kept n bytes (Bless a b) then lines version goes = record { prelude = output.with_pair p a b; version = version; next = cc; none = cc; one = refl; both = refl }
 kept-on p kept n bytes (Header v s t l c) then lines version goes = (cc)
-kept-on p kept n bytes kind.Profile then lines version goes = go (n == 2) refl goes
-  where
-    stands : Prelude → Bool → output.Outcome
-    stands q b = cond b (output.Goes (Opening (output.with_profile q)) []) (output.Bad why.Syntax)
-
-    go : (b : Bool) → n == 2 ≡ b → keeps kept bytes (stands p b) ≡ moving.Goes then lines → KeptOn p kept n bytes kind.Profile then lines
-    go true is goes = record { prelude = output.with_profile p; version = version; next = cc; none = cc; one = ap (stands p) is; both = ap (stands (two p)) is }
-    go false is goes = (cc)
+kept-on p kept n bytes kind.Profile then lines version goes = record { prelude = output.with_profile p; version = version; next = cc; none = cc; one = refl; both = refl }
 kept-on p kept n bytes (kind.Init s lock) then lines version goes = (cc)
 kept-on p kept n bytes (OnLock l) then lines version goes = (cc)
 kept-on p kept n bytes (kind.Assert s l a) then lines version goes = (cc)
