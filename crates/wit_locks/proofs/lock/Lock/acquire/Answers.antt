@@ -9,7 +9,7 @@ pub returns-in_err-asked-clause-failed : goal.returns-in_err-asked-clause-failed
 returns-in_err-asked-clause-failed g c =
     let error = err_from_is_err_and c.from_residual.result c.from_residual.ensures.1 in
     rw (error.1, error.2)
-    (inl (refused g.J.Room.start (Check (first_request c.args.self.now.number c.args.mode c.args.site)) c.in_err-asked.field-0 c.args.seat.now c.check.new.seat c.in_err-asked.ensures.told))
+    (inl (refused g.J.Room.start (Check (first_request c.args.self.now.number c.args.mode c.args.site)) c.in_err-asked.field-0.0 c.args.seat.now c.check.new.seat c.in_err-asked.ensures.told))
 
 pub acquire-requires : goal.acquire-requires
 acquire-requires g c =
