@@ -1,0 +1,97 @@
+//! Two threads log, and the verifier comes back once all seats are there.
+
+ghost use Rattle.std.specs.Prelude.{◌≡◌};
+
+use crate::verifiers::{entries_of, mutex, opened};
+use std::alloc::Global;
+use std::marker::Brand;
+use std::process::Abort;
+use std::sync::Wait;
+use std::test::Fail;
+use std::thread::{Threads, join};
+use wit_core::Verifier;
+use wit_model::{LockNo, Mode, OpFlags, SeatNo, Site};
+use wit_shared::{Opened, Room, Seat, Shared};
+
+/// Takes a mutex and lets it go, 50 times. The seat comes back.
+fn take_50_times<J: Room, R: Wait + Abort>(
+    rt: &R,
+    shared: &Shared<J>,
+    mut seat: Seat<J>,
+    lock: LockNo,
+    site: Site,
+) -> Seat<J> {
+    for _ in 0..50 {
+        let ops = OpFlags::NEWORDER | OpFlags::FRESH;
+        let asked = shared.check(rt, &mut seat, lock, Mode::Exclusive, ops, site);
+        assert!(rt; asked.is_ok(), "asked for");
+        assert!(rt; shared.note(rt, &mut seat, lock).is_ok(), "acquired");
+        let freed = shared.unlock(rt, &mut seat, lock, Mode::Exclusive);
+        assert!(rt; freed.is_ok(), "released");
+    }
+    seat
+}
+
+fn close<J: Room, R: Wait + Abort>(rt: &R, shared: Shared<J>, seats: Vec<Seat<J>>) -> Verifier {
+    match shared.close(rt, seats) {
+        Ok(verifier) => verifier,
+        Err(_) => panic!(rt; "a seat is missing"),
+    }
+}
+
+/// A close without the third seat hands everything back, and one with it gives the verifier.
+fn close_twice<J: Room, R: Wait + Abort>(
+    rt: &R,
+    shared: Shared<J>,
+    seats: Vec<Seat<J>>,
+    third: Seat<J>,
+) -> Verifier {
+    match shared.close(rt, seats) {
+        Ok(_) => panic!(rt; "closed without a seat"),
+        Err(unclosed) => {
+            assert_eq!(rt; unclosed.missing, SeatNo(3));
+            let (shared, mut seats) = unclosed.into_parts();
+            assert_eq!(rt; seats.len(), 2);
+            seats.push(third).ok().expect(rt, "memory");
+            close(rt, shared, seats)
+        }
+    }
+}
+
+fn run<J: Room + Send + Sync, R: Threads + Wait + Abort + Sync>(
+    rt: &R,
+    alloc: Global,
+    opened: Opened,
+) -> Verifier
+    requires { (opened.0.start ≡ J.start) × (opened.1 ≡ J.table) }
+{
+    let shared = opened.named::<J>();
+    let mut one = shared.seat(rt).ok().expect(rt, "a seat");
+    let two = shared.seat(rt).ok().expect(rt, "a seat");
+    let three = shared.seat(rt).ok().expect(rt, "a seat");
+    let file = shared.file(rt, &mut one, "f").ok().expect(rt, "a file");
+    let site = Site { file, line: 1 };
+    let first = mutex(rt, &shared, &mut one, "a");
+    let second = mutex(rt, &shared, &mut one, "b");
+    let watched = &shared;
+    let (two, three) = join(
+        rt,
+        || take_50_times(rt, watched, two, first, site),
+        || take_50_times(rt, watched, three, second, site),
+    );
+    let mut seats = Vec::with_capacity(alloc, 3).ok().expect(rt, "memory");
+    seats.push_reserved(one);
+    seats.push_reserved(two);
+    close_twice(rt, shared, seats, three)
+}
+
+#[test]
+fn two_threads_log_and_all_seats_come_back(rt: HostRuntime) -> Result<(), Fail> {
+    let alloc = rt.alloc();
+    let verifier = run::<Brand, HostRuntime>(&rt, alloc, opened(&rt, alloc, 3));
+    assert_eq!(rt; verifier.history().len(), 302);
+    assert_eq!(rt; entries_of(&verifier, SeatNo(1)), 2);
+    assert_eq!(rt; entries_of(&verifier, SeatNo(2)), 150);
+    assert_eq!(rt; entries_of(&verifier, SeatNo(3)), 150);
+    Ok(())
+}
