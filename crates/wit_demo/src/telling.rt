@@ -23,6 +23,7 @@ pub(crate) fn tell<W: Write>(
     ensures legal { IsLegal verifier.now.start verifier.now.files verifier.now.history }
     ensures sum { IfOk result (λ summary. summary ≡ sum_of verifier.now) }
 {
+    let log = verifier.history();
     let Ok(text) = demo_text(alloc, verifier) else {
         return Err(ReplayError::Memory);
     };
@@ -33,7 +34,7 @@ pub(crate) fn tell<W: Write>(
         return Err(ReplayError::Write);
     }
     Ok(Summary {
-        calls: verifier.history().len() as u64,
+        calls: log.len() as u64,
         reports: verifier.reports() as u64,
         circle: false,
         bad: None,
