@@ -1,5 +1,6 @@
 pub mod AnswerLemmas
 pub mod ListedTypes
+pub mod MigrateLemmas
 pub mod ReplayLemmas
 pub mod ReportLemmas
 pub mod StreamLemmas

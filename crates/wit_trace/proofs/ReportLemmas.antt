@@ -93,7 +93,7 @@ file_one : (s : Story) (n t : ℕ) (make : ℕ → Call) (file : List ℕ) (r : 
 file_one s n t make file (Ok f) = makes_one (record s { files = files_after file s.files }) n t (make f)
 file_one s n t make file (Err fault) = tt
 
-said-le : (text : List ℕ) → output.said text ≤ 1
+pub said-le : (text : List ℕ) → output.said text ≤ 1
 said-le [] = omega arith
 said-le (b ∷ text) = omega arith
 

@@ -1,4 +1,5 @@
 pub mod Machine
+pub mod Migrates
 pub mod Outputs
 pub mod Replays
 pub mod Status

@@ -1,12 +1,15 @@
 -- What a replay of a trace writes and sums up.
-use Rattle.std.specs.Prelude.{Bool, not, ◌||◌, ℕ, ◌≡◌, List, Option, None, Some, Result, Ok, Err, false}
+use Rattle.std.specs.Prelude.{Bool, not, ◌||◌, ℕ, ◌≡◌, List, Option, None, Some, Result, Ok, Err, false, unwrap_or}
 use Rattle.std.specs.Global.{Vec}
 use Rattle.wit_model.specs.declared.calls.Reply.{Reply}
 use Rattle.wit_model.specs.declared.lines.Cause.{Cause}
 use Rattle.wit_model.specs.declared.lines.Line.{Line}
 use Rattle.wit_model.specs.declared.lines.Line.TheVariants.{Assert, Warn}
 use Rattle.wit_model.specs.declared.lines.View.{View}
-use Rattle.wit_model.specs.Rules.State.{Story}
+use Rattle.wit_model.specs.declared.faults.Fault.{Fault}
+use Rattle.wit_model.specs.declared.lines.Cause.TheVariants as why
+use Rattle.wit_model.specs.Rules.Numbers.{with_number}
+use Rattle.wit_model.specs.Rules.State.{Story, fresh}
 use Rattle.wit_model.specs.Trace.Output as output
 use Rattle.wit_core.specs.Fresh.{start_of}
 use Rattle.wit_grammar.specs.declared.errors.LineError.{LineError}
@@ -118,6 +121,13 @@ allowed view m number lines tail text summary = IsWritten view (output.course_fr
 abbrev pub Opens : Result output.Progress output.BadLine → Result Replaying (ℕ × Cause) → Type 0
 Opens due (Ok m) = due ≡ Ok (progress m)
 Opens due (Err bad) = due ≡ Err bad
+
+-- the verifier was made, or a list refused at its line, as it should be
+abbrev pub IsVerifierOf : output.Prelude → Option (ℕ × Fault) → Result Story (ℕ × Cause) → Type 0
+IsVerifierOf p due (Ok s) = (due ≡ None) × (s ≡ fresh p.start)
+IsVerifierOf p due (Err bad) =
+    (refused : ℕ × Fault) × (due ≡ Some refused)
+    × (bad ≡ (unwrap_or (with_number p.lines refused.0) 0, why.Fault refused.1))
 
 -- the reading came to where it should stand, or to the refusal of a list, which changes nothing of what is summed up
 abbrev pub Reaches : Result output.Progress output.BadLine → output.Progress → output.Progress → Option (ℕ × Cause) → Type 0

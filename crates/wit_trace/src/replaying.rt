@@ -9,9 +9,9 @@ ghost use Rattle.wit_trace.specs.Stream.{IsSpent, ReadsToEnd, WritesFront, Write
 ghost use Rattle.wit_grammar.specs.declared.parse.TheConstants.{LONGEST};
 
 mod bad_lines;
-mod calls;
+pub mod calls;
 mod endings;
-mod prelude;
+pub mod prelude;
 mod views;
 mod world_lines;
 
@@ -19,6 +19,7 @@ use crate::stream::machine::{Machine, Step};
 use crate::stream::ports::{Failures, Ports};
 use crate::stream::run;
 use crate::summary::{ReplayError, Summary};
+pub use bad_lines::bad_text;
 use calls::{call_on_lock, enter_line, reply_step};
 use prelude::{Prelude, add_line, is_prelude, new_prelude, open};
 use std::alloc::{AllocError, Global};
@@ -32,7 +33,7 @@ use wit_world::World;
 use world_lines::{enter_world_line, step_on_lock};
 
 /// The log's limit in a replay.
-const LOG: u32 = 16_777_216;
+pub const LOG: u32 = 16_777_216;
 
 /// Reads a trace, and writes what the view shows of it: for `Reports` the texts of the reports, failed
 /// assertions and warnings as they come; for each other view its text after the whole trace. The reading ends at a bad
@@ -99,7 +100,7 @@ pub fn replay_through<R: BufRead, W: Write, P: Ports<R, W>>(
 
 /// A replay in progress.
 #[derive(Drop)]
-enum Replaying {
+pub(crate) enum Replaying {
     /// The header wasn't read.
     Unstarted,
     /// The prelude goes on.

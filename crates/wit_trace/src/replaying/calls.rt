@@ -136,8 +136,12 @@ pub fn warning(
     Ok(warn_text(alloc, verifier, seat, lock, flags)?.into_bytes())
 }
 
+/// A line whose call is logged makes it.
+///
+/// # Errors
+/// `Bad` where it makes none, its file gets no number, or its call is refused; `Memory`.
 #[inline(never)]
-fn make_call(verifier: &mut Verifier, line: Line) -> Result<Reply, LineError>
+pub fn make_call(verifier: &mut Verifier, line: Line) -> Result<Reply, LineError>
     requires { IsLoggedLine line }
     ensures { Calls (λ n. calls verifier.old n (call_of line)) verifier.old verifier.new result }
 {

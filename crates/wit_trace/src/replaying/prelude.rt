@@ -7,7 +7,7 @@ ghost use Rattle.wit_model.specs.Trace.Output.{Opening, begun, empty_prelude, en
 ghost use Rattle.wit_model.specs.Rules.Start.{start_fault, IsRefused};
 ghost use Rattle.wit_core.specs.Fresh.{start_of};
 ghost use Rattle.wit_model.specs.Rules.State.{fresh};
-ghost use Rattle.wit_trace.specs.Replays.{Opens, Passes, prelude_of, progress};
+ghost use Rattle.wit_trace.specs.Replays.{IsVerifierOf, Opens, Passes, prelude_of, progress};
 
 use crate::replaying::Replaying;
 use std::alloc::{AllocError, Global};
@@ -125,6 +125,24 @@ fn names_of(alloc: Global, list: TypeList) -> Result<Vec<(Class, String)>, Alloc
 pub fn open(alloc: Global, prelude: Prelude) -> Result<Result<Replaying, (u64, Cause)>, AllocError>
     ensures { IfOk result (Opens (opened (prelude_of prelude) (start_fault (prelude_of prelude).start))) }
 {
+    let version = prelude.version;
+    match verifier_of(alloc, prelude)? {
+        Ok(verifier) => Ok(Ok(begin(alloc, version, verifier)?)),
+        Err(bad) => Ok(Err(bad)),
+    }
+}
+
+/// The verifier that the prelude asks for, or the number of the first line whose list is refused, and
+/// why.
+///
+/// # Errors
+/// Want of memory alone.
+pub fn verifier_of(
+    alloc: Global,
+    prelude: Prelude,
+) -> Result<Result<Verifier, (u64, Cause)>, AllocError>
+    ensures { IfOk result (IsVerifierOf (prelude_of prelude) (start_fault (prelude_of prelude).start)) }
+{
     let made = make(
         alloc,
         prelude.profile,
@@ -133,7 +151,7 @@ pub fn open(alloc: Global, prelude: Prelude) -> Result<Result<Replaying, (u64, C
         prelude.blessed,
     );
     match made {
-        Ok(verifier) => Ok(Ok(begin(alloc, prelude.version, verifier)?)),
+        Ok(verifier) => Ok(Ok(verifier)),
         Err(
             StartError {
                 fault: Fault::OutOfMemory,
