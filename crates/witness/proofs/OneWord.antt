@@ -10,7 +10,7 @@ use Rattle.clap.specs.Walk.{Held, Step, trailing, after_flag, after_step, bundle
 use Rattle.clap.proofs.OnLiterals.{clap_on_literals}
 use Rattle.wit_model.specs.declared.lines.View.TheVariants.{Reports, Graph, Locks, Circle}
 use Rattle.witness.specs.declared.command.Command.{Command}
-use Rattle.witness.specs.declared.command.Command.TheVariants.{Show, Demo}
+use Rattle.witness.specs.declared.command.Command.TheVariants.{Show, Migrate, Demo}
 use Rattle.witness.specs.CommandLine.{asked, bytes_of, line, named, only_word, option_named}
 
 -- the rules that clap reads the words by
@@ -74,26 +74,27 @@ given_is_asked (name ∷ word ∷ []) given two e = kept (bytes_eq word (45 ∷ 
 given_is_asked (name ∷ word ∷ third ∷ more) given two e = absurd (omega arith)
 
 -- what each word has that asks for something
-pub for_words : (P : Text → Type 0) → P (codes "replay") → P (codes "graph") → P (codes "locks") → P (codes "circle") → P (codes "demo")
+pub for_words : (P : Text → Type 0) → P (codes "replay") → P (codes "graph") → P (codes "locks") → P (codes "circle") → P (codes "migrate") → P (codes "demo")
     → (word : Text) (what : Command) → named word ≡ Some what → P word
-for_words P replay graph locks circle demo word what is =
+for_words P replay graph locks circle migrate demo word what is =
     go (bytes_eq word (codes "replay")) refl (bytes_eq word (codes "graph")) refl (bytes_eq word (codes "locks")) refl (bytes_eq word (codes "circle")) refl
-    (bytes_eq word (codes "demo")) refl is
+    (bytes_eq word (codes "migrate")) refl (bytes_eq word (codes "demo")) refl is
   where
     same : (literal : Text) → bytes_eq word literal ≡ true → P literal → P word
     same literal e has = subst P (sym ((bytes_eq-Decides word literal).0 e)) has
 
     go : (r : Bool) → bytes_eq word (codes "replay") ≡ r → (g : Bool) → bytes_eq word (codes "graph") ≡ g
         → (l : Bool) → bytes_eq word (codes "locks") ≡ l → (c : Bool) → bytes_eq word (codes "circle") ≡ c
-        → (d : Bool) → bytes_eq word (codes "demo") ≡ d
-        → (if r then Some (Show Reports) else if g then Some (Show Graph) else if l then Some (Show Locks) else if c then Some (Show Circle) else if d then Some Demo else None)
+        → (m : Bool) → bytes_eq word (codes "migrate") ≡ m → (d : Bool) → bytes_eq word (codes "demo") ≡ d
+        → (if r then Some (Show Reports) else if g then Some (Show Graph) else if l then Some (Show Locks) else if c then Some (Show Circle) else if m then Some Migrate else if d then Some Demo else None)
         ≡ Some what → P word
-    go true at g isg l isl c isc d isd e = same (codes "replay") at replay
-    go false at true isg l isl c isc d isd e = same (codes "graph") isg graph
-    go false at false isg true isl c isc d isd e = same (codes "locks") isl locks
-    go false at false isg false isl true isc d isd e = same (codes "circle") isc circle
-    go false at false isg false isl false isc true isd e = same (codes "demo") isd demo
-    go false at false isg false isl false isc false isd e = cc
+    go true at g isg l isl c isc m ism d isd e = same (codes "replay") at replay
+    go false at true isg l isl c isc m ism d isd e = same (codes "graph") isg graph
+    go false at false isg true isl c isc m ism d isd e = same (codes "locks") isl locks
+    go false at false isg false isl true isc m ism d isd e = same (codes "circle") isc circle
+    go false at false isg false isl false isc true ism d isd e = same (codes "migrate") ism migrate
+    go false at false isg false isl false isc false ism true isd e = same (codes "demo") isd demo
+    go false at false isg false isl false isc false ism false isd e = cc
 
 -- clap gives a text where the only word asks for something
 pub word_is_given : (words : List Text) (word : Text) (what : Command) → only_word words ≡ Some word → named word ≡ Some what
@@ -102,12 +103,12 @@ word_is_given [] word what e is = cc
 word_is_given (name ∷ []) word what e is = cc
 word_is_given (name ∷ only ∷ []) word what e is =
     text_given name only ∙ ap (λ (w : Text). if bytes_eq w (45 ∷ 45 ∷ []) then None else Some w) (same_text _ _ e)
-    ∙ ap (λ b. if b then None else Some word) (for_words (λ w. bytes_eq w (45 ∷ 45 ∷ []) ≡ false) refl refl refl refl refl word what is)
+    ∙ ap (λ b. if b then None else Some word) (for_words (λ w. bytes_eq w (45 ∷ 45 ∷ []) ≡ false) refl refl refl refl refl refl word what is)
 word_is_given (name ∷ only ∷ third ∷ more) word what e is = cc
 
 literal_passes : (name word : Text) (what : Command) → named word ≡ Some what → takes line (name ∷ word ∷ []) ≡ true
 unfolding clap_on_literals
-literal_passes name word what is = for_words (λ w. takes line (name ∷ w ∷ []) ≡ true) refl refl refl refl refl word what is
+literal_passes name word what is = for_words (λ w. takes line (name ∷ w ∷ []) ≡ true) refl refl refl refl refl refl word what is
 
 -- clap accepts a command line whose only word asks for something
 pub word_passes : (words : List Text) (word : Text) (what : Command) → only_word words ≡ Some word → named word ≡ Some what → takes line words ≡ true
@@ -128,7 +129,7 @@ unnamed_option (Some word) never = sym (unnamed_by word (named word) refl (λ wh
 word_is_text : (word : Text) (what : Command) → named word ≡ Some what → IsUtf8 word
 unfolding clap_on_literals
 word_is_text word what is =
-    for_words IsUtf8 (codes "replay", (refl, refl)) (codes "graph", (refl, refl)) (codes "locks", (refl, refl)) (codes "circle", (refl, refl)) (codes "demo", (refl, refl)) word what is
+    for_words IsUtf8 (codes "replay", (refl, refl)) (codes "graph", (refl, refl)) (codes "locks", (refl, refl)) (codes "circle", (refl, refl)) (codes "migrate", (refl, refl)) (codes "demo", (refl, refl)) word what is
 
 -- bytes that are no text ask for nothing
 pub unnamed_bytes : (word : List ℕ) → (IsUtf8 word → ⊥) → named word ≡ None

@@ -6,7 +6,7 @@ use Rattle.clap.specs.Words.{App, Text, new_app, new_rule, with_rule}
 use Rattle.clap.specs.declared.builder.action.ArgAction.TheVariants.{Set}
 use Rattle.wit_model.specs.declared.lines.View.TheVariants.{Reports, Graph, Locks, Circle}
 use Rattle.witness.specs.declared.command.Command.{Command}
-use Rattle.witness.specs.declared.command.Command.TheVariants.{Show, Demo}
+use Rattle.witness.specs.declared.command.Command.TheVariants.{Show, Migrate, Demo}
 
 -- the words' bytes
 abbrev pub bytes_of : List (Vec ℕ) → List (List ℕ)
@@ -19,6 +19,7 @@ named word =
     else if bytes_eq word (codes "graph") then Some (Show Graph)
     else if bytes_eq word (codes "locks") then Some (Show Locks)
     else if bytes_eq word (codes "circle") then Some (Show Circle)
+    else if bytes_eq word (codes "migrate") then Some Migrate
     else if bytes_eq word (codes "demo") then Some Demo
     else None
 

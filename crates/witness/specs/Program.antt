@@ -2,7 +2,9 @@
 use Rattle.std.specs.Prelude.{ℕ, ◌≡◌, ◌⊎◌, List, Option, Ok}
 use Rattle.std.specs.Io.KnownBytes.{Keeps}
 use Rattle.wit_model.specs.declared.lines.View.{View}
+use Rattle.wit_model.specs.declared.lines.View.TheVariants.{Graph}
 use Rattle.wit_model.specs.Trace.Output.{Unstarted}
+use Rattle.wit_trace.specs.Migrates.{EndsSo}
 use Rattle.wit_trace.specs.Replays.{Shows, ShowsFrom}
 use Rattle.wit_trace.specs.Status.{exit_status}
 use Rattle.wit_trace.specs.Stream.{WritesOutput, WritesFront, WritesLines}
@@ -30,3 +32,19 @@ IsCutShort view read written_old written_new =
 pub record TellsLines (view : View) (read written_old written_new : Option (List ℕ)) : Type 0 where
   pub left : Option (List ℕ)
   pub told : WritesLines (ShowsFrom view) Unstarted read left written_old written_new
+
+-- what was written of the migrated input ends as it was summed up, and this is its status, as where nothing is reported
+pub record IsMigrated (read written_old written_new : Option (List ℕ)) (ended : ℕ) : Type 0 where
+  pub summary : Summary
+  pub written : WritesOutput EndsSo read written_old written_new summary
+  pub status : ended ≡ exit_status Graph (Ok summary)
+
+-- and that is what is left to do
+abbrev pub IsMigratedAndExits : Option (List ℕ) → Option (List ℕ) → Option (List ℕ) → Ended → Type 0
+IsMigratedAndExits read written_old written_new (Exits status) = IsMigrated read written_old written_new status
+IsMigratedAndExits read written_old written_new ShowsThreads = ⊥
+
+-- a beginning was written of such a text, which may be nothing
+abbrev pub IsMigrationCut : Option (List ℕ) → Option (List ℕ) → Option (List ℕ) → Type 0
+IsMigrationCut read written_old written_new =
+    Keeps written_old written_new ⊎ WritesFront EndsSo read written_old written_new

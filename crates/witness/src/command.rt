@@ -7,6 +7,8 @@ use wit_model::View;
 pub enum Command {
     /// A view of the trace on standard input.
     Show(View),
+    /// The trace on standard input, in the second version of the format.
+    Migrate,
     /// The demonstration.
     Demo,
 }

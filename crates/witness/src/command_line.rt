@@ -78,6 +78,7 @@ fn named_command(word: &str) -> Option<Command>
         "graph" => Some(Command::Show(View::Graph)),
         "locks" => Some(Command::Show(View::Locks)),
         "circle" => Some(Command::Show(View::Circle)),
+        "migrate" => Some(Command::Migrate),
         "demo" => Some(Command::Demo),
         _ => None,
     }

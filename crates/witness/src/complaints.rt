@@ -9,7 +9,7 @@ use wit_trace::{FAILED, ReplayError};
 pub const BAD_USAGE: u8 = 2;
 
 /// How the program is used.
-pub const USAGE: &str = "usage: witness replay|graph|locks|circle < TRACE
+pub const USAGE: &str = "usage: witness replay|graph|locks|circle|migrate < TRACE
        witness demo
 
 Reads a trace of lock calls from standard input, and writes
@@ -17,6 +17,7 @@ Reads a trace of lock calls from standard input, and writes
   graph   the direct orders between lock types, after the whole trace
   locks   the locks that the seats hold, after the whole trace
   circle  a circle of seats that wait for one another, or that there is none, after the whole trace
+  migrate the trace in the second version of the format, in which it tells each step of the locks themselves
 With demo it reads nothing: threads take two locks in one order, and then one takes them in the other, which is reported.
 Status: 0 nothing was reported, 1 something was reported (replay, demo) or there is a circle (circle), 2 bad usage,
 3 a bad line (the last line of the output says which and why), 4 no memory, or reading or writing failed.

@@ -2,14 +2,15 @@
 
 ghost use Rattle.std.specs.Prelude.{◌≡◌, ◌≢◌, ◌⊎◌, Ok, Err, IfOk, OnErr, None, Some};
 ghost use Rattle.std.specs.Io.KnownBytes.{Keeps};
+ghost use Rattle.wit_trace.specs.Migrates.{EndsSo};
 ghost use Rattle.wit_trace.specs.Replays.{Shows};
 ghost use Rattle.wit_trace.specs.Stream.{WritesOutput};
 ghost use Rattle.witness.specs.CommandLine.{asked, bytes_of};
 ghost use Rattle.wit_trace.specs.declared.summary.ReplayError.TheVariants as ReplayError;
 ghost use Rattle.wit_trace.specs.declared.summary.ReplayError.TheVariants.{Memory};
-ghost use Rattle.witness.specs.declared.command.Command.TheVariants.{Demo, Show};
+ghost use Rattle.witness.specs.declared.command.Command.TheVariants.{Demo, Migrate, Show};
 ghost use Rattle.witness.specs.declared.program.Ended.TheVariants.{Exits, ShowsThreads};
-ghost use Rattle.witness.specs.Program.{IsCutShort, IsShownAndExits, TellsLines};
+ghost use Rattle.witness.specs.Program.{IsCutShort, IsMigratedAndExits, IsMigrationCut, IsShownAndExits, TellsLines};
 
 use crate::command::Command;
 use crate::command_line::asked_command;
@@ -17,7 +18,7 @@ use crate::complaints::refuse;
 use std::alloc::Global;
 use std::io::{BufReader, Read, Write};
 use wit_model::View;
-use wit_trace::{ReplayError, Summary, replay, status_of};
+use wit_trace::{ReplayError, Summary, migrate, replay, status_of};
 
 /// What is left to do.
 #[derive(Clone, Copy, Debug, PartialEq, Eq)]
@@ -29,13 +30,13 @@ pub enum Ended {
 }
 
 /// Runs the program on the words behind its name, up to its exit status: where they ask for a view of
-/// the input, that of the replay; where they ask for nothing, 2. The demonstration is left to the caller.
+/// the input or its migration, that of the replay or the migration; where they ask for nothing, 2. The demonstration is left to the caller.
 ///
 /// Only the input is read through a buffer: what is written is in the output when this returns. What goes
 /// to `complaints` is how the program is used, at status 2, and nothing else.
 ///
 /// # Errors
-/// Those of `replay`; and `Memory` where memory runs out before the first line is read. What was written is then a
+/// Those of `replay` and `migrate`; and `Memory` where memory runs out before the first line is read. What was written is then a
 /// beginning of the output; where the reader failed it is the text of every whole line that was taken.
 pub fn run<R: Read + Drop, W: Write, E: Write>(
     alloc: Global,
@@ -54,10 +55,15 @@ pub fn run<R: Read + Drop, W: Write, E: Write>(
         → OnErr result (IsCutShort view (R.remaining input) (W.contents output.old) (W.contents output.new)) }
     ensures told { (view : View) → asked (bytes_of words.now) ≡ Some (Show view) → result ≡ Err ReplayError.Read
         → TellsLines view (R.remaining input) (W.contents output.old) (W.contents output.new) }
+    ensures migrated { asked (bytes_of words.now) ≡ Some Migrate
+        → IfOk result (IsMigratedAndExits (R.remaining input) (W.contents output.old) (W.contents output.new)) }
+    ensures migration_cut { asked (bytes_of words.now) ≡ Some Migrate
+        → OnErr result (IsMigrationCut (R.remaining input) (W.contents output.old) (W.contents output.new)) }
     ensures quiet { result ≢ Ok (Exits 2) → Keeps (E.contents complaints.old) (E.contents complaints.new) }
 {
     match asked_command(alloc, words) {
         Ok(Some(Command::Show(view))) => show(alloc, view, input, output),
+        Ok(Some(Command::Migrate)) => move_on(alloc, input, output),
         Ok(Some(Command::Demo)) => Ok(Ended::ShowsThreads),
         Ok(None) => Ok(Ended::Exits(refuse(complaints))),
         Err(error) => Err(ReplayError::from(error)),
@@ -101,6 +107,40 @@ fn replay_through_buffer<R: Read + Drop, W: Write>(
 {
     match BufReader::new(alloc, input) {
         Ok(mut reader) => replay(alloc, &mut reader, output, view),
+        Err(_) => Err(ReplayError::Memory),
+    }
+}
+
+// Migrates the input, and says with which status to exit.
+fn move_on<R: Read + Drop, W: Write>(
+    alloc: Global,
+    input: R,
+    output: &mut W,
+) -> Result<Ended, ReplayError>
+    ensures migrated { IfOk result (IsMigratedAndExits (R.remaining input) (W.contents output.old) (W.contents output.new)) }
+    ensures migration_cut { OnErr result (IsMigrationCut
+        (R.remaining input) (W.contents output.old) (W.contents output.new)) }
+{
+    let outcome = migrate_through_buffer(alloc, input, output);
+    // A migration reports nothing, as a graph.
+    let status = status_of(View::Graph, &outcome);
+    let _summary = outcome?;
+    Ok(Ended::Exits(status))
+}
+
+// Migrates the input, which is read through a buffer.
+fn migrate_through_buffer<R: Read + Drop, W: Write>(
+    alloc: Global,
+    input: R,
+    output: &mut W,
+) -> Result<Summary, ReplayError>
+    ensures ok { IfOk result (WritesOutput EndsSo
+        (R.remaining input) (W.contents output.old) (W.contents output.new)) }
+    ensures err { OnErr result (IsMigrationCut
+        (R.remaining input) (W.contents output.old) (W.contents output.new)) }
+{
+    match BufReader::new(alloc, input) {
+        Ok(mut reader) => migrate(alloc, &mut reader, output),
         Err(_) => Err(ReplayError::Memory),
     }
 }
