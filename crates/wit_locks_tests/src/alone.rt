@@ -1,6 +1,6 @@
 //! What the calls of a lock ask of its gate, by one thread.
 
-use crate::fakes::{Counted, Counts, Shut};
+use crate::fakes::{Counted, Counts};
 use crate::tokens::{granted, kept, not_released, refused, released, shut};
 use crate::verifiers::run_with;
 use bitflags::Flags;
@@ -87,39 +87,6 @@ where
             Err(fault)
         }
     }
-}
-
-/// A mutex whose gate lets nobody in.
-#[derive(Drop)]
-struct NeverEntered;
-
-impl<R: Wait + Abort> Program<R> for NeverEntered {
-    type Out = ();
-
-    ghost done = { λ program out. Unit {0} };
-
-    fn run<J: Room + Send + Sync>(self, rt: &R, shared: Shared<J>) {
-        let mut seat = shared.seat(rt).ok().expect(rt, "a seat");
-        let file = shared.file(rt, &mut seat, "f").ok().expect(rt, "a file");
-        let site = Site { file, line: 1 };
-        let mutex = Mtx::new(rt, &shared, &mut seat, "m", None, LockFlags::empty(), Shut)
-            .ok()
-            .expect(rt, "a mutex");
-        assert_eq!(rt;
-            take(rt, &shared, &mut seat, &mutex, site),
-            Err(Fault::GateRefused)
-        );
-        match mutex.destroy(rt, &shared, &mut seat) {
-            Ok(gate) => assert_eq!(rt; gate, Shut),
-            Err((_, fault)) => panic!(rt; "the mutex stays: {fault}"),
-        }
-    }
-}
-
-#[test]
-fn a_gate_that_refuses(rt: HostRuntime) -> Result<(), Fail> {
-    run_with(&rt, rt.alloc(), 2, 64, NeverEntered);
-    Ok(())
 }
 
 /// A release and a downgrade that are refused: the one of a mutex that is marked, the other of a lock that is held twice.

@@ -79,36 +79,3 @@ impl<G: Gate> Gate for Counted<'_, G> {
         self.inner.downgrade(rt, ticket)
     }
 }
-
-/// A gate that lets nobody in.
-#[derive(Clone, Copy, PartialEq, Eq, Debug)]
-pub(crate) struct Shut;
-
-impl Gate for Shut {
-    type Ticket = ();
-
-    ghost admits = { λ gate mode ticket. Unit {0} };
-
-    fn acquire<J: Room, R: Wait>(&self, rt: &R, seat: &Seat<J>, mode: Mode) -> Option<()> {
-        let _ = (rt, seat, mode);
-        None
-    }
-
-    fn try_acquire<R: Wait>(&self, rt: &R, mode: Mode) -> Option<()> {
-        let _ = (rt, mode);
-        None
-    }
-
-    fn release<R: Wait>(&self, rt: &R, mode: Mode, ticket: ()) {
-        let _ = (rt, mode, ticket);
-    }
-
-    fn try_upgrade<R: Wait>(&self, rt: &R, ticket: ()) -> Result<(), ()> {
-        let _ = rt;
-        Err(ticket)
-    }
-
-    fn downgrade<R: Wait>(&self, rt: &R, ticket: ()) {
-        let _ = (rt, ticket);
-    }
-}
