@@ -31,6 +31,14 @@ impl Verifier {
         self.limits.seats() as u16
     }
 
+    /// How many types there can be: the limit that it was made with.
+    pub fn most_types(&self) -> u16
+        ensures value { result ≡ self.now.start.sizes.types }
+        ensures within { IsNumber 1023 result }
+    {
+        self.limits.types() as u16
+    }
+
     /// The lock that a seat has asked for, and the mode: from its accepted `check` to its `note` or `give_up`.
     pub fn pending(&self, seat: SeatNo) -> Option<(LockNo, Mode)>
         ensures { result ≡ option_map (λ (q : Request). (q.lock, q.mode)) (seat_at (state_of self.now) seat.0).pending }
