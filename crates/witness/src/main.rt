@@ -2,8 +2,6 @@
 //! demonstrates the verifier.
 #![tactic(auto)]
 
-mod command;
-mod command_line;
 mod complaints;
 mod demonstration;
 mod program;

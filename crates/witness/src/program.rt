@@ -5,18 +5,17 @@ ghost use Rattle.std.specs.Io.KnownBytes.{Keeps};
 ghost use Rattle.wit_trace.specs.Migrates.{EndsSo};
 ghost use Rattle.wit_trace.specs.Replays.{Shows};
 ghost use Rattle.wit_trace.specs.Stream.{WritesOutput};
-ghost use Rattle.witness.specs.CommandLine.{asked, bytes_of};
+ghost use Rattle.wit_command.specs.CommandLine.{asked, bytes_of};
 ghost use Rattle.wit_trace.specs.declared.summary.ReplayError.TheVariants as ReplayError;
 ghost use Rattle.wit_trace.specs.declared.summary.ReplayError.TheVariants.{Memory};
-ghost use Rattle.witness.specs.declared.command.Command.TheVariants.{Demo, Migrate, Show};
+ghost use Rattle.wit_command.specs.declared.command.Command.TheVariants.{Demo, Migrate, Show};
 ghost use Rattle.witness.specs.declared.program.Ended.TheVariants.{Exits, ShowsThreads};
 ghost use Rattle.witness.specs.Program.{IsCutShort, IsMigratedAndExits, IsMigrationCut, IsShownAndExits, TellsLines};
 
-use crate::command::Command;
-use crate::command_line::asked_command;
 use crate::complaints::refuse;
 use std::alloc::Global;
 use std::io::{BufReader, Read, Write};
+use wit_command::{Command, asked_command};
 use wit_model::View;
 use wit_trace::{ReplayError, Summary, migrate, replay, status_of};
 

@@ -5,8 +5,8 @@ use Rattle.std.specs.Global.{Vec}
 use Rattle.clap.specs.Words.{App, Text, new_app, new_rule, with_rule}
 use Rattle.clap.specs.declared.builder.action.ArgAction.TheVariants.{Set}
 use Rattle.wit_model.specs.declared.lines.View.TheVariants.{Reports, Graph, Locks, Circle}
-use Rattle.witness.specs.declared.command.Command.{Command}
-use Rattle.witness.specs.declared.command.Command.TheVariants.{Show, Migrate, Demo}
+use Rattle.wit_command.specs.declared.command.Command.{Command}
+use Rattle.wit_command.specs.declared.command.Command.TheVariants.{Show, Migrate, Demo}
 
 -- the words' bytes
 abbrev pub bytes_of : List (Vec ℕ) → List (List ℕ)

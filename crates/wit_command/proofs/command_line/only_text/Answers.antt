@@ -1,6 +1,6 @@
 use Rattle.std.proofs.Common.{sym, subst, IsUtf8}
-use Rattle.witness.proofs.OneWord.{none_of_error, unasked, unnamed_bytes}
-use Rattle.witness.proofs.command_line.only_text.Goals as goal
+use Rattle.wit_command.proofs.OneWord.{none_of_error, unasked, unnamed_bytes}
+use Rattle.wit_command.proofs.command_line.only_text.Goals as goal
 
 pub returns-in-len1-clause-none : goal.returns-in-len1-clause-none
 returns-in-len1-clause-none c =

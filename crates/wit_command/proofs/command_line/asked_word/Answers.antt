@@ -5,8 +5,8 @@ use Rattle.clap.specs.Words.{App, app_of, first_of, found_of, is_simple, matches
 use Rattle.clap.specs.Simple.{app_of_fields}
 use Rattle.clap.specs.declared.builder.action.ArgAction.TheVariants.{Set}
 use Rattle.clap.proofs.WalkLemmas.{first_value-rows}
-use Rattle.witness.specs.CommandLine.{line}
-use Rattle.witness.proofs.command_line.asked_word.Goals as goal
+use Rattle.wit_command.specs.CommandLine.{line}
+use Rattle.wit_command.proofs.command_line.asked_word.Goals as goal
 
 abbrev without_help : App → App
 without_help a = record a { top = record a.top { disable_help_flag = true } }

@@ -2,7 +2,7 @@
 
 ghost use Rattle.std.specs.Prelude.{◌≡◌, [], ◌∷◌, IfOk, IfErr, IfSome, IfNone, None, true, codes, map, option_map};
 ghost use Rattle.clap.specs.Words.{first_of, kind_of, matches_of, takes};
-ghost use Rattle.witness.specs.CommandLine.{asked, bytes_of, line, named, only_word, option_named};
+ghost use Rattle.wit_command.specs.CommandLine.{asked, bytes_of, line, named, only_word, option_named};
 
 use crate::command::Command;
 use clap::error::ErrorKind;

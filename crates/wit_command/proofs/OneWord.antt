@@ -9,9 +9,9 @@ use Rattle.clap.specs.Lexer.{long_of, short_of}
 use Rattle.clap.specs.Walk.{Held, Step, trailing, after_flag, after_step, bundle_met, bundle_step, finished, idle, long_or_other, nothing_held, plain, short_or_plain, value, walk_from, walked}
 use Rattle.clap.proofs.OnLiterals.{clap_on_literals}
 use Rattle.wit_model.specs.declared.lines.View.TheVariants.{Reports, Graph, Locks, Circle}
-use Rattle.witness.specs.declared.command.Command.{Command}
-use Rattle.witness.specs.declared.command.Command.TheVariants.{Show, Migrate, Demo}
-use Rattle.witness.specs.CommandLine.{asked, bytes_of, line, named, only_word, option_named}
+use Rattle.wit_command.specs.declared.command.Command.{Command}
+use Rattle.wit_command.specs.declared.command.Command.TheVariants.{Show, Migrate, Demo}
+use Rattle.wit_command.specs.CommandLine.{asked, bytes_of, line, named, only_word, option_named}
 
 -- the rules that clap reads the words by
 abbrev pub rules : List Rule

@@ -2,9 +2,9 @@
 use Rattle.std.proofs.Common.{◌≡◌, ◌∙◌, ap, sym, codes, None, Some, option_map, map, length, arith}
 use Rattle.std.proofs.lemmas.List.{length-map}
 use Rattle.clap.specs.Words.{first_of, matches_of}
-use Rattle.witness.specs.CommandLine.{line, only_word, option_named}
-use Rattle.witness.proofs.OneWord.{given_is_asked, word_is_given, word_passes, unnamed_option}
-use Rattle.witness.proofs.command_line.command_of.Goals as goal
+use Rattle.wit_command.specs.CommandLine.{line, only_word, option_named}
+use Rattle.wit_command.proofs.OneWord.{given_is_asked, word_is_given, word_passes, unnamed_option}
+use Rattle.wit_command.proofs.command_line.command_of.Goals as goal
 
 pub returns-in-Ok-Some : goal.returns-in-Ok-Some
 returns-in-Ok-Some g c =
