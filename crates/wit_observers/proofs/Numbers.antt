@@ -77,7 +77,7 @@ number_bounds n a is = let parts = and_parts (nat_lt 0 a) (nat_le a n) is in (lt
 fits_bounds : (n a b : ℕ) → fits n a b ≡ true → ((0 < a) × (a ≤ n)) × ((0 < b) × (b ≤ n))
 fits_bounds n a b here = let parts = and_parts (is_number n a) (is_number n b) here in (number_bounds n a parts.0, number_bounds n b parts.1)
 
-places_apart : (n a b c d : ℕ) → fits n a b ≡ true → fits n c d ≡ true → place n a b ≡ place n c d → (a ≡ c) × (b ≡ d)
+pub places_apart : (n a b c d : ℕ) → fits n a b ≡ true → fits n c d ≡ true → place n a b ≡ place n c d → (a ≡ c) × (b ≡ d)
 places_apart n a b c d here there same =
     let h = fits_bounds n a b here in
     let t = fits_bounds n c d there in
@@ -88,7 +88,7 @@ places_apart n a b c d here there same =
     let h0 = h.0 in let h1 = h.1 in let t0 = t.0 in let t1 = t.1 in
     (omega (arith, rows, h0.0, t0.0), omega (arith, products, same, h1.0, t1.0))
 
-place_within : (n a b : ℕ) → fits n a b ≡ true → place n a b < n * n
+pub place_within : (n a b : ℕ) → fits n a b ≡ true → place n a b < n * n
 place_within n a b here =
     let h = fits_bounds n a b here in let h0 = h.0 in let h1 = h.1 in
     mul-add-lt (a - 1) n (b - 1) n (omega (arith, h0.0, h0.1)) (omega (arith, h1.0, h1.1))

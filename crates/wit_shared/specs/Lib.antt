@@ -3,3 +3,4 @@ pub mod Closing
 pub mod Desk
 pub mod Opening
 pub mod Own
+pub mod Publishing

@@ -5,6 +5,7 @@ mod closing;
 mod desk;
 mod following;
 mod program;
+mod publishing;
 mod shared;
 
 pub use closing::Unclosed;

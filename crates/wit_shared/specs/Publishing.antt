@@ -1,0 +1,38 @@
+-- What a shared verifier publishes for observers: its adopted orders. Lists of entries are newest first.
+use Rattle.std.specs.Prelude.{ℕ, ◌≡◌, List, [], ◌++◌, reverse, Result, Ok, Err}
+use Rattle.wit_model.specs.declared.faults.Fault.{Fault}
+use Rattle.wit_model.specs.declared.calls.Adoption.{Adoption}
+use Rattle.wit_model.specs.declared.calls.Call.{Call}
+use Rattle.wit_model.specs.declared.calls.Entry.{Entry}
+use Rattle.wit_model.specs.declared.calls.Reply.{Reply}
+use Rattle.wit_model.specs.Rules.Orders.{adopted, orders_from}
+use Rattle.wit_model.specs.Rules.State.{Start, Story, orders_of}
+use Rattle.wit_model.specs.Rules.Step.{AnswersOrFails}
+use Rattle.wit_observers.specs.Shown.{Published}
+
+-- the adopted orders, oldest first
+abbrev pub adoptions : Start → List Entry → List Adoption
+adoptions start h = reverse (orders_of start h)
+
+-- what a verifier's publisher has published: all that is adopted, and it takes orders between all types that there may be
+abbrev pub published : Story → Published
+published s = record { orders = adoptions s.start s.history; size = s.start.sizes.types }
+
+-- the orders that the replies of these entries name
+abbrev pub orders_named : List Entry → List Adoption
+orders_named own = orders_from [] own
+
+-- what a call with this answer adopts, newest first
+abbrev pub adopts : Call → Result Reply Fault → List Adoption
+adopts call (Ok reply) = adopted call reply
+adopts call (Err fault) = []
+
+-- nothing has changed but which call is prepared
+abbrev pub IsSame : Story → Story → Type 0
+IsSame old new = new ≡ record old { ready = new.ready }
+
+-- a call of a verifier, for which it may be prepared first
+pub record Makes (old : Story) (t : ℕ) (call : Call) (result : Result Reply Fault) (new : Story) : Type 0 where
+  pub before : Story
+  pub same : IsSame old before
+  pub did : AnswersOrFails before t call result new
