@@ -1,6 +1,6 @@
 -- What a call leaves of its seat, and what the rules answer a seat by its own entries and files.
-use Rattle.std.proofs.Common.{◌≡◌, ℕ, ◌-◌, ◌==◌, Bool, true, false, cond, nat_lt, List, [], ◌∷◌, ◌++◌, Option, None, Some, Result, Ok, Err, IsOk, refl, ap, sym, ◌∙◌, subst, inl, inr, ⊎_elim, eqb}
-use Rattle.std.proofs.lemmas.Bool.{eq-eqb, false≢true}
+use Rattle.std.proofs.Common.{◌≡◌, ℕ, Bool, true, false, cond, List, [], ◌∷◌, ◌++◌, None, Some, Result, Ok, Err, IsOk, refl, ap, sym, ◌∙◌, subst, inl, ⊎_elim, eqb}
+use Rattle.std.proofs.lemmas.Bool.{eq-eqb}
 use Rattle.wit_model.specs.declared.faults.Fault.{Fault}
 use Rattle.wit_model.specs.declared.faults.Fault.TheVariants.{UnknownFile, OutOfMemory}
 use Rattle.wit_model.specs.declared.locks.FileNo.{FileNo}
@@ -16,7 +16,7 @@ use Rattle.wit_model.specs.Rules.History.{own_entries, pending, pending_after}
 use Rattle.wit_model.specs.Rules.Numbers.{is_given, with_number}
 use Rattle.wit_model.specs.Rules.Questions.{is_for}
 use Rattle.wit_model.specs.Rules.State.{Start, Story, state_of}
-use Rattle.wit_model.specs.Rules.Step.{Answers, AnswersOrFails, IsLegal, answer_of, is_logged, logged, grown, step_note, step_give_up}
+use Rattle.wit_model.specs.Rules.Step.{Answers, AnswersOrFails, IsLegal, answer_of, is_logged, logged, step_note, step_give_up}
 use Rattle.wit_model.proofs.Histories.Accepted.{asked-lock}
 use Rattle.wit_model.proofs.Histories.Asked.{note_pending, give_up_pending}
 use Rattle.wit_model.proofs.Histories.KnownFiles.{check_known, try_known}

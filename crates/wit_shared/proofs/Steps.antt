@@ -1,14 +1,13 @@
 -- Each call of the verifier goes on by entries of its seat alone, so that its seat may follow it.
-use Rattle.std.proofs.Common.{◌≡◌, ◌≢◌, ℕ, ◌==◌, Bool, true, false, cond, not, ◌&&◌, nat_le, List, [], ◌∷◌, ◌++◌, length, Result, Ok, Err, refl, ap, sym, ◌∙◌, subst, eqb, ne_eqb, append-nil}
+use Rattle.std.proofs.Common.{◌≡◌, ◌≢◌, ℕ, Bool, true, false, cond, not, ◌&&◌, nat_le, List, [], ◌∷◌, ◌++◌, length, Result, Ok, Err, refl, ap, sym, ◌∙◌, subst, ne_eqb, append-nil}
 use Rattle.wit_model.specs.declared.faults.Fault.{Fault}
 use Rattle.wit_model.specs.declared.locks.FileNo.{FileNo}
 use Rattle.wit_model.specs.declared.calls.Call.{Call}
-use Rattle.wit_model.specs.declared.calls.Entry.{Entry}
 use Rattle.wit_model.specs.declared.calls.Reply.{Reply}
-use Rattle.wit_model.specs.Rules.Files.{NamesFile, is_known_file, files_after, naming_answer}
+use Rattle.wit_model.specs.Rules.Files.{NamesFile, is_known_file, files_after}
 use Rattle.wit_model.specs.Rules.History.{own_entries}
 use Rattle.wit_model.specs.Rules.State.{Start, Story}
-use Rattle.wit_model.specs.Rules.Step.{Answers, AnswersOrFails, answer_of, is_logged, logged, grown}
+use Rattle.wit_model.specs.Rules.Step.{Answers, AnswersOrFails, is_logged, logged, grown}
 use Rattle.wit_seats.specs.declared.views.Journal.{Journal}
 use Rattle.wit_seats.specs.declared.views.Known.{Known}
 use Rattle.wit_seats.specs.Rule.{journal}

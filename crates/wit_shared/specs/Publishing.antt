@@ -1,5 +1,5 @@
 -- What a shared verifier publishes for observers: its adopted orders. Lists of entries are newest first.
-use Rattle.std.specs.Prelude.{ℕ, ◌≡◌, List, [], ◌++◌, reverse, Result, Ok, Err}
+use Rattle.std.specs.Prelude.{ℕ, ◌≡◌, List, [], reverse, Result, Ok, Err}
 use Rattle.wit_model.specs.declared.faults.Fault.{Fault}
 use Rattle.wit_model.specs.declared.calls.Adoption.{Adoption}
 use Rattle.wit_model.specs.declared.calls.Call.{Call}

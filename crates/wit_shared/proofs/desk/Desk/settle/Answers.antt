@@ -1,4 +1,4 @@
-use Rattle.std.proofs.Common.{◌≡◌, ℕ, ◌∙◌, ap, sym, subst}
+use Rattle.std.proofs.Common.{◌∙◌, ap, sym, subst}
 use Rattle.wit_model.specs.Rules.History.{own_entries}
 use Rattle.wit_model.specs.Rules.State.{Story}
 use Rattle.wit_seats.specs.declared.views.Journal.{Journal}

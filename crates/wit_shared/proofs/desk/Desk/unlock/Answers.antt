@@ -1,12 +1,10 @@
-use Rattle.std.proofs.Common.{◌≡◌, [], ap, sym, ◌∙◌, subst}
-use Rattle.std.specs.Option.{option_copied}
-use Rattle.wit_model.specs.declared.calls.Call.TheVariants.{Init, Note, GiveUp, Unlock}
+use Rattle.std.proofs.Common.{[], ap, ◌∙◌, subst}
+use Rattle.wit_model.specs.declared.calls.Call.TheVariants.{Unlock}
 use Rattle.wit_model.specs.Rules.State.{Story}
-use Rattle.wit_model.specs.Rules.Step.{Answers, AnswersOrFails}
-use Rattle.wit_core.specs.Replies.{new_lock, made_reply}
+use Rattle.wit_model.specs.Rules.Step.{Answers}
 use Rattle.wit_seats.specs.declared.views.Journal.{Journal}
 use Rattle.wit_seats.specs.Rule.{journal}
-use Rattle.wit_shared.proofs.Steps.{answers, fails, may_follow, tells}
+use Rattle.wit_shared.proofs.Steps.{answers, may_follow, tells}
 use Rattle.wit_shared.proofs.desk.Desk.unlock.Goals as goal
 
 pub follow-requires : goal.follow-requires
