@@ -176,13 +176,15 @@ static void consider(struct request *request)
         return;
     }
     request->parent = last_node(request->thread);
+    request->node = node_of(request->parent, request->lock->type->number);
+    bool known = request->node != 0 && node_is_requested(request->node);
     if (!writes_all) {
-        request->node = node_of(request->parent, request->lock->type->number);
-        request->patient = request->node != 0 && node_is_requested(request->node);
-        if (LIKELY(request->patient))
+        request->patient = known;
+        if (LIKELY(known))
             return;
-        request->stack = stack_of(request->caller);
     }
+    if (!known)
+        request->stack = stack_of(request->caller);
     write_request(request);
 }
 
@@ -204,7 +206,7 @@ bool request_begins(struct request *request, const void *address, enum class cla
     request->again = held_of(thread, lock);
     request->caller = caller;
     request->place = place_of(caller);
-    request->stack = stacks_all ? stack_of(caller) : 0;
+    request->stack = stack_of_held(request->place, caller);
     request->node = 0;
     request->mode = mode;
     request->tried = tried;
@@ -262,6 +264,7 @@ void request_ends(struct request *request, bool got)
     } else if (may_recur(request->again, request)) {
         request->again->count++;
         request->again->place = request->place;
+        request->again->stack = (uint16_t)request->stack;
         if (writes_all)
             write_acquired(request, request->again);
     }
@@ -315,7 +318,7 @@ bool wait_begins(struct request *request, const void *address, struct caller cal
     request->lock = held->lock;
     request->caller = caller;
     request->place = place_of(caller);
-    request->stack = stacks_all ? stack_of(caller) : 0;
+    request->stack = stack_of_held(request->place, caller);
     request->mode = EXCLUSIVE;
     released(thread, held);
     return true;

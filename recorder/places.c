@@ -147,13 +147,15 @@ static void add(uintptr_t pc, int32_t step)
     uint64_t size = 0;
     place->step = step;
     place->name = "";
+    place->detour = frames_shown > 1 ? DETOUR_STACKS : 0;
     place->object = (uint16_t)object;
     if (place->object) {
         place->offset = object_offset(place->object, pc);
         place->name = object_symbol(place->object, pc - 1, true, &from, &size);
         if (*place->name) {
             place->within = pc - from;
-            place->wrapper = is_wrapper(place->name, size) || is_passed_over(place->name);
+            if (is_wrapper(place->name, size) || is_passed_over(place->name))
+                place->detour = DETOUR_WRAPPER;
         }
     }
     places_met++;
@@ -256,7 +258,7 @@ static bool follow(struct caller caller, uint32_t wanted, uint32_t *found, uint3
         if (!number)
             return false;
         const struct place *place = place_at(number);
-        if (!place->wrapper)
+        if (!is_wrapper_at(number))
             found[(*count)++] = number;
         if (*count == wanted || place->step == STEP_LAST)
             return true;
@@ -276,7 +278,7 @@ uint32_t callers(struct caller caller, uint32_t wanted, uint32_t *found)
         count = 0;
         for (uint32_t i = 0; i < stack.count && count < wanted; i++) {
             uint32_t number = place_at_pc(stack.frames[i].pc);
-            if (number && !place_at(number)->wrapper)
+            if (number && !is_wrapper_at(number))
                 found[count++] = number;
         }
     }
@@ -290,6 +292,14 @@ uint32_t first_caller(struct caller caller)
     uint32_t number;
     callers(caller, 1, &number);
     return number;
+}
+
+/* As first_caller; 0 where the acquisition is to have its stack, for which it takes the long way. */
+uint32_t place_passed(struct caller caller)
+{
+    uint32_t number = first_caller(caller);
+    uint8_t detour = number ? detour_at(number) : 0;
+    return detour == 0 || detour == DETOUR_WRAPPER ? number : 0;
 }
 
 /* The recorder's own bytes in memory. */

@@ -68,6 +68,7 @@ static inline struct held *held_filled(struct thread *thread, struct lock *lock,
     held->count = 1;
     held->mode = mode & 0x7f;
     held->tried = held->written = 0;
+    held->stack = 0;
     return held;
 }
 
@@ -108,7 +109,7 @@ QUICK bool quick_is_known(struct quick *quick, const void *address, struct calle
     quick->place = place_at_pc(caller.pc);
     if (UNLIKELY(!quick->lock || !quick->place || thread->count == thread->room))
         return false;
-    if (UNLIKELY(place_at(quick->place)->wrapper) && !(quick->place = first_caller(caller)))
+    if (UNLIKELY(detour_at(quick->place)) && !(quick->place = place_passed(caller)))
         return false;
     if (thread->count == 0) {
         quick->node = atomic_load_explicit(&quick->lock->type->root, memory_order_relaxed);

@@ -75,7 +75,7 @@ struct place {
     uintptr_t closed;  /* the address, while its object is closed */
     int32_t step;      /* from the caller's stack pointer to that of its own caller; or one of the three below */
     uint16_t object;   /* the number of the object, 0 where there is none */
-    bool wrapper;      /* the function's only work is to lock */
+    _Atomic uint8_t detour; /* why a call from here takes longer; 0 of most places */
     uint64_t offset;   /* the address as the object's file counts it */
     const char *name;  /* of the function, or empty */
     uint64_t within;   /* the address as the function counts it */
@@ -85,6 +85,11 @@ struct place {
 /* STEP_FRAME: the caller's own caller is found by the frame pointer, two words above where it points. */
 enum { STEP_LAST = 0, STEP_VARIES = -1, STEP_FRAME = -2 };
 #define PC_CLOSED ((uintptr_t)1)
+/*
+ * DETOUR_WRAPPER: the function's only work is to lock. Else so many acquisitions more are to have their stacks:
+ * DETOUR_STACKS from when the place is met, or one of them was new (stacks.c).
+ */
+enum { DETOUR_STACKS = 16, DETOUR_WRAPPER = 255 };
 
 struct type {
     uint32_t number;
@@ -133,7 +138,7 @@ struct held {
     uint32_t count;   /* acquisitions not yet released */
     uint8_t mode : 7, tried : 1;
     uint8_t written;  /* a bit for each stream */
-    uint16_t stack;   /* of the acquisition, where all have one */
+    uint16_t stack;   /* of the acquisition; 0 where it has none */
     uint32_t number[STREAMS];
 };
 
@@ -339,13 +344,24 @@ static inline struct place *place_at(uint32_t number)
     return &places[number - 1];
 }
 
+static inline uint8_t detour_at(uint32_t number)
+{
+    return atomic_load_explicit(&place_at(number)->detour, memory_order_relaxed);
+}
+
+static inline bool is_wrapper_at(uint32_t number)
+{
+    return detour_at(number) == DETOUR_WRAPPER;
+}
+
 uint32_t first_caller(struct caller caller);
+uint32_t place_passed(struct caller caller);
 
 /* The number of the first caller that isn't a wrapper; 0 where there are too many places. */
 static inline uint32_t place_of(struct caller caller)
 {
     uint32_t number = place_at_pc(caller.pc);
-    return LIKELY(number != 0) && LIKELY(!place_at(number)->wrapper) ? number : first_caller(caller);
+    return LIKELY(number != 0) && LIKELY(!is_wrapper_at(number)) ? number : first_caller(caller);
 }
 
 uint32_t places_of(struct caller caller, uint32_t places[DEPTH_MOST]);
@@ -370,6 +386,7 @@ extern bool stacks_all;       /* what is held has its stack, too */
 
 bool stacks_made(void);
 uint32_t stack_of(struct caller caller);
+uint32_t stack_of_held(uint32_t place, struct caller caller);
 void stack_stands(int stream, uint32_t number);
 
 /* asked.c */

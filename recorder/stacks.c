@@ -1,14 +1,19 @@
 /*
- * Stacks: the callers of a request, as numbers of places. A request that is written has one, since new requests are few;
- * what a thread holds has one where it was asked for (then every call takes the long way). Equal stacks are one. A stack
- * that is there never changes, so it is found without the mutex.
+ * Stacks: the callers of a request, as numbers of places. A request that is new has one, since new
+ * requests are few. When it is written it is too late to look for the callers of what the thread
+ * holds: those are taken with the lock or never. So a place's first acquisitions have their stacks,
+ * until as many as DETOUR_STACKS in a row brought no new one: a place in a function that locks for
+ * others goes on longer than one that is come to by one way alone. That costs what new stacks cost,
+ * and a place that is done with is as quick as without stacks. Where it was asked for, each
+ * acquisition has its stack, and takes the long way.
+ * Equal stacks are one. A stack that is there never changes, so it is found without the mutex.
  */
 #include "recorder.h"
 
 #include <string.h>
 
-/* A number of one has room in a held lock. */
-enum { STACKS = 1 << 15 };
+/* A number of one has room in a held lock. What is held leaves the other half to requests. */
+enum { STACKS = 1 << 15, STACKS_HELD = STACKS / 2 };
 
 struct stack {
     _Atomic uint32_t count; /* 0 where the slot is free; set last */
@@ -19,7 +24,7 @@ struct stack {
 uint32_t frames_shown = 1;
 bool stacks_all;
 static struct stack *stacks;
-static uint32_t stacks_met;
+static _Atomic uint32_t stacks_met;
 
 bool stacks_made(void)
 {
@@ -41,8 +46,8 @@ static uint32_t slot_of(const uint32_t *found, uint32_t count)
     }
 }
 
-/* The number of the callers' stack; 0 where none is wanted, or there is no room. Outside the mutex. */
-COLD uint32_t stack_of(struct caller caller)
+/* As stack_of; *is_new becomes true where the stack wasn't there before. */
+static uint32_t stack_found(struct caller caller, bool *is_new)
 {
     uint32_t found[FRAMES_MOST], number = 0;
     if (!stacks || caller.pc == 0)
@@ -63,8 +68,33 @@ COLD uint32_t stack_of(struct caller caller)
         memcpy(stacks[slot].places, found, count * sizeof *found);
         atomic_store_explicit(&stacks[slot].count, count, memory_order_release);
         number = slot + 1;
+        *is_new = true;
     }
     recorder_leaves();
+    return number;
+}
+
+/* The number of the callers' stack; 0 where none is wanted, or there is no room. No mutex is held. */
+COLD uint32_t stack_of(struct caller caller)
+{
+    bool is_new;
+    return stack_found(caller, &is_new);
+}
+
+/* As stack_of, of an acquisition at the place; 0 where those there have none any more. */
+COLD uint32_t stack_of_held(uint32_t place, struct caller caller)
+{
+    uint8_t left = place ? detour_at(place) : 0;
+    if (stacks_all)
+        return stack_of(caller);
+    if (left == 0 || left == DETOUR_WRAPPER)
+        return 0;
+    bool is_new = false;
+    uint32_t number = stack_found(caller, &is_new);
+    left = is_new ? DETOUR_STACKS : left - 1;
+    if (stacks_met >= STACKS_HELD)
+        left = 0;
+    atomic_store_explicit(&place_at(place)->detour, left, memory_order_relaxed);
     return number;
 }
 

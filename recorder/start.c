@@ -116,8 +116,6 @@ static bool settings_read(void)
     if (skip)
         skipped = skip;
     stacks_all = frames_shown > 1 && getenv("RECORDER_HELD") != NULL;
-    if (writes_all && !stacks_all)
-        frames_shown = 1;
     all_slow = writes_all || stacks_all;
     if (all_slow)
         asked_page[ASKED_AT] = '3';

@@ -134,15 +134,9 @@ static void write_lock(int stream, const struct thread *thread, uint32_t lock)
     end_call(stream);
 }
 
-/* The stack of what is held, where all have one. */
-static uint32_t held_stack(const struct held *held)
-{
-    return stacks_all ? held->stack : 0;
-}
-
 static void write_try(int stream, const struct thread *thread, const struct held *held)
 {
-    uint32_t site = place_number(stream, held->place), stack = held_stack(held);
+    uint32_t site = place_number(stream, held->place), stack = held->stack;
     if (stack)
         stack_stands(stream, stack);
     write_call(stream, "try", thread, held->number[stream]);
@@ -171,7 +165,7 @@ static void write_chain(int stream, struct thread *thread)
             if (held->tried || (i > 0 && (stream == FULL || !node_is_requested(held->node)))) {
                 write_try(stream, thread, held);
             } else {
-                write_check(stream, thread, number, held->mode, held->place, held_stack(held));
+                write_check(stream, thread, number, held->mode, held->place, held->stack);
                 write_lock(stream, thread, number);
             }
         }
@@ -203,8 +197,8 @@ COLD void write_request(struct request *request)
     if (!recorder_enters())
         return;
     bool nested = thread->count != 0;
+    request->node = node_made(request->parent, request->lock->type->number);
     if (writes[CONDENSED]) {
-        request->node = node_made(request->parent, request->lock->type->number);
         if (nested && (request->patient || !node_is_requested(request->node))) {
             if (write_behind_chain(CONDENSED, request)) {
                 node_set_requested(request->node);
@@ -216,8 +210,11 @@ COLD void write_request(struct request *request)
             request->patient = nested;
         }
     }
-    if (writes[FULL] && !(request->pending & bit(FULL)))
+    if (writes[FULL] && !(request->pending & bit(FULL))) {
         write_behind_chain(FULL, request);
+        if (!writes[CONDENSED])
+            node_set_requested(request->node);
+    }
     recorder_leaves();
 }
 

@@ -47,14 +47,20 @@ if wanted orphans; then
     done
 fi
 
-# Stacks: of requests, of what was held too, and through functions that are passed over.
+# Stacks: of requests, of what was held as far as they are known, and through functions that are
+# passed over. A helper that was called a thousand times from one place has no more.
+want=helper.held example helper "callers" --frames 8
+want=helper.held example helper "callers" --frames 3
+want=helper.held example helper "callers" --frames 8 --full
+words=1000
 want=helper.callers example helper "the callers of requests" --frames 8
-want=helper.callers example helper "the callers of requests" --frames 3
+want=helper.held example helper "the callers of what is new" --frames 8 --full
 want=helper.held example helper "the callers of what was held" --frames 8 --held-callers
+words=
 want=helper.skip example helper "functions that are passed over" --skip 'cache_*'
 example helper "no callers" --frames 1
 flags=-O2
-want=helper.callers example helper "the callers of requests" --frames 8
+want=helper.held example helper "callers" --frames 8
 want=with example with "the callers through templates and lambdas" --frames 8 --skip with
 flags=
 if wanted helper; then
