@@ -146,6 +146,18 @@ static void write_try(int stream, const struct thread *thread, const struct held
 }
 
 /*
+ * What the thread holds is acquired once more. It is written as asked for, a try too: such a request
+ * is answered without a look at orders, and where a trace has the real steps of its locks, a try is
+ * one that takes a share of its own, which a lock that is held has none of left.
+ */
+static void write_once_more(int stream, const struct thread *thread, const struct held *held,
+    uint32_t place, uint32_t stack)
+{
+    write_check(stream, thread, held->number[stream], held->mode, place, stack);
+    write_lock(stream, thread, held->number[stream]);
+}
+
+/*
  * Writes what the thread holds and the stream doesn't have yet, oldest first. The thread has a seat. What isn't known
  * to be asked for behind this chain, since a lock before it is released by now, is written as after a try.
  */
@@ -161,14 +173,14 @@ static void write_chain(int stream, struct thread *thread)
         held->number[stream] = number;
         held->written |= bit(stream);
         stands(stream, thread, number);
-        for (uint32_t count = stream == FULL ? held->count : 1; count > 0; count--) {
-            if (held->tried || (i > 0 && (stream == FULL || !node_is_requested(held->node)))) {
-                write_try(stream, thread, held);
-            } else {
-                write_check(stream, thread, number, held->mode, held->place, held->stack);
-                write_lock(stream, thread, number);
-            }
+        if (held->tried || (i > 0 && (stream == FULL || !node_is_requested(held->node)))) {
+            write_try(stream, thread, held);
+        } else {
+            write_check(stream, thread, number, held->mode, held->place, held->stack);
+            write_lock(stream, thread, number);
         }
+        for (uint32_t count = 1; stream == FULL && count < held->count; count++)
+            write_once_more(stream, thread, held, held->place, held->stack);
     }
 }
 
@@ -235,7 +247,7 @@ static void write_tried(struct request *request, struct held *held)
 {
     struct thread *thread = request->thread;
     if (held->written & bit(FULL)) {
-        write_try(FULL, thread, held);
+        write_once_more(FULL, thread, held, request->place, request->stack);
         return;
     }
     if (request->again || !stream_has_room(FULL) || !seat_taken(FULL, thread))

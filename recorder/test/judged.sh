@@ -1,20 +1,43 @@
-# Tests for which the program has to know `migrate` and the line `profile all`: read by `run`, whose functions it uses.
+# Tests for which the program has to know `migrate` and the line `profile all`: read by `run`, whose
+# functions it uses.
 
-# Each recording of every call is one of locks that were free when they were taken.
+# is_accepted: each trace of the recording was judged, and is one of locks that were free when they
+# were taken.
+is_accepted() {
+    grep -q ' judged: each lock was free' recorded.err &&
+        ! grep -q 'judged: line\|judged: .* ended' recorded.err
+}
+
 if wanted judged; then
-    for program in reversal cycle philosophers rwlock tryfirst trysecond trythen late condition recursive c11 kinds cancel \
-        signals long ending forking forks threads orphans named reused guards futex atomics; do
+    for line in again anew atomics between c11 cancel condition contend crowd cycle deadlock \
+        "dropped 2" ending forking forks "full 20000 reversal" futex guards handover helper \
+        inlined "jump 0" "jump 1" "jump 2" kinds late long named orphans "pairs 4 2 1000" \
+        philosophers recursive reused reversal rwlock signals threads tryfirst trysecond \
+        trythen varying varyings with; do
+        compile ${line%% *}
+        recorded_by "$record" --full --judge -- timeout -s KILL 3 ./$line
+        is_accepted
+        tell judged "$line" $?
+    done
+    # A mutex whose holder has ended is still that one's in the trace, and another thread gets it.
+    compile odd
+    recorded_by "$record" --full --judge -- ./odd
+    said 0 'odd: judged: line [0-9]*: F35 RawNotFree: .* gets "odd.c:43<odd.c:79", .* @ odd.c:46$'
+    tell judged "odd, whose robust mutex is got when its holder has ended, is refused there" $?
+    drop_kept
+    for program in between reversal recursive; do
         compile $program
-        recorded_by "$record" --full --judge -- ./$program
-        grep -q ' judged: each lock was free' recorded.err && [ "$(grep -c 'judged' recorded.err)" -eq "$(grep -c 'judged: each' recorded.err)" ]
-        tell judged "$program" $?
+        recorded_by "$record" --full --profile all --judge -o kept -- ./$program
+        is_accepted && [ "$(sed -n 2p kept)" = "profile all" ]
+        tell judged "$program, in the all-held profile" $?
     done
     "$record" -- true 2>/dev/null
     object=$recorder/out/recorder.so
     compile random -O1
     for seed in 1 2 3 4; do
         for kind in clean mixed; do
-            record_both ./random "$seed" $kind && "$WITNESS" migrate <full.trace >/dev/null && "$WITNESS" migrate <condensed.trace >/dev/null
+            record_both ./random "$seed" $kind && "$WITNESS" migrate <full.trace >/dev/null &&
+                "$WITNESS" migrate <condensed.trace >/dev/null
             tell judged "a $kind run, seed $seed" $?
         done
     done
@@ -23,9 +46,9 @@ if wanted judged; then
     caught=1
     plant overlapping && for run in 1 2 3 4 5 6 7 8 9 10; do
         recorded_by overlapping/record --full --judge -- ./contend
-        place=$(sed -n 's/^record: the recording is kept: //p' recorded.err)
-        [ -z "$place" ] || rm -rf "$(dirname "$place")"
-        grep -q 'judged: line [0-9]*: F35 RawNotFree: seat [0-9]* gets ' recorded.err && caught=0 && break
+        drop_kept
+        grep -q 'judged: line [0-9]*: F35 RawNotFree: seat [0-9]* gets ' recorded.err &&
+            caught=0 && break
     done
     tell judged "a recorder that writes unlock too late is told of" $caught
 fi
