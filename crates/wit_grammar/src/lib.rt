@@ -10,6 +10,7 @@ mod numbers;
 mod parse;
 mod plain_lines;
 mod print;
+mod print_lock_lines;
 mod put;
 mod spellable;
 mod words;

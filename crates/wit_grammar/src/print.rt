@@ -3,24 +3,22 @@
 ghost use Rattle.std.specs.Prelude.{◌≡◌, [], ◌++◌, ◌∷◌, IfOk, IfErr};
 ghost use Rattle.std.specs.Fmt.{decimal};
 ghost use Rattle.wit_model.specs.Trace.Spelling.{keyword_text, number_if_any, spelling};
-ghost use Rattle.wit_model.specs.declared.lines.Line.TheVariants.{Header, Order, Bless, Init, OnLock, Assert, Warn, Define};
+ghost use Rattle.wit_model.specs.declared.lines.Line.TheVariants.{Header, Order, Bless, Init, Assert, Warn, Define};
 ghost use Rattle.wit_model.specs.declared.lines.Line.TheVariants as lines;
-ghost use Rattle.wit_model.specs.declared.lines.LockLine.TheVariants.{Check, Try, Unlock, Plain};
-ghost use Rattle.wit_model.specs.declared.lines.LockLine.TheVariants as lock_lines;
-ghost use Rattle.wit_model.specs.declared.raw_steps.RawStep.TheVariants as raw_step;
 ghost use Rattle.wit_grammar.specs.Lines.{IsPrelude, IsSpelled};
 ghost use Rattle.wit_model.specs.declared.faults.Fault.TheVariants.{OutOfMemory};
 
 use crate::keywords::keyword_text;
 use crate::letters;
+use crate::print_lock_lines::spell_on_lock;
 use crate::put::{
-    level_text, mode_text, put_count, put_flags, put_lock, put_name, put_number, put_site,
-    put_types, put_word, version_text,
+    level_text, put_count, put_flags, put_lock, put_name, put_number, put_types, put_word,
+    version_text,
 };
 use std::alloc::{AllocError, Global};
 use wit_model::{
-    Fault, FileName, Keyword, Line, LockAssert, LockLine, LockNo, Mode, Name, NewLock, OpFlags,
-    RawStep, SeatNo, TypeList, Verb, Version, WarnFlags, Watch,
+    Fault, Keyword, Line, LockAssert, LockNo, Name, NewLock, SeatNo, TypeList, Version, WarnFlags,
+    Watch,
 };
 
 /// The spelling of a line, without a line feed.
@@ -131,31 +129,6 @@ fn spell_init(alloc: Global, seat: SeatNo, lock: &NewLock) -> Result<Vec<u8>, Al
     Ok(out)
 }
 
-fn spell_on_lock(alloc: Global, line: &LockLine<FileName>) -> Result<Vec<u8>, AllocError>
-    ensures { IfOk result (λ bytes. bytes.items ≡ spelling (OnLock line.now)) }
-{
-    match line {
-        LockLine::Check {
-            seat,
-            lock,
-            mode,
-            ops,
-            file,
-            line,
-        } => spell_check(alloc, *seat, *lock, *mode, *ops, file, *line),
-        LockLine::Try {
-            seat,
-            lock,
-            mode,
-            file,
-            line,
-        } => spell_try(alloc, *seat, *lock, *mode, file, *line),
-        LockLine::Unlock { seat, lock, mode } => spell_unlock(alloc, *seat, *lock, *mode),
-        LockLine::Plain { verb, seat, lock } => spell_plain(alloc, *verb, *seat, *lock),
-        LockLine::Step { seat, lock, step } => spell_step(alloc, *seat, *lock, *step),
-    }
-}
-
 /// The keyword and the seat of a call.
 fn call_of_seat(alloc: Global, keyword: Keyword, seat: SeatNo) -> Result<Vec<u8>, AllocError>
     ensures { IfOk result (λ bytes. bytes.items ≡ keyword_text keyword ++ 32 ∷ decimal seat.0) }
@@ -166,7 +139,7 @@ fn call_of_seat(alloc: Global, keyword: Keyword, seat: SeatNo) -> Result<Vec<u8>
 }
 
 /// The keyword, the seat and the lock of a call.
-fn call_on_lock(
+pub(crate) fn call_on_lock(
     alloc: Global,
     keyword: Keyword,
     seat: SeatNo,
@@ -177,90 +150,6 @@ fn call_on_lock(
 {
     let mut out = call_of_seat(alloc, keyword, seat)?;
     put_number(alloc, &mut out, lock.0)?;
-    Ok(out)
-}
-
-fn spell_check(
-    alloc: Global,
-    seat: SeatNo,
-    lock: LockNo,
-    mode: Mode,
-    ops: OpFlags,
-    file: &FileName,
-    line: u32,
-) -> Result<Vec<u8>, AllocError>
-    ensures { IfOk result (λ bytes. bytes.items ≡ spelling (OnLock (Check seat lock mode ops file.now line))) }
-{
-    let mut out = call_on_lock(alloc, Keyword::Check, seat, lock)?;
-    put_word(&mut out, mode_text(mode))?;
-    put_flags(&mut out, letters::REQUEST, ops.0)?;
-    put_site(alloc, &mut out, file, line)?;
-    Ok(out)
-}
-
-fn spell_plain(alloc: Global, verb: Verb, seat: SeatNo, lock: LockNo) -> Result<Vec<u8>, AllocError>
-    ensures { IfOk result (λ bytes. bytes.items ≡ spelling (OnLock (Plain verb seat lock))) }
-{
-    call_on_lock(alloc, Keyword::Plain(verb), seat, lock)
-}
-
-fn spell_step(
-    alloc: Global,
-    seat: SeatNo,
-    lock: LockNo,
-    step: RawStep,
-) -> Result<Vec<u8>, AllocError>
-    ensures { IfOk result (λ bytes. bytes.items ≡ spelling (OnLock (lock_lines.Step seat lock step))) }
-{
-    match step {
-        RawStep::Take => call_on_lock(alloc, Keyword::Take, seat, lock),
-        RawStep::TryTake(mode) => spell_try_take(alloc, seat, lock, mode),
-        RawStep::Free => call_on_lock(alloc, Keyword::Free, seat, lock),
-        RawStep::Up => call_on_lock(alloc, Keyword::RawUp, seat, lock),
-        RawStep::Down => call_on_lock(alloc, Keyword::RawDown, seat, lock),
-    }
-}
-
-fn spell_try_take(
-    alloc: Global,
-    seat: SeatNo,
-    lock: LockNo,
-    mode: Mode,
-) -> Result<Vec<u8>, AllocError>
-    ensures { IfOk result (λ bytes. bytes.items
-        ≡ spelling (OnLock (lock_lines.Step seat lock (raw_step.TryTake mode)))) }
-{
-    let mut out = call_on_lock(alloc, Keyword::TryTake, seat, lock)?;
-    put_word(&mut out, mode_text(mode))?;
-    Ok(out)
-}
-
-fn spell_try(
-    alloc: Global,
-    seat: SeatNo,
-    lock: LockNo,
-    mode: Mode,
-    file: &FileName,
-    line: u32,
-) -> Result<Vec<u8>, AllocError>
-    ensures { IfOk result (λ bytes. bytes.items ≡ spelling (OnLock (Try seat lock mode file.now line))) }
-{
-    let mut out = call_on_lock(alloc, Keyword::Try, seat, lock)?;
-    put_word(&mut out, mode_text(mode))?;
-    put_site(alloc, &mut out, file, line)?;
-    Ok(out)
-}
-
-fn spell_unlock(
-    alloc: Global,
-    seat: SeatNo,
-    lock: LockNo,
-    mode: Mode,
-) -> Result<Vec<u8>, AllocError>
-    ensures { IfOk result (λ bytes. bytes.items ≡ spelling (OnLock (Unlock seat lock mode))) }
-{
-    let mut out = call_on_lock(alloc, Keyword::Unlock, seat, lock)?;
-    put_word(&mut out, mode_text(mode))?;
     Ok(out)
 }
 
