@@ -6,6 +6,7 @@ mod calls;
 mod circle;
 mod defining;
 mod known;
+mod list_faults;
 mod lists;
 mod log;
 mod names;

@@ -1,7 +1,7 @@
 use Rattle.std.proofs.Common.{true, false, sym, ◌∙◌, arith}
 use Rattle.wit_core.proofs.Listing.{types-next}
-use Rattle.wit_core.proofs.lists.types_with.Goals.{then-is_new, else-is_new}
-use Rattle.wit_core.proofs.lists.types_with.Goals as goal
+use Rattle.wit_core.proofs.list_faults.types_with.Goals.{then-is_new, else-is_new}
+use Rattle.wit_core.proofs.list_faults.types_with.Goals as goal
 
 pub loop-place-preserved : goal.loop-place-preserved
 loop-place-preserved c =

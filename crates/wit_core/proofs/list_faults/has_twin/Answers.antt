@@ -1,6 +1,6 @@
 use Rattle.std.proofs.Common.{◌+◌, ◌-◌, sym, ◌∙◌, arith}
 use Rattle.wit_core.proofs.Listing.{twin-step, twin-here, twin-end}
-use Rattle.wit_core.proofs.lists.has_twin.Goals as goal
+use Rattle.wit_core.proofs.list_faults.has_twin.Goals as goal
 
 pub returns-then-are_twins : goal.returns-then-are_twins
 returns-then-are_twins c =

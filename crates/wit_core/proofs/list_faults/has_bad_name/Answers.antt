@@ -5,7 +5,7 @@ use Rattle.std.proofs.lemmas.Iterator.Search.{any_from_yields_List}
 use Rattle.wit_model.specs.declared.locks.Class.{Class}
 use Rattle.wit_model.specs.Rules.Names.{is_name}
 use Rattle.wit_core.proofs.Listing.{any-map}
-use Rattle.wit_core.proofs.lists.has_bad_name.Goals as goal
+use Rattle.wit_core.proofs.list_faults.has_bad_name.Goals as goal
 
 pub returns : goal.returns
 returns c =

@@ -6,7 +6,7 @@ use Rattle.wit_model.specs.declared.locks.Class.{Class}
 use Rattle.wit_model.specs.Rules.Start.{is_misclassed}
 use Rattle.wit_core.specs.Listed.{entry_of, listed}
 use Rattle.wit_core.proofs.Listing.{any-map}
-use Rattle.wit_core.proofs.lists.has_other_class.Goals as goal
+use Rattle.wit_core.proofs.list_faults.has_other_class.Goals as goal
 
 pub returns : goal.returns
 returns c =

@@ -5,7 +5,7 @@ use Rattle.std.proofs.lemmas.Iterator.{YieldsList-from_slice}
 use Rattle.std.proofs.lemmas.Iterator.Search.{any_from_yields_List}
 use Rattle.wit_model.specs.declared.locks.Class.{Class}
 use Rattle.wit_core.proofs.Listing.{any-map}
-use Rattle.wit_core.proofs.lists.is_listed.Goals as goal
+use Rattle.wit_core.proofs.list_faults.is_listed.Goals as goal
 
 pub returns : goal.returns
 returns c =
