@@ -19,6 +19,15 @@ if wanted judged; then
         is_accepted
         tell judged "$line" $?
     done
+    # Programs of several sources, with libraries, that crash, or that go on.
+    compile_atfork && compile_clash && compile_closed_libraries
+    compile closed
+    for line in "atfork 12" "clash both" closed "closed back" "crash 2" crew slow; do
+        [ -x "${line%% *}" ] || compile ${line%% *}
+        recorded_by "$record" --full --judge -- timeout -s KILL 3 ./$line
+        is_accepted
+        tell judged "$line" $?
+    done
     # A mutex whose holder has ended is still that one's in the trace, and another thread gets it.
     compile odd
     recorded_by "$record" --full --judge -- ./odd
