@@ -18,6 +18,7 @@ fi
 for flags in -O0 -O2; do
     example varying "frames of varying size"
     example varyings "frames of varying size, std::mutex"
+    example started "lambdas of std::thread"
 done
 flags=
 
