@@ -106,7 +106,11 @@ static bool is_wrapper(const char *name, uint64_t size)
     static const char *const ends[] = {"lock", "mutex", "monitor", "mutex_enter", "mutexenter", "mutex_acquire",
         "lock_acquire", "mutex_init", "lock_init", "mutexinit", "lockinit", "mutex_create", "mutex_new", "mutex_alloc",
         "cond_wait", "condwait", "cond_timedwait"};
+    /* std::thread's way to its function, which is often inlined there: behind it there is nothing of the program. */
+    static const char thread_run[] = "_ZNSt6thread11_State_impl";
     char word[WORD_MOST];
+    if (strncmp(name, thread_run, sizeof thread_run - 1) == 0)
+        return false;
     for (size_t i = 0; i < sizeof own / sizeof *own; i++)
         if (strncmp(name, own[i], strlen(own[i])) == 0)
             return true;

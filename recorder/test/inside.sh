@@ -1,12 +1,16 @@
 # Tests of what the recorder does inside a program: read by `run`, whose functions it uses.
 
-# A library's handlers of fork come before the recorder's in the registering, and so after it in the preparing.
-if wanted atfork; then
+compile_atfork() {
     cp "$here/atfork.c" . && cc -g -fPIC -shared -DLIBRARY -pthread -o libatfork.so atfork.c &&
         cc -g -pthread -o atfork atfork.c -L. -latfork -Wl,-rpath,"$PWD"
+}
+
+# A library's handlers of fork come before the recorder's in the registering, and so after it in the preparing.
+if wanted atfork; then
+    compile_atfork
     for forks in 1 12; do
         timeout -s KILL 60 "$record" -- ./atfork $forks >recorded.out 2>recorded.err
-        [ $? -eq 0 ] && [ "$(cat recorded.out)" = forked ] && sed '/^record: /d; s/^==[0-9]*== //' recorded.err | diff "$here/atfork.want" -
+        [ $? -eq 0 ] && [ "$(cat recorded.out)" = forked ] && sed 's/^==[0-9]*== //; /^record: /d' recorded.err | diff "$here/atfork.want" -
         tell atfork "$forks forks in a library's handlers" $?
     done
 fi
@@ -14,6 +18,7 @@ fi
 for flags in -O0 -O2; do
     example varying "frames of varying size"
     example varyings "frames of varying size, std::mutex"
+    example started "lambdas of std::thread"
 done
 flags=
 

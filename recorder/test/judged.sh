@@ -12,9 +12,18 @@ if wanted judged; then
     for line in again anew atomics between c11 cancel condition contend crowd cycle deadlock \
         "dropped 2" ending forking forks "full 20000 reversal" futex guards handover helper \
         inlined "jump 0" "jump 1" "jump 2" kinds late long named orphans "pairs 4 2 1000" \
-        philosophers recursive reused reversal rwlock signals threads tryfirst trysecond \
+        philosophers recursive reused reversal rwlock signals started threads tryfirst trysecond \
         trythen varying varyings with; do
         compile ${line%% *}
+        recorded_by "$record" --full --judge -- timeout -s KILL 3 ./$line
+        is_accepted
+        tell judged "$line" $?
+    done
+    # Programs of several sources, with libraries, that crash, or that go on.
+    compile_atfork && compile_clash && compile_closed_libraries
+    compile closed
+    for line in "atfork 12" "clash both" closed "closed back" "crash 2" crew slow; do
+        [ -x "${line%% *}" ] || compile ${line%% *}
         recorded_by "$record" --full --judge -- timeout -s KILL 3 ./$line
         is_accepted
         tell judged "$line" $?
