@@ -156,8 +156,9 @@ static void *taken(void *place)
 {
     if (place != NULL && counts) {
         long now = atomic_fetch_add(&used, (long)malloc_usable_size(place)) + (long)malloc_usable_size(place);
-        if (now > most)
-            most = now;
+        long seen = most;
+        while (now > seen && !atomic_compare_exchange_weak(&most, &seen, now))
+            ;
     }
     return place;
 }
