@@ -1,6 +1,10 @@
 pub mod AnswerLemmas
+pub mod BesideLemmas
 pub mod ListedTypes
+pub mod MigrateEnds
 pub mod MigrateLemmas
+pub mod MigrateReports
+pub mod Recorded
 pub mod ReplayLemmas
 pub mod ReportLemmas
 pub mod StreamLemmas
