@@ -9,4 +9,5 @@ pub mod ReplayLemmas
 pub mod ReportLemmas
 pub mod StreamLemmas
 pub mod TextLemmas
+pub mod Weights
 pub mod WorldLemmas

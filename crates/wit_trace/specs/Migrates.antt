@@ -1,5 +1,5 @@
 -- What a migration of a trace writes and sums up.
-use Rattle.std.specs.Prelude.{◌≡◌, ℕ, Bool, true, false, List, [], ◌∷◌, map}
+use Rattle.std.specs.Prelude.{◌≡◌, ℕ, ◌+◌, Bool, true, false, List, [], ◌∷◌, map, sum_by}
 use Rattle.std.specs.Prelude.{Option, None, Some, Result, Ok, Err, refl, if◌then◌else◌}
 use Rattle.std.specs.Global.{Vec}
 use Rattle.wit_model.specs.declared.calls.Call.{Call}
@@ -55,6 +55,18 @@ moved_to (Moved behind) = standing behind
 -- how many reports were told so far
 abbrev pub reported : Moving → ℕ
 reported m = (output.summed (moving.read_to m) None).reports
+
+-- a lock weighs one, and each share of it one more
+abbrev pub lock_weight : RawLock → ℕ
+lock_weight k = 1 + sum_by (λ (x : ℕ × ℕ). x.1) k.holders
+
+abbrev pub weight : List RawLock → ℕ
+weight raw = sum_by lock_weight raw
+
+-- what the locks weigh that were made so far
+abbrev pub weighed : Moving → ℕ
+weighed (moving.Moved s raw n) = weight raw
+weighed m = 0
 
 -- ---- what is written
 

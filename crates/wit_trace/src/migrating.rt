@@ -1,12 +1,12 @@
 //! The migration of a trace from the first version of the format to the second.
 
-ghost use Rattle.std.specs.Prelude.{◌≡◌, ◌+◌, ◌-◌, ◌<◌, ◌≤◌, ◌^◌, ◌++◌, ℕ, List, length, false, None, Some, Err, IfOk, OnOk, OnErr};
+ghost use Rattle.std.specs.Prelude.{◌≡◌, ◌+◌, ◌-◌, ◌<◌, ◌≤◌, ◌^◌, ◌++◌, ℕ, List, length, max, false, None, Some, Err, IfOk, OnOk, OnErr};
 ghost use Rattle.wit_grammar.specs.declared.parse.TheConstants.{LONGEST};
 ghost use Rattle.wit_model.specs.Trace.Moving.{kept_lines, moving_from, outcome, read_to, with_feeds};
 ghost use Rattle.wit_model.specs.Trace.Moving as moving;
 ghost use Rattle.wit_model.specs.Trace.Output.{bad_text, summed};
 ghost use Rattle.wit_trace.specs.Machine.{Follows};
-ghost use Rattle.wit_trace.specs.Migrates.{EndsWith, Enters, Migrates, MigratesFrom, Reaches, migrated, moved_to, reported, some_migration};
+ghost use Rattle.wit_trace.specs.Migrates.{EndsWith, Enters, Migrates, MigratesFrom, Reaches, migrated, moved_to, reported, some_migration, weighed};
 ghost use Rattle.wit_trace.specs.Replays.{total};
 ghost use Rattle.wit_trace.specs.Stream.{ReadsToEnd, WritesFront, WritesLines, WritesOutput};
 
@@ -109,6 +109,7 @@ impl Migrating {
         ensures stands { IfOk result (λ r. Reaches (moved_to self.old) number line.now
             (moved_to self.new) r.text.items r.refused) }
         ensures counted { IfOk result (λ r. reported (moved_to self.new) ≤ reported (moved_to self.old)) }
+        ensures weighed { IfOk result (λ r. weighed (moved_to self.new) ≤ weighed (moved_to self.old)) }
     {
         match self {
             Migrating::Keeping { .. } => preludes::reach(alloc, self, number, line),
@@ -119,6 +120,7 @@ impl Migrating {
     // A line in its place.
     fn read(&mut self, alloc: Global, number: u64, bytes: &[u8]) -> Result<Vec<u8>, LineError>
         requires room { reported (moved_to self.old) < 2 ^ 64 - 1 }
+        requires few { weighed (moved_to self.old) < 2 ^ 64 - 1 }
         requires short { length bytes.now ≤ LONGEST }
         ensures { Enters (outcome (moved_to self.old) number bytes.now) (moved_to self.old) (moved_to self.new) result }
     {
@@ -133,7 +135,8 @@ impl Migrating {
         line: Line,
         bytes: &[u8],
     ) -> Result<Vec<u8>, LineError>
-        requires { reported (moved_to self.old) < 2 ^ 64 - 1 }
+        requires room { reported (moved_to self.old) < 2 ^ 64 - 1 }
+        requires few { weighed (moved_to self.old) < 2 ^ 64 - 1 }
         ensures { Enters (moving.entered (moved_to self.old) number bytes.now line)
             (moved_to self.old) (moved_to self.new) result }
     {
@@ -205,9 +208,11 @@ impl Migrating {
     #[inline(never)]
     fn any_line(&mut self, alloc: Global, number: u64, bytes: &[u8]) -> Result<Step, AllocError>
         requires room { reported (moved_to self.old) < number }
+        requires few { weighed (moved_to self.old) < number }
         requires short { length bytes.now ≤ LONGEST }
         ensures step { IfOk result (Follows migrated self.old self.new number bytes.now) }
         ensures counted { IfOk result (λ s. reported (moved_to self.new) ≤ reported (moved_to self.old) + 1) }
+        ensures weighed { IfOk result (λ s. weighed (moved_to self.new) ≤ weighed (moved_to self.old) + 1) }
     {
         let reached = self.reach(alloc, number, bytes)?;
         let found = self.found();
@@ -231,7 +236,7 @@ impl Migrating {
 impl Machine for Migrating {
     ghost allows = { λ view. migrated };
 
-    ghost reports = { λ m. reported (moved_to m) };
+    ghost reports = { λ m. max (reported (moved_to m)) (weighed (moved_to m)) };
 
     fn line(
         &mut self,

@@ -1,12 +1,10 @@
 //! What a migration knows behind the prelude.
 
-ghost use Rattle.std.specs.Prelude.{◌≡◌, ◌+◌, ◌-◌, ◌<◌, ◌≤◌, ◌^◌, ◌++◌, ◌∷◌, [], false, None, Err, OnOk, OnErr};
+ghost use Rattle.std.specs.Prelude.{◌≡◌, ◌+◌, ◌-◌, ◌<◌, ◌≤◌, ◌^◌, ◌++◌, ◌∷◌, [], false, None};
 ghost use Rattle.wit_model.specs.Trace.Moving.{moves, read_to};
-ghost use Rattle.wit_model.specs.World.Scenes.{nobodys};
 ghost use Rattle.wit_model.specs.Trace.Output.{call_of, summed};
 ghost use Rattle.wit_grammar.specs.Lines.{as_line};
-ghost use Rattle.wit_grammar.specs.declared.errors.LineError.TheVariants.{Memory};
-ghost use Rattle.wit_trace.specs.Migrates.{Enters, reported, standing};
+ghost use Rattle.wit_trace.specs.Migrates.{Enters, reported, standing, weight};
 ghost use Rattle.wit_trace.specs.Replays.{total};
 
 use crate::migrating::steps::{do_beside, step_beside};
@@ -67,6 +65,7 @@ impl Behind {
         line: LockLine<&str>,
         bytes: &[u8],
     ) -> Result<Vec<u8>, LineError>
+        requires { weight self.old.raw < 2 ^ 64 - 1 }
         ensures { Enters (moves self.old.verifier self.old.raw self.old.remarks bytes.now
             (call_of (as_line line.entry))) (standing self.old) (standing self.new) result }
     {
@@ -83,8 +82,10 @@ impl Behind {
     /// # Errors
     /// Those of `enter_on_lock`; and `Bad` where the line makes no call.
     pub fn enter(&mut self, alloc: Global, line: Line, bytes: &[u8]) -> Result<Vec<u8>, LineError>
-        requires { self.old.remarks < 2 ^ 64 - 1 }
-        ensures { Enters (moves self.old.verifier self.old.raw self.old.remarks bytes.now (call_of line))
+        requires counted { self.old.remarks < 2 ^ 64 - 1 }
+        requires few { weight self.old.raw < 2 ^ 64 - 1 }
+        ensures { Enters (moves self.old.verifier self.old.raw self.old.remarks bytes.now
+            (call_of line))
             (standing self.old) (standing self.new) result }
     {
         match line {
@@ -105,7 +106,7 @@ impl Behind {
             }
             Line::Init { seat, lock } => {
                 let _number = self.verifier.make(seat, lock)?;
-                made(&mut self.raw)?;
+                self.raw.made();
                 Ok(one_line(alloc, bytes)?)
             }
             Line::Define {
@@ -125,16 +126,4 @@ impl Behind {
             }
         }
     }
-}
-
-// A lock was made: nobody has a share of it.
-fn made(raw: &mut Raw) -> Result<(), LineError>
-    ensures ok { OnOk result (raw.new ≡ raw.old ++ nobodys ∷ []) }
-    ensures err { OnErr result (result ≡ Err Memory) }
-{
-    if raw.len() == usize::MAX {
-        return Err(LineError::Memory);
-    }
-    raw.made();
-    Ok(())
 }

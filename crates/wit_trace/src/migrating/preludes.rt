@@ -3,7 +3,7 @@
 ghost use Rattle.std.specs.Prelude.{◌≡◌, ◌-◌, ◌≤◌, ◌++◌, ◌∷◌, [], take, false, IfOk, OnOk};
 ghost use Rattle.wit_model.specs.Trace.Moving.{entered};
 ghost use Rattle.wit_model.specs.Trace.Moving as moving;
-ghost use Rattle.wit_trace.specs.Migrates.{Enters, Reaches, kept_bytes, moved_to, reported};
+ghost use Rattle.wit_trace.specs.Migrates.{Enters, Reaches, kept_bytes, moved_to, reported, weighed};
 ghost use Rattle.wit_trace.specs.Replays.{prelude_of};
 
 use crate::migrating::Migrating;
@@ -80,6 +80,7 @@ pub fn reach(
     ensures stands { IfOk result (λ r. Reaches (moved_to machine.old) number line.now
         (moved_to machine.new) r.text.items r.refused) }
     ensures counted { IfOk result (λ r. reported (moved_to machine.new) ≤ reported (moved_to machine.old)) }
+    ensures weighed { IfOk result (λ r. weighed (moved_to machine.new) ≤ weighed (moved_to machine.old)) }
 {
     if is_prelude(number, line) {
         return Ok(Reached::on(alloc));

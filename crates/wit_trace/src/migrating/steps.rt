@@ -1,17 +1,17 @@
 //! The steps of locks themselves that go with calls.
 
-ghost use Rattle.std.specs.Prelude.{◌≡◌, true, None, Some, IfOk, OnOk, OnErr, if◌then◌else◌};
+ghost use Rattle.std.specs.Prelude.{◌≡◌, ◌<◌, ◌-◌, ◌^◌, true, None, Some, IfOk, IfSome, OnOk, OnErr, if◌then◌else◌};
 ghost use Rattle.wit_model.specs.Rules.History.{is_held, num, pending};
 ghost use Rattle.wit_model.specs.Rules.State.{state_of, is_seat};
 ghost use Rattle.wit_model.specs.Trace.Moving.{with_feeds};
 ghost use Rattle.wit_model.specs.Trace.Output.{call_of, verb_call};
 ghost use Rattle.wit_model.specs.World.Deeds.{RawDown};
 ghost use Rattle.wit_model.specs.World.Moving.{is_kept, stage_asked};
-ghost use Rattle.wit_model.specs.World.Scenes.{is_free, mode_asked, raw_after};
+ghost use Rattle.wit_model.specs.World.Scenes.{got, has_share, is_free, mode_asked, raw_after, shares_of};
 ghost use Rattle.wit_model.specs.declared.raw_steps.RawStep.TheVariants.{Take, Free, Down};
 ghost use Rattle.wit_grammar.specs.Lines.{as_line};
-ghost use Rattle.wit_world.specs.Steps.{IsReadyFor};
-ghost use Rattle.wit_trace.specs.Migrates.{DoesBeside, GoesWithCall, IsBeside, both, deed, line_of_step, step_asked, step_at};
+ghost use Rattle.wit_trace.specs.Migrates.{DoesBeside, GoesWithCall, IsBeside};
+ghost use Rattle.wit_trace.specs.Migrates.{both, deed, line_of_step, step_asked, step_at, weight};
 
 use crate::migrating::texts::two_lines;
 use std::alloc::{AllocError, Global};
@@ -32,7 +32,8 @@ pub struct LockStep {
 
 /// The step that goes with a line's call, if one does.
 pub fn step_beside(verifier: &Verifier, raw: &Raw, line: &LockLine<&str>) -> Option<LockStep>
-    ensures { GoesWithCall verifier.now raw.now (call_of (as_line line.now)) result }
+    ensures goes { GoesWithCall verifier.now raw.now (call_of (as_line line.now)) result }
+    ensures share { IfSome result (λ k. has_share raw.now (deed k) ≡ true) }
 {
     match *line {
         LockLine::Try {
@@ -54,8 +55,9 @@ fn step_of_verb(
     seat: SeatNo,
     lock: LockNo,
 ) -> Option<LockStep>
-    ensures { is_seat (state_of verifier.now) seat.0 ≡ true
+    ensures goes { is_seat (state_of verifier.now) seat.0 ≡ true
         → IsBeside verifier.now.history raw.now seat.0 (verb_call verb lock) result }
+    ensures share { IfSome result (λ k. has_share raw.now (deed k) ≡ true) }
 {
     match verb {
         Verb::Note => take(verifier, seat, lock),
@@ -78,9 +80,10 @@ fn step_at(seat: SeatNo, lock: LockNo, step: RawStep) -> LockStep
 
 // A lock that is asked for is taken, unless it is held by the record.
 fn take(verifier: &Verifier, seat: SeatNo, lock: LockNo) -> Option<LockStep>
-    ensures { is_seat (state_of verifier.now) seat.0 ≡ true → result
+    ensures taken { is_seat (state_of verifier.now) seat.0 ≡ true → result
         ≡ (if is_held seat.0 lock.0 verifier.now.history then None
         else Some (step_asked verifier.now.history seat lock)) }
+    ensures step { IfSome result (λ k. k.step ≡ Take) }
 {
     if 0 < acquisitions(verifier, seat, lock) {
         return None;
@@ -107,9 +110,10 @@ fn asked_mode(verifier: &Verifier, seat: SeatNo) -> Mode
 
 // A lock is freed where its seat has a share, and no more is recorded than it has.
 fn free(verifier: &Verifier, raw: &Raw, seat: SeatNo, lock: LockNo) -> Option<LockStep>
-    ensures { is_seat (state_of verifier.now) seat.0 ≡ true → result
+    ensures freed { is_seat (state_of verifier.now) seat.0 ≡ true → result
         ≡ (if is_kept verifier.now.history raw.now seat.0 lock.0 then None
         else Some (step_at seat lock Free)) }
+    ensures share { IfSome result (λ k. has_share raw.now (deed k) ≡ true) }
 {
     let shares = raw.shares(seat, lock);
     if shares == 0 || shares < acquisitions(verifier, seat, lock) {
@@ -153,13 +157,12 @@ pub fn do_beside(
     step: LockStep,
     bytes: &[u8],
 ) -> Result<Vec<u8>, LineError>
+    requires few { weight raw.old < 2 ^ 64 - 1 }
+    requires share { has_share raw.old (deed step) ≡ true }
     ensures { DoesBeside step bytes.now raw.old raw.new result }
 {
     if !admits(raw, step) {
         return Err(LineError::Bad(Cause::Fault(Fault::RawNotFree)));
-    }
-    if !is_ready(raw, step) {
-        return Err(LineError::Memory);
     }
     let text = both_lines(alloc, step, bytes)?;
     do_step(raw, step)?;
@@ -179,33 +182,34 @@ fn admits(raw: &Raw, step: LockStep) -> bool
     }
 }
 
-// Whether the lock was made, and its shares can be counted.
-fn is_ready(raw: &Raw, step: LockStep) -> bool
-    ensures { result ≡ true → IsReadyFor raw.now step.seat.0 step.lock.0 step.step }
-{
-    let shares = raw.shares(step.seat, step.lock);
-    match step.step {
-        RawStep::Take | RawStep::TryTake(_) => {
-            0 < step.lock.0 && step.lock.0 as usize <= raw.len() && shares < u64::MAX
-        }
-        RawStep::Free | RawStep::Up | RawStep::Down => 0 < shares,
-    }
-}
-
 // Does the step.
 fn do_step(raw: &mut Raw, step: LockStep) -> Result<(), AllocError>
-    requires { IsReadyFor raw.old step.seat.0 step.lock.0 step.step }
+    requires few { weight raw.old < 2 ^ 64 - 1 }
+    requires free { is_free raw.old (deed step) ≡ true }
+    requires share { has_share raw.old (deed step) ≡ true }
     ensures ok { OnOk result (raw.new ≡ raw_after (deed step) raw.old) }
     ensures err { OnErr result (raw.new ≡ raw.old) }
 {
     match step.step {
-        RawStep::Take => raw.take(step.seat, step.lock, step.asked)?,
-        RawStep::TryTake(mode) => raw.take(step.seat, step.lock, mode)?,
+        RawStep::Take => gain(raw, step.seat, step.lock, step.asked)?,
+        RawStep::TryTake(mode) => gain(raw, step.seat, step.lock, mode)?,
         RawStep::Free => raw.free(step.seat, step.lock),
         RawStep::Up => raw.turn(step.seat, step.lock, Mode::Exclusive),
         RawStep::Down => raw.turn(step.seat, step.lock, Mode::Shared),
     }
     Ok(())
+}
+
+// A seat gets a share more of a lock; nobody gets one of a lock that wasn't made.
+fn gain(raw: &mut Raw, seat: SeatNo, lock: LockNo, mode: Mode) -> Result<(), AllocError>
+    requires { shares_of raw.old seat.0 lock.0 < 2 ^ 64 - 1 }
+    ensures ok { OnOk result (raw.new ≡ got seat.0 lock.0 mode raw.old) }
+    ensures err { OnErr result (raw.new ≡ raw.old) }
+{
+    if lock.0 == 0 || raw.len() < lock.0 as usize {
+        return Ok(());
+    }
+    raw.take(seat, lock, mode)
 }
 
 // A line, and the one of the step that goes with it.

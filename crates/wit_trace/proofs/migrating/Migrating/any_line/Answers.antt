@@ -6,6 +6,7 @@ use Rattle.wit_trace.specs.Migrates.{EndsWith, IsMigrated, Reaches, migrated, mo
 use Rattle.wit_trace.specs.declared.summary.Summary.{Summary}
 use Rattle.wit_trace.proofs.MigrateLemmas.{line-goes, line-bad, ends-follow}
 use Rattle.wit_trace.proofs.MigrateReports.{written_one}
+use Rattle.wit_trace.proofs.Weights.{written_weighs}
 use Rattle.wit_trace.proofs.ReplayLemmas.{if_ok}
 use Rattle.wit_trace.proofs.migrating.Migrating.any_line.Goals as goal
 
@@ -27,6 +28,13 @@ returns-in_ok-join-in-Ok-clause-counted c =
     let one =
     written_one (moved_to c.reach.new.self) (moved_to c.read.new.self) c.args.number c.args.bytes.now c.in-Ok.text.items c.in-Ok.ensures in
     let before = c.in_ok-reached.ensures.counted in
+    omega (arith, one, before)
+
+pub returns-in_ok-join-in-Ok-clause-weighed : goal.returns-in_ok-join-in-Ok-clause-weighed
+returns-in_ok-join-in-Ok-clause-weighed c =
+    let one =
+    written_weighs (moved_to c.reach.new.self) (moved_to c.read.new.self) c.args.number c.args.bytes.now c.in-Ok.text.items c.in-Ok.ensures in
+    let before = c.in_ok-reached.ensures.weighed in
     omega (arith, one, before)
 
 pub returns-in-Err-Bad-clause-step : goal.returns-in-Err-Bad-clause-step

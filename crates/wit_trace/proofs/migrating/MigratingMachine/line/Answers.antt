@@ -1,9 +1,10 @@
 use Rattle.std.proofs.Common.{[], refl}
 use Rattle.wit_model.specs.Trace.Output.{call_of}
 use Rattle.wit_grammar.specs.Lines.{as_line}
-use Rattle.wit_trace.specs.Migrates.{standing}
+use Rattle.wit_trace.specs.Migrates.{reported, standing, weighed, weight}
 use Rattle.wit_trace.proofs.MigrateLemmas.{line-goes, line-writes}
 use Rattle.wit_trace.proofs.MigrateReports.{moved_one}
+use Rattle.wit_trace.proofs.Weights.{both_one, moved_weighs}
 use Rattle.wit_trace.proofs.migrating.MigratingMachine.line.Goals as goal
 
 pub returns-in-Ok-clause-step : goal.returns-in-Ok-clause-step
@@ -19,6 +20,10 @@ returns-in-Ok-clause-step c =
 pub returns-in-Ok-clause-counted : goal.returns-in-Ok-clause-counted
 returns-in-Ok-clause-counted c =
     let b = c.in-Moved.behind in
+    let new = standing c.enter_on_lock.new.self in
+    let call = call_of (as_line c.in-Some.line) in
+    let text = c.in-Ok.text.items in
     rw c.in-Moved.is
-    (moved_one b.verifier b.raw b.remarks (standing c.enter_on_lock.new.self) c.args.bytes.now c.in-Ok.text.items
-    (call_of (as_line c.in-Some.line)) c.in-Ok.ensures)
+    (both_one (reported (standing b)) (weight b.raw) (reported new) (weighed new)
+    (moved_one b.verifier b.raw b.remarks new c.args.bytes.now text call c.in-Ok.ensures)
+    (moved_weighs b.verifier b.raw b.remarks new c.args.bytes.now text call c.in-Ok.ensures))

@@ -1,8 +1,15 @@
-use Rattle.std.proofs.Common.{refl}
+use Rattle.std.proofs.Common.{refl, arith}
 use Rattle.wit_model.specs.declared.calls.Call.TheVariants.{DefineOrder, SetWatch}
 use Rattle.wit_model.specs.Trace.Output.{Asserts, Warns, calls}
 use Rattle.wit_trace.proofs.BesideLemmas.{logged-goes, remark-goes, remark-fails}
+use Rattle.wit_trace.proofs.Weights.{length-le}
 use Rattle.wit_trace.proofs.migrating.behind.Behind.enter.Goals as goal
+
+pub made-requires : goal.made-requires
+made-requires c =
+    let within = length-le c.args.self.now.raw in
+    let few = c.requires.few in
+    omega (arith, within, few)
 
 pub returns-in_err-remark-in-Assert : goal.returns-in_err-remark-in-Assert
 returns-in_err-remark-in-Assert c =

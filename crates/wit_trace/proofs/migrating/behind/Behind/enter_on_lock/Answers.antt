@@ -12,11 +12,11 @@ returns-in_err-_reply c =
 pub returns-in-Some : goal.returns-in-Some
 returns-in-Some c =
     call-made c.args.self.now.verifier c.call_on_lock.new.verifier c.args.self.now.raw c.do_beside.new.raw c.args.self.now.remarks
-    c.args.bytes.now c.args.line c.in_ok-_reply._reply (Some c.in-Some.step) c.do_beside.result c.in-Some.ensures
+    c.args.bytes.now c.args.line c.in_ok-_reply._reply (Some c.in-Some.step) c.do_beside.result c.in-Some.ensures.goes
     c.in_ok-_reply.ensures c.do_beside.ensures
 
 pub returns : goal.returns
 returns c =
     call-made c.args.self.now.verifier c.call_on_lock.new.verifier c.args.self.now.raw c.args.self.now.raw c.args.self.now.remarks
-    c.args.bytes.now c.args.line c.in_ok-_reply._reply None (Ok c.in_ok-one_line-in-None.field-0) c.in-None.ensures
+    c.args.bytes.now c.args.line c.in_ok-_reply._reply None (Ok c.in_ok-one_line-in-None.field-0) c.in-None.ensures.goes
     c.in_ok-_reply.ensures (refl, c.in_ok-one_line-in-None.ensures)
