@@ -21,7 +21,7 @@ use Rattle.wit_model.specs.World.Moving.{step_before, step_behind, deed_beside, 
 use Rattle.wit_model.specs.World.Scenes.{RawLock, is_free, mode_asked, raw_after}
 use Rattle.wit_model.specs.Trace.Moving as moving
 use Rattle.wit_model.specs.Trace.Moving.{Moving, Written, Outcome, with_feeds, moved_text}
-use Rattle.wit_model.specs.Trace.Moving.{kept_lines, moving_from, reached, TellsTheSame}
+use Rattle.wit_model.specs.Trace.Moving.{kept_lines, moving_from, reached}
 use Rattle.wit_model.specs.Trace.Output as output
 use Rattle.wit_model.specs.Trace.Output.{BadLine, LineCall, Logs, LogsAt, total_of}
 use Rattle.wit_model.specs.Trace.Spelling.{spelling}
@@ -56,7 +56,8 @@ moved_to (Moved behind) = standing behind
 abbrev pub reported : Moving → ℕ
 reported m = (output.summed (moving.read_to m) None).reports
 
--- a lock weighs one, and each share of it one more
+-- a lock weighs one, and each share of it one more: so a line adds one at most, and all of them can
+-- be counted
 abbrev pub lock_weight : RawLock → ℕ
 lock_weight k = 1 + sum_by (λ (x : ℕ × ℕ). x.1) k.holders
 
@@ -94,14 +95,6 @@ MigratesFrom m number input text summary =
 -- what it makes of a trace
 abbrev pub Migrates : List ℕ → List ℕ → Summary → Type 0
 Migrates = MigratesFrom moving.Unmoved 1
-
--- both traces are whole lines, and they tell the same: the first in the first version, and what is
--- written of it in the second
-pub record KeepsStory (input text : List ℕ) (summary : Summary) : Type 0 where
-  pub migrated : Migrates input text summary
-  pub input_whole : (text_of input).tail ≡ []
-  pub text_whole : (text_of text).tail ≡ []
-  pub same : TellsTheSame (text_of input).lines (text_of text).lines
 
 -- ---- a line
 
