@@ -1,17 +1,13 @@
 -- What a line's call and the step that goes with it come to.
-use Rattle.std.proofs.Common.{◌≡◌, ℕ, ◌+◌, Bool, true, false, cond, List, [], ◌∷◌, ◌++◌, Option, None, Some, Result, Ok, Err, IfOk, refl, sym, ap, ap₂, ◌∙◌, subst, inl, inr, ◌⊎◌}
+use Rattle.std.proofs.Common.{◌≡◌, ℕ, Bool, true, false, cond, List, [], ◌∷◌, ◌++◌, Option, None, Some, Result, Ok, Err, refl, sym, ap, ap₂, ◌∙◌, subst, inl, inr}
 use Rattle.std.specs.Borrow.{Bor}
 use Rattle.std.specs.Global.{Vec}
 use Rattle.std.specs.Result.{IsErrAnd}
 use Rattle.std.proofs.lemmas.Bool.{cases_Bool, true≢false}
 use Rattle.wit_model.specs.declared.calls.Call.{Call}
-use Rattle.wit_model.specs.declared.calls.Call.TheVariants.{Init}
-use Rattle.wit_model.specs.declared.calls.Entry.{Entry}
-use Rattle.wit_model.specs.declared.calls.NewLock.{NewLock}
 use Rattle.wit_model.specs.declared.calls.Reply.{Reply}
-use Rattle.wit_model.specs.declared.calls.Reply.TheVariants.{Made}
 use Rattle.wit_model.specs.declared.faults.Fault.{Fault}
-use Rattle.wit_model.specs.declared.faults.Fault.TheVariants.{OutOfMemory, RawNotFree}
+use Rattle.wit_model.specs.declared.faults.Fault.TheVariants.{RawNotFree}
 use Rattle.wit_model.specs.declared.lines.Cause.{Cause}
 use Rattle.wit_model.specs.declared.lines.Cause.TheVariants as why
 use Rattle.wit_model.specs.declared.lines.Line.TheVariants.{OnLock}
@@ -22,27 +18,27 @@ use Rattle.wit_model.specs.declared.lines.Verb.TheVariants as verb
 use Rattle.wit_model.specs.declared.locks.LockNo.{LockNo}
 use Rattle.wit_model.specs.Rules.Files.{naming_answer, files_after}
 use Rattle.wit_model.specs.Rules.State.{Story, state_of}
-use Rattle.wit_model.specs.Rules.Step.{AnswersOrFails, IsEntered, answer_of, grown, is_logged}
+use Rattle.wit_model.specs.Rules.Step.{answer_of, grown, is_logged}
 use Rattle.wit_model.specs.Trace.Moving.{Moving, Moved, Outcome, with_feeds, kept_lines, step_line, answered, answered_at, alone, moves}
 use Rattle.wit_model.specs.Trace.Moving as moving
-use Rattle.wit_model.specs.Trace.Output.{LineCall, Logs, LogsAt, Asserts, Warns, Steps, NoCall, Reading, called, calls, call_of, makes, said, verb_call}
+use Rattle.wit_model.specs.Trace.Output.{LineCall, Logs, LogsAt, Asserts, Warns, Steps, NoCall, Reading, called, calls, call_of, makes, verb_call}
 use Rattle.wit_model.specs.Trace.Output as output
 use Rattle.wit_model.specs.Trace.Spelling.{spelling}
 use Rattle.wit_model.specs.World.Deeds.{Deed}
-use Rattle.wit_model.specs.World.Moving.{step_before, step_behind, deed_beside, is_free_beside, raw_beside}
+use Rattle.wit_model.specs.World.Moving.{is_free_beside, raw_beside}
 use Rattle.wit_model.specs.World.Moving as model
-use Rattle.wit_model.specs.World.Scenes.{RawLock, nobodys, is_free, raw_after, raw_called, raw_then}
+use Rattle.wit_model.specs.World.Scenes.{RawLock, is_free, raw_after, raw_called, raw_then}
 use Rattle.wit_model.proofs.Histories.Legal.{seat_accepted}
-use Rattle.wit_grammar.specs.Lines.{Refuses, as_line}
+use Rattle.wit_grammar.specs.Lines.{as_line}
 use Rattle.wit_grammar.specs.declared.errors.LineError.{LineError}
 use Rattle.wit_grammar.specs.declared.errors.LineError.TheVariants.{Bad, Memory}
-use Rattle.wit_trace.specs.Migrates.{DoesBeside, Enters, GoesWithCall, IsBeside, Writes, before_of, behind_of, both, deed, is_first, line_of_step}
-use Rattle.wit_trace.specs.Replays.{Calls, FailsFor, IsBadFor, Remarks}
+use Rattle.wit_trace.specs.Migrates.{DoesBeside, Enters, GoesWithCall, IsBeside, before_of, behind_of, both, deed, is_first, line_of_step}
+use Rattle.wit_trace.specs.Replays.{Calls, FailsFor, IsBadFor}
 use Rattle.wit_trace.specs.declared.migrating.steps.LockStep.{LockStep}
 
 -- ---- a line that is bad
 
-bad-alone : (raw : List RawLock) (bytes : List ℕ) (p q : output.Progress) (cause : Cause) (o : output.Outcome)
+pub bad-alone : (raw : List RawLock) (bytes : List ℕ) (p q : output.Progress) (cause : Cause) (o : output.Outcome)
     → IsBadFor o p q cause → alone raw bytes o ≡ moving.Bad cause
 bad-alone raw bytes p q cause (output.Goes r text) bad = elim bad [ ]
 bad-alone raw bytes p q cause (output.Bad why) bad = ap moving.Bad (sym bad.0)
@@ -71,7 +67,7 @@ bad-moves s raw m bytes p q cause (LogsAt t file call) bad =
 bad-moves s raw m bytes p q cause c bad = bad-alone raw bytes p q cause (calls s m c) bad
 
 -- what is passed on of a failure
-failed : (due : Outcome) (old new : Moving) (e : LineError) (r : Result (Vec ℕ) LineError)
+pub failed : (due : Outcome) (old new : Moving) (e : LineError) (r : Result (Vec ℕ) LineError)
     → kept_lines new ≡ kept_lines old → ((cause : Cause) → e ≡ Bad cause → due ≡ moving.Bad cause)
     → IsErrAnd r (λ x. x ≡ e) → Enters due old new r
 failed due old new e (Ok text) same bad is = elim is [ ]
@@ -94,7 +90,7 @@ call-refused s new raw m bytes c e r fails is =
 -- ---- a call that was made
 
 -- it makes no lock
-abbrev IsPlain : Call → Type 0
+abbrev pub IsPlain : Call → Type 0
 IsPlain call = (raw : List RawLock) → raw_called call raw ≡ raw
 
 abbrev pub IsPlainCall : LineCall → Type 0
@@ -148,7 +144,7 @@ module _ (s : Story) (raw : List RawLock) (m : ℕ) (bytes : List ℕ) (t : ℕ)
         → answered s raw m bytes t call (answer_of s t call) ≡ with_steps (before_of k) (behind_of k)
     stepped k b = ap (λ a. answered s raw m bytes t call a) ok ∙ ap₂ with_steps b.first b.last
 
-    made-alone : IsBeside s.history raw t call None
+    pub made-alone : IsBeside s.history raw t call None
         → answered s raw m bytes t call (answer_of s t call) ≡ moving.Goes (Moved new raw m) (bytes ∷ [])
     made-alone b =
         stepped None b
@@ -281,66 +277,3 @@ pub call-made : (s new : Story) (raw raw' : List RawLock) (m : ℕ) (bytes : Lis
     → Enters (moves s raw m bytes (call_of (as_line line))) (Moved s raw m) (Moved new raw' m) res
 call-made s new raw raw' m bytes line reply k res goes made does =
     made-line s new raw raw' m bytes (output.told new reply) k res does (call_of (as_line line)) (plain-line line) goes (made m)
-
--- ---- other calls
-
-abbrev Apart : Call → Type 0
-Apart call = (h : List Entry) (raw : List RawLock) (t : ℕ)
-    → (step_before h t call ≡ None) × (step_behind h raw t call ≡ None)
-
-module _ (s new : Story) (raw : List RawLock) (m : ℕ) (bytes : List ℕ) (t : ℕ) (call : Call) where
-  pub logged-goes : (reply : Reply) (text : List ℕ) → Apart call → IsPlain call
-      → AnswersOrFails s t call (Ok reply) new → text ≡ with_feeds (bytes ∷ [])
-      → Writes (answered s raw m bytes t call (answer_of s t call)) (Moved new raw m) text
-  logged-goes reply text apart plain made is = record {
-    lines = bytes ∷ [];
-    goes = made-alone s raw m bytes t call reply new made.0 made.1 plain
-        (record { first = (apart s.history raw t).0; last = (apart s.history raw t).1; own = tt });
-    written = is;
-  }
-
-  pub logged-fails : (fault : Fault) (raw' : List RawLock) (res : Result (Vec ℕ) LineError)
-      → AnswersOrFails s t call (Err fault) new → IsErrAnd res (Refuses fault)
-      → Enters (answered s raw m bytes t call (answer_of s t call)) (Moved s raw m) (Moved new raw' m) res
-  logged-fails fault raw' (Ok text) fails is = elim is [ ]
-  logged-fails fault raw' (Err Memory) fails is = tt
-  logged-fails fault raw' (Err (Bad cause)) fails is = (go fails.0, refl)
-    where
-      go : (answer_of s t call ≡ Err fault) ⊎ ((fault ≡ OutOfMemory) × IsEntered (answer_of s t call))
-          → answered s raw m bytes t call (answer_of s t call) ≡ moving.Bad cause
-      go (inl e) = ap (λ a. answered s raw m bytes t call a) e ∙ ap moving.Bad (sym is.0)
-      go (inr none) = absurd (is.1 none.0)
-
-pub init-goes : (s new : Story) (raw raw' : List RawLock) (m : ℕ) (bytes : List ℕ) (t : ℕ) (lock : NewLock) (n : LockNo) (text : List ℕ)
-    → AnswersOrFails s t (Init lock) (Ok (Made n)) new → raw' ≡ raw ++ nobodys ∷ [] → text ≡ with_feeds (bytes ∷ [])
-    → Writes (answered s raw m bytes t (Init lock) (answer_of s t (Init lock))) (Moved new raw' m) text
-init-goes s new raw raw' m bytes t lock n text made more is = record {
-  lines = bytes ∷ [];
-  goes = ap (λ a. answered s raw m bytes t (Init lock) a) made.0
-      ∙ ap₂ (λ st rs. moving.Goes (Moved st rs m) (bytes ∷ [])) (sym made.1) (sym more);
-  written = is;
-}
-
--- ---- assertions and warnings
-
-module _ (s : Story) (raw : List RawLock) (m : ℕ) (bytes : List ℕ) (due : ℕ → output.Outcome) where
-  pub remark-goes : (count : ℕ) (told : Vec ℕ) (text answer : Result (Vec ℕ) LineError) (written : List ℕ) → Remarks s due answer
-      → text ≡ answer → text ≡ Ok told → IfOk answer (λ t. count ≡ m + output.said t.items)
-      → written ≡ with_feeds (bytes ∷ []) → Writes (alone raw bytes (due m)) (Moved s raw count) written
-  remark-goes count told text answer written remarks same ok counts is =
-      let answers : answer ≡ Ok told = sym same ∙ ok in
-      let due_is : due m ≡ output.remarks s m told.items = subst (Remarks s due) answers remarks m in
-      let more : count ≡ m + output.said told.items = subst (λ a. IfOk a (λ (t : Vec ℕ). count ≡ m + output.said t.items)) answers counts in
-      record {
-        lines = bytes ∷ [];
-        goes = ap (λ o. alone raw bytes o) due_is ∙ ap (λ n. moving.Goes (Moved s raw n) (bytes ∷ [])) (sym more);
-        written = is;
-      }
-
-  pub remark-fails : (count : ℕ) (e : LineError) (text answer res : Result (Vec ℕ) LineError) → Remarks s due answer
-      → text ≡ answer → text ≡ Err e → IsErrAnd res (λ x. x ≡ e)
-      → Enters (alone raw bytes (due m)) (Moved s raw m) (Moved s raw count) res
-  remark-fails count e text answer res remarks same err is =
-      let fails = subst (Remarks s due) (sym same ∙ err) remarks m in
-      failed (alone raw bytes (due m)) (Moved s raw m) (Moved s raw count) e res refl
-      (λ cause bad. bad-alone raw bytes (Reading s m) (Reading s m) cause (due m) (subst (FailsFor (due m) (Reading s m) (Reading s m)) bad fails)) is

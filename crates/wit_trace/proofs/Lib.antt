@@ -1,3 +1,4 @@
+pub mod AloneLemmas
 pub mod AnswerLemmas
 pub mod BesideLemmas
 pub mod ListedTypes

@@ -1,5 +1,5 @@
 -- What the locks weigh: a line that is migrated makes a lock, or gives a share, or neither.
-use Rattle.std.proofs.Common.{◌≡◌, ℕ, ◌+◌, ◌-◌, ◌<◌, ◌≤◌, max, Bool, true, false, cond, ◌==◌, nat_lt, nat_le, List, [], ◌∷◌, ◌++◌, length, get_or, set, sum_by, unwrap_or, Option, None, Some, Result, Ok, Err, refl, sym, subst, ap, inl, inr, arith}
+use Rattle.std.proofs.Common.{◌≡◌, ℕ, ◌+◌, ◌-◌, ◌<◌, ◌≤◌, max, Bool, true, false, cond, ◌==◌, nat_lt, nat_le, List, [], ◌∷◌, ◌++◌, length, get_or, set, sum_by, unwrap_or, Option, None, Some, Result, Ok, Err, refl, sym, subst, inl, inr, arith}
 use Rattle.std.proofs.lemmas.Bool.{cases_Bool, and_parts, ltb-true, ltb-false, leb-true}
 use Rattle.std.proofs.lemmas.List.{set_past}
 use Rattle.std.proofs.lemmas.List.Sums.{sum_by-cons, sum_by-set, sum_by_push, get_or-le-sum_by}
@@ -30,9 +30,9 @@ use Rattle.wit_model.specs.Trace.Reading.{line_of}
 use Rattle.wit_model.specs.Trace.Spelling.{spelling}
 use Rattle.wit_model.specs.World.Deeds.{RawDown}
 use Rattle.wit_model.specs.World.Moving.{LockStep, is_free_beside, is_kept, raw_beside, raw_moved, stage_asked, step_before, step_behind}
-use Rattle.wit_model.specs.World.Scenes.{RawLock, deed_of, got, freed, turned, is_free, nobodys, one_fewer, one_more, raw_after, raw_of, shares_among, shares_of}
+use Rattle.wit_model.specs.World.Scenes.{RawLock, deed_of, got, turned, is_free, nobodys, one_fewer, one_more, raw_after, raw_of, shares_among, shares_of}
 use Rattle.wit_model.specs.World.Stages.{Stage}
-use Rattle.wit_model.proofs.Numbered.{with_changed-at, with_number-none, with_number-or}
+use Rattle.wit_model.proofs.Numbered.{with_number-none, with_number-or}
 use Rattle.wit_trace.specs.Migrates.{Writes, lock_weight, weighed, weight}
 
 -- ---- the shares of a lock
@@ -47,7 +47,8 @@ among-le : (t : ℕ) (xs : List (ℕ × ℕ)) → shares_among t xs ≤ counts x
 among-le t [] = omega arith
 among-le t (x ∷ xs) = by (x.0 == t) (among-le t xs)
   where
-    by : (b : Bool) → shares_among t xs ≤ counts xs → cond b x.1 (shares_among t xs) ≤ counts (x ∷ xs)
+    by : (b : Bool) → shares_among t xs ≤ counts xs
+        → cond b x.1 (shares_among t xs) ≤ counts (x ∷ xs)
     by true rest = omega (arith, sum_by-cons count x xs)
     by false rest = omega (arith, rest, sum_by-cons count x xs)
 
@@ -90,16 +91,14 @@ shares-le raw t l =
           (omega arith)
     ]
 
--- nobody gets a share of a lock that wasn't made
-pub unmade-stays : (raw : List RawLock) (l : ℕ) (k : RawLock) → length raw < l → with_changed raw l k ≡ raw
-unmade-stays raw l k past = rw (with_changed-at raw l k (omega (arith, past))) (set_past raw (l - 1) k (omega (arith, past)))
-
 -- one lock is another that weighs one more at most
-changed-le : (raw : List RawLock) (l : ℕ) (k : RawLock) → lock_weight k ≤ lock_weight (raw_of raw l) + 1
+changed-le : (raw : List RawLock) (l : ℕ) (k : RawLock)
+    → lock_weight k ≤ lock_weight (raw_of raw l) + 1
     → weight (with_changed raw l k) ≤ weight raw + 1
 changed-le raw l k more = by (nat_lt 0 l) refl
   where
-    set-le : 0 < l → (b : Bool) → nat_lt (l - 1) (length raw) ≡ b → weight (set raw (l - 1) k) ≤ weight raw + 1
+    set-le : 0 < l → (b : Bool) → nat_lt (l - 1) (length raw) ≡ b
+        → weight (set raw (l - 1) k) ≤ weight raw + 1
     set-le low true is =
         let within = ltb-true (l - 1) (length raw) is in
         let here = subst (λ j. lock_weight k ≤ lock_weight j + 1) (with_number-or raw l nobodys low) more in
@@ -135,7 +134,8 @@ stepped-le at t l step raw = by step
 
 -- ---- a call, and the steps beside it
 
-beside-le : (h : List Entry) (t : ℕ) (k : Option LockStep) (raw : List RawLock) → weight (raw_beside h t k raw) ≤ weight raw + 1
+beside-le : (h : List Entry) (t : ℕ) (k : Option LockStep) (raw : List RawLock)
+    → weight (raw_beside h t k raw) ≤ weight raw + 1
 beside-le h t None raw = omega arith
 beside-le h t (Some x) raw = stepped-le (stage_asked (pending t h)) t x.0.0 x.1 raw
 
@@ -143,7 +143,8 @@ both-le : (b : Bool) (raw : List RawLock) (n : ℕ) → weight raw ≤ n → wei
 both-le true raw n le = le
 both-le false raw n le = le
 
-made-le : (b : Bool) (raw : List RawLock) → weight (cond b (raw ++ nobodys ∷ []) raw) ≤ weight raw + 1
+made-le : (b : Bool) (raw : List RawLock)
+    → weight (cond b (raw ++ nobodys ∷ []) raw) ≤ weight raw + 1
 made-le true raw = omega (arith, sum_by_push lock_weight raw nobodys)
 made-le false raw = omega arith
 
@@ -151,10 +152,12 @@ pub moved-le : (h : List Entry) (raw : List RawLock) (t : ℕ) (call : Call) (r 
     → weight (raw_moved h raw t call r) ≤ weight raw + 1
 moved-le h raw t call r = by call
   where
-    before : (k : Option LockStep) → weight (cond (is_logged r) (raw_beside h t k raw) (raw_beside h t k raw)) ≤ weight raw + 1
+    before : (k : Option LockStep)
+        → weight (cond (is_logged r) (raw_beside h t k raw) (raw_beside h t k raw)) ≤ weight raw + 1
     before k = both-le (is_logged r) (raw_beside h t k raw) (weight raw + 1) (beside-le h t k raw)
 
-    behind : (k : Option LockStep) → weight (raw_beside h t k (cond (is_logged r) raw raw)) ≤ weight raw + 1
+    behind : (k : Option LockStep)
+        → weight (raw_beside h t k (cond (is_logged r) raw raw)) ≤ weight raw + 1
     behind k =
         let le = both-le (is_logged r) raw (weight raw) (omega arith) in
         omega (arith, beside-le h t k (cond (is_logged r) raw raw), le)
@@ -186,14 +189,16 @@ answered_weighs s raw m bytes t call (Ok r) = go (is_free_beside s.history raw t
     go true = moved-le s.history raw t call r
     go false = tt
 
-at_weighs : (s : Story) (raw : List RawLock) (m : ℕ) (bytes : List ℕ) (t : ℕ) (call : ℕ → Call) (file : List ℕ) (a : Result ℕ Fault)
+at_weighs : (s : Story) (raw : List RawLock) (m : ℕ) (bytes : List ℕ) (t : ℕ) (call : ℕ
+    → Call) (file : List ℕ) (a : Result ℕ Fault)
     → WeighsOne (weight raw) (answered_at s raw m bytes t call file a)
 at_weighs s raw m bytes t call file (Err fault) = tt
 at_weighs s raw m bytes t call file (Ok f) =
     let named : Story = record s { files = files_after file s.files } in
     answered_weighs named raw m bytes t (call f) (answer_of named t (call f))
 
-alone_weighs : (raw : List RawLock) (bytes : List ℕ) (o : output.Outcome) → WeighsOne (weight raw) (alone raw bytes o)
+alone_weighs : (raw : List RawLock) (bytes : List ℕ) (o : output.Outcome)
+    → WeighsOne (weight raw) (alone raw bytes o)
 alone_weighs raw bytes (output.Goes (output.Reading s m) text) = omega arith
 alone_weighs raw bytes (output.Goes p text) = tt
 alone_weighs raw bytes (output.Bad cause) = tt
@@ -204,7 +209,8 @@ moves_weighs s raw m bytes (Logs t call) = answered_weighs s raw m bytes t call 
 moves_weighs s raw m bytes (LogsAt t file call) = at_weighs s raw m bytes t call file (naming_answer s file)
 moves_weighs s raw m bytes c = alone_weighs raw bytes (calls s m c)
 
-keeps_weighs : (kept : List (List ℕ)) (line : List ℕ) (o : output.Outcome) → WeighsOne 0 (keeps kept line o)
+keeps_weighs : (kept : List (List ℕ)) (line : List ℕ) (o : output.Outcome)
+    → WeighsOne 0 (keeps kept line o)
 keeps_weighs kept line (output.Goes (output.Opening p) text) = omega arith
 keeps_weighs kept line (output.Goes p text) = tt
 keeps_weighs kept line (output.Bad cause) = tt
@@ -214,7 +220,8 @@ header_weighs : (sizes : Sizes) (line : List ℕ) (fits : Bool)
 header_weighs sizes line true = omega arith
 header_weighs sizes line false = tt
 
-entered_weighs : (m : Moving) (n : ℕ) (bytes : List ℕ) (line : Line) → WeighsOne (weighed m) (moving.entered m n bytes line)
+entered_weighs : (m : Moving) (n : ℕ) (bytes : List ℕ) (line : Line)
+    → WeighsOne (weighed m) (moving.entered m n bytes line)
 entered_weighs Unmoved n bytes (Header One s t l c) =
     header_weighs (sizes_of s t l c output.log_limit) (spelling (Header Two s t l c)) (are_within (sizes_of s t l c output.log_limit))
 entered_weighs Unmoved n bytes (Header Two s t l c) = tt
@@ -225,12 +232,14 @@ entered_weighs (Moved s raw m) n bytes line = moves_weighs s raw m bytes (call_o
 outcome_weighs : (m : Moving) (n : ℕ) (bytes : List ℕ) → WeighsOne (weighed m) (outcome m n bytes)
 outcome_weighs m n bytes = go (nat_lt 4096 (length bytes)) (line_of bytes)
   where
-    go : (long : Bool) (o : Option Line) → WeighsOne (weighed m) (cond long (Bad why.Long) (moving.read_as m n bytes o))
+    go : (long : Bool) (o : Option Line)
+        → WeighsOne (weighed m) (cond long (Bad why.Long) (moving.read_as m n bytes o))
     go true o = tt
     go false None = tt
     go false (Some line) = entered_weighs m n bytes line
 
-pub written_weighs : (m new : Moving) (n : ℕ) (bytes text : List ℕ) → Writes (outcome m n bytes) new text
+pub written_weighs : (m new : Moving) (n : ℕ) (bytes text : List ℕ)
+    → Writes (outcome m n bytes) new text
     → weighed new ≤ weighed m + 1
 written_weighs m new n bytes text w = subst (WeighsOne (weighed m)) w.goes (outcome_weighs m n bytes)
 

@@ -1,7 +1,7 @@
 use Rattle.std.proofs.Common.{refl, arith}
 use Rattle.wit_model.specs.declared.calls.Call.TheVariants.{DefineOrder, SetWatch}
 use Rattle.wit_model.specs.Trace.Output.{Asserts, Warns, calls}
-use Rattle.wit_trace.proofs.BesideLemmas.{logged-goes, remark-goes, remark-fails}
+use Rattle.wit_trace.proofs.AloneLemmas.{logged-goes, remark-goes, remark-fails}
 use Rattle.wit_trace.proofs.Weights.{length-le}
 use Rattle.wit_trace.proofs.migrating.behind.Behind.enter.Goals as goal
 
