@@ -1,12 +1,15 @@
 //! The migration of a trace from the first version of the format to the second.
 
-ghost use Rattle.std.specs.Prelude.{◌≡◌, ◌+◌, ◌-◌, ◌<◌, ◌≤◌, ◌^◌, ◌++◌, ℕ, List, length, max, false, None, Some, Err, IfOk, OnOk, OnErr};
+ghost use Rattle.std.specs.Prelude.{◌≡◌, ◌+◌, ◌-◌, ◌<◌, ◌≤◌, ◌^◌, ◌++◌, ℕ, List, length, max};
+ghost use Rattle.std.specs.Prelude.{false, None, Some, Err, IfOk, OnOk, OnErr};
 ghost use Rattle.wit_grammar.specs.declared.parse.TheConstants.{LONGEST};
-ghost use Rattle.wit_model.specs.Trace.Moving.{kept_lines, moving_from, outcome, read_to, with_feeds};
+ghost use Rattle.wit_model.specs.Trace.Moving.{kept_lines, moving_from, outcome, read_to};
+ghost use Rattle.wit_model.specs.Trace.Moving.{with_feeds};
 ghost use Rattle.wit_model.specs.Trace.Moving as moving;
 ghost use Rattle.wit_model.specs.Trace.Output.{bad_text, summed};
 ghost use Rattle.wit_trace.specs.Machine.{Follows};
-ghost use Rattle.wit_trace.specs.Migrates.{EndsWith, Enters, Migrates, MigratesFrom, Reaches, migrated, moved_to, reported, some_migration, weighed};
+ghost use Rattle.wit_trace.specs.Migrates.{EndsWith, Enters, Migrates, MigratesFrom, Reaches};
+ghost use Rattle.wit_trace.specs.Migrates.{migrated, moved_to, reported, some_migration, weighed};
 ghost use Rattle.wit_trace.specs.Replays.{total};
 ghost use Rattle.wit_trace.specs.Stream.{ReadsToEnd, WritesFront, WritesLines, WritesOutput};
 
@@ -32,16 +35,16 @@ use texts::{join, whole_lines};
 use wit_grammar::{LineError, parse_line, parse_lock_line};
 use wit_model::{Boxed, Cause, Line, View};
 
-/// Reads a trace of the first version, and writes it as one of the second: its own lines, and between
-/// them the steps of the locks themselves that its calls need. A lock is taken before it is noted,
-/// unless its seat holds it by the record, and before a try; turned exclusive before an upgrade; freed
-/// behind an unlock, unless more was recorded than the seat has shares; and turned shared behind a
-/// downgrade where the seat has it exclusively.
+/// Reads a trace of the first version, and writes it as one of the second: its own lines, and
+/// between them the steps of the locks themselves that its calls need. A lock is taken before it is
+/// noted, unless its seat holds it by the record, and before a try; turned exclusive before an
+/// upgrade; freed behind an unlock, unless more was recorded than the seat has shares; and turned
+/// shared behind a downgrade where the seat has it exclusively.
 ///
-/// At a bad line the writing ends: all lines before it are written, then its number and cause. A line
-/// is bad too where its step can't be done, as two seats can't have a mutex at once; its own fault
-/// comes first. Nothing of the prelude is written before all of it is known to be good, but what
-/// stands before a list that is refused.
+/// At a bad line the writing ends: all lines before it are written, then its number and cause. A
+/// line is bad too where its step can't be done, as two seats can't have a mutex at once; its own
+/// fault comes first. Nothing of the prelude is written before all of it is known to be good, but
+/// what stands before a list that is refused.
 ///
 /// # Errors
 /// `Read` where the reader failed, `Write` where the writer failed, took no byte or didn't flush,
@@ -56,9 +59,11 @@ pub fn migrate<R: BufRead, W: Write>(
     ensures err { OnErr result (WritesFront Migrates
         (R.remaining input.old) (W.contents output.old) (W.contents output.new)) }
     ensures taken { IfOk result (ReadsToEnd MigratesFrom moving.Unmoved
-        (R.remaining input.old) (R.remaining input.new) (W.contents output.old) (W.contents output.new)) }
+        (R.remaining input.old) (R.remaining input.new)
+        (W.contents output.old) (W.contents output.new)) }
     ensures told { result ≡ Err ReplayError.Read → WritesLines MigratesFrom moving.Unmoved
-        (R.remaining input.old) (R.remaining input.new) (W.contents output.old) (W.contents output.new) }
+        (R.remaining input.old) (R.remaining input.new)
+        (W.contents output.old) (W.contents output.new) }
 {
     let mut machine = Migrating::Unmoved;
     run(
@@ -108,8 +113,10 @@ impl Migrating {
     fn reach(&mut self, alloc: Global, number: u64, line: &[u8]) -> Result<Reached, AllocError>
         ensures stands { IfOk result (λ r. Reaches (moved_to self.old) number line.now
             (moved_to self.new) r.text.items r.refused) }
-        ensures counted { IfOk result (λ r. reported (moved_to self.new) ≤ reported (moved_to self.old)) }
-        ensures weighed { IfOk result (λ r. weighed (moved_to self.new) ≤ weighed (moved_to self.old)) }
+        ensures counted { IfOk result (λ r.
+            reported (moved_to self.new) ≤ reported (moved_to self.old)) }
+        ensures weighed { IfOk result (λ r.
+            weighed (moved_to self.new) ≤ weighed (moved_to self.old)) }
     {
         match self {
             Migrating::Keeping { .. } => preludes::reach(alloc, self, number, line),
@@ -122,7 +129,8 @@ impl Migrating {
         requires room { reported (moved_to self.old) < 2 ^ 64 - 1 }
         requires few { weighed (moved_to self.old) < 2 ^ 64 - 1 }
         requires short { length bytes.now ≤ LONGEST }
-        ensures { Enters (outcome (moved_to self.old) number bytes.now) (moved_to self.old) (moved_to self.new) result }
+        ensures { Enters (outcome (moved_to self.old) number bytes.now)
+            (moved_to self.old) (moved_to self.new) result }
     {
         let line = parse_line(alloc, bytes)?;
         self.enter(alloc, number, line, bytes)
@@ -149,8 +157,8 @@ impl Migrating {
         }
     }
 
-    // Ends at a bad line, where this was found before it; behind a text that is still to be written.
-    // Nothing is kept any more.
+    // Ends at a bad line, where this was found before it; behind a text that is still to be
+    // written. Nothing is kept any more.
     #[cold]
     #[inline(never)]
     fn ended(
@@ -161,8 +169,8 @@ impl Migrating {
         number: u64,
         cause: Cause,
     ) -> Result<(Vec<u8>, Summary), AllocError>
-        ensures text { IfOk result (λ r. r.0.items
-            ≡ before.items ++ (with_feeds (kept_lines (moved_to self.old)) ++ bad_text number cause)) }
+        ensures text { IfOk result (λ r. r.0.items ≡ before.items
+            ++ (with_feeds (kept_lines (moved_to self.old)) ++ bad_text number cause)) }
         ensures summary { IfOk result (λ r. r.1 ≡ record found { bad = Some (number, cause) }) }
         ensures over { OnOk result (moved_to self.new ≡ moving.Unmoved) }
     {
@@ -178,7 +186,8 @@ impl Migrating {
 
     // The lines that are still to be written.
     fn last_lines(&mut self, alloc: Global) -> Result<Vec<u8>, AllocError>
-        ensures text { IfOk result (λ text. text.items ≡ with_feeds (kept_lines (moved_to self.old))) }
+        ensures text { IfOk result (λ text.
+            text.items ≡ with_feeds (kept_lines (moved_to self.old))) }
         ensures over { moved_to self.new ≡ moving.Unmoved }
     {
         match mem::replace(self, Migrating::Unmoved) {
@@ -211,8 +220,10 @@ impl Migrating {
         requires few { weighed (moved_to self.old) < number }
         requires short { length bytes.now ≤ LONGEST }
         ensures step { IfOk result (Follows migrated self.old self.new number bytes.now) }
-        ensures counted { IfOk result (λ s. reported (moved_to self.new) ≤ reported (moved_to self.old) + 1) }
-        ensures weighed { IfOk result (λ s. weighed (moved_to self.new) ≤ weighed (moved_to self.old) + 1) }
+        ensures counted { IfOk result (λ s.
+            reported (moved_to self.new) ≤ reported (moved_to self.old) + 1) }
+        ensures weighed { IfOk result (λ s.
+            weighed (moved_to self.new) ≤ weighed (moved_to self.old) + 1) }
     {
         let reached = self.reach(alloc, number, bytes)?;
         let found = self.found();
@@ -297,5 +308,6 @@ impl Machine for Migrating {
         }
     }
 
-    ghost answers = { λ view m n lines tail. some_migration (moving_from (moved_to m) n lines tail) };
+    ghost answers = { λ view m n lines tail.
+        some_migration (moving_from (moved_to m) n lines tail) };
 }

@@ -85,8 +85,7 @@ impl Behind {
         requires counted { self.old.remarks < 2 ^ 64 - 1 }
         requires few { weight self.old.raw < 2 ^ 64 - 1 }
         ensures { Enters (moves self.old.verifier self.old.raw self.old.remarks bytes.now
-            (call_of line))
-            (standing self.old) (standing self.new) result }
+            (call_of line)) (standing self.old) (standing self.new) result }
     {
         match line {
             Line::OnLock(line) => self.enter_on_lock(alloc, borrowed(&line), bytes),

@@ -3,7 +3,8 @@
 ghost use Rattle.std.specs.Prelude.{◌≡◌, ◌-◌, ◌≤◌, ◌++◌, ◌∷◌, [], take, false, IfOk, OnOk};
 ghost use Rattle.wit_model.specs.Trace.Moving.{entered};
 ghost use Rattle.wit_model.specs.Trace.Moving as moving;
-ghost use Rattle.wit_trace.specs.Migrates.{Enters, Reaches, kept_bytes, moved_to, reported, weighed};
+ghost use Rattle.wit_trace.specs.Migrates.{Enters, Reaches};
+ghost use Rattle.wit_trace.specs.Migrates.{kept_bytes, moved_to, reported, weighed};
 ghost use Rattle.wit_trace.specs.Replays.{prelude_of};
 
 use crate::migrating::Migrating;
@@ -49,7 +50,9 @@ pub fn keep(
     line: Line,
     bytes: &[u8],
 ) -> Result<Vec<u8>, LineError>
-    ensures { Enters (entered (moving.Keeping (prelude_of prelude.old) (kept_bytes kept.old.items)) number bytes.now line)
+    ensures { Enters
+        (entered (moving.Keeping (prelude_of prelude.old) (kept_bytes kept.old.items))
+        number bytes.now line)
         (moving.Keeping (prelude_of prelude.old) (kept_bytes kept.old.items))
         (moving.Keeping (prelude_of prelude.new) (kept_bytes kept.new.items)) result }
 {
@@ -59,7 +62,8 @@ pub fn keep(
 }
 
 fn push_line(alloc: Global, kept: &mut Vec<Vec<u8>>, bytes: &[u8]) -> Result<(), AllocError>
-    ensures { OnOk result (kept_bytes kept.new.items ≡ kept_bytes kept.old.items ++ bytes.now ∷ []) }
+    ensures { OnOk result
+        (kept_bytes kept.new.items ≡ kept_bytes kept.old.items ++ bytes.now ∷ []) }
 {
     kept.push(Vec::from_slice(alloc, bytes)?)?;
     Ok(())
@@ -79,8 +83,10 @@ pub fn reach(
 ) -> Result<Reached, AllocError>
     ensures stands { IfOk result (λ r. Reaches (moved_to machine.old) number line.now
         (moved_to machine.new) r.text.items r.refused) }
-    ensures counted { IfOk result (λ r. reported (moved_to machine.new) ≤ reported (moved_to machine.old)) }
-    ensures weighed { IfOk result (λ r. weighed (moved_to machine.new) ≤ weighed (moved_to machine.old)) }
+    ensures counted { IfOk result (λ r.
+        reported (moved_to machine.new) ≤ reported (moved_to machine.old)) }
+    ensures weighed { IfOk result (λ r.
+        weighed (moved_to machine.new) ≤ weighed (moved_to machine.old)) }
 {
     if is_prelude(number, line) {
         return Ok(Reached::on(alloc));

@@ -1,13 +1,15 @@
 //! The steps of locks themselves that go with calls.
 
-ghost use Rattle.std.specs.Prelude.{◌≡◌, ◌<◌, ◌-◌, ◌^◌, true, None, Some, IfOk, IfSome, OnOk, OnErr, if◌then◌else◌};
+ghost use Rattle.std.specs.Prelude.{◌≡◌, ◌<◌, ◌-◌, ◌^◌, true, None, Some, if◌then◌else◌};
+ghost use Rattle.std.specs.Prelude.{IfOk, IfSome, OnOk, OnErr};
 ghost use Rattle.wit_model.specs.Rules.History.{is_held, num, pending};
 ghost use Rattle.wit_model.specs.Rules.State.{state_of, is_seat};
 ghost use Rattle.wit_model.specs.Trace.Moving.{with_feeds};
 ghost use Rattle.wit_model.specs.Trace.Output.{call_of, verb_call};
 ghost use Rattle.wit_model.specs.World.Deeds.{RawDown};
 ghost use Rattle.wit_model.specs.World.Moving.{is_kept, stage_asked};
-ghost use Rattle.wit_model.specs.World.Scenes.{got, has_share, is_free, mode_asked, raw_after, shares_of};
+ghost use Rattle.wit_model.specs.World.Scenes.{got, has_share, is_free, mode_asked, raw_after};
+ghost use Rattle.wit_model.specs.World.Scenes.{shares_of};
 ghost use Rattle.wit_model.specs.declared.raw_steps.RawStep.TheVariants.{Take, Free, Down};
 ghost use Rattle.wit_grammar.specs.Lines.{as_line};
 ghost use Rattle.wit_trace.specs.Migrates.{DoesBeside, GoesWithCall, IsBeside};
@@ -137,8 +139,8 @@ fn acquisitions(verifier: &Verifier, seat: SeatNo, lock: LockNo) -> u64
 
 // A lock that a seat has exclusively is turned.
 fn turn(raw: &Raw, seat: SeatNo, lock: LockNo) -> Option<LockStep>
-    ensures { result ≡ (if is_free raw.now (RawDown seat.0 lock.0) then Some (step_at seat lock Down)
-        else None) }
+    ensures { result ≡ (if is_free raw.now (RawDown seat.0 lock.0)
+        then Some (step_at seat lock Down) else None) }
 {
     if 0 < raw.shares(seat, lock) && raw.is_exclusive(lock) {
         return Some(step_at(seat, lock, RawStep::Down));
