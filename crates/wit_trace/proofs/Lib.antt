@@ -1,8 +1,14 @@
+pub mod AloneLemmas
 pub mod AnswerLemmas
+pub mod BesideLemmas
 pub mod ListedTypes
+pub mod MigrateEnds
 pub mod MigrateLemmas
+pub mod MigrateReports
+pub mod Recorded
 pub mod ReplayLemmas
 pub mod ReportLemmas
 pub mod StreamLemmas
 pub mod TextLemmas
+pub mod Weights
 pub mod WorldLemmas

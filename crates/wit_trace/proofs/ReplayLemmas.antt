@@ -211,12 +211,12 @@ refused_end view p q n list (Err e) reaches texts sums circle = tt
 refused_end view p q n list (Ok a) reaches texts sums circle = refused_at_end view p q n [] list a.0.items a.1 reaches.0 reaches.1 texts sums circle
 
 -- the beginning of a long line decides whether it ends the prelude
-begins_prelude : (bytes line : List ℕ) → 4096 < length bytes → StartsWith line bytes → output.is_prelude line ≡ output.is_prelude bytes
+pub begins_prelude : (bytes line : List ℕ) → 4096 < length bytes → StartsWith line bytes → output.is_prelude line ≡ output.is_prelude bytes
 begins_prelude bytes line long starts =
     ap (λ (w : List ℕ). bytes_eq w (codes "order ") || bytes_eq w (codes "bless ")) (sym (take-take 6 (length bytes) line (omega arith)) ∙ ap (take 6) starts)
 
 -- and no long line names a profile
-no_profile : (n : ℕ) (line : List ℕ) → 4096 < length line → output.is_profile n line ≡ false
+pub no_profile : (n : ℕ) (line : List ℕ) → 4096 < length line → output.is_profile n line ≡ false
 no_profile n line long = rw (is_false (bytes_eq line (codes "profile all")) (λ is. omega (arith, ap length ((bytes_eq-Decides line (codes "profile all")).0 is)))) (and_false (eqb n 2))
   where
     is_false : (b : Bool) → (b ≡ true → ⊥) → b ≡ false
@@ -227,7 +227,7 @@ no_profile n line long = rw (is_false (bytes_eq line (codes "profile all")) (λ 
     and_false true = refl
     and_false false = refl
 
-starts-le : (bytes line : List ℕ) → StartsWith line bytes → length bytes ≤ length line
+pub starts-le : (bytes line : List ℕ) → StartsWith line bytes → length bytes ≤ length line
 starts-le bytes line starts = let e : length (take (length bytes) line) ≡ length bytes = ap length starts in omega (arith, length-take {A = ℕ})
 
 begins_reached : (p : output.Progress) (n : ℕ) (bytes line : List ℕ) → 4096 < length bytes → StartsWith line bytes → output.reached p n line ≡ output.reached p n bytes

@@ -63,7 +63,7 @@ pub reaches_same : (p q : output.Progress) (n : ℕ) (line : List ℕ) (refused 
 reaches_same p q n line None reaches = reached_same p n line q reaches
 reaches_same p q n line (Some bad) reaches = keeps_reports p q reaches.1
 
-grown-le : (s : Story) (t : ℕ) (c : Call) (reply : Reply) → reports_of (grown s t c reply).history ≤ reports_of s.history + 1
+pub grown-le : (s : Story) (t : ℕ) (c : Call) (reply : Reply) → reports_of (grown s t c reply).history ≤ reports_of s.history + 1
 grown-le s t c reply = go (is_logged reply)
   where
     one : (b : Bool) → cond b 1 0 ≤ 1
@@ -78,7 +78,7 @@ grown-le s t c reply = go (is_logged reply)
     go false = omega arith
 
 -- a line's outcome counts one at most
-abbrev CountsOne : ℕ → output.Outcome → Type 0
+abbrev pub CountsOne : ℕ → output.Outcome → Type 0
 CountsOne n (output.Goes q text) = reported q ≤ n + 1
 CountsOne n (output.Bad why) = Unit {0}
 

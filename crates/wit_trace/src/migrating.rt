@@ -1,9 +1,17 @@
 //! The migration of a trace from the first version of the format to the second.
 
-ghost use Rattle.std.specs.Prelude.{◌≡◌, ◌+◌, ◌-◌, ◌<◌, ◌≤◌, ◌^◌, length, false, None, IfOk, OnErr};
+ghost use Rattle.std.specs.Prelude.{◌≡◌, ◌+◌, ◌-◌, ◌<◌, ◌≤◌, ◌^◌, ◌++◌, ℕ, List, length, max};
+ghost use Rattle.std.specs.Prelude.{false, None, Some, Err, IfOk, OnOk, OnErr};
 ghost use Rattle.wit_grammar.specs.declared.parse.TheConstants.{LONGEST};
-ghost use Rattle.wit_trace.specs.Migrates.{EndsAsSummed, EndsSo, IsStepSo, remarked, some_ending};
-ghost use Rattle.wit_trace.specs.Stream.{WritesFront, WritesOutput};
+ghost use Rattle.wit_model.specs.Trace.Moving.{kept_lines, moving_from, outcome, read_to};
+ghost use Rattle.wit_model.specs.Trace.Moving.{with_feeds};
+ghost use Rattle.wit_model.specs.Trace.Moving as moving;
+ghost use Rattle.wit_model.specs.Trace.Output.{bad_text, summed};
+ghost use Rattle.wit_trace.specs.Machine.{Follows};
+ghost use Rattle.wit_trace.specs.Migrates.{EndsWith, Enters, Migrates, MigratesFrom, Reaches};
+ghost use Rattle.wit_trace.specs.Migrates.{migrated, moved_to, reported, some_migration, weighed};
+ghost use Rattle.wit_trace.specs.Replays.{total};
+ghost use Rattle.wit_trace.specs.Stream.{ReadsToEnd, WritesFront, WritesLines, WritesOutput};
 
 mod behind;
 mod headers;
@@ -22,20 +30,21 @@ use headers::start;
 use preludes::Reached;
 use std::alloc::{AllocError, Global};
 use std::io::{BufRead, Write};
+use std::mem;
 use texts::{join, whole_lines};
 use wit_grammar::{LineError, parse_line, parse_lock_line};
-use wit_model::{Boxed, Cause, View};
+use wit_model::{Boxed, Cause, Line, View};
 
-/// Reads a trace of the first version, and writes it as one of the second: its own lines, and between
-/// them the steps of the locks themselves that its calls need. A lock is taken before it is noted,
-/// unless its seat holds it by the record, and before a try; turned exclusive before an upgrade; freed
-/// behind an unlock, unless more was recorded than the seat has shares; and turned shared behind a
-/// downgrade where the seat has it exclusively.
+/// Reads a trace of the first version, and writes it as one of the second: its own lines, and
+/// between them the steps of the locks themselves that its calls need. A lock is taken before it is
+/// noted, unless its seat holds it by the record, and before a try; turned exclusive before an
+/// upgrade; freed behind an unlock, unless more was recorded than the seat has shares; and turned
+/// shared behind a downgrade where the seat has it exclusively.
 ///
-/// At a bad line the writing ends: all lines before it are written, then its number and cause. A line
-/// is bad too where its step can't be done, as two seats can't have a mutex at once; its own fault
-/// comes first. Nothing of the prelude is written before all of it is known to be good, but what
-/// stands before a list that is refused.
+/// At a bad line the writing ends: all lines before it are written, then its number and cause. A
+/// line is bad too where its step can't be done, as two seats can't have a mutex at once; its own
+/// fault comes first. Nothing of the prelude is written before all of it is known to be good, but
+/// what stands before a list that is refused.
 ///
 /// # Errors
 /// `Read` where the reader failed, `Write` where the writer failed, took no byte or didn't flush,
@@ -45,10 +54,16 @@ pub fn migrate<R: BufRead, W: Write>(
     input: &mut R,
     output: &mut W,
 ) -> Result<Summary, ReplayError>
-    ensures ok { IfOk result (WritesOutput EndsSo
+    ensures ok { IfOk result (WritesOutput Migrates
         (R.remaining input.old) (W.contents output.old) (W.contents output.new)) }
-    ensures err { OnErr result (WritesFront EndsSo
+    ensures err { OnErr result (WritesFront Migrates
         (R.remaining input.old) (W.contents output.old) (W.contents output.new)) }
+    ensures taken { IfOk result (ReadsToEnd MigratesFrom moving.Unmoved
+        (R.remaining input.old) (R.remaining input.new)
+        (W.contents output.old) (W.contents output.new)) }
+    ensures told { result ≡ Err ReplayError.Read → WritesLines MigratesFrom moving.Unmoved
+        (R.remaining input.old) (R.remaining input.new)
+        (W.contents output.old) (W.contents output.new) }
 {
     let mut machine = Migrating::Unmoved;
     run(
@@ -78,8 +93,9 @@ enum Migrating {
 impl Migrating {
     // What was read up to here.
     fn found(&self) -> Summary
+        requires { reported (moved_to self.now) < 2 ^ 64 }
+        ensures total { total result ≡ summed (read_to (moved_to self.now)) None }
         ensures circle { result.circle ≡ false }
-        ensures bad { result.bad ≡ None }
     {
         match self {
             Migrating::Moved(behind) => behind.summary(),
@@ -95,7 +111,12 @@ impl Migrating {
     // The prelude ends before a line that is none of it: what was kept is written then.
     #[inline(always)]
     fn reach(&mut self, alloc: Global, number: u64, line: &[u8]) -> Result<Reached, AllocError>
-        ensures { IfOk result (λ r. remarked self.new ≡ remarked self.old) }
+        ensures stands { IfOk result (λ r. Reaches (moved_to self.old) number line.now
+            (moved_to self.new) r.text.items r.refused) }
+        ensures counted { IfOk result (λ r.
+            reported (moved_to self.new) ≤ reported (moved_to self.old)) }
+        ensures weighed { IfOk result (λ r.
+            weighed (moved_to self.new) ≤ weighed (moved_to self.old)) }
     {
         match self {
             Migrating::Keeping { .. } => preludes::reach(alloc, self, number, line),
@@ -103,28 +124,32 @@ impl Migrating {
         }
     }
 
-    // The lines that are still to be written.
-    fn kept(&self, alloc: Global) -> Result<Vec<u8>, AllocError> {
-        match self {
-            Migrating::Keeping { kept, .. } => whole_lines(alloc, kept),
-            Migrating::Unmoved | Migrating::Moved(_) => Ok(Vec::new(alloc)),
-        }
-    }
-
     // A line in its place.
     fn read(&mut self, alloc: Global, number: u64, bytes: &[u8]) -> Result<Vec<u8>, LineError>
-        requires room { remarked self.old < 2 ^ 64 - 1 }
+        requires room { reported (moved_to self.old) < 2 ^ 64 - 1 }
+        requires few { weighed (moved_to self.old) < 2 ^ 64 - 1 }
         requires short { length bytes.now ≤ LONGEST }
-        ensures { remarked self.new ≤ remarked self.old + 1 }
+        ensures { Enters (outcome (moved_to self.old) number bytes.now)
+            (moved_to self.old) (moved_to self.new) result }
     {
         let line = parse_line(alloc, bytes)?;
+        self.enter(alloc, number, line, bytes)
+    }
+
+    fn enter(
+        &mut self,
+        alloc: Global,
+        number: u64,
+        line: Line,
+        bytes: &[u8],
+    ) -> Result<Vec<u8>, LineError>
+        requires room { reported (moved_to self.old) < 2 ^ 64 - 1 }
+        requires few { weighed (moved_to self.old) < 2 ^ 64 - 1 }
+        ensures { Enters (moving.entered (moved_to self.old) number bytes.now line)
+            (moved_to self.old) (moved_to self.new) result }
+    {
         match self {
-            Migrating::Unmoved => {
-                let (prelude, text) = start(alloc, line)?;
-                let kept = Vec::new(alloc);
-                *self = Migrating::Keeping { prelude, kept };
-                Ok(text)
-            }
+            Migrating::Unmoved => start(alloc, self, line),
             Migrating::Keeping { prelude, kept } => {
                 preludes::keep(alloc, prelude, kept, number, line, bytes)
             }
@@ -132,22 +157,26 @@ impl Migrating {
         }
     }
 
-    // Ends at a bad line, where this was found before it; behind a text that is still to be written.
+    // Ends at a bad line, where this was found before it; behind a text that is still to be
+    // written. Nothing is kept any more.
     #[cold]
     #[inline(never)]
     fn ended(
-        &self,
+        &mut self,
         alloc: Global,
         before: Vec<u8>,
         found: Summary,
         number: u64,
         cause: Cause,
     ) -> Result<(Vec<u8>, Summary), AllocError>
-        requires { found.circle ≡ false }
-        ensures { IfOk result (λ r. EndsAsSummed r.0.items r.1) }
+        ensures text { IfOk result (λ r. r.0.items ≡ before.items
+            ++ (with_feeds (kept_lines (moved_to self.old)) ++ bad_text number cause)) }
+        ensures summary { IfOk result (λ r. r.1 ≡ record found { bad = Some (number, cause) }) }
+        ensures over { OnOk result (moved_to self.new ≡ moving.Unmoved) }
     {
-        let kept = join(before, &self.kept(alloc)?)?;
-        let text = join(kept, bad_text(alloc, number, cause)?.as_bytes())?;
+        let kept = self.last_lines(alloc)?;
+        let last = join(kept, bad_text(alloc, number, cause)?.as_bytes())?;
+        let text = join(before, &last)?;
         let summary = Summary {
             bad: Some((number, cause)),
             ..found
@@ -155,47 +184,70 @@ impl Migrating {
         Ok((text, summary))
     }
 
+    // The lines that are still to be written.
+    fn last_lines(&mut self, alloc: Global) -> Result<Vec<u8>, AllocError>
+        ensures text { IfOk result (λ text.
+            text.items ≡ with_feeds (kept_lines (moved_to self.old))) }
+        ensures over { moved_to self.new ≡ moving.Unmoved }
+    {
+        match mem::replace(self, Migrating::Unmoved) {
+            Migrating::Keeping { kept, .. } => whole_lines(alloc, &kept),
+            Migrating::Unmoved | Migrating::Moved(_) => Ok(Vec::new(alloc)),
+        }
+    }
+
+    fn ended_step(
+        &mut self,
+        alloc: Global,
+        before: Vec<u8>,
+        found: Summary,
+        number: u64,
+        cause: Cause,
+    ) -> Result<Step, AllocError>
+        ensures step { IfOk result (EndsWith
+            (before.items ++ (with_feeds (kept_lines (moved_to self.old)) ++ bad_text number cause))
+            (record found { bad = Some (number, cause) })) }
+        ensures over { OnOk result (moved_to self.new ≡ moving.Unmoved) }
+    {
+        let (text, summary) = self.ended(alloc, before, found, number, cause)?;
+        Ok(Step::Ends(text, Boxed::new(alloc, summary)?))
+    }
+
     // A line of any kind.
     #[inline(never)]
     fn any_line(&mut self, alloc: Global, number: u64, bytes: &[u8]) -> Result<Step, AllocError>
-        requires room { remarked self.old < 2 ^ 64 - 1 }
+        requires room { reported (moved_to self.old) < number }
+        requires few { weighed (moved_to self.old) < number }
         requires short { length bytes.now ≤ LONGEST }
-        ensures step { IfOk result IsStepSo }
-        ensures counted { IfOk result (λ s. remarked self.new ≤ remarked self.old + 1) }
+        ensures step { IfOk result (Follows migrated self.old self.new number bytes.now) }
+        ensures counted { IfOk result (λ s.
+            reported (moved_to self.new) ≤ reported (moved_to self.old) + 1) }
+        ensures weighed { IfOk result (λ s.
+            weighed (moved_to self.new) ≤ weighed (moved_to self.old) + 1) }
     {
-        let found = self.found();
         let reached = self.reach(alloc, number, bytes)?;
+        let found = self.found();
         if let Some((number, cause)) = reached.refused {
-            return ends(
-                alloc,
-                self.ended(alloc, reached.text, found, number, cause)?,
-            );
+            return self.ended_step(alloc, reached.text, found, number, cause);
         }
         match self.read(alloc, number, bytes) {
             Ok(text) => Ok(Step::Goes(join(reached.text, &text)?)),
-            Err(LineError::Bad(cause)) => {
-                ends(
-                    alloc,
-                    self.ended(alloc, reached.text, found, number, cause)?,
-                )
-            }
+            Err(LineError::Bad(cause)) => self.ended_step(
+                alloc,
+                reached.text,
+                found,
+                number,
+                cause,
+            ),
             Err(LineError::Memory) => Err(AllocError),
         }
     }
 }
 
-fn ends(alloc: Global, last: (Vec<u8>, Summary)) -> Result<Step, AllocError>
-    requires { EndsAsSummed last.0.items last.1 }
-    ensures { IfOk result IsStepSo }
-{
-    let (text, summary) = last;
-    Ok(Step::Ends(text, Boxed::new(alloc, summary)?))
-}
-
 impl Machine for Migrating {
-    ghost allows = { λ view m n lines tail text summary. EndsAsSummed text summary };
+    ghost allows = { λ view. migrated };
 
-    ghost reports = { remarked };
+    ghost reports = { λ m. max (reported (moved_to m)) (weighed (moved_to m)) };
 
     fn line(
         &mut self,
@@ -209,9 +261,12 @@ impl Machine for Migrating {
                 let found = behind.summary();
                 return match behind.enter_on_lock(alloc, line, bytes) {
                     Ok(text) => Ok(Step::Goes(text)),
-                    Err(LineError::Bad(cause)) => ends(
+                    Err(LineError::Bad(cause)) => self.ended_step(
                         alloc,
-                        self.ended(alloc, Vec::new(alloc), found, number, cause)?,
+                        Vec::new(alloc),
+                        found,
+                        number,
+                        cause,
                     ),
                     Err(LineError::Memory) => Err(AllocError),
                 };
@@ -228,8 +283,8 @@ impl Machine for Migrating {
         beginning: &[u8],
         cause: Cause,
     ) -> Result<(Vec<u8>, Summary), AllocError> {
-        let found = self.found();
         let reached = self.reach(alloc, number, beginning)?;
+        let found = self.found();
         let (number, cause) = reached.refused.unwrap_or((number, cause));
         self.ended(alloc, reached.text, found, number, cause)
     }
@@ -240,8 +295,8 @@ impl Machine for Migrating {
         _view: View,
         number: u64,
     ) -> Result<(Vec<u8>, Summary), AllocError> {
-        let found = self.found();
         let reached = self.reach(alloc, number, b"")?;
+        let found = self.found();
         if let Some((number, cause)) = reached.refused {
             return self.ended(alloc, reached.text, found, number, cause);
         }
@@ -253,5 +308,6 @@ impl Machine for Migrating {
         }
     }
 
-    ghost answers = { λ view m n lines tail. some_ending };
+    ghost answers = { λ view m n lines tail.
+        some_migration (moving_from (moved_to m) n lines tail) };
 }

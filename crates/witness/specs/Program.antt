@@ -4,7 +4,7 @@ use Rattle.std.specs.Io.KnownBytes.{Keeps}
 use Rattle.wit_model.specs.declared.lines.View.{View}
 use Rattle.wit_model.specs.declared.lines.View.TheVariants.{Graph}
 use Rattle.wit_model.specs.Trace.Output.{Unstarted}
-use Rattle.wit_trace.specs.Migrates.{EndsSo}
+use Rattle.wit_trace.specs.Migrates.{Migrates}
 use Rattle.wit_trace.specs.Replays.{Shows, ShowsFrom}
 use Rattle.wit_trace.specs.Status.{exit_status}
 use Rattle.wit_trace.specs.Stream.{WritesOutput, WritesFront, WritesLines}
@@ -33,10 +33,11 @@ pub record TellsLines (view : View) (read written_old written_new : Option (List
   pub left : Option (List ℕ)
   pub told : WritesLines (ShowsFrom view) Unstarted read left written_old written_new
 
--- what was written of the migrated input ends as it was summed up, and this is its status, as where nothing is reported
+-- what a migration makes of the input was written, and this is its status, as where nothing is
+-- reported
 pub record IsMigrated (read written_old written_new : Option (List ℕ)) (ended : ℕ) : Type 0 where
   pub summary : Summary
-  pub written : WritesOutput EndsSo read written_old written_new summary
+  pub written : WritesOutput Migrates read written_old written_new summary
   pub status : ended ≡ exit_status Graph (Ok summary)
 
 -- and that is what is left to do
@@ -44,7 +45,7 @@ abbrev pub IsMigratedAndExits : Option (List ℕ) → Option (List ℕ) → Opti
 IsMigratedAndExits read written_old written_new (Exits status) = IsMigrated read written_old written_new status
 IsMigratedAndExits read written_old written_new ShowsThreads = ⊥
 
--- a beginning was written of such a text, which may be nothing
+-- a beginning was written of what a migration makes of the input, which may be nothing
 abbrev pub IsMigrationCut : Option (List ℕ) → Option (List ℕ) → Option (List ℕ) → Type 0
 IsMigrationCut read written_old written_new =
-    Keeps written_old written_new ⊎ WritesFront EndsSo read written_old written_new
+    Keeps written_old written_new ⊎ WritesFront Migrates read written_old written_new

@@ -2,7 +2,7 @@
 
 ghost use Rattle.std.specs.Prelude.{◌≡◌, ◌≢◌, ◌⊎◌, Ok, Err, IfOk, OnErr, None, Some};
 ghost use Rattle.std.specs.Io.KnownBytes.{Keeps};
-ghost use Rattle.wit_trace.specs.Migrates.{EndsSo};
+ghost use Rattle.wit_trace.specs.Migrates.{Migrates};
 ghost use Rattle.wit_trace.specs.Replays.{Shows};
 ghost use Rattle.wit_trace.specs.Stream.{WritesOutput};
 ghost use Rattle.wit_command.specs.CommandLine.{asked, bytes_of};
@@ -133,7 +133,7 @@ fn migrate_through_buffer<R: Read + Drop, W: Write>(
     input: R,
     output: &mut W,
 ) -> Result<Summary, ReplayError>
-    ensures ok { IfOk result (WritesOutput EndsSo
+    ensures ok { IfOk result (WritesOutput Migrates
         (R.remaining input) (W.contents output.old) (W.contents output.new)) }
     ensures err { OnErr result (IsMigrationCut
         (R.remaining input) (W.contents output.old) (W.contents output.new)) }

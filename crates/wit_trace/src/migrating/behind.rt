@@ -1,15 +1,20 @@
 //! What a migration knows behind the prelude.
 
-ghost use Rattle.std.specs.Prelude.{◌≡◌, ◌+◌, ◌-◌, ◌<◌, ◌≤◌, ◌^◌, false, None};
+ghost use Rattle.std.specs.Prelude.{◌≡◌, ◌+◌, ◌-◌, ◌<◌, ◌≤◌, ◌^◌, ◌++◌, ◌∷◌, [], false, None};
+ghost use Rattle.wit_model.specs.Trace.Moving.{moves, read_to};
+ghost use Rattle.wit_model.specs.Trace.Output.{call_of, summed};
+ghost use Rattle.wit_grammar.specs.Lines.{as_line};
+ghost use Rattle.wit_trace.specs.Migrates.{Enters, reported, standing, weight};
+ghost use Rattle.wit_trace.specs.Replays.{total};
 
-use crate::migrating::steps::{admits, both_lines, do_step, step_beside};
-use crate::migrating::texts::put_line;
-use crate::replaying::calls::{assertion, call_on_lock, make_call, remark, warning};
+use crate::migrating::steps::{do_beside, step_beside};
+use crate::migrating::texts::one_line;
+use crate::replaying::calls::{assertion, call_on_lock, remark, warning};
 use crate::summary::Summary;
 use std::alloc::Global;
 use wit_core::Verifier;
 use wit_grammar::{LineError, borrowed};
-use wit_model::{Cause, Fault, Line, LockLine};
+use wit_model::{Line, LockLine};
 use wit_world::Raw;
 
 /// A verifier that was told the calls so far, and what seats have of the locks themselves.
@@ -24,7 +29,9 @@ pub struct Behind {
 impl Behind {
     /// Nothing was told yet.
     pub fn new(alloc: Global, verifier: Verifier) -> Behind
-        ensures { result.remarks ≡ 0 }
+        ensures verifier { result.verifier ≡ verifier }
+        ensures raw { result.raw ≡ [] }
+        ensures remarks { result.remarks ≡ 0 }
     {
         Behind {
             verifier,
@@ -35,12 +42,13 @@ impl Behind {
 
     /// What was read so far.
     pub fn summary(&self) -> Summary
+        requires { reported (standing self.now) < 2 ^ 64 }
+        ensures total { total result ≡ summed (read_to (standing self.now)) None }
         ensures circle { result.circle ≡ false }
-        ensures bad { result.bad ≡ None }
     {
         Summary {
             calls: self.verifier.history().len() as u64,
-            reports: u64::from(self.verifier.reports()).saturating_add(self.remarks),
+            reports: u64::from(self.verifier.reports()) + self.remarks,
             circle: false,
             bad: None,
         }
@@ -57,18 +65,16 @@ impl Behind {
         line: LockLine<&str>,
         bytes: &[u8],
     ) -> Result<Vec<u8>, LineError>
-        ensures { self.new.remarks ≡ self.old.remarks }
+        requires { weight self.old.raw < 2 ^ 64 - 1 }
+        ensures { Enters (moves self.old.verifier self.old.raw self.old.remarks bytes.now
+            (call_of (as_line line.entry))) (standing self.old) (standing self.new) result }
     {
         let step = step_beside(&self.verifier, &self.raw, &line);
         let _reply = call_on_lock(&mut self.verifier, line)?;
-        let Some(step) = step else {
-            return alone(alloc, bytes);
-        };
-        if !admits(&self.raw, step) {
-            return Err(LineError::Bad(Cause::Fault(Fault::RawNotFree)));
+        match step {
+            Some(step) => do_beside(alloc, &mut self.raw, step, bytes),
+            None => Ok(one_line(alloc, bytes)?),
         }
-        do_step(&mut self.raw, step)?;
-        both_lines(alloc, step, bytes)
     }
 
     /// A line of any kind makes its call.
@@ -76,11 +82,13 @@ impl Behind {
     /// # Errors
     /// Those of `enter_on_lock`; and `Bad` where the line makes no call.
     pub fn enter(&mut self, alloc: Global, line: Line, bytes: &[u8]) -> Result<Vec<u8>, LineError>
-        requires { self.old.remarks < 2 ^ 64 - 1 }
-        ensures { self.new.remarks ≤ self.old.remarks + 1 }
+        requires counted { self.old.remarks < 2 ^ 64 - 1 }
+        requires few { weight self.old.raw < 2 ^ 64 - 1 }
+        ensures { Enters (moves self.old.verifier self.old.raw self.old.remarks bytes.now
+            (call_of line)) (standing self.old) (standing self.new) result }
     {
         match line {
-            Line::OnLock(line) => return self.enter_on_lock(alloc, borrowed(&line), bytes),
+            Line::OnLock(line) => self.enter_on_lock(alloc, borrowed(&line), bytes),
             Line::Assert {
                 seat,
                 lock,
@@ -88,28 +96,33 @@ impl Behind {
             } => {
                 let said = assertion(alloc, &self.verifier, seat, lock, asserted);
                 remark(&mut self.remarks, said)?;
+                Ok(one_line(alloc, bytes)?)
             }
             Line::Warn { seat, lock, flags } => {
                 let said = warning(alloc, &self.verifier, seat, lock, flags);
                 remark(&mut self.remarks, said)?;
+                Ok(one_line(alloc, bytes)?)
             }
             Line::Init { seat, lock } => {
-                let lock = self.verifier.make(seat, lock)?;
-                // Locks are made in the order of their numbers.
-                if self.raw.len() < lock.0 as usize {
-                    self.raw.made();
-                }
+                let _number = self.verifier.make(seat, lock)?;
+                self.raw.made();
+                Ok(one_line(alloc, bytes)?)
             }
-            line => {
-                let _reply = make_call(&mut self.verifier, line)?;
+            Line::Define {
+                seat,
+                first,
+                second,
+            } => {
+                let _reply = self.verifier.define_order(seat, first, second)?;
+                Ok(one_line(alloc, bytes)?)
+            }
+            Line::Watch { seat, watch } => {
+                let _reply = self.verifier.set_watch(seat, watch)?;
+                Ok(one_line(alloc, bytes)?)
+            }
+            Line::Header { .. } | Line::Profile | Line::Order { .. } | Line::Bless { .. } => {
+                Err(LineError::SYNTAX)
             }
         }
-        alone(alloc, bytes)
     }
-}
-
-fn alone(alloc: Global, bytes: &[u8]) -> Result<Vec<u8>, LineError> {
-    let mut text = Vec::new(alloc);
-    put_line(&mut text, bytes)?;
-    Ok(text)
 }

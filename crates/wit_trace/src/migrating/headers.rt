@@ -1,19 +1,32 @@
 //! The header of a migrated trace.
 
-use crate::migrating::texts::put_line;
+ghost use Rattle.std.specs.Prelude.{◌≡◌, ℕ, List, [], ◌∷◌, IfOk};
+ghost use Rattle.wit_model.specs.declared.lines.Line.TheVariants.{Header};
+ghost use Rattle.wit_model.specs.declared.lines.Version.TheVariants as version;
+ghost use Rattle.wit_model.specs.Trace.Moving.{with_feeds, entered};
+ghost use Rattle.wit_model.specs.Trace.Moving as moving;
+ghost use Rattle.wit_model.specs.Trace.Spelling.{spelling};
+ghost use Rattle.wit_trace.specs.Migrates.{Enters, moved_to};
+
+use crate::migrating::Migrating;
+use crate::migrating::texts::one_line;
 use crate::replaying::LOG;
-use crate::replaying::prelude::{Prelude, new_prelude};
-use std::alloc::Global;
+use crate::replaying::prelude::new_prelude;
+use std::alloc::{AllocError, Global};
 use wit_grammar::{LineError, print_line};
 use wit_model::{Cause, Limits, Line, Version};
 
-/// The prelude that a header begins, and the line that is written for it: the same with the number of the second
-/// version, which it may not have.
+/// The header comes first, and is written with the number of the second version, which it may not
+/// have.
 ///
 /// # Errors
 /// `Bad` where the line is no header, is one of the second version, or its sizes are beyond the
 /// limits; `Memory`.
-pub fn start(alloc: Global, line: Line) -> Result<(Prelude, Vec<u8>), LineError> {
+pub fn start(alloc: Global, machine: &mut Migrating, line: Line) -> Result<Vec<u8>, LineError>
+    requires { moved_to machine.old ≡ moving.Unmoved }
+    ensures { (number : ℕ) (bytes : List ℕ) → Enters (entered moving.Unmoved number bytes line)
+        moving.Unmoved (moved_to machine.new) result }
+{
     let Line::Header {
         version,
         seats,
@@ -31,7 +44,10 @@ pub fn start(alloc: Global, line: Line) -> Result<(Prelude, Vec<u8>), LineError>
         return Err(LineError::Bad(Cause::Limit));
     };
     let text = second_header(alloc, seats, types, locks, chunks)?;
-    Ok((new_prelude(alloc, version, limits), text))
+    let prelude = new_prelude(alloc, version, limits);
+    let kept = Vec::new(alloc);
+    *machine = Migrating::Keeping { prelude, kept };
+    Ok(text)
 }
 
 // The line of a header of the second version.
@@ -41,7 +57,10 @@ fn second_header(
     types: u32,
     locks: u32,
     chunks: u32,
-) -> Result<Vec<u8>, LineError> {
+) -> Result<Vec<u8>, AllocError>
+    ensures { IfOk result (λ text. text.items
+        ≡ with_feeds (spelling (Header version.Two seats types locks chunks) ∷ [])) }
+{
     let header = Line::Header {
         version: Version::Two,
         seats,
@@ -49,7 +68,9 @@ fn second_header(
         locks,
         chunks,
     };
-    let mut text = Vec::new(alloc);
-    put_line(&mut text, &print_line(alloc, &header)?)?;
-    Ok(text)
+    match print_line(alloc, &header) {
+        Ok(line) => one_line(alloc, &line),
+        // It fails for want of memory alone.
+        Err(_) => Err(AllocError),
+    }
 }

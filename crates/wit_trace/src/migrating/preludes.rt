@@ -1,7 +1,11 @@
 //! The prelude of a migrated trace.
 
-ghost use Rattle.std.specs.Prelude.{◌≡◌, IfOk};
-ghost use Rattle.wit_trace.specs.Migrates.{remarked};
+ghost use Rattle.std.specs.Prelude.{◌≡◌, ◌-◌, ◌≤◌, ◌++◌, ◌∷◌, [], take, false, IfOk, OnOk};
+ghost use Rattle.wit_model.specs.Trace.Moving.{entered};
+ghost use Rattle.wit_model.specs.Trace.Moving as moving;
+ghost use Rattle.wit_trace.specs.Migrates.{Enters, Reaches};
+ghost use Rattle.wit_trace.specs.Migrates.{kept_bytes, moved_to, reported, weighed};
+ghost use Rattle.wit_trace.specs.Replays.{prelude_of};
 
 use crate::migrating::Migrating;
 use crate::migrating::behind::Behind;
@@ -23,7 +27,10 @@ pub struct Reached {
 
 impl Reached {
     /// Nothing is written, and nothing refused.
-    pub fn on(alloc: Global) -> Reached {
+    pub fn on(alloc: Global) -> Reached
+        ensures text { result.text.items ≡ [] }
+        ensures refused { result.refused ≡ None }
+    {
         Reached {
             text: Vec::new(alloc),
             refused: None,
@@ -42,13 +49,22 @@ pub fn keep(
     number: u64,
     line: Line,
     bytes: &[u8],
-) -> Result<Vec<u8>, LineError> {
+) -> Result<Vec<u8>, LineError>
+    ensures { Enters
+        (entered (moving.Keeping (prelude_of prelude.old) (kept_bytes kept.old.items))
+        number bytes.now line)
+        (moving.Keeping (prelude_of prelude.old) (kept_bytes kept.old.items))
+        (moving.Keeping (prelude_of prelude.new) (kept_bytes kept.new.items)) result }
+{
     let nothing = add_line(alloc, prelude, number, line)?;
     push_line(alloc, kept, bytes)?;
     Ok(nothing)
 }
 
-fn push_line(alloc: Global, kept: &mut Vec<Vec<u8>>, bytes: &[u8]) -> Result<(), AllocError> {
+fn push_line(alloc: Global, kept: &mut Vec<Vec<u8>>, bytes: &[u8]) -> Result<(), AllocError>
+    ensures { OnOk result
+        (kept_bytes kept.new.items ≡ kept_bytes kept.old.items ++ bytes.now ∷ []) }
+{
     kept.push(Vec::from_slice(alloc, bytes)?)?;
     Ok(())
 }
@@ -65,7 +81,12 @@ pub fn reach(
     number: u64,
     line: &[u8],
 ) -> Result<Reached, AllocError>
-    ensures { IfOk result (λ r. remarked machine.new ≡ remarked machine.old) }
+    ensures stands { IfOk result (λ r. Reaches (moved_to machine.old) number line.now
+        (moved_to machine.new) r.text.items r.refused) }
+    ensures counted { IfOk result (λ r.
+        reported (moved_to machine.new) ≤ reported (moved_to machine.old)) }
+    ensures weighed { IfOk result (λ r.
+        weighed (moved_to machine.new) ≤ weighed (moved_to machine.old)) }
 {
     if is_prelude(number, line) {
         return Ok(Reached::on(alloc));
@@ -92,7 +113,9 @@ pub fn reach(
 }
 
 // The lines of a prelude before the one with this number; the first has number 2.
-fn before(kept: &[Vec<u8>], number: u64) -> &[Vec<u8>] {
+fn before(kept: &[Vec<u8>], number: u64) -> &[Vec<u8>]
+    ensures { result.now ≡ take (number - 2) kept.now }
+{
     let count = number.saturating_sub(2).min(kept.len() as u64) as usize;
     &kept[..count]
 }

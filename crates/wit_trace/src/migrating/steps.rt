@@ -1,14 +1,25 @@
 //! The steps of locks themselves that go with calls.
 
-ghost use Rattle.std.specs.Prelude.{◌≡◌, true};
-ghost use Rattle.wit_model.specs.declared.raw_steps.RawStep.TheVariants.{Take, Up};
-ghost use Rattle.wit_world.specs.Steps.{IsReadyFor};
+ghost use Rattle.std.specs.Prelude.{◌≡◌, ◌<◌, ◌-◌, ◌^◌, true, None, Some, if◌then◌else◌};
+ghost use Rattle.std.specs.Prelude.{IfOk, IfSome, OnOk, OnErr};
+ghost use Rattle.wit_model.specs.Rules.History.{is_held, num, pending};
+ghost use Rattle.wit_model.specs.Rules.State.{state_of, is_seat};
+ghost use Rattle.wit_model.specs.Trace.Moving.{with_feeds};
+ghost use Rattle.wit_model.specs.Trace.Output.{call_of, verb_call};
+ghost use Rattle.wit_model.specs.World.Deeds.{RawDown};
+ghost use Rattle.wit_model.specs.World.Moving.{is_kept, stage_asked};
+ghost use Rattle.wit_model.specs.World.Scenes.{got, has_share, is_free, mode_asked, raw_after};
+ghost use Rattle.wit_model.specs.World.Scenes.{shares_of};
+ghost use Rattle.wit_model.specs.declared.raw_steps.RawStep.TheVariants.{Take, Free, Down};
+ghost use Rattle.wit_grammar.specs.Lines.{as_line};
+ghost use Rattle.wit_trace.specs.Migrates.{DoesBeside, GoesWithCall, IsBeside};
+ghost use Rattle.wit_trace.specs.Migrates.{both, deed, line_of_step, step_asked, step_at, weight};
 
-use crate::migrating::texts::put_line;
+use crate::migrating::texts::two_lines;
 use std::alloc::{AllocError, Global};
 use wit_core::Verifier;
 use wit_grammar::{LineError, print_line};
-use wit_model::{Line, LockLine, LockNo, Mode, RawStep, SeatNo, Verb};
+use wit_model::{Cause, Fault, Line, LockLine, LockNo, Mode, RawStep, SeatNo, Verb};
 use wit_world::Raw;
 
 /// A step of a lock that goes with a call.
@@ -17,24 +28,22 @@ pub struct LockStep {
     pub seat: SeatNo,
     pub lock: LockNo,
     pub step: RawStep,
-    /// The mode that the lock is in then.
-    pub mode: Mode,
+    /// The mode in which a lock is taken.
+    pub asked: Mode,
 }
 
 /// The step that goes with a line's call, if one does.
-pub fn step_beside(verifier: &Verifier, raw: &Raw, line: &LockLine<&str>) -> Option<LockStep> {
+pub fn step_beside(verifier: &Verifier, raw: &Raw, line: &LockLine<&str>) -> Option<LockStep>
+    ensures goes { GoesWithCall verifier.now raw.now (call_of (as_line line.now)) result }
+    ensures share { IfSome result (λ k. has_share raw.now (deed k) ≡ true) }
+{
     match *line {
         LockLine::Try {
             seat,
             lock,
             mode,
             ..
-        } => Some(LockStep {
-            seat,
-            lock,
-            step: RawStep::TryTake(mode),
-            mode,
-        }),
+        } => Some(step_at(seat, lock, RawStep::TryTake(mode))),
         LockLine::Unlock { seat, lock, .. } => free(verifier, raw, seat, lock),
         LockLine::Plain { verb, seat, lock } => step_of_verb(verifier, raw, verb, seat, lock),
         LockLine::Check { .. } | LockLine::Step { .. } => None,
@@ -47,142 +56,188 @@ fn step_of_verb(
     verb: Verb,
     seat: SeatNo,
     lock: LockNo,
-) -> Option<LockStep> {
+) -> Option<LockStep>
+    ensures goes { is_seat (state_of verifier.now) seat.0 ≡ true
+        → IsBeside verifier.now.history raw.now seat.0 (verb_call verb lock) result }
+    ensures share { IfSome result (λ k. has_share raw.now (deed k) ≡ true) }
+{
     match verb {
         Verb::Note => take(verifier, seat, lock),
-        Verb::Upgrade => Some(LockStep {
-            seat,
-            lock,
-            step: RawStep::Up,
-            mode: Mode::Exclusive,
-        }),
+        Verb::Upgrade => Some(step_at(seat, lock, RawStep::Up)),
         Verb::Downgrade => turn(raw, seat, lock),
         Verb::GiveUp | Verb::Destroy | Verb::NoRelease | Verb::ReleaseOk => None,
     }
 }
 
+fn step_at(seat: SeatNo, lock: LockNo, step: RawStep) -> LockStep
+    ensures { result ≡ step_at seat lock step }
+{
+    LockStep {
+        seat,
+        lock,
+        step,
+        asked: Mode::Exclusive,
+    }
+}
+
 // A lock that is asked for is taken, unless it is held by the record.
-fn take(verifier: &Verifier, seat: SeatNo, lock: LockNo) -> Option<LockStep> {
-    if verifier.recorded(seat, lock).is_some() {
+fn take(verifier: &Verifier, seat: SeatNo, lock: LockNo) -> Option<LockStep>
+    ensures taken { is_seat (state_of verifier.now) seat.0 ≡ true → result
+        ≡ (if is_held seat.0 lock.0 verifier.now.history then None
+        else Some (step_asked verifier.now.history seat lock)) }
+    ensures step { IfSome result (λ k. k.step ≡ Take) }
+{
+    if 0 < acquisitions(verifier, seat, lock) {
         return None;
     }
-    let mode = match verifier.pending(seat) {
-        Some((_, mode)) => mode,
-        None => Mode::Exclusive,
-    };
+    let asked = asked_mode(verifier, seat);
     Some(LockStep {
         seat,
         lock,
         step: RawStep::Take,
-        mode,
+        asked,
     })
 }
 
+// The mode in which a seat asked for a lock.
+fn asked_mode(verifier: &Verifier, seat: SeatNo) -> Mode
+    ensures { is_seat (state_of verifier.now) seat.0 ≡ true
+        → result ≡ mode_asked (stage_asked (pending seat.0 verifier.now.history)) }
+{
+    match verifier.pending(seat) {
+        Some((_, mode)) => mode,
+        None => Mode::Exclusive,
+    }
+}
+
 // A lock is freed where its seat has a share, and no more is recorded than it has.
-fn free(verifier: &Verifier, raw: &Raw, seat: SeatNo, lock: LockNo) -> Option<LockStep> {
+fn free(verifier: &Verifier, raw: &Raw, seat: SeatNo, lock: LockNo) -> Option<LockStep>
+    ensures freed { is_seat (state_of verifier.now) seat.0 ≡ true → result
+        ≡ (if is_kept verifier.now.history raw.now seat.0 lock.0 then None
+        else Some (step_at seat lock Free)) }
+    ensures share { IfSome result (λ k. has_share raw.now (deed k) ≡ true) }
+{
     let shares = raw.shares(seat, lock);
     if shares == 0 || shares < acquisitions(verifier, seat, lock) {
         return None;
     }
-    Some(LockStep {
-        seat,
-        lock,
-        step: RawStep::Free,
-        mode: Mode::Exclusive,
-    })
+    Some(step_at(seat, lock, RawStep::Free))
 }
 
 // How often the seat acquired the lock by the record, without releasing it.
-fn acquisitions(verifier: &Verifier, seat: SeatNo, lock: LockNo) -> u64 {
+fn acquisitions(verifier: &Verifier, seat: SeatNo, lock: LockNo) -> u64
+    ensures { is_seat (state_of verifier.now) seat.0 ≡ true
+        → result ≡ num seat.0 lock.0 verifier.now.history }
+{
+    // Called for its clause that the log is a legal one.
+    let _entries = verifier.history();
     match verifier.recorded(seat, lock) {
-        Some(count) => u64::from(count) + 1,
+        Some(again) => u64::from(again) + 1,
         None => 0,
     }
 }
 
-fn turn(raw: &Raw, seat: SeatNo, lock: LockNo) -> Option<LockStep> {
-    if raw.shares(seat, lock) == 0 || !raw.is_exclusive(lock) {
-        return None;
-    }
-    Some(LockStep {
-        seat,
-        lock,
-        step: RawStep::Down,
-        mode: Mode::Shared,
-    })
-}
-
-/// Whether the lock itself admits the step.
-pub fn admits(raw: &Raw, step: LockStep) -> bool
-    ensures { result ≡ true → IsReadyFor raw.now step.seat.0 step.lock.0 step.step }
+// A lock that a seat has exclusively is turned.
+fn turn(raw: &Raw, seat: SeatNo, lock: LockNo) -> Option<LockStep>
+    ensures { result ≡ (if is_free raw.now (RawDown seat.0 lock.0)
+        then Some (step_at seat lock Down) else None) }
 {
-    match step.step {
-        RawStep::Take | RawStep::TryTake(_) => {
-            has_room(raw, step.seat, step.lock) && raw.is_admitted(step.lock, step.mode)
-        }
-        RawStep::Up => has_only(raw, step.seat, step.lock) && !raw.is_exclusive(step.lock),
-        RawStep::Free | RawStep::Down => 0 < raw.shares(step.seat, step.lock),
+    if 0 < raw.shares(seat, lock) && raw.is_exclusive(lock) {
+        return Some(step_at(seat, lock, RawStep::Down));
     }
+    None
 }
 
-// Whether the lock was made, and a share more of it can be counted.
-fn has_room(raw: &Raw, seat: SeatNo, lock: LockNo) -> bool
-    ensures { result ≡ true → IsReadyFor raw.now seat.0 lock.0 Take }
-{
-    if lock.0 == 0 {
-        return false;
-    }
-    if raw.len() < lock.0 as usize {
-        return false;
-    }
-    raw.shares(seat, lock) < u64::MAX
-}
-
-// Whether the seat has the only share of the lock.
-fn has_only(raw: &Raw, seat: SeatNo, lock: LockNo) -> bool
-    ensures { result ≡ true → IsReadyFor raw.now seat.0 lock.0 Up }
-{
-    0 < raw.shares(seat, lock) && raw.is_only(seat, lock)
-}
-
-/// Does the step.
+/// Does the step, and tells the line with the step's: that of a share that is gained stands before
+/// it, that of one that is given back behind it.
 ///
 /// # Errors
-/// Want of memory alone; nothing is changed then.
-pub fn do_step(raw: &mut Raw, step: LockStep) -> Result<(), AllocError>
-    requires { IsReadyFor raw.old step.seat.0 step.lock.0 step.step }
+/// `Bad` where the lock doesn't admit the step; `Memory`.
+pub fn do_beside(
+    alloc: Global,
+    raw: &mut Raw,
+    step: LockStep,
+    bytes: &[u8],
+) -> Result<Vec<u8>, LineError>
+    requires few { weight raw.old < 2 ^ 64 - 1 }
+    requires share { has_share raw.old (deed step) ≡ true }
+    ensures { DoesBeside step bytes.now raw.old raw.new result }
+{
+    if !admits(raw, step) {
+        return Err(LineError::Bad(Cause::Fault(Fault::RawNotFree)));
+    }
+    let text = both_lines(alloc, step, bytes)?;
+    do_step(raw, step)?;
+    Ok(text)
+}
+
+// Whether the lock itself admits the step.
+fn admits(raw: &Raw, step: LockStep) -> bool
+    ensures { result ≡ is_free raw.now (deed step) }
 {
     match step.step {
-        RawStep::Take | RawStep::TryTake(_) => raw.take(step.seat, step.lock, step.mode)?,
+        RawStep::Take => raw.is_admitted(step.lock, step.asked),
+        RawStep::TryTake(mode) => raw.is_admitted(step.lock, mode),
+        RawStep::Free => true,
+        RawStep::Up => raw.is_only(step.seat, step.lock) && !raw.is_exclusive(step.lock),
+        RawStep::Down => 0 < raw.shares(step.seat, step.lock) && raw.is_exclusive(step.lock),
+    }
+}
+
+// Does the step.
+fn do_step(raw: &mut Raw, step: LockStep) -> Result<(), AllocError>
+    requires few { weight raw.old < 2 ^ 64 - 1 }
+    requires free { is_free raw.old (deed step) ≡ true }
+    requires share { has_share raw.old (deed step) ≡ true }
+    ensures ok { OnOk result (raw.new ≡ raw_after (deed step) raw.old) }
+    ensures err { OnErr result (raw.new ≡ raw.old) }
+{
+    match step.step {
+        RawStep::Take => gain(raw, step.seat, step.lock, step.asked)?,
+        RawStep::TryTake(mode) => gain(raw, step.seat, step.lock, mode)?,
         RawStep::Free => raw.free(step.seat, step.lock),
-        RawStep::Up | RawStep::Down => raw.turn(step.seat, step.lock, step.mode),
+        RawStep::Up => raw.turn(step.seat, step.lock, Mode::Exclusive),
+        RawStep::Down => raw.turn(step.seat, step.lock, Mode::Shared),
     }
     Ok(())
 }
 
-/// A line with the one of the step that goes with it: that of a share that is gained stands before it,
-/// that of one that is given back behind it.
-///
-/// # Errors
-/// Want of memory alone.
+// A seat gets a share more of a lock; nobody gets one of a lock that wasn't made.
+fn gain(raw: &mut Raw, seat: SeatNo, lock: LockNo, mode: Mode) -> Result<(), AllocError>
+    requires { shares_of raw.old seat.0 lock.0 < 2 ^ 64 - 1 }
+    ensures ok { OnOk result (raw.new ≡ got seat.0 lock.0 mode raw.old) }
+    ensures err { OnErr result (raw.new ≡ raw.old) }
+{
+    if lock.0 == 0 || raw.len() < lock.0 as usize {
+        return Ok(());
+    }
+    raw.take(seat, lock, mode)
+}
+
+// A line, and the one of the step that goes with it.
+fn both_lines(alloc: Global, step: LockStep, bytes: &[u8]) -> Result<Vec<u8>, AllocError>
+    ensures { IfOk result (λ text. text.items ≡ with_feeds (both step bytes.now)) }
+{
+    let own = step_line(alloc, step)?;
+    match step.step {
+        RawStep::Take | RawStep::TryTake(_) | RawStep::Up => two_lines(alloc, &own, bytes),
+        RawStep::Free | RawStep::Down => two_lines(alloc, bytes, &own),
+    }
+}
+
+// The line of a step.
 #[tactic(auto, using(crate::proofs::MigrateLemmas::step_spelled))]
-pub fn both_lines(alloc: Global, step: LockStep, bytes: &[u8]) -> Result<Vec<u8>, LineError> {
+fn step_line(alloc: Global, step: LockStep) -> Result<Vec<u8>, AllocError>
+    ensures { IfOk result (λ line. line.items ≡ line_of_step step) }
+{
     let line = Line::OnLock(LockLine::Step {
         seat: step.seat,
         lock: step.lock,
         step: step.step,
     });
-    let own = print_line(alloc, &line)?;
-    let mut text = Vec::new(alloc);
-    match step.step {
-        RawStep::Take | RawStep::TryTake(_) | RawStep::Up => {
-            put_line(&mut text, &own)?;
-            put_line(&mut text, bytes)?;
-        }
-        RawStep::Free | RawStep::Down => {
-            put_line(&mut text, bytes)?;
-            put_line(&mut text, &own)?;
-        }
+    match print_line(alloc, &line) {
+        Ok(own) => Ok(own),
+        // It fails for want of memory alone.
+        Err(_) => Err(AllocError),
     }
-    Ok(text)
 }

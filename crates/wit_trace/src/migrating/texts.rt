@@ -1,6 +1,8 @@
 //! Lines behind one another.
 
-ghost use Rattle.std.specs.Prelude.{◌≡◌, ◌++◌, IfOk};
+ghost use Rattle.std.specs.Prelude.{◌≡◌, ◌++◌, ◌∷◌, [], IfOk, OnOk};
+ghost use Rattle.wit_model.specs.Trace.Moving.{with_feeds};
+ghost use Rattle.wit_trace.specs.Migrates.{kept_bytes};
 
 use std::alloc::{AllocError, Global};
 
@@ -20,17 +22,45 @@ pub fn join(text: Vec<u8>, more: &[u8]) -> Result<Vec<u8>, AllocError>
 ///
 /// # Errors
 /// Want of memory alone.
-pub fn put_line(text: &mut Vec<u8>, line: &[u8]) -> Result<(), AllocError> {
+pub fn put_line(text: &mut Vec<u8>, line: &[u8]) -> Result<(), AllocError>
+    ensures { OnOk result (text.new.items ≡ text.old.items ++ (line.now ++ 10 ∷ [])) }
+{
     text.extend_from_slice(line)?;
     text.push(b'\n')?;
     Ok(())
+}
+
+/// A line alone.
+///
+/// # Errors
+/// Want of memory alone.
+pub fn one_line(alloc: Global, line: &[u8]) -> Result<Vec<u8>, AllocError>
+    ensures { IfOk result (λ text. text.items ≡ with_feeds (line.now ∷ [])) }
+{
+    let mut text = Vec::new(alloc);
+    put_line(&mut text, line)?;
+    Ok(text)
+}
+
+/// Two lines.
+///
+/// # Errors
+/// Want of memory alone.
+pub fn two_lines(alloc: Global, first: &[u8], second: &[u8]) -> Result<Vec<u8>, AllocError>
+    ensures { IfOk result (λ text. text.items ≡ with_feeds (first.now ∷ second.now ∷ [])) }
+{
+    let mut text = one_line(alloc, first)?;
+    put_line(&mut text, second)?;
+    Ok(text)
 }
 
 /// Lines, each with its line feed.
 ///
 /// # Errors
 /// Want of memory alone.
-pub fn whole_lines(alloc: Global, lines: &[Vec<u8>]) -> Result<Vec<u8>, AllocError> {
+pub fn whole_lines(alloc: Global, lines: &[Vec<u8>]) -> Result<Vec<u8>, AllocError>
+    ensures { IfOk result (λ text. text.items ≡ with_feeds (kept_bytes lines.now)) }
+{
     let mut text = Vec::new(alloc);
     for line in lines {
         put_line(&mut text, line)?;

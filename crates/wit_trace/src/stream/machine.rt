@@ -24,8 +24,8 @@ pub enum Step {
 ///
 /// `allows view m number lines tail text summary` says that from `m` on, where the next line has this number
 /// and these whole lines and this unfinished one are still to come, this text may be written for the view and
-/// this summary given. Some text and summary are always allowed. `reports m` is how many reports the machine has
-/// counted: one a line at most.
+/// this summary given. Some text and summary are always allowed. `reports m` is at least how many reports the
+/// machine has counted, and a line adds one at most.
 pub trait Machine {
     ghost allows: { View → Self → ℕ → List (List ℕ) → List ℕ → List ℕ → Summary → Type 0 };
 

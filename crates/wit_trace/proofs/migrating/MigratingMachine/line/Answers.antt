@@ -1,13 +1,29 @@
-use Rattle.wit_trace.specs.declared.migrating.Migrating.TheVariants.{Moved}
-use Rattle.wit_trace.proofs.MigrateLemmas.{behind, follows_ok}
+use Rattle.std.proofs.Common.{[], refl}
+use Rattle.wit_model.specs.Trace.Output.{call_of}
+use Rattle.wit_grammar.specs.Lines.{as_line}
+use Rattle.wit_trace.specs.Migrates.{reported, standing, weighed, weight}
+use Rattle.wit_trace.proofs.MigrateLemmas.{line-goes, line-writes}
+use Rattle.wit_trace.proofs.MigrateReports.{moved_one}
+use Rattle.wit_trace.proofs.Weights.{both_one, moved_weighs}
 use Rattle.wit_trace.proofs.migrating.MigratingMachine.line.Goals as goal
 
 pub returns-in-Ok-clause-step : goal.returns-in-Ok-clause-step
-returns-in-Ok-clause-step c = λ lines tail more summary ends. behind c.in-Ok.text.items more summary ends
+returns-in-Ok-clause-step c =
+    let b = c.in-Moved.behind in
+    let new = c.enter_on_lock.new.self in
+    rw c.in-Moved.is
+    (line-goes (standing b) (standing b) c.args.number c.args.bytes.now [] (record { lines = []; written = refl; on = λ next. refl })
+    (standing new) c.in-Ok.text.items
+    (line-writes b.verifier b.raw b.remarks c.args.number c.args.bytes.now (as_line c.in-Some.line) (standing new) c.in-Ok.text.items
+    c.requires.short c.in-Some.ensures c.in-Ok.ensures))
 
-pub returns-in_ok-ended-in-Err-Bad-clause-step : goal.returns-in_ok-ended-in-Err-Bad-clause-step
-returns-in_ok-ended-in-Err-Bad-clause-step c =
-    follows_ok c.args.self.now (Moved c.enter_on_lock.new.self) c.args.number c.args.bytes.now c.ends.result c.ends.ensures
-
-pub returns-clause-step : goal.returns-clause-step
-returns-clause-step c = follows_ok c.args.self.now c.any_line.new.self c.args.number c.args.bytes.now c.any_line.result c.any_line.ensures.step
+pub returns-in-Ok-clause-counted : goal.returns-in-Ok-clause-counted
+returns-in-Ok-clause-counted c =
+    let b = c.in-Moved.behind in
+    let new = standing c.enter_on_lock.new.self in
+    let call = call_of (as_line c.in-Some.line) in
+    let text = c.in-Ok.text.items in
+    rw c.in-Moved.is
+    (both_one (reported (standing b)) (weight b.raw) (reported new) (weighed new)
+    (moved_one b.verifier b.raw b.remarks new c.args.bytes.now text call c.in-Ok.ensures)
+    (moved_weighs b.verifier b.raw b.remarks new c.args.bytes.now text call c.in-Ok.ensures))
