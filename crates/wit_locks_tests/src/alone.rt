@@ -1,64 +1,120 @@
 //! What the calls of a lock ask of its gate, by one thread.
 
-use crate::fakes::{Counted, Counts};
-use crate::tokens::{granted, kept, not_released, refused, released, shut};
-use crate::verifiers::run_with;
+use crate::fakes::{Counted, Counts, Shut};
+use crate::tokens::{granted, kept, let_go, not_granted, not_released, refused, shut, taken};
+use crate::verifiers::{a_mutex, a_seat, a_site, closed, closed_by_all, pair_of, run_with};
 use bitflags::Flags;
+use std::alloc::Global;
 use std::process::Abort;
 use std::sync::Wait;
 use std::test::Fail;
-use wit_gates::{CondGate, Gate};
+use wit_core::Verifier;
+use wit_gates::{CondGate, Gate, SpinGate};
 use wit_locks::{Mtx, Rw, abandon};
-use wit_model::{Fault, LockFlags, Mode, Site};
+use wit_model::{Call, Entry, Fault, LockFlags, Mode, Site};
 use wit_shared::{Program, Room, Seat, Shared};
 
-/// A mutex that is held is asked for again.
+/// A mutex that is held is asked for again: how many entries the log has then.
 #[derive(Drop)]
-struct TakenTwice<'a> {
-    gate: Counted<'a, CondGate>,
+struct TakenTwice<'a, G: Gate> {
+    alloc: Global,
+    gate: Counted<'a, G>,
 }
 
-impl<R: Wait + Abort> Program<R> for TakenTwice<'_> {
-    type Out = ();
+impl<R: Wait + Abort, G: Gate + Drop> Program<R> for TakenTwice<'_, G>
+where
+    G::Ticket: Drop,
+{
+    type Out = usize;
 
     ghost done = { λ program out. Unit {0} };
 
-    fn run<J: Room + Send + Sync>(self, rt: &R, shared: Shared<J>) {
-        let mut seat = shared.seat(rt).ok().expect(rt, "a seat");
-        let file = shared.file(rt, &mut seat, "f").ok().expect(rt, "a file");
-        let site = Site { file, line: 1 };
-        let mutex = Mtx::new(
+    fn run<J: Room + Send + Sync>(self, rt: &R, shared: Shared<J>) -> usize {
+        let TakenTwice { alloc, gate } = self;
+        let mut seat = a_seat(rt, &shared);
+        let site = a_site(rt, &shared, &mut seat);
+        let mutex = a_mutex(rt, &shared, &mut seat, "m", gate);
+        let held = taken(rt, &shared, &mut seat, &mutex, site);
+        not_granted(
             rt,
-            &shared,
-            &mut seat,
-            "m",
-            None,
-            LockFlags::empty(),
-            self.gate,
-        )
-        .ok()
-        .expect(rt, "a mutex");
-        let held = mutex
-            .lock(rt, &shared, &mut seat, site)
-            .ok()
-            .expect(rt, "the mutex");
-        match mutex.lock(rt, &shared, &mut seat, site) {
-            Ok(second) => abandon(second),
-            Err(fault) => assert_eq!(rt; fault, Fault::Recursed),
-        }
+            mutex.lock(rt, &shared, &mut seat, site),
+            Fault::Recursed,
+        );
         abandon(held);
+        closed(rt, alloc, shared, seat).history().len()
     }
+}
+
+fn takes_twice<R: Wait + Abort, G: Gate + Drop>(rt: &R, alloc: Global, inner: G)
+where
+    G::Ticket: Drop,
+{
+    let counts = Counts::new();
+    let gate = Counted {
+        inner,
+        counts: &counts,
+    };
+    assert_eq!(rt; run_with(rt, alloc, 2, 64, TakenTwice { alloc, gate }), 3);
+    assert_eq!(rt; counts.all(), [1, 0, 0, 0, 0]);
 }
 
 #[test]
 fn a_refused_check_enters_no_gate(rt: HostRuntime) -> Result<(), Fail> {
-    let counts = Counts::new();
-    let gate = Counted {
-        inner: CondGate::new(rt.alloc())?,
-        counts: &counts,
-    };
-    run_with(&rt, rt.alloc(), 2, 64, TakenTwice { gate });
-    assert_eq!(rt; counts.all(), [1, 0, 0, 0, 0]);
+    let alloc = rt.alloc();
+    takes_twice(&rt, alloc, CondGate::new(alloc)?);
+    takes_twice(&rt, alloc, SpinGate::new(alloc)?);
+    Ok(())
+}
+
+/// A mutex whose gate lets nobody in, and that is then destroyed.
+#[derive(Drop)]
+struct ShutOut {
+    alloc: Global,
+}
+
+impl<R: Wait + Abort> Program<R> for ShutOut {
+    type Out = Verifier;
+
+    ghost done = { λ program out. Unit {0} };
+
+    fn run<J: Room + Send + Sync>(self, rt: &R, shared: Shared<J>) -> Verifier {
+        let mut seat = a_seat(rt, &shared);
+        let site = a_site(rt, &shared, &mut seat);
+        let mutex = a_mutex(rt, &shared, &mut seat, "m", Shut { mark: 7 });
+        not_granted(
+            rt,
+            mutex.lock(rt, &shared, &mut seat, site),
+            Fault::GateRefused,
+        );
+        match mutex.destroy(rt, &shared, &mut seat) {
+            Ok(gate) => assert_eq!(rt; gate.mark, 7),
+            Err((_, fault)) => panic!(rt; "not destroyed: {fault}"),
+        }
+        closed(rt, self.alloc, shared, seat)
+    }
+}
+
+/// What an entry is of, where a refused acquisition makes such entries.
+fn word_of(entry: &Entry) -> &'static str {
+    match &entry.call {
+        Call::Init(_) => "init",
+        Call::Check(_) => "check",
+        Call::GiveUp(_) => "give up",
+        Call::Destroy(_) => "destroy",
+        _ => "another",
+    }
+}
+
+#[test]
+fn a_gate_that_lets_nobody_in(rt: HostRuntime) -> Result<(), Fail> {
+    let alloc = rt.alloc();
+    let verifier = run_with(&rt, alloc, 2, 64, ShutOut { alloc });
+    let mut words = verifier.history().iter().map(word_of);
+    assert_eq!(rt; words.next(), Some("init"));
+    assert_eq!(rt; words.next(), Some("check"));
+    assert_eq!(rt; words.next(), Some("give up"));
+    assert_eq!(rt; words.next(), Some("destroy"));
+    assert_eq!(rt; words.next(), None);
     Ok(())
 }
 
@@ -89,33 +145,26 @@ where
     }
 }
 
-/// A release and a downgrade that are refused: the one of a mutex that is marked, the other of a lock that is held twice.
+/// A release that is refused: that of a mutex that is marked.
 #[derive(Drop)]
-struct Refusing<'a> {
-    counts: &'a Counts,
-    mutex: Counted<'a, CondGate>,
-    rw: Counted<'a, CondGate>,
+struct Marked<'a> {
+    alloc: Global,
+    gate: Counted<'a, CondGate>,
 }
 
-impl<R: Wait + Abort> Program<R> for Refusing<'_> {
+impl<R: Wait + Abort> Program<R> for Marked<'_> {
     type Out = ();
 
     ghost done = { λ program out. Unit {0} };
 
     fn run<J: Room + Send + Sync>(self, rt: &R, shared: Shared<J>) {
-        let Refusing { counts, mutex, rw } = self;
-        let mut one = shared.seat(rt).ok().expect(rt, "a seat");
-        let mut two = shared.seat(rt).ok().expect(rt, "a seat");
-        let file = shared.file(rt, &mut one, "f").ok().expect(rt, "a file");
-        let site = Site { file, line: 1 };
-        let flags = LockFlags::RECURSABLE;
-        let mutex = Mtx::new(rt, &shared, &mut one, "m", None, flags, mutex)
-            .ok()
-            .expect(rt, "a mutex");
-        let rw = Rw::new(rt, &shared, &mut one, "rw", None, flags, rw)
-            .ok()
-            .expect(rt, "a lock");
-        let held = granted(rt, mutex.lock(rt, &shared, &mut one, site));
+        let Marked { alloc, gate } = self;
+        let counts = gate.counts;
+        let mut one = a_seat(rt, &shared);
+        let mut two = a_seat(rt, &shared);
+        let site = a_site(rt, &shared, &mut one);
+        let mutex = a_mutex(rt, &shared, &mut one, "m", gate);
+        let held = taken(rt, &shared, &mut one, &mutex, site);
         assert!(rt; shared.norelease(rt, &mut one, mutex.number()).is_ok());
         let held = not_released(
             rt,
@@ -123,39 +172,69 @@ impl<R: Wait + Abort> Program<R> for Refusing<'_> {
             Fault::ForbiddenUnlock,
         );
         assert_eq!(rt; counts.all(), [1, 0, 0, 0, 0]);
+        let site = a_site(rt, &shared, &mut two);
         shut(rt, mutex.try_lock(rt, &shared, &mut two, site));
         assert!(rt; shared.releaseok(rt, &mut one, mutex.number()).is_ok());
-        released(rt, mutex.unlock(rt, &shared, &mut one, held));
+        let_go(rt, &shared, &mut one, &mutex, held);
         assert_eq!(rt; counts.all(), [1, 1, 1, 0, 0]);
-        let held = granted(rt, rw.lock(rt, &shared, &mut one, Mode::Exclusive, site));
-        let held = kept(rt, rw.recurse(rt, &shared, &mut one, site, held));
-        let held = refused(
-            rt,
-            rw.downgrade(rt, &shared, &mut one, held),
-            Fault::DowngradeRecursed,
-        );
-        assert_eq!(rt; counts.all(), [2, 1, 1, 0, 0]);
-        abandon(held);
+        closed_by_all(rt, shared, pair_of(rt, alloc, one, two));
     }
 }
 
 #[test]
-fn refused_calls_leave_the_gate(rt: HostRuntime) -> Result<(), Fail> {
+fn a_refused_release_leaves_the_gate(rt: HostRuntime) -> Result<(), Fail> {
+    let alloc = rt.alloc();
     let counts = Counts::new();
-    let mutex = Counted {
-        inner: CondGate::new(rt.alloc())?,
+    let gate = Counted {
+        inner: CondGate::new(alloc)?,
         counts: &counts,
     };
-    let rw = Counted {
-        inner: CondGate::new(rt.alloc())?,
+    run_with(&rt, alloc, 2, 64, Marked { alloc, gate });
+    Ok(())
+}
+
+/// A downgrade that is refused: that of a lock that is held twice.
+#[derive(Drop)]
+struct HeldTwice<'a> {
+    alloc: Global,
+    gate: Counted<'a, CondGate>,
+}
+
+impl<R: Wait + Abort> Program<R> for HeldTwice<'_> {
+    type Out = ();
+
+    ghost done = { λ program out. Unit {0} };
+
+    fn run<J: Room + Send + Sync>(self, rt: &R, shared: Shared<J>) {
+        let HeldTwice { alloc, gate } = self;
+        let mut seat = a_seat(rt, &shared);
+        let site = a_site(rt, &shared, &mut seat);
+        let flags = LockFlags::RECURSABLE;
+        let lock = Rw::new(rt, &shared, &mut seat, "rw", None, flags, gate)
+            .ok()
+            .expect(rt, "a lock");
+        let held = granted(rt, lock.lock(rt, &shared, &mut seat, Mode::Exclusive, site));
+        let held = kept(rt, lock.recurse(rt, &shared, &mut seat, site, held));
+        let held = refused(
+            rt,
+            lock.downgrade(rt, &shared, &mut seat, held),
+            Fault::DowngradeRecursed,
+        );
+        abandon(held);
+        closed(rt, alloc, shared, seat);
+    }
+}
+
+#[test]
+fn a_refused_downgrade_leaves_the_gate(rt: HostRuntime) -> Result<(), Fail> {
+    let alloc = rt.alloc();
+    let counts = Counts::new();
+    let gate = Counted {
+        inner: CondGate::new(alloc)?,
         counts: &counts,
     };
-    let program = Refusing {
-        counts: &counts,
-        mutex,
-        rw,
-    };
-    run_with(&rt, rt.alloc(), 2, 64, program);
+    run_with(&rt, alloc, 2, 64, HeldTwice { alloc, gate });
+    assert_eq!(rt; counts.all(), [1, 0, 0, 0, 0]);
     Ok(())
 }
 
@@ -171,7 +250,7 @@ impl<R: Wait + Abort> Program<R> for Crowded<'_> {
     ghost done = { λ program out. Unit {0} };
 
     fn run<J: Room + Send + Sync>(self, rt: &R, shared: Shared<J>) {
-        let mut seat = shared.seat(rt).ok().expect(rt, "a seat");
+        let mut seat = a_seat(rt, &shared);
         for _ in 1..256 {
             assert!(rt; shared.seat(rt).is_ok());
         }
@@ -179,19 +258,8 @@ impl<R: Wait + Abort> Program<R> for Crowded<'_> {
             Ok(_) => panic!(rt; "a seat too many"),
             Err(fault) => assert_eq!(rt; fault, Fault::UnknownSeat),
         }
-        let file = shared.file(rt, &mut seat, "f").ok().expect(rt, "a file");
-        let site = Site { file, line: 1 };
-        let mutex = Mtx::new(
-            rt,
-            &shared,
-            &mut seat,
-            "m",
-            None,
-            LockFlags::empty(),
-            self.gate,
-        )
-        .ok()
-        .expect(rt, "a mutex");
+        let site = a_site(rt, &shared, &mut seat);
+        let mutex = a_mutex(rt, &shared, &mut seat, "m", self.gate);
         assert_eq!(rt; take(rt, &shared, &mut seat, &mutex, site), Ok(()));
         assert_eq!(rt;
             take(rt, &shared, &mut seat, &mutex, site),

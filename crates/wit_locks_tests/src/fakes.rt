@@ -79,3 +79,33 @@ impl<G: Gate> Gate for Counted<'_, G> {
         self.inner.downgrade(rt, ticket)
     }
 }
+
+/// A gate that lets nobody in.
+#[derive(Drop)]
+pub(crate) struct Shut {
+    pub(crate) mark: u32,
+}
+
+impl Gate for Shut {
+    type Ticket = ();
+
+    ghost admits = { λ gate mode ticket. Unit {0} };
+
+    fn acquire<J: Room, R: Wait>(&self, _rt: &R, _seat: &Seat<J>, _mode: Mode) -> Option<()> {
+        None
+    }
+
+    fn try_acquire<R: Wait>(&self, _rt: &R, _mode: Mode) -> Option<()> {
+        None
+    }
+
+    fn release<R: Wait>(&self, _rt: &R, _mode: Mode, _ticket: ()) {}
+
+    fn try_upgrade<R: Wait>(&self, _rt: &R, ticket: ()) -> Result<(), ()> {
+        Err(ticket)
+    }
+
+    fn downgrade<R: Wait>(&self, _rt: &R, ticket: ()) {
+        ticket
+    }
+}

@@ -4,6 +4,8 @@
 #[cfg(test)]
 mod alone;
 #[cfg(test)]
+mod exhausting;
+#[cfg(test)]
 mod fakes;
 #[cfg(test)]
 mod sharing;

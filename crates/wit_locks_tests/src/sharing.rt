@@ -1,7 +1,7 @@
 //! Two seats share a lock, over each gate that there is.
 
 use crate::tokens::{granted, kept, left, refused, released, shut, tried};
-use crate::verifiers::{pair_of, run_with};
+use crate::verifiers::{a_seat, a_site, closed_by_all, pair_of, run_with};
 use std::alloc::Global;
 use std::process::Abort;
 use std::sync::Wait;
@@ -27,20 +27,17 @@ where
     ghost done = { λ program out. Unit {0} };
 
     fn run<J: Room + Send + Sync>(self, rt: &R, shared: Shared<J>) -> usize {
-        let mut one = shared.seat(rt).ok().expect(rt, "a seat");
-        let mut two = shared.seat(rt).ok().expect(rt, "a seat");
-        let file = shared.file(rt, &mut one, "f").ok().expect(rt, "a file");
-        let site = Site { file, line: 1 };
+        let mut one = a_seat(rt, &shared);
+        let mut two = a_seat(rt, &shared);
+        let site = a_site(rt, &shared, &mut one);
         let flags = LockFlags::RECURSABLE;
         let lock = match Rw::new(rt, &shared, &mut one, "rw", None, flags, self.gate) {
             Ok(lock) => lock,
             Err((_, fault)) => panic!(rt; "no lock: {fault}"),
         };
         share_and_have_alone(rt, &shared, &mut one, &mut two, &lock, site);
-        match shared.close(rt, pair_of(rt, self.alloc, one, two)) {
-            Ok(verifier) => verifier.history().len(),
-            Err(_) => panic!(rt; "not closed"),
-        }
+        let seats = pair_of(rt, self.alloc, one, two);
+        closed_by_all(rt, shared, seats).history().len()
     }
 }
 

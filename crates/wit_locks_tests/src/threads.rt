@@ -3,9 +3,8 @@
 ghost use Rattle.std.specs.Prelude.{◌≡◌};
 ghost use Rattle.wit_gates.specs.Tickets.{pass};
 
-use crate::tokens::{granted, released};
-use crate::verifiers::opened;
-use bitflags::Flags;
+use crate::tokens::{let_go, taken};
+use crate::verifiers::{a_mutex, a_seat, a_site, opened};
 use std::alloc::Global;
 use std::marker::Brand;
 use std::process::Abort;
@@ -15,7 +14,7 @@ use std::test::Fail;
 use std::thread::{self, Threads, join};
 use wit_gates::{CondGate, Gate};
 use wit_locks::Mtx;
-use wit_model::{Fault, LockFlags, Mode, Site};
+use wit_model::{Fault, Mode, Site};
 use wit_shared::{Opened, Room, Seat, Shared};
 
 // How often a thread looks whether the other one has got on.
@@ -98,8 +97,8 @@ fn take<J: Room, G: Gate, R: Wait + Abort>(
 where
     G::Ticket: Drop,
 {
-    let held = granted(rt, mutex.lock(rt, shared, seat, site));
-    released(rt, mutex.unlock(rt, shared, seat, held));
+    let held = taken(rt, shared, seat, mutex, site);
+    let_go(rt, shared, seat, mutex, held);
 }
 
 /// Takes a mutex once the other thread lets it begin, and tells that it has.
@@ -127,24 +126,15 @@ fn wait_for_one_another<J: Room + Send + Sync, R: Threads + Wait + Abort + Sync>
     requires { (opened.0.start ≡ J.start) × (opened.1 ≡ J.table) }
 {
     let shared = opened.named::<J>();
-    let mut one = shared.seat(rt)?;
-    let two = shared.seat(rt)?;
-    let file = shared.file(rt, &mut one, "f")?;
-    let site = Site { file, line: 1 };
-    let flags = LockFlags::empty();
+    let mut one = a_seat(rt, &shared);
+    let two = a_seat(rt, &shared);
+    let site = a_site(rt, &shared, &mut one);
     let gate = Patient {
         inner: CondGate::new(alloc)?,
         signals,
     };
-    let patient = match Mtx::new(rt, &shared, &mut one, "a", None, flags, gate) {
-        Ok(mutex) => mutex,
-        Err((_, fault)) => return Err(fault),
-    };
-    let gate = CondGate::new(alloc)?;
-    let other = match Mtx::new(rt, &shared, &mut one, "b", None, flags, gate) {
-        Ok(mutex) => mutex,
-        Err((_, fault)) => return Err(fault),
-    };
+    let patient = a_mutex(rt, &shared, &mut one, "a", gate);
+    let other = a_mutex(rt, &shared, &mut one, "b", CondGate::new(alloc)?);
     let (watched, mutex) = (&shared, &other);
     let ((), begun) = join(
         rt,

@@ -2,11 +2,48 @@
 
 ghost use Rattle.std.specs.Prelude.{◌≡◌, Ok, Err, Some};
 ghost use Rattle.wit_model.specs.declared.faults.Fault.{Fault};
+ghost use Rattle.wit_model.specs.declared.locks.Mode.TheVariants.{Exclusive};
 
 use std::process::Abort;
+use std::sync::Wait;
 use wit_gates::Gate;
-use wit_locks::{Held, abandon};
-use wit_model::Fault;
+use wit_locks::{Held, Mtx, abandon};
+use wit_model::{Fault, Site};
+use wit_shared::{Room, Seat, Shared};
+
+/// Takes a mutex.
+pub(crate) fn taken<R: Wait + Abort, J: Room, G: Gate>(
+    rt: &R,
+    shared: &Shared<J>,
+    seat: &mut Seat<J>,
+    mutex: &Mtx<J, G>,
+    site: Site,
+) -> Held<G>
+where
+    G::Ticket: Drop,
+    ensures gate { G.admits mutex.now.gate Exclusive result.ticket × (result.hold.mode ≡ Exclusive) }
+    ensures held { (result.hold.lock ≡ mutex.now.number) × (result.hold.seat.0 ≡ seat.old.seat) }
+    ensures seat { seat.new.seat ≡ seat.old.seat }
+{
+    granted(rt, mutex.lock(rt, shared, seat, site))
+}
+
+/// Lets it go.
+pub(crate) fn let_go<R: Wait + Abort, J: Room, G: Gate>(
+    rt: &R,
+    shared: &Shared<J>,
+    seat: &mut Seat<J>,
+    mutex: &Mtx<J, G>,
+    held: Held<G>,
+)
+where
+    G::Ticket: Drop,
+    requires gate { G.admits mutex.now.gate Exclusive held.ticket × (held.hold.mode ≡ Exclusive) }
+    requires held { (held.hold.lock ≡ mutex.now.number) × (held.hold.seat.0 ≡ seat.old.seat) }
+    ensures { seat.new.seat ≡ seat.old.seat }
+{
+    released(rt, mutex.unlock(rt, shared, seat, held))
+}
 
 /// The token.
 pub(crate) fn granted<R: Abort, G: Gate>(rt: &R, answer: Result<Held<G>, Fault>) -> Held<G>
@@ -17,6 +54,20 @@ where
     match answer {
         Ok(held) => held,
         Err(fault) => panic!(rt; "refused: {fault}"),
+    }
+}
+
+/// None: the lock isn't had, for this fault.
+pub(crate) fn not_granted<R: Abort, G: Gate>(rt: &R, answer: Result<Held<G>, Fault>, wanted: Fault)
+where
+    G::Ticket: Drop,
+{
+    match answer {
+        Ok(held) => {
+            abandon(held);
+            panic!(rt; "not refused")
+        }
+        Err(fault) => assert_eq!(rt; fault, wanted),
     }
 }
 

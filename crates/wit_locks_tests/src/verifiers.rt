@@ -1,10 +1,25 @@
 //! Verifiers that are shared.
 
+use bitflags::Flags;
 use std::alloc::Global;
 use std::process::Abort;
+use std::sync::Wait;
 use wit_core::Verifier;
-use wit_model::Limits;
-use wit_shared::{Opened, Program, Room, Seat, share};
+use wit_gates::Gate;
+use wit_locks::Mtx;
+use wit_model::{Limits, LockFlags, Site};
+use wit_shared::{Opened, Program, Room, Seat, Shared, share};
+
+/// Limits for a few seats and locks, and for a log of so many entries.
+fn limits<R: Abort>(rt: &R, seats: u32, log: u32) -> Limits {
+    Limits::new(seats, 8, 16, 32, log).expect(rt, "limits")
+}
+
+fn verifier_within<R: Abort>(rt: &R, alloc: Global, limits: Limits) -> Verifier {
+    Verifier::new(alloc, limits, Vec::new(alloc), Vec::new(alloc))
+        .ok()
+        .expect(rt, "memory")
+}
 
 /// Runs a program with a new verifier for a few seats and locks, whose log holds this many entries.
 pub(crate) fn run_with<R: Abort, S: Program<R> + Drop>(
@@ -14,13 +29,63 @@ pub(crate) fn run_with<R: Abort, S: Program<R> + Drop>(
     log: u32,
     program: S,
 ) -> S::Out {
-    let limits = Limits::new(seats, 8, 16, 32, log).expect(rt, "limits");
-    let verifier = Verifier::new(alloc, limits, Vec::new(alloc), Vec::new(alloc))
-        .ok()
-        .expect(rt, "memory");
+    let verifier = verifier_within(rt, alloc, limits(rt, seats, log));
     share(alloc, rt, verifier, program)
         .ok()
         .expect(rt, "memory")
+}
+
+/// The next seat.
+pub(crate) fn a_seat<R: Wait + Abort, J: Room>(rt: &R, shared: &Shared<J>) -> Seat<J> {
+    shared.seat(rt).ok().expect(rt, "a seat")
+}
+
+/// A line of a file that the seat was given.
+pub(crate) fn a_site<R: Wait + Abort, J: Room>(
+    rt: &R,
+    shared: &Shared<J>,
+    seat: &mut Seat<J>,
+) -> Site {
+    let file = shared.file(rt, seat, "f").ok().expect(rt, "a file");
+    Site { file, line: 1 }
+}
+
+/// A mutex over this gate.
+pub(crate) fn a_mutex<R: Wait + Abort, J: Room, G: Gate + Drop>(
+    rt: &R,
+    shared: &Shared<J>,
+    seat: &mut Seat<J>,
+    name: &str,
+    gate: G,
+) -> Mtx<J, G> {
+    match Mtx::new(rt, shared, seat, name, None, LockFlags::empty(), gate) {
+        Ok(mutex) => mutex,
+        Err((_, fault)) => panic!(rt; "no mutex: {fault}"),
+    }
+}
+
+/// The verifier, once its only seat is given back.
+pub(crate) fn closed<R: Wait + Abort, J: Room>(
+    rt: &R,
+    alloc: Global,
+    shared: Shared<J>,
+    seat: Seat<J>,
+) -> Verifier {
+    let mut seats = Vec::with_capacity(alloc, 1).ok().expect(rt, "memory");
+    seats.push_reserved(seat);
+    closed_by_all(rt, shared, seats)
+}
+
+/// The verifier, once its seats are given back.
+pub(crate) fn closed_by_all<R: Wait + Abort, J: Room>(
+    rt: &R,
+    shared: Shared<J>,
+    seats: Vec<Seat<J>>,
+) -> Verifier {
+    match shared.close(rt, seats) {
+        Ok(verifier) => verifier,
+        Err(_) => panic!(rt; "a seat is missing"),
+    }
 }
 
 /// Two seats in a list.
@@ -38,9 +103,11 @@ pub(crate) fn pair_of<R: Abort, J: Room>(
 
 /// A verifier that is about to be shared.
 pub(crate) fn opened<R: Abort>(rt: &R, alloc: Global, seats: u32, log: u32) -> Opened {
-    let limits = Limits::new(seats, 8, 16, 32, log).expect(rt, "limits");
-    let verifier = Verifier::new(alloc, limits, Vec::new(alloc), Vec::new(alloc))
-        .ok()
-        .expect(rt, "memory");
+    opened_within(rt, alloc, limits(rt, seats, log))
+}
+
+/// One of these limits.
+pub(crate) fn opened_within<R: Abort>(rt: &R, alloc: Global, limits: Limits) -> Opened {
+    let verifier = verifier_within(rt, alloc, limits);
     Opened::new(alloc, verifier).ok().expect(rt, "memory")
 }
