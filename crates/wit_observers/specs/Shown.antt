@@ -14,7 +14,7 @@ abbrev pub shape : Sheet → List Adoption → ℕ → List ℕ → Shape
 shape page tail size cells = record { page = page; tail = tail; size = size; cells = cells }
 
 abbrev pub shape_of : Store → Shape
-shape_of s = shape s.page s.tail.value.items s.size s.cells.items
+shape_of s = shape s.page s.tail.orders s.size s.cells.items
 
 -- what is shown once a change is taken in
 abbrev pub changed : Shape → Change → Shape

@@ -8,6 +8,7 @@ mod observer;
 mod publisher;
 mod rule;
 mod store;
+mod tail;
 
 pub use news::News;
 pub use observer::Observer;

@@ -11,11 +11,11 @@ use crate::cells::blank;
 use crate::news::News;
 use crate::rule::{Longer, Looks, Place, Showing, Twice};
 use crate::store::{Change, Store};
+use crate::tail::Tail;
 use core::mem::replace_with;
 use left_right::writer::Writer;
 use std::alloc::{AllocError, Global};
 use std::marker::Model;
-use std::snapshot::Snapshot;
 use std::sync::Wait;
 use wit_adoptions::{Front, Keeper, Naming, Page};
 use wit_model::Adoption;
@@ -23,14 +23,14 @@ use wit_model::Adoption;
 // What is shown while there are no orders.
 fn first_store(alloc: Global, page: Page, size: u16) -> Result<Store, AllocError>
     ensures page { IfOk result (λ s. s.page ≡ page) }
-    ensures tail { IfOk result (λ s. s.tail.value.items ≡ []) }
+    ensures tail { IfOk result (λ s. s.tail.orders ≡ []) }
     ensures size { IfOk result (λ s. s.size ≡ size) }
     ensures cells { IfOk result (λ s. s.cells.items ≡ replicate (size * size) 0) }
 {
     let none = Vec::new(alloc);
     Ok(Store {
         page,
-        tail: Snapshot::of(&none),
+        tail: Tail::of(&none),
         size,
         cells: blank(alloc, size)?,
     })

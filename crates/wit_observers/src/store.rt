@@ -4,9 +4,9 @@ ghost use Rattle.std.specs.Prelude.{◌≡◌, ◌+◌, ◌*◌, ◌<◌, ◌^�
 ghost use Rattle.wit_observers.specs.Numbers.{number_at};
 
 use crate::cells::{number_at, put_all};
+use crate::tail::Tail;
 use left_right::Absorb;
 use std::alloc::AllocError;
-use std::snapshot::Snapshot;
 use wit_adoptions::Page;
 use wit_model::{Adoption, TypeNo};
 
@@ -14,8 +14,7 @@ use wit_model::{Adoption, TypeNo};
 #[derive(Drop)]
 pub struct Store {
     pub page: Page,
-    /// The orders that are shown and that the page doesn't have yet. It has no bytes.
-    pub tail: Snapshot<Vec<Adoption>>,
+    pub tail: Tail,
     pub size: u16,
     pub cells: Vec<u32>,
     ghost square: { length cells.items ≡ size * size },
@@ -63,7 +62,7 @@ impl Absorb<Change> for Store {
     fn absorb_first(&mut self, change: &Change, _other: &Store) -> Result<(), AllocError> {
         put_all(self.size, &mut self.cells, change.before, &change.orders);
         self.page = change.page.again();
-        self.tail = Snapshot::of(&change.orders);
+        self.tail = Tail::of(&change.orders);
         Ok(())
     }
 }
