@@ -9,5 +9,6 @@ pub mod Reads
 pub mod Ruled
 pub mod Sound
 pub mod Started
+pub mod ToldPairs
 pub mod TypedLocks
 pub mod Types

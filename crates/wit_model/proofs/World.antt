@@ -6,6 +6,7 @@ pub mod Calling
 pub mod Circled
 pub mod Covered
 pub mod Crossed
+pub mod Dues
 pub mod Exclusion
 pub mod Holders
 pub mod Moments

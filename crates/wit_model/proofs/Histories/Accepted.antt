@@ -1,31 +1,24 @@
 -- What the acceptance of a call says: each fault's absence, and the reply.
-use Rattle.std.proofs.Common.{◌≡◌, ℕ, ◌+◌, Bool, true, false, not, ◌&&◌, cond, eqb, nat_le, nat_lt, length, is_some, Option, Some, None, Result, Ok, Err, refl, ap, sym, ◌∙◌}
+use Rattle.std.proofs.Common.{◌≡◌, ℕ, ◌+◌, Bool, true, false, not, ◌&&◌, cond, eqb, nat_le, length, is_some, Option, Some, None, Result, Ok, Err, refl, ap, sym, ◌∙◌}
 use Rattle.std.proofs.lemmas.Bool.{eqb-true, false≢true, and_parts, not-true}
 use Rattle.wit_model.specs.declared.faults.Fault.{Fault}
-use Rattle.wit_model.specs.declared.faults.Fault.TheVariants.{LogFull, NotLocked, KindMismatch, SameType, WrongOrder}
+use Rattle.wit_model.specs.declared.faults.Fault.TheVariants.{LogFull}
 use Rattle.wit_model.specs.declared.locks.Mode.{Mode}
 use Rattle.wit_model.specs.declared.locks.Watch.{Watch}
 use Rattle.wit_model.specs.declared.locks.Site.{Site}
-use Rattle.wit_model.specs.declared.locks.TypeNo.{TypeNo}
 use Rattle.wit_model.specs.declared.locks.Instance.{Instance}
 use Rattle.wit_model.specs.declared.calls.NewLock.{NewLock}
 use Rattle.wit_model.specs.declared.calls.Request.{Request}
-use Rattle.wit_model.specs.declared.calls.Call.{Call}
-use Rattle.wit_model.specs.declared.calls.Call.TheVariants.{SetWatch, Destroy, Upgrade, Downgrade, NoRelease, ReleaseOk, DefineOrder}
 use Rattle.wit_model.specs.declared.calls.Reply.{Reply}
-use Rattle.wit_model.specs.declared.calls.Reply.TheVariants.{Made, Done, Adopted, Known, Ignored, Recorded, Exhausted, Unrecorded, Unlocked}
+use Rattle.wit_model.specs.declared.calls.Reply.TheVariants.{Made, Done, Recorded, Exhausted, Unrecorded, Unlocked}
 use Rattle.wit_model.specs.Rules.Names.{is_name}
 use Rattle.wit_model.specs.Rules.History.{is_on, is_off}
 use Rattle.wit_model.specs.Rules.Types.{type_name_of, is_enrolled, is_otherwise}
-use Rattle.wit_model.specs.Rules.Orders.{is_direct, is_before}
 use Rattle.wit_model.specs.Rules.Locks.{lock_at, is_destroyed}
 use Rattle.wit_model.specs.Rules.State.{State, seat_at, is_seat, is_live, has_room}
 use Rattle.wit_model.specs.Rules.Verdict.{is_exclusive, verdict}
-use Rattle.wit_model.specs.Rules.Step.{held_by, is_pending, is_for, is_good_name, is_shareable, is_too_deep, with_room, is_exhausted, recorded, released, let_go, step_init, step_check, step_note, step_note_try, step_give_up, step_unlock, step_set_watch, step, is_logged}
+use Rattle.wit_model.specs.Rules.Step.{held_by, is_pending, is_for, is_good_name, is_shareable, is_too_deep, with_room, is_exhausted, recorded, released, let_go, step_init, step_check, step_note, step_note_try, step_give_up, step_unlock, step_set_watch, is_logged}
 use Rattle.wit_model.specs.Rules.Numbers.{is_given, is_number}
-use Rattle.wit_model.specs.Rules.Questions.{class_at, with_entry}
-use Rattle.wit_model.specs.Rules.Turning.{is_upgradable, upgraded, downgraded, mark_answer, step_turn, step_upgrade, step_downgrade, step_mark}
-use Rattle.wit_model.specs.Rules.Defining.{are_of_two_kinds, define, step_define}
 use Rattle.wit_model.specs.Rules.Destroying.{is_used, step_destroy}
 
 -- a fault that doesn't apply is passed by
@@ -67,7 +60,7 @@ pub record CheckAccepted (s : State) (t : ℕ) (q : Request) (r : Reply) : Type 
   pub verdict : verdict s.profile s.known s.watch (seat_at s t) q ≡ Ok r
   pub room : has_room s 3 ≡ true
 
-roomy : (s : State) (n : ℕ) (v : Result Reply Fault) (r : Reply) → with_room s n v ≡ Ok r → (v ≡ Ok r) × (has_room s n ≡ true)
+pub roomy : (s : State) (n : ℕ) (v : Result Reply Fault) (r : Reply) → with_room s n v ≡ Ok r → (v ≡ Ok r) × (has_room s n ≡ true)
 roomy s n (Err f) r ok = (cc)
 roomy s n (Ok a) r ok = go (has_room s n) refl ok
   where
@@ -245,204 +238,3 @@ destroy_accepted s t l r ok =
     let d = passed (is_used s l) _ _ r c.1 in
     let e = passed_not (has_room s 1) _ _ r d.1 in
     record { seat = a.0; lock = live-given s l b.0; live = b.0; idle = c.0; unused = d.0; room = e.0; reply = sym (same_reply e.1) }
-
--- a call that may be passed over, and isn't
-entered : (s : State) (v : Result Reply Fault) (r : Reply) → is_logged r ≡ true → with_entry s v ≡ Ok r → (v ≡ Ok r) × (has_room s 1 ≡ true)
-entered s (Ok Ignored) r kept ok = absurd (false≢true (ap is_logged (same_reply ok) ∙ kept))
-entered s v r kept ok = roomy s 1 v r ok
-
--- a lock that isn't held is never turned or marked
-missed : (on : Bool) (r : Reply) → is_logged r ≡ true → cond {A = Result Reply Fault} on (Err NotLocked) (Ok Ignored) ≡ Ok r → ⊥
-missed true r kept ok = (cc)
-missed false r kept ok = false≢true (ap is_logged (same_reply ok) ∙ kept)
-
--- what is found of a lock whose mode is turned: it is held in the other mode (here, whether that is the exclusive one), and once
-pub record TurnAccepted (s : State) (t l : ℕ) (exclusive : Bool) (r : Reply) : Type 0 where
-  pub seat : is_seat s t ≡ true
-  pub lock : is_given s.known.locks l ≡ true
-  pub live : is_live s l ≡ true
-  pub idle : is_pending s t ≡ false
-  pub class : is_upgradable (class_at s l) ≡ true
-  pub instance : Instance
-  pub held : held_by s t l ≡ Some instance
-  pub mode : is_exclusive instance.mode ≡ exclusive
-  pub single : nat_lt 0 instance.count ≡ false
-  pub room : has_room s 1 ≡ true
-  pub reply : r ≡ Done
-
--- the lock as it is found
-record IsFound (o : Option Instance) (exclusive : Bool) (r : Reply) : Type 0 where
-  instance : Instance
-  held : o ≡ Some instance
-  mode : is_exclusive instance.mode ≡ exclusive
-  single : nat_lt 0 instance.count ≡ false
-  reply : r ≡ Done
-
-found_up : (watch : Watch) (o : Option Instance) (r : Reply) → is_logged r ≡ true → upgraded watch o ≡ Ok r → IsFound o false r
-found_up watch None r kept ok = absurd (missed (is_on watch) r kept ok)
-found_up watch (Some i) r kept ok =
-    let a = passed (is_exclusive i.mode) _ _ r ok in
-    let b = passed (nat_lt 0 i.count) _ _ r a.1 in
-    record { instance = i; held = refl; mode = a.0; single = b.0; reply = sym (same_reply b.1) }
-
-found_down : (watch : Watch) (o : Option Instance) (r : Reply) → is_logged r ≡ true → downgraded watch o ≡ Ok r → IsFound o true r
-found_down watch None r kept ok = absurd (missed (is_on watch) r kept ok)
-found_down watch (Some i) r kept ok =
-    let a = passed_not (is_exclusive i.mode) _ _ r ok in
-    let b = passed (nat_lt 0 i.count) _ _ r a.1 in
-    record { instance = i; held = refl; mode = a.0; single = b.0; reply = sym (same_reply b.1) }
-
-turn_accepted : (s : State) (t l : ℕ) (exclusive : Bool) (answer : Result Reply Fault) (r : Reply) → is_logged r ≡ true
-    → (answer ≡ Ok r → IsFound (held_by s t l) exclusive r) → step_turn s t l answer ≡ Ok r → TurnAccepted s t l exclusive r
-turn_accepted s t l exclusive answer r kept found ok =
-    let a = passed_not (is_seat s t) _ _ r ok in
-    let b = passed_not (is_live s l) _ _ r a.1 in
-    let c = passed (is_pending s t) _ _ r b.1 in
-    let d = passed_not (is_upgradable (class_at s l)) _ _ r c.1 in
-    let e = entered s answer r kept d.1 in
-    let f = found e.0 in
-    record {
-      seat = a.0;
-      lock = live-given s l b.0;
-      live = b.0;
-      idle = c.0;
-      class = d.0;
-      instance = f.instance;
-      held = f.held;
-      mode = f.mode;
-      single = f.single;
-      room = e.1;
-      reply = f.reply;
-    }
-
-pub upgrade_accepted : (s : State) (t l : ℕ) (r : Reply) → step_upgrade s t l ≡ Ok r → is_logged r ≡ true → TurnAccepted s t l false r
-upgrade_accepted s t l r ok kept = turn_accepted s t l false (upgraded s.watch (held_by s t l)) r kept (found_up s.watch (held_by s t l) r kept) ok
-
-pub downgrade_accepted : (s : State) (t l : ℕ) (r : Reply) → step_downgrade s t l ≡ Ok r → is_logged r ≡ true → TurnAccepted s t l true r
-downgrade_accepted s t l r ok kept = turn_accepted s t l true (downgraded s.watch (held_by s t l)) r kept (found_down s.watch (held_by s t l) r kept) ok
-
-pub record MarkAccepted (s : State) (t l : ℕ) (r : Reply) : Type 0 where
-  pub seat : is_seat s t ≡ true
-  pub lock : is_given s.known.locks l ≡ true
-  pub live : is_live s l ≡ true
-  pub idle : is_pending s t ≡ false
-  pub on : is_on s.watch ≡ true
-  pub instance : Instance
-  pub held : held_by s t l ≡ Some instance
-  pub room : has_room s 1 ≡ true
-  pub reply : r ≡ Done
-
-marked_on : (on : Bool) (r : Reply) → is_logged r ≡ true → cond {A = Result Reply Fault} on (Ok Done) (Ok Ignored) ≡ Ok r → (on ≡ true) × (r ≡ Done)
-marked_on true r kept ok = (refl, sym (same_reply ok))
-marked_on false r kept ok = absurd (false≢true (ap is_logged (same_reply ok) ∙ kept))
-
-marked_by : (watch : Watch) (o : Option Instance) (r : Reply) → is_logged r ≡ true → mark_answer watch o ≡ Ok r
-    → (i : Instance) × (o ≡ Some i) × (is_on watch ≡ true) × (r ≡ Done)
-marked_by watch None r kept ok = absurd (missed (is_on watch) r kept ok)
-marked_by watch (Some i) r kept ok = let a = marked_on (is_on watch) r kept ok in (i, refl, a.0, a.1)
-
-pub mark_accepted : (s : State) (t l : ℕ) (r : Reply) → step_mark s t l ≡ Ok r → is_logged r ≡ true → MarkAccepted s t l r
-mark_accepted s t l r ok kept =
-    let a = passed_not (is_seat s t) _ _ r ok in
-    let b = passed_not (is_live s l) _ _ r a.1 in
-    let c = passed (is_pending s t) _ _ r b.1 in
-    let d = entered s (mark_answer s.watch (held_by s t l)) r kept c.1 in
-    let e = marked_by s.watch (held_by s t l) r kept d.0 in
-    record { seat = a.0; lock = live-given s l b.0; live = b.0; idle = c.0; on = e.2; instance = e.0; held = e.1; room = d.1; reply = e.3 }
-
-pub record DefineAccepted (s : State) (t a b : ℕ) (r : Reply) : Type 0 where
-  pub seat : is_seat s t ≡ true
-  pub first : is_live s a ≡ true
-  pub second : is_live s b ≡ true
-  pub idle : is_pending s t ≡ false
-  pub on : is_off s.watch ≡ false
-  pub answer : define s.known a b ≡ Ok r
-  pub room : has_room s 1 ≡ true
-
-defined_on : (off : Bool) (rest : Result Reply Fault) (r : Reply) → is_logged r ≡ true → cond off (Ok Ignored) rest ≡ Ok r → (off ≡ false) × (rest ≡ Ok r)
-defined_on true rest r kept ok = absurd (false≢true (ap is_logged (same_reply ok) ∙ kept))
-defined_on false rest r kept ok = (refl, ok)
-
-pub define_accepted : (s : State) (t a b : ℕ) (r : Reply) → step_define s t a b ≡ Ok r → is_logged r ≡ true → DefineAccepted s t a b r
-define_accepted s t a b r ok kept =
-    let d = passed_not (is_seat s t) _ _ r ok in
-    let e = passed_not (is_live s a && is_live s b) _ _ r d.1 in
-    let both = and_parts (is_live s a) (is_live s b) e.0 in
-    let f = passed (is_pending s t) _ _ r e.1 in
-    let g = defined_on (is_off s.watch) _ r kept f.1 in
-    let i = roomy s 1 (define s.known a b) r g.1 in
-    record { seat = d.0; first = both.0; second = both.1; idle = f.0; on = g.0; answer = i.0; room = i.1 }
-
--- ---- calls that leave requests and acquisitions as they are
-
-abbrev pub is_plain : Call → Bool
-is_plain (SetWatch w) = true
-is_plain (Destroy l) = true
-is_plain (Upgrade l) = true
-is_plain (Downgrade l) = true
-is_plain (NoRelease l) = true
-is_plain (ReleaseOk l) = true
-is_plain (DefineOrder a b) = true
-is_plain _ = false
-
--- their replies
-abbrev pub is_plain_reply : Reply → Bool
-is_plain_reply Done = true
-is_plain_reply (Adopted p c) = true
-is_plain_reply Known = true
-is_plain_reply _ = false
-
-pub record PlainAccepted (s : State) (t : ℕ) (r : Reply) : Type 0 where
-  pub seat : is_seat s t ≡ true
-  pub idle : is_pending s t ≡ false
-  pub room : has_room s 1 ≡ true
-  pub reply : is_plain_reply r ≡ true
-
-define_reply : (two same before direct : Bool) (a b : TypeNo) (r : Reply)
-    → cond {A = Result Reply Fault} two (Err KindMismatch) (cond same (Err SameType) (cond before (Err WrongOrder) (cond direct (Ok Known) (Ok (Adopted a b))))) ≡ Ok r
-    → is_plain_reply r ≡ true
-define_reply true same before direct a b r ok = (cc)
-define_reply false true before direct a b r ok = (cc)
-define_reply false false true direct a b r ok = (cc)
-define_reply false false false true a b r ok = sym (ap is_plain_reply (same_reply ok))
-define_reply false false false false a b r ok = sym (ap is_plain_reply (same_reply ok))
-
-turned_plain : (s : State) (t l : ℕ) (exclusive : Bool) (r : Reply) → TurnAccepted s t l exclusive r → PlainAccepted s t r
-turned_plain s t l exclusive r a = record { seat = a.seat; idle = a.idle; room = a.room; reply = ap is_plain_reply a.reply }
-
-marked_plain : (s : State) (t l : ℕ) (r : Reply) → MarkAccepted s t l r → PlainAccepted s t r
-marked_plain s t l r a = record { seat = a.seat; idle = a.idle; room = a.room; reply = ap is_plain_reply a.reply }
-
-defined_plain : (s : State) (t a b : ℕ) (r : Reply) → DefineAccepted s t a b r → PlainAccepted s t r
-defined_plain s t a b r d =
-    let p = (lock_at s.known.locks a).type_no in
-    let c = (lock_at s.known.locks b).type_no in
-    record {
-      seat = d.seat;
-      idle = d.idle;
-      room = d.room;
-      reply = define_reply (are_of_two_kinds s.known.types p c) (eqb p.0 c.0) (is_before s.known.orders c.0 p.0) (is_direct s.known.orders p.0 c.0) p c r d.answer;
-    }
-
-pub plain_accepted : (s : State) (t : ℕ) (c : Call) (r : Reply) → is_plain c ≡ true → step s t c ≡ Ok r → is_logged r ≡ true → PlainAccepted s t r
-plain_accepted s t (SetWatch w) r plain ok kept =
-    let a = watch_accepted s t w r ok in record { seat = a.seat; idle = a.idle; room = a.room; reply = ap is_plain_reply a.reply }
-plain_accepted s t (Destroy l) r plain ok kept =
-    let a = destroy_accepted s t l.0 r ok in record { seat = a.seat; idle = a.idle; room = a.room; reply = ap is_plain_reply a.reply }
-plain_accepted s t (Upgrade l) r plain ok kept = turned_plain s t l.0 false r (upgrade_accepted s t l.0 r ok kept)
-plain_accepted s t (Downgrade l) r plain ok kept = turned_plain s t l.0 true r (downgrade_accepted s t l.0 r ok kept)
-plain_accepted s t (NoRelease l) r plain ok kept = marked_plain s t l.0 r (mark_accepted s t l.0 r ok kept)
-plain_accepted s t (ReleaseOk l) r plain ok kept = marked_plain s t l.0 r (mark_accepted s t l.0 r ok kept)
-plain_accepted s t (DefineOrder a b) r plain ok kept = defined_plain s t a.0 b.0 r (define_accepted s t a.0 b.0 r ok kept)
-plain_accepted s t c r plain ok kept = absurd (false≢true plain)
-
--- the seat of such a call is known, also where it is passed over
-pub plain_seat : (s : State) (t : ℕ) (c : Call) (r : Reply) → is_plain c ≡ true → step s t c ≡ Ok r → is_seat s t ≡ true
-plain_seat s t (SetWatch w) r plain ok = (passed_not (is_seat s t) _ _ r ok).0
-plain_seat s t (Destroy l) r plain ok = (passed_not (is_seat s t) _ _ r ok).0
-plain_seat s t (Upgrade l) r plain ok = (passed_not (is_seat s t) _ _ r ok).0
-plain_seat s t (Downgrade l) r plain ok = (passed_not (is_seat s t) _ _ r ok).0
-plain_seat s t (NoRelease l) r plain ok = (passed_not (is_seat s t) _ _ r ok).0
-plain_seat s t (ReleaseOk l) r plain ok = (passed_not (is_seat s t) _ _ r ok).0
-plain_seat s t (DefineOrder a b) r plain ok = (passed_not (is_seat s t) _ _ r ok).0
-plain_seat s t c r plain ok = absurd (false≢true plain)

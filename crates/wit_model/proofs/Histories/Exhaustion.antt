@@ -21,7 +21,8 @@ use Rattle.wit_model.specs.Rules.State.{Start, State, state_of, seat_at}
 use Rattle.wit_model.specs.Rules.Verdict.{Basis, type_held, is_blessed, place_of, place_asked, conflict, doubled, reported, basis_of, asked_of, chain_asked}
 use Rattle.wit_model.specs.Rules.Step.{held_by, is_exhausted, recorded, step, is_logged, answer_of, story_after, IsLegal}
 use Rattle.wit_model.proofs.Orders.Ruled.{Says, Passed, Learnt, LearntAll, Doubled, Broken, ruled}
-use Rattle.wit_model.proofs.Histories.Accepted.{same_reply, check_accepted, note_accepted, try_accepted, give_up_accepted, unlock_accepted, watch_accepted, init_accepted, is_plain_reply, plain_accepted}
+use Rattle.wit_model.proofs.Histories.Accepted.{same_reply, check_accepted, note_accepted, try_accepted, give_up_accepted, unlock_accepted, watch_accepted, init_accepted}
+use Rattle.wit_model.proofs.Histories.AcceptedTurns.{is_plain_reply, plain_accepted}
 use Rattle.wit_model.proofs.Histories.Legal.{watched-before}
 
 -- a check never tells it

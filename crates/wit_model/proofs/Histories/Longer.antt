@@ -23,7 +23,8 @@ use Rattle.wit_model.specs.Rules.History.{is_off}
 use Rattle.wit_model.specs.Rules.State.{Start, State, state_of, orders_of}
 use Rattle.wit_model.specs.Rules.Step.{is_exhausted, held_by, recorded, step, story_after, IsLegal}
 use Rattle.wit_model.specs.HistoryLaws.{adoptions}
-use Rattle.wit_model.proofs.Histories.Accepted.{init_accepted, destroy_accepted, note_accepted, try_accepted, give_up_accepted, unlock_accepted, watch_accepted, upgrade_accepted, downgrade_accepted, mark_accepted}
+use Rattle.wit_model.proofs.Histories.Accepted.{init_accepted, destroy_accepted, note_accepted, try_accepted, give_up_accepted, unlock_accepted, watch_accepted}
+use Rattle.wit_model.proofs.Histories.AcceptedTurns.{upgrade_accepted, downgrade_accepted, mark_accepted}
 use Rattle.wit_model.proofs.Numbered.{with_number-at}
 
 -- ---- numbers

@@ -16,7 +16,8 @@ use Rattle.wit_model.specs.Rules.State.{Start, seat_at, known_of, state_of, orde
 use Rattle.wit_model.specs.Rules.Verdict.{basis_of, asked_of}
 use Rattle.wit_model.specs.Rules.Step.{answer_of, story_after, IsLegal}
 use Rattle.wit_model.proofs.Chains.Seats.{entry}
-use Rattle.wit_model.proofs.Histories.Accepted.{check_accepted, define_accepted}
+use Rattle.wit_model.proofs.Histories.Accepted.{check_accepted}
+use Rattle.wit_model.proofs.Histories.AcceptedTurns.{define_accepted}
 use Rattle.wit_model.proofs.Orders.AllHeld.{distinct-on}
 use Rattle.wit_model.proofs.Orders.Sound.{learnt, taught-all, after-all}
 use Rattle.wit_model.proofs.Orders.Defined.{define_adopted}

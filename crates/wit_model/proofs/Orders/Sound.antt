@@ -33,7 +33,8 @@ use Rattle.wit_model.proofs.Orders.Ruled.{IsNew, AreApart, Says, Passed, Learnt,
 use Rattle.wit_model.proofs.Chains.Held.{made_sane, held_of-all}
 use Rattle.wit_model.proofs.Chains.Seats.{entry}
 use Rattle.wit_model.proofs.Orders.TypedLocks.{made-known}
-use Rattle.wit_model.proofs.Histories.Accepted.{CheckAccepted, check_accepted, define_accepted}
+use Rattle.wit_model.proofs.Histories.Accepted.{CheckAccepted, check_accepted}
+use Rattle.wit_model.proofs.Histories.AcceptedTurns.{define_accepted}
 use Rattle.wit_model.proofs.Histories.Legal.{seat_at-state, one_chain, sane_legal}
 
 -- what a learnt order says of the chain

@@ -12,7 +12,8 @@ use Rattle.wit_model.specs.Rules.History.{is_off, chain, watch_of}
 use Rattle.wit_model.specs.Rules.State.{Start, State, known_of, state_of, seat_at}
 use Rattle.wit_model.specs.Rules.Verdict.{basis_of, asked_of}
 use Rattle.wit_model.specs.Rules.Step.{held_by, is_exhausted, recorded, step, answer_of, story_after, is_logged, IsLegal}
-use Rattle.wit_model.proofs.Histories.Accepted.{CheckAccepted, check_accepted, init_accepted, note_accepted, try_accepted, give_up_accepted, unlock_accepted, is_plain_reply, plain_accepted}
+use Rattle.wit_model.proofs.Histories.Accepted.{CheckAccepted, check_accepted, init_accepted, note_accepted, try_accepted, give_up_accepted, unlock_accepted}
+use Rattle.wit_model.proofs.Histories.AcceptedTurns.{is_plain_reply, plain_accepted}
 use Rattle.wit_model.proofs.Orders.Ruled.{Says, ruled}
 use Rattle.wit_model.proofs.Orders.Sound.{chain-judged}
 use Rattle.wit_model.proofs.VerdictLaws.Classes.{type-kind}

@@ -27,7 +27,8 @@ use Rattle.wit_model.proofs.Chains.Sane.{IsSane, IsFit, fit_by}
 use Rattle.wit_model.proofs.Chains.Acts.{num-step}
 use Rattle.wit_model.proofs.Chains.Effects.{is_not, Effect, Same, New, Gone, effect, held-same}
 use Rattle.wit_model.proofs.Chains.Held.{held-all, held_of-all, made_sane, kind-stays, kinds-stay}
-use Rattle.wit_model.proofs.Histories.Accepted.{asked-lock, same-request, init_accepted, note_accepted, try_accepted, unlock_accepted, plain_accepted}
+use Rattle.wit_model.proofs.Histories.Accepted.{asked-lock, same-request, init_accepted, note_accepted, try_accepted, unlock_accepted}
+use Rattle.wit_model.proofs.Histories.AcceptedTurns.{plain_accepted}
 use Rattle.wit_model.proofs.Histories.Asked.{asked-made}
 use Rattle.wit_model.proofs.Histories.Legal.{pending-state, sane_legal, plain-unrecorded}
 use Rattle.wit_model.proofs.Orders.Paths.{direct-before, test_from_before, is_before-trans}

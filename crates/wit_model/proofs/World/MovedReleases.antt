@@ -33,7 +33,8 @@ use Rattle.wit_model.specs.World.Steps.{IsWorld}
 use Rattle.wit_model.proofs.Chains.Acts.{num-step}
 use Rattle.wit_model.proofs.Chains.Found.{if_some}
 use Rattle.wit_model.proofs.Chains.HeldLocks.{num-of_held, held-from, mode-stays, rises-held}
-use Rattle.wit_model.proofs.Histories.Accepted.{UnlockAccepted, passed, passed_not, same_reply, live-given, live-undestroyed, note_accepted, try_accepted, give_up_accepted, unlock_accepted, upgrade_accepted, downgrade_accepted, check_accepted, init_accepted, watch_accepted}
+use Rattle.wit_model.proofs.Histories.Accepted.{UnlockAccepted, passed, passed_not, same_reply, live-given, live-undestroyed, note_accepted, try_accepted, give_up_accepted, unlock_accepted, check_accepted, init_accepted, watch_accepted}
+use Rattle.wit_model.proofs.Histories.AcceptedTurns.{upgrade_accepted, downgrade_accepted}
 use Rattle.wit_model.proofs.Histories.Asked.{made-later}
 use Rattle.wit_model.proofs.Histories.Legal.{held_by-state, some-held, pending-state, unlock-held}
 use Rattle.wit_model.proofs.World.Backed.{IsBacked, raw-elsewhere, these-mine, IsApart, apart-nothing, apart-other, apart-norelease, apart-releaseok, call-apart, call-held, call-new, call-none}
