@@ -19,10 +19,13 @@ pub mod Readying
 pub mod Relating
 pub mod Releasing
 pub mod SeatRows
+pub mod SeatTests
 pub mod Steps
 pub mod Taught
 pub mod Told
 pub mod Turning
+pub mod Turns
 pub mod Waits
 pub mod Warned
+pub mod Ways
 pub mod Whole

@@ -19,7 +19,8 @@ use Rattle.wit_model.specs.declared.calls.Reply.TheVariants as reply
 use Rattle.wit_model.specs.Rules.State.{Known, state_of, known_of, types_of, typed_locks, orders_of}
 use Rattle.wit_model.specs.Rules.Verdict.{asked_of, orders_behind}
 use Rattle.wit_model.specs.Rules.Step.{answer_of, is_logged}
-use Rattle.wit_model.proofs.Histories.Accepted.{same_reply, check_accepted, define_accepted}
+use Rattle.wit_model.proofs.Histories.Accepted.{same_reply, check_accepted}
+use Rattle.wit_model.proofs.Histories.AcceptedTurns.{define_accepted}
 use Rattle.wit_model.proofs.Orders.AllHeld.{AreFree}
 use Rattle.wit_model.proofs.Orders.Among.{adopted-orderly, defined-orderly, silent-known, duplicate-known, reversal-known, lock-type, number-from, parents-known}
 use Rattle.wit_model.proofs.Orders.Sound.{taught-all}

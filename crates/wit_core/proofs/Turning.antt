@@ -19,7 +19,7 @@ use Rattle.wit_model.specs.Rules.Types.{is_spin}
 use Rattle.wit_model.proofs.Chains.Changes.{at}
 use Rattle.wit_model.proofs.Chains.Owed.{owed-even}
 use Rattle.wit_model.proofs.Chains.Seats.{entry, reheld, seat_after, seat_after-turn, seat_after-mark}
-use Rattle.wit_model.proofs.Histories.Accepted.{is_plain, plain_accepted}
+use Rattle.wit_model.proofs.Histories.AcceptedTurns.{is_plain, plain_accepted}
 use Rattle.wit_model.proofs.Histories.Legal.{plain-even, plain-keeps}
 use Rattle.wit_held.specs.Chains.{in_mode}
 use Rattle.wit_held.specs.Marks.{marked}

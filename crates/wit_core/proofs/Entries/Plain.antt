@@ -4,7 +4,7 @@ use Rattle.wit_model.specs.declared.calls.Call.{Call}
 use Rattle.wit_model.specs.declared.calls.Reply.{Reply}
 use Rattle.wit_model.specs.Rules.State.{Story, state_of}
 use Rattle.wit_model.specs.Rules.Step.{answer_of, is_logged}
-use Rattle.wit_model.proofs.Histories.Accepted.{is_plain, plain_accepted}
+use Rattle.wit_model.proofs.Histories.AcceptedTurns.{is_plain, plain_accepted}
 use Rattle.wit_core.specs.declared.verifier.Verifier.TheInside.{Inside}
 use Rattle.wit_core.specs.Journal.{Journal}
 use Rattle.wit_core.specs.Kept.{IsTied, story_in}

@@ -1,6 +1,6 @@
 use Rattle.std.proofs.Common.{refl, arith}
 use Rattle.wit_core.specs.Searching.{rows_of}
-use Rattle.wit_core.proofs.Reaching.{way_more}
+use Rattle.wit_core.proofs.Ways.{way_more}
 use Rattle.wit_core.proofs.circle.circle_at.Goals as goal
 
 pub loop-at-preserved : goal.loop-at-preserved

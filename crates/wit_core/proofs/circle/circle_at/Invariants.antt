@@ -1,6 +1,6 @@
 use Rattle.wit_model.specs.Rules.Circles.{seat_numbers}
 use Rattle.wit_core.specs.Searching.{rows_of}
-use Rattle.wit_core.proofs.Reaching.{IsWay}
+use Rattle.wit_core.proofs.Ways.{IsWay}
 use Rattle.wit_core.proofs.circle.circle_at.Given as goal
 
 abbrev pub invariant-loop-at : goal.invariant-loop-at

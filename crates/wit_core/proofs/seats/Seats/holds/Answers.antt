@@ -1,6 +1,7 @@
 use Rattle.std.proofs.Common.{find, is_some, ap, ◌∙◌}
 use Rattle.wit_model.specs.Rules.Verdict.{is_of}
-use Rattle.wit_core.proofs.SeatRows.{number-now, list-now, chain-now, counted-found}
+use Rattle.wit_core.proofs.SeatRows.{number-now, list-now, chain-now}
+use Rattle.wit_core.proofs.SeatTests.{counted-found}
 use Rattle.wit_core.proofs.seats.Seats.holds.Goals as goal
 
 pub list_of-requires : goal.list_of-requires

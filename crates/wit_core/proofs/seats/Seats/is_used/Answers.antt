@@ -2,7 +2,8 @@ use Rattle.std.proofs.Common.{ap, ◌∙◌, arith}
 use Rattle.wit_model.specs.Rules.Destroying.{uses}
 use Rattle.wit_core.specs.Held.{seat_view}
 use Rattle.wit_core.specs.Seats.{Seat}
-use Rattle.wit_core.proofs.SeatRows.{count-now, seat-at, any-step, any-here, any-end}
+use Rattle.wit_core.proofs.SeatRows.{count-now}
+use Rattle.wit_core.proofs.SeatTests.{seat-at, any-step, any-here, any-end}
 use Rattle.wit_core.proofs.seats.Seats.is_used.Goals as goal
 
 pub uses-requires : goal.uses-requires

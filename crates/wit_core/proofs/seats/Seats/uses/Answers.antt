@@ -1,5 +1,5 @@
 use Rattle.wit_core.specs.Seats.{seat_in}
-use Rattle.wit_core.proofs.SeatRows.{used-sleep, used-spin, used-asked}
+use Rattle.wit_core.proofs.SeatTests.{used-sleep, used-spin, used-asked}
 use Rattle.wit_core.proofs.seats.Seats.uses.Goals as goal
 
 pub returns-then-holds : goal.returns-then-holds
