@@ -19,4 +19,5 @@ pub use errors::LineError;
 pub use lock_lines::{borrowed, parse_lock_line};
 pub use parse::{LONGEST, parse_line};
 pub use print::print_line;
+pub use print_lock_lines::put_step;
 pub use spellable::spelled;

@@ -12,8 +12,8 @@ use crate::keywords::keyword_text;
 use crate::letters;
 use crate::print_lock_lines::spell_on_lock;
 use crate::put::{
-    level_text, put_count, put_flags, put_lock, put_name, put_number, put_types, put_word,
-    version_text,
+    level_text, put_call, put_count, put_flags, put_lock, put_name, put_number, put_types,
+    put_word, version_text,
 };
 use std::alloc::{AllocError, Global};
 use wit_model::{
@@ -89,10 +89,10 @@ fn spell_header(
 {
     let mut out = Vec::from_slice(alloc, keyword_text(Keyword::Header))?;
     put_word(&mut out, version_text(version))?;
-    put_count(alloc, &mut out, b"seats", seats)?;
-    put_count(alloc, &mut out, b"types", types)?;
-    put_count(alloc, &mut out, b"locks", locks)?;
-    put_count(alloc, &mut out, b"chunks", chunks)?;
+    put_count(&mut out, b"seats", seats)?;
+    put_count(&mut out, b"types", types)?;
+    put_count(&mut out, b"locks", locks)?;
+    put_count(&mut out, b"chunks", chunks)?;
     Ok(out)
 }
 
@@ -134,7 +134,7 @@ fn call_of_seat(alloc: Global, keyword: Keyword, seat: SeatNo) -> Result<Vec<u8>
     ensures { IfOk result (λ bytes. bytes.items ≡ keyword_text keyword ++ 32 ∷ decimal seat.0) }
 {
     let mut out = Vec::from_slice(alloc, keyword_text(keyword))?;
-    put_number(alloc, &mut out, u32::from(seat.0))?;
+    put_number(&mut out, u32::from(seat.0))?;
     Ok(out)
 }
 
@@ -148,8 +148,8 @@ pub(crate) fn call_on_lock(
     ensures { IfOk result (λ bytes. bytes.items
         ≡ keyword_text keyword ++ 32 ∷ (decimal seat.0 ++ 32 ∷ decimal lock.0)) }
 {
-    let mut out = call_of_seat(alloc, keyword, seat)?;
-    put_number(alloc, &mut out, lock.0)?;
+    let mut out = Vec::new(alloc);
+    put_call(&mut out, keyword, seat, lock)?;
     Ok(out)
 }
 
@@ -175,7 +175,7 @@ fn spell_warn(
     ensures { IfOk result (λ bytes. bytes.items ≡ spelling (Warn seat lock flags)) }
 {
     let mut out = call_of_seat(alloc, Keyword::Warn, seat)?;
-    put_number(alloc, &mut out, number_if_any(lock))?;
+    put_number(&mut out, number_if_any(lock))?;
     put_flags(&mut out, letters::WARNING, flags.0)?;
     Ok(out)
 }
@@ -189,7 +189,7 @@ fn spell_define(
     ensures { IfOk result (λ bytes. bytes.items ≡ spelling (Define seat first second)) }
 {
     let mut out = call_on_lock(alloc, Keyword::Define, seat, first)?;
-    put_number(alloc, &mut out, second.0)?;
+    put_number(&mut out, second.0)?;
     Ok(out)
 }
 

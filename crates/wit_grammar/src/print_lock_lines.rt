@@ -1,6 +1,6 @@
 //! Printing the lines of one lock: what a seat asks, tells and does of it.
 
-ghost use Rattle.std.specs.Prelude.{◌≡◌, IfOk};
+ghost use Rattle.std.specs.Prelude.{◌≡◌, ◌++◌, IfOk, OnOk};
 ghost use Rattle.wit_model.specs.Trace.Spelling.{spelling};
 ghost use Rattle.wit_model.specs.declared.lines.Line.TheVariants.{OnLock};
 ghost use Rattle.wit_model.specs.declared.lines.LockLine.TheVariants.{Check, Try, Unlock, Plain};
@@ -9,7 +9,7 @@ ghost use Rattle.wit_model.specs.declared.raw_steps.RawStep.TheVariants as raw_s
 
 use crate::letters;
 use crate::print::call_on_lock;
-use crate::put::{mode_text, put_flags, put_site, put_word};
+use crate::put::{mode_text, put_call, put_flags, put_site, put_word};
 use std::alloc::{AllocError, Global};
 use wit_model::{FileName, Keyword, LockLine, LockNo, Mode, OpFlags, RawStep, SeatNo, Verb};
 
@@ -53,7 +53,7 @@ fn spell_check(
     let mut out = call_on_lock(alloc, Keyword::Check, seat, lock)?;
     put_word(&mut out, mode_text(mode))?;
     put_flags(&mut out, letters::REQUEST, ops.0)?;
-    put_site(alloc, &mut out, file, line)?;
+    put_site(&mut out, file, line)?;
     Ok(out)
 }
 
@@ -71,27 +71,39 @@ fn spell_step(
 ) -> Result<Vec<u8>, AllocError>
     ensures { IfOk result (λ bytes. bytes.items ≡ spelling (OnLock (lock_lines.Step seat lock step))) }
 {
+    let mut out = Vec::new(alloc);
+    put_step(&mut out, seat, lock, step)?;
+    Ok(out)
+}
+
+/// The line of a step behind what is there, without a line feed. It takes no other memory.
+///
+/// # Errors
+/// Want of memory alone.
+pub fn put_step(
+    out: &mut Vec<u8>,
+    seat: SeatNo,
+    lock: LockNo,
+    step: RawStep,
+) -> Result<(), AllocError>
+    ensures { OnOk result (out.new.items
+        ≡ out.old.items ++ spelling (OnLock (lock_lines.Step seat lock step))) }
+{
     match step {
-        RawStep::Take => call_on_lock(alloc, Keyword::Take, seat, lock),
-        RawStep::TryTake(mode) => spell_try_take(alloc, seat, lock, mode),
-        RawStep::Free => call_on_lock(alloc, Keyword::Free, seat, lock),
-        RawStep::Up => call_on_lock(alloc, Keyword::RawUp, seat, lock),
-        RawStep::Down => call_on_lock(alloc, Keyword::RawDown, seat, lock),
+        RawStep::Take => put_call(out, Keyword::Take, seat, lock),
+        RawStep::TryTake(mode) => put_try_take(out, seat, lock, mode),
+        RawStep::Free => put_call(out, Keyword::Free, seat, lock),
+        RawStep::Up => put_call(out, Keyword::RawUp, seat, lock),
+        RawStep::Down => put_call(out, Keyword::RawDown, seat, lock),
     }
 }
 
-fn spell_try_take(
-    alloc: Global,
-    seat: SeatNo,
-    lock: LockNo,
-    mode: Mode,
-) -> Result<Vec<u8>, AllocError>
-    ensures { IfOk result (λ bytes. bytes.items
-        ≡ spelling (OnLock (lock_lines.Step seat lock (raw_step.TryTake mode)))) }
+fn put_try_take(out: &mut Vec<u8>, seat: SeatNo, lock: LockNo, mode: Mode) -> Result<(), AllocError>
+    ensures { OnOk result (out.new.items
+        ≡ out.old.items ++ spelling (OnLock (lock_lines.Step seat lock (raw_step.TryTake mode)))) }
 {
-    let mut out = call_on_lock(alloc, Keyword::TryTake, seat, lock)?;
-    put_word(&mut out, mode_text(mode))?;
-    Ok(out)
+    put_call(out, Keyword::TryTake, seat, lock)?;
+    put_word(out, mode_text(mode))
 }
 
 fn spell_try(
@@ -106,7 +118,7 @@ fn spell_try(
 {
     let mut out = call_on_lock(alloc, Keyword::Try, seat, lock)?;
     put_word(&mut out, mode_text(mode))?;
-    put_site(alloc, &mut out, file, line)?;
+    put_site(&mut out, file, line)?;
     Ok(out)
 }
 

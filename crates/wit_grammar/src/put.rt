@@ -2,11 +2,12 @@
 
 ghost use Rattle.std.specs.Prelude.{◌≡◌, ◌++◌, ◌∷◌, OnOk};
 ghost use Rattle.std.specs.Fmt.{decimal};
-ghost use Rattle.wit_model.specs.Trace.Spelling.{version_text, class_text, mode_text, level_text, chosen_letters, flags_text, quoted, site_text, joined, lock_fields, list_fields};
+ghost use Rattle.wit_model.specs.Trace.Spelling.{keyword_text, version_text, class_text, mode_text, level_text, chosen_letters, flags_text, quoted, site_text, joined, lock_fields, list_fields};
 
+use crate::keywords::keyword_text;
 use crate::letters;
-use std::alloc::{AllocError, Global};
-use wit_model::{Class, FileName, Mode, Name, NewLock, Version, Watch};
+use std::alloc::AllocError;
+use wit_model::{Class, FileName, Keyword, LockNo, Mode, Name, NewLock, SeatNo, Version, Watch};
 
 /// A word.
 pub fn put_word(out: &mut Vec<u8>, word: &[u8]) -> Result<(), AllocError>
@@ -17,24 +18,48 @@ pub fn put_word(out: &mut Vec<u8>, word: &[u8]) -> Result<(), AllocError>
 }
 
 /// A number.
-pub fn put_number(alloc: Global, out: &mut Vec<u8>, number: u32) -> Result<(), AllocError>
+pub fn put_number(out: &mut Vec<u8>, number: u32) -> Result<(), AllocError>
     ensures { OnOk result (out.new.items ≡ out.old.items ++ 32 ∷ decimal number) }
 {
-    let text = number.to_string(alloc)?;
-    put_word(out, text.as_bytes())
+    out.push(b' ')?;
+    put_digits(out, number)
+}
+
+// Digit by digit, where they are to stand: a text of its own would take memory.
+#[tactic(auto, using(std::proofs::lemmas::Fmt::decimal_digit))]
+fn put_digits(out: &mut Vec<u8>, number: u32) -> Result<(), AllocError>
+    ensures { OnOk result (out.new.items ≡ out.old.items ++ decimal number) }
+{
+    if number < 10 {
+        out.push(b'0' + number as u8)?;
+        return Ok(());
+    }
+    put_digits(out, number / 10)?;
+    out.push(b'0' + (number % 10) as u8)?;
+    Ok(())
 }
 
 /// A number behind a fixed word.
-pub fn put_count(
-    alloc: Global,
-    out: &mut Vec<u8>,
-    label: &[u8],
-    number: u32,
-) -> Result<(), AllocError>
+pub fn put_count(out: &mut Vec<u8>, label: &[u8], number: u32) -> Result<(), AllocError>
     ensures { OnOk result (out.new.items ≡ out.old.items ++ 32 ∷ (label.now ++ 32 ∷ decimal number)) }
 {
     put_word(out, label)?;
-    put_number(alloc, out, number)
+    put_number(out, number)
+}
+
+/// The keyword, the seat and the lock of a call.
+pub fn put_call(
+    out: &mut Vec<u8>,
+    keyword: Keyword,
+    seat: SeatNo,
+    lock: LockNo,
+) -> Result<(), AllocError>
+    ensures { OnOk result (out.new.items ≡ out.old.items
+        ++ (keyword_text keyword ++ 32 ∷ (decimal seat.0 ++ 32 ∷ decimal lock.0))) }
+{
+    out.extend_from_slice(keyword_text(keyword))?;
+    put_number(out, u32::from(seat.0))?;
+    put_number(out, lock.0)
 }
 
 fn put_letters(out: &mut Vec<u8>, letters: &[u8], bits: u8) -> Result<(), AllocError>
@@ -102,18 +127,12 @@ pub fn put_lock(out: &mut Vec<u8>, lock: &NewLock) -> Result<(), AllocError>
 }
 
 /// A place in the watched program.
-pub fn put_site(
-    alloc: Global,
-    out: &mut Vec<u8>,
-    file: &FileName,
-    line: u32,
-) -> Result<(), AllocError>
+pub fn put_site(out: &mut Vec<u8>, file: &FileName, line: u32) -> Result<(), AllocError>
     ensures { OnOk result (out.new.items ≡ out.old.items ++ 32 ∷ site_text file.now line) }
 {
     put_word(out, file.as_str().as_bytes())?;
     out.push(b':')?;
-    let text = line.to_string(alloc)?;
-    out.extend_from_slice(text.as_bytes())
+    put_digits(out, line)
 }
 
 /// The spelling of a version of the format.
