@@ -1,6 +1,7 @@
 pub mod AloneLemmas
 pub mod AnswerLemmas
 pub mod BesideLemmas
+pub mod CallLemmas
 pub mod ListedTypes
 pub mod MigrateEnds
 pub mod MigrateLemmas

@@ -1,5 +1,5 @@
 -- What is read and written by a stream of lines.
-use Rattle.std.specs.Prelude.{◌≡◌, Bool, false, ℕ, ◌+◌, ◌-◌, ◌^◌, ◌<◌, ◌≤◌, ◌⊎◌, List, [], ◌∷◌, ◌++◌, length, take, Option, None, Some}
+use Rattle.std.specs.Prelude.{◌≡◌, Bool, true, false, ℕ, ◌+◌, ◌-◌, ◌^◌, ◌<◌, ◌≤◌, ◌⊎◌, List, [], ◌∷◌, ◌++◌, length, take, Option, None, Some}
 use Rattle.std.specs.Io.KnownBytes.{Appends, Consumes}
 use Rattle.wit_trace.specs.Text.{text_of, HasNoFeed, IsWholeLines, IsLine, feeds}
 use Rattle.wit_trace.specs.declared.stream.machine.Step.{Step}
@@ -11,6 +11,12 @@ use Rattle.wit_grammar.specs.declared.parse.TheConstants.{LONGEST}
 -- a beginning of the bytes is appended
 abbrev pub AppendsFront : Option (List ℕ) → Option (List ℕ) → List ℕ → Type 0
 AppendsFront old new bytes = (n : ℕ) × Appends old new (take n bytes)
+
+-- a beginning of the bytes is appended, and the rest is kept
+pub record Tells (old new : Option (List ℕ)) (bytes kept : List ℕ) : Type 0 where
+  pub sent : List ℕ
+  pub all : bytes ≡ sent ++ kept
+  pub written : Appends old new sent
 
 -- the input is what the reader has left, where that is known
 abbrev pub IsInput : Option (List ℕ) → List ℕ → Type 0
@@ -110,7 +116,7 @@ pub record IsSpent (read_old read_new : Option (List ℕ)) (looks : ℕ) : Type 
 
 -- no failure was seen, nor the reader looked at
 abbrev pub no_failure : Failures
-no_failure = record { read = false; write = false; looks = 0 }
+no_failure = record { read = false; write = false; looks = 0; waits = true }
 
 -- the evidence that the reader failed
 abbrev pub has_read_failed : Failures → Bool

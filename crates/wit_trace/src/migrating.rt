@@ -23,7 +23,7 @@ use crate::replaying::bad_text;
 use crate::replaying::prelude::Prelude;
 use crate::stream::machine::{Machine, Step};
 use crate::stream::ports::Failures;
-use crate::stream::run;
+use crate::stream::{Pace, run};
 use crate::summary::{ReplayError, Summary};
 use behind::Behind;
 use headers::start;
@@ -44,7 +44,8 @@ use wit_model::{Boxed, Cause, Line, View};
 /// At a bad line the writing ends: all lines before it are written, then its number and cause. A
 /// line is bad too where its step can't be done, as two seats can't have a mutex at once; its own
 /// fault comes first. Nothing of the prelude is written before all of it is known to be good, but
-/// what stands before a list that is refused.
+/// what stands before a list that is refused. Lines are written together while the reader shows a whole
+/// one more, and flushed before it may have to wait for one.
 ///
 /// # Errors
 /// `Read` where the reader failed, `Write` where the writer failed, took no byte or didn't flush,
@@ -71,6 +72,7 @@ pub fn migrate<R: BufRead, W: Write>(
         &mut Failures::new(),
         &mut machine,
         View::Graph,
+        Pace::Gathered,
         input,
         output,
     )
@@ -255,11 +257,12 @@ impl Machine for Migrating {
         _view: View,
         number: u64,
         bytes: &[u8],
+        room: Vec<u8>,
     ) -> Result<Step, AllocError> {
         if let Migrating::Moved(behind) = self {
             if let Some(line) = parse_lock_line(bytes) {
                 let found = behind.summary();
-                return match behind.enter_on_lock(alloc, line, bytes) {
+                return match behind.enter_on_lock(room, line, bytes) {
                     Ok(text) => Ok(Step::Goes(text)),
                     Err(LineError::Bad(cause)) => self.ended_step(
                         alloc,

@@ -1,10 +1,10 @@
 //! The replay of a trace by the verifier.
 
-ghost use Rattle.std.specs.Prelude.{◌≡◌, ◌⊎◌, ◌+◌, ◌<◌, ◌≤◌, ℕ, List, length, true, IsTrue, IfOk, OnErr};
-ghost use Rattle.wit_model.specs.Trace.Output.{Unstarted, reached, entered, outcome};
+ghost use Rattle.std.specs.Prelude.{◌≡◌, ◌⊎◌, ◌+◌, ◌<◌, ◌≤◌, ℕ, length, IsTrue, IfOk, OnErr};
+ghost use Rattle.wit_model.specs.Trace.Output.{Unstarted, entered, outcome};
 ghost use Rattle.wit_trace.specs.Machine.{Follows};
 ghost use Rattle.wit_trace.specs.Outputs.{some_output};
-ghost use Rattle.wit_trace.specs.Replays.{allowed, ends_prelude, progress, reported, Reaches, Passes, Shows, ShowsFrom};
+ghost use Rattle.wit_trace.specs.Replays.{allowed, progress, reported, Passes, Shows, ShowsFrom};
 ghost use Rattle.wit_trace.specs.Stream.{IsSpent, ReadsToEnd, WritesFront, WritesLines, WritesOutput};
 ghost use Rattle.wit_grammar.specs.declared.parse.TheConstants.{LONGEST};
 
@@ -12,19 +12,19 @@ mod bad_lines;
 pub mod calls;
 mod endings;
 pub mod prelude;
+mod reaching;
 mod views;
 mod world_lines;
 
 use crate::stream::machine::{Machine, Step};
 use crate::stream::ports::{Failures, Ports};
-use crate::stream::run;
+use crate::stream::{Pace, run};
 use crate::summary::{ReplayError, Summary};
 pub use bad_lines::bad_text;
 use calls::{call_on_lock, enter_line, reply_step};
-use prelude::{Prelude, add_line, is_prelude, new_prelude, open};
+use prelude::{Prelude, add_line, new_prelude};
 use std::alloc::{AllocError, Global};
 use std::io::{BufRead, Write};
-use std::mem;
 use views::{last_text, last_world_text, shown};
 use wit_core::Verifier;
 use wit_grammar::{LineError, parse_line, parse_lock_line};
@@ -95,7 +95,15 @@ pub fn replay_through<R: BufRead, W: Write, P: Ports<R, W>>(
     ensures write { result ≡ Err ReplayError.Write → IsTrue (P.write_failed ports.new) }
 {
     let mut machine = Replaying::Unstarted;
-    run(alloc, ports, &mut machine, view, input, output)
+    run(
+        alloc,
+        ports,
+        &mut machine,
+        view,
+        Pace::AtOnce,
+        input,
+        output,
+    )
 }
 
 /// A replay in progress.
@@ -119,54 +127,29 @@ pub(crate) enum Replaying {
 }
 
 impl Replaying {
-    // The prelude ends before a line that begins otherwise; a list that is refused then is the bad line.
-    #[inline(always)]
-    fn reach(
+    // A line that may be one on a lock in a world. By itself, so that no other pays for its locals.
+    #[inline(never)]
+    fn world_line(
         &mut self,
         alloc: Global,
+        view: View,
         number: u64,
-        line: &[u8],
-    ) -> Result<Option<(u64, Cause)>, AllocError>
-        ensures stands { IfOk result (Reaches (reached (progress self.old) number line.now) (progress self.old) (progress self.new)) }
-        ensures counted { IfOk result (λ r. reported (progress self.new) ≡ reported (progress self.old)) }
+        bytes: &[u8],
+    ) -> Result<Step, AllocError>
+        requires room { reported (progress self.old) < number }
+        requires short { length bytes.now ≤ LONGEST }
+        ensures step { IfOk result (Follows (allowed view) self.old self.new number bytes.now) }
+        ensures counted { IfOk result (λ s. reported (progress self.new) ≤ reported (progress self.old) + 1) }
     {
-        if self.ends_prelude(number, line) {
-            self.end_prelude(alloc)
-        } else {
-            Ok(None)
-        }
-    }
-
-    // By itself, so that no other line pays for its large locals.
-    #[cold]
-    #[inline(never)]
-    fn end_prelude(&mut self, alloc: Global) -> Result<Option<(u64, Cause)>, AllocError>
-        ensures { (number : ℕ) (line : List ℕ) → ends_prelude (progress self.old) number line ≡ true
-            → IfOk result (Reaches (reached (progress self.old) number line) (progress self.old) (progress self.new)) }
-    {
-        match mem::replace(self, Replaying::Unstarted) {
-            Replaying::Opening(prelude) => match open(alloc, prelude)? {
-                Ok(begun) => {
-                    *self = begun;
-                    Ok(None)
-                }
-                Err(bad) => Ok(Some(bad)),
-            },
-            before => {
-                *self = before;
-                Ok(None)
+        if let Replaying::Stepping { world, .. } = self {
+            if let Some(line) = parse_lock_line(bytes) {
+                return match step_on_lock(alloc, world, line) {
+                    Ok(text) => Ok(Step::Goes(shown(alloc, view, text))),
+                    Err(error) => self.ended_step(alloc, number, error),
+                };
             }
         }
-    }
-
-    #[inline(always)]
-    fn ends_prelude(&self, number: u64, line: &[u8]) -> bool
-        ensures { result ≡ ends_prelude (progress self.now) number line.now }
-    {
-        match self {
-            Replaying::Opening(_) => !is_prelude(number, line),
-            _ => false,
-        }
+        self.any_line(alloc, view, number, bytes)
     }
 
     // A line of any kind, in its place. By itself, so that a line that makes a call on a lock doesn't pay for
@@ -194,22 +177,6 @@ impl Replaying {
     }
 
     fn read(&mut self, alloc: Global, number: u64, bytes: &[u8]) -> Result<Vec<u8>, LineError>
-        requires room { reported (progress self.old) < number }
-        requires short { length bytes.now ≤ LONGEST }
-        ensures { Passes (outcome (progress self.old) number bytes.now)
-            (progress self.old) (progress self.new) result }
-    {
-        if let Replaying::Stepping { world, .. } = self {
-            if let Some(line) = parse_lock_line(bytes) {
-                return step_on_lock(alloc, world, line);
-            }
-        }
-        self.read_any(alloc, number, bytes)
-    }
-
-    // By itself, so that a line on a lock in a world doesn't pay for its large locals.
-    #[inline(never)]
-    fn read_any(&mut self, alloc: Global, number: u64, bytes: &[u8]) -> Result<Vec<u8>, LineError>
         requires room { reported (progress self.old) < number }
         requires short { length bytes.now ≤ LONGEST }
         ensures { Passes (outcome (progress self.old) number bytes.now)
@@ -266,7 +233,10 @@ impl Machine for Replaying {
         view: View,
         number: u64,
         bytes: &[u8],
+        room: Vec<u8>,
     ) -> Result<Step, AllocError> {
+        // Hardly a line has a text.
+        drop(room);
         if let Replaying::Reading { verifier, .. } = self {
             if let Some(line) = parse_lock_line(bytes) {
                 return match call_on_lock(verifier, line) {
@@ -275,7 +245,7 @@ impl Machine for Replaying {
                 };
             }
         }
-        self.any_line(alloc, view, number, bytes)
+        self.world_line(alloc, view, number, bytes)
     }
 
     fn broken(

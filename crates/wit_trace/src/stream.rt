@@ -1,7 +1,7 @@
 //! A stream of lines through a machine.
 
-ghost use Rattle.std.specs.Prelude.{◌≡◌, ◌⊎◌, IsTrue, IfOk, OnErr};
-ghost use Rattle.wit_trace.specs.Stream.{IsSpent, OutputFrom, ReadsToEnd, WritesFront, WritesLines, WritesOutput};
+ghost use Rattle.std.specs.Prelude.{◌≡◌, ◌≢◌, ◌⊎◌, ◌++◌, [], IsTrue, IfOk, OnOk, OnErr};
+ghost use Rattle.wit_trace.specs.Stream.{AppendsFront, IsSpent, OutputFrom, ReadsToEnd, Tells, WritesFront, WritesLines, WritesOutput};
 
 mod lines;
 pub mod machine;
@@ -12,9 +12,19 @@ use machine::{Machine, Step};
 use ports::Ports;
 use std::alloc::Global;
 use std::io::{BufRead, Write};
+use std::mem;
 use wit_model::View;
 
-/// Reads the lines of a stream through a machine, and writes its texts as they come.
+/// When a text is written.
+#[derive(Clone, Copy, Debug)]
+pub enum Pace {
+    /// Before the reader is looked at again.
+    AtOnce,
+    /// With those of the lines behind it that the reader shows, before a look that may have to wait.
+    Gathered,
+}
+
+/// Reads the lines of a stream through a machine, and writes its texts as they come, at this pace.
 ///
 /// It reads until the machine ends or the input does, and keeps one line of at most 4,097 bytes. Every
 /// call returns: once the looks at the reader and the lines read together come to
@@ -29,6 +39,7 @@ pub fn run<R: BufRead, W: Write, P: Ports<R, W>, M: Machine>(
     ports: &mut P,
     machine: &mut M,
     view: View,
+    pace: Pace,
     reader: &mut R,
     writer: &mut W,
 ) -> Result<Summary, ReplayError>
@@ -47,22 +58,84 @@ pub fn run<R: BufRead, W: Write, P: Ports<R, W>, M: Machine>(
     ensures write { result ≡ Err ReplayError.Write → IsTrue (P.write_failed ports.new) }
 {
     let mut line = Vec::new(alloc);
+    let mut room = Vec::new(alloc);
+    let mut told = Vec::new(alloc);
     let mut number = 1;
     let mut left = u64::MAX;
     while left > 0 {
         left -= 1;
-        let Some(step) = ports.advance(alloc, machine, view, number, reader, &mut line)? else {
-            continue;
-        };
-        match step {
-            Step::Goes(text) => ports.put(writer, &text)?,
-            Step::Ends(text, summary) => {
+        let empty = mem::replace(&mut room, Vec::new(alloc));
+        match ports.advance(alloc, machine, view, number, reader, &mut line, empty) {
+            Ok(Some(Step::Goes(text))) => {
+                tell(ports, writer, pace, &mut told, &text)?;
+                room = text;
+                room.clear();
+                number += 1;
+                left = left.saturating_sub(1);
+            }
+            Ok(Some(Step::Ends(text, summary))) => {
+                tell_all(ports, writer, &mut told)?;
                 ports.put(writer, &text)?;
                 return Ok(*summary.get());
             }
+            Ok(None) => tell_all(ports, writer, &mut told)?,
+            Err(error) => {
+                tell_all(ports, writer, &mut told)?;
+                return Err(error);
+            }
         }
-        number += 1;
-        left = left.saturating_sub(1);
     }
+    tell_all(ports, writer, &mut told)?;
     Err(ReplayError::Read)
+}
+
+// So much is gathered at most, and one text more.
+const FULL: usize = 65_536;
+
+// Tells a text, behind what was told and isn't written yet. Where texts are gathered, all of it is
+// written when it is much, and else before a look that may have to wait: to write each by itself would
+// take as long as to read its line.
+fn tell<R: BufRead, W: Write, P: Ports<R, W>>(
+    ports: &mut P,
+    writer: &mut W,
+    pace: Pace,
+    told: &mut Vec<u8>,
+    text: &[u8],
+) -> Result<(), ReplayError>
+    ensures ok { OnOk result (Tells (W.contents writer.old) (W.contents writer.new)
+        (told.old.items ++ text.now) told.new.items) }
+    ensures err { OnErr result (AppendsFront (W.contents writer.old) (W.contents writer.new)
+        (told.old.items ++ text.now)) }
+    ensures counted { P.looks ports.new ≡ P.looks ports.old }
+    ensures not_read { result ≢ Err ReplayError.Read }
+    ensures failed { result ≡ Err ReplayError.Write → IsTrue (P.write_failed ports.new) }
+{
+    // So it is behind most lines of a replay.
+    if text.is_empty() && told.is_empty() {
+        return Ok(());
+    }
+    told.extend_from_slice(text)?;
+    match pace {
+        Pace::Gathered if !ports.may_wait() && told.len() < FULL => Ok(()),
+        Pace::AtOnce | Pace::Gathered => tell_all(ports, writer, told),
+    }
+}
+
+// Writes all that was told and isn't written yet.
+fn tell_all<R: BufRead, W: Write, P: Ports<R, W>>(
+    ports: &mut P,
+    writer: &mut W,
+    told: &mut Vec<u8>,
+) -> Result<(), ReplayError>
+    ensures ok { OnOk result (Tells (W.contents writer.old) (W.contents writer.new) told.old.items []) }
+    ensures none { OnOk result (told.new.items ≡ []) }
+    ensures err { OnErr result (AppendsFront (W.contents writer.old) (W.contents writer.new) told.old.items) }
+    ensures counted { P.looks ports.new ≡ P.looks ports.old }
+    ensures read { P.read_failed ports.new ≡ P.read_failed ports.old }
+    ensures failed { OnErr result (IsTrue (P.write_failed ports.new)) }
+    ensures only_write { OnErr result (result ≡ Err ReplayError.Write) }
+{
+    ports.put(writer, told)?;
+    told.clear();
+    Ok(())
 }

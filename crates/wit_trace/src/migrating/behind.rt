@@ -8,7 +8,7 @@ ghost use Rattle.wit_trace.specs.Migrates.{Enters, reported, standing, weight};
 ghost use Rattle.wit_trace.specs.Replays.{total};
 
 use crate::migrating::steps::{do_beside, step_beside};
-use crate::migrating::texts::one_line;
+use crate::migrating::texts::{line_in, one_line};
 use crate::replaying::calls::{assertion, call_on_lock, remark, warning};
 use crate::summary::Summary;
 use std::alloc::Global;
@@ -54,26 +54,28 @@ impl Behind {
         }
     }
 
-    /// A line on a lock makes its call, and is written with the step that goes with it.
+    /// A line on a lock makes its call, and is written with the step that goes with it, in the room of
+    /// a text that has nothing.
     ///
     /// # Errors
     /// `Bad` where its file gets no number, its call is refused, or the lock doesn't admit the step
     /// before it; `Memory`. The call may have been made then.
     pub fn enter_on_lock(
         &mut self,
-        alloc: Global,
+        room: Vec<u8>,
         line: LockLine<&str>,
         bytes: &[u8],
     ) -> Result<Vec<u8>, LineError>
-        requires { weight self.old.raw < 2 ^ 64 - 1 }
+        requires few { weight self.old.raw < 2 ^ 64 - 1 }
+        requires room { room.items ≡ [] }
         ensures { Enters (moves self.old.verifier self.old.raw self.old.remarks bytes.now
             (call_of (as_line line.entry))) (standing self.old) (standing self.new) result }
     {
         let step = step_beside(&self.verifier, &self.raw, &line);
         let _reply = call_on_lock(&mut self.verifier, line)?;
         match step {
-            Some(step) => do_beside(alloc, &mut self.raw, step, bytes),
-            None => Ok(one_line(alloc, bytes)?),
+            Some(step) => do_beside(room, &mut self.raw, step, bytes),
+            None => Ok(line_in(room, bytes)?),
         }
     }
 
@@ -88,7 +90,7 @@ impl Behind {
             (call_of line)) (standing self.old) (standing self.new) result }
     {
         match line {
-            Line::OnLock(line) => self.enter_on_lock(alloc, borrowed(&line), bytes),
+            Line::OnLock(line) => self.enter_on_lock(Vec::new(alloc), borrowed(&line), bytes),
             Line::Assert {
                 seat,
                 lock,

@@ -1,6 +1,6 @@
 //! The steps of locks themselves that go with calls.
 
-ghost use Rattle.std.specs.Prelude.{◌≡◌, ◌<◌, ◌-◌, ◌^◌, true, None, Some, if◌then◌else◌};
+ghost use Rattle.std.specs.Prelude.{◌≡◌, ◌<◌, ◌-◌, ◌^◌, ◌++◌, ◌∷◌, [], true, None, Some, if◌then◌else◌};
 ghost use Rattle.std.specs.Prelude.{IfOk, IfSome, OnOk, OnErr};
 ghost use Rattle.wit_model.specs.Rules.History.{is_held, num, pending};
 ghost use Rattle.wit_model.specs.Rules.State.{state_of, is_seat};
@@ -15,11 +15,11 @@ ghost use Rattle.wit_grammar.specs.Lines.{as_line};
 ghost use Rattle.wit_trace.specs.Migrates.{DoesBeside, GoesWithCall, IsBeside};
 ghost use Rattle.wit_trace.specs.Migrates.{both, deed, line_of_step, step_asked, step_at, weight};
 
-use crate::migrating::texts::two_lines;
-use std::alloc::{AllocError, Global};
+use crate::migrating::texts::put_line;
+use std::alloc::AllocError;
 use wit_core::Verifier;
-use wit_grammar::{LineError, print_line};
-use wit_model::{Cause, Fault, Line, LockLine, LockNo, Mode, RawStep, SeatNo, Verb};
+use wit_grammar::{LineError, put_step};
+use wit_model::{Cause, Fault, LockLine, LockNo, Mode, RawStep, SeatNo, Verb};
 use wit_world::Raw;
 
 /// A step of a lock that goes with a call.
@@ -148,17 +148,18 @@ fn turn(raw: &Raw, seat: SeatNo, lock: LockNo) -> Option<LockStep>
     None
 }
 
-/// Does the step, and tells the line with the step's: that of a share that is gained stands before
-/// it, that of one that is given back behind it.
+/// Does the step, and tells the line with the step's, in the room of a text that has nothing: that of
+/// a share that is gained stands before it, that of one that is given back behind it.
 ///
 /// # Errors
 /// `Bad` where the lock doesn't admit the step; `Memory`.
 pub fn do_beside(
-    alloc: Global,
+    room: Vec<u8>,
     raw: &mut Raw,
     step: LockStep,
     bytes: &[u8],
 ) -> Result<Vec<u8>, LineError>
+    requires room { room.items ≡ [] }
     requires few { weight raw.old < 2 ^ 64 - 1 }
     requires share { has_share raw.old (deed step) ≡ true }
     ensures { DoesBeside step bytes.now raw.old raw.new result }
@@ -166,7 +167,7 @@ pub fn do_beside(
     if !admits(raw, step) {
         return Err(LineError::Bad(Cause::Fault(Fault::RawNotFree)));
     }
-    let text = both_lines(alloc, step, bytes)?;
+    let text = both_lines(room, step, bytes)?;
     do_step(raw, step)?;
     Ok(text)
 }
@@ -215,29 +216,29 @@ fn gain(raw: &mut Raw, seat: SeatNo, lock: LockNo, mode: Mode) -> Result<(), All
 }
 
 // A line, and the one of the step that goes with it.
-fn both_lines(alloc: Global, step: LockStep, bytes: &[u8]) -> Result<Vec<u8>, AllocError>
+fn both_lines(room: Vec<u8>, step: LockStep, bytes: &[u8]) -> Result<Vec<u8>, AllocError>
+    requires { room.items ≡ [] }
     ensures { IfOk result (λ text. text.items ≡ with_feeds (both step bytes.now)) }
 {
-    let own = step_line(alloc, step)?;
+    let mut text = room;
     match step.step {
-        RawStep::Take | RawStep::TryTake(_) | RawStep::Up => two_lines(alloc, &own, bytes),
-        RawStep::Free | RawStep::Down => two_lines(alloc, bytes, &own),
+        RawStep::Take | RawStep::TryTake(_) | RawStep::Up => {
+            put_step_line(&mut text, step)?;
+            put_line(&mut text, bytes)?;
+        }
+        RawStep::Free | RawStep::Down => {
+            put_line(&mut text, bytes)?;
+            put_step_line(&mut text, step)?;
+        }
     }
+    Ok(text)
 }
 
 // The line of a step.
-#[tactic(auto, using(crate::proofs::MigrateLemmas::step_spelled))]
-fn step_line(alloc: Global, step: LockStep) -> Result<Vec<u8>, AllocError>
-    ensures { IfOk result (λ line. line.items ≡ line_of_step step) }
+fn put_step_line(text: &mut Vec<u8>, step: LockStep) -> Result<(), AllocError>
+    ensures { OnOk result (text.new.items ≡ text.old.items ++ (line_of_step step ++ 10 ∷ [])) }
 {
-    let line = Line::OnLock(LockLine::Step {
-        seat: step.seat,
-        lock: step.lock,
-        step: step.step,
-    });
-    match print_line(alloc, &line) {
-        Ok(own) => Ok(own),
-        // It fails for want of memory alone.
-        Err(_) => Err(AllocError),
-    }
+    put_step(text, step.seat, step.lock, step.step)?;
+    text.push(b'\n')?;
+    Ok(())
 }

@@ -37,20 +37,19 @@ pub fn put_line(text: &mut Vec<u8>, line: &[u8]) -> Result<(), AllocError>
 pub fn one_line(alloc: Global, line: &[u8]) -> Result<Vec<u8>, AllocError>
     ensures { IfOk result (λ text. text.items ≡ with_feeds (line.now ∷ [])) }
 {
-    let mut text = Vec::new(alloc);
-    put_line(&mut text, line)?;
-    Ok(text)
+    line_in(Vec::new(alloc), line)
 }
 
-/// Two lines.
+/// A line alone, in the room of a text that has nothing.
 ///
 /// # Errors
 /// Want of memory alone.
-pub fn two_lines(alloc: Global, first: &[u8], second: &[u8]) -> Result<Vec<u8>, AllocError>
-    ensures { IfOk result (λ text. text.items ≡ with_feeds (first.now ∷ second.now ∷ [])) }
+pub fn line_in(room: Vec<u8>, line: &[u8]) -> Result<Vec<u8>, AllocError>
+    requires { room.items ≡ [] }
+    ensures { IfOk result (λ text. text.items ≡ with_feeds (line.now ∷ [])) }
 {
-    let mut text = one_line(alloc, first)?;
-    put_line(&mut text, second)?;
+    let mut text = room;
+    put_line(&mut text, line)?;
     Ok(text)
 }
 

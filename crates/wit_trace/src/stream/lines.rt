@@ -1,15 +1,15 @@
 //! Lines and their ends.
 
-ghost use Rattle.std.specs.Prelude.{◌≡◌, ◌+◌, ◌<◌, ◌≤◌, [], ◌++◌, length, take, slice_index, IfOk, OnOk, MatchOption};
+ghost use Rattle.std.specs.Prelude.{◌≡◌, ◌+◌, ◌<◌, ◌≤◌, false, [], ◌++◌, length, take, slice_index, IfOk, OnOk, MatchOption};
 ghost use Rattle.wit_trace.specs.Machine.{Follows};
 ghost use Rattle.wit_trace.specs.Text.{HasNoFeed};
 ghost use Rattle.wit_trace.specs.Stream.{OutputFrom};
-ghost use Rattle.wit_grammar.specs.declared.parse.TheConstants.{LONGEST};
 
 use crate::stream::machine::{Machine, Step};
 use crate::summary::Summary;
 use memchr::memchr;
 use std::alloc::{AllocError, Global};
+use wit_grammar::LONGEST;
 use wit_model::{Cause, View};
 
 /// The place of the first line feed.
@@ -32,8 +32,10 @@ pub fn whole_line<M: Machine>(
     number: u64,
     begun: &mut Vec<u8>,
     rest: &[u8],
+    room: Vec<u8>,
 ) -> Result<Step, AllocError>
     requires room { M.reports machine.old < number }
+    requires empty { room.items ≡ [] }
     requires plain { HasNoFeed (begun.old.items ++ rest.now) }
     requires plain_rest { HasNoFeed rest.now }
     requires short { length begun.old.items + length rest.now ≤ LONGEST }
@@ -42,10 +44,10 @@ pub fn whole_line<M: Machine>(
     ensures none { OnOk result (begun.new.items ≡ []) }
 {
     if begun.is_empty() {
-        return machine.line(alloc, view, number, rest);
+        return machine.line(alloc, view, number, rest, room);
     }
     begun.extend_from_slice(rest)?;
-    let step = machine.line(alloc, view, number, begun)?;
+    let step = machine.line(alloc, view, number, begun, room)?;
     begun.clear();
     Ok(step)
 }
@@ -70,5 +72,17 @@ pub fn at_end<M: Machine>(
         machine.end(alloc, view, number)
     } else {
         machine.broken(alloc, view, number, begun, Cause::Cut)
+    }
+}
+
+/// Whether the next look may have to wait, where these bytes were shown behind a line. Where it might
+/// have had to before, nothing is kept that is to be written; if the line tells nothing either, the
+/// answer serves nobody, and nothing is looked for.
+pub fn may_wait(waited: bool, step: &Step, shown: &[u8]) -> bool
+    ensures { result ≡ false → HasNoFeed shown.now → LONGEST < length shown.now }
+{
+    match step {
+        Step::Goes(text) if waited && text.is_empty() => true,
+        _ => shown.len() <= LONGEST && feed_in(shown).is_none(),
     }
 }

@@ -1,6 +1,6 @@
 //! What reads the lines of a stream.
 
-ghost use Rattle.std.specs.Prelude.{ℕ, ◌+◌, ◌<◌, ◌≤◌, List, [], length, IfOk};
+ghost use Rattle.std.specs.Prelude.{◌≡◌, ℕ, ◌+◌, ◌<◌, ◌≤◌, List, [], length, IfOk};
 ghost use Rattle.wit_model.specs.declared.lines.View.{View};
 ghost use Rattle.wit_trace.specs.Text.{HasNoFeed};
 ghost use Rattle.wit_trace.specs.Machine.{Follows, BreaksAt};
@@ -31,7 +31,8 @@ pub trait Machine {
 
     ghost reports: { Self → ℕ };
 
-    /// Reads a whole line of at most 4,096 bytes, without its line feed. Lines count from 1.
+    /// Reads a whole line of at most 4,096 bytes, without its line feed. Lines count from 1. The room
+    /// is that of an earlier text, for this one: so not each line takes memory.
     ///
     /// # Errors
     /// Want of memory alone; nothing is promised then.
@@ -41,8 +42,10 @@ pub trait Machine {
         view: View,
         number: u64,
         bytes: &[u8],
+        room: Vec<u8>,
     ) -> Result<Step, AllocError>
         requires room { reports self.old < number }
+        requires empty { room.items ≡ [] }
         requires short { length bytes.now ≤ LONGEST }
         requires plain { HasNoFeed bytes.now }
         ensures step { IfOk result (Follows (allows view) self.old self.new number bytes.now) }

@@ -1,13 +1,13 @@
 //! One look at a reader, one text to a writer, and the evidence of their failures.
 
-ghost use Rattle.std.specs.Prelude.{◌≡◌, ◌≢◌, ℕ, ◌+◌, ◌-◌, ◌^◌, ◌<◌, ◌≤◌, Bool, length, Ok, Some, IsTrue, IfOk, OnOk, OnErr};
+ghost use Rattle.std.specs.Prelude.{◌≡◌, ◌≢◌, ℕ, ◌+◌, ◌-◌, ◌^◌, ◌<◌, ◌≤◌, Bool, [], length, Ok, Some, IsTrue, IfOk, OnOk, OnErr};
 ghost use Rattle.std.specs.Global.{Vec};
 ghost use Rattle.std.specs.Io.KnownBytes.{Appends, Keeps};
 ghost use Rattle.wit_trace.specs.Text.{HasNoFeed};
 ghost use Rattle.wit_trace.specs.declared.stream.machine.Step.TheVariants.{Goes};
 ghost use Rattle.wit_trace.specs.Stream.{Advances, AppendsFront, OutputFrom, has_read_failed, has_write_failed, no_failure};
 
-use crate::stream::lines::{at_end, feed_in, whole_line};
+use crate::stream::lines::{at_end, feed_in, may_wait, whole_line};
 use crate::stream::machine::{Machine, Step};
 use crate::summary::ReplayError;
 use std::alloc::Global;
@@ -25,6 +25,8 @@ pub trait Ports<R: BufRead, W: Write> {
 
     ghost looks: { Self → ℕ };
 
+    ghost waits: { Self → Bool };
+
     /// Looks at the reader once, and takes what it shows of a line, behind what was begun of it: `None` where
     /// the line goes on. A line that the reader shows whole goes to the machine without a copy.
     ///
@@ -39,8 +41,10 @@ pub trait Ports<R: BufRead, W: Write> {
         number: u64,
         reader: &mut R,
         begun: &mut Vec<u8>,
+        room: Vec<u8>,
     ) -> Result<Option<Step>, ReplayError>
         requires room { looks self.old < 2 ^ 64 - 1 }
+        requires empty { room.items ≡ [] }
         requires counts { M.reports machine.old < number }
         requires plain { HasNoFeed begun.old.items }
         requires short { length begun.old.items ≤ LONGEST }
@@ -61,8 +65,14 @@ pub trait Ports<R: BufRead, W: Write> {
         ensures ok { OnOk result (Appends (W.contents writer.old) (W.contents writer.new) bytes.now) }
         ensures err { OnErr result (AppendsFront (W.contents writer.old) (W.contents writer.new) bytes.now) }
         ensures counted { looks self.new ≡ looks self.old }
+        ensures read { read_failed self.new ≡ read_failed self.old }
         ensures failed { OnErr result (IsTrue (write_failed self.new)) }
         ensures only_write { OnErr result (result ≡ Err ReplayError.Write) };
+
+    /// Whether the next look may have to wait, since the last one showed no whole line behind the one
+    /// that it took. What is told is to be written before it then.
+    fn may_wait(&self) -> bool
+        ensures { result ≡ waits self.now };
 }
 
 /// Whether the reader or the writer failed, and how often the reader was looked at.
@@ -71,6 +81,8 @@ pub struct Failures {
     read: bool,
     write: bool,
     looks: u64,
+    /// Whether no whole line was shown behind the last one.
+    waits: bool,
 }
 
 impl Failures {
@@ -82,6 +94,7 @@ impl Failures {
             read: false,
             write: false,
             looks: 0,
+            waits: true,
         }
     }
 
@@ -107,6 +120,8 @@ impl<R: BufRead, W: Write> Ports<R, W> for Failures {
 
     ghost looks = { λ f. f.looks };
 
+    ghost waits = { λ f. f.waits };
+
     fn advance<M: Machine>(
         &mut self,
         alloc: Global,
@@ -115,6 +130,7 @@ impl<R: BufRead, W: Write> Ports<R, W> for Failures {
         number: u64,
         reader: &mut R,
         begun: &mut Vec<u8>,
+        room: Vec<u8>,
     ) -> Result<Option<Step>, ReplayError> {
         let most = LONGEST + 1 - begun.len();
         self.looks += 1;
@@ -128,7 +144,8 @@ impl<R: BufRead, W: Write> Ports<R, W> for Failures {
         }
         let len = shown.len().min(most);
         if let Some(len) = feed_in(&shown[..len]) {
-            let step = whole_line(alloc, machine, view, number, begun, &shown[..len])?;
+            let step = whole_line(alloc, machine, view, number, begun, &shown[..len], room)?;
+            self.waits = may_wait(self.waits, &step, &shown[len + 1..]);
             reader.consume(len + 1);
             return Ok(Some(step));
         }
@@ -160,5 +177,9 @@ impl<R: BufRead, W: Write> Ports<R, W> for Failures {
             return Err(ReplayError::Write);
         }
         Ok(())
+    }
+
+    fn may_wait(&self) -> bool {
+        self.waits
     }
 }

@@ -1,9 +1,9 @@
-use Rattle.std.proofs.Common.{Result, Ok, Err, Some, OnErr, inr, ap, ◌∙◌, subst, arith, rules}
+use Rattle.std.proofs.Common.{◌++◌, Result, Ok, Err, Some, OnErr, inr, ap, ◌∙◌, subst, arith, rules}
 use Rattle.std.proofs.KnownBytes.{Keeps-refl}
 use Rattle.std.specs.Io.KnownBytes.{Appends}
-use Rattle.wit_trace.specs.Stream.{AppendsFront, OutputFrom}
+use Rattle.wit_trace.specs.Stream.{AppendsFront, OutputFrom, Tells}
 use Rattle.wit_trace.proofs.AnswerLemmas.{answer_none, answer_goes, answer_ends}
-use Rattle.wit_trace.proofs.StreamLemmas.{going_part, going_line, going_line_front, going_last, going_last_front, going_end, going_front, going_kept, going_spent}
+use Rattle.wit_trace.proofs.StreamLemmas.{going_part, going_line, going_told, going_last, going_last_front, going_end, going_front, going_kept, going_kept_front, going_spent}
 use Rattle.wit_trace.proofs.stream.run.Goals as goal
 
 -- at an error
@@ -11,62 +11,93 @@ on_err : {T E P : Type 0} (r : Result T E) → P → OnErr r P
 on_err (Ok x) p = tt
 on_err (Err e) p = p
 
-pub returns-in_err-step-clause-err : goal.returns-in_err-step-clause-err
-returns-in_err-step-clause-err g c = on_err _ (going_front _ c.loop-left.invariant.going (λ input. g.met.M.Machine.answers _ _ _ _ _))
+pub returns-in_err-tell-in-Ok-Some-Goes-clause-err : goal.returns-in_err-tell-in-Ok-Some-Goes-clause-err
+returns-in_err-tell-in-Ok-Some-Goes-clause-err g c =
+    let line = answer_goes (OutputFrom (g.M.Machine.allows c.args.view)) c.loop-left.machine c.advance.new.machine c.loop-left.number (g.R.Read.remaining c.loop-left.reader) (g.R.Read.remaining c.advance.new.reader) c.loop-left.line.items c.advance.new.begun.items _ _ _ c.in-Ok-Some-Goes.ensures.ok c.in-Ok-Some-Goes.field-0-is c.in-Ok-Some-Goes.field-0-0-is in
+    on_err _ (going_kept_front _ _ _ (going_line _ _ _ _ _ _ c.loop-left.invariant.going line) (λ input. g.met.M.Machine.answers _ _ _ _ _)
+    (subst (λ text. AppendsFront (g.W.Write.contents c.loop-left.writer) (g.W.Write.contents c.tell.new.writer) (c.loop-left.told.items ++ text)) c.deref.ensures.value c.in_err-tell-in-Ok-Some-Goes.ensures.err))
 
-pub returns-in_err-step-clause-told : goal.returns-in_err-step-clause-told
-returns-in_err-step-clause-told g c = λ is. going_kept _ _ c.loop-left.invariant.going (c.in_err-step.ensures.kept (search rules))
-
-pub loop-left-preserved-in_default : goal.loop-left-preserved-in_default
-loop-left-preserved-in_default g c =
-    let part = answer_none (OutputFrom (g.M.Machine.allows c.args.view)) c.loop-left.machine c.advance.new.machine c.loop-left.number (g.R.Read.remaining c.loop-left.reader) (g.R.Read.remaining c.advance.new.reader) c.loop-left.line.items c.advance.new.begun.items _ c.in_ok-step.ensures.ok c.in_default.is in
+pub loop-left-preserved-in-Ok-Some-Goes : goal.loop-left-preserved-in-Ok-Some-Goes
+loop-left-preserved-in-Ok-Some-Goes g c =
+    let line = answer_goes (OutputFrom (g.M.Machine.allows c.args.view)) c.loop-left.machine c.advance.new.machine c.loop-left.number (g.R.Read.remaining c.loop-left.reader) (g.R.Read.remaining c.advance.new.reader) c.loop-left.line.items c.advance.new.begun.items _ _ _ c.in-Ok-Some-Goes.ensures.ok c.in-Ok-Some-Goes.field-0-is c.in-Ok-Some-Goes.field-0-0-is in
+    let counted = c.in-Ok-Some-Goes.ensures.counted in
+    let same = c.in_ok-tell-in-Ok-Some-Goes.ensures.counted in
     record {
-      going = going_part _ _ _ _ c.loop-left.invariant.going part.0 part.1;
-      short = part.0.short;
-      fewer = omega arith;
-      enough = omega arith;
-      within = omega arith;
-      told = rw part.1 c.loop-left.invariant.told;
+      going = going_told _ _ _ _ (going_line _ _ _ _ _ _ c.loop-left.invariant.going line)
+          (subst (λ text. Tells (g.W.Write.contents c.loop-left.writer) (g.W.Write.contents c.tell.new.writer) (c.loop-left.told.items ++ text) c.tell.new.told.items) c.deref.ensures.value c.in_ok-tell-in-Ok-Some-Goes.ensures.ok);
+      none = c.clear.ensures.items;
+      short = rw line.none (omega arith);
+      fewer = omega (arith, counted, same, c.loop-left.invariant.fewer);
+      enough = omega (arith, counted, same, c.saturating_sub-left.ensures, c.loop-left.invariant.enough);
+      told = omega (arith, c.in-Ok-Some-Goes.ensures.reported c.in-Ok-Some-Goes.text (ap (λ s. Ok s) (c.in-Ok-Some-Goes.field-0-is ∙ ap (λ s. Some s) c.in-Ok-Some-Goes.field-0-0-is)), c.loop-left.invariant.told);
+      within = λ more. omega (arith, counted, same, c.saturating_sub-left.ensures, c.loop-left.invariant.within);
     }
 
-pub returns-in_err-put-in-Goes-clause-err : goal.returns-in_err-put-in-Goes-clause-err
-returns-in_err-put-in-Goes-clause-err g c =
-    let line = answer_goes (OutputFrom (g.M.Machine.allows c.args.view)) c.loop-left.machine c.advance.new.machine c.loop-left.number (g.R.Read.remaining c.loop-left.reader) (g.R.Read.remaining c.advance.new.reader) c.loop-left.line.items c.advance.new.begun.items _ _ _ c.in_ok-step.ensures.ok c.in-Some.is c.in-Goes.is in
-    on_err _ (going_line_front _ _ _ _ _ _ c.loop-left.invariant.going line (λ input. g.met.M.Machine.answers _ _ _ _ _)
-    (subst (AppendsFront _ _) c.deref.ensures.value c.in_err-put-in-Goes.ensures.err))
+pub returns-in_err-tell_all-in-Ok-Some-Ends-clause-err : goal.returns-in_err-tell_all-in-Ok-Some-Ends-clause-err
+returns-in_err-tell_all-in-Ok-Some-Ends-clause-err g c =
+    on_err _ (going_kept_front _ _ _ c.loop-left.invariant.going (λ input. g.met.M.Machine.answers _ _ _ _ _) c.in_err-tell_all-in-Ok-Some-Ends.ensures.err)
 
-pub returns-in_err-put-in-Ends-clause-err : goal.returns-in_err-put-in-Ends-clause-err
-returns-in_err-put-in-Ends-clause-err g c =
-    let last = answer_ends (OutputFrom (g.M.Machine.allows c.args.view)) c.loop-left.machine c.advance.new.machine c.loop-left.number (g.R.Read.remaining c.loop-left.reader) (g.R.Read.remaining c.advance.new.reader) c.loop-left.line.items c.advance.new.begun.items _ _ _ _ c.in_ok-step.ensures.ok c.in-Some.is c.in-Ends.is in
-    on_err _ (going_last_front _ _ _ _ _ c.loop-left.invariant.going last (subst (AppendsFront _ _) c.deref-in-Ends.ensures.value c.in_err-put-in-Ends.ensures.err))
+pub returns-in_err-put-in-Ok-Some-Ends-clause-err : goal.returns-in_err-put-in-Ok-Some-Ends-clause-err
+returns-in_err-put-in-Ok-Some-Ends-clause-err g c =
+    let last = answer_ends (OutputFrom (g.M.Machine.allows c.args.view)) c.loop-left.machine c.advance.new.machine c.loop-left.number (g.R.Read.remaining c.loop-left.reader) (g.R.Read.remaining c.advance.new.reader) c.loop-left.line.items c.advance.new.begun.items _ _ _ _ c.in-Ok-Some-Ends.ensures.ok c.in-Ok-Some-Ends.field-0-is c.in-Ok-Some-Ends.field-0-0-is in
+    on_err _ (going_last_front _ _ _ _ _ (going_told _ _ _ _ c.loop-left.invariant.going c.in_ok-tell_all-in-Ok-Some-Ends.ensures.ok) last
+    (subst (AppendsFront _ _) c.deref-in-Ok-Some-Ends.ensures.value c.in_err-put-in-Ok-Some-Ends.ensures.err))
 
-pub returns-in-Ends-clause-ok : goal.returns-in-Ends-clause-ok
-returns-in-Ends-clause-ok g c =
-    let last = answer_ends (OutputFrom (g.M.Machine.allows c.args.view)) c.loop-left.machine c.advance.new.machine c.loop-left.number (g.R.Read.remaining c.loop-left.reader) (g.R.Read.remaining c.advance.new.reader) c.loop-left.line.items c.advance.new.begun.items _ _ _ _ c.in_ok-step.ensures.ok c.in-Some.is c.in-Ends.is in
-    rw c.get.ensures (going_last _ _ _ _ _ c.loop-left.invariant.going last (subst (Appends _ _) c.deref-in-Ends.ensures.value c.in_ok-put-in-Ends.ensures.ok))
+pub returns-in-Ok-Some-Ends-clause-ok : goal.returns-in-Ok-Some-Ends-clause-ok
+returns-in-Ok-Some-Ends-clause-ok g c =
+    let last = answer_ends (OutputFrom (g.M.Machine.allows c.args.view)) c.loop-left.machine c.advance.new.machine c.loop-left.number (g.R.Read.remaining c.loop-left.reader) (g.R.Read.remaining c.advance.new.reader) c.loop-left.line.items c.advance.new.begun.items _ _ _ _ c.in-Ok-Some-Ends.ensures.ok c.in-Ok-Some-Ends.field-0-is c.in-Ok-Some-Ends.field-0-0-is in
+    rw c.get.ensures (going_last _ _ _ _ _ (going_told _ _ _ _ c.loop-left.invariant.going c.in_ok-tell_all-in-Ok-Some-Ends.ensures.ok) last
+    (subst (Appends _ _) c.deref-in-Ok-Some-Ends.ensures.value c.in_ok-put-in-Ok-Some-Ends.ensures.ok))
 
-pub returns-in-Ends-clause-taken : goal.returns-in-Ends-clause-taken
-returns-in-Ends-clause-taken g c =
-    let last = answer_ends (OutputFrom (g.M.Machine.allows c.args.view)) c.loop-left.machine c.advance.new.machine c.loop-left.number (g.R.Read.remaining c.loop-left.reader) (g.R.Read.remaining c.advance.new.reader) c.loop-left.line.items c.advance.new.begun.items _ _ _ _ c.in_ok-step.ensures.ok c.in-Some.is c.in-Ends.is in
-    rw c.get.ensures (going_end _ _ _ _ _ c.loop-left.invariant.going last (subst (Appends _ _) c.deref-in-Ends.ensures.value c.in_ok-put-in-Ends.ensures.ok))
+pub returns-in-Ok-Some-Ends-clause-taken : goal.returns-in-Ok-Some-Ends-clause-taken
+returns-in-Ok-Some-Ends-clause-taken g c =
+    let last = answer_ends (OutputFrom (g.M.Machine.allows c.args.view)) c.loop-left.machine c.advance.new.machine c.loop-left.number (g.R.Read.remaining c.loop-left.reader) (g.R.Read.remaining c.advance.new.reader) c.loop-left.line.items c.advance.new.begun.items _ _ _ _ c.in-Ok-Some-Ends.ensures.ok c.in-Ok-Some-Ends.field-0-is c.in-Ok-Some-Ends.field-0-0-is in
+    rw c.get.ensures (going_end _ _ _ _ _ (going_told _ _ _ _ c.loop-left.invariant.going c.in_ok-tell_all-in-Ok-Some-Ends.ensures.ok) last
+    (subst (Appends _ _) c.deref-in-Ok-Some-Ends.ensures.value c.in_ok-put-in-Ok-Some-Ends.ensures.ok))
 
 pub loop-left-preserved : goal.loop-left-preserved
 loop-left-preserved g c =
-    let line = answer_goes (OutputFrom (g.M.Machine.allows c.args.view)) c.loop-left.machine c.advance.new.machine c.loop-left.number (g.R.Read.remaining c.loop-left.reader) (g.R.Read.remaining c.advance.new.reader) c.loop-left.line.items c.advance.new.begun.items _ _ _ c.in_ok-step.ensures.ok c.in-Some.is c.in-Goes.is in
+    let part = answer_none (OutputFrom (g.M.Machine.allows c.args.view)) c.loop-left.machine c.advance.new.machine c.loop-left.number (g.R.Read.remaining c.loop-left.reader) (g.R.Read.remaining c.advance.new.reader) c.loop-left.line.items c.advance.new.begun.items _ c.in-Ok-None.ensures.ok c.in-Ok-None.field-0-is in
+    let counted = c.in-Ok-None.ensures.counted in
+    let same = c.in_ok-tell_all-in-Ok-None.ensures.counted in
     record {
-      going = going_line _ _ _ _ _ _ c.loop-left.invariant.going line (subst (Appends _ _) c.deref.ensures.value c.in_ok-put-in-Goes.ensures.ok);
-      short = rw line.none (omega arith);
-      fewer = omega arith;
-      enough = omega arith;
-      told = omega (arith, c.in_ok-step.ensures.reported c.in-Goes.text (ap (λ s. Ok s) (c.in-Some.is ∙ ap (λ s. Some s) c.in-Goes.is)), c.loop-left.invariant.told);
-      within = λ more. omega (arith, c.in_ok-step.ensures.counted, c.in_ok-put-in-Goes.ensures.counted, c.saturating_sub-left.ensures, c.loop-left.invariant.within);
+      going = rw c.in_ok-tell_all-in-Ok-None.ensures.none (going_told _ _ _ _ (going_part _ _ _ _ _ c.loop-left.invariant.going part.0 part.1) c.in_ok-tell_all-in-Ok-None.ensures.ok);
+      none = search rules;
+      short = part.0.short;
+      fewer = omega (arith, counted, same, c.loop-left.invariant.fewer);
+      enough = omega (arith, counted, same, c.loop-left.invariant.enough);
+      told = rw part.1 c.loop-left.invariant.told;
+      within = λ more. omega (arith, counted, same, c.loop-left.invariant.within);
     }
 
+pub returns-in_err-tell_all-in-Ok-None-clause-err : goal.returns-in_err-tell_all-in-Ok-None-clause-err
+returns-in_err-tell_all-in-Ok-None-clause-err g c =
+    on_err _ (going_kept_front _ _ _ c.loop-left.invariant.going (λ input. g.met.M.Machine.answers _ _ _ _ _) c.in_err-tell_all-in-Ok-None.ensures.err)
+
+pub returns-in_err-tell_all-in-Err-clause-err : goal.returns-in_err-tell_all-in-Err-clause-err
+returns-in_err-tell_all-in-Err-clause-err g c =
+    on_err _ (going_kept_front _ _ _ c.loop-left.invariant.going (λ input. g.met.M.Machine.answers _ _ _ _ _) c.in_err-tell_all-in-Err.ensures.err)
+
+pub returns-in-Err-clause-err : goal.returns-in-Err-clause-err
+returns-in-Err-clause-err g c =
+    going_front _ _ (going_told _ _ _ _ c.loop-left.invariant.going c.in_ok-tell_all-in-Err.ensures.ok) (λ input. g.met.M.Machine.answers _ _ _ _ _)
+
+pub returns-in-Err-clause-told : goal.returns-in-Err-clause-told
+returns-in-Err-clause-told g c = λ is.
+    going_kept _ _ (going_told _ _ _ _ c.loop-left.invariant.going c.in_ok-tell_all-in-Err.ensures.ok) (c.in-Err.ensures.kept (search rules))
+
+pub returns-in_err-tell_all-clause-err : goal.returns-in_err-tell_all-clause-err
+returns-in_err-tell_all-clause-err g c =
+    on_err _ (going_kept_front _ _ _ c.loop-left.invariant.going (λ input. g.met.M.Machine.answers _ _ _ _ _) c.in_err-tell_all.ensures.err)
+
 pub returns-clause-err : goal.returns-clause-err
-returns-clause-err g c = going_front _ c.loop-left.invariant.going (λ input. g.met.M.Machine.answers _ _ _ _ _)
+returns-clause-err g c =
+    going_front _ _ (going_told _ _ _ _ c.loop-left.invariant.going c.in_ok-tell_all.ensures.ok) (λ input. g.met.M.Machine.answers _ _ _ _ _)
 
 pub returns-clause-told : goal.returns-clause-told
-returns-clause-told g c = λ is. going_kept _ _ c.loop-left.invariant.going (Keeps-refl _)
+returns-clause-told g c = λ is. going_kept _ _ (going_told _ _ _ _ c.loop-left.invariant.going c.in_ok-tell_all.ensures.ok) (Keeps-refl _)
 
 pub returns-clause-read : goal.returns-clause-read
-returns-clause-read g c = λ is. inr (going_spent _ _ c.loop-left.invariant.going c.loop-left.invariant.fewer (omega arith))
+returns-clause-read g c =
+    let same = c.in_ok-tell_all.ensures.counted in
+    λ is. inr (going_spent _ _ _ c.loop-left.invariant.going (omega (arith, same, c.loop-left.invariant.fewer)) (omega (arith, same, c.loop-left.invariant.enough)))

@@ -1,4 +1,4 @@
-use Rattle.std.proofs.Common.{◌+◌, ◌^◌, ◌<◌, ◌≤◌, length}
+use Rattle.std.proofs.Common.{◌+◌, ◌^◌, ◌≡◌, ◌<◌, ◌≤◌, [], length}
 use Rattle.wit_trace.specs.Stream.{OutputFrom}
 use Rattle.wit_trace.proofs.StreamLemmas.{Going}
 use Rattle.wit_trace.proofs.stream.run.Given as goal
@@ -6,7 +6,8 @@ use Rattle.wit_trace.proofs.stream.run.Given as goal
 abbrev pub invariant-loop-left : goal.invariant-loop-left
 invariant-loop-left g l = record {
   going : Going (OutputFrom (g.M.Machine.allows l.fn.view)) l.fn.machine l.machine
-      (g.R.Read.remaining l.fn.reader) (g.R.Read.remaining l.reader) (g.W.Write.contents l.fn.writer) (g.W.Write.contents l.writer) l.number l.line.items;
+      (g.R.Read.remaining l.fn.reader) (g.R.Read.remaining l.reader) (g.W.Write.contents l.fn.writer) (g.W.Write.contents l.writer) l.number l.line.items l.told.items;
+  none : l.room.items ≡ [];
   short : length l.line.items ≤ 4096;
   fewer : l.number ≤ g.P.Ports.looks l.ports + 1;
   enough : 2 ^ 64 ≤ l.left + g.P.Ports.looks l.ports + l.number;

@@ -1,5 +1,5 @@
 use Rattle.wit_model.specs.Trace.Output.{check_in}
-use Rattle.wit_trace.proofs.ReplayLemmas.{made_at, refused_at_file}
+use Rattle.wit_trace.proofs.CallLemmas.{made_at, refused_at_file}
 use Rattle.wit_trace.proofs.replaying.calls.check_at.Goals as goal
 
 pub returns-in_err-check : goal.returns-in_err-check

@@ -1,5 +1,5 @@
 use Rattle.wit_model.specs.Trace.Output.{Reading, Warns, call_of, calls}
-use Rattle.wit_trace.proofs.ReplayLemmas.{call_passes, remark_passes}
+use Rattle.wit_trace.proofs.CallLemmas.{call_passes, remark_passes}
 use Rattle.wit_trace.proofs.replaying.calls.enter_line.Goals as goal
 
 pub returns-in_err-reply-in_default : goal.returns-in_err-reply-in_default

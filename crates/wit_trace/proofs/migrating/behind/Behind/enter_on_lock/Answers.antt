@@ -18,5 +18,5 @@ returns-in-Some c =
 pub returns : goal.returns
 returns c =
     call-made c.args.self.now.verifier c.call_on_lock.new.verifier c.args.self.now.raw c.args.self.now.raw c.args.self.now.remarks
-    c.args.bytes.now c.args.line c.in_ok-_reply._reply None (Ok c.in_ok-one_line-in-None.field-0) c.in-None.ensures.goes
-    c.in_ok-_reply.ensures (refl, c.in_ok-one_line-in-None.ensures)
+    c.args.bytes.now c.args.line c.in_ok-_reply._reply None (Ok c.in_ok-line_in-in-None.field-0) c.in-None.ensures.goes
+    c.in_ok-_reply.ensures (refl, c.in_ok-line_in-in-None.ensures)

@@ -14,4 +14,5 @@ loop-done-preserved g c = record {
   within = omega (arith, length-take {A = ℕ}, length-drop {A = ℕ}, c.in-Ok.ensures.bound);
   written = Appends-more _ _ _ c.args.bytes.now _ _ c.loop-done.invariant.written c.in-Ok.ensures.bytes;
   looks = c.loop-done.invariant.looks;
+  read = c.loop-done.invariant.read;
 }

@@ -7,6 +7,7 @@ invariant-loop-done g l = record {
   within : l.done ≤ length l.bytes;
   written : Appends (g.W.Write.contents l.fn.writer) (g.W.Write.contents l.writer) (take l.done l.bytes);
   looks : l.self.looks ≡ l.fn.self.looks;
+  read : l.self.read ≡ l.fn.self.read;
 }
 
 abbrev pub decreases-loop-done : goal.decreases-loop-done

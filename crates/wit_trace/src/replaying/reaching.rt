@@ -1,0 +1,66 @@
+//! How a replay gets to a line: where the prelude ends before it, the verifier or the world is made.
+
+ghost use Rattle.std.specs.Prelude.{◌≡◌, ℕ, List, true, IfOk};
+ghost use Rattle.wit_model.specs.Trace.Output.{reached};
+ghost use Rattle.wit_trace.specs.Replays.{ends_prelude, progress, reported, Reaches};
+
+use crate::replaying::Replaying;
+use crate::replaying::prelude::{is_prelude, open};
+use std::alloc::{AllocError, Global};
+use std::mem;
+use wit_model::Cause;
+
+impl Replaying {
+    /// The prelude ends before a line that begins otherwise; a list that is refused then is the bad line.
+    ///
+    /// # Errors
+    /// Want of memory alone.
+    #[inline(always)]
+    pub fn reach(
+        &mut self,
+        alloc: Global,
+        number: u64,
+        line: &[u8],
+    ) -> Result<Option<(u64, Cause)>, AllocError>
+        ensures stands { IfOk result (Reaches (reached (progress self.old) number line.now) (progress self.old) (progress self.new)) }
+        ensures counted { IfOk result (λ r. reported (progress self.new) ≡ reported (progress self.old)) }
+    {
+        if self.ends_prelude(number, line) {
+            self.end_prelude(alloc)
+        } else {
+            Ok(None)
+        }
+    }
+
+    // By itself, so that no other line pays for its large locals.
+    #[cold]
+    #[inline(never)]
+    fn end_prelude(&mut self, alloc: Global) -> Result<Option<(u64, Cause)>, AllocError>
+        ensures { (number : ℕ) (line : List ℕ) → ends_prelude (progress self.old) number line ≡ true
+            → IfOk result (Reaches (reached (progress self.old) number line) (progress self.old) (progress self.new)) }
+    {
+        match mem::replace(self, Replaying::Unstarted) {
+            Replaying::Opening(prelude) => match open(alloc, prelude)? {
+                Ok(begun) => {
+                    *self = begun;
+                    Ok(None)
+                }
+                Err(bad) => Ok(Some(bad)),
+            },
+            before => {
+                *self = before;
+                Ok(None)
+            }
+        }
+    }
+
+    #[inline(always)]
+    fn ends_prelude(&self, number: u64, line: &[u8]) -> bool
+        ensures { result ≡ ends_prelude (progress self.now) number line.now }
+    {
+        match self {
+            Replaying::Opening(_) => !is_prelude(number, line),
+            _ => false,
+        }
+    }
+}
