@@ -22,10 +22,34 @@ pub(crate) fn run<J: Room + Send + Sync, R: Threads + Wait + Sync>(
     alloc: Global,
     opened: Opened,
 ) -> Result<Verifier, Fault>
-    requires { (opened.0.start ≡ J.start) × (opened.1 ≡ J.table) }
+    requires { (opened.story.start ≡ J.start) × (opened.table ≡ J.table) × (opened.list ≡ J.list) }
     ensures { IfOk result (λ v. v.start ≡ J.start) }
 {
-    let shared = opened.named::<J>();
+    let (shared, _observers) = match opened.named::<J, R>(rt, 0) {
+        Ok(named) => named,
+        Err(_) => return Err(Fault::OutOfMemory),
+    };
+    match take_turns(rt, alloc, &shared) {
+        Ok(seats) => match shared.close(rt, seats) {
+            Ok(verifier) => Ok(verifier),
+            Err(unclosed) => {
+                unclosed.abandon(rt);
+                Err(Fault::UnknownSeat)
+            }
+        },
+        Err(fault) => {
+            shared.abandon(rt);
+            Err(fault)
+        }
+    }
+}
+
+// What the six seats do. They come back.
+fn take_turns<J: Room + Send + Sync, R: Threads + Wait + Sync>(
+    rt: &R,
+    alloc: Global,
+    shared: &Shared<J>,
+) -> Result<Vec<Seat<J>>, Fault> {
     let mut seats = Vec::with_capacity(alloc, 6)?;
     let mut one = shared.seat(rt)?;
     let two = shared.seat(rt)?;
@@ -33,9 +57,9 @@ pub(crate) fn run<J: Room + Send + Sync, R: Threads + Wait + Sync>(
     let four = shared.seat(rt)?;
     let five = shared.seat(rt)?;
     let mut six = shared.seat(rt)?;
-    let a = mutex(rt, alloc, &shared, &mut one, "A")?;
-    let b = mutex(rt, alloc, &shared, &mut one, "B")?;
-    let (watched, first, second) = (&shared, &a, &b);
+    let a = mutex(rt, alloc, shared, &mut one, "A")?;
+    let b = mutex(rt, alloc, shared, &mut one, "B")?;
+    let (watched, first, second) = (shared, &a, &b);
     let ((two, two_did), ((three, three_did), ((four, four_did), ((five, five_did), ())))) = join(
         rt,
         || work(rt, watched, two, first, second),
@@ -53,17 +77,14 @@ pub(crate) fn run<J: Room + Send + Sync, R: Threads + Wait + Sync>(
     three_did?;
     four_did?;
     five_did?;
-    take_both(rt, &shared, &mut six, &b, &a, 3)?;
+    take_both(rt, shared, &mut six, &b, &a, 3)?;
     seats.push_reserved(one);
     seats.push_reserved(two);
     seats.push_reserved(three);
     seats.push_reserved(four);
     seats.push_reserved(five);
     seats.push_reserved(six);
-    match shared.close(rt, seats) {
-        Ok(verifier) => Ok(verifier),
-        Err(_) => Err(Fault::UnknownSeat),
-    }
+    Ok(seats)
 }
 
 fn mutex<J: Room, R: Wait>(

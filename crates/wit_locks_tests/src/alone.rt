@@ -12,7 +12,7 @@ use wit_core::Verifier;
 use wit_gates::{CondGate, Gate, SpinGate};
 use wit_locks::{Mtx, Rw, abandon};
 use wit_model::{Call, Entry, Fault, LockFlags, Mode, Site};
-use wit_shared::{Program, Room, Seat, Shared};
+use wit_shared::{Observer, Program, Room, Seat, Shared};
 
 /// A mutex that is held is asked for again: how many entries the log has then.
 #[derive(Drop)]
@@ -29,7 +29,12 @@ where
 
     ghost done = { λ program out. Unit {0} };
 
-    fn run<J: Room + Send + Sync>(self, rt: &R, shared: Shared<J>) -> usize {
+    fn run<J: Room + Send + Sync>(
+        self,
+        rt: &R,
+        shared: Shared<J>,
+        _observers: Vec<Observer<J>>,
+    ) -> usize {
         let TakenTwice { alloc, gate } = self;
         let mut seat = a_seat(rt, &shared);
         let site = a_site(rt, &shared, &mut seat);
@@ -77,7 +82,12 @@ impl<R: Wait + Abort> Program<R> for ShutOut {
 
     ghost done = { λ program out. Unit {0} };
 
-    fn run<J: Room + Send + Sync>(self, rt: &R, shared: Shared<J>) -> Verifier {
+    fn run<J: Room + Send + Sync>(
+        self,
+        rt: &R,
+        shared: Shared<J>,
+        _observers: Vec<Observer<J>>,
+    ) -> Verifier {
         let mut seat = a_seat(rt, &shared);
         let site = a_site(rt, &shared, &mut seat);
         let mutex = a_mutex(rt, &shared, &mut seat, "m", Shut { mark: 7 });
@@ -157,7 +167,7 @@ impl<R: Wait + Abort> Program<R> for Marked<'_> {
 
     ghost done = { λ program out. Unit {0} };
 
-    fn run<J: Room + Send + Sync>(self, rt: &R, shared: Shared<J>) {
+    fn run<J: Room + Send + Sync>(self, rt: &R, shared: Shared<J>, _observers: Vec<Observer<J>>) {
         let Marked { alloc, gate } = self;
         let counts = gate.counts;
         let mut one = a_seat(rt, &shared);
@@ -205,7 +215,7 @@ impl<R: Wait + Abort> Program<R> for HeldTwice<'_> {
 
     ghost done = { λ program out. Unit {0} };
 
-    fn run<J: Room + Send + Sync>(self, rt: &R, shared: Shared<J>) {
+    fn run<J: Room + Send + Sync>(self, rt: &R, shared: Shared<J>, _observers: Vec<Observer<J>>) {
         let HeldTwice { alloc, gate } = self;
         let mut seat = a_seat(rt, &shared);
         let site = a_site(rt, &shared, &mut seat);
@@ -249,7 +259,7 @@ impl<R: Wait + Abort> Program<R> for Crowded<'_> {
 
     ghost done = { λ program out. Unit {0} };
 
-    fn run<J: Room + Send + Sync>(self, rt: &R, shared: Shared<J>) {
+    fn run<J: Room + Send + Sync>(self, rt: &R, shared: Shared<J>, _observers: Vec<Observer<J>>) {
         let mut seat = a_seat(rt, &shared);
         for _ in 1..256 {
             assert!(rt; shared.seat(rt).is_ok());
@@ -265,6 +275,7 @@ impl<R: Wait + Abort> Program<R> for Crowded<'_> {
             take(rt, &shared, &mut seat, &mutex, site),
             Err(Fault::LogFull)
         );
+        shared.abandon(rt);
     }
 }
 

@@ -3,7 +3,7 @@
 ghost use Rattle.std.specs.Prelude.{◌≡◌};
 
 use crate::tokens::{let_go, taken};
-use crate::verifiers::{a_mutex, a_seat, a_site, closed_by_all, opened_within, pair_of};
+use crate::verifiers::{a_mutex, a_seat, a_site, closed_by_all, named, opened_within, pair_of};
 use std::alloc::Global;
 use std::marker::Brand;
 use std::process::Abort;
@@ -117,9 +117,9 @@ fn run_out<J: Room + Send + Sync, R: Threads + Wait + Abort + Sync>(
     alloc: Global,
     opened: Opened,
 ) -> Verifier
-    requires { (opened.0.start ≡ J.start) × (opened.1 ≡ J.table) }
+    requires { (opened.story.start ≡ J.start) × (opened.table ≡ J.table) × (opened.list ≡ J.list) }
 {
-    let shared = opened.named::<J>();
+    let shared = named::<R, J>(rt, opened);
     let mut one = a_seat(rt, &shared);
     let two = a_seat(rt, &shared);
     let site = a_site(rt, &shared, &mut one);

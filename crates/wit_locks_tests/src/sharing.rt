@@ -9,7 +9,7 @@ use std::test::Fail;
 use wit_gates::{CondGate, Gate, SpinGate};
 use wit_locks::Rw;
 use wit_model::{Fault, LockFlags, Mode, Site};
-use wit_shared::{Program, Room, Seat, Shared};
+use wit_shared::{Observer, Program, Room, Seat, Shared};
 
 /// A reader/writer lock that two seats share, and that one of them then has alone.
 #[derive(Drop)]
@@ -26,7 +26,12 @@ where
 
     ghost done = { λ program out. Unit {0} };
 
-    fn run<J: Room + Send + Sync>(self, rt: &R, shared: Shared<J>) -> usize {
+    fn run<J: Room + Send + Sync>(
+        self,
+        rt: &R,
+        shared: Shared<J>,
+        _observers: Vec<Observer<J>>,
+    ) -> usize {
         let mut one = a_seat(rt, &shared);
         let mut two = a_seat(rt, &shared);
         let site = a_site(rt, &shared, &mut one);

@@ -4,7 +4,7 @@ ghost use Rattle.std.specs.Prelude.{◌≡◌};
 ghost use Rattle.wit_gates.specs.Tickets.{pass};
 
 use crate::tokens::{let_go, taken};
-use crate::verifiers::{a_mutex, a_seat, a_site, opened};
+use crate::verifiers::{a_mutex, a_seat, a_site, named, opened};
 use std::alloc::Global;
 use std::marker::Brand;
 use std::process::Abort;
@@ -123,19 +123,30 @@ fn wait_for_one_another<J: Room + Send + Sync, R: Threads + Wait + Abort + Sync>
     opened: Opened,
     signals: &Signals,
 ) -> Result<bool, Fault>
-    requires { (opened.0.start ≡ J.start) × (opened.1 ≡ J.table) }
+    requires { (opened.story.start ≡ J.start) × (opened.table ≡ J.table) × (opened.list ≡ J.list) }
 {
-    let shared = opened.named::<J>();
-    let mut one = a_seat(rt, &shared);
-    let two = a_seat(rt, &shared);
-    let site = a_site(rt, &shared, &mut one);
+    let shared = named::<R, J>(rt, opened);
+    let begun = wait_with(rt, alloc, &shared, signals);
+    shared.abandon(rt);
+    begun
+}
+
+fn wait_with<J: Room + Send + Sync, R: Threads + Wait + Abort + Sync>(
+    rt: &R,
+    alloc: Global,
+    shared: &Shared<J>,
+    signals: &Signals,
+) -> Result<bool, Fault> {
+    let mut one = a_seat(rt, shared);
+    let two = a_seat(rt, shared);
+    let site = a_site(rt, shared, &mut one);
     let gate = Patient {
         inner: CondGate::new(alloc)?,
         signals,
     };
-    let patient = a_mutex(rt, &shared, &mut one, "a", gate);
-    let other = a_mutex(rt, &shared, &mut one, "b", CondGate::new(alloc)?);
-    let (watched, mutex) = (&shared, &other);
+    let patient = a_mutex(rt, shared, &mut one, "a", gate);
+    let other = a_mutex(rt, shared, &mut one, "b", CondGate::new(alloc)?);
+    let (watched, mutex) = (shared, &other);
     let ((), begun) = join(
         rt,
         || take(rt, watched, &mut one, &patient, site),

@@ -1,5 +1,7 @@
 //! Verifiers that are shared.
 
+ghost use Rattle.std.specs.Prelude.{◌≡◌};
+
 use bitflags::Flags;
 use std::alloc::Global;
 use std::process::Abort;
@@ -22,7 +24,7 @@ fn verifier_within<R: Abort>(rt: &R, alloc: Global, limits: Limits) -> Verifier 
 }
 
 /// Runs a program with a new verifier for a few seats and locks, whose log holds this many entries.
-pub(crate) fn run_with<R: Abort, S: Program<R> + Drop>(
+pub(crate) fn run_with<R: Wait + Abort, S: Program<R> + Drop>(
     rt: &R,
     alloc: Global,
     seats: u32,
@@ -30,7 +32,7 @@ pub(crate) fn run_with<R: Abort, S: Program<R> + Drop>(
     program: S,
 ) -> S::Out {
     let verifier = verifier_within(rt, alloc, limits(rt, seats, log));
-    share(alloc, rt, verifier, program)
+    share(alloc, rt, verifier, 0, program)
         .ok()
         .expect(rt, "memory")
 }
@@ -84,7 +86,10 @@ pub(crate) fn closed_by_all<R: Wait + Abort, J: Room>(
 ) -> Verifier {
     match shared.close(rt, seats) {
         Ok(verifier) => verifier,
-        Err(_) => panic!(rt; "a seat is missing"),
+        Err(unclosed) => {
+            unclosed.abandon(rt);
+            panic!(rt; "a seat is missing")
+        }
     }
 }
 
@@ -110,4 +115,14 @@ pub(crate) fn opened<R: Abort>(rt: &R, alloc: Global, seats: u32, log: u32) -> O
 pub(crate) fn opened_within<R: Abort>(rt: &R, alloc: Global, limits: Limits) -> Opened {
     let verifier = verifier_within(rt, alloc, limits);
     Opened::new(alloc, verifier).ok().expect(rt, "memory")
+}
+
+/// The shared verifier, which nobody observes.
+pub(crate) fn named<R: Wait + Abort, J: Room>(rt: &R, opened: Opened) -> Shared<J>
+    requires { (opened.story.start ≡ J.start) × (opened.table ≡ J.table) × (opened.list ≡ J.list) }
+{
+    match opened.named::<J, R>(rt, 0) {
+        Ok((shared, _observers)) => shared,
+        Err(_) => panic!(rt; "no memory"),
+    }
 }

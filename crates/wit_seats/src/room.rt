@@ -7,9 +7,11 @@ ghost use Rattle.wit_model.specs.Rules.State.{Start, Story};
 ghost use Rattle.wit_seats.specs.Nothing.{no_table, no_start, no_story};
 
 use std::marker::Brand;
+use wit_adoptions::Naming;
 
-/// A verifier that threads share: which one it is, and how it began. Its seats name it by their type.
-pub trait Room {
+/// A verifier that threads share: which one it is, how it began, and which list its adopted orders
+/// are in. Its seats and observers name it by their type.
+pub trait Room: Naming {
     // What no other log's table shares with its own.
     ghost table: { TableId };
 

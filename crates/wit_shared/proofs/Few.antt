@@ -96,3 +96,16 @@ module _ (n : ℕ) (more os : List Adoption) (among : OrdersAmong n (more ++ os)
       let two = length-reverse more in
       let both = length-append more os in
       omega (arith, all, square, one, two, both)
+
+-- ---- all orders
+
+module _ (n : ℕ) (os : List Adoption) (among : OrdersAmong n os) where
+  pub fit_all : all_fit n (reverse os) ≡ true
+  fit_all = all_reversed n os (all_among n os among)
+
+  pub room_all : n ≤ 1023 → AreDistinct os → length (reverse os) < 2 ^ 32
+  room_all most distinct =
+      let all = few n os (all_among n os among) distinct in
+      let square : n * n ≤ 1023 * 1023 = mul-le-mul most most in
+      let one = length-reverse os in
+      omega (arith, all, square, one)

@@ -19,6 +19,7 @@ use Rattle.wit_model.specs.Rules.Numbers.{with_number}
 use Rattle.wit_model.proofs.Histories.Longer.{file-there}
 use Rattle.wit_seats.specs.Seats.{AreFiles}
 use Rattle.wit_shared.specs.Calls.{GoesOn}
+use Rattle.wit_shared.specs.Publishing.{Makes}
 
 pub stays : (t : ℕ) (old new : Story) → new ≡ old → GoesOn t old new
 stays t old new e = record {
@@ -53,6 +54,12 @@ pub fails : (old : Story) (t : ℕ) (call : Call) (result : Result Reply Fault) 
 fails old t call (Ok reply) new h = subst (GoesOn t old) (sym h.1) (grows old t call reply)
 fails old t call (Err fault) new h = stays t old new h.1
 
+-- so does one for which it was prepared first
+pub makes : (old : Story) (t : ℕ) (call : Call) (result : Result Reply Fault) (new : Story) → Makes old t call result new → GoesOn t old new
+makes old t call result new m =
+    let g = subst (λ (s : Story). GoesOn t s new) m.same (fails m.before t call result new m.did) in
+    record { start = g.start; entries = g.entries; files = g.files }
+
 names_if : (b : Bool) (t : ℕ) (name : List ℕ) (old : Story) → GoesOn t old (record old { files = cond b old.files (old.files ++ name ∷ []) })
 names_if true t name old = stays t old old refl
 names_if false t name old = record { start = refl; entries = ([], refl, λ other n. refl); files = (name ∷ [], refl) }
@@ -75,6 +82,15 @@ tells start given means keeper old new handed v w began is e did = record {
   entered = subst (λ (j : Journal). Entered start given j.entries j.files new v w) is e;
   did = did;
 }
+
+-- the seat is told of the verifier that was prepared
+pub tells_made : (start : Start) (keeper : Journal) (old new : Story) (handed : ℕ) (call : Call) (result : Result Reply Fault) (v w : Known)
+    → old.start ≡ start → keeper ≡ journal old.history old.files handed → Entered start [] keeper.entries keeper.files new v w
+    → Makes old v.seat call result new → Told start [] (λ s n. AnswersOrFails s v.seat call result n) v w
+tells_made start keeper old new handed call result v w began is e m =
+    tells start [] (λ s n. AnswersOrFails s v.seat call result n) keeper m.before new handed v w
+    (ap (λ (s : Story). s.start) m.same ∙ began)
+    (is ∙ ap (λ (s : Story). journal s.history s.files handed) (sym m.same)) e m.did
 
 -- a number that was given is the file's
 given_number : (bad full : Bool) (number n : ℕ) → cond bad (Err BadName) (cond full (Err FilesFull) (Ok number)) ≡ Ok n → number ≡ n

@@ -1,6 +1,7 @@
 -- What is left of a shared verifier that is closed.
-use Rattle.std.specs.Prelude.{ℕ, ◌≡◌, ◌<◌, ◌≤◌, ◌==◌, Bool, true, false, List, [], ◌∷◌}
+use Rattle.std.specs.Prelude.{ℕ, zero, suc, ◌+◌, ◌≡◌, ◌<◌, ◌≤◌, ◌==◌, Bool, true, false, List, [], ◌∷◌, length, if◌then◌else◌}
 use Rattle.std.specs.List.{list_any}
+use Rattle.wit_model.specs.declared.calls.Entry.{Entry}
 use Rattle.wit_model.specs.Rules.Beginnings.{IsBeginning}
 use Rattle.wit_model.specs.Rules.History.{own_entries}
 use Rattle.wit_model.specs.Rules.State.{Start, Story}
@@ -36,3 +37,26 @@ pub record IsClosed (start : Start) (v : Story) (seats : List Known) : Type 0 wh
   pub began : v.start ≡ start
   pub own : AreLeft v seats
   pub others : (n : ℕ) → has_seat n seats ≡ false → own_entries n v.history ≡ []
+
+-- what wasn't closed: the seats given back, how many were handed out, and the least number of one that isn't there
+pub record Lacking : Type 0 where
+  pub seats : List Known
+  pub handed : ℕ
+  pub missing : ℕ
+
+-- the entries in the list of the seat of this number
+abbrev pub list_of : ℕ → List Known → List Entry
+list_of n [] = []
+list_of n (k ∷ ks) = if k.seat == n then k.own else list_of n ks
+
+-- how many entries the lists of the seats up to this number have
+abbrev pub logged_to : ℕ → List Known → ℕ
+logged_to zero seats = length (list_of 0 seats)
+logged_to (suc n) seats = length (list_of (suc n) seats) + logged_to n seats
+
+-- a log is as long as the lists of these seats together
+abbrev pub AddsUp : List Entry → List Known → Type 0
+AddsUp h seats = (n : ℕ) → ((m : ℕ) → n < m → has_seat m seats ≡ false) → length h ≡ logged_to n seats
+
+abbrev pub ClosedLogsAddUp : Type 0
+ClosedLogsAddUp = (start : Start) (v : Story) (seats : List Known) → IsClosed start v seats → AddsUp v.history seats

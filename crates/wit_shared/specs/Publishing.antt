@@ -1,11 +1,11 @@
 -- What a shared verifier publishes for observers: its adopted orders. Lists of entries are newest first.
-use Rattle.std.specs.Prelude.{ℕ, ◌≡◌, List, [], reverse, Result, Ok, Err}
+use Rattle.std.specs.Prelude.{ℕ, ◌≡◌, true, List, [], reverse, Result, Ok, Err}
 use Rattle.wit_model.specs.declared.faults.Fault.{Fault}
 use Rattle.wit_model.specs.declared.calls.Adoption.{Adoption}
 use Rattle.wit_model.specs.declared.calls.Call.{Call}
 use Rattle.wit_model.specs.declared.calls.Entry.{Entry}
 use Rattle.wit_model.specs.declared.calls.Reply.{Reply}
-use Rattle.wit_model.specs.Rules.Orders.{adopted, orders_from}
+use Rattle.wit_model.specs.Rules.Orders.{adopted, is_direct, orders_from}
 use Rattle.wit_model.specs.Rules.State.{Start, Story, orders_of}
 use Rattle.wit_model.specs.Rules.Step.{AnswersOrFails}
 use Rattle.wit_observers.specs.Shown.{Published}
@@ -21,6 +21,10 @@ published s = record { orders = adoptions s.start s.history; size = s.start.size
 -- the orders that the replies of these entries name
 abbrev pub orders_named : List Entry → List Adoption
 orders_named own = orders_from [] own
+
+-- each pair that these entries name as adopted is among these orders
+abbrev pub IsNamedIn : List Entry → List Adoption → Type 0
+IsNamedIn own orders = (a b : ℕ) → is_direct (orders_named own) a b ≡ true → is_direct orders a b ≡ true
 
 -- what a call with this answer adopts, newest first
 abbrev pub adopts : Call → Result Reply Fault → List Adoption

@@ -7,42 +7,57 @@ ghost use Rattle.wit_shared.specs.Closing.{has_seat, HasSeatsTo, IsMissing, IsLe
 use crate::desk::Desk;
 use crate::following::{follow, look};
 use crate::shared::Shared;
+use std::marker::Model;
 use std::sync::Wait;
 use wit_core::Verifier;
 use wit_model::SeatNo;
 use wit_seats::{Keeper, Room, Seat};
 
 /// A shared verifier that wasn't closed, with the seats that were given back, all as they were.
+/// Clauses see the seats, how many were handed out, and the least number of one that is missing. It
+/// can't be let go of: `into_parts` gives back what was to be closed, and `abandon` drops it.
 pub struct Unclosed<J: Room> {
-    /// The shared verifier.
-    pub shared: Shared<J>,
-    /// The seats.
-    pub seats: Vec<Seat<J>>,
-    /// The least number of a seat that was handed out and isn't among them.
-    pub missing: SeatNo,
+    desk: Desk<J>,
+    seats: Vec<Seat<J>>,
+    missing: SeatNo,
 }
 
-impl<J: Room> Drop for Unclosed<J> {
-    fn drop(self) {
-        let Unclosed {
-            shared: _,
-            seats: _,
-            missing: _,
-        } = self;
-    }
+impl<J: Room> Model for Unclosed<J> {
+    ghost use Rattle.wit_shared.specs.Closing.{Lacking};
+
+    ghost Value = { Lacking };
+
+    ghost view = { λ u. record { seats = u.seats.items; handed = u.desk.handed; missing = u.missing.0 } };
 }
 
 impl<J: Room> Unclosed<J> {
+    /// The least number of a seat that was handed out and isn't among those given back.
+    pub fn missing(&self) -> SeatNo
+        ensures { result.0 ≡ self.now.missing }
+    {
+        self.missing
+    }
+
     /// The shared verifier and the seats, to go on with.
     pub fn into_parts(self) -> (Shared<J>, Vec<Seat<J>>)
-        ensures { result.1 ≡ self.seats }
+        ensures { result.1.items ≡ self.seats }
     {
         let Unclosed {
-            shared,
+            desk,
             seats,
             missing: _,
         } = self;
-        (shared, seats)
+        (Shared::of(desk), seats)
+    }
+
+    /// Drops the verifier and the seats. Observers see nothing from then on.
+    pub fn abandon<R: Wait>(self, rt: &R) {
+        let Unclosed {
+            desk,
+            seats: _seats,
+            missing: _,
+        } = self;
+        desk.abandon(rt);
     }
 }
 
@@ -50,14 +65,20 @@ impl<J: Room> Shared<J> {
     /// Gives the verifier back for all its seats. For each of them the log has just the entries of its list, and began with
     /// what it has seen, and its files stand; nobody else has entries; the verifier began as it did when it was shared.
     ///
+    /// Observers see nothing from then on. It may wait for one that looks.
+    ///
     /// # Errors
     /// Where a seat that was handed out isn't there; the shared verifier and the seats come back.
     pub fn close<R: Wait>(self, rt: &R, seats: Vec<Seat<J>>) -> Result<Verifier, Unclosed<J>>
         ensures ok { IfOk result (λ v. IsClosed J.start v seats.items) }
-        ensures err { IfErr result (λ u. (u.seats ≡ seats) × IsMissing u.missing.0 seats.items) }
+        ensures err { IfErr result (λ u. (u.seats ≡ seats.items) × (u.missing ≤ u.handed) × IsMissing u.missing seats.items) }
     {
-        let _rt = rt;
-        self.into_desk().close(seats)
+        self.into_desk().close(rt, seats)
+    }
+
+    /// Drops the verifier. Observers see nothing from then on. It may wait for one that looks.
+    pub fn abandon<R: Wait>(self, rt: &R) {
+        self.into_desk().abandon(rt);
     }
 }
 
@@ -66,29 +87,31 @@ impl<J: Room> Desk<J> {
     ///
     /// # Errors
     /// Where one is missing.
-    pub fn close(self, seats: Vec<Seat<J>>) -> Result<Verifier, Unclosed<J>>
+    pub fn close<R: Wait>(self, rt: &R, seats: Vec<Seat<J>>) -> Result<Verifier, Unclosed<J>>
         ensures same { IfOk result (λ v. v ≡ self.story) }
         ensures all { IfOk result (λ v. HasSeatsTo self.handed seats.items) }
         ensures ok { IfOk result (λ v. IsClosed J.start v seats.items) }
-        ensures err { IfErr result (λ u. (u.seats ≡ seats) × (u.missing.0 ≤ self.handed) × IsMissing u.missing.0 seats.items) }
+        ensures handed { IfErr result (λ u. u.handed ≡ self.handed) }
+        ensures err { IfErr result (λ u. (u.seats ≡ seats.items) × (u.missing ≤ u.handed) × IsMissing u.missing seats.items) }
     {
         match missing_of(&seats, self.handed) {
             Some(missing) => Err(Unclosed {
-                shared: Shared::of(self),
+                desk: self,
                 seats,
                 missing,
             }),
-            None => Ok(self.settle(seats)),
+            None => Ok(self.settle(rt, seats)),
         }
     }
 
-    // Gives the verifier back.
-    fn settle(self, seats: Vec<Seat<J>>) -> Verifier
+    // Ends the publisher, and gives the verifier back.
+    fn settle<R: Wait>(self, rt: &R, seats: Vec<Seat<J>>) -> Verifier
         requires { HasSeatsTo self.handed seats.items }
         ensures same { result ≡ self.story }
         ensures closed { IsClosed J.start result seats.items }
     {
-        let (verifier, mut keeper) = self.into_parts();
+        let (verifier, mut keeper, publisher) = self.into_parts();
+        publisher.end(rt);
         settle_all(&mut keeper, &verifier, seats);
         look(&mut keeper, &verifier);
         verifier

@@ -1,6 +1,7 @@
-//! What lies behind the lock: the verifier, and the keeper of its log.
+//! What lies behind the lock: the verifier, the keeper of its log, and the publisher of its orders.
 
 ghost use Rattle.std.specs.Prelude.{◌≡◌, ◌+◌, ◌≤◌, [], IfOk, IfErr};
+ghost use mathlib.Core.List.{IsPrefix};
 ghost use Rattle.std.specs.Option.{option_copied};
 ghost use Rattle.wit_model.specs.declared.calls.Call.TheVariants.{Init, Note, GiveUp, Unlock};
 ghost use Rattle.wit_model.specs.declared.faults.Fault.TheVariants.{UnknownSeat};
@@ -13,21 +14,30 @@ ghost use Rattle.wit_core.specs.Replies.{new_lock, made_reply};
 ghost use Rattle.wit_seats.specs.Rule.{journal, newcomer};
 ghost use Rattle.wit_seats.specs.Seats.{Told};
 ghost use Rattle.wit_shared.specs.Calls.{given_by};
+ghost use Rattle.wit_shared.specs.Publishing.{adoptions, published};
 
 use crate::following::{follow, follow_file, look};
+use crate::looking::Look;
+use crate::publishing::make;
+use std::alloc::Global;
 use std::marker::Model;
+use std::sync::Wait;
 use wit_core::Verifier;
 use wit_model::{
     AssertAnswer, Call, Class, Fault, FileNo, LockAssert, LockFlags, LockNo, Mode, Reply, SeatNo,
     WarnFlags,
 };
+use wit_observers::{News, Observer, Publisher};
 use wit_seats::{Keeper, Room, Seat};
 
-/// A verifier whose log is legal behind the start given, with the keeper that knows it as it is.
+/// A verifier whose log is legal behind the start given, with the keeper that knows it as it is,
+/// and all its adopted orders published. It can't be let go of, but is closed or abandoned.
 pub struct Desk<J: Room> {
+    pub(crate) alloc: Global,
     pub(crate) verifier: Verifier,
     pub(crate) handed: u16,
     pub(crate) keeper: Keeper<J>,
+    pub(crate) publisher: Publisher<J>,
 }
 
 impl<J: Room> Model for Desk<J> {
@@ -37,35 +47,29 @@ impl<J: Room> Model for Desk<J> {
     ghost Value = { Kept };
 
     ghost use Rattle.wit_seats.specs.Rule.{journal};
+    ghost use Rattle.wit_shared.specs.Publishing.{published};
 
     ghost view = { λ d. record { story = d.verifier; handed = d.handed } };
 
-    ghost invariant = { λ d. (d.verifier.start ≡ J.start) × (d.keeper ≡ journal d.verifier.history d.verifier.files d.handed) };
-}
-
-impl<J: Room> Drop for Desk<J> {
-    fn drop(self) {
-        let Desk {
-            verifier: _,
-            handed: _,
-            keeper: _,
-        } = self;
-    }
+    ghost invariant = { λ d. (d.verifier.start ≡ J.start) × (d.keeper ≡ journal d.verifier.history d.verifier.files d.handed)
+        × (d.publisher ≡ published d.verifier) };
 }
 
 impl<J: Room> Desk<J> {
-    // The verifier, and the keeper that knows its log.
-    pub(crate) fn into_parts(self) -> (Verifier, Keeper<J>)
+    // The verifier, the keeper that knows its log, and the publisher.
+    pub(crate) fn into_parts(self) -> (Verifier, Keeper<J>, Publisher<J>)
         ensures verifier { result.0 ≡ self.story }
         ensures start { result.0.start ≡ J.start }
         ensures keeper { result.1 ≡ journal self.story.history self.story.files self.handed }
     {
         let Desk {
+            alloc: _,
             verifier,
             handed: _,
             keeper,
+            publisher,
         } = self;
-        (verifier, keeper)
+        (verifier, keeper, publisher)
     }
 
     /// Hands out the next seat.
@@ -86,10 +90,17 @@ impl<J: Room> Desk<J> {
     }
 
     /// Makes a logged call, whichever it is.
-    pub fn call(&mut self, seat: &mut Seat<J>, call: Call) -> Result<Reply, Fault>
+    pub fn call<R: Wait>(&mut self, rt: &R, seat: &mut Seat<J>, call: Call) -> Result<Reply, Fault>
         ensures { Told J.start [] (λ s new. AnswersOrFails s seat.old.seat call result new) seat.old seat.new }
     {
-        let answer = self.verifier.call(seat.number(), call);
+        let answer = make(
+            rt,
+            self.alloc,
+            &mut self.verifier,
+            &mut self.publisher,
+            seat.number(),
+            call,
+        );
         follow(&mut self.keeper, &self.verifier, seat);
         answer
     }
@@ -180,5 +191,37 @@ impl<J: Room> Desk<J> {
     {
         follow(&mut self.keeper, &self.verifier, seat);
         self.verifier.warn(seat.number(), named, flags)
+    }
+
+    /// Looks at the verifier.
+    pub fn look<L: Look>(&mut self, seat: &mut Seat<J>, wanted: L) -> L::Out
+        ensures { Told J.start [] (λ s new. (L.done wanted result s) × (new ≡ s)) seat.old seat.new }
+    {
+        follow(&mut self.keeper, &self.verifier, seat);
+        wanted.look(&self.verifier)
+    }
+
+    /// News of all adopted orders.
+    pub fn news(&mut self, seat: &mut Seat<J>) -> News<J>
+        ensures told { Told J.start [] (λ s new. new ≡ s) seat.old seat.new }
+        ensures all { result ≡ adoptions J.start seat.new.seen }
+    {
+        follow(&mut self.keeper, &self.verifier, seat);
+        self.publisher.news()
+    }
+
+    /// Shows that what an observer knows is how the adopted orders begin.
+    pub fn covers(&mut self, seat: &mut Seat<J>, observer: &Observer<J>)
+        ensures told { Told J.start [] (λ s new. new ≡ s) seat.old seat.new }
+        ensures begins { IsPrefix observer.now (adoptions J.start seat.new.seen) }
+    {
+        follow(&mut self.keeper, &self.verifier, seat);
+        self.publisher.covers(observer.front());
+    }
+
+    /// Ends the publisher, and drops the rest.
+    pub fn abandon<R: Wait>(self, rt: &R) {
+        let (_verifier, _keeper, publisher) = self.into_parts();
+        publisher.end(rt);
     }
 }

@@ -1,24 +1,18 @@
-//! The shared verifier's calls.
+//! The shared verifier, and its calls that are logged.
 
 ghost use Rattle.std.specs.Prelude.{◌≡◌, ◌≢◌, ◌≤◌, [], Err, IfOk, IfErr, IsOk};
 ghost use Rattle.std.specs.Option.{option_copied};
 ghost use Rattle.wit_model.specs.declared.calls.Call.TheVariants.{Init, Check, Note, NoteTry, GiveUp, Unlock, SetWatch, Destroy, Upgrade, Downgrade, NoRelease, ReleaseOk, DefineOrder};
 ghost use Rattle.wit_model.specs.declared.faults.Fault.TheVariants.{UnknownFile, UnknownSeat};
-ghost use Rattle.wit_model.specs.Rules.Assertions.{step_assert};
-ghost use Rattle.wit_model.specs.Rules.Files.{NamesFile};
-ghost use Rattle.wit_model.specs.Rules.State.{state_of};
 ghost use Rattle.wit_model.specs.Rules.Step.{Answers, AnswersOrFails};
-ghost use Rattle.wit_model.specs.Rules.Warnings.{step_warn};
 ghost use Rattle.wit_core.specs.Replies.{new_lock, made_reply};
 ghost use Rattle.wit_seats.specs.Seats.{Told};
-ghost use Rattle.wit_shared.specs.Calls.{given_by};
 ghost use Rattle.wit_shared.specs.Own.{AsksFor, HasFile};
 
 use crate::desk::Desk;
 use std::sync::{Mutex, MutexGuard, Wait};
 use wit_model::{
-    AssertAnswer, Call, Class, Fault, FileNo, LockAssert, LockFlags, LockNo, Mode, OpFlags, Reply,
-    Request, Site, WarnFlags, Watch,
+    Call, Class, Fault, LockFlags, LockNo, Mode, OpFlags, Reply, Request, Site, Watch,
 };
 use wit_seats::{Room, Seat};
 
@@ -27,14 +21,10 @@ use wit_seats::{Room, Seat};
 /// A call tells its seat (`Told`): others had made entries since the seat last looked, and none of them is its own; from there
 /// the call did what the verifier's own clause says; and the seat has then seen all of it. So its answer is that of the rules at
 /// a legal history of the start given, which begins with all that the seat had seen.
+///
+/// It can't be let go of: `close` gives the verifier back, and `abandon` drops it.
 pub struct Shared<J: Room> {
     pub(crate) desk: Mutex<Desk<J>>,
-}
-
-impl<J: Room> Drop for Shared<J> {
-    fn drop(self) {
-        let Shared { desk: _ } = self;
-    }
 }
 
 impl<J: Room> Shared<J> {
@@ -70,7 +60,7 @@ impl<J: Room> Shared<J> {
         ensures { Told J.start [] (λ s new. AnswersOrFails s seat.old.seat call result new) seat.old seat.new }
     {
         let mut desk = self.desk.lock(rt);
-        let answer = desk.call(seat, call);
+        let answer = desk.call(rt, seat, call);
         let _ = MutexGuard::unlock(desk);
         answer
     }
@@ -282,56 +272,5 @@ impl<J: Room> Shared<J> {
         ensures { Told J.start [] (λ s new. AnswersOrFails s seat.old.seat (DefineOrder first second) result new) seat.old seat.new }
     {
         self.call(rt, seat, Call::DefineOrder(first, second))
-    }
-
-    /// Names a source file: `Verifier::file`. The seat then has it, and its number and name stand.
-    ///
-    /// # Errors
-    /// Those of `Verifier::file`.
-    pub fn file<R: Wait>(&self, rt: &R, seat: &mut Seat<J>, name: &str) -> Result<FileNo, Fault>
-        ensures { Told J.start (given_by result name.now) (λ s new. NamesFile s name.now result new) seat.old seat.new }
-    {
-        let mut desk = self.desk.lock(rt);
-        let answer = desk.file(seat, name);
-        let _ = MutexGuard::unlock(desk);
-        answer
-    }
-
-    /// Asserts how a lock is held: `Verifier::assert_lock`. It isn't logged, and takes no memory.
-    ///
-    /// # Errors
-    /// Those of `Verifier::assert_lock`.
-    pub fn assert_lock<R: Wait>(
-        &self,
-        rt: &R,
-        seat: &mut Seat<J>,
-        lock: LockNo,
-        flags: LockAssert,
-    ) -> Result<AssertAnswer, Fault>
-        ensures { Told J.start [] (λ s new. (result ≡ step_assert (state_of s) seat.old.seat lock.0 flags) × (new ≡ s)) seat.old seat.new }
-    {
-        let mut desk = self.desk.lock(rt);
-        let answer = desk.assert_lock(seat, lock, flags);
-        let _ = MutexGuard::unlock(desk);
-        answer
-    }
-
-    /// Counts held locks: `Verifier::warn`. It isn't logged, and takes no memory.
-    ///
-    /// # Errors
-    /// Those of `Verifier::warn`.
-    pub fn warn<R: Wait>(
-        &self,
-        rt: &R,
-        seat: &mut Seat<J>,
-        named: Option<LockNo>,
-        flags: WarnFlags,
-    ) -> Result<usize, Fault>
-        ensures { Told J.start [] (λ s new. (result ≡ step_warn (state_of s) seat.old.seat named flags) × (new ≡ s)) seat.old seat.new }
-    {
-        let mut desk = self.desk.lock(rt);
-        let answer = desk.warn(seat, named, flags);
-        let _ = MutexGuard::unlock(desk);
-        answer
     }
 }

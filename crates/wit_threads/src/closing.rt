@@ -35,7 +35,10 @@ fn take_50_times<J: Room, R: Wait + Abort>(
 fn close<J: Room, R: Wait + Abort>(rt: &R, shared: Shared<J>, seats: Vec<Seat<J>>) -> Verifier {
     match shared.close(rt, seats) {
         Ok(verifier) => verifier,
-        Err(_) => panic!(rt; "a seat is missing"),
+        Err(unclosed) => {
+            unclosed.abandon(rt);
+            panic!(rt; "a seat is missing")
+        }
     }
 }
 
@@ -49,7 +52,7 @@ fn close_twice<J: Room, R: Wait + Abort>(
     match shared.close(rt, seats) {
         Ok(_) => panic!(rt; "closed without a seat"),
         Err(unclosed) => {
-            assert_eq!(rt; unclosed.missing, SeatNo(3));
+            assert_eq!(rt; unclosed.missing(), SeatNo(3));
             let (shared, mut seats) = unclosed.into_parts();
             assert_eq!(rt; seats.len(), 2);
             seats.push(third).ok().expect(rt, "memory");
@@ -63,9 +66,12 @@ fn run<J: Room + Send + Sync, R: Threads + Wait + Abort + Sync>(
     alloc: Global,
     opened: Opened,
 ) -> Verifier
-    requires { (opened.0.start ≡ J.start) × (opened.1 ≡ J.table) }
+    requires { (opened.story.start ≡ J.start) × (opened.table ≡ J.table) × (opened.list ≡ J.list) }
 {
-    let shared = opened.named::<J>();
+    let (shared, _observers) = match opened.named::<J, R>(rt, 0) {
+        Ok(named) => named,
+        Err(_) => panic!(rt; "no memory to share it"),
+    };
     let mut one = shared.seat(rt).ok().expect(rt, "a seat");
     let two = shared.seat(rt).ok().expect(rt, "a seat");
     let three = shared.seat(rt).ok().expect(rt, "a seat");

@@ -4,6 +4,10 @@
 #![tactic(auto)]
 
 #[cfg(test)]
+mod asking;
+#[cfg(test)]
 mod closing;
+#[cfg(test)]
+mod observing;
 #[cfg(test)]
 mod verifiers;

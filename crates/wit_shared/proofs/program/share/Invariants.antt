@@ -1,4 +1,7 @@
 use Rattle.wit_shared.proofs.program.share.Given as goal
 
-abbrev pub ghosts-run_as : goal.ghosts-run_as
-ghosts-run_as g a = record { table = a.opened.1; start = a.opened.0.start }
+abbrev pub ghosts-run_as-J-Naming : goal.ghosts-run_as-J-Naming
+ghosts-run_as-J-Naming g a = record { list = a.opened.list }
+
+abbrev pub ghosts-run_as-J-Room : goal.ghosts-run_as-J-Room
+ghosts-run_as-J-Room g a = record { table = a.opened.table; start = a.opened.story.start }

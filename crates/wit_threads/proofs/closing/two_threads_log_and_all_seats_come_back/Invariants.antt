@@ -1,4 +1,7 @@
 use Rattle.wit_threads.proofs.closing.two_threads_log_and_all_seats_come_back.Given as goal
 
-abbrev pub ghosts-run : goal.ghosts-run
-ghosts-run g a = record { table = a.opened.1; start = a.opened.0.start }
+abbrev pub ghosts-run-J-Naming : goal.ghosts-run-J-Naming
+ghosts-run-J-Naming g a = record { list = a.opened.list }
+
+abbrev pub ghosts-run-J-Room : goal.ghosts-run-J-Room
+ghosts-run-J-Room g a = record { table = a.opened.table; start = a.opened.story.start }

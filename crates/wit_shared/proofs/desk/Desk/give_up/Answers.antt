@@ -1,9 +1,10 @@
-use Rattle.std.proofs.Common.{[], ap, ◌∙◌, subst}
+use Rattle.std.proofs.Common.{[], refl, ap, sym, ◌∙◌, subst}
 use Rattle.wit_model.specs.declared.calls.Call.TheVariants.{GiveUp}
 use Rattle.wit_model.specs.Rules.State.{Story}
 use Rattle.wit_model.specs.Rules.Step.{Answers}
 use Rattle.wit_seats.specs.declared.views.Journal.{Journal}
 use Rattle.wit_seats.specs.Rule.{journal}
+use Rattle.wit_shared.proofs.Staying.{stays_so}
 use Rattle.wit_shared.proofs.Steps.{answers, may_follow, tells}
 use Rattle.wit_shared.proofs.desk.Desk.give_up.Goals as goal
 
@@ -18,6 +19,7 @@ pub invariant_of-self : goal.invariant_of-self
 invariant_of-self g c = (
   (answers c.self.inside.verifier c.args.seat.now.seat (GiveUp c.args.lock) c.give_up-answer.result c.give_up-answer.new.self (subst (λ t. Answers c.self.inside.verifier t (GiveUp c.args.lock) c.give_up-answer.result c.give_up-answer.new.self) c.number.ensures c.give_up-answer.ensures)).start ∙ c.self.invariant.0,
   c.follow.ensures.kept ∙ ap (λ (j : Journal). journal c.give_up-answer.new.self.history c.give_up-answer.new.self.files j.handed) c.self.invariant.1,
+  c.self.invariant.2 ∙ sym (stays_so c.self.inside.verifier c.number.result.0 (GiveUp c.args.lock) c.give_up-answer.result c.give_up-answer.new.self c.give_up-answer.ensures (λ reply. refl)),
 )
 
 pub returns : goal.returns

@@ -1,4 +1,4 @@
-use Rattle.std.proofs.Common.{[], ap, ◌∙◌, subst}
+use Rattle.std.proofs.Common.{[], refl, ap, sym, ◌∙◌, subst}
 use Rattle.std.specs.Option.{option_copied}
 use Rattle.wit_model.specs.declared.calls.Call.TheVariants.{Init}
 use Rattle.wit_model.specs.Rules.State.{Story}
@@ -6,6 +6,7 @@ use Rattle.wit_model.specs.Rules.Step.{AnswersOrFails}
 use Rattle.wit_core.specs.Replies.{new_lock, made_reply}
 use Rattle.wit_seats.specs.declared.views.Journal.{Journal}
 use Rattle.wit_seats.specs.Rule.{journal}
+use Rattle.wit_shared.proofs.Staying.{stays_or_fails}
 use Rattle.wit_shared.proofs.Steps.{fails, may_follow, tells}
 use Rattle.wit_shared.proofs.desk.Desk.init.Goals as goal
 
@@ -20,6 +21,7 @@ pub invariant_of-self : goal.invariant_of-self
 invariant_of-self g c = (
   (fails c.self.inside.verifier c.args.seat.now.seat (Init (new_lock c.args.name.now (option_copied c.args.type_name) c.args.class c.args.flags)) (made_reply c.init-answer.result) c.init-answer.new.self (subst (λ t. AnswersOrFails c.self.inside.verifier t (Init (new_lock c.args.name.now (option_copied c.args.type_name) c.args.class c.args.flags)) (made_reply c.init-answer.result) c.init-answer.new.self) c.number.ensures c.init-answer.ensures)).start ∙ c.self.invariant.0,
   c.follow.ensures.kept ∙ ap (λ (j : Journal). journal c.init-answer.new.self.history c.init-answer.new.self.files j.handed) c.self.invariant.1,
+  c.self.invariant.2 ∙ sym (stays_or_fails c.self.inside.verifier c.number.result.0 (Init (new_lock c.args.name.now (option_copied c.args.type_name) c.args.class c.args.flags)) (made_reply c.init-answer.result) c.init-answer.new.self c.init-answer.ensures (λ reply. refl)),
 )
 
 pub returns : goal.returns

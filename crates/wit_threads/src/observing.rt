@@ -1,0 +1,136 @@
+//! Observers answer of what is adopted, as long as the verifier is shared.
+
+use crate::verifiers::mutex;
+use bitflags::Flags;
+use std::alloc::Global;
+use std::process::Abort;
+use std::sync::Wait;
+use std::test::Fail;
+use wit_core::Verifier;
+use wit_model::{Class, Limits, LockNo, Mode, OpFlags, Reply, Site, TypeNo};
+use wit_shared::{Observer, Program, Room, Seat, Shared, share};
+
+const A: TypeNo = TypeNo(1);
+
+const B: TypeNo = TypeNo(2);
+
+/// Asks for a mutex, and has it.
+fn take<J: Room, R: Wait + Abort>(
+    rt: &R,
+    shared: &Shared<J>,
+    seat: &mut Seat<J>,
+    lock: LockNo,
+    site: Site,
+) -> Reply {
+    let ops = OpFlags::NEWORDER | OpFlags::FRESH;
+    let asked = shared.check(rt, seat, lock, Mode::Exclusive, ops, site);
+    assert!(rt; shared.note(rt, seat, lock).is_ok(), "acquired");
+    asked.ok().expect(rt, "asked for")
+}
+
+/// Closes it with its one seat.
+fn close<J: Room, R: Wait + Abort>(rt: &R, alloc: Global, shared: Shared<J>, seat: Seat<J>) {
+    let mut seats = Vec::with_capacity(alloc, 1).ok().expect(rt, "memory");
+    seats.push_reserved(seat);
+    match shared.close(rt, seats) {
+        Ok(_verifier) => {}
+        Err(unclosed) => {
+            unclosed.abandon(rt);
+            panic!(rt; "the seat is missing")
+        }
+    }
+}
+
+/// One seat adopts the order from A to B. One observer learns of it, and the other looks.
+#[derive(Drop)]
+struct Adopted {
+    alloc: Global,
+}
+
+impl<R: Wait + Abort> Program<R> for Adopted {
+    type Out = ();
+
+    ghost done = { λ program out. Unit {0} };
+
+    fn run<J: Room + Send + Sync>(
+        self,
+        rt: &R,
+        shared: Shared<J>,
+        mut observers: Vec<Observer<J>>,
+    ) {
+        let mut looks = observers.pop().expect(rt, "an observer");
+        let mut learns = observers.pop().expect(rt, "another observer");
+        let mut seat = shared.seat(rt).ok().expect(rt, "a seat");
+        let file = shared.file(rt, &mut seat, "f").ok().expect(rt, "a file");
+        let a = mutex(rt, &shared, &mut seat, "A");
+        let b = mutex(rt, &shared, &mut seat, "B");
+        assert_eq!(rt; learns.orders_seen(), Some(0));
+        take(rt, &shared, &mut seat, a, Site { file, line: 1 });
+        let told = take(rt, &shared, &mut seat, b, Site { file, line: 2 });
+        assert!(rt; matches!(told, Reply::Adopted(..)), "adopted");
+        learns.learn(shared.news(rt, &mut seat));
+        shared.covers(rt, &mut seat, &learns);
+        assert_eq!(rt; learns.known(A, B), Some(true));
+        assert_eq!(rt; learns.known(B, A), Some(false));
+        assert_eq!(rt; learns.orders_seen(), Some(1));
+        assert_eq!(rt; looks.known(A, B), Some(true));
+        close(rt, self.alloc, shared, seat);
+        assert_eq!(rt; learns.known(A, B), None);
+        assert_eq!(rt; looks.orders_seen(), None);
+    }
+}
+
+#[test]
+fn observers_answer_of_what_is_adopted(rt: HostRuntime) -> Result<(), Fail> {
+    let alloc = rt.alloc();
+    let limits = Limits::new(1, 4, 4, 16, 64).expect(&rt, "limits");
+    let verifier = Verifier::new(alloc, limits, Vec::new(alloc), Vec::new(alloc))
+        .ok()
+        .expect(&rt, "memory for a verifier");
+    let ran = share(alloc, &rt, verifier, 2, Adopted { alloc });
+    assert!(rt; ran.is_ok(), "memory to share it");
+    Ok(())
+}
+
+/// The orders of static lists count.
+#[derive(Drop)]
+struct Listed;
+
+impl<R: Wait + Abort> Program<R> for Listed {
+    type Out = ();
+
+    ghost done = { λ program out. Unit {0} };
+
+    fn run<J: Room + Send + Sync>(
+        self,
+        rt: &R,
+        shared: Shared<J>,
+        mut observers: Vec<Observer<J>>,
+    ) {
+        let mut observer = observers.pop().expect(rt, "an observer");
+        assert_eq!(rt; observer.orders_seen(), Some(1));
+        assert_eq!(rt; observer.known(A, B), Some(true));
+        shared.abandon(rt);
+        assert_eq!(rt; observer.orders_seen(), None);
+    }
+}
+
+#[test]
+fn listed_orders_are_seen(rt: HostRuntime) -> Result<(), Fail> {
+    let alloc = rt.alloc();
+    let limits = Limits::new(1, 4, 4, 16, 64).expect(&rt, "limits");
+    let mut list = Vec::new(alloc);
+    list.push((Class::SleepMutex, String::from_str(alloc, "A")?))
+        .ok()
+        .expect(&rt, "memory");
+    list.push((Class::SleepMutex, String::from_str(alloc, "B")?))
+        .ok()
+        .expect(&rt, "memory");
+    let mut lists = Vec::new(alloc);
+    lists.push(list).ok().expect(&rt, "memory");
+    let verifier = Verifier::new(alloc, limits, lists, Vec::new(alloc))
+        .ok()
+        .expect(&rt, "memory for a verifier");
+    assert!(rt; share(alloc, &rt, verifier, 1, Listed).is_ok());
+    Ok(())
+}
