@@ -1,26 +1,28 @@
 #!/bin/sh
-# Measures the lists in chunks of `wit_held`: nanoseconds for a push with its remove over four lists, beside the same in
-# plain vectors (the least of three runs; RUNS names another number), and the memory that the largest lists take before
-# anything is pushed. The program stands below; it is proved and built in a copy of the two crates that it stands on, which
-# is removed in the end.
+# Measures the lists in chunks of `wit_pool`, which the verifier has, and of `wit_held`, which tests
+# compare them with: nanoseconds for a push with its remove over four lists, beside the same in
+# plain vectors (the least of three runs, which take turns; RUNS names another number), and the
+# memory that the largest lists take before anything is pushed. The program stands below; it is
+# proved and built, once for each of the two, in a copy of the crates that it stands on, which is
+# removed in the end.
 set -e
 top=$(dirname "$(dirname "$(readlink -f "$0")")")
 room=$(mktemp -d "${TMPDIR:-/tmp}/chunks.XXXXXX")
 trap 'rm -rf "$room"' EXIT
 trap 'exit 130' INT TERM
-for name in wit_model wit_held; do
+for name in wit_model wit_held wit_pool; do
     mkdir -p "$room/crates/$name/out"
     for part in src specs proofs out/rlib; do
         [ ! -d "$top/crates/$name/$part" ] || cp -a "$top/crates/$name/$part" "$room/crates/$name/$part"
     done
 done
-bench=$room/crates/chunk_bench
-mkdir -p "$bench/src"
 cp "$top/HANDLES" "$room"
-grep '^wit_model:\|^wit_held:' "$top/crates.txt" >"$room/crates.txt"
-echo 'chunk_bench: wit_held wit_model' >>"$room/crates.txt"
+grep '^wit_model:\|^wit_held:\|^wit_pool:' "$top/crates.txt" >"$room/crates.txt"
+echo 'vec_lists_bench: wit_held wit_model' >>"$room/crates.txt"
+echo 'pool_bench: wit_pool wit_model' >>"$room/crates.txt"
+mkdir -p "$room/crates/vec_lists_bench/src" "$room/crates/pool_bench/src"
 
-cat >"$bench/src/main.rt" <<'PROGRAM'
+cat >"$room/crates/vec_lists_bench/src/main.rt" <<'PROGRAM'
 //! How long a push with its remove takes, and how much memory the largest lists take.
 #![tactic(auto)]
 
@@ -159,19 +161,40 @@ fn main(rt: HostRuntime) -> io::Result<()> {
     Ok(())
 }
 PROGRAM
+sed 's/wit_held::VecLists/wit_pool::Pool/; s/VecLists/Pool/g' "$room/crates/vec_lists_bench/src/main.rt" \
+    >"$room/crates/pool_bench/src/main.rt"
 
-(cd "$bench" && rt run) >"$room/log" 2>&1 || :
-if [ ! -x "$bench/out/chunk_bench" ]; then
-    tail -n 20 "$room/log" >&2
-    exit 1
-fi
+for name in pool vec_lists; do
+    bench=$room/crates/${name}_bench
+    (cd "$bench" && rt run) >"$room/log" 2>&1 || :
+    if [ ! -x "$bench/out/${name}_bench" ]; then
+        tail -n 20 "$room/log" >&2
+        exit 1
+    fi
+done
 for _ in $(seq "${RUNS:-3}"); do
-    "$bench/out/chunk_bench"
+    for name in pool vec_lists; do
+        "$room/crates/${name}_bench/out/${name}_bench" | sed "s/^/$name /"
+    done
 done >"$room/times"
-head -n 4 "$room/times"
+for name in pool vec_lists; do
+    grep "^$name .*Vm" "$room/times" | head -n 4
+done
 echo
-printf '%-20s %10s %10s\n' 'locks in each list' 'chunks ns' 'vectors ns'
-awk '/^turns/ { for (i = 3; i < 5; i++) if (!(($2, i) in least) || $i < least[$2, i]) least[$2, i] = $i
-        if (!seen[$2]++) depths[++count] = $2 }
-    END { for (k = 1; k <= count; k++)
-        printf "%-20s %10.1f %10.1f\n", depths[k], least[depths[k], 3] / 10, least[depths[k], 4] / 10 }' "$room/times"
+printf '%-20s %10s %10s %10s\n' 'locks in each list' 'Pool ns' 'VecLists' 'vectors'
+awk '
+    function least_of(column, depth, value) {
+        if (!((column, depth) in least) || value < least[column, depth])
+            least[column, depth] = value
+    }
+    $2 == "turns" {
+        least_of($1, $3, $4)
+        least_of("vectors", $3, $5)
+        if (!seen[$3]++)
+            depths[++count] = $3
+    }
+    END {
+        for (k = 1; k <= count; k++)
+            printf "%-20s %10.1f %10.1f %10.1f\n", depths[k], least["pool", depths[k]] / 10,
+                least["vec_lists", depths[k]] / 10, least["vectors", depths[k]] / 10
+    }' "$room/times"
