@@ -5,32 +5,35 @@ pub use native.Mathlib.Omega.{arith}
 pub use mathlib.Core.List.{List, [], ◌∷◌, ◌++◌}
 pub use lib.ListN.{length, replicate, get_or, set, length-set, length-replicate}
 pub use base.Fraction.{full_share}
-pub use base.Logic.{SProp, ent, never, id⊢}
-pub use base.Fml.{Incl-trans, ftrue, fat, flft, froom}
+pub use base.Logic.{SProp, ent, sep, never, id⊢}
+pub use base.Fml.{Incl-trans, Fml, GName, ftrue, fsep, fat, flft, froom}
 pub use mir.MapTy.{inst_fn}
-pub use mir.Syntax.{Body, ty_array, ty_unit, w64}
+pub use mir.Syntax.{Body, named, ty_array, ty_unit, w64}
 pub use mir.Val.{Val, WT, has_ty, vint, vptr, vunit, vstruct, vcons, vnil}
 pub use prog.Wp.{WpFn}
 pub use contract.Monad.{fact}
 pub use contract.Running.{tables}
 pub use contract.BorrowLft.{◌⊑◌}
-pub use types.Kit.{Sq, prop, ‵, raw, ◌⊛◌, given, later, at_ret, ◌$◌, ◌∵◌, !, qed, by, move, keep, drop as skip, use0, use1, use2, use3, split, join, fsplit, fsplit3, fjoin, fjoin3, feq_i, feq_l, flt_i, flt_l, learn, await, rewrite, suffices, frame, group, done}
+pub use seplogic.Ra.Ura.{Ura}
+pub use types.Logic.{Logic, sem}
+pub use types.Kit.{Sq, prop, ‵, raw, ◌⊛◌, some, given, later, at_ret, ◌$◌, ◌∵◌, !, qed, by, move, keep, drop as skip, use0, use1, use2, use3, pick, split, split3, join, fsplit, fsplit3, fjoin, fjoin3, fpack, feq_i, feq_l, flt_i, flt_l, learn, await, rewrite, suffices, frame, group, done}
 pub use types.Part.{whole, sub, agg}
 pub use types.Run.{enter, init, lit, unit_lit, size_lit, size_word, align_word, bin, addr, from, stop, fld, hop, of_opd, and_then, no_more, assigns_last, switches_on, first, blocks, exec, returns}
 pub use types.ByLocal.{alloc_all, pass_all, free_all, look_at, look_in_at, get, get_in, get_tag, is, sets, sets_last, lands_as, lands_last, take_at, give_at, env}
 pub use denote.Exit.{yes, no}
 pub use denote.RattleType.{RattleType, owns}
-pub use denote.Memory.{hidden_shr}
+pub use denote.Memory.{hidden_shr, mem, cell_at}
 pub use denote.Param.{layout}
 pub use denote.RawPtr.{Ptr, block_ptr, in_a_block, ptr_val}
 pub use denote.Ref.{Bor, MutBor, MutRef, ShrRef}
 pub use denote.Builtin.{RefOf, RefMutOf, unit, usize}
-pub use denote.Signature.{plain, types_at}
+pub use denote.Signature.{plain, mut_ref_to, types_at}
 pub use denote.Opens.{hide, unhide}
 pub use denote.Steps.{nothing, heard, opens, closes, owned}
 pub use denote.Triple.Call.{calls_at, calls_at_last}
 pub use denote.Triple.Table.{framed}
-pub use denote.Triple.Walked.{Stays, stay_dropped, stay_ref, walk_of, says, ends_at, Goes-dropped, Goes-ref}
+pub use denote.Triple.Walked.{Stays, stay_dropped, stay_ref, walk_of, says, ends_at, Goes-dropped, Goes-ref, Goes-spent_ref}
+pub use denote.Follow.{follows, lends_Part}
 pub use Rattle.std.specs.Prelude.{Some, None}
 pub use Rattle.std.specs.Mem.{type_size}
 pub use Rattle.std.proofs.raw_atomic.Walks.{proved_at}

@@ -1,4 +1,5 @@
 pub mod Chains
 pub mod Chunks
 pub mod Kept
+pub mod Lending
 pub mod Places

@@ -3,6 +3,7 @@
 
 ghost use Rattle.std.specs.Prelude.{◌≡◌, ℕ, ◌<◌, List, Option, Some, None, IfOk, ⊤};
 ghost use Rattle.std.specs.Prelude.{length, replicate, get_or, slice_set};
+ghost use Rattle.std.specs.Borrow.{sem};
 ghost use Rattle.std.specs.Mem.{type_size};
 ghost use Rattle.std.specs.Vec.Ownership.{FitsInBlock};
 ghost use base.Fml.{ftrue};
@@ -121,6 +122,8 @@ pub(crate) fn deallocate<T, A: Allocator>(
 }
 
 impl<T> Cells<T> {
+    ghost use Rattle.wit_pool.specs.Lending.{LendsPlace};
+
     /// A link to a place of the block.
     pub(crate) fn link(&self, first: Link<T>, place: usize) -> Link<T>
         requires { (first.ptr ≡ self.now.at) × (place < length self.now.slots) }
@@ -140,6 +143,16 @@ impl<T> Cells<T> {
         ensures { get_or self.now.slots (spot T.row self.now.at link.ptr) None ≡ Some result.now }
     {
         unsafe { &*link.ptr }
+    }
+
+    /// What a place holds, to be changed where it lies.
+    pub(crate) fn get_mut(&mut self, link: Link<T>) -> &mut T
+        requires { IsSpot T.row self.old.at self.old.slots link.ptr }
+        ensures* writes_back { sem 𝓛 (LendsPlace T.row self.entry link.ptr result) }
+        ensures value { get_or self.old.slots (spot T.row self.old.at link.ptr) None
+            ≡ Some result.now }
+    {
+        unsafe { &mut *link.ptr }
     }
 
     /// Puts a value into a place. The one that it held is forgotten, and not dropped.

@@ -2,10 +2,12 @@
 
 ghost use Rattle.std.specs.Prelude.{◌≡◌, ℕ, ◌<◌, ◌++◌, [], ◌∷◌, Some, IfSome};
 ghost use Rattle.std.specs.Prelude.{length, slice_set};
+ghost use Rattle.std.specs.Borrow.{sem};
 ghost use Rattle.std.specs.Option.{option_map};
 ghost use Rattle.std.specs.List.{remove};
 ghost use Rattle.wit_pool.specs.Chunks.{Leads, IsAt, IsRegrouped, IsLed};
 ghost use Rattle.wit_pool.specs.Chunks.{chunk_at, content, place_of};
+ghost use Rattle.wit_pool.specs.Lending.{LendsChunk};
 
 use crate::cells::{Cells, Link};
 use crate::group::Group;
@@ -77,6 +79,16 @@ pub fn read(cells: &Cells<Chunk>, at: Next) -> &Chunk
     cells.get(at.link())
 }
 
+// The chunk at the end of a link, to be changed where it lies: a chunk is too large to be copied for
+// each lock.
+fn read_mut(cells: &mut Cells<Chunk>, at: Next) -> &mut Chunk
+    requires { IsAt cells.old.at cells.old.slots at }
+    ensures* writes_back { sem 𝓛 (LendsChunk cells.entry at.place result) }
+    ensures value { chunk_at cells.old.slots at.place ≡ Some result.now }
+{
+    cells.get_mut(at.link())
+}
+
 /// Puts a chunk at the end of a link.
 pub fn write(cells: &mut Cells<Chunk>, at: Next, chunk: Chunk)
     requires leads { Leads cells.old.at at }
@@ -93,8 +105,8 @@ pub fn lead(cells: &mut Cells<Chunk>, at: Next, next: Option<Next>)
     ensures at { cells.new.at ≡ cells.old.at }
     ensures slots { IsLed cells.old.slots cells.new.slots at.place next }
 {
-    let group = read(cells, at).group;
-    write(cells, at, Chunk { next, group });
+    let chunk = read_mut(cells, at);
+    chunk.next = next;
 }
 
 /// Puts a lock at the end of a chunk.
@@ -105,10 +117,8 @@ pub fn put(cells: &mut Cells<Chunk>, at: Next, instance: Instance)
     ensures slots { IsRegrouped cells.old.slots cells.new.slots at.place
         (content (chunk_at cells.old.slots at.place) ++ instance ∷ []) }
 {
-    let chunk = *read(cells, at);
-    let next = chunk.next;
-    let group = chunk.group.with(instance);
-    write(cells, at, Chunk { next, group });
+    let chunk = read_mut(cells, at);
+    chunk.group.push(instance);
 }
 
 /// Writes a lock over one in a chunk.
@@ -119,10 +129,8 @@ pub fn put_at(cells: &mut Cells<Chunk>, at: Next, index: usize, instance: Instan
     ensures slots { IsRegrouped cells.old.slots cells.new.slots at.place
         (slice_set (content (chunk_at cells.old.slots at.place)) index instance) }
 {
-    let chunk = *read(cells, at);
-    let next = chunk.next;
-    let group = chunk.group.with_at(index, instance);
-    write(cells, at, Chunk { next, group });
+    let chunk = read_mut(cells, at);
+    chunk.group.write(index, instance);
 }
 
 /// Takes a lock out of a chunk. How many are left.
@@ -134,9 +142,7 @@ pub fn take_out(cells: &mut Cells<Chunk>, at: Next, index: usize) -> usize
         (remove (content (chunk_at cells.old.slots at.place)) index) }
     ensures left { result ≡ length (remove (content (chunk_at cells.old.slots at.place)) index) }
 {
-    let chunk = *read(cells, at);
-    let next = chunk.next;
-    let group = chunk.group.without(index);
-    write(cells, at, Chunk { next, group });
-    group.len()
+    let chunk = read_mut(cells, at);
+    chunk.group.remove(index);
+    chunk.group.len()
 }

@@ -51,43 +51,32 @@ impl Group {
         &self.items[..self.held]
     }
 
-    /// One more at the end.
-    pub fn with(self, instance: Instance) -> Group
-        requires { length (take self.held self.items) < 5 }
-        ensures { take result.held result.items ≡ take self.held self.items ++ instance ∷ [] }
+    /// Puts one more at the end.
+    pub fn push(&mut self, instance: Instance)
+        requires { length (take self.old.held self.old.items) < 5 }
+        ensures { take self.new.held self.new.items
+            ≡ take self.old.held self.old.items ++ instance ∷ [] }
     {
-        let mut items = self.items;
-        items[self.held] = instance;
-        Group {
-            held: self.held + 1,
-            items,
-        }
+        self.items[self.held] = instance;
+        self.held += 1;
     }
 
-    /// Another one at this place.
-    pub fn with_at(self, index: usize, instance: Instance) -> Group
-        requires { index < length (take self.held self.items) }
-        ensures { take result.held result.items
-            ≡ slice_set (take self.held self.items) index instance }
+    /// Writes another one over the one at this place.
+    pub fn write(&mut self, index: usize, instance: Instance)
+        requires { index < length (take self.old.held self.old.items) }
+        ensures { take self.new.held self.new.items
+            ≡ slice_set (take self.old.held self.old.items) index instance }
     {
-        let mut items = self.items;
-        items[index] = instance;
-        Group {
-            held: self.held,
-            items,
-        }
+        self.items[index] = instance;
     }
 
-    /// All but the one at this place: the later ones move down.
-    pub fn without(self, index: usize) -> Group
-        requires { index < length (take self.held self.items) }
-        ensures { take result.held result.items ≡ remove (take self.held self.items) index }
+    /// Takes the one at this place out: the later ones move down.
+    pub fn remove(&mut self, index: usize)
+        requires { index < length (take self.old.held self.old.items) }
+        ensures { take self.new.held self.new.items
+            ≡ remove (take self.old.held self.old.items) index }
     {
-        let mut items = self.items;
-        items.copy_within(index + 1..self.held, index);
-        Group {
-            held: self.held - 1,
-            items,
-        }
+        self.items.copy_within(index + 1..self.held, index);
+        self.held -= 1;
     }
 }
