@@ -97,6 +97,9 @@ module _ {A : Type 0} (v : Inside A) (shows : Chunks) (is : chunks_in v ≡ show
       pub chunk-within : s.chunk < length v.cells.slots
       chunk-within = in-block s.chunk known.within
 
+      pub chunk-fits : s.chunk < 2 ^ 16
+      chunk-fits = omega (arith, known.within, kept.settled.few)
+
       pub stood-there : (d : Chain) → Stood v.cells.at v.cells.slots (get_or v.chains.items (list - 1) d).count (get_or v.chains.items (list - 1) d).head s.group s.chunk
       stood-there d =
           stood v.cells.at v.cells.slots (get_or v.chains.items (list - 1) d).count (get_or v.chains.items (list - 1) d).head (linked d) s.group s.chunk

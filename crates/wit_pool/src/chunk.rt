@@ -17,7 +17,8 @@ use wit_model::Instance;
 #[derive(Clone, Copy)]
 pub struct Next {
     ptr: *mut Chunk,
-    pub(crate) place: u16,
+    // As wide as the pointer: a link is copied in two words then, without the bytes between fields.
+    pub(crate) place: usize,
 }
 
 unsafe impl Send for Next {}
@@ -25,7 +26,7 @@ unsafe impl Send for Next {}
 unsafe impl Sync for Next {}
 
 impl Next {
-    fn to(link: Link<Chunk>, place: u16) -> Next
+    fn to(link: Link<Chunk>, place: usize) -> Next
         ensures { (result.ptr ≡ link.ptr) × (result.place ≡ place) }
     {
         Next {
@@ -55,7 +56,8 @@ pub fn link_to(cells: &Cells<Chunk>, first: Link<Chunk>, place: u16) -> Next
     ensures leads { Leads cells.now.at result }
     ensures place { result.place ≡ place }
 {
-    Next::to(cells.link(first, place as usize), place)
+    let place = place as usize;
+    Next::to(cells.link(first, place), place)
 }
 
 /// A link to the chunk that has this place, where there is one.

@@ -137,7 +137,7 @@ impl<A: Allocator> Lists for Pool<A> {
         match chain.head {
             Some(at) => Some(Spot {
                 group: chain.count - 1,
-                chunk: at.place,
+                chunk: at.place as u16,
                 newer: None,
             }),
             None => None,
@@ -149,7 +149,7 @@ impl<A: Allocator> Lists for Pool<A> {
         match read(&self.cells, at).next {
             Some(next) => Some(Spot {
                 group: spot.group - 1,
-                chunk: next.place,
+                chunk: next.place as u16,
                 newer: Some(spot.chunk),
             }),
             None => None,

@@ -1,6 +1,6 @@
 use Rattle.std.proofs.Common.{ap, sym, ◌∙◌, arith}
 use Rattle.wit_pool.specs.Chunks.{chunk_at, next_of}
-use Rattle.wit_pool.proofs.Keeping.{chunk-within, is-at, older-none, older-some, older-spot}
+use Rattle.wit_pool.proofs.Keeping.{chunk-within, chunk-fits, is-at, older-none, older-some, older-spot}
 use Rattle.wit_pool.proofs.pool.PoolLists.older.Goals as goal
 
 pub link_to-at-requires-clause-place : goal.link_to-at-requires-clause-place
@@ -31,3 +31,10 @@ overflow_sub-result g c =
       older-some c.self.inside c.args.self.now c.self.view_is c.self.invariant c.args.list c.requires.list c.args.spot c.requires.spot c.in-Some.next
           (sym (ap (λ p. next_of (chunk_at c.self.inside.cells.slots p)) c.link_to-at.ensures.place) ∙ ap next_of c.read.ensures ∙ c.in-Some.is),
     )
+
+pub overflow_cast-result : goal.overflow_cast-result
+overflow_cast-result g c = record {
+  fits = chunk-fits c.self.inside c.args.self.now c.self.view_is c.self.invariant c.args.list c.requires.list _
+      (older-spot c.self.inside c.args.self.now c.self.view_is c.self.invariant c.args.list c.requires.list c.args.spot c.requires.spot c.in-Some.next
+      (sym (ap (λ p. next_of (chunk_at c.self.inside.cells.slots p)) c.link_to-at.ensures.place) ∙ ap next_of c.read.ensures ∙ c.in-Some.is));
+}
