@@ -1,5 +1,7 @@
 -- Traces: their lines, the texts of reports, and what a replay writes.
+pub mod LineCalls
 pub mod Moving
+pub mod Outcomes
 pub mod Output
 pub mod Paths
 pub mod Reading
