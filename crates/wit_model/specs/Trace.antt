@@ -1,4 +1,5 @@
 -- Traces: their lines, the texts of reports, and what a replay writes.
+pub mod Fields
 pub mod LineCalls
 pub mod Moving
 pub mod Outcomes
@@ -8,3 +9,4 @@ pub mod Reading
 pub mod Spelling
 pub mod Texts
 pub mod Views
+pub mod Words
