@@ -1,69 +1,34 @@
 -- Behind the prelude each line and what is written of it tell the same.
-use Rattle.std.proofs.Common.{◌≡◌, ℕ, ◌+◌, ◌^◌, ◌<◌, ◌≤◌, Bool, true, false, ◌&&◌, ◌||◌, cond, eqb, nat_lt, List, [], ◌∷◌, ◌++◌, length, Option, None, Some, Result, Ok, Err, refl, ap, ap₂, sym, ◌∙◌, subst, arith}
-use Rattle.std.proofs.lemmas.Bool.{ltb-false}
+use Rattle.std.proofs.Common.{◌≡◌, ℕ, ◌+◌, ◌^◌, ◌<◌, List, [], ◌∷◌, ◌++◌, Option, Result, Ok, Err, refl, ap, ap₂, sym, ◌∙◌, subst}
 use Rattle.wit_model.specs.declared.assertions.AssertAnswer.{AssertAnswer}
 use Rattle.wit_model.specs.declared.faults.Fault.{Fault}
-use Rattle.wit_model.specs.declared.faults.Fault.TheVariants.{RawNotFree}
 use Rattle.wit_model.specs.declared.flags.LockAssert.{LockAssert}
 use Rattle.wit_model.specs.declared.flags.WarnFlags.{WarnFlags}
 use Rattle.wit_model.specs.declared.locks.Instance.{Instance}
 use Rattle.wit_model.specs.declared.locks.LockNo.{LockNo}
 use Rattle.wit_model.specs.declared.calls.Call.{Call}
 use Rattle.wit_model.specs.declared.calls.Reply.{Reply}
-use Rattle.wit_model.specs.declared.lines.Line.{Line}
-use Rattle.wit_model.specs.declared.lines.Line.TheVariants.{OnLock}
-use Rattle.wit_model.specs.declared.lines.LockLine.TheVariants.{Step}
-use Rattle.wit_model.specs.declared.raw_steps.RawStep.TheVariants as raw_step
-use Rattle.wit_model.specs.declared.lines.Cause.{Cause}
 use Rattle.wit_model.specs.declared.lines.Cause.TheVariants as why
 use Rattle.wit_model.specs.Rules.Assertions.{step_assert}
-use Rattle.wit_model.specs.Rules.Files.{naming_answer, files_after}
+use Rattle.wit_model.specs.Rules.Files.{naming_answer}
 use Rattle.wit_model.specs.Rules.State.{Story, state_of}
 use Rattle.wit_model.specs.Rules.Step.{answer_of, grown}
 use Rattle.wit_model.specs.Rules.Warnings.{warned, step_warn}
-use Rattle.wit_model.specs.World.Moving.{LockStep, step_before, step_behind, is_free_beside, raw_moved}
-use Rattle.wit_model.specs.World.Scenes.{RawLock, Scene}
-use Rattle.wit_model.specs.Trace.Moving.{Moving, Moved, Written, read_to, kept_lines, step_line, answered, answered_at, alone, moves, moving_after, moving_from}
+use Rattle.wit_model.specs.World.Moving.{LockStep, step_before, raw_moved}
+use Rattle.wit_model.specs.World.Scenes.{Scene}
+use Rattle.wit_model.specs.Trace.Moving.{Moving, Moved, answered, answered_at, alone, moves, moving_after, moving_from}
 use Rattle.wit_model.specs.Trace.Moving as moving
-use Rattle.wit_model.specs.Trace.Output.{Course, Progress, Reading, Stepping, AllRead, LineCall, Logs, LogsAt, Asserts, Warns, Steps, NoCall, BadLine, told, called, makes, at_file, with_file, makes_in, at_file_in, in_scene, asserts, warns, is_prelude, is_profile, call_of, calls, calls_in, longest_line, before, course_after, course_from}
+use Rattle.wit_model.specs.Trace.Output.{Course, Reading, Stepping, AllRead, LineCall, Logs, LogsAt, Asserts, Warns, Steps, NoCall, told, called, makes, at_file, with_file, makes_in, at_file_in, in_scene, asserts, warns, call_of, calls, calls_in, before, course_after, course_from}
 use Rattle.wit_model.specs.Trace.Output as output
-use Rattle.wit_model.specs.Trace.Reading.{line_of}
-use Rattle.wit_model.specs.Trace.Spelling.{spelling, IsSpellable}
 use Rattle.wit_model.proofs.Moved.Lines.{read-short, IsSmall, IsSmallCall, small-before, small-behind, small-line}
 use Rattle.wit_model.proofs.Moved.Tells.{all_stepped, Tells, line-tells, call-tells, unnamed}
 use Rattle.wit_model.proofs.Spelling.Laws.{line_takes}
 use Rattle.wit_model.proofs.World.Beside.{Fits, DoesStep, Does}
 use Rattle.wit_model.proofs.World.MovedAll.{does, naming-fits}
+use Rattle.wit_model.proofs.Moved.GoneOn.{gone-on, was-read, was-answered}
 
 abbrev pub all_read : List ℕ → Story → ℕ → Course
 all_read text s m = record { text = text; ending = AllRead s m }
-
--- ---- where no line is bad, a line was good
-
-pub record GoneOn (q : Moving) (o : moving.Outcome) (next : Moving → Written) (s : Story) (k : ℕ) : Type 0 where
-  pub then : Moving
-  pub lines : List (List ℕ)
-  pub is : o ≡ moving.Goes then lines
-  pub ends : (next then).ending ≡ AllRead s k
-
-pub gone-on : (q : Moving) (n : ℕ) (o : moving.Outcome) (next : Moving → Written) (s : Story) (k : ℕ) → (moving_after q n o next).ending ≡ AllRead s k → GoneOn q o next s k
-gone-on q n (moving.Goes then lines) next s k ends = record { then = then; lines = lines; is = refl; ends = ends }
-gone-on q n (moving.Bad cause) next s k ends = (cc)
-
-pub record Read (q : Moving) (n : ℕ) (bytes : List ℕ) (then : Moving) (lines : List (List ℕ)) : Type 0 where
-  pub line : Line
-  pub short : length bytes ≤ 4096
-  pub spelled : line_of bytes ≡ Some line
-  pub enters : moving.entered q n bytes line ≡ moving.Goes then lines
-
-pub was-read : (q : Moving) (n : ℕ) (bytes : List ℕ) (then : Moving) (lines : List (List ℕ)) → moving.outcome q n bytes ≡ moving.Goes then lines → Read q n bytes then lines
-was-read q n bytes then lines is = go (nat_lt longest_line (length bytes)) refl (line_of bytes) refl is
-  where
-    go : (b : Bool) → nat_lt longest_line (length bytes) ≡ b → (o : Option Line) → line_of bytes ≡ o
-        → cond b (moving.Bad why.Long) (moving.read_as q n bytes o) ≡ moving.Goes then lines → Read q n bytes then lines
-    go true long o spelled is = (cc)
-    go false long None spelled is = (cc)
-    go false long (Some line) spelled is = record { line = line; short = (let le = ltb-false longest_line (length bytes) long in omega arith); spelled = spelled; enters = is }
 
 -- ---- a line's call
 
@@ -76,30 +41,6 @@ record LineAgrees (x : Scene) (m : ℕ) (c : LineCall) (bytes : List ℕ) (q : M
   next : q ≡ Moved scene.story scene.raw count
   was : calls x.story m c ≡ output.Goes (Reading scene.story count) said
   now : (rest : List (List ℕ)) (text : List ℕ) (s : Story) (k : ℕ) → Tells scene count rest text s k → Tells x m (lines ++ rest) (said ++ text) s k
-
-record Answered (s : Story) (raw : List RawLock) (m : ℕ) (bytes : List ℕ) (t : ℕ) (call : Call) (a : Result Reply Fault) (q : Moving) (lines : List (List ℕ)) : Type 0 where
-  reply : Reply
-  is : a ≡ Ok reply
-  free : is_free_beside s.history raw t (step_before s.history t call) ≡ true
-  next : q ≡ Moved (grown s t call reply) (raw_moved s.history raw t call reply) m
-  written : lines ≡ step_line t (step_before s.history t call) ++ bytes ∷ step_line t (step_behind s.history raw t call)
-
-was-answered : (s : Story) (raw : List RawLock) (m : ℕ) (bytes : List ℕ) (t : ℕ) (call : Call) (a : Result Reply Fault) (q : Moving) (lines : List (List ℕ))
-    → answered s raw m bytes t call a ≡ moving.Goes q lines → Answered s raw m bytes t call a q lines
-was-answered s raw m bytes t call (Err fault) q lines is = (cc)
-was-answered s raw m bytes t call (Ok r) q lines is = go (is_free_beside s.history raw t (step_before s.history t call)) refl is
-  where
-    moved : Moving
-    moved = Moved (grown s t call r) (raw_moved s.history raw t call r) m
-
-    written_lines : List (List ℕ)
-    written_lines = step_line t (step_before s.history t call) ++ bytes ∷ step_line t (step_behind s.history raw t call)
-
-    go : (b : Bool) → is_free_beside s.history raw t (step_before s.history t call) ≡ b
-        → cond b (moving.Goes (Moved (grown s t call r) (raw_moved s.history raw t call r) m) (step_line t (step_before s.history t call) ++ bytes ∷ step_line t (step_behind s.history raw t call)))
-        (moving.Bad (why.Fault RawNotFree)) ≡ moving.Goes q lines → Answered s raw m bytes t call (Ok r) q lines
-    go true free same = record { reply = r; is = refl; free = free; next = cc; written = cc }
-    go false free same = (cc)
 
 -- the scene after a call and the steps beside it
 after : {t : ℕ} {call : Call} {r : Reply} {z : Scene} (d : Does t call r z) (m : ℕ) → Moved (grown z.story t call r) (raw_moved z.story.history z.raw t call r) m ≡ Moved d.last.story d.last.raw m
@@ -224,58 +165,6 @@ module _ (x : Scene) (fits : Fits x) (m : ℕ) (bytes : List ℕ) where
   line-agrees (Warns t l flags) q lines small reads goes = warns-agree t l flags q lines reads goes
   line-agrees (Steps t l step) q lines small reads goes = none-agrees (Steps t l step) q lines goes
   line-agrees NoCall q lines small reads goes = none-agrees NoCall q lines goes
-
--- ---- what is written of a line begins with it, or with a step
-
--- whether a line, with its number, stands in the prelude
-abbrev pub opens : ℕ → List ℕ → Bool
-opens n line = is_prelude line || is_profile n line
-
-pub record Starts (n : ℕ) (lines : List (List ℕ)) : Type 0 where
-  pub first : List ℕ
-  pub rest : List (List ℕ)
-  pub is : lines ≡ first ∷ rest
-  pub ends : opens n first ≡ false
-
-never : (b : Bool) → (b && false) ≡ false
-never true = refl
-never false = refl
-
-step-ends : (n t : ℕ) (k : LockStep) → opens n (spelling (OnLock (Step (record { 0 = t }) k.0 k.1))) ≡ false
-step-ends n t (l, raw_step.Take) = never (eqb n 2)
-step-ends n t (l, raw_step.TryTake m) = never (eqb n 2)
-step-ends n t (l, raw_step.Free) = never (eqb n 2)
-step-ends n t (l, raw_step.Up) = never (eqb n 2)
-step-ends n t (l, raw_step.Down) = never (eqb n 2)
-
-step-starts : (n t : ℕ) (o : Option LockStep) (bytes : List ℕ) (rest lines : List (List ℕ)) → opens n bytes ≡ false → lines ≡ step_line t o ++ bytes ∷ rest → Starts n lines
-step-starts n t None bytes rest lines ends is = record { first = bytes; rest = rest; is = is; ends = ends }
-step-starts n t (Some k) bytes rest lines ends is = record { first = spelling (OnLock (Step (record { 0 = t }) k.0 k.1)); rest = bytes ∷ rest; is = is; ends = step-ends n t k }
-
-module _ (n : ℕ) (s : Story) (raw : List RawLock) (m : ℕ) (bytes : List ℕ) (q : Moving) (lines : List (List ℕ)) (ends : opens n bytes ≡ false) where
-  answered-starts : (z : Story) (t : ℕ) (call : Call) → answered z raw m bytes t call (answer_of z t call) ≡ moving.Goes q lines → Starts n lines
-  answered-starts z t call goes =
-      let a = was-answered z raw m bytes t call (answer_of z t call) q lines goes in
-      step-starts n t (step_before z.history t call) bytes _ lines ends a.written
-
-  answered_at-starts : (t : ℕ) (file : List ℕ) (call : ℕ → Call) (na : Result ℕ Fault) → answered_at s raw m bytes t call file na ≡ moving.Goes q lines → Starts n lines
-  answered_at-starts t file call (Err fault) goes = (cc)
-  answered_at-starts t file call (Ok f) goes = answered-starts (record s { files = files_after file s.files }) t (call f) goes
-
-  alone-starts : (o : output.Outcome) → alone raw bytes o ≡ moving.Goes q lines → Starts n lines
-  alone-starts (output.Goes (Reading z k) text) goes = record { first = bytes; rest = []; is = (let is : bytes ∷ [] ≡ lines = cc in sym is); ends = ends }
-  alone-starts (output.Goes output.Unstarted text) goes = (cc)
-  alone-starts (output.Goes (output.Opening p) text) goes = (cc)
-  alone-starts (output.Goes (Stepping z k) text) goes = (cc)
-  alone-starts (output.Bad cause) goes = (cc)
-
-  pub moves-start : (c : LineCall) → moves s raw m bytes c ≡ moving.Goes q lines → Starts n lines
-  moves-start (Logs t call) goes = answered-starts s t call goes
-  moves-start (LogsAt t file call) goes = answered_at-starts t file call (naming_answer s file) goes
-  moves-start (Asserts t l flags) goes = alone-starts (calls s m (Asserts t l flags)) goes
-  moves-start (Warns t l flags) goes = alone-starts (calls s m (Warns t l flags)) goes
-  moves-start (Steps t l step) goes = (cc)
-  moves-start NoCall goes = (cc)
 
 -- ---- all lines behind the prelude
 

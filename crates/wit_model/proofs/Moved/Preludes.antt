@@ -23,7 +23,9 @@ use Rattle.wit_model.specs.Trace.Output.{Prelude, Unstarted, Opening, Reading, S
 use Rattle.wit_model.specs.Trace.Output as output
 use Rattle.wit_model.specs.Trace.Reading.{line_of}
 use Rattle.wit_model.specs.Trace.Spelling.{spelling, IsSpellable}
-use Rattle.wit_model.proofs.Moved.Agreement.{all_read, gone-on, was-read, opens, Starts, moves-start, calls-agree}
+use Rattle.wit_model.proofs.Moved.Agreement.{all_read, calls-agree}
+use Rattle.wit_model.proofs.Moved.FirstLines.{opens, Starts, moves-start}
+use Rattle.wit_model.proofs.Moved.GoneOn.{gone-on, was-read}
 use Rattle.wit_model.proofs.Moved.Lines.{read-short, read-spelled}
 use Rattle.wit_model.proofs.Moved.Tells.{all_stepped, Tells}
 use Rattle.wit_model.proofs.Spelling.Laws.{line_takes}
