@@ -1,9 +1,8 @@
 -- The lines that a migration writes of steps are read as these steps.
-use Rattle.std.proofs.Common.{◌≡◌, ℕ, ◌^◌, ◌<◌, ◌≤◌, Bool, true, false, cond, List, [], length, Option, None, Some, refl, ap, ◌∙◌}
+use Rattle.std.proofs.Common.{◌≡◌, ℕ, ◌^◌, ◌<◌, ◌≤◌, Bool, true, false, cond, List, length, Option, None, Some, ap, ◌∙◌}
 use Rattle.std.proofs.lemmas.Bool.{le-ltb}
 use Rattle.wit_model.specs.declared.calls.Call.{Call}
 use Rattle.wit_model.specs.declared.calls.Call.TheVariants.{Note, NoteTry, Unlock, Upgrade, Downgrade}
-use Rattle.wit_model.specs.declared.calls.Reply.{Reply}
 use Rattle.wit_model.specs.declared.calls.Entry.{Entry}
 use Rattle.wit_model.specs.declared.locks.LockNo.{LockNo}
 use Rattle.wit_model.specs.declared.locks.Class.{Class}
@@ -18,9 +17,9 @@ use Rattle.wit_model.specs.Rules.History.{is_held}
 use Rattle.wit_model.specs.World.Deeds.{RawDown}
 use Rattle.wit_model.specs.World.Moving.{LockStep, step_before, step_behind, is_kept}
 use Rattle.wit_model.specs.World.Scenes.{RawLock, is_free}
-use Rattle.wit_model.specs.Trace.Output.{Progress, Outcome, Bad, LineCall, Logs, LogsAt, verb_call, call_of, longest_line, entered, read_as, outcome}
+use Rattle.wit_model.specs.Trace.Output.{Progress, Bad, LineCall, Logs, LogsAt, verb_call, call_of, entered, read_as, outcome}
 use Rattle.wit_model.specs.Trace.Reading.{line_of}
-use Rattle.wit_model.specs.Trace.Spelling.{spelling, IsSpellable, Spells}
+use Rattle.wit_model.specs.Trace.Spelling.{spelling, IsSpellable}
 use Rattle.wit_model.proofs.Spelling.Laws.{line_again}
 use Rattle.wit_model.proofs.Spelling.Lengths.{spelled-le}
 

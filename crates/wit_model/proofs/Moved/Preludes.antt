@@ -1,33 +1,25 @@
 -- The prelude and the header of a migrated trace, and so all of it.
-use Rattle.std.proofs.Common.{◌≡◌, ℕ, ◌+◌, ◌-◌, ◌^◌, ◌<◌, ◌≤◌, Bool, true, false, ◌||◌, cond, List, [], ◌∷◌, ◌++◌, take, Option, None, Some, Result, Ok, Err, refl, ap, ap₂, sym, ◌∙◌, subst, append_assoc, codes}
-use Rattle.std.proofs.lemmas.Bool.{false≢true, true≢false}
+use Rattle.std.proofs.Common.{◌≡◌, ℕ, ◌+◌, Bool, true, false, cond, List, [], ◌∷◌, ◌++◌, Option, None, Some, Result, Ok, refl, ap, ap₂, sym, ◌∙◌, append_assoc}
 use Rattle.wit_model.specs.declared.faults.Fault.{Fault}
-use Rattle.wit_model.specs.declared.locks.Class.{Class}
-use Rattle.wit_model.specs.declared.calls.Call.{Call}
-use Rattle.wit_model.specs.declared.calls.Reply.{Reply}
 use Rattle.wit_model.specs.declared.lines.Line.{Line}
 use Rattle.wit_model.specs.declared.lines.Line.TheVariants.{Header, Order, Bless, OnLock}
 use Rattle.wit_model.specs.declared.lines.Line.TheVariants as kind
-use Rattle.wit_model.specs.declared.lines.LockLine.TheVariants.{Step}
 use Rattle.wit_model.specs.declared.lines.Version.TheVariants.{One, Two}
 use Rattle.wit_model.specs.declared.lines.Cause.TheVariants as why
-use Rattle.wit_model.specs.declared.raw_steps.RawStep.TheVariants as raw_step
 use Rattle.wit_model.specs.Rules.Sizes.{sizes_of, are_within}
 use Rattle.wit_model.specs.Rules.Start.{start_fault}
 use Rattle.wit_model.specs.Rules.State.{Story, fresh}
-use Rattle.wit_model.specs.World.Moving.{LockStep}
 use Rattle.wit_model.specs.World.Scenes.{Scene, opening}
 use Rattle.wit_model.specs.Trace.Moving.{Moving, Unmoved, Keeping, Moved, Written, TellsTheSame, MigrationsTellTheSame, keeps, step_line, moving_from}
 use Rattle.wit_model.specs.Trace.Moving as moving
 use Rattle.wit_model.specs.Trace.Output.{Prelude, Unstarted, Opening, Reading, Stepping, AllRead, BadLine, empty_prelude, is_prelude, is_profile, log_limit, before, course_at, course_after, course_from}
 use Rattle.wit_model.specs.Trace.Output as output
-use Rattle.wit_model.specs.Trace.Reading.{line_of}
 use Rattle.wit_model.specs.Trace.Spelling.{spelling, IsSpellable}
 use Rattle.wit_model.proofs.Moved.Agreement.{all_read, calls-agree}
-use Rattle.wit_model.proofs.Moved.FirstLines.{opens, Starts, moves-start}
+use Rattle.wit_model.proofs.Moved.FirstLines.{opens, moves-start}
 use Rattle.wit_model.proofs.Moved.GoneOn.{gone-on, was-read}
 use Rattle.wit_model.proofs.Moved.Lines.{read-short, read-spelled}
-use Rattle.wit_model.proofs.Moved.Tells.{all_stepped, Tells}
+use Rattle.wit_model.proofs.Moved.Tells.{all_stepped}
 use Rattle.wit_model.proofs.Spelling.Laws.{line_takes}
 use Rattle.wit_model.proofs.World.MovedAll.{opening-fits}
 

@@ -1,16 +1,15 @@
 -- What lines of the second version tell, from a scene on.
-use Rattle.std.proofs.Common.{◌≡◌, ℕ, ◌+◌, ◌^◌, ◌<◌, List, [], ◌∷◌, ◌++◌, Option, None, Some, Result, Ok, Err, refl, ap, sym, ◌∙◌, subst, append_assoc}
+use Rattle.std.proofs.Common.{◌≡◌, ℕ, ◌+◌, ◌^◌, ◌<◌, List, [], ◌∷◌, ◌++◌, Option, None, Some, refl, ap, sym, ◌∙◌, subst, append_assoc}
 use Rattle.wit_model.specs.declared.calls.Call.{Call}
 use Rattle.wit_model.specs.declared.calls.Reply.{Reply}
 use Rattle.wit_model.specs.declared.lines.Line.TheVariants.{OnLock}
 use Rattle.wit_model.specs.declared.lines.LockLine.TheVariants.{Step}
-use Rattle.wit_model.specs.Rules.Files.{files_after}
 use Rattle.wit_model.specs.Rules.State.{Story, state_of}
 use Rattle.wit_model.specs.Rules.Step.{grown}
 use Rattle.wit_model.specs.World.Moving.{LockStep, step_before, step_behind}
-use Rattle.wit_model.specs.World.Scenes.{Scene, stage_at, deed_of, is_known, stepped, step_deed, step_raw, answer_in, scene_after}
+use Rattle.wit_model.specs.World.Scenes.{Scene, stage_at, deed_of, is_known, stepped, scene_after}
 use Rattle.wit_model.specs.Trace.Moving.{step_line}
-use Rattle.wit_model.specs.Trace.Output.{Course, Progress, Stepping, AllStepped, Outcome, Goes, told, with_file, called_in, makes_in, steps, outcome, before, course_after, course_from}
+use Rattle.wit_model.specs.Trace.Output.{Course, Stepping, AllStepped, Goes, told, with_file, called_in, makes_in, steps, outcome, before, course_after, course_from}
 use Rattle.wit_model.proofs.Moved.Lines.{read-spelled, IsSmallStep}
 use Rattle.wit_model.proofs.World.Beside.{DoesStep, Does}
 use Rattle.wit_model.proofs.World.Stepping.{accepted, accepts}

@@ -1,7 +1,7 @@
 -- Words that name one of a few values are printed and read alike.
 use Rattle.std.proofs.Common.{◌≡◌, ℕ, true, not, eqb, List, [], ◌∷◌, Some, refl}
 use Rattle.std.specs.List.{list_all}
-use Rattle.wit_model.specs.Trace.Reading.{named, version_of, class_of, mode_of, level_of, keyword_of, keywords}
+use Rattle.wit_model.specs.Trace.Reading.{version_of, class_of, mode_of, level_of, keyword_of, keywords}
 use Rattle.wit_model.specs.Trace.Spelling.{version_text, class_text, mode_text, level_text, keyword_text}
 use Rattle.wit_model.specs.declared.lines.Version.{Version}
 use Rattle.wit_model.specs.declared.lines.Version.TheVariants.{One, Two}

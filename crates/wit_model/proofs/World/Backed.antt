@@ -1,22 +1,21 @@
 -- Of a lock that a thread holds by the record it has a share, in the mode that is recorded: what each
 -- deed leaves of that.
-use Rattle.std.proofs.Common.{◌≡◌, ℕ, ◌+◌, ◌-◌, ◌<◌, ◌≤◌, Bool, true, false, ◌&&◌, cond, eqb, nat_lt, List, [], ◌∷◌, refl, ap, ap₂, sym, ◌∙◌, subst, inl, inr, arith}
-use Rattle.std.proofs.lemmas.Bool.{eq-eqb, cases_Bool, false≢true, true≢false}
+use Rattle.std.proofs.Common.{◌≡◌, ℕ, ◌<◌, Bool, true, false, cond, eqb, nat_lt, List, ◌∷◌, refl, ap, sym, ◌∙◌, subst, arith}
+use Rattle.std.proofs.lemmas.Bool.{eq-eqb, false≢true, true≢false}
 use Rattle.wit_model.specs.declared.locks.LockNo.{LockNo}
 use Rattle.wit_model.specs.declared.locks.Mode.{Mode}
-use Rattle.wit_model.specs.declared.locks.Mode.TheVariants.{Shared, Exclusive}
 use Rattle.wit_model.specs.declared.calls.Call.{Call}
 use Rattle.wit_model.specs.declared.calls.Call.TheVariants.{NoRelease, ReleaseOk}
 use Rattle.wit_model.specs.declared.calls.Reply.{Reply}
 use Rattle.wit_model.specs.declared.calls.Reply.TheVariants.{Done}
 use Rattle.wit_model.specs.declared.calls.Entry.{Entry}
-use Rattle.wit_model.specs.Rules.History.{Act, Nothing, Records, Releases, Turns, Marks, act, act_by, num, is_held, pending, asked_mode, turned, mode}
+use Rattle.wit_model.specs.Rules.History.{Act, Nothing, Records, Releases, Turns, Marks, act, act_by, num, pending, asked_mode, turned, mode}
 use Rattle.wit_model.specs.Rules.Step.{is_logged}
 use Rattle.wit_model.specs.World.Deeds.{Deed, Logged, PassedOver, Take, TryTake, Free, RawUp, RawDown, thread_of, log_of, are_these, shares, raw_mode}
 use Rattle.wit_model.specs.World.Shown.{deed_called}
 use Rattle.wit_model.proofs.Chains.Sane.{IsSane}
 use Rattle.wit_model.proofs.Chains.Acts.{num_after, num-step}
-use Rattle.wit_model.proofs.Chains.HeldLocks.{held-not, held-from, num-of_held, rises-not, rises-held, rises-new, mode-stays, mode-new, subject}
+use Rattle.wit_model.proofs.Chains.HeldLocks.{held-not, held-from, rises-not, rises-held, rises-new, mode-stays, mode-new, subject}
 
 -- t has a share of l if it holds it by the record, in that mode
 abbrev pub IsBacked : ℕ → ℕ → List Deed → Type 0

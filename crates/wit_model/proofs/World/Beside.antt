@@ -1,41 +1,30 @@
 -- A call of a log and the steps beside it are done in a scene: each is accepted where the call is, and
 -- where the lock admits the step before it.
-use Rattle.std.proofs.Common.{◌≡◌, ℕ, ◌+◌, ◌-◌, ◌<◌, ◌≤◌, Bool, true, false, not, ◌&&◌, cond, eqb, nat_lt, is_some, List, [], ◌∷◌, ◌++◌, Option, None, Some, Result, Ok, Err, refl, ap, ap₂, sym, ◌∙◌, subst, inl, inr, arith}
-use Rattle.std.proofs.lemmas.Bool.{and_parts, and_from, eq-eqb, cases_Bool, lt-ltb, ltb-false, false≢true, true≢false}
+use Rattle.std.proofs.Common.{◌≡◌, ℕ, Bool, true, false, ◌&&◌, cond, eqb, is_some, List, ◌∷◌, Option, None, Some, Ok, refl, ap, sym, ◌∙◌, subst, inl, inr}
+use Rattle.std.proofs.lemmas.Bool.{eq-eqb, cases_Bool, true≢false}
 use Rattle.std.proofs.lemmas.Bool.Decides.{eqb_tells}
-use Rattle.wit_model.specs.declared.faults.Fault.{Fault}
-use Rattle.wit_model.specs.declared.locks.LockNo.{LockNo}
-use Rattle.wit_model.specs.declared.locks.Mode.{Mode}
-use Rattle.wit_model.specs.declared.locks.Mode.TheVariants.{Shared, Exclusive}
-use Rattle.wit_model.specs.declared.locks.Site.{Site}
-use Rattle.wit_model.specs.declared.locks.Instance.{Instance}
 use Rattle.wit_model.specs.declared.calls.Request.{Request}
 use Rattle.wit_model.specs.declared.calls.Call.{Call}
-use Rattle.wit_model.specs.declared.calls.Call.TheVariants.{Init, Check, Note, NoteTry, GiveUp, Unlock, SetWatch, Destroy, Upgrade, Downgrade, NoRelease, ReleaseOk, DefineOrder}
 use Rattle.wit_model.specs.declared.calls.Reply.{Reply}
-use Rattle.wit_model.specs.declared.calls.Reply.TheVariants.{Recorded, Exhausted, Unrecorded, Unlocked, Ignored, Done}
 use Rattle.wit_model.specs.declared.calls.Entry.{Entry}
 use Rattle.wit_model.specs.declared.raw_steps.RawStep.{RawStep}
-use Rattle.wit_model.specs.declared.raw_steps.RawStep.TheVariants as raw_step
 use Rattle.wit_model.specs.Rules.Numbers.{is_given, is_number}
-use Rattle.wit_model.specs.Rules.History.{Act, Nothing, Records, Releases, Turns, act, act_by, num, is_held, pending, pending_after, asked_mode, turned, mode}
-use Rattle.wit_model.specs.Rules.State.{Start, State, state_of, is_seat, is_live}
-use Rattle.wit_model.specs.Rules.Step.{answer_of, story_after, is_logged, recorded, grown, step}
-use Rattle.wit_model.specs.World.Deeds.{Deed, Logged, PassedOver, Take, TryTake, Free, RawUp, RawDown, thread_of, own, log_of, are_these, shares, raw_mode}
-use Rattle.wit_model.specs.World.Moving.{LockStep, step_before, step_behind, stage_asked, deed_beside, is_free_beside, raw_moved}
-use Rattle.wit_model.specs.World.Scenes.{Scene, raw_of, stage_at, is_free, mode_asked, deed_of, is_known, may_come, stepped, stage_stepped, may_call, step_deed, step_raw, answer_in, stage_then, scene_after}
+use Rattle.wit_model.specs.Rules.History.{act, act_by, pending, pending_after}
+use Rattle.wit_model.specs.Rules.State.{Start, state_of, is_seat}
+use Rattle.wit_model.specs.Rules.Step.{answer_of, story_after, is_logged, grown, step}
+use Rattle.wit_model.specs.World.Deeds.{Deed, Logged, PassedOver, Take, TryTake, Free, RawUp, RawDown, thread_of, own, log_of, are_these}
+use Rattle.wit_model.specs.World.Moving.{LockStep, step_before, step_behind, raw_moved}
+use Rattle.wit_model.specs.World.Scenes.{Scene, stage_at, is_free, deed_of, is_known, may_come, stepped, stage_stepped, may_call, step_deed, step_raw, answer_in, stage_then, scene_after}
 use Rattle.wit_model.specs.World.Shown.{Shows, deed_called}
-use Rattle.wit_model.specs.World.Stages.{Stage, Over, Asked, Taken, stage_called, stage_logged, stage_passed, stage, is_over, is_same_mode, stage_after}
+use Rattle.wit_model.specs.World.Stages.{Stage, Over, Asked, stage_logged, stage_passed, stage, is_over}
 use Rattle.wit_model.specs.World.Steps.{IsWorld}
 use Rattle.wit_model.proofs.Chains.Sane.{IsSane}
-use Rattle.wit_model.proofs.Chains.HeldLocks.{num-of_free, num-of_held}
-use Rattle.wit_model.proofs.Histories.Accepted.{asked-lock}
-use Rattle.wit_model.proofs.Histories.Legal.{seat_accepted, pending-state, sane_legal}
-use Rattle.wit_model.proofs.World.Backed.{IsBacked, lock_of, is_raw, raw-log, raw-elsewhere, these-mine, IsApart, apart-nothing, call-apart}
+use Rattle.wit_model.proofs.Histories.Legal.{seat_accepted, sane_legal}
+use Rattle.wit_model.proofs.World.Backed.{IsBacked, IsApart, apart-nothing}
 use Rattle.wit_model.proofs.World.Calling.{call-answered, call-deed}
 use Rattle.wit_model.proofs.World.Covered.{legal_world}
 use Rattle.wit_model.proofs.World.Exclusion.{these}
-use Rattle.wit_model.proofs.World.Own.{own-mine, own-other}
+use Rattle.wit_model.proofs.World.Own.{own-other}
 use Rattle.wit_model.proofs.World.Placed.{changed-here}
 use Rattle.wit_model.proofs.World.Shown.{state-shown}
 use Rattle.wit_model.proofs.World.Stepping.{accepts, step-deed, seat-shown}

@@ -1,5 +1,5 @@
 -- Whatever a log tells, its calls are done with the steps beside them; so a scene goes on as a log does.
-use Rattle.std.proofs.Common.{◌≡◌, ℕ, Bool, true, false, not, ◌&&◌, cond, eqb, List, [], ◌∷◌, ◌++◌, inl, inr, arith, Option, None, Some, Result, Ok, Err, refl, ap, sym, ◌∙◌, subst}
+use Rattle.std.proofs.Common.{◌≡◌, ℕ, Bool, true, false, ◌&&◌, cond, eqb, List, [], ◌∷◌, ◌++◌, inl, inr, arith, None, Ok, refl, ap, sym, ◌∙◌, subst}
 use Rattle.std.proofs.lemmas.Bool.{eq-eqb, cases_Bool, true≢false}
 use Rattle.wit_model.specs.declared.locks.LockNo.{LockNo}
 use Rattle.wit_model.specs.declared.calls.Call.{Call}
@@ -13,12 +13,12 @@ use Rattle.wit_model.specs.World.Deeds.{Deed, log_of, own}
 use Rattle.wit_model.specs.World.Moving.{step_before, step_behind, is_free_beside}
 use Rattle.wit_model.specs.World.Scenes.{Scene, opening, stage_at, may_call}
 use Rattle.wit_model.specs.World.Shown.{Shows, deed_called}
-use Rattle.wit_model.specs.World.Stages.{Over, Asked, stage, stage_logged, stage_passed}
+use Rattle.wit_model.specs.World.Stages.{Asked, stage, stage_logged, stage_passed}
 use Rattle.wit_model.proofs.Chains.Acts.{num-nil}
 use Rattle.wit_model.proofs.Histories.Accepted.{passed, passed_not, asked-lock, check_accepted, init_accepted, watch_accepted, give_up_accepted}
 use Rattle.wit_model.proofs.Histories.Legal.{pending-state}
 use Rattle.wit_model.proofs.World.Backed.{IsApart, apart-nothing, apart-norelease, apart-releaseok, call-apart}
-use Rattle.wit_model.proofs.World.Beside.{IsIdle, StandsIdle, called-stands, act-elsewhere, Fits, Does, sane}
+use Rattle.wit_model.proofs.World.Beside.{IsIdle, StandsIdle, called-stands, Fits, Does, sane}
 use Rattle.wit_model.proofs.World.Calling.{world-named, shown-named}
 use Rattle.wit_model.proofs.World.Moves.{plain, note-does}
 use Rattle.wit_model.proofs.World.MovedCalls.{naming, ok-log, idle-now, over, try-does, upgrade-does}

@@ -1,48 +1,41 @@
 -- Tries and upgrades of a log, with the steps before them.
-use Rattle.std.proofs.Common.{◌≡◌, ◌⊎◌, ℕ, suc, ◌+◌, ◌-◌, ◌<◌, ◌≤◌, Bool, true, false, not, ◌&&◌, cond, eqb, nat_lt, is_some, List, [], ◌∷◌, ◌++◌, Option, None, Some, Result, Ok, Err, refl, ap, ap₂, sym, ◌∙◌, subst, inl, inr, arith}
-use Rattle.std.proofs.lemmas.Bool.{and_parts, and_from, eq-eqb, cases_Bool, lt-ltb, ltb-true, ltb-false, not-true, false≢true, true≢false}
+use Rattle.std.proofs.Common.{◌≡◌, ◌⊎◌, ℕ, ◌<◌, Bool, true, false, not, ◌&&◌, cond, eqb, nat_lt, is_some, List, ◌∷◌, Option, None, Some, Result, Ok, Err, refl, ap, sym, ◌∙◌, subst, inl, inr, arith}
+use Rattle.std.proofs.lemmas.Bool.{eq-eqb, cases_Bool, true≢false}
 use Rattle.wit_model.specs.declared.faults.Fault.{Fault}
 use Rattle.wit_model.specs.declared.faults.Fault.TheVariants.{LogFull}
 use Rattle.wit_model.specs.declared.locks.LockNo.{LockNo}
 use Rattle.wit_model.specs.declared.locks.Mode.{Mode}
-use Rattle.wit_model.specs.declared.locks.Mode.TheVariants.{Shared, Exclusive}
 use Rattle.wit_model.specs.declared.locks.Site.{Site}
 use Rattle.wit_model.specs.declared.locks.Watch.{Watch}
 use Rattle.wit_model.specs.declared.locks.Instance.{Instance}
-use Rattle.wit_model.specs.declared.calls.Request.{Request}
 use Rattle.wit_model.specs.declared.calls.Call.{Call}
-use Rattle.wit_model.specs.declared.calls.Call.TheVariants.{Init, Check, Note, NoteTry, GiveUp, Unlock, SetWatch, Destroy, Upgrade, Downgrade, NoRelease, ReleaseOk, DefineOrder}
+use Rattle.wit_model.specs.declared.calls.Call.TheVariants.{NoteTry, Upgrade}
 use Rattle.wit_model.specs.declared.calls.Reply.{Reply}
-use Rattle.wit_model.specs.declared.calls.Reply.TheVariants.{Recorded, Unlocked, Ignored, Done}
-use Rattle.wit_model.specs.declared.calls.Entry.{Entry}
+use Rattle.wit_model.specs.declared.calls.Reply.TheVariants.{Unlocked, Ignored, Done}
 use Rattle.wit_model.specs.declared.raw_steps.RawStep.TheVariants as raw_step
-use Rattle.wit_model.specs.Rules.Locks.{destroyed_of, is_destroyed}
-use Rattle.wit_model.specs.Rules.Numbers.{is_given}
-use Rattle.wit_model.specs.Rules.History.{Releases, Turns, act, num, is_held, pending, pending_after, asked_mode, turned, mode, is_off, is_on}
+use Rattle.wit_model.specs.Rules.History.{act, num, is_held, pending, turned, mode, is_off}
 use Rattle.wit_model.specs.Rules.State.{Start, State, state_of, is_seat, is_live, has_room}
 use Rattle.wit_model.specs.Rules.Verdict.{is_exclusive}
 use Rattle.wit_model.specs.Rules.Questions.{before_naming, with_room, with_entry, class_at}
-use Rattle.wit_model.specs.Rules.Turning.{is_upgradable, upgraded, downgraded, unless_held}
-use Rattle.wit_model.specs.Rules.Step.{answer_of, story_after, is_for, is_pending, held_by, is_exhausted, recorded, is_logged, grown, released, let_go, step}
-use Rattle.wit_model.specs.World.Deeds.{Deed, TryTake, Free, RawUp, RawDown, thread_of, log_of, are_these, shares, raw_mode, own}
-use Rattle.wit_model.specs.World.Moving.{LockStep, step_before, step_behind, is_kept, stage_asked, deed_beside, is_free_beside, raw_beside, raw_moved}
-use Rattle.wit_model.specs.World.Scenes.{Scene, raw_of, shares_of, stage_at, is_free, mode_asked, deed_of, is_known, may_come, stepped, may_call, step_raw, answer_in, scene_after}
+use Rattle.wit_model.specs.Rules.Turning.{is_upgradable, upgraded, downgraded}
+use Rattle.wit_model.specs.Rules.Step.{answer_of, story_after, is_pending, held_by, is_exhausted, is_logged, released, let_go, step}
+use Rattle.wit_model.specs.World.Deeds.{Deed, TryTake, RawUp, log_of, are_these, shares, raw_mode, own}
+use Rattle.wit_model.specs.World.Moving.{step_before, is_free_beside}
+use Rattle.wit_model.specs.World.Scenes.{Scene, stage_at, is_free}
 use Rattle.wit_model.specs.World.Shown.{Shows, deed_called}
-use Rattle.wit_model.specs.World.Stages.{Stage, Over, Forgot, Lowered, stage_logged, stage_passed, stage, is_over}
+use Rattle.wit_model.specs.World.Stages.{Over, stage, is_over}
 use Rattle.wit_model.specs.World.Steps.{admits, IsWorld}
 use Rattle.wit_model.proofs.Chains.Sane.{IsSane}
 use Rattle.wit_model.proofs.Chains.Found.{if_some}
 use Rattle.wit_model.proofs.Chains.HeldLocks.{num-of_free, num-of_held}
-use Rattle.wit_model.proofs.Histories.Accepted.{passed, passed_not, same_reply, live-given, live-undestroyed, note_accepted, try_accepted, give_up_accepted, unlock_accepted, check_accepted, init_accepted, watch_accepted}
-use Rattle.wit_model.proofs.Histories.AcceptedTurns.{upgrade_accepted, downgrade_accepted}
-use Rattle.wit_model.proofs.Histories.Asked.{made-later}
-use Rattle.wit_model.proofs.Histories.Legal.{held_by-state, some-held, pending-state, unlock-held}
-use Rattle.wit_model.proofs.World.Backed.{IsBacked, raw-elsewhere, these-mine, IsApart, apart-nothing, apart-other, apart-norelease, apart-releaseok, call-apart, call-held, call-new, call-none}
-use Rattle.wit_model.proofs.World.Beside.{IsIdle, StandsIdle, called-stands, all-stand, all-backed, act-elsewhere, Fits, Does, none-from, raw-step, call-step, stage-stepped, stage-called, sane, answer-log, caller}
+use Rattle.wit_model.proofs.Histories.Accepted.{passed, passed_not, try_accepted}
+use Rattle.wit_model.proofs.Histories.AcceptedTurns.{upgrade_accepted}
+use Rattle.wit_model.proofs.Histories.Legal.{held_by-state, some-held, pending-state}
+use Rattle.wit_model.proofs.World.Backed.{IsBacked, raw-elsewhere, these-mine, IsApart, apart-nothing, apart-other, call-apart, call-held, call-new, call-none}
+use Rattle.wit_model.proofs.World.Beside.{IsIdle, called-stands, all-backed, act-elsewhere, Fits, Does, none-from, raw-step, stage-stepped, sane, answer-log}
 use Rattle.wit_model.proofs.World.Calling.{passed-ignored}
 use Rattle.wit_model.proofs.World.Exclusion.{has_seat, got-by}
-use Rattle.wit_model.proofs.World.Moves.{plain, stepped-call, call-stepped, recorded-logged, only-try, try-turns, none-or_some, same-mode, note-does}
-use Rattle.wit_model.proofs.World.Own.{own-mine}
+use Rattle.wit_model.proofs.World.Moves.{stepped-call, recorded-logged, only-try, try-turns, none-or_some, same-mode}
 use Rattle.wit_model.proofs.World.Shown.{both-shared}
 
 -- a call that names one lock, where its seat asks for nothing

@@ -1,50 +1,39 @@
 -- Releases and downgrades of a log, with the steps behind them.
-use Rattle.std.proofs.Common.{◌≡◌, ◌⊎◌, ℕ, suc, ◌+◌, ◌-◌, ◌<◌, ◌≤◌, Bool, true, false, not, ◌&&◌, ◌||◌, cond, eqb, nat_lt, is_some, List, [], ◌∷◌, ◌++◌, Option, None, Some, Result, Ok, Err, refl, ap, ap₂, sym, ◌∙◌, subst, inl, inr, arith}
-use Rattle.std.proofs.lemmas.Bool.{and_parts, and_from, eq-eqb, cases_Bool, lt-ltb, ltb-true, ltb-false, not-true, false≢true, true≢false}
-use Rattle.wit_model.specs.declared.faults.Fault.{Fault}
-use Rattle.wit_model.specs.declared.faults.Fault.TheVariants.{NotLocked}
+use Rattle.std.proofs.Common.{◌≡◌, ℕ, ◌-◌, ◌<◌, Bool, true, false, not, ◌||◌, eqb, nat_lt, List, ◌∷◌, None, Ok, refl, ap, ap₂, sym, ◌∙◌, subst, inl, inr, arith}
+use Rattle.std.proofs.lemmas.Bool.{and_from, eq-eqb, cases_Bool, lt-ltb, ltb-false, false≢true, true≢false}
 use Rattle.wit_model.specs.declared.locks.LockNo.{LockNo}
 use Rattle.wit_model.specs.declared.locks.Mode.{Mode}
-use Rattle.wit_model.specs.declared.locks.Mode.TheVariants.{Shared, Exclusive}
-use Rattle.wit_model.specs.declared.locks.Site.{Site}
-use Rattle.wit_model.specs.declared.locks.Watch.{Watch}
-use Rattle.wit_model.specs.declared.locks.Instance.{Instance}
-use Rattle.wit_model.specs.declared.calls.Request.{Request}
+use Rattle.wit_model.specs.declared.locks.Mode.TheVariants.{Shared}
 use Rattle.wit_model.specs.declared.calls.Call.{Call}
-use Rattle.wit_model.specs.declared.calls.Call.TheVariants.{Init, Check, Note, NoteTry, GiveUp, Unlock, SetWatch, Destroy, Upgrade, Downgrade, NoRelease, ReleaseOk, DefineOrder}
+use Rattle.wit_model.specs.declared.calls.Call.TheVariants.{Unlock, Downgrade}
 use Rattle.wit_model.specs.declared.calls.Reply.{Reply}
-use Rattle.wit_model.specs.declared.calls.Reply.TheVariants.{Recorded, Unlocked, Ignored, Done}
+use Rattle.wit_model.specs.declared.calls.Reply.TheVariants.{Unlocked, Ignored, Done}
 use Rattle.wit_model.specs.declared.calls.Entry.{Entry}
 use Rattle.wit_model.specs.declared.raw_steps.RawStep.TheVariants as raw_step
 use Rattle.wit_model.specs.Rules.Locks.{destroyed_of, is_destroyed}
 use Rattle.wit_model.specs.Rules.Numbers.{is_given}
-use Rattle.wit_model.specs.Rules.History.{Releases, Turns, act, act_by, num, is_held, pending, pending_after, asked_mode, turned, mode, is_off, is_on}
-use Rattle.wit_model.specs.Rules.State.{Start, State, state_of, is_seat, is_live, typed_locks}
+use Rattle.wit_model.specs.Rules.History.{Releases, act, act_by, num, pending, turned, mode, is_on}
+use Rattle.wit_model.specs.Rules.State.{State, state_of, is_live, typed_locks}
 use Rattle.wit_model.specs.Rules.Verdict.{is_exclusive}
-use Rattle.wit_model.specs.Rules.Questions.{about_lock, before_naming, with_entry, class_at}
-use Rattle.wit_model.specs.Rules.Turning.{is_upgradable, upgraded, downgraded, unless_held}
-use Rattle.wit_model.specs.Rules.Step.{answer_of, story_after, is_for, is_pending, held_by, is_exhausted, recorded, is_logged, grown, released, let_go, step}
-use Rattle.wit_model.specs.World.Deeds.{Deed, TryTake, Free, RawUp, RawDown, thread_of, log_of, shares, raw_mode, own}
-use Rattle.wit_model.specs.World.Moving.{LockStep, step_before, step_behind, is_kept, stage_asked, deed_beside, is_free_beside, raw_beside, raw_moved}
-use Rattle.wit_model.specs.World.Scenes.{Scene, raw_of, shares_of, stage_at, is_free, mode_asked, deed_of, is_known, may_come, stepped, may_call, raw_then, scene_after}
-use Rattle.wit_model.specs.World.Shown.{Shows, deed_called}
-use Rattle.wit_model.specs.World.Stages.{Stage, Over, Forgot, Lowered, stage_logged, stage_passed, stage, is_over}
-use Rattle.wit_model.specs.World.Steps.{IsWorld}
+use Rattle.wit_model.specs.Rules.Questions.{class_at}
+use Rattle.wit_model.specs.Rules.Turning.{is_upgradable}
+use Rattle.wit_model.specs.Rules.Step.{answer_of, story_after, held_by, is_logged, grown}
+use Rattle.wit_model.specs.World.Deeds.{Deed, Free, RawDown, log_of, shares, own}
+use Rattle.wit_model.specs.World.Moving.{is_kept}
+use Rattle.wit_model.specs.World.Scenes.{Scene, raw_of, shares_of, stage_at, is_free, raw_then, scene_after}
+use Rattle.wit_model.specs.World.Shown.{deed_called}
+use Rattle.wit_model.specs.World.Stages.{Over, Forgot, Lowered, stage_logged}
 use Rattle.wit_model.proofs.Chains.Acts.{num-step}
-use Rattle.wit_model.proofs.Chains.Found.{if_some}
-use Rattle.wit_model.proofs.Chains.HeldLocks.{num-of_held, held-from, mode-stays, rises-held}
-use Rattle.wit_model.proofs.Histories.Accepted.{UnlockAccepted, passed, passed_not, same_reply, live-given, live-undestroyed, note_accepted, try_accepted, give_up_accepted, unlock_accepted, check_accepted, init_accepted, watch_accepted}
-use Rattle.wit_model.proofs.Histories.AcceptedTurns.{upgrade_accepted, downgrade_accepted}
+use Rattle.wit_model.proofs.Chains.HeldLocks.{held-from, mode-stays, rises-held}
+use Rattle.wit_model.proofs.Histories.Accepted.{UnlockAccepted, passed_not, live-given, live-undestroyed, unlock_accepted}
+use Rattle.wit_model.proofs.Histories.AcceptedTurns.{downgrade_accepted}
 use Rattle.wit_model.proofs.Histories.Asked.{made-later}
-use Rattle.wit_model.proofs.Histories.Legal.{held_by-state, some-held, pending-state, unlock-held}
-use Rattle.wit_model.proofs.World.Backed.{IsBacked, raw-elsewhere, these-mine, IsApart, apart-nothing, apart-other, apart-norelease, apart-releaseok, call-apart, call-held, call-new, call-none}
-use Rattle.wit_model.proofs.World.Beside.{IsIdle, StandsIdle, called-stands, all-stand, all-backed, act-elsewhere, Fits, Does, none-from, raw-step, call-step, stage-stepped, stage-called, sane, answer-log, caller}
+use Rattle.wit_model.proofs.World.Backed.{IsBacked, raw-elsewhere, these-mine, IsApart, apart-nothing, apart-other, call-held}
+use Rattle.wit_model.proofs.World.Beside.{IsIdle, StandsIdle, called-stands, all-backed, Fits, Does, stage-called, sane}
 use Rattle.wit_model.proofs.World.Calling.{passed-ignored}
-use Rattle.wit_model.proofs.World.Exclusion.{has_seat, got-by}
 use Rattle.wit_model.proofs.World.Moves.{plain, call-stepped}
 use Rattle.wit_model.proofs.World.MovedCalls.{naming, entered-ignored, none-released, none-lowered, unheld-log, held-log, ok-log, idle-now, over, all-safe}
 use Rattle.wit_model.proofs.World.Own.{shares-own, num-own}
-use Rattle.wit_model.proofs.World.Shown.{both-shared}
 
 either-false : (a b : Bool) → (not a || b) ≡ false → (a ≡ true) × (b ≡ false)
 either-false true b is = (refl, is)

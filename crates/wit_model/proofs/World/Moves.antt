@@ -1,37 +1,30 @@
 -- Each call of a log with the steps beside it.
-use Rattle.std.proofs.Common.{◌≡◌, ◌⊎◌, ℕ, zero, suc, ◌+◌, ◌-◌, ◌<◌, ◌≤◌, Bool, true, false, not, ◌&&◌, cond, eqb, nat_lt, is_some, List, [], ◌∷◌, Option, None, Some, Result, Ok, Err, refl, ap, ap₂, sym, ◌∙◌, subst, inl, inr, arith}
-use Rattle.std.proofs.lemmas.Bool.{and_parts, and_from, eq-eqb, cases_Bool, lt-ltb, ltb-true, ltb-false, false≢true, true≢false}
-use Rattle.wit_model.specs.declared.faults.Fault.{Fault}
-use Rattle.wit_model.specs.declared.faults.Fault.TheVariants.{NotLocked}
+use Rattle.std.proofs.Common.{◌≡◌, ◌⊎◌, ℕ, zero, suc, ◌<◌, Bool, true, false, cond, eqb, is_some, List, ◌∷◌, None, Some, Ok, refl, ap, sym, ◌∙◌, subst, inl, inr, arith}
+use Rattle.std.proofs.lemmas.Bool.{eq-eqb, cases_Bool, true≢false}
 use Rattle.wit_model.specs.declared.locks.LockNo.{LockNo}
 use Rattle.wit_model.specs.declared.locks.Mode.{Mode}
 use Rattle.wit_model.specs.declared.locks.Mode.TheVariants.{Shared, Exclusive}
 use Rattle.wit_model.specs.declared.locks.Site.{Site}
-use Rattle.wit_model.specs.declared.locks.Watch.{Watch}
-use Rattle.wit_model.specs.declared.locks.Instance.{Instance}
 use Rattle.wit_model.specs.declared.calls.Request.{Request}
 use Rattle.wit_model.specs.declared.calls.Call.{Call}
-use Rattle.wit_model.specs.declared.calls.Call.TheVariants.{Init, Check, Note, NoteTry, GiveUp, Unlock, SetWatch, Destroy, Upgrade, Downgrade, NoRelease, ReleaseOk, DefineOrder}
+use Rattle.wit_model.specs.declared.calls.Call.TheVariants.{Note, NoteTry}
 use Rattle.wit_model.specs.declared.calls.Reply.{Reply}
-use Rattle.wit_model.specs.declared.calls.Reply.TheVariants.{Recorded, Exhausted, Unrecorded, Unlocked, Ignored, Done}
+use Rattle.wit_model.specs.declared.calls.Reply.TheVariants.{Recorded, Exhausted, Unrecorded}
 use Rattle.wit_model.specs.declared.raw_steps.RawStep.TheVariants as raw_step
-use Rattle.wit_model.specs.Rules.History.{act, num, is_held, pending, pending_after, asked_mode, turned, mode, is_off}
-use Rattle.wit_model.specs.Rules.State.{Start, State, state_of, is_seat, is_live}
-use Rattle.wit_model.specs.Rules.Verdict.{is_exclusive}
-use Rattle.wit_model.specs.Rules.Step.{answer_of, story_after, is_for, is_pending, held_by, is_exhausted, recorded, is_logged, grown}
-use Rattle.wit_model.specs.World.Deeds.{Deed, Take, TryTake, RawUp, thread_of, log_of, shares, raw_mode, own}
-use Rattle.wit_model.specs.World.Moving.{LockStep, step_before, step_behind, stage_asked, deed_beside, is_free_beside, raw_beside, raw_moved}
-use Rattle.wit_model.specs.World.Scenes.{Scene, stage_at, is_free, mode_asked, deed_of, is_known, may_come, stepped, may_call, step_raw, answer_in, scene_after, raw_after, raw_then}
+use Rattle.wit_model.specs.Rules.History.{act, is_held, pending, turned, mode, is_off}
+use Rattle.wit_model.specs.Rules.State.{state_of}
+use Rattle.wit_model.specs.Rules.Step.{answer_of, story_after, is_for, held_by, is_exhausted, is_logged, grown}
+use Rattle.wit_model.specs.World.Deeds.{Deed, Take, thread_of, log_of, own}
+use Rattle.wit_model.specs.World.Moving.{LockStep, step_before, step_behind, stage_asked, deed_beside, is_free_beside, raw_beside}
+use Rattle.wit_model.specs.World.Scenes.{Scene, stage_at, is_free, mode_asked, deed_of, is_known, may_come, stepped, may_call, step_raw, scene_after, raw_after, raw_then}
 use Rattle.wit_model.specs.World.Shown.{Shows, deed_called}
-use Rattle.wit_model.specs.World.Stages.{Asked, stage, stage_logged, stage_passed, is_over, is_same_mode}
+use Rattle.wit_model.specs.World.Stages.{Asked, stage, is_same_mode}
 use Rattle.wit_model.specs.World.Steps.{IsWorld}
 use Rattle.wit_model.proofs.Chains.HeldLocks.{num-of_free, num-of_held}
-use Rattle.wit_model.proofs.Histories.Accepted.{asked-lock, note_accepted, try_accepted}
+use Rattle.wit_model.proofs.Histories.Accepted.{asked-lock, note_accepted}
 use Rattle.wit_model.proofs.Histories.Legal.{pending-state}
 use Rattle.wit_model.proofs.World.Backed.{IsBacked, raw-elsewhere, these-mine, IsApart, apart-nothing, apart-other, call-apart, call-held, call-new}
-use Rattle.wit_model.proofs.World.Beside.{IsIdle, StandsIdle, other-stands, thread-called, called-stands, all-stand, all-backed, act-elsewhere, Fits, DoesStep, Does, none-from, raw-step, call-step, stage-stepped, sane, answer-log, caller}
-use Rattle.wit_model.proofs.World.Exclusion.{has_seat, got-by}
-use Rattle.wit_model.proofs.World.Shown.{both-shared}
+use Rattle.wit_model.proofs.World.Beside.{IsIdle, StandsIdle, other-stands, thread-called, called-stands, all-stand, all-backed, act-elsewhere, Fits, DoesStep, Does, raw-step, call-step, stage-stepped, sane, answer-log, caller}
 use Rattle.wit_model.proofs.World.Stepping.{seat-shown}
 
 pub same-mode : (m : Mode) → is_same_mode m m ≡ true

@@ -1,9 +1,9 @@
 -- Of any scene a circle that starts with its least seat can be told, or that there is none.
-use Rattle.std.proofs.Common.{◌≡◌, ℕ, ◌≤◌, Bool, true, false, ◌&&◌, List, [], ◌∷◌, length, Option, None, Some, sym, ap, ◌∙◌, inl, inr, unwrap_or}
+use Rattle.std.proofs.Common.{◌≡◌, ℕ, ◌≤◌, Bool, true, ◌&&◌, List, [], ◌∷◌, length, Option, None, Some, sym, ap, ◌∙◌, inl, inr, unwrap_or}
 use Rattle.std.proofs.lemmas.Bool.{and_parts, and_from, leb-true, cases_Bool, false≢true}
 use Rattle.wit_model.specs.Rules.Circles.{IsQueue, IsCircle}
 use Rattle.wit_model.specs.Rules.Numbers.{is_given}
-use Rattle.wit_model.specs.World.Scenes.{Scene, stage_at}
+use Rattle.wit_model.specs.World.Scenes.{Scene}
 use Rattle.wit_model.specs.World.Shown.{is_barred_by, waits_in, WaitsIn, TellsCircleIn}
 use Rattle.wit_model.specs.World.Stages.{Over}
 use Rattle.wit_model.proofs.Numbered.{with_number-none}

@@ -1,5 +1,5 @@
 -- Calls that are prepared: all that they will need is asked for before they are made.
-use Rattle.std.specs.Prelude.{ℕ, ◌≡◌, Bool, Option, Some, Result, Ok, Err, if◌then◌else◌}
+use Rattle.std.specs.Prelude.{ℕ, ◌≡◌, Some, Result, Ok, Err, if◌then◌else◌}
 use Rattle.wit_model.specs.declared.faults.Fault.{Fault}
 use Rattle.wit_model.specs.declared.calls.Call.{Call}
 use Rattle.wit_model.specs.declared.calls.Call.TheVariants.{Check, DefineOrder}
