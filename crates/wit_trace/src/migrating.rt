@@ -1,25 +1,22 @@
 //! The migration of a trace from the first version of the format to the second.
 
-ghost use Rattle.std.specs.Prelude.{◌≡◌, ◌+◌, ◌-◌, ◌<◌, ◌≤◌, ◌^◌, ◌++◌, ℕ, List, length, max};
-ghost use Rattle.std.specs.Prelude.{false, None, Some, Err, IfOk, OnOk, OnErr};
+ghost use Rattle.std.specs.Prelude.{◌≡◌, ◌+◌, ◌-◌, ◌<◌, ◌≤◌, ◌^◌, ℕ, List, length, max};
+ghost use Rattle.std.specs.Prelude.{Err, IfOk, OnErr};
 ghost use Rattle.wit_grammar.specs.declared.parse.TheConstants.{LONGEST};
-ghost use Rattle.wit_model.specs.Trace.Moving.{kept_lines, moving_from, outcome, read_to};
-ghost use Rattle.wit_model.specs.Trace.Moving.{with_feeds};
+ghost use Rattle.wit_model.specs.Trace.Moving.{moving_from, outcome};
 ghost use Rattle.wit_model.specs.Trace.Moving as moving;
-ghost use Rattle.wit_model.specs.Trace.Output.{bad_text, summed};
 ghost use Rattle.wit_trace.specs.Machine.{Follows};
-ghost use Rattle.wit_trace.specs.Migrates.{EndsWith, Enters, Migrates, MigratesFrom, Reaches};
+ghost use Rattle.wit_trace.specs.Migrates.{Enters, Migrates, MigratesFrom, Reaches};
 ghost use Rattle.wit_trace.specs.Migrates.{migrated, moved_to, reported, some_migration, weighed};
-ghost use Rattle.wit_trace.specs.Replays.{total};
 ghost use Rattle.wit_trace.specs.Stream.{ReadsToEnd, WritesFront, WritesLines, WritesOutput};
 
 mod behind;
+mod endings;
 mod headers;
 mod preludes;
 mod steps;
 mod texts;
 
-use crate::replaying::bad_text;
 use crate::replaying::prelude::Prelude;
 use crate::stream::machine::{Machine, Step};
 use crate::stream::ports::Failures;
@@ -30,10 +27,9 @@ use headers::start;
 use preludes::Reached;
 use std::alloc::{AllocError, Global};
 use std::io::{BufRead, Write};
-use std::mem;
-use texts::{join, whole_lines};
+use texts::join;
 use wit_grammar::{LineError, parse_line, parse_lock_line};
-use wit_model::{Boxed, Cause, Line, View};
+use wit_model::{Cause, Line, View};
 
 /// Reads a trace of the first version, and writes it as one of the second: its own lines, and
 /// between them the steps of the locks themselves that its calls need. A lock is taken before it is
@@ -93,23 +89,6 @@ enum Migrating {
 }
 
 impl Migrating {
-    // What was read up to here.
-    fn found(&self) -> Summary
-        requires { reported (moved_to self.now) < 2 ^ 64 }
-        ensures total { total result ≡ summed (read_to (moved_to self.now)) None }
-        ensures circle { result.circle ≡ false }
-    {
-        match self {
-            Migrating::Moved(behind) => behind.summary(),
-            Migrating::Unmoved | Migrating::Keeping { .. } => Summary {
-                calls: 0,
-                reports: 0,
-                circle: false,
-                bad: None,
-            },
-        }
-    }
-
     // The prelude ends before a line that is none of it: what was kept is written then.
     #[inline(always)]
     fn reach(&mut self, alloc: Global, number: u64, line: &[u8]) -> Result<Reached, AllocError>
@@ -157,62 +136,6 @@ impl Migrating {
             }
             Migrating::Moved(behind) => behind.enter(alloc, line, bytes),
         }
-    }
-
-    // Ends at a bad line, where this was found before it; behind a text that is still to be
-    // written. Nothing is kept any more.
-    #[cold]
-    #[inline(never)]
-    fn ended(
-        &mut self,
-        alloc: Global,
-        before: Vec<u8>,
-        found: Summary,
-        number: u64,
-        cause: Cause,
-    ) -> Result<(Vec<u8>, Summary), AllocError>
-        ensures text { IfOk result (λ r. r.0.items ≡ before.items
-            ++ (with_feeds (kept_lines (moved_to self.old)) ++ bad_text number cause)) }
-        ensures summary { IfOk result (λ r. r.1 ≡ record found { bad = Some (number, cause) }) }
-        ensures over { OnOk result (moved_to self.new ≡ moving.Unmoved) }
-    {
-        let kept = self.last_lines(alloc)?;
-        let last = join(kept, bad_text(alloc, number, cause)?.as_bytes())?;
-        let text = join(before, &last)?;
-        let summary = Summary {
-            bad: Some((number, cause)),
-            ..found
-        };
-        Ok((text, summary))
-    }
-
-    // The lines that are still to be written.
-    fn last_lines(&mut self, alloc: Global) -> Result<Vec<u8>, AllocError>
-        ensures text { IfOk result (λ text.
-            text.items ≡ with_feeds (kept_lines (moved_to self.old))) }
-        ensures over { moved_to self.new ≡ moving.Unmoved }
-    {
-        match mem::replace(self, Migrating::Unmoved) {
-            Migrating::Keeping { kept, .. } => whole_lines(alloc, &kept),
-            Migrating::Unmoved | Migrating::Moved(_) => Ok(Vec::new(alloc)),
-        }
-    }
-
-    fn ended_step(
-        &mut self,
-        alloc: Global,
-        before: Vec<u8>,
-        found: Summary,
-        number: u64,
-        cause: Cause,
-    ) -> Result<Step, AllocError>
-        ensures step { IfOk result (EndsWith
-            (before.items ++ (with_feeds (kept_lines (moved_to self.old)) ++ bad_text number cause))
-            (record found { bad = Some (number, cause) })) }
-        ensures over { OnOk result (moved_to self.new ≡ moving.Unmoved) }
-    {
-        let (text, summary) = self.ended(alloc, before, found, number, cause)?;
-        Ok(Step::Ends(text, Boxed::new(alloc, summary)?))
     }
 
     // A line of any kind.
