@@ -9,7 +9,7 @@ use Rattle.wit_model.specs.declared.locks.Mode.{Mode}
 use Rattle.wit_model.specs.declared.locks.Site.{Site}
 use Rattle.wit_model.specs.declared.calls.NewLock.{NewLock}
 use Rattle.wit_model.specs.declared.calls.Request.{Request}
-use Rattle.wit_model.specs.Rules.Groups.{flat, has_room, joined, opens, is_filled, tidied, left}
+use Rattle.wit_model.specs.Rules.Groups.{flat, group_has_room, joined, opens, is_filled, tidied, left}
 use Rattle.wit_model.specs.Rules.Locks.{is_spin_lock}
 use Rattle.wit_model.specs.Rules.State as model
 use Rattle.wit_model.specs.Rules.Verdict.{is_of}
@@ -38,7 +38,7 @@ opens-numbers (g ∷ g' ∷ gs) = opens-numbers (g' ∷ gs)
 
 numbers-joined : (i : Instance) (gs : List (List Instance)) → numbers (joined i gs) ≡ joined i.lock.0 (numbers gs)
 numbers-joined i [] = refl
-numbers-joined i (g ∷ []) = by (has_room g) ∙ ap (λ n. cond (nat_lt n 5) ((map number g ++ i.lock.0 ∷ []) ∷ []) (map number g ∷ (i.lock.0 ∷ []) ∷ [])) (sym (length-map g number))
+numbers-joined i (g ∷ []) = by (group_has_room g) ∙ ap (λ n. cond (nat_lt n 5) ((map number g ++ i.lock.0 ∷ []) ∷ []) (map number g ∷ (i.lock.0 ∷ []) ∷ [])) (sym (length-map g number))
   where
     by : (b : Bool) → numbers (cond b ((g ++ i ∷ []) ∷ []) (g ∷ (i ∷ []) ∷ [])) ≡ cond b ((map number g ++ i.lock.0 ∷ []) ∷ []) (map number g ∷ (i.lock.0 ∷ []) ∷ [])
     by true = ap (λ ns. ns ∷ []) (map-append number g (i ∷ []))

@@ -17,7 +17,7 @@ use Rattle.wit_model.specs.World.Steps.{admits, IsWorld}
 use Rattle.wit_model.specs.World.Waiting.{IsWaiting, IsDeadlock}
 use Rattle.wit_model.specs.World.Reordering.{IsReordering}
 use Rattle.wit_model.specs.World.Examples.{small, files, in_turn, crossed, agreed, defined, defined_before}
-use Rattle.wit_model.specs.World.Tried.{all_held, tried, tried_in_turn, tried_crossed}
+use Rattle.wit_model.specs.World.Tried.{small_all_held, tried, tried_in_turn, tried_crossed}
 use Rattle.wit_model.specs.World.Sequences.{varied, scarce, exhausted}
 
 -- no reordering of a world whose log is clean has a deadlock, over an accepted start that blesses
@@ -59,18 +59,18 @@ AgreedIsClean = (small.blessed ≡ []) × (is_clean Plain (log_of agreed) ≡ tr
 
 -- where requests are compared with all held locks: a world with a try whose log is clean
 abbrev pub TriedIsWorld : Type 0
-TriedIsWorld = (start_fault all_held ≡ None) × IsWorld all_held files tried
+TriedIsWorld = (start_fault small_all_held ≡ None) × IsWorld small_all_held files tried
 
 abbrev pub TriedIsClean : Type 0
-TriedIsClean = (all_held.blessed ≡ []) × (is_clean AllHeld (log_of tried) ≡ true)
+TriedIsClean = (small_all_held.blessed ≡ []) × (is_clean AllHeld (log_of tried) ≡ true)
 
 -- and one in which a report was made, with a reordering that has a deadlock
 abbrev pub TriedInTurnIsWorld : Type 0
 TriedInTurnIsWorld =
-    IsWorld all_held files tried_in_turn × (is_clean AllHeld (log_of tried_in_turn) ≡ false)
+    IsWorld small_all_held files tried_in_turn × (is_clean AllHeld (log_of tried_in_turn) ≡ false)
 
 abbrev pub TriedCrossedReorders : Type 0
-TriedCrossedReorders = IsReordering all_held tried_crossed tried_in_turn
+TriedCrossedReorders = IsReordering small_all_held tried_crossed tried_in_turn
 
 abbrev pub TriedCrossedDeadlocks : Type 0
 TriedCrossedDeadlocks = IsDeadlock tried_crossed (1 ∷ 2 ∷ [])

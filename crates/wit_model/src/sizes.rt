@@ -2,7 +2,7 @@
 
 ghost use Rattle.std.specs.Prelude.{◌≡◌, ◌↔◌, ◌<◌, ◌≤◌, IsSome, IfSome, IsTrue};
 ghost use Rattle.wit_model.specs.Rules.Numbers.{IsNumber};
-ghost use Rattle.wit_model.specs.Rules.Sizes.{AreWithin, sizes_of};
+ghost use Rattle.wit_model.specs.Rules.Sizes.{AreWithinLimits, sizes_of};
 
 use std::marker::Model;
 
@@ -17,13 +17,13 @@ pub struct Limits {
 }
 
 impl Model for Limits {
-    ghost use Rattle.wit_model.specs.Rules.Sizes.{Sizes, AreWithin, sizes_of};
+    ghost use Rattle.wit_model.specs.Rules.Sizes.{Sizes, AreWithinLimits, sizes_of};
 
     ghost Value = { Sizes };
 
     ghost view = { λ l. sizes_of l.seats l.types l.locks l.chunks l.log };
 
-    ghost invariant = { λ l. AreWithin (sizes_of l.seats l.types l.locks l.chunks l.log) };
+    ghost invariant = { λ l. AreWithinLimits (sizes_of l.seats l.types l.locks l.chunks l.log) };
 
     ghost inverse = { λ s. record { seats = s.seats; types = s.types; locks = s.locks; chunks = s.chunks; log = s.log } };
 }
@@ -32,7 +32,7 @@ impl Limits {
     /// Limits with these numbers: `None` exactly where one is 0 or over its greatest value, which is
     /// 256 seats, 1,023 types, 65,536 locks, 65,536 chunks and 16,777,216 log entries.
     pub fn new(seats: u32, types: u32, locks: u32, chunks: u32, log: u32) -> Option<Limits>
-        ensures within { IsSome result ↔ AreWithin (sizes_of seats types locks chunks log) }
+        ensures within { IsSome result ↔ AreWithinLimits (sizes_of seats types locks chunks log) }
         ensures value { IfSome result (λ l. l ≡ sizes_of seats types locks chunks log) }
     {
         let good = is_number(256, seats)

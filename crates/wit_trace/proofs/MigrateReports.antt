@@ -10,7 +10,7 @@ use Rattle.wit_model.specs.declared.lines.Line.TheVariants.{Header}
 use Rattle.wit_model.specs.declared.lines.Version.TheVariants.{One, Two}
 use Rattle.wit_model.specs.Rules.Files.{files_after, naming_answer}
 use Rattle.wit_model.specs.Rules.History.{reports_of}
-use Rattle.wit_model.specs.Rules.Sizes.{Sizes, sizes_of, are_within}
+use Rattle.wit_model.specs.Rules.Sizes.{Sizes, sizes_of, are_within_limits}
 use Rattle.wit_model.specs.Rules.State.{Story}
 use Rattle.wit_model.specs.Rules.Step.{answer_of, grown}
 use Rattle.wit_model.specs.Trace.Moving.{Moving, Unmoved, Keeping, Moved, Outcome, Goes, Bad, step_line, answered, answered_at, alone, moves, keeps, outcome}
@@ -71,7 +71,7 @@ header_one sizes line false = tt
 
 entered_one : (m : Moving) (n : ℕ) (bytes : List ℕ) (line : Line) → MovesOne (reported m) (moving.entered m n bytes line)
 entered_one Unmoved n bytes (Header One s t l c) =
-    header_one (sizes_of s t l c output.log_limit) (spelling (Header Two s t l c)) (are_within (sizes_of s t l c output.log_limit))
+    header_one (sizes_of s t l c output.log_limit) (spelling (Header Two s t l c)) (are_within_limits (sizes_of s t l c output.log_limit))
 entered_one Unmoved n bytes (Header Two s t l c) = tt
 entered_one Unmoved n bytes _ = tt
 entered_one (Keeping p kept) n bytes line = keeps_one kept bytes (output.entered (Opening p) n line)

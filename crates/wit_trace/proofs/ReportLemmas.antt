@@ -15,7 +15,7 @@ use Rattle.wit_model.specs.declared.locks.Instance.{Instance}
 use Rattle.wit_model.specs.Rules.Assertions.{step_assert}
 use Rattle.wit_model.specs.Rules.Files.{files_after, naming_answer}
 use Rattle.wit_model.specs.Rules.Start.{start_fault}
-use Rattle.wit_model.specs.Rules.Sizes.{Sizes, sizes_of, are_within}
+use Rattle.wit_model.specs.Rules.Sizes.{Sizes, sizes_of, are_within_limits}
 use Rattle.wit_model.specs.Rules.Warnings.{warned, step_warn}
 use Rattle.wit_model.specs.Trace.Reading.{line_of}
 use Rattle.wit_model.specs.Trace.Views.{assert_text, warn_text}
@@ -171,7 +171,7 @@ header_one version sizes true = omega arith
 header_one version sizes false = tt
 
 entered_one : (p : output.Progress) (n : ℕ) (line : Line) → CountsOne (reported p) (output.entered p n line)
-entered_one output.Unstarted n (Header version seats types locks chunks) = header_one version (sizes_of seats types locks chunks output.log_limit) (are_within (sizes_of seats types locks chunks output.log_limit))
+entered_one output.Unstarted n (Header version seats types locks chunks) = header_one version (sizes_of seats types locks chunks output.log_limit) (are_within_limits (sizes_of seats types locks chunks output.log_limit))
 entered_one output.Unstarted n _ = tt
 entered_one (output.Opening p) n Profile = omega arith
 entered_one (output.Opening p) n (Order list) = omega arith

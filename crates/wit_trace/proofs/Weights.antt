@@ -19,7 +19,7 @@ use Rattle.wit_model.specs.declared.raw_steps.RawStep.TheVariants as raw_step
 use Rattle.wit_model.specs.Rules.Files.{files_after, naming_answer}
 use Rattle.wit_model.specs.Rules.History.{is_held, pending}
 use Rattle.wit_model.specs.Rules.Numbers.{is_given, with_changed}
-use Rattle.wit_model.specs.Rules.Sizes.{Sizes, sizes_of, are_within}
+use Rattle.wit_model.specs.Rules.Sizes.{Sizes, sizes_of, are_within_limits}
 use Rattle.wit_model.specs.Rules.State.{Story}
 use Rattle.wit_model.specs.Rules.Step.{answer_of, grown, is_logged}
 use Rattle.wit_model.specs.Trace.Moving.{Moving, Unmoved, Keeping, Moved, Outcome, Goes, Bad, step_line, answered, answered_at, alone, moves, keeps, outcome}
@@ -223,7 +223,7 @@ header_weighs sizes line false = tt
 entered_weighs : (m : Moving) (n : ℕ) (bytes : List ℕ) (line : Line)
     → WeighsOne (weighed m) (moving.entered m n bytes line)
 entered_weighs Unmoved n bytes (Header One s t l c) =
-    header_weighs (sizes_of s t l c output.log_limit) (spelling (Header Two s t l c)) (are_within (sizes_of s t l c output.log_limit))
+    header_weighs (sizes_of s t l c output.log_limit) (spelling (Header Two s t l c)) (are_within_limits (sizes_of s t l c output.log_limit))
 entered_weighs Unmoved n bytes (Header Two s t l c) = tt
 entered_weighs Unmoved n bytes _ = tt
 entered_weighs (Keeping p kept) n bytes line = keeps_weighs kept bytes (output.entered (output.Opening p) n line)

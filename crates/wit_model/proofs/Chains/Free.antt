@@ -15,7 +15,7 @@ use Rattle.wit_model.specs.declared.calls.Reply.TheVariants.{Recorded, Unlocked}
 use Rattle.wit_model.specs.declared.calls.Entry.{Entry}
 use Rattle.wit_model.specs.Rules.Locks.{locks_of, is_spin_lock}
 use Rattle.wit_model.specs.Rules.History.{Act, Nothing, Records, Releases, act, chain}
-use Rattle.wit_model.specs.Rules.Groups.{has_room, joined, opens, is_filled, tidied, left}
+use Rattle.wit_model.specs.Rules.Groups.{group_has_room, joined, opens, is_filled, tidied, left}
 use Rattle.wit_model.specs.Rules.SeatGroups.{seat_groups}
 use Rattle.wit_model.specs.Rules.Verdict.{is_of}
 use Rattle.wit_model.specs.Rules.State.{Start, Story, State, Seat, state_of, seat_of, seats_of, is_seat, chunks_of, free}
@@ -31,7 +31,7 @@ use Rattle.wit_model.proofs.Histories.Legal.{seat-within, one_chain, one_groups,
 module _ {X : Type 0} where
   pub length-joined : (x : X) (gs : List (List X)) → length (joined x gs) ≡ length gs + cond (opens gs) 1 0
   length-joined x [] = refl
-  length-joined x (g ∷ []) = by (has_room g)
+  length-joined x (g ∷ []) = by (group_has_room g)
     where
       by : (b : Bool) → length (cond b ((g ++ x ∷ []) ∷ []) (g ∷ (x ∷ []) ∷ [])) ≡ 1 + cond (not b) 1 0
       by true = refl

@@ -3,7 +3,7 @@ use Rattle.std.proofs.Common.{◌≡◌, ℕ, zero, suc, ◌+◌, ◌-◌, ◌<�
 use Rattle.std.specs.List.{remove}
 use Rattle.std.proofs.lemmas.Bool.{lt-ltb, le-ltb, ltb-true, ltb-false, not-true, not-false, true≢false, cond-true, cond-false}
 use Rattle.std.proofs.lemmas.List.{length-append, length-set}
-use Rattle.wit_model.specs.Rules.Groups.{flat, has_room, joined, opens, is_filled, tidied, edited_at, AreFilled, AreTidy}
+use Rattle.wit_model.specs.Rules.Groups.{flat, group_has_room, joined, opens, is_filled, tidied, edited_at, AreFilled, AreTidy}
 
 module _ {X : Type 0} where
   -- an edit at a place is one of the group that the place lies in
@@ -25,21 +25,21 @@ module _ {X : Type 0} where
   -- a new one opens a group
   pub joined-opens : (x : X) (gs : List (List X)) → opens gs ≡ true → joined x gs ≡ gs ++ (x ∷ []) ∷ []
   joined-opens x [] o = refl
-  joined-opens x (g ∷ []) o = cond-false (has_room g) ((g ++ x ∷ []) ∷ []) (g ∷ (x ∷ []) ∷ []) (not-true (has_room g) o)
+  joined-opens x (g ∷ []) o = cond-false (group_has_room g) ((g ++ x ∷ []) ∷ []) (g ∷ (x ∷ []) ∷ []) (not-true (group_has_room g) o)
   joined-opens x (g ∷ g' ∷ gs) o = ap (λ hs. g ∷ hs) (joined-opens x (g' ∷ gs) o)
 
   -- a new one joins the newest group
   pub joined-fits : (x : X) (gs : List (List X)) → opens gs ≡ false
       → joined x gs ≡ set gs (length gs - 1) (get_or gs (length gs - 1) [] ++ x ∷ [])
   joined-fits x [] o = absurd (true≢false o)
-  joined-fits x (g ∷ []) o = cond-true (has_room g) ((g ++ x ∷ []) ∷ []) (g ∷ (x ∷ []) ∷ []) (not-false (has_room g) o)
+  joined-fits x (g ∷ []) o = cond-true (group_has_room g) ((g ++ x ∷ []) ∷ []) (g ∷ (x ∷ []) ∷ []) (not-false (group_has_room g) o)
   joined-fits x (g ∷ g' ∷ gs) o =
       let next : length (g ∷ g' ∷ gs) - 1 ≡ suc (length (g' ∷ gs) - 1) = omega arith in
       ap (λ hs. g ∷ hs) (joined-fits x (g' ∷ gs) o)
       ∙ sym (ap (λ m. set (g ∷ g' ∷ gs) m (get_or (g ∷ g' ∷ gs) m [] ++ x ∷ [])) next)
 
   -- the newest group decides
-  pub opens-newest : (g : List X) (gs : List (List X)) → opens (g ∷ gs) ≡ not (has_room (get_or (g ∷ gs) (length gs) []))
+  pub opens-newest : (g : List X) (gs : List (List X)) → opens (g ∷ gs) ≡ not (group_has_room (get_or (g ∷ gs) (length gs) []))
   opens-newest g [] = refl
   opens-newest g (g' ∷ gs) = opens-newest g' gs
 
@@ -119,6 +119,6 @@ module _ {X : Type 0} where
   pub tidy-opened : (gs : List (List X)) (x : X) → AreTidy gs → opens gs ≡ true → AreTidy (gs ++ (x ∷ []) ∷ [])
   tidy-opened [] x h o = tt
   tidy-opened (g ∷ []) x h o =
-      let full : 5 ≤ length g = ltb-false (length g) 5 (not-true (has_room g) o) in
+      let full : 5 ≤ length g = ltb-false (length g) 5 (not-true (group_has_room g) o) in
       (omega (arith, full), (omega arith, tt))
   tidy-opened (g ∷ g' ∷ gs) x h o = filled-append (g ∷ g' ∷ gs) ((x ∷ []) ∷ []) h (omega arith, tt)

@@ -5,7 +5,7 @@ use Rattle.wit_model.specs.declared.locks.Mode.{Mode}
 use Rattle.wit_model.specs.declared.locks.Site.{Site}
 use Rattle.wit_model.specs.declared.locks.Instance.{Instance}
 use Rattle.wit_model.specs.declared.calls.Entry.{Entry}
-use Rattle.wit_model.specs.Rules.History.{Act, Nothing, Records, Releases, Turns, Marks, act_by, is_record, num, is_held, rises, place, mode, mark, site, pending, asked_mode, asked_site, turned, marked, instance}
+use Rattle.wit_model.specs.Rules.History.{Act, Nothing, Records, Releases, Turns, Marks, act_by, is_record, num, is_held, rises, place, mode, mark, site, pending, asked_mode, asked_site, turned_by, marked_by, instance}
 use Rattle.wit_model.proofs.Chains.Sane.{IsSane}
 use Rattle.wit_model.proofs.Chains.Acts.{num_after, num-step, num-nil}
 
@@ -42,7 +42,7 @@ pub place-new : (t l : ℕ) (x : Entry) (h : List Entry) → rises t l x h ≡ t
 unfolding place
 place-new t l x h is = rw is refl
 
-pub mode-stays : (t l : ℕ) (x : Entry) (h : List Entry) → rises t l x h ≡ false → mode t l (x ∷ h) ≡ turned l (act_by t x) (mode t l h)
+pub mode-stays : (t l : ℕ) (x : Entry) (h : List Entry) → rises t l x h ≡ false → mode t l (x ∷ h) ≡ turned_by l (act_by t x) (mode t l h)
 unfolding mode
 mode-stays t l x h is = rw is refl
 
@@ -50,7 +50,7 @@ pub mode-new : (t l : ℕ) (x : Entry) (h : List Entry) → rises t l x h ≡ tr
 unfolding mode
 mode-new t l x h is = rw is refl
 
-pub mark-stays : (t l : ℕ) (x : Entry) (h : List Entry) → rises t l x h ≡ false → mark t l (x ∷ h) ≡ marked l (act_by t x) (mark t l h)
+pub mark-stays : (t l : ℕ) (x : Entry) (h : List Entry) → rises t l x h ≡ false → mark t l (x ∷ h) ≡ marked_by l (act_by t x) (mark t l h)
 unfolding mark
 mark-stays t l x h is = rw is refl
 
@@ -91,7 +91,7 @@ unfolding make
 instance_is t h l m b n s em eb en es = rw (em, eb, en, es) refl
 
 same-when_apart : (a : Act) (l n : ℕ) (m : Mode) (b : Bool) (s s' : Site) → eqb (subject a) l ≡ false
-    → (num_after a l n ≡ n) × (turned l a m ≡ m) × (marked l a b ≡ b) × (cond (is_record l a) s' s ≡ s)
+    → (num_after a l n ≡ n) × (turned_by l a m ≡ m) × (marked_by l a b ≡ b) × (cond (is_record l a) s' s ≡ s)
 same-when_apart Nothing l n m b s s' apart = (refl, refl, refl, refl)
 same-when_apart (Records k) l n m b s s' apart = (rw apart refl, refl, refl, rw apart refl)
 same-when_apart (Releases k) l n m b s s' apart = (rw apart refl, refl, refl, refl)
@@ -115,7 +115,7 @@ instance-apart t l x h apart sane =
     (mode-stays t l x h no_rise ∙ same.1) (mark-stays t l x h no_rise ∙ same.2) (ap (λ n. n - 1) (num-apart t l x h apart sane)) (site-step t l x h ∙ same.3)
 
 same-when_here : (a : Act) (t l n : ℕ) (m : Mode) (b : Bool) (s s' : Site) → eqb (subject a) l ≡ true → 0 < l → 0 < n
-    → make l (turned l a m) (marked l a b) (num_after a l n - 1) (cond (is_record l a) s' s) ≡ changed a s' (make l m b (n - 1) s)
+    → make l (turned_by l a m) (marked_by l a b) (num_after a l n - 1) (cond (is_record l a) s' s) ≡ changed a s' (make l m b (n - 1) s)
 unfolding make
 same-when_here Nothing t l n m b s s' here some up = refl
 same-when_here (Records k) t l n m b s s' here some up = rw here (ap (λ j. make l m b j s') (let e : n + 1 - 1 ≡ n - 1 + 1 = omega arith in e))
@@ -129,7 +129,7 @@ pub instance-here : (t l : ℕ) (x : Entry) (h : List Entry) → eqb (subject (a
 unfolding make
 instance-here t l x h here some was sane =
     let no_rise = rises-held t l x h was in
-    instance_is t (x ∷ h) l (turned l (act_by t x) (mode t l h)) (marked l (act_by t x) (mark t l h)) (num_after (act_by t x) l (num t l h) - 1)
+    instance_is t (x ∷ h) l (turned_by l (act_by t x) (mode t l h)) (marked_by l (act_by t x) (mark t l h)) (num_after (act_by t x) l (num t l h) - 1)
     (cond (is_record l (act_by t x)) (asked_site x.call (pending t h)) (site t l h))
     (mode-stays t l x h no_rise) (mark-stays t l x h no_rise) (ap (λ n. n - 1) (num-step t l x h (act_by t x) refl sane)) (site-step t l x h)
     ∙ same-when_here (act_by t x) t l (num t l h) (mode t l h) (mark t l h) (site t l h) (asked_site x.call (pending t h)) here some (num-of_held t l h was)

@@ -7,7 +7,7 @@ use Rattle.std.proofs.lemmas.List.Elements.{filter-append}
 use Rattle.wit_model.specs.declared.calls.Entry.{Entry}
 use Rattle.wit_model.specs.Rules.Locks.{locks_of, is_of_kind}
 use Rattle.wit_model.specs.Rules.History.{Act, Nothing, Records, Releases, Turns, Marks, act_by, is_held, rises, held, held_of, instance, chain}
-use Rattle.wit_model.specs.Rules.Groups.{flat, has_room, joined, is_filled, tidied, left, AreShort, AreFilled, AreTidy}
+use Rattle.wit_model.specs.Rules.Groups.{flat, group_has_room, joined, is_filled, tidied, left, AreShort, AreFilled, AreTidy}
 use Rattle.wit_model.specs.Rules.SeatGroups.{falls, regrouped, seat_groups, held_groups}
 use Rattle.wit_model.proofs.Chains.Sane.{IsFit, IsSane, fit_by}
 use Rattle.wit_model.proofs.Chains.HeldLocks.{rises-not, rises-new}
@@ -19,7 +19,7 @@ use Rattle.wit_model.proofs.Lists.{filter-swap, list_all-filter, list_all-both}
 module _ {X : Type 0} where
   pub flat-joined : (x : X) (gs : List (List X)) → flat (joined x gs) ≡ flat gs ++ x ∷ []
   flat-joined x [] = refl
-  flat-joined x (g ∷ []) = by (has_room g)
+  flat-joined x (g ∷ []) = by (group_has_room g)
     where
       by : (b : Bool) → flat (cond b ((g ++ x ∷ []) ∷ []) (g ∷ (x ∷ []) ∷ [])) ≡ (g ++ []) ++ x ∷ []
       by true = append-nil (g ++ x ∷ []) ∙ ap (λ xs. xs ++ x ∷ []) (sym (append-nil g))
@@ -50,7 +50,7 @@ module _ {X : Type 0} where
 
   filled-joined : (x : X) (gs : List (List X)) → AreFilled gs → AreFilled (joined x gs)
   filled-joined x [] h = (omega arith, tt)
-  filled-joined x (g ∷ []) h = by (has_room g)
+  filled-joined x (g ∷ []) h = by (group_has_room g)
     where
       by : (b : Bool) → AreFilled (cond b ((g ++ x ∷ []) ∷ []) (g ∷ (x ∷ []) ∷ []))
       by true = (omega (arith, length-append g (x ∷ [])), tt)
@@ -59,18 +59,18 @@ module _ {X : Type 0} where
 
   tidy-joined : (x : X) (gs : List (List X)) → AreTidy gs → AreTidy (joined x gs)
   tidy-joined x [] h = tt
-  tidy-joined x (g ∷ []) h = by (has_room g) refl
+  tidy-joined x (g ∷ []) h = by (group_has_room g) refl
     where
-      by : (b : Bool) → has_room g ≡ b → AreTidy (cond b ((g ++ x ∷ []) ∷ []) (g ∷ (x ∷ []) ∷ []))
+      by : (b : Bool) → group_has_room g ≡ b → AreTidy (cond b ((g ++ x ∷ []) ∷ []) (g ∷ (x ∷ []) ∷ []))
       by true is = tt
       by false is = (omega (arith, ltb-false (length g) 5 is), (omega arith, tt))
   tidy-joined x (g ∷ g' ∷ gs) h = tidy-filled (g ∷ joined x (g' ∷ gs)) (h.0, filled-joined x (g' ∷ gs) h.1)
 
   short-joined : (x : X) (gs : List (List X)) → AreShort gs → AreShort (joined x gs)
   short-joined x [] h = (omega arith, tt)
-  short-joined x (g ∷ []) h = by (has_room g) refl
+  short-joined x (g ∷ []) h = by (group_has_room g) refl
     where
-      by : (b : Bool) → has_room g ≡ b → AreShort (cond b ((g ++ x ∷ []) ∷ []) (g ∷ (x ∷ []) ∷ []))
+      by : (b : Bool) → group_has_room g ≡ b → AreShort (cond b ((g ++ x ∷ []) ∷ []) (g ∷ (x ∷ []) ∷ []))
       by true is = (omega (arith, length-append g (x ∷ []), ltb-true (length g) 5 is), tt)
       by false is = (h.0, (omega arith, tt))
   short-joined x (g ∷ g' ∷ gs) h = (h.0, short-joined x (g' ∷ gs) h.1)

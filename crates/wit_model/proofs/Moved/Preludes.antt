@@ -6,7 +6,7 @@ use Rattle.wit_model.specs.declared.lines.Line.TheVariants.{Header, Order, Bless
 use Rattle.wit_model.specs.declared.lines.Line.TheVariants as kind
 use Rattle.wit_model.specs.declared.lines.Version.TheVariants.{One, Two}
 use Rattle.wit_model.specs.declared.lines.Cause.TheVariants as why
-use Rattle.wit_model.specs.Rules.Sizes.{sizes_of, are_within}
+use Rattle.wit_model.specs.Rules.Sizes.{sizes_of, are_within_limits}
 use Rattle.wit_model.specs.Rules.Start.{start_fault}
 use Rattle.wit_model.specs.Rules.State.{Story, fresh}
 use Rattle.wit_model.specs.World.Scenes.{Scene, opening}
@@ -204,9 +204,9 @@ record Headed (then : Moving) (lines : List (List ℕ)) (line : Line) : Type 0 w
   both : output.outcome Unstarted 1 (spelling header) ≡ output.Goes (Opening (two prelude)) []
 
 headed : (bytes : List ℕ) (line : Line) (then : Moving) (lines : List (List ℕ)) → IsSpellable line → moving.entered Unmoved 1 bytes line ≡ moving.Goes then lines → Headed then lines line
-headed bytes (Header One s t l c) then lines fits goes = go (are_within (sizes_of s t l c log_limit)) refl goes
+headed bytes (Header One s t l c) then lines fits goes = go (are_within_limits (sizes_of s t l c log_limit)) refl goes
   where
-    go : (b : Bool) → are_within (sizes_of s t l c log_limit) ≡ b
+    go : (b : Bool) → are_within_limits (sizes_of s t l c log_limit) ≡ b
         → cond b (moving.Goes (Keeping (empty_prelude One (sizes_of s t l c log_limit)) []) (spelling (Header Two s t l c) ∷ [])) (moving.Bad why.Limit) ≡ moving.Goes then lines
         → Headed then lines (Header One s t l c)
     go true within goes = record {

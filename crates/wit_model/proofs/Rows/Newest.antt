@@ -5,7 +5,7 @@ use Rattle.std.proofs.lemmas.Bool.{true≢false}
 use Rattle.std.proofs.lemmas.List.{length-map, get_or-map}
 use Rattle.std.proofs.lemmas.Option.{get_or_from_slice_get, slice_get_within}
 use Rattle.wit_model.specs.declared.locks.Instance.{Instance}
-use Rattle.wit_model.specs.Rules.Groups.{has_room, opens}
+use Rattle.wit_model.specs.Rules.Groups.{group_has_room, opens}
 use Rattle.wit_model.specs.Rules.Rows.{row, groups_at, AreWithin}
 use Rattle.wit_model.proofs.Chains.Grouping.{opens-newest}
 
@@ -16,7 +16,7 @@ opens-at rows (q ∷ qs) p at =
     let last : length (q ∷ qs) - 1 ≡ length qs = omega arith in
     let is : get_or (q ∷ qs) (length qs) 0 ≡ p = get_or_from_slice_get (q ∷ qs) (length qs) p 0 (sym (ap (slice_get (q ∷ qs)) last) ∙ at) in
     opens-newest (row rows q) (groups_at rows qs)
-    ∙ ap (λ (g : List Instance). not (has_room g))
+    ∙ ap (λ (g : List Instance). not (group_has_room g))
     (ap (λ n. get_or (groups_at rows (q ∷ qs)) n []) (length-map qs (row rows))
     ∙ get_or-map (row rows) (q ∷ qs) (length qs) 0 [] (omega arith)
     ∙ ap (row rows) is)

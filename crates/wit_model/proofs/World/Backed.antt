@@ -9,7 +9,7 @@ use Rattle.wit_model.specs.declared.calls.Call.TheVariants.{NoRelease, ReleaseOk
 use Rattle.wit_model.specs.declared.calls.Reply.{Reply}
 use Rattle.wit_model.specs.declared.calls.Reply.TheVariants.{Done}
 use Rattle.wit_model.specs.declared.calls.Entry.{Entry}
-use Rattle.wit_model.specs.Rules.History.{Act, Nothing, Records, Releases, Turns, Marks, act, act_by, num, pending, asked_mode, turned, mode}
+use Rattle.wit_model.specs.Rules.History.{Act, Nothing, Records, Releases, Turns, Marks, act, act_by, num, pending, asked_mode, turned_by, mode}
 use Rattle.wit_model.specs.Rules.Step.{is_logged}
 use Rattle.wit_model.specs.World.Deeds.{Deed, Logged, PassedOver, Take, TryTake, Free, RawUp, RawDown, thread_of, log_of, are_these, shares, raw_mode}
 use Rattle.wit_model.specs.World.Shown.{deed_called}
@@ -64,7 +64,7 @@ these-mine t l = rw (eq-eqb t t refl, eq-eqb l l refl) refl
 
 -- an act that neither turns this lock nor records or releases it
 abbrev pub IsApart : Act → ℕ → Type 0
-IsApart a l = ((n : ℕ) → num_after a l n ≡ n) × ((m : Mode) → turned l a m ≡ m)
+IsApart a l = ((n : ℕ) → num_after a l n ≡ n) × ((m : Mode) → turned_by l a m ≡ m)
 
 pub apart-nothing : (l : ℕ) → IsApart Nothing l
 apart-nothing l = (λ n. refl, λ m. refl)
@@ -93,7 +93,7 @@ entry-apart t l e w sane apart was = λ some.
     (before.0, before.1 ∙ sym kept)
 
 -- an entry by which a held lock keeps its mode
-entry-held : (t l : ℕ) (e : Entry) (w : List Deed) → 0 < num t l (log_of w) → turned l (act_by t e) (mode t l (log_of w)) ≡ raw_mode t l w
+entry-held : (t l : ℕ) (e : Entry) (w : List Deed) → 0 < num t l (log_of w) → turned_by l (act_by t e) (mode t l (log_of w)) ≡ raw_mode t l w
     → 0 < shares t l w → IsBacked t l (Logged e ∷ w)
 entry-held t l e w held turns share = λ some.
     (share, sym (mode-stays t l e (log_of w) (rises-held t l e (log_of w) (held-from t l (log_of w) held)) ∙ turns))
@@ -121,12 +121,12 @@ module _ (t : ℕ) (call : Call) (r : Reply) where
   act-mine : act_by t entry ≡ act call r
   act-mine = rw (eq-eqb t t refl) refl
 
-  pub call-held : (l : ℕ) (w : List Deed) → 0 < num t l (log_of w) → (is_logged r ≡ true → turned l (act call r) (mode t l (log_of w)) ≡ raw_mode t l w)
+  pub call-held : (l : ℕ) (w : List Deed) → 0 < num t l (log_of w) → (is_logged r ≡ true → turned_by l (act call r) (mode t l (log_of w)) ≡ raw_mode t l w)
       → (is_logged r ≡ false → raw_mode t l w ≡ mode t l (log_of w)) → 0 < shares t l w → IsBacked t l (deed_called t call r ∷ w)
   call-held l w held turns passed share = go (is_logged r) refl
     where
       go : (b : Bool) → is_logged r ≡ b → IsBacked t l (called b ∷ w)
-      go true is = entry-held t l entry w held (ap (λ a. turned l a (mode t l (log_of w))) act-mine ∙ turns is) share
+      go true is = entry-held t l entry w held (ap (λ a. turned_by l a (mode t l (log_of w))) act-mine ∙ turns is) share
       go false is = λ some. (share, passed is)
 
   pub call-new : (l : ℕ) (w : List Deed) → num t l (log_of w) ≡ 0 → raw_mode t l w ≡ asked_mode call (pending t (log_of w))

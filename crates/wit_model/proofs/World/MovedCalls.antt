@@ -13,7 +13,7 @@ use Rattle.wit_model.specs.declared.calls.Call.TheVariants.{NoteTry, Upgrade}
 use Rattle.wit_model.specs.declared.calls.Reply.{Reply}
 use Rattle.wit_model.specs.declared.calls.Reply.TheVariants.{Unlocked, Ignored, Done}
 use Rattle.wit_model.specs.declared.raw_steps.RawStep.TheVariants as raw_step
-use Rattle.wit_model.specs.Rules.History.{act, num, is_held, pending, turned, mode, is_off}
+use Rattle.wit_model.specs.Rules.History.{act, num, is_held, pending, turned_by, mode, is_off}
 use Rattle.wit_model.specs.Rules.State.{Start, State, state_of, is_seat, is_live, has_room}
 use Rattle.wit_model.specs.Rules.Verdict.{is_exclusive}
 use Rattle.wit_model.specs.Rules.Questions.{before_naming, with_room, with_entry, class_at}
@@ -201,7 +201,7 @@ module _ (x : Scene) (fits : Fits x) (t : ℕ) where
             let held = held-log fits.start fits.files w x fits.world fits.shown t l.0 a.instance a.seat a.held in
             let was = fits.backed t l.0 held.0 in
             upgrade-with l r ok free (call-held t (Upgrade l) r l.0 (RawUp t l.0 ∷ w) held.0
-            (λ still. subst (λ y. turned l.0 (act (Upgrade l) y) (mode t l.0 (log_of w)) ≡ raw_mode t l.0 (RawUp t l.0 ∷ w)) (sym a.reply) (rw (eq-eqb l.0 l.0 refl, eq-eqb t t refl) refl))
+            (λ still. subst (λ y. turned_by l.0 (act (Upgrade l) y) (mode t l.0 (log_of w)) ≡ raw_mode t l.0 (RawUp t l.0 ∷ w)) (sym a.reply) (rw (eq-eqb l.0 l.0 refl, eq-eqb t t refl) refl))
             (λ skipped. absurd (true≢false (sym kept ∙ skipped))) was.0)
         | inr skipped ↦
             let is = passed-ignored r skipped in

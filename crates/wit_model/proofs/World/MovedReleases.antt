@@ -12,7 +12,7 @@ use Rattle.wit_model.specs.declared.calls.Entry.{Entry}
 use Rattle.wit_model.specs.declared.raw_steps.RawStep.TheVariants as raw_step
 use Rattle.wit_model.specs.Rules.Locks.{destroyed_of, is_destroyed}
 use Rattle.wit_model.specs.Rules.Numbers.{is_given}
-use Rattle.wit_model.specs.Rules.History.{Releases, act, act_by, num, pending, turned, mode, is_on}
+use Rattle.wit_model.specs.Rules.History.{Releases, act, act_by, num, pending, turned_by, mode, is_on}
 use Rattle.wit_model.specs.Rules.State.{State, state_of, is_live, typed_locks}
 use Rattle.wit_model.specs.Rules.Verdict.{is_exclusive}
 use Rattle.wit_model.specs.Rules.Questions.{class_at}
@@ -192,7 +192,7 @@ module _ (x : Scene) (fits : Fits x) (t : ℕ) (l : LockNo) where
       let had : 0 < shares_of x.raw t l.0 = subst (λ n. 0 < n) (sym (fits.shown.had t l.0)) was.0 in
       let free = and_from (nat_lt 0 (shares_of x.raw t l.0)) (is_exclusive (raw_of x.raw l.0).mode) (lt-ltb 0 (shares_of x.raw t l.0) had) exclusive in
       let e = entry (Downgrade l) Done in
-      let turns : turned l.0 (act_by t e) (mode t l.0 (log_of w)) ≡ Shared = rw (eq-eqb t t refl, eq-eqb l.0 l.0 refl) refl in
+      let turns : turned_by l.0 (act_by t e) (mode t l.0 (log_of w)) ≡ Shared = rw (eq-eqb t t refl, eq-eqb l.0 l.0 refl) refl in
       lowered Done false ok free free (stage-called fits.start fits.files w x fits.world fits.shown t (Downgrade l) Done a.0)
       (and_from (is_given (typed_locks x.story.start (e ∷ x.story.history)) l.0) (not (is_destroyed (destroyed_of x.story.history) l.0)) (given-later e a.1) (ap not (live-undestroyed (state_of x.story) l.0 a.1)))
       (λ some. (was.0, rw (these-mine t l.0) (sym (mode-stays t l.0 e (log_of w) (rises-held t l.0 e (log_of w) (held-from t l.0 (log_of w) held.0)) ∙ turns))))

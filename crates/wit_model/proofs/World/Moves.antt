@@ -11,7 +11,7 @@ use Rattle.wit_model.specs.declared.calls.Call.TheVariants.{Note, NoteTry}
 use Rattle.wit_model.specs.declared.calls.Reply.{Reply}
 use Rattle.wit_model.specs.declared.calls.Reply.TheVariants.{Recorded, Exhausted, Unrecorded}
 use Rattle.wit_model.specs.declared.raw_steps.RawStep.TheVariants as raw_step
-use Rattle.wit_model.specs.Rules.History.{act, is_held, pending, turned, mode, is_off}
+use Rattle.wit_model.specs.Rules.History.{act, is_held, pending, turned_by, mode, is_off}
 use Rattle.wit_model.specs.Rules.State.{state_of}
 use Rattle.wit_model.specs.Rules.Step.{answer_of, story_after, is_for, held_by, is_exhausted, is_logged, grown}
 use Rattle.wit_model.specs.World.Deeds.{Deed, Take, thread_of, log_of, own}
@@ -42,7 +42,7 @@ only-note : (l : LockNo) (r : Reply) (k : ℕ) → eqb l.0 k ≡ false → IsApa
 only-note l Recorded k other = apart-other (act (Note l) Recorded) k other
 only-note l r k other = apart-nothing k
 
-note-turns : (l : LockNo) (r : Reply) (k : ℕ) (m : Mode) → turned k (act (Note l) r) m ≡ m
+note-turns : (l : LockNo) (r : Reply) (k : ℕ) (m : Mode) → turned_by k (act (Note l) r) m ≡ m
 note-turns l Recorded k m = refl
 note-turns l r k m = refl
 
@@ -50,7 +50,7 @@ pub only-try : (l : LockNo) (n : Mode) (site : Site) (r : Reply) (k : ℕ) → e
 only-try l n site Recorded k other = apart-other (act (NoteTry l n site) Recorded) k other
 only-try l n site r k other = apart-nothing k
 
-pub try-turns : (l : LockNo) (n : Mode) (site : Site) (r : Reply) (k : ℕ) (m : Mode) → turned k (act (NoteTry l n site) r) m ≡ m
+pub try-turns : (l : LockNo) (n : Mode) (site : Site) (r : Reply) (k : ℕ) (m : Mode) → turned_by k (act (NoteTry l n site) r) m ≡ m
 try-turns l n site Recorded k m = refl
 try-turns l n site r k m = refl
 

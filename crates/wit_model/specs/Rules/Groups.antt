@@ -9,19 +9,19 @@ abbrev pub flat : {X : Type 0} → List (List X) → List X
 flat gs = flat_map (λ g. g) gs
 
 -- whether a group has room for one more
-abbrev pub has_room : {X : Type 0} → List X → Bool
-has_room g = nat_lt (length g) CHUNK
+abbrev pub group_has_room : {X : Type 0} → List X → Bool
+group_has_room g = nat_lt (length g) CHUNK
 
 -- a new one joins the newest group, or opens a group where that one is full
 abbrev pub joined : {X : Type 0} → X → List (List X) → List (List X)
 joined x [] = (x ∷ []) ∷ []
-joined x (g ∷ []) = if has_room g then (g ++ x ∷ []) ∷ [] else g ∷ (x ∷ []) ∷ []
+joined x (g ∷ []) = if group_has_room g then (g ++ x ∷ []) ∷ [] else g ∷ (x ∷ []) ∷ []
 joined x (g ∷ g' ∷ gs) = g ∷ joined x (g' ∷ gs)
 
 -- whether a new one opens a group
 abbrev pub opens : {X : Type 0} → List (List X) → Bool
 opens [] = true
-opens (g ∷ []) = not (has_room g)
+opens (g ∷ []) = not (group_has_room g)
 opens (g ∷ g' ∷ gs) = opens (g' ∷ gs)
 
 abbrev pub is_filled : {X : Type 0} → List X → Bool

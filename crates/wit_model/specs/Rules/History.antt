@@ -97,23 +97,24 @@ asked_site (Note l) (Some q) = q.site
 asked_site (NoteTry l m s) p = s
 asked_site _ _ = no_site
 
-abbrev pub turned : ℕ → Act → Mode → Mode
-turned l (Turns m new) old = if m == l then new else old
-turned l _ old = old
+-- in which mode lock l is held behind an act, and whether it must not be released, by what it was before
+abbrev pub turned_by : ℕ → Act → Mode → Mode
+turned_by l (Turns m new) old = if m == l then new else old
+turned_by l _ old = old
 
-abbrev pub marked : ℕ → Act → Bool → Bool
-marked l (Marks m new) old = if m == l then new else old
-marked l _ old = old
+abbrev pub marked_by : ℕ → Act → Bool → Bool
+marked_by l (Marks m new) old = if m == l then new else old
+marked_by l _ old = old
 
 -- the mode in which t holds l: that of its place, as turned since
 unfoldable pub mode : ℕ → ℕ → List Entry → Mode
 mode t l [] = Exclusive
-mode t l (e ∷ h) = if rises t l e h then asked_mode e.call (pending t h) else turned l (act_by t e) (mode t l h)
+mode t l (e ∷ h) = if rises t l e h then asked_mode e.call (pending t h) else turned_by l (act_by t e) (mode t l h)
 
 -- whether l must not be released: as marked since its place
 unfoldable pub mark : ℕ → ℕ → List Entry → Bool
 mark t l [] = false
-mark t l (e ∷ h) = if rises t l e h then false else marked l (act_by t e) (mark t l h)
+mark t l (e ∷ h) = if rises t l e h then false else marked_by l (act_by t e) (mark t l h)
 
 -- the site of t's latest recorded acquisition of l
 unfoldable pub site : ℕ → ℕ → List Entry → Site

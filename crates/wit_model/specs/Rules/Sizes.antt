@@ -15,7 +15,7 @@ abbrev pub sizes_of : ℕ → ℕ → ℕ → ℕ → ℕ → Sizes
 sizes_of s t l c n = record { seats = s; types = t; locks = l; chunks = c; log = n }
 
 -- each is at least 1, and at most what a verifier can hold
-pub record AreWithin (s : Sizes) : Type 0 where
+pub record AreWithinLimits (s : Sizes) : Type 0 where
   pub seats : IsNumber 256 s.seats
   pub types : IsNumber 1023 s.types
   pub locks : IsNumber 65536 s.locks
@@ -23,5 +23,5 @@ pub record AreWithin (s : Sizes) : Type 0 where
   pub log : IsNumber 16777216 s.log
 
 -- the test for it
-abbrev pub are_within : Sizes → Bool
-are_within s = is_number 256 s.seats && (is_number 1023 s.types && (is_number 65536 s.locks && (is_number 65536 s.chunks && is_number 16777216 s.log)))
+abbrev pub are_within_limits : Sizes → Bool
+are_within_limits s = is_number 256 s.seats && (is_number 1023 s.types && (is_number 65536 s.locks && (is_number 65536 s.chunks && is_number 16777216 s.log)))

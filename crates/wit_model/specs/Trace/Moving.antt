@@ -13,7 +13,7 @@ use Rattle.wit_model.specs.declared.lines.LockLine.TheVariants.{Step}
 use Rattle.wit_model.specs.declared.lines.Version.TheVariants.{One, Two}
 use Rattle.wit_model.specs.Rules.Files.{naming_answer, files_after}
 use Rattle.wit_model.specs.Rules.Numbers.{with_number}
-use Rattle.wit_model.specs.Rules.Sizes.{sizes_of, are_within}
+use Rattle.wit_model.specs.Rules.Sizes.{sizes_of, are_within_limits}
 use Rattle.wit_model.specs.Rules.Start.{start_fault}
 use Rattle.wit_model.specs.Rules.State.{Story, fresh}
 use Rattle.wit_model.specs.Rules.Step.{answer_of, grown}
@@ -93,7 +93,7 @@ keeps kept line (output.Bad cause) = Bad cause
 abbrev pub entered : Moving → ℕ → List ℕ → Line → Outcome
 entered Unmoved n bytes (Header One seats types locks chunks) =
     let sizes = sizes_of seats types locks chunks log_limit in
-    if are_within sizes
+    if are_within_limits sizes
     then Goes (Keeping (empty_prelude One sizes) []) (spelling (Header Two seats types locks chunks) ∷ [])
     else Bad why.Limit
 entered Unmoved n bytes (Header Two seats types locks chunks) = Bad why.Version

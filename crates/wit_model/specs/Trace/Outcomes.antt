@@ -17,7 +17,7 @@ use Rattle.wit_model.specs.declared.calls.Call.{Call}
 use Rattle.wit_model.specs.declared.calls.Reply.{Reply}
 use Rattle.wit_model.specs.Rules.Files.{naming_answer, files_after}
 use Rattle.wit_model.specs.Trace.Reading.{line_of}
-use Rattle.wit_model.specs.Rules.Sizes.{Sizes, sizes_of, are_within}
+use Rattle.wit_model.specs.Rules.Sizes.{Sizes, sizes_of, are_within_limits}
 use Rattle.wit_model.specs.Rules.Numbers.{with_number}
 use Rattle.wit_model.specs.Rules.Start.{start_fault}
 use Rattle.wit_model.specs.Rules.Assertions.{step_assert}
@@ -207,7 +207,7 @@ calls_in s n call = in_scene s (calls s.story n call)
 abbrev pub entered : Progress → ℕ → Line → Outcome
 entered Unstarted n (Header version seats types locks chunks) =
     let sizes = sizes_of seats types locks chunks log_limit in
-    if are_within sizes then Goes (Opening (empty_prelude version sizes)) [] else Bad why.Limit
+    if are_within_limits sizes then Goes (Opening (empty_prelude version sizes)) [] else Bad why.Limit
 entered (Opening p) n Profile = Goes (Opening (with_profile p)) []
 entered (Opening p) n (Order list) = Goes (Opening (with_list p n list)) []
 entered (Opening p) n (Bless first second) = Goes (Opening (with_pair p first second)) []

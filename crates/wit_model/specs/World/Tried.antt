@@ -10,8 +10,8 @@ use Rattle.wit_model.specs.Rules.State.{Start}
 use Rattle.wit_model.specs.World.Deeds.{Deed, TryTake}
 use Rattle.wit_model.specs.World.Examples.{small, by, at_line, makes, asks, locks, unlocks, reverses}
 
-abbrev pub all_held : Start
-all_held = record small { profile = AllHeld }
+abbrev pub small_all_held : Start
+small_all_held = record small { profile = AllHeld }
 
 -- t gets lock l by a try
 abbrev tries : ℕ → ℕ → ℕ → List Deed
