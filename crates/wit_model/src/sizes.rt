@@ -29,17 +29,32 @@ impl Model for Limits {
 }
 
 impl Limits {
+    /// The greatest number of seats.
+    pub const MOST_SEATS: u32 = 256;
+
+    /// The greatest number of lock types.
+    pub const MOST_TYPES: u32 = 1_023;
+
+    /// The greatest number of locks.
+    pub const MOST_LOCKS: u32 = 65_536;
+
+    /// The greatest number of chunks of held locks.
+    pub const MOST_CHUNKS: u32 = 65_536;
+
+    /// The greatest number of entries of the log.
+    pub const MOST_ENTRIES: u32 = 16_777_216;
+
     /// Limits with these numbers: `None` exactly where one is 0 or over its greatest value, which is
     /// 256 seats, 1,023 types, 65,536 locks, 65,536 chunks and 16,777,216 log entries.
     pub fn new(seats: u32, types: u32, locks: u32, chunks: u32, log: u32) -> Option<Limits>
         ensures within { IsSome result ↔ AreWithinLimits (sizes_of seats types locks chunks log) }
         ensures value { IfSome result (λ l. l ≡ sizes_of seats types locks chunks log) }
     {
-        let good = is_number(256, seats)
-            && is_number(1023, types)
-            && is_number(65536, locks)
-            && is_number(65536, chunks)
-            && is_number(16777216, log);
+        let good = is_number(Limits::MOST_SEATS, seats)
+            && is_number(Limits::MOST_TYPES, types)
+            && is_number(Limits::MOST_LOCKS, locks)
+            && is_number(Limits::MOST_CHUNKS, chunks)
+            && is_number(Limits::MOST_ENTRIES, log);
         if !good {
             return None;
         }

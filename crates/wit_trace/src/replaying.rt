@@ -32,9 +32,6 @@ use wit_model::{Cause, Limits, Line, View};
 use wit_world::World;
 use world_lines::{enter_world_line, step_on_lock};
 
-/// The log's limit in a replay.
-pub const LOG: u32 = 16_777_216;
-
 /// Reads a trace, and writes what the view shows of it: for `Reports` the texts of the reports, failed
 /// assertions and warnings as they come; for each other view its text after the whole trace. The reading ends at a bad
 /// line, of which its number and cause are written, for those other views nothing else.
@@ -214,7 +211,7 @@ impl Replaying {
         else {
             return Err(LineError::SYNTAX);
         };
-        let Some(limits) = Limits::new(seats, types, locks, chunks, LOG) else {
+        let Some(limits) = Limits::new(seats, types, locks, chunks, Limits::MOST_ENTRIES) else {
             return Err(LineError::Bad(Cause::Limit));
         };
         *self = Replaying::Opening(new_prelude(alloc, version, limits));

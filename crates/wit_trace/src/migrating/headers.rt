@@ -10,7 +10,6 @@ ghost use Rattle.wit_trace.specs.Migrates.{Enters, moved_to};
 
 use crate::migrating::Migrating;
 use crate::migrating::texts::one_line;
-use crate::replaying::LOG;
 use crate::replaying::prelude::new_prelude;
 use std::alloc::{AllocError, Global};
 use wit_grammar::{LineError, print_line};
@@ -40,7 +39,7 @@ pub fn start(alloc: Global, machine: &mut Migrating, line: Line) -> Result<Vec<u
     if version == Version::Two {
         return Err(LineError::Bad(Cause::Version));
     }
-    let Some(limits) = Limits::new(seats, types, locks, chunks, LOG) else {
+    let Some(limits) = Limits::new(seats, types, locks, chunks, Limits::MOST_ENTRIES) else {
         return Err(LineError::Bad(Cause::Limit));
     };
     let text = second_header(alloc, seats, types, locks, chunks)?;
