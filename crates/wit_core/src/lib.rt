@@ -7,7 +7,6 @@ mod circle;
 mod defining;
 mod known;
 mod list_faults;
-mod lists;
 mod log;
 mod names;
 mod orders;
@@ -15,8 +14,9 @@ mod questions;
 mod readers;
 mod ready;
 mod seats;
+mod static_lists;
 mod verifier;
 
 pub use circle::circle_in;
-pub use lists::StartError;
+pub use static_lists::StartError;
 pub use verifier::Verifier;

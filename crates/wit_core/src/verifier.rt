@@ -13,10 +13,10 @@ ghost use Rattle.wit_matrix.specs.Relation.{OrdersAmong};
 ghost use Rattle.wit_core.specs.Fresh.{start_of};
 
 use crate::known::Known;
-use crate::lists::StartError;
 use crate::log::Log;
 use crate::ready::Ready;
 use crate::seats::Seats;
+use crate::static_lists::StartError;
 use std::alloc::Global;
 use std::marker::Model;
 use wit_model::{Adoption, Class, Entry, Fault, FileNo, Limits, Profile, Watch};

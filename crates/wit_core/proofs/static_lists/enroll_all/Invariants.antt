@@ -1,7 +1,7 @@
 use Rattle.std.proofs.Common.{◌≡◌, drop}
 use Rattle.wit_model.specs.Rules.Types.{enrolled_all}
 use Rattle.wit_core.specs.Listed.{listed, CanBeEnrolled, KeepsRest}
-use Rattle.wit_core.proofs.lists.enroll_all.Given as goal
+use Rattle.wit_core.proofs.static_lists.enroll_all.Given as goal
 
 abbrev pub invariant-loop-entry : goal.invariant-loop-entry
 invariant-loop-entry l = record {

@@ -1,7 +1,7 @@
 use Rattle.std.proofs.Common.{arith}
 use Rattle.std.proofs.lemmas.Result.{err_from_is_err_and}
 use Rattle.wit_core.proofs.Enrolling.{no-refusal, can-step, types-step, rest-step}
-use Rattle.wit_core.proofs.lists.enroll_all.Goals as goal
+use Rattle.wit_core.proofs.static_lists.enroll_all.Goals as goal
 
 pub loop-entry-preserved : goal.loop-entry-preserved
 loop-entry-preserved c =

@@ -1,7 +1,7 @@
 use Rattle.std.proofs.Common.{◌≡◌, ◌++◌, drop}
 use Rattle.wit_model.specs.Rules.Start.{has_bad_pair}
 use Rattle.wit_core.specs.Listed.{pairs_of}
-use Rattle.wit_core.proofs.lists.bless_each.Given as goal
+use Rattle.wit_core.proofs.static_lists.bless_each.Given as goal
 
 abbrev pub invariant-loop-pair : goal.invariant-loop-pair
 invariant-loop-pair l = record {

@@ -1,7 +1,7 @@
 use Rattle.std.proofs.Common.{◌≡◌, ◌-◌, drop}
 use Rattle.wit_model.specs.Rules.Orders.{listed_pairs}
 use Rattle.wit_core.specs.Listed.{listed, CanBeAdopted}
-use Rattle.wit_core.proofs.lists.adopt_all.Given as goal
+use Rattle.wit_core.proofs.static_lists.adopt_all.Given as goal
 
 abbrev pub invariant-loop-place : goal.invariant-loop-place
 invariant-loop-place l = record {

@@ -3,7 +3,7 @@ use Rattle.wit_core.specs.Ordering.{Ordering}
 use Rattle.wit_model.specs.declared.calls.Adoption.{Adoption}
 use Rattle.wit_core.proofs.Listing.{adopt-step, adopt-end}
 use Rattle.wit_core.proofs.Enrolling.{follows-at, adopts-step, orders-alone}
-use Rattle.wit_core.proofs.lists.adopt_all.Goals as goal
+use Rattle.wit_core.proofs.static_lists.adopt_all.Goals as goal
 
 pub adopt_once-requires : goal.adopt_once-requires
 adopt_once-requires c =
