@@ -25,7 +25,7 @@ use Rattle.wit_held.specs.Chains.{is_other, change_lock, recursed, fewer, record
 use Rattle.wit_held.specs.Chains as held
 use Rattle.wit_core.specs.Acquiring.{taken}
 use Rattle.wit_core.specs.Held.{numbers, seat_view}
-use Rattle.wit_core.specs.Seats.{Seat, asking, acquired, released, chunks_of}
+use Rattle.wit_core.specs.Seats.{Holdings, asking, having_acquired, having_released, chunks_of}
 
 abbrev number : Instance → ℕ
 number i = i.lock.0
@@ -114,11 +114,11 @@ abbrev pub seat : List Instance → List Instance → List (List ℕ) → List (
 seat sleep spin sleep_groups spin_groups p = record { sleep = sleep; spin = spin; sleep_groups = sleep_groups; spin_groups = spin_groups; pending = p }
 
 -- a seat that acquired a lock of its kind
-pub acquired-view : (ls : List NewLock) (l : LockNo) (m : Mode) (site : Site) (p : Option Request) (spin : Bool) (s : Seat) → spin ≡ is_spin_lock ls l.0
-    → seat_view (asking p (acquired spin (taken l m site) s)) ≡ chains.acquired ls l.0 m site p (seat_view s)
+pub acquired-view : (ls : List NewLock) (l : LockNo) (m : Mode) (site : Site) (p : Option Request) (spin : Bool) (s : Holdings) → spin ≡ is_spin_lock ls l.0
+    → seat_view (asking p (having_acquired spin (taken l m site) s)) ≡ chains.acquired ls l.0 m site p (seat_view s)
 acquired-view ls l m site p spin s kind = by spin ∙ ap (form s) kind
   where
-    form : Seat → Bool → model.Seat
+    form : Holdings → Bool → model.Seat
     form r b = seat
         (cond (not b) (noted l.0 m site (flat r.sleep) (find (is_of l.0) (flat r.sleep))) (flat r.sleep))
         (cond b (noted l.0 m site (flat r.spin) (find (is_of l.0) (flat r.spin))) (flat r.spin))
@@ -126,14 +126,14 @@ acquired-view ls l m site p spin s kind = by spin ∙ ap (form s) kind
         (cond b (entered l.0 (numbers r.spin) (find (is_of l.0) (flat r.spin))) (numbers r.spin))
         p
 
-    by : (b : Bool) → seat_view (asking p (acquired b (taken l m site) s)) ≡ form s b
+    by : (b : Bool) → seat_view (asking p (having_acquired b (taken l m site) s)) ≡ form s b
     by true = ap₂ (λ c gs. seat (flat s.sleep) c (numbers s.sleep) gs p)
         (flat-recorded l m site s.spin (find (is_of l.0) (flat s.spin))) (numbers-recorded l m site s.spin (find (is_of l.0) (flat s.spin)))
     by false = ap₂ (λ c gs. seat c (flat s.spin) gs (numbers s.spin) p)
         (flat-recorded l m site s.sleep (find (is_of l.0) (flat s.sleep))) (numbers-recorded l m site s.sleep (find (is_of l.0) (flat s.sleep)))
 
 -- a seat that released a lock of its kind
-abbrev unlocked_form : ℕ → Seat → Bool → model.Seat
+abbrev unlocked_form : ℕ → Holdings → Bool → model.Seat
 unlocked_form l r b = seat
     (cond (not b) (unlocked l (flat r.sleep) (find (is_of l) (flat r.sleep))) (flat r.sleep))
     (cond b (unlocked l (flat r.spin) (find (is_of l) (flat r.spin))) (flat r.spin))
@@ -141,18 +141,18 @@ unlocked_form l r b = seat
     (cond b (withdrawn l (numbers r.spin) (find (is_of l) (flat r.spin))) (numbers r.spin))
     r.pending
 
-pub released-view : (ls : List NewLock) (l : ℕ) (spin : Bool) (s : Seat) → spin ≡ is_spin_lock ls l
-    → seat_view (released spin l s) ≡ unlocked_form l s (is_spin_lock ls l)
+pub released-view : (ls : List NewLock) (l : ℕ) (spin : Bool) (s : Holdings) → spin ≡ is_spin_lock ls l
+    → seat_view (having_released spin l s) ≡ unlocked_form l s (is_spin_lock ls l)
 released-view ls l spin s kind = by spin ∙ ap (unlocked_form l s) kind
   where
-    by : (b : Bool) → seat_view (released b l s) ≡ unlocked_form l s b
+    by : (b : Bool) → seat_view (having_released b l s) ≡ unlocked_form l s b
     by true = ap₂ (λ c gs. seat (flat s.sleep) c (numbers s.sleep) gs s.pending)
         (flat-forgotten l s.spin (find (is_of l) (flat s.spin))) (numbers-forgotten l s.spin (find (is_of l) (flat s.spin)))
     by false = ap₂ (λ c gs. seat c (flat s.spin) gs (numbers s.spin) s.pending)
         (flat-forgotten l s.sleep (find (is_of l) (flat s.sleep))) (numbers-forgotten l s.sleep (find (is_of l) (flat s.sleep)))
 
 -- the chunks of all seats
-pub chunks-viewed : (ss : List Seat) → sum_by model.chunks_of (map seat_view ss) ≡ sum_by chunks_of ss
+pub chunks-viewed : (ss : List Holdings) → sum_by model.chunks_of (map seat_view ss) ≡ sum_by chunks_of ss
 chunks-viewed [] = refl
 chunks-viewed (s ∷ ss) =
     let a = sum_by-cons model.chunks_of (seat_view s) (map seat_view ss) in

@@ -19,7 +19,7 @@ use Rattle.wit_matrix.specs.Relation.{OrdersAmong}
 use Rattle.wit_core.specs.declared.verifier.Verifier.TheInside.{Inside}
 use Rattle.wit_core.specs.Known.{Facts}
 use Rattle.wit_core.specs.Held.{seat_view}
-use Rattle.wit_core.specs.Seats.{Row}
+use Rattle.wit_core.specs.Seats.{Seating}
 use Rattle.wit_core.proofs.Steps.{state, same_state}
 use Rattle.wit_core.specs.Journal.{Journal}
 use Rattle.wit_core.specs.Kept.{IsTied, start_in, history_in, story_in, state_in}
@@ -38,16 +38,16 @@ pub seat_in_range : (v : Inside) (t : ℕ) (call : Call) (r : Reply) → IsTied 
 seat_in_range v t call r k ok = seat-within (start_in v) v.known.files (history_in v) t (seat_accepted (state_of (story_in v)) t call r ok)
 
 -- a verifier with these parts, for which no call is prepared
-abbrev pub with_parts : Inside → Facts → Row → Watch → Journal → Inside
+abbrev pub with_parts : Inside → Facts → Seating → Watch → Journal → Inside
 with_parts v known seats watch log = record v { known = known; seats = seats; watch = watch; log = log; ready = None }
 
 -- what an accepted call leaves: this is known, these locks are live, the seats are these, so much is watched, and so much is owed
-pub record Leaves (v : Inside) (t : ℕ) (call : Call) (reply : Reply) (known : Known) (live : List Bool) (row : Row) (watch : Watch) (owes : ℕ) : Type 0 where
-  pub state : state v.limits v.profile (length v.known.files) known (destroyed_of (entry t call reply ∷ history_in v)) (map seat_view row.seats) watch (length (history_in v) + 1)
+pub record Leaves (v : Inside) (t : ℕ) (call : Call) (reply : Reply) (known : Known) (live : List Bool) (seating : Seating) (watch : Watch) (owes : ℕ) : Type 0 where
+  pub state : state v.limits v.profile (length v.known.files) known (destroyed_of (entry t call reply ∷ history_in v)) (map seat_view seating.seats) watch (length (history_in v) + 1)
       ≡ state_of (story_after (start_in v) v.known.files (entry t call reply ∷ history_in v))
   pub flags : live ≡ live_flags (length known.locks) (destroyed_of (entry t call reply ∷ history_in v))
-  pub owed : owes ≡ sum_by owed_by (map seat_view row.seats)
-  pub chunks : row.chunks ≡ v.seats.chunks
+  pub owed : owes ≡ sum_by owed_by (map seat_view seating.seats)
+  pub chunks : seating.chunks ≡ v.seats.chunks
 
 -- a log that was given room, and then an entry
 pub log_after : (old room new : Journal) (e : Entry) (more spare : ℕ) → room ≡ record old { spare = room.spare }
@@ -74,9 +74,9 @@ story start files h = record { start = start; history = h; files = files; ready 
 pub same_story : (s s' : Start) (f f' : List (List ℕ)) (h h' : List Entry) → s ≡ s' → f ≡ f' → h ≡ h' → story s f h ≡ story s' f' h'
 same_story s s' f f' h h' es ef eh = ap (λ x. story x f h) es ∙ (ap (λ x. story s' x h) ef ∙ ap (λ x. story s' f' x) eh)
 
-module _ (v : Inside) (t : ℕ) (call : Call) (reply : Reply) (known : Known) (live : List Bool) (row : Row) (watch : Watch) (owes : ℕ) (new_known : Facts) (new_seats : Row) (new_watch : Watch) (new_log : Journal) (spare : ℕ) {room : ℕ}
-    (left : Leaves v t call reply known live row watch owes)
-    (knows : new_known ≡ record v.known { known = known; live = live; spare = room }) (rows : new_seats ≡ row) (watches : new_watch ≡ watch)
+module _ (v : Inside) (t : ℕ) (call : Call) (reply : Reply) (known : Known) (live : List Bool) (seating : Seating) (watch : Watch) (owes : ℕ) (new_known : Facts) (new_seats : Seating) (new_watch : Watch) (new_log : Journal) (spare : ℕ) {room : ℕ}
+    (left : Leaves v t call reply known live seating watch owes)
+    (knows : new_known ≡ record v.known { known = known; live = live; spare = room }) (rows : new_seats ≡ seating) (watches : new_watch ≡ watch)
     (log : new_log ≡ record v.log { history = entry t call reply ∷ v.log.history; owed = owes; spare = spare }) where
   -- the verifier is seen as its story with the entry
   pub story_entered : story_in (with_parts v new_known new_seats new_watch new_log) ≡ logged (story_in v) t call reply
@@ -90,9 +90,9 @@ module _ (v : Inside) (t : ℕ) (call : Call) (reply : Reply) (known : Known) (l
   pub kept_entered : IsTied v → is_logged reply ≡ true → answer_of (story_in v) t call ≡ Ok reply → IsTied (with_parts v new_known new_seats new_watch new_log)
   kept_entered k kept ok =
       let same = story_entered in
-      let seats : map seat_view new_seats.seats ≡ map seat_view row.seats = ap (λ (r : Row). map seat_view r.seats) rows in
+      let seats : map seat_view new_seats.seats ≡ map seat_view seating.seats = ap (λ (r : Seating). map seat_view r.seats) rows in
       let here : state_in (with_parts v new_known new_seats new_watch new_log)
-      ≡ state v.limits v.profile (length v.known.files) known (destroyed_of (entry t call reply ∷ history_in v)) (map seat_view row.seats) watch (length (history_in v) + 1) =
+      ≡ state v.limits v.profile (length v.known.files) known (destroyed_of (entry t call reply ∷ history_in v)) (map seat_view seating.seats) watch (length (history_in v) + 1) =
       same_state v.limits v.profile _ _ _ _ _ _ _ _ _ _ _ _ (ap (λ (f : Facts). length f.files) knows) (ap (λ (f : Facts). f.known) knows)
       (ap (λ (l : Journal). destroyed_of l.history) log) seats watches
       (ap (λ (l : Journal). length l.history) log ∙ omega arith) in
@@ -105,7 +105,7 @@ module _ (v : Inside) (t : ℕ) (call : Call) (reply : Reply) (known : Known) (l
         owed = ap (λ (l : Journal). l.owed) log ∙ left.owed ∙ ap (sum_by owed_by) (sym seats);
         limit = ap (λ (l : Journal). l.limit) log ∙ k.limit;
         types = ap (λ (f : Facts). f.most_types) knows ∙ k.types;
-        chunks = ap (λ (r : Row). r.chunks) rows ∙ left.chunks ∙ k.chunks;
+        chunks = ap (λ (r : Seating). r.chunks) rows ∙ left.chunks ∙ k.chunks;
         ready = tt;
       }
 

@@ -23,24 +23,24 @@ use Rattle.wit_core.specs.declared.acquiring.Acquisition.TheVariants.{Recorded, 
 use Rattle.wit_core.specs.Acquiring.{acquisition, reply_to}
 use Rattle.wit_core.specs.Held.{numbers, seat_view}
 use Rattle.wit_core.specs.Kept.{IsTied, start_in, history_in, story_in, state_in}
-use Rattle.wit_core.specs.Seats.{Seat, Row, no_seat, seat_in, locks_in, free_in, has_no_room}
+use Rattle.wit_core.specs.Seats.{Holdings, Seating, no_holdings, seat_in, locks_in, free_in, has_no_room}
 use Rattle.wit_core.specs.Seats as seats
 use Rattle.wit_core.proofs.HeldSeats.{opens-numbers, chunks-viewed, stands-filter}
 use Rattle.wit_core.proofs.Living.{count-told, flag-is}
 use Rattle.wit_core.specs.Live.{is_flagged, live_count, live_told}
 
 -- a row's seats as the rules see them
-abbrev pub view_at : Row → ℕ → model.Seat
-view_at row t = seat_among (map seat_view row.seats) t
+abbrev pub view_at : Seating → ℕ → model.Seat
+view_at seating t = seat_among (map seat_view seating.seats) t
 
-pub view-is : (row : Row) (t : ℕ) → view_at row t ≡ seat_view (seat_in row t)
-view-is row t = with_number-or-map seat_view row.seats t no_seat
+pub view-is : (seating : Seating) (t : ℕ) → view_at seating t ≡ seat_view (seat_in seating t)
+view-is seating t = with_number-or-map seat_view seating.seats t no_holdings
 
-chain-in : (spin : Bool) (s : Seat) → chain_in spin (seat_view s) ≡ locks_in spin s
+chain-in : (spin : Bool) (s : Holdings) → chain_in spin (seat_view s) ≡ locks_in spin s
 chain-in true s = refl
 chain-in false s = refl
 
-groups-in : (spin : Bool) (s : Seat) → groups_in spin (seat_view s) ≡ numbers (seats.groups_in spin s)
+groups-in : (spin : Bool) (s : Holdings) → groups_in spin (seat_view s) ≡ numbers (seats.groups_in spin s)
 groups-in true s = refl
 groups-in false s = refl
 
@@ -132,7 +132,7 @@ module _ (v : Inside) (k : IsTied v) (s : Story) (seen : story_in v ≡ s) where
         (ap₂ (λ o n. o && eqb n 0) (sym (opens-numbers (seats.groups_in spin (seat_in v.seats t))) ∙ ap opens groups-now) free-told)
 
 -- a property of some seat, as the rules see it
-pub any-viewed : (has : model.Seat → Bool) (ss : List Seat) → list_any (λ s. has (seat_view s)) ss ≡ list_any has (map seat_view ss)
+pub any-viewed : (has : model.Seat → Bool) (ss : List Holdings) → list_any (λ s. has (seat_view s)) ss ≡ list_any has (map seat_view ss)
 any-viewed has [] = refl
 any-viewed has (s ∷ ss) = ap (λ b. has (seat_view s) || b) (any-viewed has ss)
 

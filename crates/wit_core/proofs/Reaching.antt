@@ -12,7 +12,7 @@ use Rattle.wit_model.specs.declared.locks.SeatNo.{SeatNo}
 use Rattle.wit_model.specs.Rules.Numbers.{with_number, IsNumber}
 use Rattle.wit_model.proofs.Numbered.{with_number-or}
 use Rattle.wit_core.specs.declared.circle.Reached.{Reached}
-use Rattle.wit_core.specs.Searching.{is_marked, rows_of, says, Says, IsTable, nobody, seat_in, next_in, IsTrail, one_if_not, IsSearch, IsLater, AreMarked, Reaches}
+use Rattle.wit_core.specs.Searching.{is_marked, rows_of, says, Says, IsTable, nobody, seat_reached, next_reached, IsTrail, one_if_not, IsSearch, IsLater, AreMarked, Reaches}
 
 -- ---- marks
 
@@ -113,7 +113,7 @@ begun rows first r seat number =
       trail = record {
         some = omega arith;
         start = seat;
-        seats = λ i within. let zero : 0 ≡ i = omega (arith, within) in subst (λ k. IsNumber n (seat_in (r ∷ []) k)) zero (subst (IsNumber n) (sym seat) number);
+        seats = λ i within. let zero : 0 ≡ i = omega (arith, within) in subst (λ k. IsNumber n (seat_reached (r ∷ []) k)) zero (subst (IsNumber n) (sym seat) number);
         greater = λ i some within. absurd (omega (arith, some, within));
         earlier = λ i some within. absurd (omega (arith, some, within));
         waits = λ i some within. absurd (omega (arith, some, within));
@@ -140,21 +140,21 @@ begins rows first reached r seen marks number seat is blank marked =
 -- ---- one more seat is reached
 
 module _ (rows : List (List Bool)) (first : ℕ) (reached : List Reached) (seen : List Bool) (s : IsSearch rows first reached seen) (place : ℕ) (at : place < length reached) (r : Reached) (i : ℕ)
-    (seat : r.seat.0 ≡ i + 1) (next : r.next ≡ place) (behind : first ≤ i) (within : i < length rows) (unseen : get_or seen i false ≡ false) (waits : Says rows (i + 1) (seat_in reached place)) where
+    (seat : r.seat.0 ≡ i + 1) (next : r.next ≡ place) (behind : first ≤ i) (within : i < length rows) (unseen : get_or seen i false ≡ false) (waits : Says rows (i + 1) (seat_reached reached place)) where
   more : length (reached ++ r ∷ []) ≡ length reached + 1
   more = length-append reached (r ∷ [])
 
-  same-seat : (j : ℕ) → j < length reached → seat_in (reached ++ r ∷ []) j ≡ seat_in reached j
+  same-seat : (j : ℕ) → j < length reached → seat_reached (reached ++ r ∷ []) j ≡ seat_reached reached j
   same-seat j lt = ap (λ (x : Reached). x.seat.0) (get_or_append_left reached (r ∷ []) nobody j lt)
 
-  same-next : (j : ℕ) → j < length reached → next_in (reached ++ r ∷ []) j ≡ next_in reached j
+  same-next : (j : ℕ) → j < length reached → next_reached (reached ++ r ∷ []) j ≡ next_reached reached j
   same-next j lt = ap (λ (x : Reached). x.next) (get_or_append_left reached (r ∷ []) nobody j lt)
 
-  new-seat : (j : ℕ) → j ≡ length reached → seat_in (reached ++ r ∷ []) j ≡ i + 1
-  new-seat j e = ap (seat_in (reached ++ r ∷ [])) e ∙ ap (λ (x : Reached). x.seat.0) (get_or-append_seam reached r [] nobody) ∙ seat
+  new-seat : (j : ℕ) → j ≡ length reached → seat_reached (reached ++ r ∷ []) j ≡ i + 1
+  new-seat j e = ap (seat_reached (reached ++ r ∷ [])) e ∙ ap (λ (x : Reached). x.seat.0) (get_or-append_seam reached r [] nobody) ∙ seat
 
-  new-next : (j : ℕ) → j ≡ length reached → next_in (reached ++ r ∷ []) j ≡ place
-  new-next j e = ap (next_in (reached ++ r ∷ [])) e ∙ ap (λ (x : Reached). x.next) (get_or-append_seam reached r [] nobody) ∙ next
+  new-next : (j : ℕ) → j ≡ length reached → next_reached (reached ++ r ∷ []) j ≡ place
+  new-next j e = ap (next_reached (reached ++ r ∷ [])) e ∙ ap (λ (x : Reached). x.next) (get_or-append_seam reached r [] nobody) ∙ next
 
   older : (j : ℕ) → j < length (reached ++ r ∷ []) → (j ≡ length reached → ⊥) → j < length reached
   older j lt apart = omega (arith, more, lt, apart)
@@ -180,10 +180,10 @@ module _ (rows : List (List Bool)) (first : ℕ) (reached : List Reached) (seen 
         ];
     waits =
         λ j some lt. elim (cases_eq j (length reached)) [
-          | inl e ↦ ap₂ (says rows) (new-seat j e) (ap (seat_in (reached ++ r ∷ [])) (new-next j e) ∙ same-seat place at) ∙ waits
+          | inl e ↦ ap₂ (says rows) (new-seat j e) (ap (seat_reached (reached ++ r ∷ [])) (new-next j e) ∙ same-seat place at) ∙ waits
           | inr apart ↦ let lower = s.trail.earlier j some (older j lt apart) in
               ap₂ (says rows) (same-seat j (older j lt apart))
-              (ap (seat_in (reached ++ r ∷ [])) (same-next j (older j lt apart)) ∙ same-seat (next_in reached j) (omega (arith, lower, older j lt apart)))
+              (ap (seat_reached (reached ++ r ∷ [])) (same-next j (older j lt apart)) ∙ same-seat (next_reached reached j) (omega (arith, lower, older j lt apart)))
               ∙ s.trail.waits j some (older j lt apart)
         ];
   }
@@ -215,26 +215,26 @@ module _ (rows : List (List Bool)) (first : ℕ) (reached : List Reached) (seen 
 
 -- one more is looked at
 module _ (rows : List (List Bool)) (first place n : ℕ) (reached later : List Reached) (seen marks : List Bool) (r : Reaches rows first place n reached later seen marks) where
-  all-more : (next : List Bool) → ((t : ℕ) → is_marked marks t ≡ true → is_marked next t ≡ true) → (Says rows (n + 1) (seat_in reached place) → is_marked next (n + 1) ≡ true)
-      → AreMarked rows first (n + 1) (seat_in reached place) next
+  all-more : (next : List Bool) → ((t : ℕ) → is_marked marks t ≡ true → is_marked next t ≡ true) → (Says rows (n + 1) (seat_reached reached place) → is_marked next (n + 1) ≡ true)
+      → AreMarked rows first (n + 1) (seat_reached reached place) next
   all-more next stays own =
       λ t above below is. elim (cases_eq t (n + 1)) [
-        | inl e ↦ subst (λ k. is_marked next k ≡ true) (sym e) (own (subst (λ k. Says rows k (seat_in reached place)) e is))
+        | inl e ↦ subst (λ k. is_marked next k ≡ true) (sym e) (own (subst (λ k. Says rows k (seat_reached reached place)) e is))
         | inr apart ↦ stays t (r.all t above (omega (arith, below, apart)) is)
       ]
 
   -- it was marked before, or it doesn't wait
-  pub reaches_same : (Says rows (n + 1) (seat_in reached place) → is_marked marks (n + 1) ≡ true) → Reaches rows first place (n + 1) reached later seen marks
+  pub reaches_same : (Says rows (n + 1) (seat_reached reached place) → is_marked marks (n + 1) ≡ true) → Reaches rows first place (n + 1) reached later seen marks
   reaches_same own = record { search = r.search; keeps = r.keeps; all = all-more marks (λ t is. is) own }
 
   pub marked-seen : get_or marks n false ≡ true → is_marked marks (n + 1) ≡ true
   marked-seen is = let place : n + 1 - 1 ≡ n = omega arith in marked-at marks (n + 1) (omega arith) ∙ ap (λ k. get_or marks k false) place ∙ is
 
   pub reaches_more : (x : Reached) → place < length reached → x.seat.0 ≡ n + 1 → x.next ≡ place → first ≤ n → n < length rows → get_or marks n false ≡ false
-      → Says rows (n + 1) (seat_in reached place) → Reaches rows first place (n + 1) reached (later ++ x ∷ []) seen (set marks n true)
+      → Says rows (n + 1) (seat_reached reached place) → Reaches rows first place (n + 1) reached (later ++ x ∷ []) seen (set marks n true)
   reaches_more x at seat next behind within unseen waits =
       let there : place < length later = omega (arith, r.keeps.longer, at) in
-      let goal : Says rows (n + 1) (seat_in later place) = ap (says rows (n + 1)) (r.keeps.same place at) ∙ waits in
+      let goal : Says rows (n + 1) (seat_reached later place) = ap (says rows (n + 1)) (r.keeps.same place at) ∙ waits in
       let more = later_more rows first later marks r.search place there x n seat next behind within unseen goal in
       let long : length reached ≤ length (later ++ x ∷ []) = omega (arith, more.longer, r.keeps.longer) in
       record {
@@ -252,7 +252,7 @@ pub reached-few : (rows : List (List Bool)) (first : ℕ) (reached : List Reache
 reached-few rows first reached seen s = omega (arith, s.left, s.size)
 
 -- what is read at a place
-pub seat-read : (reached : List Reached) (place : ℕ) (x : Reached) → place < length reached → x ≡ get_or reached place x → x.seat.0 ≡ seat_in reached place
+pub seat-read : (reached : List Reached) (place : ℕ) (x : Reached) → place < length reached → x ≡ get_or reached place x → x.seat.0 ≡ seat_reached reached place
 seat-read reached place x lt read = ap (λ (r : Reached). r.seat.0) (get_or_read reached place x lt read nobody)
 
 -- what the table doesn't say has any outcome

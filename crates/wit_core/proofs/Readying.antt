@@ -19,7 +19,7 @@ use Rattle.wit_matrix.specs.Relation.{OrdersAmong}
 use Rattle.wit_core.specs.declared.ready.Ready.{Ready}
 use Rattle.wit_core.specs.declared.verifier.Verifier.TheInside.{Inside}
 use Rattle.wit_core.specs.Kept.{IsReady, IsTied, story_in}
-use Rattle.wit_core.specs.Plans.{call_of, named}
+use Rattle.wit_core.specs.Plans.{call_of, planned}
 use Rattle.wit_core.proofs.Keeping.{orders_within}
 
 same_pair : (p q : ℕ × Call) → ◌≡◌ {A = Option (ℕ × Call)} (Some p) (Some q) → p ≡ q
@@ -30,10 +30,10 @@ module _ (v : Inside) (k : IsTied v) (s : Story) (seen : story_in v ≡ s) (r : 
   is_ready = subst (λ (o : Option Ready). IfSome o (IsReady v)) there k.ready
 
   module _ (t : ℕ) (call : Call) (asked : IsPrepared s t call) where
-    same_call : named r ≡ (t, call)
+    same_call : planned r ≡ (t, call)
     same_call =
-        same_pair (named r) (t, call)
-        (sym (ap (λ (o : Option Ready). option_map named o) there) ∙ (ap (λ (x : Story). x.ready) seen ∙ asked))
+        same_pair (planned r) (t, call)
+        (sym (ap (λ (o : Option Ready). option_map planned o) there) ∙ (ap (λ (x : Story). x.ready) seen ∙ asked))
 
     pub ready_answer : answer_of s t call ≡ Ok r.reply
     ready_answer =

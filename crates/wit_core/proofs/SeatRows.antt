@@ -14,8 +14,8 @@ use Rattle.wit_model.specs.Rules.Numbers.{is_given, IsGiven}
 use Rattle.wit_model.specs.Rules.Verdict.{is_of}
 use Rattle.wit_model.proofs.Numbered.{with_number-or, with_number-none}
 use Rattle.wit_held.specs.Chains.{recorded, forgotten, is_unrecorded, after_record, after_forget}
-use Rattle.wit_core.specs.Seats.{Seat, Row, no_seat, idle_row, seat_in, groups_in, locks_in, chunks_of, free_in, with_seat, asking, in_groups, acquired, released, has_no_room, after_acquired, HoldFor}
-use Rattle.wit_core.specs.Seated.{seat_by, seats_by, row_in, AreSeated}
+use Rattle.wit_core.specs.Seats.{Holdings, Seating, no_holdings, idle_seating, seat_in, groups_in, locks_in, chunks_of, free_in, with_seat, asking, in_groups, having_acquired, having_released, has_no_room, after_acquired, HoldFor}
+use Rattle.wit_core.specs.Seated.{seat_by, seats_by, seating_in, AreSeated}
 use Rattle.wit_core.specs.declared.seats.Seats.TheInside.{Inside}
 
 -- lists that differ at one place
@@ -52,7 +52,7 @@ lists-apart t u false false some some' other e = other (omega (arith, e, some, s
 kinds-apart : (t : ℕ) → 0 < t → list_of true t - 1 ≡ list_of false t - 1 → ⊥
 kinds-apart t some e = omega (arith, e, some)
 
-abbrev seat_with : List (List Instance) → List (List Instance) → Option Request → Seat
+abbrev seat_with : List (List Instance) → List (List Instance) → Option Request → Holdings
 seat_with sleep spin p = record { sleep = sleep; spin = spin; pending = p }
 
 module _ (c : Chunks) (ps : List (Option Request)) where
@@ -62,7 +62,7 @@ module _ (c : Chunks) (ps : List (Option Request)) where
   pub given-by : (t : ℕ) → IsGiven (seats_by c ps) t → IsGiven ps t
   given-by t given = (given.0, omega (arith, given.1, seats-count))
 
-  pub seat-is : (t : ℕ) → IsGiven (seats_by c ps) t → (d : Seat) → get_or (seats_by c ps) (t - 1) d ≡ seat_by c ps t
+  pub seat-is : (t : ℕ) → IsGiven (seats_by c ps) t → (d : Holdings) → get_or (seats_by c ps) (t - 1) d ≡ seat_by c ps t
   seat-is t given d =
       let g = given-by t given in
       get_or-map-range_with_len (seat_by c ps) 1 (length ps) (t - 1) t d (omega (arith, g.0, g.1)) (omega (arith, g.0))
@@ -80,7 +80,7 @@ module _ (c : Chunks) (ps : List (Option Request)) where
 
   -- a request is written
   pub request-set : (t : ℕ) (p : Option Request) → IsGiven (seats_by c ps) t
-      → seats_by c (set ps (t - 1) p) ≡ set (seats_by c ps) (t - 1) (asking p (get_or (seats_by c ps) (t - 1) no_seat))
+      → seats_by c (set ps (t - 1) p) ≡ set (seats_by c ps) (t - 1) (asking p (get_or (seats_by c ps) (t - 1) no_holdings))
   request-set t p given =
       let g = given-by t given in
       seats-one c (set ps (t - 1) p) t g (length-set ps (t - 1) p)
@@ -88,7 +88,7 @@ module _ (c : Chunks) (ps : List (Option Request)) where
       (get_or-set_other ps (t - 1) (u - 1) p None (λ (e : u - 1 ≡ t - 1). other (omega (arith, e, some, g.0)))))
       ∙ ap (set (seats_by c ps) (t - 1))
       (ap (seat_with (groups_of c (list_of false t)) (groups_of c (list_of true t))) (get_or-set_same ps (t - 1) p None (omega (arith, g.0, g.1)))
-      ∙ ap (asking p) (sym (seat-is t given no_seat)))
+      ∙ ap (asking p) (sym (seat-is t given no_holdings)))
 
   module _ (pair : length c.groups ≡ 2 * length ps) where
     pub list-given : (t : ℕ) (spin : Bool) → IsGiven (seats_by c ps) t → IsList c (list_of spin t)
@@ -146,9 +146,9 @@ module _ (c : Chunks) (ps : List (Option Request)) where
         omega (arith, sum, all)
 
 -- what a method reads, by what its caller sees
-module _ (o : Inside) (r : Row) (seen : row_in o ≡ r) where
+module _ (o : Inside) (r : Seating) (seen : seating_in o ≡ r) where
   pub count-now : length r.seats ≡ length o.requests.items
-  count-now = sym (ap (λ (x : Row). length x.seats) seen) ∙ seats-count o.lists o.requests.items
+  count-now = sym (ap (λ (x : Seating). length x.seats) seen) ∙ seats-count o.lists o.requests.items
 
   pub is_seat-now : (t n : ℕ) → n ≡ length o.requests.items → 0 < t → nat_le t n ≡ is_given r.seats t
   is_seat-now t n len some = sym (ap (λ m. nat_lt 0 t && nat_le t m) (count-now ∙ sym len) ∙ ap (λ b. b && nat_le t n) (lt-ltb 0 t some))
@@ -161,11 +161,11 @@ module _ (o : Inside) (r : Row) (seen : row_in o ≡ r) where
       (omega (arith, some), omega (arith, within))
 
   pub no_request-now : (t : ℕ) → is_given r.seats t ≡ false → None ≡ (seat_in r t).pending
-  no_request-now t none = sym (ap (λ (s : Option Seat). (unwrap_or s no_seat).pending) (with_number-none r.seats t none))
+  no_request-now t none = sym (ap (λ (s : Option Holdings). (unwrap_or s no_holdings).pending) (with_number-none r.seats t none))
 
   module _ (k : AreSeated o) (t : ℕ) (given : IsGiven r.seats t) where
     given-in : IsGiven (seats_by o.lists o.requests.items) t
-    given-in = subst (λ (x : Row). IsGiven x.seats t) (sym seen) given
+    given-in = subst (λ (x : Seating). IsGiven x.seats t) (sym seen) given
 
     pub within-row : t - 1 < length o.requests.items
     within-row = let g = given-in in omega (arith, g.0, g.1, seats-count o.lists o.requests.items)
@@ -175,12 +175,12 @@ module _ (o : Inside) (r : Row) (seen : row_in o ≡ r) where
 
     pub seat-now : seat_in r t ≡ seat_by o.lists o.requests.items t
     seat-now =
-        ap (λ (x : Row). seat_in x t) (sym seen) ∙ with_number-or (seats_by o.lists o.requests.items) t no_seat given.0
-        ∙ seat-is o.lists o.requests.items t given-in no_seat
+        ap (λ (x : Seating). seat_in x t) (sym seen) ∙ with_number-or (seats_by o.lists o.requests.items) t no_holdings given.0
+        ∙ seat-is o.lists o.requests.items t given-in no_holdings
 
     pub request-now : (p : Option Request) → p ≡ get_or o.requests.items (t - 1) p → p ≡ (seat_in r t).pending
     request-now p is =
-        is ∙ get_or_default o.requests.items (t - 1) p None within-row ∙ sym (ap (λ (s : Seat). s.pending) seat-now)
+        is ∙ get_or_default o.requests.items (t - 1) p None within-row ∙ sym (ap (λ (s : Holdings). s.pending) seat-now)
 
     module _ (list : ℕ) (spin : Bool) (is : list ≡ list_of spin t) where
       pub list-now : IsList o.lists list
@@ -208,15 +208,15 @@ module _ (o : Inside) (r : Row) (seen : row_in o ≡ r) where
     few = omega (arith, k.few, count-now);
     groups = λ t spin given. groups-now k t given (list_of spin t) spin refl;
     lists = k.lists ∙ ap (λ n. 2 * n) (sym count-now);
-    size = ap (λ (x : Row). x.chunks) seen;
+    size = ap (λ (x : Seating). x.chunks) seen;
     placed = k.placed;
   }
 
-abbrev pub row : List Seat → ℕ → Row
+abbrev pub row : List Holdings → ℕ → Seating
 row seats chunks = record { seats = seats; chunks = chunks }
 
 -- what a method leaves, by what its caller sees
-module _ (o : Inside) (r : Row) (seen : row_in o ≡ r) (k : AreSeated o) (t : ℕ) (given : IsGiven r.seats t) where
+module _ (o : Inside) (r : Seating) (seen : seating_in o ≡ r) (k : AreSeated o) (t : ℕ) (given : IsGiven r.seats t) where
   pub asked-now : (p : Option Request) → row (seats_by o.lists (set o.requests.items (t - 1) p)) o.lists.size ≡ with_seat t (asking p) r
   asked-now p =
       ap (λ ss. row ss o.lists.size) (request-set o.lists o.requests.items t p (given-in o r seen k t given)) ∙ ap (with_seat t (asking p)) seen
@@ -230,7 +230,7 @@ module _ (o : Inside) (r : Row) (seen : row_in o ≡ r) (k : AreSeated o) (t : �
         ap₂ row
         (list-set o.lists o.requests.items k.lists t (given-in o r seen k t given) c (change (groups_of o.lists (list_of spin t))) spin at
         ∙ ap (set (seats_by o.lists o.requests.items) (t - 1))
-        (same spin ∙ ap (in_groups spin change) (sym (seat-is o.lists o.requests.items t (given-in o r seen k t given) no_seat))))
+        (same spin ∙ ap (in_groups spin change) (sym (seat-is o.lists o.requests.items t (given-in o r seen k t given) no_holdings))))
         size
         ∙ ap (with_seat t (in_groups spin change)) seen
       where
@@ -239,7 +239,7 @@ module _ (o : Inside) (r : Row) (seen : row_in o ≡ r) (k : AreSeated o) (t : �
         same false = refl
 
     -- a release
-    pub forgotten-now : (l : ℕ) → c.groups ≡ after_forget o.lists list l → row (seats_by c o.requests.items) c.size ≡ with_seat t (released spin l) r
+    pub forgotten-now : (l : ℕ) → c.groups ≡ after_forget o.lists list l → row (seats_by c o.requests.items) c.size ≡ with_seat t (having_released spin l) r
     forgotten-now l groups = written-now (forgotten l) groups
 
     -- an acquisition
@@ -257,10 +257,10 @@ module _ (o : Inside) (r : Row) (seen : row_in o ≡ r) (k : AreSeated o) (t : �
         go : (b : Bool) → is_unrecorded o.lists list i.lock.0 ≡ b → row (seats_by c o.requests.items) c.size ≡ after_acquired t spin i r
         go true full =
             unrecorded-now (groups ∙ ap (λ b. cond b o.lists.groups (set_groups o.lists list (recorded i (groups_of o.lists list)))) full)
-            ∙ sym (ap (λ b. cond b r (with_seat t (acquired spin i) r)) (sym (room-now i.lock.0) ∙ full))
+            ∙ sym (ap (λ b. cond b r (with_seat t (having_acquired spin i) r)) (sym (room-now i.lock.0) ∙ full))
         go false room =
             written-now (recorded i) (groups ∙ ap (λ b. cond b o.lists.groups (set_groups o.lists list (recorded i (groups_of o.lists list)))) room)
-            ∙ sym (ap (λ b. cond b r (with_seat t (acquired spin i) r)) (sym (room-now i.lock.0) ∙ room))
+            ∙ sym (ap (λ b. cond b r (with_seat t (having_acquired spin i) r)) (sym (room-now i.lock.0) ∙ room))
 
 -- new seats
 module _ (seats chunks lists : ℕ) (count : lists ≡ 2 * seats) (c : Chunks) (ps : List (Option Request)) (new : IsNew chunks lists c) (none : ps ≡ replicate seats None) where
@@ -270,11 +270,11 @@ module _ (seats chunks lists : ℕ) (count : lists ≡ 2 * seats) (c : Chunks) (
   no_groups : (list : ℕ) → groups_of c list ≡ []
   no_groups list = ap (λ gss. get_or gss (list - 1) []) new.groups ∙ get_or-nils lists (list - 1) []
 
-  seat-idle : (t : ℕ) → seat_by c ps t ≡ no_seat
+  seat-idle : (t : ℕ) → seat_by c ps t ≡ no_holdings
   seat-idle t =
       ap₂ (λ a b. seat_with a b (get_or ps (t - 1) None)) (no_groups (list_of false t)) (no_groups (list_of true t))
       ∙ ap (seat_with [] []) (ap (λ qs. get_or qs (t - 1) None) none ∙ get_or-nils seats (t - 1) None)
 
-  pub row-idle : row (seats_by c ps) c.size ≡ idle_row seats chunks
+  pub row-idle : row (seats_by c ps) c.size ≡ idle_seating seats chunks
   row-idle =
-      ap₂ row (ap (λ n. map (seat_by c ps) (range_with_len 1 n)) ps-length ∙ map-alike (seat_by c ps) no_seat seat-idle 1 seats) new.size
+      ap₂ row (ap (λ n. map (seat_by c ps) (range_with_len 1 n)) ps-length ∙ map-alike (seat_by c ps) no_holdings seat-idle 1 seats) new.size

@@ -7,7 +7,7 @@ use Rattle.wit_model.specs.declared.locks.Instance.{Instance}
 use Rattle.wit_model.specs.declared.calls.Request.{Request}
 use Rattle.wit_model.specs.Rules.Verdict.{is_of}
 use Rattle.wit_model.proofs.Numbered.{with_number-or}
-use Rattle.wit_core.specs.Seats.{Seat, Row, no_seat, seat_in, locks_in}
+use Rattle.wit_core.specs.Seats.{Holdings, Seating, no_holdings, seat_in, locks_in}
 use Rattle.wit_model.specs.Rules.Step.{is_for}
 use Rattle.wit_core.specs.Held.{seat_view}
 use Rattle.wit_model.specs.Rules.Destroying.{uses}
@@ -20,7 +20,7 @@ any-found l (i ∷ c) = go (is_of l i) (any-found l c)
     go true same = refl
     go false same = same
 
-module _ (l : ℕ) (s : Seat) where
+module _ (l : ℕ) (s : Holdings) where
   held-any : (spin b : Bool) → b ≡ is_some (find (is_of l) (locks_in spin s)) → list_any (is_of l) (locks_in spin s) ≡ b
   held-any spin b is = any-found l (locks_in spin s) ∙ sym is
 
@@ -40,22 +40,22 @@ pub counted-found : {X : Type 0} (f : Instance → X) (o : Option Instance) → 
 counted-found f None = refl
 counted-found f (Some i) = refl
 
-pub seat-at : (r : Row) (i : ℕ) → seat_in r (i + 1) ≡ get_or r.seats i no_seat
+pub seat-at : (r : Seating) (i : ℕ) → seat_in r (i + 1) ≡ get_or r.seats i no_holdings
 seat-at r i =
-    with_number-or r.seats (i + 1) no_seat (omega arith) ∙ ap (λ n. get_or r.seats n no_seat) (let same : i + 1 - 1 ≡ i = omega arith in same)
+    with_number-or r.seats (i + 1) no_holdings (omega arith) ∙ ap (λ n. get_or r.seats n no_holdings) (let same : i + 1 - 1 ≡ i = omega arith in same)
 
 -- ---- whether some seat has a property
 
 -- the seats from this one on
-pub any-step : (has : Seat → Bool) (ss : List Seat) (i : ℕ) (b whole : Bool) → i < length ss → b ≡ has (get_or ss i no_seat) → b ≡ false
+pub any-step : (has : Holdings → Bool) (ss : List Holdings) (i : ℕ) (b whole : Bool) → i < length ss → b ≡ has (get_or ss i no_holdings) → b ≡ false
     → list_any has (drop i ss) ≡ whole → list_any has (drop (i + 1) ss) ≡ whole
 any-step has ss i b whole lt is none was =
-    sym (ap (list_any has) (drop_more ss i no_seat lt) ∙ ap (λ c. c || list_any has (drop (i + 1) ss)) (sym is ∙ none)) ∙ was
+    sym (ap (list_any has) (drop_more ss i no_holdings lt) ∙ ap (λ c. c || list_any has (drop (i + 1) ss)) (sym is ∙ none)) ∙ was
 
-pub any-here : (has : Seat → Bool) (ss : List Seat) (i : ℕ) (b whole : Bool) → i < length ss → b ≡ has (get_or ss i no_seat) → b ≡ true
+pub any-here : (has : Holdings → Bool) (ss : List Holdings) (i : ℕ) (b whole : Bool) → i < length ss → b ≡ has (get_or ss i no_holdings) → b ≡ true
     → list_any has (drop i ss) ≡ whole → true ≡ whole
 any-here has ss i b whole lt is one was =
-    sym (ap (list_any has) (drop_more ss i no_seat lt) ∙ ap (λ c. c || list_any has (drop (i + 1) ss)) (sym is ∙ one)) ∙ was
+    sym (ap (list_any has) (drop_more ss i no_holdings lt) ∙ ap (λ c. c || list_any has (drop (i + 1) ss)) (sym is ∙ one)) ∙ was
 
-pub any-end : (has : Seat → Bool) (ss : List Seat) (i : ℕ) (whole : Bool) → length ss ≤ i → list_any has (drop i ss) ≡ whole → false ≡ whole
+pub any-end : (has : Holdings → Bool) (ss : List Holdings) (i : ℕ) (whole : Bool) → length ss ≤ i → list_any has (drop i ss) ≡ whole → false ≡ whole
 any-end has ss i whole past was = sym (ap (list_any has) (drop_all i ss past)) ∙ was

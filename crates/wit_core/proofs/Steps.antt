@@ -27,7 +27,7 @@ use Rattle.wit_model.proofs.Chains.Seats.{entry, seat_after, seat_after-quiet, s
 use Rattle.wit_model.proofs.Orders.Types.{typed-same}
 use Rattle.wit_core.specs.Acquiring.{taken}
 use Rattle.wit_core.specs.Held.{seat_view}
-use Rattle.wit_core.specs.Seats.{Seat, Row, no_seat, with_seat, asking, acquired, released}
+use Rattle.wit_core.specs.Seats.{Holdings, Seating, no_holdings, with_seat, asking, having_acquired, having_released}
 use Rattle.wit_core.proofs.HeldSeats.{acquired-view, released-view}
 
 -- a state by its parts
@@ -46,45 +46,45 @@ pub same_locks : (k : Known) (locks : List Lock) → locks ≡ k.locks → recor
 same_locks k locks e = ap (λ (ls : List Lock). record k { locks = ls }) e
 
 -- a seat that is changed twice
-pub seat-twice : (row : Row) (t : ℕ) (f g : Seat → Seat) → t - 1 < length row.seats → with_seat t f (with_seat t g row) ≡ with_seat t (λ s. f (g s)) row
-seat-twice row t f g lt =
-    ap (λ ss. record row { seats = ss })
-    (ap (λ s. set (set row.seats (t - 1) (g (get_or row.seats (t - 1) no_seat))) (t - 1) (f s))
-    (get_or-set_same row.seats (t - 1) (g (get_or row.seats (t - 1) no_seat)) no_seat lt)
-    ∙ set-set row.seats (t - 1) (g (get_or row.seats (t - 1) no_seat)) (f (g (get_or row.seats (t - 1) no_seat))))
+pub seat-twice : (seating : Seating) (t : ℕ) (f g : Holdings → Holdings) → t - 1 < length seating.seats → with_seat t f (with_seat t g seating) ≡ with_seat t (λ s. f (g s)) seating
+seat-twice seating t f g lt =
+    ap (λ ss. record seating { seats = ss })
+    (ap (λ s. set (set seating.seats (t - 1) (g (get_or seating.seats (t - 1) no_holdings))) (t - 1) (f s))
+    (get_or-set_same seating.seats (t - 1) (g (get_or seating.seats (t - 1) no_holdings)) no_holdings lt)
+    ∙ set-set seating.seats (t - 1) (g (get_or seating.seats (t - 1) no_holdings)) (f (g (get_or seating.seats (t - 1) no_holdings))))
 
 -- what is added to the state by a call that makes no lock and teaches nothing
-module _ (start : Start) (files : List (List ℕ)) (h : List Entry) (row : Row) (same : map seat_view row.seats ≡ seats_of start.sizes.seats h) (t : ℕ) (some : 0 < t) (within : t ≤ start.sizes.seats) where
-  pub in-row : t - 1 < length row.seats
+module _ (start : Start) (files : List (List ℕ)) (h : List Entry) (seating : Seating) (same : map seat_view seating.seats ≡ seats_of start.sizes.seats h) (t : ℕ) (some : 0 < t) (within : t ≤ start.sizes.seats) where
+  pub in-row : t - 1 < length seating.seats
   in-row =
-      let count : length row.seats ≡ start.sizes.seats =
-      sym (length-map row.seats seat_view) ∙ ap length same ∙ length-map-range_with_len (seat_of h) 1 start.sizes.seats in
+      let count : length seating.seats ≡ start.sizes.seats =
+      sym (length-map seating.seats seat_view) ∙ ap length same ∙ length-map-range_with_len (seat_of h) 1 start.sizes.seats in
       omega (arith, some, within, count)
 
-  abbrev here : Seat
-  here = get_or row.seats (t - 1) no_seat
+  abbrev here : Holdings
+  here = get_or seating.seats (t - 1) no_holdings
 
   here-is : seat_view here ≡ seat_of h t
   here-is =
-      sym (get_or-map seat_view row.seats (t - 1) no_seat (seat_view no_seat) in-row)
-      ∙ ap (λ ss. get_or ss (t - 1) (seat_view no_seat)) same ∙ get_or-seats_of start.sizes.seats t h (seat_view no_seat) some within
+      sym (get_or-map seat_view seating.seats (t - 1) no_holdings (seat_view no_holdings) in-row)
+      ∙ ap (λ ss. get_or ss (t - 1) (seat_view no_holdings)) same ∙ get_or-seats_of start.sizes.seats t h (seat_view no_holdings) some within
 
   pub request-is : (p : Option Request) → pending t h ≡ p → here.pending ≡ p
   request-is p is = ap (λ (s : model.Seat). s.pending) here-is ∙ is
 
   -- the seat of the entry is changed as the rules say
-  pub seats-after : (call : Call) (reply : Reply) (change : Seat → Seat) → IsSane (entry t call reply ∷ h)
+  pub seats-after : (call : Call) (reply : Reply) (change : Holdings → Holdings) → IsSane (entry t call reply ∷ h)
       → seat_view (change here) ≡ seat_after (locks_of h) (entry t call reply) (seat_view here)
-      → map seat_view (with_seat t change row).seats ≡ seats_of start.sizes.seats (entry t call reply ∷ h)
+      → map seat_view (with_seat t change seating).seats ≡ seats_of start.sizes.seats (entry t call reply ∷ h)
   seats-after call reply change sane is =
-      map-set seat_view row.seats (t - 1) (change here)
-      ∙ ap (set (map seat_view row.seats) (t - 1)) (is ∙ ap (seat_after (locks_of h) (entry t call reply)) (here-is ∙ sym (get_or-seats_of start.sizes.seats t h (seat_view no_seat) some within)))
-      ∙ ap (λ ss. set ss (t - 1) (seat_after (locks_of h) (entry t call reply) (get_or (seats_of start.sizes.seats h) (t - 1) (seat_view no_seat)))) same
-      ∙ sym (seats_of-entry start.sizes.seats (entry t call reply) h sane some within (seat_view no_seat))
+      map-set seat_view seating.seats (t - 1) (change here)
+      ∙ ap (set (map seat_view seating.seats) (t - 1)) (is ∙ ap (seat_after (locks_of h) (entry t call reply)) (here-is ∙ sym (get_or-seats_of start.sizes.seats t h (seat_view no_holdings) some within)))
+      ∙ ap (λ ss. set ss (t - 1) (seat_after (locks_of h) (entry t call reply) (get_or (seats_of start.sizes.seats h) (t - 1) (seat_view no_holdings)))) same
+      ∙ sym (seats_of-entry start.sizes.seats (entry t call reply) h sane some within (seat_view no_holdings))
 
   -- an entry that does nothing to the locks of its seat
   pub seats-quiet : (call : Call) (reply : Reply) (p : Option Request) → IsSane (entry t call reply ∷ h) → act call reply ≡ Nothing → pending_after call (pending t h) ≡ p
-      → map seat_view (with_seat t (asking p) row).seats ≡ seats_of start.sizes.seats (entry t call reply ∷ h)
+      → map seat_view (with_seat t (asking p) seating).seats ≡ seats_of start.sizes.seats (entry t call reply ∷ h)
   seats-quiet call reply p sane quiet asks =
       seats-after call reply (asking p) sane
       (ap (λ (o : Option Request). record (seat_view here) { pending = o }) (sym asks ∙ ap (pending_after call) (sym (request-is (pending t h) refl)))
@@ -92,29 +92,29 @@ module _ (start : Start) (files : List (List ℕ)) (h : List Entry) (row : Row) 
 
   -- one that leaves the seat
   pub seats-same : (call : Call) (reply : Reply) → IsSane (entry t call reply ∷ h) → act call reply ≡ Nothing → pending_after call (pending t h) ≡ pending t h
-      → map seat_view row.seats ≡ seats_of start.sizes.seats (entry t call reply ∷ h)
+      → map seat_view seating.seats ≡ seats_of start.sizes.seats (entry t call reply ∷ h)
   seats-same call reply sane quiet keeps =
-      ap (map seat_view) (sym (set-get_or row.seats (t - 1) no_seat))
-      ∙ ap (λ p. map seat_view (with_seat t (asking p) row).seats) (request-is (pending t h) refl)
+      ap (map seat_view) (sym (set-get_or seating.seats (t - 1) no_holdings))
+      ∙ ap (λ p. map seat_view (with_seat t (asking p) seating).seats) (request-is (pending t h) refl)
       ∙ seats-quiet call reply (pending t h) sane quiet keeps
 
   module _ (l : LockNo) (spin : Bool) (kind : spin ≡ is_spin_lock (locks_of h) l.0) where
     pub seats-note : (q : Request) → IsSane (entry t (Note l) Recorded ∷ h) → pending t h ≡ Some q
-        → map seat_view (with_seat t (λ s. asking None (acquired spin (taken l q.mode q.site) s)) row).seats ≡ seats_of start.sizes.seats (entry t (Note l) Recorded ∷ h)
+        → map seat_view (with_seat t (λ s. asking None (having_acquired spin (taken l q.mode q.site) s)) seating).seats ≡ seats_of start.sizes.seats (entry t (Note l) Recorded ∷ h)
     seats-note q sane asked =
-        seats-after (Note l) Recorded (λ s. asking None (acquired spin (taken l q.mode q.site) s)) sane
+        seats-after (Note l) Recorded (λ s. asking None (having_acquired spin (taken l q.mode q.site) s)) sane
         (acquired-view (locks_of h) l q.mode q.site None spin here kind ∙ sym (seat_after-note (locks_of h) t l q (seat_view here) (request-is (Some q) asked)))
 
     pub seats-try : (m : Mode) (site : Site) → IsSane (entry t (NoteTry l m site) Recorded ∷ h)
-        → map seat_view (with_seat t (acquired spin (taken l m site)) row).seats ≡ seats_of start.sizes.seats (entry t (NoteTry l m site) Recorded ∷ h)
+        → map seat_view (with_seat t (having_acquired spin (taken l m site)) seating).seats ≡ seats_of start.sizes.seats (entry t (NoteTry l m site) Recorded ∷ h)
     seats-try m site sane =
-        seats-after (NoteTry l m site) Recorded (acquired spin (taken l m site)) sane
+        seats-after (NoteTry l m site) Recorded (having_acquired spin (taken l m site)) sane
         (acquired-view (locks_of h) l m site here.pending spin here kind ∙ sym (seat_after-try (locks_of h) t l m site (seat_view here)))
 
     pub seats-unlock : (m : Mode) → IsSane (entry t (Unlock l m) Unlocked ∷ h)
-        → map seat_view (with_seat t (released spin l.0) row).seats ≡ seats_of start.sizes.seats (entry t (Unlock l m) Unlocked ∷ h)
+        → map seat_view (with_seat t (having_released spin l.0) seating).seats ≡ seats_of start.sizes.seats (entry t (Unlock l m) Unlocked ∷ h)
     seats-unlock m sane =
-        seats-after (Unlock l m) Unlocked (released spin l.0) sane
+        seats-after (Unlock l m) Unlocked (having_released spin l.0) sane
         (released-view (locks_of h) l.0 spin here kind ∙ sym (seat_after-unlock (locks_of h) t l m (seat_view here)))
 
 -- what is known after a call that makes no lock and teaches nothing

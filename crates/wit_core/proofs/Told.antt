@@ -6,10 +6,10 @@ use Rattle.wit_model.specs.Rules.Step.{is_logged}
 use Rattle.wit_model.proofs.Histories.Accepted.{same_reply}
 use Rattle.wit_check.specs.declared.answers.Verdict.{Verdict}
 use Rattle.wit_check.specs.declared.answers.Verdict.TheVariants as verdict
-use Rattle.wit_core.specs.Verdict.{told}
+use Rattle.wit_core.specs.Verdict.{answer_by}
 
 -- it is logged
-pub told-logged : (new : List (TypeNo × TypeNo)) (d : Verdict) (r : Reply) → told new d ≡ Ok r → is_logged r ≡ true
+pub told-logged : (new : List (TypeNo × TypeNo)) (d : Verdict) (r : Reply) → answer_by new d ≡ Ok r → is_logged r ≡ true
 told-logged new verdict.Pass r is = ap is_logged (sym (same_reply is))
 told-logged new (verdict.Adopt p c) r is = ap is_logged (sym (same_reply is))
 told-logged new verdict.AdoptAll r is = ap is_logged (sym (same_reply is))

@@ -28,7 +28,7 @@ use Rattle.wit_core.specs.Held.{numbers, seat_view}
 use Rattle.wit_core.specs.Journal.{Journal}
 use Rattle.wit_core.specs.Kept.{IsTied, start_in, history_in, story_in}
 use Rattle.wit_core.specs.Live.{live_flags}
-use Rattle.wit_core.specs.Seats.{Seat, with_seat}
+use Rattle.wit_core.specs.Seats.{Holdings, with_seat}
 use Rattle.wit_core.specs.Turning.{changed, turn_call, mark_call}
 use Rattle.wit_core.proofs.Entries.Accepting.{accepted, sane_next, within, owed_now, known-now, seats-now, watch-now, left-by, kind-now, room_left}
 use Rattle.wit_core.proofs.HeldSeats.{flat-changed, numbers-changed, seat}
@@ -36,7 +36,7 @@ use Rattle.wit_core.proofs.Keeping.{Leaves}
 use Rattle.wit_core.proofs.Steps.{known-same, seats-after}
 
 -- a seat of which one lock is changed but for its number, as the rules see it
-pub changed-view : (ls : List NewLock) (l : ℕ) (f : Instance → Instance) → ((i : Instance) → (f i).lock.0 ≡ i.lock.0) → (spin : Bool) (s : Seat) → spin ≡ is_spin_lock ls l
+pub changed-view : (ls : List NewLock) (l : ℕ) (f : Instance → Instance) → ((i : Instance) → (f i).lock.0 ≡ i.lock.0) → (spin : Bool) (s : Holdings) → spin ≡ is_spin_lock ls l
     → seat_view (changed spin l f s) ≡ reheld ls l f (seat_view s)
 changed-view ls l f keeps spin s kind = by spin ∙ ap form kind
   where

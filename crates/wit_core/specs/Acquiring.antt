@@ -11,7 +11,7 @@ use Rattle.wit_model.specs.declared.calls.Reply.TheVariants as reply
 use Rattle.wit_model.specs.Rules.History.{is_off}
 use Rattle.wit_core.specs.declared.acquiring.Acquisition.{Acquisition}
 use Rattle.wit_core.specs.declared.acquiring.Acquisition.TheVariants.{Recorded, Exhausted, Unrecorded}
-use Rattle.wit_core.specs.Seats.{Row, with_seat, acquired, has_no_room}
+use Rattle.wit_core.specs.Seats.{Seating, with_seat, having_acquired, has_no_room}
 
 abbrev pub reply_to : Acquisition → Reply
 reply_to Recorded = reply.Recorded
@@ -25,17 +25,17 @@ owed_after Exhausted = 0
 owed_after Unrecorded = 0
 
 -- what becomes of an acquisition by this seat
-abbrev pub acquisition : Watch → Row → ℕ → Bool → ℕ → Acquisition
-acquisition watch row t spin l = if is_off watch then Unrecorded else if has_no_room row t spin l then Exhausted else Recorded
+abbrev pub acquisition : Watch → Seating → ℕ → Bool → ℕ → Acquisition
+acquisition watch seating t spin l = if is_off watch then Unrecorded else if has_no_room seating t spin l then Exhausted else Recorded
 
 -- how much is watched then, and what the seats hold
 abbrev pub watch_then : Acquisition → Watch → Watch
 watch_then Exhausted watch = Off
 watch_then _ watch = watch
 
-abbrev pub row_then : Acquisition → ℕ → Bool → Instance → Row → Row
-row_then Recorded t spin i row = with_seat t (acquired spin i) row
-row_then _ t spin i row = row
+abbrev pub seating_then : Acquisition → ℕ → Bool → Instance → Seating → Seating
+seating_then Recorded t spin i seating = with_seat t (having_acquired spin i) seating
+seating_then _ t spin i seating = seating
 
 -- a new acquisition of a lock
 abbrev pub taken : LockNo → Mode → Site → Instance

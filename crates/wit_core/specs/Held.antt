@@ -7,13 +7,13 @@ use Rattle.wit_model.specs.Rules.Numbers.{IsNumber}
 use Rattle.wit_model.specs.Rules.SeatGroups.{held_groups}
 use Rattle.wit_model.specs.Rules.State.{Story}
 use Rattle.wit_model.specs.Rules.State as model
-use Rattle.wit_core.specs.Seats.{Seat}
+use Rattle.wit_core.specs.Seats.{Holdings}
 
 abbrev pub numbers : List (List Instance) → List (List ℕ)
 numbers gs = map (map (λ (i : Instance). i.lock.0)) gs
 
 -- a seat as the rules see it: its locks, the groups by their numbers, and its request
-abbrev pub seat_view : Seat → model.Seat
+abbrev pub seat_view : Holdings → model.Seat
 seat_view s = record {
   sleep = flat s.sleep;
   spin = flat s.spin;

@@ -17,7 +17,7 @@ use Rattle.wit_core.specs.declared.verifier.Verifier.TheInside.{Inside}
 use Rattle.wit_core.specs.Held.{seat_view, HoldAll}
 use Rattle.wit_core.specs.Known.{IsRoomFor}
 use Rattle.wit_core.specs.Listed.{all_listed}
-use Rattle.wit_core.specs.Plans.{call_of, named, entries_for}
+use Rattle.wit_core.specs.Plans.{call_of, planned, entries_for}
 use Rattle.wit_core.specs.Seats.{seat_in, locks_in, HoldFor}
 
 abbrev pub start_in : Inside → Start
@@ -27,7 +27,7 @@ abbrev pub history_in : Inside → List Entry
 history_in v = v.log.history
 
 abbrev pub story_in : Inside → Story
-story_in v = record { start = start_in v; history = history_in v; files = v.known.files; ready = option_map named v.ready }
+story_in v = record { start = start_in v; history = history_in v; files = v.known.files; ready = option_map planned v.ready }
 
 abbrev pub state_in : Inside → State
 state_in v = record {

@@ -12,8 +12,8 @@ call_of (Check q) = call.Check q
 call_of (Define a b) = call.DefineOrder a b
 
 -- who will make which call
-abbrev pub named : Ready → ℕ × Call
-named r = (r.seat.0, call_of r.plan)
+abbrev pub planned : Ready → ℕ × Call
+planned r = (r.seat.0, call_of r.plan)
 
 -- how many entries of the log a call that can be prepared needs: a check its own, its note's and its unlock's
 abbrev pub entries_for : Call → ℕ

@@ -42,24 +42,24 @@ abbrev pub nobody : Reached
 nobody = record { seat = record { 0 = 0 }; next = 0 }
 
 -- the seat at a place, and the place of the one that it waits for
-abbrev pub seat_in : List Reached → ℕ → ℕ
-seat_in reached i = (slice_index_or reached i nobody).seat.0
+abbrev pub seat_reached : List Reached → ℕ → ℕ
+seat_reached reached i = (slice_index_or reached i nobody).seat.0
 
-abbrev pub next_in : List Reached → ℕ → ℕ
-next_in reached i = (slice_index_or reached i nobody).next
+abbrev pub next_reached : List Reached → ℕ → ℕ
+next_reached reached i = (slice_index_or reached i nobody).next
 
 -- the first seat stands first; each other one is greater, and waits for one that stands before it
 pub record IsTrail (rows : List (List Bool)) (first : ℕ) (reached : List Reached) : Type 0 where
   pub some : 0 < length reached
-  pub start : seat_in reached 0 ≡ first
-  pub seats : (i : ℕ) → i < length reached → IsNumber (length rows) (seat_in reached i)
-  pub greater : (i : ℕ) → 0 < i → i < length reached → first < seat_in reached i
-  pub earlier : (i : ℕ) → 0 < i → i < length reached → next_in reached i < i
-  pub waits : (i : ℕ) → 0 < i → i < length reached → Says rows (seat_in reached i) (seat_in reached (next_in reached i))
+  pub start : seat_reached reached 0 ≡ first
+  pub seats : (i : ℕ) → i < length reached → IsNumber (length rows) (seat_reached reached i)
+  pub greater : (i : ℕ) → 0 < i → i < length reached → first < seat_reached reached i
+  pub earlier : (i : ℕ) → 0 < i → i < length reached → next_reached reached i < i
+  pub waits : (i : ℕ) → 0 < i → i < length reached → Says rows (seat_reached reached i) (seat_reached reached (next_reached reached i))
 
 -- a seat that was reached, by its place
 abbrev pub IsReached : List Reached → ℕ → Type 0
-IsReached reached t = (i : ℕ) × (i < length reached) × (seat_in reached i ≡ t)
+IsReached reached t = (i : ℕ) × (i < length reached) × (seat_reached reached i ≡ t)
 
 abbrev pub one_if_not : Bool → ℕ
 one_if_not b = if b then 0 else 1
@@ -75,7 +75,7 @@ pub record IsSearch (rows : List (List Bool)) (first : ℕ) (reached : List Reac
 -- what was reached and marked stays so
 pub record IsLater (reached later : List Reached) (seen marks : List Bool) : Type 0 where
   pub longer : length reached ≤ length later
-  pub same : (i : ℕ) → i < length reached → seat_in later i ≡ seat_in reached i
+  pub same : (i : ℕ) → i < length reached → seat_reached later i ≡ seat_reached reached i
   pub stays : (t : ℕ) → is_marked seen t ≡ true → is_marked marks t ≡ true
 
 -- of the seats behind the first and up to n, all that wait for this one are marked
@@ -86,17 +86,17 @@ AreMarked rows first n u marks = (t : ℕ) → first < t → t ≤ n → Says ro
 pub record Reaches (rows : List (List Bool)) (first place n : ℕ) (reached later : List Reached) (seen marks : List Bool) : Type 0 where
   pub search : IsSearch rows first later marks
   pub keeps : IsLater reached later seen marks
-  pub all : AreMarked rows first n (seat_in reached place) marks
+  pub all : AreMarked rows first n (seat_reached reached place) marks
 
 -- the first seat doesn't wait for the one at this place; or this circle starts with it, and it is its least seat
 abbrev pub IsClosing : List (List Bool) → List Reached → ℕ → Option (Vec SeatNo) → Type 0
-IsClosing rows reached place None = says rows (seat_in reached 0) (seat_in reached place) ≡ false
+IsClosing rows reached place None = says rows (seat_reached reached 0) (seat_reached reached place) ≡ false
 IsClosing rows reached place (Some seats) = IsCircle (Says rows) (seat_numbers seats.items) × (starts_with_least (seat_numbers seats.items) ≡ true)
 
 -- of the seats from the first on, the first itself doesn't wait for any of those at the places below this one, and all that do are marked
 abbrev pub AreClosed : List (List Bool) → ℕ → List Reached → List Bool → ℕ → Type 0
 AreClosed rows first reached seen places =
-    (i : ℕ) → i < places → (t : ℕ) → Says rows t (seat_in reached i) → first ≤ t → (t ≡ first → ⊥) × (is_marked seen t ≡ true)
+    (i : ℕ) → i < places → (t : ℕ) → Says rows t (seat_reached reached i) → first ≤ t → (t ≡ first → ⊥) × (is_marked seen t ≡ true)
 
 -- what a search tells: a circle that starts with this seat as its least, or that there is none
 abbrev pub IsCircleFrom : List (List Bool) → ℕ → Option (Vec SeatNo) → Type 0

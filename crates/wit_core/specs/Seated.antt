@@ -3,22 +3,22 @@ use Rattle.std.specs.Prelude.{ℕ, true, false, ◌*◌, ◌≡◌, ◌≤◌, L
 use Rattle.std.specs.List.{range_with_len}
 use Rattle.wit_model.specs.declared.calls.Request.{Request}
 use Rattle.wit_model.specs.Rules.Chunks.{Chunks, IsPlaced, groups_of, list_of}
-use Rattle.wit_core.specs.Seats.{Seat, Row}
+use Rattle.wit_core.specs.Seats.{Holdings, Seating}
 use Rattle.wit_core.specs.declared.seats.Seats.TheInside.{Inside}
 
 -- a seat by its lists and its request
-abbrev pub seat_by : Chunks → List (Option Request) → ℕ → Seat
+abbrev pub seat_by : Chunks → List (Option Request) → ℕ → Holdings
 seat_by c requests t = record {
   sleep = groups_of c (list_of false t);
   spin = groups_of c (list_of true t);
   pending = get_or requests (t - 1) None;
 }
 
-abbrev pub seats_by : Chunks → List (Option Request) → List Seat
+abbrev pub seats_by : Chunks → List (Option Request) → List Holdings
 seats_by c requests = map (seat_by c requests) (range_with_len 1 (length requests))
 
-abbrev pub row_in : Inside → Row
-row_in s = record { seats = seats_by s.lists s.requests.items; chunks = s.lists.size }
+abbrev pub seating_in : Inside → Seating
+seating_in s = record { seats = seats_by s.lists s.requests.items; chunks = s.lists.size }
 
 -- each seat has its two lists, and each chunk stands once
 pub record AreSeated (s : Inside) : Type 0 where

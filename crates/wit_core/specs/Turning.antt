@@ -12,10 +12,10 @@ use Rattle.wit_model.specs.declared.calls.Reply.{Reply}
 use Rattle.wit_model.specs.declared.calls.Reply.TheVariants.{Done, Ignored}
 use Rattle.wit_model.specs.Rules.Turning.{upgraded, downgraded}
 use Rattle.wit_held.specs.Chains.{change_lock}
-use Rattle.wit_core.specs.Seats.{Seat, in_groups}
+use Rattle.wit_core.specs.Seats.{Holdings, in_groups}
 
 -- a seat of which one held lock of this kind is changed
-abbrev pub changed : Bool → ℕ → (Instance → Instance) → Seat → Seat
+abbrev pub changed : Bool → ℕ → (Instance → Instance) → Holdings → Holdings
 changed spin l change s = in_groups spin (change_lock l change) s
 
 -- the call that turns a lock to this mode
@@ -24,9 +24,9 @@ turn_call Exclusive l = Upgrade l
 turn_call Shared l = Downgrade l
 
 -- its answer for a lock held so
-abbrev pub turned : Mode → Watch → Option Instance → Result Reply Fault
-turned Exclusive watch held = upgraded watch held
-turned Shared watch held = downgraded watch held
+abbrev pub turn_answer : Mode → Watch → Option Instance → Result Reply Fault
+turn_answer Exclusive watch held = upgraded watch held
+turn_answer Shared watch held = downgraded watch held
 
 -- the call that says whether a lock must not be released
 abbrev pub mark_call : Bool → LockNo → Call

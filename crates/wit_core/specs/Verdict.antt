@@ -16,10 +16,10 @@ orders_taught s t q =
     let asked = asked_of s.known q in
     new_orders g (chain_asked g (seat_at s t).sleep (seat_at s t).spin asked) asked
 
-abbrev pub told : List (TypeNo × TypeNo) → Verdict → Result Reply Fault
-told new verdict = answer_of new verdict
+abbrev pub answer_by : List (TypeNo × TypeNo) → Verdict → Result Reply Fault
+answer_by new verdict = answer_of new verdict
 
 -- the reply that tells the verdict, or the fault
 abbrev pub replied : List (TypeNo × TypeNo) → Result Verdict Fault → Result Reply Fault
-replied new (Ok verdict) = told new verdict
+replied new (Ok verdict) = answer_by new verdict
 replied new (Err fault) = Err fault

@@ -5,7 +5,7 @@ ghost use Rattle.wit_model.specs.Rules.Numbers.{IsGiven};
 ghost use Rattle.wit_held.specs.Chains.{IsOnce, IsShallow};
 ghost use Rattle.wit_model.specs.Rules.History.{is_off};
 ghost use Rattle.wit_core.specs.Seats.{seat_in, locks_in};
-ghost use Rattle.wit_core.specs.Acquiring.{reply_to, owed_after, acquisition, watch_then, row_then};
+ghost use Rattle.wit_core.specs.Acquiring.{reply_to, owed_after, acquisition, watch_then, seating_then};
 
 use crate::seats::Seats;
 use wit_model::{Instance, Reply, SeatNo, Watch};
@@ -57,7 +57,7 @@ pub fn acquire(
     requires shallow { is_off watch.old ≡ false → IsShallow taken.lock.0 (locks_in spin (seat_in seats.old seat.0)) }
     ensures result { result ≡ acquisition watch.old seats.old seat.0 spin taken.lock.0 }
     ensures watch { watch.new ≡ watch_then result watch.old }
-    ensures seats { seats.new ≡ row_then result seat.0 spin taken seats.old }
+    ensures seats { seats.new ≡ seating_then result seat.0 spin taken seats.old }
 {
     if watch.is_off() {
         return Acquisition::Unrecorded;

@@ -6,7 +6,7 @@ ghost use Rattle.wit_model.specs.Rules.Circles.{waits_for, TellsCircle, circle_n
 ghost use Rattle.wit_model.specs.Rules.Clean.{is_clean};
 ghost use Rattle.wit_model.specs.Rules.Numbers.{IsNumber};
 ghost use Rattle.wit_model.specs.Rules.State.{state_of};
-ghost use Rattle.wit_core.specs.Searching.{waiting, all_waiting, rows_of, says, IsTable, seat_in, IsTrail, IsSearch, Reaches, IsClosing, IsCircleFrom, TellsCircleIn};
+ghost use Rattle.wit_core.specs.Searching.{waiting, all_waiting, rows_of, says, IsTable, seat_reached, IsTrail, IsSearch, Reaches, IsClosing, IsCircleFrom, TellsCircleIn};
 
 use crate::verifier::Verifier;
 use std::alloc::{AllocError, Global};
@@ -147,7 +147,7 @@ fn circle_at(
     place: usize,
 ) -> Result<Option<Vec<SeatNo>>, AllocError>
     requires table { IsTable (rows_of rows.now) }
-    requires trail { IsTrail (rows_of rows.now) (seat_in reached.now 0) reached.now }
+    requires trail { IsTrail (rows_of rows.now) (seat_reached reached.now 0) reached.now }
     requires place { place < length reached.now }
     ensures { IfOk result (IsClosing (rows_of rows.now) reached.now place) }
 {

@@ -12,7 +12,7 @@ ghost use Rattle.wit_held.specs.Chains.{IsOnce, IsShallow, in_mode};
 ghost use Rattle.wit_held.specs.Marks.{marked};
 ghost use Rattle.wit_held.specs.Releases.{release_reply, release_answer};
 ghost use Rattle.wit_core.specs.Held.{seat_view};
-ghost use Rattle.wit_core.specs.Seats.{Seat, idle_row, seat_in, locks_in, free_in, with_seat, asking, released, has_no_room, after_acquired, HoldFor};
+ghost use Rattle.wit_core.specs.Seats.{Holdings, idle_seating, seat_in, locks_in, free_in, with_seat, asking, having_released, has_no_room, after_acquired, HoldFor};
 ghost use Rattle.wit_core.specs.Turning.{changed};
 
 use std::alloc::{AllocError, Global};
@@ -33,13 +33,13 @@ pub struct Seats {
 }
 
 impl Model for Seats {
-    ghost use Rattle.wit_core.specs.Seats.{Row};
+    ghost use Rattle.wit_core.specs.Seats.{Seating};
 
-    ghost Value = { Row };
+    ghost Value = { Seating };
 
-    ghost use Rattle.wit_core.specs.Seated.{row_in, AreSeated};
+    ghost use Rattle.wit_core.specs.Seated.{seating_in, AreSeated};
 
-    ghost view = { row_in };
+    ghost view = { seating_in };
 
     ghost invariant = { AreSeated };
 }
@@ -53,7 +53,7 @@ impl Seats {
     pub fn new(alloc: Global, seats: u32, chunks: u32) -> Result<Seats, Fault>
         requires seats { IsNumber 256 seats }
         requires chunks { IsNumber 65536 chunks }
-        ensures ok { IfOk result (λ s. s ≡ idle_row seats chunks) }
+        ensures ok { IfOk result (λ s. s ≡ idle_seating seats chunks) }
         ensures err { IfErr result (λ e. e ≡ OutOfMemory) }
     {
         Ok(Seats {
@@ -127,7 +127,7 @@ impl Seats {
 
     /// Whether some seat holds a lock or asks for it.
     pub fn is_used(&self, lock: LockNo) -> bool
-        ensures { result ≡ list_any (λ (s : Seat). uses lock.0 (seat_view s)) self.now.seats }
+        ensures { result ≡ list_any (λ (s : Holdings). uses lock.0 (seat_view s)) self.now.seats }
     {
         for place in 0..self.requests.len() {
             let seat = SeatNo(place as u16 + 1);
@@ -212,7 +212,7 @@ impl Seats {
         requires seat { IsGiven self.old.seats seat.0 }
         requires once { IsOnce lock.0 (locks_in spin (seat_in self.old seat.0)) }
         ensures result { release_reply result ≡ release_answer watch mode (find (is_of lock.0) (locks_in spin (seat_in self.old seat.0))) }
-        ensures seats { result ≡ Ok true → self.new ≡ with_seat seat.0 (released spin lock.0) self.old }
+        ensures seats { result ≡ Ok true → self.new ≡ with_seat seat.0 (having_released spin lock.0) self.old }
         ensures unchanged { result ≢ Ok true → self.new ≡ self.old }
     {
         release(&mut self.lists, list_of(seat, spin), lock, mode, watch)

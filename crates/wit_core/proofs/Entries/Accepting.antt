@@ -20,7 +20,7 @@ use Rattle.wit_core.specs.declared.verifier.Verifier.TheInside.{Inside}
 use Rattle.wit_core.specs.Held.{seat_view}
 use Rattle.wit_core.specs.Journal.{Journal}
 use Rattle.wit_core.specs.Kept.{IsTied, start_in, history_in, story_in}
-use Rattle.wit_core.specs.Seats.{Row}
+use Rattle.wit_core.specs.Seats.{Seating}
 use Rattle.wit_core.proofs.Keeping.{seat_in_range, Leaves}
 use Rattle.wit_core.proofs.Now.{seat-given}
 use Rattle.wit_core.proofs.Steps.{same_state}
@@ -57,12 +57,12 @@ module _ (v : Inside) (k : IsTied v) (s : Story) (seen : story_in v ≡ s) where
   watch-now = ap (λ (x : State). x.watch) k.state
 
   -- what an entry leaves, part by part
-  pub left-by : (t : ℕ) (call : Call) (reply : Reply) (known : Known) (live : List Bool) (row : Row) (watch : Watch) (owes : ℕ)
+  pub left-by : (t : ℕ) (call : Call) (reply : Reply) (known : Known) (live : List Bool) (seating : Seating) (watch : Watch) (owes : ℕ)
       → known ≡ known_of (start_in v) (entry t call reply ∷ history_in v)
-      → live ≡ live_flags (length known.locks) (destroyed_of (entry t call reply ∷ history_in v)) → map seat_view row.seats ≡ seats_of v.limits.seats (entry t call reply ∷ history_in v)
-      → watch ≡ watch_of (entry t call reply ∷ history_in v) → owes ≡ owed_to v.limits.seats (entry t call reply ∷ history_in v) → row.chunks ≡ v.seats.chunks
-      → Leaves v t call reply known live row watch owes
-  left-by t call reply known live row watch owes knows lives rows watches sum size = record {
+      → live ≡ live_flags (length known.locks) (destroyed_of (entry t call reply ∷ history_in v)) → map seat_view seating.seats ≡ seats_of v.limits.seats (entry t call reply ∷ history_in v)
+      → watch ≡ watch_of (entry t call reply ∷ history_in v) → owes ≡ owed_to v.limits.seats (entry t call reply ∷ history_in v) → seating.chunks ≡ v.seats.chunks
+      → Leaves v t call reply known live seating watch owes
+  left-by t call reply known live seating watch owes knows lives rows watches sum size = record {
     state = same_state v.limits v.profile _ _ _ _ _ _ _ _ _ _ _ _ refl knows refl rows watches (omega arith);
     flags = lives;
     owed = sum ∙ ap (sum_by owed_by) (sym rows);

@@ -25,11 +25,11 @@ use Rattle.wit_held.specs.Chains.{IsOnce, IsShallow, CanRise}
 use Rattle.wit_core.specs.declared.verifier.Verifier.TheInside.{Inside}
 use Rattle.wit_core.specs.declared.acquiring.Acquisition.{Acquisition}
 use Rattle.wit_core.specs.declared.acquiring.Acquisition.TheVariants.{Recorded, Exhausted, Unrecorded}
-use Rattle.wit_core.specs.Acquiring.{reply_to, owed_after, acquisition, watch_then, row_then, taken}
+use Rattle.wit_core.specs.Acquiring.{reply_to, owed_after, acquisition, watch_then, seating_then, taken}
 use Rattle.wit_core.specs.Held.{seat_view}
 use Rattle.wit_core.specs.Journal.{Journal}
 use Rattle.wit_core.specs.Kept.{IsTied, start_in, history_in, story_in}
-use Rattle.wit_core.specs.Seats.{Row, no_seat, seat_in, locks_in, with_seat, asking, acquired}
+use Rattle.wit_core.specs.Seats.{Seating, no_holdings, seat_in, locks_in, with_seat, asking, having_acquired}
 use Rattle.wit_core.proofs.Keeping.{Leaves}
 use Rattle.wit_core.proofs.Now.{chain-now, once-now, acquisition-told}
 use Rattle.wit_core.proofs.Steps.{known-same, seat-twice, in-row, seats-quiet, seats-same, seats-note, seats-try}
@@ -51,11 +51,11 @@ reply-logged Exhausted = refl
 reply-logged Unrecorded = refl
 
 -- the seats stand under their numbers after an acquisition too
-pub given-then : (a : Acquisition) (t n : ℕ) (spin : Bool) (i : Instance) (row : Row) → IsGiven row.seats t → IsGiven (row_then a n spin i row).seats t
-given-then Recorded t n spin i row given =
-    (given.0, omega (arith, given.1, length-set row.seats (n - 1) (acquired spin i (get_or row.seats (n - 1) no_seat))))
-given-then Exhausted t n spin i row given = given
-given-then Unrecorded t n spin i row given = given
+pub given-then : (a : Acquisition) (t n : ℕ) (spin : Bool) (i : Instance) (seating : Seating) → IsGiven seating.seats t → IsGiven (seating_then a n spin i seating).seats t
+given-then Recorded t n spin i seating given =
+    (given.0, omega (arith, given.1, length-set seating.seats (n - 1) (having_acquired spin i (get_or seating.seats (n - 1) no_holdings))))
+given-then Exhausted t n spin i seating given = given
+given-then Unrecorded t n spin i seating given = given
 
 module _ (v : Inside) (k : IsTied v) (s : Story) (seen : story_in v ≡ s) where
   module _ (t : ℕ) (l : LockNo) (spin : Bool) (kind : spin ≡ is_spin (lock_at (state_of s).known.locks l.0).made.class) where
@@ -103,7 +103,7 @@ module _ (v : Inside) (k : IsTied v) (s : Story) (seen : story_in v ≡ s) where
               omega (arith, less, owed_now v k s seen)
 
       pub leaves_note : (a : Acquisition) → answer_of s t (Note l) ≡ Ok (reply_to a)
-          → Leaves v t (Note l) (reply_to a) v.known.known v.known.live (with_seat t (asking None) (row_then a t spin (taken l q.mode q.site) v.seats)) (watch_then a v.watch)
+          → Leaves v t (Note l) (reply_to a) v.known.known v.known.live (with_seat t (asking None) (seating_then a t spin (taken l q.mode q.site) v.seats)) (watch_then a v.watch)
           (v.log.owed - (1 - owed_after a + 1))
       leaves_note Recorded ok =
           let sane = sane_next v k s seen t (Note l) reply.Recorded ok in
@@ -112,7 +112,7 @@ module _ (v : Inside) (k : IsTied v) (s : Story) (seen : story_in v ≡ s) where
           left-by v k s seen t (Note l) reply.Recorded _ _ _ _ _
           (known-now v k s seen ∙ known-same (start_in v) (history_in v) t (Note l) reply.Recorded refl refl refl refl)
           k.live
-          (ap (λ (r : Row). map seat_view r.seats) (seat-twice v.seats t (asking None) (acquired spin (taken l q.mode q.site)) (in-row (start_in v) v.known.files (history_in v) v.seats (seats-now v k s seen) t in_row.0 in_row.1))
+          (ap (λ (r : Seating). map seat_view r.seats) (seat-twice v.seats t (asking None) (having_acquired spin (taken l q.mode q.site)) (in-row (start_in v) v.known.files (history_in v) v.seats (seats-now v k s seen) t in_row.0 in_row.1))
           ∙ seats-note (start_in v) v.known.files (history_in v) v.seats (seats-now v k s seen) t in_row.0 in_row.1 l spin (kind-now v k s seen l.0 spin kind) q sane (wants v k s seen t (Note l) reply.Recorded q ok asked))
           (watch-now v k s seen) (omega (arith, less, owed_now v k s seen)) refl
       leaves_note Exhausted ok =
@@ -135,7 +135,7 @@ module _ (v : Inside) (k : IsTied v) (s : Story) (seen : story_in v ≡ s) where
           (watch-now v k s seen) (omega (arith, less, owed_now v k s seen)) refl
 
     pub leaves_try : (m : Mode) (site : Site) (a : Acquisition) → answer_of s t (NoteTry l m site) ≡ Ok (reply_to a)
-        → Leaves v t (NoteTry l m site) (reply_to a) v.known.known v.known.live (row_then a t spin (taken l m site) v.seats) (watch_then a v.watch) (v.log.owed + owed_after a)
+        → Leaves v t (NoteTry l m site) (reply_to a) v.known.known v.known.live (seating_then a t spin (taken l m site) v.seats) (watch_then a v.watch) (v.log.owed + owed_after a)
     leaves_try m site Recorded ok =
         let sane = sane_next v k s seen t (NoteTry l m site) reply.Recorded ok in
         let in_row = within v k s seen t (NoteTry l m site) reply.Recorded ok in

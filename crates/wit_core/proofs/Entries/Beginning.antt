@@ -16,27 +16,27 @@ use Rattle.wit_core.specs.declared.verifier.Verifier.TheInside.{Inside}
 use Rattle.wit_core.specs.Fresh.{start_of}
 use Rattle.wit_core.specs.Held.{seat_view}
 use Rattle.wit_core.specs.Journal.{Journal}
-use Rattle.wit_core.specs.Plans.{named}
+use Rattle.wit_core.specs.Plans.{planned}
 use Rattle.wit_core.specs.declared.ready.Ready.{Ready}
 use Rattle.wit_core.specs.Kept.{IsReady, IsTied, start_in, history_in, story_in, state_in}
 use Rattle.wit_core.specs.Listed.{all_listed, pairs_of}
-use Rattle.wit_core.specs.Seats.{Row, no_seat, idle_row}
+use Rattle.wit_core.specs.Seats.{Seating, no_holdings, idle_seating}
 use Rattle.wit_core.proofs.Entering.{IsBegun}
 use Rattle.wit_core.proofs.Keeping.{same_story}
 use Rattle.wit_core.proofs.Steps.{same_state}
 use Rattle.wit_core.specs.Live.{live_flags}
 
 -- seats that hold nothing are those of no history
-seats-idle : (a n : ℕ) → map seat_view (replicate n no_seat) ≡ map (seat_of []) (range_with_len a n)
+seats-idle : (a n : ℕ) → map seat_view (replicate n no_holdings) ≡ map (seat_of []) (range_with_len a n)
 seats-idle a zero = refl
 seats-idle a (suc n) =
-    ap₂ (λ s ss. s ∷ ss) (sym (ap₂ (λ gs hs. record (seat_view no_seat) { sleep_groups = gs; spin_groups = hs }) (seat_groups-nil false a) (seat_groups-nil true a)))
+    ap₂ (λ s ss. s ∷ ss) (sym (ap₂ (λ gs hs. record (seat_view no_holdings) { sleep_groups = gs; spin_groups = hs }) (seat_groups-nil false a) (seat_groups-nil true a)))
     (seats-idle (a + 1) n)
 
 -- a new verifier
 module _ (v : Inside) (sizes : Sizes) (lists : List (Vec (Class × String Global))) (blessed : List (String Global × String Global))
     (limits : v.limits ≡ sizes) (same_lists : v.lists.items ≡ lists) (begun : IsBegun sizes (all_listed lists) (pairs_of blessed) v.known)
-    (seats : v.seats ≡ idle_row sizes.seats sizes.chunks) (watch : v.watch ≡ On) (log : v.log ≡ record { limit = sizes.log; history = []; owed = 0; spare = v.log.spare })
+    (seats : v.seats ≡ idle_seating sizes.seats sizes.chunks) (watch : v.watch ≡ On) (log : v.log ≡ record { limit = sizes.log; history = []; owed = 0; spare = v.log.spare })
     (unready : v.ready ≡ None) where
   start_begun : start_in v ≡ start_of v.profile sizes lists blessed
   start_begun =
@@ -51,13 +51,13 @@ module _ (v : Inside) (sizes : Sizes) (lists : List (Vec (Class × String Global
   no_files = begun.files
 
   pub story_begun : story_in v ≡ fresh (start_of v.profile sizes lists blessed)
-  story_begun = ap (λ (o : Option Ready). record (story_in v) { ready = option_map named o }) unready ∙ same_story _ _ _ _ _ _ start_begun no_files no_history
+  story_begun = ap (λ (o : Option Ready). record (story_in v) { ready = option_map planned o }) unready ∙ same_story _ _ _ _ _ _ start_begun no_files no_history
 
   state_begun : state_in v ≡ state_of (fresh (start_of v.profile sizes lists blessed))
   state_begun =
       ap (λ (x : Sizes). record (state_in v) { sizes = x }) limits
       ∙ same_state sizes v.profile _ _ _ _ _ _ _ _ _ _ _ _ (ap (λ (l : List (List ℕ)). length l) no_files) (begun.known) (ap destroyed_of no_history)
-      (ap (λ (r : Row). map seat_view r.seats) seats ∙ seats-idle 1 sizes.seats) watch (ap (λ (l : Journal). length l.history) log)
+      (ap (λ (r : Seating). map seat_view r.seats) seats ∙ seats-idle 1 sizes.seats) watch (ap (λ (l : Journal). length l.history) log)
 
   pub kept_begun : start_fault (start_of v.profile sizes lists blessed) ≡ None → IsTied v
   kept_begun accepted =
@@ -70,6 +70,6 @@ module _ (v : Inside) (sizes : Sizes) (lists : List (Vec (Class × String Global
         owed = ap (λ (l : Journal). l.owed) log ∙ sym owes;
         limit = ap (λ (l : Journal). l.limit) log ∙ ap (λ (x : Sizes). x.log) (sym limits);
         types = (begun.types ∙ sym (ap (λ (x : Sizes). x.types) limits));
-        chunks = ap (λ (r : Row). r.chunks) seats ∙ sym (ap (λ (x : Sizes). x.chunks) limits);
+        chunks = ap (λ (r : Seating). r.chunks) seats ∙ sym (ap (λ (x : Sizes). x.chunks) limits);
         ready = subst (λ (o : Option Ready). IfSome o (IsReady v)) (sym unready) tt;
       }

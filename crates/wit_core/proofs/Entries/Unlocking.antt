@@ -14,7 +14,7 @@ use Rattle.wit_model.proofs.Histories.Accepted.{unlock_accepted}
 use Rattle.wit_model.proofs.Histories.Legal.{unlock-held}
 use Rattle.wit_core.specs.declared.verifier.Verifier.TheInside.{Inside}
 use Rattle.wit_core.specs.Kept.{IsTied, start_in, history_in, story_in}
-use Rattle.wit_core.specs.Seats.{with_seat, released}
+use Rattle.wit_core.specs.Seats.{with_seat, having_released}
 use Rattle.wit_core.proofs.Keeping.{Leaves}
 use Rattle.wit_core.proofs.Steps.{known-same, seats-unlock}
 use Rattle.wit_core.proofs.Entries.Accepting.{accepted, kind-now, known-now, left-by, owed_now, sane_next, seats-now, watch-now, within}
@@ -33,7 +33,7 @@ module _ (v : Inside) (k : IsTied v) (s : Story) (seen : story_in v ≡ s) where
         omega (arith, less, owed_now v k s seen)
 
     pub leaves_unlock : (m : Mode) → answer_of s t (Unlock l m) ≡ Ok Unlocked
-        → Leaves v t (Unlock l m) Unlocked v.known.known v.known.live (with_seat t (released spin l.0) v.seats) v.watch (v.log.owed - (0 + 1))
+        → Leaves v t (Unlock l m) Unlocked v.known.known v.known.live (with_seat t (having_released spin l.0) v.seats) v.watch (v.log.owed - (0 + 1))
     leaves_unlock m ok =
         let sane = sane_next v k s seen t (Unlock l m) Unlocked ok in
         let in_row = within v k s seen t (Unlock l m) Unlocked ok in

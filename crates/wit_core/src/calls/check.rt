@@ -7,7 +7,7 @@ ghost use Rattle.wit_model.specs.Rules.Refusals.{IsRefusal};
 ghost use Rattle.wit_model.specs.Rules.State.{state_of, seat_at, is_seat, is_live};
 ghost use Rattle.wit_model.specs.Rules.Step.{AnswersOrFails, answer_of, is_logged, logged};
 ghost use Rattle.wit_model.specs.Rules.Verdict.{asked_of, verdict};
-ghost use Rattle.wit_core.specs.Verdict.{orders_taught, told, replied};
+ghost use Rattle.wit_core.specs.Verdict.{orders_taught, answer_by, replied};
 
 use crate::known::{flags_of, type_of};
 use crate::ready::{Plan, Ready};
@@ -98,7 +98,7 @@ impl Verifier {
         requires seat { is_seat (state_of self.now) seat.0 ≡ true }
         requires lock { is_live (state_of self.now) request.lock.0 ≡ true }
         ensures { let s = state_of self.now in
-            told (orders_taught s seat.0 request) result ≡ verdict s.profile s.known s.watch (seat_at s seat.0) request }
+            answer_by (orders_taught s seat.0 request) result ≡ verdict s.profile s.known s.watch (seat_at s seat.0) request }
     {
         let known = &self.known;
         verdict(
@@ -150,8 +150,8 @@ impl Verifier {
     fn reply_to(&self, seat: SeatNo, request: Request, verdict: Verdict) -> Result<Reply, Fault>
         requires seat { is_seat (state_of self.now) seat.0 ≡ true }
         requires lock { is_live (state_of self.now) request.lock.0 ≡ true }
-        ensures ok { IfOk result (λ reply. told (orders_taught (state_of self.now) seat.0 request) verdict ≡ Ok reply) }
-        ensures err { IfErr result (IsRefusal (told (orders_taught (state_of self.now) seat.0 request) verdict)) }
+        ensures ok { IfOk result (λ reply. answer_by (orders_taught (state_of self.now) seat.0 request) verdict ≡ Ok reply) }
+        ensures err { IfErr result (IsRefusal (answer_by (orders_taught (state_of self.now) seat.0 request) verdict)) }
     {
         let alloc = self.alloc;
         match verdict {

@@ -8,7 +8,7 @@ ghost use Rattle.wit_model.specs.Rules.State.{state_of};
 ghost use Rattle.wit_model.specs.Rules.Step.{AnswersOrFails, answer_of, held_by, logged};
 ghost use Rattle.wit_model.specs.Rules.Turning.{is_upgradable, unless_held, step_turn};
 ghost use Rattle.wit_core.specs.Replies.{done_reply};
-ghost use Rattle.wit_core.specs.Turning.{turn_call, turned, done_or_ignored};
+ghost use Rattle.wit_core.specs.Turning.{turn_call, turn_answer, done_or_ignored};
 
 use crate::verifier::Verifier;
 use std::alloc::AllocError;
@@ -54,7 +54,7 @@ impl Verifier {
     // Whether a turn to this mode is recorded: else it is passed over.
     fn answer_turn(&self, seat: SeatNo, lock: LockNo, mode: Mode) -> Result<bool, Fault>
         ensures { done_or_ignored result ≡ step_turn (state_of self.now) seat.0 lock.0
-            (turned mode (state_of self.now).watch (held_by (state_of self.now) seat.0 lock.0)) }
+            (turn_answer mode (state_of self.now).watch (held_by (state_of self.now) seat.0 lock.0)) }
     {
         self.before_naming(seat, lock)?;
         if !is_upgradable(self.class_of_lock(lock)) {
@@ -108,7 +108,7 @@ fn is_upgradable(class: Class) -> bool
 
 // Whether a held lock may be turned to this mode: not to the one that it has, and not where it was acquired again.
 fn judge_turn(held: Instance, mode: Mode) -> Result<(), Fault>
-    ensures { (watch : Watch) → done_reply Done result ≡ turned mode watch (Some held) }
+    ensures { (watch : Watch) → done_reply Done result ≡ turn_answer mode watch (Some held) }
 {
     match mode {
         Mode::Exclusive if held.mode.is_exclusive() => Err(Fault::UpgradeOfExclusive),

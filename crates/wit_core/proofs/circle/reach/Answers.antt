@@ -1,5 +1,5 @@
 use Rattle.std.proofs.Common.{◌≡◌, ◌∙◌, ◌+◌, ap, sym, arith, refl}
-use Rattle.wit_core.specs.Searching.{rows_of, says, seat_in}
+use Rattle.wit_core.specs.Searching.{rows_of, says, seat_reached}
 use Rattle.wit_core.proofs.Reaching.{reaches_more, reaches_same, marked-seen, not_said, seat-read, rows-many}
 use Rattle.wit_core.proofs.circle.reach.Goals as goal
 use Rattle.wit_core.proofs.circle.reach.Goals.{then-not-seen-index+then-says+in_ok-push, else-not-seen-index, else-not-seen-index-via-then-not-seen-index+else-says, else-not-seen-index-via-else-not-seen-index}
@@ -11,7 +11,7 @@ loop-index-preserved c =
     let place = c.args.place in
     let n = c.loop-index.index in
     let old = c.args.reached.now.items in
-    let is : c.index.result.now.seat.0 ≡ seat_in old place = seat-read old place c.index.result.now c.requires.place c.index.ensures in
+    let is : c.index.result.now.seat.0 ≡ seat_reached old place = seat-read old place c.index.result.now c.requires.place c.index.ensures in
     elim c.if-not-seen-index.branch [
       | then-not-seen-index+then-says+in_ok-push w ↦
           rw (w.reached-is, w.seen-is)
@@ -22,7 +22,7 @@ loop-index-preserved c =
         | else-not-seen-index-via-then-not-seen-index+else-says w' ↦
             rw (w.reached-is, w.seen-is)
             (reaches_same rows first place n old c.loop-index.reached.items c.args.seen.now c.loop-index.seen c.loop-index.invariant
-            (not_said rows (n + 1) c.index.result.now.seat.0 (seat_in old place) _ is (sym w'.says.ensures ∙ w'.if-says.false)))
+            (not_said rows (n + 1) c.index.result.now.seat.0 (seat_reached old place) _ is (sym w'.says.ensures ∙ w'.if-says.false)))
         | else-not-seen-index-via-else-not-seen-index w' ↦
             rw (w.reached-is, w.seen-is)
             (reaches_same rows first place n old c.loop-index.reached.items c.args.seen.now c.loop-index.seen c.loop-index.invariant

@@ -2,8 +2,8 @@ use Rattle.std.proofs.Common.{◌≡◌, drop}
 use Rattle.std.specs.List.{list_any}
 use Rattle.wit_model.specs.Rules.Destroying.{uses}
 use Rattle.wit_core.specs.Held.{seat_view}
-use Rattle.wit_core.specs.Seats.{Seat}
+use Rattle.wit_core.specs.Seats.{Holdings}
 use Rattle.wit_core.proofs.seats.Seats.is_used.Given as goal
 
 abbrev pub invariant-loop-place : goal.invariant-loop-place
-invariant-loop-place l = list_any (λ (s : Seat). uses l.lock.0 (seat_view s)) (drop l.place l.self.seats) ≡ list_any (λ (s : Seat). uses l.lock.0 (seat_view s)) l.self.seats
+invariant-loop-place l = list_any (λ (s : Holdings). uses l.lock.0 (seat_view s)) (drop l.place l.self.seats) ≡ list_any (λ (s : Holdings). uses l.lock.0 (seat_view s)) l.self.seats

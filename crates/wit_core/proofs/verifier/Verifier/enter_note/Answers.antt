@@ -3,7 +3,7 @@ use Rattle.wit_model.specs.Rules.Numbers.{IsGiven}
 use Rattle.wit_model.specs.Rules.Types.{is_spin}
 use Rattle.wit_model.specs.declared.calls.Call.TheVariants.{Note}
 use Rattle.wit_core.specs.Acquiring.{reply_to}
-use Rattle.wit_core.specs.Seats.{Row, with_seat, asking}
+use Rattle.wit_core.specs.Seats.{Seating, with_seat, asking}
 use Rattle.wit_core.proofs.Keeping.{kept_entered, noted_log}
 use Rattle.wit_core.proofs.Entries.Accepting.{accepted, given}
 use Rattle.wit_core.proofs.Entries.Acquiring.{given-then, reply-logged, reply-told, acquire_once, note_shallow, note_owed, leaves_note}
@@ -24,7 +24,7 @@ returns-clause-result c = reply-told c.self.inside c.self.invariant.tied c.args.
 
 pub clear-requires : goal.clear-requires
 clear-requires c =
-    subst (λ (r : Row). IsGiven r.seats c.args.seat.0) (sym c.acquire-acquisition.ensures.seats)
+    subst (λ (r : Seating). IsGiven r.seats c.args.seat.0) (sym c.acquire-acquisition.ensures.seats)
     (given-then c.acquire-acquisition.result c.args.seat.0 c.args.seat.0 c.is_spin-spin.result _ c.self.inside.seats (given c.self.inside c.self.invariant.tied c.args.self.now c.self.view_is c.args.seat.0 (Note c.args.lock) _ c.requires.accepted))
 
 pub push_owed-requires : goal.push_owed-requires

@@ -1,6 +1,6 @@
 use Rattle.std.proofs.Common.{◌≡◌, [], refl, ap₂, subst, ◌∙◌}
 use Rattle.wit_core.specs.Fresh.{start_of}
-use Rattle.wit_core.specs.Seats.{idle_row}
+use Rattle.wit_core.specs.Seats.{idle_seating}
 use Rattle.std.proofs.lemmas.Result.{err_from_is_err_and}
 use Rattle.wit_core.proofs.Entering.{start-unmade, lists-refused, pairs-refused, all-accepted, is-begun}
 use Rattle.wit_core.proofs.Entries.Beginning.{kept_begun}
@@ -34,7 +34,7 @@ invariant_of-result c =
     (is-begun c.args.profile c.args.limits c.types-types.result c.args.lists.items c.deref.result.now c.args.blessed.items c.deref-2.result.now c.in_ok-known.known
     c.types-types.ensures.value c.deref.ensures.value c.deref-2.ensures.value c.in_ok-known.ensures.ok
     c.enter_lists.new.self c.bless_all.new.self c.in_ok-enter_lists.ensures.entered c.in_ok-bless_all.ensures.ok)
-    (c.in_ok-seats.ensures.ok ∙ ap₂ idle_row c.seats.ensures.value c.chunks.ensures.value) refl
+    (c.in_ok-seats.ensures.ok ∙ ap₂ idle_seating c.seats.ensures.value c.chunks.ensures.value) refl
     (subst (λ n. c.new-3.result ≡ record { limit = n; history = []; owed = 0; spare = c.new-3.result.spare }) c.log.ensures.value c.new-3.ensures) refl
     (all-accepted c.args.profile c.args.limits c.types-types.result c.args.lists.items c.deref.result.now c.args.blessed.items c.deref-2.result.now c.in_ok-known.known
     c.types-types.ensures.value c.deref.ensures.value c.deref-2.ensures.value c.in_ok-known.ensures.ok

@@ -2,7 +2,7 @@ use Rattle.std.proofs.Common.{◌≤◌, true, false, length, refl, ap, subst, s
 use Rattle.wit_model.specs.Rules.State.{state_of}
 use Rattle.wit_model.specs.Rules.Orders.{is_direct, is_found}
 use Rattle.wit_model.proofs.Histories.Accepted.{live-given}
-use Rattle.wit_core.specs.Verdict.{told}
+use Rattle.wit_core.specs.Verdict.{answer_by}
 use Rattle.wit_core.proofs.Judged.{request-given, types-given, matrix-sized, seat-within, list-within, judgeable, verdict-told, orders-told}
 use Rattle.wit_core.proofs.verifier.Verifier.verdict.Goals as goal
 
@@ -33,7 +33,7 @@ verdict-requires-clause-sized c =
 
 pub returns : goal.returns
 returns c =
-    ap (λ new. told new c.verdict.result)
+    ap (λ new. answer_by new c.verdict.result)
     (sym (orders-told c.self.inside c.self.invariant.tied c.args.self.now c.self.view_is c.args.seat.0 c.requires.seat c.lists.result.now c.lists.ensures
     c.names.result.now c.matrix.result.now c.lock_types.result.now c.args.request c.asked.result c.names.ensures.types c.names.ensures.blessed
     (λ a b. c.matrix.ensures.orders a b ∙ ap (λ os. is_direct os a b) c.orders.ensures.orders)
