@@ -172,13 +172,13 @@ impl Known {
             Reply::AdoptedAll(orders) => self.orders.adopt_all(orders.get().pairs(), request.site),
             Reply::Silent(held, asked) => self.orders.find(*held, *asked),
             Reply::Duplicate(doubling) => {
-                let asked = type_of(&self.locks, doubling.get().asked.lock);
+                let asked = type_of_lock(&self.locks, doubling.get().asked.lock);
                 self.orders.find(asked, asked);
             }
             Reply::Reversal(conflict) => {
                 let conflict = conflict.get();
-                let held = type_of(&self.locks, conflict.held.lock);
-                let asked = type_of(&self.locks, conflict.asked.lock);
+                let held = type_of_lock(&self.locks, conflict.held.lock);
+                let asked = type_of_lock(&self.locks, conflict.asked.lock);
                 self.orders.find(held, asked);
             }
             _ => {}
@@ -216,7 +216,7 @@ impl Known {
         requires typed { IsGiven self.old.known.types (lock_at self.old.known.locks lock.0).type_no.0 }
         ensures { self.new ≡ record self.old { live = with_changed self.old.live lock.0 false } }
     {
-        let type_no = type_of(&self.locks, lock);
+        let type_no = type_of_lock(&self.locks, lock);
         // Called for its clause that each type has a count.
         let _types = self.names.len();
         self.names.release(type_no);
@@ -235,7 +235,7 @@ pub fn lock_with(locks: &[Lock], lock: LockNo) -> Option<&Lock>
 }
 
 /// The type of a lock, by its number; 0 for a lock that was never made.
-pub fn type_of(locks: &[Lock], lock: LockNo) -> TypeNo
+pub fn type_of_lock(locks: &[Lock], lock: LockNo) -> TypeNo
     ensures { result ≡ (lock_at locks.now lock.0).type_no }
 {
     match lock_with(locks, lock) {
@@ -245,7 +245,7 @@ pub fn type_of(locks: &[Lock], lock: LockNo) -> TypeNo
 }
 
 /// What a lock allows; nothing for a lock that was never made.
-pub fn flags_of(locks: &[Lock], lock: LockNo) -> LockFlags
+pub fn flags_of_lock(locks: &[Lock], lock: LockNo) -> LockFlags
     ensures { result ≡ (lock_at locks.now lock.0).made.flags }
 {
     match lock_with(locks, lock) {
@@ -255,7 +255,7 @@ pub fn flags_of(locks: &[Lock], lock: LockNo) -> LockFlags
 }
 
 /// The class of a lock; that of a sleep mutex for a lock that was never made.
-pub fn class_of(locks: &[Lock], lock: LockNo) -> Class
+pub fn class_of_lock(locks: &[Lock], lock: LockNo) -> Class
     ensures { result ≡ (lock_at locks.now lock.0).made.class }
 {
     match lock_with(locks, lock) {

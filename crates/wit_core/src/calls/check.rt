@@ -9,7 +9,7 @@ ghost use Rattle.wit_model.specs.Rules.Step.{AnswersOrFails, answer_of, is_logge
 ghost use Rattle.wit_model.specs.Rules.Verdict.{asked_of, verdict};
 ghost use Rattle.wit_core.specs.Verdict.{orders_taught, answer_by, replied};
 
-use crate::known::{flags_of, type_of};
+use crate::known::{flags_of_lock, type_of_lock};
 use crate::ready::{Plan, Ready};
 use crate::verifier::Verifier;
 use std::alloc::AllocError;
@@ -138,8 +138,8 @@ impl Verifier {
         let locks = self.known.locks();
         Asked {
             lock: request.lock,
-            type_no: type_of(locks, request.lock),
-            flags: flags_of(locks, request.lock),
+            type_no: type_of_lock(locks, request.lock),
+            flags: flags_of_lock(locks, request.lock),
             mode: request.mode,
             ops: request.ops,
             site: request.site,

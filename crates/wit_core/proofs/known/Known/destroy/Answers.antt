@@ -13,7 +13,7 @@ use Rattle.wit_core.proofs.known.Known.destroy.Goals as goal
 pub release-requires-clause-live : goal.release-requires-clause-live
 release-requires-clause-live c =
     let live = subst (λ (f : Facts). is_flagged f.live c.args.lock.0 ≡ true) (sym c.self.view_is) c.requires.live in
-    let of = ap (λ (n : TypeNo). n.0) c.type_of-type_no.ensures ∙ ap (λ (ls : List Lock). (lock_at ls c.args.lock.0).type_no.0) c.deref.ensures.value in
+    let of = ap (λ (n : TypeNo). n.0) c.type_of_lock-type_no.ensures ∙ ap (λ (ls : List Lock). (lock_at ls c.args.lock.0).type_no.0) c.deref.ensures.value in
     subst (λ m. 0 < live_of c.self.inside.names m) (sym of)
     (counted-live c.self.inside.names c.self.inside.locks.items c.self.inside.live.items c.args.lock.0 c.self.invariant.live live c.self.invariant.counts)
 
@@ -26,8 +26,8 @@ index_mut-requires c =
 pub invariant_of-self : goal.invariant_of-self
 invariant_of-self c =
     let live = subst (λ (f : Facts). is_flagged f.live c.args.lock.0 ≡ true) (sym c.self.view_is) c.requires.live in
-    let of : c.type_of-type_no.result.0 ≡ (lock_at c.self.inside.locks.items c.args.lock.0).type_no.0 =
-    ap (λ (n : TypeNo). n.0) c.type_of-type_no.ensures ∙ ap (λ (ls : List Lock). (lock_at ls c.args.lock.0).type_no.0) c.deref.ensures.value in
+    let of : c.type_of_lock-type_no.result.0 ≡ (lock_at c.self.inside.locks.items c.args.lock.0).type_no.0 =
+    ap (λ (n : TypeNo). n.0) c.type_of_lock-type_no.ensures ∙ ap (λ (ls : List Lock). (lock_at ls c.args.lock.0).type_no.0) c.deref.ensures.value in
     let typed = subst (λ (f : Facts). IsGiven f.known.types (lock_at f.known.locks c.args.lock.0).type_no.0) (sym c.self.view_is) c.requires.typed in
     record {
       orders = c.self.invariant.orders ∙ sym (ap (λ (n : Names). n.most_types) c.release.ensures);

@@ -18,6 +18,6 @@ returns c =
       ops = c.args.request.ops;
       site = c.args.request.site;
     })
-    (c.type_of.ensures ∙ ap (λ (ls : List Lock). (lock_at ls c.args.request.lock.0).type_no) c.locks-locks.ensures)
-    (c.flags_of.ensures ∙ ap (λ (ls : List Lock). (lock_at ls c.args.request.lock.0).made.flags) c.locks-locks.ensures)
+    (c.type_of_lock.ensures ∙ ap (λ (ls : List Lock). (lock_at ls c.args.request.lock.0).type_no) c.locks-locks.ensures)
+    (c.flags_of_lock.ensures ∙ ap (λ (ls : List Lock). (lock_at ls c.args.request.lock.0).made.flags) c.locks-locks.ensures)
     ∙ ap (λ (x : State). asked_of x.known c.args.request) (now c.self.inside c.self.invariant.tied c.args.self.now c.self.view_is)
