@@ -32,7 +32,7 @@ use Rattle.wit_model.proofs.Histories.Legal.{seat_accepted}
 use Rattle.wit_grammar.specs.Lines.{as_line}
 use Rattle.wit_grammar.specs.declared.errors.LineError.{LineError}
 use Rattle.wit_grammar.specs.declared.errors.LineError.TheVariants.{Bad, Memory}
-use Rattle.wit_trace.specs.Migrates.{DoesBeside, Enters, GoesWithCall, IsBeside, before_of, behind_of, both, deed, is_first, line_of_step}
+use Rattle.wit_trace.specs.Migrates.{DoesBeside, Enters, GoesWithCall, IsBeside, before_of, behind_of, line_and_step, deed, is_first, line_of_step}
 use Rattle.wit_trace.specs.Replays.{Calls, FailsFor, IsBadFor}
 use Rattle.wit_trace.specs.declared.migrating.steps.LockStep.{LockStep}
 
@@ -163,7 +163,7 @@ module _ (s : Story) (raw : List RawLock) (m : ℕ) (bytes : List ℕ) (t : ℕ)
       -- the step before a call
       first-due : is_first k.step ≡ true
           → answered s raw m bytes t call (answer_of s t call)
-          ≡ if_free (deed k) (goes new (raw_after (deed k) raw) (both k bytes))
+          ≡ if_free (deed k) (goes new (raw_after (deed k) raw) (line_and_step k bytes))
       first-due is =
           let st = grown s t call r in
           stepped (Some k) b
@@ -177,7 +177,7 @@ module _ (s : Story) (raw : List RawLock) (m : ℕ) (bytes : List ℕ) (t : ℕ)
       -- the step behind it
       last-due : is_first k.step ≡ false
           → answered s raw m bytes t call (answer_of s t call)
-          ≡ goes new (raw_after (deed k) raw) (both k bytes)
+          ≡ goes new (raw_after (deed k) raw) (line_and_step k bytes)
       last-due is =
           let st = grown s t call r in
           stepped (Some k) b
@@ -190,12 +190,12 @@ module _ (s : Story) (raw : List RawLock) (m : ℕ) (bytes : List ℕ) (t : ℕ)
 
       free-due : is_free raw (deed k) ≡ true
           → answered s raw m bytes t call (answer_of s t call)
-          ≡ goes new (raw_after (deed k) raw) (both k bytes)
+          ≡ goes new (raw_after (deed k) raw) (line_and_step k bytes)
       free-due free =
           elim (cases_Bool (is_first k.step)) [
             | inl is ↦
                 first-due is
-                ∙ ap (λ f. cond f (goes new (raw_after (deed k) raw) (both k bytes)) (moving.Bad (why.Fault RawNotFree))) free
+                ∙ ap (λ f. cond f (goes new (raw_after (deed k) raw) (line_and_step k bytes)) (moving.Bad (why.Fault RawNotFree))) free
             | inr is ↦ last-due is
           ]
 
@@ -205,7 +205,7 @@ module _ (s : Story) (raw : List RawLock) (m : ℕ) (bytes : List ℕ) (t : ℕ)
           elim (cases_Bool (is_first k.step)) [
             | inl is ↦
                 first-due is
-                ∙ ap (λ f. cond f (goes new (raw_after (deed k) raw) (both k bytes)) (moving.Bad (why.Fault RawNotFree))) barred
+                ∙ ap (λ f. cond f (goes new (raw_after (deed k) raw) (line_and_step k bytes)) (moving.Bad (why.Fault RawNotFree))) barred
             | inr is ↦ absurd (true≢false (sym (b.own.2 is) ∙ barred))
           ]
 
@@ -220,8 +220,8 @@ module _ (s : Story) (raw : List RawLock) (m : ℕ) (bytes : List ℕ) (t : ℕ)
     made-step None b old none raw' (Err Memory) does = tt
     made-step None b old none raw' (Err (Bad cause)) does = elim does [ ]
     made-step (Some k) b old none raw' (Ok text) does = record {
-      lines = both k bytes;
-      goes = free-due k b does.0 ∙ ap (λ rs. moving.Goes (Moved new rs m) (both k bytes)) (sym does.1);
+      lines = line_and_step k bytes;
+      goes = free-due k b does.0 ∙ ap (λ rs. moving.Goes (Moved new rs m) (line_and_step k bytes)) (sym does.1);
       written = does.2;
     }
     made-step (Some k) b old none raw' (Err Memory) does = tt

@@ -21,12 +21,12 @@ use Rattle.wit_model.specs.Trace.Reading.{line_of}
 use Rattle.wit_model.specs.Trace.Spelling.{spelling}
 use Rattle.wit_model.specs.World.Moving.{step_before, step_behind, is_free_beside, raw_moved}
 use Rattle.wit_model.specs.World.Scenes.{RawLock}
-use Rattle.wit_trace.specs.Migrates.{Writes, reported}
+use Rattle.wit_trace.specs.Migrates.{Writes, reports_told}
 use Rattle.wit_trace.proofs.ReportLemmas.{CountsOne, calls_one, grown-le}
 
 -- a line's outcome counts one at most
 abbrev MovesOne : ℕ → Outcome → Type 0
-MovesOne n (Goes q lines) = reported q ≤ n + 1
+MovesOne n (Goes q lines) = reports_told q ≤ n + 1
 MovesOne n (Bad cause) = Unit {0}
 
 answered_one : (s : Story) (raw : List RawLock) (m : ℕ) (bytes : List ℕ) (t : ℕ) (call : Call) (a : Result Reply Fault)
@@ -69,7 +69,7 @@ header_one : (sizes : Sizes) (line : List ℕ) (fits : Bool)
 header_one sizes line true = omega arith
 header_one sizes line false = tt
 
-entered_one : (m : Moving) (n : ℕ) (bytes : List ℕ) (line : Line) → MovesOne (reported m) (moving.entered m n bytes line)
+entered_one : (m : Moving) (n : ℕ) (bytes : List ℕ) (line : Line) → MovesOne (reports_told m) (moving.entered m n bytes line)
 entered_one Unmoved n bytes (Header One s t l c) =
     header_one (sizes_of s t l c output.log_limit) (spelling (Header Two s t l c)) (are_within_limits (sizes_of s t l c output.log_limit))
 entered_one Unmoved n bytes (Header Two s t l c) = tt
@@ -77,21 +77,21 @@ entered_one Unmoved n bytes _ = tt
 entered_one (Keeping p kept) n bytes line = keeps_one kept bytes (output.entered (Opening p) n line)
 entered_one (Moved s raw m) n bytes line = moves_one s raw m bytes (call_of line)
 
-outcome_one : (m : Moving) (n : ℕ) (bytes : List ℕ) → MovesOne (reported m) (outcome m n bytes)
+outcome_one : (m : Moving) (n : ℕ) (bytes : List ℕ) → MovesOne (reports_told m) (outcome m n bytes)
 outcome_one m n bytes = go (nat_lt 4096 (length bytes)) (line_of bytes)
   where
-    go : (long : Bool) (o : Option Line) → MovesOne (reported m) (cond long (Bad why.Long) (moving.read_as m n bytes o))
+    go : (long : Bool) (o : Option Line) → MovesOne (reports_told m) (cond long (Bad why.Long) (moving.read_as m n bytes o))
     go true o = tt
     go false None = tt
     go false (Some line) = entered_one m n bytes line
 
 pub written_one : (m new : Moving) (n : ℕ) (bytes text : List ℕ) → Writes (outcome m n bytes) new text
-    → reported new ≤ reported m + 1
-written_one m new n bytes text w = subst (MovesOne (reported m)) w.goes (outcome_one m n bytes)
+    → reports_told new ≤ reports_told m + 1
+written_one m new n bytes text w = subst (MovesOne (reports_told m)) w.goes (outcome_one m n bytes)
 
 pub moved_one : (s : Story) (raw : List RawLock) (m : ℕ) (new : Moving) (bytes text : List ℕ) (c : LineCall)
-    → Writes (moves s raw m bytes c) new text → reported new ≤ reports_of s.history + m + 1
+    → Writes (moves s raw m bytes c) new text → reports_told new ≤ reports_of s.history + m + 1
 moved_one s raw m new bytes text c w =
-    let one : reported new ≤ (reports_of s.history + m) + 1
+    let one : reports_told new ≤ (reports_of s.history + m) + 1
     = subst (MovesOne (reports_of s.history + m)) w.goes (moves_one s raw m bytes c) in
     one

@@ -32,34 +32,34 @@ use Rattle.wit_grammar.specs.declared.errors.LineError.{LineError}
 use Rattle.wit_grammar.specs.declared.errors.LineError.TheVariants.{Bad, Memory}
 use Rattle.wit_model.specs.declared.lines.View.{View}
 use Rattle.wit_trace.specs.declared.stream.machine.Step.{Step}
-use Rattle.wit_trace.specs.Replays.{Calls, EndsFor, FailsFor, KeepsTotal, Passes, Reaches, reported}
+use Rattle.wit_trace.specs.Replays.{Calls, EndsFor, FailsFor, KeepsTotal, Passes, Reaches, reports_told}
 use Rattle.std.specs.Global.{Vec}
 
 ok_is : (p q : output.Progress) → ◌≡◌ {A = Result output.Progress output.BadLine} (Ok p) (Ok q) → p ≡ q
 ok_is p q e = cc
 
 -- where a sum keeps, the reports do
-pub keeps_reports : (p q : output.Progress) → KeepsTotal p q → reported q ≡ reported p
+pub keeps_reports : (p q : output.Progress) → KeepsTotal p q → reports_told q ≡ reports_told p
 keeps_reports p q keeps = ap (λ (t : output.Total). t.reports) (keeps None)
 
 -- a verifier that was told nothing yet told no report
-begun_none : (version : Version) (start : Start) → reported (output.begun version start) ≡ 0
+begun_none : (version : Version) (start : Start) → reports_told (output.begun version start) ≡ 0
 begun_none One start = refl
 begun_none Two start = refl
 
 -- where the prelude ends, none was told
-reached_same : (p : output.Progress) (n : ℕ) (line : List ℕ) (q : output.Progress) → output.reached p n line ≡ Ok q → reported q ≡ reported p
-reached_same output.Unstarted n line q is = ap reported (sym (ok_is _ q is))
+reached_same : (p : output.Progress) (n : ℕ) (line : List ℕ) (q : output.Progress) → output.reached p n line ≡ Ok q → reports_told q ≡ reports_told p
+reached_same output.Unstarted n line q is = ap reports_told (sym (ok_is _ q is))
 reached_same (output.Opening o) n line q is = go (output.is_prelude line || output.is_profile n line) (start_fault o.start) is
   where
-    go : (on : Bool) (fault : Option (ℕ × Fault)) → cond on (Ok (output.Opening o)) (output.opened o fault) ≡ Ok q → reported q ≡ 0
-    go true fault e = ap reported (sym (ok_is _ q e))
-    go false None e = ap reported (sym (ok_is _ q e)) ∙ begun_none o.version o.start
+    go : (on : Bool) (fault : Option (ℕ × Fault)) → cond on (Ok (output.Opening o)) (output.opened o fault) ≡ Ok q → reports_told q ≡ 0
+    go true fault e = ap reports_told (sym (ok_is _ q e))
+    go false None e = ap reports_told (sym (ok_is _ q e)) ∙ begun_none o.version o.start
     go false (Some refused) e = absurd cc
-reached_same (output.Reading s m) n line q is = ap reported (sym (ok_is _ q is))
-reached_same (output.Stepping s m) n line q is = ap reported (sym (ok_is _ q is))
+reached_same (output.Reading s m) n line q is = ap reports_told (sym (ok_is _ q is))
+reached_same (output.Stepping s m) n line q is = ap reports_told (sym (ok_is _ q is))
 
-pub reaches_same : (p q : output.Progress) (n : ℕ) (line : List ℕ) (refused : Option (ℕ × Cause)) → Reaches (output.reached p n line) p q refused → reported q ≡ reported p
+pub reaches_same : (p q : output.Progress) (n : ℕ) (line : List ℕ) (refused : Option (ℕ × Cause)) → Reaches (output.reached p n line) p q refused → reports_told q ≡ reports_told p
 reaches_same p q n line None reaches = reached_same p n line q reaches
 reaches_same p q n line (Some bad) reaches = keeps_reports p q reaches.1
 
@@ -79,7 +79,7 @@ grown-le s t c reply = go (is_logged reply)
 
 -- a line's outcome counts one at most
 abbrev pub CountsOne : ℕ → output.Outcome → Type 0
-CountsOne n (output.Goes q text) = reported q ≤ n + 1
+CountsOne n (output.Goes q text) = reports_told q ≤ n + 1
 CountsOne n (output.Bad why) = Unit {0}
 
 makes_one : (s : Story) (n t : ℕ) (c : Call) → CountsOne (reports_of s.history + n) (output.makes s n t c)
@@ -170,7 +170,7 @@ header_one : (version : Version) (sizes : Sizes) (fits : Bool) → CountsOne 0 (
 header_one version sizes true = omega arith
 header_one version sizes false = tt
 
-entered_one : (p : output.Progress) (n : ℕ) (line : Line) → CountsOne (reported p) (output.entered p n line)
+entered_one : (p : output.Progress) (n : ℕ) (line : Line) → CountsOne (reports_told p) (output.entered p n line)
 entered_one output.Unstarted n (Header version seats types locks chunks) = header_one version (sizes_of seats types locks chunks output.log_limit) (are_within_limits (sizes_of seats types locks chunks output.log_limit))
 entered_one output.Unstarted n _ = tt
 entered_one (output.Opening p) n Profile = omega arith
@@ -180,21 +180,21 @@ entered_one (output.Opening p) n _ = tt
 entered_one (output.Reading s m) n line = calls_one s m (output.call_of line)
 entered_one (output.Stepping s m) n line = calls_in_one s m (output.call_of line)
 
-outcome_one : (p : output.Progress) (n : ℕ) (bytes : List ℕ) → CountsOne (reported p) (output.outcome p n bytes)
+outcome_one : (p : output.Progress) (n : ℕ) (bytes : List ℕ) → CountsOne (reports_told p) (output.outcome p n bytes)
 outcome_one p n bytes = go (ltb 4096 (length bytes)) (line_of bytes)
   where
-    go : (long : Bool) (o : Option Line) → CountsOne (reported p) (cond long (output.Bad why.Long) (output.read_as p n o))
+    go : (long : Bool) (o : Option Line) → CountsOne (reports_told p) (cond long (output.Bad why.Long) (output.read_as p n o))
     go true o = tt
     go false None = tt
     go false (Some line) = entered_one p n line
 
 -- what became of a line counts one at most, unless for want of memory
 abbrev CountsOn : ℕ → output.Progress → Result (Vec ℕ) LineError → Type 0
-CountsOn n q (Ok text) = reported q ≤ n + 1
+CountsOn n q (Ok text) = reports_told q ≤ n + 1
 CountsOn n q (Err Memory) = Unit {0}
-CountsOn n q (Err (Bad cause)) = reported q ≤ n + 1
+CountsOn n q (Err (Bad cause)) = reports_told q ≤ n + 1
 
-passes_one : (due : output.Outcome) (p q : output.Progress) (r : Result (Vec ℕ) LineError) → CountsOne (reported p) due → Passes due p q r → CountsOn (reported p) q r
+passes_one : (due : output.Outcome) (p q : output.Progress) (r : Result (Vec ℕ) LineError) → CountsOne (reports_told p) due → Passes due p q r → CountsOn (reports_told p) q r
 passes_one (output.Goes to text) p q (Ok told) one passes = rw (passes.0) one
 passes_one (output.Bad why) p q (Ok told) one passes = elim passes [ ]
 passes_one due p q (Err Memory) one passes = tt
@@ -203,15 +203,15 @@ passes_one (output.Bad why) p q (Err (Bad cause)) one passes = let e = keeps_rep
 
 module _ (p q : output.Progress) (n : ℕ) (bytes : List ℕ) (r : Result (Vec ℕ) LineError) (passes : Passes (output.outcome p n bytes) p q r) where
   -- a line that was told
-  pub told_one : (text : Vec ℕ) → r ≡ Ok text → reported q ≤ reported p + 1
-  told_one text is = subst (CountsOn (reported p) q) is (passes_one (output.outcome p n bytes) p q r (outcome_one p n bytes) passes)
+  pub told_one : (text : Vec ℕ) → r ≡ Ok text → reports_told q ≤ reports_told p + 1
+  told_one text is = subst (CountsOn (reports_told p) q) is (passes_one (output.outcome p n bytes) p q r (outcome_one p n bytes) passes)
 
   -- or is bad
-  pub bad_one : (cause : Cause) → r ≡ Err (Bad cause) → reported q ≤ reported p + 1
-  bad_one cause is = subst (CountsOn (reported p) q) is (passes_one (output.outcome p n bytes) p q r (outcome_one p n bytes) passes)
+  pub bad_one : (cause : Cause) → r ≡ Err (Bad cause) → reports_told q ≤ reports_told p + 1
+  bad_one cause is = subst (CountsOn (reports_told p) q) is (passes_one (output.outcome p n bytes) p q r (outcome_one p n bytes) passes)
 
   -- what ended then
-  pub ended_one : (view : View) (e : LineError) (s : Step) → r ≡ Err e → EndsFor view q n e s → reported q ≤ reported p + 1
+  pub ended_one : (view : View) (e : LineError) (s : Step) → r ≡ Err e → EndsFor view q n e s → reports_told q ≤ reports_told p + 1
   ended_one view Memory s is ends = elim ends [ ]
   ended_one view (Bad cause) s is ends = bad_one cause is
 

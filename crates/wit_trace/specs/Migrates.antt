@@ -53,8 +53,8 @@ moved_to (Keeping prelude kept) = moving.Keeping (prelude_of prelude) (kept_byte
 moved_to (Moved behind) = standing behind
 
 -- how many reports were told so far
-abbrev pub reported : Moving → ℕ
-reported m = (output.summed (moving.read_to m) None).reports
+abbrev pub reports_told : Moving → ℕ
+reports_told m = (output.summed (moving.read_to m) None).reports
 
 -- a lock weighs one, and each share of it one more: so a line adds one at most, and all of them can
 -- be counted
@@ -194,15 +194,15 @@ abbrev pub line_of_step : LockStep → List ℕ
 line_of_step k = spelling (OnLock (lock_line.Step k.seat k.lock k.step))
 
 -- a line, and the one of the step that goes with it
-abbrev pub both : LockStep → List ℕ → List (List ℕ)
-both k bytes =
+abbrev pub line_and_step : LockStep → List ℕ → List (List ℕ)
+line_and_step k bytes =
     if is_first k.step then line_of_step k ∷ bytes ∷ [] else bytes ∷ line_of_step k ∷ []
 
 -- the step was done, and both lines are the text; or the lock doesn't admit it
 abbrev pub DoesBeside : LockStep → List ℕ → List RawLock → List RawLock → Result (Vec ℕ) LineError → Type 0
 DoesBeside k bytes old new (Ok text) =
     (is_free old (deed k) ≡ true) × (new ≡ raw_after (deed k) old)
-    × (text.items ≡ with_feeds (both k bytes))
+    × (text.items ≡ with_feeds (line_and_step k bytes))
 DoesBeside k bytes old new (Err Memory) = Unit {0}
 DoesBeside k bytes old new (Err (Bad cause)) =
     (is_free old (deed k) ≡ false) × (cause ≡ Fault RawNotFree)

@@ -59,8 +59,8 @@ abbrev pub Shows : View → List ℕ → List ℕ → Summary → Type 0
 Shows view = ShowsFrom view output.Unstarted 1
 
 -- how many reports were told so far
-abbrev pub reported : output.Progress → ℕ
-reported p = (output.summed p None).reports
+abbrev pub reports_told : output.Progress → ℕ
+reports_told p = (output.summed p None).reports
 
 -- a line that ends the reading changes nothing of what is summed up
 abbrev pub KeepsTotal : output.Progress → output.Progress → Type 0

@@ -7,7 +7,7 @@ ghost use Rattle.wit_model.specs.Trace.Moving.{moving_from, outcome};
 ghost use Rattle.wit_model.specs.Trace.Moving as moving;
 ghost use Rattle.wit_trace.specs.Machine.{Follows};
 ghost use Rattle.wit_trace.specs.Migrates.{Enters, Migrates, MigratesFrom, Reaches};
-ghost use Rattle.wit_trace.specs.Migrates.{migrated, moved_to, reported, some_migration, weighed};
+ghost use Rattle.wit_trace.specs.Migrates.{migrated, moved_to, reports_told, some_migration, weighed};
 ghost use Rattle.wit_trace.specs.Stream.{ReadsToEnd, WritesFront, WritesLines, WritesOutput};
 
 mod behind;
@@ -95,7 +95,7 @@ impl Migrating {
         ensures stands { IfOk result (λ r. Reaches (moved_to self.old) number line.now
             (moved_to self.new) r.text.items r.refused) }
         ensures counted { IfOk result (λ r.
-            reported (moved_to self.new) ≤ reported (moved_to self.old)) }
+            reports_told (moved_to self.new) ≤ reports_told (moved_to self.old)) }
         ensures weighed { IfOk result (λ r.
             weighed (moved_to self.new) ≤ weighed (moved_to self.old)) }
     {
@@ -107,7 +107,7 @@ impl Migrating {
 
     // A line in its place.
     fn read(&mut self, alloc: Global, number: u64, bytes: &[u8]) -> Result<Vec<u8>, LineError>
-        requires room { reported (moved_to self.old) < 2 ^ 64 - 1 }
+        requires room { reports_told (moved_to self.old) < 2 ^ 64 - 1 }
         requires few { weighed (moved_to self.old) < 2 ^ 64 - 1 }
         requires short { length bytes.now ≤ LONGEST }
         ensures { Enters (outcome (moved_to self.old) number bytes.now)
@@ -124,7 +124,7 @@ impl Migrating {
         line: Line,
         bytes: &[u8],
     ) -> Result<Vec<u8>, LineError>
-        requires room { reported (moved_to self.old) < 2 ^ 64 - 1 }
+        requires room { reports_told (moved_to self.old) < 2 ^ 64 - 1 }
         requires few { weighed (moved_to self.old) < 2 ^ 64 - 1 }
         ensures { Enters (moving.entered (moved_to self.old) number bytes.now line)
             (moved_to self.old) (moved_to self.new) result }
@@ -141,12 +141,12 @@ impl Migrating {
     // A line of any kind.
     #[inline(never)]
     fn any_line(&mut self, alloc: Global, number: u64, bytes: &[u8]) -> Result<Step, AllocError>
-        requires room { reported (moved_to self.old) < number }
+        requires room { reports_told (moved_to self.old) < number }
         requires few { weighed (moved_to self.old) < number }
         requires short { length bytes.now ≤ LONGEST }
         ensures step { IfOk result (Follows migrated self.old self.new number bytes.now) }
         ensures counted { IfOk result (λ s.
-            reported (moved_to self.new) ≤ reported (moved_to self.old) + 1) }
+            reports_told (moved_to self.new) ≤ reports_told (moved_to self.old) + 1) }
         ensures weighed { IfOk result (λ s.
             weighed (moved_to self.new) ≤ weighed (moved_to self.old) + 1) }
     {
@@ -172,7 +172,7 @@ impl Migrating {
 impl Machine for Migrating {
     ghost allows = { λ view. migrated };
 
-    ghost reports = { λ m. max (reported (moved_to m)) (weighed (moved_to m)) };
+    ghost reports = { λ m. max (reports_told (moved_to m)) (weighed (moved_to m)) };
 
     fn line(
         &mut self,

@@ -4,7 +4,7 @@ ghost use Rattle.std.specs.Prelude.{◌≡◌, ◌⊎◌, ◌+◌, ◌<◌, ◌�
 ghost use Rattle.wit_model.specs.Trace.Output.{Unstarted, entered, outcome};
 ghost use Rattle.wit_trace.specs.Machine.{Follows};
 ghost use Rattle.wit_trace.specs.Outputs.{some_output};
-ghost use Rattle.wit_trace.specs.Replays.{allowed, progress, reported, Passes, Shows, ShowsFrom};
+ghost use Rattle.wit_trace.specs.Replays.{allowed, progress, reports_told, Passes, Shows, ShowsFrom};
 ghost use Rattle.wit_trace.specs.Stream.{IsSpent, ReadsToEnd, WritesFront, WritesLines, WritesOutput};
 ghost use Rattle.wit_grammar.specs.declared.parse.TheConstants.{LONGEST};
 
@@ -133,10 +133,10 @@ impl Replaying {
         number: u64,
         bytes: &[u8],
     ) -> Result<Step, AllocError>
-        requires room { reported (progress self.old) < number }
+        requires room { reports_told (progress self.old) < number }
         requires short { length bytes.now ≤ LONGEST }
         ensures step { IfOk result (Follows (allowed view) self.old self.new number bytes.now) }
-        ensures counted { IfOk result (λ s. reported (progress self.new) ≤ reported (progress self.old) + 1) }
+        ensures counted { IfOk result (λ s. reports_told (progress self.new) ≤ reports_told (progress self.old) + 1) }
     {
         if let Replaying::Stepping { world, .. } = self {
             if let Some(line) = parse_lock_line(bytes) {
@@ -159,10 +159,10 @@ impl Replaying {
         number: u64,
         bytes: &[u8],
     ) -> Result<Step, AllocError>
-        requires room { reported (progress self.old) < number }
+        requires room { reports_told (progress self.old) < number }
         requires short { length bytes.now ≤ LONGEST }
         ensures step { IfOk result (Follows (allowed view) self.old self.new number bytes.now) }
-        ensures counted { IfOk result (λ s. reported (progress self.new) ≤ reported (progress self.old) + 1) }
+        ensures counted { IfOk result (λ s. reports_told (progress self.new) ≤ reports_told (progress self.old) + 1) }
     {
         if let Some((number, cause)) = self.reach(alloc, number, bytes)? {
             return self.ended_step(alloc, number, LineError::Bad(cause));
@@ -174,7 +174,7 @@ impl Replaying {
     }
 
     fn read(&mut self, alloc: Global, number: u64, bytes: &[u8]) -> Result<Vec<u8>, LineError>
-        requires room { reported (progress self.old) < number }
+        requires room { reports_told (progress self.old) < number }
         requires short { length bytes.now ≤ LONGEST }
         ensures { Passes (outcome (progress self.old) number bytes.now)
             (progress self.old) (progress self.new) result }
@@ -184,7 +184,7 @@ impl Replaying {
     }
 
     fn enter(&mut self, alloc: Global, number: u64, line: Line) -> Result<Vec<u8>, LineError>
-        requires { reported (progress self.old) < number }
+        requires { reports_told (progress self.old) < number }
         ensures { Passes (entered (progress self.old) number line)
             (progress self.old) (progress self.new) result }
     {
@@ -222,7 +222,7 @@ impl Replaying {
 impl Machine for Replaying {
     ghost allows = { allowed };
 
-    ghost reports = { λ m. reported (progress m) };
+    ghost reports = { λ m. reports_told (progress m) };
 
     fn line(
         &mut self,

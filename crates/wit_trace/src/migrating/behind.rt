@@ -4,7 +4,7 @@ ghost use Rattle.std.specs.Prelude.{◌≡◌, ◌+◌, ◌-◌, ◌<◌, ◌≤
 ghost use Rattle.wit_model.specs.Trace.Moving.{moves, read_to};
 ghost use Rattle.wit_model.specs.Trace.Output.{call_of, summed};
 ghost use Rattle.wit_grammar.specs.Lines.{as_line};
-ghost use Rattle.wit_trace.specs.Migrates.{Enters, reported, standing, weight};
+ghost use Rattle.wit_trace.specs.Migrates.{Enters, reports_told, standing, weight};
 ghost use Rattle.wit_trace.specs.Replays.{total};
 
 use crate::migrating::steps::{do_beside, step_beside};
@@ -42,7 +42,7 @@ impl Behind {
 
     /// What was read so far.
     pub fn summary(&self) -> Summary
-        requires { reported (standing self.now) < 2 ^ 64 }
+        requires { reports_told (standing self.now) < 2 ^ 64 }
         ensures total { total result ≡ summed (read_to (standing self.now)) None }
         ensures circle { result.circle ≡ false }
     {

@@ -4,7 +4,7 @@ ghost use Rattle.std.specs.Prelude.{◌≡◌, ◌-◌, ◌≤◌, ◌++◌, ◌
 ghost use Rattle.wit_model.specs.Trace.Moving.{entered};
 ghost use Rattle.wit_model.specs.Trace.Moving as moving;
 ghost use Rattle.wit_trace.specs.Migrates.{Enters, Reaches};
-ghost use Rattle.wit_trace.specs.Migrates.{kept_bytes, moved_to, reported, weighed};
+ghost use Rattle.wit_trace.specs.Migrates.{kept_bytes, moved_to, reports_told, weighed};
 ghost use Rattle.wit_trace.specs.Replays.{prelude_of};
 
 use crate::migrating::Migrating;
@@ -84,7 +84,7 @@ pub fn reach(
     ensures stands { IfOk result (λ r. Reaches (moved_to machine.old) number line.now
         (moved_to machine.new) r.text.items r.refused) }
     ensures counted { IfOk result (λ r.
-        reported (moved_to machine.new) ≤ reported (moved_to machine.old)) }
+        reports_told (moved_to machine.new) ≤ reports_told (moved_to machine.old)) }
     ensures weighed { IfOk result (λ r.
         weighed (moved_to machine.new) ≤ weighed (moved_to machine.old)) }
 {

@@ -13,7 +13,7 @@ ghost use Rattle.wit_model.specs.World.Scenes.{shares_of};
 ghost use Rattle.wit_model.specs.declared.raw_steps.RawStep.TheVariants.{Take, Free, Down};
 ghost use Rattle.wit_grammar.specs.Lines.{as_line};
 ghost use Rattle.wit_trace.specs.Migrates.{DoesBeside, GoesWithCall, IsBeside};
-ghost use Rattle.wit_trace.specs.Migrates.{both, deed, line_of_step, step_asked, step_at, weight};
+ghost use Rattle.wit_trace.specs.Migrates.{line_and_step, deed, line_of_step, step_asked, step_at, weight};
 
 use crate::migrating::texts::put_line;
 use std::alloc::AllocError;
@@ -218,7 +218,7 @@ fn gain(raw: &mut Raw, seat: SeatNo, lock: LockNo, mode: Mode) -> Result<(), All
 // A line, and the one of the step that goes with it.
 fn both_lines(room: Vec<u8>, step: LockStep, bytes: &[u8]) -> Result<Vec<u8>, AllocError>
     requires { room.items ≡ [] }
-    ensures { IfOk result (λ text. text.items ≡ with_feeds (both step bytes.now)) }
+    ensures { IfOk result (λ text. text.items ≡ with_feeds (line_and_step step bytes.now)) }
 {
     let mut text = room;
     match step.step {

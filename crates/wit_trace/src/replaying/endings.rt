@@ -5,7 +5,7 @@ ghost use Rattle.wit_model.specs.declared.lines.Cause.{Cause};
 ghost use Rattle.wit_model.specs.declared.lines.View.{View};
 ghost use Rattle.wit_model.specs.Trace.Output.{bad_text, summed};
 ghost use Rattle.wit_grammar.specs.declared.errors.LineError.TheVariants.{Bad};
-ghost use Rattle.wit_trace.specs.Replays.{progress, reported, total, EndsFor};
+ghost use Rattle.wit_trace.specs.Replays.{progress, reports_told, total, EndsFor};
 
 use crate::replaying::Replaying;
 use crate::replaying::bad_lines::bad_text;
@@ -18,7 +18,7 @@ use wit_model::{Boxed, Cause};
 impl Replaying {
     /// What the replay found so far.
     pub fn summary(&self, circle: bool, bad: Option<(u64, Cause)>) -> Summary
-        requires { reported (progress self.now) < 2 ^ 64 }
+        requires { reports_told (progress self.now) < 2 ^ 64 }
         ensures total { total result ≡ summed (progress self.now) bad }
         ensures circle { result.circle ≡ circle }
     {
@@ -53,7 +53,7 @@ impl Replaying {
         number: u64,
         error: LineError,
     ) -> Result<Step, AllocError>
-        requires { (cause : Cause) → error ≡ Bad cause → reported (progress self.now) < 2 ^ 64 }
+        requires { (cause : Cause) → error ≡ Bad cause → reports_told (progress self.now) < 2 ^ 64 }
         ensures { (view : View) → IfOk result (EndsFor view (progress self.now) number error) }
     {
         match error {
@@ -75,7 +75,7 @@ impl Replaying {
         number: u64,
         cause: Cause,
     ) -> Result<(Vec<u8>, Summary), AllocError>
-        requires { reported (progress self.now) < 2 ^ 64 }
+        requires { reports_told (progress self.now) < 2 ^ 64 }
         ensures text { IfOk result (λ r. r.0.items ≡ bad_text number cause) }
         ensures total { IfOk result (λ r. total r.1 ≡ summed (progress self.now) (Some (number, cause))) }
         ensures circle { IfOk result (λ r. r.1.circle ≡ false) }

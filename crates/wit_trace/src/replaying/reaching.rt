@@ -2,7 +2,7 @@
 
 ghost use Rattle.std.specs.Prelude.{◌≡◌, ℕ, List, true, IfOk};
 ghost use Rattle.wit_model.specs.Trace.Output.{reached};
-ghost use Rattle.wit_trace.specs.Replays.{ends_prelude, progress, reported, Reaches};
+ghost use Rattle.wit_trace.specs.Replays.{ends_prelude, progress, reports_told, Reaches};
 
 use crate::replaying::Replaying;
 use crate::replaying::prelude::{is_prelude, open};
@@ -23,7 +23,7 @@ impl Replaying {
         line: &[u8],
     ) -> Result<Option<(u64, Cause)>, AllocError>
         ensures stands { IfOk result (Reaches (reached (progress self.old) number line.now) (progress self.old) (progress self.new)) }
-        ensures counted { IfOk result (λ r. reported (progress self.new) ≡ reported (progress self.old)) }
+        ensures counted { IfOk result (λ r. reports_told (progress self.new) ≡ reports_told (progress self.old)) }
     {
         if self.ends_prelude(number, line) {
             self.end_prelude(alloc)

@@ -1,7 +1,7 @@
 use Rattle.std.proofs.Common.{◌+◌, ◌≤◌, Err, ap, subst, ◌∙◌, arith}
 use Rattle.wit_model.specs.Trace.Output.{reached, BadLine}
 use Rattle.wit_trace.specs.Machine.{Follows}
-use Rattle.wit_trace.specs.Replays.{allowed, progress, reported, EndsFor, Reaches}
+use Rattle.wit_trace.specs.Replays.{allowed, progress, reports_told, EndsFor, Reaches}
 use Rattle.wit_grammar.specs.declared.errors.LineError.TheVariants.{Bad}
 use Rattle.wit_trace.proofs.ReportLemmas.{bad_one, ended_one, told_one}
 use Rattle.wit_trace.proofs.ReplayLemmas.{if_ok, told, line_ends, refused_step}
@@ -37,6 +37,6 @@ returns-in-Ok-clause-counted c =
 
 pub returns-in-Err-clause-counted : goal.returns-in-Err-clause-counted
 returns-in-Err-clause-counted c =
-    if_ok (EndsFor c.args.view (progress c.read.new.self) c.args.number c.in-Err.error) (λ s. reported (progress c.read.new.self) ≤ reported (progress c.args.self.now) + 1) c.ended_step-in-Err.result
+    if_ok (EndsFor c.args.view (progress c.read.new.self) c.args.number c.in-Err.error) (λ s. reports_told (progress c.read.new.self) ≤ reports_told (progress c.args.self.now) + 1) c.ended_step-in-Err.result
     (λ s ends. let one = ended_one (progress c.reach.new.self) (progress c.read.new.self) c.args.number c.args.bytes.now c.read.result c.read.ensures c.args.view c.in-Err.error s c.in-Err.is ends in omega (arith, one, c.in_ok-number.ensures.counted))
     (c.ended_step-in-Err.ensures c.args.view)

@@ -2,7 +2,7 @@ use Rattle.std.proofs.Common.{◌+◌, ◌<◌, ◌≤◌, Err, refl, ap, subst,
 use Rattle.wit_model.specs.Trace.Output as output
 use Rattle.wit_grammar.specs.Lines.{as_line}
 use Rattle.wit_trace.specs.Machine.{Follows}
-use Rattle.wit_trace.specs.Replays.{allowed, progress, reported, EndsFor}
+use Rattle.wit_trace.specs.Replays.{allowed, progress, reports_told, EndsFor}
 use Rattle.wit_trace.specs.declared.replaying.Replaying.TheVariants.{Stepping}
 use Rattle.wit_trace.proofs.ReportLemmas.{bad_one, ended_one, told_one}
 use Rattle.wit_trace.proofs.ReplayLemmas.{if_ok, told, line_ends}
@@ -33,7 +33,7 @@ ended_step-requires c = λ cause is.
     let old = output.Stepping c.in-Stepping.world m in
     let new = output.Stepping c.step_on_lock.new.world m in
     let passes = world_line c.in-Stepping.world m c.args.number c.args.bytes.now (as_line c.in-Some.line) new c.step_on_lock.result c.requires.short c.in-Some.ensures (c.step_on_lock.ensures m) in
-    let room = subst (λ s. reported (progress s) < c.args.number) c.in-Stepping.is c.requires.room in
+    let room = subst (λ s. reports_told (progress s) < c.args.number) c.in-Stepping.is c.requires.room in
     omega (arith, bad_one old new c.args.number c.args.bytes.now c.step_on_lock.result passes cause (c.in-Err.is ∙ ap (λ e. Err e) is), room, c.ranges.number)
 
 pub returns-in-Ok-clause-counted : goal.returns-in-Ok-clause-counted
@@ -50,6 +50,6 @@ returns-in-Err-clause-counted c =
     let old = output.Stepping c.in-Stepping.world m in
     let new = output.Stepping c.step_on_lock.new.world m in
     let passes = world_line c.in-Stepping.world m c.args.number c.args.bytes.now (as_line c.in-Some.line) new c.step_on_lock.result c.requires.short c.in-Some.ensures (c.step_on_lock.ensures m) in
-    rw c.in-Stepping.is (if_ok (EndsFor c.args.view new c.args.number c.in-Err.error) (λ s. reported new ≤ reported old + 1) c.ended_step.result
+    rw c.in-Stepping.is (if_ok (EndsFor c.args.view new c.args.number c.in-Err.error) (λ s. reports_told new ≤ reports_told old + 1) c.ended_step.result
     (λ s ends. ended_one old new c.args.number c.args.bytes.now c.step_on_lock.result passes c.args.view c.in-Err.error s c.in-Err.is ends)
     (c.ended_step.ensures c.args.view))

@@ -2,7 +2,7 @@ use Rattle.std.proofs.Common.{◌<◌, Err, ap, subst, ◌∙◌, arith}
 use Rattle.wit_model.specs.Trace.Output as output
 use Rattle.wit_model.specs.Trace.Output.{shown}
 use Rattle.wit_trace.specs.Machine.{Follows}
-use Rattle.wit_trace.specs.Replays.{allowed, progress, reported, EndsFor, GoesWith}
+use Rattle.wit_trace.specs.Replays.{allowed, progress, reports_told, EndsFor, GoesWith}
 use Rattle.wit_trace.proofs.ReportLemmas.{call_ended_one, made_one, refused_one}
 use Rattle.wit_trace.specs.declared.replaying.Replaying.TheVariants.{Reading}
 use Rattle.wit_grammar.specs.Lines.{as_line}
@@ -19,7 +19,7 @@ returns-in-Err-clause-step c =
 
 pub ended_step-requires : goal.ended_step-requires
 ended_step-requires c = λ cause is.
-    let room = subst (λ m. reported (progress m) < c.args.number) c.in-Reading.is c.requires.room in
+    let room = subst (λ m. reports_told (progress m) < c.args.number) c.in-Reading.is c.requires.room in
     omega (arith, refused_one c.in-Reading.verifier c.call_on_lock.new.verifier c.in-Reading.remarks (as_line c.in-Some.line) c.call_on_lock.result c.call_on_lock.ensures cause (c.in-Err.is ∙ ap (λ e. Err e) is), room, c.ranges.number)
 
 pub returns-in-Ok-clause-step : goal.returns-in-Ok-clause-step
