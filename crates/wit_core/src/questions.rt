@@ -4,7 +4,7 @@ ghost use Rattle.std.specs.Prelude.{◌≡◌, ◌+◌, ◌&&◌, true, Some, no
 ghost use Rattle.wit_model.specs.Rules.Locks.{lock_at};
 ghost use Rattle.wit_model.specs.Rules.Numbers.{is_number};
 ghost use Rattle.wit_model.specs.Rules.State.{state_of, seat_at, is_seat, is_live, has_room};
-ghost use Rattle.wit_model.specs.Rules.Step.{held_by, is_too_deep, before_acquiring, before_answering, before_naming};
+ghost use Rattle.wit_model.specs.Rules.Step.{about_seat, held_by, is_too_deep, before_acquiring, before_answering, before_naming};
 ghost use Rattle.wit_model.specs.Rules.Destroying.{is_used};
 ghost use Rattle.wit_model.specs.Rules.Types.{is_otherwise, is_enrolled};
 ghost use Rattle.wit_core.specs.Replies.{Admits, Refuses};
@@ -85,6 +85,21 @@ impl Verifier {
 
 // What stands before the answers of several calls.
 impl Verifier {
+    // The faults of a call by a seat that asks for nothing.
+    pub(crate) fn about_seat(&self, seat: SeatNo) -> Result<(), Fault>
+        ensures ok { OnOk result (Admits (about_seat (state_of self.now) seat.0)) }
+        ensures seat { OnOk result (is_seat (state_of self.now) seat.0 ≡ true) }
+        ensures err { IfErr result (Refuses (about_seat (state_of self.now) seat.0)) }
+    {
+        if !self.is_seat(seat) {
+            return Err(Fault::UnknownSeat);
+        }
+        if self.request(seat).is_some() {
+            return Err(Fault::Pending);
+        }
+        Ok(())
+    }
+
     // The faults of a call that asks for a lock, or tries it.
     pub(crate) fn before_acquiring(
         &self,

@@ -64,12 +64,7 @@ impl Verifier {
     fn answer_make(&self, seat: SeatNo, lock: &NewLock) -> Result<LockNo, Fault>
         ensures { made_reply result ≡ answer_of self.now seat.0 (Init lock.now) }
     {
-        if !self.is_seat(seat) {
-            return Err(Fault::UnknownSeat);
-        }
-        if self.request(seat).is_some() {
-            return Err(Fault::Pending);
-        }
+        self.about_seat(seat)?;
         // Reading a name shows that it is one.
         let _name = lock.name.as_str();
         let type_name = lock.type_name().as_str();
@@ -90,12 +85,7 @@ impl Verifier {
         ensures name { OnOk result (is_name name.now ≡ true) }
         ensures type_name { OnOk result (is_good_name (option_copied type_name.entry) ≡ true) }
     {
-        if !self.is_seat(seat) {
-            return Err(Fault::UnknownSeat);
-        }
-        if self.request(seat).is_some() {
-            return Err(Fault::Pending);
-        }
+        self.about_seat(seat)?;
         if !Name::accepts(name) || !is_good_name(type_name) {
             return Err(Fault::BadName);
         }

@@ -29,12 +29,7 @@ impl Verifier {
     fn answer_watch(&self, seat: SeatNo, watch: Watch) -> Result<(), Fault>
         ensures { done_reply Done result ≡ answer_of self.now seat.0 (SetWatch watch) }
     {
-        if !self.is_seat(seat) {
-            return Err(Fault::UnknownSeat);
-        }
-        if self.request(seat).is_some() {
-            return Err(Fault::Pending);
-        }
+        self.about_seat(seat)?;
         if self.watch().is_off() && !watch.is_off() {
             return Err(Fault::WatchOff);
         }

@@ -36,6 +36,13 @@ abbrev pub is_for : ℕ → Option Request → Bool
 is_for l None = false
 is_for l (Some q) = q.lock.0 == l
 
+-- a call of a seat: it is known and asks for nothing, else the call is refused before the rest
+abbrev pub about_seat : State → ℕ → Result Reply Fault → Result Reply Fault
+about_seat s t rest =
+    if not (is_seat s t) then Err UnknownSeat
+    else if is_pending s t then Err Pending
+    else rest
+
 -- a call about a lock: the seat and the lock are known, else it is refused before the rest
 abbrev pub about_lock : State → ℕ → ℕ → Result Reply Fault → Result Reply Fault
 about_lock s t l rest =

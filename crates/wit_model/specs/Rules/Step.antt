@@ -2,7 +2,7 @@
 -- which they apply; want of memory is never among them.
 use Rattle.std.specs.Prelude.{ℕ, ◌+◌, ◌≡◌, ◌⊎◌, Bool, true, false, not, ◌&&◌, ◌==◌, nat_le, List, [], ◌∷◌, Option, None, Some, Result, Ok, Err, length, is_some, if◌then◌else◌}
 use Rattle.wit_model.specs.declared.faults.Fault.{Fault}
-use Rattle.wit_model.specs.declared.faults.Fault.TheVariants.{UnknownSeat, ClassMismatch, TypesFull, LocksFull, RecursionTooDeep, NotLocked, SharedUnlock, ExclusiveUnlock, ForbiddenUnlock, Pending, LogFull, BadName, WatchOff, ModeNotAllowed, UnknownFile, OutOfMemory}
+use Rattle.wit_model.specs.declared.faults.Fault.TheVariants.{ClassMismatch, TypesFull, LocksFull, RecursionTooDeep, NotLocked, SharedUnlock, ExclusiveUnlock, ForbiddenUnlock, Pending, LogFull, BadName, WatchOff, ModeNotAllowed, UnknownFile, OutOfMemory}
 use Rattle.wit_model.specs.declared.locks.Class.{Class}
 use Rattle.wit_model.specs.declared.locks.Class.TheVariants.{Rw, Sx}
 use Rattle.wit_model.specs.declared.locks.Mode.{Mode}
@@ -22,9 +22,9 @@ use Rattle.wit_model.specs.Rules.Types.{type_name_of, is_enrolled, is_otherwise}
 use Rattle.wit_model.specs.Rules.Locks.{lock_at}
 use Rattle.wit_model.specs.Rules.Groups.{opens}
 use Rattle.wit_model.specs.Rules.History.{is_on, is_off}
-use Rattle.wit_model.specs.Rules.State.{Start, Story, State, state_of, seat_at, is_seat, free, has_room}
+use Rattle.wit_model.specs.Rules.State.{Start, Story, State, state_of, seat_at, free, has_room}
 use Rattle.wit_model.specs.Rules.Verdict.{is_exclusive, verdict}
-pub use Rattle.wit_model.specs.Rules.Questions.{chain_for, groups_for, held_by, is_pending, is_for, about_lock, before_naming, before_answering, with_room}
+pub use Rattle.wit_model.specs.Rules.Questions.{chain_for, groups_for, held_by, is_pending, is_for, about_seat, about_lock, before_naming, before_answering, with_room}
 use Rattle.wit_model.specs.Rules.Turning.{step_upgrade, step_downgrade, step_mark}
 use Rattle.wit_model.specs.Rules.Defining.{step_define}
 use Rattle.wit_model.specs.Rules.Destroying.{step_destroy}
@@ -44,10 +44,9 @@ step_typed s type_name class =
 
 abbrev pub step_init : State → ℕ → NewLock → Result Reply Fault
 step_init s t lock =
-    if not (is_seat s t) then Err UnknownSeat
-    else if is_pending s t then Err Pending
-    else if not (is_name lock.name && is_good_name lock.type_name) then Err BadName
-    else step_typed s (type_name_of lock) lock.class
+    about_seat s t (
+    if not (is_name lock.name && is_good_name lock.type_name) then Err BadName
+    else step_typed s (type_name_of lock) lock.class)
 
 -- mutexes are never held shared (mutex(9))
 abbrev pub is_shareable : Class → Bool
@@ -122,11 +121,10 @@ step_unlock s t l m =
 -- nothing is watched again once nothing was
 abbrev pub step_set_watch : State → ℕ → Watch → Result Reply Fault
 step_set_watch s t watch =
-    if not (is_seat s t) then Err UnknownSeat
-    else if is_pending s t then Err Pending
-    else if is_off s.watch && not (is_off watch) then Err WatchOff
+    about_seat s t (
+    if is_off s.watch && not (is_off watch) then Err WatchOff
     else if not (has_room s 1) then Err LogFull
-    else Ok Done
+    else Ok Done)
 
 -- the answer to a call of seat t
 abbrev pub step : State → ℕ → Call → Result Reply Fault
