@@ -1,0 +1,248 @@
+#!/bin/sh
+# Measures calls through a shared verifier beside those of one that nobody shares, what a look and a
+# close cost, and watched mutexes beside one of std: the least of five runs (RUNS names another
+# number), and the middle one where there are several threads. The program stands below; it is
+# proved and built, in some minutes, in a copy of what it stands on, which is removed in the end.
+set -e
+top=$(dirname "$(dirname "$(readlink -f "$0")")")
+room=$(mktemp -d "${TMPDIR:-/tmp}/threads.XXXXXX")
+trap 'rm -rf "$room"' EXIT
+trap 'exit 130' INT TERM
+for name in model table matrix held pool check core adoptions observers seats gates shared locks; do
+    mkdir -p "$room/crates/wit_$name/out"
+    for part in src specs proofs out/rlib; do
+        [ ! -d "$top/crates/wit_$name/$part" ] ||
+            cp -a "$top/crates/wit_$name/$part" "$room/crates/wit_$name/$part"
+    done
+    grep "^wit_$name:" "$top/crates.txt" >>"$room/crates.txt"
+done
+cp "$top/HANDLES" "$room"
+echo 'threads_bench: wit_locks wit_shared wit_gates wit_core wit_model bitflags' >>"$room/crates.txt"
+bench=$room/crates/threads_bench
+mkdir -p "$bench/src" "$bench/proofs/begin"
+cat >"$bench/proofs/begin/Invariants.antt" <<'PROOF'
+use Rattle.threads_bench.proofs.begin.Given as goal
+abbrev pub ghosts-run-J-Naming : goal.ghosts-run-J-Naming
+ghosts-run-J-Naming g a = record { list = a.opened.list }
+abbrev pub ghosts-run-J-Room : goal.ghosts-run-J-Room
+ghosts-run-J-Room g a = record { table = a.opened.table; start = a.opened.story.start }
+PROOF
+cat >"$bench/src/main.rt" <<'PROGRAM'
+//! How long calls through a shared verifier take, and locks that it watches.
+#![tactic(auto)]
+
+ghost use Rattle.std.specs.Prelude.{◌≡◌};
+
+use bitflags::Flags;
+use std::alloc::Global;
+use std::io;
+use std::marker::Brand;
+use std::sync::{Mutex, Wait};
+use std::thread::{Threads, for_each_mut, join, map_indices};
+use std::time::{Clock, Instant};
+use wit_core::Verifier;
+use wit_gates::{CondGate, Gate, SpinGate, Ticket};
+use wit_locks::{Mtx, abandon};
+use wit_model::{Class, FileNo, Limits, LockFlags, LockNo, Mode, OpFlags, SeatNo, Site, TypeNo};
+use wit_shared::{Observer, Opened, Room, Seat, Shared};
+
+const TURNS: u32 = 83_333; // Of each of four threads: a turn is three calls.
+const CLASS: Class = Class::SleepMutex;
+const MODE: Mode = Mode::Exclusive;
+const OPS: OpFlags = OpFlags(5); // `NEWORDER` and `FRESH`.
+const SITE: Site = Site { file: FileNo(1), line: 1 };
+
+fn nanoseconds<R: Clock>(rt: &R, start: io::Result<Instant>) -> Option<u128> {
+    Some(start.ok()?.elapsed(rt).ok()?.as_nanos())
+}
+
+fn verifier(alloc: Global) -> Option<Verifier> {
+    let limits = Limits::new(4, 4, 8, 16, 4_000_000)?;
+    let mut verifier = Verifier::new(alloc, limits, Vec::new(alloc), Vec::new(alloc)).ok()?;
+    let _file = verifier.file("f").ok()?;
+    Some(verifier)
+}
+
+// A mutex of a verifier that nobody shares is asked for, acquired and released.
+fn plain<R: Clock>(rt: &R, alloc: Global, turns: u32) -> Option<u128> {
+    let (mut verifier, seat) = (verifier(alloc)?, SeatNo(1));
+    let lock = verifier.init(seat, "a", None, CLASS, LockFlags::empty()).ok()?;
+    let start = Instant::now(rt);
+    for _ in 0..turns {
+        let _asked = verifier.check(seat, lock, MODE, OPS, SITE).ok()?;
+        let _noted = verifier.note(seat, lock).ok()?;
+        let _freed = verifier.unlock(seat, lock, MODE).ok()?;
+    }
+    nanoseconds(rt, start)
+}
+
+// So is a seat's own lock of a shared one.
+fn turn<J: Room, R: Wait>(rt: &R, on: &Shared<J>, seat: &mut Seat<J>, turns: u32) -> Option<()> {
+    let lock = LockNo(seat.number().0 as u32);
+    for _ in 0..turns {
+        let _asked = on.check(rt, seat, lock, MODE, OPS, SITE).ok()?;
+        let _noted = on.note(rt, seat, lock).ok()?;
+        let _freed = on.unlock(rt, seat, lock, MODE).ok()?;
+    }
+    Some(())
+}
+
+// A watched mutex is taken and let go of.
+fn take<J: Room, R: Wait, G: Gate<Ticket = Ticket>>(
+    rt: &R,
+    on: &Shared<J>,
+    seat: &mut Seat<J>,
+    mutex: &Mtx<J, G>,
+) -> Option<()> {
+    for _ in 0..TURNS {
+        let held = mutex.lock(rt, on, seat, SITE).ok()?;
+        if let Ok(Some(held)) | Err((held, _)) = mutex.unlock(rt, on, seat, held) {
+            abandon(held);
+        }
+    }
+    Some(())
+}
+
+// An unwatched one.
+fn count<R: Wait>(rt: &R, mutex: &Mutex<u64>) {
+    for _ in 0..TURNS {
+        let mut count = mutex.lock(rt);
+        *count = count.wrapping_add(1);
+    }
+}
+
+fn look<J: Room, R: Clock>(rt: &R, observer: &mut Observer<J>, looks: u32) -> Option<u128> {
+    let start = Instant::now(rt);
+    for _ in 0..looks {
+        let _known = observer.known(TypeNo(1), TypeNo(2))?;
+    }
+    nanoseconds(rt, start)
+}
+
+// Threads take turns while an observer looks: with a mutex over the gate, or each with its own.
+#[derive(Drop)]
+struct Bench<G> {
+    what: &'static str,
+    alloc: Global,
+    gate: Option<G>,
+    threads: u32,
+    turns: u32,
+    looks: u32,
+}
+
+impl<G: Gate<Ticket = Ticket> + Drop + Send + Sync> Bench<G> {
+    // How long the turns and the looks took, and the seats.
+    fn measure<J: Room + Send + Sync, R: Threads + Wait + Clock + Sync>(
+        self,
+        rt: &R,
+        on: &Shared<J>,
+        mut observers: Vec<Observer<J>>,
+    ) -> Option<(u128, u128, Vec<Seat<J>>)> {
+        let (turns, looks, mut observer) = (self.turns, self.looks, observers.pop()?);
+        let mut seats = Vec::new(self.alloc);
+        for _ in 0..self.threads {
+            let mut seat = on.seat(rt).ok()?;
+            let _own = on.init(rt, &mut seat, "a", None, CLASS, LockFlags::empty()).ok()?;
+            seats.push(seat).ok()?;
+        }
+        let mut mutex = None;
+        if let Some(gate) = self.gate {
+            let seat = seats.first_mut()?;
+            mutex = Some(Mtx::new(rt, on, seat, "m", None, LockFlags::empty(), gate).ok()?);
+        }
+        let work = |_, seat: &mut Seat<J>| {
+            let _done = match &mutex {
+                Some(mutex) => take(rt, on, seat, mutex),
+                None => turn(rt, on, seat, turns),
+            };
+        };
+        let start = Instant::now(rt);
+        let looking = || look(rt, &mut observer, looks);
+        let (looked, ()) = join(rt, looking, || for_each_mut(rt, &mut seats, 4, &work));
+        Some((nanoseconds(rt, start)?, looked?, seats))
+    }
+}
+
+fn run<
+    J: Room + Send + Sync,
+    R: Threads + Wait + Clock + Print + Sync,
+    G: Gate<Ticket = Ticket> + Drop + Send + Sync,
+>(
+    rt: &R,
+    opened: Opened,
+    bench: Bench<G>,
+) -> Option<()>
+    requires { (opened.story.start ≡ J.start) × (opened.table ≡ J.table) × (opened.list ≡ J.list) }
+{
+    let (what, threads, looks) = (bench.what, bench.threads, bench.looks);
+    let (on, observers) = opened.named::<J, R>(rt, 1).ok()?;
+    let Some((took, looked, seats)) = bench.measure(rt, &on, observers) else {
+        on.abandon(rt);
+        return None;
+    };
+    let start = Instant::now(rt);
+    let verifier = on.close(rt, seats).map_err(|left| left.abandon(rt)).ok()?;
+    let (closed, entries) = (nanoseconds(rt, start)?, verifier.history().len());
+    let start = Instant::now(rt);
+    drop(verifier);
+    let dropped = nanoseconds(rt, start)?;
+    println!(rt; "{what} {threads} {entries} {took} {looks} {looked} {closed} {dropped}").ok()
+}
+
+fn begin<R: Threads + Wait + Clock + Print + Sync, G: Gate<Ticket = Ticket> + Drop + Send + Sync>(
+    rt: &R,
+    bench: Bench<G>,
+) -> Option<()> {
+    let opened = Opened::new(bench.alloc, verifier(bench.alloc)?).ok()?;
+    run::<Brand, R, G>(rt, opened, bench)
+}
+
+fn main(rt: HostRuntime) -> io::Result<()> {
+    let alloc = rt.alloc();
+    let (few, all, looks) = (33_333, 4 * TURNS, 5_000_000);
+    println!(rt; "plain 1 {} {}", 3 * all, plain(&rt, alloc, all).unwrap_or(0))?;
+    // Few turns twice, since the first close takes longer.
+    let runs = [(1, few, 0), (1, few, 0), (1, all, 0), (4, TURNS, 0), (0, 0, looks), (3, all, looks)];
+    for (threads, turns, looks) in runs {
+        let gate: Option<SpinGate> = None;
+        begin(&rt, Bench { what: "calls", alloc, gate, threads, turns, looks });
+    }
+    for threads in [1, 4] {
+        let (mutex, start) = (&Mutex::new(0), Instant::now(&rt));
+        let _done = map_indices(&rt, alloc, threads as usize, &|_| count(&rt, mutex)).ok();
+        let took = nanoseconds(&rt, start).unwrap_or(0);
+        println!(rt; "std {threads} {} {took}", 3 * TURNS * threads)?;
+        let (turns, looks, gate) = (TURNS, 0, CondGate::new(alloc).ok());
+        begin(&rt, Bench { what: "cond", alloc, gate, threads, turns, looks });
+        let gate = SpinGate::new(alloc).ok();
+        begin(&rt, Bench { what: "spin", alloc, gate, threads, turns, looks });
+    }
+    Ok(())
+}
+PROGRAM
+(cd "$bench" && rt run) >"$room/log" 2>&1 || :
+[ -x "$bench/out/threads_bench" ] || { tail -n 20 "$room/log" >&2; exit 1; }
+for _ in $(seq "${RUNS:-5}"); do "$bench/out/threads_bench"; done | awk '
+    function keep(key, value,    at) {
+        for (at = ++runs[key]; at > 1 && of[key, at - 1] > value; at--) of[key, at] = of[key, at - 1]
+        of[key, at] = value
+    }
+    function figure(key,    at) {
+        at = key ~ / [34]$/ ? int((runs[key] + 1) / 2) : 1
+        return key in runs ? sprintf("%.1f", of[key, at]) : key
+    }
+    function row(name, one, four) { printf "%-42s %9s %9s\n", name, figure(one), figure(four) }
+    $5 { keep("look " $2, $6 / $5); next }
+    $3 > 200000 { keep($1 " " $2, 3 * $4 / $3) }
+    /^calls 1 / { keep("close " length($3 + 9), $7 / 1000); keep("drop " length($3 + 9), $8 / $3) }
+    END {
+        row("ns, of all threads together", "1 thread", "4 threads")
+        row("check, note, unlock: nobody shares it", "plain 1", "")
+        row("check, note, unlock: shared", "calls 1", "calls 4")
+        row("lock, unlock: Mutex of std", "std 1", "std 4")
+        row("lock, unlock: Mtx over CondGate", "cond 1", "cond 4")
+        row("lock, unlock: Mtx over SpinGate", "spin 1", "spin 4")
+        row("Observer::known: alone, beside 3 threads", "look 0", "look 3")
+        row("close of 100,000 and 1,000,000 entries, us", "close 6", "close 7")
+        row("letting them go, ns an entry", "drop 6", "drop 7")
+    }'
