@@ -3,6 +3,7 @@
 #![tactic(auto)]
 
 mod acquiring;
+mod guarded;
 mod held;
 mod kinds;
 mod lock;
@@ -11,6 +12,7 @@ mod releasing;
 mod shareable;
 mod turning;
 
+pub use guarded::{Guarded, Task, Unfinished};
 pub use held::{Held, abandon};
 pub use kinds::{Kind, RwKind, SleepMutexKind, SpinMutexKind, SxKind};
 pub use lock::{Lock, Mtx, Rw, Spin, Sx};

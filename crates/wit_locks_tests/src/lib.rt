@@ -8,6 +8,8 @@ mod exhausting;
 #[cfg(test)]
 mod fakes;
 #[cfg(test)]
+mod guarding;
+#[cfg(test)]
 mod sharing;
 #[cfg(test)]
 mod showing;
