@@ -1,0 +1,74 @@
+//! Threads that take locks of all classes at random, with gates that refuse now and then, watch levels that are turned, orders
+//! that are defined, locks that are made and destroyed, and observers that learn and ask. When they have ended, the log is
+//! compared with what each thread counted.
+//!
+//! With the words `THREADS LOCKS ROUNDS SEED` it writes the log as a trace, and its reports to standard error:
+//! `tools/try-soak` has the trace replayed, which must tell the same. The last line of standard error has the counts.
+#![tactic(auto)]
+
+ghost use Rattle.std.specs.Prelude.{◌≤◌};
+
+mod gates;
+mod holding;
+mod locks;
+mod observing;
+mod plan;
+mod print;
+mod random;
+mod rounds;
+mod taking;
+mod telling;
+mod threads;
+mod worker;
+
+use crate::plan::Plan;
+use crate::telling::{tell, tell_end};
+use crate::threads::{Soaked, run};
+use std::alloc::Global;
+use std::marker::Brand;
+use std::process::ExitCode;
+use std::sync::Wait;
+use std::thread::Threads;
+use wit_core::Verifier;
+use wit_model::{Fault, Limits};
+use wit_shared::{Opened, Reason};
+
+/// How many types, locks, chunks and entries there may be.
+pub(crate) const TYPES: u32 = 64;
+
+pub(crate) const LOCKS: u32 = 65_536;
+
+pub(crate) const CHUNKS: u32 = 4_096;
+
+pub(crate) const ENTRIES: u32 = 16_777_216;
+
+fn main(rt: HostRuntime) -> ExitCode {
+    let alloc = rt.alloc();
+    let plan = Plan::of_words(&rt);
+    let (mut output, mut complaints) = (rt.stdout(), rt.stderr());
+    let told = match soak(&rt, alloc, plan) {
+        Ok(soaked) => tell(alloc, plan, &soaked, &mut output, &mut complaints),
+        Err(fault) => Err(fault),
+    };
+    ExitCode::from(tell_end(told, &mut complaints))
+}
+
+fn soak<R: Threads + Wait + Sync>(rt: &R, alloc: Global, plan: Plan) -> Result<Soaked, Fault>
+    requires { plan.threads ≤ 255 }
+{
+    let seats = u32::from(plan.threads) + 1;
+    let Some(limits) = Limits::new(seats, TYPES, LOCKS, CHUNKS, ENTRIES) else {
+        return Err(Fault::UnknownSeat);
+    };
+    let verifier = match Verifier::new(alloc, limits, Vec::new(alloc), Vec::new(alloc)) {
+        Ok(verifier) => verifier,
+        Err(refused) => return Err(refused.fault),
+    };
+    match Opened::new(alloc, verifier) {
+        Ok(opened) => run::<Brand, R>(rt, alloc, opened, plan),
+        Err(refused) => Err(match refused.reason {
+            Reason::HasEntries => Fault::UnknownSeat,
+            Reason::OutOfMemory => Fault::OutOfMemory,
+        }),
+    }
+}

@@ -1,0 +1,91 @@
+//! What is told of a soak.
+
+use crate::plan::Plan;
+use crate::print::{header, print_history};
+use crate::threads::Soaked;
+use crate::{CHUNKS, LOCKS, TYPES};
+use std::alloc::Global;
+use std::io::Write;
+use wit_core::Verifier;
+use wit_model::{Call, Fault, SeatNo};
+use wit_report::report_text;
+
+/// Writes the log as a trace, its reports and the counts, as the plan wants it. Whether nothing was wrong.
+///
+/// # Errors
+/// Want of memory.
+pub(crate) fn tell<W: Write, E: Write>(
+    alloc: Global,
+    plan: Plan,
+    soaked: &Soaked,
+    output: &mut W,
+    complaints: &mut E,
+) -> Result<bool, Fault> {
+    let verifier = &soaked.verifier;
+    if plan.traces {
+        let line = header(u32::from(plan.threads) + 1, TYPES, LOCKS, CHUNKS);
+        print_history(alloc, verifier, &line, output)?;
+        for entry in verifier.history() {
+            let text = report_text(alloc, verifier, &entry.reply)?;
+            let _ = complaints.write_all(text.as_bytes());
+        }
+    }
+    let mut good = true;
+    let (mut refused, mut memory, mut unanswered) = (0u64, 0u64, 0u64);
+    for (seat, tally) in &soaked.tallies {
+        refused = refused.saturating_add(tally.refused);
+        memory = memory.saturating_add(tally.memory);
+        unanswered = unanswered.saturating_add(tally.unanswered);
+        if let Some(wrong) = tally.wrong {
+            good = false;
+            let _ = writeln!(complaints, "seat {}: {wrong}", seat.0);
+        }
+        let logged = entries_of(verifier, *seat);
+        if logged != tally.calls {
+            good = false;
+            let calls = tally.calls;
+            let _ = writeln!(complaints, "seat {}: {logged} entries, of {calls}", seat.0);
+        }
+    }
+    if plan.traces {
+        let (entries, reports) = (verifier.history().len(), verifier.reports());
+        let orders = verifier.orders().len();
+        let _ = writeln!(
+            complaints,
+            "soak: {entries} entries, {orders} orders, {reports} reports, {refused} refused, {memory} for memory, {unanswered} unanswered"
+        );
+    } else {
+        let _ = writeln!(output, "soaked");
+    }
+    Ok(good)
+}
+
+// The entries of a seat that each of its threads counts.
+fn entries_of(verifier: &Verifier, seat: SeatNo) -> u64 {
+    let counts = |call: &Call| {
+        matches!(
+            call,
+            Call::Check(_) | Call::Note(_) | Call::NoteTry(..) | Call::GiveUp(_) | Call::Unlock(..)
+        )
+    };
+    let entries = verifier.history().iter();
+    entries
+        .filter(|entry| entry.seat == seat && counts(&entry.call))
+        .count() as u64
+}
+
+/// The status: 0 where nothing was wrong, 1 where something was, 4 where memory ran out.
+pub(crate) fn tell_end<E: Write>(told: Result<bool, Fault>, complaints: &mut E) -> u8 {
+    match told {
+        Ok(true) => 0,
+        Ok(false) => 1,
+        Err(Fault::OutOfMemory) => {
+            let _ = writeln!(complaints, "soak: out of memory");
+            4
+        }
+        Err(fault) => {
+            let _ = writeln!(complaints, "soak: {fault}");
+            1
+        }
+    }
+}

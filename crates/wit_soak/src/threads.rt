@@ -1,0 +1,156 @@
+//! The threads, each with its seat, and what comes of them.
+
+ghost use Rattle.std.specs.Prelude.{◌≡◌, ◌≤◌};
+
+use crate::locks::{Watched, make};
+use crate::plan::Plan;
+use crate::random::Random;
+use crate::rounds::work;
+use crate::worker::{Place, Tally, Worker};
+use std::alloc::{AllocError, Global};
+use std::sync::Wait;
+use std::thread::{self, Threads};
+use wit_core::Verifier;
+use wit_model::{Fault, FileNo, SeatNo};
+use wit_shared::{Observer, Opened, Room, Seat, Shared};
+
+/// What a soak leaves.
+#[derive(Drop)]
+pub(crate) struct Soaked {
+    pub(crate) verifier: Verifier,
+    /// What each thread counted, by its seat.
+    pub(crate) tallies: Vec<(SeatNo, Tally)>,
+}
+
+/// Has threads take locks by a plan, and gives the verifier back.
+///
+/// # Errors
+/// Want of memory, before the threads begin or when they have ended.
+pub(crate) fn run<J: Room + Send + Sync, R: Threads + Wait + Sync>(
+    rt: &R,
+    alloc: Global,
+    opened: Opened,
+    plan: Plan,
+) -> Result<Soaked, Fault>
+    requires name { (opened.story.start ≡ J.start) × (opened.table ≡ J.table) × (opened.list ≡ J.list) }
+    requires few { plan.threads ≤ 255 }
+{
+    let (shared, observers) = match opened.named::<J, R>(rt, plan.threads) {
+        Ok(named) => named,
+        Err(_) => return Err(Fault::OutOfMemory),
+    };
+    match soak(rt, alloc, &shared, observers, plan) {
+        Ok((seats, tallies)) => match shared.close(rt, seats) {
+            Ok(verifier) => Ok(Soaked { verifier, tallies }),
+            Err(unclosed) => {
+                unclosed.abandon(rt);
+                Err(Fault::UnknownSeat)
+            }
+        },
+        Err(fault) => {
+            shared.abandon(rt);
+            Err(fault)
+        }
+    }
+}
+
+// Makes the locks, runs the threads, and takes the locks apart. All seats come back.
+fn soak<J: Room + Send + Sync, R: Threads + Wait + Sync>(
+    rt: &R,
+    alloc: Global,
+    shared: &Shared<J>,
+    observers: Vec<Observer<J>>,
+    plan: Plan,
+) -> Result<(Vec<Seat<J>>, Vec<(SeatNo, Tally)>), Fault> {
+    let mut first = shared.seat(rt)?;
+    let mut workers = hire(rt, alloc, shared, observers, plan)?;
+    let mut locks = Vec::new(alloc);
+    for number in 0..plan.locks {
+        // One that is refused, for want of memory, is left out.
+        if let Ok(lock) = make(rt, alloc, shared, &mut first, number, plan.locks) {
+            add(&mut locks, lock)?;
+        }
+    }
+    soak_all(rt, alloc, shared, locks.as_slice(), &mut workers, plan);
+    for lock in locks {
+        if let Err(_fault) = lock.destroy(rt, shared, &mut first) {}
+    }
+    Ok(dismiss(alloc, first, workers)?)
+}
+
+// A worker for each observer.
+fn hire<J: Room, R: Wait>(
+    rt: &R,
+    alloc: Global,
+    shared: &Shared<J>,
+    observers: Vec<Observer<J>>,
+    plan: Plan,
+) -> Result<Vec<Worker<J>>, Fault> {
+    let mut workers = Vec::with_capacity(alloc, observers.len())?;
+    for observer in observers {
+        let number = u32::try_from(workers.len()).unwrap_or(u32::MAX);
+        let worker = Worker {
+            seat: shared.seat(rt)?,
+            observer,
+            random: Random::new(u64::from(plan.seed) << 16 | u64::from(number)),
+            file: FileNo(0),
+            turns: number == 0,
+            tally: Tally::new(),
+        };
+        add(&mut workers, worker)?;
+    }
+    Ok(workers)
+}
+
+// Each worker in a thread of its own, as far as threads can be had.
+fn soak_all<J: Room + Send + Sync, R: Threads + Wait + Sync>(
+    rt: &R,
+    alloc: Global,
+    shared: &Shared<J>,
+    locks: &[Watched<J>],
+    workers: &mut Vec<Worker<J>>,
+    plan: Plan,
+) {
+    let threads = workers.len();
+    if threads == 0 {
+        return;
+    }
+    let (rounds, quiet) = (plan.rounds, plan.seed % 2 == 1);
+    thread::for_each_mut(
+        rt,
+        workers.as_mut_slice(),
+        threads,
+        &|_, worker| {
+            let place = Place {
+                rt,
+                alloc,
+                shared,
+                locks,
+                quiet,
+            };
+            work(&place, worker, rounds)
+        },
+    );
+}
+
+// The seats, and what their threads counted.
+fn dismiss<J: Room>(
+    alloc: Global,
+    first: Seat<J>,
+    workers: Vec<Worker<J>>,
+) -> Result<(Vec<Seat<J>>, Vec<(SeatNo, Tally)>), AllocError> {
+    let mut seats = Vec::new(alloc);
+    let mut tallies = Vec::new(alloc);
+    add(&mut seats, first)?;
+    for worker in workers {
+        let Worker { seat, tally, .. } = worker;
+        add(&mut tallies, (seat.number(), tally))?;
+        add(&mut seats, seat)?;
+    }
+    Ok((seats, tallies))
+}
+
+fn add<T: Drop>(list: &mut Vec<T>, item: T) -> Result<(), AllocError> {
+    list.push(item)?;
+    Ok(())
+}

@@ -1,0 +1,119 @@
+//! What each thread has, and what it finds wrong.
+
+ghost use Rattle.std.specs.Prelude.{◌≡◌};
+
+use crate::locks::Watched;
+use crate::random::Random;
+use std::alloc::Global;
+use wit_model::{Fault, FileNo, Site};
+use wit_shared::{Observer, Room, Seat, Shared};
+
+/// Where the threads are.
+#[derive(Drop)]
+pub(crate) struct Place<'a, J: Room, R> {
+    pub(crate) rt: &'a R,
+    pub(crate) alloc: Global,
+    pub(crate) shared: &'a Shared<J>,
+    pub(crate) locks: &'a [Watched<J>],
+    /// Whether the watch is turned to quiet and back. What holds how isn't turned then, and no release is forbidden: of both a
+    /// verifier that is quiet isn't told.
+    pub(crate) quiet: bool,
+}
+
+impl<J: Room, R> Place<'_, J, R> {
+    /// How many locks there are.
+    pub(crate) fn count(&self) -> u32 {
+        u32::try_from(self.locks.len()).unwrap_or(0)
+    }
+}
+
+/// A thread's seat, its observer, and what it has seen.
+#[derive(Drop)]
+pub(crate) struct Worker<J: Room> {
+    pub(crate) seat: Seat<J>,
+    pub(crate) observer: Observer<J>,
+    pub(crate) random: Random,
+    pub(crate) file: FileNo,
+    /// Whether it is the one that turns the watch.
+    pub(crate) turns: bool,
+    pub(crate) tally: Tally,
+}
+
+/// What a thread counts.
+#[derive(Clone, Copy, Debug)]
+pub(crate) struct Tally {
+    /// Accepted calls of `check`, `note`, `note_try`, `give_up` and `unlock`, which the log always has.
+    pub(crate) calls: u64,
+    /// Calls that were refused.
+    pub(crate) refused: u64,
+    /// Those of them for which there was no memory.
+    pub(crate) memory: u64,
+    /// Questions that the observer didn't answer.
+    pub(crate) unanswered: u64,
+    /// How many orders the observer saw the last time.
+    pub(crate) orders: u32,
+    /// What shouldn't be, if anything was: the first of it.
+    pub(crate) wrong: Option<&'static str>,
+}
+
+impl Tally {
+    /// Nothing yet.
+    pub(crate) fn new() -> Tally {
+        Tally {
+            calls: 0,
+            refused: 0,
+            memory: 0,
+            unanswered: 0,
+            orders: 0,
+            wrong: None,
+        }
+    }
+
+    /// So many accepted calls more.
+    pub(crate) fn add(&mut self, calls: u64) {
+        self.calls = self.calls.saturating_add(calls);
+    }
+
+    /// A refused call more. Some faults no call here can meet.
+    pub(crate) fn refuse(&mut self, fault: Fault) {
+        self.refused = self.refused.saturating_add(1);
+        match fault {
+            Fault::OutOfMemory => self.memory = self.memory.saturating_add(1),
+            Fault::UnknownSeat
+            | Fault::UnknownLock
+            | Fault::NotLocked
+            | Fault::ForbiddenUnlock
+            | Fault::Busy
+            | Fault::Pending
+            | Fault::NotRequested
+            | Fault::LogFull
+            | Fault::WatchOff
+            | Fault::UnknownFile => self.blame("a call meets a fault that it can't have"),
+            _ => {}
+        }
+    }
+
+    /// A question more that had no answer.
+    pub(crate) fn miss(&mut self) {
+        self.unanswered = self.unanswered.saturating_add(1);
+    }
+
+    /// Says what is wrong, unless something was before.
+    pub(crate) fn blame(&mut self, what: &'static str) {
+        if self.wrong.is_none() {
+            self.wrong = Some(what);
+        }
+    }
+}
+
+impl<J: Room> Worker<J> {
+    /// A place in the program, which is made up.
+    pub(crate) fn site(&mut self) -> Site
+        ensures { self.new.seat ≡ self.old.seat }
+    {
+        Site {
+            file: self.file,
+            line: self.random.below(1000),
+        }
+    }
+}
