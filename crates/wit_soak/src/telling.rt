@@ -30,7 +30,13 @@ pub(crate) fn tell<W: Write, E: Write>(
             let _ = complaints.write_all(text.as_bytes());
         }
     }
-    let mut good = true;
+    let mut good = soaked.looked_on;
+    if !good {
+        let _ = writeln!(
+            complaints,
+            "an observer went back, or goes on behind the close"
+        );
+    }
     let (mut refused, mut memory, mut unanswered) = (0u64, 0u64, 0u64);
     for (seat, tally) in &soaked.tallies {
         refused = refused.saturating_add(tally.refused);

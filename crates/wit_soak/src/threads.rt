@@ -12,7 +12,10 @@ use std::sync::Wait;
 use std::thread::{self, Threads};
 use wit_core::Verifier;
 use wit_model::{Fault, FileNo, SeatNo};
-use wit_shared::{Observer, Opened, Room, Seat, Shared};
+use wit_shared::{Observer, Opened, Room, Seat, Shared, Unclosed};
+
+// How often an observer looks, at most.
+const LOOKS: u32 = 1_000_000;
 
 /// What a soak leaves.
 #[derive(Drop)]
@@ -20,13 +23,15 @@ pub(crate) struct Soaked {
     pub(crate) verifier: Verifier,
     /// What each thread counted, by its seat.
     pub(crate) tallies: Vec<(SeatNo, Tally)>,
+    /// Whether the observer that looked on while the verifier was closed never went back, and answers no more.
+    pub(crate) looked_on: bool,
 }
 
 /// Has threads take locks by a plan, and gives the verifier back.
 ///
 /// # Errors
 /// Want of memory, before the threads begin or when they have ended.
-pub(crate) fn run<J: Room + Send + Sync, R: Threads + Wait + Sync>(
+pub(crate) fn run<J: Room + Send + Sync + 'static, R: Threads + Wait + Sync>(
     rt: &R,
     alloc: Global,
     opened: Opened,
@@ -35,23 +40,65 @@ pub(crate) fn run<J: Room + Send + Sync, R: Threads + Wait + Sync>(
     requires name { (opened.story.start ≡ J.start) × (opened.table ≡ J.table) × (opened.list ≡ J.list) }
     requires few { plan.threads ≤ 255 }
 {
-    let (shared, observers) = match opened.named::<J, R>(rt, plan.threads) {
+    let (shared, mut observers) = match opened.named::<J, R>(rt, plan.threads + 1) {
         Ok(named) => named,
         Err(_) => return Err(Fault::OutOfMemory),
     };
+    let spare = observers.pop();
     match soak(rt, alloc, &shared, observers, plan) {
-        Ok((seats, tallies)) => match shared.close(rt, seats) {
-            Ok(verifier) => Ok(Soaked { verifier, tallies }),
-            Err(unclosed) => {
-                unclosed.abandon(rt);
-                Err(Fault::UnknownSeat)
+        Ok((seats, tallies)) => {
+            let (closed, looked_on) = close(rt, shared, seats, spare);
+            match closed {
+                Ok(verifier) => Ok(Soaked {
+                    verifier,
+                    tallies,
+                    looked_on,
+                }),
+                Err(unclosed) => {
+                    unclosed.abandon(rt);
+                    Err(Fault::UnknownSeat)
+                }
             }
-        },
+        }
         Err(fault) => {
             shared.abandon(rt);
             Err(fault)
         }
     }
+}
+
+// Closes the verifier while an observer looks on, as far as a thread can be had. It answers no more then.
+fn close<J: Room + Send + Sync + 'static, R: Threads + Wait + Sync>(
+    rt: &R,
+    shared: Shared<J>,
+    seats: Vec<Seat<J>>,
+    spare: Option<Observer<J>>,
+) -> (Result<Verifier, Unclosed<J>>, bool) {
+    let Some(observer) = spare else {
+        return (shared.close(rt, seats), false);
+    };
+    match thread::spawn(rt, move || look_on(observer)) {
+        Ok(looking) => {
+            let closed = shared.close(rt, seats);
+            let (mut observer, kept) = looking.join(rt);
+            (closed, kept && observer.orders_seen().is_none())
+        }
+        Err(_) => (shared.close(rt, seats), true),
+    }
+}
+
+// Whether an observer never goes back, until it doesn't answer any more. It comes back.
+fn look_on<J: Room>(mut observer: Observer<J>) -> (Observer<J>, bool) {
+    let mut orders = 0;
+    for _ in 0..LOOKS {
+        match observer.orders_seen() {
+            Some(now) if now < orders => return (observer, false),
+            Some(now) => orders = now,
+            None => break,
+        }
+        thread::yield_now();
+    }
+    (observer, true)
 }
 
 // Makes the locks, runs the threads, and takes the locks apart. All seats come back.
