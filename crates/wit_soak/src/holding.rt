@@ -33,8 +33,8 @@ pub(crate) fn play<J: Room, R: Wait, G: Gate, K: Kind>(
             question(place, worker, held.lock());
             held
         }
-        2 if !place.quiet => turn_up(place, worker, lock, held),
-        3 if !place.quiet => turn_down(place, worker, lock, held),
+        2 => turn_up(place, worker, lock, held),
+        3 => turn_down(place, worker, lock, held),
         4 if !place.quiet => {
             forbid(place, worker, held.lock());
             held

@@ -15,8 +15,8 @@ pub(crate) struct Place<'a, J: Room, R> {
     pub(crate) alloc: Global,
     pub(crate) shared: &'a Shared<J>,
     pub(crate) locks: &'a [Watched<J>],
-    /// Whether the watch is turned to quiet and back. What holds how isn't turned then, and no release is forbidden: of both a
-    /// verifier that is quiet isn't told.
+    /// Whether the watch is turned to quiet and back. No release is forbidden then: a verifier that is quiet passes over that it is
+    /// allowed again.
     pub(crate) quiet: bool,
 }
 
