@@ -1,5 +1,7 @@
 //! Data that a lock guards.
 
+ghost use Rattle.std.specs.Prelude.{◌≡◌};
+
 use crate::fakes::{Counted, Counts};
 use crate::tokens::{let_go, taken};
 use crate::verifiers::{a_mutex, a_seat, a_site, closed, run_with};
@@ -7,7 +9,7 @@ use std::alloc::Global;
 use std::process::Abort;
 use std::sync::Wait;
 use std::test::Fail;
-use wit_gates::CondGate;
+use wit_gates::{CondGate, Gate};
 use wit_locks::{Guarded, SleepMutexKind, Task, Unfinished, abandon};
 use wit_model::{Fault, Reply, Site};
 use wit_shared::{Observer, Program, Room, Seat, Shared};
@@ -48,8 +50,18 @@ fn added<R: Wait + Abort, J: Room>(
 {
     match number.with(rt, shared, seat, site, Add { more, counts }) {
         Ok(sum) => Ok(sum),
-        Err(Unfinished::NotAcquired(_, fault)) => Err(fault),
-        Err(Unfinished::NotReleased(_, held, fault)) => {
+        Err(unfinished) => Err(fault_of(rt, unfinished)),
+    }
+}
+
+/// Why the lock wasn't acquired.
+fn fault_of<R: Abort, W: Drop, G: Gate>(rt: &R, unfinished: Unfinished<W, u32, G>) -> Fault
+where
+    G::Ticket: Drop,
+{
+    match unfinished {
+        Unfinished::NotAcquired(_task, fault) => fault,
+        Unfinished::NotReleased(_sum, held, fault) => {
             abandon(held);
             panic!(rt; "not released: {fault}")
         }
