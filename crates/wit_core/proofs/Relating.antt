@@ -1,5 +1,5 @@
 -- Orders by their matrix.
-use Rattle.std.proofs.Common.{◌≡◌, ℕ, Bool, true, false, cond, eqb, ◌&&◌, List, [], ◌∷◌, ◌++◌, reverse, find, Option, None, Some, Result, Ok, Err, IfSome, IfOk, IfErr, refl, ap, sym, ◌∙◌, subst, ⊎_elim}
+use Rattle.std.proofs.Common.{◌≡◌, ◌<◌, ℕ, zero, suc, Bool, true, false, cond, eqb, ◌&&◌, List, [], ◌∷◌, ◌++◌, length, reverse, find, slice_get, Option, None, Some, Result, Ok, Err, IfSome, IfOk, IfErr, refl, ap, sym, ◌∙◌, subst, ⊎_elim, arith, length-append}
 use Rattle.std.specs.Global.{Vec}
 use Rattle.std.specs.Map.{lookup}
 use Rattle.std.specs.Option.{option_map}
@@ -8,7 +8,6 @@ use Rattle.std.proofs.lemmas.Bool.{and_from, and_parts, or_cases, eqb-true, le-l
 use Rattle.wit_model.specs.declared.calls.Adoption.{Adoption}
 use Rattle.wit_model.specs.declared.faults.Fault.{Fault}
 use Rattle.wit_model.specs.declared.faults.Fault.TheVariants.{OutOfMemory}
-use Rattle.wit_model.specs.declared.locks.Origin.{Origin}
 use Rattle.wit_model.specs.declared.locks.TypeNo.{TypeNo}
 use Rattle.wit_model.specs.Rules.Orders.{is_direct, is_before, is_adoption_of, IsPath, IsSound}
 use Rattle.wit_model.specs.Rules.Numbers.{IsNumber, is_number}
@@ -20,7 +19,7 @@ use Rattle.wit_matrix.proofs.Callers.{adopted_by, same_path}
 use Rattle.wit_core.specs.declared.orders.Orders.TheInside.{Inside}
 use Rattle.wit_core.specs.Following.{CanFollow}
 use Rattle.wit_core.specs.Ordering.{Ordering}
-use Rattle.wit_core.specs.Related.{ordering_in, is_pair, HaveOrigins, IsRelated}
+use Rattle.wit_core.specs.Related.{ordering_in, is_pair, order_at, HavePlaces, IsRelated}
 
 path-ends : (n : ℕ) (os : List Adoption) → OrdersAmong n os → (a : ℕ) (way : List ℕ) (b : ℕ) → IsPath os a way b → IsNumber n a × IsNumber n b
 path-ends n os among a [] b p = among a b p
@@ -64,22 +63,45 @@ among-adopted n os order among parent child a b is =
     (among a b)
     (or_cases (is_adoption_of a b order) (is_direct os a b) is)
 
--- the origins with that of one more order
-origins-adopted : (old new : List ((TypeNo × TypeNo) × Origin)) (os : List Adoption) (order : Adoption) → HaveOrigins old os
-    → ((p : TypeNo × TypeNo) → lookup (is_pair p) new ≡ cond (is_pair (order.parent, order.child) p) (Some order.origin) (lookup (is_pair p) old)) → HaveOrigins new (order ∷ os)
-origins-adopted old new os order have entered a b =
-    entered (a, b)
-    ∙ ap (cond (is_adoption_of a.0 b.0 order) (Some order.origin)) (have a b)
-    ∙ newest (is_adoption_of a.0 b.0 order) (find (is_adoption_of a.0 b.0) os)
-  where
-    newest : (is : Bool) (older : Option Adoption) → cond is (Some order.origin) (option_map (λ (x : Adoption). x.origin) older) ≡ option_map (λ (x : Adoption). x.origin) (cond is (Some order) older)
-    newest true older = refl
-    newest false older = refl
+at-end : (os : List Adoption) (order : Adoption) → slice_get (os ++ order ∷ []) (length os) ≡ Some order
+at-end [] order = refl
+at-end (o ∷ os) order = at-end os order
+
+at-before : (os : List Adoption) (order : Adoption) (place : ℕ) → place < length os → slice_get (os ++ order ∷ []) place ≡ slice_get os place
+at-before [] order place lt = absurd (omega (arith, lt))
+at-before (o ∷ os) order zero lt = refl
+at-before (o ∷ os) order (suc place) lt = at-before os order place (omega (arith, lt))
+
+-- the places with that of one more order
+module _ (old new : List ((TypeNo × TypeNo) × ℕ)) (os : List Adoption) (order : Adoption) (have : HavePlaces old os)
+    (entered : (p : TypeNo × TypeNo) → lookup (is_pair p) new ≡ cond (is_pair (order.parent, order.child) p) (Some (length os)) (lookup (is_pair p) old)) where
+  within-adopted : (is : Bool) (older : Option ℕ) → IfSome older (λ place. place < length os)
+      → IfSome (cond is (Some (length os)) older) (λ place. place < length (os ++ order ∷ []))
+  within-adopted true older within = omega (arith, length-append os (order ∷ []))
+  within-adopted false None within = tt
+  within-adopted false (Some place) within = omega (arith, within, length-append os (order ∷ []))
+
+  order-adopted : (is : Bool) (older : Option ℕ) → IfSome older (λ place. place < length os)
+      → order_at (os ++ order ∷ []) (cond is (Some (length os)) older) ≡ cond is (Some order) (order_at os older)
+  order-adopted true older within = at-end os order
+  order-adopted false None within = refl
+  order-adopted false (Some place) within = at-before os order place within
+
+  places-adopted : HavePlaces new (os ++ order ∷ [])
+  places-adopted = record {
+    within = λ p. subst (λ o. IfSome o (λ place. place < length (os ++ order ∷ []))) (sym (entered p))
+        (within-adopted (is_pair (order.parent, order.child) p) (lookup (is_pair p) old) (have.within p));
+    tells = λ a b.
+        ap (order_at (os ++ order ∷ [])) (entered (a, b))
+        ∙ order-adopted (is_adoption_of a.0 b.0 order) (lookup (is_pair (a, b)) old) (have.within (a, b))
+        ∙ ap (cond (is_adoption_of a.0 b.0 order) (Some order)) (have.tells a b)
+        ∙ sym (ap (find (is_adoption_of a.0 b.0)) (reverse-append os (order ∷ [])));
+  }
 
 -- what is kept once one more order is adopted
 pub related-adopted : (old new : Inside) (order : Adoption) → IsRelated old → CanFollow old.matrix.size (reverse old.adopted.items) order.parent.0 order.child.0
     → new.adopted.items ≡ old.adopted.items ++ order ∷ [] → new.found ≡ old.found → Adopts old.matrix order.parent.0 order.child.0 new.matrix
-    → ((p : TypeNo × TypeNo) → lookup (is_pair p) new.origins.entries ≡ cond (is_pair (order.parent, order.child) p) (Some order.origin) (lookup (is_pair p) old.origins.entries)) → IsRelated new
+    → ((p : TypeNo × TypeNo) → lookup (is_pair p) new.places.entries ≡ cond (is_pair (order.parent, order.child) p) (Some (length old.adopted.items)) (lookup (is_pair p) old.places.entries)) → IsRelated new
 related-adopted old new order k follows pushed found adopts entered =
     let newest : reverse new.adopted.items ≡ order ∷ reverse old.adopted.items = ap reverse pushed ∙ reverse-append old.adopted.items (order ∷ []) in
     record {
@@ -87,7 +109,7 @@ related-adopted old new order k follows pushed found adopts entered =
       found = rw found (λ a b. adopts.found a b ∙ k.found a b);
       orders_among = rw (newest, adopts.size) (among-adopted old.matrix.size (reverse old.adopted.items) order k.orders_among follows.parent follows.child);
       found_among = rw (found, adopts.size) k.found_among;
-      origins = rw newest (origins-adopted old.origins.entries new.origins.entries (reverse old.adopted.items) order k.origins entered);
+      places = rw pushed (places-adopted old.places.entries new.places.entries old.adopted.items order k.places entered);
     }
 
 module _ (o : Inside) (k : IsRelated o) (now : Ordering) (seen : ordering_in o ≡ now) where

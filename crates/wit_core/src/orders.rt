@@ -22,8 +22,8 @@ pub struct Orders {
     found: Vec<(TypeNo, TypeNo)>,
     /// The same, as a relation of each type to each, which answers every question but one.
     matrix: Matrix,
-    /// Where the order of each adopted pair comes from.
-    origins: IndexMap<(TypeNo, TypeNo), Origin>,
+    /// The place of each pair's order among them.
+    places: IndexMap<(TypeNo, TypeNo), usize>,
 }
 
 impl Model for Orders {
@@ -53,7 +53,7 @@ impl Orders {
             adopted: Vec::new(alloc),
             found: Vec::new(alloc),
             matrix: Matrix::new(alloc, types as u16)?,
-            origins: IndexMap::new(alloc),
+            places: IndexMap::new(alloc),
         })
     }
 
@@ -86,7 +86,9 @@ impl Orders {
     pub fn origin(&self, a: TypeNo, b: TypeNo) -> Option<Origin>
         ensures { result ≡ origin_of a.0 b.0 self.now.orders }
     {
-        self.origins.get(&(a, b)).copied()
+        let place = *self.places.get(&(a, b))?;
+        let order = self.adopted.get(place)?;
+        Some(order.origin)
     }
 
     /// Whether a path of adopted orders leads from a to b.
@@ -150,7 +152,7 @@ impl Orders {
         ensures ok { OnOk result (more ≤ self.new.spare) }
     {
         self.adopted.reserve(more)?;
-        self.origins.reserve(more)?;
+        self.places.reserve(more)?;
         self.found.reserve(more)?;
         Ok(())
     }
@@ -162,10 +164,11 @@ impl Orders {
         ensures adopted { self.new ≡ record self.old { orders = order ∷ self.old.orders; spare = self.new.spare } }
         ensures room { self.old.spare ≤ self.new.spare + 1 }
     {
+        let place = self.adopted.len();
         self.adopted.push_reserved(order);
         let _new = self
-            .origins
-            .insert((order.parent, order.child), order.origin)
+            .places
+            .insert((order.parent, order.child), place)
             .unwrap();
         self.matrix.adopt(order.parent, order.child);
     }

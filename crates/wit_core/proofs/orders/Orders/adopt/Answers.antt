@@ -1,4 +1,4 @@
-use Rattle.std.proofs.Common.{refl, sym, ◌∙◌, subst}
+use Rattle.std.proofs.Common.{◌≡◌, length, refl, sym, ◌∙◌, subst, arith}
 use Rattle.wit_core.specs.Ordering.{Ordering}
 use Rattle.wit_core.specs.Following.{CanFollow}
 use Rattle.wit_core.proofs.Relating.{before-by, related-adopted}
@@ -10,12 +10,13 @@ adopt-requires-clause-orderly c =
 
 pub invariant_of-self : goal.invariant_of-self
 invariant_of-self c =
+    let count : c.len-place.result ≡ length c.self.inside.adopted.items = omega (arith, c.len-place.ensures, c.self.inside.adopted.ok.0) in
     related-adopted c.self.inside (record {
       adopted = c.push_reserved.new.self;
       found = c.self.inside.found;
       matrix = c.adopt.new.self;
-      origins = c.insert.new.self;
+      places = c.insert.new.self;
     }) c.args.order c.self.invariant
     (subst (λ (r : Ordering). CanFollow r.size r.orders c.args.order.parent.0 c.args.order.child.0) (sym c.self.view_is) c.requires.follows)
     c.push_reserved.ensures.items refl c.adopt.ensures.adopted
-    (rw c.unwrap-new.ensures at c.insert.ensures.updates).0
+    (rw (c.unwrap-new.ensures, count) at c.insert.ensures.updates).0
