@@ -15,13 +15,10 @@ use crate::orders::Orders;
 use std::alloc::{AllocError, Global};
 use std::marker::Model;
 use wit_model::{
-    Adoption, Class, Fault, FileNo, Lock, LockFlags, LockNo, NewLock, Origin, Reply, Request,
-    TypeNo,
+    Adoption, Class, Fault, FileNo, Limits, Lock, LockFlags, LockNo, NewLock, Origin, Reply,
+    Request, TypeNo,
 };
 use wit_table::Table;
-
-/// How many source files may have numbers.
-const MOST_FILES: u32 = 65535;
 
 /// What is known of types, files, locks and orders.
 #[derive(Drop)]
@@ -62,7 +59,7 @@ impl Known {
         ensures err { IfErr result (λ e. e ≡ OutOfMemory) }
     {
         Ok(Known {
-            names: Table::new(alloc, types, MOST_FILES)?,
+            names: Table::new(alloc, types, Limits::MOST_FILES)?,
             locks: Vec::new(alloc),
             lock_types: Vec::new(alloc),
             live: Vec::new(alloc),

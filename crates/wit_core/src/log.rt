@@ -2,6 +2,7 @@
 
 ghost use Rattle.std.specs.Prelude.{◌≡◌, ◌<◌, ◌≤◌, ◌+◌, ◌-◌, [], ◌∷◌, length, nat_le, reverse, OnOk};
 ghost use Rattle.wit_model.specs.Rules.History.{is_report, reports_of};
+ghost use Rattle.wit_model.specs.Rules.Step.{is_logged};
 
 use std::alloc::{AllocError, Global};
 use std::marker::Model;
@@ -115,6 +116,13 @@ impl Log {
         self.owed -= 1;
         self.push(entry, 0);
     }
+}
+
+/// Whether the log keeps a call that is answered so.
+pub fn is_logged(reply: &Reply) -> bool
+    ensures { result ≡ is_logged reply.now }
+{
+    !matches!(reply, Reply::Ignored)
 }
 
 fn is_report(reply: &Reply) -> bool

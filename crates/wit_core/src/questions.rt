@@ -4,7 +4,7 @@ ghost use Rattle.std.specs.Prelude.{◌≡◌, ◌+◌, ◌&&◌, true, Some, no
 ghost use Rattle.wit_model.specs.Rules.Locks.{lock_at};
 ghost use Rattle.wit_model.specs.Rules.Numbers.{is_number};
 ghost use Rattle.wit_model.specs.Rules.State.{state_of, seat_at, is_seat, is_live, has_room};
-ghost use Rattle.wit_model.specs.Rules.Step.{about_seat, held_by, is_too_deep, before_acquiring, before_answering, before_naming};
+ghost use Rattle.wit_model.specs.Rules.Step.{about_lock, about_seat, held_by, is_too_deep, before_acquiring, before_answering, before_naming};
 ghost use Rattle.wit_model.specs.Rules.Destroying.{is_used};
 ghost use Rattle.wit_model.specs.Rules.Types.{is_otherwise, is_enrolled};
 ghost use Rattle.wit_core.specs.Replies.{Admits, Refuses};
@@ -12,7 +12,7 @@ ghost use Rattle.wit_core.specs.Replies.{Admits, Refuses};
 use crate::known::class_of_lock;
 use crate::names::is_enrolled;
 use crate::verifier::Verifier;
-use wit_model::{Class, Fault, FileNo, Instance, LockNo, Mode, Request, SeatNo, Site};
+use wit_model::{Class, Fault, FileNo, Instance, Limits, LockNo, Mode, Request, SeatNo, Site};
 
 impl Verifier {
     pub(crate) fn is_seat(&self, seat: SeatNo) -> bool
@@ -66,11 +66,11 @@ impl Verifier {
             return false;
         }
         // A lock so deep is owed 65,536 releases: where the log owes fewer, the lock needn't be looked for.
-        if self.log.owed() < 65536 {
+        if self.log.owed() < Limits::MOST_ACQUISITIONS {
             return false;
         }
         match self.held(seat, lock) {
-            Some(held) => held.count == 65535,
+            Some(held) => held.count as u32 + 1 == Limits::MOST_ACQUISITIONS,
             None => false,
         }
     }
@@ -100,6 +100,22 @@ impl Verifier {
         Ok(())
     }
 
+    // The faults of a call about a lock.
+    pub(crate) fn about_lock(&self, seat: SeatNo, lock: LockNo) -> Result<(), Fault>
+        ensures ok { OnOk result (Admits (about_lock (state_of self.now) seat.0 lock.0)) }
+        ensures seat { OnOk result (is_seat (state_of self.now) seat.0 ≡ true) }
+        ensures lock { OnOk result (is_live (state_of self.now) lock.0 ≡ true) }
+        ensures err { IfErr result (Refuses (about_lock (state_of self.now) seat.0 lock.0)) }
+    {
+        if !self.is_seat(seat) {
+            return Err(Fault::UnknownSeat);
+        }
+        if !self.is_live(lock) {
+            return Err(Fault::UnknownLock);
+        }
+        Ok(())
+    }
+
     // The faults of a call that asks for a lock, or tries it.
     pub(crate) fn before_acquiring(
         &self,
@@ -113,12 +129,7 @@ impl Verifier {
         ensures lock { OnOk result (is_live (state_of self.now) lock.0 ≡ true) }
         ensures err { IfErr result (Refuses (before_acquiring (state_of self.now) seat.0 lock.0 mode site)) }
     {
-        if !self.is_seat(seat) {
-            return Err(Fault::UnknownSeat);
-        }
-        if !self.is_live(lock) {
-            return Err(Fault::UnknownLock);
-        }
+        self.about_lock(seat, lock)?;
         if !self.is_file(site.file) {
             return Err(Fault::UnknownFile);
         }
@@ -138,14 +149,10 @@ impl Verifier {
     pub(crate) fn before_naming(&self, seat: SeatNo, lock: LockNo) -> Result<(), Fault>
         ensures ok { OnOk result (Admits (before_naming (state_of self.now) seat.0 lock.0)) }
         ensures seat { OnOk result (is_seat (state_of self.now) seat.0 ≡ true) }
+        ensures lock { OnOk result (is_live (state_of self.now) lock.0 ≡ true) }
         ensures err { IfErr result (Refuses (before_naming (state_of self.now) seat.0 lock.0)) }
     {
-        if !self.is_seat(seat) {
-            return Err(Fault::UnknownSeat);
-        }
-        if !self.is_live(lock) {
-            return Err(Fault::UnknownLock);
-        }
+        self.about_lock(seat, lock)?;
         if self.request(seat).is_some() {
             return Err(Fault::Pending);
         }
@@ -158,12 +165,7 @@ impl Verifier {
         ensures request { IfOk result (λ q. (seat_at (state_of self.now) seat.0).pending ≡ Some q) }
         ensures err { IfErr result (Refuses (before_answering (state_of self.now) seat.0 lock.0)) }
     {
-        if !self.is_seat(seat) {
-            return Err(Fault::UnknownSeat);
-        }
-        if !self.is_live(lock) {
-            return Err(Fault::UnknownLock);
-        }
+        self.about_lock(seat, lock)?;
         match self.request(seat) {
             Some(request) if request.lock.0 == lock.0 => Ok(request),
             _ => Err(Fault::NotRequested),

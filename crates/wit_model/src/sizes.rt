@@ -44,6 +44,12 @@ impl Limits {
     /// The greatest number of entries of the log.
     pub const MOST_ENTRIES: u32 = 16_777_216;
 
+    /// How many source files may have numbers: always so many.
+    pub const MOST_FILES: u32 = 65_535;
+
+    /// How often a seat may have acquired a lock: always so often.
+    pub const MOST_ACQUISITIONS: u32 = 65_536;
+
     /// Limits with these numbers: `None` exactly where one is 0 or over its greatest value, which is
     /// 256 seats, 1,023 types, 65,536 locks, 65,536 chunks and 16,777,216 log entries.
     pub fn new(seats: u32, types: u32, locks: u32, chunks: u32, log: u32) -> Option<Limits>

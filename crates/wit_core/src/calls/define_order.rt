@@ -9,6 +9,7 @@ ghost use Rattle.wit_model.specs.Rules.Step.{AnswersOrFails, answer_of, is_logge
 
 use crate::defining::defined;
 use crate::known::type_of_lock;
+use crate::log::is_logged;
 use crate::ready::{Plan, Ready};
 use crate::verifier::Verifier;
 use wit_check::define;
@@ -60,15 +61,8 @@ impl Verifier {
     fn answer_define(&self, seat: SeatNo, first: LockNo, second: LockNo) -> Result<Reply, Fault>
         ensures { result ≡ answer_of self.now seat.0 (DefineOrder first second) }
     {
-        if !self.is_seat(seat) {
-            return Err(Fault::UnknownSeat);
-        }
-        if !self.is_live(first) || !self.is_live(second) {
-            return Err(Fault::UnknownLock);
-        }
-        if self.request(seat).is_some() {
-            return Err(Fault::Pending);
-        }
+        self.about_lock(seat, first)?;
+        self.before_naming(seat, second)?;
         if self.watch().is_off() {
             return Ok(Reply::Ignored);
         }
@@ -109,11 +103,4 @@ impl Verifier {
         self.log.push(entry, 0);
         reply
     }
-}
-
-// Whether the log keeps a call that is answered so.
-fn is_logged(reply: &Reply) -> bool
-    ensures { result ≡ is_logged reply.now }
-{
-    !matches!(reply, Reply::Ignored)
 }

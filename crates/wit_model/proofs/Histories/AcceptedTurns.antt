@@ -142,12 +142,12 @@ defined_on false rest r kept ok = (refl, ok)
 pub define_accepted : (s : State) (t a b : ℕ) (r : Reply) → step_define s t a b ≡ Ok r → is_logged r ≡ true → DefineAccepted s t a b r
 define_accepted s t a b r ok kept =
     let d = passed_not (is_seat s t) _ _ r ok in
-    let e = passed_not (is_live s a && is_live s b) _ _ r d.1 in
-    let both = and_parts (is_live s a) (is_live s b) e.0 in
-    let f = passed (is_pending s t) _ _ r e.1 in
+    let e = passed_not (is_live s a) _ _ r d.1 in
+    let h = passed_not (is_live s b) _ _ r (passed_not (is_seat s t) _ _ r e.1).1 in
+    let f = passed (is_pending s t) _ _ r h.1 in
     let g = defined_on (is_off s.watch) _ r kept f.1 in
     let i = roomy s 1 (define s.known a b) r g.1 in
-    record { seat = d.0; first = both.0; second = both.1; idle = f.0; on = g.0; answer = i.0; room = i.1 }
+    record { seat = d.0; first = e.0; second = h.0; idle = f.0; on = g.0; answer = i.0; room = i.1 }
 
 -- ---- calls that leave requests and acquisitions as they are
 

@@ -47,6 +47,12 @@ module _ (st : State) (t : ℕ) where
         → cond (not (is_seat st t)) (Err UnknownSeat) (cond (not (is_live st l)) (Err UnknownLock) rest) ≡ Err UnknownLock
     one-lock l rest is = let-by (is_seat st t) UnknownSeat _ seat ∙ stops (is_live st l) UnknownLock rest is
 
+    two-locks : (a b : ℕ) (rest : Result Reply Fault) (first : Bool) → is_live st a ≡ first → (first && is_live st b) ≡ false
+        → cond (not (is_seat st t)) (Err UnknownSeat) (cond (not (is_live st a)) (Err UnknownLock)
+        (cond (not (is_seat st t)) (Err UnknownSeat) (cond (not (is_live st b)) (Err UnknownLock) rest))) ≡ Err UnknownLock
+    two-locks a b rest false at is = one-lock a _ at
+    two-locks a b rest true at is = let-by (is_seat st t) UnknownSeat _ seat ∙ let-by (is_live st a) UnknownLock _ at ∙ one-lock b rest is
+
     no-lock : (call : Call) → names_live st call ≡ false → step st t call ≡ Err UnknownLock
     no-lock (Init lock) is = absurd (true≢false is)
     no-lock (SetWatch watch) is = absurd (true≢false is)
@@ -60,8 +66,7 @@ module _ (st : State) (t : ℕ) where
     no-lock (Downgrade l) is = one-lock l.0 _ is
     no-lock (NoRelease l) is = one-lock l.0 _ is
     no-lock (ReleaseOk l) is = one-lock l.0 _ is
-    no-lock (DefineOrder a b) is =
-        let-by (is_seat st t) UnknownSeat _ seat ∙ stops (is_live st a.0 && is_live st b.0) UnknownLock _ is
+    no-lock (DefineOrder a b) is = two-locks a.0 b.0 _ (is_live st a.0) refl is
 
 pub call-answered : (s : Scene) (t : ℕ) (call : Call) → may_call s t call ≡ true → answer_in s t call ≡ answer_of s.story t call
 call-answered s t call may =

@@ -95,9 +95,9 @@ module _ (x : Scene) (fits : Fits x) (t : ℕ) where
       quiet (ReleaseOk l) r refl refl ok (over x fits t none) (rests (ReleaseOk l) r none (λ o. refl) refl) (λ k. apart-releaseok l r k)
   does (DefineOrder a b) r ok free =
       let c = passed_not (is_seat st t) _ _ r (ok-log x fits t (DefineOrder a b) r ok) in
-      let d = passed_not (is_live st a.0 && is_live st b.0) _ _ r c.1 in
-      let e = passed (is_pending st t) _ _ r d.1 in
-      let none = idle-now x fits t c.0 e.0 in
+      let d = passed_not (is_live st a.0) _ _ r c.1 in
+      let e = naming st t b.0 _ r d.1 in
+      let none = idle-now x fits t e.0 e.2 in
       quiet (DefineOrder a b) r refl refl ok (over x fits t none) (rests (DefineOrder a b) r none (λ o. refl) refl) (λ k. apart-nothing k)
 
 -- ---- the beginning, and one more file

@@ -1,8 +1,7 @@
 -- What a program asserts of a lock: witness_assert of witness(4), whose panics are answers here. An assertion isn't logged.
-use Rattle.std.specs.Prelude.{ℕ, ◌+◌, Bool, not, ◌&&◌, ◌||◌, ◌==◌, nat_lt, [], ◌∷◌, Option, None, Some, Result, Ok, Err, if◌then◌else◌}
+use Rattle.std.specs.Prelude.{ℕ, ◌+◌, Bool, not, ◌&&◌, ◌||◌, ◌==◌, nat_lt, [], ◌∷◌, Option, None, Some, Result, Ok, if◌then◌else◌}
 use Rattle.std.specs.List.{list_any}
 use Rattle.wit_model.specs.declared.faults.Fault.{Fault}
-use Rattle.wit_model.specs.declared.faults.Fault.TheVariants.{UnknownSeat, UnknownLock}
 use Rattle.wit_model.specs.declared.locks.Watch.{Watch}
 use Rattle.wit_model.specs.declared.locks.Instance.{Instance}
 use Rattle.wit_model.specs.declared.flags.LockAssert.{LockAssert}
@@ -10,9 +9,9 @@ use Rattle.wit_model.specs.declared.assertions.AssertAnswer.{AssertAnswer}
 use Rattle.wit_model.specs.declared.assertions.AssertAnswer.TheVariants.{Holds, Skipped, Invalid, IsLocked, IsNotLocked, IsNotExclusive, IsExclusive, IsNotRecursed, IsRecursed}
 use Rattle.wit_model.specs.Rules.Locks.{has_flag}
 use Rattle.wit_model.specs.Rules.History.{is_on}
-use Rattle.wit_model.specs.Rules.State.{State, is_seat, is_live}
+use Rattle.wit_model.specs.Rules.State.{State}
 use Rattle.wit_model.specs.Rules.Verdict.{is_exclusive}
-use Rattle.wit_model.specs.Rules.Questions.{held_by}
+use Rattle.wit_model.specs.Rules.Questions.{about_lock, held_by}
 
 -- the flags of this set, alone or with one that says how often the lock is acquired (0x10 more than once, 0x20 once)
 abbrev pub is_with_count : ℕ → ℕ → Bool
@@ -45,7 +44,4 @@ assertion watch flags held =
     else asserted flags.0 held
 
 abbrev pub step_assert : State → ℕ → ℕ → LockAssert → Result AssertAnswer Fault
-step_assert s t l flags =
-    if not (is_seat s t) then Err UnknownSeat
-    else if not (is_live s l) then Err UnknownLock
-    else Ok (assertion s.watch flags (held_by s t l))
+step_assert s t l flags = about_lock s t l (Ok (assertion s.watch flags (held_by s t l)))

@@ -1,7 +1,7 @@
 -- An order that is defined by a call, without an acquisition: witness_defineorder of subr_witness.c.
 use Rattle.std.specs.Prelude.{ℕ, Bool, not, ◌&&◌, ◌||◌, ◌==◌, List, Result, Ok, Err, if◌then◌else◌}
 use Rattle.wit_model.specs.declared.faults.Fault.{Fault}
-use Rattle.wit_model.specs.declared.faults.Fault.TheVariants.{UnknownSeat, UnknownLock, WrongOrder, SameType, KindMismatch, Pending}
+use Rattle.wit_model.specs.declared.faults.Fault.TheVariants.{WrongOrder, SameType, KindMismatch}
 use Rattle.wit_model.specs.declared.locks.TypeNo.{TypeNo}
 use Rattle.wit_model.specs.declared.calls.Adoption.{Adoption}
 use Rattle.wit_model.specs.declared.calls.Reply.{Reply}
@@ -10,8 +10,8 @@ use Rattle.wit_model.specs.Rules.Types.{LockType, class_of, is_spin}
 use Rattle.wit_model.specs.Rules.Locks.{lock_at}
 use Rattle.wit_model.specs.Rules.Orders.{is_direct, is_before}
 use Rattle.wit_model.specs.Rules.History.{is_off}
-use Rattle.wit_model.specs.Rules.State.{Known, State, is_seat, is_live}
-use Rattle.wit_model.specs.Rules.Questions.{is_pending, with_room}
+use Rattle.wit_model.specs.Rules.State.{Known, State}
+use Rattle.wit_model.specs.Rules.Questions.{about_lock, before_naming, with_room}
 
 -- whether one type is of the spin kind and the other of the sleep kind
 abbrev pub are_of_two_kinds : List LockType → TypeNo → TypeNo → Bool
@@ -34,8 +34,6 @@ define k a b = defining k.types k.orders (lock_at k.locks a).type_no (lock_at k.
 -- it is passed over where nothing is watched
 abbrev pub step_define : State → ℕ → ℕ → ℕ → Result Reply Fault
 step_define s t a b =
-    if not (is_seat s t) then Err UnknownSeat
-    else if not (is_live s a && is_live s b) then Err UnknownLock
-    else if is_pending s t then Err Pending
-    else if is_off s.watch then Ok reply.Ignored
-    else with_room s 1 (define s.known a b)
+    about_lock s t a (before_naming s t b (
+    if is_off s.watch then Ok reply.Ignored
+    else with_room s 1 (define s.known a b)))

@@ -36,19 +36,17 @@ abbrev pub is_for : ℕ → Option Request → Bool
 is_for l None = false
 is_for l (Some q) = q.lock.0 == l
 
--- a call of a seat: it is known and asks for nothing, else the call is refused before the rest
-abbrev pub about_seat : State → ℕ → Result Reply Fault → Result Reply Fault
-about_seat s t rest =
-    if not (is_seat s t) then Err UnknownSeat
-    else if is_pending s t then Err Pending
-    else rest
+-- a call of a seat: it is known, else the call is refused before the rest
+abbrev pub of_seat : {X : Type 0} → State → ℕ → Result X Fault → Result X Fault
+of_seat s t rest = if not (is_seat s t) then Err UnknownSeat else rest
 
--- a call about a lock: the seat and the lock are known, else it is refused before the rest
-abbrev pub about_lock : State → ℕ → ℕ → Result Reply Fault → Result Reply Fault
-about_lock s t l rest =
-    if not (is_seat s t) then Err UnknownSeat
-    else if not (is_live s l) then Err UnknownLock
-    else rest
+-- and asks for nothing
+abbrev pub about_seat : State → ℕ → Result Reply Fault → Result Reply Fault
+about_seat s t rest = of_seat s t (if is_pending s t then Err Pending else rest)
+
+-- a call about a lock: the seat and the lock are known
+abbrev pub about_lock : {X : Type 0} → State → ℕ → ℕ → Result X Fault → Result X Fault
+about_lock s t l rest = of_seat s t (if not (is_live s l) then Err UnknownLock else rest)
 
 -- and by a seat that asks for nothing
 abbrev pub before_naming : State → ℕ → ℕ → Result Reply Fault → Result Reply Fault

@@ -1,14 +1,15 @@
 -- Which held locks a seat is warned of, where it should hold none: witness_warn of witness(4). A warning isn't logged.
 use Rattle.std.specs.Prelude.{ℕ, Bool, true, false, not, ◌&&◌, ◌||◌, List, [], ◌∷◌, ◌++◌, length, filter, reverse, Option, None, Some, Result, Ok, Err, if◌then◌else◌}
 use Rattle.wit_model.specs.declared.faults.Fault.{Fault}
-use Rattle.wit_model.specs.declared.faults.Fault.TheVariants.{UnknownSeat, UnknownLock}
+use Rattle.wit_model.specs.declared.faults.Fault.TheVariants.{UnknownLock}
 use Rattle.wit_model.specs.declared.locks.Watch.{Watch}
 use Rattle.wit_model.specs.declared.locks.LockNo.{LockNo}
 use Rattle.wit_model.specs.declared.locks.Instance.{Instance}
 use Rattle.wit_model.specs.declared.flags.WarnFlags.{WarnFlags}
 use Rattle.wit_model.specs.Rules.Locks.{has_flag}
 use Rattle.wit_model.specs.Rules.History.{is_on}
-use Rattle.wit_model.specs.Rules.State.{State, seat_at, is_seat, is_live}
+use Rattle.wit_model.specs.Rules.State.{State, seat_at, is_live}
+use Rattle.wit_model.specs.Rules.Questions.{of_seat}
 use Rattle.wit_model.specs.Rules.Verdict.{Basis, is_of, type_held, is_sleepable, is_giant, basis_of}
 
 -- whether this is the lock that the call names, if it names one
@@ -51,6 +52,4 @@ is_nameable s (Some l) = is_live s l.0
 -- how many they are
 abbrev pub step_warn : State → ℕ → Option LockNo → WarnFlags → Result ℕ Fault
 step_warn s t named flags =
-    if not (is_seat s t) then Err UnknownSeat
-    else if not (is_nameable s named) then Err UnknownLock
-    else Ok (length (warned s t named flags))
+    of_seat s t (if not (is_nameable s named) then Err UnknownLock else Ok (length (warned s t named flags)))
