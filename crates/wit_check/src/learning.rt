@@ -12,11 +12,12 @@ ghost use Rattle.wit_check.specs.Held.{sleep_chain, spin_chain, IsTyped, IsJudge
 ghost use Rattle.wit_check.specs.Meets.{with_parents};
 
 use crate::basis::Basis;
+use crate::chains::Chains;
 use crate::orders::is_learnt;
 use std::alloc::{AllocError, Global};
 use wit_matrix::Matrix;
 use wit_model::chunks::{Lists, list_of};
-use wit_model::{Asked, Instance, NewOrders, SeatNo, TypeNo};
+use wit_model::{Asked, Instance, NewOrders, TypeNo};
 use wit_table::Table;
 
 /// The orders that a request teaches behind all the locks of its kind that its seat holds, that behind the newest one first: those that
@@ -30,30 +31,34 @@ pub fn new_orders<L: Lists>(
     alloc: Global,
     types: &Table,
     matrix: &Matrix,
-    lists: &L,
-    seat: SeatNo,
-    lock_types: &[TypeNo],
+    chains: Chains<L>,
     request: Asked,
 ) -> Result<NewOrders, AllocError>
-    requires seat { IsNumber 256 seat.0 }
-    requires lists { IsList (L.chunks lists.now) (list_of true seat.0) }
-    requires sleep { IsJudgeable lock_types.now (sleep_chain (L.chunks lists.now) seat.0) }
-    requires spin { IsJudgeable lock_types.now (spin_chain (L.chunks lists.now) seat.0) }
-    requires types { AreTypes types.now lock_types.now }
+    requires seat { IsNumber 256 chains.seat.0 }
+    requires lists { IsList (L.chunks chains.lists.now) (list_of true chains.seat.0) }
+    requires sleep { IsJudgeable chains.lock_types.now (sleep_chain (L.chunks chains.lists.now) chains.seat.0) }
+    requires spin { IsJudgeable chains.lock_types.now (spin_chain (L.chunks chains.lists.now) chains.seat.0) }
+    requires types { AreTypes types.now chains.lock_types.now }
     requires asked { IsGiven types.now.types request.type_no.0 }
     requires sized { length types.now.types ≤ matrix.now.size }
-    ensures { let basis = basis types.now matrix.now lock_types.now in
-        let sleep = sleep_chain (L.chunks lists.now) seat.0 in
-        let spin = spin_chain (L.chunks lists.now) seat.0 in
+    ensures { let basis = basis types.now matrix.now chains.entry.lock_types.now in
+        let sleep = sleep_chain (L.chunks chains.entry.lists.now) chains.entry.seat.0 in
+        let spin = spin_chain (L.chunks chains.entry.lists.now) chains.entry.seat.0 in
         IfOk result (λ new. new ≡ new_orders basis (chain_asked basis sleep spin request) request) }
 {
     let basis = Basis {
         types,
         matrix,
-        lock_types,
+        lock_types: chains.lock_types,
     };
     let spin = basis.class_of(request.type_no).is_spin();
-    learnt_behind(&basis, alloc, lists, list_of(seat, spin), request)
+    learnt_behind(
+        &basis,
+        alloc,
+        chains.lists,
+        list_of(chains.seat, spin),
+        request,
+    )
 }
 
 // The orders behind the locks of a list.

@@ -5,6 +5,7 @@ mod again;
 mod all_held;
 mod answers;
 mod basis;
+mod chains;
 mod definitions;
 mod duplicates;
 mod held;
@@ -15,6 +16,7 @@ mod rules;
 
 pub use answers::Verdict;
 pub use basis::Basis;
+pub use chains::Chains;
 pub use definitions::define;
 pub use learning::new_orders;
 pub use rules::verdict;

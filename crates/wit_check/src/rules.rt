@@ -16,43 +16,41 @@ use crate::again::again;
 use crate::all_held::behind_all;
 use crate::answers::Verdict;
 use crate::basis::Basis;
+use crate::chains::Chains;
 use crate::duplicates::doubled;
 use crate::held::{held_lock, look};
 use crate::orders::learnt;
 use crate::reversals::reported;
 use wit_matrix::Matrix;
 use wit_model::chunks::{Lists, list_of};
-use wit_model::{Asked, Fault, Instance, Profile, SeatNo, TypeNo, Watch};
+use wit_model::{Asked, Fault, Instance, Profile, SeatNo, Watch};
 use wit_table::Table;
 
 /// The verdict of a check: the first of WITNESS's rules that applies decides (witness(4); `witness_checkorder` in subr_witness.c).
 ///
-/// The seat, one of 256, holds each lock once in its lists, those of the sleep kind in one and those of the spin kind in the other.
-/// `lock_types` has the type of each lock that was made, by the lock's number from 1. All types are the table's, and the matrix has
-/// room for them. The profile says which of the held locks the request is compared with.
+/// The seat, one of 256, holds each lock once in its lists, those of the sleep kind in one and those of the spin kind in the other. All
+/// types are the table's, and the matrix has room for them. The profile says which of the held locks the request is compared with.
 ///
 /// It takes no memory and changes nothing: what is to be adopted, or found in violation, is the caller's to enter. How often a lock was
 /// acquired again isn't looked at. Its faults are `SleepUnderSpin`, `SharedOfExclusive`, `ExclusiveOfShared` and `Recursed`.
 pub fn verdict<L: Lists>(
     types: &Table,
     matrix: &Matrix,
-    lists: &L,
-    seat: SeatNo,
-    lock_types: &[TypeNo],
+    chains: Chains<L>,
     watch: Watch,
     request: Asked,
     profile: Profile,
 ) -> Verdict
-    requires seat { IsNumber 256 seat.0 }
-    requires lists { IsList (L.chunks lists.now) (list_of true seat.0) }
-    requires sleep { IsJudgeable lock_types.now (sleep_chain (L.chunks lists.now) seat.0) }
-    requires spin { IsJudgeable lock_types.now (spin_chain (L.chunks lists.now) seat.0) }
-    requires types { AreTypes types.now lock_types.now }
+    requires seat { IsNumber 256 chains.seat.0 }
+    requires lists { IsList (L.chunks chains.lists.now) (list_of true chains.seat.0) }
+    requires sleep { IsJudgeable chains.lock_types.now (sleep_chain (L.chunks chains.lists.now) chains.seat.0) }
+    requires spin { IsJudgeable chains.lock_types.now (spin_chain (L.chunks chains.lists.now) chains.seat.0) }
+    requires types { AreTypes types.now chains.lock_types.now }
     requires asked { IsGiven types.now.types request.type_no.0 }
     requires sized { length types.now.types ≤ matrix.now.size }
-    ensures { let basis = basis types.now matrix.now lock_types.now in
-        let sleep = sleep_chain (L.chunks lists.now) seat.0 in
-        let spin = spin_chain (L.chunks lists.now) seat.0 in
+    ensures { let basis = basis types.now matrix.now chains.entry.lock_types.now in
+        let sleep = sleep_chain (L.chunks chains.entry.lists.now) chains.entry.seat.0 in
+        let spin = spin_chain (L.chunks chains.entry.lists.now) chains.entry.seat.0 in
         answer_of (new_orders basis (chain_asked basis sleep spin request) request) result ≡ ruling profile basis watch sleep spin request }
 {
     if !watch.is_on() {
@@ -61,15 +59,15 @@ pub fn verdict<L: Lists>(
     let basis = Basis {
         types,
         matrix,
-        lock_types,
+        lock_types: chains.lock_types,
     };
     let spin = basis.class_of(request.type_no).is_spin();
-    if !spin && holds_spin(lists, seat) {
+    if !spin && holds_spin(chains.lists, chains.seat) {
         return Verdict::Fault(Fault::SleepUnderSpin);
     }
-    let list = list_of(seat, spin);
-    match lists.last(list) {
-        Some(last) => judge(&basis, lists, list, request, last, profile),
+    let list = list_of(chains.seat, spin);
+    match chains.lists.last(list) {
+        Some(last) => judge(&basis, chains.lists, list, request, last, profile),
         None => Verdict::Pass,
     }
 }

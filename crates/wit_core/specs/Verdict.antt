@@ -1,5 +1,5 @@
 -- The answer of a check, by its verdict.
-use Rattle.std.specs.Prelude.{ℕ, List, Result, Ok, Err}
+use Rattle.std.specs.Prelude.{ℕ, List, Result}
 use Rattle.wit_model.specs.declared.faults.Fault.{Fault}
 use Rattle.wit_model.specs.declared.locks.TypeNo.{TypeNo}
 use Rattle.wit_model.specs.declared.calls.Reply.{Reply}
@@ -18,8 +18,3 @@ orders_taught s t q =
 
 abbrev pub answer_by : List (TypeNo × TypeNo) → Verdict → Result Reply Fault
 answer_by new verdict = answer_of new verdict
-
--- the reply that tells the verdict, or the fault
-abbrev pub replied : List (TypeNo × TypeNo) → Result Verdict Fault → Result Reply Fault
-replied new (Ok verdict) = answer_by new verdict
-replied new (Err fault) = Err fault

@@ -1,19 +1,20 @@
 //! `check`: a seat asks for a lock.
 
-ghost use Rattle.std.specs.Prelude.{◌≡◌, true, IsOk, IfOk, IfErr, OnOk, Ok};
+ghost use Rattle.std.specs.Prelude.{◌≡◌, ◌⊎◌, true, IsOk, IfOk, IfErr, Ok, Err};
 ghost use Rattle.wit_model.specs.declared.calls.Call.TheVariants.{Check};
+ghost use Rattle.wit_model.specs.declared.faults.Fault.TheVariants.{OutOfMemory};
 ghost use Rattle.wit_model.specs.Rules.Preparing.{IsPrepared, Prepares};
 ghost use Rattle.wit_model.specs.Rules.Refusals.{IsRefusal};
 ghost use Rattle.wit_model.specs.Rules.State.{state_of, seat_at, is_seat, is_live};
-ghost use Rattle.wit_model.specs.Rules.Step.{AnswersOrFails, answer_of, is_logged, logged};
+ghost use Rattle.wit_model.specs.Rules.Step.{AnswersOrFails, IsEntered, answer_of, is_logged, logged};
 ghost use Rattle.wit_model.specs.Rules.Verdict.{asked_of, verdict};
-ghost use Rattle.wit_core.specs.Verdict.{orders_taught, answer_by, replied};
+ghost use Rattle.wit_core.specs.Verdict.{orders_taught, answer_by};
 
 use crate::known::{flags_of_lock, type_of_lock};
 use crate::ready::{Plan, Ready};
 use crate::verifier::Verifier;
 use std::alloc::AllocError;
-use wit_check::{Verdict, new_orders, verdict};
+use wit_check::{Chains, Verdict, new_orders, verdict};
 use wit_model::{
     Asked, Boxed, Call, Entry, Fault, LockNo, Mode, NewOrders, OpFlags, Reply, Request, SeatNo,
     Site,
@@ -72,15 +73,14 @@ impl Verifier {
         ensures answer { Prepares self.old seat.0 (Check request) result self.new }
         ensures logged { IfOk result (λ r. is_logged r ≡ true) }
     {
-        let verdict = self.answer_check(seat, request)?;
-        let reply = self.reply_to(seat, request, verdict)?;
+        let reply = self.answer_check(seat, request)?;
         self.make_ready(seat, Plan::Check(request), reply)
     }
 
-    fn answer_check(&self, seat: SeatNo, request: Request) -> Result<Verdict, Fault>
-        ensures answer { replied (orders_taught (state_of self.now) seat.0 request) result ≡ answer_of self.now seat.0 (Check request) }
-        ensures seat { OnOk result (is_seat (state_of self.now) seat.0 ≡ true) }
-        ensures lock { OnOk result (is_live (state_of self.now) request.lock.0 ≡ true) }
+    fn answer_check(&self, seat: SeatNo, request: Request) -> Result<Reply, Fault>
+        ensures ok { IfOk result (λ r. (answer_of self.now seat.0 (Check request) ≡ Ok r) × (is_logged r ≡ true)) }
+        ensures err { IfErr result (λ e. (answer_of self.now seat.0 (Check request) ≡ Err e)
+            ⊎ ((e ≡ OutOfMemory) × IsEntered (answer_of self.now seat.0 (Check request)))) }
     {
         self.before_acquiring(seat, request.lock, request.mode, request.site)?;
         let verdict = self.verdict(seat, request);
@@ -90,7 +90,7 @@ impl Verifier {
         if !self.has_room(3) {
             return Err(Fault::LogFull);
         }
-        Ok(verdict)
+        self.reply_to(seat, request, verdict)
     }
 
     // The verdict on the request of a seat for a live lock.
@@ -101,12 +101,15 @@ impl Verifier {
             answer_by (orders_taught s seat.0 request) result ≡ verdict s.profile s.known s.watch (seat_at s seat.0) request }
     {
         let known = &self.known;
+        let chains = Chains {
+            lists: self.seats.lists(),
+            seat,
+            lock_types: known.lock_types(),
+        };
         verdict(
             known.names(),
             known.orders().matrix(),
-            self.seats.lists(),
-            seat,
-            known.lock_types(),
+            chains,
             self.watch,
             self.asked(request),
             self.profile,
@@ -120,13 +123,16 @@ impl Verifier {
         ensures { IfOk result (λ new. new ≡ orders_taught (state_of self.now) seat.0 request) }
     {
         let known = &self.known;
+        let chains = Chains {
+            lists: self.seats.lists(),
+            seat,
+            lock_types: known.lock_types(),
+        };
         new_orders(
             self.alloc,
             known.names(),
             known.orders().matrix(),
-            self.seats.lists(),
-            seat,
-            known.lock_types(),
+            chains,
             self.asked(request),
         )
     }
