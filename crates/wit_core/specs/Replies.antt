@@ -15,11 +15,6 @@ abbrev pub made_reply : Result LockNo Fault → Result Reply Fault
 made_reply (Ok l) = Ok (Made l)
 made_reply (Err f) = Err f
 
--- an answer that is always the same where the call is accepted
-abbrev pub done_reply : {X : Type 0} → Reply → Result X Fault → Result Reply Fault
-done_reply reply (Ok x) = Ok reply
-done_reply reply (Err f) = Err f
-
 -- whichever the rest is, these faults stand before it, or none of them does
 abbrev pub Refuses : (Result Reply Fault → Result Reply Fault) → Fault → Type 0
 Refuses before fault = (rest : Result Reply Fault) → before rest ≡ Err fault

@@ -1,5 +1,5 @@
 -- Calls that change how a lock is held, and the seat that they leave.
-use Rattle.std.specs.Prelude.{ℕ, Bool, true, false, Option, Result, Ok, Err, if◌then◌else◌}
+use Rattle.std.specs.Prelude.{ℕ, Bool, true, false, Option, Result}
 use Rattle.wit_model.specs.declared.faults.Fault.{Fault}
 use Rattle.wit_model.specs.declared.locks.Instance.{Instance}
 use Rattle.wit_model.specs.declared.locks.LockNo.{LockNo}
@@ -9,7 +9,6 @@ use Rattle.wit_model.specs.declared.locks.Watch.{Watch}
 use Rattle.wit_model.specs.declared.calls.Call.{Call}
 use Rattle.wit_model.specs.declared.calls.Call.TheVariants.{Upgrade, Downgrade, NoRelease, ReleaseOk}
 use Rattle.wit_model.specs.declared.calls.Reply.{Reply}
-use Rattle.wit_model.specs.declared.calls.Reply.TheVariants.{Done, Ignored}
 use Rattle.wit_model.specs.Rules.Turning.{upgraded, downgraded}
 use Rattle.wit_held.specs.Chains.{change_lock}
 use Rattle.wit_core.specs.Seats.{Holdings, in_groups}
@@ -32,8 +31,3 @@ turn_answer Shared watch held = downgraded watch held
 abbrev pub mark_call : Bool → LockNo → Call
 mark_call true l = NoRelease l
 mark_call false l = ReleaseOk l
-
--- whether a call is recorded, or passed over
-abbrev pub done_or_ignored : Result Bool Fault → Result Reply Fault
-done_or_ignored (Ok done) = if done then Ok Done else Ok Ignored
-done_or_ignored (Err f) = Err f

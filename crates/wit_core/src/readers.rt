@@ -21,7 +21,7 @@ use crate::seats::Chunked;
 use crate::verifier::Verifier;
 use wit_model::{Class, Fault, FileNo, Instance, LockNo, Mode, Origin, SeatNo, TypeNo};
 
-/// What the seats hold; `None` for a seat that there isn't.
+// What the seats hold; `None` for a seat that there is not.
 impl Verifier {
     /// How many seats there are.
     pub fn seats(&self) -> u16

@@ -1,10 +1,9 @@
 //! `destroy`: a lock is no more.
 
-ghost use Rattle.std.specs.Prelude.{◌≡◌, Ok, OnOk, OnErr};
+ghost use Rattle.std.specs.Prelude.{◌≡◌, Ok, Err, OnOk, OnErr, IfErr};
 ghost use Rattle.wit_model.specs.declared.calls.Call.TheVariants.{Destroy};
 ghost use Rattle.wit_model.specs.declared.calls.Reply.TheVariants.{Done};
 ghost use Rattle.wit_model.specs.Rules.Step.{AnswersOrFails, answer_of, logged};
-ghost use Rattle.wit_core.specs.Replies.{done_reply};
 
 use crate::verifier::Verifier;
 use std::alloc::AllocError;
@@ -26,7 +25,8 @@ impl Verifier {
     }
 
     fn answer_destroy(&self, seat: SeatNo, lock: LockNo) -> Result<(), Fault>
-        ensures { done_reply Done result ≡ answer_of self.now seat.0 (Destroy lock) }
+        ensures ok { OnOk result (answer_of self.now seat.0 (Destroy lock) ≡ Ok Done) }
+        ensures err { IfErr result (λ e. answer_of self.now seat.0 (Destroy lock) ≡ Err e) }
     {
         self.before_naming(seat, lock)?;
         if self.is_used(lock) {

@@ -4,7 +4,6 @@ ghost use Rattle.std.specs.Prelude.{◌≡◌, Ok};
 ghost use Rattle.wit_model.specs.declared.calls.Call.TheVariants.{GiveUp};
 ghost use Rattle.wit_model.specs.declared.calls.Reply.TheVariants.{Done};
 ghost use Rattle.wit_model.specs.Rules.Step.{Answers, answer_of, logged};
-ghost use Rattle.wit_core.specs.Replies.{done_reply};
 
 use crate::verifier::Verifier;
 use wit_model::{Call, Entry, Fault, LockNo, Reply, SeatNo};
@@ -18,16 +17,9 @@ impl Verifier {
     pub fn give_up(&mut self, seat: SeatNo, lock: LockNo) -> Result<Reply, Fault>
         ensures { Answers self.old seat.0 (GiveUp lock) result self.new }
     {
-        self.answer_give_up(seat, lock)?;
+        let _request = self.before_answering(seat, lock)?;
         self.enter_give_up(seat, lock);
         Ok(Reply::Done)
-    }
-
-    fn answer_give_up(&self, seat: SeatNo, lock: LockNo) -> Result<(), Fault>
-        ensures { done_reply Done result ≡ answer_of self.now seat.0 (GiveUp lock) }
-    {
-        let _request = self.before_answering(seat, lock)?;
-        Ok(())
     }
 
     fn enter_give_up(&mut self, seat: SeatNo, lock: LockNo)

@@ -1,14 +1,14 @@
 //! `norelease` and `releaseok`: whether a held lock may be released.
 
-ghost use Rattle.std.specs.Prelude.{◌≡◌, Ok, OnOk, OnErr};
+ghost use Rattle.std.specs.Prelude.{◌≡◌, Ok, IfOk, OnOk, OnErr, true};
 ghost use Rattle.wit_model.specs.declared.calls.Call.TheVariants.{NoRelease, ReleaseOk};
 ghost use Rattle.wit_model.specs.declared.calls.Reply.TheVariants.{Done};
 ghost use Rattle.wit_model.specs.Rules.State.{state_of};
-ghost use Rattle.wit_model.specs.Rules.Step.{AnswersOrFails, answer_of, logged};
+ghost use Rattle.wit_model.specs.Rules.Step.{AnswersOrFails, answer_of, is_logged, logged};
 ghost use Rattle.wit_model.specs.Rules.Turning.{step_mark};
-ghost use Rattle.wit_core.specs.Turning.{done_or_ignored};
 
 use crate::calls::turn::unless_held;
+use crate::log::is_logged;
 use crate::verifier::Verifier;
 use std::alloc::AllocError;
 use wit_model::{Call, Entry, Fault, LockNo, Reply, SeatNo};
@@ -23,11 +23,11 @@ impl Verifier {
     pub fn norelease(&mut self, seat: SeatNo, lock: LockNo) -> Result<Reply, Fault>
         ensures { AnswersOrFails self.old seat.0 (NoRelease lock) result self.new }
     {
-        if !self.answer_mark(seat, lock)? {
-            return Ok(Reply::Ignored);
+        let reply = self.answer_mark(seat, lock)?;
+        if is_logged(&reply) {
+            self.enter_norelease(seat, lock)?;
         }
-        self.enter_norelease(seat, lock)?;
-        Ok(Reply::Done)
+        Ok(reply)
     }
 
     /// Tells that a held lock may be released again: `witness_releaseok` of subr_witness.c. Where not everything is watched it is
@@ -38,28 +38,29 @@ impl Verifier {
     pub fn releaseok(&mut self, seat: SeatNo, lock: LockNo) -> Result<Reply, Fault>
         ensures { AnswersOrFails self.old seat.0 (ReleaseOk lock) result self.new }
     {
-        if !self.answer_mark(seat, lock)? {
-            return Ok(Reply::Ignored);
+        let reply = self.answer_mark(seat, lock)?;
+        if is_logged(&reply) {
+            self.enter_releaseok(seat, lock)?;
         }
-        self.enter_releaseok(seat, lock)?;
-        Ok(Reply::Done)
+        Ok(reply)
     }
 
-    // Whether a mark is recorded: else it is passed over.
-    fn answer_mark(&self, seat: SeatNo, lock: LockNo) -> Result<bool, Fault>
-        ensures { done_or_ignored result ≡ step_mark (state_of self.now) seat.0 lock.0 }
+    // The answer to either call.
+    fn answer_mark(&self, seat: SeatNo, lock: LockNo) -> Result<Reply, Fault>
+        ensures answer { result ≡ step_mark (state_of self.now) seat.0 lock.0 }
+        ensures logged { IfOk result (λ r. is_logged r ≡ true → r ≡ Done) }
     {
         self.before_naming(seat, lock)?;
         if self.held(seat, lock).is_none() {
             return unless_held(self.watch());
         }
         if !self.watch().is_on() {
-            return Ok(false);
+            return Ok(Reply::Ignored);
         }
         if !self.has_room(1) {
             return Err(Fault::LogFull);
         }
-        Ok(true)
+        Ok(Reply::Done)
     }
 
     fn enter_norelease(&mut self, seat: SeatNo, lock: LockNo) -> Result<(), AllocError>

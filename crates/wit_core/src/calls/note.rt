@@ -1,11 +1,10 @@
 //! `note`: a requested lock was acquired.
 
-ghost use Rattle.std.specs.Prelude.{◌≡◌, Some, Ok, IfOk};
+ghost use Rattle.std.specs.Prelude.{◌≡◌, Some, Ok};
 ghost use Rattle.wit_model.specs.declared.calls.Call.TheVariants.{Note};
 ghost use Rattle.wit_model.specs.Rules.State.{state_of, seat_at};
 ghost use Rattle.wit_model.specs.Rules.Step.{Answers, answer_of, logged, recorded};
 ghost use Rattle.wit_core.specs.Acquiring.{reply_to};
-ghost use Rattle.wit_core.specs.Replies.{done_reply};
 
 use crate::acquiring::{Acquisition, acquire};
 use crate::verifier::Verifier;
@@ -21,17 +20,8 @@ impl Verifier {
     pub fn note(&mut self, seat: SeatNo, lock: LockNo) -> Result<Reply, Fault>
         ensures { Answers self.old seat.0 (Note lock) result self.new }
     {
-        let request = self.answer_note(seat, lock)?;
-        Ok(self.enter_note(seat, lock, request).reply())
-    }
-
-    // The request that is noted.
-    fn answer_note(&self, seat: SeatNo, lock: LockNo) -> Result<Request, Fault>
-        ensures answer { done_reply (recorded (state_of self.now) seat.0 lock.0) result ≡ answer_of self.now seat.0 (Note lock) }
-        ensures request { IfOk result (λ q. (seat_at (state_of self.now) seat.0).pending ≡ Some q) }
-    {
         let request = self.before_answering(seat, lock)?;
-        Ok(request)
+        Ok(self.enter_note(seat, lock, request).reply())
     }
 
     fn enter_note(&mut self, seat: SeatNo, lock: LockNo, request: Request) -> Acquisition

@@ -1,11 +1,10 @@
 //! `note_try`: a lock was acquired without waiting.
 
-ghost use Rattle.std.specs.Prelude.{◌≡◌, Ok, IfOk, OnErr};
+ghost use Rattle.std.specs.Prelude.{◌≡◌, Ok, Err, IfOk, IfErr, OnOk, OnErr};
 ghost use Rattle.wit_model.specs.declared.calls.Call.TheVariants.{NoteTry};
 ghost use Rattle.wit_model.specs.Rules.State.{state_of};
 ghost use Rattle.wit_model.specs.Rules.Step.{AnswersOrFails, answer_of, logged, recorded};
 ghost use Rattle.wit_core.specs.Acquiring.{reply_to};
-ghost use Rattle.wit_core.specs.Replies.{done_reply};
 
 use crate::acquiring::{Acquisition, acquire};
 use crate::verifier::Verifier;
@@ -36,7 +35,8 @@ impl Verifier {
     }
 
     fn answer_try(&self, seat: SeatNo, lock: LockNo, mode: Mode, site: Site) -> Result<(), Fault>
-        ensures { done_reply (recorded (state_of self.now) seat.0 lock.0) result ≡ answer_of self.now seat.0 (NoteTry lock mode site) }
+        ensures ok { OnOk result (answer_of self.now seat.0 (NoteTry lock mode site) ≡ Ok (recorded (state_of self.now) seat.0 lock.0)) }
+        ensures err { IfErr result (λ e. answer_of self.now seat.0 (NoteTry lock mode site) ≡ Err e) }
     {
         self.before_acquiring(seat, lock, mode, site)?;
         if !self.has_room(2) {

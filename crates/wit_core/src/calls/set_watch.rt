@@ -1,10 +1,9 @@
 //! `set_watch`: how much is watched.
 
-ghost use Rattle.std.specs.Prelude.{◌≡◌, Ok, OnOk, OnErr};
+ghost use Rattle.std.specs.Prelude.{◌≡◌, Ok, Err, OnOk, OnErr, IfErr};
 ghost use Rattle.wit_model.specs.declared.calls.Call.TheVariants.{SetWatch};
 ghost use Rattle.wit_model.specs.declared.calls.Reply.TheVariants.{Done};
 ghost use Rattle.wit_model.specs.Rules.Step.{AnswersOrFails, answer_of, logged};
-ghost use Rattle.wit_core.specs.Replies.{done_reply};
 
 use crate::verifier::Verifier;
 use std::alloc::AllocError;
@@ -27,7 +26,8 @@ impl Verifier {
     }
 
     fn answer_watch(&self, seat: SeatNo, watch: Watch) -> Result<(), Fault>
-        ensures { done_reply Done result ≡ answer_of self.now seat.0 (SetWatch watch) }
+        ensures ok { OnOk result (answer_of self.now seat.0 (SetWatch watch) ≡ Ok Done) }
+        ensures err { IfErr result (λ e. answer_of self.now seat.0 (SetWatch watch) ≡ Err e) }
     {
         self.about_seat(seat)?;
         if self.watch().is_off() && !watch.is_off() {

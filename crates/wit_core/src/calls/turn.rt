@@ -1,15 +1,15 @@
 //! `upgrade` and `downgrade`: a lock held shared is held exclusively, and the other way round.
 
-ghost use Rattle.std.specs.Prelude.{◌≡◌, Some, Ok, OnOk, OnErr};
+ghost use Rattle.std.specs.Prelude.{◌≡◌, Some, Ok, IfOk, OnOk, OnErr, true, false};
 ghost use Rattle.wit_model.specs.declared.calls.Call.TheVariants.{Upgrade, Downgrade};
 ghost use Rattle.wit_model.specs.declared.calls.Reply.TheVariants.{Done};
 ghost use Rattle.wit_model.specs.declared.locks.Watch.{Watch};
 ghost use Rattle.wit_model.specs.Rules.State.{state_of};
-ghost use Rattle.wit_model.specs.Rules.Step.{AnswersOrFails, answer_of, held_by, logged};
+ghost use Rattle.wit_model.specs.Rules.Step.{AnswersOrFails, answer_of, held_by, is_logged, logged};
 ghost use Rattle.wit_model.specs.Rules.Turning.{is_upgradable, unless_held, step_turn};
-ghost use Rattle.wit_core.specs.Replies.{done_reply};
-ghost use Rattle.wit_core.specs.Turning.{turn_call, turn_answer, done_or_ignored};
+ghost use Rattle.wit_core.specs.Turning.{turn_call, turn_answer};
 
+use crate::log::is_logged;
 use crate::verifier::Verifier;
 use std::alloc::AllocError;
 use wit_model::{Call, Class, Entry, Fault, Instance, LockNo, Mode, Reply, SeatNo, Watch};
@@ -26,11 +26,11 @@ impl Verifier {
     pub fn upgrade(&mut self, seat: SeatNo, lock: LockNo) -> Result<Reply, Fault>
         ensures { AnswersOrFails self.old seat.0 (Upgrade lock) result self.new }
     {
-        if !self.answer_turn(seat, lock, Mode::Exclusive)? {
-            return Ok(Reply::Ignored);
+        let reply = self.answer_turn(seat, lock, Mode::Exclusive)?;
+        if is_logged(&reply) {
+            self.enter_turn(seat, lock, Mode::Exclusive)?;
         }
-        self.enter_turn(seat, lock, Mode::Exclusive)?;
-        Ok(Reply::Done)
+        Ok(reply)
     }
 
     /// Tells that a lock held exclusively is held shared from now on, as after `rw_downgrade` of rwlock(9) and `sx_downgrade` of sx(9):
@@ -44,17 +44,18 @@ impl Verifier {
     pub fn downgrade(&mut self, seat: SeatNo, lock: LockNo) -> Result<Reply, Fault>
         ensures { AnswersOrFails self.old seat.0 (Downgrade lock) result self.new }
     {
-        if !self.answer_turn(seat, lock, Mode::Shared)? {
-            return Ok(Reply::Ignored);
+        let reply = self.answer_turn(seat, lock, Mode::Shared)?;
+        if is_logged(&reply) {
+            self.enter_turn(seat, lock, Mode::Shared)?;
         }
-        self.enter_turn(seat, lock, Mode::Shared)?;
-        Ok(Reply::Done)
+        Ok(reply)
     }
 
-    // Whether a turn to this mode is recorded: else it is passed over.
-    fn answer_turn(&self, seat: SeatNo, lock: LockNo, mode: Mode) -> Result<bool, Fault>
-        ensures { done_or_ignored result ≡ step_turn (state_of self.now) seat.0 lock.0
+    // The answer to a turn to this mode.
+    fn answer_turn(&self, seat: SeatNo, lock: LockNo, mode: Mode) -> Result<Reply, Fault>
+        ensures answer { result ≡ step_turn (state_of self.now) seat.0 lock.0
             (turn_answer mode (state_of self.now).watch (held_by (state_of self.now) seat.0 lock.0)) }
+        ensures logged { IfOk result (λ r. is_logged r ≡ true → r ≡ Done) }
     {
         self.before_naming(seat, lock)?;
         if !is_upgradable(self.class_of_lock(lock)) {
@@ -63,11 +64,11 @@ impl Verifier {
         let Some(held) = self.held(seat, lock) else {
             return unless_held(self.watch());
         };
-        judge_turn(held, mode)?;
+        let reply = judge_turn(held, mode)?;
         if !self.has_room(1) {
             return Err(Fault::LogFull);
         }
-        Ok(true)
+        Ok(reply)
     }
 
     fn enter_turn(&mut self, seat: SeatNo, lock: LockNo, mode: Mode) -> Result<(), AllocError>
@@ -106,26 +107,28 @@ fn is_upgradable(class: Class) -> bool
     matches!(class, Class::Rw | Class::Sx)
 }
 
-// Whether a held lock may be turned to this mode: not to the one that it has, and not where it was acquired again.
-fn judge_turn(held: Instance, mode: Mode) -> Result<(), Fault>
-    ensures { (watch : Watch) → done_reply Done result ≡ turn_answer mode watch (Some held) }
+// A held lock is turned to this mode: but not to the one that it has, and not where it was acquired again.
+fn judge_turn(held: Instance, mode: Mode) -> Result<Reply, Fault>
+    ensures answer { (watch : Watch) → result ≡ turn_answer mode watch (Some held) }
+    ensures done { IfOk result (λ r. r ≡ Done) }
 {
     match mode {
         Mode::Exclusive if held.mode.is_exclusive() => Err(Fault::UpgradeOfExclusive),
         Mode::Exclusive if held.count > 0 => Err(Fault::UpgradeRecursed),
         Mode::Shared if !held.mode.is_exclusive() => Err(Fault::DowngradeOfShared),
         Mode::Shared if held.count > 0 => Err(Fault::DowngradeRecursed),
-        _ => Ok(()),
+        _ => Ok(Reply::Done),
     }
 }
 
 /// A call about a lock that isn't held: a fault where everything is watched; where less is, it is passed over.
-pub(crate) fn unless_held(watch: Watch) -> Result<bool, Fault>
-    ensures { done_or_ignored result ≡ unless_held watch }
+pub(crate) fn unless_held(watch: Watch) -> Result<Reply, Fault>
+    ensures answer { result ≡ unless_held watch }
+    ensures passed { IfOk result (λ r. is_logged r ≡ false) }
 {
     if watch.is_on() {
         Err(Fault::NotLocked)
     } else {
-        Ok(false)
+        Ok(Reply::Ignored)
     }
 }
