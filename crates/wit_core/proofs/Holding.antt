@@ -9,17 +9,18 @@ use Rattle.wit_model.specs.Rules.Groups.{flat}
 use Rattle.wit_model.specs.Rules.History.{chain, instance}
 use Rattle.wit_model.specs.Rules.Numbers.{IsNumber}
 use Rattle.wit_model.specs.Rules.SeatGroups.{seat_groups, held_groups}
-use Rattle.wit_model.specs.Rules.State.{Story, State, state_of, seat_of}
+use Rattle.wit_model.specs.Rules.State.{Story, State, seat_of}
 use Rattle.wit_model.specs.Rules.State as model
 use Rattle.wit_model.proofs.Chains.Regrouping.{groups-chain}
 use Rattle.wit_model.proofs.Chains.Seats.{get_or-seats_of}
 use Rattle.wit_model.proofs.Histories.Legal.{sane_legal}
 use Rattle.wit_core.specs.declared.verifier.Verifier.TheInside.{Inside}
 use Rattle.wit_core.specs.Held.{numbers, seat_view, HoldAll}
-use Rattle.wit_core.specs.Kept.{IsTied, start_in, history_in, story_in}
+use Rattle.wit_core.specs.Kept.{IsTied, start_in, history_in}
 use Rattle.wit_core.specs.Seats.{Holdings, seat_in, groups_in, HoldFor}
 use Rattle.wit_core.proofs.Now.{view-is}
 use Rattle.wit_model.proofs.Numbered.{with_number-or}
+use Rattle.wit_core.proofs.Seen.{IsSeenAs}
 
 -- lists that have the same lengths and are the same when they are joined
 cut : {X : Type 0} (a b c d : List X) → length a ≡ length b → a ++ c ≡ b ++ d → (a ≡ b) × (c ≡ d)
@@ -95,11 +96,12 @@ module _ (v : Inside) (k : IsTied v) where
       groups-of false u h = refl
 
 -- the chunks hold what the seats hold
-pub holds-all : (v : Inside) (k : IsTied v) (s : Story) (seen : story_in v ≡ s) (c : Chunks) → HoldFor v.seats c → HoldAll s c
-holds-all v k s seen c holds =
-    subst (λ (x : Story). HoldAll x c) seen (record {
-      size = holds.size ∙ k.chunks;
-      lists = holds.lists ∙ ap (λ n. 2 * n) (count-now v k);
-      groups = λ t spin given. holds.groups t spin (given.0, omega (arith, given.1, count-now v k)) ∙ groups-held v k t spin given;
-      placed = holds.placed;
-    })
+module _ {v : Inside} {s : Story} (this : IsSeenAs v s) (c : Chunks) (holds : HoldFor v.seats c) where
+  pub holds-all : HoldAll s c
+  holds-all =
+      subst (λ (x : Story). HoldAll x c) this.seen (record {
+        size = holds.size ∙ this.tied.chunks;
+        lists = holds.lists ∙ ap (λ n. 2 * n) (count-now v this.tied);
+        groups = λ t spin given. holds.groups t spin (given.0, omega (arith, given.1, count-now v this.tied)) ∙ groups-held v this.tied t spin given;
+        placed = holds.placed;
+      })

@@ -40,13 +40,14 @@ use Rattle.wit_check.specs.Bases.{basis, AreTypes}
 use Rattle.wit_check.specs.Answers.{new_orders}
 use Rattle.wit_check.specs.Held.{sleep_chain, spin_chain, IsJudgeable}
 use Rattle.wit_core.specs.declared.verifier.Verifier.TheInside.{Inside}
-use Rattle.wit_core.specs.Kept.{IsTied, start_in, history_in, story_in}
+use Rattle.wit_core.specs.Kept.{start_in, history_in, story_in}
 use Rattle.wit_core.specs.Seats.{seat_in, locks_in, HoldFor}
 use Rattle.wit_core.specs.Verdict.{orders_taught}
 use Rattle.wit_core.proofs.Apt.{known-is}
 use Rattle.wit_core.proofs.HeldSeats.{stands-filter}
 use Rattle.wit_core.proofs.Keeping.{types_few}
 use Rattle.wit_core.proofs.Now.{now, seat-given, locks-told, view-is}
+use Rattle.wit_core.proofs.Seen.{IsSeenAs, as_itself}
 
 -- a test that each passes, as a fact of each
 all-of : {X : Type 0} (p : X → Bool) (P : X → Type 0) → ((x : X) → p x ≡ true → P x) → (xs : List X) → list_all p xs ≡ true → AllByRecursion P xs
@@ -60,22 +61,22 @@ defining-same types os ps a b direct =
     (cond (eqb a.0 b.0) (Err SameType) (cond x (Err WrongOrder) (cond y (Ok reply.Known) (Ok (reply.Adopted a b))))))
     (same_before os ps direct b.0 a.0) (direct a.0 b.0)
 
-module _ (v : Inside) (k : IsTied v) (s : Story) (seen : story_in v ≡ s) where
+module _ {v : Inside} {s : Story} (this : IsSeenAs v s) where
   -- what is known of types and locks by these, with the orders and the pairs that are kept
   abbrev with_names : List LockType → List TypeNo → List (List ℕ × List ℕ) → Basis
   with_names ts ls bs = record { types = ts; lock_types = ls; orders = v.known.known.orders; found = v.known.known.found; blessed = bs }
 
   locks-are : v.known.known.locks ≡ typed_locks (start_in v) (history_in v)
-  locks-are = ap (λ (x : Known). x.locks) (known-is v k)
+  locks-are = ap (λ (x : Known). x.locks) (known-is v this.tied)
 
   -- a lock that was made has a known type
   pub type-given : (l : ℕ) → is_given v.known.known.locks l ≡ true → IsGiven v.known.known.types (lock_at v.known.known.locks l).type_no.0
   type-given l is =
-      subst (λ (x : Known). IsGiven x.types (lock_at x.locks l).type_no.0) (sym (known-is v k))
-      (lock-type (start_in v) (history_in v) l (subst (λ (x : Known). is_given x.locks l ≡ true) (known-is v k) is))
+      subst (λ (x : Known). IsGiven x.types (lock_at x.locks l).type_no.0) (sym (known-is v this.tied))
+      (lock-type (start_in v) (history_in v) l (subst (λ (x : Known). is_given x.locks l ≡ true) (known-is v this.tied) is))
 
   pub asked-given : (l : ℕ) → is_given (state_of s).known.locks l ≡ true → IsGiven v.known.known.types (lock_at v.known.known.locks l).type_no.0
-  asked-given l is = type-given l (subst (λ (x : State). is_given x.known.locks l ≡ true) (sym (now v k s seen)) is)
+  asked-given l is = type-given l (subst (λ (x : State). is_given x.known.locks l ≡ true) (sym (now this)) is)
 
   -- so has the lock of a request
   pub request-given : (q : Request) (asked : Asked) (types : List LockType) → types ≡ v.known.known.types → asked ≡ asked_of (state_of s).known q
@@ -83,7 +84,7 @@ module _ (v : Inside) (k : IsTied v) (s : Story) (seen : story_in v ≡ s) where
   request-given q asked types same is given =
       subst (λ ts. IsGiven ts asked.type_no.0) (sym same)
       (subst (λ (n : TypeNo). IsGiven v.known.known.types n.0)
-      (ap (λ (x : State). (lock_at x.known.locks q.lock.0).type_no) (now v k s seen) ∙ sym (ap (λ (a : Asked). a.type_no) is)) (asked-given q.lock.0 given))
+      (ap (λ (x : State). (lock_at x.known.locks q.lock.0).type_no) (now this) ∙ sym (ap (λ (a : Asked). a.type_no) is)) (asked-given q.lock.0 given))
 
   -- so has each lock's place
   pub types-given : (names : Names) (types : List TypeNo) → names.types ≡ v.known.known.types → types ≡ map (λ (l : Lock). l.type_no) v.known.known.locks → AreTypes names types
@@ -98,7 +99,7 @@ module _ (v : Inside) (k : IsTied v) (s : Story) (seen : story_in v ≡ s) where
       (type-given (i + 1) (and_from _ _ (lt-ltb 0 (i + 1) (omega arith)) (le-leb (i + 1) (length v.known.known.locks) (omega (arith, lt))))))))
 
   pub matrix-sized : (size : ℕ) → size ≡ v.known.most_types → length v.known.known.types ≤ size
-  matrix-sized size is = let few = types_few v k in let most = k.types in omega (arith, is, few, most)
+  matrix-sized size is = let few = types_few v this.tied in let most = this.tied.types in omega (arith, is, few, most)
 
   -- the answer over the table and the matrix is the rules'
   pub definition-told : (names : Names) (relation : Relation) (a b : ℕ) (p c : TypeNo) → names.types ≡ v.known.known.types → HasSameOrders relation.orders v.known.known.orders
@@ -108,11 +109,11 @@ module _ (v : Inside) (k : IsTied v) (s : Story) (seen : story_in v ≡ s) where
       defining-same names.types relation.orders v.known.known.orders p c direct
       ∙ ap (λ ts. defining ts v.known.known.orders p c) types
       ∙ ap₂ (λ x y. defining v.known.known.types v.known.known.orders x y) parent child
-      ∙ ap (λ (x : State). define x.known a b) (now v k s seen)
+      ∙ ap (λ (x : State). define x.known a b) (now this)
 
   module _ (t : ℕ) (is : is_seat (state_of s) t ≡ true) (c : Chunks) (holds : HoldFor v.seats c) where
     given : IsGiven v.seats.seats t
-    given = seat-given v k s seen t is
+    given = seat-given this t is
 
     pub seat-within : IsNumber 256 t
     seat-within = (given.0, omega (arith, given.1, holds.few))
@@ -121,14 +122,14 @@ module _ (v : Inside) (k : IsTied v) (s : Story) (seen : story_in v ≡ s) where
     list-within = (omega (arith, given.0), omega (arith, given.1, holds.lists))
 
     seat-before : is_seat (state_of (story_in v)) t ≡ true
-    seat-before = subst (λ (x : Story). is_seat (state_of x) t ≡ true) (sym seen) is
+    seat-before = subst (λ (x : Story). is_seat (state_of x) t ≡ true) (sym this.seen) is
 
     pub chain-of-list : (spin : Bool) → chain_of c (list_of spin t) ≡ locks_in spin (seat_in v.seats t)
     chain-of-list spin = ap flat (holds.groups t spin given)
 
     chain-now : (spin : Bool) → chain_of c (list_of spin t) ≡ chain spin t (history_in v)
     chain-now spin =
-        chain-of-list spin ∙ locks-told v k (story_in v) refl t spin
+        chain-of-list spin ∙ locks-told (as_itself this.tied) t spin
         ∙ ap (λ x. chain_in spin x) (seat_at-state (start_in v) v.known.files (history_in v) t seat-before) ∙ one_chain spin t (history_in v)
 
     made-typed : (types : List TypeNo) → types ≡ map (λ (l : Lock). l.type_no) v.known.known.locks → (l : ℕ) → IsGiven (locks_of (history_in v)) l → IsGiven types l
@@ -141,7 +142,7 @@ module _ (v : Inside) (k : IsTied v) (s : Story) (seen : story_in v ≡ s) where
 
     pub judgeable : (types : List TypeNo) → types ≡ map (λ (l : Lock). l.type_no) v.known.known.locks → (spin : Bool) → IsJudgeable types (chain_of c (list_of spin t))
     judgeable types are spin =
-        let sane = sane_legal (start_in v) v.known.files (history_in v) k.legal in
+        let sane = sane_legal (start_in v) v.known.files (history_in v) this.tied.legal in
         let one = λ (l : ℕ). stands-chain spin t l (history_in v) sane in
         subst (IsJudgeable types) (sym (chain-now spin)) (record {
           once = λ l. omega (arith, one l, stands-filter l (chain spin t (history_in v)));
@@ -163,7 +164,7 @@ module _ (v : Inside) (k : IsTied v) (s : Story) (seen : story_in v ≡ s) where
         ∙ ap₂ (λ sl sp. F (basis_of v.known.known) v.watch sl sp asked) (chain-of-list false) (chain-of-list true)
         ∙ ap (F (basis_of v.known.known) v.watch (locks_in false (seat_in v.seats t)) (locks_in true (seat_in v.seats t))) is
         ∙ ap (λ (x : Seat). F (basis_of v.known.known) v.watch x.sleep x.spin (asked_of (state_of s).known q)) (sym (view-is v.seats t))
-        ∙ ap (λ (x : State). F (basis_of x.known) x.watch (seat_at x t).sleep (seat_at x t).spin (asked_of (state_of s).known q)) (now v k s seen)
+        ∙ ap (λ (x : State). F (basis_of x.known) x.watch (seat_at x t).sleep (seat_at x t).spin (asked_of (state_of s).known q)) (now this)
 
     module _ (names : Names) (relation : Relation) (types : List TypeNo) (q : Request) (asked : Asked)
         (same_types : names.types ≡ v.known.known.types) (same_blessed : names.blessed ≡ v.known.known.blessed) (direct : HasSameOrders relation.orders v.known.known.orders)
@@ -176,7 +177,7 @@ module _ (v : Inside) (k : IsTied v) (s : Story) (seen : story_in v ≡ s) where
           same-ruling (basis names relation types) v.known.known.orders v.known.known.found direct (same_before relation.orders v.known.known.orders direct) pairs
           profile watch (sleep_chain c t) (spin_chain c t) asked
           ∙ told-now (ruling profile) names types watch q asked same_types same_blessed are watches is_asked
-          ∙ ap (λ p. verdict p (state_of s).known (state_of s).watch (seat_at (state_of s) t) q) (profile_is ∙ ap (λ (x : State). x.profile) (now v k s seen))
+          ∙ ap (λ p. verdict p (state_of s).known (state_of s).watch (seat_at (state_of s) t) q) (profile_is ∙ ap (λ (x : State). x.profile) (now this))
 
       -- and so are the orders that it teaches
       pub orders-told : new_orders (basis names relation types) (chain_asked (basis names relation types) (sleep_chain c t) (spin_chain c t) asked) asked ≡ orders_taught (state_of s) t q

@@ -20,6 +20,7 @@ pub mod Relating
 pub mod Releasing
 pub mod SeatRows
 pub mod SeatTests
+pub mod Seen
 pub mod Steps
 pub mod Taught
 pub mod Told

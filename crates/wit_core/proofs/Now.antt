@@ -8,7 +8,7 @@ use Rattle.wit_model.specs.Rules.Groups.{opens}
 use Rattle.wit_model.specs.Rules.History.{is_off, chain}
 use Rattle.wit_model.specs.Rules.Locks.{locks_of, lock_at, is_spin_lock, destroyed_of}
 use Rattle.wit_model.specs.Rules.Numbers.{is_given, IsGiven}
-use Rattle.wit_model.specs.Rules.State.{Story, State, state_of, live, seat_of, is_seat, seat_at, seat_among, chain_in, groups_in, free, is_live}
+use Rattle.wit_model.specs.Rules.State.{Story, State, state_of, live, is_seat, seat_at, seat_among, chain_in, groups_in, free, is_live}
 use Rattle.wit_model.specs.Rules.State as model
 use Rattle.wit_model.specs.Rules.Step.{chain_for, groups_for, recorded}
 use Rattle.wit_model.specs.Rules.Types.{is_spin}
@@ -22,12 +22,13 @@ use Rattle.wit_core.specs.declared.verifier.Verifier.TheInside.{Inside}
 use Rattle.wit_core.specs.declared.acquiring.Acquisition.TheVariants.{Recorded, Exhausted, Unrecorded}
 use Rattle.wit_core.specs.Acquiring.{acquisition, reply_to}
 use Rattle.wit_core.specs.Held.{numbers, seat_view}
-use Rattle.wit_core.specs.Kept.{IsTied, start_in, history_in, story_in, state_in}
+use Rattle.wit_core.specs.Kept.{start_in, history_in, state_in}
 use Rattle.wit_core.specs.Seats.{Holdings, Seating, no_holdings, seat_in, locks_in, free_in, has_no_room}
 use Rattle.wit_core.specs.Seats as seats
 use Rattle.wit_core.proofs.HeldSeats.{opens-numbers, chunks-viewed, stands-filter}
 use Rattle.wit_core.proofs.Living.{count-told, flag-is}
 use Rattle.wit_core.specs.Live.{is_flagged, live_count, live_told}
+use Rattle.wit_core.proofs.Seen.{IsSeenAs}
 
 -- a row's seats as the rules see them
 abbrev pub view_at : Seating → ℕ → model.Seat
@@ -54,9 +55,9 @@ told_by false false true true = refl
 told_by false false true false = refl
 told_by false false false none = refl
 
-module _ (v : Inside) (k : IsTied v) (s : Story) (seen : story_in v ≡ s) where
+module _ {v : Inside} {s : Story} (this : IsSeenAs v s) where
   pub now : state_in v ≡ state_of s
-  now = k.state ∙ ap state_of seen
+  now = this.tied.state ∙ ap state_of this.seen
 
   -- the seats
   count : length v.seats.seats ≡ length (state_of s).seats
@@ -78,21 +79,21 @@ module _ (v : Inside) (k : IsTied v) (s : Story) (seen : story_in v ≡ s) where
   pub free-told : free_in v.seats ≡ free (state_of s)
   free-told =
       let sum = chunks-viewed v.seats.seats in
-      let size = k.chunks in
+      let size = this.tied.chunks in
       let same : free (state_in v) ≡ free_in v.seats = omega (arith, sum, size) in
       sym same ∙ ap free now
 
   -- whether a lock is live
   pub live-now : (l : ℕ) → is_flagged v.known.live l ≡ is_live (state_of s) l
   live-now l =
-      ap (λ bs. is_flagged bs l) k.live
+      ap (λ bs. is_flagged bs l) this.tied.live
       ∙ flag-is (length v.known.known.locks) l (destroyed_of (history_in v))
       ∙ ap (λ (x : State). is_live x l) now
 
   -- how many locks of a type are
   live-counted : (t : ℕ) → live_count v.known.known.locks v.known.live t ≡ live (state_of s) t
   live-counted t =
-      ap (λ bs. live_count v.known.known.locks bs t) k.live
+      ap (λ bs. live_count v.known.known.locks bs t) this.tied.live
       ∙ count-told v.known.known.locks (destroyed_of (history_in v)) t
       ∙ ap (λ (x : State). live x t) now
 
@@ -112,10 +113,10 @@ module _ (v : Inside) (k : IsTied v) (s : Story) (seen : story_in v ≡ s) where
 
     pub once-now : is_seat (state_of s) t ≡ true → IsOnce l (locks_in spin (seat_in v.seats t))
     once-now is =
-        let in_history = subst (λ (x : Story). is_seat (state_of x) t ≡ true) (sym seen) is in
-        let once = stands-chain (is_spin_lock (locks_of (history_in v)) l) t l (history_in v) (sane_legal (start_in v) v.known.files (history_in v) k.legal) in
+        let in_history = subst (λ (x : Story). is_seat (state_of x) t ≡ true) (sym this.seen) is in
+        let once = stands-chain (is_spin_lock (locks_of (history_in v)) l) t l (history_in v) (sane_legal (start_in v) v.known.files (history_in v) this.tied.legal) in
         subst (IsOnce l) (sym chain-now)
-        (subst (λ (x : Story). IsOnce l (chain_for (state_of x) t l)) seen
+        (subst (λ (x : Story). IsOnce l (chain_for (state_of x) t l)) this.seen
         (subst (IsOnce l) (sym (chain_for-state (start_in v) v.known.files (history_in v) t l in_history))
         (omega (arith, once, stands-filter l (chain (is_spin_lock (locks_of (history_in v)) l) t (history_in v))))))
 
@@ -137,5 +138,6 @@ any-viewed has [] = refl
 any-viewed has (s ∷ ss) = ap (λ b. has (seat_view s) || b) (any-viewed has ss)
 
 -- whether some seat holds a lock or asks for it
-pub used-now : (v : Inside) (k : IsTied v) (s : Story) (seen : story_in v ≡ s) (l : ℕ) → list_any (λ x. uses l (seat_view x)) v.seats.seats ≡ is_used (state_of s) l
-used-now v k s seen l = any-viewed (uses l) v.seats.seats ∙ ap (λ (x : State). is_used x l) (now v k s seen)
+module _ {v : Inside} {s : Story} (this : IsSeenAs v s) (l : ℕ) where
+  pub used-now : list_any (λ x. uses l (seat_view x)) v.seats.seats ≡ is_used (state_of s) l
+  used-now = any-viewed (uses l) v.seats.seats ∙ ap (λ (x : State). is_used x l) (now this)

@@ -11,8 +11,8 @@ use Rattle.wit_model.specs.Rules.Step.{held_by, is_deepest, is_too_deep}
 use Rattle.wit_model.specs.Rules.Types.{is_spin}
 use Rattle.wit_model.specs.Rules.Verdict.{is_of}
 use Rattle.wit_core.specs.declared.verifier.Verifier.TheInside.{Inside}
-use Rattle.wit_core.specs.Kept.{IsTied, story_in}
 use Rattle.wit_core.proofs.Now.{now}
+use Rattle.wit_core.proofs.Seen.{IsSeenAs}
 
 -- what is found in a list counts in its sum
 found-sum : {X : Type 0} (g : X → ℕ) (p : X → Bool) (xs : List X) (x : X) → find p xs ≡ Some x → g x ≤ sum_by g xs
@@ -55,16 +55,17 @@ deep-owed s t l deep = by (held_by s t l) refl deep
         omega (arith, count, one, chain-sum spin (seat_at s t), seat-sum s t)
 
 -- where the log owes fewer, none is
-pub not-deep : (v : Inside) → IsTied v → (s : Story) → story_in v ≡ s → (t l owes : ℕ) → owes ≡ v.log.owed → owes ≤ 65535 → false ≡ is_too_deep (state_of s) t l
-not-deep v k s seen t l owes is few = by (is_deepest (held_by (state_of s) t l)) refl
-  where
-    off : (b : Bool) → false ≡ (b && false)
-    off true = refl
-    off false = refl
+module _ {v : Inside} {s : Story} (this : IsSeenAs v s) (t l owes : ℕ) (is : owes ≡ v.log.owed) (few : owes ≤ 65535) where
+  pub not-deep : false ≡ is_too_deep (state_of s) t l
+  not-deep = by (is_deepest (held_by (state_of s) t l)) refl
+    where
+      off : (b : Bool) → false ≡ (b && false)
+      off true = refl
+      off false = refl
 
-    by : (b : Bool) → is_deepest (held_by (state_of s) t l) ≡ b → false ≡ (not (is_off (state_of s).watch) && b)
-    by false deep = off (not (is_off (state_of s).watch))
-    by true deep =
-        let le = deep-owed (state_of s) t l deep in
-        let same = ap owed (now v k s seen) in
-        absurd (omega (arith, le, same, k.owed, is, few))
+      by : (b : Bool) → is_deepest (held_by (state_of s) t l) ≡ b → false ≡ (not (is_off (state_of s).watch) && b)
+      by false deep = off (not (is_off (state_of s).watch))
+      by true deep =
+          let le = deep-owed (state_of s) t l deep in
+          let same = ap owed (now this) in
+          absurd (omega (arith, le, same, this.tied.owed, is, few))

@@ -18,27 +18,28 @@ use Rattle.wit_model.proofs.Orders.Once.{distinct_legal}
 use Rattle.wit_matrix.specs.Relation.{OrdersAmong}
 use Rattle.wit_core.specs.declared.ready.Ready.{Ready}
 use Rattle.wit_core.specs.declared.verifier.Verifier.TheInside.{Inside}
-use Rattle.wit_core.specs.Kept.{IsReady, IsTied, story_in}
+use Rattle.wit_core.specs.Kept.{IsReady}
 use Rattle.wit_core.specs.Plans.{call_of, planned}
 use Rattle.wit_core.proofs.Keeping.{orders_within}
+use Rattle.wit_core.proofs.Seen.{IsSeenAs}
 
 same_pair : (p q : ℕ × Call) → ◌≡◌ {A = Option (ℕ × Call)} (Some p) (Some q) → p ≡ q
 same_pair p q is = cc
 
-module _ (v : Inside) (k : IsTied v) (s : Story) (seen : story_in v ≡ s) (r : Ready) (there : v.ready ≡ Some r) where
+module _ {v : Inside} {s : Story} (this : IsSeenAs v s) (r : Ready) (there : v.ready ≡ Some r) where
   pub is_ready : IsReady v r
-  is_ready = subst (λ (o : Option Ready). IfSome o (IsReady v)) there k.ready
+  is_ready = subst (λ (o : Option Ready). IfSome o (IsReady v)) there this.tied.ready
 
   module _ (t : ℕ) (call : Call) (asked : IsPrepared s t call) where
     same_call : planned r ≡ (t, call)
     same_call =
         same_pair (planned r) (t, call)
-        (sym (ap (λ (o : Option Ready). option_map planned o) there) ∙ (ap (λ (x : Story). x.ready) seen ∙ asked))
+        (sym (ap (λ (o : Option Ready). option_map planned o) there) ∙ (ap (λ (x : Story). x.ready) this.seen ∙ asked))
 
     pub ready_answer : answer_of s t call ≡ Ok r.reply
     ready_answer =
         subst (λ (p : ℕ × Call). answer_of s p.0 p.1 ≡ Ok r.reply) same_call
-        (subst (λ (x : Story). answer_of x r.seat.0 (call_of r.plan) ≡ Ok r.reply) seen is_ready.answer)
+        (subst (λ (x : Story). answer_of x r.seat.0 (call_of r.plan) ≡ Ok r.reply) this.seen is_ready.answer)
 
 no_more : (call : Call) → adopted call Ignored ≡ []
 no_more (Check q) = refl

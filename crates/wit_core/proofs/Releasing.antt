@@ -12,18 +12,17 @@ use Rattle.wit_model.specs.Rules.Types.{is_spin}
 use Rattle.wit_model.specs.Rules.Verdict.{is_of}
 use Rattle.wit_held.specs.Releases.{release_reply, release_answer}
 use Rattle.wit_core.specs.declared.verifier.Verifier.TheInside.{Inside}
-use Rattle.wit_core.specs.Kept.{IsTied, story_in}
 use Rattle.wit_core.specs.Replies.{Admits}
 use Rattle.wit_core.specs.Seats.{seat_in, locks_in}
 use Rattle.wit_core.proofs.Now.{chain-now}
+use Rattle.wit_core.proofs.Seen.{IsSeenAs}
 
-pub release-told : (v : Inside) (k : IsTied v) (s : Story) (seen : story_in v ≡ s) (t : ℕ) (l : LockNo) (spin : Bool)
-    → spin ≡ is_spin (lock_at (state_of s).known.locks l.0).made.class → Admits (before_naming (state_of s) t l.0)
-    → (m : Mode) (w : Watch) → w ≡ (state_of s).watch
-    → (r : Result Bool Fault) → release_reply r ≡ release_answer w m (find (is_of l.0) (locks_in spin (seat_in v.seats t)))
-    → answer_of s t (Unlock l m) ≡ release_reply r
-release-told v k s seen t l spin kind admitted m w watch r told =
-    admitted (release_answer (state_of s).watch m (held_by (state_of s) t l.0))
-    ∙ sym (told
-    ∙ ap (λ x. release_answer x m (find (is_of l.0) (locks_in spin (seat_in v.seats t)))) watch
-    ∙ ap (λ chain. release_answer (state_of s).watch m (find (is_of l.0) chain)) (chain-now v k s seen t l.0 spin kind))
+module _ {v : Inside} {s : Story} (this : IsSeenAs v s) (t : ℕ) (l : LockNo) (spin : Bool) (kind : spin ≡ is_spin (lock_at (state_of s).known.locks l.0).made.class) where
+  pub release-told : Admits (before_naming (state_of s) t l.0) → (m : Mode) (w : Watch) → w ≡ (state_of s).watch
+      → (r : Result Bool Fault) → release_reply r ≡ release_answer w m (find (is_of l.0) (locks_in spin (seat_in v.seats t)))
+      → answer_of s t (Unlock l m) ≡ release_reply r
+  release-told admitted m w watch r told =
+      admitted (release_answer (state_of s).watch m (held_by (state_of s) t l.0))
+      ∙ sym (told
+      ∙ ap (λ x. release_answer x m (find (is_of l.0) (locks_in spin (seat_in v.seats t)))) watch
+      ∙ ap (λ chain. release_answer (state_of s).watch m (find (is_of l.0) chain)) (chain-now this t l.0 spin kind))

@@ -26,13 +26,14 @@ use Rattle.wit_held.specs.Marks.{marked}
 use Rattle.wit_core.specs.declared.verifier.Verifier.TheInside.{Inside}
 use Rattle.wit_core.specs.Held.{numbers, seat_view}
 use Rattle.wit_core.specs.Journal.{Journal}
-use Rattle.wit_core.specs.Kept.{IsTied, start_in, history_in, story_in}
+use Rattle.wit_core.specs.Kept.{start_in, history_in, story_in}
 use Rattle.wit_core.specs.Live.{live_flags}
 use Rattle.wit_core.specs.Seats.{Holdings, with_seat}
 use Rattle.wit_core.specs.Turning.{changed, turn_call, mark_call}
 use Rattle.wit_core.proofs.Entries.Accepting.{accepted, sane_next, within, owed_now, known-now, seats-now, watch-now, left-by, kind-now, room_left}
 use Rattle.wit_core.proofs.HeldSeats.{flat-changed, numbers-changed, seat}
 use Rattle.wit_core.proofs.Keeping.{Leaves}
+use Rattle.wit_core.proofs.Seen.{IsSeenAs}
 use Rattle.wit_core.proofs.Steps.{known-same, seats-after}
 
 -- a seat of which one lock is changed but for its number, as the rules see it
@@ -47,7 +48,7 @@ changed-view ls l f keeps spin s kind = by spin ∙ ap form kind
     by true = ap₂ (λ c gs. seat (flat s.sleep) c (numbers s.sleep) gs s.pending) (flat-changed l f s.spin) (numbers-changed l f keeps s.spin)
     by false = ap₂ (λ c gs. seat c (flat s.spin) gs (numbers s.spin) s.pending) (flat-changed l f s.sleep) (numbers-changed l f keeps s.sleep)
 
-module _ (v : Inside) (k : IsTied v) (s : Story) (seen : story_in v ≡ s) (t : ℕ) (l : LockNo) where
+module _ {v : Inside} {s : Story} (this : IsSeenAs v s) (t : ℕ) (l : LockNo) where
   abbrev h : List Entry
   h = history_in v
 
@@ -55,7 +56,7 @@ module _ (v : Inside) (k : IsTied v) (s : Story) (seen : story_in v ≡ s) (t : 
   plain_room : (call : Call) (log : Journal) → answer_of s t call ≡ Ok Done → is_plain call ≡ true → log ≡ record v.log { spare = log.spare }
       → length log.history + log.owed + 0 < log.limit
   plain_room call log ok plain same =
-      room_left v k s seen 0 log (plain_accepted (state_of (story_in v)) t call Done plain (accepted v k s seen t call Done ok) refl).room same
+      room_left this 0 log (plain_accepted (state_of (story_in v)) t call Done plain (accepted this t call Done ok) refl).room same
 
   pub turn_room : (m : Mode) (log : Journal) → answer_of s t (turn_call m l) ≡ Ok Done → log ≡ record v.log { spare = log.spare }
       → length log.history + log.owed + 0 < log.limit
@@ -75,16 +76,16 @@ module _ (v : Inside) (k : IsTied v) (s : Story) (seen : story_in v ≡ s) (t : 
         → watch_of h ≡ watch_of (entry t call Done ∷ h)
         → Leaves v t call Done v.known.known v.known.live (with_seat t (changed spin l.0 f) v.seats) v.watch (v.log.owed + 0)
     leaves-changed call f keeps ok plain seat knows lives watches =
-        let sane = sane_next v k s seen t call Done ok in
-        let in_row = within v k s seen t call Done ok in
+        let sane = sane_next this t call Done ok in
+        let in_row = within this t call Done ok in
         let same = owed-even v.limits.seats t call Done h sane in_row.0 in_row.1 (plain-even call Done plain) (plain-keeps call (pending t h) plain) in
-        left-by v k s seen t call Done _ _ _ _ _
-        (known-now v k s seen ∙ knows)
-        (k.live ∙ ap (live_flags (length v.known.known.locks)) lives)
-        (seats-after (start_in v) v.known.files h v.seats (seats-now v k s seen) t in_row.0 in_row.1 call Done (changed spin l.0 f) sane
-        (changed-view (locks_of h) l.0 f keeps spin _ (kind-now v k s seen l.0 spin kind)
+        left-by this t call Done _ _ _ _ _
+        (known-now this ∙ knows)
+        (this.tied.live ∙ ap (live_flags (length v.known.known.locks)) lives)
+        (seats-after (start_in v) v.known.files h v.seats (seats-now this) t in_row.0 in_row.1 call Done (changed spin l.0 f) sane
+        (changed-view (locks_of h) l.0 f keeps spin _ (kind-now this l.0 spin kind)
         ∙ sym (seat _ (plain-keeps call _ plain))))
-        (watch-now v k s seen ∙ watches) (omega (arith, same, owed_now v k s seen)) refl
+        (watch-now this ∙ watches) (omega (arith, same, owed_now this)) refl
 
     pub leaves_turn : (m : Mode) → answer_of s t (turn_call m l) ≡ Ok Done
         → Leaves v t (turn_call m l) Done v.known.known v.known.live (with_seat t (changed spin l.0 (in_mode m)) v.seats) v.watch (v.log.owed + 0)

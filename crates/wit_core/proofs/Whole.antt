@@ -15,6 +15,7 @@ use Rattle.wit_core.proofs.Apart.{apart_kept}
 use Rattle.wit_core.proofs.Apt.{known-is}
 use Rattle.wit_core.proofs.Holding.{chain-held, holds-all}
 use Rattle.wit_core.proofs.Keeping.{sound_kept}
+use Rattle.wit_core.proofs.Seen.{as_itself}
 
 -- room for what a reply teaches
 room_more : (r : Reply) (n m : ℕ) → n ≤ m → IsRoomFor r n → IsRoomFor r m
@@ -30,7 +31,7 @@ kept {v} k = record {
   cells = λ a b. ap (λ (x : Known). cell x.orders x.found a b) (known-is v k);
   sound = subst IsSound (sym (ap (λ (x : Known). x.orders) (known-is v k))) (sound_kept v k);
   chains = λ t spin given. chain-held v k t spin given;
-  chunks = λ c holds. holds-all v k (story_in v) refl c holds;
+  chunks = λ c holds. holds-all (as_itself k) c holds;
   apart = apart_kept v k;
   tied = k;
 }

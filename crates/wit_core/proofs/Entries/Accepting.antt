@@ -19,10 +19,11 @@ use Rattle.wit_model.proofs.Orders.TypedLocks.{spin_at}
 use Rattle.wit_core.specs.declared.verifier.Verifier.TheInside.{Inside}
 use Rattle.wit_core.specs.Held.{seat_view}
 use Rattle.wit_core.specs.Journal.{Journal}
-use Rattle.wit_core.specs.Kept.{IsTied, start_in, history_in, story_in}
+use Rattle.wit_core.specs.Kept.{start_in, history_in, story_in}
 use Rattle.wit_core.specs.Seats.{Seating}
 use Rattle.wit_core.proofs.Keeping.{seat_in_range, Leaves}
 use Rattle.wit_core.proofs.Now.{seat-given}
+use Rattle.wit_core.proofs.Seen.{IsSeenAs}
 use Rattle.wit_core.proofs.Steps.{same_state}
 use Rattle.wit_core.specs.Live.{live_flags}
 
@@ -30,31 +31,31 @@ use Rattle.wit_core.specs.Live.{live_flags}
 spin_same : (v : Inside) (l : ℕ) (spin : Bool) → spin ≡ is_spin (lock_at (state_of (story_in v)).known.locks l).made.class → spin ≡ is_spin_lock (locks_of (history_in v)) l
 spin_same v l spin e = e ∙ spin_at (start_in v) (history_in v) l
 
-module _ (v : Inside) (k : IsTied v) (s : Story) (seen : story_in v ≡ s) where
+module _ {v : Inside} {s : Story} (this : IsSeenAs v s) where
   pub accepted : (t : ℕ) (call : Call) (reply : Reply) → answer_of s t call ≡ Ok reply → answer_of (story_in v) t call ≡ Ok reply
-  accepted t call reply ok = subst (λ (x : Story). answer_of x t call ≡ Ok reply) (sym seen) ok
+  accepted t call reply ok = subst (λ (x : Story). answer_of x t call ≡ Ok reply) (sym this.seen) ok
 
   pub sane_next : (t : ℕ) (call : Call) (reply : Reply) → answer_of s t call ≡ Ok reply → IsSane (entry t call reply ∷ history_in v)
-  sane_next t call reply ok = sane_more (start_in v) v.known.files (history_in v) (entry t call reply) k.legal (accepted t call reply ok)
+  sane_next t call reply ok = sane_more (start_in v) v.known.files (history_in v) (entry t call reply) this.tied.legal (accepted t call reply ok)
 
   pub within : (t : ℕ) (call : Call) (reply : Reply) → answer_of s t call ≡ Ok reply → (0 < t) × (t ≤ v.limits.seats)
-  within t call reply ok = seat_in_range v t call reply k (accepted t call reply ok)
+  within t call reply ok = seat_in_range v t call reply this.tied (accepted t call reply ok)
 
   pub owed_now : v.log.owed ≡ owed_to v.limits.seats (history_in v)
-  owed_now = k.owed ∙ ap owed k.state
+  owed_now = this.tied.owed ∙ ap owed this.tied.state
 
   -- the seat of an accepted call is given
   pub given : (t : ℕ) (call : Call) (reply : Reply) → answer_of s t call ≡ Ok reply → IsGiven v.seats.seats t
-  given t call reply ok = seat-given v k s seen t (seat_accepted (state_of s) t call reply ok)
+  given t call reply ok = seat-given this t (seat_accepted (state_of s) t call reply ok)
 
   pub known-now : v.known.known ≡ known_of (start_in v) (history_in v)
-  known-now = ap (λ (x : State). x.known) k.state
+  known-now = ap (λ (x : State). x.known) this.tied.state
 
   pub seats-now : map seat_view v.seats.seats ≡ seats_of v.limits.seats (history_in v)
-  seats-now = ap (λ (x : State). x.seats) k.state
+  seats-now = ap (λ (x : State). x.seats) this.tied.state
 
   pub watch-now : v.watch ≡ watch_of (history_in v)
-  watch-now = ap (λ (x : State). x.watch) k.state
+  watch-now = ap (λ (x : State). x.watch) this.tied.state
 
   -- what an entry leaves, part by part
   pub left-by : (t : ℕ) (call : Call) (reply : Reply) (known : Known) (live : List Bool) (seating : Seating) (watch : Watch) (owes : ℕ)
@@ -70,13 +71,13 @@ module _ (v : Inside) (k : IsTied v) (s : Story) (seen : story_in v ≡ s) where
   }
 
   pub kind-now : (l : ℕ) (spin : Bool) → spin ≡ is_spin (lock_at (state_of s).known.locks l).made.class → spin ≡ is_spin_lock (locks_of (history_in v)) l
-  kind-now l spin kind = spin_same v l spin (kind ∙ ap (λ (x : Story). is_spin (lock_at (state_of x).known.locks l).made.class) (sym seen))
+  kind-now l spin kind = spin_same v l spin (kind ∙ ap (λ (x : Story). is_spin (lock_at (state_of x).known.locks l).made.class) (sym this.seen))
 
   -- a request that is pending now was so after the history
   pub wants : (t : ℕ) (call : Call) (reply : Reply) (q : Request) → answer_of s t call ≡ Ok reply → (seat_at (state_of s) t).pending ≡ Some q → pending t (history_in v) ≡ Some q
   wants t call reply q ok asked =
       sym (pending-state (start_in v) v.known.files (history_in v) t (seat_accepted (state_of (story_in v)) t call reply (accepted t call reply ok)))
-      ∙ (ap (λ (x : Story). (seat_at (state_of x) t).pending) seen ∙ asked)
+      ∙ (ap (λ (x : Story). (seat_at (state_of x) t).pending) this.seen ∙ asked)
 
   -- room in the log, of which some may have been reserved
   pub room_left : (more : ℕ) (log : Journal) → has_room (state_of (story_in v)) (more + 1) ≡ true → log ≡ record v.log { spare = log.spare }
@@ -86,4 +87,4 @@ module _ (v : Inside) (k : IsTied v) (s : Story) (seen : story_in v ≡ s) where
       let history = ap (λ (x : Journal). length x.history) same in
       let owes = ap (λ (x : Journal). x.owed) same in
       let limit = ap (λ (x : Journal). x.limit) same in
-      omega (arith, few, ap owed k.state, k.owed, k.limit, history, owes, limit)
+      omega (arith, few, ap owed this.tied.state, this.tied.owed, this.tied.limit, history, owes, limit)

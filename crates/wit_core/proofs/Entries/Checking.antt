@@ -16,10 +16,11 @@ use Rattle.wit_model.proofs.Histories.Exhaustion.{check-told}
 use Rattle.wit_model.proofs.Histories.Legal.{pending-state}
 use Rattle.wit_core.specs.declared.verifier.Verifier.TheInside.{Inside}
 use Rattle.wit_core.specs.Journal.{Journal}
-use Rattle.wit_core.specs.Kept.{IsTied, start_in, history_in, story_in}
+use Rattle.wit_core.specs.Kept.{start_in, history_in, story_in}
 use Rattle.wit_core.specs.Known.{learnt}
 use Rattle.wit_core.specs.Seats.{with_seat, asking}
 use Rattle.wit_core.proofs.Keeping.{Leaves}
+use Rattle.wit_core.proofs.Seen.{IsSeenAs}
 use Rattle.wit_core.proofs.Steps.{same_locks, seats-quiet}
 use Rattle.wit_core.proofs.Entries.Accepting.{accepted, known-now, left-by, owed_now, room_left, sane_next, seats-now, watch-now, within}
 
@@ -32,21 +33,21 @@ none_from : (o : Option Request) → is_some o ≡ false → o ≡ None
 none_from None e = refl
 none_from (Some q) e = absurd (true≢false e)
 
-module _ (v : Inside) (k : IsTied v) (s : Story) (seen : story_in v ≡ s) where
+module _ {v : Inside} {s : Story} (this : IsSeenAs v s) where
   pub check_room : (t : ℕ) (q : Request) (r : Reply) (log : Journal) → answer_of s t (Check q) ≡ Ok r → log ≡ record v.log { spare = log.spare }
       → length log.history + log.owed + 2 < log.limit
-  check_room t q r log ok same = room_left v k s seen 2 log (check_accepted (state_of (story_in v)) t q r (accepted v k s seen t (Check q) r ok)).room same
+  check_room t q r log ok same = room_left this 2 log (check_accepted (state_of (story_in v)) t q r (accepted this t (Check q) r ok)).room same
 
   pub leaves_check : (t : ℕ) (q : Request) (r : Reply) → answer_of s t (Check q) ≡ Ok r
       → Leaves v t (Check q) r (learnt v.known.known q r) v.known.live (with_seat t (asking (Some q)) v.seats) v.watch (v.log.owed + 2)
   leaves_check t q r ok =
-      let sane = sane_next v k s seen t (Check q) r ok in
-      let in_row = within v k s seen t (Check q) r ok in
-      let at = check_accepted (state_of (story_in v)) t q r (accepted v k s seen t (Check q) r ok) in
+      let sane = sane_next this t (Check q) r ok in
+      let in_row = within this t (Check q) r ok in
+      let at = check_accepted (state_of (story_in v)) t q r (accepted this t (Check q) r ok) in
       let idle = none_from _ (sym (ap (λ (o : Option Request). is_some o) (pending-state (start_in v) v.known.files (history_in v) t at.seat)) ∙ at.idle) in
       let more = owed-check v.limits.seats t q r (history_in v) sane in_row.0 in_row.1 idle in
-      left-by v k s seen t (Check q) r _ _ _ _ _
-      (ap (λ (x : Known). learnt x q r) (known-now v k s seen) ∙ sym (same_locks (learnt (known_of (start_in v) (history_in v)) q r) _ (append-nil (typed_locks (start_in v) (history_in v)))))
-      k.live
-      (seats-quiet (start_in v) v.known.files (history_in v) v.seats (seats-now v k s seen) t in_row.0 in_row.1 (Check q) r (Some q) sane refl refl)
-      (watch-now v k s seen ∙ sym (same_watch q r (watch_of (history_in v)) (check-told (state_of s) t q r ok))) (omega (arith, more, owed_now v k s seen)) refl
+      left-by this t (Check q) r _ _ _ _ _
+      (ap (λ (x : Known). learnt x q r) (known-now this) ∙ sym (same_locks (learnt (known_of (start_in v) (history_in v)) q r) _ (append-nil (typed_locks (start_in v) (history_in v)))))
+      this.tied.live
+      (seats-quiet (start_in v) v.known.files (history_in v) v.seats (seats-now this) t in_row.0 in_row.1 (Check q) r (Some q) sane refl refl)
+      (watch-now this ∙ sym (same_watch q r (watch_of (history_in v)) (check-told (state_of s) t q r ok))) (omega (arith, more, owed_now this)) refl

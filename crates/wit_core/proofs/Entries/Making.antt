@@ -15,9 +15,10 @@ use Rattle.wit_model.proofs.Histories.Accepted.{init_accepted}
 use Rattle.wit_table.specs.Known.{enroll_answer}
 use Rattle.wit_core.specs.declared.verifier.Verifier.TheInside.{Inside}
 use Rattle.wit_core.specs.Journal.{Journal}
-use Rattle.wit_core.specs.Kept.{IsTied, start_in, history_in, story_in}
+use Rattle.wit_core.specs.Kept.{start_in, history_in, story_in}
 use Rattle.wit_core.specs.Known.{with_lock, IsAdmitted}
 use Rattle.wit_core.proofs.Keeping.{Leaves}
+use Rattle.wit_core.proofs.Seen.{IsSeenAs}
 use Rattle.wit_core.proofs.Steps.{seats-same}
 use Rattle.wit_core.proofs.Living.{flags-made}
 use Rattle.wit_model.proofs.Histories.Live.{next-undestroyed}
@@ -31,44 +32,44 @@ type-named lock good = go lock.type_name (and_parts (is_name lock.name) (is_good
     go None parts = parts.0
     go (Some name) parts = parts.1
 
-module _ (v : Inside) (k : IsTied v) (s : Story) (seen : story_in v ≡ s) where
+module _ {v : Inside} {s : Story} (this : IsSeenAs v s) where
   -- the next lock to be made isn't destroyed
   next-fresh : is_destroyed (destroyed_of (history_in v)) (length v.known.known.locks + 1) ≡ false
   next-fresh =
-      ap (λ (x : Known). is_destroyed (destroyed_of (history_in v)) (length x.locks + 1)) (known-now v k s seen)
-      ∙ next-undestroyed (start_in v) v.known.files (history_in v) k.legal
+      ap (λ (x : Known). is_destroyed (destroyed_of (history_in v)) (length x.locks + 1)) (known-now this)
+      ∙ next-undestroyed (start_in v) v.known.files (history_in v) this.tied.legal
 
   pub init_room : (t : ℕ) (lock : NewLock) (number : LockNo) (log : Journal) → answer_of s t (Init lock) ≡ Ok (Made number) → log ≡ record v.log { spare = log.spare }
       → length log.history + log.owed + 0 < log.limit
-  init_room t lock number log ok same = room_left v k s seen 0 log (init_accepted (state_of (story_in v)) t lock (Made number) (accepted v k s seen t (Init lock) (Made number) ok)).room same
+  init_room t lock number log ok same = room_left this 0 log (init_accepted (state_of (story_in v)) t lock (Made number) (accepted this t (Init lock) (Made number) ok)).room same
 
   -- there are fewer locks than there may be
   pub init_few : (t : ℕ) (lock : NewLock) (number : LockNo) → answer_of s t (Init lock) ≡ Ok (Made number) → length v.known.known.locks < v.limits.locks
   init_few t lock number ok =
-      let at = init_accepted (state_of (story_in v)) t lock (Made number) (accepted v k s seen t (Init lock) (Made number) ok) in
+      let at = init_accepted (state_of (story_in v)) t lock (Made number) (accepted this t (Init lock) (Made number) ok) in
       let few = leb-false v.limits.locks (length (typed_locks (start_in v) (history_in v))) at.locks in
-      let same = ap (λ (x : Known). length x.locks) (known-now v k s seen) in
+      let same = ap (λ (x : Known). length x.locks) (known-now this) in
       omega (arith, few, same)
 
   -- what an init needs: a type that is known or can be enrolled
   pub admitted : (t : ℕ) (lock : NewLock) (number : LockNo) → answer_of s t (Init lock) ≡ Ok (Made number) → IsAdmitted v.known lock
   admitted t lock number ok =
-      let at = init_accepted (state_of (story_in v)) t lock (Made number) (accepted v k s seen t (Init lock) (Made number) ok) in
-      let types : v.known.known.types ≡ types_of (start_in v) (history_in v) = ap (λ (x : State). x.known.types) k.state in
-      subst (λ n. IsOk (enroll_answer (type_name_of lock) lock.class n v.known.known.types)) (sym k.types)
+      let at = init_accepted (state_of (story_in v)) t lock (Made number) (accepted this t (Init lock) (Made number) ok) in
+      let types : v.known.known.types ≡ types_of (start_in v) (history_in v) = ap (λ (x : State). x.known.types) this.tied.state in
+      subst (λ n. IsOk (enroll_answer (type_name_of lock) lock.class n v.known.known.types)) (sym this.tied.types)
       (subst (λ ts. IsOk (enroll_answer (type_name_of lock) lock.class v.limits.types ts)) (sym types)
       (rw (type-named lock at.names, at.class, at.types) refl))
 
   pub leaves_init : (t : ℕ) (lock : NewLock) (number : LockNo) → answer_of s t (Init lock) ≡ Ok (Made number)
       → Leaves v t (Init lock) (Made number) (with_lock v.known.known lock) (v.known.live ++ true ∷ []) v.seats v.watch (v.log.owed + 0)
   leaves_init t lock number ok =
-      let sane = sane_next v k s seen t (Init lock) (Made number) ok in
-      let in_row = within v k s seen t (Init lock) (Made number) ok in
+      let sane = sane_next this t (Init lock) (Made number) ok in
+      let in_row = within this t (Init lock) (Made number) ok in
       let same = owed-init v.limits.seats t lock (Made number) (history_in v) sane in_row.0 in_row.1 in
-      left-by v k s seen t (Init lock) (Made number) _ _ _ _ _
-      (ap (λ (x : Known). with_lock x lock) (known-now v k s seen))
-      (ap (λ bs. bs ++ true ∷ []) k.live
+      left-by this t (Init lock) (Made number) _ _ _ _ _
+      (ap (λ (x : Known). with_lock x lock) (known-now this))
+      (ap (λ bs. bs ++ true ∷ []) this.tied.live
       ∙ sym (flags-made (length v.known.known.locks) (v.known.known.locks ++ made_among v.known.known.types (Init lock)) (destroyed_of (history_in v))
       (length-append v.known.known.locks (made_among v.known.known.types (Init lock))) next-fresh))
-      (seats-same (start_in v) v.known.files (history_in v) v.seats (seats-now v k s seen) t in_row.0 in_row.1 (Init lock) (Made number) sane refl refl)
-      (watch-now v k s seen) (omega (arith, same, owed_now v k s seen)) refl
+      (seats-same (start_in v) v.known.files (history_in v) v.seats (seats-now this) t in_row.0 in_row.1 (Init lock) (Made number) sane refl refl)
+      (watch-now this) (omega (arith, same, owed_now this)) refl

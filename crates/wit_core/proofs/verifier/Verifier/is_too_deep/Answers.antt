@@ -1,8 +1,9 @@
 use Rattle.std.proofs.Common.{arith}
 use Rattle.wit_core.proofs.Owing.{not-deep}
+use Rattle.wit_core.proofs.Seen.{seen_as}
 use Rattle.wit_core.proofs.verifier.Verifier.is_too_deep.Goals as goal
 
-pub returns-then-owed-lt65536 : goal.returns-then-owed-lt65536
-returns-then-owed-lt65536 c =
-    not-deep c.self.inside c.self.invariant.tied c.args.self.now c.self.view_is c.args.seat.0 c.args.lock.0 c.owed.result c.owed.ensures
-    (let few = c.if-owed-lt65536.true in omega (arith, few))
+pub returns-then-owed-lt-MOST_ACQUISITIONS : goal.returns-then-owed-lt-MOST_ACQUISITIONS
+returns-then-owed-lt-MOST_ACQUISITIONS c =
+    not-deep (seen_as c.self.invariant c.self.view_is) c.args.seat.0 c.args.lock.0 c.owed.result c.owed.ensures
+    (let few = c.if-owed-lt-MOST_ACQUISITIONS.true in omega (arith, few))

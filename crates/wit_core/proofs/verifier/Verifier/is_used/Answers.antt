@@ -1,6 +1,7 @@
 use Rattle.std.proofs.Common.{◌∙◌}
 use Rattle.wit_core.proofs.Now.{used-now}
+use Rattle.wit_core.proofs.Seen.{seen_as}
 use Rattle.wit_core.proofs.verifier.Verifier.is_used.Goals as goal
 
 pub returns : goal.returns
-returns c = c.is_used.ensures ∙ used-now c.self.inside c.self.invariant.tied c.args.self.now c.self.view_is c.args.lock.0
+returns c = c.is_used.ensures ∙ used-now (seen_as c.self.invariant c.self.view_is) c.args.lock.0
