@@ -16,4 +16,4 @@ pub use chains::{held, mode, record, recursion, set_mode};
 pub use marks::{norelease, releaseok};
 pub use releases::{forget, release};
 pub use vec_lists::VecLists;
-pub use warnings::{LockTypes, warn_count};
+pub use warnings::{LockTypes, is_allowed, is_named, warn_count};

@@ -92,8 +92,9 @@ fn allowed_in<T: LockTypes>(
     allowed
 }
 
-// Whether a lock of the sleep kind may be held.
-fn is_allowed<T: LockTypes>(
+/// Whether a lock of the sleep kind may be held where none should be: the named one, Giant under `GIANTOK`, or a sleepable one under
+/// `SLEEPOK`.
+pub fn is_allowed<T: LockTypes>(
     types: &T,
     named: Option<LockNo>,
     flags: WarnFlags,
@@ -131,8 +132,8 @@ fn is_last_named<L: Lists>(lists: &L, list: u16, named: Option<LockNo>) -> bool
     }
 }
 
-// Whether this is the lock that the call names, if it names one.
-fn is_named(named: Option<LockNo>, held: Instance) -> bool
+/// Whether this is the lock that a call names, if it names one.
+pub fn is_named(named: Option<LockNo>, held: Instance) -> bool
     ensures { result ≡ is_named named held }
 {
     match named {

@@ -4,20 +4,16 @@ ghost use Rattle.std.specs.Prelude.{◌≡◌, ◌++◌, not, [], filter, revers
 ghost use Rattle.wit_model.specs.declared.locks.Instance.{Instance};
 ghost use Rattle.wit_model.specs.declared.faults.Fault.TheVariants.{OutOfMemory};
 ghost use Rattle.wit_model.specs.Rules.State.{state_of, known_of, typed_locks};
-ghost use Rattle.wit_model.specs.Rules.Verdict.{basis_of, type_held, is_giant, is_sleepable};
+ghost use Rattle.wit_model.specs.Rules.Verdict.{basis_of};
 ghost use Rattle.wit_model.specs.Rules.Warnings.{is_named, is_allowed, counted_spin, warned};
 ghost use Rattle.wit_model.specs.Trace.Views.{warn_text};
 ghost use Rattle.wit_report.specs.Wants.{WantsMemory};
 
 use crate::held::{newest_first, put_all};
-use crate::locks::type_number;
-use crate::orders::type_words;
 use crate::pieces::put_number;
-use crate::type_lists::type_class;
-use bitflags::Flags;
 use std::alloc::{AllocError, Global};
 use wit_core::Verifier;
-use wit_model::{Class, Fault, Instance, LockNo, SeatNo, TypeNo, WarnFlags};
+use wit_model::{Fault, Instance, LockNo, SeatNo, WarnFlags};
 
 /// The text of a warning: how many held locks the seat is warned of, as `witness_warn` (subr_witness.c) tells them, and a line for each, in
 /// the order of `locks_of`. Empty where it is warned of none.
@@ -83,7 +79,7 @@ fn add_counted(
         (λ (i : Instance). not (is_allowed (basis_of (known_of verifier.now.start verifier.now.history)) named flags i)) sleep.now) }
 {
     for instance in sleep {
-        if !is_allowed(verifier, named, flags, *instance) {
+        if !verifier.is_allowed(*instance, named, flags) {
             held.push(*instance)?;
         }
     }
@@ -116,31 +112,4 @@ fn is_named(named: Option<LockNo>, held: Instance) -> bool
         Some(lock) => held.lock.0 == lock.0,
         None => false,
     }
-}
-
-// Whether a lock of the sleep kind may be held.
-fn is_allowed(verifier: &Verifier, named: Option<LockNo>, flags: WarnFlags, held: Instance) -> bool
-    ensures { result ≡ is_allowed (basis_of (known_of verifier.now.start verifier.now.history)) named flags held }
-{
-    is_named(named, held)
-        || flags.contains(WarnFlags::GIANTOK) && is_giant(verifier, type_of(verifier, held))
-        || flags.contains(WarnFlags::SLEEPOK) && is_sleepable(verifier, type_of(verifier, held))
-}
-
-fn type_of(verifier: &Verifier, held: Instance) -> TypeNo
-    ensures { result ≡ type_held (basis_of (known_of verifier.now.start verifier.now.history)) held }
-{
-    type_number(verifier, held.lock)
-}
-
-fn is_giant(verifier: &Verifier, number: TypeNo) -> bool
-    ensures { result ≡ is_giant (basis_of (known_of verifier.now.start verifier.now.history)) number }
-{
-    type_class(verifier, number).is(Class::SleepMutex) && type_words(verifier, number) == "Giant"
-}
-
-fn is_sleepable(verifier: &Verifier, number: TypeNo) -> bool
-    ensures { result ≡ is_sleepable (basis_of (known_of verifier.now.start verifier.now.history)) number }
-{
-    type_class(verifier, number).is(Class::Sx)
 }

@@ -2,12 +2,14 @@
 
 ghost use Rattle.std.specs.Prelude.{◌≡◌, true, length};
 ghost use Rattle.wit_model.specs.Rules.State.{state_of, is_seat};
-ghost use Rattle.wit_model.specs.Rules.Warnings.{is_nameable, warned, step_warn};
+ghost use Rattle.wit_model.specs.Rules.Verdict.{basis_of};
+ghost use Rattle.wit_model.specs.Rules.Warnings.{is_allowed, is_nameable, warned, step_warn};
 
+use crate::known::lock_with;
 use crate::verifier::Verifier;
 use wit_check::Basis;
-use wit_held::warn_count;
-use wit_model::{Fault, LockNo, SeatNo, WarnFlags};
+use wit_held::{is_allowed, is_named, warn_count};
+use wit_model::{Fault, Instance, LockNo, SeatNo, WarnFlags};
 
 impl Verifier {
     /// How many locks a seat holds where it should hold none but the named one, or such as the flags allow: `witness_warn` of
@@ -56,5 +58,23 @@ impl Verifier {
             lock_types: known.lock_types(),
         };
         warn_count(self.seats.lists(), &basis, seat, self.watch, named, flags)
+    }
+
+    /// Whether a seat may hold a lock of the sleep kind where it should hold none: `warn` counts all but these, for which it is the named
+    /// one, Giant under `GIANTOK`, or one whose holder may sleep under `SLEEPOK` (sx(9)). A lock that was never made has no type, so none
+    /// but the named one is allowed. It takes no memory.
+    pub fn is_allowed(&self, held: Instance, named: Option<LockNo>, flags: WarnFlags) -> bool
+        ensures { result ≡ is_allowed (basis_of (state_of self.now).known) named flags held }
+    {
+        let known = &self.known;
+        if lock_with(known.locks(), held.lock).is_none() {
+            return is_named(named, held);
+        }
+        let basis = Basis {
+            types: known.names(),
+            matrix: known.orders().matrix(),
+            lock_types: known.lock_types(),
+        };
+        is_allowed(&basis, named, flags, held)
     }
 }
