@@ -1,34 +1,59 @@
 -- What becomes of a line of the second version.
-use Rattle.std.proofs.Common.{◌≡◌, ℕ, ◌+◌, ◌≤◌, List, Some, length, Result, Ok, Err, IfOk, OnErr, refl, ap, subst, ◌∙◌}
+use Rattle.std.proofs.Common.{◌≡◌, ℕ, ◌+◌, ◌≤◌, List, Some, length, Result, Ok, Err, IfOk, OnErr, refl, sym, ap, subst, ◌∙◌, inl, inr}
 use Rattle.std.specs.Global.{Vec}
+use Rattle.std.specs.Result.{IsErrAnd}
 use Rattle.std.proofs.lemmas.Bool.{le-ltb}
-use Rattle.wit_model.specs.declared.calls.Call.{Call}
+use Rattle.wit_model.specs.declared.faults.Fault.{Fault}
 use Rattle.wit_model.specs.declared.lines.Line.{Line}
 use Rattle.wit_model.specs.declared.locks.FileNo.{FileNo}
-use Rattle.wit_model.specs.Rules.Files.{naming_answer, NamesFile}
+use Rattle.wit_model.specs.Rules.Files.{naming_answer}
+use Rattle.wit_model.specs.Rules.Refusals.{IsRefusal}
 use Rattle.wit_model.specs.Rules.State.{Story}
 use Rattle.wit_model.specs.Trace.Output as output
 use Rattle.wit_model.specs.Trace.Reading.{line_of}
 use Rattle.wit_model.specs.World.Scenes.{Scene}
 use Rattle.wit_grammar.specs.declared.errors.LineError.{LineError}
 use Rattle.wit_grammar.specs.declared.errors.LineError.TheVariants.{Bad, Memory}
-use Rattle.wit_trace.specs.Replays.{IsBadFor, Passes, Remarks}
+use Rattle.wit_grammar.specs.Lines.{Refuses}
+use Rattle.wit_trace.specs.LineCalls.{NumbersFile, at_number, file_named}
+use Rattle.wit_trace.specs.Replays.{FailsFor, IsBadFor, Passes, Remarks}
+use Rattle.wit_trace.proofs.CallLemmas.{numbered_history}
 
--- a line with a site: its file was entered, then its call made
-pub named_then : (old mid new : Scene) (t : ℕ) (name : List ℕ) (make : ℕ → Call) (f : FileNo) (r : Result (Vec ℕ) LineError) → NamesFile old.story name (Ok f) mid.story → mid ≡ record old { story = mid.story }
-    → ((n : ℕ) → Passes (output.makes_in mid n t (make f.0)) (output.Stepping mid n) (output.Stepping new n) r)
-    → (n : ℕ) → Passes (output.at_file_in old (λ s f. output.makes_in s n t (make f)) name (naming_answer old.story name)) (output.Stepping old n) (output.Stepping new n) r
-named_then old mid new t name make f r names rest passes n =
-    let same : mid ≡ output.with_file name old = rest ∙ ap (λ (x : Story). record old { story = x }) names.1 in
-    rw names.0 (from (output.makes_in (output.with_file name old) n t (make f.0)) r
-    (subst (λ (x : Scene). Passes (output.makes_in x n t (make f.0)) (output.Stepping x n) (output.Stepping new n) r) same (passes n)))
+-- ---- a line whose call has the number of a file
+
+-- its file gets no number
+pub not_numbered_in : (old new : Scene) (c : output.LineCall) (n : ℕ) (fault : Fault) (r : Result (Vec ℕ) LineError) → NumbersFile old.story (file_named c) (Err fault) new.story → new ≡ record old { story = new.story }
+    → IsErrAnd r (Refuses fault) → Passes (output.calls_in old n c) (output.Stepping old n) (output.Stepping new n) r
+not_numbered_in old new c n fault (Ok text) names rest refuses = elim refuses [ ]
+not_numbered_in old new c n fault (Err Memory) names rest refuses = tt
+not_numbered_in old new (output.LogsAt t file call) n fault (Err (Bad cause)) names rest refuses = go names.0
   where
-    -- a file more changes nothing of what is summed up
-    from : (due : output.Outcome) (r : Result (Vec ℕ) LineError) → Passes due (output.Stepping (output.with_file name old) n) (output.Stepping new n) r → Passes due (output.Stepping old n) (output.Stepping new n) r
+    go : IsRefusal (naming_answer old.story file) fault → FailsFor (output.calls_in old n (output.LogsAt t file call)) (output.Stepping old n) (output.Stepping new n) (Bad cause)
+    go (inl e) = rw e (refuses.0, λ bad. ap (λ (x : Story). output.summed (output.Reading x n) bad) names.2)
+    go (inr none) = absurd (refuses.1 none.0)
+not_numbered_in old new c n fault (Err (Bad cause)) names rest refuses = absurd names
+
+-- its file got one
+calls_in_numbered : (old mid : Scene) (c : output.LineCall) (f : FileNo) → NumbersFile old.story (file_named c) (Ok f) mid.story → mid ≡ record old { story = mid.story } → (n : ℕ) → output.calls_in old n c ≡ output.calls_in mid n (at_number c f.0)
+calls_in_numbered old mid (output.LogsAt t file call) f names rest n =
+    ap (output.at_file_in old (λ s f. output.makes_in s n t (call f)) file) names.0
+    ∙ ap (λ (s : Scene). output.makes_in s n t (call f.0)) (sym (rest ∙ ap (λ (x : Story). record old { story = x }) names.1))
+calls_in_numbered old mid c f names rest n = ap (λ (s : Scene). output.calls_in s n c) (sym (rest ∙ ap (λ (x : Story). record old { story = x }) names))
+
+-- then what becomes of the call becomes of the line
+pub line_numbered_in : (old mid : Scene) (c made : output.LineCall) (f : FileNo) (n : ℕ) (q : output.Progress) (r : Result (Vec ℕ) LineError) → NumbersFile old.story (file_named c) (Ok f) mid.story → mid ≡ record old { story = mid.story }
+    → made ≡ at_number c f.0 → Passes (output.calls_in mid n made) (output.Stepping mid n) q r → Passes (output.calls_in old n c) (output.Stepping old n) q r
+line_numbered_in old mid c made f n q r names rest is passes =
+    from (output.calls_in old n c) r (subst (λ due. Passes due (output.Stepping mid n) q r) (sym (calls_in_numbered old mid c f names rest n ∙ ap (output.calls_in mid n) (sym is))) passes)
+  where
+    same : mid.story.history ≡ old.story.history
+    same = numbered_history old.story mid.story (file_named c) f names
+
+    from : (due : output.Outcome) (r : Result (Vec ℕ) LineError) → Passes due (output.Stepping mid n) q r → Passes due (output.Stepping old n) q r
     from due (Ok text) h = h
     from due (Err Memory) h = tt
-    from (output.Goes q text) (Err (Bad cause)) h = h
-    from (output.Bad why) (Err (Bad cause)) h = (h.0, λ bad. h.1 bad)
+    from (output.Goes p text) (Err (Bad cause)) h = h
+    from (output.Bad why) (Err (Bad cause)) h = (h.0, λ bad. h.1 bad ∙ ap (λ h. output.summed (output.Reading (record old.story { history = h }) n) bad) same)
 
 -- a failed assertion or a warning is counted where it says something
 pub remark_passes_in : (s : Scene) (call : output.LineCall) (told after : ℕ) (text r : Result (Vec ℕ) LineError) → Remarks s.story (λ n. output.calls s.story n call) text → r ≡ text

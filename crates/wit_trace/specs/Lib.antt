@@ -1,3 +1,4 @@
+pub mod LineCalls
 pub mod Machine
 pub mod Migrates
 pub mod Outputs

@@ -3,8 +3,6 @@ use Rattle.std.specs.Prelude.{Bool, not, ◌||◌, ℕ, ◌≡◌, List, Option,
 use Rattle.std.specs.Global.{Vec}
 use Rattle.wit_model.specs.declared.calls.Reply.{Reply}
 use Rattle.wit_model.specs.declared.lines.Cause.{Cause}
-use Rattle.wit_model.specs.declared.lines.Line.{Line}
-use Rattle.wit_model.specs.declared.lines.Line.TheVariants.{Assert, Warn}
 use Rattle.wit_model.specs.declared.lines.View.{View}
 use Rattle.wit_model.specs.declared.faults.Fault.{Fault}
 use Rattle.wit_model.specs.declared.lines.Cause.TheVariants as why
@@ -95,12 +93,6 @@ Calls due old new (Err e) = (n : ℕ) → FailsFor (due n) (output.Reading old n
 abbrev pub Remarks : Story → (ℕ → output.Outcome) → Result (Vec ℕ) LineError → Type 0
 Remarks s due (Ok text) = (n : ℕ) → due n ≡ output.remarks s n text.items
 Remarks s due (Err e) = (n : ℕ) → FailsFor (due n) (output.Reading s n) (output.Reading s n) e
-
--- a line whose call is logged, or that makes none
-abbrev pub IsLoggedLine : Line → Type 0
-IsLoggedLine (Assert seat lock asserted) = ⊥
-IsLoggedLine (Warn seat lock flags) = ⊥
-IsLoggedLine _ = Unit {0}
 
 -- this text is told, and the reading goes on
 abbrev pub GoesWith : List ℕ → Step → Type 0

@@ -11,6 +11,7 @@ ghost use Rattle.wit_grammar.specs.declared.parse.TheConstants.{LONGEST};
 mod bad_lines;
 pub mod calls;
 mod endings;
+mod line_calls;
 pub mod prelude;
 mod reaching;
 mod views;
@@ -138,9 +139,9 @@ impl Replaying {
         ensures step { IfOk result (Follows (allowed view) self.old self.new number bytes.now) }
         ensures counted { IfOk result (λ s. reports_told (progress self.new) ≤ reports_told (progress self.old) + 1) }
     {
-        if let Replaying::Stepping { world, .. } = self {
+        if let Replaying::Stepping { world, remarks } = self {
             if let Some(line) = parse_lock_line(bytes) {
-                return match step_on_lock(alloc, world, line) {
+                return match step_on_lock(alloc, world, remarks, line) {
                     Ok(text) => Ok(Step::Goes(shown(alloc, view, text))),
                     Err(error) => self.ended_step(alloc, number, error),
                 };

@@ -1,17 +1,21 @@
 //! The calls that lines make.
 
 ghost use Rattle.std.specs.Prelude.{◌≡◌, ◌+◌, ◌-◌, ◌<◌, ◌^◌, IfOk, OnErr};
-ghost use Rattle.wit_model.specs.Trace.Output.{Reading, Asserts, LogsAt, Warns, call_of, calls, check_in, makes, said, shown, told, try_in, verb_call};
+ghost use Rattle.std.specs.Option.{option_copied};
+ghost use Rattle.wit_model.specs.Rules.Step.{AnswersOrFails};
+ghost use Rattle.wit_model.specs.Trace.Output.{Reading, Asserts, Warns, call_of, calls, said, shown, told};
 ghost use Rattle.wit_grammar.specs.Lines.{as_line};
-ghost use Rattle.wit_trace.specs.Replays.{Calls, GoesWith, IsLoggedLine, Passes, Remarks};
+ghost use Rattle.wit_trace.specs.LineCalls.{NumbersFile, as_call};
+ghost use Rattle.wit_trace.specs.Replays.{Calls, GoesWith, Passes, Remarks};
 
+use crate::replaying::line_calls::{LineCall, call_of, file_of, file_on_lock, lock_call};
 use crate::replaying::views::shown;
 use crate::stream::machine::Step;
 use std::alloc::{AllocError, Global};
 use wit_core::Verifier;
-use wit_grammar::{LineError, borrowed};
+use wit_grammar::LineError;
 use wit_model::{
-    Line, LockAssert, LockLine, LockNo, Mode, OpFlags, Reply, SeatNo, Site, Verb, View, WarnFlags,
+    Call, Fault, FileNo, Line, LockAssert, LockLine, LockNo, Reply, SeatNo, View, WarnFlags,
 };
 use wit_report::{assert_text, report_text, warn_text};
 
@@ -29,20 +33,36 @@ pub fn enter_line(
     ensures { Passes (calls verifier.old remarks.old (call_of line))
         (Reading verifier.old remarks.old) (Reading verifier.new remarks.new) result }
 {
-    match line {
-        Line::Assert {
-            seat,
-            lock,
-            asserted,
-        } => remark(remarks, assertion(alloc, verifier, seat, lock, asserted)),
-        Line::Warn { seat, lock, flags } => remark(
+    let file = number_of(verifier, file_of(&line))?;
+    let call = call_of(alloc, line, file)?;
+    make_call(alloc, verifier, remarks, call)
+}
+
+fn make_call(
+    alloc: Global,
+    verifier: &mut Verifier,
+    remarks: &mut u64,
+    call: LineCall,
+) -> Result<Vec<u8>, LineError>
+    requires { remarks.old < 2 ^ 64 - 1 }
+    ensures { Passes (calls verifier.old remarks.old (as_call call))
+        (Reading verifier.old remarks.old) (Reading verifier.new remarks.new) result }
+{
+    match call {
+        LineCall::Logs(seat, call) => {
+            let reply = verifier.call(seat, call)?;
+            Ok(reply_text(alloc, verifier, &reply)?)
+        }
+        LineCall::Asserts(seat, lock, asserted) => remark(
+            remarks,
+            assertion(alloc, verifier, seat, lock, asserted),
+        ),
+        LineCall::Warns(seat, lock, flags) => remark(
             remarks,
             warning(alloc, verifier, seat, lock, flags),
         ),
-        line => {
-            let reply = make_call(verifier, line)?;
-            Ok(reply_text(alloc, verifier, &reply)?)
-        }
+        // The first version has no step of a lock itself.
+        LineCall::Steps(..) | LineCall::NoCall => Err(LineError::SYNTAX),
     }
 }
 
@@ -136,110 +156,44 @@ pub fn warning(
     Ok(warn_text(alloc, verifier, seat, lock, flags)?.into_bytes())
 }
 
-/// A line whose call is logged makes it.
-///
-/// # Errors
-/// `Bad` where it makes none, its file gets no number, or its call is refused; `Memory`.
-#[inline(never)]
-pub fn make_call(verifier: &mut Verifier, line: Line) -> Result<Reply, LineError>
-    requires { IsLoggedLine line }
-    ensures { Calls (λ n. calls verifier.old n (call_of line)) verifier.old verifier.new result }
-{
-    match line {
-        Line::Header { .. } | Line::Profile | Line::Order { .. } | Line::Bless { .. } => {
-            Err(LineError::SYNTAX)
-        }
-        Line::Init { seat, lock } => Ok(Reply::Made(verifier.make(seat, lock)?)),
-        Line::OnLock(line) => call_on_lock(verifier, borrowed(&line)),
-        Line::Define {
-            seat,
-            first,
-            second,
-        } => Ok(verifier.define_order(seat, first, second)?),
-        Line::Watch { seat, watch } => Ok(verifier.set_watch(seat, watch)?),
-        Line::Assert { .. } | Line::Warn { .. } => unreachable!(),
-    }
-}
-
 /// A line on a lock makes its call; one with a site enters its file first.
 ///
 /// # Errors
-/// `Bad` where its file gets no number or its call is refused; `Memory`.
+/// `Bad` where it makes none, its file gets no number or its call is refused; `Memory`.
 #[inline(always)]
 pub fn call_on_lock(verifier: &mut Verifier, line: LockLine<&str>) -> Result<Reply, LineError>
     ensures { Calls (λ n. calls verifier.old n (call_of (as_line line.entry))) verifier.old verifier.new result }
 {
-    match line {
-        LockLine::Check {
-            seat,
-            lock,
-            mode,
-            ops,
-            file,
-            line,
-        } => check_at(verifier, seat, lock, mode, ops, file, line),
-        LockLine::Try {
-            seat,
-            lock,
-            mode,
-            file,
-            line,
-        } => try_at(verifier, seat, lock, mode, file, line),
-        LockLine::Unlock { seat, lock, mode } => Ok(verifier.unlock(seat, lock, mode)?),
-        LockLine::Plain { verb, seat, lock } => call_of_verb(verifier, verb, seat, lock),
-        // The first version has no such line.
-        LockLine::Step { .. } => Err(LineError::SYNTAX),
+    let file = number_of(verifier, file_on_lock(&line))?;
+    match lock_call(line, file) {
+        LineCall::Logs(seat, call) => Ok(quick_call(verifier, seat, call)?),
+        // The first version has no step of a lock itself. Lines on locks do nothing else.
+        LineCall::Steps(..) | LineCall::Asserts(..) | LineCall::Warns(..) | LineCall::NoCall => {
+            Err(LineError::SYNTAX)
+        }
     }
 }
 
+// As `Verifier::call`. Two calls in three note a lock or release it, and would pay there for the
+// locals of a check: 3 in 100 of a line.
 #[inline(always)]
-fn call_of_verb(
-    verifier: &mut Verifier,
-    verb: Verb,
-    seat: SeatNo,
-    lock: LockNo,
-) -> Result<Reply, LineError>
-    ensures { Calls (λ n. makes verifier.old n seat.0 (verb_call verb lock)) verifier.old verifier.new result }
+fn quick_call(verifier: &mut Verifier, seat: SeatNo, call: Call) -> Result<Reply, Fault>
+    ensures { AnswersOrFails verifier.old seat.0 call result verifier.new }
 {
-    match verb {
-        Verb::Note => Ok(verifier.note(seat, lock)?),
-        Verb::GiveUp => Ok(verifier.give_up(seat, lock)?),
-        Verb::Destroy => Ok(verifier.destroy(seat, lock)?),
-        Verb::Upgrade => Ok(verifier.upgrade(seat, lock)?),
-        Verb::Downgrade => Ok(verifier.downgrade(seat, lock)?),
-        Verb::NoRelease => Ok(verifier.norelease(seat, lock)?),
-        Verb::ReleaseOk => Ok(verifier.releaseok(seat, lock)?),
+    match call {
+        Call::Note(lock) => verifier.note(seat, lock),
+        Call::Unlock(lock, mode) => verifier.unlock(seat, lock, mode),
+        call => verifier.call(seat, call),
     }
 }
 
+// The number of the file that a line names; of one that names none, no file's.
 #[inline(always)]
-fn check_at(
-    verifier: &mut Verifier,
-    seat: SeatNo,
-    lock: LockNo,
-    mode: Mode,
-    ops: OpFlags,
-    file: &str,
-    line: u32,
-) -> Result<Reply, LineError>
-    ensures { Calls (λ n. calls verifier.old n (LogsAt seat.0 file.now (check_in lock mode ops line)))
-        verifier.old verifier.new result }
+fn number_of(verifier: &mut Verifier, file: Option<&str>) -> Result<FileNo, Fault>
+    ensures { NumbersFile verifier.old (option_copied file.entry) result verifier.new }
 {
-    let file = verifier.file(file)?;
-    Ok(verifier.check(seat, lock, mode, ops, Site { file, line })?)
-}
-
-fn try_at(
-    verifier: &mut Verifier,
-    seat: SeatNo,
-    lock: LockNo,
-    mode: Mode,
-    file: &str,
-    line: u32,
-) -> Result<Reply, LineError>
-    ensures { Calls (λ n. calls verifier.old n (LogsAt seat.0 file.now (try_in lock mode line)))
-        verifier.old verifier.new result }
-{
-    let file = verifier.file(file)?;
-    Ok(verifier.note_try(seat, lock, mode, Site { file, line })?)
+    match file {
+        Some(file) => verifier.file(file),
+        None => Ok(FileNo(0)),
+    }
 }

@@ -1,15 +1,18 @@
 //! The lines of the second version: the calls that they make in a world, and the steps of locks themselves.
 
 ghost use Rattle.std.specs.Prelude.{◌≡◌, ◌-◌, ◌<◌, ◌^◌, ℕ, IfOk};
-ghost use Rattle.wit_model.specs.Trace.Output.{Stepping, Steps, call_of, calls_in, makes_in, told, verb_call};
+ghost use Rattle.std.specs.Option.{option_copied};
+ghost use Rattle.wit_model.specs.Trace.Output.{Stepping, Steps, call_of, calls_in, makes_in, told};
 ghost use Rattle.wit_grammar.specs.Lines.{as_line};
+ghost use Rattle.wit_trace.specs.LineCalls.{NumbersFile, as_call};
 ghost use Rattle.wit_trace.specs.Replays.{Passes};
 
 use crate::replaying::calls::{assertion, remark, reply_text, warning};
+use crate::replaying::line_calls::{LineCall, call_of, file_of, file_on_lock, lock_call};
 use std::alloc::{AllocError, Global};
 use wit_core::Verifier;
-use wit_grammar::{LineError, borrowed};
-use wit_model::{Boxed, Call, Line, LockLine, LockNo, RawStep, Reply, Request, SeatNo, Site, Verb};
+use wit_grammar::LineError;
+use wit_model::{Call, Fault, FileNo, Line, LockLine, LockNo, RawStep, Reply, SeatNo};
 use wit_world::World;
 
 /// A line behind the prelude makes its call, or its step, and tells of it.
@@ -27,98 +30,62 @@ pub fn enter_world_line(
     ensures { Passes (calls_in world.old remarks.old (call_of line))
         (Stepping world.old remarks.old) (Stepping world.new remarks.new) result }
 {
-    match line {
-        Line::Header { .. } | Line::Profile | Line::Order { .. } | Line::Bless { .. } => {
-            Err(LineError::SYNTAX)
-        }
-        Line::Init { seat, lock } => {
-            let lock = Boxed::new(alloc, lock)?;
-            call_in(alloc, world, seat, Call::Init(lock))
-        }
-        Line::OnLock(line) => step_on_lock(alloc, world, borrowed(&line)),
-        Line::Define {
-            seat,
-            first,
-            second,
-        } => call_in(alloc, world, seat, Call::DefineOrder(first, second)),
-        Line::Watch { seat, watch } => call_in(alloc, world, seat, Call::SetWatch(watch)),
-        Line::Assert {
-            seat,
-            lock,
-            asserted,
-        } => remark(
-            remarks,
-            assertion(alloc, world.verifier(), seat, lock, asserted),
-        ),
-        Line::Warn { seat, lock, flags } => remark(
-            remarks,
-            warning(alloc, world.verifier(), seat, lock, flags),
-        ),
-    }
+    let file = number_in(world, file_of(&line))?;
+    let call = call_of(alloc, line, file)?;
+    make_call_in(alloc, world, remarks, call)
 }
 
-/// A line on a lock makes its call, or its step; one with a site enters its file first.
+/// The same of a line on a lock.
 ///
 /// # Errors
-/// `Bad` where its file gets no number, or its call or step is refused. `Memory`: the call may have
-/// been made then.
+/// As those of `enter_world_line`.
 pub fn step_on_lock(
     alloc: Global,
     world: &mut World,
+    remarks: &mut u64,
     line: LockLine<&str>,
 ) -> Result<Vec<u8>, LineError>
-    ensures { (n : ℕ) → Passes (calls_in world.old n (call_of (as_line line.entry)))
-        (Stepping world.old n) (Stepping world.new n) result }
+    requires { remarks.old < 2 ^ 64 - 1 }
+    ensures { Passes (calls_in world.old remarks.old (call_of (as_line line.entry)))
+        (Stepping world.old remarks.old) (Stepping world.new remarks.new) result }
 {
-    match line {
-        LockLine::Check {
-            seat,
-            lock,
-            mode,
-            ops,
-            file,
-            line,
-        } => {
-            let file = world.file(file)?;
-            let site = Site { file, line };
-            let request = Request {
-                lock,
-                site,
-                mode,
-                ops,
-            };
-            call_in(alloc, world, seat, Call::Check(request))
-        }
-        LockLine::Try {
-            seat,
-            lock,
-            mode,
-            file,
-            line,
-        } => {
-            let file = world.file(file)?;
-            let site = Site { file, line };
-            call_in(alloc, world, seat, Call::NoteTry(lock, mode, site))
-        }
-        LockLine::Unlock { seat, lock, mode } => {
-            call_in(alloc, world, seat, Call::Unlock(lock, mode))
-        }
-        LockLine::Plain { verb, seat, lock } => call_in(alloc, world, seat, verb_call(verb, lock)),
-        LockLine::Step { seat, lock, step } => step_in(alloc, world, seat, lock, step),
+    let file = number_in(world, file_on_lock(&line))?;
+    make_call_in(alloc, world, remarks, lock_call(line, file))
+}
+
+// The number of the file that a line names; of one that names none, no file's.
+fn number_in(world: &mut World, file: Option<&str>) -> Result<FileNo, Fault>
+    ensures story { NumbersFile world.old.story (option_copied file.entry) result world.new.story }
+    ensures rest { world.new ≡ record world.old { story = world.new.story } }
+{
+    match file {
+        Some(file) => world.file(file),
+        None => Ok(FileNo(0)),
     }
 }
 
-fn verb_call(verb: Verb, lock: LockNo) -> Call
-    ensures { result ≡ verb_call verb lock }
+fn make_call_in(
+    alloc: Global,
+    world: &mut World,
+    remarks: &mut u64,
+    call: LineCall,
+) -> Result<Vec<u8>, LineError>
+    requires { remarks.old < 2 ^ 64 - 1 }
+    ensures { Passes (calls_in world.old remarks.old (as_call call))
+        (Stepping world.old remarks.old) (Stepping world.new remarks.new) result }
 {
-    match verb {
-        Verb::Note => Call::Note(lock),
-        Verb::GiveUp => Call::GiveUp(lock),
-        Verb::Destroy => Call::Destroy(lock),
-        Verb::Upgrade => Call::Upgrade(lock),
-        Verb::Downgrade => Call::Downgrade(lock),
-        Verb::NoRelease => Call::NoRelease(lock),
-        Verb::ReleaseOk => Call::ReleaseOk(lock),
+    match call {
+        LineCall::Logs(seat, call) => call_in(alloc, world, seat, call),
+        LineCall::Asserts(seat, lock, asserted) => remark(
+            remarks,
+            assertion(alloc, world.verifier(), seat, lock, asserted),
+        ),
+        LineCall::Warns(seat, lock, flags) => remark(
+            remarks,
+            warning(alloc, world.verifier(), seat, lock, flags),
+        ),
+        LineCall::Steps(seat, lock, step) => step_in(alloc, world, seat, lock, step),
+        LineCall::NoCall => Err(LineError::SYNTAX),
     }
 }
 

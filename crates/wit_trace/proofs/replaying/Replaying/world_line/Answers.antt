@@ -13,16 +13,16 @@ pub returns-in-Ok-clause-step : goal.returns-in-Ok-clause-step
 returns-in-Ok-clause-step c =
     let m = c.in-Stepping.remarks in
     let old = output.Stepping c.in-Stepping.world m in
-    let new = output.Stepping c.step_on_lock.new.world m in
-    let passes = world_line c.in-Stepping.world m c.args.number c.args.bytes.now (as_line c.in-Some.line) new c.step_on_lock.result c.requires.short c.in-Some.ensures (c.step_on_lock.ensures m) in
+    let new = output.Stepping c.step_on_lock.new.world c.step_on_lock.new.remarks in
+    let passes = world_line c.in-Stepping.world m c.args.number c.args.bytes.now (as_line c.in-Some.line) new c.step_on_lock.result c.requires.short c.in-Some.ensures c.step_on_lock.ensures in
     rw c.in-Stepping.is (told c.args.view old old new c.args.number c.args.bytes.now c.step_on_lock.result c.in-Ok.text c.shown.result refl passes c.in-Ok.is c.shown.ensures)
 
 pub returns-in-Err-clause-step : goal.returns-in-Err-clause-step
 returns-in-Err-clause-step c =
     let m = c.in-Stepping.remarks in
     let old = Stepping c.in-Stepping.world m in
-    let new = Stepping c.step_on_lock.new.world m in
-    let passes = world_line c.in-Stepping.world m c.args.number c.args.bytes.now (as_line c.in-Some.line) (progress new) c.step_on_lock.result c.requires.short c.in-Some.ensures (c.step_on_lock.ensures m) in
+    let new = Stepping c.step_on_lock.new.world c.step_on_lock.new.remarks in
+    let passes = world_line c.in-Stepping.world m c.args.number c.args.bytes.now (as_line c.in-Some.line) (progress new) c.step_on_lock.result c.requires.short c.in-Some.ensures c.step_on_lock.ensures in
     rw c.in-Stepping.is (if_ok (EndsFor c.args.view (progress new) c.args.number c.in-Err.error) (Follows (allowed c.args.view) old new c.args.number c.args.bytes.now) c.ended_step.result
     (λ s ends. line_ends c.args.view old new (progress old) c.args.number c.args.bytes.now c.step_on_lock.result c.in-Err.error s refl passes c.in-Err.is ends)
     (c.ended_step.ensures c.args.view))
@@ -31,8 +31,8 @@ pub ended_step-requires : goal.ended_step-requires
 ended_step-requires c = λ cause is.
     let m = c.in-Stepping.remarks in
     let old = output.Stepping c.in-Stepping.world m in
-    let new = output.Stepping c.step_on_lock.new.world m in
-    let passes = world_line c.in-Stepping.world m c.args.number c.args.bytes.now (as_line c.in-Some.line) new c.step_on_lock.result c.requires.short c.in-Some.ensures (c.step_on_lock.ensures m) in
+    let new = output.Stepping c.step_on_lock.new.world c.step_on_lock.new.remarks in
+    let passes = world_line c.in-Stepping.world m c.args.number c.args.bytes.now (as_line c.in-Some.line) new c.step_on_lock.result c.requires.short c.in-Some.ensures c.step_on_lock.ensures in
     let room = subst (λ s. reports_told (progress s) < c.args.number) c.in-Stepping.is c.requires.room in
     omega (arith, bad_one old new c.args.number c.args.bytes.now c.step_on_lock.result passes cause (c.in-Err.is ∙ ap (λ e. Err e) is), room, c.ranges.number)
 
@@ -40,16 +40,16 @@ pub returns-in-Ok-clause-counted : goal.returns-in-Ok-clause-counted
 returns-in-Ok-clause-counted c =
     let m = c.in-Stepping.remarks in
     let old = output.Stepping c.in-Stepping.world m in
-    let new = output.Stepping c.step_on_lock.new.world m in
-    let passes = world_line c.in-Stepping.world m c.args.number c.args.bytes.now (as_line c.in-Some.line) new c.step_on_lock.result c.requires.short c.in-Some.ensures (c.step_on_lock.ensures m) in
+    let new = output.Stepping c.step_on_lock.new.world c.step_on_lock.new.remarks in
+    let passes = world_line c.in-Stepping.world m c.args.number c.args.bytes.now (as_line c.in-Some.line) new c.step_on_lock.result c.requires.short c.in-Some.ensures c.step_on_lock.ensures in
     rw c.in-Stepping.is (told_one old new c.args.number c.args.bytes.now c.step_on_lock.result passes c.in-Ok.text c.in-Ok.is)
 
 pub returns-in-Err-clause-counted : goal.returns-in-Err-clause-counted
 returns-in-Err-clause-counted c =
     let m = c.in-Stepping.remarks in
     let old = output.Stepping c.in-Stepping.world m in
-    let new = output.Stepping c.step_on_lock.new.world m in
-    let passes = world_line c.in-Stepping.world m c.args.number c.args.bytes.now (as_line c.in-Some.line) new c.step_on_lock.result c.requires.short c.in-Some.ensures (c.step_on_lock.ensures m) in
+    let new = output.Stepping c.step_on_lock.new.world c.step_on_lock.new.remarks in
+    let passes = world_line c.in-Stepping.world m c.args.number c.args.bytes.now (as_line c.in-Some.line) new c.step_on_lock.result c.requires.short c.in-Some.ensures c.step_on_lock.ensures in
     rw c.in-Stepping.is (if_ok (EndsFor c.args.view new c.args.number c.in-Err.error) (λ s. reports_told new ≤ reports_told old + 1) c.ended_step.result
     (λ s ends. ended_one old new c.args.number c.args.bytes.now c.step_on_lock.result passes c.args.view c.in-Err.error s c.in-Err.is ends)
     (c.ended_step.ensures c.args.view))
