@@ -109,6 +109,11 @@ module _ {M : Type 0} (allows : M → ℕ → List (List ℕ) → List ℕ → L
     last = inr (λ more. h _ _ (breaks_long (line ++ part) more plain (omega (arith, long))));
   }
 
+-- a machine that shows by the same
+pub shown_so : {V M : Type 0} (allows : V → M → ℕ → List (List ℕ) → List ℕ → List ℕ → Summary → Type 0) (v w : V) → v ≡ w → (old new : M) (number : ℕ) (r r' : Option (List ℕ)) (line line' : List ℕ) (answer : Option Step)
+    → Advances (OutputFrom (allows v)) old new number r r' line line' answer → Advances (OutputFrom (allows w)) old new number r r' line line' answer
+shown_so allows v w is old new number r r' line line' answer h = subst (λ x. Advances (OutputFrom (allows x)) old new number r r' line line' answer) is h
+
 module _ {M : Type 0} (output : M → ℕ → List ℕ → List ℕ → Summary → Type 0) (old new : M) (number : ℕ) (r r' : Option (List ℕ)) (line line' : List ℕ) (answer : Option Step) where
   -- the line goes on
   pub answer_none : Advances output old new number r r' line line' answer → answer ≡ None → TakesPart r r' line line' × (new ≡ old)

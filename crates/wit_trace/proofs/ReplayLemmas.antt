@@ -17,12 +17,13 @@ use Rattle.wit_model.specs.Trace.Reading.{line_of}
 use Rattle.wit_grammar.specs.declared.errors.LineError.{LineError}
 use Rattle.wit_grammar.specs.declared.errors.LineError.TheVariants.{Bad, Memory}
 use Rattle.wit_trace.specs.Machine.{BreaksAt, Follows, first_of}
-use Rattle.wit_trace.specs.Replays.{Calls, EndsFor, GoesOnWith, GoesWith, IsBadFor, allowed, Passes, KeepsTotal, Reaches, IsWritten, ShowsFrom, progress, total}
+use Rattle.wit_trace.specs.Replays.{Calls, EndsFor, GoesOnWith, GoesWith, IsBadFor, allowed_at, Passes, KeepsTotal, Reaches, IsWritten, ShowsFrom, progress, progress_of, total}
 use Rattle.wit_trace.specs.Stream.{GoesOn, OutputFrom, ReadsToEnd, WritesLines}
 use Rattle.wit_model.specs.declared.lines.View.{View}
 use Rattle.wit_model.specs.declared.lines.View.TheVariants.{Reports, Graph, Locks, Circle}
 use Rattle.wit_trace.specs.declared.replaying.Replaying.{Replaying}
-use Rattle.wit_trace.specs.declared.replaying.Replaying.TheVariants.{Unstarted, Reading}
+use Rattle.wit_trace.specs.declared.replaying.Progress.{Progress}
+use Rattle.wit_trace.specs.declared.replaying.Progress.TheVariants.{Unstarted, Reading}
 use Rattle.wit_trace.specs.declared.stream.machine.Step.{Step}
 use Rattle.wit_trace.specs.declared.stream.machine.Step.TheVariants as step
 use Rattle.wit_trace.specs.declared.summary.Summary.{Summary}
@@ -96,12 +97,12 @@ bad_after view (output.Bad why) p q n cause next text summary bad ends =
     ends.is_shown.ends.1
 
 -- what becomes of a line that is bad
-pub line_ends : (view : View) (m q : Replaying) (p : output.Progress) (n : ℕ) (line : List ℕ) (r : Result (Vec ℕ) LineError) (e : LineError) (s : Step) → output.reached (progress m) n line ≡ Ok p → Passes (output.outcome p n line) p (progress q) r
-    → r ≡ Err e → EndsFor view (progress q) n e s → Follows (allowed view) m q n line s
+pub line_ends : (view : View) (m q : Progress) (p : output.Progress) (n : ℕ) (line : List ℕ) (r : Result (Vec ℕ) LineError) (e : LineError) (s : Step) → output.reached (progress_of m) n line ≡ Ok p → Passes (output.outcome p n line) p (progress_of q) r
+    → r ≡ Err e → EndsFor view (progress_of q) n e s → Follows (allowed_at view) m q n line s
 line_ends view m q p n line r Memory s stands passes is ends = elim ends [ ]
 line_ends view m q p n line r (Bad cause) (step.Goes text) stands passes is ends = elim ends [ ]
 line_ends view m q p n line r (Bad cause) (step.Ends text summary) stands passes is ends = λ lines tail.
-    rw stands (bad_after view (output.outcome p n line) p (progress q) n cause _ text.items summary (subst (Passes (output.outcome p n line) p (progress q)) is passes) ends)
+    rw stands (bad_after view (output.outcome p n line) p (progress_of q) n cause _ text.items summary (subst (Passes (output.outcome p n line) p (progress_of q)) is passes) ends)
 
 module _ (view : View) (s new : Story) (m n : ℕ) (bytes : List ℕ) (line : Line) (r : Result Reply LineError) (short : length bytes ≤ 4096) (reads : line_of bytes ≡ Some line) (calls : Calls (λ m. output.calls s m (output.call_of line)) s new r) where
   makes_call : output.outcome (output.Reading s m) n bytes ≡ output.calls s m (output.call_of line)
@@ -109,17 +110,17 @@ module _ (view : View) (s new : Story) (m n : ℕ) (bytes : List ℕ) (line : Li
 
   -- what becomes of a line whose call is made
   pub call_goes : (reply : Reply) (text : List ℕ) → r ≡ Ok reply → text ≡ output.shown view (output.told new reply)
-      → (lines : List (List ℕ)) (tail more : List ℕ) (summary : Summary) → allowed view (Reading new m) (n + 1) lines tail more summary → allowed view (Reading s m) n (bytes ∷ lines) tail (text ++ more) summary
+      → (lines : List (List ℕ)) (tail more : List ℕ) (summary : Summary) → allowed_at view (Reading new m) (n + 1) lines tail more summary → allowed_at view (Reading s m) n (bytes ∷ lines) tail (text ++ more) summary
   call_goes reply text is shows lines tail more summary written =
       let due : output.outcome (output.Reading s m) n bytes ≡ output.Goes (output.Reading new m) (output.told new reply) = makes_call ∙ subst (Calls (λ m. output.calls s m (output.call_of line)) s new) is calls m in
       told_after view (output.outcome (output.Reading s m) n bytes) (output.Reading s m) (output.Reading new m) n (output.told new reply) text _ more summary (rw due (refl, refl)) shows written
 
-  pub call_goes_on : (reply : Reply) (t : Step) → r ≡ Ok reply → GoesWith (output.shown view (output.told new reply)) t → Follows (allowed view) (Reading s m) (Reading new m) n bytes t
+  pub call_goes_on : (reply : Reply) (t : Step) → r ≡ Ok reply → GoesWith (output.shown view (output.told new reply)) t → Follows (allowed_at view) (Reading s m) (Reading new m) n bytes t
   call_goes_on reply (step.Goes text) is goes = call_goes reply text.items is goes
   call_goes_on reply (step.Ends text summary) is goes = elim goes [ ]
 
   -- what becomes of a line whose call is refused
-  pub call_ends : (e : LineError) (t : Step) → r ≡ Err e → EndsFor view (output.Reading new m) n e t → Follows (allowed view) (Reading s m) (Reading new m) n bytes t
+  pub call_ends : (e : LineError) (t : Step) → r ≡ Err e → EndsFor view (output.Reading new m) n e t → Follows (allowed_at view) (Reading s m) (Reading new m) n bytes t
   call_ends e t is ends = line_ends view (Reading s m) (Reading new m) (output.Reading s m) n bytes (Err e) e t refl (rw makes_call (subst (Calls (λ m. output.calls s m (output.call_of line)) s new) is calls m)) refl ends
 
 -- the text and the summary at a list that is refused
@@ -134,11 +135,11 @@ pub refused : (view : View) (p q : output.Progress) (n : ℕ) (line : List ℕ) 
 refused view p q n line list text summary is keeps texts sums circle lines tail = refused_at view (output.reached p n line) p q list _ text summary is keeps texts sums circle
 
 -- the step that ends the reading then
-pub refused_step : (view : View) (m q : Replaying) (n : ℕ) (line : List ℕ) (list : output.BadLine) (s : Step) → Reaches (output.reached (progress m) n line) (progress m) (progress q) (Some list) → EndsFor view (progress q) list.0 (Bad list.1) s
-    → Follows (allowed view) m q n line s
+pub refused_step : (view : View) (m q : Progress) (n : ℕ) (line : List ℕ) (list : output.BadLine) (s : Step) → Reaches (output.reached (progress_of m) n line) (progress_of m) (progress_of q) (Some list) → EndsFor view (progress_of q) list.0 (Bad list.1) s
+    → Follows (allowed_at view) m q n line s
 refused_step view m q n line list (step.Goes text) reaches ends = elim ends [ ]
 refused_step view m q n line list (step.Ends text summary) reaches ends =
-    refused view (progress m) (progress q) n line list text.items summary reaches.0 reaches.1 (written_bad view (progress q) list text.items summary ends) ends.summed ends.is_shown.ends.1
+    refused view (progress_of m) (progress_of q) n line list text.items summary reaches.0 reaches.1 (written_bad view (progress_of q) list text.items summary ends) ends.summed ends.is_shown.ends.1
 
 -- or at the end of the input
 pub refused_at_end : (view : View) (p q : output.Progress) (n : ℕ) (tail : List ℕ) (list : output.BadLine) (text : List ℕ) (summary : Summary) → output.reached p n tail ≡ Err list → KeepsTotal p q
@@ -235,24 +236,28 @@ refused_broken view p q n cause bytes list text summary is keeps texts sums circ
     at (line ∷ ls) e = refused view p q n line list text summary e keeps texts sums circle ls tail
 
 -- what is answered at a line that breaks off, where a list may be refused
-pub broken_answer : {E : Type 0} (view : View) (m r : Replaying) (n : ℕ) (cause : Cause) (bytes : List ℕ) (list : Option output.BadLine) (at : output.BadLine) (answer : Result (Vec ℕ × Summary) E) → Reaches (output.reached (progress m) n bytes) (progress m) (progress r) list → at ≡ unwrap_or list (n, cause)
-    → IfOk answer (λ a. a.0.items ≡ output.bad_text at.0 at.1) → IfOk answer (λ a. total a.1 ≡ output.summed (progress r) (Some at)) → IfOk answer (λ a. a.1.circle ≡ false)
-    → IfOk answer (λ a. (lines : List (List ℕ)) (tail : List ℕ) → BreaksAt cause bytes lines tail → IsWritten view (output.course_from (progress m) n lines tail) a.0.items a.1)
+pub broken_answer : {E : Type 0} (view : View) (m r : Progress) (n : ℕ) (cause : Cause) (bytes : List ℕ) (list : Option output.BadLine) (at : output.BadLine) (answer : Result (Vec ℕ × Summary) E) → Reaches (output.reached (progress_of m) n bytes) (progress_of m) (progress_of r) list → at ≡ unwrap_or list (n, cause)
+    → IfOk answer (λ a. a.0.items ≡ output.bad_text at.0 at.1) → IfOk answer (λ a. total a.1 ≡ output.summed (progress_of r) (Some at)) → IfOk answer (λ a. a.1.circle ≡ false)
+    → IfOk answer (λ a. (lines : List (List ℕ)) (tail : List ℕ) → BreaksAt cause bytes lines tail → IsWritten view (output.course_from (progress_of m) n lines tail) a.0.items a.1)
 broken_answer view m r n cause bytes list at (Err e) reaches is texts sums circle = tt
 broken_answer view m r n cause bytes None at (Ok a) reaches is texts sums circle =
-    broken view (progress m) (progress r) n cause bytes a.0.items a.1 reaches (texts ∙ ap (λ (l : output.BadLine). output.bad_text l.0 l.1) is) (sums ∙ ap (λ (l : output.BadLine). output.summed (progress r) (Some l)) is) circle
+    broken view (progress_of m) (progress_of r) n cause bytes a.0.items a.1 reaches (texts ∙ ap (λ (l : output.BadLine). output.bad_text l.0 l.1) is) (sums ∙ ap (λ (l : output.BadLine). output.summed (progress_of r) (Some l)) is) circle
 broken_answer view m r n cause bytes (Some line) at (Ok a) reaches is texts sums circle =
-    refused_broken view (progress m) (progress r) n cause bytes line a.0.items a.1 reaches.0 reaches.1 (texts ∙ ap (λ (l : output.BadLine). output.bad_text l.0 l.1) is) (sums ∙ ap (λ (l : output.BadLine). output.summed (progress r) (Some l)) is) circle
+    refused_broken view (progress_of m) (progress_of r) n cause bytes line a.0.items a.1 reaches.0 reaches.1 (texts ∙ ap (λ (l : output.BadLine). output.bad_text l.0 l.1) is) (sums ∙ ap (λ (l : output.BadLine). output.summed (progress_of r) (Some l)) is) circle
 
 -- what the machine that replays allows
 abbrev replays : View → Replaying → ℕ → List ℕ → List ℕ → Summary → Type 0
 replays view = OutputFrom (λ m n lines tail text summary. IsWritten view (output.course_from (progress m) n lines tail) text summary)
 
-shown_on : (view : View) (lines text : List ℕ) → GoesOn (replays view) Unstarted lines text → GoesOn (ShowsFrom view) output.Unstarted lines text
+-- it begins before the header
+abbrev begin : View → Replaying
+begin view = record { view = view; progress = Unstarted }
+
+shown_on : (view : View) (lines text : List ℕ) → GoesOn (replays view) (begin view) lines text → GoesOn (ShowsFrom view) output.Unstarted lines text
 shown_on view lines text goes = record { at = progress goes.at; on = goes.on }
 
 -- the end of a replay, as the view shows it
-pub shown_end : {E : Type 0} (view : View) (r0 r w0 w : Option (List ℕ)) (answer : Result Summary E) → IfOk answer (ReadsToEnd (replays view) Unstarted r0 r w0 w) → IfOk answer (ReadsToEnd (ShowsFrom view) output.Unstarted r0 r w0 w)
+pub shown_end : {E : Type 0} (view : View) (r0 r w0 w : Option (List ℕ)) (answer : Result Summary E) → IfOk answer (ReadsToEnd (replays view) (begin view) r0 r w0 w) → IfOk answer (ReadsToEnd (ShowsFrom view) output.Unstarted r0 r w0 w)
 shown_end view r0 r w0 w (Err e) h = tt
 shown_end view r0 r w0 w (Ok summary) h = record {
   lines = h.lines;
@@ -268,7 +273,7 @@ shown_end view r0 r w0 w (Ok summary) h = record {
 }
 
 -- what stands after a failed look, as the view shows it
-pub shown_lines : (view : View) (r0 r w0 w : Option (List ℕ)) → WritesLines (replays view) Unstarted r0 r w0 w → WritesLines (ShowsFrom view) output.Unstarted r0 r w0 w
+pub shown_lines : (view : View) (r0 r w0 w : Option (List ℕ)) → WritesLines (replays view) (begin view) r0 r w0 w → WritesLines (ShowsFrom view) output.Unstarted r0 r w0 w
 shown_lines view r0 r w0 w h = record {
   lines = h.lines;
   begun = h.begun;

@@ -15,7 +15,8 @@ use Rattle.wit_grammar.specs.declared.errors.LineError.TheVariants.{Bad, Memory}
 use Rattle.wit_trace.specs.Text.{text_of}
 use Rattle.wit_trace.specs.declared.replaying.prelude.Prelude.{Prelude}
 use Rattle.wit_trace.specs.declared.replaying.Replaying.{Replaying}
-use Rattle.wit_trace.specs.declared.replaying.Replaying.TheVariants.{Unstarted, Opening, Reading, Stepping}
+use Rattle.wit_trace.specs.declared.replaying.Progress.{Progress}
+use Rattle.wit_trace.specs.declared.replaying.Progress.TheVariants.{Unstarted, Opening, Reading, Stepping}
 use Rattle.wit_trace.specs.declared.stream.machine.Step.{Step}
 use Rattle.wit_trace.specs.declared.stream.machine.Step.TheVariants as step
 use Rattle.wit_trace.specs.declared.summary.Summary.{Summary}
@@ -29,11 +30,14 @@ prelude_of p = record {
 }
 
 -- how far a reading is
+abbrev pub progress_of : Progress → output.Progress
+progress_of Unstarted = output.Unstarted
+progress_of (Opening prelude) = output.Opening (prelude_of prelude)
+progress_of (Reading story remarks) = output.Reading story remarks
+progress_of (Stepping scene remarks) = output.Stepping scene remarks
+
 abbrev pub progress : Replaying → output.Progress
-progress Unstarted = output.Unstarted
-progress (Opening prelude) = output.Opening (prelude_of prelude)
-progress (Reading story remarks) = output.Reading story remarks
-progress (Stepping scene remarks) = output.Stepping scene remarks
+progress m = progress_of m.progress
 
 -- whether the prelude ends before the line with this number
 abbrev pub ends_prelude : output.Progress → ℕ → List ℕ → Bool
@@ -105,13 +109,17 @@ EndsFor view p number Memory s = ⊥
 EndsFor view p number (Bad cause) (step.Goes text) = ⊥
 EndsFor view p number (Bad cause) (step.Ends text summary) = IsWritten view (output.ends_bad p (number, cause)) text.items summary
 
--- what a replay in progress may write and sum up
+-- what a replay that is so far may write and sum up
+abbrev pub allowed_at : View → Progress → ℕ → List (List ℕ) → List ℕ → List ℕ → Summary → Type 0
+allowed_at view p number lines tail text summary = IsWritten view (output.course_from (progress_of p) number lines tail) text summary
+
+-- what a replay in progress may
 abbrev pub allowed : View → Replaying → ℕ → List (List ℕ) → List ℕ → List ℕ → Summary → Type 0
-allowed view m number lines tail text summary = IsWritten view (output.course_from (progress m) number lines tail) text summary
+allowed view m = allowed_at view m.progress
 
 -- the verifier was made, or a list refused, as it should be
-abbrev pub Opens : Result output.Progress output.BadLine → Result Replaying (ℕ × Cause) → Type 0
-Opens due (Ok m) = due ≡ Ok (progress m)
+abbrev pub Opens : Result output.Progress output.BadLine → Result Progress (ℕ × Cause) → Type 0
+Opens due (Ok p) = due ≡ Ok (progress_of p)
 Opens due (Err bad) = due ≡ Err bad
 
 -- the verifier was made, or a list refused at its line, as it should be

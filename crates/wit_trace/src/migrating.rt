@@ -29,7 +29,7 @@ use std::alloc::{AllocError, Global};
 use std::io::{BufRead, Write};
 use texts::join;
 use wit_grammar::{LineError, parse_line, parse_lock_line};
-use wit_model::{Cause, Line, View};
+use wit_model::{Cause, Line};
 
 /// Reads a trace of the first version, and writes it as one of the second: its own lines, and
 /// between them the steps of the locks themselves that its calls need. A lock is taken before it is
@@ -67,7 +67,6 @@ pub fn migrate<R: BufRead, W: Write>(
         alloc,
         &mut Failures::new(),
         &mut machine,
-        View::Graph,
         Pace::Gathered,
         input,
         output,
@@ -170,14 +169,18 @@ impl Migrating {
 }
 
 impl Machine for Migrating {
-    ghost allows = { λ view. migrated };
+    // There is one way to write lines.
+    type View = ();
+
+    ghost shows_by = { λ m. tt };
+
+    ghost allows = { λ by. migrated };
 
     ghost reports = { λ m. max (reports_told (moved_to m)) (weighed (moved_to m)) };
 
     fn line(
         &mut self,
         alloc: Global,
-        _view: View,
         number: u64,
         bytes: &[u8],
         room: Vec<u8>,
@@ -204,7 +207,6 @@ impl Machine for Migrating {
     fn broken(
         &mut self,
         alloc: Global,
-        _view: View,
         number: u64,
         beginning: &[u8],
         cause: Cause,
@@ -215,12 +217,7 @@ impl Machine for Migrating {
         self.ended(alloc, reached.text, found, number, cause)
     }
 
-    fn end(
-        &mut self,
-        alloc: Global,
-        _view: View,
-        number: u64,
-    ) -> Result<(Vec<u8>, Summary), AllocError> {
+    fn end(&mut self, alloc: Global, number: u64) -> Result<(Vec<u8>, Summary), AllocError> {
         let reached = self.reach(alloc, number, b"")?;
         let found = self.found();
         if let Some((number, cause)) = reached.refused {
@@ -234,6 +231,6 @@ impl Machine for Migrating {
         }
     }
 
-    ghost answers = { λ view m n lines tail.
+    ghost answers = { λ by m n lines tail.
         some_migration (moving_from (moved_to m) n lines tail) };
 }

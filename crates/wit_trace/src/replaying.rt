@@ -4,7 +4,7 @@ ghost use Rattle.std.specs.Prelude.{◌≡◌, ◌⊎◌, ◌+◌, ◌<◌, ◌�
 ghost use Rattle.wit_model.specs.Trace.Output.{Unstarted, entered, outcome};
 ghost use Rattle.wit_trace.specs.Machine.{Follows};
 ghost use Rattle.wit_trace.specs.Outputs.{some_output};
-ghost use Rattle.wit_trace.specs.Replays.{allowed, progress, reports_told, Passes, Shows, ShowsFrom};
+ghost use Rattle.wit_trace.specs.Replays.{allowed, progress, progress_of, reports_told, Passes, Shows, ShowsFrom};
 ghost use Rattle.wit_trace.specs.Stream.{IsSpent, ReadsToEnd, WritesFront, WritesLines, WritesOutput};
 ghost use Rattle.wit_grammar.specs.declared.parse.TheConstants.{LONGEST};
 
@@ -92,21 +92,24 @@ pub fn replay_through<R: BufRead, W: Write, P: Ports<R, W>>(
         ⊎ IsSpent (R.remaining input.old) (R.remaining input.new) (P.looks ports.new) }
     ensures write { result ≡ Err ReplayError.Write → IsTrue (P.write_failed ports.new) }
 {
-    let mut machine = Replaying::Unstarted;
-    run(
-        alloc,
-        ports,
-        &mut machine,
+    let mut machine = Replaying {
         view,
-        Pace::AtOnce,
-        input,
-        output,
-    )
+        progress: Progress::Unstarted,
+    };
+    run(alloc, ports, &mut machine, Pace::AtOnce, input, output)
 }
 
 /// A replay in progress.
 #[derive(Drop)]
-pub(crate) enum Replaying {
+pub(crate) struct Replaying {
+    /// What is shown of it.
+    view: View,
+    progress: Progress,
+}
+
+/// How far a replay is.
+#[derive(Drop)]
+pub(crate) enum Progress {
     /// The header wasn't read.
     Unstarted,
     /// The prelude goes on.
@@ -127,80 +130,75 @@ pub(crate) enum Replaying {
 impl Replaying {
     // A line that may be one on a lock in a world. By itself, so that no other pays for its locals.
     #[inline(never)]
-    fn world_line(
-        &mut self,
-        alloc: Global,
-        view: View,
-        number: u64,
-        bytes: &[u8],
-    ) -> Result<Step, AllocError>
+    fn world_line(&mut self, alloc: Global, number: u64, bytes: &[u8]) -> Result<Step, AllocError>
         requires room { reports_told (progress self.old) < number }
         requires short { length bytes.now ≤ LONGEST }
-        ensures step { IfOk result (Follows (allowed view) self.old self.new number bytes.now) }
+        ensures step { IfOk result (Follows (allowed self.old.view) self.old self.new number bytes.now) }
+        ensures kept { self.new.view ≡ self.old.view }
         ensures counted { IfOk result (λ s. reports_told (progress self.new) ≤ reports_told (progress self.old) + 1) }
     {
-        if let Replaying::Stepping { world, remarks } = self {
+        let view = self.view;
+        if let Progress::Stepping { world, remarks } = &mut self.progress {
             if let Some(line) = parse_lock_line(bytes) {
                 return match step_on_lock(alloc, world, remarks, line) {
                     Ok(text) => Ok(Step::Goes(shown(alloc, view, text))),
-                    Err(error) => self.ended_step(alloc, number, error),
+                    Err(error) => self.progress.ended_step(alloc, number, error),
                 };
             }
         }
-        self.any_line(alloc, view, number, bytes)
+        self.any_line(alloc, number, bytes)
     }
 
     // A line of any kind, in its place. By itself, so that a line that makes a call on a lock doesn't pay for
     // its large locals.
     #[inline(never)]
-    fn any_line(
-        &mut self,
-        alloc: Global,
-        view: View,
-        number: u64,
-        bytes: &[u8],
-    ) -> Result<Step, AllocError>
+    fn any_line(&mut self, alloc: Global, number: u64, bytes: &[u8]) -> Result<Step, AllocError>
         requires room { reports_told (progress self.old) < number }
         requires short { length bytes.now ≤ LONGEST }
-        ensures step { IfOk result (Follows (allowed view) self.old self.new number bytes.now) }
+        ensures step { IfOk result (Follows (allowed self.old.view) self.old self.new number bytes.now) }
+        ensures kept { self.new.view ≡ self.old.view }
         ensures counted { IfOk result (λ s. reports_told (progress self.new) ≤ reports_told (progress self.old) + 1) }
     {
-        if let Some((number, cause)) = self.reach(alloc, number, bytes)? {
-            return self.ended_step(alloc, number, LineError::Bad(cause));
+        if let Some((number, cause)) = self.progress.reach(alloc, number, bytes)? {
+            return self
+                .progress
+                .ended_step(alloc, number, LineError::Bad(cause));
         }
-        match self.read(alloc, number, bytes) {
-            Ok(text) => Ok(Step::Goes(shown(alloc, view, text))),
-            Err(error) => self.ended_step(alloc, number, error),
+        match self.progress.read(alloc, number, bytes) {
+            Ok(text) => Ok(Step::Goes(shown(alloc, self.view, text))),
+            Err(error) => self.progress.ended_step(alloc, number, error),
         }
     }
+}
 
+impl Progress {
     fn read(&mut self, alloc: Global, number: u64, bytes: &[u8]) -> Result<Vec<u8>, LineError>
-        requires room { reports_told (progress self.old) < number }
+        requires room { reports_told (progress_of self.old) < number }
         requires short { length bytes.now ≤ LONGEST }
-        ensures { Passes (outcome (progress self.old) number bytes.now)
-            (progress self.old) (progress self.new) result }
+        ensures { Passes (outcome (progress_of self.old) number bytes.now)
+            (progress_of self.old) (progress_of self.new) result }
     {
         let line = parse_line(alloc, bytes)?;
         self.enter(alloc, number, line)
     }
 
     fn enter(&mut self, alloc: Global, number: u64, line: Line) -> Result<Vec<u8>, LineError>
-        requires { reports_told (progress self.old) < number }
-        ensures { Passes (entered (progress self.old) number line)
-            (progress self.old) (progress self.new) result }
+        requires { reports_told (progress_of self.old) < number }
+        ensures { Passes (entered (progress_of self.old) number line)
+            (progress_of self.old) (progress_of self.new) result }
     {
         match self {
-            Replaying::Unstarted => self.start(alloc, line),
-            Replaying::Opening(prelude) => add_line(alloc, prelude, number, line),
-            Replaying::Reading { verifier, remarks } => enter_line(alloc, verifier, remarks, line),
-            Replaying::Stepping { world, remarks } => enter_world_line(alloc, world, remarks, line),
+            Progress::Unstarted => self.start(alloc, line),
+            Progress::Opening(prelude) => add_line(alloc, prelude, number, line),
+            Progress::Reading { verifier, remarks } => enter_line(alloc, verifier, remarks, line),
+            Progress::Stepping { world, remarks } => enter_world_line(alloc, world, remarks, line),
         }
     }
 
     // The header comes first.
     fn start(&mut self, alloc: Global, line: Line) -> Result<Vec<u8>, LineError>
-        requires { progress self.old ≡ Unstarted }
-        ensures { (number : ℕ) → Passes (entered Unstarted number line) Unstarted (progress self.new) result }
+        requires { progress_of self.old ≡ Unstarted }
+        ensures { (number : ℕ) → Passes (entered Unstarted number line) Unstarted (progress_of self.new) result }
     {
         let Line::Header {
             version,
@@ -215,12 +213,16 @@ impl Replaying {
         let Some(limits) = Limits::new(seats, types, locks, chunks, Limits::MOST_ENTRIES) else {
             return Err(LineError::Bad(Cause::Limit));
         };
-        *self = Replaying::Opening(new_prelude(alloc, version, limits));
+        *self = Progress::Opening(new_prelude(alloc, version, limits));
         Ok(Vec::new(alloc))
     }
 }
 
 impl Machine for Replaying {
+    type View = View;
+
+    ghost shows_by = { λ m. m.view };
+
     ghost allows = { allowed };
 
     ghost reports = { λ m. reports_told (progress m) };
@@ -228,64 +230,62 @@ impl Machine for Replaying {
     fn line(
         &mut self,
         alloc: Global,
-        view: View,
         number: u64,
         bytes: &[u8],
         room: Vec<u8>,
     ) -> Result<Step, AllocError> {
         // Hardly a line has a text.
         drop(room);
-        if let Replaying::Reading { verifier, .. } = self {
+        let view = self.view;
+        if let Progress::Reading { verifier, .. } = &mut self.progress {
             if let Some(line) = parse_lock_line(bytes) {
                 return match call_on_lock(verifier, line) {
                     Ok(reply) => reply_step(alloc, view, verifier, reply),
-                    Err(error) => self.ended_step(alloc, number, error),
+                    Err(error) => self.progress.ended_step(alloc, number, error),
                 };
             }
         }
-        self.world_line(alloc, view, number, bytes)
+        self.world_line(alloc, number, bytes)
     }
 
     fn broken(
         &mut self,
         alloc: Global,
-        _view: View,
         number: u64,
         beginning: &[u8],
         cause: Cause,
     ) -> Result<(Vec<u8>, Summary), AllocError> {
         let (number, cause) = self
+            .progress
             .reach(alloc, number, beginning)?
             .unwrap_or((number, cause));
-        self.ended(alloc, number, cause)
+        self.progress.ended(alloc, number, cause)
     }
 
-    fn end(
-        &mut self,
-        alloc: Global,
-        view: View,
-        number: u64,
-    ) -> Result<(Vec<u8>, Summary), AllocError> {
-        if let Some((number, cause)) = self.reach(alloc, number, b"")? {
-            return self.ended(alloc, number, cause);
+    fn end(&mut self, alloc: Global, number: u64) -> Result<(Vec<u8>, Summary), AllocError> {
+        if let Some((number, cause)) = self.progress.reach(alloc, number, b"")? {
+            return self.progress.ended(alloc, number, cause);
         }
+        let view = self.view;
         // A last text fails for want of memory alone.
-        match self {
-            Replaying::Reading { verifier, .. } => {
+        match &self.progress {
+            Progress::Reading { verifier, .. } => {
                 let Ok((text, circle)) = last_text(alloc, view, verifier) else {
                     return Err(AllocError);
                 };
-                Ok((text, self.summary(circle, None)))
+                Ok((text, self.progress.summary(circle, None)))
             }
-            Replaying::Stepping { world, .. } => {
+            Progress::Stepping { world, .. } => {
                 let Ok((text, circle)) = last_world_text(alloc, view, world) else {
                     return Err(AllocError);
                 };
-                Ok((text, self.summary(circle, None)))
+                Ok((text, self.progress.summary(circle, None)))
             }
-            Replaying::Unstarted | Replaying::Opening(_) => self.ended(alloc, number, Cause::Cut),
+            Progress::Unstarted | Progress::Opening(_) => {
+                self.progress.ended(alloc, number, Cause::Cut)
+            }
         }
     }
 
-    ghost answers = { λ view m n lines tail. some_output view (progress m) n lines tail };
+    ghost answers = { λ by m n lines tail. some_output by (progress m) n lines tail };
 }

@@ -13,7 +13,6 @@ use ports::Ports;
 use std::alloc::Global;
 use std::io::{BufRead, Write};
 use std::mem;
-use wit_model::View;
 
 /// When a text is written.
 #[derive(Clone, Copy, Debug)]
@@ -38,20 +37,19 @@ pub fn run<R: BufRead, W: Write, P: Ports<R, W>, M: Machine>(
     alloc: Global,
     ports: &mut P,
     machine: &mut M,
-    view: View,
     pace: Pace,
     reader: &mut R,
     writer: &mut W,
 ) -> Result<Summary, ReplayError>
     requires unused { P.looks ports.old ≡ 0 }
     requires fresh { M.reports machine.old ≡ 0 }
-    ensures ok { IfOk result (WritesOutput (OutputFrom (M.allows view) machine.old 1)
+    ensures ok { IfOk result (WritesOutput (OutputFrom (M.allows (M.shows_by machine.old)) machine.old 1)
         (R.remaining reader.old) (W.contents writer.old) (W.contents writer.new)) }
-    ensures err { OnErr result (WritesFront (OutputFrom (M.allows view) machine.old 1)
+    ensures err { OnErr result (WritesFront (OutputFrom (M.allows (M.shows_by machine.old)) machine.old 1)
         (R.remaining reader.old) (W.contents writer.old) (W.contents writer.new)) }
-    ensures taken { IfOk result (ReadsToEnd (OutputFrom (M.allows view)) machine.old
+    ensures taken { IfOk result (ReadsToEnd (OutputFrom (M.allows (M.shows_by machine.old))) machine.old
         (R.remaining reader.old) (R.remaining reader.new) (W.contents writer.old) (W.contents writer.new)) }
-    ensures told { result ≡ Err ReplayError.Read → WritesLines (OutputFrom (M.allows view)) machine.old
+    ensures told { result ≡ Err ReplayError.Read → WritesLines (OutputFrom (M.allows (M.shows_by machine.old))) machine.old
         (R.remaining reader.old) (R.remaining reader.new) (W.contents writer.old) (W.contents writer.new) }
     ensures read { result ≡ Err ReplayError.Read → IsTrue (P.read_failed ports.new)
         ⊎ IsSpent (R.remaining reader.old) (R.remaining reader.new) (P.looks ports.new) }
@@ -65,7 +63,7 @@ pub fn run<R: BufRead, W: Write, P: Ports<R, W>, M: Machine>(
     while left > 0 {
         left -= 1;
         let empty = mem::replace(&mut room, Vec::new(alloc));
-        match ports.advance(alloc, machine, view, number, reader, &mut line, empty) {
+        match ports.advance(alloc, machine, number, reader, &mut line, empty) {
             Ok(Some(Step::Goes(text))) => {
                 tell(ports, writer, pace, &mut told, &text)?;
                 room = text;

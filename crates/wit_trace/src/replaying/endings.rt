@@ -5,9 +5,9 @@ ghost use Rattle.wit_model.specs.declared.lines.Cause.{Cause};
 ghost use Rattle.wit_model.specs.declared.lines.View.{View};
 ghost use Rattle.wit_model.specs.Trace.Output.{bad_text, summed};
 ghost use Rattle.wit_grammar.specs.declared.errors.LineError.TheVariants.{Bad};
-ghost use Rattle.wit_trace.specs.Replays.{progress, reports_told, total, EndsFor};
+ghost use Rattle.wit_trace.specs.Replays.{progress_of, reports_told, total, EndsFor};
 
-use crate::replaying::Replaying;
+use crate::replaying::Progress;
 use crate::replaying::bad_lines::bad_text;
 use crate::stream::machine::Step;
 use crate::summary::Summary;
@@ -15,23 +15,23 @@ use std::alloc::{AllocError, Global};
 use wit_grammar::LineError;
 use wit_model::{Boxed, Cause};
 
-impl Replaying {
+impl Progress {
     /// What the replay found so far.
     pub fn summary(&self, circle: bool, bad: Option<(u64, Cause)>) -> Summary
-        requires { reports_told (progress self.now) < 2 ^ 64 }
-        ensures total { total result ≡ summed (progress self.now) bad }
+        requires { reports_told (progress_of self.now) < 2 ^ 64 }
+        ensures total { total result ≡ summed (progress_of self.now) bad }
         ensures circle { result.circle ≡ circle }
     {
         let (calls, reports) = match self {
-            Replaying::Reading { verifier, remarks } => (
+            Progress::Reading { verifier, remarks } => (
                 verifier.history().len() as u64,
                 u64::from(verifier.reports()) + *remarks,
             ),
-            Replaying::Stepping { world, remarks } => (
+            Progress::Stepping { world, remarks } => (
                 world.verifier().history().len() as u64,
                 u64::from(world.verifier().reports()) + *remarks,
             ),
-            Replaying::Unstarted | Replaying::Opening(_) => (0, 0),
+            Progress::Unstarted | Progress::Opening(_) => (0, 0),
         };
         Summary {
             calls,
@@ -53,8 +53,8 @@ impl Replaying {
         number: u64,
         error: LineError,
     ) -> Result<Step, AllocError>
-        requires { (cause : Cause) → error ≡ Bad cause → reports_told (progress self.now) < 2 ^ 64 }
-        ensures { (view : View) → IfOk result (EndsFor view (progress self.now) number error) }
+        requires { (cause : Cause) → error ≡ Bad cause → reports_told (progress_of self.now) < 2 ^ 64 }
+        ensures { (view : View) → IfOk result (EndsFor view (progress_of self.now) number error) }
     {
         match error {
             LineError::Bad(cause) => {
@@ -75,9 +75,9 @@ impl Replaying {
         number: u64,
         cause: Cause,
     ) -> Result<(Vec<u8>, Summary), AllocError>
-        requires { reports_told (progress self.now) < 2 ^ 64 }
+        requires { reports_told (progress_of self.now) < 2 ^ 64 }
         ensures text { IfOk result (λ r. r.0.items ≡ bad_text number cause) }
-        ensures total { IfOk result (λ r. total r.1 ≡ summed (progress self.now) (Some (number, cause))) }
+        ensures total { IfOk result (λ r. total r.1 ≡ summed (progress_of self.now) (Some (number, cause))) }
         ensures circle { IfOk result (λ r. r.1.circle ≡ false) }
     {
         let text = bad_text(alloc, number, cause)?;

@@ -7,9 +7,9 @@ ghost use Rattle.wit_model.specs.Trace.Output.{Opening, begun, empty_prelude, en
 ghost use Rattle.wit_model.specs.Rules.Start.{start_fault, IsRefused};
 ghost use Rattle.wit_core.specs.Fresh.{start_of};
 ghost use Rattle.wit_model.specs.Rules.State.{fresh};
-ghost use Rattle.wit_trace.specs.Replays.{IsVerifierOf, Opens, Passes, prelude_of, progress};
+ghost use Rattle.wit_trace.specs.Replays.{IsVerifierOf, Opens, Passes, prelude_of, progress_of};
 
-use crate::replaying::Replaying;
+use crate::replaying::Progress;
 use std::alloc::{AllocError, Global};
 use wit_core::{StartError, Verifier};
 use wit_grammar::LineError;
@@ -122,7 +122,7 @@ fn names_of(alloc: Global, list: TypeList) -> Result<Vec<(Class, String)>, Alloc
 ///
 /// # Errors
 /// Want of memory alone.
-pub fn open(alloc: Global, prelude: Prelude) -> Result<Result<Replaying, (u64, Cause)>, AllocError>
+pub fn open(alloc: Global, prelude: Prelude) -> Result<Result<Progress, (u64, Cause)>, AllocError>
     ensures { IfOk result (Opens (opened (prelude_of prelude) (start_fault (prelude_of prelude).start))) }
 {
     let version = prelude.version;
@@ -184,17 +184,17 @@ fn make(
 }
 
 // A replay by a verifier that was told nothing yet.
-fn begin(alloc: Global, version: Version, verifier: Verifier) -> Result<Replaying, AllocError>
+fn begin(alloc: Global, version: Version, verifier: Verifier) -> Result<Progress, AllocError>
     requires { verifier ≡ fresh verifier.start }
-    ensures { IfOk result (λ m. progress m ≡ begun version verifier.start) }
+    ensures { IfOk result (λ m. progress_of m ≡ begun version verifier.start) }
 {
     match version {
-        Version::One => Ok(Replaying::Reading {
+        Version::One => Ok(Progress::Reading {
             verifier,
             remarks: 0,
         }),
         Version::Two => match World::new(alloc, verifier) {
-            Ok(world) => Ok(Replaying::Stepping { world, remarks: 0 }),
+            Ok(world) => Ok(Progress::Stepping { world, remarks: 0 }),
             Err(_) => Err(AllocError),
         },
     }

@@ -2,15 +2,15 @@
 
 ghost use Rattle.std.specs.Prelude.{◌≡◌, ℕ, List, true, IfOk};
 ghost use Rattle.wit_model.specs.Trace.Output.{reached};
-ghost use Rattle.wit_trace.specs.Replays.{ends_prelude, progress, reports_told, Reaches};
+ghost use Rattle.wit_trace.specs.Replays.{ends_prelude, progress_of, reports_told, Reaches};
 
-use crate::replaying::Replaying;
+use crate::replaying::Progress;
 use crate::replaying::prelude::{is_prelude, open};
 use std::alloc::{AllocError, Global};
 use std::mem;
 use wit_model::Cause;
 
-impl Replaying {
+impl Progress {
     /// The prelude ends before a line that begins otherwise; a list that is refused then is the bad line.
     ///
     /// # Errors
@@ -22,8 +22,8 @@ impl Replaying {
         number: u64,
         line: &[u8],
     ) -> Result<Option<(u64, Cause)>, AllocError>
-        ensures stands { IfOk result (Reaches (reached (progress self.old) number line.now) (progress self.old) (progress self.new)) }
-        ensures counted { IfOk result (λ r. reports_told (progress self.new) ≡ reports_told (progress self.old)) }
+        ensures stands { IfOk result (Reaches (reached (progress_of self.old) number line.now) (progress_of self.old) (progress_of self.new)) }
+        ensures counted { IfOk result (λ r. reports_told (progress_of self.new) ≡ reports_told (progress_of self.old)) }
     {
         if self.ends_prelude(number, line) {
             self.end_prelude(alloc)
@@ -36,11 +36,11 @@ impl Replaying {
     #[cold]
     #[inline(never)]
     fn end_prelude(&mut self, alloc: Global) -> Result<Option<(u64, Cause)>, AllocError>
-        ensures { (number : ℕ) (line : List ℕ) → ends_prelude (progress self.old) number line ≡ true
-            → IfOk result (Reaches (reached (progress self.old) number line) (progress self.old) (progress self.new)) }
+        ensures { (number : ℕ) (line : List ℕ) → ends_prelude (progress_of self.old) number line ≡ true
+            → IfOk result (Reaches (reached (progress_of self.old) number line) (progress_of self.old) (progress_of self.new)) }
     {
-        match mem::replace(self, Replaying::Unstarted) {
-            Replaying::Opening(prelude) => match open(alloc, prelude)? {
+        match mem::replace(self, Progress::Unstarted) {
+            Progress::Opening(prelude) => match open(alloc, prelude)? {
                 Ok(begun) => {
                     *self = begun;
                     Ok(None)
@@ -56,10 +56,10 @@ impl Replaying {
 
     #[inline(always)]
     fn ends_prelude(&self, number: u64, line: &[u8]) -> bool
-        ensures { result ≡ ends_prelude (progress self.now) number line.now }
+        ensures { result ≡ ends_prelude (progress_of self.now) number line.now }
     {
         match self {
-            Replaying::Opening(_) => !is_prelude(number, line),
+            Progress::Opening(_) => !is_prelude(number, line),
             _ => false,
         }
     }

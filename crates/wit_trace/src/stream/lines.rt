@@ -10,7 +10,7 @@ use crate::summary::Summary;
 use memchr::memchr;
 use std::alloc::{AllocError, Global};
 use wit_grammar::LONGEST;
-use wit_model::{Cause, View};
+use wit_model::Cause;
 
 /// The place of the first line feed.
 pub fn feed_in(bytes: &[u8]) -> Option<usize>
@@ -28,7 +28,6 @@ pub fn feed_in(bytes: &[u8]) -> Option<usize>
 pub fn whole_line<M: Machine>(
     alloc: Global,
     machine: &mut M,
-    view: View,
     number: u64,
     begun: &mut Vec<u8>,
     rest: &[u8],
@@ -39,15 +38,17 @@ pub fn whole_line<M: Machine>(
     requires plain { HasNoFeed (begun.old.items ++ rest.now) }
     requires plain_rest { HasNoFeed rest.now }
     requires short { length begun.old.items + length rest.now ≤ LONGEST }
-    ensures step { IfOk result (Follows (M.allows view) machine.old machine.new number (begun.old.items ++ rest.now)) }
+    ensures step { IfOk result (Follows (M.allows (M.shows_by machine.old))
+        machine.old machine.new number (begun.old.items ++ rest.now)) }
+    ensures kept { IfOk result (λ s. M.shows_by machine.new ≡ M.shows_by machine.old) }
     ensures counted { IfOk result (λ s. M.reports machine.new ≤ M.reports machine.old + 1) }
     ensures none { OnOk result (begun.new.items ≡ []) }
 {
     if begun.is_empty() {
-        return machine.line(alloc, view, number, rest, room);
+        return machine.line(alloc, number, rest, room);
     }
     begun.extend_from_slice(rest)?;
-    let step = machine.line(alloc, view, number, begun, room)?;
+    let step = machine.line(alloc, number, begun, room)?;
     begun.clear();
     Ok(step)
 }
@@ -59,19 +60,19 @@ pub fn whole_line<M: Machine>(
 pub fn at_end<M: Machine>(
     alloc: Global,
     machine: &mut M,
-    view: View,
     number: u64,
     begun: &[u8],
 ) -> Result<(Vec<u8>, Summary), AllocError>
     requires room { M.reports machine.old < number }
     requires plain { HasNoFeed begun.now }
     requires short { length begun.now ≤ LONGEST }
-    ensures { IfOk result (λ r. OutputFrom (M.allows view) machine.old number begun.now r.0.items r.1) }
+    ensures { IfOk result (λ r. OutputFrom (M.allows (M.shows_by machine.old))
+        machine.old number begun.now r.0.items r.1) }
 {
     if begun.is_empty() {
-        machine.end(alloc, view, number)
+        machine.end(alloc, number)
     } else {
-        machine.broken(alloc, view, number, begun, Cause::Cut)
+        machine.broken(alloc, number, begun, Cause::Cut)
     }
 }
 

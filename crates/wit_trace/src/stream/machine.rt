@@ -1,7 +1,6 @@
 //! What reads the lines of a stream.
 
 ghost use Rattle.std.specs.Prelude.{◌≡◌, ℕ, ◌+◌, ◌<◌, ◌≤◌, List, [], length, IfOk};
-ghost use Rattle.wit_model.specs.declared.lines.View.{View};
 ghost use Rattle.wit_trace.specs.Text.{HasNoFeed};
 ghost use Rattle.wit_trace.specs.Machine.{Follows, BreaksAt};
 ghost use Rattle.wit_trace.specs.declared.summary.Summary.{Summary};
@@ -9,7 +8,7 @@ ghost use Rattle.wit_grammar.specs.declared.parse.TheConstants.{LONGEST};
 
 use crate::summary::Summary;
 use std::alloc::{AllocError, Global};
-use wit_model::{Boxed, Cause, View};
+use wit_model::{Boxed, Cause};
 
 /// What becomes of a whole line. It is passed on for each, and so is small.
 #[derive(Drop)]
@@ -22,12 +21,18 @@ pub enum Step {
 
 /// Reads lines one at a time, writes texts, and ends with a summary.
 ///
-/// `allows view m number lines tail text summary` says that from `m` on, where the next line has this number
-/// and these whole lines and this unfinished one are still to come, this text may be written for the view and
-/// this summary given. Some text and summary are always allowed. `reports m` is at least how many reports the
-/// machine has counted, and a line adds one at most.
+/// `allows by m number lines tail text summary` says that from `m` on, where the next line has this number
+/// and these whole lines and this unfinished one are still to come, this text may be written by a machine that
+/// shows by this what it reads, and this summary given. `shows_by m` is that of a machine, and stays the same.
+/// Some text and summary are always allowed. `reports m` is at least how many reports the machine has counted,
+/// and a line adds one at most.
 pub trait Machine {
-    ghost allows: { View → Self → ℕ → List (List ℕ) → List ℕ → List ℕ → Summary → Type 0 };
+    /// By what it shows what it reads.
+    type View;
+
+    ghost shows_by: { Self → Self.View };
+
+    ghost allows: { Self.View → Self → ℕ → List (List ℕ) → List ℕ → List ℕ → Summary → Type 0 };
 
     ghost reports: { Self → ℕ };
 
@@ -39,7 +44,6 @@ pub trait Machine {
     fn line(
         &mut self,
         alloc: Global,
-        view: View,
         number: u64,
         bytes: &[u8],
         room: Vec<u8>,
@@ -48,7 +52,8 @@ pub trait Machine {
         requires empty { room.items ≡ [] }
         requires short { length bytes.now ≤ LONGEST }
         requires plain { HasNoFeed bytes.now }
-        ensures step { IfOk result (Follows (allows view) self.old self.new number bytes.now) }
+        ensures step { IfOk result (Follows (allows (shows_by self.old)) self.old self.new number bytes.now) }
+        ensures kept { IfOk result (λ s. shows_by self.new ≡ shows_by self.old) }
         ensures counted { IfOk result (λ s. reports self.new ≤ reports self.old + 1) };
 
     /// Ends at a line that is too long, of which at least 4,097 bytes are given, or at one that the
@@ -59,7 +64,6 @@ pub trait Machine {
     fn broken(
         &mut self,
         alloc: Global,
-        view: View,
         number: u64,
         beginning: &[u8],
         cause: Cause,
@@ -67,21 +71,16 @@ pub trait Machine {
         requires { reports self.old < number }
         ensures { IfOk result (λ r. (lines : List (List ℕ)) (tail : List ℕ) →
             BreaksAt cause beginning.now lines tail →
-            allows view self.old number lines tail r.0.items r.1) };
+            allows (shows_by self.old) self.old number lines tail r.0.items r.1) };
 
     /// Ends after a whole line, or before the first.
     ///
     /// # Errors
     /// Want of memory alone; nothing is promised then.
-    fn end(
-        &mut self,
-        alloc: Global,
-        view: View,
-        number: u64,
-    ) -> Result<(Vec<u8>, Summary), AllocError>
+    fn end(&mut self, alloc: Global, number: u64) -> Result<(Vec<u8>, Summary), AllocError>
         requires { reports self.old < number }
-        ensures { IfOk result (λ r. allows view self.old number [] [] r.0.items r.1) };
+        ensures { IfOk result (λ r. allows (shows_by self.old) self.old number [] [] r.0.items r.1) };
 
-    ghost answers: { (view : View) (m : Self) (number : ℕ) (lines : List (List ℕ)) (tail : List ℕ) →
-        (text : List ℕ) × ((summary : Summary) × allows view m number lines tail text summary) };
+    ghost answers: { (by : Self.View) (m : Self) (number : ℕ) (lines : List (List ℕ)) (tail : List ℕ) →
+        (text : List ℕ) × ((summary : Summary) × allows by m number lines tail text summary) };
 }

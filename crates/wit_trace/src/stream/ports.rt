@@ -13,7 +13,7 @@ use crate::summary::ReplayError;
 use std::alloc::Global;
 use std::io::{BufRead, Write};
 use wit_grammar::LONGEST;
-use wit_model::{Boxed, Cause, View};
+use wit_model::{Boxed, Cause};
 
 /// The only ways to look at a reader and to write, with the evidence of what failed.
 ///
@@ -37,7 +37,6 @@ pub trait Ports<R: BufRead, W: Write> {
         &mut self,
         alloc: Global,
         machine: &mut M,
-        view: View,
         number: u64,
         reader: &mut R,
         begun: &mut Vec<u8>,
@@ -48,10 +47,12 @@ pub trait Ports<R: BufRead, W: Write> {
         requires counts { M.reports machine.old < number }
         requires plain { HasNoFeed begun.old.items }
         requires short { length begun.old.items ≤ LONGEST }
-        ensures ok { IfOk result (Advances (OutputFrom (M.allows view)) machine.old machine.new number
+        ensures ok { IfOk result (Advances (OutputFrom (M.allows (M.shows_by machine.old)))
+            machine.old machine.new number
             (R.remaining reader.old) (R.remaining reader.new) begun.old.items begun.new.items) }
         ensures kept { result ≡ Err ReplayError.Read → Keeps (R.remaining reader.old) (R.remaining reader.new) }
         ensures reported { (text : Vec ℕ) → result ≡ Ok (Some (Goes text)) → M.reports machine.new ≤ M.reports machine.old + 1 }
+        ensures shown { (text : Vec ℕ) → result ≡ Ok (Some (Goes text)) → M.shows_by machine.new ≡ M.shows_by machine.old }
         ensures counted { looks self.new ≡ looks self.old + 1 }
         ensures failed { result ≡ Err ReplayError.Read → IsTrue (read_failed self.new) }
         ensures not_write { result ≢ Err ReplayError.Write };
@@ -126,7 +127,6 @@ impl<R: BufRead, W: Write> Ports<R, W> for Failures {
         &mut self,
         alloc: Global,
         machine: &mut M,
-        view: View,
         number: u64,
         reader: &mut R,
         begun: &mut Vec<u8>,
@@ -139,12 +139,12 @@ impl<R: BufRead, W: Write> Ports<R, W> for Failures {
             return Err(ReplayError::Read);
         };
         if shown.is_empty() {
-            let (text, summary) = at_end(alloc, machine, view, number, begun)?;
+            let (text, summary) = at_end(alloc, machine, number, begun)?;
             return Ok(Some(Step::Ends(text, Boxed::new(alloc, summary)?)));
         }
         let len = shown.len().min(most);
         if let Some(len) = feed_in(&shown[..len]) {
-            let step = whole_line(alloc, machine, view, number, begun, &shown[..len], room)?;
+            let step = whole_line(alloc, machine, number, begun, &shown[..len], room)?;
             self.waits = may_wait(self.waits, &step, &shown[len + 1..]);
             reader.consume(len + 1);
             return Ok(Some(step));
@@ -154,7 +154,7 @@ impl<R: BufRead, W: Write> Ports<R, W> for Failures {
         if begun.len() <= LONGEST {
             return Ok(None);
         }
-        let (text, summary) = machine.broken(alloc, view, number, begun, Cause::Long)?;
+        let (text, summary) = machine.broken(alloc, number, begun, Cause::Long)?;
         Ok(Some(Step::Ends(text, Boxed::new(alloc, summary)?)))
     }
 

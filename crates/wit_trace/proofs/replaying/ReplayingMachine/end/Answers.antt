@@ -1,14 +1,14 @@
 use Rattle.std.proofs.Common.{[], subst}
 use Rattle.wit_model.specs.Trace.Output.{reached, BadLine}
-use Rattle.wit_trace.specs.Replays.{progress, Reaches}
+use Rattle.wit_trace.specs.Replays.{progress_of, Reaches}
 use Rattle.wit_trace.proofs.ReplayLemmas.{refused_end}
 use Rattle.wit_trace.proofs.replaying.ReplayingMachine.end.Goals as goal
 
 pub returns-in-Some : goal.returns-in-Some
 returns-in-Some c =
-    let old = progress c.args.self.now in
-    let new = progress c.reach.new.self in
+    let old = progress_of c.args.self.now.progress in
+    let new = progress_of c.reach.new.self in
     let list : BadLine = (c.in-Some.number, c.in-Some.cause) in
-    refused_end c.args.view old new c.args.number list c.ended.result
+    refused_end c.args.self.now.view old new c.args.number list c.ended.result
     (subst (Reaches (reached old c.args.number []) old new) c.in-Some.is c.in_ok-number.ensures.stands)
     c.ended.ensures.text c.ended.ensures.total c.ended.ensures.circle
