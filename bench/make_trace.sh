@@ -6,6 +6,7 @@
 #   names     as hot, with names and type names of 63 bytes and a file of 200
 #   files     60,000 files: each site is in a file of its own
 #   held      a seat holds 1,022 mutexes of 1,022 types, and takes and releases one more, again and again
+#   nest      a seat takes 1,023 mutexes of 1,023 types, one under the other, and releases them in reverse, again and again
 #   narrow    every pair of 512 types is adopted, neighbours first: each later pair is in the closure already
 #   wide      every pair of 512 types is adopted, neighbours last
 #   random    orders among 1,023 types in a random sequence, each from the lower number to the higher
@@ -101,6 +102,16 @@ exec awk -v name="$name" -v rounds="${2:-0}" '
             drop(1, 1023)
         }
     }
+    function nest(lock, round) {
+        header(1, 1023, 1023)
+        mutexes(1023)
+        for (round = 0; round < times(196); round++) {
+            for (lock = 1; lock <= 1023; lock++)
+                take(1, lock, "nest.c")
+            for (lock = 1023; lock >= 1; lock--)
+                drop(1, lock)
+        }
+    }
     # Every pair by the distance of its types, the nearest or the farthest first.
     function pairs(first, step, distance, lock) {
         header(1, 512, 512)
@@ -191,6 +202,8 @@ exec awk -v name="$name" -v rounds="${2:-0}" '
             files()
         else if (name == "held")
             held()
+        else if (name == "nest")
+            nest()
         else if (name == "narrow")
             pairs(1, 1)
         else if (name == "wide")
