@@ -7,6 +7,8 @@
 #   files     60,000 files: each site is in a file of its own
 #   held      a seat holds 1,022 mutexes of 1,022 types, and takes and releases one more, again and again
 #   nest      a seat takes 1,023 mutexes of 1,023 types, one under the other, and releases them in reverse, again and again
+#   chain     a chain of 256 types: a seat takes the first two mutexes, one under the other, then the first three, and so on, and so
+#             adopts one order a round
 #   narrow    every pair of 512 types is adopted, neighbours first: each later pair is in the closure already
 #   wide      every pair of 512 types is adopted, neighbours last
 #   random    orders among 1,023 types in a random sequence, each from the lower number to the higher
@@ -16,8 +18,8 @@
 #   destroyed 65,536 mutexes, each of which is destroyed: most of them while each of 256 seats holds two others
 #   ring      256 seats, each of which holds a mutex and asks for the next one's: a circle of them all
 #   queue     256 seats, each of which holds a mutex, and all but the first ask for the one's before them: no circle, and the longest search
-# A second word asks for another number of rounds, or for the shortest path in `reports` and the longest in `steps`.
-# Only these two and the ring have anything to report.
+# A second word asks for another number of rounds, or for the shortest path in `reports`, the longest in `steps`, and the longest
+# chain. Only `reports`, `steps` and the ring have anything to report.
 name=${1:?which trace?}
 exec awk -v name="$name" -v rounds="${2:-0}" '
     function times(usual) {
@@ -109,6 +111,16 @@ exec awk -v name="$name" -v rounds="${2:-0}" '
             for (lock = 1; lock <= 1023; lock++)
                 take(1, lock, "nest.c")
             for (lock = 1023; lock >= 1; lock--)
+                drop(1, lock)
+        }
+    }
+    function chain(last, lock) {
+        header(1, 256, 256)
+        mutexes(256)
+        for (last = 2; last <= times(256); last++) {
+            for (lock = 1; lock <= last; lock++)
+                take(1, lock, "chain.c")
+            for (lock = last; lock >= 1; lock--)
                 drop(1, lock)
         }
     }
@@ -204,6 +216,8 @@ exec awk -v name="$name" -v rounds="${2:-0}" '
             held()
         else if (name == "nest")
             nest()
+        else if (name == "chain")
+            chain()
         else if (name == "narrow")
             pairs(1, 1)
         else if (name == "wide")

@@ -13,7 +13,7 @@ fi
 folder=$(mktemp -d)
 trap 'rm -rf "$folder"' EXIT
 traces=${TRACES:-$folder}
-[ $# -gt 0 ] || set -- hot seats names files held nest narrow wide random reports steps
+[ $# -gt 0 ] || set -- hot seats names files held nest chain narrow wide random reports steps
 
 if command -v cc >/dev/null; then
     cat >"$folder/reader.c" <<'END'
