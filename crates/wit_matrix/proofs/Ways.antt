@@ -1,10 +1,15 @@
 -- The path by which an order is told, step by step.
 use Rattle.std.proofs.Common.{◌≡◌, ℕ, suc, zero, ◌+◌, ◌-◌, ◌<◌, ◌≤◌, Bool, true, false, cond, eqb, List, [], ◌∷◌, ◌++◌, find, Some, None, refl, ap, sym, ◌∙◌, subst, inl, inr, arith, append_assoc}
 use Rattle.std.specs.List.{range_with_len}
-use Rattle.std.proofs.lemmas.Bool.{cases_order}
+use Rattle.std.proofs.lemmas.Bool.{cases_lt, cases_order}
 use Rattle.wit_model.specs.declared.locks.TypeNo.{TypeNo}
 use Rattle.wit_model.specs.declared.calls.Adoption.{Adoption}
-use Rattle.wit_model.specs.Trace.Paths.{next_type, way, type_numbers}
+use Rattle.wit_model.specs.Rules.Numbers.{IsNumber}
+use Rattle.wit_model.specs.Rules.Orders.{is_direct}
+use Rattle.wit_model.specs.Trace.Paths.{leads, next_type, way, type_numbers}
+use Rattle.wit_matrix.specs.Relation.{Relation}
+use Rattle.wit_matrix.specs.Squares.{HasNone, relation_in}
+use Rattle.wit_matrix.proofs.Settled.{direct_holds}
 
 -- the first number that passes
 pub find_first : (test : ℕ → Bool) (s n k : ℕ) → s ≤ k → k < s + n → ((t : ℕ) → s ≤ t → t < k → test t ≡ false) → test k ≡ true → Some k ≡ find test (range_with_len s n)
@@ -23,6 +28,23 @@ find_none test s zero none = refl
 find_none test s (suc n) none =
     let no : test s ≡ false = none s (omega arith) (omega arith) in
     rw no (find_none test (s + 1) n (λ t st tn. none t (omega arith) (omega arith)))
+
+-- a type that isn't a direct child leads nowhere
+not_led : (os : List Adoption) (a b t : ℕ) → is_direct os a t ≡ false → leads os a b t ≡ false
+not_led os a b t isnt = rw isnt refl
+
+-- neither does one that the search skipped, nor one that it tried before that
+pub skipped : (n : ℕ) (direct found : List ℕ) (m : Relation) → relation_in n direct found ≡ m → (a b from next : ℕ) → IsNumber m.size a
+    → ((t : ℕ) → 1 ≤ t → t < from → leads m.orders a b t ≡ false) → HasNone n direct a from next
+    → (t : ℕ) → 1 ≤ t → t ≤ m.size → t < next → leads m.orders a b t ≡ false
+skipped n direct found m is a b from next at before none t lo hi lt = elim (cases_lt t from) [
+  | inl less ↦ before t lo less
+  | inr more ↦
+      let size : n ≡ m.size = ap (λ (r : Relation). r.size) is in
+      let row : IsNumber n a = subst (λ k. IsNumber k a) (sym size) at in
+      let says = direct_holds n direct a t row (lo, omega (arith, size, hi)) ∙ ap (λ (r : Relation). is_direct r.orders a t) is in
+      not_led m.orders a b t (sym says ∙ none t more lt)
+]
 
 -- so far these types were gone by, and from here the way goes on for what is left
 pub record IsOnWay (os : List Adoption) (n a b steps : ℕ) (gone : List TypeNo) (at : ℕ) : Type 0 where

@@ -9,7 +9,7 @@ ghost use Rattle.wit_model.specs.Rules.Numbers.{IsNumber};
 ghost use Rattle.wit_model.specs.Trace.Paths.{leads, next_type, way, path, type_numbers, path_numbers};
 ghost use Rattle.wit_matrix.specs.Relation.{Adopts, Finds, LeadsBy};
 
-use crate::squares::{add, blank, has, link};
+use crate::squares::{add, blank, has, link, skip};
 use std::alloc::{AllocError, Global};
 use std::marker::Model;
 use wit_model::{Fault, TypeNo};
@@ -206,11 +206,16 @@ impl Matrix {
         ensures value { option_map (λ (t : TypeNo). t.0) result ≡ next_type self.now.orders self.now.size from.0 to.0 }
         ensures number { IfSome result (λ (t : TypeNo). IsNumber self.now.size t.0) }
     {
-        for number in 1..=self.size {
-            let next = TypeNo(number);
+        let mut number = 1;
+        while number <= self.size {
+            let next = TypeNo(skip(&self.direct, self.size, from, number));
+            if next.0 > self.size {
+                return None;
+            }
             if self.leads(from, next, to) {
                 return Some(next);
             }
+            number = next.0 + 1;
         }
         None
     }

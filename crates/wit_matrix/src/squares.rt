@@ -123,9 +123,9 @@ fn is_to_join(
     reaches(mirror, n, first, row) && !has(words, n, row, source)
 }
 
-// A number from this one on, before which a row has none of them: the least that it has in this one's word, or else
-// the word's last.
-fn skip(words: &[u64], n: u16, row: TypeNo, from: u16) -> u16
+/// A number from this one on, before which a row has none of them: the least that it has in this one's word, or else
+/// the word's last.
+pub fn skip(words: &[u64], n: u16, row: TypeNo, from: u16) -> u16
     requires square { IsSquare n words.now }
     requires row { IsNumber n row.0 }
     requires from { from ≤ n }
