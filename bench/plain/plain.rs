@@ -1,7 +1,7 @@
-//! `witness replay` as one would write it in Rust without a thought of proofs, for what the traces of
-//! bench/make_trace.sh have: mutexes that are made, destroyed, taken, released and put in order.
+//! `witness replay` as one would write it in Rust without a thought of proofs, for most of the traces
+//! of bench/make_trace.sh: mutexes that are made, taken and released, and orders that are defined.
 //! bench/plain.sh measures the two beside one another, and compares what they write. Chunks aren't
-//! counted, and other classes of locks aren't known.
+//! counted, and other classes of locks and other lines aren't known.
 use std::collections::HashMap;
 use std::fmt::Write as _;
 use std::io::{self, BufRead, BufReader};
@@ -20,30 +20,28 @@ const FRESH: u8 = 0x04;
 /// What is wrong with a line, as it is told.
 type Bad = &'static str;
 
+type Done = Result<(), Bad>;
+
 #[derive(Clone, Copy)]
 struct Site { file: u16, line: u32 }
-
 #[derive(Clone, Copy)]
 struct LockAt { lock: u32, site: Site }
-
 #[derive(Clone, Copy)]
 struct Request { at: LockAt, ops: u8 }
-
-struct NewLock { flags: u8, name: String, type_name: Option<String> }
-
+#[derive(Clone, Copy)]
 struct Conflict { held: LockAt, older: Option<LockAt>, asked: LockAt }
 
-// The log is kept, and this program tells nothing of it.
+// The log is kept, and this program tells nothing of it. What a lock was made as, and what a report
+// is about, stands in lists of their own, so that an entry takes 32 bytes and is let go at once.
 #[allow(dead_code)]
 enum Call {
-    Init(Box<NewLock>), Destroy(u32), Check(Request), Note(u32), GiveUp(u32), Unlock(u32),
-    DefineOrder(u32, u32),
+    Init(u32), Check(Request), Note(u32), GiveUp(u32), Unlock(u32), DefineOrder(u32, u32),
 }
 
 #[allow(dead_code)]
 enum Reply {
-    Made(u32), Done, Pass, Adopted(u16, u16), Silent(u16, u16), Reversal(Box<Conflict>),
-    Duplicate(Box<[LockAt; 2]>), Recorded, Unlocked, Known,
+    Done, Pass, Adopted(u16, u16), Silent(u16, u16), Reversal(u32), Duplicate(u32), Recorded,
+    Unlocked, Known,
 }
 
 #[allow(dead_code)]
@@ -69,11 +67,6 @@ impl Square {
 
     fn add(&mut self, a: u16, b: u16) {
         self.words[a as usize * self.width + b as usize / 64] |= 1 << (b % 64);
-    }
-
-    fn unite(&mut self, a: u16, more: &[u64]) {
-        let row = &mut self.words[a as usize * self.width..];
-        row.iter_mut().zip(more).for_each(|(word, more)| *word |= more);
     }
 
     /// The least number of a row for which this holds.
@@ -113,26 +106,16 @@ impl Orders {
         more[child as usize / 64] |= 1 << (child % 64);
         for a in 1..=self.types {
             if a == parent || self.before.has(a, parent) {
-                self.before.unite(a, &more);
+                let row = &mut self.before.words[a as usize * self.before.width..];
+                row.iter_mut().zip(&more).for_each(|(word, more)| *word |= more);
             }
         }
     }
 
-    fn set_found(&mut self, a: u16, b: u16) {
-        self.found.add(a, b);
-        self.found.add(b, a);
-    }
-
-    /// From one type to a later one, each time to the least that leads there.
-    fn path(&self, from: u16, to: u16) -> Vec<u16> {
-        let mut path = vec![from];
-        let mut at = from;
-        while at != to {
-            let leads = |next| next == to || self.before.has(next, to);
-            at = self.direct.find(at, leads).expect("one leads there, by the matrix");
-            path.push(at);
-        }
-        path
+    /// The least type that a path from one type to a later one can go to.
+    fn next(&self, from: u16, to: u16) -> u16 {
+        let leads = |next| next == to || self.before.has(next, to);
+        self.direct.find(from, leads).expect("one leads there, by the matrix")
     }
 }
 
@@ -143,7 +126,7 @@ struct Held { at: LockAt, type_no: u16, count: u16 }
 #[derive(Default)]
 struct Seat { chain: Vec<Held>, pending: Option<Request> }
 
-struct Lock { name: String, type_no: u16, flags: u8, is_live: bool }
+struct Lock { name: String, type_no: u16, flags: u8 }
 
 #[derive(Default)]
 struct Verifier {
@@ -151,10 +134,13 @@ struct Verifier {
     types: Vec<String>,
     type_numbers: HashMap<String, u16>,
     files: Vec<String>,
-    file_numbers: HashMap<String, u16>,
+    file_numbers: HashMap<Vec<u8>, u16>,
+    /// The number of the file that was named last.
+    last_file: u16,
     locks: Vec<Lock>,
     orders: Orders,
     seats: Vec<Seat>,
+    conflicts: Vec<Conflict>,
     log: Vec<Entry>,
     owed: usize,
 }
@@ -171,18 +157,24 @@ impl Verifier {
         }
     }
 
-    /// A name that isn't known yet may still be none.
-    fn file(&mut self, name: &str) -> Result<u16, Bad> {
+    /// A name that isn't known yet may still be none. Most lines name the file of the line before.
+    fn file(&mut self, name: &[u8]) -> Result<u16, Bad> {
+        let last = self.files.get((self.last_file as usize).wrapping_sub(1));
+        if last.is_some_and(|last| last.as_bytes() == name) {
+            return Ok(self.last_file);
+        }
         let is_name = || (1..=255).contains(&name.len()) && is_text(name, 0x21);
-        match self.file_numbers.get(name) {
-            Some(&number) => return Ok(number),
+        self.last_file = match self.file_numbers.get(name) {
+            Some(&number) => number,
             None if !is_name() => return Err("syntax"),
             None if self.files.len() == MOST_FILES => return Err("F32 FilesFull"),
-            None => self.files.push(name.to_string()),
-        }
-        let number = self.files.len() as u16;
-        self.file_numbers.insert(name.to_string(), number);
-        Ok(number)
+            None => {
+                self.files.push(String::from_utf8_lossy(name).into_owned());
+                self.file_numbers.insert(name.to_vec(), self.files.len() as u16);
+                self.files.len() as u16
+            }
+        };
+        Ok(self.last_file)
     }
 
     fn seat(&self, seat: u16) -> Result<&Seat, Bad> {
@@ -190,8 +182,7 @@ impl Verifier {
     }
 
     fn lock(&self, lock: u32) -> Result<&Lock, Bad> {
-        let lock = self.locks.get((lock as usize).wrapping_sub(1));
-        lock.filter(|lock| lock.is_live).ok_or("F2 UnknownLock")
+        self.locks.get((lock as usize).wrapping_sub(1)).ok_or("F2 UnknownLock")
     }
 
     fn type_of(&self, lock: u32) -> u16 {
@@ -202,15 +193,15 @@ impl Verifier {
         &self.types[type_no as usize - 1]
     }
 
-    fn need_room(&self, entries: usize) -> Result<(), Bad> {
+    fn need_room(&self, entries: usize) -> Done {
         let is_full = self.log.len() + self.owed + entries > MOST_ENTRIES;
         if is_full { Err("F26 LogFull") } else { Ok(()) }
     }
 
-    fn init(&mut self, seat: u16, new: NewLock) -> Result<(), Bad> {
+    fn init(&mut self, seat: u16, flags: u8, name: String, type_name: Option<String>) -> Done {
         not_pending(self.seat(seat)?)?;
-        let name = new.type_name.as_ref().unwrap_or(&new.name).clone();
-        let known = self.type_numbers.get(&name).copied();
+        let type_name = type_name.unwrap_or(name.clone());
+        let known = self.type_numbers.get(&type_name).copied();
         match known {
             None if self.types.len() == self.orders.types as usize => return Err("F4 TypesFull"),
             _ if self.locks.len() == self.most_locks => return Err("F5 LocksFull"),
@@ -218,27 +209,12 @@ impl Verifier {
         }
         let type_no = known.unwrap_or(self.types.len() as u16 + 1);
         if known.is_none() {
-            self.type_numbers.insert(name.clone(), type_no);
-            self.types.push(name);
+            self.type_numbers.insert(type_name.clone(), type_no);
+            self.types.push(type_name);
         }
-        self.locks.push(Lock { name: new.name.clone(), type_no, flags: new.flags, is_live: true });
-        let reply = Reply::Made(self.locks.len() as u32);
-        self.log.push(Entry { seat, call: Call::Init(Box::new(new)), reply });
-        Ok(())
-    }
-
-    fn destroy(&mut self, seat: u16, lock: u32) -> Result<(), Bad> {
-        self.before_naming(seat, lock)?;
-        let uses = |seat: &Seat| {
-            place_of(&seat.chain, lock).is_some()
-                || seat.pending.is_some_and(|request| request.at.lock == lock)
-        };
-        if self.seats.iter().any(uses) {
-            return Err("F23 Busy");
-        }
-        self.need_room(1)?;
-        self.locks[lock as usize - 1].is_live = false;
-        self.log.push(Entry { seat, call: Call::Destroy(lock), reply: Reply::Done });
+        self.locks.push(Lock { name, type_no, flags });
+        let call = Call::Init(self.locks.len() as u32);
+        self.log.push(Entry { seat, call, reply: Reply::Done });
         Ok(())
     }
 
@@ -251,32 +227,18 @@ impl Verifier {
     }
 
     /// Adds the text of the report, if any.
-    fn check(&mut self, seat: u16, request: Request, text: &mut String) -> Result<(), Bad> {
+    fn check(&mut self, seat: u16, request: Request, text: &mut String) -> Done {
         let (chain, lock) = self.before_naming(seat, request.at.lock)?;
         let held = place_of(chain, request.at.lock).map(|place| &chain[place]);
-        let reply = match (held, chain.last()) {
-            (Some(held), _) if held.count == u16::MAX => return Err("F10 RecursionTooDeep"),
-            (Some(_), _) if request.ops & FRESH != 0 => return Err("F9 Recursed"),
-            (Some(_), _) if lock.flags & RECURSABLE == 0 => return Err("F9 Recursed"),
-            (Some(_), _) => Reply::Pass,
-            (None, Some(last)) => self.judge(chain, last, lock, &request),
-            (None, None) => Reply::Pass,
-        };
-        self.need_room(3)?;
-        match &reply {
-            Reply::Adopted(p, c) => self.orders.adopt(*p, *c, Some(request.at.site)),
-            Reply::Silent(held, asked) => self.orders.set_found(*held, *asked),
-            Reply::Duplicate(locks) => {
-                self.put_duplicate(text, locks);
-                self.orders.set_found(self.type_of(request.at.lock), self.type_of(request.at.lock));
-            }
-            Reply::Reversal(conflict) => {
-                self.put_reversal(text, conflict);
-                let held = self.type_of(conflict.held.lock);
-                self.orders.set_found(held, self.type_of(request.at.lock));
-            }
-            _ => {}
+        let is_alone = chain.is_empty();
+        match held {
+            Some(held) if held.count == u16::MAX => return Err("F10 RecursionTooDeep"),
+            Some(_) if request.ops & FRESH != 0 => return Err("F9 Recursed"),
+            Some(_) if lock.flags & RECURSABLE == 0 => return Err("F9 Recursed"),
+            _ => self.need_room(3)?,
         }
+        let is_behind = held.is_none() && !is_alone;
+        let reply = if is_behind { self.judge(seat, &request, text) } else { Reply::Pass };
         self.seats[seat as usize - 1].pending = Some(request);
         self.owed += 2;
         self.log.push(Entry { seat, call: Call::Check(request), reply });
@@ -284,34 +246,52 @@ impl Verifier {
     }
 
     /// A lock is asked for that isn't held, behind others.
-    fn judge(&self, chain: &[Held], last: &Held, lock: &Lock, request: &Request) -> Reply {
-        let (parent, asked) = (last.type_no, lock.type_no);
-        if parent == asked {
-            return if (lock.flags | request.ops) & DUPOK != 0 {
-                Reply::Pass
-            } else if self.orders.found.has(asked, asked) {
-                Reply::Silent(asked, asked)
-            } else {
-                Reply::Duplicate(Box::new([last.at, request.at]))
-            };
+    fn judge(&mut self, seat: u16, request: &Request, text: &mut String) -> Reply {
+        let chain = &self.seats[seat as usize - 1].chain;
+        let Lock { type_no: asked, flags, .. } = self.locks[request.at.lock as usize - 1];
+        let last = chain[chain.len() - 1];
+        if last.type_no == asked {
+            if (flags | request.ops) & DUPOK != 0 {
+                return Reply::Pass;
+            }
+            if self.orders.found.has(asked, asked) {
+                return Reply::Silent(asked, asked);
+            }
+            let conflict = Conflict { held: last.at, older: None, asked: request.at };
+            let name = self.type_name(asked);
+            let _ = writeln!(text, "acquiring duplicate lock of same type: \"{name}\"");
+            self.put_lock(text, "1st", last.at);
+            self.put_lock(text, "2nd", request.at);
+            return Reply::Duplicate(self.report(conflict));
         }
-        if self.orders.direct.has(parent, asked) {
+        if self.orders.direct.has(last.type_no, asked) {
             return Reply::Pass;
         }
-        for (place, held) in chain.iter().enumerate().rev() {
-            if !self.orders.before.has(asked, held.type_no) {
-                continue;
-            }
+        let is_broken = |held: &Held| self.orders.before.has(asked, held.type_no);
+        if let Some(place) = chain.iter().rposition(is_broken) {
+            let held = chain[place];
             if self.orders.found.has(held.type_no, asked) {
                 return Reply::Silent(held.type_no, asked);
             }
             let older = chain[..place].iter().rev().find(|older| older.type_no == asked);
             let older = older.map(|older| older.at);
             let conflict = Conflict { held: held.at, older, asked: request.at };
-            return Reply::Reversal(Box::new(conflict));
+            self.put_reversal(text, &conflict);
+            return Reply::Reversal(self.report(conflict));
         }
-        let is_learnt = request.ops & NEWORDER != 0;
-        if is_learnt { Reply::Adopted(parent, asked) } else { Reply::Pass }
+        if request.ops & NEWORDER == 0 {
+            return Reply::Pass;
+        }
+        self.orders.adopt(last.type_no, asked, Some(request.at.site));
+        Reply::Adopted(last.type_no, asked)
+    }
+
+    fn report(&mut self, conflict: Conflict) -> u32 {
+        let (held, asked) = (self.type_of(conflict.held.lock), self.type_of(conflict.asked.lock));
+        self.orders.found.add(held, asked);
+        self.orders.found.add(asked, held);
+        self.conflicts.push(conflict);
+        self.conflicts.len() as u32
     }
 
     /// The request of a seat for this lock, which isn't pending any more.
@@ -324,7 +304,7 @@ impl Verifier {
         Ok(request)
     }
 
-    fn note(&mut self, seat: u16, lock: u32) -> Result<(), Bad> {
+    fn note(&mut self, seat: u16, lock: u32) -> Done {
         let at = self.answer(seat, lock)?.at;
         let type_no = self.type_of(lock);
         let chain = &mut self.seats[seat as usize - 1].chain;
@@ -340,13 +320,13 @@ impl Verifier {
         Ok(())
     }
 
-    fn give_up(&mut self, seat: u16, lock: u32) -> Result<(), Bad> {
+    fn give_up(&mut self, seat: u16, lock: u32) -> Done {
         self.answer(seat, lock)?;
         self.log.push(Entry { seat, call: Call::GiveUp(lock), reply: Reply::Done });
         Ok(())
     }
 
-    fn unlock(&mut self, seat: u16, lock: u32) -> Result<(), Bad> {
+    fn unlock(&mut self, seat: u16, lock: u32) -> Done {
         self.before_naming(seat, lock)?;
         let chain = &mut self.seats[seat as usize - 1].chain;
         let place = place_of(chain, lock).ok_or("F11 NotLocked")?;
@@ -360,7 +340,7 @@ impl Verifier {
         Ok(())
     }
 
-    fn define_order(&mut self, seat: u16, a: u32, b: u32) -> Result<(), Bad> {
+    fn define_order(&mut self, seat: u16, a: u32, b: u32) -> Done {
         let about = self.seat(seat)?;
         let (parent, child) = (self.lock(a)?.type_no, self.lock(b)?.type_no);
         not_pending(about)?;
@@ -371,10 +351,10 @@ impl Verifier {
             return Err("F20 WrongOrder");
         }
         self.need_room(1)?;
-        let mut reply = Reply::Known;
-        if !self.orders.direct.has(parent, child) {
+        let is_known = self.orders.direct.has(parent, child);
+        let reply = if is_known { Reply::Known } else { Reply::Adopted(parent, child) };
+        if !is_known {
             self.orders.adopt(parent, child, None);
-            reply = Reply::Adopted(parent, child);
         }
         self.log.push(Entry { seat, call: Call::DefineOrder(a, b), reply });
         Ok(())
@@ -385,7 +365,7 @@ fn place_of(chain: &[Held], lock: u32) -> Option<usize> {
     chain.iter().rposition(|held| held.at.lock == lock)
 }
 
-fn not_pending(seat: &Seat) -> Result<(), Bad> {
+fn not_pending(seat: &Seat) -> Done {
     if seat.pending.is_some() { Err("F24 Pending") } else { Ok(()) }
 }
 
@@ -398,13 +378,6 @@ impl Verifier {
         let _ = writeln!(text, " {rank} \"{name}\" ({type_name}, sleep mutex) @ {file}:{line}");
     }
 
-    fn put_duplicate(&self, text: &mut String, locks: &[LockAt; 2]) {
-        let name = self.type_name(self.type_of(locks[1].lock));
-        let _ = writeln!(text, "acquiring duplicate lock of same type: \"{name}\"");
-        self.put_lock(text, "1st", locks[0]);
-        self.put_lock(text, "2nd", locks[1]);
-    }
-
     fn put_reversal(&self, text: &mut String, conflict: &Conflict) {
         text.push_str("lock order reversal:\n");
         let locks = [conflict.older, Some(conflict.held), Some(conflict.asked)];
@@ -412,9 +385,12 @@ impl Verifier {
             self.put_lock(text, rank, lock);
         }
         text.push_str("established order:\n");
-        let (asked, held) = (self.type_of(conflict.asked.lock), self.type_of(conflict.held.lock));
-        for pair in self.orders.path(asked, held).windows(2) {
-            self.put_order(text, pair[0], pair[1]);
+        let mut at = self.type_of(conflict.asked.lock);
+        let held = self.type_of(conflict.held.lock);
+        while at != held {
+            let next = self.orders.next(at, held);
+            self.put_order(text, at, next);
+            at = next;
         }
     }
 
@@ -430,146 +406,189 @@ impl Verifier {
     }
 }
 
-/// The words of a line, up to so many, and how many there are of these.
-fn words<const MOST: usize>(line: &[u8]) -> ([&[u8]; MOST], usize) {
-    let mut words: [&[u8]; MOST] = [b""; MOST];
-    let mut count = 0;
-    for (place, word) in words.iter_mut().zip(line.split(|byte| *byte == b' ')) {
-        *place = word;
-        count += 1;
+/// What is left of a line, and the lines behind it: each field has a space before it.
+struct Fields<'a>(&'a [u8]);
+
+impl<'a> Fields<'a> {
+    fn the(&mut self, text: &[u8]) -> Done {
+        self.0 = self.0.strip_prefix(text).ok_or("syntax")?;
+        Ok(())
     }
-    (words, count)
-}
 
-fn number(word: &[u8]) -> Result<u32, Bad> {
-    if word.is_empty() || (word[0] == b'0' && word.len() > 1) {
-        return Err("syntax");
+    fn number(&mut self) -> Result<u32, Bad> {
+        self.the(b" ")?;
+        self.digits()
     }
-    let number = word.iter().try_fold(0u32, |number, byte| {
-        let digit = byte.is_ascii_digit().then(|| u32::from(byte - b'0'))?;
-        number.checked_mul(10)?.checked_add(digit)
-    });
-    number.ok_or("syntax")
-}
 
-fn seat(word: &[u8]) -> Result<u16, Bad> {
-    u16::try_from(number(word)?).map_err(|_| "syntax")
-}
-
-/// Letters in this order, each once at most, as bits; `-` for none.
-fn letters(word: &[u8], all: &[u8]) -> Result<u8, Bad> {
-    let mut bits = 0;
-    for letter in word.iter().filter(|_| word != b"-") {
-        let bit = 1 << all.iter().position(|other| other == letter).ok_or("syntax")?;
-        if bit <= bits {
-            return Err("syntax");
+    fn digits(&mut self) -> Result<u32, Bad> {
+        let (mut rest, mut number) = (self.0, 0);
+        while let [digit @ b'0'..=b'9', more @ ..] = rest {
+            number = number * 10 + u64::from(digit - b'0');
+            rest = more;
+            if number > u64::from(u32::MAX) || (number < 10 && self.0.len() - rest.len() > 1) {
+                return Err("syntax");
+            }
         }
-        bits |= bit;
+        let is_empty = rest.len() == self.0.len();
+        self.0 = rest;
+        if is_empty { Err("syntax") } else { Ok(number as u32) }
     }
-    if word.is_empty() { Err("syntax") } else { Ok(bits) }
-}
 
-/// A file, which may still be none, and a line.
-fn site(word: &[u8]) -> Result<(&str, u32), Bad> {
-    let colon = word.iter().rposition(|byte| *byte == b':').ok_or("syntax")?;
-    let file = std::str::from_utf8(&word[..colon]).map_err(|_| "syntax")?;
-    Ok((file, number(&word[colon + 1..])?))
-}
+    fn seat(&mut self) -> Result<u16, Bad> {
+        u16::try_from(self.number()?).map_err(|_| "syntax")
+    }
 
-fn name(text: &str) -> Result<String, Bad> {
-    let is_name = (1..=63).contains(&text.len()) && is_text(text, b' ');
-    if is_name { Ok(text.to_string()) } else { Err("syntax") }
-}
+    /// Letters in this order, each once at most, as bits; `-` for none.
+    fn letters(&mut self, all: &[u8]) -> Result<u8, Bad> {
+        self.the(b" ")?;
+        if self.the(b"-").is_ok() {
+            return Ok(0);
+        }
+        let mut bits = 0;
+        for (place, letter) in all.iter().enumerate() {
+            if self.0.first() == Some(letter) {
+                self.0 = &self.0[1..];
+                bits |= 1 << place;
+            }
+        }
+        if bits == 0 { Err("syntax") } else { Ok(bits) }
+    }
 
-/// The names of an `init` line.
-fn names(line: &[u8]) -> Result<(String, Option<String>), Bad> {
-    let names = line.splitn(5, |byte| *byte == b' ').nth(4).unwrap_or(b"");
-    let names = std::str::from_utf8(names).map_err(|_| "syntax")?;
-    let names = names.strip_prefix('"').and_then(|names| names.strip_suffix('"'));
-    let names = names.ok_or("syntax")?;
-    match names.split_once("\" \"") {
-        Some((first, second)) => Ok((name(first)?, Some(name(second)?))),
-        None => Ok((name(names)?, None)),
+    /// A file, which may still be none, and a line.
+    fn site(&mut self) -> Result<(&'a [u8], u32), Bad> {
+        self.the(b" ")?;
+        let end = self.0.iter().position(|byte| *byte == b'\n').ok_or("syntax")?;
+        let colon = self.0[..end].iter().rposition(|byte| *byte == b':').ok_or("syntax")?;
+        let file = &self.0[..colon];
+        self.0 = &self.0[colon + 1..];
+        Ok((file, self.digits()?))
+    }
+
+    fn name(&mut self) -> Result<String, Bad> {
+        self.the(b" \"")?;
+        let end = self.0.iter().position(|byte| *byte == b'"').ok_or("syntax")?;
+        let name = &self.0[..end];
+        self.0 = &self.0[end + 1..];
+        let is_name = (1..=63).contains(&end) && is_text(name, b' ');
+        if is_name { Ok(String::from_utf8_lossy(name).into_owned()) } else { Err("syntax") }
+    }
+
+    fn last_number(&mut self) -> Result<u32, Bad> {
+        let number = self.number()?;
+        self.end().map(|()| number)
+    }
+
+    fn end(&mut self) -> Done {
+        self.the(b"\n")
     }
 }
 
-fn is_text(text: &str, least: u8) -> bool {
-    text.bytes().all(|byte| (least..=0x7e).contains(&byte) && byte != b'"')
+fn is_text(text: &[u8], least: u8) -> bool {
+    text.iter().all(|byte| (least..=0x7e).contains(byte) && *byte != b'"')
 }
 
-fn start(line: &[u8]) -> Result<Verifier, Bad> {
-    let (words, count) = words::<11>(line);
-    let [b"witness-trace", b"1", b"seats", s, b"types", t, b"locks", l, b"chunks", c] =
-        words[..count]
-    else {
-        return Err("syntax");
-    };
-    let sizes = [number(s)?, number(t)?, number(l)?, number(c)?];
+fn start(it: &mut Fields) -> Result<Verifier, Bad> {
+    it.the(b"witness-trace 1")?;
+    let mut sizes = [0; 4];
+    for (size, word) in sizes.iter_mut().zip([" seats", " types", " locks", " chunks"]) {
+        it.the(word.as_bytes())?;
+        *size = it.number()?;
+    }
+    it.end()?;
     if sizes.iter().zip([256, 1_023, 65_536, 65_536]).any(|(n, most)| *n == 0 || *n > most) {
         return Err("limit");
     }
     Ok(Verifier::new(sizes))
 }
 
-fn act(verifier: &mut Verifier, line: &[u8], text: &mut String) -> Result<(), Bad> {
-    let (words, count) = words::<7>(line);
-    match words[..count] {
-        [b"check", s, l, b"x", ops, at] => {
-            let (seat, lock, ops) = (seat(s)?, number(l)?, letters(ops, b"ndf")?);
-            let (file, line) = site(at)?;
-            let site = Site { file: verifier.file(file)?, line };
-            verifier.check(seat, Request { at: LockAt { lock, site }, ops }, text)
-        }
-        [b"lock", s, l] => verifier.note(seat(s)?, number(l)?),
-        [b"unlock", s, l, b"x"] => verifier.unlock(seat(s)?, number(l)?),
-        [b"giveup", s, l] => verifier.give_up(seat(s)?, number(l)?),
-        [b"destroy", s, l] => verifier.destroy(seat(s)?, number(l)?),
-        [b"define", s, a, b] => verifier.define_order(seat(s)?, number(a)?, number(b)?),
-        [b"init", s, b"mtx", f, ..] => {
-            let (seat, flags, (name, type_name)) = (seat(s)?, letters(f, b"rd")?, names(line)?);
-            verifier.init(seat, NewLock { flags, name, type_name })
-        }
-        _ => Err("syntax"),
+fn act(verifier: &mut Verifier, it: &mut Fields, text: &mut String) -> Done {
+    if it.the(b"check").is_ok() {
+        let (seat, lock) = (it.seat()?, it.number()?);
+        it.the(b" x")?;
+        let (ops, (file, line)) = (it.letters(b"ndf")?, it.site()?);
+        it.end()?;
+        let site = Site { file: verifier.file(file)?, line };
+        verifier.check(seat, Request { at: LockAt { lock, site }, ops }, text)
+    } else if it.the(b"lock").is_ok() {
+        verifier.note(it.seat()?, it.last_number()?)
+    } else if it.the(b"unlock").is_ok() {
+        let (seat, lock) = (it.seat()?, it.number()?);
+        it.the(b" x\n")?;
+        verifier.unlock(seat, lock)
+    } else if it.the(b"giveup").is_ok() {
+        verifier.give_up(it.seat()?, it.last_number()?)
+    } else if it.the(b"define").is_ok() {
+        verifier.define_order(it.seat()?, it.number()?, it.last_number()?)
+    } else {
+        it.the(b"init")?;
+        let seat = it.seat()?;
+        it.the(b" mtx")?;
+        let (flags, name) = (it.letters(b"rd")?, it.name()?);
+        let type_name = if it.0.starts_with(b" ") { Some(it.name()?) } else { None };
+        it.end()?;
+        verifier.init(seat, flags, name, type_name)
     }
 }
 
-/// The bytes of a whole line that isn't too long.
-fn whole(line: &[u8]) -> Result<&[u8], Bad> {
-    let bytes = line.strip_suffix(b"\n");
-    let is_long = bytes.unwrap_or(line).len() > MOST_BYTES;
-    if is_long { Err("long") } else { bytes.ok_or("cut") }
-}
+#[derive(Default)]
+struct Replay { verifier: Option<Verifier>, number: u64, text: String, status: u8 }
 
-fn replay(input: &mut impl BufRead, output: &mut impl io::Write) -> io::Result<u8> {
-    let (mut line, mut text) = (Vec::new(), String::new());
-    let mut verifier = None;
-    let mut status = 0;
-    for number in 1u64.. {
-        line.clear();
-        if input.read_until(b'\n', &mut line)? == 0 && verifier.is_some() {
-            break;
+impl Replay {
+    /// Whether the reading goes on behind these lines; the last one may be cut.
+    fn lines(&mut self, lines: &[u8], output: &mut impl io::Write) -> io::Result<bool> {
+        let mut it = Fields(lines);
+        while !it.0.is_empty() {
+            let line = it.0;
+            self.number += 1;
+            let answer = match &mut self.verifier {
+                Some(verifier) => act(verifier, &mut it, &mut self.text),
+                None => start(&mut it).map(|new| self.verifier = Some(new)),
+            };
+            if let Err(bad) = answer {
+                let end = line.iter().position(|byte| *byte == b'\n');
+                let is_long = end.unwrap_or(line.len()) > MOST_BYTES;
+                let bad = if is_long { "long" } else { end.map_or("cut", |_| bad) };
+                writeln!(output, "line {}: {bad}", self.number)?;
+                self.status = 3;
+                return Ok(false);
+            }
+            if !self.text.is_empty() {
+                output.write_all(self.text.as_bytes())?;
+                output.flush()?;
+                self.text.clear();
+                self.status = 1;
+            }
         }
-        let answer = whole(&line).and_then(|bytes| match &mut verifier {
-            Some(verifier) => act(verifier, bytes, &mut text),
-            None => start(bytes).map(|new| verifier = Some(new)),
-        });
-        if let Err(bad) = answer {
-            writeln!(output, "line {number}: {bad}")?;
-            return Ok(3);
-        }
-        if !text.is_empty() {
-            output.write_all(text.as_bytes())?;
-            output.flush()?;
-            text.clear();
-            status = 1;
+        Ok(true)
+    }
+
+    /// Lines are read where they lie in the reader's buffer; one that its end cuts is copied.
+    fn run(mut self, input: &mut impl BufRead, output: &mut impl io::Write) -> io::Result<u8> {
+        loop {
+            let buffer = input.fill_buf()?;
+            let goes_on = if let Some(last) = buffer.iter().rposition(|byte| *byte == b'\n') {
+                let goes_on = self.lines(&buffer[..=last], output)?;
+                input.consume(last + 1);
+                goes_on
+            } else {
+                let mut line = Vec::new();
+                let is_end = input.read_until(b'\n', &mut line)? == 0;
+                if is_end && self.number == 0 {
+                    writeln!(output, "line 1: cut")?;
+                    return Ok(3);
+                }
+                self.lines(&line, output)? && !is_end
+            };
+            if !goes_on {
+                return Ok(self.status);
+            }
         }
     }
-    Ok(status)
 }
 
 fn main() -> ExitCode {
     let mut input = BufReader::with_capacity(1 << 16, io::stdin().lock());
-    match replay(&mut input, &mut io::stdout().lock()) {
+    match Replay::default().run(&mut input, &mut io::stdout().lock()) {
         Ok(status) => ExitCode::from(status),
         Err(_) => ExitCode::from(4),
     }
