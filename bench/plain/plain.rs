@@ -47,6 +47,8 @@ enum Reply {
 #[allow(dead_code)]
 struct Entry { seat: u16, call: Call, reply: Reply }
 
+const _: () = assert!(std::mem::size_of::<Entry>() == 32);
+
 /// For each type a row of bits, one for each type; number 0 has a row and a bit too.
 #[derive(Default)]
 struct Square { width: usize, words: Vec<u64> }
