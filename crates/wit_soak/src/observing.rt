@@ -1,8 +1,8 @@
-//! What a thread asks its observer.
+//! What a thread asks its observer, and the verifier.
 
 ghost use Rattle.std.specs.Prelude.{◌≡◌};
 
-use crate::worker::{Place, Worker};
+use crate::worker::{Place, Worker, count};
 use std::sync::Wait;
 use wit_model::TypeNo;
 use wit_shared::Room;
@@ -17,6 +17,7 @@ pub(crate) fn learn<J: Room, R: Wait>(
     ensures { worker.new.seat.seat ≡ worker.old.seat.seat }
 {
     let news = place.shared.news(place.rt, &mut worker.seat);
+    count(&mut worker.tally.questions.news);
     worker.observer.learn(news);
     match worker.observer.known(parent, child) {
         Some(true) => {}
@@ -37,5 +38,27 @@ pub(crate) fn look<J: Room>(worker: &mut Worker<J>)
             worker.tally.orders = orders;
         }
         None => worker.tally.miss(),
+    }
+}
+
+/// Names the file of its places.
+pub(crate) fn name_file<J: Room, R: Wait>(place: &Place<J, R>, worker: &mut Worker<J>) {
+    match place.shared.file(place.rt, &mut worker.seat, "soak") {
+        Ok(file) => {
+            count(&mut worker.tally.questions.file);
+            worker.file = file;
+        }
+        Err(fault) => worker.tally.refuse(fault),
+    }
+}
+
+/// No threads wait for one another.
+pub(crate) fn circle<J: Room, R: Wait>(place: &Place<J, R>, worker: &mut Worker<J>) {
+    match place.shared.wait_circle(place.rt, &mut worker.seat) {
+        Ok(None) => count(&mut worker.tally.questions.wait_circle),
+        Ok(Some(_seats)) => worker
+            .tally
+            .blame("threads are said to wait for one another"),
+        Err(fault) => worker.tally.refuse(fault),
     }
 }

@@ -5,8 +5,9 @@ ghost use Rattle.std.specs.Prelude.{◌≡◌};
 use crate::gates::Fickle;
 use crate::holding::{let_go, play};
 use crate::locks::Watched;
-use crate::observing::{learn, look};
+use crate::observing::{circle, learn, look, name_file};
 use crate::taking::{take_mutex, take_rw, take_spin, take_sx};
+use crate::walking::walk;
 use crate::worker::{Place, Worker};
 use bitflags::Flags;
 use std::sync::Wait;
@@ -28,20 +29,14 @@ pub(crate) fn work<J: Room, R: Wait>(place: &Place<J, R>, worker: &mut Worker<J>
     }
 }
 
-fn name_file<J: Room, R: Wait>(place: &Place<J, R>, worker: &mut Worker<J>) {
-    match place.shared.file(place.rt, &mut worker.seat, "soak") {
-        Ok(file) => worker.file = file,
-        Err(fault) => worker.tally.refuse(fault),
-    }
-}
-
 fn round<J: Room, R: Wait>(place: &Place<J, R>, worker: &mut Worker<J>) {
     match worker.random.below(24) {
         0 => fresh(place, worker),
         1 => define(place, worker),
         2 => circle(place, worker),
         3 => look(worker),
-        4 => turn_watch(place, worker),
+        4 if place.quiet => turn_watch(place, worker),
+        4 => walk(place, worker),
         5 | 6 => crossed(place, worker),
         _ => nest(place, worker, 0, DEEPEST),
     }
@@ -162,20 +157,9 @@ fn define<J: Room, R: Wait>(place: &Place<J, R>, worker: &mut Worker<J>) {
     }
 }
 
-// No threads wait for one another.
-fn circle<J: Room, R: Wait>(place: &Place<J, R>, worker: &mut Worker<J>) {
-    match place.shared.wait_circle(place.rt, &mut worker.seat) {
-        Ok(None) => {}
-        Ok(Some(_seats)) => worker
-            .tally
-            .blame("threads are said to wait for one another"),
-        Err(fault) => worker.tally.refuse(fault),
-    }
-}
-
 // Orders aren't checked for a while.
 fn turn_watch<J: Room, R: Wait>(place: &Place<J, R>, worker: &mut Worker<J>) {
-    if !(place.quiet && worker.turns) {
+    if !worker.turns {
         return;
     }
     for watch in [Watch::Quiet, Watch::On] {

@@ -3,6 +3,7 @@
 use crate::plan::Plan;
 use crate::print::{header, print_history};
 use crate::threads::Soaked;
+use crate::worker::Tally;
 use crate::{CHUNKS, LOCKS, TYPES};
 use std::alloc::Global;
 use std::io::Write;
@@ -54,6 +55,7 @@ pub(crate) fn tell<W: Write, E: Write>(
         }
     }
     if plan.traces {
+        tell_questions(&soaked.tallies, complaints);
         let (entries, reports) = (verifier.history().len(), verifier.reports());
         let orders = verifier.orders().len();
         let _ = writeln!(
@@ -64,6 +66,14 @@ pub(crate) fn tell<W: Write, E: Write>(
         let _ = writeln!(output, "soaked");
     }
     Ok(good)
+}
+
+// How often each seat was answered what the log doesn't keep, a line for each.
+fn tell_questions<E: Write>(tallies: &[(SeatNo, Tally)], complaints: &mut E) {
+    for (seat, tally) in tallies {
+        let (seat, questions) = (seat.0, tally.questions);
+        let _ = writeln!(complaints, "answered {seat}: {questions:?}");
+    }
 }
 
 // The entries of a seat that each of its threads counts.

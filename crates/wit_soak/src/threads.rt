@@ -6,6 +6,7 @@ use crate::locks::{Watched, make};
 use crate::plan::Plan;
 use crate::random::Random;
 use crate::rounds::work;
+use crate::walking::{turn, walk};
 use crate::worker::{Place, Tally, Worker};
 use std::alloc::{AllocError, Global};
 use std::sync::Wait;
@@ -16,6 +17,17 @@ use wit_shared::{Observer, Opened, Room, Seat, Shared, Unclosed};
 
 // How often an observer looks, at most.
 const LOOKS: u32 = 1_000_000;
+
+/// What all threads have done before any goes on.
+#[derive(Clone, Copy)]
+enum Part {
+    /// Each makes each call but those that turn the watch.
+    Walk,
+    /// Each turns the watch, and back.
+    Turn,
+    /// Each makes so many rounds of calls.
+    Rounds(u32),
+}
 
 /// What a soak leaves.
 #[derive(Drop)]
@@ -118,7 +130,11 @@ fn soak<J: Room + Send + Sync, R: Threads + Wait + Sync>(
             add(&mut locks, lock)?;
         }
     }
-    soak_all(rt, alloc, shared, locks.as_slice(), &mut workers, plan);
+    // Nobody turns the watch while another walks: a release that is forbidden might not be allowed again.
+    for part in [Part::Walk, Part::Turn, Part::Rounds(plan.rounds)] {
+        let locks = locks.as_slice();
+        soak_all(rt, alloc, shared, locks, &mut workers, plan, part);
+    }
     for lock in locks {
         if let Err(_fault) = lock.destroy(rt, shared, &mut first) {}
     }
@@ -149,7 +165,7 @@ fn hire<J: Room, R: Wait>(
     Ok(workers)
 }
 
-// Each worker in a thread of its own, as far as threads can be had.
+// A part of it, each worker in a thread of its own, as far as threads can be had.
 fn soak_all<J: Room + Send + Sync, R: Threads + Wait + Sync>(
     rt: &R,
     alloc: Global,
@@ -157,12 +173,13 @@ fn soak_all<J: Room + Send + Sync, R: Threads + Wait + Sync>(
     locks: &[Watched<J>],
     workers: &mut Vec<Worker<J>>,
     plan: Plan,
+    part: Part,
 ) {
     let threads = workers.len();
     if threads == 0 {
         return;
     }
-    let (rounds, quiet) = (plan.rounds, plan.seed % 2 == 1);
+    let quiet = plan.seed % 2 == 1;
     thread::for_each_mut(
         rt,
         workers.as_mut_slice(),
@@ -175,9 +192,17 @@ fn soak_all<J: Room + Send + Sync, R: Threads + Wait + Sync>(
                 locks,
                 quiet,
             };
-            work(&place, worker, rounds)
+            take_part(&place, worker, part)
         },
     );
+}
+
+fn take_part<J: Room, R: Wait>(place: &Place<J, R>, worker: &mut Worker<J>, part: Part) {
+    match part {
+        Part::Walk => walk(place, worker),
+        Part::Turn => turn(place, worker),
+        Part::Rounds(rounds) => work(place, worker, rounds),
+    }
 }
 
 // The seats, and what their threads counted.

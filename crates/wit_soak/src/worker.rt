@@ -15,8 +15,8 @@ pub(crate) struct Place<'a, J: Room, R> {
     pub(crate) alloc: Global,
     pub(crate) shared: &'a Shared<J>,
     pub(crate) locks: &'a [Watched<J>],
-    /// Whether the watch is turned to quiet and back. No release is forbidden then: a verifier that is quiet passes over that it is
-    /// allowed again.
+    /// Whether the watch is turned to quiet and back in the rounds. No release is forbidden in them then: a verifier that is quiet
+    /// passes over that it is allowed again.
     pub(crate) quiet: bool,
 }
 
@@ -34,9 +34,35 @@ pub(crate) struct Worker<J: Room> {
     pub(crate) observer: Observer<J>,
     pub(crate) random: Random,
     pub(crate) file: FileNo,
-    /// Whether it is the one that turns the watch.
+    /// Whether it is the one that turns the watch in the rounds.
     pub(crate) turns: bool,
     pub(crate) tally: Tally,
+}
+
+/// How often a thread was answered what the log doesn't keep.
+#[derive(Clone, Copy, Debug, Default)]
+pub(crate) struct Questions {
+    /// That no seat is left.
+    pub(crate) seat: u32,
+    /// The number of its file.
+    pub(crate) file: u32,
+    /// That a lock is held.
+    pub(crate) assert_lock: u32,
+    /// That one lock is held.
+    pub(crate) warn: u32,
+    /// The types of two locks.
+    pub(crate) look: u32,
+    /// That no threads wait for one another.
+    pub(crate) wait_circle: u32,
+    /// News of the adopted orders.
+    pub(crate) news: u32,
+    /// That what its observer knows is a beginning of them.
+    pub(crate) covers: u32,
+}
+
+/// One more.
+pub(crate) fn count(answers: &mut u32) {
+    *answers = (*answers).saturating_add(1);
 }
 
 /// What a thread counts.
@@ -50,6 +76,8 @@ pub(crate) struct Tally {
     pub(crate) memory: u64,
     /// Questions that the observer didn't answer.
     pub(crate) unanswered: u64,
+    /// What it asked of the verifier, and was answered.
+    pub(crate) questions: Questions,
     /// How many orders the observer saw the last time.
     pub(crate) orders: u32,
     /// What shouldn't be, if anything was: the first of it.
@@ -64,6 +92,7 @@ impl Tally {
             refused: 0,
             memory: 0,
             unanswered: 0,
+            questions: Questions::default(),
             orders: 0,
             wrong: None,
         }
