@@ -7,7 +7,7 @@ use mathlib.Core.List.{IsPrefix}
 use prog.Atomic.{either}
 use Rattle.logbook.specs.Pages.{Cell, cell, Nib, keeps, gives, adds, no_nib, may_write, step, Moves}
 use Rattle.wit_adoptions.specs.declared.link.Link.{Link}
-use Rattle.wit_adoptions.specs.Links.{orders_behind, end_behind, IsUsedUp, AreUsedUp, IsKept}
+use Rattle.wit_adoptions.specs.Links.{orders_since, end_behind, IsUsedUp, AreUsedUp, IsKept}
 use Rattle.wit_adoptions.specs.Steps.{Ends, Covers, Adds}
 use Rattle.wit_adoptions.proofs.Ends.{orders_more, end_more, all_seen, used_with}
 use Rattle.wit_adoptions.proofs.Fronts.{begins_through}
@@ -66,11 +66,11 @@ kept_still cells later links home kept =
 
 -- with a link at its end a list has the link's orders more
 added : (start : ℕ) (ask : Link) (seen links : List Link)
-    → (orders_behind start links ≡ orders_behind start seen) × (end_behind start links ≡ ask.end)
-    → (orders_behind start (links ++ ask ∷ []) ≡ orders_behind start seen ++ ask.orders) × (end_behind start (links ++ ask ∷ []) ≡ ask.next)
+    → (orders_since start links ≡ orders_since start seen) × (end_behind start links ≡ ask.end)
+    → (orders_since start (links ++ ask ∷ []) ≡ orders_since start seen ++ ask.orders) × (end_behind start (links ++ ask ∷ []) ≡ ask.next)
 added start ask seen links all =
     let same : (ask.end == ask.end) ≡ true = grind (arith, nat_tests) in
-    let here : orders_behind ask.end (ask ∷ []) ≡ ask.orders = rw same (append-nil ask.orders) in
+    let here : orders_since ask.end (ask ∷ []) ≡ ask.orders = rw same (append-nil ask.orders) in
     let next : end_behind ask.end (ask ∷ []) ≡ ask.next = rw same refl in
     (rw (orders_more start links (ask ∷ []), all.0, all.1, here) refl, rw (end_more start links (ask ∷ []), all.1, next) refl)
 

@@ -23,6 +23,6 @@ IsKeeping name head s pen =
     × (end_behind name.start s.links ≡ pen.nib.key)
 
 -- nothing was seen of the book, and the list begins with the pen's end
-abbrev pub IsNew : Named → Book → List Link → Pen → Type 0
-IsNew head book links pen =
+abbrev pub IsNewKeeper : Named → Book → List Link → Pen → Type 0
+IsNewKeeper head book links pen =
     (links ≡ []) × IsKeeping (name book pen.nib.key) head (sheet book links 0) pen

@@ -10,10 +10,10 @@ abbrev pub link : ℕ → ℕ → List Adoption → Link
 link end next orders = record { end = end; next = next; orders = orders }
 
 -- the orders that were added behind this end, and behind the ends that followed it
-abbrev pub orders_behind : ℕ → List Link → List Adoption
-orders_behind end [] = []
-orders_behind end (l ∷ links) =
-    if l.end == end then l.orders ++ orders_behind l.next links else orders_behind end links
+abbrev pub orders_since : ℕ → List Link → List Adoption
+orders_since end [] = []
+orders_since end (l ∷ links) =
+    if l.end == end then l.orders ++ orders_since l.next links else orders_since end links
 
 -- the end that the list with this first end has
 abbrev pub end_behind : ℕ → List Link → ℕ

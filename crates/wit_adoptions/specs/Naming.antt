@@ -3,7 +3,7 @@ use Rattle.std.specs.Prelude.{ℕ, ◌≡◌, List, length}
 use Rattle.logbook.specs.Pages.{Book}
 use Rattle.wit_model.specs.declared.calls.Adoption.{Adoption}
 use Rattle.wit_adoptions.specs.declared.link.Link.{Link}
-use Rattle.wit_adoptions.specs.Links.{orders_behind}
+use Rattle.wit_adoptions.specs.Links.{orders_since}
 
 -- which list of adopted orders it is: the book that it stands in, and its first end there
 pub record Name : Type 0 where
@@ -23,9 +23,9 @@ abbrev pub sheet : Book → List Link → ℕ → Sheet
 sheet book links count = record { book = book; links = links; count = count }
 
 -- the orders of the list with this name that stand on the sheet, oldest first
-abbrev pub listed : Name → Sheet → List Adoption
-listed name s = orders_behind name.start s.links
+abbrev pub orders_on : Name → Sheet → List Adoption
+orders_on name s = orders_since name.start s.links
 
 -- the sheet is of this list's book, and counts its orders
 abbrev pub IsOf : Name → Sheet → Type 0
-IsOf name s = (s.book ≡ name.book) × (s.count ≡ length (listed name s))
+IsOf name s = (s.book ≡ name.book) × (s.count ≡ length (orders_on name s))

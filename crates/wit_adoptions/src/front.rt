@@ -2,7 +2,7 @@
 
 ghost use Rattle.std.specs.Prelude.{◌≡◌, length};
 ghost use Rattle.wit_adoptions.specs.Fronts.{Compares};
-ghost use Rattle.wit_adoptions.specs.Naming.{IsOf, listed};
+ghost use Rattle.wit_adoptions.specs.Naming.{IsOf, orders_on};
 
 use crate::law::Law;
 use crate::link::Link;
@@ -24,11 +24,11 @@ pub struct Front<J: Naming> {
 impl<J: Naming> Model for Front<J> {
     ghost use Rattle.std.specs.Prelude.{List};
     ghost use Rattle.wit_model.specs.declared.calls.Adoption.{Adoption};
-    ghost use Rattle.wit_adoptions.specs.Naming.{IsOf, listed, sheet};
+    ghost use Rattle.wit_adoptions.specs.Naming.{IsOf, orders_on, sheet};
 
     ghost Value = { List Adoption };
 
-    ghost view = { λ f. listed J.list (sheet f.seen.book f.seen.log f.count) };
+    ghost view = { λ f. orders_on J.list (sheet f.seen.book f.seen.log f.count) };
 
     ghost invariant = { λ f. IsOf J.list (sheet f.seen.book f.seen.log f.count) };
 }
@@ -37,7 +37,7 @@ impl<J: Naming> Front<J> {
     /// A page of this list, under its name.
     pub fn of(page: Page) -> Front<J>
         requires { IsOf J.list page }
-        ensures { result ≡ listed J.list page }
+        ensures { result ≡ orders_on J.list page }
     {
         let Page { count, seen } = page;
         Front {
@@ -50,7 +50,7 @@ impl<J: Naming> Front<J> {
     /// The same orders under no name.
     pub fn page(&self) -> Page
         ensures of { IsOf J.list result }
-        ensures same { listed J.list result ≡ self.now }
+        ensures same { orders_on J.list result ≡ self.now }
     {
         Page {
             count: self.count,

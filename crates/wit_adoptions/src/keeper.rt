@@ -38,14 +38,14 @@ pub struct Opened {
 }
 
 impl Model for Opened {
-    ghost use Rattle.wit_adoptions.specs.Keeping.{IsNew};
+    ghost use Rattle.wit_adoptions.specs.Keeping.{IsNewKeeper};
     ghost use Rattle.wit_adoptions.specs.Naming.{Name, name};
 
     ghost Value = { Name };
 
     ghost view = { λ o. name o.seen.book o.pen.nib.key };
 
-    ghost invariant = { λ o. IsNew o.head o.seen.book o.seen.log o.pen };
+    ghost invariant = { λ o. IsNewKeeper o.head o.seen.book o.seen.log o.pen };
 }
 
 impl Opened {
@@ -89,11 +89,11 @@ impl<J: Naming> Model for Keeper<J> {
     ghost use Rattle.std.specs.Prelude.{List};
     ghost use Rattle.wit_model.specs.declared.calls.Adoption.{Adoption};
     ghost use Rattle.wit_adoptions.specs.Keeping.{IsKeeping};
-    ghost use Rattle.wit_adoptions.specs.Naming.{listed, sheet};
+    ghost use Rattle.wit_adoptions.specs.Naming.{orders_on, sheet};
 
     ghost Value = { List Adoption };
 
-    ghost view = { λ k. listed J.list (sheet k.seen.book k.seen.log k.count) };
+    ghost view = { λ k. orders_on J.list (sheet k.seen.book k.seen.log k.count) };
 
     ghost invariant = { λ k. IsKeeping J.list k.head (sheet k.seen.book k.seen.log k.count) k.pen };
 }

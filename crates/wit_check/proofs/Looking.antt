@@ -6,18 +6,18 @@ use Rattle.std.proofs.lemmas.Bool.{eq-eqb}
 use Rattle.std.proofs.lemmas.List.{reverse-append}
 use Rattle.std.proofs.lemmas.List.Folds.{find-append}
 use Rattle.wit_model.specs.declared.locks.Instance.{Instance}
-use Rattle.wit_model.specs.declared.calls.Asked.{Asked}
+use Rattle.wit_model.specs.declared.calls.TypedRequest.{TypedRequest}
 use Rattle.wit_model.specs.Rules.Groups.{flat}
 use Rattle.wit_model.specs.Rules.Verdict.{Basis, is_of, has_type_of, violates}
 use Rattle.wit_check.specs.declared.held.Seen.{Seen}
-use Rattle.wit_check.specs.Held.{IsOnce}
-use Rattle.wit_check.specs.Looks.{older_than, seen_in, nothing_seen, with_lock, with_locks}
+use Rattle.wit_check.specs.Held.{HasEachOnce}
+use Rattle.wit_check.specs.Looks.{older_than, seen_in, nothing_seen, with_older, with_locks}
 use Rattle.wit_check.proofs.Chunks.{chunk-looked, newest-older}
 
-module _ (g : Basis) (q : Asked) where
+module _ (g : Basis) (q : TypedRequest) where
   look-append : (c e : List Instance) (s : Seen) → with_locks g q (c ++ e) s ≡ with_locks g q c (with_locks g q e s)
   look-append [] e s = refl
-  look-append (i ∷ c) e s = ap (with_lock g q i) (look-append c e s)
+  look-append (i ∷ c) e s = ap (with_older g q i) (look-append c e s)
 
   -- one chunk more
   pub look-chunk : (gs : List (List Instance)) (s : Seen) (i n : ℕ) → i < length gs → n ≡ i + 1
@@ -56,7 +56,7 @@ module _ (g : Basis) (q : Asked) where
           let own : is_of h.lock.0 i ≡ true = eq-eqb i.lock.0 h.lock.0 (ap (λ (j : Instance). j.lock.0) (here (p i) same)) in
           rw own (omega arith)
 
-  once-rest : (i : Instance) (c : List Instance) → IsOnce (i ∷ c) → IsOnce c
+  once-rest : (i : Instance) (c : List Instance) → HasEachOnce (i ∷ c) → HasEachOnce c
   once-rest i c once = λ l. go l (is_of l i) (once l)
     where
       go : (l : ℕ) (b : Bool) → length (cond b (i ∷ filter (is_of l) c) (filter (is_of l) c)) ≤ 1 → length (filter (is_of l) c) ≤ 1
@@ -64,7 +64,7 @@ module _ (g : Basis) (q : Asked) where
       go l false le = le
 
   -- a lock that stands further on isn't the first one
-  apart : (i : Instance) (c : List Instance) (l : ℕ) → IsOnce (i ∷ c) → 1 ≤ length (filter (is_of l) c) → is_of l i ≡ false
+  apart : (i : Instance) (c : List Instance) (l : ℕ) → HasEachOnce (i ∷ c) → 1 ≤ length (filter (is_of l) c) → is_of l i ≡ false
   apart i c l once some = go (is_of l i) refl (once l)
     where
       go : (b : Bool) → is_of l i ≡ b → length (cond b (i ∷ filter (is_of l) c) (filter (is_of l) c)) ≤ 1 → is_of l i ≡ false
@@ -72,7 +72,7 @@ module _ (g : Basis) (q : Asked) where
       go false e le = e
 
   -- the older one of three
-  older-seen : (c : List Instance) → IsOnce c → (with_locks g q c nothing_seen).older ≡ older_than g q (find (violates g q) (reverse c)) c
+  older-seen : (c : List Instance) → HasEachOnce c → (with_locks g q c nothing_seen).older ≡ older_than g q (find (violates g q) (reverse c)) c
   older-seen [] once = refl
   older-seen (i ∷ c) once =
       ap₂ (λ o p. cond (is_some o && is_none p && has_type_of g q i) (Some i) p) (broken-seen c) (older-seen c (once-rest i c once))
@@ -109,13 +109,13 @@ module _ (g : Basis) (q : Asked) where
   seen_of h b o = record { held = h; broken = b; older = o }
 
   -- all three
-  pub all-seen : (c : List Instance) → IsOnce c → with_locks g q c nothing_seen ≡ seen_in g q c
+  pub all-seen : (c : List Instance) → HasEachOnce c → with_locks g q c nothing_seen ≡ seen_in g q c
   all-seen c once =
       ap₂ (λ h b. seen_of h b (with_locks g q c nothing_seen).older) (held-seen c) (broken-seen c)
       ∙ ap (λ o. seen_of (find (is_of q.lock.0) c) (find (violates g q) (reverse c)) o) (older-seen c once)
 
   -- where each lock stands once, the newest of its instances is the oldest
-  pub once-found : (l : ℕ) (c : List Instance) → IsOnce c → find (is_of l) (reverse c) ≡ find (is_of l) c
+  pub once-found : (l : ℕ) (c : List Instance) → HasEachOnce c → find (is_of l) (reverse c) ≡ find (is_of l) c
   once-found l [] once = refl
   once-found l (i ∷ c) once =
       ap (find (is_of l)) (reverse-append (i ∷ []) c) ∙ find-append (is_of l) (reverse c) (i ∷ []) ∙ ap (λ o. option_or o (find (is_of l) (i ∷ []))) (once-found l c (once-rest i c once))

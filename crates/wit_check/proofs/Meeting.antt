@@ -5,11 +5,11 @@ use Rattle.std.proofs.lemmas.List.{reverse-append, append-nil}
 use Rattle.wit_model.specs.declared.faults.Fault.{Fault}
 use Rattle.wit_model.specs.declared.locks.Instance.{Instance}
 use Rattle.wit_model.specs.declared.locks.TypeNo.{TypeNo}
-use Rattle.wit_model.specs.declared.calls.Asked.{Asked}
+use Rattle.wit_model.specs.declared.calls.TypedRequest.{TypedRequest}
 use Rattle.wit_model.specs.declared.calls.Reply.{Reply}
 use Rattle.wit_model.specs.declared.calls.Reply.TheVariants.{Pass, AdoptedAll}
 use Rattle.wit_model.specs.Rules.Groups.{flat}
-use Rattle.wit_model.specs.Rules.Verdict.{Basis, is_of, type_held, has_type_of, is_learnt, is_known, is_among, is_new, new_parents, orders_behind, told_orders, decided}
+use Rattle.wit_model.specs.Rules.Verdict.{Basis, is_of, type_held, has_type_of, is_learnt, is_direct_behind, is_among, is_new, new_parents, orders_behind, told_orders, decided}
 use Rattle.wit_check.specs.declared.all_held.Met.{Met}
 use Rattle.wit_check.specs.Meets.{met_in, nothing_met, with_met, with_all_met, with_parent, with_parents}
 use Rattle.wit_check.proofs.Chunks.{chunk-looked, newest-older}
@@ -32,7 +32,7 @@ is-some None true x = refl
 is-some None false x = refl
 is-some (Some y) b x = refl
 
-module _ (g : Basis) (q : Asked) where
+module _ (g : Basis) (q : TypedRequest) where
   meet-append : (c e : List Instance) (m : Met) → with_all_met g q (c ++ e) m ≡ with_all_met g q c (with_all_met g q e m)
   meet-append [] e m = refl
   meet-append (i ∷ c) e m = ap (with_met g q i) (meet-append c e m)
@@ -50,10 +50,10 @@ module _ (g : Basis) (q : Asked) where
   all-met [] = refl
   all-met (i ∷ c) =
       ap (with_met g q i) (all-met c)
-      ∙ ap₂ (λ t k. met_of (find (is_of q.lock.0) (i ∷ c)) t k (cond (is_known g q i) taught (taught || is_learnt g q i)))
-      (newest-older (has_type_of g q) i c) (both (is_known g q i) (list_all (is_known g q) c))
-      ∙ ap (met_of (find (is_of q.lock.0) (i ∷ c)) (find (has_type_of g q) (reverse (i ∷ c))) (list_all (is_known g q) (i ∷ c)))
-      (either (is_known g q i) taught (is_learnt g q i) ∙ is-some (find (is_new g q []) (reverse c)) (is_new g q [] i) i ∙ ap is_some (newest-older (is_new g q []) i c))
+      ∙ ap₂ (λ t k. met_of (find (is_of q.lock.0) (i ∷ c)) t k (cond (is_direct_behind g q i) taught (taught || is_learnt g q i)))
+      (newest-older (has_type_of g q) i c) (both (is_direct_behind g q i) (list_all (is_direct_behind g q) c))
+      ∙ ap (met_of (find (is_of q.lock.0) (i ∷ c)) (find (has_type_of g q) (reverse (i ∷ c))) (list_all (is_direct_behind g q) (i ∷ c)))
+      (either (is_direct_behind g q i) taught (is_learnt g q i) ∙ is-some (find (is_new g q []) (reverse c)) (is_new g q [] i) i ∙ ap is_some (newest-older (is_new g q []) i c))
     where
       taught : Bool
       taught = is_some (find (is_new g q []) (reverse c))
@@ -97,7 +97,7 @@ module _ (g : Basis) (q : Asked) where
   parents-chunk gs ps i n lt next = chunk-looked (λ c s. with_parents g q c s) parents-append gs ps i n lt next
 
   new-by : (ps before : List TypeNo) (i : Instance) → is_among (type_held g i).0 ps ≡ is_among (type_held g i).0 before → is_new g q ps i ≡ is_new g q before i
-  new-by ps before i same = ap (λ b. is_learnt g q i && not (is_known g q i) && not b) same
+  new-by ps before i same = ap (λ b. is_learnt g q i && not (is_direct_behind g q i) && not b) same
 
   moves : (a b c : Bool) → ((a || b) || c) ≡ (b || (a || c))
   moves true true c = refl
@@ -144,6 +144,6 @@ module _ (g : Basis) (q : Asked) where
       joined false ps = sym (append-nil ps)
 
 -- whether an order is behind this type
-pub among-orders : (q : Asked) (x : ℕ) (ps : List TypeNo) → list_any (λ (o : TypeNo × TypeNo). eqb o.0.0 x) (orders_behind q ps) ≡ is_among x ps
+pub among-orders : (q : TypedRequest) (x : ℕ) (ps : List TypeNo) → list_any (λ (o : TypeNo × TypeNo). eqb o.0.0 x) (orders_behind q ps) ≡ is_among x ps
 among-orders q x [] = refl
 among-orders q x (p ∷ ps) = ap (λ b. eqb p.0 x || b) (among-orders q x ps)

@@ -7,18 +7,18 @@ use Rattle.wit_model.specs.declared.faults.Fault.{Fault}
 use Rattle.wit_model.specs.declared.faults.Fault.TheVariants.{SleepUnderSpin}
 use Rattle.wit_model.specs.declared.locks.Watch.{Watch}
 use Rattle.wit_model.specs.declared.locks.Instance.{Instance}
-use Rattle.wit_model.specs.declared.calls.Asked.{Asked}
+use Rattle.wit_model.specs.declared.calls.TypedRequest.{TypedRequest}
 use Rattle.wit_model.specs.declared.calls.Reply.{Reply}
 use Rattle.wit_model.specs.declared.calls.Reply.TheVariants.{Pass}
 use Rattle.wit_model.specs.Rules.Types.{is_spin, class_of}
 use Rattle.wit_model.specs.Rules.Orders.{is_direct}
 use Rattle.wit_model.specs.Rules.History.{is_on}
-use Rattle.wit_model.specs.Rules.Verdict.{Basis, is_of, type_held, has_type_of, again, doubled, violates, reported, is_known, decided, teaches, teaches_all, chain_asked, ruling}
+use Rattle.wit_model.specs.Rules.Verdict.{Basis, is_of, type_held, has_type_of, again, doubled, violates, reported, is_direct_behind, decided, teaches, teaches_all, chain_asked, ruling}
 use Rattle.wit_model.specs.Rules.Chunks.{Chunks, chain_of, list_of}
 use Rattle.wit_check.specs.Behind.{over, over_all}
 use Rattle.wit_check.specs.Held.{sleep_chain, spin_chain}
 
-module _ (g : Basis) (c : List Instance) (last : Instance) (q : Asked) where
+module _ (g : Basis) (c : List Instance) (last : Instance) (q : TypedRequest) where
   pub again-decides : (i : Instance) → find (is_of q.lock.0) c ≡ Some i → again q i ≡ decided (over Plain g c last q)
   again-decides i is = rw is refl
 
@@ -38,12 +38,12 @@ module _ (g : Basis) (c : List Instance) (last : Instance) (q : Asked) where
         learning-decides none = rw (free, apart, new, none) refl
 
 -- the last one where it is compared with all of the chain
-pub teaching-decides : (g : Basis) (c : List Instance) (q : Asked) → find (is_of q.lock.0) c ≡ None → find (has_type_of g q) (reverse c) ≡ None
-    → list_all (is_known g q) c ≡ false → find (violates g q) (reverse c) ≡ None → decided (teaches_all g c q ∷ []) ≡ decided (over_all g c q)
+pub teaching-decides : (g : Basis) (c : List Instance) (q : TypedRequest) → find (is_of q.lock.0) c ≡ None → find (has_type_of g q) (reverse c) ≡ None
+    → list_all (is_direct_behind g q) c ≡ false → find (violates g q) (reverse c) ≡ None → decided (teaches_all g c q ∷ []) ≡ decided (over_all g c q)
 teaching-decides g c q free apart new none = rw (free, apart, new, none) refl
 
 -- the chain that a request is judged by
-module _ (g : Basis) (sleep spin : List Instance) (q : Asked) where
+module _ (g : Basis) (sleep spin : List Instance) (q : TypedRequest) where
   pub spin-asked : is_spin (class_of q.type_no.0 g.types) ≡ true → spin ≡ chain_asked g sleep spin q
   spin-asked is = rw is refl
 
@@ -58,7 +58,7 @@ none-held false held none = none
 pub of-spin : (kind held : Bool) → kind ≡ true → (not kind && held) ≡ false
 of-spin kind held is = rw is refl
 
-module _ (profile : Profile) (g : Basis) (watch : Watch) (sleep spin : List Instance) (q : Asked) (on : is_on watch ≡ true) where
+module _ (profile : Profile) (g : Basis) (watch : Watch) (sleep spin : List Instance) (q : TypedRequest) (on : is_on watch ≡ true) where
   pub spin-decides : is_spin (class_of q.type_no.0 g.types) ≡ false → is_some (last_or None spin) ≡ true
       → ◌≡◌ {A = Result Reply Fault} (Err SleepUnderSpin) (ruling profile g watch sleep spin q)
   spin-decides sleeps some = rw (on, sleeps, some) refl
@@ -72,7 +72,7 @@ module _ (profile : Profile) (g : Basis) (watch : Watch) (sleep spin : List Inst
     chain-decides last is = rw (on, calm, is) refl
 
 -- the list of the requested lock's kind is the chain that a request is judged by
-pub asked-of : (g : Basis) (c : Chunks) (seat : ℕ) (q : Asked) (spin : Bool) (list : ℕ) → is_spin (class_of q.type_no.0 g.types) ≡ spin
+pub asked-of : (g : Basis) (c : Chunks) (seat : ℕ) (q : TypedRequest) (spin : Bool) (list : ℕ) → is_spin (class_of q.type_no.0 g.types) ≡ spin
     → list ≡ list_of spin seat → chain_of c list ≡ chain_asked g (sleep_chain c seat) (spin_chain c seat) q
 asked-of g c seat q true list is at = ap (chain_of c) at ∙ spin-asked g (sleep_chain c seat) (spin_chain c seat) q is
 asked-of g c seat q false list is at = ap (chain_of c) at ∙ sleep-asked g (sleep_chain c seat) (spin_chain c seat) q is

@@ -2,7 +2,7 @@
 use Rattle.std.specs.Prelude.{List, [], Result, Ok, Err, reverse}
 use Rattle.wit_model.specs.declared.locks.Instance.{Instance}
 use Rattle.wit_model.specs.declared.locks.TypeNo.{TypeNo}
-use Rattle.wit_model.specs.declared.calls.Asked.{Asked}
+use Rattle.wit_model.specs.declared.calls.TypedRequest.{TypedRequest}
 use Rattle.wit_model.specs.declared.faults.Fault.{Fault}
 use Rattle.wit_model.specs.declared.calls.Reply.{Reply}
 use Rattle.wit_model.specs.declared.calls.Reply.TheVariants as reply
@@ -11,18 +11,18 @@ use Rattle.wit_check.specs.declared.answers.Verdict.{Verdict}
 use Rattle.wit_check.specs.declared.answers.Verdict.TheVariants as verdict
 
 -- the orders that a request teaches behind all these held locks (oldest first), that behind the newest one first
-abbrev pub new_orders : Basis → List Instance → Asked → List (TypeNo × TypeNo)
+abbrev pub new_orders : Basis → List Instance → TypedRequest → List (TypeNo × TypeNo)
 new_orders g chain q = orders_behind q (new_parents g q [] (reverse chain))
 
 -- the answer, where the orders that are new behind all held locks are these
-abbrev pub answer_of : List (TypeNo × TypeNo) → Verdict → Result Reply Fault
-answer_of new verdict.Pass = Ok reply.Pass
-answer_of new (verdict.Adopt p c) = Ok (reply.Adopted p c)
-answer_of new verdict.AdoptAll = Ok (reply.AdoptedAll new)
-answer_of new (verdict.Silent held asked) = Ok (reply.Silent held asked)
-answer_of new (verdict.Duplicate d) = Ok (reply.Duplicate d)
-answer_of new (verdict.Reversal c) = Ok (reply.Reversal c)
-answer_of new (verdict.Fault fault) = Err fault
+abbrev pub answer_by : List (TypeNo × TypeNo) → Verdict → Result Reply Fault
+answer_by new verdict.Pass = Ok reply.Pass
+answer_by new (verdict.Adopt p c) = Ok (reply.Adopted p c)
+answer_by new verdict.AdoptAll = Ok (reply.AdoptedAll new)
+answer_by new (verdict.Silent held asked) = Ok (reply.Silent held asked)
+answer_by new (verdict.Duplicate d) = Ok (reply.Duplicate d)
+answer_by new (verdict.Reversal c) = Ok (reply.Reversal c)
+answer_by new (verdict.Fault fault) = Err fault
 
 -- the same where an order is defined: nothing is to be said of one that is known
 abbrev pub definition_of : Verdict → Result Reply Fault

@@ -14,8 +14,8 @@ abbrev pub spin_chain : Chunks → ℕ → List Instance
 spin_chain c seat = chain_of c (list_of true seat)
 
 -- no lock stands in it twice
-abbrev pub IsOnce : List Instance → Type 0
-IsOnce c = (l : ℕ) → length (filter (is_of l) c) ≤ 1
+abbrev pub HasEachOnce : List Instance → Type 0
+HasEachOnce c = (l : ℕ) → length (filter (is_of l) c) ≤ 1
 
 -- each of its locks has a type
 abbrev pub IsTyped : List TypeNo → List Instance → Type 0
@@ -23,5 +23,5 @@ IsTyped lock_types c = All (λ (i : Instance). IsGiven lock_types i.lock.0) c
 
 -- a chain that a request can be judged by
 pub record IsJudgeable (lock_types : List TypeNo) (c : List Instance) : Type 0 where
-  pub once : IsOnce c
+  pub once : HasEachOnce c
   pub typed : IsTyped lock_types c

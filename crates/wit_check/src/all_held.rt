@@ -4,7 +4,7 @@ ghost use Rattle.std.specs.Prelude.{◌≡◌};
 ghost use Rattle.wit_model.specs.Rules.Numbers.{IsGiven};
 ghost use Rattle.wit_model.specs.Rules.Chunks.{IsList, chain_of};
 ghost use Rattle.wit_model.specs.Rules.Verdict.{decided};
-ghost use Rattle.wit_check.specs.Answers.{answer_of, new_orders};
+ghost use Rattle.wit_check.specs.Answers.{answer_by, new_orders};
 ghost use Rattle.wit_check.specs.Behind.{over_all};
 ghost use Rattle.wit_check.specs.Held.{IsTyped, IsJudgeable};
 ghost use Rattle.wit_check.specs.Meets.{met_in, with_met, with_all_met};
@@ -17,7 +17,7 @@ use crate::held::look;
 use crate::orders::is_learnt;
 use crate::reversals::reported;
 use wit_model::chunks::Lists;
-use wit_model::{Asked, Instance};
+use wit_model::{Instance, TypedRequest};
 
 /// What a first look through the held locks finds.
 #[derive(Clone, Copy)]
@@ -35,7 +35,7 @@ pub struct Met {
 impl Met {
     // One lock more is looked at, the next older one.
     #[inline(always)]
-    fn look_at(&mut self, basis: &Basis, request: Asked, older: Instance)
+    fn look_at(&mut self, basis: &Basis, request: TypedRequest, older: Instance)
         requires asked { IsGiven basis.now.types request.type_no.0 }
         requires typed { IsGiven basis.now.lock_types older.lock.0 }
         ensures { self.new ≡ with_met basis.now request older self.old }
@@ -54,7 +54,7 @@ impl Met {
     }
 
     // The locks of one chunk more.
-    fn look_through(&mut self, basis: &Basis, request: Asked, chunk: &[Instance])
+    fn look_through(&mut self, basis: &Basis, request: TypedRequest, chunk: &[Instance])
         requires asked { IsGiven basis.now.types request.type_no.0 }
         requires typed { IsTyped basis.now.lock_types chunk.now }
         ensures { self.new ≡ with_all_met basis.now request chunk.now self.old }
@@ -66,7 +66,7 @@ impl Met {
 }
 
 /// Looks at each lock of a list.
-fn meet<L: Lists>(basis: &Basis, lists: &L, list: u16, request: Asked) -> Met
+fn meet<L: Lists>(basis: &Basis, lists: &L, list: u16, request: TypedRequest) -> Met
     requires list { IsList (L.chunks lists.now) list }
     requires asked { IsGiven basis.now.types request.type_no.0 }
     requires typed { IsTyped basis.now.lock_types (chain_of (L.chunks lists.now) list) }
@@ -87,12 +87,12 @@ fn meet<L: Lists>(basis: &Basis, lists: &L, list: u16, request: Asked) -> Met
 }
 
 /// The verdict on a request for a lock behind those of a list, which is compared with all of them.
-pub fn behind_all<L: Lists>(basis: &Basis, lists: &L, list: u16, request: Asked) -> Verdict
+pub fn behind_all<L: Lists>(basis: &Basis, lists: &L, list: u16, request: TypedRequest) -> Verdict
     requires list { IsList (L.chunks lists.now) list }
     requires chain { IsJudgeable basis.now.lock_types (chain_of (L.chunks lists.now) list) }
     requires asked { IsGiven basis.now.types request.type_no.0 }
     ensures { let chain = chain_of (L.chunks lists.now) list in
-        answer_of (new_orders basis.now chain request) result ≡ decided (over_all basis.now chain request) }
+        answer_by (new_orders basis.now chain request) result ≡ decided (over_all basis.now chain request) }
 {
     let met = meet(basis, lists, list, request);
     if let Some(held) = met.held {

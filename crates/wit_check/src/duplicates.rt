@@ -4,18 +4,18 @@ ghost use Rattle.std.specs.Prelude.{◌≡◌, List};
 ghost use Rattle.wit_model.specs.declared.locks.TypeNo.{TypeNo};
 ghost use Rattle.wit_model.specs.Rules.Numbers.{IsGiven};
 ghost use Rattle.wit_model.specs.Rules.Verdict.{doubled, place_of, place_asked};
-ghost use Rattle.wit_check.specs.Answers.{answer_of};
+ghost use Rattle.wit_check.specs.Answers.{answer_by};
 
 use crate::answers::Verdict;
 use crate::basis::Basis;
 use bitflags::Flags;
-use wit_model::{Asked, Doubling, Instance, LockAt, LockFlags, OpFlags};
+use wit_model::{Doubling, Instance, LockAt, LockFlags, OpFlags, TypedRequest};
 
 /// The verdict where this held lock is of the requested type: reported once for a type, and never where the lock, or the request,
 /// allows it.
-pub fn doubled(basis: &Basis, request: Asked, last: Instance) -> Verdict
+pub fn doubled(basis: &Basis, request: TypedRequest, last: Instance) -> Verdict
     requires { IsGiven basis.now.types request.type_no.0 }
-    ensures { (new : List (TypeNo × TypeNo)) → answer_of new result ≡ doubled basis.now request last }
+    ensures { (new : List (TypeNo × TypeNo)) → answer_by new result ≡ doubled basis.now request last }
 {
     let asked = request.type_no;
     if request.flags.contains(LockFlags::DUPOK) || request.ops.contains(OpFlags::DUPOK) {
@@ -41,7 +41,7 @@ pub fn place_of(held: Instance) -> LockAt
 }
 
 /// The requested lock, where it is asked for.
-pub fn place_asked(request: Asked) -> LockAt
+pub fn place_asked(request: TypedRequest) -> LockAt
     ensures { result ≡ place_asked request }
 {
     LockAt {

@@ -5,12 +5,12 @@ ghost use Rattle.wit_model.specs.Rules.Numbers.{IsGiven};
 ghost use Rattle.wit_model.specs.Rules.Chunks.{IsList, chain_of};
 ghost use Rattle.wit_model.specs.Rules.Verdict.{is_of};
 ghost use Rattle.wit_check.specs.Held.{IsTyped, IsJudgeable};
-ghost use Rattle.wit_check.specs.Looks.{sort_of, seen_in, with_lock, with_locks};
+ghost use Rattle.wit_check.specs.Looks.{sort_of, seen_in, with_older, with_locks};
 
 use crate::basis::Basis;
 use crate::orders::{Sort, breach, sort_of};
 use wit_model::chunks::Lists;
-use wit_model::{Asked, Instance, LockNo};
+use wit_model::{Instance, LockNo, TypedRequest};
 
 /// What one look through the held locks finds.
 #[derive(Clone, Copy)]
@@ -26,11 +26,11 @@ pub struct Seen {
 impl Seen {
     // One lock more is looked at, the next older one.
     #[inline(always)]
-    fn look_at(&mut self, basis: &Basis, sort: Sort, request: Asked, older: Instance)
+    fn look_at(&mut self, basis: &Basis, sort: Sort, request: TypedRequest, older: Instance)
         requires sort { sort ≡ sort_of basis.now request.type_no }
         requires asked { IsGiven basis.now.types request.type_no.0 }
         requires typed { IsGiven basis.now.lock_types older.lock.0 }
-        ensures { self.new ≡ with_lock basis.now request older self.old }
+        ensures { self.new ≡ with_older basis.now request older self.old }
     {
         if older.lock.0 == request.lock.0 {
             self.held = Some(older);
@@ -46,7 +46,7 @@ impl Seen {
     }
 
     // The locks of one chunk more.
-    fn look_through(&mut self, basis: &Basis, sort: Sort, request: Asked, chunk: &[Instance])
+    fn look_through(&mut self, basis: &Basis, sort: Sort, request: TypedRequest, chunk: &[Instance])
         requires sort { sort ≡ sort_of basis.now request.type_no }
         requires asked { IsGiven basis.now.types request.type_no.0 }
         requires typed { IsTyped basis.now.lock_types chunk.now }
@@ -59,7 +59,7 @@ impl Seen {
 }
 
 /// Looks at each lock of a list.
-pub fn look<L: Lists>(basis: &Basis, lists: &L, list: u16, request: Asked) -> Seen
+pub fn look<L: Lists>(basis: &Basis, lists: &L, list: u16, request: TypedRequest) -> Seen
     requires list { IsList (L.chunks lists.now) list }
     requires asked { IsGiven basis.now.types request.type_no.0 }
     requires chain { IsJudgeable basis.now.lock_types (chain_of (L.chunks lists.now) list) }

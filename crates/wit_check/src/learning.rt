@@ -17,7 +17,7 @@ use crate::orders::is_learnt;
 use std::alloc::{AllocError, Global};
 use wit_matrix::Matrix;
 use wit_model::chunks::{Lists, list_of};
-use wit_model::{Asked, Instance, NewOrders, TypeNo};
+use wit_model::{Instance, NewOrders, TypeNo, TypedRequest};
 use wit_table::Table;
 
 /// The orders that a request teaches behind all the locks of its kind that its seat holds, that behind the newest one first: those that
@@ -32,7 +32,7 @@ pub fn new_orders<L: Lists>(
     types: &Table,
     matrix: &Matrix,
     chains: Chains<L>,
-    request: Asked,
+    request: TypedRequest,
 ) -> Result<NewOrders, AllocError>
     requires seat { IsNumber 256 chains.seat.0 }
     requires lists { IsList (L.chunks chains.lists.now) (list_of true chains.seat.0) }
@@ -67,7 +67,7 @@ fn learnt_behind<L: Lists>(
     alloc: Global,
     lists: &L,
     list: u16,
-    request: Asked,
+    request: TypedRequest,
 ) -> Result<NewOrders, AllocError>
     requires list { IsList (L.chunks lists.now) list }
     requires typed { IsTyped basis.now.lock_types (chain_of (L.chunks lists.now) list) }
@@ -86,7 +86,7 @@ fn learnt_behind<L: Lists>(
 // Learns the orders behind the locks of one chunk more.
 fn learn(
     basis: &Basis,
-    request: Asked,
+    request: TypedRequest,
     chunk: &[Instance],
     learnt: &mut NewOrders,
 ) -> Result<(), AllocError>
@@ -105,7 +105,7 @@ fn learn(
 }
 
 // Whether the order behind a held lock may be learnt and is new, where these orders of the same request are learnt before it.
-fn is_new(basis: &Basis, request: Asked, before: &[(TypeNo, TypeNo)], held: Instance) -> bool
+fn is_new(basis: &Basis, request: TypedRequest, before: &[(TypeNo, TypeNo)], held: Instance) -> bool
     requires held { IsGiven basis.now.lock_types held.lock.0 }
     requires asked { IsGiven basis.now.types request.type_no.0 }
     ensures { (parents : List TypeNo) → before.now ≡ orders_behind request parents

@@ -4,13 +4,13 @@ ghost use Rattle.std.specs.Prelude.{◌≡◌, List, [], ◌∷◌, Some};
 ghost use Rattle.wit_model.specs.declared.locks.TypeNo.{TypeNo};
 ghost use Rattle.wit_model.specs.Rules.Numbers.{IsGiven};
 ghost use Rattle.wit_model.specs.Rules.Verdict.{breach, is_learnt, teaches, decided};
-ghost use Rattle.wit_check.specs.Answers.{answer_of};
+ghost use Rattle.wit_check.specs.Answers.{answer_by};
 ghost use Rattle.wit_check.specs.Looks.{sort_of};
 
 use crate::answers::Verdict;
 use crate::basis::Basis;
 use bitflags::Flags;
-use wit_model::{Asked, Heading, Instance, OpFlags, TypeNo};
+use wit_model::{Heading, Instance, OpFlags, TypeNo, TypedRequest};
 
 /// What rules a type has beside the known orders.
 #[derive(Clone, Copy)]
@@ -56,7 +56,7 @@ pub fn breach(basis: &Basis, sort: Sort, asked: TypeNo, held: TypeNo) -> Option<
 
 /// Whether the order behind a held lock may be learnt: where the request allows it, unless it is that of a sleepable lock behind Giant,
 /// or turns an order round.
-pub fn is_learnt(basis: &Basis, request: Asked, held: Instance) -> bool
+pub fn is_learnt(basis: &Basis, request: TypedRequest, held: Instance) -> bool
     requires held { IsGiven basis.now.lock_types held.lock.0 }
     requires asked { IsGiven basis.now.types request.type_no.0 }
     ensures { result ≡ is_learnt basis.now request held }
@@ -73,10 +73,10 @@ pub fn is_learnt(basis: &Basis, request: Asked, held: Instance) -> bool
 }
 
 /// The verdict where no order is broken: the one behind the last held lock is learnt, where it may be.
-pub fn learnt(basis: &Basis, request: Asked, last: Instance) -> Verdict
+pub fn learnt(basis: &Basis, request: TypedRequest, last: Instance) -> Verdict
     requires last { IsGiven basis.now.lock_types last.lock.0 }
     requires asked { IsGiven basis.now.types request.type_no.0 }
-    ensures { (new : List (TypeNo × TypeNo)) → answer_of new result ≡ decided (teaches basis.now (Some last) request ∷ []) }
+    ensures { (new : List (TypeNo × TypeNo)) → answer_by new result ≡ decided (teaches basis.now (Some last) request ∷ []) }
 {
     if is_learnt(basis, request, last) {
         Verdict::Adopt(basis.type_held(last), request.type_no)

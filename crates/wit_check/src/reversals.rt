@@ -6,21 +6,26 @@ ghost use Rattle.wit_model.specs.Rules.Numbers.{IsGiven};
 ghost use Rattle.wit_model.specs.Rules.Verdict.{is_of, has_type_of, reported};
 ghost use Rattle.wit_model.specs.declared.locks.Instance.{Instance};
 ghost use Rattle.wit_model.specs.declared.locks.TypeNo.{TypeNo};
-ghost use Rattle.wit_check.specs.Answers.{answer_of};
+ghost use Rattle.wit_check.specs.Answers.{answer_by};
 
 use crate::answers::Verdict;
 use crate::basis::Basis;
 use crate::duplicates::{place_asked, place_of};
 use crate::orders::{breach, sort_of};
-use wit_model::{Asked, Conflict, Heading, Instance};
+use wit_model::{Conflict, Heading, Instance, TypedRequest};
 
 /// The verdict where a held lock violates an order: reported once for a pair of types, and never where the pair is blessed. `older` is
 /// the newest lock of the requested type among those older than the one that violates the order.
-pub fn reported(basis: &Basis, request: Asked, broken: Instance, older: Option<Instance>) -> Verdict
+pub fn reported(
+    basis: &Basis,
+    request: TypedRequest,
+    broken: Instance,
+    older: Option<Instance>,
+) -> Verdict
     requires held { IsGiven basis.now.lock_types broken.lock.0 }
     requires asked { IsGiven basis.now.types request.type_no.0 }
     ensures { (new : List (TypeNo × TypeNo)) (chain : List Instance) → older ≡ find (has_type_of basis.now request) (reverse (before_first (is_of broken.lock.0) chain))
-        → answer_of new result ≡ reported basis.now request chain broken }
+        → answer_by new result ≡ reported basis.now request chain broken }
 {
     let held = basis.type_held(broken);
     let asked = request.type_no;

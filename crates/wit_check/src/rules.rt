@@ -7,7 +7,7 @@ ghost use Rattle.wit_model.specs.declared.profiles.Profile.TheVariants.{Plain};
 ghost use Rattle.wit_model.specs.Rules.Numbers.{IsNumber, IsGiven};
 ghost use Rattle.wit_model.specs.Rules.Chunks.{IsList, chain_of, list_of};
 ghost use Rattle.wit_model.specs.Rules.Verdict.{chain_asked, decided, ruling};
-ghost use Rattle.wit_check.specs.Answers.{answer_of, new_orders};
+ghost use Rattle.wit_check.specs.Answers.{answer_by, new_orders};
 ghost use Rattle.wit_check.specs.Bases.{basis, AreTypes};
 ghost use Rattle.wit_check.specs.Behind.{over};
 ghost use Rattle.wit_check.specs.Held.{sleep_chain, spin_chain, IsJudgeable};
@@ -23,7 +23,7 @@ use crate::orders::learnt;
 use crate::reversals::reported;
 use wit_matrix::Matrix;
 use wit_model::chunks::{Lists, list_of};
-use wit_model::{Asked, Fault, Instance, Profile, SeatNo, Watch};
+use wit_model::{Fault, Instance, Profile, SeatNo, TypedRequest, Watch};
 use wit_table::Table;
 
 /// The verdict of a check: the first of WITNESS's rules that applies decides (witness(4); `witness_checkorder` in subr_witness.c).
@@ -38,7 +38,7 @@ pub fn verdict<L: Lists>(
     matrix: &Matrix,
     chains: Chains<L>,
     watch: Watch,
-    request: Asked,
+    request: TypedRequest,
     profile: Profile,
 ) -> Verdict
     requires seat { IsNumber 256 chains.seat.0 }
@@ -51,7 +51,7 @@ pub fn verdict<L: Lists>(
     ensures { let basis = basis types.now matrix.now chains.entry.lock_types.now in
         let sleep = sleep_chain (L.chunks chains.entry.lists.now) chains.entry.seat.0 in
         let spin = spin_chain (L.chunks chains.entry.lists.now) chains.entry.seat.0 in
-        answer_of (new_orders basis (chain_asked basis sleep spin request) request) result ≡ ruling profile basis watch sleep spin request }
+        answer_by (new_orders basis (chain_asked basis sleep spin request) request) result ≡ ruling profile basis watch sleep spin request }
 {
     if !watch.is_on() {
         return Verdict::Pass;
@@ -86,7 +86,7 @@ fn judge<L: Lists>(
     basis: &Basis,
     lists: &L,
     list: u16,
-    request: Asked,
+    request: TypedRequest,
     last: Instance,
     profile: Profile,
 ) -> Verdict
@@ -95,7 +95,7 @@ fn judge<L: Lists>(
     requires last { last_or None (chain_of (L.chunks lists.now) list) ≡ Some last }
     requires asked { IsGiven basis.now.types request.type_no.0 }
     ensures { let chain = chain_of (L.chunks lists.now) list in
-        answer_of (new_orders basis.now chain request) result ≡ decided (over profile basis.now chain last request) }
+        answer_by (new_orders basis.now chain request) result ≡ decided (over profile basis.now chain last request) }
 {
     match profile {
         Profile::Plain => behind(basis, lists, list, request, last),
@@ -104,13 +104,19 @@ fn judge<L: Lists>(
 }
 
 // A lock is asked for behind others, and compared with the last one.
-fn behind<L: Lists>(basis: &Basis, lists: &L, list: u16, request: Asked, last: Instance) -> Verdict
+fn behind<L: Lists>(
+    basis: &Basis,
+    lists: &L,
+    list: u16,
+    request: TypedRequest,
+    last: Instance,
+) -> Verdict
     requires list { IsList (L.chunks lists.now) list }
     requires chain { IsJudgeable basis.now.lock_types (chain_of (L.chunks lists.now) list) }
     requires last { last_or None (chain_of (L.chunks lists.now) list) ≡ Some last }
     requires asked { IsGiven basis.now.types request.type_no.0 }
     ensures { (new : List (TypeNo × TypeNo))
-        → answer_of new result ≡ decided (over Plain basis.now (chain_of (L.chunks lists.now) list) last request) }
+        → answer_by new result ≡ decided (over Plain basis.now (chain_of (L.chunks lists.now) list) last request) }
 {
     let parent = basis.type_held(last);
     let is_double = parent.0 == request.type_no.0;

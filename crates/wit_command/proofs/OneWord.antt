@@ -11,11 +11,11 @@ use Rattle.clap.proofs.OnLiterals.{clap_on_literals}
 use Rattle.wit_model.specs.declared.lines.View.TheVariants.{Reports, Graph, Locks, Circle}
 use Rattle.wit_command.specs.declared.command.Command.{Command}
 use Rattle.wit_command.specs.declared.command.Command.TheVariants.{Show, Migrate, Demo}
-use Rattle.wit_command.specs.CommandLine.{asked, bytes_of, line, named, only_word, option_named}
+use Rattle.wit_command.specs.CommandLine.{asked, bytes_of, command_line, command_named, only_word, option_named}
 
 -- the rules that clap reads the words by
 abbrev pub rules : List Rule
-rules = (built line).top.rules
+rules = (built command_line).top.rules
 
 -- a short flag is unknown, so that its word is a value
 char_is_value : (word flags : Text) (k : ℕ) (o : Option ℕ)
@@ -53,7 +53,7 @@ given word false = ap (text_of word) (other_is_value word (long_of word))
 
 -- clap gives the word, but for `--`
 pub text_given : (name word : Text)
-    → first_of (codes "word") (matches_of line (name ∷ word ∷ [])) ≡ (if bytes_eq word (45 ∷ 45 ∷ []) then None else Some word)
+    → first_of (codes "word") (matches_of command_line (name ∷ word ∷ [])) ≡ (if bytes_eq word (45 ∷ 45 ∷ []) then None else Some word)
 unfolding walked
 text_given name word = given word (bytes_eq word (45 ∷ 45 ∷ []))
 
@@ -67,7 +67,7 @@ kept false word given e = sym e
 
 -- the text that clap gives is the only word
 pub given_is_asked : (words : List Text) (given : Text) → length words ≡ 2
-    → Some given ≡ first_of (codes "word") (matches_of line words) → only_word words ≡ Some given
+    → Some given ≡ first_of (codes "word") (matches_of command_line words) → only_word words ≡ Some given
 given_is_asked [] given two e = absurd (omega arith)
 given_is_asked (name ∷ []) given two e = absurd (omega arith)
 given_is_asked (name ∷ word ∷ []) given two e = kept (bytes_eq word (45 ∷ 45 ∷ [])) word given (e ∙ text_given name word)
@@ -75,7 +75,7 @@ given_is_asked (name ∷ word ∷ third ∷ more) given two e = absurd (omega ar
 
 -- what each word has that asks for something
 pub for_words : (P : Text → Type 0) → P (codes "replay") → P (codes "graph") → P (codes "locks") → P (codes "circle") → P (codes "migrate") → P (codes "demo")
-    → (word : Text) (what : Command) → named word ≡ Some what → P word
+    → (word : Text) (what : Command) → command_named word ≡ Some what → P word
 for_words P replay graph locks circle migrate demo word what is =
     go (bytes_eq word (codes "replay")) refl (bytes_eq word (codes "graph")) refl (bytes_eq word (codes "locks")) refl (bytes_eq word (codes "circle")) refl
     (bytes_eq word (codes "migrate")) refl (bytes_eq word (codes "demo")) refl is
@@ -97,8 +97,8 @@ for_words P replay graph locks circle migrate demo word what is =
     go false at false isg false isl false isc false ism false isd e = cc
 
 -- clap gives a text where the only word asks for something
-pub word_is_given : (words : List Text) (word : Text) (what : Command) → only_word words ≡ Some word → named word ≡ Some what
-    → first_of (codes "word") (matches_of line words) ≡ Some word
+pub word_is_given : (words : List Text) (word : Text) (what : Command) → only_word words ≡ Some word → command_named word ≡ Some what
+    → first_of (codes "word") (matches_of command_line words) ≡ Some word
 word_is_given [] word what e is = cc
 word_is_given (name ∷ []) word what e is = cc
 word_is_given (name ∷ only ∷ []) word what e is =
@@ -106,39 +106,39 @@ word_is_given (name ∷ only ∷ []) word what e is =
     ∙ ap (λ b. if b then None else Some word) (for_words (λ w. bytes_eq w (45 ∷ 45 ∷ []) ≡ false) refl refl refl refl refl refl word what is)
 word_is_given (name ∷ only ∷ third ∷ more) word what e is = cc
 
-literal_passes : (name word : Text) (what : Command) → named word ≡ Some what → takes line (name ∷ word ∷ []) ≡ true
+literal_passes : (name word : Text) (what : Command) → command_named word ≡ Some what → takes command_line (name ∷ word ∷ []) ≡ true
 unfolding clap_on_literals
-literal_passes name word what is = for_words (λ w. takes line (name ∷ w ∷ []) ≡ true) refl refl refl refl refl refl word what is
+literal_passes name word what is = for_words (λ w. takes command_line (name ∷ w ∷ []) ≡ true) refl refl refl refl refl refl word what is
 
 -- clap accepts a command line whose only word asks for something
-pub word_passes : (words : List Text) (word : Text) (what : Command) → only_word words ≡ Some word → named word ≡ Some what → takes line words ≡ true
+pub word_passes : (words : List Text) (word : Text) (what : Command) → only_word words ≡ Some word → command_named word ≡ Some what → takes command_line words ≡ true
 word_passes [] word what e is = cc
 word_passes (name ∷ []) word what e is = cc
-word_passes (name ∷ only ∷ []) word what e is = ap (λ (w : Text). takes line (name ∷ w ∷ [])) (same_text _ _ e) ∙ literal_passes name word what is
+word_passes (name ∷ only ∷ []) word what e is = ap (λ (w : Text). takes command_line (name ∷ w ∷ [])) (same_text _ _ e) ∙ literal_passes name word what is
 word_passes (name ∷ only ∷ third ∷ more) word what e is = cc
 
 -- where nothing can be asked for nothing is
-unnamed_by : (word : Text) (o : Option Command) → named word ≡ o → ((what : Command) → named word ≡ Some what → ⊥) → named word ≡ None
+unnamed_by : (word : Text) (o : Option Command) → command_named word ≡ o → ((what : Command) → command_named word ≡ Some what → ⊥) → command_named word ≡ None
 unnamed_by word None is never = is
 unnamed_by word (Some what) is never = absurd (never what is)
 
-pub unnamed_option : (word : Option Text) → ((w : Text) (what : Command) → word ≡ Some w → named w ≡ Some what → ⊥) → None ≡ option_named word
+pub unnamed_option : (word : Option Text) → ((w : Text) (what : Command) → word ≡ Some w → command_named w ≡ Some what → ⊥) → None ≡ option_named word
 unnamed_option None never = refl
-unnamed_option (Some word) never = sym (unnamed_by word (named word) refl (λ what is. never word what refl is))
+unnamed_option (Some word) never = sym (unnamed_by word (command_named word) refl (λ what is. never word what refl is))
 
-word_is_text : (word : Text) (what : Command) → named word ≡ Some what → IsUtf8 word
+word_is_text : (word : Text) (what : Command) → command_named word ≡ Some what → IsUtf8 word
 unfolding clap_on_literals
 word_is_text word what is =
     for_words IsUtf8 (codes "replay", (refl, refl)) (codes "graph", (refl, refl)) (codes "locks", (refl, refl)) (codes "circle", (refl, refl)) (codes "migrate", (refl, refl)) (codes "demo", (refl, refl)) word what is
 
 -- bytes that are no text ask for nothing
-pub unnamed_bytes : (word : List ℕ) → (IsUtf8 word → ⊥) → named word ≡ None
-unnamed_bytes word h = unnamed_by word (named word) refl (λ what is. h (word_is_text word what is))
+pub unnamed_bytes : (word : List ℕ) → (IsUtf8 word → ⊥) → command_named word ≡ None
+unnamed_bytes word h = unnamed_by word (command_named word) refl (λ what is. h (word_is_text word what is))
 
 -- words of which the first asks for nothing ask for nothing
-pub unasked : (words : List (Vec ℕ)) (word : Vec ℕ) → word ≡ get_or words 0 word → named word.items ≡ None → asked (bytes_of words) ≡ None
+pub unasked : (words : List (Vec ℕ)) (word : Vec ℕ) → word ≡ get_or words 0 word → command_named word.items ≡ None → asked (bytes_of words) ≡ None
 unasked [] word at unnamed = refl
-unasked (first ∷ []) word at unnamed = ap (λ (w : Vec ℕ). named w.items) (sym at) ∙ unnamed
+unasked (first ∷ []) word at unnamed = ap (λ (w : Vec ℕ). command_named w.items) (sym at) ∙ unnamed
 unasked (first ∷ second ∷ more) word at unnamed = refl
 
 -- where nothing is left of a result it was an error

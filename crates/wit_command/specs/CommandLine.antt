@@ -13,8 +13,8 @@ abbrev pub bytes_of : List (Vec ℕ) → List (List ℕ)
 bytes_of words = map (λ (word : Vec ℕ). word.items) words
 
 -- what a word asks for
-abbrev pub named : List ℕ → Option Command
-named word =
+abbrev pub command_named : List ℕ → Option Command
+command_named word =
     if bytes_eq word (codes "replay") then Some (Show Reports)
     else if bytes_eq word (codes "graph") then Some (Show Graph)
     else if bytes_eq word (codes "locks") then Some (Show Locks)
@@ -25,7 +25,7 @@ named word =
 
 -- what the words behind the program's name ask for: they are one word, which names it
 abbrev pub asked : List (List ℕ) → Option Command
-asked (word ∷ []) = named word
+asked (word ∷ []) = command_named word
 asked _ = None
 
 -- the word behind the program's name, where it is the only one
@@ -35,11 +35,11 @@ only_word _ = None
 
 -- what a word asks for, where there is one
 abbrev pub option_named : Option Text → Option Command
-option_named (Some word) = named word
+option_named (Some word) = command_named word
 option_named None = None
 
 -- what clap is asked to read: one word, which has to be there, and no option
-abbrev pub line : App
-line = with_rule
+abbrev pub command_line : App
+command_line = with_rule
     (record (new_app (codes "witness")) { top = record (new_app (codes "witness")).top { disable_help_flag = true } })
     (record (new_rule (codes "word")) { required = true; action = Some Set })

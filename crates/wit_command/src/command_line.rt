@@ -2,7 +2,7 @@
 
 ghost use Rattle.std.specs.Prelude.{◌≡◌, [], ◌∷◌, IfOk, IfErr, IfSome, IfNone, None, true, codes, map, option_map};
 ghost use Rattle.clap.specs.Words.{first_of, kind_of, matches_of, takes};
-ghost use Rattle.wit_command.specs.CommandLine.{asked, bytes_of, line, named, only_word, option_named};
+ghost use Rattle.wit_command.specs.CommandLine.{asked, bytes_of, command_line, command_named, only_word, option_named};
 
 use crate::command::Command;
 use clap::error::ErrorKind;
@@ -56,8 +56,8 @@ fn command_of<'a, S: AsStr>(alloc: Global, words: &'a [S]) -> Result<Option<Comm
 
 fn asked_word<'a, S: AsStr>(alloc: Global, words: &'a [S]) -> Result<Option<&'a str>, Error>
     ensures word { IfOk result (λ word. option_map (λ s. s.now) word
-        ≡ first_of (codes "word") (matches_of line (map S.text words.entry.now))) }
-    ensures memory { IfErr result (λ e. takes line (map S.text words.entry.now) ≡ true
+        ≡ first_of (codes "word") (matches_of command_line (map S.text words.entry.now))) }
+    ensures memory { IfErr result (λ e. takes command_line (map S.text words.entry.now) ≡ true
         → kind_of e ≡ ErrorKind.OutOfMemory) }
 {
     let word = Arg::new(alloc, "word")
@@ -71,7 +71,7 @@ fn asked_word<'a, S: AsStr>(alloc: Global, words: &'a [S]) -> Result<Option<&'a 
 }
 
 fn named_command(word: &str) -> Option<Command>
-    ensures { result ≡ named word.now }
+    ensures { result ≡ command_named word.now }
 {
     match word {
         "replay" => Some(Command::Show(View::Reports)),

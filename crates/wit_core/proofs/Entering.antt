@@ -15,9 +15,9 @@ use Rattle.wit_model.specs.Rules.Orders.{listed_pairs}
 use Rattle.wit_model.specs.Rules.State.{Start}
 use Rattle.wit_model.specs.Rules.Start.{numbered, list_fault, lists_fault, has_bad_pair, blessed_fault, start_fault, IsAcceptedTo, IsRefused}
 use Rattle.wit_model.specs.Rules.Sizes.{Sizes}
-use Rattle.wit_core.specs.Known.{Facts, nothing}
+use Rattle.wit_core.specs.Known.{Facts, nothing_known}
 use Rattle.wit_core.specs.Fresh.{start_of}
-use Rattle.wit_core.specs.Listed.{listed, all_listed, pairs_of, with_list, with_lists, AreRefused}
+use Rattle.wit_core.specs.Listed.{listed, all_listed, pairs_of, list_entered, lists_entered, AreRefused}
 
 -- a fault of a list, and of none
 faulty : (most n : ℕ) (list : List (Class × List ℕ)) (lists : List (List (Class × List ℕ))) (types : List LockType) (orders : List Adoption) (fault : Fault)
@@ -84,12 +84,12 @@ module _ (lists : List (Vec (Class × String Global))) (most i : ℕ) (a : Vec (
       ))
       why)
 
-  pub known-step : (old next whole : Facts) → next ≡ record old { known = with_list old.known (listed items); spare = next.spare }
-      → record old { known = with_lists old.known (all_listed (drop i lists)); spare = 0 } ≡ whole
-      → record next { known = with_lists next.known (all_listed (drop (i + 1) lists)); spare = 0 } ≡ whole
+  pub known-step : (old next whole : Facts) → next ≡ record old { known = list_entered old.known (listed items); spare = next.spare }
+      → record old { known = lists_entered old.known (all_listed (drop i lists)); spare = 0 } ≡ whole
+      → record next { known = lists_entered next.known (all_listed (drop (i + 1) lists)); spare = 0 } ≡ whole
   known-step old next whole next_is was =
-      ap (λ (x : Facts). record x { known = with_lists x.known (all_listed (drop (i + 1) lists)); spare = 0 }) next_is
-      ∙ (ap (λ ls. record old { known = with_lists old.known ls; spare = 0 }) (sym here) ∙ was)
+      ap (λ (x : Facts). record x { known = lists_entered x.known (all_listed (drop (i + 1) lists)); spare = 0 }) next_is
+      ∙ (ap (λ ls. record old { known = lists_entered old.known ls; spare = 0 }) (sym here) ∙ was)
 
 -- a refusal of the lists refuses the start
 pub start-refused : (start : Start) (number : ℕ) (fault : Fault) → AreRefused (lists_fault start.sizes.types 1 start.lists [] []) start.lists number fault → IsRefused start number fault
@@ -125,7 +125,7 @@ start-unmade start fault out = inr (out, (omega arith, any (start_fault start)))
 
 -- what is known before anything has happened
 pub record IsBegun (sizes : Sizes) (lists : List (List (Class × List ℕ))) (blessed : List (List ℕ × List ℕ)) (k : Facts) : Type 0 where
-  pub known : k.known ≡ with_lists (record nothing { blessed = blessed }) lists
+  pub known : k.known ≡ lists_entered (record nothing_known { blessed = blessed }) lists
   pub live : k.live ≡ []
   pub files : k.files ≡ []
   pub types : k.most_types ≡ sizes.types
@@ -133,7 +133,7 @@ pub record IsBegun (sizes : Sizes) (lists : List (List (Class × List ℕ))) (bl
 -- what `new` finds once the lists are entered, and where they are refused
 module _ (profile : Profile) (sizes : Sizes) (most : ℕ) (lists passed_lists : List (Vec (Class × String Global))) (blessed passed_pairs : List (String Global × String Global)) (old : Facts)
     (most_is : most ≡ sizes.types) (lists_are : passed_lists ≡ lists) (pairs_are : passed_pairs ≡ blessed)
-    (old_is : old ≡ record { known = nothing; live = []; files = []; most_types = most; spare = old.spare }) where
+    (old_is : old ≡ record { known = nothing_known; live = []; files = []; most_types = most; spare = old.spare }) where
   same-answer : lists_fault most 1 (all_listed passed_lists) old.known.types old.known.orders ≡ lists_fault sizes.types 1 (all_listed lists) [] []
   same-answer =
       ap (λ m. lists_fault m 1 (all_listed passed_lists) old.known.types old.known.orders) most_is
@@ -165,17 +165,17 @@ module _ (profile : Profile) (sizes : Sizes) (most : ℕ) (lists passed_lists : 
       → start_fault (start_of profile sizes lists blessed) ≡ None
   all-accepted none good = start-accepted (start_of profile sizes lists blessed) (lists-accepted none) (ap (λ ps. has_bad_pair (pairs_of ps)) (sym pairs_are) ∙ good)
 
-  pub is-begun : (entered new : Facts) → entered ≡ record old { known = with_lists old.known (all_listed passed_lists); spare = entered.spare }
+  pub is-begun : (entered new : Facts) → entered ≡ record old { known = lists_entered old.known (all_listed passed_lists); spare = entered.spare }
       → new ≡ record entered { known = record entered.known { blessed = entered.known.blessed ++ pairs_of passed_pairs } }
       → IsBegun sizes (all_listed lists) (pairs_of blessed) new
   is-begun entered new entered_is new_is =
       let here : entered
-      ≡ record { known = with_lists nothing (all_listed lists); live = []; files = []; most_types = most; spare = entered.spare } =
-      entered_is ∙ (ap (λ ls. record old { known = with_lists old.known (all_listed ls); spare = entered.spare }) lists_are
-      ∙ ap (λ (k : Facts). record k { known = with_lists k.known (all_listed lists); spare = entered.spare }) old_is) in
+      ≡ record { known = lists_entered nothing_known (all_listed lists); live = []; files = []; most_types = most; spare = entered.spare } =
+      entered_is ∙ (ap (λ ls. record old { known = lists_entered old.known (all_listed ls); spare = entered.spare }) lists_are
+      ∙ ap (λ (k : Facts). record k { known = lists_entered k.known (all_listed lists); spare = entered.spare }) old_is) in
       subst (IsBegun sizes (all_listed lists) (pairs_of blessed)) (sym new_is) (record {
         known = ap (λ (k : Facts). record k.known { blessed = k.known.blessed ++ pairs_of passed_pairs }) here
-            ∙ ap (λ ps. with_lists (record nothing { blessed = pairs_of ps }) (all_listed lists)) pairs_are;
+            ∙ ap (λ ps. lists_entered (record nothing_known { blessed = pairs_of ps }) (all_listed lists)) pairs_are;
         live = ap (λ (k : Facts). k.live) here;
         files = ap (λ (k : Facts). k.files) here;
         types = ap (λ (k : Facts). k.most_types) here ∙ most_is;

@@ -16,7 +16,7 @@ use Rattle.wit_model.specs.Rules.Verdict.{is_of}
 use Rattle.wit_model.proofs.Chains.After.{noted, unlocked}
 use Rattle.wit_model.proofs.Chains.Changes.{at}
 use Rattle.wit_model.proofs.Chains.Effects.{is_not}
-use Rattle.wit_model.proofs.Chains.GroupSteps.{entered, withdrawn}
+use Rattle.wit_model.proofs.Chains.GroupSteps.{groups_entered, withdrawn}
 use Rattle.wit_model.proofs.Chains.Regrouping.{flat-joined, flat-left}
 use Rattle.wit_model.proofs.Chains.Seats as chains
 use Rattle.wit_model.proofs.Chains.Stands.{stands}
@@ -25,7 +25,7 @@ use Rattle.wit_held.specs.Chains.{is_other, change_lock, recursed, fewer, record
 use Rattle.wit_held.specs.Chains as held
 use Rattle.wit_core.specs.Acquiring.{taken}
 use Rattle.wit_core.specs.Held.{numbers, seat_view}
-use Rattle.wit_core.specs.Seats.{Holdings, asking, having_acquired, having_released, chunks_of}
+use Rattle.wit_core.specs.Seats.{Holdings, asking, having_acquired, having_released, chunks_held}
 
 abbrev number : Instance → ℕ
 number i = i.lock.0
@@ -89,7 +89,7 @@ flat-recorded l m site gs None = flat-joined (taken l m site) gs
 flat-recorded l m site gs (Some i) = flat-changed l.0 (recursed site) gs
 
 numbers-recorded : (l : LockNo) (m : Mode) (site : Site) (gs : List (List Instance)) (o : Option Instance)
-    → numbers (recorded_by (taken l m site) gs o) ≡ entered l.0 (numbers gs) o
+    → numbers (recorded_by (taken l m site) gs o) ≡ groups_entered l.0 (numbers gs) o
 numbers-recorded l m site gs None = numbers-joined (taken l m site) gs
 numbers-recorded l m site gs (Some i) = numbers-changed l.0 (recursed site) (λ j. refl) gs
 
@@ -122,8 +122,8 @@ acquired-view ls l m site p spin s kind = by spin ∙ ap (form s) kind
     form r b = seat
         (cond (not b) (noted l.0 m site (flat r.sleep) (find (is_of l.0) (flat r.sleep))) (flat r.sleep))
         (cond b (noted l.0 m site (flat r.spin) (find (is_of l.0) (flat r.spin))) (flat r.spin))
-        (cond (not b) (entered l.0 (numbers r.sleep) (find (is_of l.0) (flat r.sleep))) (numbers r.sleep))
-        (cond b (entered l.0 (numbers r.spin) (find (is_of l.0) (flat r.spin))) (numbers r.spin))
+        (cond (not b) (groups_entered l.0 (numbers r.sleep) (find (is_of l.0) (flat r.sleep))) (numbers r.sleep))
+        (cond b (groups_entered l.0 (numbers r.spin) (find (is_of l.0) (flat r.spin))) (numbers r.spin))
         p
 
     by : (b : Bool) → seat_view (asking p (having_acquired b (taken l m site) s)) ≡ form s b
@@ -152,11 +152,11 @@ released-view ls l spin s kind = by spin ∙ ap (unlocked_form l s) kind
         (flat-forgotten l s.sleep (find (is_of l) (flat s.sleep))) (numbers-forgotten l s.sleep (find (is_of l) (flat s.sleep)))
 
 -- the chunks of all seats
-pub chunks-viewed : (ss : List Holdings) → sum_by model.chunks_of (map seat_view ss) ≡ sum_by chunks_of ss
+pub chunks-viewed : (ss : List Holdings) → sum_by model.chunks_of (map seat_view ss) ≡ sum_by chunks_held ss
 chunks-viewed [] = refl
 chunks-viewed (s ∷ ss) =
     let a = sum_by-cons model.chunks_of (seat_view s) (map seat_view ss) in
-    let b = sum_by-cons chunks_of s ss in
+    let b = sum_by-cons chunks_held s ss in
     omega (arith, a, b, chunks-viewed ss, length-map s.sleep (map number), length-map s.spin (map number))
 
 -- how often a lock stands in a chain

@@ -17,7 +17,7 @@ use Rattle.wit_model.proofs.Histories.Legal.{sane_legal}
 use Rattle.wit_core.specs.declared.verifier.Verifier.TheInside.{Inside}
 use Rattle.wit_core.specs.Held.{numbers, seat_view, HoldAll}
 use Rattle.wit_core.specs.Kept.{IsTied, start_in, history_in}
-use Rattle.wit_core.specs.Seats.{Holdings, seat_in, groups_in, HoldFor}
+use Rattle.wit_core.specs.Seats.{Holdings, seat_in, groups_held, HoldFor}
 use Rattle.wit_core.proofs.Now.{view-is}
 use Rattle.wit_model.proofs.Numbered.{with_number-or}
 use Rattle.wit_core.proofs.Seen.{IsSeenAs}
@@ -67,7 +67,7 @@ module _ (v : Inside) (k : IsTied v) where
       ∙ (with_number-or (model.seats_of v.limits.seats (history_in v)) t model.no_seat given.0
       ∙ get_or-seats_of v.limits.seats t (history_in v) model.no_seat given.0 given.1)
 
-  chain-by : (b : Bool) (s : Holdings) → flat (groups_in b s) ≡ model.chain_in b (seat_view s)
+  chain-by : (b : Bool) (s : Holdings) → flat (groups_held b s) ≡ model.chain_in b (seat_view s)
   chain-by true s = refl
   chain-by false s = refl
 
@@ -76,18 +76,18 @@ module _ (v : Inside) (k : IsTied v) where
   chain-of false u h = refl
 
   -- each seat holds what the history has it hold
-  pub chain-held : (t : ℕ) (spin : Bool) → IsNumber v.limits.seats t → flat (groups_in spin (seat_in v.seats t)) ≡ chain spin t (history_in v)
+  pub chain-held : (t : ℕ) (spin : Bool) → IsNumber v.limits.seats t → flat (groups_held spin (seat_in v.seats t)) ≡ chain spin t (history_in v)
   chain-held t spin given =
       chain-by spin (seat_in v.seats t) ∙ ap (model.chain_in spin) (seat-is t given) ∙ chain-of spin t (history_in v)
 
-  groups-held : (t : ℕ) (spin : Bool) → IsNumber v.limits.seats t → groups_in spin (seat_in v.seats t) ≡ held_groups spin t (history_in v)
+  groups-held : (t : ℕ) (spin : Bool) → IsNumber v.limits.seats t → groups_held spin (seat_in v.seats t) ≡ held_groups spin t (history_in v)
   groups-held t spin given =
-      same-groups (groups_in spin (seat_in v.seats t)) (held_groups spin t (history_in v))
+      same-groups (groups_held spin (seat_in v.seats t)) (held_groups spin t (history_in v))
       (groups-by spin (seat_in v.seats t) ∙ ap (model.groups_in spin) (seat-is t given) ∙ groups-of spin t (history_in v)
       ∙ sym (numbers-held t (history_in v) (seat_groups spin t (history_in v))))
       (chain-held t spin given ∙ sym (groups-chain spin t (history_in v) (sane_legal (start_in v) v.known.files (history_in v) k.legal)))
     where
-      groups-by : (b : Bool) (s : Holdings) → numbers (groups_in b s) ≡ model.groups_in b (seat_view s)
+      groups-by : (b : Bool) (s : Holdings) → numbers (groups_held b s) ≡ model.groups_in b (seat_view s)
       groups-by true s = refl
       groups-by false s = refl
 

@@ -10,7 +10,7 @@ use Rattle.wit_model.specs.declared.locks.Lock.{Lock}
 use Rattle.wit_model.specs.declared.locks.LockType.{LockType}
 use Rattle.wit_model.specs.declared.locks.TypeNo.{TypeNo}
 use Rattle.wit_model.specs.declared.locks.Watch.{Watch}
-use Rattle.wit_model.specs.declared.calls.Asked.{Asked}
+use Rattle.wit_model.specs.declared.calls.TypedRequest.{TypedRequest}
 use Rattle.wit_model.specs.declared.calls.Request.{Request}
 use Rattle.wit_model.specs.Rules.Chunks.{Chunks, IsList, chain_of, list_of}
 use Rattle.wit_model.specs.Rules.Groups.{flat}
@@ -18,7 +18,7 @@ use Rattle.wit_model.specs.Rules.History.{chain, is_held}
 use Rattle.wit_model.specs.Rules.Locks.{locks_of, lock_at, unknown_lock}
 use Rattle.wit_model.specs.Rules.Numbers.{is_given, IsGiven, IsNumber}
 use Rattle.wit_model.specs.Rules.State.{Story, State, Seat, Known, state_of, typed_locks, seat_at, chain_in, is_seat}
-use Rattle.wit_model.specs.Rules.Verdict.{Basis, ruling, basis_of, asked_of, chain_asked, orders_behind, verdict}
+use Rattle.wit_model.specs.Rules.Verdict.{Basis, ruling, basis_of, typed_request, chain_asked, orders_behind, verdict}
 use Rattle.wit_model.proofs.Chains.Held.{made_sane}
 use Rattle.wit_model.proofs.Chains.Stands.{stands-chain}
 use Rattle.wit_model.proofs.Histories.Legal.{seat_at-state, one_chain, sane_legal}
@@ -79,12 +79,12 @@ module _ {v : Inside} {s : Story} (this : IsSeenAs v s) where
   asked-given l is = type-given l (subst (λ (x : State). is_given x.known.locks l ≡ true) (sym (now this)) is)
 
   -- so has the lock of a request
-  pub request-given : (q : Request) (asked : Asked) (types : List LockType) → types ≡ v.known.known.types → asked ≡ asked_of (state_of s).known q
+  pub request-given : (q : Request) (asked : TypedRequest) (types : List LockType) → types ≡ v.known.known.types → asked ≡ typed_request (state_of s).known q
       → is_given (state_of s).known.locks q.lock.0 ≡ true → IsGiven types asked.type_no.0
   request-given q asked types same is given =
       subst (λ ts. IsGiven ts asked.type_no.0) (sym same)
       (subst (λ (n : TypeNo). IsGiven v.known.known.types n.0)
-      (ap (λ (x : State). (lock_at x.known.locks q.lock.0).type_no) (now this) ∙ sym (ap (λ (a : Asked). a.type_no) is)) (asked-given q.lock.0 given))
+      (ap (λ (x : State). (lock_at x.known.locks q.lock.0).type_no) (now this) ∙ sym (ap (λ (a : TypedRequest). a.type_no) is)) (asked-given q.lock.0 given))
 
   -- so has each lock's place
   pub types-given : (names : Names) (types : List TypeNo) → names.types ≡ v.known.known.types → types ≡ map (λ (l : Lock). l.type_no) v.known.known.locks → AreTypes names types
@@ -153,22 +153,22 @@ module _ {v : Inside} {s : Story} (this : IsSeenAs v s) where
         })
 
     -- what is told of the table, the matrix's orders and the lists is told of the state
-    told-now : {X : Type 0} (F : Basis → Watch → List Instance → List Instance → Asked → X) (names : Names) (types : List TypeNo) (watch : Watch) (q : Request) (asked : Asked)
+    told-now : {X : Type 0} (F : Basis → Watch → List Instance → List Instance → TypedRequest → X) (names : Names) (types : List TypeNo) (watch : Watch) (q : Request) (asked : TypedRequest)
         → names.types ≡ v.known.known.types → names.blessed ≡ v.known.known.blessed → types ≡ map (λ (l : Lock). l.type_no) v.known.known.locks → watch ≡ v.watch
-        → asked ≡ asked_of (state_of s).known q
+        → asked ≡ typed_request (state_of s).known q
         → F (with_names names.types types names.blessed) watch (sleep_chain c t) (spin_chain c t) asked
-        ≡ F (basis_of (state_of s).known) (state_of s).watch (seat_at (state_of s) t).sleep (seat_at (state_of s) t).spin (asked_of (state_of s).known q)
+        ≡ F (basis_of (state_of s).known) (state_of s).watch (seat_at (state_of s) t).sleep (seat_at (state_of s) t).spin (typed_request (state_of s).known q)
     told-now F names types watch q asked same_types same_blessed are watches is =
         ap₂ (λ ts bs. F (with_names ts types bs) watch (sleep_chain c t) (spin_chain c t) asked) same_types same_blessed
         ∙ ap₂ (λ ls w. F (with_names v.known.known.types ls v.known.known.blessed) w (sleep_chain c t) (spin_chain c t) asked) are watches
         ∙ ap₂ (λ sl sp. F (basis_of v.known.known) v.watch sl sp asked) (chain-of-list false) (chain-of-list true)
         ∙ ap (F (basis_of v.known.known) v.watch (locks_in false (seat_in v.seats t)) (locks_in true (seat_in v.seats t))) is
-        ∙ ap (λ (x : Seat). F (basis_of v.known.known) v.watch x.sleep x.spin (asked_of (state_of s).known q)) (sym (view-is v.seats t))
-        ∙ ap (λ (x : State). F (basis_of x.known) x.watch (seat_at x t).sleep (seat_at x t).spin (asked_of (state_of s).known q)) (now this)
+        ∙ ap (λ (x : Seat). F (basis_of v.known.known) v.watch x.sleep x.spin (typed_request (state_of s).known q)) (sym (view-is v.seats t))
+        ∙ ap (λ (x : State). F (basis_of x.known) x.watch (seat_at x t).sleep (seat_at x t).spin (typed_request (state_of s).known q)) (now this)
 
-    module _ (names : Names) (relation : Relation) (types : List TypeNo) (q : Request) (asked : Asked)
+    module _ (names : Names) (relation : Relation) (types : List TypeNo) (q : Request) (asked : TypedRequest)
         (same_types : names.types ≡ v.known.known.types) (same_blessed : names.blessed ≡ v.known.known.blessed) (direct : HasSameOrders relation.orders v.known.known.orders)
-        (pairs : HasSameFound relation.found v.known.known.found) (are : types ≡ map (λ (l : Lock). l.type_no) v.known.known.locks) (is_asked : asked ≡ asked_of (state_of s).known q) where
+        (pairs : HasSameFound relation.found v.known.known.found) (are : types ≡ map (λ (l : Lock). l.type_no) v.known.known.locks) (is_asked : asked ≡ typed_request (state_of s).known q) where
       -- the ruling over the table and the matrix is the rules' verdict
       pub verdict-told : (profile : Profile) (watch : Watch) → profile ≡ v.profile → watch ≡ v.watch
           → ruling profile (basis names relation types) watch (sleep_chain c t) (spin_chain c t) asked

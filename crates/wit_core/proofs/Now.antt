@@ -10,7 +10,7 @@ use Rattle.wit_model.specs.Rules.Locks.{locks_of, lock_at, is_spin_lock, destroy
 use Rattle.wit_model.specs.Rules.Numbers.{is_given, IsGiven}
 use Rattle.wit_model.specs.Rules.State.{Story, State, state_of, live, is_seat, seat_at, seat_among, chain_in, groups_in, free, is_live}
 use Rattle.wit_model.specs.Rules.State as model
-use Rattle.wit_model.specs.Rules.Step.{chain_for, groups_for, recorded}
+use Rattle.wit_model.specs.Rules.Step.{chain_for, groups_for, recorded_reply}
 use Rattle.wit_model.specs.Rules.Types.{is_spin}
 use Rattle.wit_model.specs.Rules.Destroying.{uses, is_used}
 use Rattle.wit_model.specs.Rules.Verdict.{is_of}
@@ -41,7 +41,7 @@ chain-in : (spin : Bool) (s : Holdings) → chain_in spin (seat_view s) ≡ lock
 chain-in true s = refl
 chain-in false s = refl
 
-groups-in : (spin : Bool) (s : Holdings) → groups_in spin (seat_view s) ≡ numbers (seats.groups_in spin s)
+groups-in : (spin : Bool) (s : Holdings) → groups_in spin (seat_view s) ≡ numbers (seats.groups_held spin s)
 groups-in true s = refl
 groups-in false s = refl
 
@@ -107,7 +107,7 @@ module _ {v : Inside} {s : Story} (this : IsSeenAs v s) where
     pub chain-now : locks_in spin (seat_in v.seats t) ≡ chain_for (state_of s) t l
     chain-now = locks-told t spin ∙ ap (λ b. chain_in b (seat_at (state_of s) t)) kind
 
-    groups-now : numbers (seats.groups_in spin (seat_in v.seats t)) ≡ groups_for (state_of s) t l
+    groups-now : numbers (seats.groups_held spin (seat_in v.seats t)) ≡ groups_for (state_of s) t l
     groups-now =
         sym (groups-in spin (seat_in v.seats t)) ∙ ap (groups_in spin) (seat-now t) ∙ ap (λ b. groups_in b (seat_at (state_of s) t)) kind
 
@@ -121,16 +121,16 @@ module _ {v : Inside} {s : Story} (this : IsSeenAs v s) where
         (omega (arith, once, stands-filter l (chain (is_spin_lock (locks_of (history_in v)) l) t (history_in v))))))
 
     -- what becomes of an acquisition
-    pub acquisition-told : reply_to (acquisition v.watch v.seats t spin l) ≡ recorded (state_of s) t l
+    pub acquisition-told : reply_to (acquisition v.watch v.seats t spin l) ≡ recorded_reply (state_of s) t l
     acquisition-told =
-        told_by (is_off v.watch) (is_some (find (is_of l) (locks_in spin (seat_in v.seats t)))) (opens (seats.groups_in spin (seat_in v.seats t))) (eqb (free_in v.seats) 0)
+        told_by (is_off v.watch) (is_some (find (is_of l) (locks_in spin (seat_in v.seats t)))) (opens (seats.groups_held spin (seat_in v.seats t))) (eqb (free_in v.seats) 0)
         ∙ ap (λ w. cond (is_off w) reply.Unrecorded
         (cond (is_some (find (is_of l) (locks_in spin (seat_in v.seats t)))) reply.Recorded
-        (cond (opens (seats.groups_in spin (seat_in v.seats t)) && eqb (free_in v.seats) 0) reply.Exhausted reply.Recorded)))
+        (cond (opens (seats.groups_held spin (seat_in v.seats t)) && eqb (free_in v.seats) 0) reply.Exhausted reply.Recorded)))
         (ap (λ (x : State). x.watch) now)
         ∙ ap₂ (λ b c. cond (is_off (state_of s).watch) reply.Unrecorded (cond b reply.Recorded (cond c reply.Exhausted reply.Recorded)))
         (ap (λ c. is_some (find (is_of l) c)) chain-now)
-        (ap₂ (λ o n. o && eqb n 0) (sym (opens-numbers (seats.groups_in spin (seat_in v.seats t))) ∙ ap opens groups-now) free-told)
+        (ap₂ (λ o n. o && eqb n 0) (sym (opens-numbers (seats.groups_held spin (seat_in v.seats t))) ∙ ap opens groups-now) free-told)
 
 -- a property of some seat, as the rules see it
 pub any-viewed : (has : model.Seat → Bool) (ss : List Holdings) → list_any (λ s. has (seat_view s)) ss ≡ list_any has (map seat_view ss)

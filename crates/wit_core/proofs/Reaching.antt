@@ -12,7 +12,7 @@ use Rattle.wit_model.specs.declared.locks.SeatNo.{SeatNo}
 use Rattle.wit_model.specs.Rules.Numbers.{with_number, IsNumber}
 use Rattle.wit_model.proofs.Numbered.{with_number-or}
 use Rattle.wit_core.specs.declared.circle.Reached.{Reached}
-use Rattle.wit_core.specs.Searching.{is_marked, rows_of, says, Says, IsTable, nobody, seat_reached, next_reached, IsTrail, one_if_not, IsSearch, IsLater, AreMarked, Reaches}
+use Rattle.wit_core.specs.Searching.{is_marked, table_of, says, Says, IsTable, nobody, seat_reached, next_reached, IsTrail, one_if_not, IsSearch, IsLater, AreMarked, Reaches}
 
 -- ---- marks
 
@@ -68,27 +68,27 @@ module _ (marks : List Bool) (i : ℕ) (lt : i < length marks) where
 abbrev items : Vec Bool → List Bool
 items row = row.items
 
-pub rows-many : (rows : List (Vec Bool)) → length (rows_of rows) ≡ length rows
+pub rows-many : (rows : List (Vec Bool)) → length (table_of rows) ≡ length rows
 rows-many rows = length-map rows items
 
-row-items : (rows : List (Vec Bool)) (i : ℕ) (row : Vec Bool) → i < length rows → row ≡ get_or rows i row → get_or (rows_of rows) i [] ≡ row.items
+row-items : (rows : List (Vec Bool)) (i : ℕ) (row : Vec Bool) → i < length rows → row ≡ get_or rows i row → get_or (table_of rows) i [] ≡ row.items
 row-items rows i row lt read = get_or-map items rows i row [] lt ∙ ap items (sym read)
 
-pub row-length : (rows : List (Vec Bool)) (i : ℕ) (row : Vec Bool) → IsTable (rows_of rows) → i < length rows → row ≡ get_or rows i row → row.len ≡ length rows
+pub row-length : (rows : List (Vec Bool)) (i : ℕ) (row : Vec Bool) → IsTable (table_of rows) → i < length rows → row ≡ get_or rows i row → row.len ≡ length rows
 row-length rows i row table lt read =
     let many = rows-many rows in
     let is = ap length (row-items rows i row lt read) in
     let own = table i (omega (arith, lt, many)) in
     omega (arith, row.ok.0, many, is, own)
 
-pub said : (rows : List (Vec Bool)) (t u : ℕ) (row : Vec Bool) (x : Bool) → IsTable (rows_of rows) → IsNumber (length rows) t → IsNumber (length rows) u
-    → row ≡ get_or rows (u - 1) row → x ≡ get_or row.items (t - 1) x → x ≡ says (rows_of rows) t u
+pub said : (rows : List (Vec Bool)) (t u : ℕ) (row : Vec Bool) (x : Bool) → IsTable (table_of rows) → IsNumber (length rows) t → IsNumber (length rows) u
+    → row ≡ get_or rows (u - 1) row → x ≡ get_or row.items (t - 1) x → x ≡ says (table_of rows) t u
 said rows t u row x table seat other read here =
     let lt : u - 1 < length rows = omega (arith, other) in
     let long = row-length rows (u - 1) row table lt read in
     get_or_read row.items (t - 1) x (omega (arith, long, row.ok.0, seat)) here false
     ∙ sym (marked-at row.items t seat.0)
-    ∙ sym (ap (λ marks. is_marked marks t) (with_number-or (rows_of rows) u [] other.0 ∙ row-items rows (u - 1) row lt read))
+    ∙ sym (ap (λ marks. is_marked marks t) (with_number-or (table_of rows) u [] other.0 ∙ row-items rows (u - 1) row lt read))
 
 pub says_within : (rows : List (List Bool)) (t u : ℕ) → IsTable rows → IsNumber (length rows) u → Says rows t u → t ≤ length rows
 says_within rows t u table other is =
@@ -129,13 +129,13 @@ begun rows first r seat number =
     }
 
 pub begins : (rows : List (Vec Bool)) (first : SeatNo) (reached : List Reached) (r : Reached) (seen marks : List Bool) → IsNumber (length rows) first.0 → r.seat ≡ first
-    → reached ≡ [] ++ r ∷ [] → seen ≡ replicate (length rows) false → marks ≡ set seen (first.0 - 1) true → IsSearch (rows_of rows) first.0 reached marks
+    → reached ≡ [] ++ r ∷ [] → seen ≡ replicate (length rows) false → marks ≡ set seen (first.0 - 1) true → IsSearch (table_of rows) first.0 reached marks
 begins rows first reached r seen marks number seat is blank marked =
     let many = rows-many rows in
-    subst (λ (xs : List Reached). IsSearch (rows_of rows) first.0 xs marks) (sym is)
-    (subst (IsSearch (rows_of rows) first.0 (r ∷ []))
+    subst (λ (xs : List Reached). IsSearch (table_of rows) first.0 xs marks) (sym is)
+    (subst (IsSearch (table_of rows) first.0 (r ∷ []))
     (sym (marked ∙ ap (λ xs. set xs (first.0 - 1) true) (blank ∙ ap (λ n. replicate n false) (sym many))))
-    (begun (rows_of rows) first.0 r (ap (λ (s : SeatNo). s.0) seat) (number.0, omega (arith, number, many))))
+    (begun (table_of rows) first.0 r (ap (λ (s : SeatNo). s.0) seat) (number.0, omega (arith, number, many))))
 
 -- ---- one more seat is reached
 

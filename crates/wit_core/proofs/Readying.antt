@@ -19,7 +19,7 @@ use Rattle.wit_matrix.specs.Relation.{OrdersAmong}
 use Rattle.wit_core.specs.declared.ready.Ready.{Ready}
 use Rattle.wit_core.specs.declared.verifier.Verifier.TheInside.{Inside}
 use Rattle.wit_core.specs.Kept.{IsReady}
-use Rattle.wit_core.specs.Plans.{call_of, planned}
+use Rattle.wit_core.specs.Plans.{planned_call, planned}
 use Rattle.wit_core.proofs.Keeping.{orders_within}
 use Rattle.wit_core.proofs.Seen.{IsSeenAs}
 
@@ -39,7 +39,7 @@ module _ {v : Inside} {s : Story} (this : IsSeenAs v s) (r : Ready) (there : v.r
     pub ready_answer : answer_of s t call ≡ Ok r.reply
     ready_answer =
         subst (λ (p : ℕ × Call). answer_of s p.0 p.1 ≡ Ok r.reply) same_call
-        (subst (λ (x : Story). answer_of x r.seat.0 (call_of r.plan) ≡ Ok r.reply) this.seen is_ready.answer)
+        (subst (λ (x : Story). answer_of x r.seat.0 (planned_call r.plan) ≡ Ok r.reply) this.seen is_ready.answer)
 
 no_more : (call : Call) → adopted call Ignored ≡ []
 no_more (Check q) = refl

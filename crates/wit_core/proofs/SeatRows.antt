@@ -14,7 +14,7 @@ use Rattle.wit_model.specs.Rules.Numbers.{is_given, IsGiven}
 use Rattle.wit_model.specs.Rules.Verdict.{is_of}
 use Rattle.wit_model.proofs.Numbered.{with_number-or, with_number-none}
 use Rattle.wit_held.specs.Chains.{recorded, forgotten, is_unrecorded, after_record, after_forget}
-use Rattle.wit_core.specs.Seats.{Holdings, Seating, no_holdings, idle_seating, seat_in, groups_in, locks_in, chunks_of, free_in, with_seat, asking, in_groups, having_acquired, having_released, has_no_room, after_acquired, HoldFor}
+use Rattle.wit_core.specs.Seats.{Holdings, Seating, no_holdings, idle_seating, seat_in, groups_held, locks_in, chunks_held, free_in, with_seat, asking, in_groups, having_acquired, having_released, has_no_room, after_acquired, HoldFor}
 use Rattle.wit_core.specs.Seated.{seat_by, seats_by, seating_in, AreSeated}
 use Rattle.wit_core.specs.declared.seats.Seats.TheInside.{Inside}
 
@@ -67,7 +67,7 @@ module _ (c : Chunks) (ps : List (Option Request)) where
       let g = given-by t given in
       get_or-map-range_with_len (seat_by c ps) 1 (length ps) (t - 1) t d (omega (arith, g.0, g.1)) (omega (arith, g.0))
 
-  pub groups-is : (spin : Bool) (t : ℕ) → groups_in spin (seat_by c ps t) ≡ groups_of c (list_of spin t)
+  pub groups-is : (spin : Bool) (t : ℕ) → groups_held spin (seat_by c ps t) ≡ groups_of c (list_of spin t)
   groups-is true t = refl
   groups-is false t = refl
 
@@ -124,7 +124,7 @@ module _ (c : Chunks) (ps : List (Option Request)) where
 
     -- the groups of all lists are those of all seats
     halves : (k n : ℕ) → length c.groups ≡ 2 * (k + n)
-        → sum_by length (drop (2 * k) c.groups) ≡ sum_by chunks_of (map (seat_by c ps) (range_with_len (k + 1) n))
+        → sum_by length (drop (2 * k) c.groups) ≡ sum_by chunks_held (map (seat_by c ps) (range_with_len (k + 1) n))
     halves k zero len = ap (sum_by length) (nil_from_length (drop (2 * k) c.groups) (omega (arith, length-drop (2 * k) c.groups, len)))
     halves k (suc n) len =
         let one = sum_by-drop_more length c.groups (2 * k) [] (omega (arith, len)) in
@@ -132,14 +132,14 @@ module _ (c : Chunks) (ps : List (Option Request)) where
         let rest = halves (k + 1) n (omega (arith, len)) in
         let next : 2 * k + 1 + 1 ≡ 2 * (k + 1) = omega arith in
         let left = ap (λ m. sum_by length (drop m c.groups)) next in
-        let here = sum_by-cons chunks_of (seat_by c ps (k + 1)) (map (seat_by c ps) (range_with_len (k + 1 + 1) n)) in
+        let here = sum_by-cons chunks_held (seat_by c ps (k + 1)) (map (seat_by c ps) (range_with_len (k + 1 + 1) n)) in
         let low : list_of false (k + 1) - 1 ≡ 2 * k = omega arith in
         let high : list_of true (k + 1) - 1 ≡ 2 * k + 1 = omega arith in
         let low_is = ap (λ m. length (get_or c.groups m [])) low in
         let high_is = ap (λ m. length (get_or c.groups m [])) high in
         omega (arith, one, two, rest, left, here, low_is, high_is)
 
-    pub free-by : IsPlaced c → length c.unused ≡ c.size - sum_by chunks_of (seats_by c ps)
+    pub free-by : IsPlaced c → length c.unused ≡ c.size - sum_by chunks_held (seats_by c ps)
     free-by placed =
         let sum = halves 0 (length ps) (omega (arith, pair)) in
         let all = placed.all in
@@ -186,8 +186,8 @@ module _ (o : Inside) (r : Seating) (seen : seating_in o ≡ r) where
       pub list-now : IsList o.lists list
       list-now = subst (IsList o.lists) (sym is) (list-given o.lists o.requests.items k.lists t spin given-in)
 
-      groups-now : groups_of o.lists list ≡ groups_in spin (seat_in r t)
-      groups-now = ap (groups_of o.lists) is ∙ sym (groups-is o.lists o.requests.items spin t) ∙ ap (groups_in spin) (sym seat-now)
+      groups-now : groups_of o.lists list ≡ groups_held spin (seat_in r t)
+      groups-now = ap (groups_of o.lists) is ∙ sym (groups-is o.lists o.requests.items spin t) ∙ ap (groups_held spin) (sym seat-now)
 
       pub chain-now : chain_of o.lists list ≡ locks_in spin (seat_in r t)
       chain-now = ap flat groups-now

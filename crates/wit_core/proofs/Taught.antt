@@ -4,7 +4,7 @@ use Rattle.std.specs.List.{AllByRecursion, list_all}
 use Rattle.std.proofs.lemmas.Bool.{and_parts}
 use Rattle.wit_model.specs.declared.locks.Lock.{Lock}
 use Rattle.wit_model.specs.declared.calls.Adoption.{Adoption}
-use Rattle.wit_model.specs.declared.calls.Asked.{Asked}
+use Rattle.wit_model.specs.declared.calls.TypedRequest.{TypedRequest}
 use Rattle.wit_model.specs.declared.calls.Request.{Request}
 use Rattle.wit_model.specs.declared.calls.Call.TheVariants.{Check, DefineOrder}
 use Rattle.wit_model.specs.declared.calls.Reply.{Reply}
@@ -17,7 +17,7 @@ use Rattle.wit_model.specs.declared.faults.Fault.TheVariants.{KindMismatch, Same
 use Rattle.wit_model.specs.declared.locks.TypeNo.{TypeNo}
 use Rattle.wit_model.specs.declared.calls.Reply.TheVariants as reply
 use Rattle.wit_model.specs.Rules.State.{Known, state_of, known_of, types_of, typed_locks, orders_of}
-use Rattle.wit_model.specs.Rules.Verdict.{asked_of, orders_behind}
+use Rattle.wit_model.specs.Rules.Verdict.{typed_request, orders_behind}
 use Rattle.wit_model.specs.Rules.Step.{answer_of, is_logged}
 use Rattle.wit_model.proofs.Histories.Accepted.{same_reply, check_accepted}
 use Rattle.wit_model.proofs.Histories.AcceptedTurns.{define_accepted}
@@ -43,7 +43,7 @@ defined-by false false false true p c r is = subst IsDefined (same_reply is) tt
 defined-by false false false false p c r is = subst IsDefined (same_reply is) tt
 
 -- orders that can be learnt one after the other behind these types can all be adopted
-all-can-follow : (q : Asked) (n : ℕ) (base : List Adoption) → IsNumber n q.type_no.0 → (ps : List TypeNo) (os : List Adoption)
+all-can-follow : (q : TypedRequest) (n : ℕ) (base : List Adoption) → IsNumber n q.type_no.0 → (ps : List TypeNo) (os : List Adoption)
     → ((x : ℕ) → is_before os q.type_no.0 x ≡ false → is_before base q.type_no.0 x ≡ false) → AreFree q os ps → AllByRecursion (λ (p : TypeNo). IsNumber n p.0) ps
     → AllByRecursion (λ (p : TypeNo × TypeNo). (p.1 ≡ q.type_no) × CanFollow n base p.0.0 p.1.0) (orders_behind q ps)
 all-can-follow q n base child [] os grown free all = tt
@@ -111,7 +111,7 @@ module _ (v : Inside) (k : IsTied v) where
   apt t q (AdoptedAll pairs) ok =
       let accepted = check_accepted (state_of (story_in v)) t q _ ok in
       let l = taught-all (start_in v) v.known.files (history_in v) t q pairs accepted in
-      let asked = asked_of (known_of (start_in v) (history_in v)) q in
+      let asked = typed_request (known_of (start_in v) (history_in v)) q in
       subst (λ os. CanAllFollow v.known.most_types os pairs) (sym (ap (λ (x : Known). x.orders) (known-is v k)))
       (subst (CanAllFollow v.known.most_types (orders_of (start_in v) (history_in v))) (sym l.pairs) (
         asked.type_no,

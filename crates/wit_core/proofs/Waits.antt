@@ -16,7 +16,7 @@ use Rattle.wit_model.specs.Rules.Step.{held_by}
 use Rattle.wit_model.specs.Rules.Types.{is_spin}
 use Rattle.wit_model.specs.Rules.Verdict.{is_of}
 use Rattle.wit_model.proofs.Numbered.{with_number-or, with_number-none}
-use Rattle.wit_core.specs.Searching.{is_marked, waiting, all_waiting, rows_of, says, Says, IsTable, IsCircleFrom, TellsCircleIn}
+use Rattle.wit_core.specs.Searching.{is_marked, waiting, all_waiting, table_of, says, Says, IsTable, IsCircleFrom, TellsCircleBy}
 use Rattle.wit_core.proofs.Queues.{circle_likewise, turned}
 use Rattle.wit_core.proofs.Reaching.{marked-at, marked_within, rows-many}
 
@@ -119,31 +119,31 @@ waiting_more waits n u old new b before is more =
     let next : 1 + n ≡ n + 1 = omega arith in
     more ∙ ap (λ xs. xs ++ b ∷ []) before ∙ ap (λ x. waiting waits n u ++ x ∷ []) is ∙ sym (map-range_with_len_more (λ t. waits t u) 1 n (n + 1) next)
 
-pub rows_more : (waits : ℕ → ℕ → Bool) (n k : ℕ) (old new : List (Vec Bool)) (row : Vec Bool) → rows_of old ≡ map (waiting waits n) (range_with_len 1 k) → row.items ≡ waiting waits n (k + 1)
-    → new ≡ old ++ row ∷ [] → rows_of new ≡ map (waiting waits n) (range_with_len 1 (k + 1))
+pub rows_more : (waits : ℕ → ℕ → Bool) (n k : ℕ) (old new : List (Vec Bool)) (row : Vec Bool) → table_of old ≡ map (waiting waits n) (range_with_len 1 k) → row.items ≡ waiting waits n (k + 1)
+    → new ≡ old ++ row ∷ [] → table_of new ≡ map (waiting waits n) (range_with_len 1 (k + 1))
 rows_more waits n k old new row before is more =
     let next : 1 + k ≡ k + 1 = omega arith in
-    ap rows_of more ∙ map-append (λ (r : Vec Bool). r.items) old (row ∷ []) ∙ ap (λ xs. xs ++ row.items ∷ []) before
+    ap table_of more ∙ map-append (λ (r : Vec Bool). r.items) old (row ∷ []) ∙ ap (λ xs. xs ++ row.items ∷ []) before
     ∙ ap (λ x. map (waiting waits n) (range_with_len 1 k) ++ x ∷ []) is ∙ sym (map-range_with_len_more (waiting waits n) 1 k (k + 1) next)
 
 -- ---- what is told
 
-module _ (s : Story) (rows : List (Vec Bool)) (is : rows_of rows ≡ all_waiting (waits_for (state_of s)) s.start.sizes.seats) where
-  pub rows_table : IsTable (rows_of rows)
+module _ (s : Story) (rows : List (Vec Bool)) (is : table_of rows ≡ all_waiting (waits_for (state_of s)) s.start.sizes.seats) where
+  pub rows_table : IsTable (table_of rows)
   rows_table = subst IsTable (sym is) (is_table (waits_for (state_of s)) s.start.sizes.seats)
 
   pub rows-count : length rows ≡ s.start.sizes.seats
   rows-count = sym (rows-many rows) ∙ ap length is ∙ count-rows (waits_for (state_of s)) s.start.sizes.seats
 
   -- what the table tells is told of the state
-  pub told_of_state : (o : Option (List ℕ)) → TellsCircleIn (rows_of rows) o → TellsCircle (state_of s) o
-  told_of_state (Some seats) told = (circle_likewise (Says (rows_of rows)) (Waits (state_of s)) from seats told.0, told.1)
+  pub told_of_state : (o : Option (List ℕ)) → TellsCircleBy (table_of rows) o → TellsCircle (state_of s) o
+  told_of_state (Some seats) told = (circle_likewise (Says (table_of rows)) (Waits (state_of s)) from seats told.0, told.1)
     where
-      from : (t u : ℕ) → Says (rows_of rows) t u → Waits (state_of s) t u
+      from : (t u : ℕ) → Says (table_of rows) t u → Waits (state_of s) t u
       from t u says = says_true (waits_for (state_of s)) s.start.sizes.seats t u (subst (λ table. Says table t u) is says)
-  told_of_state None none = λ seats circle. none seats (circle_likewise (Waits (state_of s)) (Says (rows_of rows)) into seats circle)
+  told_of_state None none = λ seats circle. none seats (circle_likewise (Waits (state_of s)) (Says (table_of rows)) into seats circle)
     where
-      into : (t u : ℕ) → Waits (state_of s) t u → Says (rows_of rows) t u
+      into : (t u : ℕ) → Waits (state_of s) t u → Says (table_of rows) t u
       into t u waits =
           let within = waits_within s t u waits in
           subst (λ table. Says table t u) (sym is) (says-is (waits_for (state_of s)) s.start.sizes.seats t u within.0 within.1 ∙ waits)
@@ -172,7 +172,7 @@ module _ (rows : List (List Bool)) (table : IsTable rows) where
           let many = table (u - 1) (omega (arith, some, most)) in
           (within.0, omega (arith, within, many))
 
-  pub tells_none : ((t : ℕ) → 0 < t → t ≤ length rows → IsCircleFrom rows t None) → TellsCircleIn rows None
+  pub tells_none : ((t : ℕ) → 0 < t → t ≤ length rows → IsCircleFrom rows t None) → TellsCircleBy rows None
   tells_none none = λ seats circle.
       let l = turned (Says rows) seats circle in
       let number = first-number l.first l.others l.first l.circle in

@@ -15,7 +15,7 @@ use Rattle.wit_model.specs.Rules.Numbers.{with_number, is_given, IsGiven}
 use Rattle.wit_model.specs.Rules.State.{Story, Known, State, state_of, is_seat}
 use Rattle.wit_model.specs.Rules.State as model
 use Rattle.wit_model.specs.Rules.Verdict.{Basis, basis_of, type_held, is_giant, is_sleepable}
-use Rattle.wit_model.specs.Rules.Warnings.{is_named, is_allowed, warning, warned}
+use Rattle.wit_model.specs.Rules.Warnings.{is_lock_named, is_allowed, warning, warned}
 use Rattle.wit_model.proofs.Numbered.{with_number-map, with_number-none}
 use Rattle.wit_table.specs.Known.{Names}
 use Rattle.wit_matrix.specs.Relation.{Relation}
@@ -39,12 +39,12 @@ off false true true = refl
 
 -- a lock that was never made has no type, so that only its name allows it
 pub never-allowed : (k : Known) (named : Option LockNo) (flags : WarnFlags) (i : Instance) → with_number k.locks i.lock.0 ≡ None
-    → is_named named i ≡ is_allowed (basis_of k) named flags i
+    → is_lock_named named i ≡ is_allowed (basis_of k) named flags i
 never-allowed k named flags i none =
     let typeless : type_held (basis_of k) i ≡ record { 0 = 0 } =
     ap (λ (o : Option TypeNo). unwrap_or o (record { 0 = 0 })) (with_number-map (λ (l : Lock). l.type_no) k.locks i.lock.0 ∙ ap (option_map (λ (l : Lock). l.type_no)) none) in
-    off (is_named named i) (has_flag flags.0 0x01) (has_flag flags.0 0x02)
-    ∙ ap (λ (t : TypeNo). is_named named i || (has_flag flags.0 0x01 && is_giant (basis_of k) t) || (has_flag flags.0 0x02 && is_sleepable (basis_of k) t)) (sym typeless)
+    off (is_lock_named named i) (has_flag flags.0 0x01) (has_flag flags.0 0x02)
+    ∙ ap (λ (t : TypeNo). is_lock_named named i || (has_flag flags.0 0x01 && is_giant (basis_of k) t) || (has_flag flags.0 0x02 && is_sleepable (basis_of k) t)) (sym typeless)
 
 -- a lock that was made has one
 pub given-by : (locks : List Lock) (types : List TypeNo) (l : ℕ) (r : Option (Bor Lock)) → types ≡ map (λ (x : Lock). x.type_no) locks
@@ -67,7 +67,7 @@ module _ {v : Inside} {s : Story} (this : IsSeenAs v s) where
       ∙ ap (λ (x : State). is_allowed (basis_of x.known) named flags i) (now this)
 
   pub none-made : (named : Option LockNo) (flags : WarnFlags) (i : Instance) → with_number v.known.known.locks i.lock.0 ≡ None
-      → is_named named i ≡ is_allowed (basis_of (state_of s).known) named flags i
+      → is_lock_named named i ≡ is_allowed (basis_of (state_of s).known) named flags i
   none-made named flags i none = never-allowed (state_of s).known named flags i (ap (λ (x : State). with_number x.known.locks i.lock.0) (sym (now this)) ∙ none)
 
 module _ {v : Inside} {s : Story} (this : IsSeenAs v s) (t : ℕ) (is : is_seat (state_of s) t ≡ true) (c : Chunks) (holds : HoldFor v.seats c) where

@@ -10,7 +10,7 @@ use Rattle.wit_core.specs.Journal.{Journal}
 use Rattle.wit_core.specs.declared.ready.Ready.{Ready}
 use Rattle.wit_core.specs.Kept.{IsReady, IsTied, IsKept, story_in}
 use Rattle.wit_core.specs.Known.{Facts, IsRoomFor}
-use Rattle.wit_core.specs.Plans.{call_of, entries_for}
+use Rattle.wit_core.specs.Plans.{planned_call, entries_for}
 use Rattle.wit_core.proofs.Apart.{apart_kept}
 use Rattle.wit_core.proofs.Apt.{known-is}
 use Rattle.wit_core.proofs.Holding.{chain-held, holds-all}
@@ -42,8 +42,8 @@ with_ready v known log ready = record v { known = known; log = log; ready = read
 
 -- an answer asks nothing of the room
 pub same_answer : (v : Inside) (known : Facts) (log : Journal) (ready : Option Ready) (r : Ready) → known ≡ record v.known { spare = known.spare }
-    → log ≡ record v.log { spare = log.spare } → answer_of (story_in v) r.seat.0 (call_of r.plan) ≡ Ok r.reply
-    → answer_of (story_in (with_ready v known log ready)) r.seat.0 (call_of r.plan) ≡ Ok r.reply
+    → log ≡ record v.log { spare = log.spare } → answer_of (story_in v) r.seat.0 (planned_call r.plan) ≡ Ok r.reply
+    → answer_of (story_in (with_ready v known log ready)) r.seat.0 (planned_call r.plan) ≡ Ok r.reply
 same_answer v known log ready r knows logs ok =
     rw (knows, logs) ok
 
@@ -84,8 +84,8 @@ kept_roomy v known log k knows logs more longer =
 
 -- and so does making a call ready, once there is room for it
 pub kept_made_ready : (v : Inside) (known : Facts) (log : Journal) (r : Ready) → IsKept v → known ≡ record v.known { spare = known.spare }
-    → log ≡ record v.log { spare = log.spare } → answer_of (story_in v) r.seat.0 (call_of r.plan) ≡ Ok r.reply → r.kept ≡ r.reply → is_logged r.reply ≡ true
-    → entries_for (call_of r.plan) ≤ log.spare → IsRoomFor r.reply known.spare → IsKept (with_ready v known log (Some r))
+    → log ≡ record v.log { spare = log.spare } → answer_of (story_in v) r.seat.0 (planned_call r.plan) ≡ Ok r.reply → r.kept ≡ r.reply → is_logged r.reply ≡ true
+    → entries_for (planned_call r.plan) ≤ log.spare → IsRoomFor r.reply known.spare → IsKept (with_ready v known log (Some r))
 kept_made_ready v known log r k knows logs ok same kept_in_log longer more =
     kept_ready v known log (Some r) k knows logs
     (record { answer = same_answer v known log (Some r) r knows logs ok; kept = same; logged = kept_in_log; log = longer; known = more })

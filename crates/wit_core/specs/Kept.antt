@@ -17,7 +17,7 @@ use Rattle.wit_core.specs.declared.verifier.Verifier.TheInside.{Inside}
 use Rattle.wit_core.specs.Held.{seat_view, HoldAll}
 use Rattle.wit_core.specs.Known.{IsRoomFor}
 use Rattle.wit_core.specs.Listed.{all_listed}
-use Rattle.wit_core.specs.Plans.{call_of, planned, entries_for}
+use Rattle.wit_core.specs.Plans.{planned_call, planned, entries_for}
 use Rattle.wit_core.specs.Seats.{seat_in, locks_in, HoldFor}
 
 abbrev pub start_in : Inside → Start
@@ -44,10 +44,10 @@ state_in v = record {
 -- what is kept of a call that is prepared: its answer, which is logged, once more for the log, and room for its entries and for what it
 -- teaches
 pub record IsReady (v : Inside) (r : Ready) : Type 0 where
-  pub answer : answer_of (story_in v) r.seat.0 (call_of r.plan) ≡ Ok r.reply
+  pub answer : answer_of (story_in v) r.seat.0 (planned_call r.plan) ≡ Ok r.reply
   pub kept : r.kept ≡ r.reply
   pub logged : is_logged r.reply ≡ true
-  pub log : entries_for (call_of r.plan) ≤ v.log.spare
+  pub log : entries_for (planned_call r.plan) ≤ v.log.spare
   pub known : IsRoomFor r.reply v.known.spare
 
 -- the start is accepted, the log is a legal history, the parts are its state, the locks that weren't destroyed are live, the log owes

@@ -22,8 +22,8 @@ pub record Facts : Type 0 where
   pub most_types : ℕ
   pub spare : ℕ
 
-abbrev pub nothing : Known
-nothing = record { types = []; locks = []; orders = []; found = []; blessed = [] }
+abbrev pub nothing_known : Known
+nothing_known = record { types = []; locks = []; orders = []; found = []; blessed = [] }
 
 -- the type of a new lock is known, or can be enrolled
 abbrev pub IsAdmitted : Facts → NewLock → Type 0

@@ -32,14 +32,14 @@ abbrev pub pairs_of : List (String Global × String Global) → List (List ℕ �
 pairs_of blessed = map pair_of blessed
 
 -- what is known once a list, or each of these, is entered
-abbrev pub with_list : Known → List (Class × List ℕ) → Known
-with_list k list = record k {
+abbrev pub list_entered : Known → List (Class × List ℕ) → Known
+list_entered k list = record k {
   types = enrolled_all list k.types;
   orders = listed_pairs (enrolled_all list k.types) list k.orders;
 }
 
-abbrev pub with_lists : Known → List (List (Class × List ℕ)) → Known
-with_lists k lists = record k { types = listed_types lists k.types; orders = listed_orders lists k.types k.orders }
+abbrev pub lists_entered : Known → List (List (Class × List ℕ)) → Known
+lists_entered k lists = record k { types = listed_types lists k.types; orders = listed_orders lists k.types k.orders }
 
 -- only types with numbers up to this one are before others or after them
 abbrev pub IsWithin : ℕ → List Adoption → Type 0

@@ -19,8 +19,8 @@ waiting waits n u = map (λ t. waits t u) (range_with_len 1 n)
 abbrev pub all_waiting : (ℕ → ℕ → Bool) → ℕ → List (List Bool)
 all_waiting waits n = map (waiting waits n) (range_with_len 1 n)
 
-abbrev pub rows_of : List (Vec Bool) → List (List Bool)
-rows_of rows = map (λ (row : Vec Bool). row.items) rows
+abbrev pub table_of : List (Vec Bool) → List (List Bool)
+table_of rows = map (λ (row : Vec Bool). row.items) rows
 
 -- whether such a table says that t waits for u
 abbrev pub says : List (List Bool) → ℕ → ℕ → Bool
@@ -34,9 +34,9 @@ abbrev pub IsTable : List (List Bool) → Type 0
 IsTable rows = (i : ℕ) → i < length rows → length (slice_index_or rows i []) ≡ length rows
 
 -- what can be told of circles by such a table: one that starts with its least seat, or none exactly where there is none
-abbrev pub TellsCircleIn : List (List Bool) → Option (List ℕ) → Type 0
-TellsCircleIn rows None = (seats : List ℕ) → IsCircle (Says rows) seats → ⊥
-TellsCircleIn rows (Some seats) = IsCircle (Says rows) seats × (starts_with_least seats ≡ true)
+abbrev pub TellsCircleBy : List (List Bool) → Option (List ℕ) → Type 0
+TellsCircleBy rows None = (seats : List ℕ) → IsCircle (Says rows) seats → ⊥
+TellsCircleBy rows (Some seats) = IsCircle (Says rows) seats × (starts_with_least seats ≡ true)
 
 abbrev pub nobody : Reached
 nobody = record { seat = record { 0 = 0 }; next = 0 }

@@ -30,20 +30,20 @@ idle_seating seats chunks = record { seats = replicate seats no_holdings; chunks
 abbrev pub seat_in : Seating → ℕ → Holdings
 seat_in seating t = unwrap_or (with_number seating.seats t) no_holdings
 
-abbrev pub groups_in : Bool → Holdings → List (List Instance)
-groups_in spin s = if spin then s.spin else s.sleep
+abbrev pub groups_held : Bool → Holdings → List (List Instance)
+groups_held spin s = if spin then s.spin else s.sleep
 
 -- what a seat holds of one kind, oldest first
 abbrev pub locks_in : Bool → Holdings → List Instance
-locks_in spin s = flat (groups_in spin s)
+locks_in spin s = flat (groups_held spin s)
 
 -- the chunks of a seat: one for each group
-abbrev pub chunks_of : Holdings → ℕ
-chunks_of s = length s.sleep + length s.spin
+abbrev pub chunks_held : Holdings → ℕ
+chunks_held s = length s.sleep + length s.spin
 
 -- the chunks that no seat has
 abbrev pub free_in : Seating → ℕ
-free_in seating = seating.chunks - sum_by chunks_of seating.seats
+free_in seating = seating.chunks - sum_by chunks_held seating.seats
 
 -- the seating where the seat with this number is changed so
 abbrev pub with_seat : ℕ → (Holdings → Holdings) → Seating → Seating
@@ -69,7 +69,7 @@ having_released spin l s = in_groups spin (forgotten l) s
 -- whether an acquisition finds no room: the seat doesn't hold the lock, it would open a group, and no chunk is free
 abbrev pub has_no_room : Seating → ℕ → Bool → ℕ → Bool
 has_no_room seating t spin l =
-    not (is_some (find (is_of l) (locks_in spin (seat_in seating t)))) && (opens (groups_in spin (seat_in seating t)) && (free_in seating == 0))
+    not (is_some (find (is_of l) (locks_in spin (seat_in seating t)))) && (opens (groups_held spin (seat_in seating t)) && (free_in seating == 0))
 
 -- the seating after an acquisition
 abbrev pub after_acquired : ℕ → Bool → Instance → Seating → Seating
@@ -78,7 +78,7 @@ after_acquired t spin i seating = if has_no_room seating t spin i.lock.0 then se
 -- the lists of these chunks hold what the seats hold, 256 at most, and each chunk stands once
 pub record HoldFor (seating : Seating) (c : Chunks) : Type 0 where
   pub few : length seating.seats ≤ 256
-  pub groups : (t : ℕ) (spin : Bool) → IsGiven seating.seats t → groups_of c (list_of spin t) ≡ groups_in spin (seat_in seating t)
+  pub groups : (t : ℕ) (spin : Bool) → IsGiven seating.seats t → groups_of c (list_of spin t) ≡ groups_held spin (seat_in seating t)
   pub lists : length c.groups ≡ 2 * length seating.seats
   pub size : c.size ≡ seating.chunks
   pub placed : IsPlaced c

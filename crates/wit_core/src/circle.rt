@@ -6,7 +6,7 @@ ghost use Rattle.wit_model.specs.Rules.Circles.{waits_for, TellsCircle, circle_n
 ghost use Rattle.wit_model.specs.Rules.Clean.{is_clean};
 ghost use Rattle.wit_model.specs.Rules.Numbers.{IsNumber};
 ghost use Rattle.wit_model.specs.Rules.State.{state_of};
-ghost use Rattle.wit_core.specs.Searching.{waiting, all_waiting, rows_of, says, IsTable, seat_reached, IsTrail, IsSearch, Reaches, IsClosing, IsCircleFrom, TellsCircleIn};
+ghost use Rattle.wit_core.specs.Searching.{waiting, all_waiting, table_of, says, IsTable, seat_reached, IsTrail, IsSearch, Reaches, IsClosing, IsCircleFrom, TellsCircleBy};
 
 use crate::verifier::Verifier;
 use std::alloc::{AllocError, Global};
@@ -33,7 +33,7 @@ impl Verifier {
 
     // For each seat, which seats wait for it.
     fn all_waiting(&self) -> Result<Vec<Vec<bool>>, AllocError>
-        ensures { IfOk result (λ rows. rows_of rows.items ≡ all_waiting (waits_for (state_of self.now)) self.now.start.sizes.seats) }
+        ensures { IfOk result (λ rows. table_of rows.items ≡ all_waiting (waits_for (state_of self.now)) self.now.start.sizes.seats) }
     {
         let mut rows = Vec::new(self.alloc);
         for place in 0..self.seats() {
@@ -80,9 +80,9 @@ impl Verifier {
 /// # Errors
 /// Want of memory alone.
 pub fn circle_in(alloc: Global, rows: &[Vec<bool>]) -> Result<Option<Vec<SeatNo>>, AllocError>
-    requires table { IsTable (rows_of rows.now) }
+    requires table { IsTable (table_of rows.now) }
     requires few { length rows.now ≤ 256 }
-    ensures { IfOk result (λ c. TellsCircleIn (rows_of rows.now) (circle_numbers c)) }
+    ensures { IfOk result (λ c. TellsCircleBy (table_of rows.now) (circle_numbers c)) }
 {
     for place in 0..rows.len() as u16 {
         if let Some(circle) = circle_from(alloc, rows, SeatNo(place + 1))? {
@@ -94,10 +94,10 @@ pub fn circle_in(alloc: Global, rows: &[Vec<bool>]) -> Result<Option<Vec<SeatNo>
 
 // Whether such a table says that a seat waits for another.
 fn says(rows: &[Vec<bool>], seat: SeatNo, other: SeatNo) -> bool
-    requires table { IsTable (rows_of rows.now) }
+    requires table { IsTable (table_of rows.now) }
     requires seat { IsNumber (length rows.now) seat.0 }
     requires other { IsNumber (length rows.now) other.0 }
-    ensures { result ≡ says (rows_of rows.now) seat.0 other.0 }
+    ensures { result ≡ says (table_of rows.now) seat.0 other.0 }
 {
     rows[other.0 as usize - 1][seat.0 as usize - 1]
 }
@@ -115,10 +115,10 @@ fn circle_from(
     rows: &[Vec<bool>],
     first: SeatNo,
 ) -> Result<Option<Vec<SeatNo>>, AllocError>
-    requires table { IsTable (rows_of rows.now) }
+    requires table { IsTable (table_of rows.now) }
     requires few { length rows.now ≤ 256 }
     requires first { IsNumber (length rows.now) first.0 }
-    ensures { IfOk result (IsCircleFrom (rows_of rows.now) first.0) }
+    ensures { IfOk result (IsCircleFrom (table_of rows.now) first.0) }
 {
     let mut seen = vec![in alloc; false; rows.len()]?;
     seen[first.0 as usize - 1] = true;
@@ -146,10 +146,10 @@ fn circle_at(
     reached: &[Reached],
     place: usize,
 ) -> Result<Option<Vec<SeatNo>>, AllocError>
-    requires table { IsTable (rows_of rows.now) }
-    requires trail { IsTrail (rows_of rows.now) (seat_reached reached.now 0) reached.now }
+    requires table { IsTable (table_of rows.now) }
+    requires trail { IsTrail (table_of rows.now) (seat_reached reached.now 0) reached.now }
     requires place { place < length reached.now }
-    ensures { IfOk result (IsClosing (rows_of rows.now) reached.now place) }
+    ensures { IfOk result (IsClosing (table_of rows.now) reached.now place) }
 {
     let first = reached[0].seat;
     if !says(rows, first, reached[place].seat) {
@@ -173,11 +173,11 @@ fn reach(
     first: SeatNo,
     place: usize,
 ) -> Result<(), AllocError>
-    requires table { IsTable (rows_of rows.now) }
+    requires table { IsTable (table_of rows.now) }
     requires few { length rows.now ≤ 256 }
-    requires search { IsSearch (rows_of rows.now) first.0 reached.old.items seen.old }
+    requires search { IsSearch (table_of rows.now) first.0 reached.old.items seen.old }
     requires place { place < length reached.old.items }
-    ensures { OnOk result (Reaches (rows_of rows.now) first.0 place (length rows.now) reached.old.items reached.new.items seen.old seen.new) }
+    ensures { OnOk result (Reaches (table_of rows.now) first.0 place (length rows.now) reached.old.items reached.new.items seen.old seen.new) }
 {
     let goal = reached[place].seat;
     for index in first.0..rows.len() as u16 {

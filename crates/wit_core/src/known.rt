@@ -9,7 +9,7 @@ ghost use Rattle.wit_model.specs.Rules.Locks.{lock_at};
 ghost use Rattle.wit_model.specs.Rules.Numbers.{with_number, with_changed, IsGiven};
 ghost use Rattle.wit_model.specs.Rules.Refusals.{IsRefusal};
 ghost use Rattle.wit_core.specs.Live.{is_flagged, live_count};
-ghost use Rattle.wit_core.specs.Known.{nothing, learnt, with_lock, IsApt, IsRoomFor, IsAdmitted};
+ghost use Rattle.wit_core.specs.Known.{nothing_known, learnt, with_lock, IsApt, IsRoomFor, IsAdmitted};
 
 use crate::orders::Orders;
 use std::alloc::{AllocError, Global};
@@ -55,7 +55,7 @@ impl Known {
     pub fn new(alloc: Global, types: u32) -> Result<Known, Fault>
         requires positive { 0 < types }
         requires within { types ≤ 1023 }
-        ensures ok { IfOk result (λ k. k ≡ record { known = nothing; live = []; files = []; most_types = types; spare = k.spare }) }
+        ensures ok { IfOk result (λ k. k ≡ record { known = nothing_known; live = []; files = []; most_types = types; spare = k.spare }) }
         ensures err { IfErr result (λ e. e ≡ OutOfMemory) }
     {
         Ok(Known {

@@ -3,7 +3,7 @@
 ghost use Rattle.std.specs.Prelude.{◌≡◌, ◌↔◌, IsTrue, true, Ok};
 ghost use Rattle.wit_model.specs.Rules.Preparing.{IsPrepared, Prepares};
 ghost use Rattle.wit_model.specs.Rules.Step.{answer_of, is_logged};
-ghost use Rattle.wit_core.specs.Plans.{call_of, entries_for};
+ghost use Rattle.wit_core.specs.Plans.{planned_call, entries_for};
 
 use crate::verifier::Verifier;
 use wit_model::{Fault, LockNo, Reply, Request, SeatNo};
@@ -20,7 +20,7 @@ pub enum Plan {
 impl Plan {
     // How many entries of the log the call needs: a request will be noted and released.
     fn entries(self) -> u32
-        ensures { result ≡ entries_for (call_of self) }
+        ensures { result ≡ entries_for (planned_call self) }
     {
         match self {
             Plan::Check(_) => 3,
@@ -45,7 +45,7 @@ pub struct Ready {
 impl Verifier {
     // Whether this is the call that is prepared.
     pub(crate) fn is_ready(&self, seat: SeatNo, plan: Plan) -> bool
-        ensures { IsTrue result ↔ IsPrepared self.now seat.0 (call_of plan) }
+        ensures { IsTrue result ↔ IsPrepared self.now seat.0 (planned_call plan) }
     {
         match &self.ready {
             Some(ready) => ready.seat.0 == seat.0 && ready.plan == plan,
@@ -60,9 +60,9 @@ impl Verifier {
         plan: Plan,
         reply: Reply,
     ) -> Result<Reply, Fault>
-        requires answer { answer_of self.old seat.0 (call_of plan) ≡ Ok reply }
+        requires answer { answer_of self.old seat.0 (planned_call plan) ≡ Ok reply }
         requires logged { is_logged reply ≡ true }
-        ensures { Prepares self.old seat.0 (call_of plan) result self.new }
+        ensures { Prepares self.old seat.0 (planned_call plan) result self.new }
     {
         let kept = reply.share()?;
         let told = reply.share()?;

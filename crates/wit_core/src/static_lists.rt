@@ -8,7 +8,7 @@ ghost use Rattle.wit_model.specs.Rules.Orders.{listed_pairs, adopted_once};
 ghost use Rattle.wit_model.specs.declared.locks.Origin.TheVariants.{Listed};
 ghost use Rattle.wit_model.specs.Rules.Start.{list_fault, lists_fault, has_bad_pair};
 ghost use Rattle.wit_model.specs.declared.faults.Fault.TheVariants.{BadName, OutOfMemory};
-ghost use Rattle.wit_core.specs.Listed.{listed, all_listed, pairs_of, with_list, with_lists, IsWithin, is_back, goes_back, AreRefused, CanBeEnrolled, CanBeAdopted, KeepsRest};
+ghost use Rattle.wit_core.specs.Listed.{listed, all_listed, pairs_of, list_entered, lists_entered, IsWithin, is_back, goes_back, AreRefused, CanBeEnrolled, CanBeAdopted, KeepsRest};
 ghost use Rattle.wit_core.specs.Following.{CanFollow};
 
 use crate::known::Known;
@@ -64,7 +64,7 @@ impl Known {
         ensures accepted { OnOk result
             (lists_fault most 1 (all_listed lists.now) self.old.known.types self.old.known.orders ≡ None) }
         ensures entered { OnOk result (self.new ≡ record self.old {
-          known = with_lists self.old.known (all_listed lists.now);
+          known = lists_entered self.old.known (all_listed lists.now);
           spare = self.new.spare;
         }) }
         ensures err { IfErr result (λ e. AreRefused
@@ -88,7 +88,7 @@ impl Known {
         requires within { IsWithin (length self.old.known.types) self.old.known.orders }
         ensures accepted { OnOk result (list_fault most self.old.known.types self.old.known.orders (listed list.now) ≡ None) }
         ensures entered { OnOk result (self.new ≡ record self.old {
-          known = with_list self.old.known (listed list.now);
+          known = list_entered self.old.known (listed list.now);
           spare = self.new.spare;
         }) }
         ensures number { IfErr result (λ e. e.list ≡ number) }
@@ -180,7 +180,7 @@ impl Known {
         requires most { most ≡ self.old.most_types }
         requires accepted { list_fault most self.old.known.types self.old.known.orders (listed list.now) ≡ None }
         ensures ok { OnOk result (self.new ≡ record self.old {
-          known = with_list self.old.known (listed list.now);
+          known = list_entered self.old.known (listed list.now);
           spare = self.new.spare;
         }) }
         ensures err { IfErr result (λ e. e ≡ OutOfMemory) }

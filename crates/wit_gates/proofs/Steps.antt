@@ -12,7 +12,7 @@ use Rattle.wit_model.specs.declared.locks.Mode.TheVariants.{Shared, Exclusive}
 use Rattle.wit_model.specs.Gates.{AddsUp}
 use Rattle.wit_model.proofs.Gates.{adds_up, from_sum}
 use Rattle.wit_gates.specs.declared.claim.Claim.{Claim}
-use Rattle.wit_gates.specs.Claims.{claim, nothing, claim_of, mode_of, both, less_one, shares_of, exclusives_of, IsOfClaims, IsCounted}
+use Rattle.wit_gates.specs.Claims.{claim, nothing, claim_of, mode_of, both_claims, less_one, shares_claimed, exclusives_claimed, IsOfClaims, IsCounted}
 use Rattle.wit_gates.specs.Plays.{Stand}
 use Rattle.wit_gates.proofs.Sums.{sum-set, part-le-sum}
 
@@ -41,16 +41,16 @@ moved words all id c d after there turns (word, only, fits) =
     (λ turns. (
       after,
       refl,
-      from_sum after (shares_of (set all id d)) (exclusives_of (set all id d)) (turns (shares_of all) (exclusives_of all) (shares_of (set all id d)) (exclusives_of (set all id d))
+      from_sum after (shares_claimed (set all id d)) (exclusives_claimed (set all id d)) (turns (shares_claimed all) (exclusives_claimed all) (shares_claimed (set all id d)) (exclusives_claimed (set all id d))
           (sum-set (λ (c : Claim). c.shares) all id c d there) (sum-set (λ (c : Claim). c.exclusives) all id c d there)
           (part-le-sum (λ (c : Claim). c.shares) all id c there) (part-le-sum (λ (c : Claim). c.exclusives) all id c there)
-          (adds_up word (shares_of all) (exclusives_of all) fits)),
+          (adds_up word (shares_claimed all) (exclusives_claimed all) fits)),
     ))
     turns
 
-same_sums : (words : List ℕ) (all others : List Claim) → shares_of others ≡ shares_of all → exclusives_of others ≡ exclusives_of all → IsCounted words all → IsCounted words others
-same_sums words all others s e (word, only, fits) = let sum = adds_up word (shares_of all) (exclusives_of all) fits in
-    (word, only, from_sum word (shares_of others) (exclusives_of others) (omega arith))
+same_sums : (words : List ℕ) (all others : List Claim) → shares_claimed others ≡ shares_claimed all → exclusives_claimed others ≡ exclusives_claimed all → IsCounted words all → IsCounted words others
+same_sums words all others s e (word, only, fits) = let sum = adds_up word (shares_claimed all) (exclusives_claimed all) fits in
+    (word, only, from_sum word (shares_claimed others) (exclusives_claimed others) (omega arith))
 
 -- a step that writes whatever it finds
 pub sets : (slots id : ℕ) (me : Stand) (c d : Claim) (f : ℕ → ℕ) → Is me (claims c) → ((n : ℕ) → Turns c d n (f n)) → Allows Rule slots id me 0 f (λ n m. Is m (claims d))
@@ -99,17 +99,17 @@ looks slots id me c is two = subst (λ (me : Stand). Allows Rule slots id me 0 (
       moved s.words s.views id c c (slice_index s.words 0) there (stays c (slice_index s.words 0)) rule,
       (
         refl,
-        alone c rule.0 (shares_of s.views) (exclusives_of s.views) two (part-le-sum (λ (c : Claim). c.shares) s.views id c there) (part-le-sum (λ (c : Claim). c.exclusives) s.views id c there) (adds_up rule.0 (shares_of s.views) (exclusives_of s.views) rule.2),
+        alone c rule.0 (shares_claimed s.views) (exclusives_claimed s.views) two (part-le-sum (λ (c : Claim). c.shares) s.views id c there) (part-le-sum (λ (c : Claim). c.exclusives) s.views id c there) (adds_up rule.0 (shares_claimed s.views) (exclusives_claimed s.views) rule.2),
       ),
     ))
 
 -- two claims become one
-pub joins : (id other : ℕ) (c d : Claim) → Joins Rule id c other d (both c d) nothing
+pub joins : (id other : ℕ) (c d : Claim) → Joins Rule id c other d (both_claims c d) nothing
 joins id other c d s rule there apart second =
-    let one = set s.views id (both c d) in
+    let one = set s.views id (both_claims c d) in
     same_sums s.words s.views (set one other nothing)
-    (omega (arith, sum-set (λ (c : Claim). c.shares) s.views id c (both c d) there, sum-set (λ (c : Claim). c.shares) one other d nothing second))
-    (omega (arith, sum-set (λ (c : Claim). c.exclusives) s.views id c (both c d) there, sum-set (λ (c : Claim). c.exclusives) one other d nothing second))
+    (omega (arith, sum-set (λ (c : Claim). c.shares) s.views id c (both_claims c d) there, sum-set (λ (c : Claim). c.shares) one other d nothing second))
+    (omega (arith, sum-set (λ (c : Claim). c.exclusives) s.views id c (both_claims c d) there, sum-set (λ (c : Claim). c.exclusives) one other d nothing second))
     rule
 
 -- a share is taken off a claim that has one
@@ -154,36 +154,36 @@ weighs_one Shared = refl
 weighs_one Exclusive = refl
 
 -- two tickets claim two things
-pub weigh_two : (c d : Claim) (m n : Mode) → c ≡ claim_of m → d ≡ claim_of n → 2 ≤ (both c d).shares + (both c d).exclusives
+pub weigh_two : (c d : Claim) (m n : Mode) → c ≡ claim_of m → d ≡ claim_of n → 2 ≤ (both_claims c d).shares + (both_claims c d).exclusives
 weigh_two c d m n p q = omega (arith, weighs_one m, weighs_one n, ap (λ (c : Claim). c.shares + c.exclusives) p, ap (λ (c : Claim). c.shares + c.exclusives) q)
 
 -- two things of which none is exclusive are shares
-pub some_shares : (c d after : Claim) (m n : Mode) → c ≡ claim_of m → d ≡ claim_of n → after ≡ both c d → after.exclusives ≡ 0 → 1 ≤ after.shares
+pub some_shares : (c d after : Claim) (m n : Mode) → c ≡ claim_of m → d ≡ claim_of n → after ≡ both_claims c d → after.exclusives ≡ 0 → 1 ≤ after.shares
 some_shares c d after m n p q e none =
     omega (arith, weigh_two c d m n p q, ap (λ (c : Claim). c.shares) e, ap (λ (c : Claim). c.exclusives) e)
 
-read_back : (s : Board) (words : List ℕ) (word : ℕ) → Rule s → s.words ≡ words → get_elem? words 0 ≡ some word → AddsUp word (shares_of s.views) (exclusives_of s.views)
+read_back : (s : Board) (words : List ℕ) (word : ℕ) → Rule s → s.words ≡ words → get_elem? words 0 ≡ some word → AddsUp word (shares_claimed s.views) (exclusives_claimed s.views)
 read_back s words word (last, only, fits) same read =
     let e : some last ≡ some word = subst (λ (ws : List ℕ). get_elem? ws 0 ≡ some word) (sym same ∙ only) read in
-    subst (λ n. AddsUp n (shares_of s.views) (exclusives_of s.views)) (some-injective last word e) (adds_up last (shares_of s.views) (exclusives_of s.views) fits)
+    subst (λ n. AddsUp n (shares_claimed s.views) (exclusives_claimed s.views)) (some-injective last word e) (adds_up last (shares_claimed s.views) (exclusives_claimed s.views) fits)
 
 -- the word at the end
 pub ended : (s : Board) (words : List ℕ) (word : ℕ) → Rule s → s.words ≡ words → get_elem? words 0 ≡ some word → IsOfClaims word
-ended s words word rule same read = (s.views, from_sum word (shares_of s.views) (exclusives_of s.views) (read_back s words word rule same read))
+ended s words word rule same read = (s.views, from_sum word (shares_claimed s.views) (exclusives_claimed s.views) (read_back s words word rule same read))
 
 -- the word at the end, with a claim that is still out
 pub ended_alone : (s : Board) (words : List ℕ) (word id : ℕ) (c : Claim) → Rule s → s.words ≡ words → get_elem? words 0 ≡ some word
     → get_elem? s.views id ≡ some c → c ≡ claim 0 1 → word ≡ 4294967295
 ended_alone s words word id c rule same read there e =
-    let sum : AddsUp word (shares_of s.views) (exclusives_of s.views) = read_back s words word rule same read in
-    let part : c.exclusives ≤ exclusives_of s.views = part-le-sum (λ (c : Claim). c.exclusives) s.views id c there in
+    let sum : AddsUp word (shares_claimed s.views) (exclusives_claimed s.views) = read_back s words word rule same read in
+    let part : c.exclusives ≤ exclusives_claimed s.views = part-le-sum (λ (c : Claim). c.exclusives) s.views id c there in
     let one : c.exclusives ≡ 1 = ap (λ (c : Claim). c.exclusives) e in
     omega arith
 
 pub ended_shared : (s : Board) (words : List ℕ) (word id : ℕ) (c : Claim) → Rule s → s.words ≡ words → get_elem? words 0 ≡ some word
     → get_elem? s.views id ≡ some c → c ≡ claim 1 0 → (1 ≤ word) × (word ≤ 4294967294)
 ended_shared s words word id c rule same read there e =
-    let sum : AddsUp word (shares_of s.views) (exclusives_of s.views) = read_back s words word rule same read in
-    let part : c.shares ≤ shares_of s.views = part-le-sum (λ (c : Claim). c.shares) s.views id c there in
+    let sum : AddsUp word (shares_claimed s.views) (exclusives_claimed s.views) = read_back s words word rule same read in
+    let part : c.shares ≤ shares_claimed s.views = part-le-sum (λ (c : Claim). c.shares) s.views id c there in
     let one : c.shares ≡ 1 = ap (λ (c : Claim). c.shares) e in
     (omega arith, omega arith)

@@ -11,6 +11,6 @@ mode_checked (Check q) = Some q.mode
 mode_checked _ = None
 
 -- the mode in which a seat asks for a lock: that of its latest entry, where that is a check
-abbrev pub mode_asked : List Entry → Option Mode
-mode_asked [] = None
-mode_asked (e ∷ own) = mode_checked e.call
+abbrev pub latest_mode_asked : List Entry → Option Mode
+latest_mode_asked [] = None
+latest_mode_asked (e ∷ own) = mode_checked e.call

@@ -22,29 +22,29 @@ abbrev pub mode_of : Claim → Mode
 mode_of c = if c.exclusives == 0 then Shared else Exclusive
 
 -- two claims together
-abbrev pub both : Claim → Claim → Claim
-both c d = claim (c.shares + d.shares) (c.exclusives + d.exclusives)
+abbrev pub both_claims : Claim → Claim → Claim
+both_claims c d = claim (c.shares + d.shares) (c.exclusives + d.exclusives)
 
 -- a claim without one of its shares
 abbrev pub less_one : Claim → Claim
 less_one c = claim (c.shares - 1) c.exclusives
 
 -- how many shares are claimed in all
-abbrev pub shares_of : List Claim → ℕ
-shares_of claims = sum_by (λ (c : Claim). c.shares) claims
+abbrev pub shares_claimed : List Claim → ℕ
+shares_claimed claims = sum_by (λ (c : Claim). c.shares) claims
 
 -- how many exclusive holds are claimed in all
-abbrev pub exclusives_of : List Claim → ℕ
-exclusives_of claims = sum_by (λ (c : Claim). c.exclusives) claims
+abbrev pub exclusives_claimed : List Claim → ℕ
+exclusives_claimed claims = sum_by (λ (c : Claim). c.exclusives) claims
 
 -- some claims add up to this word
 abbrev pub IsOfClaims : ℕ → Type 0
 IsOfClaims word =
-    (claims : List Claim) × IsGateWord word (shares_of claims) (exclusives_of claims)
+    (claims : List Claim) × IsGateWord word (shares_claimed claims) (exclusives_claimed claims)
 
 -- the only word is that of a gate of which just this is out
 abbrev pub IsCounted : List ℕ → List Claim → Type 0
 IsCounted words claims =
     (word : ℕ)
     × (words ≡ word ∷ [])
-    × IsGateWord word (shares_of claims) (exclusives_of claims)
+    × IsGateWord word (shares_claimed claims) (exclusives_claimed claims)

@@ -3,7 +3,7 @@
 ghost use Rattle.std.specs.Prelude.{◌≡◌, Some, IfSome, MatchResult};
 ghost use Rattle.wit_model.specs.declared.locks.Mode.{Mode};
 ghost use Rattle.wit_model.specs.declared.locks.Mode.TheVariants.{Shared, Exclusive};
-ghost use Rattle.wit_gates.specs.Asking.{mode_asked};
+ghost use Rattle.wit_gates.specs.Asking.{latest_mode_asked};
 
 use std::sync::Wait;
 use wit_model::Mode;
@@ -23,7 +23,7 @@ pub trait Gate {
     /// Lets in a seat that just checked its request of the lock, and waits until it can. None only
     /// where as many share the gate as can.
     fn acquire<J: Room, R: Wait>(&self, rt: &R, seat: &Seat<J>, mode: Mode) -> Option<Self::Ticket>
-        requires { mode_asked seat.now.own ≡ Some mode }
+        requires { latest_mode_asked seat.now.own ≡ Some mode }
         ensures { IfSome result (admits self.now mode) };
 
     /// Lets the caller in if that needs no waiting.

@@ -1,7 +1,7 @@
 //! What always holds of a gate's word, and what each step on it tells.
 
 ghost use Rattle.std.specs.Prelude.{◌≡◌};
-ghost use Rattle.wit_gates.specs.Claims.{IsCounted, claim, nothing, both, less_one};
+ghost use Rattle.wit_gates.specs.Claims.{IsCounted, claim, nothing, both_claims, less_one};
 ghost use Rattle.wit_gates.specs.Plays.{HasClaim, Wins};
 
 use crate::claim::Claim;
@@ -55,7 +55,7 @@ impl Play<(), Claim> for Looks {
 pub struct Joined;
 
 impl Join<Claim> for Joined {
-    ghost both = { both };
+    ghost both = { both_claims };
 
     ghost spent = { nothing };
 }

@@ -29,9 +29,9 @@ Gives view (Ok x) read = read ≡ Some (view x)
 Gives view (Err e) read = Fails e read
 
 -- a value that was found, seen by view, is what is read
-abbrev pub Finds : {X Y : Type 0} → (X → Y) → Option X → Option Y → Type 0
-Finds view (Some x) read = read ≡ Some (view x)
-Finds view None read = Unit {0}
+abbrev pub GivesIfFound : {X Y : Type 0} → (X → Y) → Option X → Option Y → Type 0
+GivesIfFound view (Some x) read = read ≡ Some (view x)
+GivesIfFound view None read = Unit {0}
 
 -- the number that stands up to the next space, and what follows it
 abbrev pub leading_number : ℕ → List ℕ → Option (ℕ × List ℕ)
@@ -80,6 +80,6 @@ abbrev pub IsSpelled : Line → Type 0
 IsSpelled line = IsSpellable line × (length (spelling line) ≤ LONGEST)
 
 -- a refused call makes its line bad, unless it was for want of memory
-abbrev pub Refuses : Fault → LineError → Type 0
-Refuses fault Memory = fault ≡ OutOfMemory
-Refuses fault (Bad cause) = (cause ≡ why.Fault fault) × (fault ≢ OutOfMemory)
+abbrev pub RefusesLine : Fault → LineError → Type 0
+RefusesLine fault Memory = fault ≡ OutOfMemory
+RefusesLine fault (Bad cause) = (cause ≡ why.Fault fault) × (fault ≢ OutOfMemory)

@@ -2,7 +2,7 @@
 
 ghost use Rattle.std.specs.Prelude.{◌≡◌};
 ghost use Rattle.wit_grammar.specs.declared.errors.LineError.TheVariants.{Memory};
-ghost use Rattle.wit_grammar.specs.Lines.{Refuses};
+ghost use Rattle.wit_grammar.specs.Lines.{RefusesLine};
 
 use std::alloc::AllocError;
 use wit_model::{Cause, Fault};
@@ -30,7 +30,7 @@ impl From<AllocError> for LineError {
 }
 
 impl From<Fault> for LineError {
-    ghost from_gives = { Refuses };
+    ghost from_gives = { RefusesLine };
 
     fn from(fault: Fault) -> LineError {
         match fault {

@@ -1,7 +1,7 @@
 //! The keywords of lines, for the reader and the printer.
 
 ghost use Rattle.std.specs.Prelude.{◌≡◌, None, IfSome};
-ghost use Rattle.wit_model.specs.Trace.Reading.{keyword_of};
+ghost use Rattle.wit_model.specs.Trace.Reading.{keyword_named};
 ghost use Rattle.wit_model.specs.Trace.Spelling.{keyword_text, verb_text};
 ghost use Rattle.wit_grammar.specs.Lines.{header_keyword};
 
@@ -58,7 +58,7 @@ const WATCH: &[u8] = b"watch";
 /// The keyword that a word is.
 #[inline(always)]
 pub fn keyword_of(word: &[u8]) -> Option<Keyword>
-    ensures { result ≡ keyword_of word.now }
+    ensures { result ≡ keyword_named word.now }
 {
     match compared(word) {
         Some(keyword) => Some(keyword),
@@ -78,11 +78,11 @@ fn header_keyword(word: &[u8]) -> Option<Keyword>
 
 // The keyword that a word is, but for that of the header. It is compared in place, byte by byte, which is faster
 // than by `==`.
-#[tactic(auto, unfolding(wit_model::specs::Trace::Reading::keyword_of))]
+#[tactic(auto, unfolding(wit_model::specs::Trace::Reading::keyword_named))]
 #[inline(always)]
 fn compared(word: &[u8]) -> Option<Keyword>
     ensures some { IfSome result (λ k. word.now ≡ keyword_text k) }
-    ensures none { result ≡ None → keyword_of word.now ≡ header_keyword word.now }
+    ensures none { result ≡ None → keyword_named word.now ≡ header_keyword word.now }
 {
     match word {
         CHECK => Some(Keyword::Check),

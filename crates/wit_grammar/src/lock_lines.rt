@@ -3,7 +3,7 @@
 ghost use Rattle.std.specs.Prelude.{◌≡◌, IfOk};
 ghost use Rattle.wit_model.specs.Trace.Reading.{check_of, try_of, unlock_of, plain_of, step_of, try_take_of, line_of};
 ghost use Rattle.wit_model.specs.declared.lines.Line.TheVariants.{OnLock};
-ghost use Rattle.wit_grammar.specs.Lines.{Finds, Gives, as_line};
+ghost use Rattle.wit_grammar.specs.Lines.{GivesIfFound, Gives, as_line};
 
 use crate::errors::LineError;
 use crate::keywords::keyword_of;
@@ -15,7 +15,7 @@ use wit_model::{FileName, Keyword, Line, LockLine, OpFlags, RawStep, Verb};
 #[tactic(auto, unfolding(wit_model::specs::Trace::Reading::line_of))]
 #[inline(always)]
 pub fn parse_lock_line(bytes: &[u8]) -> Option<LockLine<&str>>
-    ensures { Finds as_line result (line_of bytes.now) }
+    ensures { GivesIfFound as_line result (line_of bytes.now) }
 {
     let (word, rest) = words::split_before(b' ', bytes);
     match keyword_of(word)? {

@@ -2,7 +2,7 @@
 //! `LineError::SYNTAX` where the bytes begin with none; `LineError::Memory` where a growth was refused.
 
 ghost use Rattle.wit_model.specs.Rules.Names.{is_name, is_file_name};
-ghost use Rattle.wit_model.specs.Trace.Reading.{parted_at_last, accepted, site_of, field_at, quoted_at, optional, type_at, list_of};
+ghost use Rattle.wit_model.specs.Trace.Reading.{parted_at_last, accepted, site_of, field_at, leading_quoted, optional, leading_type, whole_list};
 ghost use Rattle.wit_grammar.specs.Lines.{Gives};
 
 use crate::errors::LineError;
@@ -51,9 +51,9 @@ fn file_name_of(bytes: &[u8]) -> Result<&str, LineError>
 }
 
 /// A name between quotation marks.
-#[tactic(auto, unfolding(wit_model::specs::Trace::Reading::quoted_at))]
+#[tactic(auto, unfolding(wit_model::specs::Trace::Reading::leading_quoted))]
 pub fn name(alloc: Global, bytes: &[u8]) -> Result<(Name, &[u8]), LineError>
-    ensures { Gives (λ x. (x.0, x.1.now)) result (quoted_at bytes.now) }
+    ensures { Gives (λ x. (x.0, x.1.now)) result (leading_quoted bytes.now) }
 {
     let opened = skip(b' ', bytes)?;
     let inside = skip(b'"', opened)?;
@@ -65,7 +65,7 @@ pub fn name(alloc: Global, bytes: &[u8]) -> Result<(Name, &[u8]), LineError>
 
 /// A name, or none at the end of the line.
 pub fn name_if_any(alloc: Global, bytes: &[u8]) -> Result<(Option<Name>, &[u8]), LineError>
-    ensures { Gives (λ x. (x.0, x.1.now)) result (optional quoted_at bytes.now) }
+    ensures { Gives (λ x. (x.0, x.1.now)) result (optional leading_quoted bytes.now) }
 {
     if bytes.is_empty() {
         return Ok((None, bytes));
@@ -75,9 +75,9 @@ pub fn name_if_any(alloc: Global, bytes: &[u8]) -> Result<(Option<Name>, &[u8]),
 }
 
 /// A type by its class and its name.
-#[tactic(auto, unfolding(wit_model::specs::Trace::Reading::type_at))]
+#[tactic(auto, unfolding(wit_model::specs::Trace::Reading::leading_type))]
 fn listed_type(alloc: Global, bytes: &[u8]) -> Result<(Class, Name, &[u8]), LineError>
-    ensures { Gives (λ x. ((x.0, x.1), x.2.now)) result (type_at bytes.now) }
+    ensures { Gives (λ x. ((x.0, x.1), x.2.now)) result (leading_type bytes.now) }
 {
     let (class, rest) = class(bytes)?;
     let (name, rest) = name(alloc, rest)?;
@@ -87,7 +87,7 @@ fn listed_type(alloc: Global, bytes: &[u8]) -> Result<(Class, Name, &[u8]), Line
 /// One type or more, up to the end of the line.
 #[tactic(auto, using(crate::proofs::ListReading::no_first, crate::proofs::ListReading::reads_first, crate::proofs::ListReading::reads_next, crate::proofs::ListReading::reads_none, crate::proofs::ListReading::reads_end, wit_model::proofs::Spelling::Kinds::type_shorter))]
 pub fn list(alloc: Global, bytes: &[u8]) -> Result<TypeList, LineError>
-    ensures { Gives (λ l. l) result (list_of bytes.now) }
+    ensures { Gives (λ l. l) result (whole_list bytes.now) }
 {
     let mut list = TypeList::new(alloc);
     let (class, name, mut rest) = listed_type(alloc, bytes)?;

@@ -2,7 +2,7 @@
 
 ghost use Rattle.std.specs.Prelude.{◌+◌, ◌*◌, ◌≡◌, ◌≤◌, ◌<◌, ◌==◌, ◌&&◌, ◌||◌, not, length, true, None, IfOk, IfSome, slice_index};
 ghost use Rattle.std.specs.Char.{is_ascii_digit, digit_value};
-ghost use Rattle.wit_model.specs.Trace.Reading.{number_of, field_at, behind, count_at, seat_at, lock_at};
+ghost use Rattle.wit_model.specs.Trace.Reading.{number_of, field_at, behind, leading_count, leading_seat, leading_lock};
 ghost use Rattle.wit_grammar.specs.Lines.{Gives, leading_number};
 
 use crate::errors::LineError;
@@ -77,7 +77,7 @@ fn leading_number(most: u32, bytes: &[u8]) -> Result<(u32, &[u8]), LineError>
     Ok((number, rest))
 }
 
-#[tactic(auto, unfolding(wit_model::specs::Trace::Reading::word_at))]
+#[tactic(auto, unfolding(wit_model::specs::Trace::Reading::leading_word))]
 #[inline(always)]
 fn number(most: u32, bytes: &[u8]) -> Result<(u32, &[u8]), LineError>
     ensures value { Gives (λ x. (x.0, x.1.now)) result (field_at (number_of (most + 1)) bytes.now) }
@@ -87,29 +87,29 @@ fn number(most: u32, bytes: &[u8]) -> Result<(u32, &[u8]), LineError>
 }
 
 /// The number of a seat: 0 to 65,535.
-#[tactic(auto, unfolding(wit_model::specs::Trace::Reading::seat_at))]
+#[tactic(auto, unfolding(wit_model::specs::Trace::Reading::leading_seat))]
 #[inline(always)]
 pub fn seat(bytes: &[u8]) -> Result<(SeatNo, &[u8]), LineError>
-    ensures { Gives (λ x. (x.0.0, x.1.now)) result (seat_at bytes.now) }
+    ensures { Gives (λ x. (x.0.0, x.1.now)) result (leading_seat bytes.now) }
 {
     let (seat, rest) = number(65535, bytes)?;
     Ok((SeatNo(seat as u16), rest))
 }
 
 /// The number of a lock: 0 to 4,294,967,295.
-#[tactic(auto, unfolding(wit_model::specs::Trace::Reading::lock_at))]
+#[tactic(auto, unfolding(wit_model::specs::Trace::Reading::leading_lock))]
 #[inline(always)]
 pub fn lock(bytes: &[u8]) -> Result<(LockNo, &[u8]), LineError>
-    ensures { Gives (λ x. (x.0.0, x.1.now)) result (lock_at bytes.now) }
+    ensures { Gives (λ x. (x.0.0, x.1.now)) result (leading_lock bytes.now) }
 {
     let (lock, rest) = number(u32::MAX, bytes)?;
     Ok((LockNo(lock), rest))
 }
 
 /// A number behind a fixed word: 0 to 4,294,967,295.
-#[tactic(auto, unfolding(wit_model::specs::Trace::Reading::count_at))]
+#[tactic(auto, unfolding(wit_model::specs::Trace::Reading::leading_count))]
 pub fn count<'a>(label: &[u8], bytes: &'a [u8]) -> Result<(u32, &'a [u8]), LineError>
-    ensures { Gives (λ x. (x.0, x.1.now)) result (behind label.now count_at bytes.now) }
+    ensures { Gives (λ x. (x.0, x.1.now)) result (behind label.now leading_count bytes.now) }
 {
     number(u32::MAX, fixed(label, bytes)?)
 }

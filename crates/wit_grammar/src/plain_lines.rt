@@ -2,7 +2,7 @@
 //! and answers `LineError::SYNTAX` where that isn't its fields.
 
 ghost use Rattle.std.specs.Prelude.{◌≡◌};
-ghost use Rattle.wit_model.specs.Trace.Reading.{lock_if_any, assert_of, warn_of, define_of, watch_of};
+ghost use Rattle.wit_model.specs.Trace.Reading.{lock_if_any, assert_of, warn_of, define_of, watch_line};
 ghost use Rattle.wit_grammar.specs.Lines.{Gives};
 
 use crate::errors::LineError;
@@ -71,9 +71,9 @@ pub fn define(bytes: &[u8]) -> Result<Line, LineError>
 }
 
 /// What stands behind `watch`.
-#[tactic(auto, unfolding(wit_model::specs::Trace::Reading::watch_of))]
+#[tactic(auto, unfolding(wit_model::specs::Trace::Reading::watch_line))]
 pub fn watch(bytes: &[u8]) -> Result<Line, LineError>
-    ensures { Gives (λ l. l) result (watch_of bytes.now) }
+    ensures { Gives (λ l. l) result (watch_line bytes.now) }
 {
     let (seat, rest) = numbers::seat(bytes)?;
     let (watch, rest) = words::level(rest)?;

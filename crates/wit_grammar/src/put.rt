@@ -2,7 +2,7 @@
 
 ghost use Rattle.std.specs.Prelude.{◌≡◌, ◌++◌, ◌∷◌, OnOk};
 ghost use Rattle.std.specs.Fmt.{decimal};
-ghost use Rattle.wit_model.specs.Trace.Spelling.{keyword_text, version_text, class_text, mode_text, level_text, chosen_letters, flags_text, quoted, site_text, joined, lock_fields, list_fields};
+ghost use Rattle.wit_model.specs.Trace.Spelling.{keyword_text, version_text, class_text, mode_text, level_text, chosen_letters, flags_text, quoted, site_text, spaced, lock_fields, list_fields};
 
 use crate::keywords::keyword_text;
 use crate::letters;
@@ -101,7 +101,7 @@ pub fn put_name(out: &mut Vec<u8>, name: &Name) -> Result<(), AllocError>
 
 /// Types, each by its class and its name.
 pub fn put_types(out: &mut Vec<u8>, types: &[(Class, Name)]) -> Result<(), AllocError>
-    ensures { OnOk result (out.new.items ≡ out.old.items ++ joined (list_fields types.now)) }
+    ensures { OnOk result (out.new.items ≡ out.old.items ++ spaced (list_fields types.now)) }
 {
     match types {
         [] => Ok(()),
@@ -115,7 +115,7 @@ pub fn put_types(out: &mut Vec<u8>, types: &[(Class, Name)]) -> Result<(), Alloc
 
 /// The fields of `init` behind the seat.
 pub fn put_lock(out: &mut Vec<u8>, lock: &NewLock) -> Result<(), AllocError>
-    ensures { OnOk result (out.new.items ≡ out.old.items ++ joined (lock_fields lock.now)) }
+    ensures { OnOk result (out.new.items ≡ out.old.items ++ spaced (lock_fields lock.now)) }
 {
     put_word(out, class_text(lock.class))?;
     put_flags(out, letters::LOCK, lock.flags.0)?;

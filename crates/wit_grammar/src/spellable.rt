@@ -3,7 +3,7 @@
 ghost use Rattle.std.specs.Prelude.{◌≡◌, ◌≤◌, ◌<◌, ◌^◌, List, ℕ, ◌↔◌, length, IsTrue, IfSome};
 ghost use Rattle.std.specs.List.{list_all};
 ghost use Rattle.wit_model.specs.Rules.Names.{is_name, is_file_name};
-ghost use Rattle.wit_model.specs.Trace.Spelling.{joined, list_fields, spelling, IsSpellableLock, IsSpellableList, IsNamed, IsSpellableOnLock, IsSpellable};
+ghost use Rattle.wit_model.specs.Trace.Spelling.{spaced, list_fields, spelling, IsSpellableLock, IsSpellableList, IsNamed, IsSpellableOnLock, IsSpellable};
 ghost use Rattle.wit_model.specs.declared.locks.Class.{Class};
 ghost use Rattle.wit_grammar.specs.Lines.{IsPrelude, IsSpelled};
 
@@ -32,7 +32,7 @@ fn is_short(line: &Line) -> bool
 
 /// Whether the types take at most so many bytes.
 fn are_within(types: &[(Class, Name)], most: usize) -> bool
-    ensures { IsTrue result ↔ (length (joined (list_fields types.now)) ≤ most) }
+    ensures { IsTrue result ↔ (length (spaced (list_fields types.now)) ≤ most) }
 {
     match types {
         [] => true,

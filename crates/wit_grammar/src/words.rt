@@ -1,7 +1,7 @@
 //! The words of a line: each reader gives a value and the bytes after it, or `LineError::SYNTAX` where the bytes begin with none.
 
 ghost use Rattle.std.specs.Prelude.{◌≡◌, ◌≤◌, ◌<◌, ◌^◌, length, IfSome};
-ghost use Rattle.wit_model.specs.Trace.Reading.{after, byte_place, until, version_of, class_of, mode_of, level_of, bits_of, flags_of, word_at, field_at, fixed_at};
+ghost use Rattle.wit_model.specs.Trace.Reading.{after, byte_place, until, version_named, class_named, mode_named, level_named, bits_of, flags_of, leading_word, field_at, fixed_at};
 ghost use Rattle.wit_grammar.specs.Lines.{Gives};
 
 use crate::errors::LineError;
@@ -54,20 +54,20 @@ pub fn split_before(byte: u8, bytes: &[u8]) -> (&[u8], &[u8])
 }
 
 /// A word, up to the next space or the end.
-#[tactic(auto, unfolding(wit_model::specs::Trace::Reading::word_at))]
+#[tactic(auto, unfolding(wit_model::specs::Trace::Reading::leading_word))]
 #[inline(always)]
 pub fn word(bytes: &[u8]) -> Result<(&[u8], &[u8]), LineError>
-    ensures { Gives (λ x. (x.0.now, x.1.now)) result (word_at bytes.now) }
+    ensures { Gives (λ x. (x.0.now, x.1.now)) result (leading_word bytes.now) }
 {
     let rest = skip(b' ', bytes)?;
     Ok(split_before(b' ', rest))
 }
 
 /// As `word`, and faster where the word is long.
-#[tactic(auto, unfolding(wit_model::specs::Trace::Reading::word_at))]
+#[tactic(auto, unfolding(wit_model::specs::Trace::Reading::leading_word))]
 #[inline(always)]
 pub fn long_word(bytes: &[u8]) -> Result<(&[u8], &[u8]), LineError>
-    ensures { Gives (λ x. (x.0.now, x.1.now)) result (word_at bytes.now) }
+    ensures { Gives (λ x. (x.0.now, x.1.now)) result (leading_word bytes.now) }
 {
     let rest = skip(b' ', bytes)?;
     Ok(rest.split_at(far_index_of(b' ', rest)))
@@ -87,9 +87,9 @@ pub fn fixed<'a>(text: &[u8], bytes: &'a [u8]) -> Result<&'a [u8], LineError>
 }
 
 /// A version of the format: `1` or `2`.
-#[tactic(auto, unfolding(wit_model::specs::Trace::Reading::version_of))]
+#[tactic(auto, unfolding(wit_model::specs::Trace::Reading::version_named))]
 pub fn version(bytes: &[u8]) -> Result<(Version, &[u8]), LineError>
-    ensures { Gives (λ x. (x.0, x.1.now)) result (field_at version_of bytes.now) }
+    ensures { Gives (λ x. (x.0, x.1.now)) result (field_at version_named bytes.now) }
 {
     let (word, rest) = word(bytes)?;
     match word {
@@ -100,10 +100,10 @@ pub fn version(bytes: &[u8]) -> Result<(Version, &[u8]), LineError>
 }
 
 /// A mode: `s` or `x`.
-#[tactic(auto, unfolding(wit_model::specs::Trace::Reading::mode_of))]
+#[tactic(auto, unfolding(wit_model::specs::Trace::Reading::mode_named))]
 #[inline(always)]
 pub fn mode(bytes: &[u8]) -> Result<(Mode, &[u8]), LineError>
-    ensures { Gives (λ x. (x.0, x.1.now)) result (field_at mode_of bytes.now) }
+    ensures { Gives (λ x. (x.0, x.1.now)) result (field_at mode_named bytes.now) }
 {
     let (word, rest) = word(bytes)?;
     match word {
@@ -114,9 +114,9 @@ pub fn mode(bytes: &[u8]) -> Result<(Mode, &[u8]), LineError>
 }
 
 /// A watch level: `1`, `0` or `-1`.
-#[tactic(auto, unfolding(wit_model::specs::Trace::Reading::level_of))]
+#[tactic(auto, unfolding(wit_model::specs::Trace::Reading::level_named))]
 pub fn level(bytes: &[u8]) -> Result<(Watch, &[u8]), LineError>
-    ensures { Gives (λ x. (x.0, x.1.now)) result (field_at level_of bytes.now) }
+    ensures { Gives (λ x. (x.0, x.1.now)) result (field_at level_named bytes.now) }
 {
     let (word, rest) = word(bytes)?;
     match word {
@@ -128,9 +128,9 @@ pub fn level(bytes: &[u8]) -> Result<(Watch, &[u8]), LineError>
 }
 
 /// A class: `mtx`, `spin`, `rw` or `sx`.
-#[tactic(auto, unfolding(wit_model::specs::Trace::Reading::class_of))]
+#[tactic(auto, unfolding(wit_model::specs::Trace::Reading::class_named))]
 pub fn class(bytes: &[u8]) -> Result<(Class, &[u8]), LineError>
-    ensures { Gives (λ x. (x.0, x.1.now)) result (field_at class_of bytes.now) }
+    ensures { Gives (λ x. (x.0, x.1.now)) result (field_at class_named bytes.now) }
 {
     let (word, rest) = word(bytes)?;
     match word {

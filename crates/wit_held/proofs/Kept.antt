@@ -11,7 +11,7 @@ use Rattle.wit_model.specs.declared.chunks.TheConstants.{CHUNK}
 use Rattle.wit_model.specs.declared.chunks.Spot.{Spot}
 use Rattle.wit_model.specs.Rules.Groups.{flat, joined, opens, replaced_in, removed_in}
 use Rattle.wit_model.specs.Rules.Chunks.{Chunks, IsList, IsSpot, groups_of, group_of, chain_of, places_in, set_groups, is_refused, pushed}
-use Rattle.wit_model.specs.Rules.Rows.{row, groups_at, shown, AreWithin, AreSettled}
+use Rattle.wit_model.specs.Rules.Rows.{row, groups_at, shown_chunks, AreWithin, AreSettled}
 use Rattle.wit_held.specs.declared.vec_lists.VecLists.TheInside.{Inside}
 use Rattle.wit_held.specs.Rows.{rows_of, places_of, HaveRoom, HaveRoomFor, HasSpaceAt}
 use Rattle.wit_held.specs.Kept.{chunks_in, AreKept}
@@ -220,10 +220,10 @@ module _ {A : Type 0} (v : Inside A) (value : Chunks) (is : chunks_in v ≡ valu
 
     pub push-room : true ≡ not (opens (groups_at (rows_of cs) ps)) → true ≡ not (is_refused value list)
     push-room room =
-        let fits : opens (groups_of (shown (rows_of v.chunks.items) (places_of v.lists.items) v.unused.items) list) ≡ false =
+        let fits : opens (groups_of (shown_chunks (rows_of v.chunks.items) (places_of v.lists.items) v.unused.items) list) ≡ false =
         ap opens (groups-shown (rows_of v.chunks.items) (places_of v.lists.items) (list - 1) in-lists ∙ ap₂ (λ ds qs. groups_at (rows_of ds) qs) (sym c-is) (sym p-is))
         ∙ not-true (opens (groups_at (rows_of cs) ps)) (sym room) in
-        sym (ap not (ap (λ c. is_refused c list) (sym is) ∙ and_left (opens (groups_of (shown (rows_of v.chunks.items) (places_of v.lists.items) v.unused.items) list)) (eqb (length v.unused.items) 0) fits))
+        sym (ap not (ap (λ c. is_refused c list) (sym is) ∙ and_left (opens (groups_of (shown_chunks (rows_of v.chunks.items) (places_of v.lists.items) v.unused.items) list)) (eqb (length v.unused.items) 0) fits))
 
     -- it is full
     pub full : false ≡ not (opens (groups_at (rows_of cs) ps)) → opens (groups_at (rows_of v.chunks.items) (get_or (places_of v.lists.items) (list - 1) [])) ≡ true
@@ -267,7 +267,7 @@ module _ {A : Type 0} (v : Inside A) (value : Chunks) (is : chunks_in v ≡ valu
       open-leaves room i =
           subst (λ c. Leaves (set (rows_of v.chunks.items) p (row (rows_of v.chunks.items) p ++ i ∷ []))
           (set (places_of v.lists.items) (list - 1) (get_or (places_of v.lists.items) (list - 1) [] ++ p ∷ [])) rest (pushed c list i))
-          (sym (ap (shown (rows_of v.chunks.items) (places_of v.lists.items)) unused) ∙ is)
+          (sym (ap (shown_chunks (rows_of v.chunks.items) (places_of v.lists.items)) unused) ∙ is)
           (push-opens (rows_of v.chunks.items) (places_of v.lists.items) list in-lists rest p spare i (full room))
 
     pub refused : false ≡ not (opens (groups_at (rows_of cs) ps)) → length v.unused.items ≡ 0 → is_refused value list ≡ true

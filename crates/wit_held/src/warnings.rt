@@ -5,7 +5,7 @@ ghost use Rattle.wit_model.specs.declared.locks.Instance.{Instance};
 ghost use Rattle.wit_model.specs.Rules.Numbers.{IsNumber, IsGiven};
 ghost use Rattle.wit_model.specs.Rules.Chunks.{IsList, chain_of, list_of};
 ghost use Rattle.wit_model.specs.Rules.Verdict.{Basis, type_held, is_giant, is_sleepable};
-ghost use Rattle.wit_model.specs.Rules.Warnings.{is_named, is_allowed, counted_spin, warning};
+ghost use Rattle.wit_model.specs.Rules.Warnings.{is_lock_named, is_allowed, counted_spin, warning};
 ghost use Rattle.wit_held.specs.Warned.{AreTyped, is_last_named};
 
 use bitflags::Flags;
@@ -134,7 +134,7 @@ fn is_last_named<L: Lists>(lists: &L, list: u16, named: Option<LockNo>) -> bool
 
 /// Whether this is the lock that a call names, if it names one.
 pub fn is_named(named: Option<LockNo>, held: Instance) -> bool
-    ensures { result ≡ is_named named held }
+    ensures { result ≡ is_lock_named named held }
 {
     match named {
         Some(lock) => held.lock.0 == lock.0,

@@ -15,7 +15,7 @@ use Rattle.wit_model.specs.declared.calls.Request.{Request}
 use Rattle.wit_model.specs.Rules.State.{Start, Story, state_of}
 use Rattle.wit_model.specs.Rules.Step.{Answers, AnswersOrFails, is_logged}
 use Rattle.wit_model.proofs.Histories.Accepted.{give_up_accepted}
-use Rattle.wit_gates.specs.Asking.{mode_asked}
+use Rattle.wit_gates.specs.Asking.{latest_mode_asked}
 use Rattle.wit_seats.specs.declared.views.Known.{Known}
 use Rattle.wit_seats.specs.Seats.{Told}
 use Rattle.wit_shared.specs.Own.{AsksFor, Leaves, entries_left, entry}
@@ -66,9 +66,9 @@ pub asks_for : (start : Start) (q : Request) (reply : Reply) (v w : Known) → A
 asks_for start q reply v w told =
     asks_now w q reply v.own (latest AnswersOrFails start (Check q) reply v w (check_entered start q reply v w told))
 
-pub asks_mode : (start : Start) (q : Request) (reply : Reply) (v w : Known) → AnsweredOrFailed start (Check q) (Ok reply) v w → mode_asked w.own ≡ Some q.mode
+pub asks_mode : (start : Start) (q : Request) (reply : Reply) (v w : Known) → AnsweredOrFailed start (Check q) (Ok reply) v w → latest_mode_asked w.own ≡ Some q.mode
 asks_mode start q reply v w told =
-    ap mode_asked (latest AnswersOrFails start (Check q) reply v w (check_entered start q reply v w told))
+    ap latest_mode_asked (latest AnswersOrFails start (Check q) reply v w (check_entered start q reply v w told))
 
 -- the check and the note
 pub acquires : (start : Start) (q : Request) (asked noted : Reply) (v u w : Known)

@@ -10,7 +10,7 @@ use Rattle.wit_model.specs.Rules.Orders.{is_adoption_of, is_direct, is_before, I
 use Rattle.wit_model.specs.Rules.Numbers.{IsNumber}
 use Rattle.wit_model.proofs.Orders.Paths.{sound_adopt, test_from_before, is_before-trans}
 use Rattle.wit_matrix.specs.Relation.{HasSameOrders, HasSameFound, OrdersAmong, FoundAmong, Adopts, Finds}
-use Rattle.wit_matrix.specs.Squares.{width, has, order_of, relation_in, orders_in, found_in, Holds, IsSquare, IsKept, AddsWhere, IsTransitive, AreMirrors, is_at, links}
+use Rattle.wit_matrix.specs.Squares.{width, has, as_order, relation_in, orders_in, found_in, Holds, IsSquare, IsKept, AddsWhere, IsTransitive, AreMirrors, is_at, links}
 use Rattle.wit_matrix.proofs.Words.{blank_has_none}
 use Rattle.wit_matrix.proofs.Settled.{direct_among, found_among, direct_holds, orders_settled, found_settled, same_from, same_before, same_sound, orders-sym, found-turned}
 
@@ -20,7 +20,7 @@ kept_transitive n direct before after found kept a b c at bt ct first rest =
     kept.tells_before a c at ct
     ∙ is_before-trans (orders_in n direct) a b c (sym (kept.tells_before a b at bt) ∙ first) (sym (kept.tells_before b c bt ct) ∙ rest)
 
-more_among : (n p c : ℕ) (os : List Adoption) → IsNumber n p → IsNumber n c → OrdersAmong n os → OrdersAmong n (order_of (p, c) ∷ os)
+more_among : (n p c : ℕ) (os : List Adoption) → IsNumber n p → IsNumber n c → OrdersAmong n os → OrdersAmong n (as_order (p, c) ∷ os)
 more_among n p c os pt ct among a b is =
     ⊎_elim
     (λ here. let parts = and_parts (eqb p a) (eqb c b) here in (subst (λ x. IsNumber n x) (eqb-true p a parts.0) pt, subst (λ x. IsNumber n x) (eqb-true c b parts.1) ct))
@@ -45,10 +45,10 @@ pub record Links (n : ℕ) (direct before after d1 b1 a1 : List ℕ) (p c : ℕ)
   pub after_square : IsSquare n a1
 
 -- an order that was adopted adds nothing
-pub adopted_again : (p c : ℕ) (os : List Adoption) → HasSameOrders (order_of (p, c) ∷ os) (adopted_once p c Listed os)
+pub adopted_again : (p c : ℕ) (os : List Adoption) → HasSameOrders (as_order (p, c) ∷ os) (adopted_once p c Listed os)
 adopted_again p c os a b = go (is_direct os p c) refl
   where
-    go : (t : Bool) → is_direct os p c ≡ t → is_direct (order_of (p, c) ∷ os) a b ≡ is_direct (cond t os (order_of (p, c) ∷ os)) a b
+    go : (t : Bool) → is_direct os p c ≡ t → is_direct (as_order (p, c) ∷ os) a b ≡ is_direct (cond t os (as_order (p, c) ∷ os)) a b
     go false isnt = refl
     go true is =
         same_from (is_at p c a b || is_direct os a b) (is_direct os a b)
@@ -60,13 +60,13 @@ adopted_again p c os a b = go (is_direct os p c) refl
         (λ h. or_right (is_at p c a b) (is_direct os a b) h)
 
 module _ (n : ℕ) (direct before after found d1 b1 a1 : List ℕ) (p c : ℕ) (can : CanAdopt n direct before after found p c) (made : Links n direct before after d1 b1 a1 p c) where
-  direct_more : Holds n d1 (is_direct (order_of (p, c) ∷ orders_in n direct))
+  direct_more : Holds n d1 (is_direct (as_order (p, c) ∷ orders_in n direct))
   direct_more a b at bt =
       made.adopted a b at bt ∙ (ap (λ t. t || is_at p c a b) (direct_holds n direct a b at bt) ∙ or_comm (is_direct (orders_in n direct) a b) (is_at p c a b))
 
-  orders_more : HasSameOrders (orders_in n d1) (order_of (p, c) ∷ orders_in n direct)
+  orders_more : HasSameOrders (orders_in n d1) (as_order (p, c) ∷ orders_in n direct)
   orders_more =
-      orders_settled n d1 (order_of (p, c) ∷ orders_in n direct) direct_more
+      orders_settled n d1 (as_order (p, c) ∷ orders_in n direct) direct_more
       (more_among n p c (orders_in n direct) can.parent can.child (direct_among n direct))
 
   before_more : Holds n b1 (is_before (orders_in n d1))
@@ -74,7 +74,7 @@ module _ (n : ℕ) (direct before after found d1 b1 a1 : List ℕ) (p c : ℕ) (
       made.linked a b at bt
       ∙ (ap₂ (λ x y. x || ((eqb p a || y) && (eqb c b || has n before c b))) (can.kept.tells_before a b at bt) (can.kept.tells_before a p at can.parent)
       ∙ (ap (λ t. is_before (orders_in n direct) a b || ((eqb p a || is_before (orders_in n direct) a p) && (eqb c b || t))) (can.kept.tells_before c b can.child bt)
-      ∙ sym (same_before (orders_in n d1) (order_of (p, c) ∷ orders_in n direct) orders_more a b)))
+      ∙ sym (same_before (orders_in n d1) (as_order (p, c) ∷ orders_in n direct) orders_more a b)))
 
   pub adopted_kept : IsKept n d1 b1 a1 found
   adopted_kept = record {
@@ -87,8 +87,8 @@ module _ (n : ℕ) (direct before after found d1 b1 a1 : List ℕ) (p c : ℕ) (
     tells_before = before_more;
     tells_after = λ a b at bt. made.mirrors a b at bt ∙ before_more b a bt at;
     tells_found = can.kept.tells_found;
-    sound = same_sound (order_of (p, c) ∷ orders_in n direct) (orders_in n d1) (orders-sym (orders_in n d1) (order_of (p, c) ∷ orders_in n direct) orders_more)
-        (sound_adopt (order_of (p, c)) (orders_in n direct) can.kept.sound can.orderly can.apart);
+    sound = same_sound (as_order (p, c) ∷ orders_in n direct) (orders_in n d1) (orders-sym (orders_in n d1) (as_order (p, c) ∷ orders_in n direct) orders_more)
+        (sound_adopt (as_order (p, c)) (orders_in n direct) can.kept.sound can.orderly can.apart);
   }
 
   pub adopted_adopts : Adopts (relation_in n direct found) p c (relation_in n d1 found)

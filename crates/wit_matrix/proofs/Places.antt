@@ -3,7 +3,7 @@ use Rattle.std.proofs.Common.{◌≡◌, ◌⊎◌, ℕ, ◌+◌, ◌-◌, ◌*�
 use Rattle.std.proofs.lemmas.Bool.{cases_order}
 use Rattle.std.proofs.lemmas.Nat.{mul-add-lt}
 use Rattle.std.proofs.lemmas.List.{get_or-set_same, get_or-set_other}
-use Rattle.wit_matrix.specs.Squares.{width, place, word_at, IsSquare}
+use Rattle.wit_matrix.specs.Squares.{width, word_place, word_at, IsSquare}
 use Rattle.wit_model.specs.Rules.Numbers.{IsNumber}
 
 -- an earlier row stands before a later one
@@ -25,16 +25,16 @@ within_rows w n a i some most within =
     let l : (a - 1) * w + i < w * n = mul-add-lt (a - 1) w i n (omega arith) within in
     omega (arith, l)
 
-pub place_within : (n a i : ℕ) → IsNumber n a → i < width n → place n a i < n * width n
+pub place_within : (n a i : ℕ) → IsNumber n a → i < width n → word_place n a i < n * width n
 place_within n a i at within = within_rows (width n) n a i at.0 at.1 within
 
 -- a word that is set leaves the others
-pub word_set_same : (n a i x : ℕ) (words : List ℕ) → IsSquare n words → IsNumber n a → i < width n → word_at n (set words (place n a i) x) a i ≡ x
+pub word_set_same : (n a i x : ℕ) (words : List ℕ) → IsSquare n words → IsNumber n a → i < width n → word_at n (set words (word_place n a i) x) a i ≡ x
 word_set_same n a i x words square at within =
-    get_or-set_same words (place n a i) x 0 (subst (λ m. place n a i < m) (sym square) (place_within n a i at within))
+    get_or-set_same words (word_place n a i) x 0 (subst (λ m. word_place n a i < m) (sym square) (place_within n a i at within))
 
 pub word_set_other : (n a i b j x : ℕ) (words : List ℕ) → IsNumber n a → IsNumber n b → i < width n → j < width n → ((a ≡ b) × (i ≡ j) → ⊥)
-    → word_at n (set words (place n a i) x) b j ≡ word_at n words b j
+    → word_at n (set words (word_place n a i) x) b j ≡ word_at n words b j
 word_set_other n a i b j x words at bt within within_too apart =
-    get_or-set_other words (place n a i) (place n b j) x 0
+    get_or-set_other words (word_place n a i) (word_place n b j) x 0
     (λ same. apart (place_apart (width n) a i b j at.0 bt.0 within within_too (sym same)))

@@ -8,7 +8,7 @@ use Rattle.wit_model.specs.Rules.Orders.{is_adoption_of, is_direct, IsPath, Befo
 use Rattle.wit_model.specs.Rules.Numbers.{IsNumber}
 use Rattle.wit_model.proofs.Orders.Paths.{before_from_test, test_from_before}
 use Rattle.wit_matrix.specs.Relation.{HasSameOrders, HasSameFound, OrdersAmong, FoundAmong}
-use Rattle.wit_matrix.specs.Squares.{has, pairs_where, order_of, types_of, orders_in, found_in, Holds}
+use Rattle.wit_matrix.specs.Squares.{has, pairs_where, as_order, as_types, orders_in, found_in, Holds}
 use Rattle.wit_matrix.proofs.Pairs.{is_pair, list_any-map, pair_from, pair_to}
 
 pub same_from : (x y : Bool) → (x ≡ true → y ≡ true) → (y ≡ true → x ≡ true) → x ≡ y
@@ -57,7 +57,7 @@ abbrev found_bit : ℕ → List ℕ → ℕ → ℕ → Bool
 found_bit n square a b = leb a b && has n square a b
 
 direct_pairs : (n : ℕ) (square : List ℕ) (a b : ℕ) → is_direct (orders_in n square) a b ≡ list_any (is_pair a b) (pairs_where n (has n square))
-direct_pairs n square a b = list_any-map (is_adoption_of a b) order_of (pairs_where n (has n square))
+direct_pairs n square a b = list_any-map (is_adoption_of a b) as_order (pairs_where n (has n square))
 
 any_or : {X : Type 0} (p q : X → Bool) (xs : List X) → list_any (λ x. p x || q x) xs ≡ true → (list_any p xs ≡ true) ⊎ (list_any q xs ≡ true)
 any_or p q [] is = absurd (false≢true is)
@@ -77,7 +77,7 @@ any_left p q (x ∷ xs) is =
 
 found_pairs : (n : ℕ) (square : List ℕ) (a b : ℕ)
     → is_found (found_in n square) a b ≡ list_any (λ (p : ℕ × ℕ). is_pair a b p || is_pair b a p) (pairs_where n (found_bit n square))
-found_pairs n square a b = list_any-map (is_pair_of a b) types_of (pairs_where n (found_bit n square))
+found_pairs n square a b = list_any-map (is_pair_of a b) as_types (pairs_where n (found_bit n square))
 
 pub direct_among : (n : ℕ) (square : List ℕ) → OrdersAmong n (orders_in n square)
 direct_among n square a b is = let r = pair_from n (has n square) a b (sym (direct_pairs n square a b) ∙ is) in (r.0, r.1.0)

@@ -6,7 +6,7 @@ use Rattle.std.proofs.lemmas.Bool.Decides.{eqb_tells}
 use Rattle.std.proofs.lemmas.Nat.Bits.{bit_at_or, bit_at-lt, bit_at-pow_same, bit_at-pow_other, bit_at-zero, bit_at_above, bit_at-trailing_zeros}
 use Rattle.std.proofs.lemmas.Nat.{shr-shr}
 use Rattle.std.proofs.lemmas.List.{get_or-replicate}
-use Rattle.wit_matrix.specs.Squares.{width, place, word_at, has, IsSquare, Holds, AddsWhere, HasNone, is_at}
+use Rattle.wit_matrix.specs.Squares.{width, word_place, word_at, has, IsSquare, Holds, AddsWhere, HasNone, is_at}
 use Rattle.wit_matrix.proofs.Places.{place_within, word_set_same, word_set_other}
 use Rattle.wit_model.specs.Rules.Numbers.{IsNumber}
 
@@ -49,7 +49,7 @@ word_within n b within = omega (arith, within)
 
 module _ (n a b : ℕ) (words : List ℕ) (square : IsSquare n words) (at : IsNumber n a) (bt : IsNumber n b) where
   with_bit : List ℕ
-  with_bit = set words (place n a (b / 64)) (bit_or (word_at n words a (b / 64)) (2 ^ (b % 64)))
+  with_bit = set words (word_place n a (b / 64)) (bit_or (word_at n words a (b / 64)) (2 ^ (b % 64)))
 
   same_word : (i j : ℕ) → a ≡ i → b / 64 ≡ j / 64 → word_at n with_bit i (j / 64) ≡ bit_or (word_at n words i (j / 64)) (2 ^ (b % 64))
   unfolding with_bit
@@ -88,12 +88,12 @@ module _ (n a b : ℕ) (words : List ℕ) (square : IsSquare n words) (at : IsNu
       go (inr e) f = other_word i j it jt (λ both. e.1 both.0) (rw e.0 refl)
 
   -- where the place, the word there and the bit are known by these names
-  pub bit_added_at : (p x m : ℕ) → p ≡ place n a (b / 64) → x ≡ word_at n words a (b / 64) → m ≡ 2 ^ (b % 64) → AddsWhere n (is_at a b) words (set words p (bit_or x m))
+  pub bit_added_at : (p x m : ℕ) → p ≡ word_place n a (b / 64) → x ≡ word_at n words a (b / 64) → m ≡ 2 ^ (b % 64) → AddsWhere n (is_at a b) words (set words p (bit_or x m))
   unfolding with_bit
   bit_added_at p x m here was is =
       subst (λ q. AddsWhere n (is_at a b) words (set words q (bit_or x m))) (sym here)
-      (subst (λ y. AddsWhere n (is_at a b) words (set words (place n a (b / 64)) (bit_or y m))) (sym was)
-      (subst (λ k. AddsWhere n (is_at a b) words (set words (place n a (b / 64)) (bit_or (word_at n words a (b / 64)) k))) (sym is) bit_added))
+      (subst (λ y. AddsWhere n (is_at a b) words (set words (word_place n a (b / 64)) (bit_or y m))) (sym was)
+      (subst (λ k. AddsWhere n (is_at a b) words (set words (word_place n a (b / 64)) (bit_or (word_at n words a (b / 64)) k))) (sym is) bit_added))
 
 -- ---- a row more
 
@@ -125,34 +125,34 @@ module _ (n row source k : ℕ) (old mid : List ℕ) (square : IsSquare n mid) (
       below source k st within
       ∙ ap (λ t. cond (t && ltb k k) (bit_or (word_at n old source k) (word_at n old source k)) (word_at n old source k)) (ne_eqb row source apart)
 
-  pub united_more : (p x y : ℕ) → p ≡ place n row k → x ≡ word_at n mid row k → y ≡ word_at n mid source k → UnitedBelow n row source (k + 1) old (set mid p (bit_or x y))
+  pub united_more : (p x y : ℕ) → p ≡ word_place n row k → x ≡ word_at n mid row k → y ≡ word_at n mid source k → UnitedBelow n row source (k + 1) old (set mid p (bit_or x y))
   united_more p x y here was more =
       subst (λ q. UnitedBelow n row source (k + 1) old (set mid q (bit_or x y))) (sym here)
-      (subst (λ z. UnitedBelow n row source (k + 1) old (set mid (place n row k) (bit_or z y))) (sym (was ∙ row_word))
-      (subst (λ z. UnitedBelow n row source (k + 1) old (set mid (place n row k) (bit_or (word_at n old row k) z))) (sym (more ∙ source_word)) next))
+      (subst (λ z. UnitedBelow n row source (k + 1) old (set mid (word_place n row k) (bit_or z y))) (sym (was ∙ row_word))
+      (subst (λ z. UnitedBelow n row source (k + 1) old (set mid (word_place n row k) (bit_or (word_at n old row k) z))) (sym (more ∙ source_word)) next))
     where
       both : ℕ
       both = bit_or (word_at n old row k) (word_at n old source k)
 
-      next : UnitedBelow n row source (k + 1) old (set mid (place n row k) (bit_or (word_at n old row k) (word_at n old source k)))
+      next : UnitedBelow n row source (k + 1) old (set mid (word_place n row k) (bit_or (word_at n old row k) (word_at n old source k)))
       next a i at inside = go (eqb_tells row a) (eqb_tells k i)
         where
           other : ((row ≡ a) × (k ≡ i) → ⊥) → (eqb row a && ltb i k) ≡ (eqb row a && ltb i (k + 1))
-              → word_at n (set mid (place n row k) (bit_or (word_at n old row k) (word_at n old source k))) a i
+              → word_at n (set mid (word_place n row k) (bit_or (word_at n old row k) (word_at n old source k))) a i
               ≡ cond (eqb row a && ltb i (k + 1)) (bit_or (word_at n old a i) (word_at n old source i)) (word_at n old a i)
           other differ same =
               word_set_other n row k a i (bit_or (word_at n old row k) (word_at n old source k)) mid rt at within inside differ
               ∙ (below a i at inside ∙ ap (λ t. cond t (bit_or (word_at n old a i) (word_at n old source i)) (word_at n old a i)) same)
 
           go : ((eqb row a ≡ true) × (row ≡ a)) ⊎ ((eqb row a ≡ false) × (row ≢ a)) → ((eqb k i ≡ true) × (k ≡ i)) ⊎ ((eqb k i ≡ false) × (k ≢ i))
-              → word_at n (set mid (place n row k) (bit_or (word_at n old row k) (word_at n old source k))) a i
+              → word_at n (set mid (word_place n row k) (bit_or (word_at n old row k) (word_at n old source k))) a i
               ≡ cond (eqb row a && ltb i (k + 1)) (bit_or (word_at n old a i) (word_at n old source i)) (word_at n old a i)
           go (inl e) (inl f) =
               let last : ltb i (k + 1) ≡ true = lt-ltb i (k + 1) (omega (arith, f.1)) in
               subst
-              (λ r. word_at n (set mid (place n row k) (bit_or (word_at n old row k) (word_at n old source k))) r i ≡ bit_or (word_at n old r i) (word_at n old source i)) e.1
+              (λ r. word_at n (set mid (word_place n row k) (bit_or (word_at n old row k) (word_at n old source k))) r i ≡ bit_or (word_at n old r i) (word_at n old source i)) e.1
               (subst
-              (λ l. word_at n (set mid (place n row k) (bit_or (word_at n old row k) (word_at n old source k))) row l ≡ bit_or (word_at n old row l) (word_at n old source l)) f.1
+              (λ l. word_at n (set mid (word_place n row k) (bit_or (word_at n old row k) (word_at n old source k))) row l ≡ bit_or (word_at n old row l) (word_at n old source l)) f.1
               (word_set_same n row k (bit_or (word_at n old row k) (word_at n old source k)) mid square rt within))
               ∙ sym (ap₂' e.0 last)
             where
@@ -180,7 +180,7 @@ united_end n row source k old new end below a b at bt =
 pub blank_has_none : (n : ℕ) (words : List ℕ) → words ≡ replicate (n * width n) 0 → Holds n words (λ _ _. false)
 blank_has_none n words is a b at bt =
     ap (λ w. eqb (bit_at w (b % 64)) 1)
-    (ap (λ ws. word_at n ws a (b / 64)) is ∙ get_or-replicate (n * width n) (place n a (b / 64)) 0 0 (place_within n a (b / 64) at (word_within n b bt.1)))
+    (ap (λ ws. word_at n ws a (b / 64)) is ∙ get_or-replicate (n * width n) (word_place n a (b / 64)) 0 0 (place_within n a (b / 64) at (word_within n b bt.1)))
     ∙ ap (λ d. eqb d 1) (bit_at-zero (b % 64))
 
 -- ---- the rest of a word

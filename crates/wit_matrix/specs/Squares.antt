@@ -14,11 +14,11 @@ abbrev pub width : ℕ → ℕ
 width n = n / 64 + 1
 
 -- where a word of row a stands
-abbrev pub place : ℕ → ℕ → ℕ → ℕ
-place n a word = (a - 1) * width n + word
+abbrev pub word_place : ℕ → ℕ → ℕ → ℕ
+word_place n a word = (a - 1) * width n + word
 
 abbrev pub word_at : ℕ → List ℕ → ℕ → ℕ → ℕ
-word_at n words a word = get_or words (place n a word) 0
+word_at n words a word = get_or words (word_place n a word) 0
 
 -- whether row a has the bit of b
 abbrev pub has : ℕ → List ℕ → ℕ → ℕ → Bool
@@ -28,19 +28,19 @@ has n words a b = bit_at (word_at n words a (b / 64)) (b % 64) == 1
 abbrev pub pairs_where : ℕ → (ℕ → ℕ → Bool) → List (ℕ × ℕ)
 pairs_where n holds = flat_map (λ a. map (λ b. (a, b)) (filter (holds a) (range_with_len 1 n))) (range_with_len 1 n)
 
-abbrev pub order_of : ℕ × ℕ → Adoption
-order_of p = record { parent = record { 0 = p.0 }; child = record { 0 = p.1 }; origin = Listed }
+abbrev pub as_order : ℕ × ℕ → Adoption
+as_order p = record { parent = record { 0 = p.0 }; child = record { 0 = p.1 }; origin = Listed }
 
-abbrev pub types_of : ℕ × ℕ → TypeNo × TypeNo
-types_of p = (record { 0 = p.0 }, record { 0 = p.1 })
+abbrev pub as_types : ℕ × ℕ → TypeNo × TypeNo
+as_types p = (record { 0 = p.0 }, record { 0 = p.1 })
 
 -- the orders that a square says were adopted
 abbrev pub orders_in : ℕ → List ℕ → List Adoption
-orders_in n direct = map order_of (pairs_where n (has n direct))
+orders_in n direct = map as_order (pairs_where n (has n direct))
 
 -- the pairs that a square says were found, each once
 abbrev pub found_in : ℕ → List ℕ → List (TypeNo × TypeNo)
-found_in n found = map types_of (pairs_where n (λ a b. nat_le a b && has n found a b))
+found_in n found = map as_types (pairs_where n (λ a b. nat_le a b && has n found a b))
 
 abbrev pub relation_in : ℕ → List ℕ → List ℕ → Relation
 relation_in n direct found = record { size = n; orders = orders_in n direct; found = found_in n found }

@@ -2,7 +2,7 @@
 
 ghost use Rattle.std.specs.Prelude.{◌≡◌, ◌<◌, ◌*◌, ◌&&◌, ◌==◌, ◌+◌, ◌/◌, ◌%◌, ◌^◌, ◌≤◌, not, false, IfOk, IfErr, replicate};
 ghost use Rattle.wit_model.specs.declared.faults.Fault.TheVariants.{OutOfMemory};
-ghost use Rattle.wit_matrix.specs.Squares.{width, place, has, IsSquare, AddsWhere, AreMirrors, IsTransitive, HasNone, ReachesNone, is_at, reaches, joins_row, joins, links};
+ghost use Rattle.wit_matrix.specs.Squares.{width, word_place, has, IsSquare, AddsWhere, AreMirrors, IsTransitive, HasNone, ReachesNone, is_at, reaches, joins_row, joins, links};
 ghost use Rattle.wit_model.specs.Rules.Numbers.{IsNumber};
 
 use std::alloc::Global;
@@ -20,7 +20,7 @@ fn width(n: u16) -> usize
 fn place(n: u16, row: TypeNo, word: usize) -> usize
     requires row { IsNumber n row.0 }
     requires word { word < width n }
-    ensures value { result ≡ place n row.0 word }
+    ensures value { result ≡ word_place n row.0 word }
     ensures within { result < n * width n }
 {
     (row.0 as usize - 1) * width(n) + word

@@ -25,7 +25,7 @@ use Rattle.wit_model.specs.Rules.State.{Start, known_of, seat_of, typed_locks, o
 use Rattle.wit_model.specs.Rules.Start.{start_fault}
 use Rattle.wit_model.specs.Rules.Verdict.{verdict}
 use Rattle.wit_model.specs.Rules.Step.{IsLegal}
-use Rattle.wit_model.specs.Rules.Ahead.{lock_type, IsAhead}
+use Rattle.wit_model.specs.Rules.Ahead.{type_of_lock, IsAhead}
 use Rattle.wit_model.specs.Rules.Clean.{is_giant_lock, is_clean}
 
 -- ---- adoptions
@@ -51,14 +51,14 @@ abbrev pub ReversalsBreakOrders : Type 0
 ReversalsBreakOrders =
     (start : Start) (files : List (List ℕ)) (e : Entry) (h : List Entry) (x : Conflict)
     → IsLegal start files (e ∷ h) → e.reply ≡ Reversal x → x.heading ≡ heading.Order
-    → Before (orders_of start h) (lock_type start h x.asked.lock.0) (lock_type start h x.held.lock.0)
+    → Before (orders_of start h) (type_of_lock start h x.asked.lock.0) (type_of_lock start h x.held.lock.0)
 
 -- the two locks of a duplicate are of one type
 abbrev pub DuplicatesAreOfOneType : Type 0
 DuplicatesAreOfOneType =
     (start : Start) (files : List (List ℕ)) (e : Entry) (h : List Entry) (d : Doubling)
     → IsLegal start files (e ∷ h) → e.reply ≡ Duplicate d
-    → lock_type start h d.last.lock.0 ≡ lock_type start h d.asked.lock.0
+    → type_of_lock start h d.last.lock.0 ≡ type_of_lock start h d.asked.lock.0
 
 -- the types of the held lock and of the requested one that a report names
 abbrev pub reported_pair : List Lock → Reply → List (TypeNo × TypeNo)
@@ -95,8 +95,8 @@ pub record AsksBehind (start : Start) (h : List Entry) (e : Entry) (a b : ℕ) :
   pub asks : e.call ≡ Check request
   pub last : ℕ
   pub is_last : last_of_kind e.seat.0 request.lock.0 h ≡ Some last
-  pub parent : lock_type start h last ≡ a
-  pub child : lock_type start h request.lock.0 ≡ b
+  pub parent : type_of_lock start h last ≡ a
+  pub child : type_of_lock start h request.lock.0 ≡ b
 
 abbrev pub is_sleepable_lock : NewLock → Bool
 is_sleepable_lock lock = is_same_class lock.class Sx
@@ -132,7 +132,7 @@ DirectPasses =
     (start : Start) (files : List (List ℕ)) (h : List Entry) (t : ℕ) (q : Request) (last : ℕ)
     → start_fault start ≡ None → IsLegal start files h → IsGiven (locks_of h) q.lock.0
     → last_of_kind t q.lock.0 h ≡ Some last
-    → is_direct (orders_of start h) (lock_type start h last) (lock_type start h q.lock.0) ≡ true
+    → is_direct (orders_of start h) (type_of_lock start h last) (type_of_lock start h q.lock.0) ≡ true
     → is_held t q.lock.0 h ≡ false
     → (is_spin_lock (locks_of h) q.lock.0 ≡ false → held_of true t h ≡ [])
     → verdict Plain (known_of start h) (watch_of h) (seat_of h t) q ≡ Ok Pass
@@ -177,28 +177,28 @@ NoneIsAheadOfItself =
 
 -- ---- a history of which the last law says something
 
-abbrev small : Start
-small = record { sizes = record { seats = 1; types = 2; locks = 2; chunks = 1; log = 8 }; profile = Plain; lists = []; blessed = [] }
+abbrev one_seat : Start
+one_seat = record { sizes = record { seats = 1; types = 2; locks = 2; chunks = 1; log = 8 }; profile = Plain; lists = []; blessed = [] }
 
 abbrev mutex : List ℕ → Call
 mutex name = Init (record { class = SleepMutex; flags = record { 0 = 0 }; name = name; type_name = None })
 
-abbrev request : ℕ → Request
-request l = record { lock = record { 0 = l }; site = record { file = record { 0 = 1 }; line = 1 }; mode = Exclusive; ops = record { 0 = 0x01 } }
+abbrev request_for : ℕ → Request
+request_for l = record { lock = record { 0 = l }; site = record { file = record { 0 = 1 }; line = 1 }; mode = Exclusive; ops = record { 0 = 0x01 } }
 
 abbrev by_one : Call → Reply → Entry
 by_one call reply = record { seat = record { 0 = 1 }; call = call; reply = reply }
 
 -- the only seat makes two mutexes, takes the first, and asks for the second; newest first
-abbrev two_mutexes : List Entry
-two_mutexes =
-    by_one (Check (request 2)) (Adopted (record { 0 = 1 }) (record { 0 = 2 }))
+abbrev two_in_order : List Entry
+two_in_order =
+    by_one (Check (request_for 2)) (Adopted (record { 0 = 1 }) (record { 0 = 2 }))
     ∷ by_one (Note (record { 0 = 1 })) Recorded
-    ∷ by_one (Check (request 1)) Pass
+    ∷ by_one (Check (request_for 1)) Pass
     ∷ by_one (mutex (codes "b")) (Made (record { 0 = 2 }))
     ∷ by_one (mutex (codes "a")) (Made (record { 0 = 1 }))
     ∷ []
 
 -- that is a clean history
 abbrev pub TwoMutexesAreClean : Type 0
-TwoMutexesAreClean = (start_fault small ≡ None) × (IsLegal small (codes "main.c" ∷ []) two_mutexes × (is_clean Plain two_mutexes ≡ true))
+TwoMutexesAreClean = (start_fault one_seat ≡ None) × (IsLegal one_seat (codes "main.c" ∷ []) two_in_order × (is_clean Plain two_in_order ≡ true))

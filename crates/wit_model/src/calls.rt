@@ -70,7 +70,7 @@ pub struct Request {
 
 /// A request as it is judged, with what is known of the lock.
 #[derive(Clone, Copy, Debug, PartialEq, Eq, Hash)]
-pub struct Asked {
+pub struct TypedRequest {
     /// The lock asked for.
     pub lock: LockNo,
     /// The lock's type.

@@ -20,7 +20,8 @@ mod type_lists;
 pub use assertions::AssertAnswer;
 pub use boxes::Boxed;
 pub use calls::{
-    Adoption, Asked, Call, Conflict, Doubling, Entry, Heading, LockAt, NewLock, Reply, Request,
+    Adoption, Call, Conflict, Doubling, Entry, Heading, LockAt, NewLock, Reply, Request,
+    TypedRequest,
 };
 pub use faults::Fault;
 pub use flags::{LockAssert, LockFlags, OpFlags, WarnFlags};

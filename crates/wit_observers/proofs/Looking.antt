@@ -12,10 +12,10 @@ use Rattle.wit_observers.specs.declared.store.Shape.{Shape}
 use Rattle.wit_observers.specs.declared.store.Store.{Store}
 use Rattle.wit_model.specs.Rules.Numbers.{is_number}
 use Rattle.wit_model.specs.Rules.Orders.{is_direct}
-use Rattle.wit_adoptions.specs.Naming.{listed}
+use Rattle.wit_adoptions.specs.Naming.{orders_on}
 use Rattle.wit_observers.specs.Numbers.{number_in, number_at}
 use Rattle.wit_observers.proofs.Numbers.{number_within}
-use Rattle.wit_observers.specs.Shown.{shape_of, shown, IsExact, Begins, IsShown, Sees, GoesOn, longer, Tells}
+use Rattle.wit_observers.specs.Shown.{shape_of, shown, IsExact, Begins, IsShownTo, Sees, GoesOn, longer, Tells}
 
 -- nothing is how every list begins
 prefix_none : (l : List Adoption) → IsPrefix [] l
@@ -36,7 +36,7 @@ begins_on l m views begins more j u at = prefix_trans u l m (begins j u at) more
 
 module _ (name : Name) where
   abbrev Holds : Store → List (List Adoption) → Type 0
-  Holds s views = IsShown name (shape_of s) views
+  Holds s views = IsShownTo name (shape_of s) views
 
   pub first_shown : (s : Store) → IsExact name (shape_of s) → Holds s ([] ∷ [])
   first_shown s exact = (exact, begins_snoc (shown name (shape_of s)) [] [] (λ j u at. absurd (some-ne-none u (sym at))) (prefix_none (shown name (shape_of s))))
@@ -82,7 +82,7 @@ told_all None told_at told l is same = tt
 told_all (Some p) told_at told l is same = subst (λ z. IsPrefix l z) (sym (is ∙ same)) (prefix_refl l)
 
 -- what a look tells
-pub tells : (name : Name) (told told_then seen : List Adoption) (s : Shape) (number a b : ℕ) → Sees name told s told_then → seen ≡ listed name s.page
+pub tells : (name : Name) (told told_then seen : List Adoption) (s : Shape) (number a b : ℕ) → Sees name told s told_then → seen ≡ orders_on name s.page
     → number ≡ number_at s.size s.cells a b → Tells told seen number a b told_then
 tells name told told_then seen s number a b sees is numbers =
     let exact = sees.0 in
@@ -91,7 +91,7 @@ tells name told told_then seen s number a b sees is numbers =
       more = subst (λ l. IsPrefix told l) (sym all) sees.1;
       begins = (s.tail, ap (λ l. l ++ s.tail) is ∙ sym all);
       number = numbers ∙ (exact.numbers.numbers a b ∙ ap (λ l. number_in l a b) (sym all));
-      few = let e = ap length is in let d = length-append (listed name s.page) s.tail in let few = exact.few in omega (arith, e, d, few);
+      few = let e = ap length is in let d = length-append (orders_on name s.page) s.tail in let few = exact.few in omega (arith, e, d, few);
     }
 
 -- a number tells of how the list began whether the order is there

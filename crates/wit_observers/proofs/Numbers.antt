@@ -9,7 +9,7 @@ use Rattle.wit_model.specs.declared.calls.Adoption.{Adoption}
 use Rattle.wit_model.specs.Rules.Numbers.{is_number}
 use Rattle.wit_model.specs.Rules.Orders.{is_adoption_of, is_direct}
 use Rattle.wit_model.proofs.Orders.Types.{place-append, place-within}
-use Rattle.wit_observers.specs.Numbers.{number_in, fits, place, number_at, numbered, numbered_all, all_fit, HasNumbers}
+use Rattle.wit_observers.specs.Numbers.{number_in, fits, cell_place, number_at, numbered_one, numbered_all, all_fit, HasNumbers}
 
 -- ---- numbers in a longer list
 
@@ -77,7 +77,7 @@ number_bounds n a is = let parts = and_parts (nat_lt 0 a) (nat_le a n) is in (lt
 fits_bounds : (n a b : ℕ) → fits n a b ≡ true → ((0 < a) × (a ≤ n)) × ((0 < b) × (b ≤ n))
 fits_bounds n a b here = let parts = and_parts (is_number n a) (is_number n b) here in (number_bounds n a parts.0, number_bounds n b parts.1)
 
-pub places_apart : (n a b c d : ℕ) → fits n a b ≡ true → fits n c d ≡ true → place n a b ≡ place n c d → (a ≡ c) × (b ≡ d)
+pub places_apart : (n a b c d : ℕ) → fits n a b ≡ true → fits n c d ≡ true → cell_place n a b ≡ cell_place n c d → (a ≡ c) × (b ≡ d)
 places_apart n a b c d here there same =
     let h = fits_bounds n a b here in
     let t = fits_bounds n c d there in
@@ -88,42 +88,42 @@ places_apart n a b c d here there same =
     let h0 = h.0 in let h1 = h.1 in let t0 = t.0 in let t1 = t.1 in
     (omega (arith, rows, h0.0, t0.0), omega (arith, products, same, h1.0, t1.0))
 
-pub place_within : (n a b : ℕ) → fits n a b ≡ true → place n a b < n * n
+pub place_within : (n a b : ℕ) → fits n a b ≡ true → cell_place n a b < n * n
 place_within n a b here =
     let h = fits_bounds n a b here in let h0 = h.0 in let h1 = h.1 in
     mul-add-lt (a - 1) n (b - 1) n (omega (arith, h0.0, h0.1)) (omega (arith, h1.0, h1.1))
 
-at_fitting : (n : ℕ) (cells : List ℕ) (a b : ℕ) → fits n a b ≡ true → number_at n cells a b ≡ get_or cells (place n a b) 0
-at_fitting n cells a b here = ap (λ t. cond t (get_or cells (place n a b) 0) 0) here
+at_fitting : (n : ℕ) (cells : List ℕ) (a b : ℕ) → fits n a b ≡ true → number_at n cells a b ≡ get_or cells (cell_place n a b) 0
+at_fitting n cells a b here = ap (λ t. cond t (get_or cells (cell_place n a b) 0) 0) here
 
 -- ---- one order more
 
 module _ (n : ℕ) (os : List Adoption) (cells : List ℕ) (has : HasNumbers n os cells) (o : Adoption) (here : fits n o.parent.0 o.child.0 ≡ true) where
   abbrev more : List ℕ
-  more = numbered n cells o.parent.0 o.child.0 (length os + 1)
+  more = numbered_one n cells o.parent.0 o.child.0 (length os + 1)
 
   kept : is_direct os o.parent.0 o.child.0 ≡ true → more ≡ cells
   kept is =
       let number = has.numbers o.parent.0 o.child.0 ∙ number_of-direct os o.parent.0 o.child.0 is in
-      ap (λ t. cond t (set cells (place n o.parent.0 o.child.0) (length os + 1)) cells)
+      ap (λ t. cond t (set cells (cell_place n o.parent.0 o.child.0) (length os + 1)) cells)
       (and_right (fits n o.parent.0 o.child.0) (eqb (number_at n cells o.parent.0 o.child.0) 0) (ne_eqb (number_at n cells o.parent.0 o.child.0) 0 (λ zero. omega (arith, number, zero))))
 
-  written : is_direct os o.parent.0 o.child.0 ≡ false → more ≡ set cells (place n o.parent.0 o.child.0) (length os + 1)
+  written : is_direct os o.parent.0 o.child.0 ≡ false → more ≡ set cells (cell_place n o.parent.0 o.child.0) (length os + 1)
   written none =
-      ap (λ t. cond t (set cells (place n o.parent.0 o.child.0) (length os + 1)) cells)
+      ap (λ t. cond t (set cells (cell_place n o.parent.0 o.child.0) (length os + 1)) cells)
       (and_from (fits n o.parent.0 o.child.0) (eqb (number_at n cells o.parent.0 o.child.0) 0) here
       (eq-eqb (number_at n cells o.parent.0 o.child.0) 0 (has.numbers o.parent.0 o.child.0 ∙ number_of-none os o.parent.0 o.child.0 none)))
 
   square_more : length more ≡ n * n
   square_more = ⊎_elim (λ is. ap length (kept is) ∙ has.square)
-      (λ none. ap length (written none) ∙ (length-set cells (place n o.parent.0 o.child.0) (length os + 1) ∙ has.square)) (cases_Bool (is_direct os o.parent.0 o.child.0))
+      (λ none. ap length (written none) ∙ (length-set cells (cell_place n o.parent.0 o.child.0) (length os + 1) ∙ has.square)) (cases_Bool (is_direct os o.parent.0 o.child.0))
 
   -- the square says it where its order is asked for, and what it said elsewhere
   at_itself : is_direct os o.parent.0 o.child.0 ≡ false → number_at n more o.parent.0 o.child.0 ≡ length os + 1
   at_itself none =
       at_fitting n more o.parent.0 o.child.0 here
-      ∙ (ap (λ cs. get_or cs (place n o.parent.0 o.child.0) 0) (written none)
-      ∙ get_or-set_same cells (place n o.parent.0 o.child.0) (length os + 1) 0 (subst (λ k. place n o.parent.0 o.child.0 < k) (sym has.square) (place_within n o.parent.0 o.child.0 here)))
+      ∙ (ap (λ cs. get_or cs (cell_place n o.parent.0 o.child.0) 0) (written none)
+      ∙ get_or-set_same cells (cell_place n o.parent.0 o.child.0) (length os + 1) 0 (subst (λ k. cell_place n o.parent.0 o.child.0 < k) (sym has.square) (place_within n o.parent.0 o.child.0 here)))
 
   at_others : (a b : ℕ) → is_adoption_of a b o ≡ false → number_at n more a b ≡ number_at n cells a b
   at_others a b other = ⊎_elim (λ is. ap (λ cs. number_at n cs a b) (kept is)) (λ none. ⊎_elim (elsewhere none) outside (cases_Bool (fits n a b)))
@@ -131,13 +131,13 @@ module _ (n : ℕ) (os : List Adoption) (cells : List ℕ) (has : HasNumbers n o
     where
       outside : fits n a b ≡ false → number_at n more a b ≡ number_at n cells a b
       outside out =
-          cond-false (fits n a b) (get_or more (place n a b) 0) 0 out ∙ sym (cond-false (fits n a b) (get_or cells (place n a b) 0) 0 out)
+          cond-false (fits n a b) (get_or more (cell_place n a b) 0) 0 out ∙ sym (cond-false (fits n a b) (get_or cells (cell_place n a b) 0) 0 out)
 
       elsewhere : is_direct os o.parent.0 o.child.0 ≡ false → fits n a b ≡ true → number_at n more a b ≡ number_at n cells a b
       elsewhere none there =
           at_fitting n more a b there
-          ∙ (ap (λ cs. get_or cs (place n a b) 0) (written none)
-          ∙ (get_or-set_other cells (place n o.parent.0 o.child.0) (place n a b) (length os + 1) 0
+          ∙ (ap (λ cs. get_or cs (cell_place n a b) 0) (written none)
+          ∙ (get_or-set_other cells (cell_place n o.parent.0 o.child.0) (cell_place n a b) (length os + 1) 0
           (λ same. let apart = places_apart n a b o.parent.0 o.child.0 there here same in
           false≢true (sym other ∙ and_from (eqb o.parent.0 a) (eqb o.child.0 b) (eq-eqb o.parent.0 a (sym apart.0)) (eq-eqb o.child.0 b (sym apart.1))))
           ∙ sym (at_fitting n cells a b there)))
@@ -175,7 +175,7 @@ pub put_numbers : (n : ℕ) (os : List Adoption) (cells : List ℕ) (later : Lis
 put_numbers n os cells [] has all = subst (λ l. HasNumbers n l cells) (sym (append-nil os)) has
 put_numbers n os cells (o ∷ later) has all =
     let parts = and_parts (fits n o.parent.0 o.child.0) (all_fit n later) all in
-    let first = numbered n cells o.parent.0 o.child.0 (length os + 1) in
+    let first = numbered_one n cells o.parent.0 o.child.0 (length os + 1) in
     let rest = put_numbers n (os ++ o ∷ []) first later (one_more n os cells has o parts.0) parts.1 in
     subst (λ k. HasNumbers n (os ++ o ∷ later) (numbered_all n first k later)) (length-append os (o ∷ []))
     (subst (λ l. HasNumbers n l (numbered_all n first (length (os ++ o ∷ [])) later)) (append_assoc os (o ∷ []) later) rest)
@@ -185,5 +185,5 @@ pub blank_numbers : (n : ℕ) → HasNumbers n [] (replicate (n * n) 0)
 blank_numbers n = record { square = length-replicate (n * n) 0; numbers = λ a b. go a b (cases_Bool (fits n a b)) }
   where
     go : (a b : ℕ) → (fits n a b ≡ true) ⊎ (fits n a b ≡ false) → number_at n (replicate (n * n) 0) a b ≡ 0
-    go a b (inl here) = at_fitting n (replicate (n * n) 0) a b here ∙ get_or-replicate (n * n) (place n a b) 0 0 (place_within n a b here)
-    go a b (inr out) = cond-false (fits n a b) (get_or (replicate (n * n) 0) (place n a b) 0) 0 out
+    go a b (inl here) = at_fitting n (replicate (n * n) 0) a b here ∙ get_or-replicate (n * n) (cell_place n a b) 0 0 (place_within n a b here)
+    go a b (inr out) = cond-false (fits n a b) (get_or (replicate (n * n) 0) (cell_place n a b) 0) 0 out

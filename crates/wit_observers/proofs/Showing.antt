@@ -1,26 +1,26 @@
 -- What a change leaves of what is shown.
 use Rattle.std.proofs.Common.{◌≡◌, ℕ, ◌+◌, ◌*◌, ◌<◌, ◌^◌, true, List, [], ◌++◌, length, replicate, refl, ap, sym, ◌∙◌, subst, arith, append-nil, length-append, Result, Ok, Err, IfOk, IfErr}
 use Rattle.wit_model.specs.declared.calls.Adoption.{Adoption}
-use Rattle.wit_adoptions.specs.Naming.{Name, Sheet, IsOf, listed}
+use Rattle.wit_adoptions.specs.Naming.{Name, Sheet, IsOf, orders_on}
 use Rattle.wit_observers.specs.declared.store.Shape.{Shape}
 use Rattle.wit_observers.specs.declared.store.Change.{Change}
 use Rattle.wit_observers.specs.Numbers.{numbered_all, all_fit, HasNumbers}
-use Rattle.wit_observers.specs.Shown.{shape, changed, shown, IsExact, GoesOn}
+use Rattle.wit_observers.specs.Shown.{shape, with_change, shown, IsExact, GoesOn}
 use Rattle.wit_observers.proofs.Numbers.{put_numbers, blank_numbers}
 
 -- the change has all orders that are shown on its page, and more that fit
 pub record CanShow (name : Name) (s : Shape) (c : Change) : Type 0 where
   pub page : IsOf name c.page
-  pub all : listed name c.page ≡ shown name s
+  pub all : orders_on name c.page ≡ shown name s
   pub before : c.before ≡ length (shown name s)
   pub fits : all_fit s.size c.orders.items ≡ true
   pub room : length (shown name s) + length c.orders.items < 2 ^ 32
 
 module _ (name : Name) (s : Shape) (c : Change) (exact : IsExact name s) (can : CanShow name s c) where
-  pub shown_more : shown name (changed s c) ≡ shown name s ++ c.orders.items
+  pub shown_more : shown name (with_change s c) ≡ shown name s ++ c.orders.items
   shown_more = ap (λ (l : List Adoption). l ++ c.orders.items) can.all
 
-  pub exact_more : IsExact name (changed s c)
+  pub exact_more : IsExact name (with_change s c)
   exact_more = record {
     page = can.page;
     numbers = subst (λ l. HasNumbers s.size l (numbered_all s.size s.cells c.before c.orders.items)) (sym shown_more)
@@ -29,12 +29,12 @@ module _ (name : Name) (s : Shape) (c : Change) (exact : IsExact name s) (can : 
     few = subst (λ k. k < 2 ^ 32) (sym (ap length shown_more ∙ length-append (shown name s) c.orders.items)) can.room;
   }
 
-  pub goes_on : GoesOn name s (changed s c)
+  pub goes_on : GoesOn name s (with_change s c)
   goes_on = (exact_more, (c.orders.items, sym shown_more))
 
 -- a change whose page has all orders so far can be shown
 pub can_show : (name : Name) (s : Shape) (c : Change) (orders more : List Adoption) → shown name s ≡ orders → c.orders.items ≡ more → c.before ≡ length orders
-    → IsOf name c.page → listed name c.page ≡ orders → all_fit s.size more ≡ true → length orders + length more < 2 ^ 32 → CanShow name s c
+    → IsOf name c.page → orders_on name c.page ≡ orders → all_fit s.size more ≡ true → length orders + length more < 2 ^ 32 → CanShow name s c
 can_show name s c orders more all items before of listing fit room = record {
   page = of;
   all = listing ∙ sym all;
@@ -50,14 +50,14 @@ pub record IsPublished (name : Name) (orders : List Adoption) (s : Shape) (told 
   pub kept : told ≡ orders
 
 pub published_more : (name : Name) (s : Shape) (c : Change) (t : Shape) (orders more told : List Adoption) → IsExact name s → shown name s ≡ orders → c.orders.items ≡ more
-    → CanShow name s c → t ≡ changed s c → told ≡ shown name t → IsPublished name (orders ++ more) t told
+    → CanShow name s c → t ≡ with_change s c → told ≡ shown name t → IsPublished name (orders ++ more) t told
 published_more name s c t orders more told exact all items can is sees =
     let now : shown name t ≡ orders ++ more = ap (shown name) is ∙ (shown_more name s c exact can ∙ (ap (λ l. l ++ c.orders.items) all ∙ ap (λ l. orders ++ l) items)) in
     record { exact = subst (IsExact name) (sym is) (exact_more name s c exact can); all = now; kept = sees ∙ now }
 
 -- a page that is renewed can be shown
 pub can_renew : (name : Name) (t : Shape) (c : Change) (orders told : List Adoption) → IsPublished name orders t told → c.orders.items ≡ [] → c.before ≡ length orders
-    → IsOf name c.page → listed name c.page ≡ orders → CanShow name t c
+    → IsOf name c.page → orders_on name c.page ≡ orders → CanShow name t c
 can_renew name t c orders told is items before of listing =
     can_show name t c orders [] is.all items before of listing refl (let e = ap length is.all in let few = is.exact.few in omega (arith, e, few))
 
@@ -75,9 +75,9 @@ either_way (Ok x) P Q G ok err there too = there ok
 either_way (Err e) P Q G ok err there too = too err
 
 -- a list with no orders is shown by blank cells
-pub exact_blank : (name : Name) (page : Sheet) (n : ℕ) → IsOf name page → listed name page ≡ [] → IsExact name (shape page [] n (replicate (n * n) 0))
+pub exact_blank : (name : Name) (page : Sheet) (n : ℕ) → IsOf name page → orders_on name page ≡ [] → IsExact name (shape page [] n (replicate (n * n) 0))
 exact_blank name page n of none =
-    let empty : listed name page ++ [] ≡ [] = append-nil (listed name page) ∙ none in
+    let empty : orders_on name page ++ [] ≡ [] = append-nil (orders_on name page) ∙ none in
     record {
       page = of;
       numbers = subst (λ l. HasNumbers n l (replicate (n * n) 0)) (sym empty) (blank_numbers n);

@@ -14,23 +14,23 @@ abbrev pub fits : ℕ → ℕ → ℕ → Bool
 fits n a b = is_number n a && is_number n b
 
 -- where the order from a to b stands in a square of cells, row by row
-abbrev pub place : ℕ → ℕ → ℕ → ℕ
-place n a b = (a - 1) * n + (b - 1)
+abbrev pub cell_place : ℕ → ℕ → ℕ → ℕ
+cell_place n a b = (a - 1) * n + (b - 1)
 
 -- what a square of cells says of the order from a to b
 abbrev pub number_at : ℕ → List ℕ → ℕ → ℕ → ℕ
-number_at n cells a b = if fits n a b then get_or cells (place n a b) 0 else 0
+number_at n cells a b = if fits n a b then get_or cells (cell_place n a b) 0 else 0
 
 -- the cells once the order from a to b has this number: one that it had before stays
-abbrev pub numbered : ℕ → List ℕ → ℕ → ℕ → ℕ → List ℕ
-numbered n cells a b number =
-    if fits n a b && (number_at n cells a b == 0) then slice_set cells (place n a b) number else cells
+abbrev pub numbered_one : ℕ → List ℕ → ℕ → ℕ → ℕ → List ℕ
+numbered_one n cells a b number =
+    if fits n a b && (number_at n cells a b == 0) then slice_set cells (cell_place n a b) number else cells
 
 -- the cells once these orders have the numbers behind those of so many before them
 abbrev pub numbered_all : ℕ → List ℕ → ℕ → List Adoption → List ℕ
 numbered_all n cells before [] = cells
 numbered_all n cells before (o ∷ later) =
-    numbered_all n (numbered n cells o.parent.0 o.child.0 (before + 1)) (before + 1) later
+    numbered_all n (numbered_one n cells o.parent.0 o.child.0 (before + 1)) (before + 1) later
 
 -- whether all these orders are between the first n types
 abbrev pub all_fit : ℕ → List Adoption → Bool

@@ -4,7 +4,7 @@ use mathlib.Core.List.{IsPrefix}
 use mathlib.Core.Option.{some}
 use lib.ListN.{get_elem?}
 use Rattle.wit_model.specs.declared.calls.Adoption.{Adoption}
-use Rattle.wit_adoptions.specs.Naming.{Name, Sheet, IsOf, listed}
+use Rattle.wit_adoptions.specs.Naming.{Name, Sheet, IsOf, orders_on}
 use Rattle.wit_observers.specs.declared.store.Shape.{Shape}
 use Rattle.wit_observers.specs.declared.store.Store.{Store}
 use Rattle.wit_observers.specs.declared.store.Change.{Change}
@@ -17,12 +17,12 @@ abbrev pub shape_of : Store → Shape
 shape_of s = shape s.page s.tail.orders s.size s.cells.items
 
 -- what is shown once a change is taken in
-abbrev pub changed : Shape → Change → Shape
-changed s c = shape c.page c.orders.items s.size (numbered_all s.size s.cells c.before c.orders.items)
+abbrev pub with_change : Shape → Change → Shape
+with_change s c = shape c.page c.orders.items s.size (numbered_all s.size s.cells c.before c.orders.items)
 
 -- the orders that are shown: those on the page, and those that it doesn't have yet
 abbrev pub shown : Name → Shape → List Adoption
-shown name s = listed name s.page ++ s.tail
+shown name s = orders_on name s.page ++ s.tail
 
 -- the page is of this list, and the cells say the numbers of the orders that are shown
 pub record IsExact (name : Name) (s : Shape) : Type 0 where
@@ -34,8 +34,8 @@ pub record IsExact (name : Name) (s : Shape) : Type 0 where
 abbrev pub Begins : List Adoption → List (List Adoption) → Type 0
 Begins orders views = (seat : ℕ) (told : List Adoption) → get_elem? views seat ≡ some told → IsPrefix told orders
 
-abbrev pub IsShown : Name → Shape → List (List Adoption) → Type 0
-IsShown name s views = IsExact name s × Begins (shown name s) views
+abbrev pub IsShownTo : Name → Shape → List (List Adoption) → Type 0
+IsShownTo name s views = IsExact name s × Begins (shown name s) views
 
 -- who looks sees all orders that are shown, at least those that it was told
 abbrev pub Sees : Name → List Adoption → Shape → List Adoption → Type 0

@@ -2,7 +2,7 @@
 //! from the row's to the column's, or 0.
 
 ghost use Rattle.std.specs.Prelude.{◌≡◌, ◌+◌, ◌*◌, ◌<◌, ◌≤◌, ◌^◌, ◌&&◌, IfOk, length, replicate};
-ghost use Rattle.wit_observers.specs.Numbers.{fits, place, number_at, numbered, numbered_all};
+ghost use Rattle.wit_observers.specs.Numbers.{fits, cell_place, number_at, numbered_one, numbered_all};
 ghost use Rattle.wit_model.specs.Rules.Numbers.{IsNumber};
 
 use std::alloc::{AllocError, Global};
@@ -29,7 +29,7 @@ fn fits(n: u16, a: TypeNo, b: TypeNo) -> bool
 fn place(n: u16, a: TypeNo, b: TypeNo) -> usize
     requires a { IsNumber n a.0 }
     requires b { IsNumber n b.0 }
-    ensures value { result ≡ place n a.0 b.0 }
+    ensures value { result ≡ cell_place n a.0 b.0 }
     ensures within { result < n * n }
 {
     (a.0 as usize - 1) * n as usize + (b.0 as usize - 1)
@@ -50,7 +50,7 @@ pub fn number_at(n: u16, cells: &[u32], a: TypeNo, b: TypeNo) -> u32
 // Gives an order its number, unless it has one.
 fn put(n: u16, cells: &mut [u32], order: Adoption, number: u32)
     requires { length cells.old ≡ n * n }
-    ensures { cells.new ≡ numbered n cells.old order.parent.0 order.child.0 number }
+    ensures { cells.new ≡ numbered_one n cells.old order.parent.0 order.child.0 number }
 {
     let (a, b) = (order.parent, order.child);
     if fits(n, a, b) && number_at(n, cells, a, b) == 0 {

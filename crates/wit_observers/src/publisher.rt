@@ -3,9 +3,9 @@
 ghost use Rattle.std.specs.Prelude.{◌≡◌, ◌+◌, ◌<◌, ◌^◌, ◌++◌, ◌∷◌, true, [], length, drop, fold, replicate, ◌*◌, IfOk, IfErr, IfSome, MatchResult};
 ghost use mathlib.Core.List.{IsPrefix};
 ghost use Rattle.left_right.specs.Sides.{view as told_at};
-ghost use Rattle.wit_adoptions.specs.Naming.{IsOf, listed};
+ghost use Rattle.wit_adoptions.specs.Naming.{IsOf, orders_on};
 ghost use Rattle.wit_observers.specs.Numbers.{all_fit};
-ghost use Rattle.wit_observers.specs.Shown.{shape_of, changed, shown, IsExact, GoesOn};
+ghost use Rattle.wit_observers.specs.Shown.{shape_of, with_change, shown, IsExact, GoesOn};
 
 use crate::cells::blank;
 use crate::news::News;
@@ -39,10 +39,10 @@ fn first_store(alloc: Global, page: Page, size: u16) -> Result<Store, AllocError
 // Shows what was added, which can't fail.
 fn show<J: Naming, R: Wait>(rt: &R, writer: Showing<J>) -> Showing<J>
     requires { let now = shape_of writer.desk.shown.value in
-        GoesOn J.list now (fold changed now (drop writer.behind writer.log.items)) }
+        GoesOn J.list now (fold with_change now (drop writer.behind writer.log.items)) }
     ensures none { drop result.behind result.log.items ≡ [] }
     ensures shape { shape_of result.desk.shown.value
-        ≡ fold changed (shape_of writer.desk.shown.value) (drop writer.behind writer.log.items) }
+        ≡ fold with_change (shape_of writer.desk.shown.value) (drop writer.behind writer.log.items) }
     ensures view { told_at result.desk.place ≡ shown J.list (shape_of result.desk.shown.value) }
 {
     let (writer, _shown) = writer.publish_as::<Looks<J>, R>(rt);
@@ -56,10 +56,10 @@ fn show_change<J: Naming, R: Wait>(
     change: Change,
 ) -> Result<(), AllocError>
     requires none { drop writer.old.behind writer.old.log.items ≡ [] }
-    requires goes_on { let now = shape_of writer.old.desk.shown.value in GoesOn J.list now (changed now change) }
+    requires goes_on { let now = shape_of writer.old.desk.shown.value in GoesOn J.list now (with_change now change) }
     ensures none { drop writer.new.behind writer.new.log.items ≡ [] }
     ensures ok { let now = shape_of writer.new.desk.shown.value in
-        IfOk result (λ _. (now ≡ changed (shape_of writer.old.desk.shown.value) change)
+        IfOk result (λ _. (now ≡ with_change (shape_of writer.old.desk.shown.value) change)
         × (told_at writer.new.desk.place ≡ shown J.list now)) }
     ensures err { IfErr result (λ _.
         (shape_of writer.new.desk.shown.value ≡ shape_of writer.old.desk.shown.value)
@@ -78,7 +78,7 @@ fn change<J: Naming>(keeper: &Keeper<J>, orders: Vec<Adoption>) -> Change
     ensures orders { result.orders ≡ orders }
     ensures before { result.before ≡ length keeper.now }
     ensures page { IsOf J.list result.page }
-    ensures all { listed J.list result.page ≡ keeper.now }
+    ensures all { orders_on J.list result.page ≡ keeper.now }
 {
     Change {
         page: keeper.front().page(),

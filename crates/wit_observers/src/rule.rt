@@ -21,9 +21,9 @@ pub struct Shown<J> {
 
 impl<J: Naming> Protocol<Store, Told> for Shown<J> {
     ghost use Rattle.std.specs.Prelude.{[]};
-    ghost use Rattle.wit_observers.specs.Shown.{shape_of, IsShown};
+    ghost use Rattle.wit_observers.specs.Shown.{shape_of, IsShownTo};
 
-    ghost holds = { λ s views. IsShown J.list (shape_of s) views };
+    ghost holds = { λ s views. IsShownTo J.list (shape_of s) views };
 
     ghost first = { [] };
 }

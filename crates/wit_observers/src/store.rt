@@ -51,11 +51,11 @@ impl Store {
 impl Absorb<Change> for Store {
     type State = Shape;
 
-    ghost use Rattle.wit_observers.specs.Shown.{shape_of, changed};
+    ghost use Rattle.wit_observers.specs.Shown.{shape_of, with_change};
 
     ghost state = { shape_of };
 
-    ghost applied = { changed };
+    ghost applied = { with_change };
 
     ghost never_fails = { Unit {0} };
 

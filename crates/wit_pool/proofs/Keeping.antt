@@ -20,7 +20,7 @@ use Rattle.wit_pool.specs.declared.chunk.Chunk.{Chunk}
 use Rattle.wit_pool.specs.declared.chain.Chain.{Chain}
 use Rattle.wit_pool.specs.declared.pool.Pool.TheInside.{Inside}
 use Rattle.wit_pool.specs.Chunks.{chunk_at, content, next_of, Leads, IsAt}
-use Rattle.wit_pool.specs.Chains.{places, chunks_of, IsChain, IsLinked, Stands}
+use Rattle.wit_pool.specs.Chains.{places, chain_chunks, IsChain, IsLinked, Stands}
 use Rattle.wit_pool.specs.Kept.{rows_of, lists_of, free_of, chunks_in, AreKept}
 use Rattle.wit_pool.proofs.Links.{Stood, stood, first, none-left, length-places}
 use Rattle.wit_pool.proofs.Standing as Standing
@@ -47,9 +47,9 @@ module _ {A : Type 0} (v : Inside A) (shows : Chunks) (is : chunks_in v ≡ show
     in-lists = list-within (rows_of v) (lists_of v) (free_of v) list (subst (λ s. IsList s list) (sym is) there)
 
     pub in-chains : list - 1 < length v.chains.items
-    in-chains = omega (arith, in-lists, length-map v.chains.items (chunks_of v.cells.slots))
+    in-chains = omega (arith, in-lists, length-map v.chains.items (chain_chunks v.cells.slots))
 
-    pub list-is : (d : Chain) → get_or (lists_of v) (list - 1) [] ≡ chunks_of v.cells.slots (get_or v.chains.items (list - 1) d)
+    pub list-is : (d : Chain) → get_or (lists_of v) (list - 1) [] ≡ chain_chunks v.cells.slots (get_or v.chains.items (list - 1) d)
     list-is d = Standing.list-at v.cells.at v.cells.slots v.chains.items v.free (rows_of v) (lists_of v) (free_of v) stands (list - 1) d in-chains
 
     pub linked : (d : Chain) → IsLinked v.cells.at v.cells.slots (get_or v.chains.items (list - 1) d)
@@ -258,7 +258,7 @@ module _ {A : Type 0} (v : Inside A) (shows : Chunks) (is : chunks_in v ≡ show
       }
 
 -- lists that have no chunk
-pub no-chunks : (cs : List (Option Chunk)) (lists : ℕ) → map (chunks_of cs) (replicate lists (record { head = None; count = 0 })) ≡ replicate lists []
+pub no-chunks : (cs : List (Option Chunk)) (lists : ℕ) → map (chain_chunks cs) (replicate lists (record { head = None; count = 0 })) ≡ replicate lists []
 no-chunks cs zero = refl
 no-chunks cs (suc n) = ap (λ ls. [] ∷ ls) (no-chunks cs n)
 

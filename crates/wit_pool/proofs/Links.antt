@@ -15,7 +15,7 @@ use Rattle.wit_model.specs.Rules.Chunks.{times}
 use Rattle.wit_model.proofs.Rows.Placing.{times-append, times-in}
 use Rattle.wit_pool.specs.declared.chunk.Next.{Next}
 use Rattle.wit_pool.specs.declared.chunk.Chunk.{Chunk}
-use Rattle.wit_pool.specs.Chunks.{chunk_at, next_of, IsAt, IsLed, IsThere}
+use Rattle.wit_pool.specs.Chunks.{chunk_at, next_of, IsAt, IsLed, HasChunkAt}
 use Rattle.wit_pool.specs.Chains.{places, IsChain}
 
 -- so many chunks are linked from there on, and these are their places
@@ -201,11 +201,11 @@ module _ (at : Ptr) (cs : List (Option Chunk)) (p : ℕ) (x : Chunk) (in_all : p
 
 -- a chunk that leads elsewhere is still there, and so are the others
 pub led-there : (at : Ptr) (cs cs' : List (Option Chunk)) (q : ℕ) (next : Option Next) → IsLed cs cs' q next
-    → (p : ℕ) → IsThere cs p → IsThere cs' p
+    → (p : ℕ) → HasChunkAt cs p → HasChunkAt cs' p
 led-there at cs cs' q next led p there =
     let x : Chunk = record { next = next; group = led.was.group } in
     let lt : q < length cs = within cs q led.was led.there in
-    subst (λ ds. IsThere ds p) (sym led.now) (elim (cases_eq p q) [
+    subst (λ ds. HasChunkAt ds p) (sym led.now) (elim (cases_eq p q) [
       | inl e ↦ (x, ap (chunk_at (set cs q (Some x))) e ∙ read-here at cs q x lt)
       | inr other ↦ (there.0, read-other at cs q x lt p other ∙ there.1)
     ])

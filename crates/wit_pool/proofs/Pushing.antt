@@ -7,7 +7,7 @@ use Rattle.wit_model.specs.declared.locks.Instance.{Instance}
 use Rattle.wit_model.specs.Rules.Groups.{flat, opens}
 use Rattle.wit_model.specs.Rules.Chunks.{Chunks, IsList, is_refused, pushed, set_groups, groups_of, times}
 use Rattle.wit_model.specs.Rules.Groups.{joined}
-use Rattle.wit_model.specs.Rules.Rows.{row, groups_at, shown, AreSettled}
+use Rattle.wit_model.specs.Rules.Rows.{row, groups_at, shown_chunks, AreSettled}
 use Rattle.wit_model.proofs.Rows.Newest.{opens-at}
 use Rattle.wit_model.proofs.Rows.Placing.{IsFree, free}
 use Rattle.wit_model.proofs.Rows.Settled.{Leaves, push-fits, push-opens, push-refused, groups-shown, both-nil, flat-push}
@@ -17,7 +17,7 @@ use Rattle.wit_pool.specs.declared.chunk.Chunk.{Chunk}
 use Rattle.wit_pool.specs.declared.chain.Chain.{Chain}
 use Rattle.wit_pool.specs.declared.pool.Pool.TheInside.{Inside}
 use Rattle.wit_pool.specs.Chunks.{chunk_at, content, next_of, IsAt, IsRegrouped, IsLed}
-use Rattle.wit_pool.specs.Chains.{places, chunks_of, IsChain, IsLinked, Stands}
+use Rattle.wit_pool.specs.Chains.{places, chain_chunks, IsChain, IsLinked, Stands}
 use Rattle.wit_pool.specs.Kept.{rows_of, lists_of, free_of, chunks_in, AreKept}
 use Rattle.wit_pool.proofs.Links.{Runs, times-end, first, longer, within, read-here, still-there, length-places, none-left}
 use Rattle.wit_pool.proofs.Standing as Standing
@@ -35,8 +35,8 @@ module _ {A : Type 0} (v : Inside A) (shows : Chunks) (is : chunks_in v ≡ show
   pub linked-here : IsLinked v.cells.at v.cells.slots c
   linked-here = subst (IsLinked v.cells.at v.cells.slots) (sym read) (linked v shows is kept list there c)
 
-  chunks-here : ps ≡ chunks_of cs c
-  chunks-here = list-is v shows is kept list there c ∙ ap (chunks_of cs) (sym read)
+  chunks-here : ps ≡ chain_chunks cs c
+  chunks-here = list-is v shows is kept list there c ∙ ap (chain_chunks cs) (sym read)
 
   row-there : (at : Next) → IsAt v.cells.at cs at → row (rows_of v) at.place ≡ content (chunk_at cs at.place)
   row-there at h = get_or-map content cs at.place None [] (within cs at.place h.chunk h.there)
@@ -202,7 +202,7 @@ module _ {A : Type 0} (v : Inside A) (shows : Chunks) (is : chunks_in v ≡ show
             let y : List Instance = content (chunk_at cs1 p) ++ x ∷ [] in
             let s1 : Stands v.cells.at cs1 v.chains.items w.free rows (lists_of v) rest = stands-led w.free fh fn in
             let old : Runs v.cells.at cs1 c.count c.head ps = (
-              ap (chunks_of cs1) read ∙ sym (Standing.list-at v.cells.at cs1 v.chains.items w.free rows (lists_of v) rest s1 (list - 1) c lt),
+              ap (chain_chunks cs1) read ∙ sym (Standing.list-at v.cells.at cs1 v.chains.items w.free rows (lists_of v) rest s1 (list - 1) c lt),
               subst (IsLinked v.cells.at cs1) (sym read) (s1.linked (list - 1) c lt),
             ) in
             let more : Runs v.cells.at cs1 c'.count c'.head (ps ++ p ∷ []) =
@@ -214,8 +214,8 @@ module _ {A : Type 0} (v : Inside A) (shows : Chunks) (is : chunks_in v ≡ show
             (Standing.regrouped v.cells.at cs1 (set v.chains.items (list - 1) c') w.free rows (set (lists_of v) (list - 1) (ps ++ p ∷ [])) rest s2 w.cells.slots p y put) in
             let leaves : Leaves (set rows p y) (set (lists_of v) (list - 1) (ps ++ p ∷ [])) rest (pushed shows list x) =
             subst (λ d. Leaves (set rows p y) (set (lists_of v) (list - 1) (ps ++ p ∷ [])) rest (pushed d list x)) is
-            (subst (λ us. Leaves (set rows p y) (set (lists_of v) (list - 1) (ps ++ p ∷ [])) rest (pushed (shown rows (lists_of v) us) list x)) (sym free-is)
-            (subst (λ g. Leaves (set rows p (g ++ x ∷ [])) (set (lists_of v) (list - 1) (ps ++ p ∷ [])) rest (pushed (shown rows (lists_of v) (rest ++ p ∷ [])) list x))
+            (subst (λ us. Leaves (set rows p y) (set (lists_of v) (list - 1) (ps ++ p ∷ [])) rest (pushed (shown_chunks rows (lists_of v) us) list x)) (sym free-is)
+            (subst (λ g. Leaves (set rows p (g ++ x ∷ [])) (set (lists_of v) (list - 1) (ps ++ p ∷ [])) rest (pushed (shown_chunks rows (lists_of v) (rest ++ p ∷ [])) list x))
             (empty-row ∙ sym led-empty)
             (push-opens rows (lists_of v) list (in-lists v shows is kept list there) rest p settled-there x opens-one))) in
             left-now v shows is kept list there w beside p y (ps ++ p ∷ []) rest (pushed shows list x) (set (lists_of v) (list - 1) (ps ++ p ∷ [])) refl s3 leaves

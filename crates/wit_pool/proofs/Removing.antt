@@ -17,8 +17,8 @@ use Rattle.wit_pool.specs.declared.chunk.Next.{Next}
 use Rattle.wit_pool.specs.declared.chunk.Chunk.{Chunk}
 use Rattle.wit_pool.specs.declared.chain.Chain.{Chain}
 use Rattle.wit_pool.specs.declared.pool.Pool.TheInside.{Inside}
-use Rattle.wit_pool.specs.Chunks.{chunk_at, content, next_of, place_of, Leads, IsAt, IsRegrouped, IsLed, IsThere}
-use Rattle.wit_pool.specs.Chains.{places, chunks_of, IsLinked, Stands, Passes, IsFreed}
+use Rattle.wit_pool.specs.Chunks.{chunk_at, content, next_of, next_place, Leads, IsAt, IsRegrouped, IsLed, HasChunkAt}
+use Rattle.wit_pool.specs.Chains.{places, chain_chunks, IsLinked, Stands, Passes, IsFreed}
 use Rattle.wit_pool.specs.Kept.{rows_of, lists_of, free_of, chunks_in, AreKept}
 use Rattle.wit_pool.proofs.Links.{Runs, Stood, stood, longer, times-end, within, read-here, length-places}
 use Rattle.wit_pool.proofs.Standing as Standing
@@ -42,7 +42,7 @@ module _ {A : Type 0} (v : Inside A) (shows : Chunks) (is : chunks_in v ≡ show
 
   many : length ps ≡ c.count
   many =
-      ap length (list-is v shows is kept list there c ∙ ap (chunks_of v.cells.slots) (sym read))
+      ap length (list-is v shows is kept list there c ∙ ap (chain_chunks v.cells.slots) (sym read))
       ∙ length-places v.cells.at v.cells.slots c.count c.head
       (subst (IsLinked v.cells.at v.cells.slots) (sym read) (linked v shows is kept list there c))
 
@@ -91,34 +91,34 @@ module _ {A : Type 0} (v : Inside A) (shows : Chunks) (is : chunks_in v ≡ show
     stood-now k p e =
         stood v.cells.at cs c.count c.head (subst (IsLinked v.cells.at cs) (sym read) (taken-out.linked (list - 1) c lt)) k p
         (subst (λ qs. slice_get qs k ≡ Some p) (Standing.list-at v.cells.at cs v.chains.items v.free rows (lists_of v) (free_of v) taken-out (list - 1) c lt
-        ∙ ap (chunks_of cs) (sym read)) e)
+        ∙ ap (chain_chunks cs) (sym read)) e)
 
-    there-now : (k p : ℕ) → slice_get ps k ≡ Some p → IsThere cs p
+    there-now : (k p : ℕ) → slice_get ps k ≡ Some p → HasChunkAt cs p
     there-now k p e =
         let o : Stood v.cells.at cs c.count c.head k p = stood-now k p e in
         (o.there.chunk, ap (chunk_at cs) (sym o.place) ∙ o.there.there)
 
     at-now : (k : ℕ) (m : Next) → slice_get ps k ≡ Some m.place → Leads v.cells.at m → IsAt v.cells.at cs m
-    at-now k m e leads = let h : IsThere cs m.place = there-now k m.place e in record { leads = leads; chunk = h.0; there = h.1 }
+    at-now k m e leads = let h : HasChunkAt cs m.place = there-now k m.place e in record { leads = leads; chunk = h.0; there = h.1 }
 
     pub newer-within : IfSome s.newer (λ p. p < length cs)
     newer-within = by s.newer (stands-in v shows is kept list there s at).newer
       where
         by : (o : Option ℕ) → slice_get ps (s.group + 1) ≡ o → IfSome o (λ p. p < length cs)
         by None e = tt
-        by (Some p) e = let h : IsThere cs p = there-now (s.group + 1) p e in within cs p h.0 h.1
+        by (Some p) e = let h : HasChunkAt cs p = there-now (s.group + 1) p e in within cs p h.0 h.1
 
     module _ (leads : Leads v.cells.at l) where
       pub chunk-there : IsAt v.cells.at cs l
       chunk-there = at-now s.group l ((stands-in v shows is kept list there s at).chunk ∙ ap Some (sym l_is)) leads
 
-      pub newer-there : (newer : Option Next) → option_map place_of newer ≡ s.newer → IfSome newer (Leads v.cells.at)
+      pub newer-there : (newer : Option Next) → option_map next_place newer ≡ s.newer → IfSome newer (Leads v.cells.at)
           → IfSome newer (IsAt v.cells.at cs)
       newer-there None e h = tt
       newer-there (Some q) e h = at-now (s.group + 1) q ((stands-in v shows is kept list there s at).newer ∙ sym e) h
 
       -- the list leads past the chunk
-      passes : (between : List (Option Chunk)) (newer : Option Next) → option_map place_of newer ≡ s.newer → (c' : Chain)
+      passes : (between : List (Option Chunk)) (newer : Option Next) → option_map next_place newer ≡ s.newer → (c' : Chain)
           → Passes cs between newer (next_of (chunk_at cs l.place)) c.head c'.head → c'.count ≡ c.count - 1
           → Stands v.cells.at between (set v.chains.items (list - 1) c') v.free rows (set (lists_of v) (list - 1) (remove ps s.group)) (free_of v)
       passes between None e c' past less =
@@ -129,7 +129,7 @@ module _ {A : Type 0} (v : Inside A) (shows : Chunks) (is : chunks_in v ≡ show
           ] in
           let o : Stood v.cells.at cs c.count c.head k s.chunk = stood-now k s.chunk (stands-in v shows is kept list there s at).chunk in
           let all : ps ≡ places cs c.count c.head =
-          Standing.list-at v.cells.at cs v.chains.items v.free rows (lists_of v) (free_of v) taken-out (list - 1) c lt ∙ ap (chunks_of cs) (sym read) in
+          Standing.list-at v.cells.at cs v.chains.items v.free rows (lists_of v) (free_of v) taken-out (list - 1) c lt ∙ ap (chain_chunks cs) (sym read) in
           let left : take k ps ≡ remove ps k =
           sym (append-nil (take k ps)) ∙ ap (λ qs. take k ps ++ qs) (sym (drop_all (suc k) ps (omega (arith, last)))) in
           let head : c'.head ≡ next_of (chunk_at cs s.chunk) = past.1 ∙ ap (λ p. next_of (chunk_at cs p)) l_is in
@@ -157,7 +157,7 @@ module _ {A : Type 0} (v : Inside A) (shows : Chunks) (is : chunks_in v ≡ show
 
       -- the emptied chunk becomes free
       pub freed : length fewer ≡ 0 → 1 < c.count → (w : Inside A) → IsBeside v w
-          → (newer : Option Next) → option_map place_of newer ≡ s.newer → (c' : Chain)
+          → (newer : Option Next) → option_map next_place newer ≡ s.newer → (c' : Chain)
           → IsFreed cs w.cells.slots l.place newer c.head v.free.head c'.head → c'.count ≡ c.count - 1
           → w.chains.items ≡ set v.chains.items (list - 1) c' → w.free.head ≡ Some l → w.free.count ≡ v.free.count + 1
           → IsLeft shows list groups w

@@ -12,7 +12,7 @@ use Rattle.wit_pool.specs.declared.chunk.Next.{Next}
 use Rattle.wit_pool.specs.declared.chunk.Chunk.{Chunk}
 use Rattle.wit_pool.specs.declared.chain.Chain.{Chain}
 use Rattle.wit_pool.specs.Chunks.{held_in, chunk_at, content, next_of, rows_in, IsAt, IsRegrouped, IsLed}
-use Rattle.wit_pool.specs.Chains.{chunks_of, IsLinked, Stands}
+use Rattle.wit_pool.specs.Chains.{chain_chunks, IsLinked, Stands}
 use Rattle.wit_pool.proofs.Links.{Runs, same-chain, unlinked, within, read-here, read-other, still-there}
 
 chain : Option Next → ℕ → Chain
@@ -61,11 +61,11 @@ module _ (at : Ptr) (cs : List (Option Chunk)) (chains : List Chain) (free : Cha
     (rows : List (List Instance)) (lists : List (List ℕ)) (unused : List ℕ) (s : Stands at cs chains free rows lists unused) where
   -- how many lists there are
   pub length-lists : length lists ≡ length chains
-  length-lists = sym (ap length s.lists) ∙ length-map chains (chunks_of cs)
+  length-lists = sym (ap length s.lists) ∙ length-map chains (chain_chunks cs)
 
   -- one list's chunks
-  pub list-at : (k : ℕ) (d : Chain) → k < length chains → get_or lists k [] ≡ chunks_of cs (get_or chains k d)
-  list-at k d lt = ap (λ ls. get_or ls k []) (sym s.lists) ∙ get_or-map (chunks_of cs) chains k d [] lt
+  pub list-at : (k : ℕ) (d : Chain) → k < length chains → get_or lists k [] ≡ chain_chunks cs (get_or chains k d)
+  list-at k d lt = ap (λ ls. get_or ls k []) (sym s.lists) ∙ get_or-map (chain_chunks cs) chains k d [] lt
 
   -- what one chunk holds
   pub row-at : (p : ℕ) (c : Chunk) → chunk_at cs p ≡ Some c → get_or rows p [] ≡ held_in c.group
@@ -77,19 +77,19 @@ module _ (at : Ptr) (cs : List (Option Chunk)) (chains : List Chain) (free : Cha
       → ((q : ℕ) → 1 ≤ times q (concat lists) + times q unused → next_of (chunk_at cs' q) ≡ next_of (chunk_at cs q))
       → (rows' : List (List Instance)) → rows_in cs' ≡ rows' → Stands at cs' chains free rows' lists unused
   same-all cs' keeps same rows' e =
-      let runs : (j : ℕ) (d : Chain) → j < length chains → Runs at cs' (get_or chains j d).count (get_or chains j d).head (chunks_of cs (get_or chains j d)) =
+      let runs : (j : ℕ) (d : Chain) → j < length chains → Runs at cs' (get_or chains j d).count (get_or chains j d).head (chain_chunks cs (get_or chains j d)) =
       λ j d lt. same-chain at cs cs' keeps (get_or chains j d).count (get_or chains j d).head (s.linked j d lt)
       (λ q some. same q (omega (
         arith,
         times-list q lists j (omega (arith, lt, length-lists)),
         subst (λ ps. 1 ≤ times q ps) (sym (list-at j d lt)) some,
       ))) in
-      let spare : Runs at cs' free.count free.head (chunks_of cs free) =
+      let spare : Runs at cs' free.count free.head (chain_chunks cs free) =
       same-chain at cs cs' keeps free.count free.head s.spare
       (λ q some. same q (omega (arith, subst (λ ps. 1 ≤ times q ps) s.unused some))) in
       record {
         rows = e;
-        lists = maps-same (chunks_of cs) (chunks_of cs') chains (λ j d lt. (runs j d lt).0) ∙ s.lists;
+        lists = maps-same (chain_chunks cs) (chain_chunks cs') chains (λ j d lt. (runs j d lt).0) ∙ s.lists;
         unused = spare.0 ∙ s.unused;
         linked = λ j d lt. (runs j d lt).1;
         spare = spare.1;
@@ -140,7 +140,7 @@ module _ (at : Ptr) (cs : List (Option Chunk)) (chains : List Chain) (free : Cha
   relisted k c ps lt runs = record {
     rows = s.rows;
     lists =
-        maps-one (chunks_of cs) (chunks_of cs) chains k c (λ j d in_all other. refl)
+        maps-one (chain_chunks cs) (chain_chunks cs) chains k c (λ j d in_all other. refl)
         ∙ ap₂ (λ ls qs. set ls k qs) s.lists runs.0;
     unused = s.unused;
     linked = all-one (IsLinked at cs) chains k c runs.1 (λ j d in_all other. s.linked j d in_all);
@@ -172,7 +172,7 @@ module _ (at : Ptr) (cs : List (Option Chunk)) (chains : List Chain) (free : Cha
       let keeps : (l : Next) → IsAt at cs l → IsAt at ds l = still-there at cs q x (within cs q put.was put.there) in
       let same : (r : ℕ) → (r ≡ q → ⊥) → next_of (chunk_at ds r) ≡ next_of (chunk_at cs r) =
       λ r other. ap next_of (read-other at cs q x (within cs q put.was put.there) r other) in
-      let e : ps ≡ chunks_of cs c = list-at k d lt in
+      let e : ps ≡ chain_chunks cs c = list-at k d lt in
       let in_lists : k < length lists = omega (arith, lt, length-lists) in
       let most : times q ps ≤ 1 = omega (arith, once, times-list q lists k in_lists) in
       let run : Runs at ds (c.count - 1) c.head (remove ps i) =
@@ -181,14 +181,14 @@ module _ (at : Ptr) (cs : List (Option Chunk)) (chains : List Chain) (free : Cha
       (subst (λ qs. slice_get qs i ≡ Some p) e at_p) (subst (λ qs. slice_get qs (i + 1) ≡ Some q) e at_q)
       (subst (λ qs. times q qs ≤ 1) e most)) in
       let others : (j : ℕ) (d' : Chain) → j < length chains → (j ≡ k → ⊥)
-      → Runs at ds (get_or chains j d').count (get_or chains j d').head (chunks_of cs (get_or chains j d')) =
+      → Runs at ds (get_or chains j d').count (get_or chains j d').head (chain_chunks cs (get_or chains j d')) =
       λ j d' in_all other. same-chain at cs ds keeps (get_or chains j d').count (get_or chains j d').head (s.linked j d' in_all)
       (λ r there. same r (λ is_q. absurd (omega (
         arith,
         elsewhere q lists k j in_lists (omega (arith, in_all, length-lists)) other once some,
         subst (λ v. 1 ≤ times v (get_or lists j [])) is_q (subst (λ qs. 1 ≤ times r qs) (sym (list-at j d' in_all)) there),
       )))) in
-      let spare : Runs at ds free.count free.head (chunks_of cs free) =
+      let spare : Runs at ds free.count free.head (chain_chunks cs free) =
       same-chain at cs ds keeps free.count free.head s.spare
       (λ r there. same r (λ is_q. absurd (omega (
         arith,
@@ -200,7 +200,7 @@ module _ (at : Ptr) (cs : List (Option Chunk)) (chains : List Chain) (free : Cha
       (record {
         rows = rows-led q put.was (next_of (chunk_at cs p)) put.there;
         lists =
-            maps-one (chunks_of cs) (chunks_of ds) chains k c' (λ j d' in_all other. (others j d' in_all other).0)
+            maps-one (chain_chunks cs) (chain_chunks ds) chains k c' (λ j d' in_all other. (others j d' in_all other).0)
             ∙ ap₂ (λ ls qs. set ls k qs) s.lists run.0;
         unused = spare.0 ∙ s.unused;
         linked = all-one (IsLinked at ds) chains k c' run.1 (λ j d' in_all other. (others j d' in_all other).1);

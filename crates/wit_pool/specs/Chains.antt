@@ -21,8 +21,8 @@ IsChain at cs (suc n) None = ⊥
 IsChain at cs (suc n) (Some l) = IsAt at cs l × IsChain at cs n (next_of (chunk_at cs l.place))
 
 -- a list's chunks, oldest first
-abbrev pub chunks_of : List (Option Chunk) → Chain → List ℕ
-chunks_of cs c = places cs c.count c.head
+abbrev pub chain_chunks : List (Option Chunk) → Chain → List ℕ
+chain_chunks cs c = places cs c.count c.head
 
 abbrev pub IsLinked : Ptr → List (Option Chunk) → Chain → Type 0
 IsLinked at cs c = IsChain at cs c.count c.head
@@ -31,8 +31,8 @@ IsLinked at cs c = IsChain at cs c.count c.head
 pub record Stands (at : Ptr) (cs : List (Option Chunk)) (chains : List Chain) (free : Chain)
     (held : List (List Instance)) (taken : List (List ℕ)) (rest : List ℕ) : Type 0 where
   pub rows : rows_in cs ≡ held
-  pub lists : map (chunks_of cs) chains ≡ taken
-  pub unused : chunks_of cs free ≡ rest
+  pub lists : map (chain_chunks cs) chains ≡ taken
+  pub unused : chain_chunks cs free ≡ rest
   pub linked : All (IsLinked at cs) chains
   pub spare : IsLinked at cs free
 

@@ -27,8 +27,8 @@ abbrev pub next_of : Option Chunk → Option Next
 next_of None = None
 next_of (Some c) = c.next
 
-abbrev pub place_of : Next → ℕ
-place_of l = l.place
+abbrev pub next_place : Next → ℕ
+next_place l = l.place
 
 -- the link leads to its place of the block at this address
 pub record Leads (at : Ptr) (l : Next) : Type 0 where
@@ -56,5 +56,5 @@ pub record IsLed (cs cs' : List (Option Chunk)) (p : ℕ) (next : Option Next) :
   pub now : cs' ≡ slice_set cs p (Some (record { next = next; group = was.group }))
 
 -- there is a chunk at this place
-abbrev pub IsThere : List (Option Chunk) → ℕ → Type 0
-IsThere cs p = (c : Chunk) × (chunk_at cs p ≡ Some c)
+abbrev pub HasChunkAt : List (Option Chunk) → ℕ → Type 0
+HasChunkAt cs p = (c : Chunk) × (chunk_at cs p ≡ Some c)

@@ -3,10 +3,10 @@ use Rattle.std.specs.Prelude.{◌≡◌, List, ℕ, map, length}
 use Rattle.std.specs.List.{All}
 use Rattle.wit_model.specs.declared.locks.Instance.{Instance}
 use Rattle.wit_model.specs.Rules.Chunks.{Chunks}
-use Rattle.wit_model.specs.Rules.Rows.{shown, AreSettled}
+use Rattle.wit_model.specs.Rules.Rows.{shown_chunks, AreSettled}
 use Rattle.wit_pool.specs.declared.pool.Pool.TheInside.{Inside}
 use Rattle.wit_pool.specs.Chunks.{rows_in}
-use Rattle.wit_pool.specs.Chains.{chunks_of, IsLinked}
+use Rattle.wit_pool.specs.Chains.{chain_chunks, IsLinked}
 
 -- what each chunk holds, by its place
 abbrev pub rows_of : {A : Type 0} → Inside A → List (List Instance)
@@ -14,13 +14,13 @@ rows_of v = rows_in v.cells.slots
 
 -- the chunks of each list, oldest first
 abbrev pub lists_of : {A : Type 0} → Inside A → List (List ℕ)
-lists_of v = map (chunks_of v.cells.slots) v.chains.items
+lists_of v = map (chain_chunks v.cells.slots) v.chains.items
 
 abbrev pub free_of : {A : Type 0} → Inside A → List ℕ
-free_of v = chunks_of v.cells.slots v.free
+free_of v = chain_chunks v.cells.slots v.free
 
 abbrev pub chunks_in : {A : Type 0} → Inside A → Chunks
-chunks_in v = shown (rows_of v) (lists_of v) (free_of v)
+chunks_in v = shown_chunks (rows_of v) (lists_of v) (free_of v)
 
 -- the chunks are in their places and linked, and the block can be given back
 pub record AreKept {A : Type 0} (v : Inside A) : Type 0 where

@@ -3,8 +3,8 @@
 ghost use Rattle.std.specs.Prelude.{◌≡◌, ℕ, ◌+◌, ◌-◌, ◌<◌, ◌≤◌, [], None, Some, IfSome};
 ghost use Rattle.std.specs.Prelude.{length, replicate};
 ghost use Rattle.std.specs.List.{range_with_len};
-ghost use Rattle.wit_pool.specs.Chunks.{IsAt, IsLed, IsThere, chunk_at, content, next_of, rows_in};
-ghost use Rattle.wit_pool.specs.Chains.{IsLinked, IsFreed, Passes, chunks_of};
+ghost use Rattle.wit_pool.specs.Chunks.{IsAt, IsLed, HasChunkAt, chunk_at, content, next_of, rows_in};
+ghost use Rattle.wit_pool.specs.Chains.{IsLinked, IsFreed, Passes, chain_chunks};
 
 use crate::cells::{Cells, Link};
 use crate::chunk::{Chunk, Next, lead, link_to, read, write};
@@ -27,7 +27,7 @@ pub fn link_all(cells: &mut Cells<Chunk>, first: Link<Chunk>, count: usize) -> C
     ensures at { cells.new.at ≡ cells.old.at }
     ensures rows { rows_in cells.new.slots ≡ replicate count [] }
     ensures linked { IsLinked cells.new.at cells.new.slots result }
-    ensures places { chunks_of cells.new.slots result ≡ range_with_len 0 count }
+    ensures places { chain_chunks cells.new.slots result ≡ range_with_len 0 count }
 {
     let mut head = None;
     for place in 0..count {
@@ -127,7 +127,7 @@ fn pass(
     requires { IfSome newer (IsAt cells.old.at cells.old.slots) }
     ensures at { cells.new.at ≡ cells.old.at }
     ensures slots { Passes cells.old.slots cells.new.slots newer next head result }
-    ensures there { (p : ℕ) → IsThere cells.old.slots p → IsThere cells.new.slots p }
+    ensures there { (p : ℕ) → HasChunkAt cells.old.slots p → HasChunkAt cells.new.slots p }
 {
     match newer {
         Some(newer) => {

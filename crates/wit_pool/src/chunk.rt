@@ -6,7 +6,7 @@ ghost use Rattle.std.specs.Borrow.{sem};
 ghost use Rattle.std.specs.Option.{option_map};
 ghost use Rattle.std.specs.List.{remove};
 ghost use Rattle.wit_pool.specs.Chunks.{Leads, IsAt, IsRegrouped, IsLed};
-ghost use Rattle.wit_pool.specs.Chunks.{chunk_at, content, place_of};
+ghost use Rattle.wit_pool.specs.Chunks.{chunk_at, content, next_place};
 ghost use Rattle.wit_pool.specs.Lending.{LendsChunk};
 
 use crate::cells::{Cells, Link};
@@ -65,7 +65,7 @@ pub fn link_beside(cells: &Cells<Chunk>, first: Link<Chunk>, place: Option<u16>)
     requires first { first.ptr ≡ cells.now.at }
     requires place { IfSome place (λ p. p < length cells.now.slots) }
     ensures leads { IfSome result (Leads cells.now.at) }
-    ensures place { option_map place_of result ≡ place }
+    ensures place { option_map next_place result ≡ place }
 {
     match place {
         Some(place) => Some(link_to(cells, first, place)),

@@ -2,7 +2,7 @@
 
 ghost use Rattle.std.specs.Prelude.{◌≡◌, string_bytes, IfOk};
 ghost use Rattle.wit_model.specs.declared.calls.Reply.TheVariants.{Duplicate};
-ghost use Rattle.wit_model.specs.Trace.Output.{told};
+ghost use Rattle.wit_model.specs.Trace.Output.{reply_text};
 
 use crate::locks::{put_lock, type_name};
 use crate::pieces::put_quoted;
@@ -21,7 +21,7 @@ pub fn duplicate_text(
     verifier: &Verifier,
     doubling: &Doubling,
 ) -> Result<String, AllocError>
-    ensures { IfOk result (λ text. string_bytes text ≡ told verifier.now (Duplicate doubling.now)) }
+    ensures { IfOk result (λ text. string_bytes text ≡ reply_text verifier.now (Duplicate doubling.now)) }
 {
     let mut text = String::from_str(alloc, "acquiring duplicate lock of same type: ")?;
     put_quoted(&mut text, type_name(verifier, doubling.asked.lock))?;

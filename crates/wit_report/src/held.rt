@@ -7,7 +7,7 @@ ghost use Rattle.wit_model.specs.Rules.State.{state_of, seat_at, chain_in, typed
 ghost use Rattle.wit_model.specs.Trace.Views.{mode_words, held_line, held_lines, all_held, locks_text, holder_text, all_locks_text};
 ghost use Rattle.wit_report.specs.Wants.{WantsMemory};
 
-use crate::locks::{class_of, class_words, lock_name, type_name};
+use crate::locks::{class_of_lock, class_words, lock_name, type_name};
 use crate::pieces::{put_number, put_quoted, put_site};
 use std::alloc::{AllocError, Global};
 use wit_core::Verifier;
@@ -166,7 +166,7 @@ fn put_held(
 {
     text.push_str(mode_words(held.mode))?;
     text.push(' ')?;
-    text.push_str(class_words(class_of(verifier, held.lock)))?;
+    text.push_str(class_words(class_of_lock(verifier, held.lock)))?;
     text.push(' ')?;
     put_quoted(text, lock_name(verifier, held.lock))?;
     text.push_str(" (")?;

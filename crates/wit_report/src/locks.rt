@@ -59,7 +59,7 @@ pub fn put_lock(
     text.push_str(" (")?;
     text.push_str(type_name(verifier, at.lock))?;
     text.push_str(", ")?;
-    text.push_str(class_words(class_of(verifier, at.lock)))?;
+    text.push_str(class_words(class_of_lock(verifier, at.lock)))?;
     text.push_str(") @ ")?;
     put_site(text, alloc, verifier, at.site)?;
     text.push('\n')?;
@@ -111,7 +111,7 @@ pub fn type_name(verifier: &Verifier, lock: LockNo) -> &str
 }
 
 /// The class of a lock; that of a sleep mutex for a number that was never given.
-pub fn class_of(verifier: &Verifier, lock: LockNo) -> Class
+pub fn class_of_lock(verifier: &Verifier, lock: LockNo) -> Class
     ensures { result ≡ (lock_at (typed_locks verifier.now.start verifier.now.history) lock.0).made.class }
 {
     // In a legal log, a lock's type has its type name and its class.

@@ -1,7 +1,7 @@
 //! The text of a reply.
 
 ghost use Rattle.std.specs.Prelude.{◌≡◌, string_bytes, IfOk, IfErr};
-ghost use Rattle.wit_model.specs.Trace.Output.{told};
+ghost use Rattle.wit_model.specs.Trace.Output.{reply_text};
 ghost use Rattle.wit_report.specs.Wants.{WantsMemory};
 
 use crate::duplicate::duplicate_text;
@@ -17,8 +17,8 @@ use wit_model::{Fault, Reply};
 /// `OutOfMemory` alone, and only where the text isn't empty.
 #[inline(always)]
 pub fn report_text(alloc: Global, verifier: &Verifier, reply: &Reply) -> Result<String, Fault>
-    ensures ok { IfOk result (λ text. string_bytes text ≡ told verifier.now reply.now) }
-    ensures err { IfErr result (WantsMemory (told verifier.now reply.now)) }
+    ensures ok { IfOk result (λ text. string_bytes text ≡ reply_text verifier.now reply.now) }
+    ensures err { IfErr result (WantsMemory (reply_text verifier.now reply.now)) }
 {
     match reply {
         Reply::Reversal(conflict) => Ok(reversal_text(alloc, verifier, conflict.get())?),

@@ -2,7 +2,7 @@
 
 ghost use Rattle.std.specs.Prelude.{◌≡◌, string_bytes, IfOk};
 ghost use Rattle.wit_model.specs.declared.calls.Reply.TheVariants.{Reversal};
-ghost use Rattle.wit_model.specs.Trace.Output.{told};
+ghost use Rattle.wit_model.specs.Trace.Output.{reply_text};
 ghost use Rattle.wit_model.specs.Trace.Texts.{heading_words};
 
 use crate::locks::{put_locks, type_number};
@@ -22,7 +22,7 @@ pub fn reversal_text(
     verifier: &Verifier,
     conflict: &Conflict,
 ) -> Result<String, AllocError>
-    ensures { IfOk result (λ text. string_bytes text ≡ told verifier.now (Reversal conflict.now)) }
+    ensures { IfOk result (λ text. string_bytes text ≡ reply_text verifier.now (Reversal conflict.now)) }
 {
     let mut text = String::from_str(alloc, heading_words(conflict.heading))?;
     text.push('\n')?;

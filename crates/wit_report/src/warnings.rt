@@ -5,7 +5,7 @@ ghost use Rattle.wit_model.specs.declared.locks.Instance.{Instance};
 ghost use Rattle.wit_model.specs.declared.faults.Fault.TheVariants.{OutOfMemory};
 ghost use Rattle.wit_model.specs.Rules.State.{state_of, known_of, typed_locks};
 ghost use Rattle.wit_model.specs.Rules.Verdict.{basis_of};
-ghost use Rattle.wit_model.specs.Rules.Warnings.{is_named, is_allowed, counted_spin, warned};
+ghost use Rattle.wit_model.specs.Rules.Warnings.{is_lock_named, is_allowed, counted_spin, warned};
 ghost use Rattle.wit_model.specs.Trace.Views.{warn_text};
 ghost use Rattle.wit_report.specs.Wants.{WantsMemory};
 
@@ -106,7 +106,7 @@ fn is_alone(spin: &[Instance], named: Option<LockNo>) -> bool
 }
 
 fn is_named(named: Option<LockNo>, held: Instance) -> bool
-    ensures { result ≡ is_named named held }
+    ensures { result ≡ is_lock_named named held }
 {
     match named {
         Some(lock) => held.lock.0 == lock.0,

@@ -12,8 +12,8 @@ use Rattle.wit_model.specs.Rules.State.{Story}
 use Rattle.wit_seats.specs.declared.views.Journal.{Journal}
 use Rattle.wit_seats.specs.declared.views.Known.{Known}
 use Rattle.wit_seats.specs.declared.views.View.{View}
-use Rattle.wit_seats.specs.Seats.{AreFiles, IsOf, caught_up}
-use Rattle.wit_seats.specs.Rule.{shows, journal, without, alone, with_guest, one_more, newcomer, next, with_next, handed_out, IsOutside, Keeps, Sits, Fits, Kept, log_after, seat_after, MayBecome, MayFollow, Followed}
+use Rattle.wit_seats.specs.Seats.{AreFiles, IsSeatOf, caught_up}
+use Rattle.wit_seats.specs.Rule.{shows, journal, without, alone, with_guest, one_more_out, newcomer, next, with_next, handed_out, IsOutside, Keeps, Sits, Fits, Kept, log_after, seat_after, MayBecome, MayFollow, Followed}
 use Rattle.wit_seats.proofs.Files.{files_more, files_both}
 use Rattle.wit_seats.proofs.Cards.{all_set, all_push, each_some, moved, moved_here, moved_else, sits_moved, sits_else, fits_else}
 
@@ -67,7 +67,7 @@ takes_in id v other w s h at apart there =
 grown : Journal → Journal
 grown j = record j { handed = j.handed + 1 }
 
-wider : (log : Journal) (k : Known) → IsOf log k → IsOf (grown log) k
+wider : (log : Journal) (k : Known) → IsSeatOf log k → IsSeatOf (grown log) k
 unfolding grown
 wider log k f = record { number = (f.number.0, omega arith); own = f.own; seen = f.seen; files = f.files }
 
@@ -136,7 +136,7 @@ hands id v = hands_by id v.journal v.holder
 
 -- a seat of another card, or of none, whose entries aren't among the added ones
 later_of : (log : Journal) (after : Story) (added : List Entry) (more : List (List ℕ)) (k : Known) → after.history ≡ added ++ log.entries → after.files ≡ log.files ++ more
-    → own_entries k.seat added ≡ [] → IsOf log k → IsOf (journal after.history after.files log.handed) k
+    → own_entries k.seat added ≡ [] → IsSeatOf log k → IsSeatOf (journal after.history after.files log.handed) k
 later_of log after added more k grows longer none f = record {
   number = f.number;
   own = ap (own_entries k.seat) grows ∙ filter-append (λ (e : Entry). e.seat.0 == k.seat) added log.entries ∙ ap (λ l. l ++ own_entries k.seat log.entries) none ∙ f.own;
@@ -146,7 +146,7 @@ later_of log after added more k grows longer none f = record {
 
 -- the seat that made the step
 mine_of : (log : Journal) (after : Story) (more : List (List ℕ)) (given : List (FileNo × List ℕ)) (k : Known) → after.files ≡ log.files ++ more → AreFiles after.files given
-    → IsOf log k → IsOf (journal after.history after.files log.handed) (caught_up after given k)
+    → IsSeatOf log k → IsSeatOf (journal after.history after.files log.handed) (caught_up after given k)
 mine_of log after more given k longer named f = record {
   number = f.number;
   own = refl;
@@ -201,7 +201,7 @@ learns : (after : Story) (given : List (FileNo × List ℕ)) (id : ℕ) (j : Jou
     → Followed after given (shows (Some j) k) (shows (Some (journal after.history after.files j.handed)) (seat_after after given k))
 learns after given id j k views h is sits = record {
   now = refl;
-  learnt = each_some k (Sits h.place h.log id) (IsOf j) (λ x f. subst (λ (l : Journal). IsOf l x) (sym is) f.known) sits;
+  learnt = each_some k (Sits h.place h.log id) (IsSeatOf j) (λ x f. subst (λ (l : Journal). IsSeatOf l x) (sym is) f.known) sits;
   outside = subst (λ (l : Journal). (t : ℕ) → IsOutside l.handed t → own_entries t l.entries ≡ []) (sym is) h.outside;
 }
 

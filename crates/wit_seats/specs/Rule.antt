@@ -11,7 +11,7 @@ use Rattle.wit_model.specs.Rules.State.{Story}
 use Rattle.wit_seats.specs.declared.views.Journal.{Journal}
 use Rattle.wit_seats.specs.declared.views.Known.{Known}
 use Rattle.wit_seats.specs.declared.views.View.{View}
-use Rattle.wit_seats.specs.Seats.{AreFiles, IsOf, caught_up}
+use Rattle.wit_seats.specs.Seats.{AreFiles, IsSeatOf, caught_up}
 
 abbrev pub shows : Option Journal → Option Known → View
 shows j k = record { journal = j; holder = k }
@@ -31,9 +31,9 @@ abbrev pub with_guest : View → View → View
 with_guest v w = shows v.journal w.holder
 
 -- one more seat is out
-abbrev pub one_more : Option Journal → Option Journal
-one_more None = None
-one_more (Some j) = Some (record j { handed = j.handed + 1 })
+abbrev pub one_more_out : Option Journal → Option Journal
+one_more_out None = None
+one_more_out (Some j) = Some (record j { handed = j.handed + 1 })
 
 -- the next seat, which has made no entry and has seen the log
 abbrev pub newcomer : Journal → Known
@@ -44,7 +44,7 @@ next None = None
 next (Some j) = Some (newcomer j)
 
 abbrev pub with_next : View → View
-with_next v = shows (one_more v.journal) v.holder
+with_next v = shows (one_more_out v.journal) v.holder
 
 abbrev pub handed_out : View → View
 handed_out v = shows None (next v.journal)
@@ -61,7 +61,7 @@ pub record Keeps (keeper : ℕ) (whole : Journal) (by : ℕ) (j : Journal) : Typ
 -- the card by stands for a seat, and no other card does
 pub record Sits (place : ℕ → ℕ) (log : Journal) (by : ℕ) (k : Known) : Type 0 where
   pub card : place k.seat ≡ by
-  pub known : IsOf log k
+  pub known : IsSeatOf log k
 
 pub record Fits (keeper : ℕ) (place : ℕ → ℕ) (log : Journal) (by : ℕ) (v : View) : Type 0 where
   pub keeps : IfSome v.journal (Keeps keeper log by)
@@ -95,7 +95,7 @@ pub record MayFollow (after : Story) (given : List (FileNo × List ℕ)) (v : Vi
 -- what a step of the log tells its card: how the seat stood to the log, and that none else has entries
 pub record Followed (after : Story) (given : List (FileNo × List ℕ)) (v w : View) : Type 0 where
   pub now : w ≡ shows (log_after after v.journal) (seat_after after given v.holder)
-  pub learnt : IfSome v.journal (λ (j : Journal). IfSome v.holder (IsOf j))
+  pub learnt : IfSome v.journal (λ (j : Journal). IfSome v.holder (IsSeatOf j))
   pub outside : IfSome v.journal (λ (j : Journal). (t : ℕ) → IsOutside j.handed t → own_entries t j.entries ≡ [])
 
 abbrev pub Plays : Story → List (FileNo × List ℕ) → Step (Unit {0}) → Me (Unit {0}) View → ℕ → Me (Unit {0}) View → Type 0

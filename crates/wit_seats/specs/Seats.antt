@@ -21,7 +21,7 @@ pub record IsKnown (start : Start) (k : Known) : Type 0 where
   pub own : own_entries k.seat k.seen ≡ k.own
 
 -- how a seat stands to the log: its own entries are those of the log, which began with what it has seen
-pub record IsOf (j : Journal) (k : Known) : Type 0 where
+pub record IsSeatOf (j : Journal) (k : Known) : Type 0 where
   pub number : (0 < k.seat) × (k.seat ≤ j.handed)
   pub own : own_entries k.seat j.entries ≡ k.own
   pub seen : IsBeginning k.seen j.entries

@@ -10,7 +10,7 @@ use Rattle.wit_model.specs.declared.calls.Adoption.{Adoption}
 use Rattle.wit_model.specs.Rules.Numbers.{IsNumber, is_number}
 use Rattle.wit_model.specs.Rules.Orders.{AreDistinct, is_adoption_of, is_direct}
 use Rattle.wit_matrix.specs.Relation.{OrdersAmong}
-use Rattle.wit_observers.specs.Numbers.{all_fit, fits, place}
+use Rattle.wit_observers.specs.Numbers.{all_fit, fits, cell_place}
 use Rattle.wit_observers.proofs.Numbers.{place_within, places_apart}
 
 -- ---- they fit
@@ -44,7 +44,7 @@ all_reversed n (o ∷ os) all =
 -- ---- their places in a square differ
 
 place_of : ℕ → Adoption → ℕ
-place_of n o = place n o.parent.0 o.child.0
+place_of n o = cell_place n o.parent.0 o.child.0
 
 new_place : (n : ℕ) (o : Adoption) (os : List Adoption) → fits n o.parent.0 o.child.0 ≡ true → all_fit n os ≡ true
     → is_direct os o.parent.0 o.child.0 ≡ false → AllByRecursion (λ y. eqb (place_of n o) y ≡ false) (map (place_of n) os)

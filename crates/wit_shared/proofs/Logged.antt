@@ -11,7 +11,7 @@ use Rattle.wit_model.specs.declared.locks.Mode.{Mode}
 use Rattle.wit_model.specs.declared.locks.Site.{Site}
 use Rattle.wit_model.specs.declared.locks.Watch.{Watch}
 use Rattle.wit_model.specs.declared.locks.Instance.{Instance}
-use Rattle.wit_model.specs.declared.calls.Asked.{Asked}
+use Rattle.wit_model.specs.declared.calls.TypedRequest.{TypedRequest}
 use Rattle.wit_model.specs.declared.calls.Request.{Request}
 use Rattle.wit_model.specs.declared.calls.Reply.{Reply}
 use Rattle.wit_model.specs.declared.calls.Reply.TheVariants.{Pass, Recorded, Exhausted, Unrecorded}
@@ -19,8 +19,8 @@ use Rattle.wit_model.specs.Rules.Locks.{has_flag}
 use Rattle.wit_model.specs.Rules.History.{is_off}
 use Rattle.wit_model.specs.Rules.Orders.{is_found}
 use Rattle.wit_model.specs.Rules.State.{State, Known, Seat, seat_at}
-use Rattle.wit_model.specs.Rules.Verdict.{Basis, Rule, when, decided, rules, again, doubled, reported, basis_of, asked_of, chain_asked, verdict, doubles_in, follows_in, teaches_in, told_orders, new_parents}
-use Rattle.wit_model.specs.Rules.Step.{is_exhausted, held_by, recorded, is_logged, step_check, step_note, step_note_try}
+use Rattle.wit_model.specs.Rules.Verdict.{Basis, Rule, when, decided, rules, again, doubled, reported, basis_of, typed_request, chain_asked, verdict, doubles_in, follows_in, teaches_in, told_orders, new_parents}
+use Rattle.wit_model.specs.Rules.Step.{is_exhausted, held_by, recorded_reply, is_logged, step_check, step_note, step_note_try}
 use Rattle.wit_model.proofs.Histories.Accepted.{check_accepted, note_accepted, try_accepted}
 
 -- a fault, or a reply that the log keeps
@@ -72,15 +72,15 @@ unfolding RuleKept
 map_kept f kept None = tt
 map_kept f kept (Some i) = kept i
 
-again_kept : (q : Asked) (i : Instance) → Kept (again q i)
+again_kept : (q : TypedRequest) (i : Instance) → Kept (again q i)
 again_kept q i = fails SharedOfExclusive _ _ (fails ExclusiveOfShared _ _ (fails Recursed _ _ (fails Recursed _ _ (answered _ refl))))
 
-doubled_kept : (g : Basis) (q : Asked) (i : Instance) → Kept (doubled g q i)
+doubled_kept : (g : Basis) (q : TypedRequest) (i : Instance) → Kept (doubled g q i)
 doubled_kept g q i =
     pick (has_flag q.flags.0 0x02 || has_flag q.ops.0 0x02) _ _ (answered _ refl)
     (pick (is_found g.found q.type_no.0 q.type_no.0) _ _ (answered _ refl) (answered _ refl))
 
-module _ (g : Basis) (watch : Watch) (spin chain : List Instance) (q : Asked) where
+module _ (g : Basis) (watch : Watch) (spin chain : List Instance) (q : TypedRequest) where
   reported_kept : (i : Instance) → Kept (reported g q chain i)
   reported_kept i = pick _ _ _ (answered _ refl) (answered _ refl)
 
@@ -132,7 +132,7 @@ module _ (g : Basis) (watch : Watch) (spin chain : List Instance) (q : Asked) wh
 verdict_kept : (profile : Profile) (k : Known) (watch : Watch) (seat : Seat) (q : Request) → Kept (verdict profile k watch seat q)
 verdict_kept profile k watch seat q =
     let g = basis_of k in
-    let asked = asked_of k q in
+    let asked = typed_request k q in
     let chain = chain_asked g seat.sleep seat.spin asked in
     decided_kept (rules profile g watch seat.spin chain (last_or None chain) asked)
     (rules_kept g watch seat.spin chain asked profile (last_or None chain))
@@ -150,7 +150,7 @@ by_record false true none = refl
 by_record false false true = refl
 by_record false false false = refl
 
-recorded_logged : (s : State) (t l : ℕ) (r : Reply) → r ≡ recorded s t l → is_logged r ≡ true
+recorded_logged : (s : State) (t l : ℕ) (r : Reply) → r ≡ recorded_reply s t l → is_logged r ≡ true
 recorded_logged s t l r is = ap is_logged is ∙ by_record (is_off s.watch) (is_some (held_by s t l)) (is_exhausted s t l)
 
 pub check_logged : (s : State) (t : ℕ) (q : Request) (r : Reply) → step_check s t q ≡ Ok r → is_logged r ≡ true

@@ -18,10 +18,10 @@ use Rattle.wit_model.specs.Rules.Names.{is_file_name}
 use Rattle.wit_model.specs.Rules.Numbers.{with_number}
 use Rattle.wit_model.proofs.Histories.Longer.{file-there}
 use Rattle.wit_seats.specs.Seats.{AreFiles}
-use Rattle.wit_shared.specs.Calls.{GoesOn}
+use Rattle.wit_shared.specs.Calls.{StoryGoesOn}
 use Rattle.wit_shared.specs.Publishing.{Makes}
 
-pub stays : (t : ℕ) (old new : Story) → new ≡ old → GoesOn t old new
+pub stays : (t : ℕ) (old new : Story) → new ≡ old → StoryGoesOn t old new
 stays t old new e = record {
   start = ap (λ (s : Story). s.start) e;
   entries = ([], ap (λ (s : Story). s.history) e, λ other n. refl);
@@ -32,44 +32,44 @@ stays t old new e = record {
 one_of : (t other : ℕ) (call : Call) (reply : Reply) → other ≢ t → own_entries other (record { seat = record { 0 = t }; call = call; reply = reply } ∷ []) ≡ []
 one_of t other call reply n = ap (λ b. cond b (record { seat = record { 0 = t }; call = call; reply = reply } ∷ []) []) (ne_eqb t other (λ e. n (sym e)))
 
-logs : (old : Story) (t : ℕ) (call : Call) (reply : Reply) → GoesOn t old (logged old t call reply)
+logs : (old : Story) (t : ℕ) (call : Call) (reply : Reply) → StoryGoesOn t old (logged old t call reply)
 logs old t call reply = record {
   start = refl;
   entries = (record { seat = record { 0 = t }; call = call; reply = reply } ∷ [], refl, λ other n. one_of t other call reply n);
   files = ([], sym (append-nil old.files));
 }
 
-grows_if : (b : Bool) (old : Story) (t : ℕ) (call : Call) (reply : Reply) → GoesOn t old (cond b (logged old t call reply) old)
+grows_if : (b : Bool) (old : Story) (t : ℕ) (call : Call) (reply : Reply) → StoryGoesOn t old (cond b (logged old t call reply) old)
 grows_if true old t call reply = logs old t call reply
 grows_if false old t call reply = stays t old old refl
 
-grows : (old : Story) (t : ℕ) (call : Call) (reply : Reply) → GoesOn t old (grown old t call reply)
+grows : (old : Story) (t : ℕ) (call : Call) (reply : Reply) → StoryGoesOn t old (grown old t call reply)
 grows old t call reply = grows_if (is_logged reply) old t call reply
 
-pub answers : (old : Story) (t : ℕ) (call : Call) (result : Result Reply Fault) (new : Story) → Answers old t call result new → GoesOn t old new
-answers old t call (Ok reply) new h = subst (GoesOn t old) (sym h.1) (grows old t call reply)
+pub answers : (old : Story) (t : ℕ) (call : Call) (result : Result Reply Fault) (new : Story) → Answers old t call result new → StoryGoesOn t old new
+answers old t call (Ok reply) new h = subst (StoryGoesOn t old) (sym h.1) (grows old t call reply)
 answers old t call (Err fault) new h = stays t old new h.1
 
-pub fails : (old : Story) (t : ℕ) (call : Call) (result : Result Reply Fault) (new : Story) → AnswersOrFails old t call result new → GoesOn t old new
-fails old t call (Ok reply) new h = subst (GoesOn t old) (sym h.1) (grows old t call reply)
+pub fails : (old : Story) (t : ℕ) (call : Call) (result : Result Reply Fault) (new : Story) → AnswersOrFails old t call result new → StoryGoesOn t old new
+fails old t call (Ok reply) new h = subst (StoryGoesOn t old) (sym h.1) (grows old t call reply)
 fails old t call (Err fault) new h = stays t old new h.1
 
 -- so does one for which it was prepared first
-pub makes : (old : Story) (t : ℕ) (call : Call) (result : Result Reply Fault) (new : Story) → Makes old t call result new → GoesOn t old new
+pub makes : (old : Story) (t : ℕ) (call : Call) (result : Result Reply Fault) (new : Story) → Makes old t call result new → StoryGoesOn t old new
 makes old t call result new m =
-    let g = subst (λ (s : Story). GoesOn t s new) m.same (fails m.before t call result new m.did) in
+    let g = subst (λ (s : Story). StoryGoesOn t s new) m.same (fails m.before t call result new m.did) in
     record { start = g.start; entries = g.entries; files = g.files }
 
-names_if : (b : Bool) (t : ℕ) (name : List ℕ) (old : Story) → GoesOn t old (record old { files = cond b old.files (old.files ++ name ∷ []) })
+names_if : (b : Bool) (t : ℕ) (name : List ℕ) (old : Story) → StoryGoesOn t old (record old { files = cond b old.files (old.files ++ name ∷ []) })
 names_if true t name old = stays t old old refl
 names_if false t name old = record { start = refl; entries = ([], refl, λ other n. refl); files = (name ∷ [], refl) }
 
-pub names : (t : ℕ) (name : List ℕ) (old : Story) (result : Result FileNo Fault) (new : Story) → NamesFile old name result new → GoesOn t old new
-names t name old (Ok f) new h = subst (GoesOn t old) (sym h.1) (names_if (is_known_file name old.files) t name old)
+pub names : (t : ℕ) (name : List ℕ) (old : Story) (result : Result FileNo Fault) (new : Story) → NamesFile old name result new → StoryGoesOn t old new
+names t name old (Ok f) new h = subst (StoryGoesOn t old) (sym h.1) (names_if (is_known_file name old.files) t name old)
 names t name old (Err fault) new h = stays t old new h.2
 
 -- the keeper that knew the old verifier may follow
-pub may_follow : (keeper : Journal) (old new : Story) (handed t : ℕ) → keeper ≡ journal old.history old.files handed → GoesOn t old new → Grows keeper t new
+pub may_follow : (keeper : Journal) (old new : Story) (handed t : ℕ) → keeper ≡ journal old.history old.files handed → StoryGoesOn t old new → Grows keeper t new
 may_follow keeper old new handed t is g = subst (λ (j : Journal). Grows j t new) (sym is) (record { entries = g.entries; files = g.files })
 
 -- what it then tells the seat

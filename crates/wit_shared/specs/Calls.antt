@@ -12,7 +12,7 @@ use Rattle.wit_model.specs.Rules.History.{own_entries}
 use Rattle.wit_model.specs.Rules.State.{Story, state_of}
 
 -- a verifier went on: at most by entries of this seat, and more files may be named
-pub record GoesOn (t : ℕ) (old new : Story) : Type 0 where
+pub record StoryGoesOn (t : ℕ) (old new : Story) : Type 0 where
   pub start : new.start ≡ old.start
   pub entries : (added : List Entry) × (new.history ≡ added ++ old.history) × ((other : ℕ) → other ≢ t → own_entries other added ≡ [])
   pub files : (more : List (List ℕ)) × (new.files ≡ old.files ++ more)

@@ -45,18 +45,18 @@ pub record Lacking : Type 0 where
   pub missing : ℕ
 
 -- the entries in the list of the seat of this number
-abbrev pub list_of : ℕ → List Known → List Entry
-list_of n [] = []
-list_of n (k ∷ ks) = if k.seat == n then k.own else list_of n ks
+abbrev pub entries_of_seat : ℕ → List Known → List Entry
+entries_of_seat n [] = []
+entries_of_seat n (k ∷ ks) = if k.seat == n then k.own else entries_of_seat n ks
 
 -- how many entries the lists of the seats up to this number have
 abbrev pub logged_to : ℕ → List Known → ℕ
-logged_to zero seats = length (list_of 0 seats)
-logged_to (suc n) seats = length (list_of (suc n) seats) + logged_to n seats
+logged_to zero seats = length (entries_of_seat 0 seats)
+logged_to (suc n) seats = length (entries_of_seat (suc n) seats) + logged_to n seats
 
 -- a log is as long as the lists of these seats together
-abbrev pub AddsUp : List Entry → List Known → Type 0
-AddsUp h seats = (n : ℕ) → ((m : ℕ) → n < m → has_seat m seats ≡ false) → length h ≡ logged_to n seats
+abbrev pub LogAddsUp : List Entry → List Known → Type 0
+LogAddsUp h seats = (n : ℕ) → ((m : ℕ) → n < m → has_seat m seats ≡ false) → length h ≡ logged_to n seats
 
 abbrev pub ClosedLogsAddUp : Type 0
-ClosedLogsAddUp = (start : Start) (v : Story) (seats : List Known) → IsClosed start v seats → AddsUp v.history seats
+ClosedLogsAddUp = (start : Start) (v : Story) (seats : List Known) → IsClosed start v seats → LogAddsUp v.history seats

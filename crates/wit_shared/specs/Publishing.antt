@@ -1,18 +1,15 @@
 -- What a shared verifier publishes for observers: its adopted orders. Lists of entries are newest first.
-use Rattle.std.specs.Prelude.{ℕ, ◌≡◌, true, List, [], reverse, Result, Ok, Err}
+use Rattle.std.specs.Prelude.{ℕ, ◌≡◌, true, List, [], Result, Ok, Err}
 use Rattle.wit_model.specs.declared.faults.Fault.{Fault}
 use Rattle.wit_model.specs.declared.calls.Adoption.{Adoption}
 use Rattle.wit_model.specs.declared.calls.Call.{Call}
 use Rattle.wit_model.specs.declared.calls.Entry.{Entry}
 use Rattle.wit_model.specs.declared.calls.Reply.{Reply}
 use Rattle.wit_model.specs.Rules.Orders.{adopted, is_direct, orders_from}
-use Rattle.wit_model.specs.Rules.State.{Start, Story, orders_of}
+use Rattle.wit_model.specs.Rules.State.{Story}
+pub use Rattle.wit_model.specs.HistoryLaws.{adoptions}
 use Rattle.wit_model.specs.Rules.Step.{AnswersOrFails}
 use Rattle.wit_observers.specs.Shown.{Published}
-
--- the adopted orders, oldest first
-abbrev pub adoptions : Start → List Entry → List Adoption
-adoptions start h = reverse (orders_of start h)
 
 -- what a verifier's publisher has published: all that is adopted, and it takes orders between all types that there may be
 abbrev pub published : Story → Published

@@ -42,9 +42,9 @@ pub struct Desk<J: Room> {
 
 impl<J: Room> Model for Desk<J> {
     ghost use Rattle.std.specs.Prelude.{◌≡◌};
-    ghost use Rattle.wit_shared.specs.Desk.{Kept};
+    ghost use Rattle.wit_shared.specs.Desk.{DeskValue};
 
-    ghost Value = { Kept };
+    ghost Value = { DeskValue };
 
     ghost use Rattle.wit_seats.specs.Rule.{journal};
     ghost use Rattle.wit_shared.specs.Publishing.{published};

@@ -70,8 +70,8 @@ abbrev pub with_live : Names → ℕ → ℕ → Names
 with_live n t count = record n { live = with_changed n.live t count }
 
 -- whether these two names were blessed, in either order
-abbrev pub is_blessed : List ℕ → List ℕ → List (List ℕ × List ℕ) → Bool
-is_blessed a b pairs = list_any (is_named_pair a b) pairs
+abbrev pub are_blessed : List ℕ → List ℕ → List (List ℕ × List ℕ) → Bool
+are_blessed a b pairs = list_any (is_named_pair a b) pairs
 
 abbrev pub with_blessed : Names → List ℕ → List ℕ → Names
 with_blessed n a b = record n { blessed = n.blessed ++ (a, b) ∷ [] }

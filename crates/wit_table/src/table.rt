@@ -9,7 +9,7 @@ ghost use Rattle.wit_model.specs.Rules.Numbers.{with_number, IsGiven, IsNumber};
 ghost use Rattle.wit_model.specs.Rules.Types.{is_enrolled, is_otherwise, type_number};
 ghost use Rattle.wit_model.specs.Rules.Files.{is_known_file, file_number, file_answer};
 ghost use Rattle.wit_model.specs.Rules.Refusals.{IsRefusal};
-ghost use Rattle.wit_table.specs.Known.{no_names, type_names, HasName, HasClass, enroll_answer, with_type, with_file, live_of, with_live, is_blessed, with_blessed, are_names, IsBlessRefusal};
+ghost use Rattle.wit_table.specs.Known.{no_names, type_names, HasName, HasClass, enroll_answer, with_type, with_file, live_of, with_live, are_blessed, with_blessed, are_names, IsBlessRefusal};
 
 use crate::files::{file_at, file_in};
 use crate::types::{
@@ -250,8 +250,8 @@ impl Table {
 
     /// Whether a pair of names was blessed, in either order.
     pub fn blessed(&self, a: &str, b: &str) -> bool
-        ensures pair { result ≡ is_blessed a.now b.now self.now.blessed }
-        ensures symmetric { result ≡ is_blessed b.now a.now self.now.blessed }
+        ensures pair { result ≡ are_blessed a.now b.now self.now.blessed }
+        ensures symmetric { result ≡ are_blessed b.now a.now self.now.blessed }
     {
         is_blessed(&self.blessed, a, b)
     }
@@ -276,7 +276,7 @@ fn add_pair(
 
 // Whether one of the pairs holds these two names, in either order.
 fn is_blessed(pairs: &[(Name, Name)], a: &str, b: &str) -> bool
-    ensures { result ≡ is_blessed a.now b.now pairs.now }
+    ensures { result ≡ are_blessed a.now b.now pairs.now }
 {
     pairs.iter().any(|p| {
         (p.0.as_str() == a && p.1.as_str() == b) || (p.0.as_str() == b && p.1.as_str() == a)

@@ -1,7 +1,7 @@
 //! What a shared verifier is asked as it stands: for a circle, and for the text of a report.
 
 ghost use Rattle.std.specs.Prelude.{◌≡◌, string_bytes, IfOk};
-ghost use Rattle.wit_model.specs.Trace.Output.{told};
+ghost use Rattle.wit_model.specs.Trace.Output.{reply_text};
 
 use crate::verifiers::mutex;
 use std::alloc::Global;
@@ -30,7 +30,7 @@ struct Text<'a> {
 impl Look for Text<'_> {
     type Out = Result<String, Fault>;
 
-    ghost done = { λ look text s. IfOk text (λ t. string_bytes t ≡ told s look.reply.now) };
+    ghost done = { λ look text s. IfOk text (λ t. string_bytes t ≡ reply_text s look.reply.now) };
 
     fn look(self, verifier: &Verifier) -> Result<String, Fault> {
         report_text(self.alloc, verifier, self.reply)

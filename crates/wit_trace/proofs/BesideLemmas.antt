@@ -19,7 +19,7 @@ use Rattle.wit_model.specs.declared.locks.LockNo.{LockNo}
 use Rattle.wit_model.specs.Rules.Files.{naming_answer, files_after}
 use Rattle.wit_model.specs.Rules.State.{Story, state_of}
 use Rattle.wit_model.specs.Rules.Step.{answer_of, grown, is_logged}
-use Rattle.wit_model.specs.Trace.Moving.{Moving, Moved, Outcome, with_feeds, kept_lines, step_line, answered, answered_at, alone, moves}
+use Rattle.wit_model.specs.Trace.Moving.{Moving, Moved, MovingOutcome, with_feeds, kept_lines, step_line, answered, answered_at, line_alone, moves}
 use Rattle.wit_model.specs.Trace.Moving as moving
 use Rattle.wit_model.specs.Trace.Output.{LineCall, Logs, LogsAt, Asserts, Warns, Steps, NoCall, Reading, called, calls, call_of, makes, verb_call}
 use Rattle.wit_model.specs.Trace.Output as output
@@ -32,14 +32,14 @@ use Rattle.wit_model.proofs.Histories.Legal.{seat_accepted}
 use Rattle.wit_grammar.specs.Lines.{as_line}
 use Rattle.wit_grammar.specs.declared.errors.LineError.{LineError}
 use Rattle.wit_grammar.specs.declared.errors.LineError.TheVariants.{Bad, Memory}
-use Rattle.wit_trace.specs.Migrates.{DoesBeside, Enters, GoesWithCall, IsBeside, before_of, behind_of, line_and_step, deed, is_first, line_of_step}
+use Rattle.wit_trace.specs.Migrates.{DoesBeside, MovesAsDue, GoesWithCall, IsBeside, before_of, behind_of, line_and_step, deed, is_first, line_of_step}
 use Rattle.wit_trace.specs.Replays.{Calls, FailsFor, IsBadFor}
 use Rattle.wit_trace.specs.declared.migrating.steps.LockStep.{LockStep}
 
 -- ---- a line that is bad
 
 pub bad-alone : (raw : List RawLock) (bytes : List ℕ) (p q : output.Progress) (cause : Cause) (o : output.Outcome)
-    → IsBadFor o p q cause → alone raw bytes o ≡ moving.Bad cause
+    → IsBadFor o p q cause → line_alone raw bytes o ≡ moving.Bad cause
 bad-alone raw bytes p q cause (output.Goes r text) bad = elim bad [ ]
 bad-alone raw bytes p q cause (output.Bad why) bad = ap moving.Bad (sym bad.0)
 
@@ -67,9 +67,9 @@ bad-moves s raw m bytes p q cause (LogsAt t file call) bad =
 bad-moves s raw m bytes p q cause c bad = bad-alone raw bytes p q cause (calls s m c) bad
 
 -- what is passed on of a failure
-pub failed : (due : Outcome) (old new : Moving) (e : LineError) (r : Result (Vec ℕ) LineError)
+pub failed : (due : MovingOutcome) (old new : Moving) (e : LineError) (r : Result (Vec ℕ) LineError)
     → kept_lines new ≡ kept_lines old → ((cause : Cause) → e ≡ Bad cause → due ≡ moving.Bad cause)
-    → IsErrAnd r (λ x. x ≡ e) → Enters due old new r
+    → IsErrAnd r (λ x. x ≡ e) → MovesAsDue due old new r
 failed due old new e (Ok text) same bad is = elim is [ ]
 failed due old new e (Err Memory) same bad is = tt
 failed due old new e (Err (Bad cause)) same bad is = (bad cause (sym is), same)
@@ -82,7 +82,7 @@ bad-fails s new raw m bytes c p q e fails cause is =
 -- a call on a lock that was refused
 pub call-refused : (s new : Story) (raw : List RawLock) (m : ℕ) (bytes : List ℕ) (c : LineCall) (e : LineError)
     (r : Result (Vec ℕ) LineError) → Calls (λ n. calls s n c) s new (Err e) → IsErrAnd r (λ x. x ≡ e)
-    → Enters (moves s raw m bytes c) (Moved s raw m) (Moved new raw m) r
+    → MovesAsDue (moves s raw m bytes c) (Moved s raw m) (Moved new raw m) r
 call-refused s new raw m bytes c e r fails is =
     failed (moves s raw m bytes c) (Moved s raw m) (Moved new raw m) e r refl
     (bad-fails s new raw m bytes c (Reading s m) (Reading new m) e (fails m)) is
@@ -131,7 +131,7 @@ DoesStep (Some k) bytes old new r = DoesBeside k bytes old new r
 
 module _ (s : Story) (raw : List RawLock) (m : ℕ) (bytes : List ℕ) (t : ℕ) (call : Call) (r : Reply) where
   -- what it comes to with these steps
-  abbrev with_steps : Option model.LockStep → Option model.LockStep → Outcome
+  abbrev with_steps : Option model.LockStep → Option model.LockStep → MovingOutcome
   with_steps before behind =
       cond (is_free_beside s.history raw t before)
       (moving.Goes
@@ -154,10 +154,10 @@ module _ (s : Story) (raw : List RawLock) (m : ℕ) (bytes : List ℕ) (t : ℕ)
       abbrev own : ℕ → List ℕ
       own u = spelling (OnLock (lock_line.Step (record { 0 = u }) k.lock k.step))
 
-      abbrev goes : Story → List RawLock → List (List ℕ) → Outcome
+      abbrev goes : Story → List RawLock → List (List ℕ) → MovingOutcome
       goes st rs lines = moving.Goes (Moved st rs m) lines
 
-      abbrev if_free : Deed → Outcome → Outcome
+      abbrev if_free : Deed → MovingOutcome → MovingOutcome
       if_free d o = cond (is_free raw d) o (moving.Bad (why.Fault RawNotFree))
 
       -- the step before a call
@@ -211,7 +211,7 @@ module _ (s : Story) (raw : List RawLock) (m : ℕ) (bytes : List ℕ) (t : ℕ)
 
     made-step : (k : Option LockStep) → IsBeside s.history raw t call k → (old : Moving) → kept_lines old ≡ []
         → (raw' : List RawLock) (res : Result (Vec ℕ) LineError) → DoesStep k bytes raw raw' res
-        → Enters (answered s raw m bytes t call (answer_of s t call)) old (Moved new raw' m) res
+        → MovesAsDue (answered s raw m bytes t call (answer_of s t call)) old (Moved new raw' m) res
     made-step None b old none raw' (Ok text) does = record {
       lines = bytes ∷ [];
       goes = made-alone b ∙ ap (λ rs. moving.Goes (Moved new rs m) (bytes ∷ [])) (sym does.0);
@@ -248,7 +248,7 @@ module _ (s new : Story) (raw raw' : List RawLock) (m : ℕ) (bytes text : List 
   at-line : (t : ℕ) (file : List ℕ) (call : ℕ → Call) (a : Result ℕ Fault) → IsPlainCall (LogsAt t file call)
       → GoesWithCall s raw (LogsAt t file call) k
       → output.at_file s (λ s' f. makes s' m t (call f)) file a ≡ output.Goes (Reading new m) text
-      → Enters (answered_at s raw m bytes t call file a) (Moved s raw m) (Moved new raw' m) res
+      → MovesAsDue (answered_at s raw m bytes t call file a) (Moved s raw m) (Moved new raw' m) res
   at-line t file call (Err fault) plain goes is = (cc)
   at-line t file call (Ok f) plain goes is =
       let named : Story = record s { files = files_after file s.files } in
@@ -258,7 +258,7 @@ module _ (s new : Story) (raw raw' : List RawLock) (m : ℕ) (bytes text : List 
 
   made-line : (c : LineCall) → IsPlainCall c → GoesWithCall s raw c k
       → calls s m c ≡ output.Goes (Reading new m) text
-      → Enters (moves s raw m bytes c) (Moved s raw m) (Moved new raw' m) res
+      → MovesAsDue (moves s raw m bytes c) (Moved s raw m) (Moved new raw' m) res
   made-line (Logs t call) plain goes is =
       let made = was-made s new m t call text is in
       made-step s raw m bytes t call made.reply new made.ok made.grows plain k
@@ -274,6 +274,6 @@ pub call-made : (s new : Story) (raw raw' : List RawLock) (m : ℕ) (bytes : Lis
     (reply : Reply) (k : Option LockStep) (res : Result (Vec ℕ) LineError)
     → GoesWithCall s raw (call_of (as_line line)) k → Calls (λ n. calls s n (call_of (as_line line))) s new (Ok reply)
     → DoesStep k bytes raw raw' res
-    → Enters (moves s raw m bytes (call_of (as_line line))) (Moved s raw m) (Moved new raw' m) res
+    → MovesAsDue (moves s raw m bytes (call_of (as_line line))) (Moved s raw m) (Moved new raw' m) res
 call-made s new raw raw' m bytes line reply k res goes made does =
-    made-line s new raw raw' m bytes (output.told new reply) k res does (call_of (as_line line)) (plain-line line) goes (made m)
+    made-line s new raw raw' m bytes (output.reply_text new reply) k res does (call_of (as_line line)) (plain-line line) goes (made m)

@@ -7,16 +7,17 @@ use Rattle.wit_model.specs.declared.lines.Cause.{Cause}
 use Rattle.wit_model.specs.declared.lines.Cause.TheVariants as why
 use Rattle.wit_model.specs.Rules.Start.{start_fault}
 use Rattle.wit_model.specs.Rules.State.{Story}
-use Rattle.wit_model.specs.Trace.Moving.{Moving, Unmoved, Keeping, Moved, Written, Outcome, Goes, with_feeds, last_text, moved_text, kept_lines, read_to, reached, opened, moving_after, moving_from, outcome, ends}
+use Rattle.wit_model.specs.Trace.Moving.{Moving, Unmoved, Keeping, Moved, Written, MovingOutcome, Goes, with_feeds, last_text, moved_text, kept_lines, read_to, moving_reached, moving_opened, moving_after, moving_from, moving_outcome, moving_ends}
 use Rattle.wit_model.specs.Trace.Moving as moving
+use Rattle.wit_model.specs.Trace.Moving.{moving_ends_bad, moving_read_as, lines_before}
 use Rattle.wit_model.specs.Trace.Output.{Unstarted, Opening, BadLine, EndsBad, bad_text, summed}
 use Rattle.wit_model.specs.Trace.Reading.{line_of}
 use Rattle.wit_model.specs.World.Scenes.{RawLock}
 use Rattle.wit_trace.specs.Machine.{BreaksAt, first_of}
-use Rattle.wit_trace.specs.Migrates.{IsMigrated, MigratesFrom, GoesOver, IsRefusedAt, Reaches, migrated, moved_to}
+use Rattle.wit_trace.specs.Migrates.{IsMigrated, MigratesFrom, GoesOver, IsRefusedAt, ReachesLine, migrated, moved_to}
 use Rattle.wit_trace.specs.Replays.{total}
 use Rattle.wit_trace.proofs.ReplayLemmas.{begins_prelude, no_profile, starts-le}
-use Rattle.wit_trace.specs.Stream.{GoesOn, OutputFrom, ReadsToEnd, WritesLines}
+use Rattle.wit_trace.specs.Stream.{ReadingGoesOn, OutputFrom, ReadsToEnd, WritesLines}
 use Rattle.wit_trace.specs.declared.migrating.Migrating.{Migrating}
 use Rattle.wit_trace.specs.declared.migrating.Migrating.TheVariants as kept
 use Rattle.wit_trace.specs.declared.summary.Summary.{Summary}
@@ -26,19 +27,19 @@ use Rattle.wit_trace.proofs.MigrateLemmas.{behind, bad-migrated, refused-migrate
 
 -- the beginning of a long line decides whether it ends the prelude
 begins-reached : (m : Moving) (n : ℕ) (bytes line : List ℕ) (next : Moving → Written) → 4096 < length bytes → StartsWith line bytes
-    → reached m n line next ≡ reached m n bytes next
+    → moving_reached m n line next ≡ moving_reached m n bytes next
 begins-reached Unmoved n bytes line next long starts = refl
 begins-reached (Keeping p kept) n bytes line next long starts =
-    ap₂ (λ (t u : Bool). cond (t || u) (next (Keeping p kept)) (opened p kept (start_fault p.start) next))
+    ap₂ (λ (t u : Bool). cond (t || u) (next (Keeping p kept)) (moving_opened p kept (start_fault p.start) next))
     (begins_prelude bytes line long starts)
     (no_profile n line (omega (arith, long, starts-le bytes line starts)) ∙ sym (no_profile n bytes long))
 begins-reached (Moved s raw m) n bytes line next long starts = refl
 
 first-reached : (m : Moving) (n : ℕ) (cause : Cause) (bytes : List ℕ) (lines : List (List ℕ)) (tail : List ℕ) (next : Moving → Written)
-    → BreaksAt cause bytes lines tail → reached m n (first_of lines tail) next ≡ reached m n bytes next
+    → BreaksAt cause bytes lines tail → moving_reached m n (first_of lines tail) next ≡ moving_reached m n bytes next
 first-reached m n why.Long bytes lines tail next h = begins-reached m n bytes (first_of lines tail) next h.0 h.1
 first-reached m n why.Cut bytes lines tail next h =
-    ap (λ (ls : List (List ℕ)). reached m n (first_of ls tail) next) h.2 ∙ ap (λ t. reached m n t next) h.3
+    ap (λ (ls : List (List ℕ)). moving_reached m n (first_of ls tail) next) h.2 ∙ ap (λ t. moving_reached m n t next) h.3
 first-reached m n why.Syntax bytes lines tail next h = elim h [ ]
 first-reached m n why.Version bytes lines tail next h = elim h [ ]
 first-reached m n why.Limit bytes lines tail next h = elim h [ ]
@@ -46,24 +47,24 @@ first-reached m n (why.Fault fault) bytes lines tail next h = elim h [ ]
 
 -- what comes of the first line that is still to come
 abbrev comes : ℕ → List (List ℕ) → List ℕ → Moving → Written
-comes n [] tail = λ q. ends q n tail
+comes n [] tail = λ q. moving_ends q n tail
 comes n (line ∷ lines) tail = next_of n line lines tail
 
 from-first : (m : Moving) (n : ℕ) (lines : List (List ℕ)) (tail : List ℕ)
-    → moving_from m n lines tail ≡ reached m n (first_of lines tail) (comes n lines tail)
+    → moving_from m n lines tail ≡ moving_reached m n (first_of lines tail) (comes n lines tail)
 from-first m n [] tail = refl
 from-first m n (line ∷ lines) tail = refl
 
 -- an unfinished line is bad
 ends-some : (q : Moving) (n : ℕ) (tail : List ℕ) (cause : Cause) → 0 < length tail
-    → cond (nat_lt 4096 (length tail)) why.Long why.Cut ≡ cause → ends q n tail ≡ moving.ends_bad q (n, cause)
+    → cond (nat_lt 4096 (length tail)) why.Long why.Cut ≡ cause → moving_ends q n tail ≡ moving_ends_bad q (n, cause)
 ends-some q n [] cause some is = absurd (omega arith)
-ends-some Unmoved n (b ∷ tail) cause some is = ap (λ (c : Cause). moving.ends_bad Unmoved (n, c)) is
-ends-some (Keeping p kept) n (b ∷ tail) cause some is = ap (λ (c : Cause). moving.ends_bad (Keeping p kept) (n, c)) is
-ends-some (Moved s raw m) n (b ∷ tail) cause some is = ap (λ (c : Cause). moving.ends_bad (Moved s raw m) (n, c)) is
+ends-some Unmoved n (b ∷ tail) cause some is = ap (λ (c : Cause). moving_ends_bad Unmoved (n, c)) is
+ends-some (Keeping p kept) n (b ∷ tail) cause some is = ap (λ (c : Cause). moving_ends_bad (Keeping p kept) (n, c)) is
+ends-some (Moved s raw m) n (b ∷ tail) cause some is = ap (λ (c : Cause). moving_ends_bad (Moved s raw m) (n, c)) is
 
 comes-bad : (q : Moving) (n : ℕ) (cause : Cause) (bytes : List ℕ) (lines : List (List ℕ)) (tail : List ℕ)
-    → BreaksAt cause bytes lines tail → comes n lines tail q ≡ moving.ends_bad q (n, cause)
+    → BreaksAt cause bytes lines tail → comes n lines tail q ≡ moving_ends_bad q (n, cause)
 comes-bad q n why.Long bytes [] tail h =
     let more = starts-le bytes tail h.1 in
     let long = h.0 in
@@ -71,11 +72,11 @@ comes-bad q n why.Long bytes [] tail h =
 comes-bad q n why.Long bytes (line ∷ lines) tail h =
     let more = starts-le bytes line h.1 in
     let long = h.0 in
-    ap (λ b. moving_after q n (cond b (moving.Bad why.Long) (moving.read_as q n line (line_of line))) (λ r. moving_from r (n + 1) lines tail))
+    ap (λ b. moving_after q n (cond b (moving.Bad why.Long) (moving_read_as q n line (line_of line))) (λ r. moving_from r (n + 1) lines tail))
     (lt-ltb 4096 (length line) (omega (arith, more, long)))
 comes-bad q n why.Cut bytes lines tail h =
     ap (λ (ls : List (List ℕ)). comes n ls tail q) h.2
-    ∙ (ap (λ t. ends q n t) h.3
+    ∙ (ap (λ t. moving_ends q n t) h.3
     ∙ ends-some q n bytes why.Cut h.0 (ap (λ b. cond b why.Long why.Cut) (le-ltb 4096 (length bytes) h.1)))
 comes-bad q n why.Syntax bytes lines tail h = elim h [ ]
 comes-bad q n why.Version bytes lines tail h = elim h [ ]
@@ -85,7 +86,7 @@ comes-bad q n (why.Fault fault) bytes lines tail h = elim h [ ]
 -- what is answered there
 pub broken-answer : {E : Type 0} (old q : Moving) (n : ℕ) (cause : Cause) (bytes told : List ℕ) (refused : Option BadLine)
     (at : BadLine) (found : Summary) (answer : Result (Vec ℕ × Summary) E)
-    → Reaches old n bytes q told refused → at ≡ unwrap_or refused (n, cause) → total found ≡ summed (read_to q) None
+    → ReachesLine old n bytes q told refused → at ≡ unwrap_or refused (n, cause) → total found ≡ summed (read_to q) None
     → found.circle ≡ false
     → IfOk answer (λ a. a.0.items ≡ told ++ (with_feeds (kept_lines q) ++ bad_text at.0 at.1))
     → IfOk answer (λ a. a.1 ≡ record found { bad = Some at })
@@ -93,14 +94,14 @@ pub broken-answer : {E : Type 0} (old q : Moving) (n : ℕ) (cause : Cause) (byt
     → IsMigrated (moving_from old n lines tail) a.0.items a.1)
 broken-answer old q n cause bytes told refused at found (Err e) reaches is sums none texts same = tt
 broken-answer old q n cause bytes told None at found (Ok a) reaches is sums none texts same = λ lines tail h.
-    let ended : moving_from old n lines tail ≡ moving.before reaches.lines (moving.ends_bad q (n, cause))
+    let ended : moving_from old n lines tail ≡ lines_before reaches.lines (moving_ends_bad q (n, cause))
     = from-first old n lines tail ∙ (first-reached old n cause bytes lines tail (comes n lines tail) h
-    ∙ (reaches.on (comes n lines tail) ∙ ap (λ w. moving.before reaches.lines w) (comes-bad q n cause bytes lines tail h))) in
+    ∙ (reaches.on (comes n lines tail) ∙ ap (λ w. lines_before reaches.lines w) (comes-bad q n cause bytes lines tail h))) in
     let text : a.0.items ≡ told ++ (with_feeds (kept_lines q) ++ bad_text n cause)
     = texts ∙ ap (λ (b : BadLine). told ++ (with_feeds (kept_lines q) ++ bad_text b.0 b.1)) is in
     subst (λ w. IsMigrated w a.0.items a.1) (sym ended)
-    (subst (λ t. IsMigrated (moving.before reaches.lines (moving.ends_bad q (n, cause))) t a.1) (sym text)
-    (behind reaches.lines (moving.ends_bad q (n, cause)) told (with_feeds (kept_lines q) ++ bad_text n cause) a.1 reaches.written
+    (subst (λ t. IsMigrated (lines_before reaches.lines (moving_ends_bad q (n, cause))) t a.1) (sym text)
+    (behind reaches.lines (moving_ends_bad q (n, cause)) told (with_feeds (kept_lines q) ++ bad_text n cause) a.1 reaches.written
     (bad-migrated q (n, cause) found a.1 (with_feeds (kept_lines q) ++ bad_text n cause) refl sums none
     (same ∙ ap (λ (b : BadLine). record found { bad = Some b }) is))))
 broken-answer old q n cause bytes told (Some bad) at found (Ok a) reaches is sums none texts same = λ lines tail h.
@@ -119,30 +120,30 @@ module _ (old q : Moving) (n : ℕ) (told : List ℕ) where
   pub end-read : (s : Story) (raw : List RawLock) (m : ℕ) (found : Summary) → GoesOver old n [] q told → q ≡ Moved s raw m
       → total found ≡ summed (read_to q) None → found.circle ≡ false → IsMigrated (moving_from old n [] []) told found
   end-read s raw m found over is sums none =
-      let ended : moving_from old n [] [] ≡ moving.before over.lines (ends (Moved s raw m) n [])
-      = over.on (λ r. ends r n []) ∙ ap (λ r. moving.before over.lines (ends r n [])) is in
+      let ended : moving_from old n [] [] ≡ lines_before over.lines (moving_ends (Moved s raw m) n [])
+      = over.on (λ r. moving_ends r n []) ∙ ap (λ r. lines_before over.lines (moving_ends r n [])) is in
       subst (λ w. IsMigrated w told found) (sym ended)
-      (subst (λ t. IsMigrated (moving.before over.lines (ends (Moved s raw m) n [])) t found) (append-nil told)
-      (behind over.lines (ends (Moved s raw m) n []) told [] found over.written
+      (subst (λ t. IsMigrated (lines_before over.lines (moving_ends (Moved s raw m) n [])) t found) (append-nil told)
+      (behind over.lines (moving_ends (Moved s raw m) n []) told [] found over.written
       (record { written = refl; summed = sums ∙ ap (λ r. summed (read_to r) None) is; none = none })))
 
-  pub end-cut : (found summary : Summary) (text : List ℕ) → GoesOver old n [] q told → ends q n [] ≡ moving.ends_bad q (n, why.Cut)
+  pub end-cut : (found summary : Summary) (text : List ℕ) → GoesOver old n [] q told → moving_ends q n [] ≡ moving_ends_bad q (n, why.Cut)
       → text ≡ told ++ (with_feeds (kept_lines q) ++ bad_text n why.Cut) → total found ≡ summed (read_to q) None
       → found.circle ≡ false → summary ≡ record found { bad = Some (n, why.Cut) }
       → IsMigrated (moving_from old n [] []) text summary
   end-cut found summary text over cut is sums none same =
-      let ended : moving_from old n [] [] ≡ moving.before over.lines (moving.ends_bad q (n, why.Cut))
-      = over.on (λ r. ends r n []) ∙ ap (λ w. moving.before over.lines w) cut in
+      let ended : moving_from old n [] [] ≡ lines_before over.lines (moving_ends_bad q (n, why.Cut))
+      = over.on (λ r. moving_ends r n []) ∙ ap (λ w. lines_before over.lines w) cut in
       subst (λ w. IsMigrated w text summary) (sym ended)
-      (subst (λ t. IsMigrated (moving.before over.lines (moving.ends_bad q (n, why.Cut))) t summary) (sym is)
-      (behind over.lines (moving.ends_bad q (n, why.Cut)) told (with_feeds (kept_lines q) ++ bad_text n why.Cut) summary over.written
+      (subst (λ t. IsMigrated (lines_before over.lines (moving_ends_bad q (n, why.Cut))) t summary) (sym is)
+      (behind over.lines (moving_ends_bad q (n, why.Cut)) told (with_feeds (kept_lines q) ++ bad_text n why.Cut) summary over.written
       (bad-migrated q (n, why.Cut) found summary (with_feeds (kept_lines q) ++ bad_text n why.Cut) refl sums none same)))
 
   pub end-refused : (bad : BadLine) (found summary : Summary) (text : List ℕ) → IsRefusedAt old n [] told bad
       → text ≡ told ++ bad_text bad.0 bad.1 → total found ≡ summed Unstarted None → found.circle ≡ false
       → summary ≡ record found { bad = Some bad } → IsMigrated (moving_from old n [] []) text summary
   end-refused bad found summary text r is sums none same =
-      subst (λ v. IsMigrated v text summary) (sym (r.is (λ x. ends x n [])))
+      subst (λ v. IsMigrated v text summary) (sym (r.is (λ x. moving_ends x n [])))
       (refused-migrated r.prelude r.lines bad found summary told text r.written is sums none same)
 
 -- ---- the whole run
@@ -151,7 +152,7 @@ module _ (old q : Moving) (n : ℕ) (told : List ℕ) where
 abbrev allowed : Migrating → ℕ → List ℕ → List ℕ → Summary → Type 0
 allowed = OutputFrom migrated
 
-moved_on : (lines text : List ℕ) → GoesOn allowed kept.Unmoved lines text → GoesOn MigratesFrom Unmoved lines text
+moved_on : (lines text : List ℕ) → ReadingGoesOn allowed kept.Unmoved lines text → ReadingGoesOn MigratesFrom Unmoved lines text
 moved_on lines text goes = record { at = moved_to goes.at; on = goes.on }
 
 -- the end of a migration

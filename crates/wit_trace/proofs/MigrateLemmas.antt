@@ -14,8 +14,9 @@ use Rattle.wit_model.specs.declared.raw_steps.RawStep.{RawStep}
 use Rattle.wit_model.proofs.Spelling.Lengths.{spelled-le}
 use Rattle.wit_model.specs.Rules.Start.{start_fault}
 use Rattle.wit_model.specs.Rules.State.{Story}
-use Rattle.wit_model.specs.Trace.Moving.{Moving, Unmoved, Keeping, Moved, Written, Outcome, Goes, with_feeds, last_text, moved_text, kept_lines, read_to, reached, opened, moving_after, moves, moving_from, outcome, ends}
+use Rattle.wit_model.specs.Trace.Moving.{Moving, Unmoved, Keeping, Moved, Written, MovingOutcome, Goes, with_feeds, last_text, moved_text, kept_lines, read_to, moving_reached, moving_opened, moving_after, moves, moving_from, moving_outcome, moving_ends}
 use Rattle.wit_model.specs.Trace.Moving as moving
+use Rattle.wit_model.specs.Trace.Moving.{lines_before, moving_ends_bad}
 use Rattle.wit_model.specs.Trace.Output.{Prelude, Progress, Unstarted, Opening, Reading, Stepping, BadLine, EndsBad, AllRead, bad_text, call_of, is_prelude, is_profile, summed, total_of}
 use Rattle.wit_model.specs.Trace.Output as output
 use Rattle.wit_model.specs.Trace.Reading.{line_of}
@@ -82,7 +83,7 @@ pub opens : (p : Prelude) (kept : List (List ℕ)) (n : ℕ) (line : List ℕ) (
 opens p kept n line s text over made told = record {
   lines = kept;
   written = told;
-  on = λ next. rw (over, made.0) (ap (λ v. moving.before kept (next (Moved v [] 0))) (sym made.1));
+  on = λ next. rw (over, made.0) (ap (λ v. lines_before kept (next (Moved v [] 0))) (sym made.1));
 }
 
 abbrev refused_at : Prelude → List (Vec ℕ) → BadLine → Written
@@ -104,7 +105,7 @@ refuses p kept n line bad text over made told = record {
 
 -- lines in front
 pub behind : (lines : List (List ℕ)) (w : Written) (text more : List ℕ) (summary : Summary)
-    → text ≡ with_feeds lines → IsMigrated w more summary → IsMigrated (moving.before lines w) (text ++ more) summary
+    → text ≡ with_feeds lines → IsMigrated w more summary → IsMigrated (lines_before lines w) (text ++ more) summary
 behind lines w text more summary is h = record {
   written = ap₂ (λ a b. a ++ b) is h.written
       ∙ sym (append_assoc (with_feeds lines) (with_feeds w.lines) (last_text w.ending))
@@ -127,7 +128,7 @@ summed-bad p found bad is = ap (λ (t : output.Total). record t { bad = Some bad
 -- the migration ends at a bad line
 pub bad-migrated : (m : Moving) (bad : BadLine) (found summary : Summary) (text : List ℕ)
     → text ≡ with_feeds (kept_lines m) ++ bad_text bad.0 bad.1 → total found ≡ summed (read_to m) None
-    → found.circle ≡ false → summary ≡ record found { bad = Some bad } → IsMigrated (moving.ends_bad m bad) text summary
+    → found.circle ≡ false → summary ≡ record found { bad = Some bad } → IsMigrated (moving_ends_bad m bad) text summary
 bad-migrated m bad found summary text is sums none same = record {
   written = is;
   summed = ap total same ∙ summed-bad (read_to m) found bad sums;
@@ -149,33 +150,33 @@ refused-migrated p lines bad found summary told text wrote is sums none same = r
 
 -- what comes of a line and those behind it
 abbrev pub next_of : ℕ → List ℕ → List (List ℕ) → List ℕ → Moving → Written
-next_of n line lines tail q = moving_after q n (outcome q n line) (λ r. moving_from r (n + 1) lines tail)
+next_of n line lines tail q = moving_after q n (moving_outcome q n line) (λ r. moving_from r (n + 1) lines tail)
 
 module _ (old q : Moving) (n : ℕ) (line before : List ℕ) (over : GoesOver old n line q before) where
-  pub line-goes : (new : Moving) (text : List ℕ) → Writes (outcome q n line) new text
+  pub line-goes : (new : Moving) (text : List ℕ) → Writes (moving_outcome q n line) new text
       → (lines : List (List ℕ)) (tail more : List ℕ) (summary : Summary)
       → IsMigrated (moving_from new (n + 1) lines tail) more summary
       → IsMigrated (moving_from old n (line ∷ lines) tail) ((before ++ text) ++ more) summary
   line-goes new text w lines tail more summary h =
       let next = λ (r : Moving). moving_from r (n + 1) lines tail in
-      let is : moving_from old n (line ∷ lines) tail ≡ moving.before over.lines (moving.before w.lines (next new))
-      = over.on (next_of n line lines tail) ∙ ap (λ o. moving.before over.lines (moving_after q n o next)) w.goes in
+      let is : moving_from old n (line ∷ lines) tail ≡ lines_before over.lines (lines_before w.lines (next new))
+      = over.on (next_of n line lines tail) ∙ ap (λ o. lines_before over.lines (moving_after q n o next)) w.goes in
       subst (λ t. IsMigrated (moving_from old n (line ∷ lines) tail) t summary) (sym (append_assoc before text more))
       (subst (λ v. IsMigrated v (before ++ (text ++ more)) summary) (sym is)
-      (behind over.lines (moving.before w.lines (next new)) before (text ++ more) summary over.written
+      (behind over.lines (lines_before w.lines (next new)) before (text ++ more) summary over.written
       (behind w.lines (next new) text more summary w.written h)))
 
-  pub line-bad : (cause : Cause) (found summary : Summary) (text : List ℕ) → outcome q n line ≡ moving.Bad cause
+  pub line-bad : (cause : Cause) (found summary : Summary) (text : List ℕ) → moving_outcome q n line ≡ moving.Bad cause
       → text ≡ before ++ (with_feeds (kept_lines q) ++ bad_text n cause) → total found ≡ summed (read_to q) None
       → found.circle ≡ false → summary ≡ record found { bad = Some (n, cause) }
       → (lines : List (List ℕ)) (tail : List ℕ) → IsMigrated (moving_from old n (line ∷ lines) tail) text summary
   line-bad cause found summary text bad is sums none same lines tail =
       let next = λ (r : Moving). moving_from r (n + 1) lines tail in
-      let ended : moving_from old n (line ∷ lines) tail ≡ moving.before over.lines (moving.ends_bad q (n, cause))
-      = over.on (next_of n line lines tail) ∙ ap (λ o. moving.before over.lines (moving_after q n o next)) bad in
+      let ended : moving_from old n (line ∷ lines) tail ≡ lines_before over.lines (moving_ends_bad q (n, cause))
+      = over.on (next_of n line lines tail) ∙ ap (λ o. lines_before over.lines (moving_after q n o next)) bad in
       subst (λ t. IsMigrated (moving_from old n (line ∷ lines) tail) t summary) (sym is)
       (subst (λ v. IsMigrated v (before ++ (with_feeds (kept_lines q) ++ bad_text n cause)) summary) (sym ended)
-      (behind over.lines (moving.ends_bad q (n, cause)) before (with_feeds (kept_lines q) ++ bad_text n cause) summary over.written
+      (behind over.lines (moving_ends_bad q (n, cause)) before (with_feeds (kept_lines q) ++ bad_text n cause) summary over.written
       (bad-migrated q (n, cause) found summary (with_feeds (kept_lines q) ++ bad_text n cause) refl sums none same)))
 
 pub line-refused : (old : Moving) (n : ℕ) (line told : List ℕ) (bad : BadLine) → IsRefusedAt old n line told bad
@@ -189,7 +190,7 @@ line-refused old n line told bad r found summary text is sums none same lines ta
 -- a line that is read makes its call
 pub line-writes : (s : Story) (raw : List RawLock) (m n : ℕ) (bytes : List ℕ) (line : Line) (new : Moving) (text : List ℕ)
     → length bytes ≤ 4096 → line_of bytes ≡ Some line → Writes (moves s raw m bytes (call_of line)) new text
-    → Writes (outcome (Moved s raw m) n bytes) new text
+    → Writes (moving_outcome (Moved s raw m) n bytes) new text
 line-writes s raw m n bytes line new text short reads w = record {
   lines = w.lines;
   goes = rw (le-ltb 4096 (length bytes) short, reads) w.goes;

@@ -13,20 +13,20 @@ use Rattle.wit_model.specs.Rules.History.{reports_of}
 use Rattle.wit_model.specs.Rules.Sizes.{Sizes, sizes_of, are_within_limits}
 use Rattle.wit_model.specs.Rules.State.{Story}
 use Rattle.wit_model.specs.Rules.Step.{answer_of, grown}
-use Rattle.wit_model.specs.Trace.Moving.{Moving, Unmoved, Keeping, Moved, Outcome, Goes, Bad, step_line, answered, answered_at, alone, moves, keeps, outcome}
-use Rattle.wit_model.specs.Trace.Moving as moving
+use Rattle.wit_model.specs.Trace.Moving.{Moving, Unmoved, Keeping, Moved, MovingOutcome, Goes, Bad, step_line, answered, answered_at, line_alone, moves, keeps, moving_outcome}
+use Rattle.wit_model.specs.Trace.Moving.{moving_entered, moving_read_as}
 use Rattle.wit_model.specs.Trace.Output.{LineCall, Logs, LogsAt, Opening, Reading, call_of, calls, empty_prelude}
 use Rattle.wit_model.specs.Trace.Output as output
 use Rattle.wit_model.specs.Trace.Reading.{line_of}
 use Rattle.wit_model.specs.Trace.Spelling.{spelling}
 use Rattle.wit_model.specs.World.Moving.{step_before, step_behind, is_free_beside, raw_moved}
 use Rattle.wit_model.specs.World.Scenes.{RawLock}
-use Rattle.wit_trace.specs.Migrates.{Writes, reports_told}
+use Rattle.wit_trace.specs.Migrates.{Writes, moving_reports}
 use Rattle.wit_trace.proofs.ReportLemmas.{CountsOne, calls_one, grown-le}
 
 -- a line's outcome counts one at most
-abbrev MovesOne : ℕ → Outcome → Type 0
-MovesOne n (Goes q lines) = reports_told q ≤ n + 1
+abbrev MovesOne : ℕ → MovingOutcome → Type 0
+MovesOne n (Goes q lines) = moving_reports q ≤ n + 1
 MovesOne n (Bad cause) = Unit {0}
 
 answered_one : (s : Story) (raw : List RawLock) (m : ℕ) (bytes : List ℕ) (t : ℕ) (call : Call) (a : Result Reply Fault)
@@ -48,7 +48,7 @@ at_one s raw m bytes t call file (Ok f) =
     let named : Story = record s { files = files_after file s.files } in
     answered_one named raw m bytes t (call f) (answer_of named t (call f))
 
-alone_one : (n : ℕ) (raw : List RawLock) (bytes : List ℕ) (o : output.Outcome) → CountsOne n o → MovesOne n (alone raw bytes o)
+alone_one : (n : ℕ) (raw : List RawLock) (bytes : List ℕ) (o : output.Outcome) → CountsOne n o → MovesOne n (line_alone raw bytes o)
 alone_one n raw bytes (output.Goes (Reading s m) text) one = one
 alone_one n raw bytes (output.Goes p text) one = tt
 alone_one n raw bytes (output.Bad cause) one = tt
@@ -69,7 +69,7 @@ header_one : (sizes : Sizes) (line : List ℕ) (fits : Bool)
 header_one sizes line true = omega arith
 header_one sizes line false = tt
 
-entered_one : (m : Moving) (n : ℕ) (bytes : List ℕ) (line : Line) → MovesOne (reports_told m) (moving.entered m n bytes line)
+entered_one : (m : Moving) (n : ℕ) (bytes : List ℕ) (line : Line) → MovesOne (moving_reports m) (moving_entered m n bytes line)
 entered_one Unmoved n bytes (Header One s t l c) =
     header_one (sizes_of s t l c output.log_limit) (spelling (Header Two s t l c)) (are_within_limits (sizes_of s t l c output.log_limit))
 entered_one Unmoved n bytes (Header Two s t l c) = tt
@@ -77,21 +77,21 @@ entered_one Unmoved n bytes _ = tt
 entered_one (Keeping p kept) n bytes line = keeps_one kept bytes (output.entered (Opening p) n line)
 entered_one (Moved s raw m) n bytes line = moves_one s raw m bytes (call_of line)
 
-outcome_one : (m : Moving) (n : ℕ) (bytes : List ℕ) → MovesOne (reports_told m) (outcome m n bytes)
+outcome_one : (m : Moving) (n : ℕ) (bytes : List ℕ) → MovesOne (moving_reports m) (moving_outcome m n bytes)
 outcome_one m n bytes = go (nat_lt 4096 (length bytes)) (line_of bytes)
   where
-    go : (long : Bool) (o : Option Line) → MovesOne (reports_told m) (cond long (Bad why.Long) (moving.read_as m n bytes o))
+    go : (long : Bool) (o : Option Line) → MovesOne (moving_reports m) (cond long (Bad why.Long) (moving_read_as m n bytes o))
     go true o = tt
     go false None = tt
     go false (Some line) = entered_one m n bytes line
 
-pub written_one : (m new : Moving) (n : ℕ) (bytes text : List ℕ) → Writes (outcome m n bytes) new text
-    → reports_told new ≤ reports_told m + 1
-written_one m new n bytes text w = subst (MovesOne (reports_told m)) w.goes (outcome_one m n bytes)
+pub written_one : (m new : Moving) (n : ℕ) (bytes text : List ℕ) → Writes (moving_outcome m n bytes) new text
+    → moving_reports new ≤ moving_reports m + 1
+written_one m new n bytes text w = subst (MovesOne (moving_reports m)) w.goes (outcome_one m n bytes)
 
 pub moved_one : (s : Story) (raw : List RawLock) (m : ℕ) (new : Moving) (bytes text : List ℕ) (c : LineCall)
-    → Writes (moves s raw m bytes c) new text → reports_told new ≤ reports_of s.history + m + 1
+    → Writes (moves s raw m bytes c) new text → moving_reports new ≤ reports_of s.history + m + 1
 moved_one s raw m new bytes text c w =
-    let one : reports_told new ≤ (reports_of s.history + m) + 1
+    let one : moving_reports new ≤ (reports_of s.history + m) + 1
     = subst (MovesOne (reports_of s.history + m)) w.goes (moves_one s raw m bytes c) in
     one

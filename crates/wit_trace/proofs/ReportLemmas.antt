@@ -32,7 +32,7 @@ use Rattle.wit_grammar.specs.declared.errors.LineError.{LineError}
 use Rattle.wit_grammar.specs.declared.errors.LineError.TheVariants.{Bad, Memory}
 use Rattle.wit_model.specs.declared.lines.View.{View}
 use Rattle.wit_trace.specs.declared.stream.machine.Step.{Step}
-use Rattle.wit_trace.specs.Replays.{Calls, EndsFor, FailsFor, KeepsTotal, Passes, Reaches, reports_told}
+use Rattle.wit_trace.specs.Replays.{Calls, EndsFor, FailsFor, KeepsTotal, GoesAsDue, StandsAsDue, reports_told}
 use Rattle.std.specs.Global.{Vec}
 
 ok_is : (p q : output.Progress) → ◌≡◌ {A = Result output.Progress output.BadLine} (Ok p) (Ok q) → p ≡ q
@@ -59,7 +59,7 @@ reached_same (output.Opening o) n line q is = go (output.is_prelude line || outp
 reached_same (output.Reading s m) n line q is = ap reports_told (sym (ok_is _ q is))
 reached_same (output.Stepping s m) n line q is = ap reports_told (sym (ok_is _ q is))
 
-pub reaches_same : (p q : output.Progress) (n : ℕ) (line : List ℕ) (refused : Option (ℕ × Cause)) → Reaches (output.reached p n line) p q refused → reports_told q ≡ reports_told p
+pub reaches_same : (p q : output.Progress) (n : ℕ) (line : List ℕ) (refused : Option (ℕ × Cause)) → StandsAsDue (output.reached p n line) p q refused → reports_told q ≡ reports_told p
 reaches_same p q n line None reaches = reached_same p n line q reaches
 reaches_same p q n line (Some bad) reaches = keeps_reports p q reaches.1
 
@@ -127,7 +127,7 @@ makes_in_one s n t c = go (answer_in s t c)
     go (Err fault) = tt
 
 file_in_one : (s : Scene) (n t : ℕ) (make : ℕ → Call) (file : List ℕ) (r : Result ℕ Fault) → CountsOne (reports_of s.story.history + n) (output.at_file_in s (λ s' f. output.makes_in s' n t (make f)) file r)
-file_in_one s n t make file (Ok f) = makes_in_one (output.with_file file s) n t (make f)
+file_in_one s n t make file (Ok f) = makes_in_one (output.with_file_in file s) n t (make f)
 file_in_one s n t make file (Err fault) = tt
 
 step_one : (s : Scene) (n t l : ℕ) (step : RawStep) → CountsOne (reports_of s.story.history + n) (output.steps n (step_raw s t l step))
@@ -194,14 +194,14 @@ CountsOn n q (Ok text) = reports_told q ≤ n + 1
 CountsOn n q (Err Memory) = Unit {0}
 CountsOn n q (Err (Bad cause)) = reports_told q ≤ n + 1
 
-passes_one : (due : output.Outcome) (p q : output.Progress) (r : Result (Vec ℕ) LineError) → CountsOne (reports_told p) due → Passes due p q r → CountsOn (reports_told p) q r
+passes_one : (due : output.Outcome) (p q : output.Progress) (r : Result (Vec ℕ) LineError) → CountsOne (reports_told p) due → GoesAsDue due p q r → CountsOn (reports_told p) q r
 passes_one (output.Goes to text) p q (Ok told) one passes = rw (passes.0) one
 passes_one (output.Bad why) p q (Ok told) one passes = elim passes [ ]
 passes_one due p q (Err Memory) one passes = tt
 passes_one (output.Goes to text) p q (Err (Bad cause)) one passes = elim passes [ ]
 passes_one (output.Bad why) p q (Err (Bad cause)) one passes = let e = keeps_reports p q passes.1 in omega (arith, e)
 
-module _ (p q : output.Progress) (n : ℕ) (bytes : List ℕ) (r : Result (Vec ℕ) LineError) (passes : Passes (output.outcome p n bytes) p q r) where
+module _ (p q : output.Progress) (n : ℕ) (bytes : List ℕ) (r : Result (Vec ℕ) LineError) (passes : GoesAsDue (output.outcome p n bytes) p q r) where
   -- a line that was told
   pub told_one : (text : Vec ℕ) → r ≡ Ok text → reports_told q ≤ reports_told p + 1
   told_one text is = subst (CountsOn (reports_told p) q) is (passes_one (output.outcome p n bytes) p q r (outcome_one p n bytes) passes)
@@ -221,7 +221,7 @@ CallsOn old new m (Err Memory) = Unit {0}
 CallsOn old new m (Err (Bad cause)) = reports_of new.history + m ≤ reports_of old.history + m + 1
 
 calls_on : (due : output.Outcome) (old new : Story) (m : ℕ) (r : Result Reply LineError) → CountsOne (reports_of old.history + m) due
-    → ((reply : Reply) → r ≡ Ok reply → due ≡ output.Goes (output.Reading new m) (output.told new reply)) → ((e : LineError) → r ≡ Err e → FailsFor due (output.Reading old m) (output.Reading new m) e) → CallsOn old new m r
+    → ((reply : Reply) → r ≡ Ok reply → due ≡ output.Goes (output.Reading new m) (output.reply_text new reply)) → ((e : LineError) → r ≡ Err e → FailsFor due (output.Reading old m) (output.Reading new m) e) → CallsOn old new m r
 calls_on due old new m (Ok reply) one goes fails = subst (CountsOne (reports_of old.history + m)) (goes reply refl) one
 calls_on due old new m (Err Memory) one goes fails = tt
 calls_on (output.Goes q text) old new m (Err (Bad cause)) one goes fails = elim (fails (Bad cause) refl) [ ]

@@ -5,7 +5,7 @@ use Rattle.std.specs.Io.KnownBytes.{Keeps, Appends, Consumes}
 use Rattle.std.proofs.lemmas.List.Elements.{All-append, All-nil}
 use lib.Seq.{take-append_seam}
 use Rattle.wit_trace.specs.Text.{HasNoFeed, IsWholeLines, feeds}
-use Rattle.wit_trace.specs.Stream.{AppendsFront, GoesOn, IsInput, IsLastText, IsSpent, ReadsToEnd, TakesLast, TakesLine, TakesPart, Tells, WritesFront, WritesLines, WritesOutput}
+use Rattle.wit_trace.specs.Stream.{AppendsFront, ReadingGoesOn, IsInput, IsLastText, IsSpent, ReadsToEnd, TakesLast, TakesLine, TakesPart, AppendsAndKeeps, WritesFront, WritesLines, WritesOutput}
 use Rattle.wit_trace.specs.declared.summary.Summary.{Summary}
 use Rattle.wit_trace.proofs.TextLemmas.{feeds-append, feeds-line}
 
@@ -74,7 +74,7 @@ front_of r0 w0 w w' input wrote text more summary is_input is_output p q =
 
 module _ {P : Type 0} {output : P → ℕ → List ℕ → List ℕ → Summary → Type 0} {start at : P} {r0 r w0 w : Option (List ℕ)} {number : ℕ} where
   -- the lines so far, behind which the reading goes on
-  goes_on : (begun kept : List ℕ) → (going : Going output start at r0 r w0 w number begun kept) → GoesOn output start going.lines going.wrote
+  goes_on : (begun kept : List ℕ) → (going : Going output start at r0 r w0 w number begun kept) → ReadingGoesOn output start going.lines going.wrote
   goes_on begun kept going = record { at = at; on = λ more rest summary h. going.same more rest summary (rw going.counted h) }
 
   -- a look took bytes of a line, which goes on
@@ -93,7 +93,7 @@ module _ {P : Type 0} {output : P → ℕ → List ℕ → List ℕ → Summary 
   })
 
   -- more of what was kept is written
-  pub going_told : (w' : Option (List ℕ)) (line kept kept' : List ℕ) → Going output start at r0 r w0 w number line kept → Tells w w' kept kept' → Going output start at r0 r w0 w' number line kept'
+  pub going_told : (w' : Option (List ℕ)) (line kept kept' : List ℕ) → Going output start at r0 r w0 w number line kept → AppendsAndKeeps w w' kept kept' → Going output start at r0 r w0 w' number line kept'
   going_told w' line kept kept' going told = record {
     lines = going.lines;
     wrote = going.wrote;

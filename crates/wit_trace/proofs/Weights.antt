@@ -22,8 +22,8 @@ use Rattle.wit_model.specs.Rules.Numbers.{is_given, with_changed}
 use Rattle.wit_model.specs.Rules.Sizes.{Sizes, sizes_of, are_within_limits}
 use Rattle.wit_model.specs.Rules.State.{Story}
 use Rattle.wit_model.specs.Rules.Step.{answer_of, grown, is_logged}
-use Rattle.wit_model.specs.Trace.Moving.{Moving, Unmoved, Keeping, Moved, Outcome, Goes, Bad, step_line, answered, answered_at, alone, moves, keeps, outcome}
-use Rattle.wit_model.specs.Trace.Moving as moving
+use Rattle.wit_model.specs.Trace.Moving.{Moving, Unmoved, Keeping, Moved, MovingOutcome, Goes, Bad, step_line, answered, answered_at, line_alone, moves, keeps, moving_outcome}
+use Rattle.wit_model.specs.Trace.Moving.{moving_entered, moving_read_as}
 use Rattle.wit_model.specs.Trace.Output.{LineCall, Logs, LogsAt, call_of, calls, empty_prelude}
 use Rattle.wit_model.specs.Trace.Output as output
 use Rattle.wit_model.specs.Trace.Reading.{line_of}
@@ -173,7 +173,7 @@ moved-le h raw t call r = by call
 
 -- ---- a line
 
-abbrev WeighsOne : ℕ → Outcome → Type 0
+abbrev WeighsOne : ℕ → MovingOutcome → Type 0
 WeighsOne w (Goes q lines) = weighed q ≤ w + 1
 WeighsOne w (Bad cause) = Unit {0}
 
@@ -198,7 +198,7 @@ at_weighs s raw m bytes t call file (Ok f) =
     answered_weighs named raw m bytes t (call f) (answer_of named t (call f))
 
 alone_weighs : (raw : List RawLock) (bytes : List ℕ) (o : output.Outcome)
-    → WeighsOne (weight raw) (alone raw bytes o)
+    → WeighsOne (weight raw) (line_alone raw bytes o)
 alone_weighs raw bytes (output.Goes (output.Reading s m) text) = omega arith
 alone_weighs raw bytes (output.Goes p text) = tt
 alone_weighs raw bytes (output.Bad cause) = tt
@@ -221,7 +221,7 @@ header_weighs sizes line true = omega arith
 header_weighs sizes line false = tt
 
 entered_weighs : (m : Moving) (n : ℕ) (bytes : List ℕ) (line : Line)
-    → WeighsOne (weighed m) (moving.entered m n bytes line)
+    → WeighsOne (weighed m) (moving_entered m n bytes line)
 entered_weighs Unmoved n bytes (Header One s t l c) =
     header_weighs (sizes_of s t l c output.log_limit) (spelling (Header Two s t l c)) (are_within_limits (sizes_of s t l c output.log_limit))
 entered_weighs Unmoved n bytes (Header Two s t l c) = tt
@@ -229,17 +229,17 @@ entered_weighs Unmoved n bytes _ = tt
 entered_weighs (Keeping p kept) n bytes line = keeps_weighs kept bytes (output.entered (output.Opening p) n line)
 entered_weighs (Moved s raw m) n bytes line = moves_weighs s raw m bytes (call_of line)
 
-outcome_weighs : (m : Moving) (n : ℕ) (bytes : List ℕ) → WeighsOne (weighed m) (outcome m n bytes)
+outcome_weighs : (m : Moving) (n : ℕ) (bytes : List ℕ) → WeighsOne (weighed m) (moving_outcome m n bytes)
 outcome_weighs m n bytes = go (nat_lt 4096 (length bytes)) (line_of bytes)
   where
     go : (long : Bool) (o : Option Line)
-        → WeighsOne (weighed m) (cond long (Bad why.Long) (moving.read_as m n bytes o))
+        → WeighsOne (weighed m) (cond long (Bad why.Long) (moving_read_as m n bytes o))
     go true o = tt
     go false None = tt
     go false (Some line) = entered_weighs m n bytes line
 
 pub written_weighs : (m new : Moving) (n : ℕ) (bytes text : List ℕ)
-    → Writes (outcome m n bytes) new text
+    → Writes (moving_outcome m n bytes) new text
     → weighed new ≤ weighed m + 1
 written_weighs m new n bytes text w = subst (WeighsOne (weighed m)) w.goes (outcome_weighs m n bytes)
 

@@ -14,16 +14,16 @@ use Rattle.wit_model.specs.Trace.Reading.{line_of}
 use Rattle.wit_model.specs.World.Scenes.{Scene}
 use Rattle.wit_grammar.specs.declared.errors.LineError.{LineError}
 use Rattle.wit_grammar.specs.declared.errors.LineError.TheVariants.{Bad, Memory}
-use Rattle.wit_grammar.specs.Lines.{Refuses}
+use Rattle.wit_grammar.specs.Lines.{RefusesLine}
 use Rattle.wit_trace.specs.LineCalls.{NumbersFile, at_number, file_named}
-use Rattle.wit_trace.specs.Replays.{FailsFor, IsBadFor, Passes, Remarks}
+use Rattle.wit_trace.specs.Replays.{FailsFor, IsBadFor, GoesAsDue, Remarks}
 use Rattle.wit_trace.proofs.CallLemmas.{numbered_history}
 
 -- ---- a line whose call has the number of a file
 
 -- its file gets no number
 pub not_numbered_in : (old new : Scene) (c : output.LineCall) (n : ℕ) (fault : Fault) (r : Result (Vec ℕ) LineError) → NumbersFile old.story (file_named c) (Err fault) new.story → new ≡ record old { story = new.story }
-    → IsErrAnd r (Refuses fault) → Passes (output.calls_in old n c) (output.Stepping old n) (output.Stepping new n) r
+    → IsErrAnd r (RefusesLine fault) → GoesAsDue (output.calls_in old n c) (output.Stepping old n) (output.Stepping new n) r
 not_numbered_in old new c n fault (Ok text) names rest refuses = elim refuses [ ]
 not_numbered_in old new c n fault (Err Memory) names rest refuses = tt
 not_numbered_in old new (output.LogsAt t file call) n fault (Err (Bad cause)) names rest refuses = go names.0
@@ -42,14 +42,14 @@ calls_in_numbered old mid c f names rest n = ap (λ (s : Scene). output.calls_in
 
 -- then what becomes of the call becomes of the line
 pub line_numbered_in : (old mid : Scene) (c made : output.LineCall) (f : FileNo) (n : ℕ) (q : output.Progress) (r : Result (Vec ℕ) LineError) → NumbersFile old.story (file_named c) (Ok f) mid.story → mid ≡ record old { story = mid.story }
-    → made ≡ at_number c f.0 → Passes (output.calls_in mid n made) (output.Stepping mid n) q r → Passes (output.calls_in old n c) (output.Stepping old n) q r
+    → made ≡ at_number c f.0 → GoesAsDue (output.calls_in mid n made) (output.Stepping mid n) q r → GoesAsDue (output.calls_in old n c) (output.Stepping old n) q r
 line_numbered_in old mid c made f n q r names rest is passes =
-    from (output.calls_in old n c) r (subst (λ due. Passes due (output.Stepping mid n) q r) (sym (calls_in_numbered old mid c f names rest n ∙ ap (output.calls_in mid n) (sym is))) passes)
+    from (output.calls_in old n c) r (subst (λ due. GoesAsDue due (output.Stepping mid n) q r) (sym (calls_in_numbered old mid c f names rest n ∙ ap (output.calls_in mid n) (sym is))) passes)
   where
     same : mid.story.history ≡ old.story.history
     same = numbered_history old.story mid.story (file_named c) f names
 
-    from : (due : output.Outcome) (r : Result (Vec ℕ) LineError) → Passes due (output.Stepping mid n) q r → Passes due (output.Stepping old n) q r
+    from : (due : output.Outcome) (r : Result (Vec ℕ) LineError) → GoesAsDue due (output.Stepping mid n) q r → GoesAsDue due (output.Stepping old n) q r
     from due (Ok text) h = h
     from due (Err Memory) h = tt
     from (output.Goes p text) (Err (Bad cause)) h = h
@@ -58,7 +58,7 @@ line_numbered_in old mid c made f n q r names rest is passes =
 -- a failed assertion or a warning is counted where it says something
 pub remark_passes_in : (s : Scene) (call : output.LineCall) (told after : ℕ) (text r : Result (Vec ℕ) LineError) → Remarks s.story (λ n. output.calls s.story n call) text → r ≡ text
     → IfOk text (λ t. after ≡ told + output.said t.items) → OnErr text (after ≡ told)
-    → Passes (output.in_scene s (output.calls s.story told call)) (output.Stepping s told) (output.Stepping s after) r
+    → GoesAsDue (output.in_scene s (output.calls s.story told call)) (output.Stepping s told) (output.Stepping s after) r
 remark_passes_in s call told after (Ok t) r remarks is counts keeps = rw (is, remarks told, counts) (refl, refl)
 remark_passes_in s call told after (Err Memory) r remarks is counts keeps = rw is tt
 remark_passes_in s call told after (Err (Bad cause)) r remarks is counts keeps = rw (is, keeps) (bad (output.calls s.story told call) (remarks told))
@@ -69,5 +69,5 @@ remark_passes_in s call told after (Err (Bad cause)) r remarks is counts keeps =
 
 -- a line makes its call, or its step
 pub world_line : (s : Scene) (m n : ℕ) (bytes : List ℕ) (line : Line) (q : output.Progress) (r : Result (Vec ℕ) LineError) → length bytes ≤ 4096 → line_of bytes ≡ Some line
-    → Passes (output.calls_in s m (output.call_of line)) (output.Stepping s m) q r → Passes (output.outcome (output.Stepping s m) n bytes) (output.Stepping s m) q r
+    → GoesAsDue (output.calls_in s m (output.call_of line)) (output.Stepping s m) q r → GoesAsDue (output.outcome (output.Stepping s m) n bytes) (output.Stepping s m) q r
 world_line s m n bytes line q r short reads passes = rw (le-ltb 4096 (length bytes) short, reads) passes

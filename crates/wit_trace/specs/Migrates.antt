@@ -20,8 +20,8 @@ use Rattle.wit_model.specs.World.Moving as model
 use Rattle.wit_model.specs.World.Moving.{step_before, step_behind, deed_beside, stage_asked}
 use Rattle.wit_model.specs.World.Scenes.{RawLock, is_free, mode_asked, raw_after}
 use Rattle.wit_model.specs.Trace.Moving as moving
-use Rattle.wit_model.specs.Trace.Moving.{Moving, Written, Outcome, with_feeds, moved_text}
-use Rattle.wit_model.specs.Trace.Moving.{kept_lines, moving_from, reached}
+use Rattle.wit_model.specs.Trace.Moving.{Moving, Written, MovingOutcome, with_feeds, moved_text, lines_before}
+use Rattle.wit_model.specs.Trace.Moving.{kept_lines, moving_from, moving_reached}
 use Rattle.wit_model.specs.Trace.Output as output
 use Rattle.wit_model.specs.Trace.Output.{BadLine, LineCall, Logs, LogsAt, total_of}
 use Rattle.wit_model.specs.Trace.Spelling.{spelling}
@@ -53,8 +53,8 @@ moved_to (Keeping prelude kept) = moving.Keeping (prelude_of prelude) (kept_byte
 moved_to (Moved behind) = standing behind
 
 -- how many reports were told so far
-abbrev pub reports_told : Moving → ℕ
-reports_told m = (output.summed (moving.read_to m) None).reports
+abbrev pub moving_reports : Moving → ℕ
+moving_reports m = (output.summed (moving.read_to m) None).reports
 
 -- a lock weighs one, and each share of it one more: so a line adds one at most, and all of them can
 -- be counted
@@ -99,16 +99,16 @@ Migrates = MigratesFrom moving.Unmoved 1
 -- ---- a line
 
 -- the migration goes on, and this is written
-pub record Writes (due : Outcome) (new : Moving) (text : List ℕ) : Type 0 where
+pub record Writes (due : MovingOutcome) (new : Moving) (text : List ℕ) : Type 0 where
   pub lines : List (List ℕ)
   pub goes : due ≡ moving.Goes new lines
   pub written : text ≡ with_feeds lines
 
 -- what became of a line is what should; of want of memory nothing is said
-abbrev pub Enters : Outcome → Moving → Moving → Result (Vec ℕ) LineError → Type 0
-Enters due old new (Ok text) = Writes due new text.items
-Enters due old new (Err Memory) = Unit {0}
-Enters due old new (Err (Bad cause)) =
+abbrev pub MovesAsDue : MovingOutcome → Moving → Moving → Result (Vec ℕ) LineError → Type 0
+MovesAsDue due old new (Ok text) = Writes due new text.items
+MovesAsDue due old new (Err Memory) = Unit {0}
+MovesAsDue due old new (Err (Bad cause)) =
     (due ≡ moving.Bad cause) × (kept_lines new ≡ kept_lines old)
 
 -- the migration ends with this text and this summary
@@ -120,7 +120,7 @@ EndsWith text summary (step.Ends last found) = (last.items ≡ text) × (found �
 pub record GoesOver (m : Moving) (n : ℕ) (line : List ℕ) (new : Moving) (text : List ℕ) : Type 0 where
   pub lines : List (List ℕ)
   pub written : text ≡ with_feeds lines
-  pub on : (next : Moving → Written) → reached m n line next ≡ moving.before lines (next new)
+  pub on : (next : Moving → Written) → moving_reached m n line next ≡ lines_before lines (next new)
 
 -- a list is refused, and this was written before its line
 pub record IsRefusedAt (m : Moving) (n : ℕ) (line text : List ℕ) (bad : BadLine) : Type 0 where
@@ -128,11 +128,11 @@ pub record IsRefusedAt (m : Moving) (n : ℕ) (line text : List ℕ) (bad : BadL
   pub lines : List (List ℕ)
   pub written : text ≡ with_feeds lines
   pub is : (next : Moving → Written)
-      → reached m n line next ≡ record { lines = lines; ending = output.EndsBad (output.Opening prelude) bad }
+      → moving_reached m n line next ≡ record { lines = lines; ending = output.EndsBad (output.Opening prelude) bad }
 
-abbrev pub Reaches : Moving → ℕ → List ℕ → Moving → List ℕ → Option BadLine → Type 0
-Reaches m n line new text None = GoesOver m n line new text
-Reaches m n line new text (Some bad) = IsRefusedAt m n line text bad × (new ≡ moving.Unmoved)
+abbrev pub ReachesLine : Moving → ℕ → List ℕ → Moving → List ℕ → Option BadLine → Type 0
+ReachesLine m n line new text None = GoesOver m n line new text
+ReachesLine m n line new text (Some bad) = IsRefusedAt m n line text bad × (new ≡ moving.Unmoved)
 
 -- ---- the steps beside a call
 

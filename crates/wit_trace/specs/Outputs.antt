@@ -38,4 +38,4 @@ abbrev pub some_output : (view : View) (p : output.Progress) (n : ℕ) (lines : 
 some_output view p n lines tail =
     let c = output.course_from p n lines tail in
     let last = some_last view c.ending in
-    (output.shown view c.text ++ last.0, (summary_of (output.total_of c.ending) last.1.0, record { is_shown = record { last = last.0; parts = refl; ends = last.1.1 }; summed = refl }))
+    (output.shown_by view c.text ++ last.0, (summary_of (output.total_of c.ending) last.1.0, record { is_shown = record { last = last.0; parts = refl; ends = last.1.1 }; summed = refl }))

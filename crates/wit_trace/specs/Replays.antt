@@ -57,8 +57,8 @@ abbrev pub ShowsFrom : View → output.Progress → ℕ → List ℕ → List �
 ShowsFrom view p number input text summary = IsWritten view (output.course_from p number (text_of input).lines (text_of input).tail) text summary
 
 -- what the view shows of a trace
-abbrev pub Shows : View → List ℕ → List ℕ → Summary → Type 0
-Shows view = ShowsFrom view output.Unstarted 1
+abbrev pub ShowsTrace : View → List ℕ → List ℕ → Summary → Type 0
+ShowsTrace view = ShowsFrom view output.Unstarted 1
 
 -- how many reports were told so far
 abbrev pub reports_told : output.Progress → ℕ
@@ -84,13 +84,13 @@ FailsFor due old new Memory = Unit {0}
 FailsFor due old new (Bad cause) = IsBadFor due old new cause
 
 -- what became of a line is what should become of it
-abbrev pub Passes : output.Outcome → output.Progress → output.Progress → Result (Vec ℕ) LineError → Type 0
-Passes due old new (Ok told) = GoesOnWith due new told.items
-Passes due old new (Err e) = FailsFor due old new e
+abbrev pub GoesAsDue : output.Outcome → output.Progress → output.Progress → Result (Vec ℕ) LineError → Type 0
+GoesAsDue due old new (Ok told) = GoesOnWith due new told.items
+GoesAsDue due old new (Err e) = FailsFor due old new e
 
 -- the reply to a line's call leads to what should become of the line, however many failed assertions and warnings were told before
 abbrev pub Calls : (ℕ → output.Outcome) → Story → Story → Result Reply LineError → Type 0
-Calls due old new (Ok reply) = (n : ℕ) → due n ≡ output.Goes (output.Reading new n) (output.told new reply)
+Calls due old new (Ok reply) = (n : ℕ) → due n ≡ output.Goes (output.Reading new n) (output.reply_text new reply)
 Calls due old new (Err e) = (n : ℕ) → FailsFor (due n) (output.Reading old n) (output.Reading new n) e
 
 -- what is told of a line whose call isn't logged: it counts where it says something
@@ -130,6 +130,6 @@ IsVerifierOf p due (Err bad) =
     × (bad ≡ (unwrap_or (with_number p.lines refused.0) 0, why.Fault refused.1))
 
 -- the reading came to where it should stand, or to the refusal of a list, which changes nothing of what is summed up
-abbrev pub Reaches : Result output.Progress output.BadLine → output.Progress → output.Progress → Option (ℕ × Cause) → Type 0
-Reaches due old new None = due ≡ Ok new
-Reaches due old new (Some bad) = (due ≡ Err bad) × KeepsTotal old new
+abbrev pub StandsAsDue : Result output.Progress output.BadLine → output.Progress → output.Progress → Option (ℕ × Cause) → Type 0
+StandsAsDue due old new None = due ≡ Ok new
+StandsAsDue due old new (Some bad) = (due ≡ Err bad) × KeepsTotal old new

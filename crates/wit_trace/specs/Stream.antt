@@ -13,7 +13,7 @@ abbrev pub AppendsFront : Option (List ℕ) → Option (List ℕ) → List ℕ �
 AppendsFront old new bytes = (n : ℕ) × Appends old new (take n bytes)
 
 -- a beginning of the bytes is appended, and the rest is kept
-pub record Tells (old new : Option (List ℕ)) (bytes kept : List ℕ) : Type 0 where
+pub record AppendsAndKeeps (old new : Option (List ℕ)) (bytes kept : List ℕ) : Type 0 where
   pub sent : List ℕ
   pub all : bytes ≡ sent ++ kept
   pub written : Appends old new sent
@@ -28,7 +28,7 @@ abbrev pub OutputFrom : {M : Type 0} → (M → ℕ → List (List ℕ) → List
 OutputFrom allows m number input text summary = allows m number (text_of input).lines (text_of input).tail text summary
 
 -- the reading goes on behind these whole lines, whose texts are this text: whatever comes behind them, what is an output of that from this place on is, behind the text, an output of all
-pub record GoesOn {P : Type 0} (output : P → ℕ → List ℕ → List ℕ → Summary → Type 0) (start : P) (lines text : List ℕ) : Type 0 where
+pub record ReadingGoesOn {P : Type 0} (output : P → ℕ → List ℕ → List ℕ → Summary → Type 0) (start : P) (lines text : List ℕ) : Type 0 where
   pub at : P
   pub on : (more rest : List ℕ) (summary : Summary) → output at (feeds lines + 1) more rest summary → output start 1 (lines ++ more) (text ++ rest) summary
 
@@ -90,7 +90,7 @@ pub record ReadsToEnd {P : Type 0} (output : P → ℕ → List ℕ → List ℕ
   pub told : List ℕ
   pub text : List ℕ
   pub whole : IsWholeLines lines
-  pub goes : GoesOn output start lines told
+  pub goes : ReadingGoesOn output start lines told
   pub one : IsLine last
   pub read : Consumes read_old read_new (lines ++ last)
   pub is_last : IsLastText (IsInput read_old (lines ++ last)) (λ more. output start 1 (lines ++ (last ++ more)) text summary)
@@ -103,7 +103,7 @@ pub record WritesLines {P : Type 0} (output : P → ℕ → List ℕ → List �
   pub text : List ℕ
   pub whole : IsWholeLines lines
   pub plain : HasNoFeed begun
-  pub goes : GoesOn output start lines text
+  pub goes : ReadingGoesOn output start lines text
   pub read : Consumes read_old read_new (lines ++ begun)
   pub written : Appends written_old written_new text
 

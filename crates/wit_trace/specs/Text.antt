@@ -3,21 +3,21 @@ use Rattle.std.specs.Prelude.{◌≡◌, ◌≢◌, ◌⊎◌, ℕ, ◌+◌, ◌
 use Rattle.wit_grammar.specs.declared.parse.TheConstants.{LONGEST}
 
 -- whole lines, without their line feeds, and the unfinished one behind them
-pub record Text : Type 0 where
+pub record LinesAndTail : Type 0 where
   pub lines : List (List ℕ)
   pub tail : List ℕ
 
 -- these lines and this tail
-abbrev pub text : List (List ℕ) → List ℕ → Text
+abbrev pub text : List (List ℕ) → List ℕ → LinesAndTail
 text lines tail = record { lines = lines; tail = tail }
 
 -- the first line gets one more byte at its front
-abbrev pub with_byte : ℕ → List (List ℕ) → List ℕ → Text
+abbrev pub with_byte : ℕ → List (List ℕ) → List ℕ → LinesAndTail
 with_byte b [] tail = text [] (b ∷ tail)
 with_byte b (line ∷ lines) tail = text ((b ∷ line) ∷ lines) tail
 
 -- the bytes, parted behind each line feed
-abbrev pub text_of : List ℕ → Text
+abbrev pub text_of : List ℕ → LinesAndTail
 text_of [] = text [] []
 text_of (b ∷ bytes) = if b == 10 then text ([] ∷ (text_of bytes).lines) (text_of bytes).tail else with_byte b (text_of bytes).lines (text_of bytes).tail
 

@@ -3,11 +3,11 @@
 ghost use Rattle.std.specs.Prelude.{◌≡◌, ◌+◌, ◌-◌, ◌<◌, ◌≤◌, ◌^◌, ℕ, List, length, max};
 ghost use Rattle.std.specs.Prelude.{Err, IfOk, OnErr};
 ghost use Rattle.wit_grammar.specs.declared.parse.TheConstants.{LONGEST};
-ghost use Rattle.wit_model.specs.Trace.Moving.{moving_from, outcome};
+ghost use Rattle.wit_model.specs.Trace.Moving.{moving_from, moving_outcome, moving_entered};
 ghost use Rattle.wit_model.specs.Trace.Moving as moving;
 ghost use Rattle.wit_trace.specs.Machine.{Follows};
-ghost use Rattle.wit_trace.specs.Migrates.{Enters, Migrates, MigratesFrom, Reaches};
-ghost use Rattle.wit_trace.specs.Migrates.{migrated, moved_to, reports_told, some_migration, weighed};
+ghost use Rattle.wit_trace.specs.Migrates.{MovesAsDue, Migrates, MigratesFrom, ReachesLine};
+ghost use Rattle.wit_trace.specs.Migrates.{migrated, moved_to, moving_reports, some_migration, weighed};
 ghost use Rattle.wit_trace.specs.Stream.{ReadsToEnd, WritesFront, WritesLines, WritesOutput};
 
 mod behind;
@@ -91,10 +91,10 @@ impl Migrating {
     // The prelude ends before a line that is none of it: what was kept is written then.
     #[inline(always)]
     fn reach(&mut self, alloc: Global, number: u64, line: &[u8]) -> Result<Reached, AllocError>
-        ensures stands { IfOk result (λ r. Reaches (moved_to self.old) number line.now
+        ensures stands { IfOk result (λ r. ReachesLine (moved_to self.old) number line.now
             (moved_to self.new) r.text.items r.refused) }
         ensures counted { IfOk result (λ r.
-            reports_told (moved_to self.new) ≤ reports_told (moved_to self.old)) }
+            moving_reports (moved_to self.new) ≤ moving_reports (moved_to self.old)) }
         ensures weighed { IfOk result (λ r.
             weighed (moved_to self.new) ≤ weighed (moved_to self.old)) }
     {
@@ -106,10 +106,10 @@ impl Migrating {
 
     // A line in its place.
     fn read(&mut self, alloc: Global, number: u64, bytes: &[u8]) -> Result<Vec<u8>, LineError>
-        requires room { reports_told (moved_to self.old) < 2 ^ 64 - 1 }
+        requires room { moving_reports (moved_to self.old) < 2 ^ 64 - 1 }
         requires few { weighed (moved_to self.old) < 2 ^ 64 - 1 }
         requires short { length bytes.now ≤ LONGEST }
-        ensures { Enters (outcome (moved_to self.old) number bytes.now)
+        ensures { MovesAsDue (moving_outcome (moved_to self.old) number bytes.now)
             (moved_to self.old) (moved_to self.new) result }
     {
         let line = parse_line(alloc, bytes)?;
@@ -123,9 +123,9 @@ impl Migrating {
         line: Line,
         bytes: &[u8],
     ) -> Result<Vec<u8>, LineError>
-        requires room { reports_told (moved_to self.old) < 2 ^ 64 - 1 }
+        requires room { moving_reports (moved_to self.old) < 2 ^ 64 - 1 }
         requires few { weighed (moved_to self.old) < 2 ^ 64 - 1 }
-        ensures { Enters (moving.entered (moved_to self.old) number bytes.now line)
+        ensures { MovesAsDue (moving_entered (moved_to self.old) number bytes.now line)
             (moved_to self.old) (moved_to self.new) result }
     {
         match self {
@@ -140,12 +140,12 @@ impl Migrating {
     // A line of any kind.
     #[inline(never)]
     fn any_line(&mut self, alloc: Global, number: u64, bytes: &[u8]) -> Result<Step, AllocError>
-        requires room { reports_told (moved_to self.old) < number }
+        requires room { moving_reports (moved_to self.old) < number }
         requires few { weighed (moved_to self.old) < number }
         requires short { length bytes.now ≤ LONGEST }
         ensures step { IfOk result (Follows migrated self.old self.new number bytes.now) }
         ensures counted { IfOk result (λ s.
-            reports_told (moved_to self.new) ≤ reports_told (moved_to self.old) + 1) }
+            moving_reports (moved_to self.new) ≤ moving_reports (moved_to self.old) + 1) }
         ensures weighed { IfOk result (λ s.
             weighed (moved_to self.new) ≤ weighed (moved_to self.old) + 1) }
     {
@@ -176,7 +176,7 @@ impl Machine for Migrating {
 
     ghost allows = { λ by. migrated };
 
-    ghost reports = { λ m. max (reports_told (moved_to m)) (weighed (moved_to m)) };
+    ghost reports = { λ m. max (moving_reports (moved_to m)) (weighed (moved_to m)) };
 
     fn line(
         &mut self,

@@ -4,7 +4,7 @@ ghost use Rattle.std.specs.Prelude.{◌≡◌, ◌⊎◌, ◌+◌, ◌<◌, ◌�
 ghost use Rattle.wit_model.specs.Trace.Output.{Unstarted, entered, outcome};
 ghost use Rattle.wit_trace.specs.Machine.{Follows};
 ghost use Rattle.wit_trace.specs.Outputs.{some_output};
-ghost use Rattle.wit_trace.specs.Replays.{allowed, progress, progress_of, reports_told, Passes, Shows, ShowsFrom};
+ghost use Rattle.wit_trace.specs.Replays.{allowed, progress, progress_of, reports_told, GoesAsDue, ShowsTrace, ShowsFrom};
 ghost use Rattle.wit_trace.specs.Stream.{IsSpent, ReadsToEnd, WritesFront, WritesLines, WritesOutput};
 ghost use Rattle.wit_grammar.specs.declared.parse.TheConstants.{LONGEST};
 
@@ -55,9 +55,9 @@ pub fn replay<R: BufRead, W: Write>(
     output: &mut W,
     view: View,
 ) -> Result<Summary, ReplayError>
-    ensures ok { IfOk result (WritesOutput (Shows view)
+    ensures ok { IfOk result (WritesOutput (ShowsTrace view)
         (R.remaining input.old) (W.contents output.old) (W.contents output.new)) }
-    ensures err { OnErr result (WritesFront (Shows view)
+    ensures err { OnErr result (WritesFront (ShowsTrace view)
         (R.remaining input.old) (W.contents output.old) (W.contents output.new)) }
     ensures taken { IfOk result (ReadsToEnd (ShowsFrom view) Unstarted
         (R.remaining input.old) (R.remaining input.new) (W.contents output.old) (W.contents output.new)) }
@@ -80,9 +80,9 @@ pub fn replay_through<R: BufRead, W: Write, P: Ports<R, W>>(
     view: View,
 ) -> Result<Summary, ReplayError>
     requires { P.looks ports.old ≡ 0 }
-    ensures ok { IfOk result (WritesOutput (Shows view)
+    ensures ok { IfOk result (WritesOutput (ShowsTrace view)
         (R.remaining input.old) (W.contents output.old) (W.contents output.new)) }
-    ensures err { OnErr result (WritesFront (Shows view)
+    ensures err { OnErr result (WritesFront (ShowsTrace view)
         (R.remaining input.old) (W.contents output.old) (W.contents output.new)) }
     ensures taken { IfOk result (ReadsToEnd (ShowsFrom view) Unstarted
         (R.remaining input.old) (R.remaining input.new) (W.contents output.old) (W.contents output.new)) }
@@ -175,7 +175,7 @@ impl Progress {
     fn read(&mut self, alloc: Global, number: u64, bytes: &[u8]) -> Result<Vec<u8>, LineError>
         requires room { reports_told (progress_of self.old) < number }
         requires short { length bytes.now ≤ LONGEST }
-        ensures { Passes (outcome (progress_of self.old) number bytes.now)
+        ensures { GoesAsDue (outcome (progress_of self.old) number bytes.now)
             (progress_of self.old) (progress_of self.new) result }
     {
         let line = parse_line(alloc, bytes)?;
@@ -184,7 +184,7 @@ impl Progress {
 
     fn enter(&mut self, alloc: Global, number: u64, line: Line) -> Result<Vec<u8>, LineError>
         requires { reports_told (progress_of self.old) < number }
-        ensures { Passes (entered (progress_of self.old) number line)
+        ensures { GoesAsDue (entered (progress_of self.old) number line)
             (progress_of self.old) (progress_of self.new) result }
     {
         match self {
@@ -198,7 +198,7 @@ impl Progress {
     // The header comes first.
     fn start(&mut self, alloc: Global, line: Line) -> Result<Vec<u8>, LineError>
         requires { progress_of self.old ≡ Unstarted }
-        ensures { (number : ℕ) → Passes (entered Unstarted number line) Unstarted (progress_of self.new) result }
+        ensures { (number : ℕ) → GoesAsDue (entered Unstarted number line) Unstarted (progress_of self.new) result }
     {
         let Line::Header {
             version,

@@ -1,7 +1,7 @@
 //! A stream of lines through a machine.
 
 ghost use Rattle.std.specs.Prelude.{◌≡◌, ◌≢◌, ◌⊎◌, ◌++◌, [], IsTrue, IfOk, OnOk, OnErr};
-ghost use Rattle.wit_trace.specs.Stream.{AppendsFront, IsSpent, OutputFrom, ReadsToEnd, Tells, WritesFront, WritesLines, WritesOutput};
+ghost use Rattle.wit_trace.specs.Stream.{AppendsFront, IsSpent, OutputFrom, ReadsToEnd, AppendsAndKeeps, WritesFront, WritesLines, WritesOutput};
 
 mod lines;
 pub mod machine;
@@ -100,7 +100,7 @@ fn tell<R: BufRead, W: Write, P: Ports<R, W>>(
     told: &mut Vec<u8>,
     text: &[u8],
 ) -> Result<(), ReplayError>
-    ensures ok { OnOk result (Tells (W.contents writer.old) (W.contents writer.new)
+    ensures ok { OnOk result (AppendsAndKeeps (W.contents writer.old) (W.contents writer.new)
         (told.old.items ++ text.now) told.new.items) }
     ensures err { OnErr result (AppendsFront (W.contents writer.old) (W.contents writer.new)
         (told.old.items ++ text.now)) }
@@ -125,7 +125,7 @@ fn tell_all<R: BufRead, W: Write, P: Ports<R, W>>(
     writer: &mut W,
     told: &mut Vec<u8>,
 ) -> Result<(), ReplayError>
-    ensures ok { OnOk result (Tells (W.contents writer.old) (W.contents writer.new) told.old.items []) }
+    ensures ok { OnOk result (AppendsAndKeeps (W.contents writer.old) (W.contents writer.new) told.old.items []) }
     ensures none { OnOk result (told.new.items ≡ []) }
     ensures err { OnErr result (AppendsFront (W.contents writer.old) (W.contents writer.new) told.old.items) }
     ensures counted { P.looks ports.new ≡ P.looks ports.old }

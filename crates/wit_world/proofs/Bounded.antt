@@ -13,7 +13,7 @@ use Rattle.wit_model.specs.Rules.State.{Start, state_of}
 use Rattle.wit_model.specs.Rules.Step.{held_by, is_exhausted, answer_of, story_after}
 use Rattle.std.specs.Prelude.{is_some}
 use Rattle.wit_model.specs.World.Deeds.{Deed, Logged, PassedOver, Take, TryTake, Free, RawUp, RawDown, thread_of, own, log_of, are_these, shares}
-use Rattle.wit_model.specs.World.Stages.{Stage, Over, Asked, Taken, Tried, Forgot, Raised, Lowered, stage_called, stage_passed, stage, is_over, call_follows, follows}
+use Rattle.wit_model.specs.World.Stages.{Stage, Over, Asked, Taken, Tried, Forgot, Raised, Lowered, stage_called, stage_passed, stage, is_over, call_follows, deed_follows}
 use Rattle.wit_model.specs.World.Steps.{IsWorld}
 use Rattle.wit_model.specs.World.Scenes.{Scene, shares_of}
 use Rattle.wit_model.proofs.Histories.Accepted.{try_accepted}
@@ -99,7 +99,7 @@ passed-bound l at held n k was call not may = at-end l at n k was may
 
 -- ---- steps of a lock
 
-taking : (l : ℕ) (at : Stage) (held : ℕ → Bool) (n k : ℕ) → Bound l at n k → (t m : ℕ) (mode : Mode) → follows (Take t m mode) held at ≡ true → n < k
+taking : (l : ℕ) (at : Stage) (held : ℕ → Bool) (n k : ℕ) → Bound l at n k → (t m : ℕ) (mode : Mode) → deed_follows (Take t m mode) held at ≡ true → n < k
 taking l (Asked q) held n k was t m mode may = was
 taking l at held n k was t m mode may = absurd (false≢true may)
 
@@ -116,14 +116,14 @@ freed-other : (b : Bool) (n k : ℕ) → n ≤ k → cond b (n - 1) n ≤ k
 freed-other true n k was = omega (arith, was)
 freed-other false n k was = was
 
-freeing : (l : ℕ) (at : Stage) (held : ℕ → Bool) (n k : ℕ) → Bound l at n k → (t m : ℕ) → follows (Free t m) held at ≡ true → cond (eqb m l) (n - 1) n ≤ k
+freeing : (l : ℕ) (at : Stage) (held : ℕ → Bool) (n k : ℕ) → Bound l at n k → (t m : ℕ) → deed_follows (Free t m) held at ≡ true → cond (eqb m l) (n - 1) n ≤ k
 freeing l (Tried x mode) held n k was t m may =
     let same : x ≡ m = eqb-true x m may in
     freed-tried (eqb m l) n k (subst (λ y. n ≤ k + one (eqb y l)) same was)
 freeing l (Forgot x may_keep) held n k was t m may = freed-other (eqb m l) n k was
 freeing l at held n k was t m may = absurd (false≢true may)
 
-lowering : (l : ℕ) (at : Stage) (held : ℕ → Bool) (n k : ℕ) → Bound l at n k → (t m : ℕ) → follows (RawDown t m) held at ≡ true → n ≤ k
+lowering : (l : ℕ) (at : Stage) (held : ℕ → Bool) (n k : ℕ) → Bound l at n k → (t m : ℕ) → deed_follows (RawDown t m) held at ≡ true → n ≤ k
 lowering l (Raised x) held n k was t m may = was
 lowering l (Lowered x passed) held n k was t m may = was
 lowering l at held n k was t m may = absurd (false≢true may)

@@ -11,7 +11,7 @@ use Rattle.wit_model.proofs.Numbered.{with_number-none}
 use Rattle.wit_model.proofs.World.Circled.{circle-through, waits-world}
 use Rattle.wit_model.proofs.World.Exclusion.{has_seat}
 use Rattle.wit_core.specs.Searching as search
-use Rattle.wit_core.specs.Searching.{all_waiting, rows_of, Says, IsTable}
+use Rattle.wit_core.specs.Searching.{all_waiting, table_of, Says, IsTable}
 use Rattle.wit_core.proofs.Reaching.{rows-many}
 use Rattle.wit_core.proofs.Waits.{count-rows, is_table, says-is, says_true}
 use Rattle.wit_world.specs.Kept.{IsKept}
@@ -37,22 +37,22 @@ module _ (s : Scene) (k : IsKept s) where
       let x = waits-world s.story.start s.story.files k.deeds s k.shown t u is in
       (asks-within t x.request (k.shown.stages t ∙ x.asks), number u (has_seat s.story.start s.story.files k.deeds k.world u x.request.lock.0 x.taken))
 
-  module _ (rows : List (Vec Bool)) (is : rows_of rows ≡ all_waiting (waits_in s) s.story.start.sizes.seats) where
-    pub rows_table : IsTable (rows_of rows)
+  module _ (rows : List (Vec Bool)) (is : table_of rows ≡ all_waiting (waits_in s) s.story.start.sizes.seats) where
+    pub rows_table : IsTable (table_of rows)
     rows_table = subst IsTable (sym is) (is_table (waits_in s) s.story.start.sizes.seats)
 
     pub rows-count : length rows ≡ s.story.start.sizes.seats
     rows-count = sym (rows-many rows) ∙ ap length is ∙ count-rows (waits_in s) s.story.start.sizes.seats
 
-    from : (t u : ℕ) → Says (rows_of rows) t u → WaitsIn s t u
+    from : (t u : ℕ) → Says (table_of rows) t u → WaitsIn s t u
     from t u says = says_true (waits_in s) s.story.start.sizes.seats t u (subst (λ table. Says table t u) is says)
 
-    into : (t u : ℕ) → WaitsIn s t u → Says (rows_of rows) t u
+    into : (t u : ℕ) → WaitsIn s t u → Says (table_of rows) t u
     into t u waits =
         let within = waits-seats t u waits in
         subst (λ table. Says table t u) (sym is) (says-is (waits_in s) s.story.start.sizes.seats t u within.0 within.1 ∙ waits)
 
     -- what the table tells is told of the scene
-    pub told_of_scene : (o : Option (List ℕ)) → search.TellsCircleIn (rows_of rows) o → TellsCircleIn s o
+    pub told_of_scene : (o : Option (List ℕ)) → search.TellsCircleBy (table_of rows) o → TellsCircleIn s o
     told_of_scene (Some seats) told = (circle-through from seats told.0, told.1)
     told_of_scene None none = λ seats circle. none seats (circle-through into seats circle)

@@ -6,15 +6,15 @@ use Rattle.std.proofs.lemmas.List.Quantifiers.{position-Some}
 use Rattle.std.proofs.lemmas.List.Sums.{prefix_len_passes}
 use Rattle.wit_model.specs.World.Scenes.{RawLock, shares_among, is_only, one_more, one_fewer}
 use Rattle.wit_world.specs.declared.shares.Holder.{Holder}
-use Rattle.wit_world.specs.Holders.{had, all_had, is_of}
+use Rattle.wit_world.specs.Holders.{had, all_had, is_holder}
 
 -- ---- t stands first at place i
 
 abbrev pub StandsAt : ℕ → List Holder → ℕ → Holder → Type 0
-StandsAt t xs i d = (i < length xs) × (is_of t (get_or xs i d) ≡ true) × ((k : ℕ) → k < i → is_of t (get_or xs k d) ≡ false)
+StandsAt t xs i d = (i < length xs) × (is_holder t (get_or xs i d) ≡ true) × ((k : ℕ) → k < i → is_holder t (get_or xs k d) ≡ false)
 
-pub stands : (t : ℕ) (xs : List Holder) (i : ℕ) (d : Holder) → position (is_of t) xs ≡ Some i → StandsAt t xs i d
-stands t xs i d is = position-Some (is_of t) xs i d is
+pub stands : (t : ℕ) (xs : List Holder) (i : ℕ) (d : Holder) → position (is_holder t) xs ≡ Some i → StandsAt t xs i d
+stands t xs i d is = position-Some (is_holder t) xs i d is
 
 pub shares-at : (t : ℕ) (xs : List Holder) (i : ℕ) (d : Holder) → StandsAt t xs i d → shares_among t (all_had xs) ≡ (get_or xs i d).count
 shares-at t [] i d at = absurd (omega (arith, at.0))
@@ -58,16 +58,16 @@ gone-at t (x ∷ xs) (suc i) d at last =
 -- ---- t stands nowhere
 
 abbrev pub IsAbsent : ℕ → List Holder → Holder → Type 0
-IsAbsent t xs d = (k : ℕ) → k < length xs → is_of t (get_or xs k d) ≡ false
+IsAbsent t xs d = (k : ℕ) → k < length xs → is_holder t (get_or xs k d) ≡ false
 
-pub absent : (t : ℕ) (xs : List Holder) (d : Holder) → position (is_of t) xs ≡ None → IsAbsent t xs d
+pub absent : (t : ℕ) (xs : List Holder) (d : Holder) → position (is_holder t) xs ≡ None → IsAbsent t xs d
 absent t xs d none = λ k lt.
-    let past = go (nat_lt (position_or_len (is_of t) xs) (length xs)) refl none in
-    not-true (is_of t (get_or xs k d)) (prefix_len_passes (λ x. not (is_of t x)) xs k d (omega (arith, past, lt)))
+    let past = go (nat_lt (position_or_len (is_holder t) xs) (length xs)) refl none in
+    not-true (is_holder t (get_or xs k d)) (prefix_len_passes (λ x. not (is_holder t x)) xs k d (omega (arith, past, lt)))
   where
-    go : (b : Bool) → nat_lt (position_or_len (is_of t) xs) (length xs) ≡ b → cond b (Some (position_or_len (is_of t) xs)) None ≡ None → length xs ≤ position_or_len (is_of t) xs
+    go : (b : Bool) → nat_lt (position_or_len (is_holder t) xs) (length xs) ≡ b → cond b (Some (position_or_len (is_holder t) xs)) None ≡ None → length xs ≤ position_or_len (is_holder t) xs
     go true is some = absurd (cc)
-    go false is some = ltb-false (position_or_len (is_of t) xs) (length xs) is
+    go false is some = ltb-false (position_or_len (is_holder t) xs) (length xs) is
 
 pub shares-absent : (t : ℕ) (xs : List Holder) (d : Holder) → IsAbsent t xs d → shares_among t (all_had xs) ≡ 0
 shares-absent t [] d none = refl
@@ -89,11 +89,11 @@ fewer-absent t (x ∷ xs) d none =
 
 -- ---- t has the only share
 
-all-had : (t : ℕ) (xs : List Holder) → list_all (λ (x : ℕ × ℕ). eqb x.0 t) (all_had xs) ≡ list_all (is_of t) xs
+all-had : (t : ℕ) (xs : List Holder) → list_all (λ (x : ℕ × ℕ). eqb x.0 t) (all_had xs) ≡ list_all (is_holder t) xs
 all-had t [] = refl
 all-had t (x ∷ xs) = ap (λ b. eqb x.seat.0 t && b) (all-had t xs)
 
-pub only-had : (t : ℕ) (k : RawLock) (xs : List Holder) (b : Bool) → b ≡ list_all (is_of t) xs → all_had xs ≡ k.holders → shares_among t k.holders ≡ 1 → b ≡ is_only t k
+pub only-had : (t : ℕ) (k : RawLock) (xs : List Holder) (b : Bool) → b ≡ list_all (is_holder t) xs → all_had xs ≡ k.holders → shares_among t k.holders ≡ 1 → b ≡ is_only t k
 only-had t k xs b is same one =
     is ∙ sym (all-had t xs) ∙ ap (λ ys. list_all (λ (x : ℕ × ℕ). eqb x.0 t) ys) same
     ∙ sym (ap (λ n. eqb n 1 && list_all (λ (x : ℕ × ℕ). eqb x.0 t) k.holders) one)

@@ -14,7 +14,7 @@ use Rattle.wit_model.specs.declared.raw_steps.RawStep.TheVariants as raw_step
 use Rattle.wit_model.specs.Rules.History.{is_held}
 use Rattle.wit_model.specs.Rules.State.{state_of, is_seat}
 use Rattle.wit_model.specs.World.Deeds.{Deed, Take, Free, RawDown}
-use Rattle.wit_model.specs.World.Stages.{Stage, Over, Asked, Taken, Tried, Forgot, Raised, Lowered, is_over, is_same_mode, call_follows, follows}
+use Rattle.wit_model.specs.World.Stages.{Stage, Over, Asked, Taken, Tried, Forgot, Raised, Lowered, is_over, is_same_mode, call_follows, deed_follows}
 use Rattle.wit_model.specs.World.Scenes.{Scene, stage_at, mode_asked, deed_of, is_known, is_way_back, may_come, is_free, shares_of, stepped, step_raw, may_call}
 use Rattle.wit_model.specs.Rules.Step.{answer_of}
 use Rattle.wit_world.specs.Stages.{is_forgotten, is_lowered}
@@ -137,7 +137,7 @@ module _ (s : Scene) (t l : ℕ) where
   pub may-take : (lock : LockNo) → lock.0 ≡ l → may_come s (deed_of (stage_at s t) t l raw_step.Take) ≡ (call_follows (GiveUp lock) (λ _. true) (stage_at s t) && not (is_held t l s.story.history))
   may-take lock is = subst (λ m. may_come s (deed_of (stage_at s t) t m raw_step.Take) ≡ (call_follows (GiveUp lock) (λ _. true) (stage_at s t) && not (is_held t m s.story.history))) is (go (stage_at s t))
     where
-      go : (at : Stage) → (follows (Take t lock.0 (mode_asked at)) (λ m. is_held t m s.story.history) at && (not (is_way_back (Take t lock.0 (mode_asked at)) at) && true))
+      go : (at : Stage) → (deed_follows (Take t lock.0 (mode_asked at)) (λ m. is_held t m s.story.history) at && (not (is_way_back (Take t lock.0 (mode_asked at)) at) && true))
           ≡ (call_follows (GiveUp lock) (λ _. true) at && not (is_held t lock.0 s.story.history))
       go (Asked q) =
           and-true (eqb q.lock.0 lock.0 && (is_same_mode q.mode q.mode && not (is_held t lock.0 s.story.history)))
@@ -158,7 +158,7 @@ module _ (s : Scene) (t l : ℕ) where
   pub may-free : may_come s (deed_of (stage_at s t) t l raw_step.Free) ≡ (is_forgotten l (stage_at s t) && nat_lt 0 (shares_of s.raw t l))
   may-free = go (stage_at s t)
     where
-      go : (at : Stage) → (follows (Free t l) (λ m. is_held t m s.story.history) at && (not (is_way_back (Free t l) at) && nat_lt 0 (shares_of s.raw t l)))
+      go : (at : Stage) → (deed_follows (Free t l) (λ m. is_held t m s.story.history) at && (not (is_way_back (Free t l) at) && nat_lt 0 (shares_of s.raw t l)))
           ≡ (is_forgotten l at && nat_lt 0 (shares_of s.raw t l))
       go (Tried m mode) = and-false (eqb m l)
       go (Forgot m may_keep) = refl
@@ -171,7 +171,7 @@ module _ (s : Scene) (t l : ℕ) where
   pub may-down : may_come s (deed_of (stage_at s t) t l raw_step.Down) ≡ is_lowered l (stage_at s t)
   may-down = go (stage_at s t)
     where
-      go : (at : Stage) → (follows (RawDown t l) (λ m. is_held t m s.story.history) at && (not (is_way_back (RawDown t l) at) && true)) ≡ is_lowered l at
+      go : (at : Stage) → (deed_follows (RawDown t l) (λ m. is_held t m s.story.history) at && (not (is_way_back (RawDown t l) at) && true)) ≡ is_lowered l at
       go (Raised m) = and-false (eqb m l)
       go (Lowered m passed) = and-true (eqb m l)
       go Over = refl

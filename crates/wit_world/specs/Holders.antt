@@ -9,5 +9,5 @@ had h = (h.seat.0, h.count)
 abbrev pub all_had : List Holder → List (ℕ × ℕ)
 all_had hs = map had hs
 
-abbrev pub is_of : ℕ → Holder → Bool
-is_of t h = h.seat.0 == t
+abbrev pub is_holder : ℕ → Holder → Bool
+is_holder t h = h.seat.0 == t

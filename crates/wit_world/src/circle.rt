@@ -5,7 +5,7 @@ ghost use Rattle.wit_model.specs.declared.faults.Fault.TheVariants.{OutOfMemory}
 ghost use Rattle.wit_model.specs.Rules.Circles.{circle_numbers};
 ghost use Rattle.wit_model.specs.Rules.Numbers.{IsNumber};
 ghost use Rattle.wit_model.specs.World.Shown.{waits_in, TellsCircleIn};
-ghost use Rattle.wit_core.specs.Searching.{waiting, all_waiting, rows_of};
+ghost use Rattle.wit_core.specs.Searching.{waiting, all_waiting, table_of};
 
 use crate::stages::Stage;
 use crate::world::World;
@@ -32,7 +32,7 @@ impl World {
 
     // For each seat, which seats wait for it.
     fn all_waiting(&self) -> Result<Vec<Vec<bool>>, AllocError>
-        ensures { IfOk result (λ rows. rows_of rows.items ≡ all_waiting (waits_in self.now) self.now.story.start.sizes.seats) }
+        ensures { IfOk result (λ rows. table_of rows.items ≡ all_waiting (waits_in self.now) self.now.story.start.sizes.seats) }
     {
         let mut rows = Vec::new(self.alloc);
         for place in 0..self.verifier.seats() {

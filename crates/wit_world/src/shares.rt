@@ -3,7 +3,7 @@
 ghost use Rattle.std.specs.Prelude.{◌≡◌, ◌<◌, ◌^◌, ◌-◌, OnOk, OnErr};
 ghost use Rattle.std.specs.List.{list_all, position};
 ghost use Rattle.wit_model.specs.World.Scenes.{nobodys, shares_among, is_admitted, is_only, one_more, one_fewer};
-ghost use Rattle.wit_world.specs.Holders.{all_had, is_of};
+ghost use Rattle.wit_world.specs.Holders.{all_had, is_holder};
 
 use std::alloc::{AllocError, Global};
 use std::marker::Model;
@@ -142,14 +142,14 @@ fn remove_one(holders: &mut Vec<Holder>, seat: SeatNo)
 
 // Whether all of these are of a seat.
 fn are_all(holders: &[Holder], seat: SeatNo) -> bool
-    ensures { result ≡ list_all (is_of seat.0) holders.now }
+    ensures { result ≡ list_all (is_holder seat.0) holders.now }
 {
     holders.iter().all(|holder| holder.seat.0 == seat.0)
 }
 
 // Where a seat stands among the holders.
 fn place_of(holders: &[Holder], seat: SeatNo) -> Option<usize>
-    ensures { result ≡ position (is_of seat.0) holders.now }
+    ensures { result ≡ position (is_holder seat.0) holders.now }
 {
     holders.iter().position(|holder| holder.seat.0 == seat.0)
 }

@@ -3,7 +3,7 @@
 ghost use Rattle.std.specs.Prelude.{◌≡◌, ◌≢◌, ◌⊎◌, Ok, Err, IfOk, OnErr, None, Some};
 ghost use Rattle.std.specs.Io.KnownBytes.{Keeps};
 ghost use Rattle.wit_trace.specs.Migrates.{Migrates};
-ghost use Rattle.wit_trace.specs.Replays.{Shows};
+ghost use Rattle.wit_trace.specs.Replays.{ShowsTrace};
 ghost use Rattle.wit_trace.specs.Stream.{WritesOutput};
 ghost use Rattle.wit_command.specs.CommandLine.{asked, bytes_of};
 ghost use Rattle.wit_trace.specs.declared.summary.ReplayError.TheVariants as ReplayError;
@@ -97,7 +97,7 @@ fn replay_through_buffer<R: Read + Drop, W: Write>(
     input: R,
     output: &mut W,
 ) -> Result<Summary, ReplayError>
-    ensures ok { IfOk result (WritesOutput (Shows view)
+    ensures ok { IfOk result (WritesOutput (ShowsTrace view)
         (R.remaining input) (W.contents output.old) (W.contents output.new)) }
     ensures err { OnErr result (IsCutShort view
         (R.remaining input) (W.contents output.old) (W.contents output.new)) }

@@ -15,7 +15,7 @@ use Rattle.wit_model.specs.Rules.Types.{is_spin}
 use Rattle.wit_model.specs.Rules.Locks.{lock_at}
 use Rattle.wit_model.specs.Rules.History.{is_off}
 use Rattle.wit_model.specs.Rules.State.{Story, state_of, seat_at}
-use Rattle.wit_model.specs.Rules.Step.{answer_of, is_logged, held_by, recorded}
+use Rattle.wit_model.specs.Rules.Step.{answer_of, is_logged, held_by, recorded_reply}
 use Rattle.wit_model.specs.Rules.Verdict.{is_of}
 use Rattle.wit_model.proofs.Chains.Owed.{owed-note, owed-unnoted, owed-try, owed-same}
 use Rattle.wit_model.proofs.Chains.Depth.{note-count, try-count}
@@ -61,7 +61,7 @@ given-then Unrecorded t n spin i seating given = given
 module _ {v : Inside} {s : Story} (this : IsSeenAs v s) where
   module _ (t : ℕ) (l : LockNo) (spin : Bool) (kind : spin ≡ is_spin (lock_at (state_of s).known.locks l.0).made.class) where
     -- its reply is the rules'
-    pub reply-told : (a : Acquisition) → a ≡ acquisition v.watch v.seats t spin l.0 → reply_to a ≡ recorded (state_of s) t l.0
+    pub reply-told : (a : Acquisition) → a ≡ acquisition v.watch v.seats t spin l.0 → reply_to a ≡ recorded_reply (state_of s) t l.0
     reply-told a is = ap reply_to is ∙ acquisition-told this t l.0 spin kind
 
     -- the lock stands once, and its count can rise

@@ -10,7 +10,7 @@ use Rattle.wit_model.specs.Rules.State.{Start, State}
 use Rattle.wit_model.specs.Rules.Step.{answer_of, story_after, IsLegal}
 use Rattle.wit_model.proofs.Histories.NamedFiles.{answer-named, legal-named}
 use Rattle.wit_core.specs.declared.verifier.Verifier.TheInside.{Inside}
-use Rattle.wit_core.specs.Plans.{call_of}
+use Rattle.wit_core.specs.Plans.{planned_call}
 use Rattle.wit_core.specs.declared.ready.Ready.{Ready}
 use Rattle.wit_core.specs.Kept.{IsReady, IsTied, start_in, history_in, story_in}
 use Rattle.wit_core.specs.Known.{Facts}
@@ -44,9 +44,9 @@ ready_named : (v : Inside) (name : List ℕ) (o : Option Ready) → IfSome o (Is
 ready_named v name None h = tt
 ready_named v name (Some r) h = record { answer = go (is_known_file name v.known.files); kept = h.kept; logged = h.logged; log = h.log; known = h.known }
   where
-    go : (b : Bool) → answer_of (story_after (start_in v) (cond b v.known.files (v.known.files ++ name ∷ [])) (history_in v)) r.seat.0 (call_of r.plan) ≡ Ok r.reply
+    go : (b : Bool) → answer_of (story_after (start_in v) (cond b v.known.files (v.known.files ++ name ∷ [])) (history_in v)) r.seat.0 (planned_call r.plan) ≡ Ok r.reply
     go true = h.answer
-    go false = answer-named (start_in v) v.known.files name (history_in v) r.seat.0 (call_of r.plan) r.reply h.answer
+    go false = answer-named (start_in v) v.known.files name (history_in v) r.seat.0 (planned_call r.plan) r.reply h.answer
 
 -- naming a file keeps the invariant
 pub kept_file : (v : Inside) (name : List ℕ) (r : Result FileNo Fault) (new : Facts) → IsTied v

@@ -7,7 +7,7 @@ ghost use Rattle.wit_model.specs.Rules.Preparing.{IsPrepared, Prepares};
 ghost use Rattle.wit_model.specs.Rules.Refusals.{IsRefusal};
 ghost use Rattle.wit_model.specs.Rules.State.{state_of, seat_at, is_seat, is_live};
 ghost use Rattle.wit_model.specs.Rules.Step.{AnswersOrFails, IsEntered, answer_of, is_logged, logged};
-ghost use Rattle.wit_model.specs.Rules.Verdict.{asked_of, verdict};
+ghost use Rattle.wit_model.specs.Rules.Verdict.{typed_request, verdict};
 ghost use Rattle.wit_core.specs.Verdict.{orders_taught, answer_by};
 
 use crate::known::{flags_of_lock, type_of_lock};
@@ -16,8 +16,8 @@ use crate::verifier::Verifier;
 use std::alloc::AllocError;
 use wit_check::{Chains, Verdict, new_orders, verdict};
 use wit_model::{
-    Asked, Boxed, Call, Entry, Fault, LockNo, Mode, NewOrders, OpFlags, Reply, Request, SeatNo,
-    Site,
+    Boxed, Call, Entry, Fault, LockNo, Mode, NewOrders, OpFlags, Reply, Request, SeatNo, Site,
+    TypedRequest,
 };
 
 impl Verifier {
@@ -111,7 +111,7 @@ impl Verifier {
             known.orders().matrix(),
             chains,
             self.watch,
-            self.asked(request),
+            self.typed_request(request),
             self.profile,
         )
     }
@@ -133,16 +133,16 @@ impl Verifier {
             known.names(),
             known.orders().matrix(),
             chains,
-            self.asked(request),
+            self.typed_request(request),
         )
     }
 
     // A request, with what is known of its lock.
-    fn asked(&self, request: Request) -> Asked
-        ensures { result ≡ asked_of (state_of self.now).known request }
+    fn typed_request(&self, request: Request) -> TypedRequest
+        ensures { result ≡ typed_request (state_of self.now).known request }
     {
         let locks = self.known.locks();
-        Asked {
+        TypedRequest {
             lock: request.lock,
             type_no: type_of_lock(locks, request.lock),
             flags: flags_of_lock(locks, request.lock),

@@ -3,7 +3,7 @@
 ghost use Rattle.std.specs.Prelude.{◌≡◌, Some, Ok};
 ghost use Rattle.wit_model.specs.declared.calls.Call.TheVariants.{Note};
 ghost use Rattle.wit_model.specs.Rules.State.{state_of, seat_at};
-ghost use Rattle.wit_model.specs.Rules.Step.{Answers, answer_of, logged, recorded};
+ghost use Rattle.wit_model.specs.Rules.Step.{Answers, answer_of, logged, recorded_reply};
 ghost use Rattle.wit_core.specs.Acquiring.{reply_to};
 
 use crate::acquiring::{Acquisition, acquire};
@@ -25,9 +25,9 @@ impl Verifier {
     }
 
     fn enter_note(&mut self, seat: SeatNo, lock: LockNo, request: Request) -> Acquisition
-        requires accepted { answer_of self.old seat.0 (Note lock) ≡ Ok (recorded (state_of self.old) seat.0 lock.0) }
+        requires accepted { answer_of self.old seat.0 (Note lock) ≡ Ok (recorded_reply (state_of self.old) seat.0 lock.0) }
         requires request { (seat_at (state_of self.old) seat.0).pending ≡ Some request }
-        ensures result { reply_to result ≡ recorded (state_of self.old) seat.0 lock.0 }
+        ensures result { reply_to result ≡ recorded_reply (state_of self.old) seat.0 lock.0 }
         ensures entered { self.new ≡ logged self.old seat.0 (Note lock) (reply_to result) }
     {
         let spin = self.class_of_lock(lock).is_spin();

@@ -3,7 +3,7 @@
 ghost use Rattle.std.specs.Prelude.{◌≡◌, Ok, Err, IfOk, IfErr, OnOk, OnErr};
 ghost use Rattle.wit_model.specs.declared.calls.Call.TheVariants.{NoteTry};
 ghost use Rattle.wit_model.specs.Rules.State.{state_of};
-ghost use Rattle.wit_model.specs.Rules.Step.{AnswersOrFails, answer_of, logged, recorded};
+ghost use Rattle.wit_model.specs.Rules.Step.{AnswersOrFails, answer_of, logged, recorded_reply};
 ghost use Rattle.wit_core.specs.Acquiring.{reply_to};
 
 use crate::acquiring::{Acquisition, acquire};
@@ -35,7 +35,7 @@ impl Verifier {
     }
 
     fn answer_try(&self, seat: SeatNo, lock: LockNo, mode: Mode, site: Site) -> Result<(), Fault>
-        ensures ok { OnOk result (answer_of self.now seat.0 (NoteTry lock mode site) ≡ Ok (recorded (state_of self.now) seat.0 lock.0)) }
+        ensures ok { OnOk result (answer_of self.now seat.0 (NoteTry lock mode site) ≡ Ok (recorded_reply (state_of self.now) seat.0 lock.0)) }
         ensures err { IfErr result (λ e. answer_of self.now seat.0 (NoteTry lock mode site) ≡ Err e) }
     {
         self.before_acquiring(seat, lock, mode, site)?;
@@ -52,8 +52,8 @@ impl Verifier {
         mode: Mode,
         site: Site,
     ) -> Result<Acquisition, AllocError>
-        requires { answer_of self.old seat.0 (NoteTry lock mode site) ≡ Ok (recorded (state_of self.old) seat.0 lock.0) }
-        ensures result { IfOk result (λ a. reply_to a ≡ recorded (state_of self.old) seat.0 lock.0) }
+        requires { answer_of self.old seat.0 (NoteTry lock mode site) ≡ Ok (recorded_reply (state_of self.old) seat.0 lock.0) }
+        ensures result { IfOk result (λ a. reply_to a ≡ recorded_reply (state_of self.old) seat.0 lock.0) }
         ensures entered { IfOk result (λ a. self.new ≡ logged self.old seat.0 (NoteTry lock mode site) (reply_to a)) }
         ensures err { OnErr result (self.new ≡ self.old) }
     {

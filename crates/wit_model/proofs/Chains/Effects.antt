@@ -4,7 +4,7 @@ use Rattle.std.proofs.lemmas.Bool.{eq-eqb, ne_eqb}
 use Rattle.std.proofs.lemmas.Bool.Decides.{eqb_tells}
 use Rattle.std.proofs.lemmas.List.Elements.{filter-append}
 use Rattle.wit_model.specs.declared.calls.Entry.{Entry}
-use Rattle.wit_model.specs.Rules.History.{Act, Nothing, Records, Releases, Turns, Marks, act_by, num, is_held, place, held_at, held_among, held}
+use Rattle.wit_model.specs.Rules.History.{Act, Nothing, Records, Releases, Turns, Marks, act_by, num, is_held, place, recorded_at, held_among, held}
 use Rattle.wit_model.proofs.Chains.Sane.{IsFit, IsSane, fit_by}
 use Rattle.wit_model.proofs.Chains.Acts.{num-step}
 use Rattle.wit_model.proofs.Chains.HeldLocks.{subject, held-from, held-apart, place-stays, place-new, place-below, rises-new}
@@ -13,11 +13,11 @@ abbrev pub is_not : ℕ → ℕ → Bool
 is_not m l = not (eqb l m)
 
 -- a place at or past the end of the history is no lock's
-held_at-late : (t : ℕ) (h : List Entry) (a : Act) (i : ℕ) → length h ≤ i → held_at t h a i ≡ []
+held_at-late : (t : ℕ) (h : List Entry) (a : Act) (i : ℕ) → length h ≤ i → recorded_at t h a i ≡ []
 held_at-late t h Nothing i late = refl
 held_at-late t h (Records l) i late = go (is_held t l h) refl
   where
-    go : (b : Bool) → is_held t l h ≡ b → held_at t h (Records l) i ≡ []
+    go : (b : Bool) → is_held t l h ≡ b → recorded_at t h (Records l) i ≡ []
     go true is = let lt = place-below t l h is in rw (is, ne_eqb (place t l h) i (λ (e : place t l h ≡ i). let no : ⊥ = omega arith in no)) refl
     go false is = rw is refl
 held_at-late t h (Releases l) i late = refl
@@ -34,7 +34,7 @@ same-place t l x h same = place-stays t l x h (rw same (alone (is_held t l h)))
     alone true = refl
     alone false = refl
 
-held_at-same : (t : ℕ) (x : Entry) (h : List Entry) (a : Act) (i : ℕ) → is_held t (subject a) (x ∷ h) ≡ is_held t (subject a) h → held_at t (x ∷ h) a i ≡ held_at t h a i
+held_at-same : (t : ℕ) (x : Entry) (h : List Entry) (a : Act) (i : ℕ) → is_held t (subject a) (x ∷ h) ≡ is_held t (subject a) h → recorded_at t (x ∷ h) a i ≡ recorded_at t h a i
 held_at-same t x h Nothing i same = refl
 held_at-same t x h (Records l) i same = rw (same-place t l x h same, same) refl
 held_at-same t x h (Releases l) i same = refl
@@ -58,18 +58,18 @@ abbrev OthersStay : ℕ → ℕ → Entry → List Entry → Type 0
 OthersStay t m x h = (l : ℕ) → eqb m l ≡ false → is_held t l (x ∷ h) ≡ is_held t l h
 
 held_at-new : (t m : ℕ) (x : Entry) (h : List Entry) → OthersStay t m x h → is_held t m h ≡ false → is_held t m (x ∷ h) ≡ true
-    → (a : Act) (i : ℕ) → i < length h → held_at t (x ∷ h) a i ≡ held_at t h a i
+    → (a : Act) (i : ℕ) → i < length h → recorded_at t (x ∷ h) a i ≡ recorded_at t h a i
 held_at-new t m x h others was is Nothing i lt = refl
 held_at-new t m x h others was is (Records l) i lt =
     elim (eqb_tells m l) [
-      | inl e ↦ subst (λ k. held_at t (x ∷ h) (Records k) i ≡ held_at t h (Records k) i) e.1 same
+      | inl e ↦ subst (λ k. recorded_at t (x ∷ h) (Records k) i ≡ recorded_at t h (Records k) i) e.1 same
       | inr e ↦ held_at-same t x h (Records l) i (others l e.0)
     ]
   where
     late : place t m (x ∷ h) ≡ length h
     late = place-new t m x h (rises-new t m x h was is)
 
-    same : held_at t (x ∷ h) (Records m) i ≡ held_at t h (Records m) i
+    same : recorded_at t (x ∷ h) (Records m) i ≡ recorded_at t h (Records m) i
     same = rw (was, is, late, ne_eqb (length h) i (λ (e : length h ≡ i). let no : ⊥ = omega arith in no)) refl
 held_at-new t m x h others was is (Releases l) i lt = refl
 held_at-new t m x h others was is (Turns l new) i lt = refl
@@ -85,16 +85,16 @@ held-new : (t m : ℕ) (x : Entry) (h : List Entry) → act_by t x ≡ Records m
     → held t (x ∷ h) ≡ held t h ++ m ∷ []
 held-new t m x h acts others was is =
     ap₂ (λ a b. a ++ b) (among-new t m x h others was is h (omega arith))
-    (ap (λ a. held_at t (x ∷ h) a (length h)) acts
+    (ap (λ a. recorded_at t (x ∷ h) a (length h)) acts
     ∙ rw (is, place-new t m x h (rises-new t m x h was is), eq-eqb (length h) (length h) refl) refl)
 
 -- one lock is gone
 held_at-gone : (t m : ℕ) (x : Entry) (h : List Entry) → OthersStay t m x h → is_held t m (x ∷ h) ≡ false
-    → (a : Act) (i : ℕ) → held_at t (x ∷ h) a i ≡ filter (is_not m) (held_at t h a i)
+    → (a : Act) (i : ℕ) → recorded_at t (x ∷ h) a i ≡ filter (is_not m) (recorded_at t h a i)
 held_at-gone t m x h others is Nothing i = refl
 held_at-gone t m x h others is (Records l) i =
     elim (eqb_tells m l) [
-      | inl e ↦ subst (λ k. held_at t (x ∷ h) (Records k) i ≡ filter (is_not m) (held_at t h (Records k) i)) e.1 none
+      | inl e ↦ subst (λ k. recorded_at t (x ∷ h) (Records k) i ≡ filter (is_not m) (recorded_at t h (Records k) i)) e.1 none
       | inr e ↦ held_at-same t x h (Records l) i (others l e.0) ∙ sym (kept (is_held t l h && eqb (place t l h) i) l (λ (f : l ≡ m). e.1 (sym f)))
     ]
   where
@@ -102,7 +102,7 @@ held_at-gone t m x h others is (Records l) i =
     dropped true = rw (eq-eqb m m refl) refl
     dropped false = refl
 
-    none : held_at t (x ∷ h) (Records m) i ≡ filter (is_not m) (held_at t h (Records m) i)
+    none : recorded_at t (x ∷ h) (Records m) i ≡ filter (is_not m) (recorded_at t h (Records m) i)
     none = rw is (dropped (is_held t m h && eqb (place t m h) i))
 
     kept : (b : Bool) (k : ℕ) → (k ≡ m → ⊥) → filter (is_not m) (cond b (k ∷ []) []) ≡ cond b (k ∷ []) []
@@ -117,12 +117,12 @@ among-gone : (t m : ℕ) (x : Entry) (h : List Entry) → OthersStay t m x h →
 among-gone t m x h others is [] = refl
 among-gone t m x h others is (e ∷ past) =
     ap₂ (λ a b. a ++ b) (among-gone t m x h others is past) (held_at-gone t m x h others is (act_by t e) (length past))
-    ∙ sym (filter-append (is_not m) (held_among t h past) (held_at t h (act_by t e) (length past)))
+    ∙ sym (filter-append (is_not m) (held_among t h past) (recorded_at t h (act_by t e) (length past)))
 
 held-gone : (t m : ℕ) (x : Entry) (h : List Entry) → act_by t x ≡ Releases m → OthersStay t m x h → is_held t m (x ∷ h) ≡ false
     → held t (x ∷ h) ≡ filter (is_not m) (held t h)
 held-gone t m x h acts others is =
-    ap₂ (λ a b. a ++ b) (among-gone t m x h others is h) (ap (λ a. held_at t (x ∷ h) a (length h)) acts)
+    ap₂ (λ a b. a ++ b) (among-gone t m x h others is h) (ap (λ a. recorded_at t (x ∷ h) a (length h)) acts)
     ∙ append-nil (filter (is_not m) (held t h))
 
 -- what an entry does to the locks that a seat holds

@@ -19,11 +19,11 @@ use Rattle.wit_model.specs.Rules.Groups.{group_has_room, joined, opens, is_fille
 use Rattle.wit_model.specs.Rules.SeatGroups.{seat_groups}
 use Rattle.wit_model.specs.Rules.Verdict.{is_of}
 use Rattle.wit_model.specs.Rules.State.{Start, Story, State, Seat, state_of, seat_of, seats_of, is_seat, chunks_of, free}
-use Rattle.wit_model.specs.Rules.Step.{held_by, groups_for, recorded, step, answer_of, story_after, IsLegal}
+use Rattle.wit_model.specs.Rules.Step.{held_by, groups_for, recorded_reply, step, answer_of, story_after, IsLegal}
 use Rattle.wit_model.proofs.Chains.Sane.{IsSane}
 use Rattle.wit_model.proofs.Chains.Effects.{is_not}
 use Rattle.wit_model.proofs.Chains.Regrouping.{filter-shorter, seat_groups-nil}
-use Rattle.wit_model.proofs.Chains.GroupSteps.{entered, withdrawn, groups_after}
+use Rattle.wit_model.proofs.Chains.GroupSteps.{groups_entered, withdrawn, groups_after}
 use Rattle.wit_model.proofs.Chains.Seats.{sum-step}
 use Rattle.wit_model.proofs.Histories.Accepted.{recorded_room, note_accepted, try_accepted}
 use Rattle.wit_model.proofs.Histories.Legal.{seat-within, one_chain, one_groups, chain_for-state, groups_for-state, sane_legal, seat_accepted, plain-unrecorded}
@@ -47,10 +47,10 @@ module _ {X : Type 0} where
   length-left stays gs = omega (arith, length-tidied (map (filter stays) gs), length-map gs (filter stays))
 
 -- the chunks that an acquisition takes, by what is found of the lock and the groups of its kind
-abbrev pub opened : Option Instance → List (List ℕ) → ℕ
-opened o gs = cond (is_some o) 0 (cond (opens gs) 1 0)
+abbrev pub chunks_opened : Option Instance → List (List ℕ) → ℕ
+chunks_opened o gs = cond (is_some o) 0 (cond (opens gs) 1 0)
 
-length-entered : (l : ℕ) (gs : List (List ℕ)) (o : Option Instance) → length (entered l gs o) ≡ length gs + opened o gs
+length-entered : (l : ℕ) (gs : List (List ℕ)) (o : Option Instance) → length (groups_entered l gs o) ≡ length gs + chunks_opened o gs
 length-entered l gs None = length-joined l gs
 length-entered l gs (Some i) = omega arith
 
@@ -64,8 +64,8 @@ length-withdrawn l gs (Some i) = go (nat_lt 0 i.count)
 
 -- of the two parts of a seat, that of the lock's kind changes
 both_entered : (b : Bool) (l : ℕ) (c d : List Instance) (gs hs : List (List ℕ))
-    → length (cond (not b) (entered l gs (find (is_of l) c)) gs) + length (cond b (entered l hs (find (is_of l) d)) hs)
-    ≡ length gs + length hs + opened (find (is_of l) (cond b d c)) (cond b hs gs)
+    → length (cond (not b) (groups_entered l gs (find (is_of l) c)) gs) + length (cond b (groups_entered l hs (find (is_of l) d)) hs)
+    ≡ length gs + length hs + chunks_opened (find (is_of l) (cond b d c)) (cond b hs gs)
 both_entered true l c d gs hs = omega (arith, length-entered l hs (find (is_of l) d))
 both_entered false l c d gs hs = omega (arith, length-entered l gs (find (is_of l) c))
 
@@ -90,11 +90,11 @@ module _ (n : ℕ) (x : Entry) (h : List Entry) (sane : IsSane (x ∷ h)) (some 
 
   -- an acquisition takes a chunk where its lock is new and opens a group
   pub chunks-recorded : (l : ℕ) → act x.call x.reply ≡ Records l
-      → chunks_to n (x ∷ h) ≡ chunks_to n h + opened (find (is_of l) (chain (is_spin_lock (locks_of h) l) x.seat.0 h)) (seat_groups (is_spin_lock (locks_of h) l) x.seat.0 h)
+      → chunks_to n (x ∷ h) ≡ chunks_to n h + chunks_opened (find (is_of l) (chain (is_spin_lock (locks_of h) l) x.seat.0 h)) (seat_groups (is_spin_lock (locks_of h) l) x.seat.0 h)
   chunks-recorded l acts =
       let e = chunks-step (Records l) acts in
       let f = both_entered (is_spin_lock (locks_of h) l) l (chain false x.seat.0 h) (chain true x.seat.0 h) (seat_groups false x.seat.0 h) (seat_groups true x.seat.0 h) in
-      let g = ap₂ (λ c gs. opened (find (is_of l) c) gs) (one_chain (is_spin_lock (locks_of h) l) x.seat.0 h) (one_groups (is_spin_lock (locks_of h) l) x.seat.0 h) in
+      let g = ap₂ (λ c gs. chunks_opened (find (is_of l) c) gs) (one_chain (is_spin_lock (locks_of h) l) x.seat.0 h) (one_groups (is_spin_lock (locks_of h) l) x.seat.0 h) in
       omega (arith, e, f, g)
 
   -- a release takes none
@@ -112,11 +112,11 @@ unlock_records k m Unlocked l e = (cc)
 unlock_records k m r l e = nothing_records l e
 
 -- an acquisition that is recorded was accepted as such
-records-recorded : (s : State) (t : ℕ) (c : Call) (r : Reply) (l : ℕ) → step s t c ≡ Ok r → act c r ≡ Records l → recorded s t l ≡ Recorded
+records-recorded : (s : State) (t : ℕ) (c : Call) (r : Reply) (l : ℕ) → step s t c ≡ Ok r → act c r ≡ Records l → recorded_reply s t l ≡ Recorded
 records-recorded s t (Note k) Recorded l ok acts =
-    subst (λ j. recorded s t j ≡ Recorded) (let same : k.0 ≡ l = cc in same) (sym (note_accepted s t k.0 Recorded ok).reply)
+    subst (λ j. recorded_reply s t j ≡ Recorded) (let same : k.0 ≡ l = cc in same) (sym (note_accepted s t k.0 Recorded ok).reply)
 records-recorded s t (NoteTry k m site) Recorded l ok acts =
-    subst (λ j. recorded s t j ≡ Recorded) (let same : k.0 ≡ l = cc in same) (sym (try_accepted s t k.0 m site Recorded ok).reply)
+    subst (λ j. recorded_reply s t j ≡ Recorded) (let same : k.0 ≡ l = cc in same) (sym (try_accepted s t k.0 m site Recorded ok).reply)
 records-recorded s t (Unlock k m) r l ok acts = absurd (unlock_records k m r l acts)
 records-recorded s t (Upgrade k) r l ok acts = absurd (plain-unrecorded (Upgrade k) r l refl acts)
 records-recorded s t (Downgrade k) r l ok acts = absurd (plain-unrecorded (Downgrade k) r l refl acts)
@@ -144,7 +144,7 @@ module _ (start : Start) (files : List (List ℕ)) (h : List Entry) (x : Entry) 
       let s = state_of (story_after start files h) in
       let within = seat-within start files h x.seat.0 known in
       let e = chunks-recorded start.sizes.seats x h sane within.0 within.1 l acts in
-      let f = ap₂ (λ c gs. opened (find (is_of l) c) gs) (chain_for-state start files h x.seat.0 l known) (groups_for-state start files h x.seat.0 l known) in
+      let f = ap₂ (λ c gs. chunks_opened (find (is_of l) c) gs) (chain_for-state start files h x.seat.0 l known) (groups_for-state start files h x.seat.0 l known) in
       let room = room_by (is_some (held_by s x.seat.0 l)) (opens (groups_for s x.seat.0 l)) (eqb (free s) 0) (chunks_to start.sizes.seats h) start.sizes.chunks
       (recorded_room s x.seat.0 l (records-recorded s x.seat.0 x.call x.reply l ok acts))
       (λ more. let some = eqb-false (free s) 0 more in omega (arith, some, few)) few in

@@ -17,9 +17,9 @@ use Rattle.wit_model.proofs.Chains.Found.{if_some, found}
 use Rattle.wit_model.proofs.Chains.Regrouping.{seat_groups-cons}
 
 -- the groups after a lock of their kind was acquired, by what is found of the lock in the chain
-abbrev pub entered : ℕ → List (List ℕ) → Option Instance → List (List ℕ)
-entered l gs None = joined l gs
-entered l gs (Some i) = gs
+abbrev pub groups_entered : ℕ → List (List ℕ) → Option Instance → List (List ℕ)
+groups_entered l gs None = joined l gs
+groups_entered l gs (Some i) = gs
 
 -- the groups after a lock of their kind was released
 abbrev pub withdrawn : ℕ → List (List ℕ) → Option Instance → List (List ℕ)
@@ -28,7 +28,7 @@ withdrawn l gs (Some i) = cond (nat_lt 0 i.count) gs (left (is_not l) gs)
 
 -- the groups of one kind after an act, beside the chain before it
 abbrev pub groups_after : Bool → List NewLock → Act → List Instance → List (List ℕ) → List (List ℕ)
-groups_after k ls (Records l) c gs = cond (is_of_kind k ls l) (entered l gs (find (is_of l) c)) gs
+groups_after k ls (Records l) c gs = cond (is_of_kind k ls l) (groups_entered l gs (find (is_of l) c)) gs
 groups_after k ls (Releases l) c gs = cond (is_of_kind k ls l) (withdrawn l gs (find (is_of l) c)) gs
 groups_after k ls _ c gs = gs
 
@@ -46,7 +46,7 @@ module _ (k : Bool) (t l : ℕ) (x : Entry) (h : List Entry) (sane : IsSane (x �
 
   -- a lock joins them where it wasn't held
   groups-recorded : (gs : List (List ℕ)) → act_by t x ≡ Records l
-      → cond (is_of_kind k (locks_of h) l && rises t l x h) (joined l gs) gs ≡ cond (is_of_kind k (locks_of h) l) (entered l gs (find (is_of l) (chain k t h))) gs
+      → cond (is_of_kind k (locks_of h) l && rises t l x h) (joined l gs) gs ≡ cond (is_of_kind k (locks_of h) l) (groups_entered l gs (find (is_of l) (chain k t h))) gs
   groups-recorded gs acts = go (is_of_kind k (locks_of h) l) refl
     where
       now : is_held t l (x ∷ h) ≡ true
@@ -54,13 +54,13 @@ module _ (k : Bool) (t l : ℕ) (x : Entry) (h : List Entry) (sane : IsSane (x �
           let more : num t l (x ∷ h) ≡ num t l h + 1 = num-step t l x h (Records l) acts sane.1 ∙ rw (eq-eqb l l refl) refl in
           held-from t l (x ∷ h) (omega (arith, more))
 
-      by : is_of_kind k (locks_of h) l ≡ true → (b : Bool) → is_held t l h ≡ b → cond (rises t l x h) (joined l gs) gs ≡ entered l gs (find (is_of l) (chain k t h))
+      by : is_of_kind k (locks_of h) l ≡ true → (b : Bool) → is_held t l h ≡ b → cond (rises t l x h) (joined l gs) gs ≡ groups_entered l gs (find (is_of l) (chain k t h))
       by kind true was =
-          ap (λ b. cond b (joined l gs) gs) (rises-held t l x h was) ∙ sym (ap (entered l gs) (found_as true kind was))
+          ap (λ b. cond b (joined l gs) gs) (rises-held t l x h was) ∙ sym (ap (groups_entered l gs) (found_as true kind was))
       by kind false was =
-          ap (λ b. cond b (joined l gs) gs) (rises-new t l x h was now) ∙ sym (ap (entered l gs) (found_as false kind was))
+          ap (λ b. cond b (joined l gs) gs) (rises-new t l x h was now) ∙ sym (ap (groups_entered l gs) (found_as false kind was))
 
-      go : (b : Bool) → is_of_kind k (locks_of h) l ≡ b → cond (b && rises t l x h) (joined l gs) gs ≡ cond b (entered l gs (find (is_of l) (chain k t h))) gs
+      go : (b : Bool) → is_of_kind k (locks_of h) l ≡ b → cond (b && rises t l x h) (joined l gs) gs ≡ cond b (groups_entered l gs (find (is_of l) (chain k t h))) gs
       go true kind = by kind (is_held t l h) refl
       go false kind = refl
 

@@ -9,7 +9,7 @@ use Rattle.wit_model.specs.declared.calls.NewLock.{NewLock}
 use Rattle.wit_model.specs.declared.calls.Entry.{Entry}
 use Rattle.wit_model.specs.Rules.Locks.{made, locks_of, no_lock, is_spin_lock, is_of_kind}
 use Rattle.wit_model.specs.Rules.Types.{is_spin}
-use Rattle.wit_model.specs.Rules.History.{Act, Nothing, Records, Releases, Turns, Marks, act_by, is_held, place, held_at, held_among, held, held_of}
+use Rattle.wit_model.specs.Rules.History.{Act, Nothing, Records, Releases, Turns, Marks, act_by, is_held, place, recorded_at, held_among, held, held_of}
 use Rattle.wit_model.specs.Rules.Numbers.{IsGiven}
 use Rattle.wit_model.proofs.Chains.Sane.{IsFit, IsSane, fit_by}
 use Rattle.wit_model.proofs.Chains.Acts.{num-nil}
@@ -18,7 +18,7 @@ use Rattle.wit_model.proofs.Chains.Effects.{is_not, Effect, Same, New, Gone, eff
 use Rattle.wit_model.proofs.Numbered.{with_number-stays}
 use Rattle.wit_model.proofs.Lists.{times, times-nil, times-cons, times-append, times-filter, filter-where, list_all-filtered}
 
-held_at-all : (t : ℕ) (h : List Entry) (a : Act) (i : ℕ) → list_all (λ l. is_held t l h) (held_at t h a i) ≡ true
+held_at-all : (t : ℕ) (h : List Entry) (a : Act) (i : ℕ) → list_all (λ l. is_held t l h) (recorded_at t h a i) ≡ true
 held_at-all t h Nothing i = refl
 held_at-all t h (Records l) i = go (is_held t l h) refl
   where
@@ -26,7 +26,7 @@ held_at-all t h (Records l) i = go (is_held t l h) refl
     pick true is = rw is refl
     pick false is = refl
 
-    go : (b : Bool) → is_held t l h ≡ b → list_all (λ m. is_held t m h) (held_at t h (Records l) i) ≡ true
+    go : (b : Bool) → is_held t l h ≡ b → list_all (λ m. is_held t m h) (recorded_at t h (Records l) i) ≡ true
     go true is = subst (λ c. list_all (λ m. is_held t m h) (cond (c && eqb (place t l h) i) (l ∷ []) []) ≡ true) (sym is) (pick (eqb (place t l h) i) is)
     go false is = subst (λ c. list_all (λ m. is_held t m h) (cond (c && eqb (place t l h) i) (l ∷ []) []) ≡ true) (sym is) refl
 held_at-all t h (Releases l) i = refl
@@ -36,8 +36,8 @@ held_at-all t h (Marks l new) i = refl
 among-all : (t : ℕ) (h past : List Entry) → list_all (λ l. is_held t l h) (held_among t h past) ≡ true
 among-all t h [] = refl
 among-all t h (e ∷ past) =
-    list_all-append (λ l. is_held t l h) (held_among t h past) (held_at t h (act_by t e) (length past))
-    ∙ and_from (list_all (λ l. is_held t l h) (held_among t h past)) (list_all (λ l. is_held t l h) (held_at t h (act_by t e) (length past)))
+    list_all-append (λ l. is_held t l h) (held_among t h past) (recorded_at t h (act_by t e) (length past))
+    ∙ and_from (list_all (λ l. is_held t l h) (held_among t h past)) (list_all (λ l. is_held t l h) (recorded_at t h (act_by t e) (length past)))
     (among-all t h past) (held_at-all t h (act_by t e) (length past))
 
 -- they are held

@@ -23,7 +23,7 @@ use Rattle.wit_model.specs.Rules.State.{Seat, seat_of, seats_of, no_seat}
 use Rattle.wit_model.proofs.Chains.Sane.{IsSane}
 use Rattle.wit_model.proofs.Chains.Changes.{at}
 use Rattle.wit_model.proofs.Chains.After.{noted, unlocked, part_after, chain-step}
-use Rattle.wit_model.proofs.Chains.GroupSteps.{entered, withdrawn, groups_after, groups-step}
+use Rattle.wit_model.proofs.Chains.GroupSteps.{groups_entered, withdrawn, groups_after, groups-step}
 
 -- a seat after an entry of its own, where these are the locks
 abbrev pub seat_after : List NewLock → Entry → Seat → Seat
@@ -135,8 +135,8 @@ abbrev pub acquired : List NewLock → ℕ → Mode → Site → Option Request 
 acquired ls l m site p s = record {
   sleep = cond (not (is_spin_lock ls l)) (noted l m site s.sleep (find (is_of l) s.sleep)) s.sleep;
   spin = cond (is_spin_lock ls l) (noted l m site s.spin (find (is_of l) s.spin)) s.spin;
-  sleep_groups = cond (not (is_spin_lock ls l)) (entered l s.sleep_groups (find (is_of l) s.sleep)) s.sleep_groups;
-  spin_groups = cond (is_spin_lock ls l) (entered l s.spin_groups (find (is_of l) s.spin)) s.spin_groups;
+  sleep_groups = cond (not (is_spin_lock ls l)) (groups_entered l s.sleep_groups (find (is_of l) s.sleep)) s.sleep_groups;
+  spin_groups = cond (is_spin_lock ls l) (groups_entered l s.spin_groups (find (is_of l) s.spin)) s.spin_groups;
   pending = p;
 }
 

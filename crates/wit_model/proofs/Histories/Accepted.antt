@@ -17,7 +17,7 @@ use Rattle.wit_model.specs.Rules.Types.{type_name_of, is_enrolled, is_otherwise}
 use Rattle.wit_model.specs.Rules.Locks.{lock_at, is_destroyed}
 use Rattle.wit_model.specs.Rules.State.{State, seat_at, is_seat, is_live, has_room}
 use Rattle.wit_model.specs.Rules.Verdict.{is_exclusive, verdict}
-use Rattle.wit_model.specs.Rules.Step.{held_by, is_pending, is_for, is_good_name, is_shareable, is_too_deep, with_room, is_exhausted, recorded, released, let_go, step_init, step_check, step_note, step_note_try, step_give_up, step_unlock, step_set_watch, is_logged}
+use Rattle.wit_model.specs.Rules.Step.{held_by, is_pending, is_for, is_good_name, is_shareable, is_too_deep, with_room, is_exhausted, recorded_reply, released, let_go, step_init, step_check, step_note, step_note_try, step_give_up, step_unlock, step_set_watch, is_logged}
 use Rattle.wit_model.specs.Rules.Numbers.{is_given, is_number}
 use Rattle.wit_model.specs.Rules.Destroying.{is_used, step_destroy}
 
@@ -87,10 +87,10 @@ recorded_by false true none is = (refl, λ no. absurd (false≢true (sym no)))
 recorded_by false false true is = (cc)
 recorded_by false false false is = (refl, λ no. refl)
 
-pub recorded_on : (s : State) (t l : ℕ) → recorded s t l ≡ Recorded → is_off s.watch ≡ false
+pub recorded_on : (s : State) (t l : ℕ) → recorded_reply s t l ≡ Recorded → is_off s.watch ≡ false
 recorded_on s t l is = (recorded_by (is_off s.watch) (is_some (held_by s t l)) (is_exhausted s t l) is).0
 
-pub recorded_room : (s : State) (t l : ℕ) → recorded s t l ≡ Recorded → is_some (held_by s t l) ≡ false → is_exhausted s t l ≡ false
+pub recorded_room : (s : State) (t l : ℕ) → recorded_reply s t l ≡ Recorded → is_some (held_by s t l) ≡ false → is_exhausted s t l ≡ false
 recorded_room s t l is new = (recorded_by (is_off s.watch) (is_some (held_by s t l)) (is_exhausted s t l) is).1 new
 
 pub record NoteAccepted (s : State) (t l : ℕ) (r : Reply) : Type 0 where
@@ -98,7 +98,7 @@ pub record NoteAccepted (s : State) (t l : ℕ) (r : Reply) : Type 0 where
   pub lock : is_given s.known.locks l ≡ true
   pub live : is_live s l ≡ true
   pub asked : is_for l (seat_at s t).pending ≡ true
-  pub reply : r ≡ recorded s t l
+  pub reply : r ≡ recorded_reply s t l
 
 pub note_accepted : (s : State) (t l : ℕ) (r : Reply) → step_note s t l ≡ Ok r → NoteAccepted s t l r
 note_accepted s t l r ok =
@@ -116,7 +116,7 @@ pub record TryAccepted (s : State) (t l : ℕ) (m : Mode) (site : Site) (r : Rep
   pub idle : is_pending s t ≡ false
   pub shallow : is_too_deep s t l ≡ false
   pub room : has_room s 2 ≡ true
-  pub reply : r ≡ recorded s t l
+  pub reply : r ≡ recorded_reply s t l
 
 pub try_accepted : (s : State) (t l : ℕ) (m : Mode) (site : Site) (r : Reply) → step_note_try s t l m site ≡ Ok r → TryAccepted s t l m site r
 try_accepted s t l m site r ok =
@@ -126,7 +126,7 @@ try_accepted s t l m site r ok =
     let d = passed (not (is_exclusive m) && not (is_shareable (lock_at s.known.locks l).made.class)) _ _ r c.1 in
     let e = passed (is_pending s t) _ _ r d.1 in
     let f = passed (is_too_deep s t l) _ _ r e.1 in
-    let g = roomy s 2 (Ok (recorded s t l)) r f.1 in
+    let g = roomy s 2 (Ok (recorded_reply s t l)) r f.1 in
     record { seat = a.0; lock = live-given s l b.0; live = b.0; file = c.0; mode = d.0; idle = e.0; shallow = f.0; room = g.1; reply = sym (same_reply g.0) }
 
 pub record GiveUpAccepted (s : State) (t l : ℕ) (r : Reply) : Type 0 where

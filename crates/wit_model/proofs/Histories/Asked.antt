@@ -14,7 +14,7 @@ use Rattle.wit_model.specs.declared.calls.Entry.{Entry}
 use Rattle.wit_model.specs.Rules.Locks.{made_among, destroyed_of, is_destroyed}
 use Rattle.wit_model.specs.Rules.History.{pending, pending_after, is_held}
 use Rattle.wit_model.specs.Rules.State.{Start, Story, state_of, seat_of, seats_of, seat_at, is_seat, types_of, typed_locks, is_live}
-use Rattle.wit_model.specs.Rules.Step.{is_for, recorded, answer_of, story_after, logged, IsLegal}
+use Rattle.wit_model.specs.Rules.Step.{is_for, recorded_reply, answer_of, story_after, logged, IsLegal}
 use Rattle.wit_model.specs.Rules.Numbers.{is_given}
 use Rattle.wit_model.proofs.Chains.Seats.{entry}
 use Rattle.wit_model.proofs.Orders.TypedLocks.{length-typed, made-known, known-made}
@@ -94,8 +94,8 @@ module _ (start : Start) (files : List (List ℕ)) (h : List Entry) (t : ℕ) (q
       (is_for q.lock.0 (seat_at (state_of (story_after start files h)) t).pending) r
       asking-seat live (ap (λ o. is_for q.lock.0 o) (pending-state start files h t asking-seat ∙ is) ∙ eq-eqb q.lock.0 q.lock.0 refl)
 
-  note_good : answer_of (story_after start files h) t (Note q.lock) ≡ Ok (recorded (state_of (story_after start files h)) t q.lock.0)
-  note_good = wanted (recorded (state_of (story_after start files h)) t q.lock.0)
+  note_good : answer_of (story_after start files h) t (Note q.lock) ≡ Ok (recorded_reply (state_of (story_after start files h)) t q.lock.0)
+  note_good = wanted (recorded_reply (state_of (story_after start files h)) t q.lock.0)
 
   give_up_good : answer_of (story_after start files h) t (GiveUp q.lock) ≡ Ok Done
   give_up_good = wanted Done
@@ -122,7 +122,7 @@ module _ (start : Start) (files : List (List ℕ)) (h : List Entry) (t : ℕ) (q
   asked-live = and_from (is_given (typed_locks start h) q.lock.0) (not (is_destroyed (destroyed_of h) q.lock.0)) asked-made (ap not asked-undestroyed)
 
   -- its note is accepted
-  pub note_pending : answer_of (story_after start files h) t (Note q.lock) ≡ Ok (recorded (state_of (story_after start files h)) t q.lock.0)
+  pub note_pending : answer_of (story_after start files h) t (Note q.lock) ≡ Ok (recorded_reply (state_of (story_after start files h)) t q.lock.0)
   note_pending = note_good start files h t q asked-good is asked-live
 
   -- and so is its being given up
@@ -131,7 +131,7 @@ module _ (start : Start) (files : List (List ℕ)) (h : List Entry) (t : ℕ) (q
 
 -- and at once after its check
 pub note_checked : (s : Story) (t : ℕ) (q : Request) (r : Reply) → IsLegal s.start s.files s.history → answer_of s t (Check q) ≡ Ok r
-    → answer_of (logged s t (Check q) r) t (Note q.lock) ≡ Ok (recorded (state_of (logged s t (Check q) r)) t q.lock.0)
+    → answer_of (logged s t (Check q) r) t (Note q.lock) ≡ Ok (recorded_reply (state_of (logged s t (Check q) r)) t q.lock.0)
 unfolding Asks
 note_checked s t q r legal ok =
     let own : pending t (entry t (Check q) r ∷ s.history) ≡ Some q = rw (eq-eqb t t refl) refl in

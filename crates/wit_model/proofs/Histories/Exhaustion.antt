@@ -6,7 +6,7 @@ use Rattle.wit_model.specs.declared.profiles.Profile.{Profile}
 use Rattle.wit_model.specs.declared.faults.Fault.{Fault}
 use Rattle.wit_model.specs.declared.locks.Watch.{Watch}
 use Rattle.wit_model.specs.declared.locks.Instance.{Instance}
-use Rattle.wit_model.specs.declared.calls.Asked.{Asked}
+use Rattle.wit_model.specs.declared.calls.TypedRequest.{TypedRequest}
 use Rattle.wit_model.specs.declared.calls.Call.{Call}
 use Rattle.wit_model.specs.declared.calls.Request.{Request}
 use Rattle.wit_model.specs.declared.calls.Call.TheVariants.{Init, Check, Note, NoteTry, GiveUp, Unlock, SetWatch}
@@ -18,15 +18,15 @@ use Rattle.wit_model.specs.Rules.Locks.{has_flag}
 use Rattle.wit_model.specs.Rules.Orders.{is_found}
 use Rattle.wit_model.specs.Rules.History.{is_off, watch_after, watch_of}
 use Rattle.wit_model.specs.Rules.State.{Start, State, state_of, seat_at}
-use Rattle.wit_model.specs.Rules.Verdict.{Basis, type_held, is_blessed, place_of, place_asked, conflict, doubled, reported, basis_of, asked_of, chain_asked}
-use Rattle.wit_model.specs.Rules.Step.{held_by, is_exhausted, recorded, step, is_logged, answer_of, story_after, IsLegal}
+use Rattle.wit_model.specs.Rules.Verdict.{Basis, type_held, is_blessed, place_of, place_asked, conflict, doubled, reported, basis_of, typed_request, chain_asked}
+use Rattle.wit_model.specs.Rules.Step.{held_by, is_exhausted, recorded_reply, step, is_logged, answer_of, story_after, IsLegal}
 use Rattle.wit_model.proofs.Orders.Ruled.{Says, Passed, Learnt, LearntAll, Doubled, Broken, ruled}
 use Rattle.wit_model.proofs.Histories.Accepted.{same_reply, check_accepted, note_accepted, try_accepted, give_up_accepted, unlock_accepted, watch_accepted, init_accepted}
 use Rattle.wit_model.proofs.Histories.AcceptedTurns.{is_plain_reply, plain_accepted}
 use Rattle.wit_model.proofs.Histories.Legal.{watched-before}
 
 -- a check never tells it
-told_doubled : (g : Basis) (q : Asked) (i : Instance) (r : Reply) → doubled g q i ≡ Ok r → is_exhaustion r ≡ false
+told_doubled : (g : Basis) (q : TypedRequest) (i : Instance) (r : Reply) → doubled g q i ≡ Ok r → is_exhaustion r ≡ false
 told_doubled g q i r = go (has_flag q.flags.0 0x02 || has_flag q.ops.0 0x02) (is_found g.found q.type_no.0 q.type_no.0)
   where
     go : (a b : Bool)
@@ -36,14 +36,14 @@ told_doubled g q i r = go (has_flag q.flags.0 0x02 || has_flag q.ops.0 0x02) (is
     go false true ok = sym (ap is_exhaustion (same_reply ok))
     go false false ok = sym (ap is_exhaustion (same_reply ok))
 
-told_reported : (g : Basis) (q : Asked) (c : List Instance) (i : Instance) (r : Reply) → reported g q c i ≡ Ok r → is_exhaustion r ≡ false
+told_reported : (g : Basis) (q : TypedRequest) (c : List Instance) (i : Instance) (r : Reply) → reported g q c i ≡ Ok r → is_exhaustion r ≡ false
 told_reported g q c i r = go (is_found g.found (type_held g i).0 q.type_no.0 || is_blessed g (type_held g i) q.type_no)
   where
     go : (a : Bool) → cond {A = Result Reply Fault} a (Ok (Silent (type_held g i) q.type_no)) (Ok (Reversal (conflict g q c i))) ≡ Ok r → is_exhaustion r ≡ false
     go true ok = sym (ap is_exhaustion (same_reply ok))
     go false ok = sym (ap is_exhaustion (same_reply ok))
 
-told_ruled : (profile : Profile) (g : Basis) (w : Watch) (q : Asked) (c : List Instance) (r : Reply) → Says profile g w q c r → is_exhaustion r ≡ false
+told_ruled : (profile : Profile) (g : Basis) (w : Watch) (q : TypedRequest) (c : List Instance) (r : Reply) → Says profile g w q c r → is_exhaustion r ≡ false
 told_ruled profile g w q c r (Passed same cause) = ap is_exhaustion same
 told_ruled profile g w q c r (LearntAll all l) = ap is_exhaustion l.reply
 told_ruled profile g w q c r (Learnt plain l) = ap is_exhaustion l.reply
@@ -52,15 +52,15 @@ told_ruled profile g w q c r (Broken b) = told_reported g q c b.held r b.reply
 
 pub check-told : (s : State) (t : ℕ) (q : Request) (r : Reply) → step s t (Check q) ≡ Ok r → is_exhaustion r ≡ false
 check-told s t q r ok =
-    let said = ruled s.profile (basis_of s.known) s.watch (seat_at s t).sleep (seat_at s t).spin (asked_of s.known q) r (check_accepted s t q r ok).verdict in
-    told_ruled s.profile (basis_of s.known) s.watch (asked_of s.known q) (chain_asked (basis_of s.known) (seat_at s t).sleep (seat_at s t).spin (asked_of s.known q)) r said
+    let said = ruled s.profile (basis_of s.known) s.watch (seat_at s t).sleep (seat_at s t).spin (typed_request s.known q) r (check_accepted s t q r ok).verdict in
+    told_ruled s.profile (basis_of s.known) s.watch (typed_request s.known q) (chain_asked (basis_of s.known) (seat_at s t).sleep (seat_at s t).spin (typed_request s.known q)) r said
 
 -- an acquisition tells it only where something is watched
 told_recorded : (off held none : Bool) → is_exhaustion (cond off Unrecorded (cond held Recorded (cond none Exhausted Recorded))) ≡ true → off ≡ false
 told_recorded true held none is = absurd (false≢true is)
 told_recorded false held none is = refl
 
-told_acquired : (s : State) (t l : ℕ) (r : Reply) → r ≡ recorded s t l → is_exhaustion r ≡ true → is_off s.watch ≡ false
+told_acquired : (s : State) (t l : ℕ) (r : Reply) → r ≡ recorded_reply s t l → is_exhaustion r ≡ true → is_off s.watch ≡ false
 told_acquired s t l r same is = told_recorded (is_off s.watch) (is_some (held_by s t l)) (is_exhausted s t l) (sym (ap is_exhaustion same) ∙ is)
 
 not_told : {P : Type 0} (r : Reply) → is_exhaustion r ≡ false → is_exhaustion r ≡ true → P

@@ -12,7 +12,7 @@ use Rattle.wit_model.specs.declared.locks.Mode.{Mode}
 use Rattle.wit_model.specs.declared.locks.Site.{Site}
 use Rattle.wit_model.specs.declared.locks.Watch.{Watch}
 use Rattle.wit_model.specs.declared.locks.Instance.{Instance}
-use Rattle.wit_model.specs.declared.calls.Asked.{Asked}
+use Rattle.wit_model.specs.declared.calls.TypedRequest.{TypedRequest}
 use Rattle.wit_model.specs.declared.calls.Request.{Request}
 use Rattle.wit_model.specs.declared.calls.Reply.{Reply}
 use Rattle.wit_model.specs.declared.calls.Reply.TheVariants.{Pass}
@@ -20,8 +20,8 @@ use Rattle.wit_model.specs.Rules.Numbers.{is_number}
 use Rattle.wit_model.specs.Rules.Locks.{has_flag}
 use Rattle.wit_model.specs.Rules.Orders.{is_found}
 use Rattle.wit_model.specs.Rules.State.{State, Known, Seat, seat_at, has_room}
-use Rattle.wit_model.specs.Rules.Verdict.{Basis, Rule, when, decided, rules, again, doubled, reported, basis_of, asked_of, chain_asked, verdict, doubles_in, follows_in, teaches_in, told_orders, new_parents}
-use Rattle.wit_model.specs.Rules.Step.{with_room, recorded, step_check, step_note_try}
+use Rattle.wit_model.specs.Rules.Verdict.{Basis, Rule, when, decided, rules, again, doubled, reported, basis_of, typed_request, chain_asked, verdict, doubles_in, follows_in, teaches_in, told_orders, new_parents}
+use Rattle.wit_model.specs.Rules.Step.{with_room, recorded_reply, step_check, step_note_try}
 
 -- the answer is another than that the file is unknown
 abbrev is_other : Result Reply Fault → Bool
@@ -79,17 +79,17 @@ unfolding RuleOther
 map_other f other None = tt
 map_other f other (Some i) = other i
 
-again_other : (q : Asked) (i : Instance) → Other (again q i)
+again_other : (q : TypedRequest) (i : Instance) → Other (again q i)
 again_other q i =
     fails SharedOfExclusive refl _ _ (fails ExclusiveOfShared refl _ _
     (fails Recursed refl _ _ (fails Recursed refl _ _ (answered _))))
 
-doubled_other : (g : Basis) (q : Asked) (i : Instance) → Other (doubled g q i)
+doubled_other : (g : Basis) (q : TypedRequest) (i : Instance) → Other (doubled g q i)
 doubled_other g q i =
     pick (has_flag q.flags.0 0x02 || has_flag q.ops.0 0x02) _ _ (answered _)
     (pick (is_found g.found q.type_no.0 q.type_no.0) _ _ (answered _) (answered _))
 
-module _ (g : Basis) (watch : Watch) (spin chain : List Instance) (q : Asked) where
+module _ (g : Basis) (watch : Watch) (spin chain : List Instance) (q : TypedRequest) where
   reported_other : (i : Instance) → Other (reported g q chain i)
   reported_other i = pick _ _ _ (answered _) (answered _)
 
@@ -142,7 +142,7 @@ verdict_other : (profile : Profile) (k : Known) (watch : Watch) (seat : Seat) (q
     → Other (verdict profile k watch seat q)
 verdict_other profile k watch seat q =
     let g = basis_of k in
-    let asked = asked_of k q in
+    let asked = typed_request k q in
     let chain = chain_asked g seat.sleep seat.spin asked in
     decided_other (rules profile g watch seat.spin chain (last_or None chain) asked)
     (rules_other g watch seat.spin chain asked profile (last_or None chain))
@@ -168,7 +168,7 @@ try_other s t l m site known =
     fails UnknownSeat refl _ _ (fails UnknownLock refl _ _
     (past (is_number s.files site.file.0) _ known
     (fails ModeNotAllowed refl _ _ (fails Pending refl _ _ (fails RecursionTooDeep refl _ _
-    (room_other s 2 (Ok (recorded s t l)) (answered (recorded s t l))))))))
+    (room_other s 2 (Ok (recorded_reply s t l)) (answered (recorded_reply s t l))))))))
 
 told-known : (x : Result Reply Fault) → Other x → x ≡ Err UnknownFile → ⊥
 unfolding Other

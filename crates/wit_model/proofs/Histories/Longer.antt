@@ -21,7 +21,7 @@ use Rattle.wit_model.specs.Rules.Numbers.{with_number}
 use Rattle.wit_model.specs.Rules.Orders.{adopted}
 use Rattle.wit_model.specs.Rules.History.{is_off}
 use Rattle.wit_model.specs.Rules.State.{Start, State, state_of, orders_of}
-use Rattle.wit_model.specs.Rules.Step.{is_exhausted, held_by, recorded, step, story_after, IsLegal}
+use Rattle.wit_model.specs.Rules.Step.{is_exhausted, held_by, recorded_reply, step, story_after, IsLegal}
 use Rattle.wit_model.specs.HistoryLaws.{adoptions}
 use Rattle.wit_model.proofs.Histories.Accepted.{init_accepted, destroy_accepted, note_accepted, try_accepted, give_up_accepted, unlock_accepted, watch_accepted}
 use Rattle.wit_model.proofs.Histories.AcceptedTurns.{upgrade_accepted, downgrade_accepted, mark_accepted}
@@ -164,7 +164,7 @@ not-recorded false false false a b is = (cc)
 
 -- only a check or the defining of an order is answered so
 module _ (s : State) (t : ℕ) (a b : TypeNo) where
-  by-record : (l : ℕ) → Adopted a b ≡ recorded s t l → ⊥
+  by-record : (l : ℕ) → Adopted a b ≡ recorded_reply s t l → ⊥
   by-record l = not-recorded (is_off s.watch) (is_some (held_by s t l)) (is_exhausted s t l) a b
 
   -- what else a call is answered

@@ -15,7 +15,7 @@ use Rattle.wit_model.specs.declared.calls.Entry.{Entry}
 use Rattle.wit_model.specs.Rules.Locks.{lock_at}
 use Rattle.wit_model.specs.Rules.State.{Start, State, state_of, seat_at, is_seat, is_live}
 use Rattle.wit_model.specs.Rules.Verdict.{is_exclusive, verdict}
-use Rattle.wit_model.specs.Rules.Step.{is_pending, is_shareable, is_too_deep, with_room, recorded, answer_of, story_after, IsLegal}
+use Rattle.wit_model.specs.Rules.Step.{is_pending, is_shareable, is_too_deep, with_room, recorded_reply, answer_of, story_after, IsLegal}
 use Rattle.wit_model.specs.Rules.Numbers.{is_number}
 use Rattle.wit_model.specs.HistoryLaws.{tells_among, all_tell_among}
 use Rattle.wit_model.proofs.Histories.Accepted.{check_accepted, try_accepted}
@@ -59,7 +59,7 @@ try_with s t l m known =
     (cond (not (is_exclusive m) && not (is_shareable (lock_at s.known.locks l).made.class)) (Err ModeNotAllowed)
     (cond (is_pending s t) (Err Pending)
     (cond (is_too_deep s t l) (Err RecursionTooDeep)
-    (with_room s 2 (Ok (recorded s t l))))))))
+    (with_room s 2 (Ok (recorded_reply s t l))))))))
 
 try-other : (start : Start) (files others : List (List ℕ)) (h : List Entry) (t : ℕ) (l : LockNo) (m : Mode) (site : Site) (r : Reply)
     → is_number (length others) site.file.0 ≡ true

@@ -16,9 +16,10 @@ use Rattle.wit_model.specs.Rules.Step.{answer_of, grown}
 use Rattle.wit_model.specs.Rules.Warnings.{warned, step_warn}
 use Rattle.wit_model.specs.World.Moving.{LockStep, step_before, raw_moved}
 use Rattle.wit_model.specs.World.Scenes.{Scene}
-use Rattle.wit_model.specs.Trace.Moving.{Moving, Moved, answered, answered_at, alone, moves, moving_after, moving_from}
+use Rattle.wit_model.specs.Trace.Moving.{Moving, Moved, answered, answered_at, line_alone, moves, moving_after, moving_from}
 use Rattle.wit_model.specs.Trace.Moving as moving
-use Rattle.wit_model.specs.Trace.Output.{Course, Reading, Stepping, AllRead, LineCall, Logs, LogsAt, Asserts, Warns, Steps, NoCall, told, called, makes, at_file, with_file, makes_in, at_file_in, in_scene, asserts, warns, call_of, calls, calls_in, before, course_after, course_from}
+use Rattle.wit_model.specs.Trace.Moving.{MovingOutcome, moving_outcome}
+use Rattle.wit_model.specs.Trace.Output.{Course, Reading, Stepping, AllRead, LineCall, Logs, LogsAt, Asserts, Warns, Steps, NoCall, reply_text, called, makes, at_file, with_file_in, makes_in, at_file_in, in_scene, asserts, warns, call_of, calls, calls_in, text_before, course_after, course_from}
 use Rattle.wit_model.specs.Trace.Output as output
 use Rattle.wit_model.proofs.Moved.Lines.{read-short, IsSmall, IsSmallCall, small-before, small-behind, small-line}
 use Rattle.wit_model.proofs.Moved.Tells.{all_stepped, Tells, line-tells, call-tells, unnamed}
@@ -57,7 +58,7 @@ module _ (x : Scene) (fits : Fits x) (m : ℕ) (bytes : List ℕ) where
     Before first = (y : Scene) × DoesStep x t (step_before z.story.history t call) y × ((n : ℕ) → output.outcome (Stepping y m) n bytes ≡ makes_in first m t call)
 
     answered-agrees : Fits z → (q : Moving) (lines : List (List ℕ))
-        → ((r : Reply) → answer_of z.story t call ≡ Ok r → calls x.story m c ≡ output.Goes (Reading (grown z.story t call r) m) (told (grown z.story t call r) r))
+        → ((r : Reply) → answer_of z.story t call ≡ Ok r → calls x.story m c ≡ output.Goes (Reading (grown z.story t call r) m) (reply_text (grown z.story t call r) r))
         → ((first : Scene) → DoesStep z t (step_before z.story.history t call) first → Before first)
         → answered z.story z.raw m bytes t call (answer_of z.story t call) ≡ moving.Goes q lines → LineAgrees x m c bytes q lines
     unfolding Before
@@ -68,12 +69,12 @@ module _ (x : Scene) (fits : Fits x) (m : ℕ) (bytes : List ℕ) where
         record {
           scene = d.last;
           count = m;
-          said = told (grown z.story t call a.reply) a.reply;
+          said = reply_text (grown z.story t call a.reply) a.reply;
           fits = d.fits;
           next = a.next ∙ after d m;
-          was = was a.reply a.is ∙ ap (λ (s : Story). output.Goes (Reading s m) (told (grown z.story t call a.reply) a.reply)) (sym d.story);
+          was = was a.reply a.is ∙ ap (λ (s : Story). output.Goes (Reading s m) (reply_text (grown z.story t call a.reply) a.reply)) (sym d.story);
           now = λ rest text s k tells.
-              subst (λ ls. Tells x m (ls ++ rest) (told (grown z.story t call a.reply) a.reply ++ text) s k) (sym a.written)
+              subst (λ ls. Tells x m (ls ++ rest) (reply_text (grown z.story t call a.reply) a.reply ++ text) s k) (sym a.written)
               (call-tells x y.0 m t call a.reply z d bytes rest text s k seat (small-before z.story.history t call small) (small-behind z.story.history z.raw t call small)
               y.1 y.2 tells);
         }
@@ -86,7 +87,7 @@ module _ (x : Scene) (fits : Fits x) (m : ℕ) (bytes : List ℕ) where
       (λ first done. (first, done, λ n. reads first n)) goes
 
   at-line : (t : ℕ) (file : List ℕ) (call : ℕ → Call) (f : ℕ) → Reads (LogsAt t file call) → naming_answer x.story file ≡ Ok f
-      → (o : Option LockStep) (first : Scene) → DoesStep (with_file file x) t o first
+      → (o : Option LockStep) (first : Scene) → DoesStep (with_file_in file x) t o first
       → (y : Scene) × DoesStep x t o y × ((n : ℕ) → output.outcome (Stepping y m) n bytes ≡ makes_in first m t (call f))
   at-line t file call f reads named o first done =
       let u = unnamed file x t o first done in (
@@ -99,28 +100,28 @@ module _ (x : Scene) (fits : Fits x) (m : ℕ) (bytes : List ℕ) where
 
   file-named : (t : ℕ) (file : List ℕ) (call : ℕ → Call) (q : Moving) (lines : List (List ℕ)) (na : Result ℕ Fault)
       → answered_at x.story x.raw m bytes t call file na ≡ moving.Goes q lines
-      → (f : ℕ) × (na ≡ Ok f) × (answered (with_file file x).story x.raw m bytes t (call f) (answer_of (with_file file x).story t (call f)) ≡ moving.Goes q lines)
+      → (f : ℕ) × (na ≡ Ok f) × (answered (with_file_in file x).story x.raw m bytes t (call f) (answer_of (with_file_in file x).story t (call f)) ≡ moving.Goes q lines)
   file-named t file call q lines (Err fault) goes = (cc)
   file-named t file call q lines (Ok f) goes = (f, refl, goes)
 
-  called-at : (t : ℕ) (file : List ℕ) (call : ℕ → Call) (f : ℕ) → naming_answer x.story file ≡ Ok f → (r : Reply) → answer_of (with_file file x).story t (call f) ≡ Ok r
-      → calls x.story m (LogsAt t file call) ≡ output.Goes (Reading (grown (with_file file x).story t (call f) r) m) (told (grown (with_file file x).story t (call f) r) r)
+  called-at : (t : ℕ) (file : List ℕ) (call : ℕ → Call) (f : ℕ) → naming_answer x.story file ≡ Ok f → (r : Reply) → answer_of (with_file_in file x).story t (call f) ≡ Ok r
+      → calls x.story m (LogsAt t file call) ≡ output.Goes (Reading (grown (with_file_in file x).story t (call f) r) m) (reply_text (grown (with_file_in file x).story t (call f) r) r)
   called-at t file call f named r is =
-      ap (λ (o : Result ℕ Fault). at_file x.story (λ s' g. makes s' m t (call g)) file o) named ∙ ap (λ b. called (with_file file x).story m t (call f) b) is
+      ap (λ (o : Result ℕ Fault). at_file x.story (λ s' g. makes s' m t (call g)) file o) named ∙ ap (λ b. called (with_file_in file x).story m t (call f) b) is
 
   logs_at-agree : (t : ℕ) (file : List ℕ) (call : ℕ → Call) (q : Moving) (lines : List (List ℕ)) → IsSmall (LogsAt t file call) → Reads (LogsAt t file call)
       → answered_at x.story x.raw m bytes t call file (naming_answer x.story file) ≡ moving.Goes q lines → LineAgrees x m (LogsAt t file call) bytes q lines
   unfolding Before
   logs_at-agree t file call q lines small reads goes =
       let n = file-named t file call q lines (naming_answer x.story file) goes in
-      answered-agrees (with_file file x) (LogsAt t file call) t (call n.0) small.0 (small.1 n.0) (naming-fits file x fits) q lines
+      answered-agrees (with_file_in file x) (LogsAt t file call) t (call n.0) small.0 (small.1 n.0) (naming-fits file x fits) q lines
       (called-at t file call n.0 n.1) (λ first done. at-line t file call n.0 reads n.1 _ first done) n.2
 
   -- a line that changes nothing of the story
   alone-agrees : (c : LineCall) (q : Moving) (lines : List (List ℕ)) (count : ℕ) (said : List ℕ) → Reads c → calls_in x m c ≡ in_scene x (calls x.story m c)
-      → calls x.story m c ≡ output.Goes (Reading x.story count) said → alone x.raw bytes (calls x.story m c) ≡ moving.Goes q lines → LineAgrees x m c bytes q lines
+      → calls x.story m c ≡ output.Goes (Reading x.story count) said → line_alone x.raw bytes (calls x.story m c) ≡ moving.Goes q lines → LineAgrees x m c bytes q lines
   alone-agrees c q lines count said reads same is goes =
-      let e : ◌≡◌ {A = moving.Outcome} (moving.Goes (Moved x.story x.raw count) (bytes ∷ [])) (moving.Goes q lines) = ap (λ o. alone x.raw bytes o) (sym is) ∙ goes in
+      let e : ◌≡◌ {A = MovingOutcome} (moving.Goes (Moved x.story x.raw count) (bytes ∷ [])) (moving.Goes q lines) = ap (λ o. line_alone x.raw bytes o) (sym is) ∙ goes in
       record {
         scene = x;
         count = count;
@@ -133,29 +134,29 @@ module _ (x : Scene) (fits : Fits x) (m : ℕ) (bytes : List ℕ) where
             (line-tells x x m count bytes rest said text s k (λ n. reads x n ∙ (same ∙ ap (λ o. in_scene x o) is)) tells);
       }
 
-  asserts-say : (l : ℕ) (a : Result AssertAnswer Fault) (q : Moving) (lines : List (List ℕ)) → alone x.raw bytes (asserts x.story m l a) ≡ moving.Goes q lines
+  asserts-say : (l : ℕ) (a : Result AssertAnswer Fault) (q : Moving) (lines : List (List ℕ)) → line_alone x.raw bytes (asserts x.story m l a) ≡ moving.Goes q lines
       → (count : ℕ) × (said : List ℕ) × (asserts x.story m l a ≡ output.Goes (Reading x.story count) said)
   asserts-say l (Ok a) q lines goes = (_, _, refl)
   asserts-say l (Err fault) q lines goes = (cc)
 
-  warns-say : (counted : List Instance) (a : Result ℕ Fault) (q : Moving) (lines : List (List ℕ)) → alone x.raw bytes (warns x.story m counted a) ≡ moving.Goes q lines
+  warns-say : (counted : List Instance) (a : Result ℕ Fault) (q : Moving) (lines : List (List ℕ)) → line_alone x.raw bytes (warns x.story m counted a) ≡ moving.Goes q lines
       → (count : ℕ) × (said : List ℕ) × (warns x.story m counted a ≡ output.Goes (Reading x.story count) said)
   warns-say counted (Ok a) q lines goes = (_, _, refl)
   warns-say counted (Err fault) q lines goes = (cc)
 
   asserts-agree : (t : ℕ) (l : LockNo) (flags : LockAssert) (q : Moving) (lines : List (List ℕ)) → Reads (Asserts t l flags)
-      → alone x.raw bytes (asserts x.story m l.0 (step_assert (state_of x.story) t l.0 flags)) ≡ moving.Goes q lines → LineAgrees x m (Asserts t l flags) bytes q lines
+      → line_alone x.raw bytes (asserts x.story m l.0 (step_assert (state_of x.story) t l.0 flags)) ≡ moving.Goes q lines → LineAgrees x m (Asserts t l flags) bytes q lines
   asserts-agree t l flags q lines reads goes =
       let said = asserts-say l.0 (step_assert (state_of x.story) t l.0 flags) q lines goes in
       alone-agrees (Asserts t l flags) q lines said.0 said.1 reads refl said.2 goes
 
   warns-agree : (t : ℕ) (l : Option LockNo) (flags : WarnFlags) (q : Moving) (lines : List (List ℕ)) → Reads (Warns t l flags)
-      → alone x.raw bytes (warns x.story m (warned (state_of x.story) t l flags) (step_warn (state_of x.story) t l flags)) ≡ moving.Goes q lines → LineAgrees x m (Warns t l flags) bytes q lines
+      → line_alone x.raw bytes (warns x.story m (warned (state_of x.story) t l flags) (step_warn (state_of x.story) t l flags)) ≡ moving.Goes q lines → LineAgrees x m (Warns t l flags) bytes q lines
   warns-agree t l flags q lines reads goes =
       let said = warns-say (warned (state_of x.story) t l flags) (step_warn (state_of x.story) t l flags) q lines goes in
       alone-agrees (Warns t l flags) q lines said.0 said.1 reads refl said.2 goes
 
-  none-agrees : (c : LineCall) (q : Moving) (lines : List (List ℕ)) → ◌≡◌ {A = moving.Outcome} (moving.Bad why.Syntax) (moving.Goes q lines) → LineAgrees x m c bytes q lines
+  none-agrees : (c : LineCall) (q : Moving) (lines : List (List ℕ)) → ◌≡◌ {A = MovingOutcome} (moving.Bad why.Syntax) (moving.Goes q lines) → LineAgrees x m c bytes q lines
   none-agrees c q lines goes = (cc)
 
   line-agrees : (c : LineCall) (q : Moving) (lines : List (List ℕ)) → IsSmall c → Reads c → moves x.story x.raw m bytes c ≡ moving.Goes q lines → LineAgrees x m c bytes q lines
@@ -189,7 +190,7 @@ calls-agree [] x fits m n [] story count ends =
 calls-agree [] x fits m n (b ∷ tail) story count ends = (cc)
 calls-agree (bytes ∷ lines) x fits m n tail story count ends =
     let q = Moved x.story x.raw m in
-    let o = moving.outcome q n bytes in
+    let o = moving_outcome q n bytes in
     let g = gone-on q n o (λ r. moving_from r (n + 1) lines tail) story count ends in
     let r = was-read q n bytes g.then g.lines g.is in
     let spells = line_takes bytes r.line r.spelled in
@@ -201,6 +202,6 @@ calls-agree (bytes ∷ lines) x fits m n tail story count ends =
       text = a.said ++ rest.text;
       none = rest.none;
       was = ap (λ p. course_after (Reading x.story m) n p (λ r. course_from r (n + 1) lines [])) (read-short (Reading x.story m) n bytes r.line r.short r.spelled ∙ a.was)
-          ∙ ap (λ c. before a.said c) rest.was;
+          ∙ ap (λ c. text_before a.said c) rest.was;
       now = subst (λ ls. Tells x m ls (a.said ++ rest.text) story count) (sym written) (a.now _ rest.text story count rest.now);
     }

@@ -13,16 +13,17 @@ use Rattle.wit_model.specs.World.Moving.{step_before, step_behind, is_free_besid
 use Rattle.wit_model.specs.World.Scenes.{RawLock}
 use Rattle.wit_model.specs.Trace.Moving.{Moving, Moved, Written, step_line, answered, moving_after}
 use Rattle.wit_model.specs.Trace.Moving as moving
+use Rattle.wit_model.specs.Trace.Moving.{MovingOutcome, moving_entered, moving_outcome, moving_read_as}
 use Rattle.wit_model.specs.Trace.Output.{AllRead, longest_line}
 use Rattle.wit_model.specs.Trace.Reading.{line_of}
 
-pub record GoneOn (q : Moving) (o : moving.Outcome) (next : Moving → Written) (s : Story) (k : ℕ) : Type 0 where
+pub record GoneOn (q : Moving) (o : MovingOutcome) (next : Moving → Written) (s : Story) (k : ℕ) : Type 0 where
   pub then : Moving
   pub lines : List (List ℕ)
   pub is : o ≡ moving.Goes then lines
   pub ends : (next then).ending ≡ AllRead s k
 
-pub gone-on : (q : Moving) (n : ℕ) (o : moving.Outcome) (next : Moving → Written) (s : Story) (k : ℕ) → (moving_after q n o next).ending ≡ AllRead s k → GoneOn q o next s k
+pub gone-on : (q : Moving) (n : ℕ) (o : MovingOutcome) (next : Moving → Written) (s : Story) (k : ℕ) → (moving_after q n o next).ending ≡ AllRead s k → GoneOn q o next s k
 gone-on q n (moving.Goes then lines) next s k ends = record { then = then; lines = lines; is = refl; ends = ends }
 gone-on q n (moving.Bad cause) next s k ends = (cc)
 
@@ -30,13 +31,13 @@ pub record Read (q : Moving) (n : ℕ) (bytes : List ℕ) (then : Moving) (lines
   pub line : Line
   pub short : length bytes ≤ 4096
   pub spelled : line_of bytes ≡ Some line
-  pub enters : moving.entered q n bytes line ≡ moving.Goes then lines
+  pub enters : moving_entered q n bytes line ≡ moving.Goes then lines
 
-pub was-read : (q : Moving) (n : ℕ) (bytes : List ℕ) (then : Moving) (lines : List (List ℕ)) → moving.outcome q n bytes ≡ moving.Goes then lines → Read q n bytes then lines
+pub was-read : (q : Moving) (n : ℕ) (bytes : List ℕ) (then : Moving) (lines : List (List ℕ)) → moving_outcome q n bytes ≡ moving.Goes then lines → Read q n bytes then lines
 was-read q n bytes then lines is = go (nat_lt longest_line (length bytes)) refl (line_of bytes) refl is
   where
     go : (b : Bool) → nat_lt longest_line (length bytes) ≡ b → (o : Option Line) → line_of bytes ≡ o
-        → cond b (moving.Bad why.Long) (moving.read_as q n bytes o) ≡ moving.Goes then lines → Read q n bytes then lines
+        → cond b (moving.Bad why.Long) (moving_read_as q n bytes o) ≡ moving.Goes then lines → Read q n bytes then lines
     go true long o spelled is = (cc)
     go false long None spelled is = (cc)
     go false long (Some line) spelled is = record { line = line; short = (let le = ltb-false longest_line (length bytes) long in omega arith); spelled = spelled; enters = is }

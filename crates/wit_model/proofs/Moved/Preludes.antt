@@ -12,11 +12,12 @@ use Rattle.wit_model.specs.Rules.State.{Story, fresh}
 use Rattle.wit_model.specs.World.Scenes.{Scene, opening}
 use Rattle.wit_model.specs.Trace.Moving.{Moving, Unmoved, Keeping, Moved, Written, TellsTheSame, MigrationsTellTheSame, keeps, step_line, moving_from}
 use Rattle.wit_model.specs.Trace.Moving as moving
-use Rattle.wit_model.specs.Trace.Output.{Prelude, Unstarted, Opening, Reading, Stepping, AllRead, BadLine, empty_prelude, is_prelude, is_profile, log_limit, before, course_at, course_after, course_from}
+use Rattle.wit_model.specs.Trace.Moving.{moving_ends, moving_opened, moving_outcome, moving_entered}
+use Rattle.wit_model.specs.Trace.Output.{Prelude, Unstarted, Opening, Reading, Stepping, AllRead, BadLine, empty_prelude, is_prelude, is_profile, log_limit, text_before, course_at, course_after, course_from}
 use Rattle.wit_model.specs.Trace.Output as output
 use Rattle.wit_model.specs.Trace.Spelling.{spelling, IsSpellable}
 use Rattle.wit_model.proofs.Moved.Agreement.{all_read, calls-agree}
-use Rattle.wit_model.proofs.Moved.FirstLines.{opens, moves-start}
+use Rattle.wit_model.proofs.Moved.FirstLines.{is_opening, moves-start}
 use Rattle.wit_model.proofs.Moved.GoneOn.{gone-on, was-read}
 use Rattle.wit_model.proofs.Moved.Lines.{read-short, read-spelled}
 use Rattle.wit_model.proofs.Moved.Tells.{all_stepped}
@@ -32,7 +33,7 @@ two-goes p is = ap (λ v. output.begun v p.start) is
 
 -- ---- the prelude ends
 
-module _ (p : Prelude) (version : p.version ≡ One) (good : start_fault p.start ≡ None) (n : ℕ) (first : List ℕ) (ends : opens n first ≡ false) where
+module _ (p : Prelude) (version : p.version ≡ One) (good : start_fault p.start ≡ None) (n : ℕ) (first : List ℕ) (ends : is_opening n first ≡ false) where
   reached-one : output.reached (Opening p) n first ≡ Ok (Reading (fresh p.start) 0)
   reached-one =
       ap (λ b. cond b (Ok (Opening p)) (output.opened p (start_fault p.start))) ends
@@ -83,14 +84,14 @@ record KeptAgrees (p : Prelude) (n : ℕ) (lines : List (List ℕ)) (tail : List
   same : scene.story ≡ story
 
 abbrev end_at : Prelude → List (List ℕ) → ℕ → Bool → Option (ℕ × Fault) → Written
-end_at p kept n b o = cond b (moving.ends (Keeping p kept) n []) (moving.opened p kept o (λ q. moving.ends q n []))
+end_at p kept n b o = cond b (moving_ends (Keeping p kept) n []) (moving_opened p kept o (λ q. moving_ends q n []))
 
 -- the input ends with the prelude
 end-agrees : (p : Prelude) (kept : List (List ℕ)) (n : ℕ) (tail : List ℕ) (story : Story) (count : ℕ) → p.version ≡ One
     → (moving_from (Keeping p kept) n [] tail).ending ≡ AllRead story count → KeptAgrees p n [] tail kept (moving_from (Keeping p kept) n [] tail).lines story count
-end-agrees p kept n [] story count version ends = go (opens n []) refl (start_fault p.start) refl ends
+end-agrees p kept n [] story count version ends = go (is_opening n []) refl (start_fault p.start) refl ends
   where
-    go : (b : Bool) → opens n [] ≡ b → (o : Option (ℕ × Fault)) → start_fault p.start ≡ o → (end_at p kept n b o).ending ≡ AllRead story count
+    go : (b : Bool) → is_opening n [] ≡ b → (o : Option (ℕ × Fault)) → start_fault p.start ≡ o → (end_at p kept n b o).ending ≡ AllRead story count
         → KeptAgrees p n [] [] kept (end_at p kept n b o).lines story count
     go true opened o good ends = (cc)
     go false opened (Some refused) good ends = (cc)
@@ -108,9 +109,9 @@ end-agrees p kept n [] story count version ends = go (opens n []) refl (start_fa
               ∙ ap (λ c. all_stepped [] (opening (fresh p.start)) c) counts;
           same = cc;
         }
-end-agrees p kept n (b ∷ tail) story count version ends = go (opens n (b ∷ tail)) (start_fault p.start) ends
+end-agrees p kept n (b ∷ tail) story count version ends = go (is_opening n (b ∷ tail)) (start_fault p.start) ends
   where
-    go : (c : Bool) (o : Option (ℕ × Fault)) → (cond c (moving.ends (Keeping p kept) n (b ∷ tail)) (moving.opened p kept o (λ q. moving.ends q n (b ∷ tail)))).ending ≡ AllRead story count
+    go : (c : Bool) (o : Option (ℕ × Fault)) → (cond c (moving_ends (Keeping p kept) n (b ∷ tail)) (moving_opened p kept o (λ q. moving_ends q n (b ∷ tail)))).ending ≡ AllRead story count
         → KeptAgrees p n [] (b ∷ tail) kept (moving_from (Keeping p kept) n [] (b ∷ tail)).lines story count
     go true o ends = (cc)
     go false (Some refused) ends = (cc)
@@ -118,18 +119,18 @@ end-agrees p kept n (b ∷ tail) story count version ends = go (opens n (b ∷ t
 
 -- what comes of this line and those behind it, once the prelude is over or not
 abbrev next_of : ℕ → List ℕ → List (List ℕ) → List ℕ → Moving → Written
-next_of n bytes lines tail q = moving.moving_after q n (moving.outcome q n bytes) (λ r. moving_from r (n + 1) lines tail)
+next_of n bytes lines tail q = moving.moving_after q n (moving_outcome q n bytes) (λ r. moving_from r (n + 1) lines tail)
 
 abbrev line_at : Prelude → List (List ℕ) → (Moving → Written) → Bool → Option (ℕ × Fault) → Written
-line_at p kept next b o = cond b (next (Keeping p kept)) (moving.opened p kept o next)
+line_at p kept next b o = cond b (next (Keeping p kept)) (moving_opened p kept o next)
 
 -- what follows a line of the prelude agrees
 inside : (p : Prelude) (kept : List (List ℕ)) (n : ℕ) (bytes : List ℕ) (lines : List (List ℕ)) (tail : List ℕ) (story : Story) (count : ℕ) → p.version ≡ One
     → ((p' : Prelude) (kept' : List (List ℕ)) → p'.version ≡ One → (moving_from (Keeping p' kept') (n + 1) lines tail).ending ≡ AllRead story count
     → KeptAgrees p' (n + 1) lines tail kept' (moving_from (Keeping p' kept') (n + 1) lines tail).lines story count)
-    → opens n bytes ≡ true → (next_of n bytes lines tail (Keeping p kept)).ending ≡ AllRead story count → KeptAgrees p n (bytes ∷ lines) tail kept (next_of n bytes lines tail (Keeping p kept)).lines story count
+    → is_opening n bytes ≡ true → (next_of n bytes lines tail (Keeping p kept)).ending ≡ AllRead story count → KeptAgrees p n (bytes ∷ lines) tail kept (next_of n bytes lines tail (Keeping p kept)).lines story count
 inside p kept n bytes lines tail story count version on opened ends =
-    let g = gone-on (Keeping p kept) n (moving.outcome (Keeping p kept) n bytes) (λ r. moving_from r (n + 1) lines tail) story count ends in
+    let g = gone-on (Keeping p kept) n (moving_outcome (Keeping p kept) n bytes) (λ r. moving_from r (n + 1) lines tail) story count ends in
     let r = was-read (Keeping p kept) n bytes g.then g.lines g.is in
     let k = kept-on p kept n bytes r.line g.then g.lines version r.enters in
     let ih = on k.prelude (kept ++ bytes ∷ []) k.version (ap (λ q. (moving_from q (n + 1) lines tail).ending) (sym k.next) ∙ g.ends) in
@@ -141,21 +142,21 @@ inside p kept n bytes lines tail story count version on opened ends =
       is = ap (λ o. (moving.moving_after (Keeping p kept) n o (λ r. moving_from r (n + 1) lines tail)).lines) g.is
           ∙ (ap₂ (λ ls q. ls ++ (moving_from q (n + 1) lines tail).lines) k.none k.next ∙ (ih.is ∙ append_assoc kept (bytes ∷ []) ih.rest));
       was = ap (λ b. course_at (Opening p) (cond b (Ok (Opening p)) (output.opened p (start_fault p.start))) (λ q. course_after q n (output.outcome q n bytes) (λ u. course_from u (n + 1) lines []))) opened
-          ∙ (ap (λ o. course_after (Opening p) n o (λ u. course_from u (n + 1) lines [])) (read-short (Opening p) n bytes r.line r.short r.spelled ∙ k.one) ∙ ap (λ c. before [] c) ih.was);
+          ∙ (ap (λ o. course_after (Opening p) n o (λ u. course_from u (n + 1) lines [])) (read-short (Opening p) n bytes r.line r.short r.spelled ∙ k.one) ∙ ap (λ c. text_before [] c) ih.was);
       now = ap (λ b. course_at (Opening (two p)) (cond b (Ok (Opening (two p))) (output.opened (two p) (start_fault p.start))) (λ q. course_after q n (output.outcome q n bytes) (λ u. course_from u (n + 1) ih.rest []))) opened
-          ∙ (ap (λ o. course_after (Opening (two p)) n o (λ u. course_from u (n + 1) ih.rest [])) (read-short (Opening (two p)) n bytes r.line r.short r.spelled ∙ k.both) ∙ ap (λ c. before [] c) ih.now);
+          ∙ (ap (λ o. course_after (Opening (two p)) n o (λ u. course_from u (n + 1) ih.rest [])) (read-short (Opening (two p)) n bytes r.line r.short r.spelled ∙ k.both) ∙ ap (λ c. text_before [] c) ih.now);
       same = ih.same;
     }
 
 -- and so does what follows the first line behind it
 behind : (p : Prelude) (kept : List (List ℕ)) (n : ℕ) (bytes : List ℕ) (lines : List (List ℕ)) (tail : List ℕ) (story : Story) (count : ℕ) → p.version ≡ One
-    → opens n bytes ≡ false → start_fault p.start ≡ None → (next_of n bytes lines tail (Moved (fresh p.start) [] 0)).ending ≡ AllRead story count
+    → is_opening n bytes ≡ false → start_fault p.start ≡ None → (next_of n bytes lines tail (Moved (fresh p.start) [] 0)).ending ≡ AllRead story count
     → KeptAgrees p n (bytes ∷ lines) tail kept (kept ++ (next_of n bytes lines tail (Moved (fresh p.start) [] 0)).lines) story count
 behind p kept n bytes lines tail story count version over good ends =
     let x = opening (fresh p.start) in
     let a = calls-agree (bytes ∷ lines) x (opening-fits (fresh p.start) refl) 0 n tail story count ends in
     let q = Moved (fresh p.start) [] 0 in
-    let g = gone-on q n (moving.outcome q n bytes) (λ r. moving_from r (n + 1) lines tail) story count ends in
+    let g = gone-on q n (moving_outcome q n bytes) (λ r. moving_from r (n + 1) lines tail) story count ends in
     let r = was-read q n bytes g.then g.lines g.is in
     let first = moves-start n (fresh p.start) [] 0 bytes g.then g.lines over (output.call_of r.line) r.enters in
     let more = first.rest ++ (moving_from g.then (n + 1) lines tail).lines in
@@ -178,9 +179,9 @@ by-line : (p : Prelude) (kept : List (List ℕ)) (n : ℕ) (bytes : List ℕ) (l
     → KeptAgrees p' (n + 1) lines tail kept' (moving_from (Keeping p' kept') (n + 1) lines tail).lines story count)
     → (moving_from (Keeping p kept) n (bytes ∷ lines) tail).ending ≡ AllRead story count
     → KeptAgrees p n (bytes ∷ lines) tail kept (moving_from (Keeping p kept) n (bytes ∷ lines) tail).lines story count
-by-line p kept n bytes lines tail story count version on ends = go (opens n bytes) refl (start_fault p.start) refl ends
+by-line p kept n bytes lines tail story count version on ends = go (is_opening n bytes) refl (start_fault p.start) refl ends
   where
-    go : (b : Bool) → opens n bytes ≡ b → (o : Option (ℕ × Fault)) → start_fault p.start ≡ o → (line_at p kept (next_of n bytes lines tail) b o).ending ≡ AllRead story count
+    go : (b : Bool) → is_opening n bytes ≡ b → (o : Option (ℕ × Fault)) → start_fault p.start ≡ o → (line_at p kept (next_of n bytes lines tail) b o).ending ≡ AllRead story count
         → KeptAgrees p n (bytes ∷ lines) tail kept (line_at p kept (next_of n bytes lines tail) b o).lines story count
     go true opened o good ends = inside p kept n bytes lines tail story count version on opened ends
     go false over (Some refused) good ends = (cc)
@@ -203,7 +204,7 @@ record Headed (then : Moving) (lines : List (List ℕ)) (line : Line) : Type 0 w
   one : output.entered Unstarted 1 line ≡ output.Goes (Opening prelude) []
   both : output.outcome Unstarted 1 (spelling header) ≡ output.Goes (Opening (two prelude)) []
 
-headed : (bytes : List ℕ) (line : Line) (then : Moving) (lines : List (List ℕ)) → IsSpellable line → moving.entered Unmoved 1 bytes line ≡ moving.Goes then lines → Headed then lines line
+headed : (bytes : List ℕ) (line : Line) (then : Moving) (lines : List (List ℕ)) → IsSpellable line → moving_entered Unmoved 1 bytes line ≡ moving.Goes then lines → Headed then lines line
 headed bytes (Header One s t l c) then lines fits goes = go (are_within_limits (sizes_of s t l c log_limit)) refl goes
   where
     go : (b : Bool) → are_within_limits (sizes_of s t l c log_limit) ≡ b
@@ -235,7 +236,7 @@ pub tells-same : MigrationsTellTheSame
 tells-same [] [] story count ends = (cc)
 tells-same [] (b ∷ tail) story count ends = (cc)
 tells-same (bytes ∷ lines) tail story count ends =
-    let g = gone-on Unmoved 1 (moving.outcome Unmoved 1 bytes) (λ r. moving_from r 2 lines tail) story count ends in
+    let g = gone-on Unmoved 1 (moving_outcome Unmoved 1 bytes) (λ r. moving_from r 2 lines tail) story count ends in
     let r = was-read Unmoved 1 bytes g.then g.lines g.is in
     let h = headed bytes r.line g.then g.lines (line_takes bytes r.line r.spelled).1 r.enters in
     let a = prelude-agrees lines h.prelude [] 2 tail story count h.version (ap (λ q. (moving_from q 2 lines tail).ending) (sym h.next) ∙ g.ends) in
@@ -248,9 +249,9 @@ tells-same (bytes ∷ lines) tail story count ends =
         story = story;
         scene = a.scene;
         count = count;
-        was = ap (λ o. course_after Unstarted 1 o (λ u. course_from u 2 lines [])) (read-short Unstarted 1 bytes r.line r.short r.spelled ∙ h.one) ∙ ap (λ c. before [] c) a.was;
+        was = ap (λ o. course_after Unstarted 1 o (λ u. course_from u 2 lines [])) (read-short Unstarted 1 bytes r.line r.short r.spelled ∙ h.one) ∙ ap (λ c. text_before [] c) a.was;
         now = ap (λ ls. course_from Unstarted 1 ls []) written
-            ∙ (ap (λ o. course_after Unstarted 1 o (λ u. course_from u 2 a.rest [])) h.both ∙ ap (λ c. before [] c) a.now);
+            ∙ (ap (λ o. course_after Unstarted 1 o (λ u. course_from u 2 a.rest [])) h.both ∙ ap (λ c. text_before [] c) a.now);
         same = a.same;
       },
     )

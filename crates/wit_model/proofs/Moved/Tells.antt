@@ -9,7 +9,7 @@ use Rattle.wit_model.specs.Rules.Step.{grown}
 use Rattle.wit_model.specs.World.Moving.{LockStep, step_before, step_behind}
 use Rattle.wit_model.specs.World.Scenes.{Scene, stage_at, deed_of, is_known, stepped, scene_after}
 use Rattle.wit_model.specs.Trace.Moving.{step_line}
-use Rattle.wit_model.specs.Trace.Output.{Course, Stepping, AllStepped, Goes, told, with_file, called_in, makes_in, steps, outcome, before, course_after, course_from}
+use Rattle.wit_model.specs.Trace.Output.{Course, Stepping, AllStepped, Goes, reply_text, with_file_in, called_in, makes_in, steps, outcome, text_before, course_after, course_from}
 use Rattle.wit_model.proofs.Moved.Lines.{read-spelled, IsSmallStep}
 use Rattle.wit_model.proofs.World.Beside.{DoesStep, Does}
 use Rattle.wit_model.proofs.World.Stepping.{accepted, accepts}
@@ -31,7 +31,7 @@ line-tells x y m m' line rest said text s k is tells = record {
   scene = tells.scene;
   same = tells.same;
   ends = λ n.
-      ap (λ o. course_after (Stepping x m) n o (λ r. course_from r (n + 1) rest [])) (is n) ∙ ap (λ c. before said c) (tells.ends (n + 1));
+      ap (λ o. course_after (Stepping x m) n o (λ r. course_from r (n + 1) rest [])) (is n) ∙ ap (λ c. text_before said c) (tells.ends (n + 1));
 }
 
 -- a step in front, if there is one
@@ -47,26 +47,26 @@ pub call-tells : (x y : Scene) (m t : ℕ) (call : Call) (r : Reply) (z : Scene)
     → t < 2 ^ 16 → IsSmallStep (step_before z.story.history t call) → IsSmallStep (step_behind z.story.history z.raw t call)
     → DoesStep x t (step_before z.story.history t call) y → ((n : ℕ) → outcome (Stepping y m) n line ≡ makes_in d.first m t call)
     → Tells d.last m rest text s k
-    → Tells x m ((step_line t (step_before z.story.history t call) ++ line ∷ step_line t (step_behind z.story.history z.raw t call)) ++ rest) (told (grown z.story t call r) r ++ text) s k
+    → Tells x m ((step_line t (step_before z.story.history t call) ++ line ∷ step_line t (step_behind z.story.history z.raw t call)) ++ rest) (reply_text (grown z.story t call r) r ++ text) s k
 call-tells x y m t call r z d line rest text s k seat small_before small_behind before is tells =
-    subst (λ ls. Tells x m ls (told (grown z.story t call r) r ++ text) s k)
+    subst (λ ls. Tells x m ls (reply_text (grown z.story t call r) r ++ text) s k)
     (sym (append_assoc (step_line t (step_before z.story.history t call)) (line ∷ step_line t (step_behind z.story.history z.raw t call)) rest))
     (step-tells x y t (step_before z.story.history t call) m _ _ s k seat small_before before
-    (line-tells y (scene_after d.first t call r) m m line _ (told (grown z.story t call r) r) text s k
-    (λ n. is n ∙ (ap (λ a. called_in d.first m t call a) d.made ∙ ap (λ (u : Story). Goes (Stepping (scene_after d.first t call r) m) (told (grown u t call r) r)) d.same))
+    (line-tells y (scene_after d.first t call r) m m line _ (reply_text (grown z.story t call r) r) text s k
+    (λ n. is n ∙ (ap (λ a. called_in d.first m t call a) d.made ∙ ap (λ (u : Story). Goes (Stepping (scene_after d.first t call r) m) (reply_text (grown u t call r) r)) d.same))
     (step-tells (scene_after d.first t call r) d.last t (step_behind z.story.history z.raw t call) m rest text s k seat small_behind d.behind tells)))
 
 -- a step is the same before a file is named
 pub record Unnamed (file : List ℕ) (x : Scene) (t : ℕ) (o : Option LockStep) (y : Scene) : Type 0 where
   pub scene : Scene
   pub does : DoesStep x t o scene
-  pub named : with_file file scene ≡ y
+  pub named : with_file_in file scene ≡ y
   pub story : scene.story ≡ x.story
 
-pub unnamed : (file : List ℕ) (x : Scene) (t : ℕ) (o : Option LockStep) (y : Scene) → DoesStep (with_file file x) t o y → Unnamed file x t o y
+pub unnamed : (file : List ℕ) (x : Scene) (t : ℕ) (o : Option LockStep) (y : Scene) → DoesStep (with_file_in file x) t o y → Unnamed file x t o y
 unnamed file x t None y is = record { scene = x; does = refl; named = sym is; story = refl }
 unnamed file x t (Some k) y is =
     let d = deed_of (stage_at x t) t k.0.0 k.1 in
     let known = is_known (state_of x.story) k.0.0 k.1 in
-    let a = accepted (with_file file x) d (is_known (state_of (with_file file x).story) k.0.0 k.1) y is in
+    let a = accepted (with_file_in file x) d (is_known (state_of (with_file_in file x).story) k.0.0 k.1) y is in
     record { scene = stepped x d; does = accepts x d known a.seat a.lock a.comes a.free; named = a.next; story = refl }

@@ -7,13 +7,13 @@ use Rattle.std.proofs.lemmas.List.{reverse-append}
 use Rattle.wit_model.specs.declared.locks.TypeNo.{TypeNo}
 use Rattle.wit_model.specs.declared.locks.Instance.{Instance}
 use Rattle.wit_model.specs.declared.calls.Adoption.{Adoption}
-use Rattle.wit_model.specs.declared.calls.Asked.{Asked}
+use Rattle.wit_model.specs.declared.calls.TypedRequest.{TypedRequest}
 use Rattle.wit_model.specs.Rules.Locks.{has_flag}
 use Rattle.wit_model.specs.Rules.Orders.{is_direct, is_before, AreDistinct, IsSound, taught_at}
-use Rattle.wit_model.specs.Rules.Verdict.{Basis, type_held, has_type_of, is_sleepable, is_giant, is_learnt, is_known, is_among, is_new, new_parents, orders_behind}
+use Rattle.wit_model.specs.Rules.Verdict.{Basis, type_held, has_type_of, is_sleepable, is_giant, is_learnt, is_direct_behind, is_among, is_new, new_parents, orders_behind}
 use Rattle.wit_model.proofs.Orders.Paths.{sound_adopt}
 
-module _ (q : Asked) where
+module _ (q : TypedRequest) where
   abbrev order : TypeNo → Adoption
   order p = taught_at q.site (p, q.type_no)
 
@@ -99,14 +99,14 @@ module _ (q : Asked) where
     is-free : (before : List TypeNo) (os : List Adoption) (i : Instance) → HaveGrown before os → not (has_type_of g q i) ≡ true → is_new g q before i ≡ true
         → IsFree os (type_held g i)
     is-free before os i have apart new =
-        let some = and_parts (is_learnt g q i && not (is_known g q i)) (not (is_among (ty i) before)) new in
-        let both = and_parts (is_learnt g q i) (not (is_known g q i)) some.0 in
+        let some = and_parts (is_learnt g q i && not (is_direct_behind g q i)) (not (is_among (ty i) before)) new in
+        let both = and_parts (is_learnt g q i) (not (is_direct_behind g q i)) some.0 in
         let allowed = and_parts (has_flag q.ops.0 0x01 && not (is_giant g (type_held g i) && is_sleepable g q.type_no)) (not (is_before g.orders child (ty i))) both.0 in
         record {
           apart = λ same. true≢false (sym (eq-eqb (ty i) child same) ∙ not-true (has_type_of g q i) apart);
           orderly = have.orderly (ty i) (not-true (is_before g.orders child (ty i)) allowed.1);
           unknown = have.direct (ty i)
-              ∙ or_from (is_direct g.orders (ty i) child) (is_among (ty i) before) (not-true (is_known g q i) both.1) (not-true (is_among (ty i) before) some.1);
+              ∙ or_from (is_direct g.orders (ty i) child) (is_among (ty i) before) (not-true (is_direct_behind g q i) both.1) (not-true (is_among (ty i) before) some.1);
         }
 
     free-all : (c : List Instance) (before : List TypeNo) (os : List Adoption) → HaveGrown before os → list_all (λ i. not (has_type_of g q i)) c ≡ true
@@ -149,7 +149,7 @@ module _ (q : Asked) where
     -- ---- where each order is known or may be learnt, it is known, or learnt before, or learnt now
 
     abbrev is_settled : List TypeNo → List TypeNo → Instance → Bool
-    is_settled before now i = is_known g q i || (is_among (ty i) before || is_among (ty i) now)
+    is_settled before now i = is_direct_behind g q i || (is_among (ty i) before || is_among (ty i) now)
 
     moves : (k s n e : Bool) → (k || ((e || s) || n)) ≡ true → (k || (s || (e || n))) ≡ true
     moves true s n e is = refl
@@ -162,7 +162,7 @@ module _ (q : Asked) where
     all-move p before now (i ∷ c) all =
         let parts = and_parts (is_settled (p ∷ before) now i) (list_all (is_settled (p ∷ before) now) c) all in
         and_from (is_settled before (p ∷ now) i) (list_all (is_settled before (p ∷ now)) c)
-        (moves (is_known g q i) (is_among (ty i) before) (is_among (ty i) now) (eqb p.0 (ty i)) parts.0) (all-move p before now c parts.1)
+        (moves (is_direct_behind g q i) (is_among (ty i) before) (is_among (ty i) now) (eqb p.0 (ty i)) parts.0) (all-move p before now c parts.1)
 
     not-new : (l k s : Bool) → ((l && not k) && not s) ≡ false → (l || k) ≡ true → (rest : Bool) → (k || (s || rest)) ≡ true
     not-new l true s none some rest = refl
@@ -170,28 +170,28 @@ module _ (q : Asked) where
     not-new true false false none some rest = absurd (true≢false none)
     not-new false false false none some rest = absurd (true≢false (sym some))
 
-    all-settled : (c : List Instance) (before : List TypeNo) → list_all (λ i. is_learnt g q i || is_known g q i) c ≡ true
+    all-settled : (c : List Instance) (before : List TypeNo) → list_all (λ i. is_learnt g q i || is_direct_behind g q i) c ≡ true
         → list_all (is_settled before (new_parents g q before c)) c ≡ true
     all-settled [] before all = refl
     all-settled (i ∷ c) before all =
-        let parts = and_parts (is_learnt g q i || is_known g q i) (list_all (λ j. is_learnt g q j || is_known g q j) c) all in
+        let parts = and_parts (is_learnt g q i || is_direct_behind g q i) (list_all (λ j. is_learnt g q j || is_direct_behind g q j) c) all in
         go (is_new g q before i) refl parts.0 (all-settled c (type_held g i ∷ before) parts.1) (all-settled c before parts.1)
       where
-        go : (f : Bool) → is_new g q before i ≡ f → (is_learnt g q i || is_known g q i) ≡ true
+        go : (f : Bool) → is_new g q before i ≡ f → (is_learnt g q i || is_direct_behind g q i) ≡ true
             → list_all (is_settled (type_held g i ∷ before) (new_parents g q (type_held g i ∷ before) c)) c ≡ true
             → list_all (is_settled before (new_parents g q before c)) c ≡ true
             → list_all (is_settled before (cond f (type_held g i ∷ new_parents g q (type_held g i ∷ before) c) (new_parents g q before c))) (i ∷ c) ≡ true
         go true new may with_it without =
             let now = new_parents g q (type_held g i ∷ before) c in
             and_from (is_settled before (type_held g i ∷ now) i) (list_all (is_settled before (type_held g i ∷ now)) c)
-            (or_right (is_known g q i) (is_among (ty i) before || (eqb (ty i) (ty i) || is_among (ty i) now))
+            (or_right (is_direct_behind g q i) (is_among (ty i) before || (eqb (ty i) (ty i) || is_among (ty i) now))
             (or_right (is_among (ty i) before) (eqb (ty i) (ty i) || is_among (ty i) now) (or_left (eqb (ty i) (ty i)) (is_among (ty i) now) (eq-eqb (ty i) (ty i) refl))))
             (all-move (type_held g i) before now c with_it)
         go false none may with_it without =
             let now = new_parents g q before c in
             and_from (is_settled before now i) (list_all (is_settled before now) c)
-            (not-new (is_learnt g q i) (is_known g q i) (is_among (ty i) before) none may (is_among (ty i) now)) without
+            (not-new (is_learnt g q i) (is_direct_behind g q i) (is_among (ty i) before) none may (is_among (ty i) now)) without
 
-    pub settled-all : (c : List Instance) → list_all (λ i. is_learnt g q i || is_known g q i) c ≡ true
-        → list_all (λ i. is_known g q i || is_among (ty i) (new_parents g q [] c)) c ≡ true
+    pub settled-all : (c : List Instance) → list_all (λ i. is_learnt g q i || is_direct_behind g q i) c ≡ true
+        → list_all (λ i. is_direct_behind g q i || is_among (ty i) (new_parents g q [] c)) c ≡ true
     settled-all c all = all-settled c [] all

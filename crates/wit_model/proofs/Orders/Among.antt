@@ -7,7 +7,7 @@ use Rattle.wit_model.specs.declared.locks.TypeNo.{TypeNo}
 use Rattle.wit_model.specs.declared.locks.Instance.{Instance}
 use Rattle.wit_model.specs.declared.locks.Origin.TheVariants.{Listed, Defined, At}
 use Rattle.wit_model.specs.declared.calls.Adoption.{Adoption}
-use Rattle.wit_model.specs.declared.calls.Asked.{Asked}
+use Rattle.wit_model.specs.declared.calls.TypedRequest.{TypedRequest}
 use Rattle.wit_model.specs.declared.calls.Conflict.{Conflict}
 use Rattle.wit_model.specs.declared.calls.Doubling.{Doubling}
 use Rattle.wit_model.specs.declared.calls.Request.{Request}
@@ -21,7 +21,7 @@ use Rattle.wit_model.specs.Rules.Locks.{locks_of, lock_at}
 use Rattle.wit_model.specs.Rules.Orders.{is_adoption_of, is_direct, is_before, taught_at, adopted_once, listed_pairs, listed_orders}
 use Rattle.wit_model.specs.Rules.History.{is_held}
 use Rattle.wit_model.specs.Rules.State.{Start, seat_at, known_of, state_of, types_of, typed_locks, orders_of}
-use Rattle.wit_model.specs.Rules.Verdict.{asked_of}
+use Rattle.wit_model.specs.Rules.Verdict.{typed_request}
 use Rattle.wit_model.specs.Rules.Step.{answer_of, story_after, IsLegal}
 use Rattle.wit_model.specs.Rules.Numbers.{is_number, is_given, IsGiven, IsNumber}
 use Rattle.wit_model.proofs.Chains.Held.{made_sane}
@@ -35,7 +35,7 @@ use Rattle.wit_model.proofs.Orders.Defined.{define_adopted}
 use Rattle.wit_model.proofs.Orders.Started.{all-enrolled}
 use Rattle.wit_model.proofs.Orders.AllHeld.{learnt_on}
 use Rattle.wit_model.proofs.Orders.Sound.{taught, IsTaughtAll, taught-all, after-all, chain-held, chain-judged}
-use Rattle.wit_model.proofs.Orders.ToldPairs.{pair_of, told}
+use Rattle.wit_model.proofs.Orders.ToldPairs.{pair_of, pair_told}
 
 made-type : (start : Start) (h : List Entry) (l : ℕ) → IsGiven (locks_of h) l → IsNumber (length (types_of start h)) (lock_at (typed_locks start h) l).type_no.0
 made-type start h l is =
@@ -96,7 +96,7 @@ told-known : (start : Start) (files : List (List ℕ)) (h : List Entry) (t : ℕ
     → IsNumber (length (types_of start h)) p.0.0 × IsNumber (length (types_of start h)) p.1.0
 told-known start files h t q r p legal accepted is =
     let s = state_of (story_after start files h) in
-    let l = told start.profile (known_of start h) s.watch (seat_at s t) q r p accepted.verdict is in
+    let l = pair_told start.profile (known_of start h) s.watch (seat_at s t) q r p accepted.verdict is in
     let kind = is_spin (class_of (lock_at (typed_locks start h) q.lock.0).type_no.0 (types_of start h)) in
     let held : is_held t l.held.lock.0 h ≡ true =
     l.of_chain (λ (i : Instance). is_held t i.lock.0 h)
@@ -135,7 +135,7 @@ among_push n o orders all parent child = λ a b is.
     (λ old. all a b old)
     (or_cases (is_adoption_of a b o) (is_direct orders a b) is)
 
-among_on : (n : ℕ) (q : Asked) (ps : List TypeNo) (orders : List Adoption) → AreAmong n orders → list_all (λ (p : TypeNo). is_number n p.0) ps ≡ true → IsNumber n q.type_no.0
+among_on : (n : ℕ) (q : TypedRequest) (ps : List TypeNo) (orders : List Adoption) → AreAmong n orders → list_all (λ (p : TypeNo). is_number n p.0) ps ≡ true → IsNumber n q.type_no.0
     → AreAmong n (learnt_on q ps orders)
 among_on n q [] orders all known child = all
 among_on n q (p ∷ ps) orders all known child =
@@ -202,7 +202,7 @@ among_by start files h t (Check q) (AdoptedAll ps) legal ok all =
     let accepted = check_accepted (state_of (story_after start files h)) t q (AdoptedAll ps) ok in
     let l = taught-all start files h t q ps accepted in
     subst (AreAmong (length (types_of start h))) (sym (after-all start h t q ps l))
-    (among_on (length (types_of start h)) (asked_of (known_of start h) q) l.parents (orders_of start h) all
+    (among_on (length (types_of start h)) (typed_request (known_of start h) q) l.parents (orders_of start h) all
     (parents-known start files h t q ps legal l) (made-type start h q.lock.0 l.asks))
 among_by start files h t (DefineOrder x y) (Adopted a b) legal ok all =
     let o = defined-orderly start files h t x.0 y.0 a b (define_accepted (state_of (story_after start files h)) t x.0 y.0 (Adopted a b) ok refl) in

@@ -13,7 +13,7 @@ use Rattle.wit_model.specs.Rules.Types.{LockType, type_number, enrolled_all}
 use Rattle.wit_model.specs.Rules.Locks.{lock_at}
 use Rattle.wit_model.specs.Rules.Orders.{is_direct, AreDistinct, adopted_once, listed_pairs, listed_orders}
 use Rattle.wit_model.specs.Rules.State.{Start, seat_at, known_of, state_of, orders_of}
-use Rattle.wit_model.specs.Rules.Verdict.{basis_of, asked_of}
+use Rattle.wit_model.specs.Rules.Verdict.{basis_of, typed_request}
 use Rattle.wit_model.specs.Rules.Step.{answer_of, story_after, IsLegal}
 use Rattle.wit_model.proofs.Chains.Seats.{entry}
 use Rattle.wit_model.proofs.Histories.Accepted.{check_accepted}
@@ -46,11 +46,11 @@ distinct_by : (start : Start) (files : List (List ℕ)) (h : List Entry) (t : �
 distinct_by start files h t (Check q) (Adopted a b) ok all =
     let s = state_of (story_after start files h) in
     let l =
-    learnt start.profile (basis_of (known_of start h)) s.watch (seat_at s t).sleep (seat_at s t).spin (asked_of (known_of start h) q) a b (check_accepted s t q (Adopted a b) ok).verdict in
+    learnt start.profile (basis_of (known_of start h)) s.watch (seat_at s t).sleep (seat_at s t).spin (typed_request (known_of start h) q) a b (check_accepted s t q (Adopted a b) ok).verdict in
     (ap₂ (λ (x y : TypeNo). is_direct (orders_of start h) x.0 y.0) (sym l.parent) (sym l.child) ∙ l.is_new.new, all)
 distinct_by start files h t (Check q) (AdoptedAll ps) ok all =
     let l = taught-all start files h t q ps (check_accepted (state_of (story_after start files h)) t q (AdoptedAll ps) ok) in
-    subst AreDistinct (sym (after-all start h t q ps l)) (distinct-on (asked_of (known_of start h) q) l.parents (orders_of start h) l.free all)
+    subst AreDistinct (sym (after-all start h t q ps l)) (distinct-on (typed_request (known_of start h) q) l.parents (orders_of start h) l.free all)
 distinct_by start files h t (DefineOrder x y) (Adopted p c) ok all =
     let s = state_of (story_after start files h) in
     let d = define_accepted s t x.0 y.0 (Adopted p c) ok refl in

@@ -9,7 +9,7 @@ use Rattle.wit_model.specs.declared.locks.TypeNo.{TypeNo}
 use Rattle.wit_model.specs.declared.locks.Watch.{Watch}
 use Rattle.wit_model.specs.declared.locks.Instance.{Instance}
 use Rattle.wit_model.specs.declared.calls.Adoption.{Adoption}
-use Rattle.wit_model.specs.declared.calls.Asked.{Asked}
+use Rattle.wit_model.specs.declared.calls.TypedRequest.{TypedRequest}
 use Rattle.wit_model.specs.declared.calls.Conflict.{Conflict}
 use Rattle.wit_model.specs.declared.calls.Heading.{Heading}
 use Rattle.wit_model.specs.declared.calls.Heading.TheVariants as heading
@@ -17,7 +17,7 @@ use Rattle.wit_model.specs.declared.calls.Reply.{Reply}
 use Rattle.wit_model.specs.declared.calls.Reply.TheVariants.{Pass, Adopted, Silent, Duplicate, Reversal}
 use Rattle.wit_model.specs.Rules.Locks.{has_flag}
 use Rattle.wit_model.specs.Rules.Orders.{is_direct, is_before, is_found}
-use Rattle.wit_model.specs.Rules.Verdict.{Basis, Rule, is_of, type_held, has_type_of, is_sleepable, is_giant, is_blessed, place_of, place_asked, doubled, breach, violates, conflict, reported, is_learnt, is_known, is_among, is_new, new_parents, told_orders, doubles, follows, breaks_order, teaches, doubles_in, follows_in, teaches_in, when, decided, isnt_watched, sleeps_under_spin, holds_nothing, holds_it, chain_asked, ruling}
+use Rattle.wit_model.specs.Rules.Verdict.{Basis, Rule, is_of, type_held, has_type_of, is_sleepable, is_giant, is_blessed, place_of, place_asked, doubled, breach, violates, conflict, reported, is_learnt, is_direct_behind, is_among, is_new, new_parents, told_orders, doubles, follows, breaks_order, teaches, doubles_in, follows_in, teaches_in, when, decided, isnt_watched, sleeps_under_spin, holds_nothing, holds_it, chain_asked, ruling}
 
 find-same : {X : Type 0} (p r : X → Bool) → ((x : X) → p x ≡ r x) → (xs : List X) → find p xs ≡ find r xs
 find-same p r same [] = refl
@@ -35,7 +35,7 @@ module _ (g : Basis) (orders : List Adoption) (found : List (TypeNo × TypeNo)) 
       (cond (is_sleepable g a && not (is_sleepable g h)) (Some heading.Sleepable)
       (cond (is_giant g a && not (is_sleepable g h)) (Some heading.Giant) (cond b (Some heading.Order) None))))) (before a.0 h.0)
 
-  conflict-same : (q : Asked) (c : List Instance) (i : Instance) → conflict g q c i ≡ conflict other q c i
+  conflict-same : (q : TypedRequest) (c : List Instance) (i : Instance) → conflict g q c i ≡ conflict other q c i
   conflict-same q c i =
       ap (λ (o : Option Heading). record {
         heading = unwrap_or o heading.Order;
@@ -44,31 +44,31 @@ module _ (g : Basis) (orders : List Adoption) (found : List (TypeNo × TypeNo)) 
         asked = place_asked q;
       }) (breach-same q.type_no (type_held g i))
 
-  reported-same : (q : Asked) (c : List Instance) (i : Instance) → reported g q c i ≡ reported other q c i
+  reported-same : (q : TypedRequest) (c : List Instance) (i : Instance) → reported g q c i ≡ reported other q c i
   reported-same q c i =
       ap₂ (λ (b : Bool) (x : Conflict). cond {A = Result Reply Fault} (b || is_blessed g (type_held g i) q.type_no) (Ok (Silent (type_held g i) q.type_no)) (Ok (Reversal x)))
       (pairs (type_held g i).0 q.type_no.0) (conflict-same q c i)
 
-  doubles-same : (last : Option Instance) (q : Asked) → doubles g last q ≡ doubles other last q
+  doubles-same : (last : Option Instance) (q : TypedRequest) → doubles g last q ≡ doubles other last q
   doubles-same None q = refl
   doubles-same (Some i) q =
       ap (λ b. when (has_type_of g q i) (cond (has_flag q.flags.0 0x02 || has_flag q.ops.0 0x02) (Ok Pass)
       (cond b (Ok (Silent q.type_no q.type_no)) (Ok (Duplicate (record { last = place_of i; asked = place_asked q })))))) (pairs q.type_no.0 q.type_no.0)
 
-  follows-same : (last : Option Instance) (q : Asked) → follows g last q ≡ follows other last q
+  follows-same : (last : Option Instance) (q : TypedRequest) → follows g last q ≡ follows other last q
   follows-same None q = refl
   follows-same (Some i) q = ap (λ b. when b (Ok Pass)) (direct (type_held g i).0 q.type_no.0)
 
-  map-same : (q : Asked) (c : List Instance) (o : Option Instance) → option_map (reported g q c) o ≡ option_map (reported other q c) o
+  map-same : (q : TypedRequest) (c : List Instance) (o : Option Instance) → option_map (reported g q c) o ≡ option_map (reported other q c) o
   map-same q c None = refl
   map-same q c (Some i) = ap Some (reported-same q c i)
 
-  breaks-same : (c : List Instance) (q : Asked) → breaks_order g c q ≡ breaks_order other c q
+  breaks-same : (c : List Instance) (q : TypedRequest) → breaks_order g c q ≡ breaks_order other c q
   breaks-same c q =
       ap (option_map (reported g q c)) (find-same (violates g q) (violates other q) (λ i. ap is_some (breach-same q.type_no (type_held g i))) (reverse c))
       ∙ map-same q c (find (violates other q) (reverse c))
 
-  teaches-same : (last : Option Instance) (q : Asked) → teaches g last q ≡ teaches other last q
+  teaches-same : (last : Option Instance) (q : TypedRequest) → teaches g last q ≡ teaches other last q
   teaches-same None q = refl
   teaches-same (Some i) q =
       ap (λ b. when (has_flag q.ops.0 0x01 && not (is_giant g (type_held g i) && is_sleepable g q.type_no) && not b) (Ok (Adopted (type_held g i) q.type_no)))
@@ -76,46 +76,46 @@ module _ (g : Basis) (orders : List Adoption) (found : List (TypeNo × TypeNo)) 
 
   -- ---- the same where all held locks are compared with
 
-  doubled-same : (q : Asked) (i : Instance) → doubled g q i ≡ doubled other q i
+  doubled-same : (q : TypedRequest) (i : Instance) → doubled g q i ≡ doubled other q i
   doubled-same q i =
       ap (λ b. cond {A = Result Reply Fault} (has_flag q.flags.0 0x02 || has_flag q.ops.0 0x02) (Ok Pass)
       (cond b (Ok (Silent q.type_no q.type_no)) (Ok (Duplicate (record { last = place_of i; asked = place_asked q }))))) (pairs q.type_no.0 q.type_no.0)
 
-  doubled-map : (q : Asked) (o : Option Instance) → option_map (doubled g q) o ≡ option_map (doubled other q) o
+  doubled-map : (q : TypedRequest) (o : Option Instance) → option_map (doubled g q) o ≡ option_map (doubled other q) o
   doubled-map q None = refl
   doubled-map q (Some i) = ap Some (doubled-same q i)
 
-  all-known : (q : Asked) (c : List Instance) → list_all (is_known g q) c ≡ list_all (is_known other q) c
+  all-known : (q : TypedRequest) (c : List Instance) → list_all (is_direct_behind g q) c ≡ list_all (is_direct_behind other q) c
   all-known q [] = refl
   all-known q (i ∷ c) = ap₂ (λ a b. a && b) (direct (type_held g i).0 q.type_no.0) (all-known q c)
 
-  learnt-same : (q : Asked) (i : Instance) → is_learnt g q i ≡ is_learnt other q i
+  learnt-same : (q : TypedRequest) (i : Instance) → is_learnt g q i ≡ is_learnt other q i
   learnt-same q i =
       ap (λ b. has_flag q.ops.0 0x01 && not (is_giant g (type_held g i) && is_sleepable g q.type_no) && not b) (before q.type_no.0 (type_held g i).0)
 
-  new-same : (q : Asked) (ps : List TypeNo) (i : Instance) → is_new g q ps i ≡ is_new other q ps i
+  new-same : (q : TypedRequest) (ps : List TypeNo) (i : Instance) → is_new g q ps i ≡ is_new other q ps i
   new-same q ps i =
       ap₂ (λ a b. a && not b && not (is_among (type_held g i).0 ps)) (learnt-same q i) (direct (type_held g i).0 q.type_no.0)
 
-  pub parents-same : (q : Asked) (ps : List TypeNo) (c : List Instance) → new_parents g q ps c ≡ new_parents other q ps c
+  pub parents-same : (q : TypedRequest) (ps : List TypeNo) (c : List Instance) → new_parents g q ps c ≡ new_parents other q ps c
   parents-same q ps [] = refl
   parents-same q ps (i ∷ c) =
       ap (λ b. cond b (type_held g i ∷ new_parents g q (type_held g i ∷ ps) c) (new_parents g q ps c)) (new-same q ps i)
       ∙ ap₂ (λ a b. cond (is_new other q ps i) (type_held g i ∷ a) b) (parents-same q (type_held g i ∷ ps) c) (parents-same q ps c)
 
-  doubles_in-same : (profile : Profile) (c : List Instance) (last : Option Instance) (q : Asked) → doubles_in profile g c last q ≡ doubles_in profile other c last q
+  doubles_in-same : (profile : Profile) (c : List Instance) (last : Option Instance) (q : TypedRequest) → doubles_in profile g c last q ≡ doubles_in profile other c last q
   doubles_in-same Plain c last q = doubles-same last q
   doubles_in-same AllHeld c last q = doubled-map q (find (has_type_of g q) (reverse c))
 
-  follows_in-same : (profile : Profile) (c : List Instance) (last : Option Instance) (q : Asked) → follows_in profile g c last q ≡ follows_in profile other c last q
+  follows_in-same : (profile : Profile) (c : List Instance) (last : Option Instance) (q : TypedRequest) → follows_in profile g c last q ≡ follows_in profile other c last q
   follows_in-same Plain c last q = follows-same last q
   follows_in-same AllHeld c last q = ap (λ b. when b (Ok Pass)) (all-known q c)
 
-  teaches_in-same : (profile : Profile) (c : List Instance) (last : Option Instance) (q : Asked) → teaches_in profile g c last q ≡ teaches_in profile other c last q
+  teaches_in-same : (profile : Profile) (c : List Instance) (last : Option Instance) (q : TypedRequest) → teaches_in profile g c last q ≡ teaches_in profile other c last q
   teaches_in-same Plain c last q = teaches-same last q
   teaches_in-same AllHeld c last q = ap (told_orders q) (parents-same q [] (reverse c))
 
-  module _ (profile : Profile) (watch : Watch) (spin c : List Instance) (last : Option Instance) (q : Asked) where
+  module _ (profile : Profile) (watch : Watch) (spin c : List Instance) (last : Option Instance) (q : TypedRequest) where
     with-rules : Rule → Rule → Rule → Rule → Result Reply Fault
     with-rules a b d e =
         decided (isnt_watched watch ∷ sleeps_under_spin g spin q ∷ holds_nothing last ∷ holds_it c q ∷ a ∷ b ∷ d ∷ e ∷ [])
@@ -127,7 +127,7 @@ module _ (g : Basis) (orders : List Adoption) (found : List (TypeNo × TypeNo)) 
         ∙ ap₂ (λ d e. with-rules (doubles_in profile other c last q) (follows_in profile other c last q) d e) (breaks-same c q) (teaches_in-same profile c last q)
 
   -- the ruling over other lists of the same orders and pairs
-  pub same-ruling : (profile : Profile) (watch : Watch) (sleep spin : List Instance) (q : Asked)
+  pub same-ruling : (profile : Profile) (watch : Watch) (sleep spin : List Instance) (q : TypedRequest)
       → ruling profile g watch sleep spin q ≡ ruling profile other watch sleep spin q
   unfolding with-rules
   same-ruling profile watch sleep spin q = rules-same profile watch spin (chain_asked g sleep spin q) (last_or None (chain_asked g sleep spin q)) q

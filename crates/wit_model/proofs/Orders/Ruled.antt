@@ -8,48 +8,48 @@ use Rattle.wit_model.specs.declared.faults.Fault.TheVariants.{SleepUnderSpin}
 use Rattle.wit_model.specs.declared.locks.TypeNo.{TypeNo}
 use Rattle.wit_model.specs.declared.locks.Watch.{Watch}
 use Rattle.wit_model.specs.declared.locks.Instance.{Instance}
-use Rattle.wit_model.specs.declared.calls.Asked.{Asked}
+use Rattle.wit_model.specs.declared.calls.TypedRequest.{TypedRequest}
 use Rattle.wit_model.specs.declared.calls.Reply.{Reply}
 use Rattle.wit_model.specs.declared.calls.Reply.TheVariants.{Pass, Adopted, AdoptedAll}
 use Rattle.wit_model.specs.Rules.Locks.{has_flag}
 use Rattle.wit_model.specs.Rules.Orders.{is_direct}
 use Rattle.wit_model.specs.Rules.History.{is_on}
 use Rattle.wit_model.specs.Rules.Types.{is_spin, class_of}
-use Rattle.wit_model.specs.Rules.Verdict.{Basis, Rule, is_exclusive, is_of, type_held, has_type_of, again, doubled, violates, reported, is_learnt, when, decided, follows, breaks_order, teaches, is_known, follows_all, new_parents, orders_behind, told_orders, teaches_all, doubles_in, follows_in, teaches_in, holds_it, holds_nothing, sleeps_under_spin, chain_asked, ruling}
+use Rattle.wit_model.specs.Rules.Verdict.{Basis, Rule, is_exclusive, is_of, type_held, has_type_of, again, doubled, violates, reported, is_learnt, when, decided, follows, breaks_order, teaches, is_direct_behind, follows_all, new_parents, orders_behind, told_orders, teaches_all, doubles_in, follows_in, teaches_in, holds_it, holds_nothing, sleeps_under_spin, chain_asked, ruling}
 use Rattle.wit_model.proofs.Histories.Accepted.{passed, same_reply}
 use Rattle.wit_model.proofs.Orders.Ends.{found-last, all-last, found-passes}
 
 -- the lock is asked for behind another one
-pub record IsBehind (q : Asked) (c : List Instance) (last : Instance) : Type 0 where
+pub record IsBehind (q : TypedRequest) (c : List Instance) (last : Instance) : Type 0 where
   pub is_last : last_or None c ≡ Some last
   pub free : find (is_of q.lock.0) c ≡ None
 
 -- behind one of another type, by an order that isn't a direct one
-pub record IsNew (g : Basis) (q : Asked) (c : List Instance) (last : Instance) : Type 0 where
+pub record IsNewBehind (g : Basis) (q : TypedRequest) (c : List Instance) (last : Instance) : Type 0 where
   pub behind : IsBehind q c last
   pub apart : has_type_of g q last ≡ false
   pub new : is_direct g.orders (type_held g last).0 q.type_no.0 ≡ false
 
 -- the order behind the last held lock is learnt
-pub record Learns (g : Basis) (q : Asked) (c : List Instance) (r : Reply) : Type 0 where
+pub record Learns (g : Basis) (q : TypedRequest) (c : List Instance) (r : Reply) : Type 0 where
   pub last : Instance
-  pub is_new : IsNew g q c last
+  pub is_new : IsNewBehind g q c last
   pub orderly : find (violates g q) (reverse c) ≡ None
   pub allowed : is_learnt g q last ≡ true
   pub reply : r ≡ Adopted (type_held g last) q.type_no
 
 -- no held lock is of the type
-abbrev pub AreApart : Basis → Asked → List Instance → Type 0
+abbrev pub AreApart : Basis → TypedRequest → List Instance → Type 0
 AreApart g q c = find (has_type_of g q) (reverse c) ≡ None
 
 -- the orders behind all held locks are learnt
-pub record LearnsAll (g : Basis) (q : Asked) (c : List Instance) (r : Reply) : Type 0 where
+pub record LearnsAll (g : Basis) (q : TypedRequest) (c : List Instance) (r : Reply) : Type 0 where
   pub apart : AreApart g q c
   pub orderly : find (violates g q) (reverse c) ≡ None
   pub reply : r ≡ AdoptedAll (orders_behind q (new_parents g q [] (reverse c)))
 
 -- a held lock is of the type: the last one, where the last one alone is compared with
-pub record Doubles (profile : Profile) (g : Basis) (q : Asked) (c : List Instance) (r : Reply) : Type 0 where
+pub record Doubles (profile : Profile) (g : Basis) (q : TypedRequest) (c : List Instance) (r : Reply) : Type 0 where
   pub held : Instance
   pub of_chain : (has : Instance → Bool) → list_all has c ≡ true → has held ≡ true
   pub behind : profile ≡ Plain → IsBehind q c held
@@ -57,52 +57,52 @@ pub record Doubles (profile : Profile) (g : Basis) (q : Asked) (c : List Instanc
   pub reply : doubled g q held ≡ Ok r
 
 -- the lock is asked for behind one by an order that isn't known
-pub record IsUnknown (g : Basis) (q : Asked) (c : List Instance) : Type 0 where
+pub record IsUnknown (g : Basis) (q : TypedRequest) (c : List Instance) : Type 0 where
   pub last : Instance
-  pub is_new : IsNew g q c last
+  pub is_new : IsNewBehind g q c last
 
 -- a held lock violates an order
-pub record Breaks (profile : Profile) (g : Basis) (q : Asked) (c : List Instance) (r : Reply) : Type 0 where
+pub record Breaks (profile : Profile) (g : Basis) (q : TypedRequest) (c : List Instance) (r : Reply) : Type 0 where
   pub unknown : profile ≡ Plain → IsUnknown g q c
   pub held : Instance
   pub violation : find (violates g q) (reverse c) ≡ Some held
   pub reply : reported g q c held ≡ Ok r
 
 -- the lock follows the last one by a direct order
-pub record Follows (g : Basis) (q : Asked) (c : List Instance) : Type 0 where
+pub record Follows (g : Basis) (q : TypedRequest) (c : List Instance) : Type 0 where
   pub last : Instance
   pub behind : IsBehind q c last
   pub direct : is_direct g.orders (type_held g last).0 q.type_no.0 ≡ true
 
 -- no order is violated, and none is to be learnt
-pub record Forgoes (g : Basis) (q : Asked) (c : List Instance) : Type 0 where
+pub record Forgoes (g : Basis) (q : TypedRequest) (c : List Instance) : Type 0 where
   pub last : Instance
-  pub is_new : IsNew g q c last
+  pub is_new : IsNewBehind g q c last
   pub orderly : find (violates g q) (reverse c) ≡ None
   pub barred : is_learnt g q last ≡ false
 
 -- the same, of all held locks
-pub record ForgoesAll (g : Basis) (q : Asked) (c : List Instance) : Type 0 where
+pub record ForgoesAll (g : Basis) (q : TypedRequest) (c : List Instance) : Type 0 where
   pub apart : AreApart g q c
   pub orderly : find (violates g q) (reverse c) ≡ None
   pub barred : new_parents g q [] (reverse c) ≡ []
 
 -- the lock is held
-pub record Recurs (q : Asked) (c : List Instance) : Type 0 where
+pub record Recurs (q : TypedRequest) (c : List Instance) : Type 0 where
   pub held : Instance
   pub is_held : find (is_of q.lock.0) c ≡ Some held
 
 -- why a request passes where nothing doubles it
-pub data Cause (profile : Profile) (g : Basis) (watch : Watch) (q : Asked) (c : List Instance) : Type 0 where
+pub data Cause (profile : Profile) (g : Basis) (watch : Watch) (q : TypedRequest) (c : List Instance) : Type 0 where
   Unwatched : is_on watch ≡ false → Cause profile g watch q c
   Empty : last_or None c ≡ None → Cause profile g watch q c
   Recursion : Recurs q c → Cause profile g watch q c
   Known : profile ≡ Plain → Follows g q c → Cause profile g watch q c
-  KnownAll : profile ≡ AllHeld → list_all (is_known g q) c ≡ true → Cause profile g watch q c
+  KnownAll : profile ≡ AllHeld → list_all (is_direct_behind g q) c ≡ true → Cause profile g watch q c
   Untaught : profile ≡ Plain → Forgoes g q c → Cause profile g watch q c
   UntaughtAll : profile ≡ AllHeld → ForgoesAll g q c → Cause profile g watch q c
 
-pub data Says (profile : Profile) (g : Basis) (watch : Watch) (q : Asked) (c : List Instance) (r : Reply) : Type 0 where
+pub data Says (profile : Profile) (g : Basis) (watch : Watch) (q : TypedRequest) (c : List Instance) (r : Reply) : Type 0 where
   Passed : r ≡ Pass → Cause profile g watch q c → Says profile g watch q c r
   Learnt : profile ≡ Plain → Learns g q c r → Says profile g watch q c r
   LearntAll : profile ≡ AllHeld → LearnsAll g q c r → Says profile g watch q c r
@@ -112,7 +112,7 @@ pub data Says (profile : Profile) (g : Basis) (watch : Watch) (q : Asked) (c : L
 unlike : (A : Type 0) → AllHeld ≡ Plain → A
 unlike A same = (cc)
 
-again_passes : (q : Asked) (i : Instance) (r : Reply) → again q i ≡ Ok r → r ≡ Pass
+again_passes : (q : TypedRequest) (i : Instance) (r : Reply) → again q i ≡ Ok r → r ≡ Pass
 again_passes q i r ok =
     let one = passed (is_exclusive i.mode && not (is_exclusive q.mode)) _ _ r ok in
     let two = passed (not (is_exclusive i.mode) && is_exclusive q.mode) _ _ r one.1 in
@@ -121,13 +121,13 @@ again_passes q i r ok =
     sym (same_reply four.1)
 
 -- the last held lock alone is compared with
-module _ (g : Basis) (watch : Watch) (q : Asked) (c : List Instance) (r : Reply) where
-  learning : (last : Instance) → IsNew g q c last → find (violates g q) (reverse c) ≡ None
+module _ (g : Basis) (watch : Watch) (q : TypedRequest) (c : List Instance) (r : Reply) where
+  learning : (last : Instance) → IsNewBehind g q c last → find (violates g q) (reverse c) ≡ None
       → (b : Bool) → is_learnt g q last ≡ b → decided (when b (Ok (Adopted (type_held g last) q.type_no)) ∷ []) ≡ Ok r → Says Plain g watch q c r
   learning last new orderly true is told = Learnt refl (record { last = last; is_new = new; orderly = orderly; allowed = is; reply = sym (same_reply told) })
   learning last new orderly false is told = Passed (sym (same_reply told)) (Untaught refl (record { last = last; is_new = new; orderly = orderly; barred = is }))
 
-  breaking : (last : Instance) → IsNew g q c last → (o : Option Instance) → find (violates g q) (reverse c) ≡ o
+  breaking : (last : Instance) → IsNewBehind g q c last → (o : Option Instance) → find (violates g q) (reverse c) ≡ o
       → decided (option_map (reported g q c) o ∷ teaches g (Some last) q ∷ []) ≡ Ok r → Says Plain g watch q c r
   breaking last new (Some i) sees told = Broken (record { unknown = λ plain. record { last = last; is_new = new }; held = i; violation = sees; reply = told })
   breaking last new None sees told = learning last new sees (is_learnt g q last) refl told
@@ -146,7 +146,7 @@ module _ (g : Basis) (watch : Watch) (q : Asked) (c : List Instance) (r : Reply)
   doubling last behind false is told = following last behind is (is_direct g.orders (type_held g last).0 q.type_no.0) refl told
 
 -- all held locks are
-module _ (g : Basis) (watch : Watch) (q : Asked) (c : List Instance) (r : Reply) where
+module _ (g : Basis) (watch : Watch) (q : TypedRequest) (c : List Instance) (r : Reply) where
   learning-all : AreApart g q c → find (violates g q) (reverse c) ≡ None → (ps : List TypeNo) → new_parents g q [] (reverse c) ≡ ps
       → decided (told_orders q ps ∷ []) ≡ Ok r → Says AllHeld g watch q c r
   learning-all apart orderly [] is told = Passed (sym (same_reply told)) (UntaughtAll refl (record { apart = apart; orderly = orderly; barred = is }))
@@ -158,14 +158,14 @@ module _ (g : Basis) (watch : Watch) (q : Asked) (c : List Instance) (r : Reply)
   breaking-all apart (Some i) sees told = Broken (record { unknown = λ plain. unlike (IsUnknown g q c) plain; held = i; violation = sees; reply = told })
   breaking-all apart None sees told = learning-all apart sees (new_parents g q [] (reverse c)) refl told
 
-  following-all : AreApart g q c → (b : Bool) → list_all (is_known g q) c ≡ b
+  following-all : AreApart g q c → (b : Bool) → list_all (is_direct_behind g q) c ≡ b
       → decided (when b (Ok Pass) ∷ breaks_order g c q ∷ teaches_all g c q ∷ []) ≡ Ok r → Says AllHeld g watch q c r
   following-all apart true is told = Passed (sym (same_reply told)) (KnownAll refl is)
   following-all apart false is told = breaking-all apart (find (violates g q) (reverse c)) refl told
 
   doubling-all : (o : Option Instance) → find (has_type_of g q) (reverse c) ≡ o
       → decided (option_map (doubled g q) o ∷ follows_all g c q ∷ breaks_order g c q ∷ teaches_all g c q ∷ []) ≡ Ok r → Says AllHeld g watch q c r
-  doubling-all None is told = following-all is (list_all (is_known g q) c) refl told
+  doubling-all None is told = following-all is (list_all (is_direct_behind g q) c) refl told
   doubling-all (Some i) is told =
       Doubled (record {
         held = i;
@@ -176,15 +176,15 @@ module _ (g : Basis) (watch : Watch) (q : Asked) (c : List Instance) (r : Reply)
       })
 
 -- the rules that the profile tells apart, and what they stand with
-abbrev later_rules : Profile → Basis → List Instance → Option Instance → Asked → List Rule
+abbrev later_rules : Profile → Basis → List Instance → Option Instance → TypedRequest → List Rule
 later_rules profile g c last q = doubles_in profile g c last q ∷ follows_in profile g c last q ∷ breaks_order g c q ∷ teaches_in profile g c last q ∷ []
 
-comparing : (profile : Profile) (g : Basis) (watch : Watch) (q : Asked) (c : List Instance) (r : Reply) (last : Instance) → IsBehind q c last
+comparing : (profile : Profile) (g : Basis) (watch : Watch) (q : TypedRequest) (c : List Instance) (r : Reply) (last : Instance) → IsBehind q c last
     → decided (later_rules profile g c (Some last) q) ≡ Ok r → Says profile g watch q c r
 comparing Plain g watch q c r last behind told = doubling g watch q c r last behind (has_type_of g q last) refl told
 comparing AllHeld g watch q c r last behind told = doubling-all g watch q c r (find (has_type_of g q) (reverse c)) refl told
 
-module _ (profile : Profile) (g : Basis) (watch : Watch) (q : Asked) (c : List Instance) (r : Reply) where
+module _ (profile : Profile) (g : Basis) (watch : Watch) (q : TypedRequest) (c : List Instance) (r : Reply) where
   recurring : (last : Instance) → last_or None c ≡ Some last → (o : Option Instance) → find (is_of q.lock.0) c ≡ o
       → decided (option_map (again q) o ∷ later_rules profile g c (Some last) q) ≡ Ok r → Says profile g watch q c r
   recurring last is_last (Some i) there told = Passed (again_passes q i r told) (Recursion (record { held = i; is_held = there }))
@@ -207,6 +207,6 @@ module _ (profile : Profile) (g : Basis) (watch : Watch) (q : Asked) (c : List I
   watching spin false is told = Passed (sym (same_reply told)) (Unwatched is)
   watching spin true is told = sleeping spin (not (is_spin (class_of q.type_no.0 g.types)) && is_some (last_or None spin)) told
 
-pub ruled : (profile : Profile) (g : Basis) (watch : Watch) (sleep spin : List Instance) (q : Asked) (r : Reply)
+pub ruled : (profile : Profile) (g : Basis) (watch : Watch) (sleep spin : List Instance) (q : TypedRequest) (r : Reply)
     → ruling profile g watch sleep spin q ≡ Ok r → Says profile g watch q (chain_asked g sleep spin q) r
 ruled profile g watch sleep spin q r ok = watching profile g watch q (chain_asked g sleep spin q) r spin (is_on watch) refl ok

@@ -9,7 +9,7 @@ use Rattle.wit_model.specs.declared.locks.TypeNo.{TypeNo}
 use Rattle.wit_model.specs.declared.locks.Watch.{Watch}
 use Rattle.wit_model.specs.declared.locks.Instance.{Instance}
 use Rattle.wit_model.specs.declared.locks.Origin.TheVariants.{Defined, At}
-use Rattle.wit_model.specs.declared.calls.Asked.{Asked}
+use Rattle.wit_model.specs.declared.calls.TypedRequest.{TypedRequest}
 use Rattle.wit_model.specs.declared.calls.Request.{Request}
 use Rattle.wit_model.specs.declared.calls.Call.{Call}
 use Rattle.wit_model.specs.declared.calls.Call.TheVariants.{Check, DefineOrder}
@@ -21,7 +21,7 @@ use Rattle.wit_model.specs.Rules.Locks.{Lock, locks_of, has_flag, lock_at, unkno
 use Rattle.wit_model.specs.Rules.Orders.{is_before, is_found, IsSound, adopted}
 use Rattle.wit_model.specs.Rules.History.{is_held, held_of, chain, instance}
 use Rattle.wit_model.specs.Rules.State.{Start, Known, Seat, seat_at, is_seat, known_of, state_of, types_of, typed_locks, orders_of}
-use Rattle.wit_model.specs.Rules.Verdict.{Basis, type_held, is_sleepable, is_giant, place_of, place_asked, doubled, violates, is_blessed, conflict, has_type_of, reported, is_learnt, new_parents, orders_behind, chain_asked, ruling, basis_of, asked_of}
+use Rattle.wit_model.specs.Rules.Verdict.{Basis, type_held, is_sleepable, is_giant, place_of, place_asked, doubled, violates, is_blessed, conflict, has_type_of, reported, is_learnt, new_parents, orders_behind, chain_asked, ruling, basis_of, typed_request}
 use Rattle.wit_model.specs.Rules.Step.{answer_of, story_after, IsLegal}
 use Rattle.wit_model.specs.Rules.Numbers.{IsGiven}
 use Rattle.wit_model.proofs.Numbered.{with_number-or-map}
@@ -29,7 +29,7 @@ use Rattle.wit_model.proofs.Orders.Paths.{sound_adopt}
 use Rattle.wit_model.proofs.Orders.Defined.{define_adopted}
 use Rattle.wit_model.proofs.Orders.AllHeld.{AreFree, learnt_on, on-adopted, sound-on, parents-free, parents-have}
 use Rattle.wit_model.proofs.Orders.Ends.{all-last, all-reverse, none-passes}
-use Rattle.wit_model.proofs.Orders.Ruled.{IsNew, AreApart, Says, Passed, Learnt, LearntAll, Doubled, Broken, ruled}
+use Rattle.wit_model.proofs.Orders.Ruled.{IsNewBehind, AreApart, Says, Passed, Learnt, LearntAll, Doubled, Broken, ruled}
 use Rattle.wit_model.proofs.Chains.Held.{made_sane, held_of-all}
 use Rattle.wit_model.proofs.Chains.Seats.{entry}
 use Rattle.wit_model.proofs.Orders.TypedLocks.{made-known}
@@ -38,22 +38,22 @@ use Rattle.wit_model.proofs.Histories.AcceptedTurns.{define_accepted}
 use Rattle.wit_model.proofs.Histories.Legal.{seat_at-state, one_chain, sane_legal}
 
 -- what a learnt order says of the chain
-pub record IsLearnt (g : Basis) (q : Asked) (c : List Instance) (p child' : TypeNo) : Type 0 where
+pub record IsLearnt (g : Basis) (q : TypedRequest) (c : List Instance) (p child' : TypeNo) : Type 0 where
   pub last : Instance
-  pub is_new : IsNew g q c last
+  pub is_new : IsNewBehind g q c last
   pub orderly : find (violates g q) (reverse c) ≡ None
   pub allowed : is_learnt g q last ≡ true
   pub parent : type_held g last ≡ p
   pub child : q.type_no ≡ child'
 
-reported_teaches_nothing : (g : Basis) (q : Asked) (c : List Instance) (i : Instance) (a b : TypeNo) → reported g q c i ≡ Ok (Adopted a b) → ⊥
+reported_teaches_nothing : (g : Basis) (q : TypedRequest) (c : List Instance) (i : Instance) (a b : TypeNo) → reported g q c i ≡ Ok (Adopted a b) → ⊥
 reported_teaches_nothing g q c i a b ok = go (is_found g.found (type_held g i).0 q.type_no.0 || is_blessed g (type_held g i) q.type_no) ok
   where
     go : (f : Bool) → cond {A = Result Reply Fault} f (Ok (Silent (type_held g i) q.type_no)) (Ok (Reversal (conflict g q c i))) ≡ Ok (Adopted a b) → ⊥
     go true same = (cc)
     go false same = (cc)
 
-doubled_teaches_nothing : (g : Basis) (q : Asked) (i : Instance) (a b : TypeNo) → doubled g q i ≡ Ok (Adopted a b) → ⊥
+doubled_teaches_nothing : (g : Basis) (q : TypedRequest) (i : Instance) (a b : TypeNo) → doubled g q i ≡ Ok (Adopted a b) → ⊥
 doubled_teaches_nothing g q i a b ok = go (has_flag q.flags.0 0x02 || has_flag q.ops.0 0x02) (is_found g.found q.type_no.0 q.type_no.0) ok
   where
     go : (allowed f : Bool) → cond {A = Result Reply Fault} allowed (Ok Pass) (cond f (Ok (Silent q.type_no q.type_no)) (Ok (Duplicate (record { last = place_of i; asked = place_asked q })))) ≡ Ok (Adopted a b) → ⊥
@@ -61,7 +61,7 @@ doubled_teaches_nothing g q i a b ok = go (has_flag q.flags.0 0x02 || has_flag q
     go false true same = (cc)
     go false false same = (cc)
 
-pub learnt : (profile : Profile) (g : Basis) (watch : Watch) (sleep spin : List Instance) (q : Asked) (a b : TypeNo) → ruling profile g watch sleep spin q ≡ Ok (Adopted a b)
+pub learnt : (profile : Profile) (g : Basis) (watch : Watch) (sleep spin : List Instance) (q : TypedRequest) (a b : TypeNo) → ruling profile g watch sleep spin q ≡ Ok (Adopted a b)
     → IsLearnt g q (chain_asked g sleep spin q) a b
 learnt profile g watch sleep spin q a b ok = go (ruled profile g watch sleep spin q (Adopted a b) ok)
   where
@@ -80,19 +80,19 @@ learnt profile g watch sleep spin q a b ok = go (ruled profile g watch sleep spi
     }
 
 -- the same of orders behind all held locks
-pub record IsLearntAll (g : Basis) (q : Asked) (c : List Instance) (ps : List (TypeNo × TypeNo)) : Type 0 where
+pub record IsLearntAll (g : Basis) (q : TypedRequest) (c : List Instance) (ps : List (TypeNo × TypeNo)) : Type 0 where
   pub apart : AreApart g q c
   pub orderly : find (violates g q) (reverse c) ≡ None
   pub pairs : ps ≡ orders_behind q (new_parents g q [] (reverse c))
 
-reported_teaches_none : (g : Basis) (q : Asked) (c : List Instance) (i : Instance) (ps : List (TypeNo × TypeNo)) → reported g q c i ≡ Ok (AdoptedAll ps) → ⊥
+reported_teaches_none : (g : Basis) (q : TypedRequest) (c : List Instance) (i : Instance) (ps : List (TypeNo × TypeNo)) → reported g q c i ≡ Ok (AdoptedAll ps) → ⊥
 reported_teaches_none g q c i ps ok = go (is_found g.found (type_held g i).0 q.type_no.0 || is_blessed g (type_held g i) q.type_no) ok
   where
     go : (f : Bool) → cond {A = Result Reply Fault} f (Ok (Silent (type_held g i) q.type_no)) (Ok (Reversal (conflict g q c i))) ≡ Ok (AdoptedAll ps) → ⊥
     go true same = (cc)
     go false same = (cc)
 
-doubled_teaches_none : (g : Basis) (q : Asked) (i : Instance) (ps : List (TypeNo × TypeNo)) → doubled g q i ≡ Ok (AdoptedAll ps) → ⊥
+doubled_teaches_none : (g : Basis) (q : TypedRequest) (i : Instance) (ps : List (TypeNo × TypeNo)) → doubled g q i ≡ Ok (AdoptedAll ps) → ⊥
 doubled_teaches_none g q i ps ok = go (has_flag q.flags.0 0x02 || has_flag q.ops.0 0x02) (is_found g.found q.type_no.0 q.type_no.0) ok
   where
     go : (allowed f : Bool) → cond {A = Result Reply Fault} allowed (Ok Pass) (cond f (Ok (Silent q.type_no q.type_no)) (Ok (Duplicate (record { last = place_of i; asked = place_asked q })))) ≡ Ok (AdoptedAll ps) → ⊥
@@ -100,7 +100,7 @@ doubled_teaches_none g q i ps ok = go (has_flag q.flags.0 0x02 || has_flag q.ops
     go false true same = (cc)
     go false false same = (cc)
 
-pub learnt-all : (profile : Profile) (g : Basis) (watch : Watch) (sleep spin : List Instance) (q : Asked) (ps : List (TypeNo × TypeNo))
+pub learnt-all : (profile : Profile) (g : Basis) (watch : Watch) (sleep spin : List Instance) (q : TypedRequest) (ps : List (TypeNo × TypeNo))
     → ruling profile g watch sleep spin q ≡ Ok (AdoptedAll ps) → IsLearntAll g q (chain_asked g sleep spin q) ps
 learnt-all profile g watch sleep spin q ps ok = go (ruled profile g watch sleep spin q (AdoptedAll ps) ok)
   where
@@ -116,7 +116,7 @@ learnt-all profile g watch sleep spin q ps ok = go (ruled profile g watch sleep 
     }
 
 -- where the last held lock alone is compared with, no reply tells several
-pub never-all : (g : Basis) (watch : Watch) (sleep spin : List Instance) (q : Asked) (ps : List (TypeNo × TypeNo))
+pub never-all : (g : Basis) (watch : Watch) (sleep spin : List Instance) (q : TypedRequest) (ps : List (TypeNo × TypeNo))
     → ruling Plain g watch sleep spin q ≡ Ok (AdoptedAll ps) → ⊥
 never-all g watch sleep spin q ps ok = go (ruled Plain g watch sleep spin q (AdoptedAll ps) ok)
   where
@@ -145,14 +145,14 @@ last-held k t h x is =
     all-last (λ (i : Instance). is_held t i.lock.0 h) (chain k t h) x (chain-held k t h) is
 
 -- a learnt order isn't turned round, and its types differ
-learnt-orderly : (g : Basis) (q : Asked) (c : List Instance) (a b : TypeNo) → IsLearnt g q c a b → is_before g.orders b.0 a.0 ≡ false
+learnt-orderly : (g : Basis) (q : TypedRequest) (c : List Instance) (a b : TypeNo) → IsLearnt g q c a b → is_before g.orders b.0 a.0 ≡ false
 learnt-orderly g q c a b l =
     let parts =
     and_parts (has_flag q.ops.0 0x01 && not (is_giant g (type_held g l.last) && is_sleepable g q.type_no)) (not (is_before g.orders q.type_no.0 (type_held g l.last).0)) l.allowed in
     subst (λ (x : TypeNo). is_before g.orders b.0 x.0 ≡ false) l.parent
     (subst (λ (x : TypeNo). is_before g.orders x.0 (type_held g l.last).0 ≡ false) l.child (not-true (is_before g.orders q.type_no.0 (type_held g l.last).0) parts.1))
 
-learnt-apart : (g : Basis) (q : Asked) (c : List Instance) (a b : TypeNo) → IsLearnt g q c a b → a.0 ≡ b.0 → ⊥
+learnt-apart : (g : Basis) (q : TypedRequest) (c : List Instance) (a b : TypeNo) → IsLearnt g q c a b → a.0 ≡ b.0 → ⊥
 learnt-apart g q c a b l same =
     true≢false
     (sym (eq-eqb (type_held g l.last).0 q.type_no.0 (ap (λ (n : TypeNo). n.0) l.parent ∙ same ∙ sym (ap (λ (n : TypeNo). n.0) l.child)))
@@ -164,10 +164,10 @@ type-held k i = with_number-or-map (λ (l : Lock). l.type_no) k.locks i.lock.0 u
 
 -- the chain that a seat's request is judged by
 pub chain-judged : (start : Start) (files : List (List ℕ)) (h : List Entry) (t : ℕ) (q : Request) → is_seat (state_of (story_after start files h)) t ≡ true
-    → chain_asked (basis_of (known_of start h)) (seat_at (state_of (story_after start files h)) t).sleep (seat_at (state_of (story_after start files h)) t).spin (asked_of (known_of start h) q)
+    → chain_asked (basis_of (known_of start h)) (seat_at (state_of (story_after start files h)) t).sleep (seat_at (state_of (story_after start files h)) t).spin (typed_request (known_of start h) q)
     ≡ chain (is_spin (class_of (lock_at (typed_locks start h) q.lock.0).type_no.0 (types_of start h))) t h
 chain-judged start files h t q is =
-    ap (λ (s : Seat). chain_asked (basis_of (known_of start h)) s.sleep s.spin (asked_of (known_of start h) q)) (seat_at-state start files h t is)
+    ap (λ (s : Seat). chain_asked (basis_of (known_of start h)) s.sleep s.spin (typed_request (known_of start h) q)) (seat_at-state start files h t is)
     ∙ one_chain (is_spin (class_of (lock_at (typed_locks start h) q.lock.0).type_no.0 (types_of start h))) t h
 
 -- what a check that teaches an order says of it: which made locks are of its types, that these differ, and that the child isn't before the parent
@@ -185,7 +185,7 @@ pub taught : (start : Start) (files : List (List ℕ)) (h : List Entry) (t : ℕ
 taught start files h t q a b legal accepted =
     let s = state_of (story_after start files h) in
     let g = basis_of (known_of start h) in
-    let asked = asked_of (known_of start h) q in
+    let asked = typed_request (known_of start h) q in
     let c = chain_asked g (seat_at s t).sleep (seat_at s t).spin asked in
     let kind = is_spin (class_of (lock_at (typed_locks start h) q.lock.0).type_no.0 (types_of start h)) in
     let l = learnt start.profile g s.watch (seat_at s t).sleep (seat_at s t).spin asked a b accepted.verdict in
@@ -205,8 +205,8 @@ taught start files h t q a b legal accepted =
 pub record IsTaughtAll (start : Start) (h : List Entry) (t : ℕ) (q : Request) (ps : List (TypeNo × TypeNo)) : Type 0 where
   pub parents : List TypeNo
   pub asks : IsGiven (locks_of h) q.lock.0
-  pub pairs : ps ≡ orders_behind (asked_of (known_of start h) q) parents
-  pub free : AreFree (asked_of (known_of start h) q) (orders_of start h) parents
+  pub pairs : ps ≡ orders_behind (typed_request (known_of start h) q) parents
+  pub free : AreFree (typed_request (known_of start h) q) (orders_of start h) parents
   pub held : (has : TypeNo → Bool) → ((l : ℕ) → is_held t l h ≡ true → has (lock_at (typed_locks start h) l).type_no ≡ true) → list_all has parents ≡ true
 
 of-held : (start : Start) (h : List Entry) (t : ℕ) (has : TypeNo → Bool)
@@ -224,7 +224,7 @@ pub taught-all : (start : Start) (files : List (List ℕ)) (h : List Entry) (t :
 taught-all start files h t q ps accepted =
     let s = state_of (story_after start files h) in
     let g = basis_of (known_of start h) in
-    let asked = asked_of (known_of start h) q in
+    let asked = typed_request (known_of start h) q in
     let c = chain_asked g (seat_at s t).sleep (seat_at s t).spin asked in
     let kind = is_spin (class_of (lock_at (typed_locks start h) q.lock.0).type_no.0 (types_of start h)) in
     let l = learnt-all start.profile g s.watch (seat_at s t).sleep (seat_at s t).spin asked ps accepted.verdict in
@@ -241,10 +241,10 @@ taught-all start files h t q ps accepted =
 
 -- the orders once they are learnt
 pub after-all : (start : Start) (h : List Entry) (t : ℕ) (q : Request) (ps : List (TypeNo × TypeNo)) (l : IsTaughtAll start h t q ps)
-    → adopted (Check q) (AdoptedAll ps) ++ orders_of start h ≡ learnt_on (asked_of (known_of start h) q) l.parents (orders_of start h)
+    → adopted (Check q) (AdoptedAll ps) ++ orders_of start h ≡ learnt_on (typed_request (known_of start h) q) l.parents (orders_of start h)
 after-all start h t q ps l =
     ap (λ pairs. adopted (Check q) (AdoptedAll pairs) ++ orders_of start h) l.pairs
-    ∙ on-adopted (asked_of (known_of start h) q) l.parents (orders_of start h)
+    ∙ on-adopted (typed_request (known_of start h) q) l.parents (orders_of start h)
 
 sound_check : (start : Start) (files : List (List ℕ)) (h : List Entry) (t : ℕ) (q : Request) (a b : TypeNo) → IsLegal start files h
     → CheckAccepted (state_of (story_after start files h)) t q (Adopted a b) → IsSound (orders_of start h)
@@ -259,7 +259,7 @@ sound_by start files h t (Check q) (Adopted a b) legal ok sound =
     sound_check start files h t q a b legal (check_accepted (state_of (story_after start files h)) t q (Adopted a b) ok) sound
 sound_by start files h t (Check q) (AdoptedAll ps) legal ok sound =
     let l = taught-all start files h t q ps (check_accepted (state_of (story_after start files h)) t q (AdoptedAll ps) ok) in
-    subst IsSound (sym (after-all start h t q ps l)) (sound-on (asked_of (known_of start h) q) l.parents (orders_of start h) l.free sound)
+    subst IsSound (sym (after-all start h t q ps l)) (sound-on (typed_request (known_of start h) q) l.parents (orders_of start h) l.free sound)
 sound_by start files h t (DefineOrder a b) (Adopted p c) legal ok sound =
     let s = state_of (story_after start files h) in
     let d = define_accepted s t a.0 b.0 (Adopted p c) ok refl in

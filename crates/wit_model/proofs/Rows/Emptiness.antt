@@ -8,7 +8,7 @@ use Rattle.std.proofs.lemmas.List.FromFn.{length-range_with_len, map-range_with_
 use Rattle.wit_model.specs.declared.locks.Instance.{Instance}
 use Rattle.wit_model.specs.Rules.Groups.{flat, AreTidy}
 use Rattle.wit_model.specs.Rules.Chunks.{times, IsNew}
-use Rattle.wit_model.specs.Rules.Rows.{row, groups_at, shown, AreSettled}
+use Rattle.wit_model.specs.Rules.Rows.{row, groups_at, shown_chunks, AreSettled}
 use Rattle.wit_model.proofs.Rows.Placing.{times-append}
 use Rattle.wit_model.proofs.Rows.Settled.{placed-shown}
 
@@ -86,7 +86,7 @@ fresh-settled size lists few =
 
 -- and so callers see it
 pub fresh-shown : (size lists : ℕ) (rows : List (List Instance)) (places : List (List ℕ)) (unused : List ℕ) → size ≤ 65536
-    → rows ≡ replicate size [] → places ≡ replicate lists [] → unused ≡ range_with_len 0 size → AreSettled rows places unused × IsNew size lists (shown rows places unused)
+    → rows ≡ replicate size [] → places ≡ replicate lists [] → unused ≡ range_with_len 0 size → AreSettled rows places unused × IsNew size lists (shown_chunks rows places unused)
 fresh-shown size lists rows places unused few r p u =
     let settled : AreSettled rows places unused = rw (r, p, u) (fresh-settled size lists few) in (
       settled,

@@ -11,7 +11,7 @@ use Rattle.std.proofs.lemmas.Option.{slice_get_within, get_or_from_slice_get}
 use Rattle.wit_model.specs.declared.locks.Instance.{Instance}
 use Rattle.wit_model.specs.Rules.Groups.{flat, joined, opens, tidied, edited_in, replaced_in, removed_in, AreTidy}
 use Rattle.wit_model.specs.Rules.Chunks.{Chunks, IsList, IsPlaced, groups_of, set_groups, is_refused, pushed, times}
-use Rattle.wit_model.specs.Rules.Rows.{row, groups_at, shown, ArePlaced, AreSettled}
+use Rattle.wit_model.specs.Rules.Rows.{row, groups_at, shown_chunks, ArePlaced, AreSettled}
 use Rattle.wit_model.proofs.Chains.Grouping.{joined-opens, joined-fits, tidied-one, tidied-tidy, tidy-tidied, tidied-emptied, tidy-set, tidy-opened}
 use Rattle.wit_model.proofs.Rows.Placing.{IsTaken, IsFree, taken, free, placed-opened, placed-freed, times-append, times-in, times-list, times-remove}
 use Rattle.wit_model.proofs.Rows.Writing.{same-rows, same-lists, one-list}
@@ -27,7 +27,7 @@ count-groups rows (x ∷ ls) =
     ∙ omega (arith, length-map x (row rows), count-groups rows ls, length-append x (concat ls))
 
 -- callers see each chunk in its place
-pub placed-shown : (rows : List (List Instance)) (lists : List (List ℕ)) (unused : List ℕ) → ArePlaced (length rows) lists unused → IsPlaced (shown rows lists unused)
+pub placed-shown : (rows : List (List Instance)) (lists : List (List ℕ)) (unused : List ℕ) → ArePlaced (length rows) lists unused → IsPlaced (shown_chunks rows lists unused)
 placed-shown rows lists unused placed = record {
   lists = lengths-groups rows lists;
   once = placed.once;
@@ -38,7 +38,7 @@ pub groups-shown : (rows : List (List Instance)) (lists : List (List ℕ)) (l : 
 groups-shown rows lists l lt = get_or-map (groups_at rows) lists l [] [] lt
 
 -- a number of a list names one of the lists
-pub list-within : (rows : List (List Instance)) (lists : List (List ℕ)) (unused : List ℕ) (list : ℕ) → IsList (shown rows lists unused) list → list - 1 < length lists
+pub list-within : (rows : List (List Instance)) (lists : List (List ℕ)) (unused : List ℕ) (list : ℕ) → IsList (shown_chunks rows lists unused) list → list - 1 < length lists
 list-within rows lists unused list is = omega (arith, is.0, is.1, length-map lists (groups_at rows))
 
 pub both-nil : {X : Type 0} (xs ys : List X) → xs ++ ys ≡ [] → (xs ≡ []) × (ys ≡ [])
@@ -121,7 +121,7 @@ module _ (rows : List (List Instance)) (lists : List (List ℕ)) (list : ℕ) (i
   pub push-fits : (unused : List ℕ) → AreSettled rows lists unused → (p : ℕ) (i : Instance)
       → slice_get (get_or lists (list - 1) []) (length (get_or lists (list - 1) []) - 1) ≡ Some p → length (row rows p) < 5
       → opens (groups_at rows (get_or lists (list - 1) [])) ≡ false
-      → Leaves (set rows p (row rows p ++ i ∷ [])) lists unused (pushed (shown rows lists unused) list i)
+      → Leaves (set rows p (row rows p ++ i ∷ [])) lists unused (pushed (shown_chunks rows lists unused) list i)
   push-fits unused settled p i at short fits =
       let ps : List ℕ = get_or lists (list - 1) [] in
       let k : ℕ = length ps - 1 in
@@ -130,7 +130,7 @@ module _ (rows : List (List Instance)) (lists : List (List ℕ)) (list : ℕ) (i
       let is : get_or ps k 0 ≡ p = get_or_from_slice_get ps k p 0 at in
       let y : List Instance = row rows p ++ i ∷ [] in
       let long : length y ≡ length (row rows p) + 1 = length-append (row rows p) (i ∷ []) in
-      let c : Chunks = shown rows lists unused in
+      let c : Chunks = shown_chunks rows lists unused in
       let e : groups_of c list ≡ gs = groups-shown rows lists (list - 1) in_lists in
       let fit : joined i gs ≡ set gs k y =
       joined-fits i gs fits
@@ -147,7 +147,7 @@ module _ (rows : List (List Instance)) (lists : List (List ℕ)) (list : ℕ) (i
   -- a push that takes a free chunk
   pub push-opens : (rest : List ℕ) (p : ℕ) → AreSettled rows lists (rest ++ p ∷ []) → (i : Instance)
       → opens (groups_at rows (get_or lists (list - 1) [])) ≡ true
-      → Leaves (set rows p (row rows p ++ i ∷ [])) (set lists (list - 1) (get_or lists (list - 1) [] ++ p ∷ [])) rest (pushed (shown rows lists (rest ++ p ∷ [])) list i)
+      → Leaves (set rows p (row rows p ++ i ∷ [])) (set lists (list - 1) (get_or lists (list - 1) [] ++ p ∷ [])) rest (pushed (shown_chunks rows lists (rest ++ p ∷ [])) list i)
   push-opens rest p settled i full =
       let l : ℕ = list - 1 in
       let ps : List ℕ = get_or lists (list - 1) [] in
@@ -162,7 +162,7 @@ module _ (rows : List (List Instance)) (lists : List (List ℕ)) (list : ℕ) (i
       let one : length y ≡ 1 = ap length alone in
       let rows' : List (List Instance) = set rows p y in
       let len : length rows' ≡ length rows = length-set rows p y in
-      let c : Chunks = shown rows lists (rest ++ p ∷ []) in
+      let c : Chunks = shown_chunks rows lists (rest ++ p ∷ []) in
       let e : groups_of c list ≡ gs = groups-shown rows lists (list - 1) in_lists in
       let apart : times p ps ≡ 0 = omega (arith, known.apart, times-list p lists (list - 1) in_lists) in
       let filled : length (rest ++ p ∷ []) ≡ length rest + 1 = length-append rest (p ∷ []) in
@@ -189,9 +189,9 @@ module _ (rows : List (List Instance)) (lists : List (List ℕ)) (list : ℕ) (i
       }
 
   -- a push that is refused
-  pub push-refused : (unused : List ℕ) → opens (groups_at rows (get_or lists (list - 1) [])) ≡ true → length unused ≡ 0 → is_refused (shown rows lists unused) list ≡ true
+  pub push-refused : (unused : List ℕ) → opens (groups_at rows (get_or lists (list - 1) [])) ≡ true → length unused ≡ 0 → is_refused (shown_chunks rows lists unused) list ≡ true
   push-refused unused full none =
-      and_from (opens (groups_of (shown rows lists unused) list)) (eqb (length unused) 0) (ap opens (groups-shown rows lists (list - 1) in_lists) ∙ full) (eq-eqb (length unused) 0 none)
+      and_from (opens (groups_of (shown_chunks rows lists unused) list)) (eqb (length unused) 0) (ap opens (groups-shown rows lists (list - 1) in_lists) ∙ full) (eq-eqb (length unused) 0 none)
 
   module _ (unused : List ℕ) (settled : AreSettled rows lists unused) (group index : ℕ) (in-list : group < length (get_or lists (list - 1) []))
       (in-row : index < length (row rows (get_or (get_or lists (list - 1) []) group 0))) where
@@ -200,7 +200,7 @@ module _ (rows : List (List Instance)) (lists : List (List ℕ)) (list : ℕ) (i
 
     -- an edit of the lists is one of a chunk
     edited : (edit : ℕ → List Instance → List Instance)
-        → edited_in edit group index (groups_of (shown rows lists unused) list)
+        → edited_in edit group index (groups_of (shown_chunks rows lists unused) list)
         ≡ set (groups_at rows (get_or lists (list - 1) [])) group (edit index (row rows (get_or (get_or lists (list - 1) []) group 0)))
     edited edit =
         ap (edited_in edit group index) (groups-shown rows lists (list - 1) in_lists)
@@ -209,7 +209,7 @@ module _ (rows : List (List Instance)) (lists : List (List ℕ)) (list : ℕ) (i
     -- another lock is written over one
     pub replaced : (x : Instance)
         → Leaves (set rows (get_or (get_or lists (list - 1) []) group 0) (set (row rows (get_or (get_or lists (list - 1) []) group 0)) index x)) lists unused
-        (set_groups (shown rows lists unused) list (replaced_in group index x (groups_of (shown rows lists unused) list)))
+        (set_groups (shown_chunks rows lists unused) list (replaced_in group index x (groups_of (shown_chunks rows lists unused) list)))
     replaced x =
         let g : List Instance = row rows (get_or (get_or lists (list - 1) []) group 0) in
         let y : List Instance = set g index x in
@@ -223,7 +223,7 @@ module _ (rows : List (List Instance)) (lists : List (List ℕ)) (list : ℕ) (i
     -- a lock is taken out, and its chunk stays
     pub removed-kept : (1 ≤ length (remove (row rows (get_or (get_or lists (list - 1) []) group 0)) index)) ⊎ (length (get_or lists (list - 1) []) ≡ 1)
         → Leaves (set rows (get_or (get_or lists (list - 1) []) group 0) (remove (row rows (get_or (get_or lists (list - 1) []) group 0)) index)) lists unused
-        (set_groups (shown rows lists unused) list (removed_in group index (groups_of (shown rows lists unused) list)))
+        (set_groups (shown_chunks rows lists unused) list (removed_in group index (groups_of (shown_chunks rows lists unused) list)))
     removed-kept stays =
         let ps : List ℕ = get_or lists (list - 1) [] in
         let gs : List (List Instance) = groups_at rows ps in
@@ -246,7 +246,7 @@ module _ (rows : List (List Instance)) (lists : List (List ℕ)) (list : ℕ) (i
     pub removed-freed : length (remove (row rows (get_or (get_or lists (list - 1) []) group 0)) index) ≡ 0 → (length (get_or lists (list - 1) []) ≡ 1 → ⊥)
         → Leaves (set rows (get_or (get_or lists (list - 1) []) group 0) (remove (row rows (get_or (get_or lists (list - 1) []) group 0)) index))
         (set lists (list - 1) (remove (get_or lists (list - 1) []) group)) (unused ++ get_or (get_or lists (list - 1) []) group 0 ∷ [])
-        (set_groups (shown rows lists unused) list (removed_in group index (groups_of (shown rows lists unused) list)))
+        (set_groups (shown_chunks rows lists unused) list (removed_in group index (groups_of (shown_chunks rows lists unused) list)))
     removed-freed empty several =
         let l : ℕ = list - 1 in
         let ps : List ℕ = get_or lists (list - 1) [] in

@@ -17,8 +17,8 @@ use Rattle.wit_model.specs.declared.locks.SeatNo.{SeatNo}
 use Rattle.wit_model.specs.declared.locks.Mode.{Mode}
 use Rattle.wit_model.specs.declared.locks.Watch as level
 use Rattle.wit_model.specs.Rules.Names.{is_file_name}
-use Rattle.wit_model.specs.Trace.Spelling.{verb_text, mode_text, level_text, op_letters, assert_letters, warn_letters, number_if_any, flags_text, site_text, joined, step_keyword, lock_keyword, lock_line_fields, IsNamed, IsSpellableOnLock, Spells}
-use Rattle.wit_model.specs.Trace.Reading.{mode_of, level_of, flags_of, site_of, field_at, both, seat_at, lock_at, check_of, try_of, unlock_of, plain_of, step_of, try_take_of, assert_of, lock_if_any, warn_of, define_of, watch_of, fields_of}
+use Rattle.wit_model.specs.Trace.Spelling.{verb_text, mode_text, level_text, op_letters, assert_letters, warn_letters, number_if_any, flags_text, site_text, spaced, step_keyword, lock_keyword, lock_line_fields, IsNamed, IsSpellableOnLock, Spells}
+use Rattle.wit_model.specs.Trace.Reading.{mode_named, level_named, flags_of, site_of, field_at, both, leading_seat, leading_lock, check_of, try_of, unlock_of, plain_of, step_of, try_take_of, assert_of, lock_if_any, warn_of, define_of, watch_line, fields_of}
 use Rattle.wit_model.proofs.Spelling.Codecs.{IsCodec, Ends, print_field, print_both, both_codec}
 use Rattle.wit_model.proofs.Spelling.Fields.{IsBelow, seat_codec, lock_codec, mode_codec, op_flags_codec, assert_flags_codec, warn_flags_codec, level_codec, site_codec}
 use Rattle.wit_model.proofs.Spelling.Kinds.{kind_takes, kind_again}
@@ -29,7 +29,7 @@ abbrev check_make : (ℕ × (ℕ × (Mode × (ℕ × (List ℕ × ℕ))))) → L
 check_make x =
     OnLock (Check (record { 0 = x.0 }) (record { 0 = x.1.0 }) x.1.1.0 (record { 0 = x.1.1.1.0 }) x.1.1.1.1.0 x.1.1.1.1.1)
 
-check_codec : IsCodec (print_both (print_field decimal) (print_both (print_field decimal) (print_both (print_field mode_text) (print_both (print_field (flags_text op_letters)) (print_field (λ x. site_text x.0 x.1)))))) (both seat_at (both lock_at (both (field_at mode_of) (both (field_at (flags_of op_letters)) (field_at site_of))))) (λ x. IsBelow (2 ^ 16) x.0 × (IsBelow (2 ^ 32) x.1.0 × (Unit {0} × (IsBelow 8 x.1.1.1.0 × (IsTrue (is_file_name x.1.1.1.1.0) × IsBelow (2 ^ 32) x.1.1.1.1.1))))) (Ends 32)
+check_codec : IsCodec (print_both (print_field decimal) (print_both (print_field decimal) (print_both (print_field mode_text) (print_both (print_field (flags_text op_letters)) (print_field (λ x. site_text x.0 x.1)))))) (both leading_seat (both leading_lock (both (field_at mode_named) (both (field_at (flags_of op_letters)) (field_at site_of))))) (λ x. IsBelow (2 ^ 16) x.0 × (IsBelow (2 ^ 32) x.1.0 × (Unit {0} × (IsBelow 8 x.1.1.1.0 × (IsTrue (is_file_name x.1.1.1.1.0) × IsBelow (2 ^ 32) x.1.1.1.1.1))))) (Ends 32)
 check_codec = both_codec seat_codec (both_codec lock_codec (both_codec mode_codec (both_codec op_flags_codec site_codec)))
 
 pub check_takes : (rest : List ℕ) (line : Line) → check_of rest ≡ Some line → Spells (codes "check" ++ rest) line
@@ -39,7 +39,7 @@ check_takes = kind_takes check_codec check_make (codes "check") (λ x fits. (ref
 abbrev try_make : (ℕ × (ℕ × (Mode × (List ℕ × ℕ)))) → Line
 try_make x = OnLock (Try (record { 0 = x.0 }) (record { 0 = x.1.0 }) x.1.1.0 x.1.1.1.0 x.1.1.1.1)
 
-try_codec : IsCodec (print_both (print_field decimal) (print_both (print_field decimal) (print_both (print_field mode_text) (print_field (λ x. site_text x.0 x.1))))) (both seat_at (both lock_at (both (field_at mode_of) (field_at site_of)))) (λ x. IsBelow (2 ^ 16) x.0 × (IsBelow (2 ^ 32) x.1.0 × (Unit {0} × (IsTrue (is_file_name x.1.1.1.0) × IsBelow (2 ^ 32) x.1.1.1.1)))) (Ends 32)
+try_codec : IsCodec (print_both (print_field decimal) (print_both (print_field decimal) (print_both (print_field mode_text) (print_field (λ x. site_text x.0 x.1))))) (both leading_seat (both leading_lock (both (field_at mode_named) (field_at site_of)))) (λ x. IsBelow (2 ^ 16) x.0 × (IsBelow (2 ^ 32) x.1.0 × (Unit {0} × (IsTrue (is_file_name x.1.1.1.0) × IsBelow (2 ^ 32) x.1.1.1.1)))) (Ends 32)
 try_codec = both_codec seat_codec (both_codec lock_codec (both_codec mode_codec site_codec))
 
 pub try_takes : (rest : List ℕ) (line : Line) → try_of rest ≡ Some line → Spells (codes "try" ++ rest) line
@@ -49,7 +49,7 @@ try_takes = kind_takes try_codec try_make (codes "try") (λ x fits. (refl, (fits
 abbrev unlock_make : (ℕ × (ℕ × Mode)) → Line
 unlock_make x = OnLock (Unlock (record { 0 = x.0 }) (record { 0 = x.1.0 }) x.1.1)
 
-unlock_codec : IsCodec (print_both (print_field decimal) (print_both (print_field decimal) (print_field mode_text))) (both seat_at (both lock_at (field_at mode_of))) (λ x. IsBelow (2 ^ 16) x.0 × (IsBelow (2 ^ 32) x.1.0 × Unit {0})) (Ends 32)
+unlock_codec : IsCodec (print_both (print_field decimal) (print_both (print_field decimal) (print_field mode_text))) (both leading_seat (both leading_lock (field_at mode_named))) (λ x. IsBelow (2 ^ 16) x.0 × (IsBelow (2 ^ 32) x.1.0 × Unit {0})) (Ends 32)
 unlock_codec = both_codec seat_codec (both_codec lock_codec mode_codec)
 
 pub unlock_takes : (rest : List ℕ) (line : Line) → unlock_of rest ≡ Some line → Spells (codes "unlock" ++ rest) line
@@ -59,7 +59,7 @@ unlock_takes = kind_takes unlock_codec unlock_make (codes "unlock") (λ x fits. 
 abbrev plain_make : Verb → (ℕ × ℕ) → Line
 plain_make verb x = OnLock (Plain verb (record { 0 = x.0 }) (record { 0 = x.1 }))
 
-plain_codec : IsCodec (print_both (print_field decimal) (print_field decimal)) (both seat_at lock_at)
+plain_codec : IsCodec (print_both (print_field decimal) (print_field decimal)) (both leading_seat leading_lock)
     (λ x. IsBelow (2 ^ 16) x.0 × IsBelow (2 ^ 32) x.1) (Ends 32)
 plain_codec = both_codec seat_codec lock_codec
 
@@ -101,7 +101,7 @@ try_take_takes = kind_takes unlock_codec try_take_make (codes "trytake") (λ x f
 
 -- what is spelled of a step is read again
 step_again : (s : SeatNo) (l : LockNo) (step : RawStep) → s.0 < 2 ^ 16 → l.0 < 2 ^ 32
-    → fields_of (step_keyword step) (joined (lock_line_fields (Step s l step))) ≡ Some (OnLock (Step s l step))
+    → fields_of (step_keyword step) (spaced (lock_line_fields (Step s l step))) ≡ Some (OnLock (Step s l step))
 unfolding step_of try_take_of
 step_again s l raw_step.Take p q = kind_again plain_codec tt (step_make raw_step.Take) (s.0, l.0) (p, q)
 step_again s l (raw_step.TryTake m) p q = kind_again unlock_codec tt try_take_make (s.0, (l.0, m)) (p, (q, tt))
@@ -111,7 +111,7 @@ step_again s l raw_step.Down p q = kind_again plain_codec tt (step_make raw_step
 
 -- what is spelled of a line on a lock is read again
 pub lock_line_again : (line : LockLine (List ℕ)) → IsSpellableOnLock line
-    → fields_of (lock_keyword line) (joined (lock_line_fields line)) ≡ Some (OnLock line)
+    → fields_of (lock_keyword line) (spaced (lock_line_fields line)) ≡ Some (OnLock line)
 unfolding check_of try_of unlock_of plain_of
 lock_line_again (Check s l m o f n) (p0, p1, p2, p3, p4) =
     kind_again check_codec tt check_make (s.0, (l.0, (m, (o.0, (f, n))))) (p0, (p1, (tt, (p2, (p3, p4)))))
@@ -126,7 +126,7 @@ lock_line_again (Plain verb s l) (p0, p1) = kind_again plain_codec tt (plain_mak
 abbrev assert_make : (ℕ × (ℕ × ℕ)) → Line
 assert_make x = Assert (record { 0 = x.0 }) (record { 0 = x.1.0 }) (record { 0 = x.1.1 })
 
-assert_codec : IsCodec (print_both (print_field decimal) (print_both (print_field decimal) (print_field (flags_text assert_letters)))) (both seat_at (both lock_at (field_at (flags_of assert_letters)))) (λ x. IsBelow (2 ^ 16) x.0 × (IsBelow (2 ^ 32) x.1.0 × IsBelow 64 x.1.1)) (Ends 32)
+assert_codec : IsCodec (print_both (print_field decimal) (print_both (print_field decimal) (print_field (flags_text assert_letters)))) (both leading_seat (both leading_lock (field_at (flags_of assert_letters)))) (λ x. IsBelow (2 ^ 16) x.0 × (IsBelow (2 ^ 32) x.1.0 × IsBelow 64 x.1.1)) (Ends 32)
 assert_codec = both_codec seat_codec (both_codec lock_codec assert_flags_codec)
 
 pub assert_takes : (rest : List ℕ) (line : Line) → assert_of rest ≡ Some line → Spells (codes "assert" ++ rest) line
@@ -136,7 +136,7 @@ assert_takes = kind_takes assert_codec assert_make (codes "assert") (λ x fits. 
 abbrev warn_make : (ℕ × (ℕ × ℕ)) → Line
 warn_make x = Warn (record { 0 = x.0 }) (lock_if_any x.1.0) (record { 0 = x.1.1 })
 
-warn_codec : IsCodec (print_both (print_field decimal) (print_both (print_field decimal) (print_field (flags_text warn_letters)))) (both seat_at (both lock_at (field_at (flags_of warn_letters)))) (λ x. IsBelow (2 ^ 16) x.0 × (IsBelow (2 ^ 32) x.1.0 × IsBelow 4 x.1.1)) (Ends 32)
+warn_codec : IsCodec (print_both (print_field decimal) (print_both (print_field decimal) (print_field (flags_text warn_letters)))) (both leading_seat (both leading_lock (field_at (flags_of warn_letters)))) (λ x. IsBelow (2 ^ 16) x.0 × (IsBelow (2 ^ 32) x.1.0 × IsBelow 4 x.1.1)) (Ends 32)
 warn_codec = both_codec seat_codec (both_codec lock_codec warn_flags_codec)
 
 -- a number that names a lock, or none, is that lock's
@@ -162,7 +162,7 @@ warn_takes = kind_takes warn_codec warn_make (codes "warn") (λ x fits. (ap (λ 
 abbrev define_make : (ℕ × (ℕ × ℕ)) → Line
 define_make x = Define (record { 0 = x.0 }) (record { 0 = x.1.0 }) (record { 0 = x.1.1 })
 
-define_codec : IsCodec (print_both (print_field decimal) (print_both (print_field decimal) (print_field decimal))) (both seat_at (both lock_at lock_at)) (λ x. IsBelow (2 ^ 16) x.0 × (IsBelow (2 ^ 32) x.1.0 × IsBelow (2 ^ 32) x.1.1)) (Ends 32)
+define_codec : IsCodec (print_both (print_field decimal) (print_both (print_field decimal) (print_field decimal))) (both leading_seat (both leading_lock leading_lock)) (λ x. IsBelow (2 ^ 16) x.0 × (IsBelow (2 ^ 32) x.1.0 × IsBelow (2 ^ 32) x.1.1)) (Ends 32)
 define_codec = both_codec seat_codec (both_codec lock_codec lock_codec)
 
 pub define_takes : (rest : List ℕ) (line : Line) → define_of rest ≡ Some line → Spells (codes "define" ++ rest) line
@@ -172,32 +172,32 @@ define_takes = kind_takes define_codec define_make (codes "define") (λ x fits. 
 abbrev watch_make : (ℕ × level.Watch) → Line
 watch_make x = Watch (record { 0 = x.0 }) x.1
 
-watch_codec : IsCodec (print_both (print_field decimal) (print_field level_text)) (both seat_at (field_at level_of)) (λ x. IsBelow (2 ^ 16) x.0 × Unit {0}) (Ends 32)
+watch_codec : IsCodec (print_both (print_field decimal) (print_field level_text)) (both leading_seat (field_at level_named)) (λ x. IsBelow (2 ^ 16) x.0 × Unit {0}) (Ends 32)
 watch_codec = both_codec seat_codec level_codec
 
-pub watch_takes : (rest : List ℕ) (line : Line) → watch_of rest ≡ Some line → Spells (codes "watch" ++ rest) line
-unfolding watch_of
+pub watch_takes : (rest : List ℕ) (line : Line) → watch_line rest ≡ Some line → Spells (codes "watch" ++ rest) line
+unfolding watch_line
 watch_takes = kind_takes watch_codec watch_make (codes "watch") (λ x fits. (refl, fits.0))
 
 -- what is spelled of such lines is read again
 pub assert_again : (s : SeatNo) (l : LockNo) (a : LockAssert) → s.0 < 2 ^ 16 → l.0 < 2 ^ 32 → a.0 < 64
-    → assert_of (joined (decimal s.0 ∷ decimal l.0 ∷ flags_text assert_letters a.0 ∷ [])) ≡ Some (Assert s l a)
+    → assert_of (spaced (decimal s.0 ∷ decimal l.0 ∷ flags_text assert_letters a.0 ∷ [])) ≡ Some (Assert s l a)
 unfolding assert_of
 assert_again s l a p q r = kind_again assert_codec tt assert_make (s.0, (l.0, a.0)) (p, (q, r))
 
 pub warn_again : (s : SeatNo) (l : Option LockNo) (f : WarnFlags) → s.0 < 2 ^ 16 → IfSome l IsNamed → f.0 < 4
-    → warn_of (joined (decimal s.0 ∷ decimal (number_if_any l) ∷ flags_text warn_letters f.0 ∷ [])) ≡ Some (Warn s l f)
+    → warn_of (spaced (decimal s.0 ∷ decimal (number_if_any l) ∷ flags_text warn_letters f.0 ∷ [])) ≡ Some (Warn s l f)
 unfolding warn_of
 warn_again s l f p q r =
     kind_again warn_codec tt warn_make (s.0, (number_if_any l, f.0)) (p, (number-lt l q, r))
     ∙ ap (λ (l : Option LockNo). Some (Warn s l f)) (lock_again l q)
 
 pub define_again : (s : SeatNo) (a b : LockNo) → s.0 < 2 ^ 16 → a.0 < 2 ^ 32 → b.0 < 2 ^ 32
-    → define_of (joined (decimal s.0 ∷ decimal a.0 ∷ decimal b.0 ∷ [])) ≡ Some (Define s a b)
+    → define_of (spaced (decimal s.0 ∷ decimal a.0 ∷ decimal b.0 ∷ [])) ≡ Some (Define s a b)
 unfolding define_of
 define_again s a b p q r = kind_again define_codec tt define_make (s.0, (a.0, b.0)) (p, (q, r))
 
 pub watch_again : (s : SeatNo) (w : level.Watch) → s.0 < 2 ^ 16
-    → watch_of (joined (decimal s.0 ∷ level_text w ∷ [])) ≡ Some (Watch s w)
-unfolding watch_of
+    → watch_line (spaced (decimal s.0 ∷ level_text w ∷ [])) ≡ Some (Watch s w)
+unfolding watch_line
 watch_again s w p = kind_again watch_codec tt watch_make (s.0, w) (p, tt)

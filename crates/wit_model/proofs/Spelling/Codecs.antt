@@ -6,7 +6,7 @@ use Rattle.std.proofs.lemmas.Bool.{and_parts, eqb-true, eq-eqb, not-true}
 use Rattle.std.proofs.lemmas.List.{take_at, drop_at, take-append-drop, nil_from_length}
 use Rattle.std.proofs.lemmas.Option.{cond_some}
 use Rattle.std.proofs.lemmas.Slice.Eq.{bytes_eq-Decides}
-use Rattle.wit_model.specs.Trace.Reading.{◌>>=◌, after, byte_place, until, named, word_at, field_at, fixed_at, behind, optional, both, whole}
+use Rattle.wit_model.specs.Trace.Reading.{◌>>=◌, after, byte_place, until, named, leading_word, field_at, fixed_at, behind, optional, both, whole}
 
 -- ---- steps of a reader
 
@@ -98,17 +98,17 @@ pub record IsCodec {A : Type 0} (print : A → List ℕ → List ℕ) (read : Li
   pub takes : (bytes : List ℕ) (a : A) (rest : List ℕ) → read bytes ≡ Some (a, rest) → (bytes ≡ print a rest) × Fits a
 
 -- nothing may follow
-abbrev pub IsLast : List ℕ → Type 0
-IsLast rest = rest ≡ []
+abbrev pub EndsHere : List ℕ → Type 0
+EndsHere rest = rest ≡ []
 
-pub word_takes : (bytes : List ℕ) (word : List ℕ × List ℕ) → word_at bytes ≡ Some word → bytes ≡ 32 ∷ (word.0 ++ word.1)
-unfolding word_at
+pub word_takes : (bytes : List ℕ) (word : List ℕ × List ℕ) → leading_word bytes ≡ Some word → bytes ≡ 32 ∷ (word.0 ++ word.1)
+unfolding leading_word
 word_takes bytes word e =
     let b = bind_some (after 32 bytes) (λ rest. Some (until 32 rest)) word e in
     after_some 32 bytes b.0 b.1 ∙ ap (λ (rest : List ℕ). 32 ∷ rest) (until_whole 32 b.0) ∙ ap (λ (w : List ℕ × List ℕ). 32 ∷ (w.0 ++ w.1)) (some_is (until 32 b.0) word b.2)
 
-pub word_again : (word rest : List ℕ) → Lacks 32 word → Ends 32 rest → word_at (32 ∷ (word ++ rest)) ≡ Some (word, rest)
-unfolding word_at
+pub word_again : (word rest : List ℕ) → Lacks 32 word → Ends 32 rest → leading_word (32 ∷ (word ++ rest)) ≡ Some (word, rest)
+unfolding leading_word
 word_again word rest lacks ends = ap Some (until_end 32 word rest lacks ends)
 
 abbrev pub print_field : {A : Type 0} → (A → List ℕ) → A → List ℕ → List ℕ
@@ -119,7 +119,7 @@ field_codec {A} {text} {read} {Fits} w = record {
   starts = λ a rest ends. refl;
   again = λ a rest fits ends. rw (word_again (text a) rest (w.plain a fits) ends, w.again a fits) refl;
   takes = λ bytes a rest e.
-      let b = bind_some (word_at bytes) (λ word. read word.0 >>= λ value. Some (value, word.1)) (a, rest) e in
+      let b = bind_some (leading_word bytes) (λ word. read word.0 >>= λ value. Some (value, word.1)) (a, rest) e in
       let v = bind_some (read b.0.0) (λ value. Some (value, b.0.1)) (a, rest) b.2 in
       let same : (v.0, b.0.1) ≡ (a, rest) = some_is (v.0, b.0.1) (a, rest) v.2 in
       let t = w.takes b.0.0 v.0 v.1 in
@@ -137,7 +137,7 @@ fixed_again fixed rest lacks ends = rw (word_again fixed rest lacks ends, (bytes
 pub fixed_takes : (fixed bytes rest : List ℕ) → fixed_at fixed bytes ≡ Some rest → bytes ≡ 32 ∷ (fixed ++ rest)
 unfolding fixed_at
 fixed_takes fixed bytes rest e =
-    let b = bind_some (word_at bytes) (λ word. cond (bytes_eq word.0 fixed) (Some word.1) None) rest e in
+    let b = bind_some (leading_word bytes) (λ word. cond (bytes_eq word.0 fixed) (Some word.1) None) rest e in
     let h = cond_some (bytes_eq b.0.0 fixed) b.0.1 rest b.2 in
     word_takes bytes b.0 b.1 ∙ ap (λ (x : List ℕ). 32 ∷ (x ++ b.0.1)) ((bytes_eq-Decides b.0.0 fixed).0 h.0) ∙ ap (λ (x : List ℕ). 32 ∷ (fixed ++ x)) h.1
 
@@ -175,7 +175,7 @@ abbrev pub FitsIfAny : {A : Type 0} → (A → Type 0) → Option A → Type 0
 FitsIfAny Fits None = Unit {0}
 FitsIfAny Fits (Some a) = Fits a
 
-pub optional_codec : {A : Type 0} {print : A → List ℕ → List ℕ} {read : List ℕ → Option (A × List ℕ)} {Fits : A → Type 0} → ((a : A) (rest : List ℕ) → eqb (length (print a rest)) 0 ≡ false) → IsCodec print read Fits IsLast → IsCodec (print_optional print) (optional read) (FitsIfAny Fits) IsLast
+pub optional_codec : {A : Type 0} {print : A → List ℕ → List ℕ} {read : List ℕ → Option (A × List ℕ)} {Fits : A → Type 0} → ((a : A) (rest : List ℕ) → eqb (length (print a rest)) 0 ≡ false) → IsCodec print read Fits EndsHere → IsCodec (print_optional print) (optional read) (FitsIfAny Fits) EndsHere
 optional_codec {A} {print} {read} {Fits} longer c = record {
   starts = λ o rest last. optional_starts o rest last;
   again = λ o rest fits last. optional_again o rest fits last;
@@ -188,11 +188,11 @@ optional_codec {A} {print} {read} {Fits} longer c = record {
       subst (λ (y : Option A × List ℕ). (bytes ≡ print_optional print y.0 y.1) × FitsIfAny Fits y.0) same (c.takes bytes b.0.0 b.0.1 b.1)) e;
 }
   where
-    optional_starts : (o : Option A) (rest : List ℕ) → IsLast rest → Ends 32 (print_optional print o rest)
+    optional_starts : (o : Option A) (rest : List ℕ) → EndsHere rest → Ends 32 (print_optional print o rest)
     optional_starts None rest last = rw last tt
     optional_starts (Some a) rest last = c.starts a rest last
 
-    optional_again : (o : Option A) (rest : List ℕ) → FitsIfAny Fits o → IsLast rest → optional read (print_optional print o rest) ≡ Some (o, rest)
+    optional_again : (o : Option A) (rest : List ℕ) → FitsIfAny Fits o → EndsHere rest → optional read (print_optional print o rest) ≡ Some (o, rest)
     optional_again None rest fits last = rw last refl
     optional_again (Some a) rest fits last = rw (longer a rest, c.again a rest fits last) refl
 

@@ -7,10 +7,10 @@ use Rattle.std.proofs.lemmas.Bool.{and_parts, not-true, ne_eqb}
 use Rattle.std.proofs.lemmas.Option.{cond_some}
 use Rattle.wit_model.specs.Rules.Names.{is_name, is_name_byte, is_file_name}
 use Rattle.wit_model.specs.Trace.Spelling.{version_text, class_text, mode_text, level_text, lock_letters, op_letters, assert_letters, warn_letters, flags_text, site_text, quoted}
-use Rattle.wit_model.specs.Trace.Reading.{◌>>=◌, after, until, accepted, version_of, class_of, mode_of, level_of, flags_of, site_of, field_at, quoted_at, optional, count_at, seat_at, lock_at}
-use Rattle.wit_model.proofs.Spelling.Codecs.{IsCodec, IsLast, FitsIfAny, Lacks, Lacks-all, Lacks-test, Ends, bind_some, some_is, until_end, until_whole, after_some, print_field, print_optional, field_codec, optional_codec}
+use Rattle.wit_model.specs.Trace.Reading.{◌>>=◌, after, until, accepted, version_named, class_named, mode_named, level_named, flags_of, site_of, field_at, leading_quoted, optional, leading_count, leading_seat, leading_lock}
+use Rattle.wit_model.proofs.Spelling.Codecs.{IsCodec, EndsHere, FitsIfAny, Lacks, Lacks-all, Lacks-test, Ends, bind_some, some_is, until_end, until_whole, after_some, print_field, print_optional, field_codec, optional_codec}
 use Rattle.wit_model.proofs.Spelling.Named.{version_word, class_word, mode_word, level_word}
-use Rattle.wit_model.proofs.Spelling.Words.{AreDistinct, AreLetters, number_word, flags_word, site_word}
+use Rattle.wit_model.proofs.Spelling.Words.{HaveNoTwin, AreLetters, number_word, flags_word, site_word}
 
 -- ---- names
 
@@ -24,14 +24,14 @@ closed parts = accepted is_name parts.0 >>= λ name. after 34 parts.1 >>= λ res
 quoted_inside : (name rest : List ℕ) → quoted name ++ rest ≡ 34 ∷ (name ++ 34 ∷ rest)
 quoted_inside name rest = ap (λ (w : List ℕ). 34 ∷ w) (append_assoc name (34 ∷ []) rest)
 
-quoted_again : (name rest : List ℕ) → is_name name ≡ true → quoted_at (print_field quoted name rest) ≡ Some (name, rest)
-unfolding quoted_at
+quoted_again : (name rest : List ℕ) → is_name name ≡ true → leading_quoted (print_field quoted name rest) ≡ Some (name, rest)
+unfolding leading_quoted
 quoted_again name rest fits =
     let lacks : Lacks 34 name = Lacks-all is_name_byte 34 not_name_byte name (and_parts _ _ fits).1 in
-    ap (λ (w : List ℕ). quoted_at (32 ∷ w)) (quoted_inside name rest) ∙ ap closed (until_end 34 name (34 ∷ rest) lacks refl) ∙ rw fits refl
+    ap (λ (w : List ℕ). leading_quoted (32 ∷ w)) (quoted_inside name rest) ∙ ap closed (until_end 34 name (34 ∷ rest) lacks refl) ∙ rw fits refl
 
-quoted_takes : (bytes name rest : List ℕ) → quoted_at bytes ≡ Some (name, rest) → (bytes ≡ print_field quoted name rest) × IsTrue (is_name name)
-unfolding quoted_at
+quoted_takes : (bytes name rest : List ℕ) → leading_quoted bytes ≡ Some (name, rest) → (bytes ≡ print_field quoted name rest) × IsTrue (is_name name)
+unfolding leading_quoted
 quoted_takes bytes name rest e =
     let o = bind_some (after 32 bytes) (λ opened. after 34 opened >>= λ inside. closed (until 34 inside)) (name, rest) e in
     let i = bind_some (after 34 o.0) (λ inside. closed (until 34 inside)) (name, rest) o.2 in
@@ -45,43 +45,43 @@ quoted_takes bytes name rest e =
     subst (λ (y : List ℕ × List ℕ). (bytes ≡ print_field quoted y.0 y.1) × IsTrue (is_name y.0)) same (outside, good)
 
 -- whatever follows it
-pub quoted_codec : (Rest : List ℕ → Type 0) → IsCodec (print_field quoted) quoted_at (λ name. IsTrue (is_name name)) Rest
+pub quoted_codec : (Rest : List ℕ → Type 0) → IsCodec (print_field quoted) leading_quoted (λ name. IsTrue (is_name name)) Rest
 quoted_codec Rest = record {
   starts = λ name rest ends. refl;
   again = λ name rest fits ends. quoted_again name rest fits;
   takes = λ bytes name rest e. quoted_takes bytes name rest e;
 }
 
-pub type_name_codec : IsCodec (print_optional (print_field quoted)) (optional quoted_at) (FitsIfAny (λ name. IsTrue (is_name name))) IsLast
-type_name_codec = optional_codec (λ name rest. ne_eqb _ 0 (λ e. absurd (omega arith))) (quoted_codec IsLast)
+pub type_name_codec : IsCodec (print_optional (print_field quoted)) (optional leading_quoted) (FitsIfAny (λ name. IsTrue (is_name name))) EndsHere
+type_name_codec = optional_codec (λ name rest. ne_eqb _ 0 (λ e. absurd (omega arith))) (quoted_codec EndsHere)
 
 -- ---- fields
 
 abbrev pub IsBelow : ℕ → ℕ → Type 0
 IsBelow bound n = n < bound
 
-pub count_codec : IsCodec (print_field decimal) count_at (IsBelow (2 ^ 32)) (Ends 32)
-unfolding count_at
+pub count_codec : IsCodec (print_field decimal) leading_count (IsBelow (2 ^ 32)) (Ends 32)
+unfolding leading_count
 count_codec = field_codec (number_word (2 ^ 32) (omega arith))
 
-pub seat_codec : IsCodec (print_field decimal) seat_at (IsBelow (2 ^ 16)) (Ends 32)
-unfolding seat_at
+pub seat_codec : IsCodec (print_field decimal) leading_seat (IsBelow (2 ^ 16)) (Ends 32)
+unfolding leading_seat
 seat_codec = field_codec (number_word (2 ^ 16) (omega arith))
 
-pub lock_codec : IsCodec (print_field decimal) lock_at (IsBelow (2 ^ 32)) (Ends 32)
-unfolding lock_at
+pub lock_codec : IsCodec (print_field decimal) leading_lock (IsBelow (2 ^ 32)) (Ends 32)
+unfolding leading_lock
 lock_codec = field_codec (number_word (2 ^ 32) (omega arith))
 
-pub version_codec : IsCodec (print_field version_text) (field_at version_of) (λ version. Unit {0}) (Ends 32)
+pub version_codec : IsCodec (print_field version_text) (field_at version_named) (λ version. Unit {0}) (Ends 32)
 version_codec = field_codec version_word
 
-pub mode_codec : IsCodec (print_field mode_text) (field_at mode_of) (λ mode. Unit {0}) (Ends 32)
+pub mode_codec : IsCodec (print_field mode_text) (field_at mode_named) (λ mode. Unit {0}) (Ends 32)
 mode_codec = field_codec mode_word
 
-pub level_codec : IsCodec (print_field level_text) (field_at level_of) (λ watch. Unit {0}) (Ends 32)
+pub level_codec : IsCodec (print_field level_text) (field_at level_named) (λ watch. Unit {0}) (Ends 32)
 level_codec = field_codec level_word
 
-pub class_codec : IsCodec (print_field class_text) (field_at class_of) (λ class. Unit {0}) (Ends 32)
+pub class_codec : IsCodec (print_field class_text) (field_at class_named) (λ class. Unit {0}) (Ends 32)
 class_codec = field_codec class_word
 
 -- letters that are told from one another, from a space and from a dash
@@ -89,7 +89,7 @@ abbrev distinct : List ℕ → Bool
 distinct [] = true
 distinct (letter ∷ letters) = list_all (λ b. not (eqb b letter)) letters && distinct letters
 
-distinct-are : (letters : List ℕ) → distinct letters ≡ true → AreDistinct letters
+distinct-are : (letters : List ℕ) → distinct letters ≡ true → HaveNoTwin letters
 distinct-are [] all = tt
 distinct-are (letter ∷ letters) all =
     let h = and_parts (list_all (λ b. not (eqb b letter)) letters) (distinct letters) all in

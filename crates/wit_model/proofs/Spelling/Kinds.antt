@@ -13,9 +13,9 @@ use Rattle.wit_model.specs.declared.calls.NewLock.{NewLock}
 use Rattle.wit_model.specs.declared.locks.SeatNo.{SeatNo}
 use Rattle.wit_model.specs.declared.locks.Class.{Class}
 use Rattle.wit_model.specs.Rules.Names.{is_name}
-use Rattle.wit_model.specs.Trace.Spelling.{version_text, class_text, lock_letters, flags_text, quoted, joined, lock_fields, list_fields, IsSpellableLock, Spells}
-use Rattle.wit_model.specs.Trace.Reading.{◌>>=◌, version_of, class_of, flags_of, field_at, labelled, quoted_at, optional, both, whole, one_or_more, seat_at, type_at, list_of, fixed_at, header_of, profile_of, order_of, bless_of, init_of}
-use Rattle.wit_model.proofs.Spelling.Codecs.{IsCodec, IsLast, FitsIfAny, Lacks-test, Ends, bind_some, fixed_again, fixed_takes, print_field, print_behind, print_both, print_optional, behind_codec, both_codec, whole_again, made_takes}
+use Rattle.wit_model.specs.Trace.Spelling.{version_text, class_text, lock_letters, flags_text, quoted, spaced, lock_fields, list_fields, IsSpellableLock, Spells}
+use Rattle.wit_model.specs.Trace.Reading.{◌>>=◌, version_named, class_named, flags_of, field_at, labelled, leading_quoted, optional, both, whole, one_or_more, leading_seat, leading_type, whole_list, fixed_at, header_of, profile_of, order_of, bless_of, init_of}
+use Rattle.wit_model.proofs.Spelling.Codecs.{IsCodec, EndsHere, FitsIfAny, Lacks-test, Ends, bind_some, fixed_again, fixed_takes, print_field, print_behind, print_both, print_optional, behind_codec, both_codec, whole_again, made_takes}
 use Rattle.wit_model.proofs.Spelling.Fields.{IsBelow, quoted_codec, type_name_codec, version_codec, count_codec, seat_codec, class_codec, lock_flags_codec}
 use Rattle.wit_model.proofs.Spelling.Repeats.{print_each, AllFit, one_or_more_codec}
 
@@ -51,7 +51,7 @@ print_header =
 
 abbrev read_header : List ℕ → Option ((Version × (ℕ × (ℕ × (ℕ × ℕ)))) × List ℕ)
 read_header =
-    both (field_at version_of) (both (labelled (codes "seats")) (both (labelled (codes "types"))
+    both (field_at version_named) (both (labelled (codes "seats")) (both (labelled (codes "types"))
     (both (labelled (codes "locks")) (labelled (codes "chunks")))))
 
 abbrev FitsHeader : (Version × (ℕ × (ℕ × (ℕ × ℕ)))) → Type 0
@@ -95,8 +95,8 @@ profile_again = rw (fixed_again (codes "all") [] (Lacks-test 32 (codes "all") re
 
 -- ---- the prelude
 
-pub type_codec_at : IsCodec (print_both (print_field class_text) (print_field quoted)) type_at (λ x. Unit {0} × IsTrue (is_name x.1)) (Ends 32)
-unfolding type_at
+pub type_codec_at : IsCodec (print_both (print_field class_text) (print_field quoted)) leading_type (λ x. Unit {0} × IsTrue (is_name x.1)) (Ends 32)
+unfolding leading_type
 type_codec_at = both_codec class_codec (quoted_codec (Ends 32))
 
 abbrev print_type : (Class × List ℕ) → List ℕ → List ℕ
@@ -110,13 +110,13 @@ pub type-lt : (x : Class × List ℕ) (rest : List ℕ) → length rest < length
 type-lt x rest = omega (arith, length-append (class_text x.0) (32 ∷ (quoted x.1 ++ rest)), length-append (quoted x.1) rest)
 
 -- so what is left of a line gets shorter with each
-pub type_shorter : (bytes : List ℕ) (x : Class × List ℕ) (rest : List ℕ) → type_at bytes ≡ Some (x, rest) → length rest < length bytes
+pub type_shorter : (bytes : List ℕ) (x : Class × List ℕ) (rest : List ℕ) → leading_type bytes ≡ Some (x, rest) → length rest < length bytes
 type_shorter bytes x rest e = let t = type_codec_at.takes bytes x rest e in rw t.0 (type-lt x rest)
 
-order_codec : IsCodec (λ x rest. print_type x.0 (print_each print_type x.1 rest)) (one_or_more type_at) (λ x. FitsType x.0 × AllFit FitsType x.1) IsLast
+order_codec : IsCodec (λ x rest. print_type x.0 (print_each print_type x.1 rest)) (one_or_more leading_type) (λ x. FitsType x.0 × AllFit FitsType x.1) EndsHere
 order_codec = one_or_more_codec type-lt type_codec_at
 
-list_printed : (list : List (Class × List ℕ)) → joined (list_fields list) ≡ print_each print_type list []
+list_printed : (list : List (Class × List ℕ)) → spaced (list_fields list) ≡ print_each print_type list []
 list_printed [] = refl
 list_printed (x ∷ xs) = ap (print_type x) (list_printed xs)
 
@@ -135,23 +135,23 @@ order_spells : (x : Class × List ℕ) (xs : List (Class × List ℕ)) → FitsT
 order_spells x xs fits others = (ap (λ (w : List ℕ). codes "order" ++ w) (sym (list_printed (x ∷ xs))), (omega arith, list_fits (x ∷ xs) (fits, others)))
 
 pub order_takes : (rest : List ℕ) (line : Line) → order_of rest ≡ Some line → Spells (codes "order" ++ rest) line
-unfolding order_of list_of
-order_takes rest line e = kind_takes order_codec order_make (codes "order") (λ x fits. order_spells x.0 x.1 fits.0 fits.1) rest line (made_at_once (whole (one_or_more type_at) rest) (λ x. x.0 ∷ x.1) Order ∙ e)
+unfolding order_of whole_list
+order_takes rest line e = kind_takes order_codec order_make (codes "order") (λ x fits. order_spells x.0 x.1 fits.0 fits.1) rest line (made_at_once (whole (one_or_more leading_type) rest) (λ x. x.0 ∷ x.1) Order ∙ e)
 
 pub order_again : (list : List (Class × List ℕ)) → 0 < length list
     → IsTrue (list_all (λ (x : Class × List ℕ). is_name x.1) list)
-    → order_of (joined (list_fields list)) ≡ Some (Order list)
-unfolding order_of list_of
+    → order_of (spaced (list_fields list)) ≡ Some (Order list)
+unfolding order_of whole_list
 order_again [] some all = absurd (omega arith)
 order_again (x ∷ xs) some all =
     ap order_of (list_printed (x ∷ xs))
-    ∙ sym (made_at_once (whole (one_or_more type_at) (print_each print_type (x ∷ xs) [])) (λ x. x.0 ∷ x.1) Order)
+    ∙ sym (made_at_once (whole (one_or_more leading_type) (print_each print_type (x ∷ xs) [])) (λ x. x.0 ∷ x.1) Order)
     ∙ kind_again order_codec refl order_make (x, xs) (fits_list (x ∷ xs) all)
 
 abbrev bless_make : (List ℕ × List ℕ) → Line
 bless_make x = Bless x.0 x.1
 
-bless_codec : IsCodec (print_both (print_field quoted) (print_field quoted)) (both quoted_at quoted_at) (λ x. IsTrue (is_name x.0) × IsTrue (is_name x.1)) (Ends 32)
+bless_codec : IsCodec (print_both (print_field quoted) (print_field quoted)) (both leading_quoted leading_quoted) (λ x. IsTrue (is_name x.0) × IsTrue (is_name x.1)) (Ends 32)
 bless_codec = both_codec (quoted_codec (Ends 32)) (quoted_codec (Ends 32))
 
 pub bless_takes : (rest : List ℕ) (line : Line) → bless_of rest ≡ Some line → Spells (codes "bless" ++ rest) line
@@ -168,7 +168,7 @@ bless_again = kind_again bless_codec tt bless_make
 abbrev init_make : (ℕ × (Class × (ℕ × (List ℕ × Option (List ℕ))))) → Line
 init_make x = Init (record { 0 = x.0 }) (record { class = x.1.0; flags = record { 0 = x.1.1.0 }; name = x.1.1.1.0; type_name = x.1.1.1.1 })
 
-init_codec : IsCodec (print_both (print_field decimal) (print_both (print_field class_text) (print_both (print_field (flags_text lock_letters)) (print_both (print_field quoted) (print_optional (print_field quoted)))))) (both seat_at (both (field_at class_of) (both (field_at (flags_of lock_letters)) (both quoted_at (optional quoted_at))))) (λ x. IsBelow (2 ^ 16) x.0 × (Unit {0} × (IsBelow 4 x.1.1.0 × (IsTrue (is_name x.1.1.1.0) × FitsIfAny (λ name. IsTrue (is_name name)) x.1.1.1.1)))) IsLast
+init_codec : IsCodec (print_both (print_field decimal) (print_both (print_field class_text) (print_both (print_field (flags_text lock_letters)) (print_both (print_field quoted) (print_optional (print_field quoted)))))) (both leading_seat (both (field_at class_named) (both (field_at (flags_of lock_letters)) (both leading_quoted (optional leading_quoted))))) (λ x. IsBelow (2 ^ 16) x.0 × (Unit {0} × (IsBelow 4 x.1.1.0 × (IsTrue (is_name x.1.1.1.0) × FitsIfAny (λ name. IsTrue (is_name name)) x.1.1.1.1)))) EndsHere
 init_codec = both_codec seat_codec (both_codec class_codec (both_codec lock_flags_codec (both_codec (quoted_codec (Ends 32)) type_name_codec)))
 
 init_spells : (seat : ℕ) (class : Class) (flags : ℕ) (name : List ℕ) (type_name : Option (List ℕ)) → seat < 2 ^ 16 → flags < 4 → IsTrue (is_name name) → FitsIfAny (λ name. IsTrue (is_name name)) type_name
@@ -181,11 +181,11 @@ unfolding init_of
 init_takes = kind_takes init_codec init_make (codes "init") (λ x fits. init_spells x.0 x.1.0 x.1.1.0 x.1.1.1.0 x.1.1.1.1 fits.0 fits.1.1.0 fits.1.1.1.0 fits.1.1.1.1)
 
 pub init_again : (seat : SeatNo) (lock : NewLock) → seat.0 < 2 ^ 16 → IsSpellableLock lock
-    → init_of (joined (decimal seat.0 ∷ lock_fields lock)) ≡ Some (Init seat lock)
+    → init_of (spaced (decimal seat.0 ∷ lock_fields lock)) ≡ Some (Init seat lock)
 unfolding init_of
 init_again seat lock p q = at lock.type_name q.2
   where
     at : (name : Option (List ℕ)) → IfSome name (λ name. IsTrue (is_name name))
-        → init_of (joined (decimal seat.0 ∷ lock_fields (record lock { type_name = name }))) ≡ Some (Init seat (record lock { type_name = name }))
+        → init_of (spaced (decimal seat.0 ∷ lock_fields (record lock { type_name = name }))) ≡ Some (Init seat (record lock { type_name = name }))
     at None r = kind_again init_codec refl init_make (seat.0, (lock.class, (lock.flags.0, (lock.name, None)))) (p, (tt, (q.0, (q.1, tt))))
     at (Some t) r = kind_again init_codec refl init_make (seat.0, (lock.class, (lock.flags.0, (lock.name, Some t)))) (p, (tt, (q.0, (q.1, r))))

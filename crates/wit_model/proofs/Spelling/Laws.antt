@@ -7,8 +7,8 @@ use Rattle.wit_model.specs.declared.lines.LockLine.TheVariants.{Check, Try, Unlo
 use Rattle.wit_model.specs.declared.lines.Keyword.{Keyword}
 use Rattle.wit_model.specs.declared.lines.Keyword.TheVariants as keyword
 use Rattle.wit_model.specs.declared.locks.Class.{Class}
-use Rattle.wit_model.specs.Trace.Spelling.{keyword_text, joined, list_fields, lock_keyword, lock_line_fields, spelling, IsSpellable, Spells}
-use Rattle.wit_model.specs.Trace.Reading.{◌>>=◌, until, keyword_of, fields_of, line_of}
+use Rattle.wit_model.specs.Trace.Spelling.{keyword_text, spaced, list_fields, lock_keyword, lock_line_fields, spelling, IsSpellable, Spells}
+use Rattle.wit_model.specs.Trace.Reading.{◌>>=◌, until, keyword_named, fields_of, line_of}
 use Rattle.wit_model.proofs.Spelling.Codecs.{Ends, bind_some, until_end, until_whole}
 use Rattle.wit_model.proofs.Spelling.Named.{keyword_plain, keyword_takes, keyword_again}
 use Rattle.wit_model.proofs.Spelling.Kinds.{header_takes, header_again, profile_takes, profile_again, order_takes, order_again, bless_takes, bless_again, init_takes, init_again}
@@ -41,7 +41,7 @@ pub line_takes : (bytes : List ℕ) (line : Line) → line_of bytes ≡ Some lin
 unfolding line_of
 line_takes bytes line e =
     let parts = until 32 bytes in
-    let k = bind_some (keyword_of parts.0) (λ word. fields_of word parts.1) line e in
+    let k = bind_some (keyword_named parts.0) (λ word. fields_of word parts.1) line e in
     let same : bytes ≡ keyword_text k.0 ++ parts.1 =
     until_whole 32 bytes ∙ ap (λ (w : List ℕ). w ++ parts.1) (keyword_takes parts.0 k.0 k.1) in
     subst (λ (b : List ℕ). Spells b line) (sym same) (fields_take k.0 parts.1 line k.2)
@@ -51,14 +51,14 @@ by_keyword : (word : Keyword) (rest : List ℕ) → Ends 32 rest
     → line_of (keyword_text word ++ rest) ≡ fields_of word rest
 unfolding line_of
 by_keyword word rest ends =
-    ap (λ (u : List ℕ × List ℕ). keyword_of u.0 >>= λ word. fields_of word u.1) (until_end 32 (keyword_text word) rest (keyword_plain word) ends)
+    ap (λ (u : List ℕ × List ℕ). keyword_named u.0 >>= λ word. fields_of word u.1) (until_end 32 (keyword_text word) rest (keyword_plain word) ends)
     ∙ rw (keyword_again word) refl
 
-list_starts : (list : List (Class × List ℕ)) → Ends 32 (joined (list_fields list))
+list_starts : (list : List (Class × List ℕ)) → Ends 32 (spaced (list_fields list))
 list_starts [] = tt
 list_starts (x ∷ xs) = refl
 
-lock_line_starts : (line : LockLine (List ℕ)) → Ends 32 (joined (lock_line_fields line))
+lock_line_starts : (line : LockLine (List ℕ)) → Ends 32 (spaced (lock_line_fields line))
 lock_line_starts (Check s l m o f n) = refl
 lock_line_starts (Try s l m f n) = refl
 lock_line_starts (Unlock s l m) = refl

@@ -26,7 +26,7 @@ use Rattle.wit_model.specs.declared.locks.Mode.TheVariants.{Shared, Exclusive}
 use Rattle.wit_model.specs.declared.locks.Watch as level
 use Rattle.wit_model.specs.declared.locks.Watch.TheVariants.{On, Quiet, Off}
 use Rattle.wit_model.specs.Rules.Names.{is_name, is_file_name}
-use Rattle.wit_model.specs.Trace.Spelling.{version_text, keyword_text, with_keyword, step_keyword, lock_keyword, lock_line_fields, class_text, mode_text, level_text, lock_letters, op_letters, assert_letters, warn_letters, number_if_any, chosen_letters, flags_text, site_text, quoted, joined, type_field, spelling, IsSpellableOnLock, IsSpellable}
+use Rattle.wit_model.specs.Trace.Spelling.{version_text, keyword_text, with_keyword, step_keyword, lock_keyword, lock_line_fields, class_text, mode_text, level_text, lock_letters, op_letters, assert_letters, warn_letters, number_if_any, chosen_letters, flags_text, site_text, quoted, spaced, type_field, spelling, IsSpellableOnLock, IsSpellable}
 
 -- a field that takes little of a line
 abbrev IsShort : List ℕ → Type 0
@@ -36,9 +36,9 @@ abbrev AreShort : List (List ℕ) → Type 0
 AreShort [] = Unit {0}
 AreShort (field ∷ fields) = IsShort field × AreShort fields
 
-joined-le : (fields : List (List ℕ)) → AreShort fields → length (joined fields) ≤ 301 * length fields
+joined-le : (fields : List (List ℕ)) → AreShort fields → length (spaced fields) ≤ 301 * length fields
 joined-le [] short = omega arith
-joined-le (field ∷ fields) short = let rest : length (joined fields) ≤ 301 * length fields = joined-le fields short.1 in omega (arith, length-append field (joined fields), short.0)
+joined-le (field ∷ fields) short = let rest : length (spaced fields) ≤ 301 * length fields = joined-le fields short.1 in omega (arith, length-append field (spaced fields), short.0)
 
 keyword-le : (word : Keyword) → length (keyword_text word) ≤ 13
 keyword-le keyword.Header = omega arith
@@ -69,8 +69,8 @@ keyword-le keyword.Watch = omega arith
 line-le : (word : Keyword) (fields : List (List ℕ)) → length fields ≤ 9 → AreShort fields
     → length (with_keyword word fields) ≤ 4096
 line-le word fields few short =
-    let rest : length (joined fields) ≤ 301 * length fields = joined-le fields short in
-    omega (arith, keyword-le word, length-append (keyword_text word) (joined fields))
+    let rest : length (spaced fields) ≤ 301 * length fields = joined-le fields short in
+    omega (arith, keyword-le word, length-append (keyword_text word) (spaced fields))
 
 number-short : (n : ℕ) → n < 2 ^ 32 → IsShort (decimal n)
 number-short n small = let e : length (decimal n) ≤ 10 = length-decimal-le 10 n (omega arith) (omega arith) (omega arith) in omega arith

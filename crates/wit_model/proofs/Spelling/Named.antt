@@ -1,7 +1,7 @@
 -- Words that name one of a few values are printed and read alike.
 use Rattle.std.proofs.Common.{◌≡◌, ℕ, true, not, eqb, List, [], ◌∷◌, Some, refl}
 use Rattle.std.specs.List.{list_all}
-use Rattle.wit_model.specs.Trace.Reading.{version_of, class_of, mode_of, level_of, keyword_of, keywords}
+use Rattle.wit_model.specs.Trace.Reading.{version_named, class_named, mode_named, level_named, keyword_named, keywords}
 use Rattle.wit_model.specs.Trace.Spelling.{version_text, class_text, mode_text, level_text, keyword_text}
 use Rattle.wit_model.specs.declared.lines.Version.{Version}
 use Rattle.wit_model.specs.declared.lines.Version.TheVariants.{One, Two}
@@ -16,20 +16,20 @@ use Rattle.wit_model.specs.declared.locks.Watch.{Watch}
 use Rattle.wit_model.specs.declared.locks.Watch.TheVariants.{On, Quiet, Off}
 use Rattle.wit_model.proofs.Spelling.Codecs.{IsWord, Lacks, Lacks-test, named_takes, named_word}
 
-pub version_word : IsWord version_text version_of (λ version. Unit {0})
-unfolding version_of
+pub version_word : IsWord version_text version_named (λ version. Unit {0})
+unfolding version_named
 version_word = named_word version_text (One ∷ Two ∷ []) plain again
   where
     plain : (version : Version) → list_all (λ b. not (eqb b 32)) (version_text version) ≡ true
     plain One = refl
     plain Two = refl
 
-    again : (version : Version) → version_of (version_text version) ≡ Some version
+    again : (version : Version) → version_named (version_text version) ≡ Some version
     again One = refl
     again Two = refl
 
-pub class_word : IsWord class_text class_of (λ class. Unit {0})
-unfolding class_of
+pub class_word : IsWord class_text class_named (λ class. Unit {0})
+unfolding class_named
 class_word = named_word class_text (SleepMutex ∷ SpinMutex ∷ Rw ∷ Sx ∷ []) plain again
   where
     plain : (class : Class) → list_all (λ b. not (eqb b 32)) (class_text class) ≡ true
@@ -38,26 +38,26 @@ class_word = named_word class_text (SleepMutex ∷ SpinMutex ∷ Rw ∷ Sx ∷ [
     plain Rw = refl
     plain Sx = refl
 
-    again : (class : Class) → class_of (class_text class) ≡ Some class
+    again : (class : Class) → class_named (class_text class) ≡ Some class
     again SleepMutex = refl
     again SpinMutex = refl
     again Rw = refl
     again Sx = refl
 
-pub mode_word : IsWord mode_text mode_of (λ mode. Unit {0})
-unfolding mode_of
+pub mode_word : IsWord mode_text mode_named (λ mode. Unit {0})
+unfolding mode_named
 mode_word = named_word mode_text (Shared ∷ Exclusive ∷ []) plain again
   where
     plain : (mode : Mode) → list_all (λ b. not (eqb b 32)) (mode_text mode) ≡ true
     plain Shared = refl
     plain Exclusive = refl
 
-    again : (mode : Mode) → mode_of (mode_text mode) ≡ Some mode
+    again : (mode : Mode) → mode_named (mode_text mode) ≡ Some mode
     again Shared = refl
     again Exclusive = refl
 
-pub level_word : IsWord level_text level_of (λ watch. Unit {0})
-unfolding level_of
+pub level_word : IsWord level_text level_named (λ watch. Unit {0})
+unfolding level_named
 level_word = named_word level_text (On ∷ Quiet ∷ Off ∷ []) plain again
   where
     plain : (watch : Watch) → list_all (λ b. not (eqb b 32)) (level_text watch) ≡ true
@@ -65,7 +65,7 @@ level_word = named_word level_text (On ∷ Quiet ∷ Off ∷ []) plain again
     plain Quiet = refl
     plain Off = refl
 
-    again : (watch : Watch) → level_of (level_text watch) ≡ Some watch
+    again : (watch : Watch) → level_named (level_text watch) ≡ Some watch
     again On = refl
     again Quiet = refl
     again Off = refl
@@ -100,12 +100,12 @@ no_space keyword.Watch = refl
 pub keyword_plain : (word : Keyword) → Lacks 32 (keyword_text word)
 keyword_plain word = Lacks-test 32 (keyword_text word) (no_space word)
 
-pub keyword_takes : (bytes : List ℕ) (word : Keyword) → keyword_of bytes ≡ Some word → bytes ≡ keyword_text word
-unfolding keyword_of
+pub keyword_takes : (bytes : List ℕ) (word : Keyword) → keyword_named bytes ≡ Some word → bytes ≡ keyword_text word
+unfolding keyword_named
 keyword_takes = named_takes keyword_text keywords
 
-pub keyword_again : (word : Keyword) → keyword_of (keyword_text word) ≡ Some word
-unfolding keyword_of
+pub keyword_again : (word : Keyword) → keyword_named (keyword_text word) ≡ Some word
+unfolding keyword_named
 keyword_again keyword.Header = refl
 keyword_again keyword.Profile = refl
 keyword_again keyword.Order = refl

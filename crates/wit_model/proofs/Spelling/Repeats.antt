@@ -2,7 +2,7 @@
 use Rattle.std.proofs.Common.{◌≡◌, ℕ, zero, suc, ◌<◌, ◌≤◌, eqb, List, [], ◌∷◌, length, Option, Some, None, refl, ap, subst, ◌∙◌, arith}
 use Rattle.std.proofs.lemmas.Bool.{ne_eqb}
 use Rattle.wit_model.specs.Trace.Reading.{◌>>=◌, repeated, one_or_more}
-use Rattle.wit_model.proofs.Spelling.Codecs.{IsCodec, IsLast, Ends, bind_some, some_is, chosen}
+use Rattle.wit_model.proofs.Spelling.Codecs.{IsCodec, EndsHere, Ends, bind_some, some_is, chosen}
 
 abbrev pub print_each : {A : Type 0} → (A → List ℕ → List ℕ) → List A → List ℕ → List ℕ
 print_each print [] rest = rest
@@ -16,7 +16,7 @@ AllFit Fits (x ∷ xs) = Fits x × AllFit Fits xs
 abbrev pub TakesBytes : {A : Type 0} → (A → List ℕ → List ℕ) → Type 0
 TakesBytes {A} print = (x : A) (rest : List ℕ) → length rest < length (print x rest)
 
-each_starts : {A : Type 0} {print : A → List ℕ → List ℕ} {read : List ℕ → Option (A × List ℕ)} {Fits : A → Type 0} → IsCodec print read Fits (Ends 32) → (xs : List A) (rest : List ℕ) → IsLast rest → Ends 32 (print_each print xs rest)
+each_starts : {A : Type 0} {print : A → List ℕ → List ℕ} {read : List ℕ → Option (A × List ℕ)} {Fits : A → Type 0} → IsCodec print read Fits (Ends 32) → (xs : List A) (rest : List ℕ) → EndsHere rest → Ends 32 (print_each print xs rest)
 each_starts c [] rest last = rw last tt
 each_starts {print = print} c (x ∷ xs) rest last = c.starts x (print_each print xs rest) (each_starts c xs rest last)
 
@@ -24,7 +24,7 @@ each-le : {A : Type 0} (print : A → List ℕ → List ℕ) → TakesBytes prin
 each-le print more [] rest = omega arith
 each-le print more (x ∷ xs) rest = omega (arith, each-le print more xs rest, more x (print_each print xs rest))
 
-repeated_again : {A : Type 0} {print : A → List ℕ → List ℕ} {read : List ℕ → Option (A × List ℕ)} {Fits : A → Type 0} → TakesBytes print → IsCodec print read Fits (Ends 32) → (xs : List A) (rest : List ℕ) (most : ℕ) → AllFit Fits xs → IsLast rest → length xs ≤ most → repeated read most (print_each print xs rest) ≡ Some (xs, rest)
+repeated_again : {A : Type 0} {print : A → List ℕ → List ℕ} {read : List ℕ → Option (A × List ℕ)} {Fits : A → Type 0} → TakesBytes print → IsCodec print read Fits (Ends 32) → (xs : List A) (rest : List ℕ) (most : ℕ) → AllFit Fits xs → EndsHere rest → length xs ≤ most → repeated read most (print_each print xs rest) ≡ Some (xs, rest)
 repeated_again more c [] rest zero fits last few = rw last refl
 repeated_again more c [] rest (suc most) fits last few = rw last refl
 repeated_again more c (x ∷ xs) rest zero fits last few = absurd (omega arith)
@@ -48,7 +48,7 @@ repeated_takes {A} {print} {read} {Fits} c (suc most) bytes xs rest e =
     subst (λ (y : List A × List ℕ). (bytes ≡ print_each print y.0 y.1) × AllFit Fits y.0) same (s.0 ∙ ap (print a.0.0) t.0, (s.1, t.1))) e
 
 -- the last field of a line may be one or more of the same
-pub one_or_more_codec : {A : Type 0} {print : A → List ℕ → List ℕ} {read : List ℕ → Option (A × List ℕ)} {Fits : A → Type 0} → TakesBytes print → IsCodec print read Fits (Ends 32) → IsCodec (λ x rest. print x.0 (print_each print x.1 rest)) (one_or_more read) (λ x. Fits x.0 × AllFit Fits x.1) IsLast
+pub one_or_more_codec : {A : Type 0} {print : A → List ℕ → List ℕ} {read : List ℕ → Option (A × List ℕ)} {Fits : A → Type 0} → TakesBytes print → IsCodec print read Fits (Ends 32) → IsCodec (λ x rest. print x.0 (print_each print x.1 rest)) (one_or_more read) (λ x. Fits x.0 × AllFit Fits x.1) EndsHere
 one_or_more_codec {A} {print} {read} {Fits} more c = record {
   starts = λ x rest last. c.starts x.0 (print_each print x.1 rest) (each_starts c x.1 rest last);
   again = λ x rest fits last. rw (c.again x.0 (print_each print x.1 rest) fits.0 (each_starts c x.1 rest last), repeated_again more c x.1 rest (length (print_each print x.1 rest)) fits.1 last (each-le print more x.1 rest)) refl;

@@ -72,9 +72,9 @@ number_word bound least = record {
 -- ---- letters
 
 -- no letter comes twice
-abbrev pub AreDistinct : List ℕ → Type 0
-AreDistinct [] = Unit {0}
-AreDistinct (letter ∷ letters) = Lacks letter letters × AreDistinct letters
+abbrev pub HaveNoTwin : List ℕ → Type 0
+HaveNoTwin [] = Unit {0}
+HaveNoTwin (letter ∷ letters) = Lacks letter letters × HaveNoTwin letters
 
 either_lacks : (odd : Bool) (byte letter : ℕ) (word : List ℕ) → eqb letter byte ≡ false → Lacks byte word → Lacks byte (cond odd (letter ∷ word) word)
 either_lacks true byte letter word other lacks = (other, lacks)
@@ -99,7 +99,7 @@ bits_step letter letters bits lacks halves = either (cases_eq (bits % 2) 1)
     either (inl odd) = rw (eq-eqb (bits % 2) 1 odd, eq-eqb letter letter refl, halves) (ap Some (omega arith))
     either (inr even) = rw (ne_eqb (bits % 2) 1 even) (letter_passed letter letters (chosen_letters letters (bits / 2)) (chosen_lacks letter letters (bits / 2) lacks) ∙ rw halves (ap Some (omega arith)))
 
-bits_again : (letters : List ℕ) (bits : ℕ) → AreDistinct letters → bits < 2 ^ length letters → bits_of letters (chosen_letters letters bits) ≡ Some bits
+bits_again : (letters : List ℕ) (bits : ℕ) → HaveNoTwin letters → bits < 2 ^ length letters → bits_of letters (chosen_letters letters bits) ≡ Some bits
 bits_again [] bits distinct small = let none : 0 ≡ bits = omega arith in ap Some none
 bits_again (letter ∷ letters) bits distinct small = bits_step letter letters bits distinct.0 (bits_again letters (bits / 2) distinct.1 (half-lt letters bits small))
 
@@ -147,7 +147,7 @@ chosen_none (letter ∷ letters) = chosen_none letters
 
 -- letters that no other word is mistaken for
 pub record AreLetters (letters : List ℕ) : Type 0 where
-  pub distinct : AreDistinct letters
+  pub distinct : HaveNoTwin letters
   pub plain : Lacks 32 letters
   pub no_dash : Lacks 45 letters
 

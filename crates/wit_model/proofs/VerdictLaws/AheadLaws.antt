@@ -8,7 +8,7 @@ use Rattle.wit_model.specs.declared.profiles.Profile.{Profile}
 use Rattle.wit_model.specs.declared.faults.Fault.TheVariants.{SleepUnderSpin}
 use Rattle.wit_model.specs.declared.locks.Watch.{Watch}
 use Rattle.wit_model.specs.declared.locks.Instance.{Instance}
-use Rattle.wit_model.specs.declared.calls.Asked.{Asked}
+use Rattle.wit_model.specs.declared.calls.TypedRequest.{TypedRequest}
 use Rattle.wit_model.specs.declared.calls.Request.{Request}
 use Rattle.wit_model.specs.declared.calls.Call.TheVariants.{Check}
 use Rattle.wit_model.specs.declared.calls.Reply.{Reply}
@@ -20,9 +20,9 @@ use Rattle.wit_model.specs.Rules.Locks.{made, locks_of, is_spin_lock, is_of_kind
 use Rattle.wit_model.specs.Rules.History.{num, is_held, is_on, held, held_of, chain, instance, watch_of}
 use Rattle.wit_model.specs.Rules.State.{Start, Seat, known_of, state_of, seat_at, orders_of}
 use Rattle.wit_model.specs.Rules.Start.{start_fault}
-use Rattle.wit_model.specs.Rules.Verdict.{Basis, is_of, decided, holds_nothing, holds_it, doubles_in, follows_in, breaks_order, teaches_in, when, chain_asked, ruling, basis_of, asked_of}
+use Rattle.wit_model.specs.Rules.Verdict.{Basis, is_of, decided, holds_nothing, holds_it, doubles_in, follows_in, breaks_order, teaches_in, when, chain_asked, ruling, basis_of, typed_request}
 use Rattle.wit_model.specs.Rules.Step.{story_after, IsLegal}
-use Rattle.wit_model.specs.Rules.Ahead.{lock_type, IsAhead}
+use Rattle.wit_model.specs.Rules.Ahead.{type_of_lock, IsAhead}
 use Rattle.wit_model.specs.Rules.Clean.{is_clean}
 use Rattle.wit_model.proofs.Chains.Found.{if_some, found}
 use Rattle.wit_model.proofs.Chains.Held.{in-held, made_sane, kind-stays}
@@ -37,11 +37,11 @@ use Rattle.wit_model.proofs.VerdictLaws.Classes.{type-kind}
 use Rattle.wit_model.proofs.VerdictLaws.Judged.{checked}
 use Rattle.wit_model.proofs.VerdictLaws.Quiet.{clean-parts, watch-clean}
 use Rattle.wit_model.proofs.VerdictLaws.Rises.{in_all}
-use Rattle.wit_model.proofs.VerdictLaws.Rising.{leads, leads-stays, before-checked}
+use Rattle.wit_model.proofs.VerdictLaws.Rising.{lock_leads, leads-stays, before-checked}
 
 -- ---- no sleep lock passes under a spin lock
 
-sleep-passes : (profile : Profile) (g : Basis) (w : Watch) (sleep spin : List Instance) (q : Asked) (r : Reply) → is_on w ≡ true → is_spin (class_of q.type_no.0 g.types) ≡ false
+sleep-passes : (profile : Profile) (g : Basis) (w : Watch) (sleep spin : List Instance) (q : TypedRequest) (r : Reply) → is_on w ≡ true → is_spin (class_of q.type_no.0 g.types) ≡ false
     → ruling profile g w sleep spin q ≡ Ok r → is_some (last_or None spin) ≡ false
 sleep-passes profile g w sleep spin q r on kind ok = go (is_on w) (is_spin (class_of q.type_no.0 g.types)) (is_some (last_or None spin)) refl on kind ok
   where
@@ -101,20 +101,20 @@ module _ (start : Start) (files : List (List ℕ)) (unblessed : start.blessed �
       let there : find (is_of l) (chain true e.seat.0 h) ≡ if_some true (instance e.seat.0 h l)
       = found true e.seat.0 l h (sane_legal start files h legal.2) ∙ ap₂ (λ x y. if_some (x && y) (instance e.seat.0 h l)) is_held-l spins in
       let none : is_some (last_or None (seat_at s e.seat.0).spin) ≡ false
-      = sleep-passes start.profile (basis_of (known_of start h)) (watch_of h) (seat_at s e.seat.0).sleep (seat_at s e.seat.0).spin (asked_of (known_of start h) q) e.reply
+      = sleep-passes start.profile (basis_of (known_of start h)) (watch_of h) (seat_at s e.seat.0).sleep (seat_at s e.seat.0).spin (typed_request (known_of start h) q) e.reply
       (ap is_on (watch-clean start.profile h (clean-parts start.profile e h clean).1.1)) (type-kind start files h q.lock.0 legal.2 a.lock ∙ sleeps) a.verdict in
       true≢false (sym (last-some (is_of l) (chain true e.seat.0 h) (instance e.seat.0 h l) there)
       ∙ (ap (λ (seat : Seat). is_some (last_or None seat.spin)) (sym (seat_at-state start files h e.seat.0 a.seat)) ∙ none)))
 
   -- whichever held locks it is compared with
   all-before : (profile : Profile) → start.profile ≡ profile
-      → list_all (λ m. leads start (e ∷ h) m q.lock.0) (held_of (is_spin_lock (locks_of h) q.lock.0) e.seat.0 h) ≡ true
+      → list_all (λ m. lock_leads start (e ∷ h) m q.lock.0) (held_of (is_spin_lock (locks_of h) q.lock.0) e.seat.0 h) ≡ true
   all-before Plain plain = before-checked start files plain unblessed e h q legal clean asks (held-not e.seat.0 q.lock.0 h unheld)
   all-before AllHeld all = before-checked_all start files all unblessed e h q legal clean asks (held-not e.seat.0 q.lock.0 h unheld)
 
-  same-kind : is_spin_lock (locks_of h) l ≡ is_spin_lock (locks_of h) q.lock.0 → leads start (e ∷ h) l q.lock.0 ≡ true
+  same-kind : is_spin_lock (locks_of h) l ≡ is_spin_lock (locks_of h) q.lock.0 → lock_leads start (e ∷ h) l q.lock.0 ≡ true
   same-kind same =
-      in_all (λ m. leads start (e ∷ h) m q.lock.0) l (held_of (is_spin_lock (locks_of h) q.lock.0) e.seat.0 h)
+      in_all (λ m. lock_leads start (e ∷ h) m q.lock.0) l (held_of (is_spin_lock (locks_of h) q.lock.0) e.seat.0 h)
       (all-before start.profile refl)
       (among-kind (is_spin_lock (locks_of h) q.lock.0) e.seat.0 l h start files legal.2 is_held-l same)
 
@@ -123,7 +123,7 @@ module _ (start : Start) (files : List (List ℕ)) (unblessed : start.blessed �
     first = given-more e h l given-l;
     second = given-more e h q.lock.0 given-q;
     kinds = λ spins. spin-stays e h q.lock.0 given-q ∙ spin-first (sym (spin-stays e h l given-l) ∙ spins);
-    types = λ same. before_from_test (orders_of start (e ∷ h)) (lock_type start (e ∷ h) l) (lock_type start (e ∷ h) q.lock.0)
+    types = λ same. before_from_test (orders_of start (e ∷ h)) (type_of_lock start (e ∷ h) l) (type_of_lock start (e ∷ h) q.lock.0)
         (same-kind (sym (spin-stays e h l given-l) ∙ (same ∙ spin-stays e h q.lock.0 given-q)));
   }
 
@@ -133,9 +133,9 @@ ahead-stays start e h a b is = record {
   first = given-more e h a is.first;
   second = given-more e h b is.second;
   kinds = λ spins. spin-stays e h b is.second ∙ is.kinds (sym (spin-stays e h a is.first) ∙ spins);
-  types = λ same. before_from_test (orders_of start (e ∷ h)) (lock_type start (e ∷ h) a) (lock_type start (e ∷ h) b)
+  types = λ same. before_from_test (orders_of start (e ∷ h)) (type_of_lock start (e ∷ h) a) (type_of_lock start (e ∷ h) b)
       (leads-stays start e h a b is.first is.second
-      (test_from_before (orders_of start h) (lock_type start h a) (lock_type start h b) (is.types (sym (spin-stays e h a is.first) ∙ (same ∙ spin-stays e h b is.second)))));
+      (test_from_before (orders_of start h) (type_of_lock start h a) (type_of_lock start h b) (is.types (sym (spin-stays e h a is.first) ∙ (same ∙ spin-stays e h b is.second)))));
 }
 
 -- the kinds of three locks, each ahead of the next
@@ -155,9 +155,9 @@ ahead-trans start h a b c one two = record {
   kinds = λ spins. two.kinds (one.kinds spins);
   types = λ same.
       let both = middle (is_spin_lock (locks_of h) a) (is_spin_lock (locks_of h) b) (is_spin_lock (locks_of h) c) one.kinds two.kinds same in
-      before_trans (orders_of start h) (lock_type start h a) (lock_type start h b) (lock_type start h c) (one.types both.0) (two.types both.1);
+      before_trans (orders_of start h) (type_of_lock start h a) (type_of_lock start h b) (type_of_lock start h c) (one.types both.0) (two.types both.1);
 }
 
 -- no lock is ahead of itself
 pub ahead-sound : (start : Start) (files : List (List ℕ)) (h : List Entry) (a : ℕ) → start_fault start ≡ None → IsLegal start files h → IsAhead start h a a → ⊥
-ahead-sound start files h a accepted legal is = sound_legal start files h (sound_started start accepted) legal (lock_type start h a) (is.types refl)
+ahead-sound start files h a accepted legal is = sound_legal start files h (sound_started start accepted) legal (type_of_lock start h a) (is.types refl)

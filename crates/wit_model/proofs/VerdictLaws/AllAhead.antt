@@ -8,7 +8,7 @@ use Rattle.wit_model.specs.declared.profiles.Profile.TheVariants.{Plain, AllHeld
 use Rattle.wit_model.specs.declared.faults.Fault.{Fault}
 use Rattle.wit_model.specs.declared.locks.Instance.{Instance}
 use Rattle.wit_model.specs.declared.locks.TypeNo.{TypeNo}
-use Rattle.wit_model.specs.declared.calls.Asked.{Asked}
+use Rattle.wit_model.specs.declared.calls.TypedRequest.{TypedRequest}
 use Rattle.wit_model.specs.declared.calls.NewLock.{NewLock}
 use Rattle.wit_model.specs.declared.calls.Request.{Request}
 use Rattle.wit_model.specs.declared.calls.Call.TheVariants.{Check}
@@ -20,7 +20,7 @@ use Rattle.wit_model.specs.Rules.Locks.{locks_of, lock_at, has_flag, is_spin_loc
 use Rattle.wit_model.specs.Rules.Orders.{is_before, is_found, adopted}
 use Rattle.wit_model.specs.Rules.History.{is_on, is_report, is_held, held_of, chain, instance, watch_of}
 use Rattle.wit_model.specs.Rules.State.{Start, known_of, typed_locks, orders_of}
-use Rattle.wit_model.specs.Rules.Verdict.{Basis, type_held, is_sleepable, is_giant, place_of, place_asked, doubled, violates, is_blessed, conflict, reported, is_learnt, is_known, is_among, new_parents, orders_behind, basis_of, asked_of}
+use Rattle.wit_model.specs.Rules.Verdict.{Basis, type_held, is_sleepable, is_giant, place_of, place_asked, doubled, violates, is_blessed, conflict, reported, is_learnt, is_direct_behind, is_among, new_parents, orders_behind, basis_of, typed_request}
 use Rattle.wit_model.specs.Rules.Step.{IsLegal}
 use Rattle.wit_model.specs.Rules.Clean.{is_clean_call, is_clean}
 use Rattle.wit_model.proofs.Chains.Found.{if_some, found}
@@ -36,7 +36,7 @@ use Rattle.wit_model.proofs.Orders.TypedLocks.{known-made, made-known, lock_at-m
 use Rattle.wit_model.proofs.VerdictLaws.Judged.{checked, chain-of_kind}
 use Rattle.wit_model.proofs.VerdictLaws.Passing.{learnt-unless, giant-lock}
 use Rattle.wit_model.proofs.VerdictLaws.Quiet.{clean-parts, watch-clean, plain-parts, unheard, found-clean}
-use Rattle.wit_model.proofs.VerdictLaws.Rising.{leads, type-stays, given-from, made-all}
+use Rattle.wit_model.proofs.VerdictLaws.Rising.{lock_leads, type-stays, given-from, made-all}
 
 -- what follows of each element from two facts of all
 both-all : {X : Type 0} (p r s : X → Bool) → ((x : X) → p x ≡ true → r x ≡ true → s x ≡ true) → (xs : List X) → list_all p xs ≡ true → list_all r xs ≡ true → list_all s xs ≡ true
@@ -54,8 +54,8 @@ module _ (start : Start) (files : List (List ℕ)) (all : start.profile ≡ AllH
   abbrev g : Basis
   g = basis_of (known_of start h)
 
-  abbrev asked : Asked
-  asked = asked_of (known_of start h) q
+  abbrev asked : TypedRequest
+  asked = typed_request (known_of start h) q
 
   abbrev kind : Bool
   kind = is_spin_lock (locks_of h) q.lock.0
@@ -70,14 +70,14 @@ module _ (start : Start) (files : List (List ℕ)) (all : start.profile ≡ AllH
   orders-now : (r : Reply) → e.reply ≡ r → adopted (Check q) r ++ orders_of start h ≡ orders_of start (e ∷ h)
   orders-now r is = sym (ap₂ (λ x s. adopted x s ++ orders_of start h) asks is)
 
-  direct-first : (i : Instance) → is_known g asked i ≡ true → is_before (orders_of start h) (type_held g i).0 asked.type_no.0 ≡ true
+  direct-first : (i : Instance) → is_direct_behind g asked i ≡ true → is_before (orders_of start h) (type_held g i).0 asked.type_no.0 ≡ true
   direct-first i is =
       test_from_before (orders_of start h) (type_held g i).0 asked.type_no.0 (direct-before (orders_of start h) (type_held g i).0 asked.type_no.0 is)
 
   -- where it passed, and all orders are known
-  known-first : e.reply ≡ Pass → (xs : List Instance) → list_all (is_known g asked) xs ≡ true → list_all comes_first xs ≡ true
+  known-first : e.reply ≡ Pass → (xs : List Instance) → list_all (is_direct_behind g asked) xs ≡ true → list_all comes_first xs ≡ true
   known-first passes xs known =
-      all-from (is_known g asked) comes_first
+      all-from (is_direct_behind g asked) comes_first
       (λ i is. subst (λ os. is_before os (type_held g i).0 asked.type_no.0 ≡ true) (orders-now Pass passes) (direct-first i is)) xs known
 
   free-chain : find (λ (i : Instance). eqb i.lock.0 q.lock.0) c ≡ None
@@ -108,26 +108,26 @@ module _ (start : Start) (files : List (List ℕ)) (all : start.profile ≡ AllH
 
   -- so each order is known, or learnt now
   settled : find (violates g asked) (reverse c) ≡ None
-      → list_all (λ i. is_known g asked i || is_among (type_held g i).0 (new_parents g asked [] (reverse c))) (reverse c) ≡ true
+      → list_all (λ i. is_direct_behind g asked i || is_among (type_held g i).0 (new_parents g asked [] (reverse c))) (reverse c) ≡ true
   settled orderly =
       settled-all asked g (reverse c)
-      (both-all (λ (i : Instance). is_held e.seat.0 i.lock.0 h) (λ i. not (violates g asked i)) (λ i. is_learnt g asked i || is_known g asked i)
-      (λ i held fine. or_left (is_learnt g asked i) (is_known g asked i) (may-learn i held fine)) (reverse c)
+      (both-all (λ (i : Instance). is_held e.seat.0 i.lock.0 h) (λ i. not (violates g asked i)) (λ i. is_learnt g asked i || is_direct_behind g asked i)
+      (λ i held fine. or_left (is_learnt g asked i) (is_direct_behind g asked i) (may-learn i held fine)) (reverse c)
       (all-reverse (λ (i : Instance). is_held e.seat.0 i.lock.0 h) c (chain-held kind e.seat.0 h)) (none-passes (violates g asked) (reverse c) orderly))
 
   back : list_all comes_first (reverse c) ≡ true → list_all comes_first c ≡ true
   back is = subst (λ xs. list_all comes_first xs ≡ true) (reverse-reverse c) (all-reverse comes_first (reverse c) is)
 
   learnt-first : (ps : List TypeNo) → e.reply ≡ AdoptedAll (orders_behind asked ps) → (xs : List Instance)
-      → list_all (λ i. is_known g asked i || is_among (type_held g i).0 ps) xs ≡ true → list_all comes_first xs ≡ true
+      → list_all (λ i. is_direct_behind g asked i || is_among (type_held g i).0 ps) xs ≡ true → list_all comes_first xs ≡ true
   learnt-first ps is xs some =
-      all-from (λ i. is_known g asked i || is_among (type_held g i).0 ps) comes_first
+      all-from (λ i. is_direct_behind g asked i || is_among (type_held g i).0 ps) comes_first
       (λ i one. subst (λ os. is_before os (type_held g i).0 asked.type_no.0 ≡ true)
       (sym (on-adopted asked ps (orders_of start h)) ∙ orders-now (AdoptedAll (orders_behind asked ps)) is)
       (⊎_elim
       (λ known. before-on asked ps (orders_of start h) (type_held g i).0 asked.type_no.0 (direct-first i known))
       (λ new. learnt-before asked ps (orders_of start h) (type_held g i).0 new)
-      (or_cases (is_known g asked i) (is_among (type_held g i).0 ps) one))) xs some
+      (or_cases (is_direct_behind g asked i) (is_among (type_held g i).0 ps) one))) xs some
 
   quiet : is_report e.reply ≡ false
   quiet = (clean-parts start.profile e h clean).1.0
@@ -168,9 +168,9 @@ module _ (start : Start) (files : List (List ℕ)) (all : start.profile ≡ AllH
   all-first (Passed passes (Untaught one u)) = absurd (not-plain one)
   all-first (Passed passes (UntaughtAll two u)) =
       back (known-first passes (reverse c)
-      (all-from (λ i. is_known g asked i || is_among (type_held g i).0 []) (is_known g asked)
-      (λ i one. ⊎_elim (λ known. known) (λ none. absurd (false≢true none)) (or_cases (is_known g asked i) false one)) (reverse c)
-      (subst (λ ps. list_all (λ i. is_known g asked i || is_among (type_held g i).0 ps) (reverse c) ≡ true) u.barred (settled u.orderly))))
+      (all-from (λ i. is_direct_behind g asked i || is_among (type_held g i).0 []) (is_direct_behind g asked)
+      (λ i one. ⊎_elim (λ known. known) (λ none. absurd (false≢true none)) (or_cases (is_direct_behind g asked i) false one)) (reverse c)
+      (subst (λ ps. list_all (λ i. is_direct_behind g asked i || is_among (type_held g i).0 ps) (reverse c) ≡ true) u.barred (settled u.orderly))))
   all-first (Learnt one l) = absurd (not-plain one)
   all-first (LearntAll two l) = back (learnt-first (new_parents g asked [] (reverse c)) l.reply (reverse c) (settled l.orderly))
   all-first (Doubled d) = absurd (not-doubled d.held d.reply)
@@ -178,19 +178,19 @@ module _ (start : Start) (files : List (List ℕ)) (all : start.profile ≡ AllH
 
   -- by the locks themselves
   locks-lead : (ls : List ℕ) → list_all (is_given (locks_of h)) ls ≡ true → list_all comes_first (map (instance e.seat.0 h) ls) ≡ true
-      → list_all (λ l. leads start (e ∷ h) l q.lock.0) ls ≡ true
+      → list_all (λ l. lock_leads start (e ∷ h) l q.lock.0) ls ≡ true
   locks-lead [] given on = refl
   locks-lead (l ∷ ls) given on =
       let a = and_parts (is_given (locks_of h) l) (list_all (is_given (locks_of h)) ls) given in
       let b = and_parts (comes_first (instance e.seat.0 h l)) (list_all comes_first (map (instance e.seat.0 h) ls)) on in
-      and_from (leads start (e ∷ h) l q.lock.0) (list_all (λ m. leads start (e ∷ h) m q.lock.0) ls)
+      and_from (lock_leads start (e ∷ h) l q.lock.0) (list_all (λ m. lock_leads start (e ∷ h) m q.lock.0) ls)
       (ap₂ (λ x y. is_before (orders_of start (e ∷ h)) x y)
       (type-stays start e h l (given-from h l a.0) ∙ ap (λ (n : TypeNo). n.0) (sym (type-held (known_of start h) (instance e.seat.0 h l))))
       (type-stays start e h q.lock.0 (made-known start h q.lock.0 (checked start files e h q legal asks).lock))
       ∙ b.0)
       (locks-lead ls a.1 b.1)
 
-  pub before-checked_all : list_all (λ l. leads start (e ∷ h) l q.lock.0) (held_of kind e.seat.0 h) ≡ true
+  pub before-checked_all : list_all (λ l. lock_leads start (e ∷ h) l q.lock.0) (held_of kind e.seat.0 h) ≡ true
   before-checked_all =
       locks-lead (held_of kind e.seat.0 h) (made-all kind e.seat.0 h (sane_legal start files h legal.2))
       (all-first (subst (λ p. Says p g (watch_of h) asked c e.reply) all (chain-of_kind start files e h q legal asks)))

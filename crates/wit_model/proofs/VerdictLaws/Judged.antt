@@ -10,8 +10,8 @@ use Rattle.wit_model.specs.declared.calls.Entry.{Entry}
 use Rattle.wit_model.specs.Rules.Locks.{locks_of, is_spin_lock}
 use Rattle.wit_model.specs.Rules.History.{is_off, chain, watch_of}
 use Rattle.wit_model.specs.Rules.State.{Start, State, known_of, state_of, seat_at}
-use Rattle.wit_model.specs.Rules.Verdict.{basis_of, asked_of}
-use Rattle.wit_model.specs.Rules.Step.{held_by, is_exhausted, recorded, step, answer_of, story_after, is_logged, IsLegal}
+use Rattle.wit_model.specs.Rules.Verdict.{basis_of, typed_request}
+use Rattle.wit_model.specs.Rules.Step.{held_by, is_exhausted, recorded_reply, step, answer_of, story_after, is_logged, IsLegal}
 use Rattle.wit_model.proofs.Histories.Accepted.{CheckAccepted, check_accepted, init_accepted, note_accepted, try_accepted, give_up_accepted, unlock_accepted}
 use Rattle.wit_model.proofs.Histories.AcceptedTurns.{is_plain_reply, plain_accepted}
 use Rattle.wit_model.proofs.Orders.Ruled.{Says, ruled}
@@ -27,15 +27,15 @@ checked start files e h q legal asks =
 
 -- the chain by which it was judged is that of the lock's kind
 pub chain-of_kind : (start : Start) (files : List (List ℕ)) (e : Entry) (h : List Entry) (q : Request) → IsLegal start files (e ∷ h) → e.call ≡ Check q
-    → Says start.profile (basis_of (known_of start h)) (watch_of h) (asked_of (known_of start h) q) (chain (is_spin_lock (locks_of h) q.lock.0) e.seat.0 h) e.reply
+    → Says start.profile (basis_of (known_of start h)) (watch_of h) (typed_request (known_of start h) q) (chain (is_spin_lock (locks_of h) q.lock.0) e.seat.0 h) e.reply
 chain-of_kind start files e h q legal asks =
     let s = state_of (story_after start files h) in
     let g = basis_of (known_of start h) in
     let a = checked start files e h q legal asks in
-    subst (λ c. Says start.profile g (watch_of h) (asked_of (known_of start h) q) c e.reply)
+    subst (λ c. Says start.profile g (watch_of h) (typed_request (known_of start h) q) c e.reply)
     (chain-judged start files h e.seat.0 q a.seat
     ∙ ap (λ k. chain k e.seat.0 h) (type-kind start files h q.lock.0 legal.2 a.lock))
-    (ruled start.profile g s.watch (seat_at s e.seat.0).sleep (seat_at s e.seat.0).spin (asked_of (known_of start h) q) e.reply a.verdict)
+    (ruled start.profile g s.watch (seat_at s e.seat.0).sleep (seat_at s e.seat.0).spin (typed_request (known_of start h) q) e.reply a.verdict)
 
 -- a reply that tells of a violation
 abbrev pub is_told : Reply → Bool
@@ -47,7 +47,7 @@ is_told _ = false
 untold : (r s : Reply) → r ≡ s → is_told s ≡ false → is_told r ≡ true → ⊥
 untold r s same quiet is = true≢false (sym is ∙ (ap is_told same ∙ quiet))
 
-recorded-untold : (s : State) (t l : ℕ) → is_told (recorded s t l) ≡ false
+recorded-untold : (s : State) (t l : ℕ) → is_told (recorded_reply s t l) ≡ false
 recorded-untold s t l = go (is_off s.watch) (is_some (held_by s t l)) (is_exhausted s t l)
   where
     go : (off held none : Bool) → is_told (cond off Unrecorded (cond held Recorded (cond none Exhausted Recorded))) ≡ false

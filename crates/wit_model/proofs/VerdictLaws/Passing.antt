@@ -11,7 +11,7 @@ use Rattle.wit_model.specs.declared.locks.Class.{Class}
 use Rattle.wit_model.specs.declared.locks.Class.TheVariants.{SleepMutex, Sx}
 use Rattle.wit_model.specs.declared.locks.TypeNo.{TypeNo}
 use Rattle.wit_model.specs.declared.locks.Instance.{Instance}
-use Rattle.wit_model.specs.declared.calls.Asked.{Asked}
+use Rattle.wit_model.specs.declared.calls.TypedRequest.{TypedRequest}
 use Rattle.wit_model.specs.declared.calls.NewLock.{NewLock}
 use Rattle.wit_model.specs.declared.calls.Heading.{Heading}
 use Rattle.wit_model.specs.declared.calls.Heading.TheVariants as heading
@@ -26,7 +26,7 @@ use Rattle.wit_model.specs.Rules.Orders.{is_adoption_of, is_direct, is_before, i
 use Rattle.wit_model.specs.Rules.History.{is_on, held_of, chain, instance, watch_of}
 use Rattle.wit_model.specs.Rules.State.{Start, known_of, typed_locks, orders_of}
 use Rattle.wit_model.specs.Rules.Start.{start_fault}
-use Rattle.wit_model.specs.Rules.Verdict.{Basis, type_held, has_type_of, is_sleepable, is_giant, place_of, place_asked, doubled, violates, is_blessed, conflict, reported, is_learnt, basis_of, asked_of}
+use Rattle.wit_model.specs.Rules.Verdict.{Basis, type_held, has_type_of, is_sleepable, is_giant, place_of, place_asked, doubled, violates, is_blessed, conflict, reported, is_learnt, basis_of, typed_request}
 use Rattle.wit_model.specs.Rules.Step.{IsLegal}
 use Rattle.wit_model.specs.Rules.Clean.{is_giant_lock}
 use Rattle.wit_model.specs.VerdictLaws.{AsksBehind, HasPassed, is_sleepable_lock}
@@ -96,7 +96,7 @@ may-learn false false false true t apart none = absurd (true≢false none)
 may-learn false false false false true apart none = absurd (true≢false none)
 may-learn false false false false false apart none = refl
 
-pub learnt-unless : (g : Basis) (q : Asked) (i : Instance) → has_flag q.ops.0 0x01 ≡ true
+pub learnt-unless : (g : Basis) (q : TypedRequest) (i : Instance) → has_flag q.ops.0 0x01 ≡ true
     → ((is_giant g (type_held g i) && is_sleepable g q.type_no) || (is_sleepable g (type_held g i) && is_giant g q.type_no)) ≡ false
     → violates g q i ≡ false → is_learnt g q i ≡ true
 learnt-unless g q i new apart none =
@@ -107,14 +107,14 @@ learnt-unless g q i new apart none =
 
 -- ---- a violation doesn't pass, nor does a second lock of a type where none is allowed
 
-pub reported-no_pass : (g : Basis) (q : Asked) (c : List Instance) (i : Instance) → reported g q c i ≡ Ok Pass → ⊥
+pub reported-no_pass : (g : Basis) (q : TypedRequest) (c : List Instance) (i : Instance) → reported g q c i ≡ Ok Pass → ⊥
 reported-no_pass g q c i ok = go (is_found g.found (type_held g i).0 q.type_no.0 || is_blessed g (type_held g i) q.type_no) ok
   where
     go : (f : Bool) → cond {A = Result Reply Fault} f (Ok (Silent (type_held g i) q.type_no)) (Ok (Reversal (conflict g q c i))) ≡ Ok Pass → ⊥
     go true same = (cc)
     go false same = (cc)
 
-pub doubled-no_pass : (g : Basis) (q : Asked) (i : Instance) → (has_flag q.flags.0 0x02 || has_flag q.ops.0 0x02) ≡ false → doubled g q i ≡ Ok Pass → ⊥
+pub doubled-no_pass : (g : Basis) (q : TypedRequest) (i : Instance) → (has_flag q.flags.0 0x02 || has_flag q.ops.0 0x02) ≡ false → doubled g q i ≡ Ok Pass → ⊥
 doubled-no_pass g q i single ok = go (has_flag q.flags.0 0x02 || has_flag q.ops.0 0x02) (is_found g.found q.type_no.0 q.type_no.0) single ok
   where
     go : (allowed f : Bool) → allowed ≡ false
@@ -139,8 +139,8 @@ module _ (start : Start) (files : List (List ℕ)) (e : Entry) (h : List Entry) 
   abbrev g : Basis
   g = basis_of (known_of start h)
 
-  abbrev q : Asked
-  q = asked_of (known_of start h) behind.request
+  abbrev q : TypedRequest
+  q = typed_request (known_of start h) behind.request
 
   abbrev kind : Bool
   kind = is_spin_lock (locks_of h) behind.request.lock.0
@@ -195,7 +195,7 @@ module _ (start : Start) (files : List (List ℕ)) (e : Entry) (h : List Entry) 
   abbrev basis : Basis
   basis = g start files e h a b legal has.behind
 
-  abbrev asked : Asked
+  abbrev asked : TypedRequest
   asked = q start files e h a b legal has.behind
 
   abbrev held_before : List Instance

@@ -11,7 +11,7 @@ use Rattle.wit_model.specs.declared.locks.Watch.{Watch}
 use Rattle.wit_model.specs.declared.locks.Watch.TheVariants.{Off, Quiet, On}
 use Rattle.wit_model.specs.declared.locks.TypeNo.{TypeNo}
 use Rattle.wit_model.specs.declared.locks.Instance.{Instance}
-use Rattle.wit_model.specs.declared.calls.Asked.{Asked}
+use Rattle.wit_model.specs.declared.calls.TypedRequest.{TypedRequest}
 use Rattle.wit_model.specs.declared.calls.NewLock.{NewLock}
 use Rattle.wit_model.specs.declared.calls.Request.{Request}
 use Rattle.wit_model.specs.declared.calls.Call.{Call}
@@ -23,9 +23,9 @@ use Rattle.wit_model.specs.Rules.Locks.{made, locks_of, lock_of, no_lock, has_fl
 use Rattle.wit_model.specs.Rules.Orders.{is_found}
 use Rattle.wit_model.specs.Rules.History.{is_on, is_held, held_of, chain, watch_after, watch_of, is_report}
 use Rattle.wit_model.specs.Rules.State.{Start, known_of, typed_locks, found_after, found_of}
-use Rattle.wit_model.specs.Rules.Verdict.{Basis, type_held, place_of, place_asked, doubled, is_blessed, conflict, reported, basis_of, asked_of}
+use Rattle.wit_model.specs.Rules.Verdict.{Basis, type_held, place_of, place_asked, doubled, is_blessed, conflict, reported, basis_of, typed_request}
 use Rattle.wit_model.specs.Rules.Step.{IsLegal}
-use Rattle.wit_model.specs.Rules.Ahead.{lock_type}
+use Rattle.wit_model.specs.Rules.Ahead.{type_of_lock}
 use Rattle.wit_model.specs.Rules.Clean.{is_giant_lock, is_clean_call, is_clean_entry, is_clean}
 use Rattle.wit_model.specs.VerdictLaws.{AsksBehind, HasPassed, is_sleepable_lock}
 use Rattle.wit_model.proofs.Numbered.{with_number-or}
@@ -101,7 +101,7 @@ module _ (profile : Profile) where
 
 -- ---- no violation was found
 
-doubled-silent : (g : Basis) (q : Asked) (i : Instance) (a b : TypeNo) → doubled g q i ≡ Ok (Silent a b) → is_found g.found q.type_no.0 q.type_no.0 ≡ true
+doubled-silent : (g : Basis) (q : TypedRequest) (i : Instance) (a b : TypeNo) → doubled g q i ≡ Ok (Silent a b) → is_found g.found q.type_no.0 q.type_no.0 ≡ true
 doubled-silent g q i a b ok = go (has_flag q.flags.0 0x02 || has_flag q.ops.0 0x02) (is_found g.found q.type_no.0 q.type_no.0) refl ok
   where
     go : (allowed f : Bool) → is_found g.found q.type_no.0 q.type_no.0 ≡ f
@@ -111,7 +111,7 @@ doubled-silent g q i a b ok = go (has_flag q.flags.0 0x02 || has_flag q.ops.0 0x
     go false true is same = is
     go false false is same = (cc)
 
-reported-silent : (g : Basis) (q : Asked) (c : List Instance) (i : Instance) (a b : TypeNo) → reported g q c i ≡ Ok (Silent a b)
+reported-silent : (g : Basis) (q : TypedRequest) (c : List Instance) (i : Instance) (a b : TypeNo) → reported g q c i ≡ Ok (Silent a b)
     → (is_found g.found (type_held g i).0 q.type_no.0 || is_blessed g (type_held g i) q.type_no) ≡ true
 reported-silent g q c i a b ok = go (is_found g.found (type_held g i).0 q.type_no.0 || is_blessed g (type_held g i) q.type_no) refl ok
   where
@@ -122,7 +122,7 @@ reported-silent g q c i a b ok = go (is_found g.found (type_held g i).0 q.type_n
     go false is same = (cc)
 
 -- nothing is passed over in silence where nothing was found and no pair is blessed
-never-silent : (profile : Profile) (g : Basis) (w : Watch) (q : Asked) (c : List Instance) (a b : TypeNo) → g.found ≡ [] → g.blessed ≡ [] → Says profile g w q c (Silent a b) → ⊥
+never-silent : (profile : Profile) (g : Basis) (w : Watch) (q : TypedRequest) (c : List Instance) (a b : TypeNo) → g.found ≡ [] → g.blessed ≡ [] → Says profile g w q c (Silent a b) → ⊥
 never-silent profile g w q c a b none unblessed (Passed passes why) = (cc)
 never-silent profile g w q c a b none unblessed (LearntAll all l) = let e = l.reply in (cc)
 never-silent profile g w q c a b none unblessed (Learnt plain l) = let e = l.reply in (cc)
@@ -141,8 +141,8 @@ module _ (start : Start) (files : List (List ℕ)) (unblessed : start.blessed �
       let asks = told-asked start files e h legal (rw is refl) in
       let kind = is_spin_lock (locks_of h) asks.0.lock.0 in
       let g = basis_of (known_of start h) in
-      never-silent start.profile g (watch_of h) (asked_of (known_of start h) asks.0) (chain kind e.seat.0 h) a b none unblessed
-      (subst (λ r. Says start.profile g (watch_of h) (asked_of (known_of start h) asks.0) (chain kind e.seat.0 h) r) is (chain-of_kind start files e h asks.0 legal asks.1))
+      never-silent start.profile g (watch_of h) (typed_request (known_of start h) asks.0) (chain kind e.seat.0 h) a b none unblessed
+      (subst (λ r. Says start.profile g (watch_of h) (typed_request (known_of start h) asks.0) (chain kind e.seat.0 h) r) is (chain-of_kind start files e h asks.0 legal asks.1))
 
   found_by : (e : Entry) (h : List Entry) → IsLegal start files (e ∷ h) → found_of start h ≡ [] → (r : Reply) → e.reply ≡ r → is_report r ≡ false
       → found_after (typed_locks start h) r (found_of start h) ≡ []
@@ -160,37 +160,37 @@ module _ (start : Start) (files : List (List ℕ)) (unblessed : start.blessed �
 
   module _ (e : Entry) (h : List Entry) (q : Request) (last : ℕ) (legal : IsLegal start files (e ∷ h)) (clean : is_clean start.profile (e ∷ h) ≡ true)
       (asks : e.call ≡ Check q) (is_last : last_or None (held_of (is_spin_lock (locks_of h) q.lock.0) e.seat.0 h) ≡ Some last) where
-    abbrev behind-last : AsksBehind start h e (lock_type start h last) (lock_type start h q.lock.0)
+    abbrev behind-last : AsksBehind start h e (type_of_lock start h last) (type_of_lock start h q.lock.0)
     behind-last = record { request = q; asks = asks; last = last; is_last = is_last; parent = refl; child = refl }
 
     quiet-by : (r : Reply) → is_report r ≡ false → ((a b : TypeNo) → r ≡ Silent a b → ⊥)
-        → Says Plain (basis_of (known_of start h)) (watch_of h) (asked_of (known_of start h) q) (chain (is_spin_lock (locks_of h) q.lock.0) e.seat.0 h) r
-        → (r ≡ Pass) ⊎ (r ≡ Adopted (record { 0 = lock_type start h last }) (record { 0 = lock_type start h q.lock.0 }))
+        → Says Plain (basis_of (known_of start h)) (watch_of h) (typed_request (known_of start h) q) (chain (is_spin_lock (locks_of h) q.lock.0) e.seat.0 h) r
+        → (r ≡ Pass) ⊎ (r ≡ Adopted (record { 0 = type_of_lock start h last }) (record { 0 = type_of_lock start h q.lock.0 }))
     quiet-by r quiet heard (Passed passes why) = inl passes
     quiet-by r quiet heard (LearntAll all l) = absurd (not-all all)
     quiet-by r quiet heard (Learnt plain' l) =
-        inr (l.reply ∙ ap (λ n. Adopted n (asked_of (known_of start h) q).type_no)
-        (type-of_last start files e h (lock_type start h last) (lock_type start h q.lock.0) legal behind-last l.last l.is_new.behind.is_last))
+        inr (l.reply ∙ ap (λ n. Adopted n (typed_request (known_of start h) q).type_no)
+        (type-of_last start files e h (type_of_lock start h last) (type_of_lock start h q.lock.0) legal behind-last l.last l.is_new.behind.is_last))
     quiet-by r quiet heard (Doubled d) =
-        go (has_flag (asked_of (known_of start h) q).flags.0 0x02 || has_flag q.ops.0 0x02) (is_found (found_of start h) (lock_type start h q.lock.0) (lock_type start h q.lock.0)) d.reply
+        go (has_flag (typed_request (known_of start h) q).flags.0 0x02 || has_flag q.ops.0 0x02) (is_found (found_of start h) (type_of_lock start h q.lock.0) (type_of_lock start h q.lock.0)) d.reply
       where
-        go : (allowed f : Bool) → cond {A = Result Reply Fault} allowed (Ok Pass) (cond f (Ok (Silent (asked_of (known_of start h) q).type_no (asked_of (known_of start h) q).type_no))
-            (Ok (Duplicate (record { last = place_of d.held; asked = place_asked (asked_of (known_of start h) q) })))) ≡ Ok r
-            → (r ≡ Pass) ⊎ (r ≡ Adopted (record { 0 = lock_type start h last }) (record { 0 = lock_type start h q.lock.0 }))
+        go : (allowed f : Bool) → cond {A = Result Reply Fault} allowed (Ok Pass) (cond f (Ok (Silent (typed_request (known_of start h) q).type_no (typed_request (known_of start h) q).type_no))
+            (Ok (Duplicate (record { last = place_of d.held; asked = place_asked (typed_request (known_of start h) q) })))) ≡ Ok r
+            → (r ≡ Pass) ⊎ (r ≡ Adopted (record { 0 = type_of_lock start h last }) (record { 0 = type_of_lock start h q.lock.0 }))
         go true f same = inl (sym (same_reply same))
         go false true same = absurd (heard _ _ (sym (same_reply same)))
         go false false same = absurd (true≢false (ap is_report (same_reply same) ∙ quiet))
     quiet-by r quiet heard (Broken v) =
-        go (is_found (found_of start h) (type_held (basis_of (known_of start h)) v.held).0 (lock_type start h q.lock.0)
-        || is_blessed (basis_of (known_of start h)) (type_held (basis_of (known_of start h)) v.held) (asked_of (known_of start h) q).type_no) v.reply
+        go (is_found (found_of start h) (type_held (basis_of (known_of start h)) v.held).0 (type_of_lock start h q.lock.0)
+        || is_blessed (basis_of (known_of start h)) (type_held (basis_of (known_of start h)) v.held) (typed_request (known_of start h) q).type_no) v.reply
       where
-        go : (f : Bool) → cond {A = Result Reply Fault} f (Ok (Silent (type_held (basis_of (known_of start h)) v.held) (asked_of (known_of start h) q).type_no))
-            (Ok (Reversal (conflict (basis_of (known_of start h)) (asked_of (known_of start h) q) (chain (is_spin_lock (locks_of h) q.lock.0) e.seat.0 h) v.held))) ≡ Ok r
-            → (r ≡ Pass) ⊎ (r ≡ Adopted (record { 0 = lock_type start h last }) (record { 0 = lock_type start h q.lock.0 }))
+        go : (f : Bool) → cond {A = Result Reply Fault} f (Ok (Silent (type_held (basis_of (known_of start h)) v.held) (typed_request (known_of start h) q).type_no))
+            (Ok (Reversal (conflict (basis_of (known_of start h)) (typed_request (known_of start h) q) (chain (is_spin_lock (locks_of h) q.lock.0) e.seat.0 h) v.held))) ≡ Ok r
+            → (r ≡ Pass) ⊎ (r ≡ Adopted (record { 0 = type_of_lock start h last }) (record { 0 = type_of_lock start h q.lock.0 }))
         go true same = absurd (heard _ _ (sym (same_reply same)))
         go false same = absurd (true≢false (ap is_report (same_reply same) ∙ quiet))
 
-    pub clean-passed : start.profile ≡ Plain → is_held e.seat.0 q.lock.0 h ≡ false → HasPassed start h e (lock_type start h last) (lock_type start h q.lock.0)
+    pub clean-passed : start.profile ≡ Plain → is_held e.seat.0 q.lock.0 h ≡ false → HasPassed start h e (type_of_lock start h last) (type_of_lock start h q.lock.0)
     clean-passed plain unheld =
         let parts = clean-parts start.profile e h clean in
         let flags = and_parts (has_flag q.ops.0 0x01) (not (has_flag q.ops.0 0x02)) (ap (is_clean_call start.profile) (sym asks) ∙ parts.0) in
@@ -199,7 +199,7 @@ module _ (start : Start) (files : List (List ℕ)) (unblessed : start.blessed �
         record {
           behind = behind-last;
           passed = quiet-by e.reply parts.1.0 (λ a b is. unheard e h legal (found-clean h legal.2 parts.1.1) a b is)
-              (subst (λ p. Says p (basis_of (known_of start h)) (watch_of h) (asked_of (known_of start h) q) (chain (is_spin_lock (locks_of h) q.lock.0) e.seat.0 h) e.reply) plain
+              (subst (λ p. Says p (basis_of (known_of start h)) (watch_of h) (typed_request (known_of start h) q) (chain (is_spin_lock (locks_of h) q.lock.0) e.seat.0 h) e.reply) plain
               (chain-of_kind start files e h q legal asks));
           on = watch-clean start.profile h parts.1.1;
           unheld = unheld;

@@ -6,27 +6,27 @@ use Rattle.std.proofs.lemmas.List.Folds.{list_all-append}
 use Rattle.wit_model.proofs.Lists.{list_all-filter}
 
 -- each element is related to all behind it
-abbrev pub rises : (ℕ → ℕ → Bool) → List ℕ → Bool
-rises leads [] = true
-rises leads (l ∷ ls) = list_all (leads l) ls && rises leads ls
+abbrev pub is_rising : (ℕ → ℕ → Bool) → List ℕ → Bool
+is_rising leads [] = true
+is_rising leads (l ∷ ls) = list_all (leads l) ls && is_rising leads ls
 
-pub rises_push : (leads : ℕ → ℕ → Bool) (ls : List ℕ) (m : ℕ) → rises leads ls ≡ true → list_all (λ l. leads l m) ls ≡ true → rises leads (ls ++ m ∷ []) ≡ true
+pub rises_push : (leads : ℕ → ℕ → Bool) (ls : List ℕ) (m : ℕ) → is_rising leads ls ≡ true → list_all (λ l. leads l m) ls ≡ true → is_rising leads (ls ++ m ∷ []) ≡ true
 rises_push leads [] m up all = refl
 rises_push leads (l ∷ ls) m up all =
-    let here = and_parts (list_all (leads l) ls) (rises leads ls) up in
+    let here = and_parts (list_all (leads l) ls) (is_rising leads ls) up in
     let first = and_parts (leads l m) (list_all (λ k. leads k m) ls) all in
-    and_from (list_all (leads l) (ls ++ m ∷ [])) (rises leads (ls ++ m ∷ []))
+    and_from (list_all (leads l) (ls ++ m ∷ [])) (is_rising leads (ls ++ m ∷ []))
     (list_all-append (leads l) ls (m ∷ []) ∙ and_from (list_all (leads l) ls) (leads l m && true) here.0 (and_from (leads l m) true first.0 refl))
     (rises_push leads ls m here.1 first.1)
 
-pub rises_filter : (leads : ℕ → ℕ → Bool) (p : ℕ → Bool) (ls : List ℕ) → rises leads ls ≡ true → rises leads (filter p ls) ≡ true
+pub rises_filter : (leads : ℕ → ℕ → Bool) (p : ℕ → Bool) (ls : List ℕ) → is_rising leads ls ≡ true → is_rising leads (filter p ls) ≡ true
 rises_filter leads p [] up = refl
 rises_filter leads p (l ∷ ls) up =
-    let here = and_parts (list_all (leads l) ls) (rises leads ls) up in
-    go (p l) (and_from (list_all (leads l) (filter p ls)) (rises leads (filter p ls)) (list_all-filter (leads l) p ls here.0) (rises_filter leads p ls here.1))
+    let here = and_parts (list_all (leads l) ls) (is_rising leads ls) up in
+    go (p l) (and_from (list_all (leads l) (filter p ls)) (is_rising leads (filter p ls)) (list_all-filter (leads l) p ls here.0) (rises_filter leads p ls here.1))
     (rises_filter leads p ls here.1)
   where
-    go : (b : Bool) → (list_all (leads l) (filter p ls) && rises leads (filter p ls)) ≡ true → rises leads (filter p ls) ≡ true → rises leads (cond b (l ∷ filter p ls) (filter p ls)) ≡ true
+    go : (b : Bool) → (list_all (leads l) (filter p ls) && is_rising leads (filter p ls)) ≡ true → is_rising leads (filter p ls) ≡ true → is_rising leads (cond b (l ∷ filter p ls) (filter p ls)) ≡ true
     go true with_it without = with_it
     go false with_it without = without
 
@@ -39,12 +39,12 @@ module _ (leads other : ℕ → ℕ → Bool) (p : ℕ → Bool) (more : (l m : 
       let fine = and_parts (p m) (list_all p ls) good in
       and_from (other l m) (list_all (other l) ls) (more l m here fine.0 first.0) (all_also l here ls fine.1 first.1)
 
-  pub rises_also : (ls : List ℕ) → list_all p ls ≡ true → rises leads ls ≡ true → rises other ls ≡ true
+  pub rises_also : (ls : List ℕ) → list_all p ls ≡ true → is_rising leads ls ≡ true → is_rising other ls ≡ true
   rises_also [] good up = refl
   rises_also (l ∷ ls) good up =
-      let here = and_parts (list_all (leads l) ls) (rises leads ls) up in
+      let here = and_parts (list_all (leads l) ls) (is_rising leads ls) up in
       let fine = and_parts (p l) (list_all p ls) good in
-      and_from (list_all (other l) ls) (rises other ls) (all_also l fine.0 ls fine.1 here.0) (rises_also ls fine.1 here.1)
+      and_from (list_all (other l) ls) (is_rising other ls) (all_also l fine.0 ls fine.1 here.0) (rises_also ls fine.1 here.1)
 
   pub before_also : (m : ℕ) → p m ≡ true → (ls : List ℕ) → list_all p ls ≡ true → list_all (λ l. leads l m) ls ≡ true → list_all (λ l. other l m) ls ≡ true
   before_also m here [] good all = refl
@@ -73,14 +73,14 @@ none_last (d ∷ ls) is = absurd (some_from d ls is)
 
 -- where the last one leads to m and the relation is transitive, all do
 module _ (leads : ℕ → ℕ → Bool) (chains : (a b c : ℕ) → leads a b ≡ true → leads b c ≡ true → leads a c ≡ true) (x m : ℕ) (on : leads x m ≡ true) where
-  before_from : (d : ℕ) (ls : List ℕ) → rises leads (d ∷ ls) ≡ true → last_or (Some d) ls ≡ Some x → list_all (λ l. leads l m) (d ∷ ls) ≡ true
+  before_from : (d : ℕ) (ls : List ℕ) → is_rising leads (d ∷ ls) ≡ true → last_or (Some d) ls ≡ Some x → list_all (λ l. leads l m) (d ∷ ls) ≡ true
   before_from d [] up is = and_from (leads d m) true (subst (λ n. leads n m ≡ true) (let e : x ≡ d = cc in e) on) refl
   before_from d (l ∷ ls) up is =
-      let here = and_parts (list_all (leads d) (l ∷ ls)) (rises leads (l ∷ ls)) up in
+      let here = and_parts (list_all (leads d) (l ∷ ls)) (is_rising leads (l ∷ ls)) up in
       let first = and_parts (leads d l) (list_all (leads d) ls) here.0 in
       and_from (leads d m) (list_all (λ k. leads k m) (l ∷ ls)) (chains d x m (last_from (leads d) l ls x first.0 first.1 is) on) (before_from l ls here.1 is)
 
-  pub before_last : (ls : List ℕ) → rises leads ls ≡ true → last_or None ls ≡ Some x → list_all (λ l. leads l m) ls ≡ true
+  pub before_last : (ls : List ℕ) → is_rising leads ls ≡ true → last_or None ls ≡ Some x → list_all (λ l. leads l m) ls ≡ true
   before_last [] up is = refl
   before_last (d ∷ ls) up is = before_from d ls up is
 

@@ -23,13 +23,13 @@ IsBacked t l w = 0 < num t l (log_of w) → (0 < shares t l w) × (raw_mode t l 
 
 -- ---- steps of a lock
 
-abbrev pub lock_of : Deed → ℕ
-lock_of (Take t l m) = l
-lock_of (TryTake t l m) = l
-lock_of (Free t l) = l
-lock_of (RawUp t l) = l
-lock_of (RawDown t l) = l
-lock_of _ = 0
+abbrev pub deed_lock : Deed → ℕ
+deed_lock (Take t l m) = l
+deed_lock (TryTake t l m) = l
+deed_lock (Free t l) = l
+deed_lock (RawUp t l) = l
+deed_lock (RawDown t l) = l
+deed_lock _ = 0
 
 abbrev pub is_raw : Deed → Bool
 is_raw (Logged e) = false
@@ -47,7 +47,7 @@ raw-log (RawUp t l) w raw = refl
 raw-log (RawDown t l) w raw = refl
 
 -- it leaves other threads and other locks
-pub raw-elsewhere : (u k : ℕ) (d : Deed) (w : List Deed) → is_raw d ≡ true → are_these u k (thread_of d) (lock_of d) ≡ false
+pub raw-elsewhere : (u k : ℕ) (d : Deed) (w : List Deed) → is_raw d ≡ true → are_these u k (thread_of d) (deed_lock d) ≡ false
     → IsBacked u k w → IsBacked u k (d ∷ w)
 raw-elsewhere u k (Logged e) w raw other was = absurd (false≢true raw)
 raw-elsewhere u k (PassedOver t call) w raw other was = was

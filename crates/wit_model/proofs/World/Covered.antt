@@ -13,10 +13,10 @@ use Rattle.wit_model.specs.declared.calls.Reply.TheVariants.{Recorded, Exhausted
 use Rattle.wit_model.specs.declared.calls.Entry.{Entry}
 use Rattle.wit_model.specs.Rules.History.{Act, act, num, is_held, is_off, is_report, watch_of}
 use Rattle.wit_model.specs.Rules.State.{Start, State, state_of}
-use Rattle.wit_model.specs.Rules.Step.{is_exhausted, held_by, recorded, answer_of, story_after, IsLegal}
+use Rattle.wit_model.specs.Rules.Step.{is_exhausted, held_by, recorded_reply, answer_of, story_after, IsLegal}
 use Rattle.wit_model.specs.Rules.Clean.{is_clean_call, is_clean}
 use Rattle.wit_model.specs.World.Deeds.{Deed, Logged, PassedOver, Take, TryTake, Free, RawUp, RawDown, thread_of, own, log_of, are_these, shares}
-use Rattle.wit_model.specs.World.Stages.{Stage, Over, Asked, Taken, Tried, Raised, Lowered, stage_logged, stage_passed, stage, is_over, call_follows, follows}
+use Rattle.wit_model.specs.World.Stages.{Stage, Over, Asked, Taken, Tried, Raised, Lowered, stage_logged, stage_passed, stage, is_over, call_follows, deed_follows}
 use Rattle.wit_model.specs.World.Steps.{IsWorld}
 use Rattle.wit_model.proofs.Chains.Acts.{num_after, num-step, is_even, num_after-even, upgrade-even, downgrade-even, norelease-even, releaseok-even}
 use Rattle.wit_model.proofs.Histories.Accepted.{note_accepted, try_accepted, unlock_accepted}
@@ -116,7 +116,7 @@ module _ (start : Start) (files : List (List ℕ)) (t l : ℕ) (w : List Deed) w
           at_end = λ over. absurd (false≢true (sym unfinished ∙ over));
         }
 
-    free-covers : (m : ℕ) → follows (Free t m) held g ≡ true → Covers l n (cond (are_these t l t m) (s - 1) s) Over
+    free-covers : (m : ℕ) → deed_follows (Free t m) held g ≡ true → Covers l n (cond (are_these t l t m) (s - 1) s) Over
     free-covers m may =
         let mine : are_these t l t m ≡ eqb m l = rw (eq-eqb t t refl) refl in
         settled l n (cond (are_these t l t m) (s - 1) s) Over (rw mine (freed (eqb m l) n s (due l g) was.all (due-freeing l t m held g may))) refl
@@ -159,7 +159,7 @@ module _ (start : Start) (files : List (List ℕ)) where
   acquired-logged false false false is = (cc)
 
   -- what is recorded of an acquisition is always a reply that is logged
-  not-passed : (st : State) (u m : ℕ) → Ignored ≡ recorded st u m → ⊥
+  not-passed : (st : State) (u m : ℕ) → Ignored ≡ recorded_reply st u m → ⊥
   not-passed st u m is = acquired-logged (is_off st.watch) (is_some (held_by st u m)) (is_exhausted st u m) is
 
   module _ (u : ℕ) (c : Call) (w : List Deed) (world : IsWorld start files (PassedOver u c ∷ w)) where

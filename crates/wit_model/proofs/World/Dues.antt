@@ -7,7 +7,7 @@ use Rattle.wit_model.specs.declared.locks.Mode.{Mode}
 use Rattle.wit_model.specs.declared.locks.Site.{Site}
 use Rattle.wit_model.specs.declared.calls.Call.TheVariants.{Note, NoteTry, GiveUp, Upgrade}
 use Rattle.wit_model.specs.World.Deeds.{Take, Free, RawDown}
-use Rattle.wit_model.specs.World.Stages.{Stage, Over, Asked, Taken, Tried, Forgot, Raised, Lowered, is_over, call_follows, follows, is_same_mode}
+use Rattle.wit_model.specs.World.Stages.{Stage, Over, Asked, Taken, Tried, Forgot, Raised, Lowered, is_over, call_follows, deed_follows, is_same_mode}
 
 abbrev pub due : ℕ → Stage → ℕ
 due l (Taken m) = cond (eqb m l) 1 0
@@ -28,16 +28,16 @@ pub nothing-due : (l n s : ℕ) (g : Stage) → due l g ≡ 0 → Covers l n s g
 nothing-due l n s g none c = let all = c.all in omega arith
 
 module _ (l t m : ℕ) (held : ℕ → Bool) where
-  pub due-taking : (mode : Mode) (g : Stage) → follows (Take t m mode) held g ≡ true → due l g ≡ 0
+  pub due-taking : (mode : Mode) (g : Stage) → deed_follows (Take t m mode) held g ≡ true → due l g ≡ 0
   due-taking mode (Asked q) is = refl
   due-taking mode _ is = absurd (false≢true is)
 
-  pub due-freeing : (g : Stage) → follows (Free t m) held g ≡ true → due l g ≡ cond (eqb m l) 1 0
+  pub due-freeing : (g : Stage) → deed_follows (Free t m) held g ≡ true → due l g ≡ cond (eqb m l) 1 0
   due-freeing (Tried k mode) is = ap (λ j. cond (eqb j l) 1 0) (eqb-true k m is)
   due-freeing (Forgot k has_fewer) is = ap (λ j. cond (eqb j l) 1 0) (eqb-true k m is)
   due-freeing _ is = absurd (false≢true is)
 
-  pub due-lowering : (g : Stage) → follows (RawDown t m) held g ≡ true → due l g ≡ 0
+  pub due-lowering : (g : Stage) → deed_follows (RawDown t m) held g ≡ true → due l g ≡ 0
   due-lowering (Raised k) is = refl
   due-lowering (Lowered k passed) is = refl
   due-lowering _ is = absurd (false≢true is)

@@ -14,7 +14,7 @@ use Rattle.wit_model.specs.Rules.History.{is_held}
 use Rattle.wit_model.specs.Rules.State.{Start, State, typed_locks, seat_of, state_of, is_seat, is_live}
 use Rattle.wit_model.specs.Rules.Verdict.{is_exclusive}
 use Rattle.wit_model.specs.World.Deeds.{Deed, Take, TryTake, Free, RawUp, RawDown, thread_of, log_of, shares, raw_mode}
-use Rattle.wit_model.specs.World.Stages.{follows, may_follow}
+use Rattle.wit_model.specs.World.Stages.{deed_follows, may_follow}
 use Rattle.wit_model.specs.World.Steps.{admits, is_alone, CanDo, IsWorld}
 use Rattle.wit_model.specs.World.Scenes.{Scene, raw_of, shares_of, stage_at, is_admitted, is_only, is_free, mode_asked, deed_of, is_known, is_way_back, has_share, may_come, stepped, step_deed, step_raw}
 use Rattle.wit_model.specs.World.Shown.{Shows}
@@ -83,9 +83,9 @@ module _ (start : Start) (files : List (List ℕ)) (w : List Deed) (s : Scene) (
   given-shown : (l : ℕ) → is_given (state_of s.story).known.locks l ≡ true → is_given (typed_locks start (log_of w)) l ≡ true
   given-shown l is = ap (λ (st : State). is_given st.known.locks l) (sym (state-shown start files w s shown)) ∙ is
 
-  pub follow-shown : (d : Deed) → follows d (λ l. is_held (thread_of d) l s.story.history) (stage_at s (thread_of d)) ≡ may_follow d w
+  pub follow-shown : (d : Deed) → deed_follows d (λ l. is_held (thread_of d) l s.story.history) (stage_at s (thread_of d)) ≡ may_follow d w
   follow-shown d =
-      ap₂ (λ h at. follows d (λ l. is_held (thread_of d) l h) at) shown.logs (shown.stages (thread_of d))
+      ap₂ (λ h at. deed_follows d (λ l. is_held (thread_of d) l h) at) shown.logs (shown.stages (thread_of d))
 
   module _ (world : IsWorld start files w) where
     admitted-shown : (l : ℕ) (mode : Mode) → is_admitted mode (raw_of s.raw l) ≡ admits start.sizes.seats l mode w

@@ -7,8 +7,8 @@ use Rattle.wit_model.specs.Rules.Orders.{Before}
 use Rattle.wit_model.specs.Rules.State.{Start, typed_locks, orders_of}
 
 -- the type of a lock
-abbrev pub lock_type : Start → List Entry → ℕ → ℕ
-lock_type start h l = (lock_at (typed_locks start h) l).type_no.0
+abbrev pub type_of_lock : Start → List Entry → ℕ → ℕ
+type_of_lock start h l = (lock_at (typed_locks start h) l).type_no.0
 
 -- of two locks the first is to be taken before the second: no sleep lock is taken under a spin lock, and where they are of one kind,
 -- the first one's type is before the second one's
@@ -16,4 +16,4 @@ pub record IsAhead (start : Start) (h : List Entry) (a b : ℕ) : Type 0 where
   pub first : IsGiven (locks_of h) a
   pub second : IsGiven (locks_of h) b
   pub kinds : is_spin_lock (locks_of h) a ≡ true → is_spin_lock (locks_of h) b ≡ true
-  pub types : is_spin_lock (locks_of h) a ≡ is_spin_lock (locks_of h) b → Before (orders_of start h) (lock_type start h a) (lock_type start h b)
+  pub types : is_spin_lock (locks_of h) a ≡ is_spin_lock (locks_of h) b → Before (orders_of start h) (type_of_lock start h a) (type_of_lock start h b)

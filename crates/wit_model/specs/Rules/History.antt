@@ -127,14 +127,14 @@ instance t h l =
     record { lock = record { 0 = l }; mode = mode t l h; norelease = mark t l h; count = num t l h - 1; site = site t l h }
 
 -- the lock that this act records, where t holds it after h and its place is i
-abbrev pub held_at : ℕ → List Entry → Act → ℕ → List ℕ
-held_at t h (Records l) i = if is_held t l h && (place t l h == i) then l ∷ [] else []
-held_at t h _ i = []
+abbrev pub recorded_at : ℕ → List Entry → Act → ℕ → List ℕ
+recorded_at t h (Records l) i = if is_held t l h && (place t l h == i) then l ∷ [] else []
+recorded_at t h _ i = []
 
 -- the locks that t holds after h whose places are in past, in the order of their places
 abbrev pub held_among : ℕ → List Entry → List Entry → List ℕ
 held_among t h [] = []
-held_among t h (e ∷ past) = held_among t h past ++ held_at t h (act_by t e) (length past)
+held_among t h (e ∷ past) = held_among t h past ++ recorded_at t h (act_by t e) (length past)
 
 -- the locks that t holds, in the order of their places
 abbrev pub held : ℕ → List Entry → List ℕ

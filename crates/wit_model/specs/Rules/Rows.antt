@@ -24,8 +24,8 @@ pub record ArePlaced (size : ℕ) (lists : List (List ℕ)) (unused : List ℕ) 
   pub all : length (concat lists) + length unused ≡ size
 
 -- what callers see
-abbrev pub shown : List (List Instance) → List (List ℕ) → List ℕ → Chunks
-shown rows lists unused =
+abbrev pub shown_chunks : List (List Instance) → List (List ℕ) → List ℕ → Chunks
+shown_chunks rows lists unused =
     record { size = length rows; groups = map (groups_at rows) lists; places = lists; unused = unused }
 
 -- each chunk stands once and holds five at most, the free ones are empty, and no group is empty unless it is its list's only one

@@ -83,19 +83,19 @@ abbrev pub is_exhausted : State → ℕ → ℕ → Bool
 is_exhausted s t l = opens (groups_for s t l) && (free s == 0)
 
 -- what is recorded of an acquisition
-abbrev pub recorded : State → ℕ → ℕ → Reply
-recorded s t l =
+abbrev pub recorded_reply : State → ℕ → ℕ → Reply
+recorded_reply s t l =
     if is_off s.watch then Unrecorded
     else if is_some (held_by s t l) then Recorded
     else if is_exhausted s t l then Exhausted
     else Recorded
 
 abbrev pub step_note : State → ℕ → ℕ → Result Reply Fault
-step_note s t l = before_answering s t l (Ok (recorded s t l))
+step_note s t l = before_answering s t l (Ok (recorded_reply s t l))
 
 -- a try is no request: no order is checked, nor how the lock is held. It needs room for itself and its unlock
 abbrev pub step_note_try : State → ℕ → ℕ → Mode → Site → Result Reply Fault
-step_note_try s t l m site = before_acquiring s t l m site (with_room s 2 (Ok (recorded s t l)))
+step_note_try s t l m site = before_acquiring s t l m site (with_room s 2 (Ok (recorded_reply s t l)))
 
 abbrev pub step_give_up : State → ℕ → ℕ → Result Reply Fault
 step_give_up s t l = before_answering s t l (Ok Done)

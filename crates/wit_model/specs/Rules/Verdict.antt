@@ -22,7 +22,7 @@ use Rattle.wit_model.specs.declared.calls.Conflict.{Conflict}
 use Rattle.wit_model.specs.declared.calls.Reply.{Reply}
 use Rattle.wit_model.specs.declared.calls.Reply.TheVariants.{Pass, Adopted, AdoptedAll, Silent, Duplicate, Reversal}
 use Rattle.wit_model.specs.declared.calls.Request.{Request}
-use Rattle.wit_model.specs.declared.calls.Asked.{Asked}
+use Rattle.wit_model.specs.declared.calls.TypedRequest.{TypedRequest}
 use Rattle.wit_model.specs.Rules.Numbers.{with_number}
 use Rattle.wit_model.specs.Rules.Types.{LockType, name_of, class_of, is_same_class, is_spin}
 use Rattle.wit_model.specs.Rules.Locks.{Lock, has_flag, lock_at}
@@ -53,7 +53,7 @@ is_of l i = i.lock.0 == l
 abbrev pub type_held : Basis → Instance → TypeNo
 type_held g i = unwrap_or (with_number g.lock_types i.lock.0) (record { 0 = 0 })
 
-abbrev pub has_type_of : Basis → Asked → Instance → Bool
+abbrev pub has_type_of : Basis → TypedRequest → Instance → Bool
 has_type_of g q i = (type_held g i).0 == q.type_no.0
 
 -- the holder of such a lock may sleep (sx(9))
@@ -67,7 +67,7 @@ is_giant g t = is_same_class (class_of t.0 g.types) SleepMutex && bytes_eq (name
 abbrev pub place_of : Instance → LockAt
 place_of i = record { lock = i.lock; site = i.site }
 
-abbrev pub place_asked : Asked → LockAt
+abbrev pub place_asked : TypedRequest → LockAt
 place_asked q = record { lock = q.lock; site = q.site }
 
 -- ---- each rule has an answer, or leaves it to the next
@@ -89,7 +89,7 @@ abbrev pub isnt_watched : Watch → Rule
 isnt_watched watch = when (not (is_on watch)) (Ok Pass)
 
 -- 2: a spin lock is held, and a lock of the sleep kind asked for
-abbrev pub sleeps_under_spin : Basis → List Instance → Asked → Rule
+abbrev pub sleeps_under_spin : Basis → List Instance → TypedRequest → Rule
 sleeps_under_spin g spin q = when (not (is_spin (class_of q.type_no.0 g.types)) && is_some (last_or None spin)) (Err SleepUnderSpin)
 
 -- 3: no lock of its kind is held
@@ -98,7 +98,7 @@ holds_nothing last = when (is_none last) (Ok Pass)
 
 -- a held lock that is asked for again: the modes must agree, and the lock has to be recursable where it is exclusive.
 -- Flags of a request: 0x04 the caller doesn't hold the lock; of a lock: 0x01 recursable
-abbrev pub again : Asked → Instance → Result Reply Fault
+abbrev pub again : TypedRequest → Instance → Result Reply Fault
 again q i =
     if is_exclusive i.mode && not (is_exclusive q.mode) then Err SharedOfExclusive
     else if not (is_exclusive i.mode) && is_exclusive q.mode then Err ExclusiveOfShared
@@ -107,23 +107,23 @@ again q i =
     else Ok Pass
 
 -- 4: the lock itself is held
-abbrev pub holds_it : List Instance → Asked → Rule
+abbrev pub holds_it : List Instance → TypedRequest → Rule
 holds_it chain q = option_map (again q) (find (is_of q.lock.0) chain)
 
 -- two locks of one type: reported once for a type, and never where the lock, or the request, allows it (0x02)
-abbrev pub doubled : Basis → Asked → Instance → Result Reply Fault
+abbrev pub doubled : Basis → TypedRequest → Instance → Result Reply Fault
 doubled g q last =
     if has_flag q.flags.0 0x02 || has_flag q.ops.0 0x02 then Ok Pass
     else if is_found g.found q.type_no.0 q.type_no.0 then Ok (Silent q.type_no q.type_no)
     else Ok (Duplicate (record { last = place_of last; asked = place_asked q }))
 
 -- 5: the last held lock is of its type
-abbrev pub doubles : Basis → Option Instance → Asked → Rule
+abbrev pub doubles : Basis → Option Instance → TypedRequest → Rule
 doubles g None q = None
 doubles g (Some last) q = when (has_type_of g q last) (doubled g q last)
 
 -- 6: its order behind the last held lock is a direct one
-abbrev pub follows : Basis → Option Instance → Asked → Rule
+abbrev pub follows : Basis → Option Instance → TypedRequest → Rule
 follows g None q = None
 follows g (Some last) q = when (is_direct g.orders (type_held g last).0 q.type_no.0) (Ok Pass)
 
@@ -138,12 +138,12 @@ breach g asked held =
     else if is_before g.orders asked.0 held.0 then Some heading.Order
     else None
 
-abbrev pub violates : Basis → Asked → Instance → Bool
+abbrev pub violates : Basis → TypedRequest → Instance → Bool
 violates g q i = is_some (breach g q.type_no (type_held g i))
 
 -- what is told of a reversal: the violating held lock, the newest held lock of the requested type among those older
 -- than it, and the requested lock
-abbrev pub conflict : Basis → Asked → List Instance → Instance → Conflict
+abbrev pub conflict : Basis → TypedRequest → List Instance → Instance → Conflict
 conflict g q chain i = record {
   heading = unwrap_or (breach g q.type_no (type_held g i)) heading.Order;
   held = place_of i;
@@ -159,89 +159,89 @@ abbrev pub is_blessed : Basis → TypeNo → TypeNo → Bool
 is_blessed g a b = list_any (is_named_pair (name_of a.0 g.types) (name_of b.0 g.types)) g.blessed
 
 -- 8: a violation is reported, once for a pair of types, and never where the pair is blessed
-abbrev pub reported : Basis → Asked → List Instance → Instance → Result Reply Fault
+abbrev pub reported : Basis → TypedRequest → List Instance → Instance → Result Reply Fault
 reported g q chain i =
     if is_found g.found (type_held g i).0 q.type_no.0 || is_blessed g (type_held g i) q.type_no then Ok (Silent (type_held g i) q.type_no)
     else Ok (Reversal (conflict g q chain i))
 
 -- 7: a held lock violates the order: the newest one that does
-abbrev pub breaks_order : Basis → List Instance → Asked → Rule
+abbrev pub breaks_order : Basis → List Instance → TypedRequest → Rule
 breaks_order g chain q = option_map (reported g q chain) (find (violates g q) (reverse chain))
 
 -- whether the order behind the last held lock may be learnt: the request allows it (0x01), it isn't that of a sleepable lock behind Giant,
 -- and it turns no order round
-abbrev pub is_learnt : Basis → Asked → Instance → Bool
+abbrev pub is_learnt : Basis → TypedRequest → Instance → Bool
 is_learnt g q last =
     has_flag q.ops.0 0x01
     && not (is_giant g (type_held g last) && is_sleepable g q.type_no)
     && not (is_before g.orders q.type_no.0 (type_held g last).0)
 
 -- 9: the order behind the last held lock is learnt
-abbrev pub teaches : Basis → Option Instance → Asked → Rule
+abbrev pub teaches : Basis → Option Instance → TypedRequest → Rule
 teaches g None q = None
 teaches g (Some last) q = when (is_learnt g q last) (Ok (Adopted (type_held g last) q.type_no))
 
 -- ---- where all held locks are compared with, three of them are these
 
 -- 5: a held lock is of its type; the newest one is told
-abbrev pub doubles_any : Basis → List Instance → Asked → Rule
+abbrev pub doubles_any : Basis → List Instance → TypedRequest → Rule
 doubles_any g chain q = option_map (doubled g q) (find (has_type_of g q) (reverse chain))
 
 -- whether the order behind a held lock is a direct one
-abbrev pub is_known : Basis → Asked → Instance → Bool
-is_known g q i = is_direct g.orders (type_held g i).0 q.type_no.0
+abbrev pub is_direct_behind : Basis → TypedRequest → Instance → Bool
+is_direct_behind g q i = is_direct g.orders (type_held g i).0 q.type_no.0
 
 -- 6: its orders behind all held locks are direct ones
-abbrev pub follows_all : Basis → List Instance → Asked → Rule
-follows_all g chain q = when (list_all (is_known g q) chain) (Ok Pass)
+abbrev pub follows_all : Basis → List Instance → TypedRequest → Rule
+follows_all g chain q = when (list_all (is_direct_behind g q) chain) (Ok Pass)
 
 abbrev pub is_among : ℕ → List TypeNo → Bool
 is_among t types = list_any (λ (x : TypeNo). x.0 == t) types
 
 -- whether the order behind a held lock may be learnt and is new, those behind locks of these types
 -- being learnt before it
-abbrev pub is_new : Basis → Asked → List TypeNo → Instance → Bool
+abbrev pub is_new : Basis → TypedRequest → List TypeNo → Instance → Bool
 is_new g q before i =
-    is_learnt g q i && not (is_known g q i) && not (is_among (type_held g i).0 before)
+    is_learnt g q i && not (is_direct_behind g q i) && not (is_among (type_held g i).0 before)
 
 -- the types behind which an order is learnt, of these held locks one after the other
-abbrev pub new_parents : Basis → Asked → List TypeNo → List Instance → List TypeNo
+abbrev pub new_parents : Basis → TypedRequest → List TypeNo → List Instance → List TypeNo
 new_parents g q before [] = []
 new_parents g q before (i ∷ held) =
     if is_new g q before i then type_held g i ∷ new_parents g q (type_held g i ∷ before) held
     else new_parents g q before held
 
 -- the orders behind these types
-abbrev pub orders_behind : Asked → List TypeNo → List (TypeNo × TypeNo)
+abbrev pub orders_behind : TypedRequest → List TypeNo → List (TypeNo × TypeNo)
 orders_behind q parents = map (λ p. (p, q.type_no)) parents
 
 -- where there is one at least, they are told
-abbrev pub told_orders : Asked → List TypeNo → Rule
+abbrev pub told_orders : TypedRequest → List TypeNo → Rule
 told_orders q [] = None
 told_orders q (p ∷ parents) = Some (Ok (AdoptedAll (orders_behind q (p ∷ parents))))
 
 -- 9: the orders behind all held locks are learnt, that behind the newest one first
-abbrev pub teaches_all : Basis → List Instance → Asked → Rule
+abbrev pub teaches_all : Basis → List Instance → TypedRequest → Rule
 teaches_all g chain q = told_orders q (new_parents g q [] (reverse chain))
 
 -- ---- which of the two it is
 
-abbrev pub doubles_in : Profile → Basis → List Instance → Option Instance → Asked → Rule
+abbrev pub doubles_in : Profile → Basis → List Instance → Option Instance → TypedRequest → Rule
 doubles_in Plain g chain last q = doubles g last q
 doubles_in AllHeld g chain last q = doubles_any g chain q
 
-abbrev pub follows_in : Profile → Basis → List Instance → Option Instance → Asked → Rule
+abbrev pub follows_in : Profile → Basis → List Instance → Option Instance → TypedRequest → Rule
 follows_in Plain g chain last q = follows g last q
 follows_in AllHeld g chain last q = follows_all g chain q
 
-abbrev pub teaches_in : Profile → Basis → List Instance → Option Instance → Asked → Rule
+abbrev pub teaches_in : Profile → Basis → List Instance → Option Instance → TypedRequest → Rule
 teaches_in Plain g chain last q = teaches g last q
 teaches_in AllHeld g chain last q = teaches_all g chain q
 
 -- ---- the rules in their order, where these are the spin locks that the seat holds, its locks of the requested kind, oldest
 -- first, and the last of these
 
-abbrev pub rules : Profile → Basis → Watch → List Instance → List Instance → Option Instance → Asked → List Rule
+abbrev pub rules : Profile → Basis → Watch → List Instance → List Instance → Option Instance → TypedRequest → List Rule
 rules profile g watch spin chain last q =
     isnt_watched watch
     ∷ sleeps_under_spin g spin q
@@ -254,11 +254,11 @@ rules profile g watch spin chain last q =
     ∷ []
 
 -- the one of a seat's two chains, of the sleep kind and of the spin kind, that a request is judged by
-abbrev pub chain_asked : Basis → List Instance → List Instance → Asked → List Instance
+abbrev pub chain_asked : Basis → List Instance → List Instance → TypedRequest → List Instance
 chain_asked g sleep spin q = if is_spin (class_of q.type_no.0 g.types) then spin else sleep
 
 -- the ruling on a request of a seat that holds these locks of the sleep kind and of the spin kind
-abbrev pub ruling : Profile → Basis → Watch → List Instance → List Instance → Asked → Result Reply Fault
+abbrev pub ruling : Profile → Basis → Watch → List Instance → List Instance → TypedRequest → Result Reply Fault
 ruling profile g watch sleep spin q =
     decided (rules profile g watch spin (chain_asked g sleep spin q) (last_or None (chain_asked g sleep spin q)) q)
 
@@ -273,8 +273,8 @@ basis_of k = record {
   blessed = k.blessed;
 }
 
-abbrev pub asked_of : Known → Request → Asked
-asked_of k q = record {
+abbrev pub typed_request : Known → Request → TypedRequest
+typed_request k q = record {
   lock = q.lock;
   type_no = (lock_at k.locks q.lock.0).type_no;
   flags = (lock_at k.locks q.lock.0).made.flags;
@@ -284,7 +284,7 @@ asked_of k q = record {
 }
 
 abbrev pub verdict : Profile → Known → Watch → Seat → Request → Result Reply Fault
-verdict profile k watch seat q = ruling profile (basis_of k) watch seat.sleep seat.spin (asked_of k q)
+verdict profile k watch seat q = ruling profile (basis_of k) watch seat.sleep seat.spin (typed_request k q)
 
 -- the seat's chain of the lock's kind, oldest first
 abbrev pub chain_of_kind : Known → Seat → ℕ → List Instance

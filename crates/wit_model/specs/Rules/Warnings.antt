@@ -13,19 +13,19 @@ use Rattle.wit_model.specs.Rules.Questions.{of_seat}
 use Rattle.wit_model.specs.Rules.Verdict.{Basis, is_of, type_held, is_sleepable, is_giant, basis_of}
 
 -- whether this is the lock that the call names, if it names one
-abbrev pub is_named : Option LockNo → Instance → Bool
-is_named None i = false
-is_named (Some l) i = is_of l.0 i
+abbrev pub is_lock_named : Option LockNo → Instance → Bool
+is_lock_named None i = false
+is_lock_named (Some l) i = is_of l.0 i
 
 -- whether a lock of the sleep kind may be held: it is the named one, or Giant where that is allowed (0x01), or a sleepable one where these
 -- are (0x02)
 abbrev pub is_allowed : Basis → Option LockNo → WarnFlags → Instance → Bool
 is_allowed g named flags i =
-    is_named named i || (has_flag flags.0 0x01 && is_giant g (type_held g i)) || (has_flag flags.0 0x02 && is_sleepable g (type_held g i))
+    is_lock_named named i || (has_flag flags.0 0x01 && is_giant g (type_held g i)) || (has_flag flags.0 0x02 && is_sleepable g (type_held g i))
 
 -- of the locks of the spin kind all are counted, but for the named one where nothing else is
 abbrev pub counted_spin : Option LockNo → List Instance → List Instance → List Instance
-counted_spin named [] (i ∷ []) = if is_named named i then [] else i ∷ []
+counted_spin named [] (i ∷ []) = if is_lock_named named i then [] else i ∷ []
 counted_spin named counted spin = spin
 
 -- the counted locks, where these of the sleep kind aren't allowed: each kind newest first

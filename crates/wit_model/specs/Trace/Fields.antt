@@ -4,30 +4,30 @@ use Rattle.std.specs.Prelude.{ℕ, zero, suc, ◌^◌, List, [], ◌∷◌, leng
 use Rattle.std.specs.Str.{bytes_eq}
 use Rattle.wit_model.specs.declared.locks.Class.{Class}
 use Rattle.wit_model.specs.Rules.Names.{is_name}
-use Rattle.wit_model.specs.Trace.Words.{◌>>=◌, after, until, number_of, class_of, accepted}
+use Rattle.wit_model.specs.Trace.Words.{◌>>=◌, after, until, number_of, class_named, accepted}
 
 abbrev pub Reader : Type 0 → Type 0
 Reader A = List ℕ → Option (A × List ℕ)
 
 -- a word, up to the next space or the end
-unfoldable pub word_at : Reader (List ℕ)
-word_at bytes = after 32 bytes >>= λ rest. Some (until 32 rest)
+unfoldable pub leading_word : Reader (List ℕ)
+leading_word bytes = after 32 bytes >>= λ rest. Some (until 32 rest)
 
 -- a field of one word
 abbrev pub field_at : {A : Type 0} → (List ℕ → Option A) → Reader A
-field_at read bytes = word_at bytes >>= λ word. read word.0 >>= λ value. Some (value, word.1)
+field_at read bytes = leading_word bytes >>= λ word. read word.0 >>= λ value. Some (value, word.1)
 
 -- a fixed word, and what follows it
 unfoldable pub fixed_at : List ℕ → List ℕ → Option (List ℕ)
-fixed_at fixed bytes = word_at bytes >>= λ word. if bytes_eq word.0 fixed then Some word.1 else None
+fixed_at fixed bytes = leading_word bytes >>= λ word. if bytes_eq word.0 fixed then Some word.1 else None
 
 -- a field behind a fixed word
 abbrev pub behind : {A : Type 0} → List ℕ → Reader A → Reader A
 behind fixed read bytes = fixed_at fixed bytes >>= read
 
 -- a name between quotation marks
-unfoldable pub quoted_at : Reader (List ℕ)
-quoted_at bytes =
+unfoldable pub leading_quoted : Reader (List ℕ)
+leading_quoted bytes =
     after 32 bytes >>= λ opened. after 34 opened >>= λ inside.
     accepted is_name (until 34 inside).0 >>= λ name.
     after 34 (until 34 inside).1 >>= λ rest. Some (name, rest)
@@ -57,19 +57,19 @@ both read others bytes = read bytes >>= λ a. others a.1 >>= λ b. Some ((a.0, b
 abbrev pub whole : {A : Type 0} → Reader A → List ℕ → Option A
 whole read bytes = read bytes >>= λ x. if length x.1 == 0 then Some x.0 else None
 
-unfoldable pub count_at : Reader ℕ
-count_at = field_at (number_of (2 ^ 32))
+unfoldable pub leading_count : Reader ℕ
+leading_count = field_at (number_of (2 ^ 32))
 
-unfoldable pub seat_at : Reader ℕ
-seat_at = field_at (number_of (2 ^ 16))
+unfoldable pub leading_seat : Reader ℕ
+leading_seat = field_at (number_of (2 ^ 16))
 
-unfoldable pub lock_at : Reader ℕ
-lock_at = field_at (number_of (2 ^ 32))
+unfoldable pub leading_lock : Reader ℕ
+leading_lock = field_at (number_of (2 ^ 32))
 
 -- a type by its class and its name
-unfoldable pub type_at : Reader (Class × List ℕ)
-type_at = both (field_at class_of) quoted_at
+unfoldable pub leading_type : Reader (Class × List ℕ)
+leading_type = both (field_at class_named) leading_quoted
 
 -- one type or more
-unfoldable pub list_of : List ℕ → Option (List (Class × List ℕ))
-list_of bytes = whole (one_or_more type_at) bytes >>= λ x. Some (x.0 ∷ x.1)
+unfoldable pub whole_list : List ℕ → Option (List (Class × List ℕ))
+whole_list bytes = whole (one_or_more leading_type) bytes >>= λ x. Some (x.0 ∷ x.1)

@@ -43,9 +43,9 @@ kept_lines (Keeping p kept) = kept
 kept_lines _ = []
 
 -- what becomes of a line: the migration goes on, having written these lines; or the line is bad
-pub data Outcome : Type 0 where
-  Goes : Moving → List (List ℕ) → Outcome
-  Bad : Cause → Outcome
+pub data MovingOutcome : Type 0 where
+  Goes : Moving → List (List ℕ) → MovingOutcome
+  Bad : Cause → MovingOutcome
 
 -- ---- calls
 
@@ -55,7 +55,7 @@ step_line t None = []
 step_line t (Some k) = spelling (OnLock (Step (record { 0 = t }) k.0 k.1)) ∷ []
 
 -- a call that is answered so: its own fault comes before that of the step before it
-abbrev pub answered : Story → List RawLock → ℕ → List ℕ → ℕ → Call → Result Reply Fault → Outcome
+abbrev pub answered : Story → List RawLock → ℕ → List ℕ → ℕ → Call → Result Reply Fault → MovingOutcome
 answered s raw n line t call (Ok r) =
     let before = step_before s.history t call in
     if is_free_beside s.history raw t before
@@ -64,51 +64,51 @@ answered s raw n line t call (Ok r) =
     else Bad (why.Fault RawNotFree)
 answered s raw n line t call (Err fault) = Bad (why.Fault fault)
 
-abbrev pub answered_at : Story → List RawLock → ℕ → List ℕ → ℕ → (ℕ → Call) → List ℕ → Result ℕ Fault → Outcome
+abbrev pub answered_at : Story → List RawLock → ℕ → List ℕ → ℕ → (ℕ → Call) → List ℕ → Result ℕ Fault → MovingOutcome
 answered_at s raw n line t call file (Ok f) =
     let named = record s { files = files_after file s.files } in
     answered named raw n line t (call f) (answer_of named t (call f))
 answered_at s raw n line t call file (Err fault) = Bad (why.Fault fault)
 
 -- a line that changes nothing of the story stands alone
-abbrev pub alone : List RawLock → List ℕ → output.Outcome → Outcome
-alone raw line (output.Goes (output.Reading s n) text) = Goes (Moved s raw n) (line ∷ [])
-alone raw line (output.Goes p text) = Bad why.Syntax
-alone raw line (output.Bad cause) = Bad cause
+abbrev pub line_alone : List RawLock → List ℕ → output.Outcome → MovingOutcome
+line_alone raw line (output.Goes (output.Reading s n) text) = Goes (Moved s raw n) (line ∷ [])
+line_alone raw line (output.Goes p text) = Bad why.Syntax
+line_alone raw line (output.Bad cause) = Bad cause
 
-abbrev pub moves : Story → List RawLock → ℕ → List ℕ → LineCall → Outcome
+abbrev pub moves : Story → List RawLock → ℕ → List ℕ → LineCall → MovingOutcome
 moves s raw n line (Logs t call) = answered s raw n line t call (answer_of s t call)
 moves s raw n line (LogsAt t file call) = answered_at s raw n line t call file (naming_answer s file)
-moves s raw n line call = alone raw line (calls s n call)
+moves s raw n line call = line_alone raw line (calls s n call)
 
 -- ---- a line
 
 -- a line of the prelude is kept
-abbrev pub keeps : List (List ℕ) → List ℕ → output.Outcome → Outcome
+abbrev pub keeps : List (List ℕ) → List ℕ → output.Outcome → MovingOutcome
 keeps kept line (output.Goes (output.Opening p) text) = Goes (Keeping p (kept ++ line ∷ [])) []
 keeps kept line (output.Goes p text) = Bad why.Syntax
 keeps kept line (output.Bad cause) = Bad cause
 
 -- a line in its place, with its number and its bytes; a header of the second version is bad
-abbrev pub entered : Moving → ℕ → List ℕ → Line → Outcome
-entered Unmoved n bytes (Header One seats types locks chunks) =
+abbrev pub moving_entered : Moving → ℕ → List ℕ → Line → MovingOutcome
+moving_entered Unmoved n bytes (Header One seats types locks chunks) =
     let sizes = sizes_of seats types locks chunks log_limit in
     if are_within_limits sizes
     then Goes (Keeping (empty_prelude One sizes) []) (spelling (Header Two seats types locks chunks) ∷ [])
     else Bad why.Limit
-entered Unmoved n bytes (Header Two seats types locks chunks) = Bad why.Version
-entered Unmoved n bytes _ = Bad why.Syntax
-entered (Keeping p kept) n bytes line = keeps kept bytes (output.entered (output.Opening p) n line)
-entered (Moved s raw m) n bytes line = moves s raw m bytes (call_of line)
+moving_entered Unmoved n bytes (Header Two seats types locks chunks) = Bad why.Version
+moving_entered Unmoved n bytes _ = Bad why.Syntax
+moving_entered (Keeping p kept) n bytes line = keeps kept bytes (output.entered (output.Opening p) n line)
+moving_entered (Moved s raw m) n bytes line = moves s raw m bytes (call_of line)
 
-abbrev pub read_as : Moving → ℕ → List ℕ → Option Line → Outcome
-read_as m n bytes None = Bad why.Syntax
-read_as m n bytes (Some line) = entered m n bytes line
+abbrev pub moving_read_as : Moving → ℕ → List ℕ → Option Line → MovingOutcome
+moving_read_as m n bytes None = Bad why.Syntax
+moving_read_as m n bytes (Some line) = moving_entered m n bytes line
 
 -- a whole line, without its line feed
-abbrev pub outcome : Moving → ℕ → List ℕ → Outcome
-outcome m n line =
-    if nat_lt longest_line (length line) then Bad why.Long else read_as m n line (line_of line)
+abbrev pub moving_outcome : Moving → ℕ → List ℕ → MovingOutcome
+moving_outcome m n line =
+    if nat_lt longest_line (length line) then Bad why.Long else moving_read_as m n line (line_of line)
 
 -- ---- the whole trace
 
@@ -117,18 +117,18 @@ pub record Written : Type 0 where
   pub lines : List (List ℕ)
   pub ending : Ending
 
-abbrev pub before : List (List ℕ) → Written → Written
-before lines w = record { lines = lines ++ w.lines; ending = w.ending }
+abbrev pub lines_before : List (List ℕ) → Written → Written
+lines_before lines w = record { lines = lines ++ w.lines; ending = w.ending }
 
 -- at a bad line nothing more is written than what was kept
-abbrev pub ends_bad : Moving → BadLine → Written
-ends_bad m bad = record { lines = kept_lines m; ending = output.EndsBad (read_to m) bad }
+abbrev pub moving_ends_bad : Moving → BadLine → Written
+moving_ends_bad m bad = record { lines = kept_lines m; ending = output.EndsBad (read_to m) bad }
 
-abbrev pub ends : Moving → ℕ → List ℕ → Written
-ends (Moved s raw m) n [] = record { lines = []; ending = output.AllRead s m }
-ends m n [] = ends_bad m (n, why.Cut)
-ends m n (b ∷ tail) =
-    ends_bad m (n, if nat_lt longest_line (length (b ∷ tail)) then why.Long else why.Cut)
+abbrev pub moving_ends : Moving → ℕ → List ℕ → Written
+moving_ends (Moved s raw m) n [] = record { lines = []; ending = output.AllRead s m }
+moving_ends m n [] = moving_ends_bad m (n, why.Cut)
+moving_ends m n (b ∷ tail) =
+    moving_ends_bad m (n, if nat_lt longest_line (length (b ∷ tail)) then why.Long else why.Cut)
 
 -- what stands before a line of the prelude, the header apart
 abbrev pub kept_before : ℕ → List (List ℕ) → List (List ℕ)
@@ -136,31 +136,31 @@ kept_before n kept = take (n - 2) kept
 
 -- the prelude ends: what was kept is written, and the migration goes on; where a list is refused, the
 -- lines before it alone
-abbrev pub opened : Prelude → List (List ℕ) → Option (ℕ × Fault) → (Moving → Written) → Written
-opened p kept None next = before kept (next (Moved (fresh p.start) [] 0))
-opened p kept (Some refused) next =
+abbrev pub moving_opened : Prelude → List (List ℕ) → Option (ℕ × Fault) → (Moving → Written) → Written
+moving_opened p kept None next = lines_before kept (next (Moved (fresh p.start) [] 0))
+moving_opened p kept (Some refused) next =
     let n = unwrap_or (with_number p.lines refused.0) 0 in
-    ends_bad (Keeping p (kept_before n kept)) (n, why.Fault refused.1)
+    moving_ends_bad (Keeping p (kept_before n kept)) (n, why.Fault refused.1)
 
 -- what follows once a line, with its number, is looked at
-abbrev pub reached : Moving → ℕ → List ℕ → (Moving → Written) → Written
-reached (Keeping p kept) n line next =
+abbrev pub moving_reached : Moving → ℕ → List ℕ → (Moving → Written) → Written
+moving_reached (Keeping p kept) n line next =
     if is_prelude line || is_profile n line then next (Keeping p kept)
-    else opened p kept (start_fault p.start) next
-reached m n line next = next m
+    else moving_opened p kept (start_fault p.start) next
+moving_reached m n line next = next m
 
 -- what follows a line
-abbrev pub moving_after : Moving → ℕ → Outcome → (Moving → Written) → Written
-moving_after m n (Goes q lines) next = before lines (next q)
-moving_after m n (Bad cause) next = ends_bad m (n, cause)
+abbrev pub moving_after : Moving → ℕ → MovingOutcome → (Moving → Written) → Written
+moving_after m n (Goes q lines) next = lines_before lines (next q)
+moving_after m n (Bad cause) next = moving_ends_bad m (n, cause)
 
 -- from here on, where the next line has number n, these whole lines and this unfinished one are to
 -- come
 abbrev pub moving_from : Moving → ℕ → List (List ℕ) → List ℕ → Written
-moving_from m n [] tail = reached m n tail (λ q. ends q n tail)
+moving_from m n [] tail = moving_reached m n tail (λ q. moving_ends q n tail)
 moving_from m n (line ∷ lines) tail =
-    reached m n line
-    (λ q. moving_after q n (outcome q n line) (λ r. moving_from r (n + 1) lines tail))
+    moving_reached m n line
+    (λ q. moving_after q n (moving_outcome q n line) (λ r. moving_from r (n + 1) lines tail))
 
 -- ---- what is written
 

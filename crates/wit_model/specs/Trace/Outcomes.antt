@@ -106,13 +106,13 @@ reached (Opening p) n line =
 reached p n line = Ok p
 
 -- the text of a reply, as things stand once it was given
-abbrev pub told : Story → Reply → List ℕ
-told s reply = report_text (known_of s.start s.history) s.files reply
+abbrev pub reply_text : Story → Reply → List ℕ
+reply_text s reply = report_text (known_of s.start s.history) s.files reply
 
 -- a call is made: its reply is told, and logged unless the call was passed over; or the line is bad
 abbrev pub called : Story → ℕ → ℕ → Call → Result Reply Fault → Outcome
 called s n t call (Ok reply) =
-    Goes (Reading (grown s t call reply) n) (told (grown s t call reply) reply)
+    Goes (Reading (grown s t call reply) n) (reply_text (grown s t call reply) reply)
 called s n t call (Err fault) = Bad (why.Fault fault)
 
 abbrev pub makes : Story → ℕ → ℕ → Call → Outcome
@@ -166,19 +166,19 @@ calls s n _ = Bad why.Syntax
 -- a call is made in a scene
 abbrev pub called_in : Scene → ℕ → ℕ → Call → Result Reply Fault → Outcome
 called_in s n t call (Ok reply) =
-    Goes (Stepping (scene_after s t call reply) n) (told (grown s.story t call reply) reply)
+    Goes (Stepping (scene_after s t call reply) n) (reply_text (grown s.story t call reply) reply)
 called_in s n t call (Err fault) = Bad (why.Fault fault)
 
 abbrev pub makes_in : Scene → ℕ → ℕ → Call → Outcome
 makes_in s n t call = called_in s n t call (answer_in s t call)
 
 -- a scene in which one more file is named
-abbrev pub with_file : List ℕ → Scene → Scene
-with_file file s =
+abbrev pub with_file_in : List ℕ → Scene → Scene
+with_file_in file s =
     record s { story = record s.story { files = files_after file s.story.files } }
 
 abbrev pub at_file_in : Scene → (Scene → ℕ → Outcome) → List ℕ → Result ℕ Fault → Outcome
-at_file_in s next file (Ok f) = next (with_file file s) f
+at_file_in s next file (Ok f) = next (with_file_in file s) f
 at_file_in s next file (Err fault) = Bad (why.Fault fault)
 
 -- a step of a lock itself

@@ -14,7 +14,7 @@ use Rattle.wit_model.specs.World.Shown.{TellsCircleIn}
 use Rattle.wit_model.specs.Trace.Texts as texts
 use Rattle.wit_model.specs.Trace.Views.{graph_text, all_locks_text, circle_text}
 pub use Rattle.wit_model.specs.Trace.LineCalls.{LineCall, Logs, LogsAt, Asserts, Warns, Steps, NoCall, verb_call, site_in, check_in, try_in, lock_call, call_of}
-pub use Rattle.wit_model.specs.Trace.Outcomes.{Prelude, Progress, Unstarted, Opening, Reading, Stepping, Outcome, Goes, Bad, empty_prelude, with_profile, with_list, with_pair, BadLine, is_prelude, is_profile, begun, opened, reached, told, called, makes, at_file, longest_line, log_limit, said, remarks, asserts, warns, calls, called_in, makes_in, with_file, at_file_in, steps, in_scene, calls_in, entered, read_as, outcome}
+pub use Rattle.wit_model.specs.Trace.Outcomes.{Prelude, Progress, Unstarted, Opening, Reading, Stepping, Outcome, Goes, Bad, empty_prelude, with_profile, with_list, with_pair, BadLine, is_prelude, is_profile, begun, opened, reached, reply_text, called, makes, at_file, longest_line, log_limit, said, remarks, asserts, warns, calls, called_in, makes_in, with_file_in, at_file_in, steps, in_scene, calls_in, entered, read_as, outcome}
 
 abbrev pub cause_text : cause.Cause → List ℕ
 cause_text why.Long = codes "long"
@@ -52,12 +52,12 @@ ends p n [] = ends_bad p (n, why.Cut)
 ends p n (b ∷ tail) =
     ends_bad p (n, if nat_lt longest_line (length (b ∷ tail)) then why.Long else why.Cut)
 
-abbrev pub before : List ℕ → Course → Course
-before text c = record { text = text ++ c.text; ending = c.ending }
+abbrev pub text_before : List ℕ → Course → Course
+text_before text c = record { text = text ++ c.text; ending = c.ending }
 
 -- what follows a line
 abbrev pub course_after : Progress → ℕ → Outcome → (Progress → Course) → Course
-course_after p n (Goes q text) next = before text (next q)
+course_after p n (Goes q text) next = text_before text (next q)
 course_after p n (Bad cause) next = ends_bad p (n, cause)
 
 -- what follows once the reading stands there, unless a list was refused
@@ -76,9 +76,9 @@ course_from p n (line ∷ lines) tail =
 -- ---- what is written
 
 -- of the texts that are told of lines only the first view shows any
-abbrev pub shown : view.View → List ℕ → List ℕ
-shown Reports text = text
-shown _ text = []
+abbrev pub shown_by : view.View → List ℕ → List ℕ
+shown_by Reports text = text
+shown_by _ text = []
 
 -- what is shown of a story after the whole trace, and whether that is a circle. There may be more
 -- circles than one: any may be shown that starts with its least seat
@@ -106,7 +106,7 @@ IsLast v (AllStepped s m) text circle = IsViewIn v s text circle
 -- the text that a view shows of a reading, and whether it shows a circle
 pub record IsShown (v : view.View) (c : Course) (text : List ℕ) (circle : Bool) : Type 0 where
   pub last : List ℕ
-  pub parts : text ≡ shown v c.text ++ last
+  pub parts : text ≡ shown_by v c.text ++ last
   pub ends : IsLast v c.ending last circle
 
 -- what a replay sums up: the calls logged; the reports among them, with the failed assertions and

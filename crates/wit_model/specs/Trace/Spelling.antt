@@ -117,9 +117,9 @@ abbrev pub site_text : List ℕ → ℕ → List ℕ
 site_text file line = file ++ 58 ∷ decimal line
 
 -- fields, each behind one space
-abbrev pub joined : List (List ℕ) → List ℕ
-joined [] = []
-joined (field ∷ fields) = 32 ∷ (field ++ joined fields)
+abbrev pub spaced : List (List ℕ) → List ℕ
+spaced [] = []
+spaced (field ∷ fields) = 32 ∷ (field ++ spaced fields)
 
 -- the last field of `init`, which may be absent
 abbrev pub type_field : Option (List ℕ) → List (List ℕ)
@@ -169,7 +169,7 @@ lock_line_fields (Step seat lock step) = decimal seat.0 ∷ decimal lock.0 ∷ s
 
 -- a keyword, and fields behind it
 abbrev pub with_keyword : Keyword → List (List ℕ) → List ℕ
-with_keyword word fields = keyword_text word ++ joined fields
+with_keyword word fields = keyword_text word ++ spaced fields
 
 -- a line, without the line feed that ends it
 abbrev pub spelling : Line → List ℕ

@@ -67,17 +67,17 @@ named text [] word = None
 named text (value ∷ values) word =
     if bytes_eq word (text value) then Some value else named text values word
 
-unfoldable pub version_of : List ℕ → Option Version
-version_of = named version_text (One ∷ Two ∷ [])
+unfoldable pub version_named : List ℕ → Option Version
+version_named = named version_text (One ∷ Two ∷ [])
 
-unfoldable pub class_of : List ℕ → Option Class
-class_of = named class_text (SleepMutex ∷ SpinMutex ∷ Rw ∷ Sx ∷ [])
+unfoldable pub class_named : List ℕ → Option Class
+class_named = named class_text (SleepMutex ∷ SpinMutex ∷ Rw ∷ Sx ∷ [])
 
-unfoldable pub mode_of : List ℕ → Option Mode
-mode_of = named mode_text (Shared ∷ Exclusive ∷ [])
+unfoldable pub mode_named : List ℕ → Option Mode
+mode_named = named mode_text (Shared ∷ Exclusive ∷ [])
 
-unfoldable pub level_of : List ℕ → Option level.Watch
-level_of = named level_text (On ∷ Quiet ∷ Off ∷ [])
+unfoldable pub level_named : List ℕ → Option level.Watch
+level_named = named level_text (On ∷ Quiet ∷ Off ∷ [])
 
 -- all keywords
 abbrev pub keywords : List Keyword
@@ -89,8 +89,8 @@ keywords =
     ∷ keyword.Warn ∷ keyword.Define ∷ keyword.Watch ∷ keyword.Order ∷ keyword.Bless
     ∷ keyword.Profile ∷ keyword.Header ∷ []
 
-unfoldable pub keyword_of : List ℕ → Option Keyword
-keyword_of = named keyword_text keywords
+unfoldable pub keyword_named : List ℕ → Option Keyword
+keyword_named = named keyword_text keywords
 
 -- the bits of letters that stand in order, none twice
 abbrev pub bits_of : List ℕ → List ℕ → Option ℕ

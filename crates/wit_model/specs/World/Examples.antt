@@ -29,8 +29,8 @@ abbrev pub by : ℕ → Call → Reply → Deed
 by t call reply = Logged (record { seat = record { 0 = t }; call = call; reply = reply })
 
 -- thread 1 makes a mutex of this name, whose type has the same
-abbrev pub makes : List ℕ → ℕ → List Deed
-makes name l =
+abbrev pub makes_mutex : List ℕ → ℕ → List Deed
+makes_mutex name l =
     by 1 (Init (record {
       class = SleepMutex;
       flags = record { 0 = 0 };
@@ -78,7 +78,7 @@ reverses l taken m line = Reversal (record {
 })
 
 abbrev two_mutexes : List Deed
-two_mutexes = makes (codes "A") 1 ++ makes (codes "B") 2
+two_mutexes = makes_mutex (codes "A") 1 ++ makes_mutex (codes "B") 2
 
 -- one thread after the other: the first takes A and under it B, and frees both; then the second
 -- takes B, and asks for A

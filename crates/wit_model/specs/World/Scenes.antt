@@ -18,7 +18,7 @@ use Rattle.wit_model.specs.Rules.State as state
 use Rattle.wit_model.specs.Rules.Verdict.{is_exclusive}
 use Rattle.wit_model.specs.Rules.Step.{answer_of, grown, is_logged}
 use Rattle.wit_model.specs.World.Deeds.{Deed, Logged, PassedOver, Take, TryTake, Free, RawUp, RawDown, thread_of}
-use Rattle.wit_model.specs.World.Stages.{Stage, Over, Asked, Taken, Tried, Raised, stage_called, stage_passed, call_follows, follows}
+use Rattle.wit_model.specs.World.Stages.{Stage, Over, Asked, Taken, Tried, Raised, stage_called, stage_passed, call_follows, deed_follows}
 
 -- who has how many shares of a lock, and in which mode
 pub record RawLock : Type 0 where
@@ -150,7 +150,7 @@ has_share raw d = true
 -- whether a deed may come next; who has no share has none to free
 abbrev pub may_come : Scene → Deed → Bool
 may_come s d =
-    follows d (λ l. is_held (thread_of d) l s.story.history) (stage_at s (thread_of d))
+    deed_follows d (λ l. is_held (thread_of d) l s.story.history) (stage_at s (thread_of d))
     && (not (is_way_back d (stage_at s (thread_of d))) && has_share s.raw d)
 
 -- where a thread stands after a deed that is no call

@@ -91,20 +91,20 @@ call_follows (Upgrade l) held _ = false
 call_follows _ held at = is_over at
 
 -- whether a deed may
-abbrev pub follows : Deed → (ℕ → Bool) → Stage → Bool
-follows (Logged e) held at = call_follows e.call held at
-follows (PassedOver t call) held at = call_follows call held at
-follows (Take t l mode) held (Asked q) =
+abbrev pub deed_follows : Deed → (ℕ → Bool) → Stage → Bool
+deed_follows (Logged e) held at = call_follows e.call held at
+deed_follows (PassedOver t call) held at = call_follows call held at
+deed_follows (Take t l mode) held (Asked q) =
     (q.lock.0 == l) && (is_same_mode q.mode mode && not (held l))
-follows (TryTake t l mode) held at = is_over at
-follows (Free t l) held (Tried m mode) = m == l
-follows (Free t l) held (Forgot m may_keep) = m == l
-follows (RawUp t l) held at = is_over at
-follows (RawDown t l) held (Raised m) = m == l
-follows (RawDown t l) held (Lowered m passed) = m == l
-follows _ held _ = false
+deed_follows (TryTake t l mode) held at = is_over at
+deed_follows (Free t l) held (Tried m mode) = m == l
+deed_follows (Free t l) held (Forgot m may_keep) = m == l
+deed_follows (RawUp t l) held at = is_over at
+deed_follows (RawDown t l) held (Raised m) = m == l
+deed_follows (RawDown t l) held (Lowered m passed) = m == l
+deed_follows _ held _ = false
 
 -- whether it may come next, as its thread stands
 abbrev pub may_follow : Deed → List Deed → Bool
 may_follow d w =
-    follows d (λ l. is_held (thread_of d) l (log_of w)) (stage (thread_of d) (own (thread_of d) w))
+    deed_follows d (λ l. is_held (thread_of d) l (log_of w)) (stage (thread_of d) (own (thread_of d) w))

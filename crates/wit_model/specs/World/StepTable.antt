@@ -15,8 +15,8 @@ use Rattle.wit_model.specs.World.Stages.{Stage, Over, Asked, Taken, Tried, Forgo
 abbrev first : LockNo
 first = record { 0 = 1 }
 
-abbrev made : List Deed
-made =
+abbrev lock_made : List Deed
+lock_made =
     by 1 (Init (record {
       class = Rw;
       flags = record { 0 = 0 };
@@ -26,19 +26,19 @@ made =
     ∷ []
 
 -- thread 1 has an exclusive share of the first lock, after these deeds, and stands at this stage
-abbrev standing : List Deed → Stage → Scene
-standing w at = record {
+abbrev standing_at : List Deed → Stage → Scene
+standing_at w at = record {
   story = story_after small files (log_of w);
   raw = record { mode = Exclusive; holders = (1, 1) ∷ [] } ∷ [];
   stages = at ∷ Over ∷ [];
 }
 
 abbrev unheld : Stage → Scene
-unheld at = standing made at
+unheld at = standing_at lock_made at
 
 -- the same where it holds the lock by the record
-abbrev held : Stage → Scene
-held at = standing (by 1 (Note first) Recorded ∷ by 1 (Check (request 1 1)) Pass ∷ made) at
+abbrev holding : Stage → Scene
+holding at = standing_at (by 1 (Note first) Recorded ∷ by 1 (Check (request 1 1)) Pass ∷ lock_made) at
 
 -- whether these may come next: a sequence's first call or step (an init, a try); and of the first
 -- lock a take, a note, a giving up, a try's note, an upgrade, a free, a turn to shared
@@ -67,7 +67,7 @@ LinesFollow =
     (true ∷ true ∷ false ∷ false ∷ false ∷ false ∷ false ∷ false ∷ false ∷ [])
     × Follow (unheld (Asked (request 1 1))) (Asked (request 1 1))
     (false ∷ false ∷ true ∷ false ∷ true ∷ false ∷ false ∷ false ∷ false ∷ [])
-    × Follow (held (Asked (request 1 1))) (Asked (request 1 1))
+    × Follow (holding (Asked (request 1 1))) (Asked (request 1 1))
     (false ∷ false ∷ false ∷ true ∷ true ∷ false ∷ false ∷ false ∷ false ∷ [])
     × Follow (unheld (Taken 1)) (Taken 1)
     (false ∷ false ∷ false ∷ true ∷ false ∷ false ∷ false ∷ false ∷ false ∷ [])
@@ -86,16 +86,16 @@ LinesFollow =
     × Follow (unheld (Lowered 1 true)) (Lowered 1 true)
     (true ∷ true ∷ false ∷ false ∷ false ∷ false ∷ false ∷ false ∷ true ∷ [])
 
-abbrev nothing : List Bool
-nothing = false ∷ false ∷ false ∷ false ∷ false ∷ false ∷ false ∷ false ∷ false ∷ []
+abbrev none_may : List Bool
+none_may = false ∷ false ∷ false ∷ false ∷ false ∷ false ∷ false ∷ false ∷ false ∷ []
 
 -- in the midst of another lock's sequence nothing of the first lock may come
 abbrev pub OtherLocksDont : Type 0
 OtherLocksDont =
-    Follow (unheld (Asked (request 2 1))) (Asked (request 2 1)) nothing
-    × Follow (held (Asked (request 2 1))) (Asked (request 2 1)) nothing
-    × Follow (unheld (Taken 2)) (Taken 2) nothing
-    × Follow (unheld (Tried 2 Exclusive)) (Tried 2 Exclusive) nothing
-    × Follow (unheld (Raised 2)) (Raised 2) nothing
-    × Follow (unheld (Forgot 2 false)) (Forgot 2 false) nothing
-    × Follow (unheld (Lowered 2 false)) (Lowered 2 false) nothing
+    Follow (unheld (Asked (request 2 1))) (Asked (request 2 1)) none_may
+    × Follow (holding (Asked (request 2 1))) (Asked (request 2 1)) none_may
+    × Follow (unheld (Taken 2)) (Taken 2) none_may
+    × Follow (unheld (Tried 2 Exclusive)) (Tried 2 Exclusive) none_may
+    × Follow (unheld (Raised 2)) (Raised 2) none_may
+    × Follow (unheld (Forgot 2 false)) (Forgot 2 false) none_may
+    × Follow (unheld (Lowered 2 false)) (Lowered 2 false) none_may

@@ -4,7 +4,7 @@ ghost use Rattle.std.specs.Prelude.{◌≡◌, ◌+◌, ◌-◌, ◌<◌, ◌≤
 ghost use Rattle.wit_model.specs.Trace.Moving.{moves, read_to};
 ghost use Rattle.wit_model.specs.Trace.Output.{call_of, summed};
 ghost use Rattle.wit_grammar.specs.Lines.{as_line};
-ghost use Rattle.wit_trace.specs.Migrates.{Enters, reports_told, standing, weight};
+ghost use Rattle.wit_trace.specs.Migrates.{MovesAsDue, moving_reports, standing, weight};
 ghost use Rattle.wit_trace.specs.Replays.{total};
 
 use crate::migrating::steps::{do_beside, step_beside};
@@ -42,7 +42,7 @@ impl Behind {
 
     /// What was read so far.
     pub fn summary(&self) -> Summary
-        requires { reports_told (standing self.now) < 2 ^ 64 }
+        requires { moving_reports (standing self.now) < 2 ^ 64 }
         ensures total { total result ≡ summed (read_to (standing self.now)) None }
         ensures circle { result.circle ≡ false }
     {
@@ -68,7 +68,7 @@ impl Behind {
     ) -> Result<Vec<u8>, LineError>
         requires few { weight self.old.raw < 2 ^ 64 - 1 }
         requires room { room.items ≡ [] }
-        ensures { Enters (moves self.old.verifier self.old.raw self.old.remarks bytes.now
+        ensures { MovesAsDue (moves self.old.verifier self.old.raw self.old.remarks bytes.now
             (call_of (as_line line.entry))) (standing self.old) (standing self.new) result }
     {
         let step = step_beside(&self.verifier, &self.raw, &line);
@@ -86,7 +86,7 @@ impl Behind {
     pub fn enter(&mut self, alloc: Global, line: Line, bytes: &[u8]) -> Result<Vec<u8>, LineError>
         requires counted { self.old.remarks < 2 ^ 64 - 1 }
         requires few { weight self.old.raw < 2 ^ 64 - 1 }
-        ensures { Enters (moves self.old.verifier self.old.raw self.old.remarks bytes.now
+        ensures { MovesAsDue (moves self.old.verifier self.old.raw self.old.remarks bytes.now
             (call_of line)) (standing self.old) (standing self.new) result }
     {
         match line {

@@ -4,7 +4,7 @@ ghost use Rattle.std.specs.Prelude.{◌≡◌, ◌<◌, ◌^◌, ◌++◌, false
 ghost use Rattle.wit_model.specs.Trace.Moving.{kept_lines, read_to, with_feeds};
 ghost use Rattle.wit_model.specs.Trace.Moving as moving;
 ghost use Rattle.wit_model.specs.Trace.Output.{bad_text, summed};
-ghost use Rattle.wit_trace.specs.Migrates.{EndsWith, moved_to, reports_told};
+ghost use Rattle.wit_trace.specs.Migrates.{EndsWith, moved_to, moving_reports};
 ghost use Rattle.wit_trace.specs.Replays.{total};
 
 use crate::migrating::Migrating;
@@ -19,7 +19,7 @@ use wit_model::{Boxed, Cause};
 impl Migrating {
     /// What was read up to here.
     pub fn found(&self) -> Summary
-        requires { reports_told (moved_to self.now) < 2 ^ 64 }
+        requires { moving_reports (moved_to self.now) < 2 ^ 64 }
         ensures total { total result ≡ summed (read_to (moved_to self.now)) None }
         ensures circle { result.circle ≡ false }
     {

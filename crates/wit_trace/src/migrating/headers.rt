@@ -3,10 +3,10 @@
 ghost use Rattle.std.specs.Prelude.{◌≡◌, ℕ, List, [], ◌∷◌, IfOk};
 ghost use Rattle.wit_model.specs.declared.lines.Line.TheVariants.{Header};
 ghost use Rattle.wit_model.specs.declared.lines.Version.TheVariants as version;
-ghost use Rattle.wit_model.specs.Trace.Moving.{with_feeds, entered};
+ghost use Rattle.wit_model.specs.Trace.Moving.{with_feeds, moving_entered};
 ghost use Rattle.wit_model.specs.Trace.Moving as moving;
 ghost use Rattle.wit_model.specs.Trace.Spelling.{spelling};
-ghost use Rattle.wit_trace.specs.Migrates.{Enters, moved_to};
+ghost use Rattle.wit_trace.specs.Migrates.{MovesAsDue, moved_to};
 
 use crate::migrating::Migrating;
 use crate::migrating::texts::one_line;
@@ -23,7 +23,7 @@ use wit_model::{Cause, Limits, Line, Version};
 /// limits; `Memory`.
 pub fn start(alloc: Global, machine: &mut Migrating, line: Line) -> Result<Vec<u8>, LineError>
     requires { moved_to machine.old ≡ moving.Unmoved }
-    ensures { (number : ℕ) (bytes : List ℕ) → Enters (entered moving.Unmoved number bytes line)
+    ensures { (number : ℕ) (bytes : List ℕ) → MovesAsDue (moving_entered moving.Unmoved number bytes line)
         moving.Unmoved (moved_to machine.new) result }
 {
     let Line::Header {

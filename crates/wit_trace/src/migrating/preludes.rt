@@ -1,10 +1,10 @@
 //! The prelude of a migrated trace.
 
 ghost use Rattle.std.specs.Prelude.{◌≡◌, ◌-◌, ◌≤◌, ◌++◌, ◌∷◌, [], take, false, IfOk, OnOk};
-ghost use Rattle.wit_model.specs.Trace.Moving.{entered};
+ghost use Rattle.wit_model.specs.Trace.Moving.{moving_entered};
 ghost use Rattle.wit_model.specs.Trace.Moving as moving;
-ghost use Rattle.wit_trace.specs.Migrates.{Enters, Reaches};
-ghost use Rattle.wit_trace.specs.Migrates.{kept_bytes, moved_to, reports_told, weighed};
+ghost use Rattle.wit_trace.specs.Migrates.{MovesAsDue, ReachesLine};
+ghost use Rattle.wit_trace.specs.Migrates.{kept_bytes, moved_to, moving_reports, weighed};
 ghost use Rattle.wit_trace.specs.Replays.{prelude_of};
 
 use crate::migrating::Migrating;
@@ -50,8 +50,8 @@ pub fn keep(
     line: Line,
     bytes: &[u8],
 ) -> Result<Vec<u8>, LineError>
-    ensures { Enters
-        (entered (moving.Keeping (prelude_of prelude.old) (kept_bytes kept.old.items))
+    ensures { MovesAsDue
+        (moving_entered (moving.Keeping (prelude_of prelude.old) (kept_bytes kept.old.items))
         number bytes.now line)
         (moving.Keeping (prelude_of prelude.old) (kept_bytes kept.old.items))
         (moving.Keeping (prelude_of prelude.new) (kept_bytes kept.new.items)) result }
@@ -81,10 +81,10 @@ pub fn reach(
     number: u64,
     line: &[u8],
 ) -> Result<Reached, AllocError>
-    ensures stands { IfOk result (λ r. Reaches (moved_to machine.old) number line.now
+    ensures stands { IfOk result (λ r. ReachesLine (moved_to machine.old) number line.now
         (moved_to machine.new) r.text.items r.refused) }
     ensures counted { IfOk result (λ r.
-        reports_told (moved_to machine.new) ≤ reports_told (moved_to machine.old)) }
+        moving_reports (moved_to machine.new) ≤ moving_reports (moved_to machine.old)) }
     ensures weighed { IfOk result (λ r.
         weighed (moved_to machine.new) ≤ weighed (moved_to machine.old)) }
 {

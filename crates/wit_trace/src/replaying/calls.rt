@@ -3,10 +3,10 @@
 ghost use Rattle.std.specs.Prelude.{◌≡◌, ◌+◌, ◌-◌, ◌<◌, ◌^◌, IfOk, OnErr};
 ghost use Rattle.std.specs.Option.{option_copied};
 ghost use Rattle.wit_model.specs.Rules.Step.{AnswersOrFails};
-ghost use Rattle.wit_model.specs.Trace.Output.{Reading, Asserts, Warns, call_of, calls, said, shown, told};
+ghost use Rattle.wit_model.specs.Trace.Output.{Reading, Asserts, Warns, call_of, calls, said, shown_by, reply_text};
 ghost use Rattle.wit_grammar.specs.Lines.{as_line};
 ghost use Rattle.wit_trace.specs.LineCalls.{NumbersFile, as_call};
-ghost use Rattle.wit_trace.specs.Replays.{Calls, GoesWith, Passes, Remarks};
+ghost use Rattle.wit_trace.specs.Replays.{Calls, GoesWith, GoesAsDue, Remarks};
 
 use crate::replaying::line_calls::{LineCall, call_of, file_of, file_on_lock, lock_call};
 use crate::replaying::views::shown;
@@ -30,7 +30,7 @@ pub fn enter_line(
     line: Line,
 ) -> Result<Vec<u8>, LineError>
     requires { remarks.old < 2 ^ 64 - 1 }
-    ensures { Passes (calls verifier.old remarks.old (call_of line))
+    ensures { GoesAsDue (calls verifier.old remarks.old (call_of line))
         (Reading verifier.old remarks.old) (Reading verifier.new remarks.new) result }
 {
     let file = number_of(verifier, file_of(&line))?;
@@ -45,7 +45,7 @@ fn make_call(
     call: LineCall,
 ) -> Result<Vec<u8>, LineError>
     requires { remarks.old < 2 ^ 64 - 1 }
-    ensures { Passes (calls verifier.old remarks.old (as_call call))
+    ensures { GoesAsDue (calls verifier.old remarks.old (as_call call))
         (Reading verifier.old remarks.old) (Reading verifier.new remarks.new) result }
 {
     match call {
@@ -77,7 +77,7 @@ pub fn reply_step(
     verifier: &Verifier,
     reply: Reply,
 ) -> Result<Step, AllocError>
-    ensures { IfOk result (GoesWith (shown view (told verifier.now reply))) }
+    ensures { IfOk result (GoesWith (shown_by view (reply_text verifier.now reply))) }
 {
     match reply {
         // Nothing else has a text.
@@ -96,7 +96,7 @@ pub fn reply_step(
 #[cold]
 #[inline(never)]
 pub fn reply_text(alloc: Global, verifier: &Verifier, reply: &Reply) -> Result<Vec<u8>, AllocError>
-    ensures { IfOk result (λ text. text.items ≡ told verifier.now reply.now) }
+    ensures { IfOk result (λ text. text.items ≡ reply_text verifier.now reply.now) }
 {
     match report_text(alloc, verifier, reply) {
         Ok(text) => Ok(text.into_bytes()),

@@ -7,7 +7,7 @@ ghost use Rattle.wit_model.specs.Trace.Output.{Opening, begun, empty_prelude, en
 ghost use Rattle.wit_model.specs.Rules.Start.{start_fault, IsRefused};
 ghost use Rattle.wit_core.specs.Fresh.{start_of};
 ghost use Rattle.wit_model.specs.Rules.State.{fresh};
-ghost use Rattle.wit_trace.specs.Replays.{IsVerifierOf, Opens, Passes, prelude_of, progress_of};
+ghost use Rattle.wit_trace.specs.Replays.{IsVerifierOf, Opens, GoesAsDue, prelude_of, progress_of};
 
 use crate::replaying::Progress;
 use std::alloc::{AllocError, Global};
@@ -73,7 +73,7 @@ pub fn add_line(
     number: u64,
     line: Line,
 ) -> Result<Vec<u8>, LineError>
-    ensures { Passes (entered (Opening (prelude_of prelude.old)) number line)
+    ensures { GoesAsDue (entered (Opening (prelude_of prelude.old)) number line)
         (Opening (prelude_of prelude.old)) (Opening (prelude_of prelude.new)) result }
 {
     match line {

@@ -2,7 +2,7 @@
 
 ghost use Rattle.std.specs.Prelude.{◌≡◌, ℕ, List, true, IfOk};
 ghost use Rattle.wit_model.specs.Trace.Output.{reached};
-ghost use Rattle.wit_trace.specs.Replays.{ends_prelude, progress_of, reports_told, Reaches};
+ghost use Rattle.wit_trace.specs.Replays.{ends_prelude, progress_of, reports_told, StandsAsDue};
 
 use crate::replaying::Progress;
 use crate::replaying::prelude::{is_prelude, open};
@@ -22,7 +22,7 @@ impl Progress {
         number: u64,
         line: &[u8],
     ) -> Result<Option<(u64, Cause)>, AllocError>
-        ensures stands { IfOk result (Reaches (reached (progress_of self.old) number line.now) (progress_of self.old) (progress_of self.new)) }
+        ensures stands { IfOk result (StandsAsDue (reached (progress_of self.old) number line.now) (progress_of self.old) (progress_of self.new)) }
         ensures counted { IfOk result (λ r. reports_told (progress_of self.new) ≡ reports_told (progress_of self.old)) }
     {
         if self.ends_prelude(number, line) {
@@ -37,7 +37,7 @@ impl Progress {
     #[inline(never)]
     fn end_prelude(&mut self, alloc: Global) -> Result<Option<(u64, Cause)>, AllocError>
         ensures { (number : ℕ) (line : List ℕ) → ends_prelude (progress_of self.old) number line ≡ true
-            → IfOk result (Reaches (reached (progress_of self.old) number line) (progress_of self.old) (progress_of self.new)) }
+            → IfOk result (StandsAsDue (reached (progress_of self.old) number line) (progress_of self.old) (progress_of self.new)) }
     {
         match mem::replace(self, Progress::Unstarted) {
             Progress::Opening(prelude) => match open(alloc, prelude)? {

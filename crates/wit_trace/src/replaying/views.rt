@@ -1,7 +1,7 @@
 //! What a view shows.
 
 ghost use Rattle.std.specs.Prelude.{◌≡◌, IfOk, IfErr};
-ghost use Rattle.wit_model.specs.Trace.Output.{shown, IsViewOf, IsViewIn};
+ghost use Rattle.wit_model.specs.Trace.Output.{shown_by, IsViewOf, IsViewIn};
 ghost use Rattle.wit_model.specs.declared.lines.View.TheVariants.{Circle};
 ghost use Rattle.wit_model.specs.declared.faults.Fault.TheVariants.{OutOfMemory};
 
@@ -13,7 +13,7 @@ use wit_world::World;
 
 /// What is shown of the text that is told of a line.
 pub fn shown(alloc: Global, view: View, told: Vec<u8>) -> Vec<u8>
-    ensures { result.items ≡ shown view told.items }
+    ensures { result.items ≡ shown_by view told.items }
 {
     match view {
         View::Reports => told,

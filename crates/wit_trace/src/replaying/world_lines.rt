@@ -2,10 +2,10 @@
 
 ghost use Rattle.std.specs.Prelude.{◌≡◌, ◌-◌, ◌<◌, ◌^◌, ℕ, IfOk};
 ghost use Rattle.std.specs.Option.{option_copied};
-ghost use Rattle.wit_model.specs.Trace.Output.{Stepping, Steps, call_of, calls_in, makes_in, told};
+ghost use Rattle.wit_model.specs.Trace.Output.{Stepping, Steps, call_of, calls_in, makes_in, reply_text};
 ghost use Rattle.wit_grammar.specs.Lines.{as_line};
 ghost use Rattle.wit_trace.specs.LineCalls.{NumbersFile, as_call};
-ghost use Rattle.wit_trace.specs.Replays.{Passes};
+ghost use Rattle.wit_trace.specs.Replays.{GoesAsDue};
 
 use crate::replaying::calls::{assertion, remark, reply_text, warning};
 use crate::replaying::line_calls::{LineCall, call_of, file_of, file_on_lock, lock_call};
@@ -27,7 +27,7 @@ pub fn enter_world_line(
     line: Line,
 ) -> Result<Vec<u8>, LineError>
     requires { remarks.old < 2 ^ 64 - 1 }
-    ensures { Passes (calls_in world.old remarks.old (call_of line))
+    ensures { GoesAsDue (calls_in world.old remarks.old (call_of line))
         (Stepping world.old remarks.old) (Stepping world.new remarks.new) result }
 {
     let file = number_in(world, file_of(&line))?;
@@ -46,7 +46,7 @@ pub fn step_on_lock(
     line: LockLine<&str>,
 ) -> Result<Vec<u8>, LineError>
     requires { remarks.old < 2 ^ 64 - 1 }
-    ensures { Passes (calls_in world.old remarks.old (call_of (as_line line.entry)))
+    ensures { GoesAsDue (calls_in world.old remarks.old (call_of (as_line line.entry)))
         (Stepping world.old remarks.old) (Stepping world.new remarks.new) result }
 {
     let file = number_in(world, file_on_lock(&line))?;
@@ -71,7 +71,7 @@ fn make_call_in(
     call: LineCall,
 ) -> Result<Vec<u8>, LineError>
     requires { remarks.old < 2 ^ 64 - 1 }
-    ensures { Passes (calls_in world.old remarks.old (as_call call))
+    ensures { GoesAsDue (calls_in world.old remarks.old (as_call call))
         (Stepping world.old remarks.old) (Stepping world.new remarks.new) result }
 {
     match call {
@@ -97,7 +97,7 @@ fn step_in(
     lock: LockNo,
     step: RawStep,
 ) -> Result<Vec<u8>, LineError>
-    ensures { (n : ℕ) → Passes (calls_in world.old n (Steps seat.0 lock step))
+    ensures { (n : ℕ) → GoesAsDue (calls_in world.old n (Steps seat.0 lock step))
         (Stepping world.old n) (Stepping world.new n) result }
 {
     world.step(seat, lock, step)?;
@@ -105,7 +105,7 @@ fn step_in(
 }
 
 fn call_in(alloc: Global, world: &mut World, seat: SeatNo, call: Call) -> Result<Vec<u8>, LineError>
-    ensures { (n : ℕ) → Passes (makes_in world.old n seat.0 call)
+    ensures { (n : ℕ) → GoesAsDue (makes_in world.old n seat.0 call)
         (Stepping world.old n) (Stepping world.new n) result }
 {
     let reply = world.call(seat, call)?;
@@ -113,7 +113,7 @@ fn call_in(alloc: Global, world: &mut World, seat: SeatNo, call: Call) -> Result
 }
 
 fn text_of_reply(alloc: Global, verifier: &Verifier, reply: Reply) -> Result<Vec<u8>, AllocError>
-    ensures { IfOk result (λ text. text.items ≡ told verifier.now reply) }
+    ensures { IfOk result (λ text. text.items ≡ reply_text verifier.now reply) }
 {
     match reply {
         // Nothing else has a text.

@@ -4,7 +4,7 @@ use Rattle.wit_model.specs.declared.locks.Instance.{Instance}
 use Rattle.wit_model.specs.Rules.Chunks.{chain_of}
 use Rattle.wit_model.specs.Rules.Types.{is_spin, class_of}
 use Rattle.wit_model.specs.Rules.Verdict.{chain_asked, decided}
-use Rattle.wit_check.specs.Answers.{answer_of, new_orders}
+use Rattle.wit_check.specs.Answers.{answer_by, new_orders}
 use Rattle.wit_check.specs.Bases.{basis}
 use Rattle.wit_check.specs.Behind.{over}
 use Rattle.wit_check.specs.Held.{sleep_chain, spin_chain}
@@ -30,7 +30,7 @@ returns-in-Some g c =
     let chain : chain_of (g.L.Lists.chunks c.args.chains.lists.now) c.list_of-list.result ≡ chain_asked (basis c.args.types.now c.args.matrix.now c.args.chains.lock_types.now) (sleep_chain (g.L.Lists.chunks c.args.chains.lists.now) c.args.chains.seat.0) (spin_chain (g.L.Lists.chunks c.args.chains.lists.now) c.args.chains.seat.0) c.args.request =
     asked-of (basis c.args.types.now c.args.matrix.now c.args.chains.lock_types.now) (g.L.Lists.chunks c.args.chains.lists.now) c.args.chains.seat.0 c.args.request c.is_spin-spin.result c.list_of-list.result
     (sym (c.is_spin-spin.ensures ∙ ap is_spin c.class_of.ensures)) c.list_of-list.ensures in
-    ap (λ (e : List Instance). answer_of (new_orders (basis c.args.types.now c.args.matrix.now c.args.chains.lock_types.now) e c.args.request) c.judge.result) (sym chain)
+    ap (λ (e : List Instance). answer_by (new_orders (basis c.args.types.now c.args.matrix.now c.args.chains.lock_types.now) e c.args.request) c.judge.result) (sym chain)
     ∙ c.judge.ensures
     ∙ ap (λ (e : List Instance). decided (over c.args.profile (basis c.args.types.now c.args.matrix.now c.args.chains.lock_types.now) e c.in-Some.last c.args.request)) chain
     ∙ chain-decides c.args.profile (basis c.args.types.now c.args.matrix.now c.args.chains.lock_types.now) c.args.watch (sleep_chain (g.L.Lists.chunks c.args.chains.lists.now) c.args.chains.seat.0) (spin_chain (g.L.Lists.chunks c.args.chains.lists.now) c.args.chains.seat.0) c.args.request (sym c.is_on.ensures ∙ c.if-not-is_on.false) calm c.in-Some.last

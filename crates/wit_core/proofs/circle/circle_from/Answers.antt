@@ -1,7 +1,7 @@
 use Rattle.std.proofs.Common.{◌+◌, subst, ◌<◌, arith, refl, sym, length, Option, None}
 use Rattle.std.specs.Global.{Vec}
 use Rattle.wit_model.specs.declared.locks.SeatNo.{SeatNo}
-use Rattle.wit_core.specs.Searching.{rows_of, IsSearch, IsClosing, Reaches, AreClosed}
+use Rattle.wit_core.specs.Searching.{table_of, IsSearch, IsClosing, Reaches, AreClosed}
 use Rattle.wit_core.proofs.Reaching.{begins, reached-few, rows-many, marks-back}
 use Rattle.wit_core.proofs.Ways.{closed_more, no_circle}
 use Rattle.wit_core.proofs.circle.circle_from.Goals as goal
@@ -17,12 +17,12 @@ loop-place-init c = record {
 
 pub returns-then-place-len : goal.returns-then-place-len
 returns-then-place-len c =
-    no_circle (rows_of c.args.rows.now) c.args.first.0 c.loop-place.place c.loop-place.reached.items c.loop-place.seen.items c.loop-place.invariant.search
+    no_circle (table_of c.args.rows.now) c.args.first.0 c.loop-place.place c.loop-place.reached.items c.loop-place.seen.items c.loop-place.invariant.search
     c.loop-place.invariant.closed (omega (arith, c.len.ensures, c.loop-place.reached.ok.0))
 
 pub loop-place-preserved : goal.loop-place-preserved
 loop-place-preserved c =
-    let rows = rows_of c.args.rows.now in
+    let rows = table_of c.args.rows.now in
     let first = c.args.first.0 in
     let place = c.loop-place.place in
     let old = c.loop-place.reached.items in
@@ -44,6 +44,6 @@ loop-place-preserved c =
 
 pub returns : goal.returns
 returns c =
-    no_circle (rows_of c.args.rows.now) c.args.first.0 c.loop-place.place c.loop-place.reached.items c.loop-place.seen.items c.loop-place.invariant.search
+    no_circle (table_of c.args.rows.now) c.args.first.0 c.loop-place.place c.loop-place.reached.items c.loop-place.seen.items c.loop-place.invariant.search
     c.loop-place.invariant.closed
-    (omega (arith, rows-many c.args.rows.now, reached-few (rows_of c.args.rows.now) c.args.first.0 c.loop-place.reached.items c.loop-place.seen.items c.loop-place.invariant.search))
+    (omega (arith, rows-many c.args.rows.now, reached-few (table_of c.args.rows.now) c.args.first.0 c.loop-place.reached.items c.loop-place.seen.items c.loop-place.invariant.search))

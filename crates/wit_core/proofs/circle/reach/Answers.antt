@@ -1,12 +1,12 @@
 use Rattle.std.proofs.Common.{◌≡◌, ◌∙◌, ◌+◌, ap, sym, arith, refl}
-use Rattle.wit_core.specs.Searching.{rows_of, says, seat_reached}
+use Rattle.wit_core.specs.Searching.{table_of, says, seat_reached}
 use Rattle.wit_core.proofs.Reaching.{reaches_more, reaches_same, marked-seen, not_said, seat-read, rows-many}
 use Rattle.wit_core.proofs.circle.reach.Goals as goal
 use Rattle.wit_core.proofs.circle.reach.Goals.{then-not-seen-index+then-says+in_ok-push, else-not-seen-index, else-not-seen-index-via-then-not-seen-index+else-says, else-not-seen-index-via-else-not-seen-index}
 
 pub loop-index-preserved : goal.loop-index-preserved
 loop-index-preserved c =
-    let rows = rows_of c.args.rows.now in
+    let rows = table_of c.args.rows.now in
     let first = c.args.first.0 in
     let place = c.args.place in
     let n = c.loop-index.index in

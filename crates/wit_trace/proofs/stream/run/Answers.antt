@@ -1,7 +1,7 @@
 use Rattle.std.proofs.Common.{◌++◌, Result, Ok, Err, Some, OnErr, inr, ap, ◌∙◌, subst, arith, rules}
 use Rattle.std.proofs.KnownBytes.{Keeps-refl}
 use Rattle.std.specs.Io.KnownBytes.{Appends}
-use Rattle.wit_trace.specs.Stream.{AppendsFront, OutputFrom, Tells}
+use Rattle.wit_trace.specs.Stream.{AppendsFront, OutputFrom, AppendsAndKeeps}
 use Rattle.wit_trace.proofs.AnswerLemmas.{answer_none, answer_goes, answer_ends, shown_so}
 use Rattle.wit_trace.proofs.StreamLemmas.{going_part, going_line, going_told, going_last, going_last_front, going_end, going_front, going_kept, going_kept_front, going_spent}
 use Rattle.wit_trace.proofs.stream.run.Goals as goal
@@ -24,7 +24,7 @@ loop-left-preserved-in-Ok-Some-Goes g c =
     let same = c.in_ok-tell-in-Ok-Some-Goes.ensures.counted in
     record {
       going = going_told _ _ _ _ (going_line _ _ _ _ _ _ c.loop-left.invariant.going line)
-          (subst (λ text. Tells (g.W.Write.contents c.loop-left.writer) (g.W.Write.contents c.tell.new.writer) (c.loop-left.told.items ++ text) c.tell.new.told.items) c.deref.ensures.value c.in_ok-tell-in-Ok-Some-Goes.ensures.ok);
+          (subst (λ text. AppendsAndKeeps (g.W.Write.contents c.loop-left.writer) (g.W.Write.contents c.tell.new.writer) (c.loop-left.told.items ++ text) c.tell.new.told.items) c.deref.ensures.value c.in_ok-tell-in-Ok-Some-Goes.ensures.ok);
       shown = c.in-Ok-Some-Goes.ensures.shown c.in-Ok-Some-Goes.text (ap (λ s. Ok s) (c.in-Ok-Some-Goes.field-0-is ∙ ap (λ s. Some s) c.in-Ok-Some-Goes.field-0-0-is)) ∙ c.loop-left.invariant.shown;
       none = c.clear.ensures.items;
       short = rw line.none (omega arith);

@@ -4,7 +4,7 @@ use mathlib.Core.List.{IsPrefix}
 use Rattle.wit_adoptions.specs.declared.link.Link.{Link}
 use Rattle.wit_adoptions.proofs.Ends.{orders_begin}
 use Rattle.wit_adoptions.proofs.Fronts.{compared}
-use Rattle.wit_adoptions.specs.Links.{orders_behind}
+use Rattle.wit_adoptions.specs.Links.{orders_since}
 use Rattle.wit_adoptions.proofs.front.Front.compare.Goals as goal
 
 pub returns : goal.returns
@@ -15,6 +15,6 @@ returns g c =
     let both = c.learn.new.self.log in
     let first : IsPrefix one.seen.log both = subst (λ (l : List Link). IsPrefix l both) (ap (λ s. s.log) c.again-both.ensures) c.learn.ensures.2 in
     rw (← c.self.view_is, ← c.other.view_is)
-    (compared (orders_behind start one.seen.log) (orders_behind start two.seen.log) (orders_behind start both) one.count two.count
+    (compared (orders_since start one.seen.log) (orders_since start two.seen.log) (orders_since start both) one.count two.count
     (orders_begin start one.seen.log both first) (orders_begin start two.seen.log both c.learn.ensures.3)
     c.self.invariant.1 c.other.invariant.1 c.cmp.result (ranked one.count two.count c.cmp.result c.cmp.ensures))

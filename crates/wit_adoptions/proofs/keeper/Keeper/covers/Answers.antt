@@ -2,7 +2,7 @@ use Rattle.std.proofs.Common.{sym, ◌∙◌, ap, subst, List}
 use mathlib.Core.List.{IsPrefix}
 use Rattle.wit_model.specs.declared.calls.Adoption.{Adoption}
 use Rattle.wit_adoptions.specs.declared.link.Link.{Link}
-use Rattle.wit_adoptions.specs.Links.{orders_behind}
+use Rattle.wit_adoptions.specs.Links.{orders_since}
 use Rattle.wit_adoptions.proofs.Ends.{orders_begin}
 use Rattle.wit_adoptions.proofs.Fronts.{begins_through}
 use Rattle.wit_adoptions.proofs.Steps.{covers_moves}
@@ -32,4 +32,4 @@ returns-clause-begins g c =
     let seen : IsPrefix own both = subst (λ (l : List Link). IsPrefix l both) (ap (λ s. s.log) c.again-both.ensures) c.learn.ensures.2 in
     let all = c.compare_exchange.ensures.7.1 start own seen c.self.invariant.3 in
     let begins = orders_begin start theirs book (begins_through theirs both book c.learn.ensures.3 c.compare_exchange.ensures.6) in
-    rw (← c.front.view_is) (subst (λ (l : List Adoption). IsPrefix (orders_behind start theirs) l) all begins)
+    rw (← c.front.view_is) (subst (λ (l : List Adoption). IsPrefix (orders_since start theirs) l) all begins)

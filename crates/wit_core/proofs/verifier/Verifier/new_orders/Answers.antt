@@ -24,7 +24,7 @@ new_orders-requires-clause-types c = types-given (seen_as c.self.invariant c.sel
 
 pub new_orders-requires-clause-asked : goal.new_orders-requires-clause-asked
 new_orders-requires-clause-asked c =
-    request-given (seen_as c.self.invariant c.self.view_is) c.args.request c.asked.result c.names.result.now.types c.names.ensures.types c.asked.ensures
+    request-given (seen_as c.self.invariant c.self.view_is) c.args.request c.typed_request.result c.names.result.now.types c.names.ensures.types c.typed_request.ensures
     (live-given (state_of c.args.self.now) c.args.request.lock.0 c.requires.lock)
 
 pub new_orders-requires-clause-sized : goal.new_orders-requires-clause-sized
@@ -36,8 +36,8 @@ pub returns : goal.returns
 returns c =
     subst (λ (orders : List (TypeNo × TypeNo)). IfOk c.new_orders.result (λ (new : List (TypeNo × TypeNo)). new ≡ orders))
     (orders-told (seen_as c.self.invariant c.self.view_is) c.args.seat.0 c.requires.seat c.lists.result.now c.lists.ensures
-    c.names.result.now c.matrix.result.now c.lock_types.result.now c.args.request c.asked.result c.names.ensures.types c.names.ensures.blessed
+    c.names.result.now c.matrix.result.now c.lock_types.result.now c.args.request c.typed_request.result c.names.ensures.types c.names.ensures.blessed
     (λ a b. c.matrix.ensures.orders a b ∙ ap (λ os. is_direct os a b) c.orders.ensures.orders)
     (λ a b. c.matrix.ensures.found a b ∙ ap (λ fs. is_found fs a b) c.orders.ensures.found)
-    c.lock_types.ensures c.asked.ensures)
+    c.lock_types.ensures c.typed_request.ensures)
     c.new_orders.ensures

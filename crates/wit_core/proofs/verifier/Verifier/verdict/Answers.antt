@@ -24,7 +24,7 @@ verdict-requires-clause-types c = types-given (seen_as c.self.invariant c.self.v
 
 pub verdict-requires-clause-asked : goal.verdict-requires-clause-asked
 verdict-requires-clause-asked c =
-    request-given (seen_as c.self.invariant c.self.view_is) c.args.request c.asked.result c.names.result.now.types c.names.ensures.types c.asked.ensures
+    request-given (seen_as c.self.invariant c.self.view_is) c.args.request c.typed_request.result c.names.result.now.types c.names.ensures.types c.typed_request.ensures
     (live-given (state_of c.args.self.now) c.args.request.lock.0 c.requires.lock)
 
 pub verdict-requires-clause-sized : goal.verdict-requires-clause-sized
@@ -36,13 +36,13 @@ pub returns : goal.returns
 returns c =
     ap (λ new. answer_by new c.verdict.result)
     (sym (orders-told (seen_as c.self.invariant c.self.view_is) c.args.seat.0 c.requires.seat c.lists.result.now c.lists.ensures
-    c.names.result.now c.matrix.result.now c.lock_types.result.now c.args.request c.asked.result c.names.ensures.types c.names.ensures.blessed
+    c.names.result.now c.matrix.result.now c.lock_types.result.now c.args.request c.typed_request.result c.names.ensures.types c.names.ensures.blessed
     (λ a b. c.matrix.ensures.orders a b ∙ ap (λ os. is_direct os a b) c.orders.ensures.orders)
     (λ a b. c.matrix.ensures.found a b ∙ ap (λ fs. is_found fs a b) c.orders.ensures.found)
-    c.lock_types.ensures c.asked.ensures))
+    c.lock_types.ensures c.typed_request.ensures))
     ∙ c.verdict.ensures
     ∙ verdict-told (seen_as c.self.invariant c.self.view_is) c.args.seat.0 c.requires.seat c.lists.result.now c.lists.ensures
-    c.names.result.now c.matrix.result.now c.lock_types.result.now c.args.request c.asked.result c.names.ensures.types c.names.ensures.blessed
+    c.names.result.now c.matrix.result.now c.lock_types.result.now c.args.request c.typed_request.result c.names.ensures.types c.names.ensures.blessed
     (λ a b. c.matrix.ensures.orders a b ∙ ap (λ os. is_direct os a b) c.orders.ensures.orders)
     (λ a b. c.matrix.ensures.found a b ∙ ap (λ fs. is_found fs a b) c.orders.ensures.found)
-    c.lock_types.ensures c.asked.ensures c.self.inside.profile c.self.inside.watch refl refl
+    c.lock_types.ensures c.typed_request.ensures c.self.inside.profile c.self.inside.watch refl refl

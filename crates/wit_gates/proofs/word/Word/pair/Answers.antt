@@ -1,5 +1,5 @@
 use Rattle.std.proofs.Common.{◌≡◌, ◌∙◌, ap, rules}
-use Rattle.wit_gates.specs.Claims.{mode_of, both}
+use Rattle.wit_gates.specs.Claims.{mode_of, both_claims}
 use Rattle.wit_gates.specs.Plays.{Stand}
 use Rattle.wit_gates.proofs.Steps.{joins, looks, splits, weigh_two, some_shares}
 use Rattle.wit_gates.proofs.word.Word.pair.Goals as goal
@@ -17,8 +17,8 @@ load-requires c =
     let seat = c.join_seat.new.seat in (
       search rules,
       search rules,
-      looks c.self.inside.table.shared.table_id.slots seat.id seat.me (both one.0 other.0)
-          (c.join_seat.ensures.2 ∙ ap (λ (m : Stand). (both one.0 other.0, m.1)) c.one.invariant)
+      looks c.self.inside.table.shared.table_id.slots seat.id seat.me (both_claims one.0 other.0)
+          (c.join_seat.ensures.2 ∙ ap (λ (m : Stand). (both_claims one.0 other.0, m.1)) c.one.invariant)
           (weigh_two one.0 other.0 (mode_of one.0) (mode_of other.0) (ap (λ (m : Stand). m.0) c.one.invariant) (ap (λ (m : Stand). m.0) c.other.invariant)),
     )
 

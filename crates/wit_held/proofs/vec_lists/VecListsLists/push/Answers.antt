@@ -2,7 +2,7 @@ use Rattle.std.proofs.Common.{◌-◌, ◌++◌, ◌∷◌, [], List, ℕ, map, 
 use Rattle.std.proofs.lemmas.List.{append-nil}
 use Rattle.wit_model.specs.declared.locks.Instance.{Instance}
 use Rattle.wit_model.specs.Rules.Chunks.{IsPlaced}
-use Rattle.wit_model.specs.Rules.Rows.{row, groups_at, shown, AreSettled}
+use Rattle.wit_model.specs.Rules.Rows.{row, groups_at, shown_chunks, AreSettled}
 use Rattle.wit_model.proofs.Rows.Settled.{placed-shown}
 use Rattle.wit_held.specs.Rows.{rows_of, places_of}
 use Rattle.wit_held.proofs.Kept.{the-places, read-chunks, push-leaves, push-room, open-within, open-short, open-space, open-leaves, refused, refused-groups, others-stay, others-apart, kept-by}
@@ -74,7 +74,7 @@ returns-in-None-pop-clause-groups g c = refused-groups c.self.inside c.args.self
 
 pub returns-in-None-pop-clause-placed : goal.returns-in-None-pop-clause-placed
 returns-in-None-pop-clause-placed g c =
-    subst (λ (unused : List ℕ). IsPlaced (shown (rows_of c.self.inside.chunks.items) (places_of c.self.inside.lists.items) unused)) (c.in-None-pop.ensures.items ∙ append-nil c.pop.new.self.items)
+    subst (λ (unused : List ℕ). IsPlaced (shown_chunks (rows_of c.self.inside.chunks.items) (places_of c.self.inside.lists.items) unused)) (c.in-None-pop.ensures.items ∙ append-nil c.pop.new.self.items)
     (placed-shown (rows_of c.self.inside.chunks.items) (places_of c.self.inside.lists.items) c.self.inside.unused.items c.self.invariant.settled.placed)
 
 pub returns-in-Some-clause-others : goal.returns-in-Some-clause-others

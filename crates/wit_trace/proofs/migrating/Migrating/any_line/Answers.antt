@@ -2,7 +2,7 @@ use Rattle.std.proofs.Common.{◌++◌, ◌∷◌, List, ℕ, Some, refl, ap, sy
 use Rattle.wit_model.specs.Trace.Moving.{kept_lines, moving_from, with_feeds}
 use Rattle.wit_model.specs.Trace.Output.{bad_text}
 use Rattle.wit_trace.specs.Machine.{Follows}
-use Rattle.wit_trace.specs.Migrates.{EndsWith, IsMigrated, Reaches, migrated, moved_to}
+use Rattle.wit_trace.specs.Migrates.{EndsWith, IsMigrated, ReachesLine, migrated, moved_to}
 use Rattle.wit_trace.specs.declared.summary.Summary.{Summary}
 use Rattle.wit_trace.proofs.MigrateLemmas.{line-goes, line-bad, ends-follow}
 use Rattle.wit_trace.proofs.MigrateReports.{written_one}
@@ -17,7 +17,7 @@ returns-in_ok-join-in-Ok-clause-step c =
     let n = c.args.number in
     let line = c.args.bytes.now in
     let before = c.in_ok-reached.reached.text.items in
-    let over = subst (Reaches old n line q before) c.in_default.is c.in_ok-reached.ensures.stands in
+    let over = subst (ReachesLine old n line q before) c.in_default.is c.in_ok-reached.ensures.stands in
     let text = c.in_ok-join-in-Ok.ensures ∙ ap (λ t. before ++ t) c.deref.ensures.value in
     λ lines tail more summary h.
     subst (λ t. IsMigrated (moving_from old n (line ∷ lines) tail) (t ++ more) summary) (sym text)
@@ -46,7 +46,7 @@ returns-in-Err-Bad-clause-step c =
     let cause = c.in-Err-Bad.cause in
     let found = c.found-found.result in
     let before = c.in_ok-reached.reached.text.items in
-    let over = subst (Reaches old n line q before) c.in_default.is c.in_ok-reached.ensures.stands in
+    let over = subst (ReachesLine old n line q before) c.in_default.is c.in_ok-reached.ensures.stands in
     let bad = rw c.in-Err-Bad.field-0-is at c.in-Err-Bad.ensures in
     let text : List ℕ = before ++ (with_feeds (kept_lines (moved_to c.read.new.self)) ++ bad_text n cause) in
     let summary : Summary = record found { bad = Some (n, cause) } in

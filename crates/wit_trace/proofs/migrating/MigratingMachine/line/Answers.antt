@@ -1,7 +1,7 @@
 use Rattle.std.proofs.Common.{[], refl}
 use Rattle.wit_model.specs.Trace.Output.{call_of}
 use Rattle.wit_grammar.specs.Lines.{as_line}
-use Rattle.wit_trace.specs.Migrates.{reports_told, standing, weighed, weight}
+use Rattle.wit_trace.specs.Migrates.{moving_reports, standing, weighed, weight}
 use Rattle.wit_trace.proofs.MigrateLemmas.{line-goes, line-writes}
 use Rattle.wit_trace.proofs.MigrateReports.{moved_one}
 use Rattle.wit_trace.proofs.Weights.{both_one, moved_weighs}
@@ -24,6 +24,6 @@ returns-in-Ok-clause-counted c =
     let call = call_of (as_line c.in-Some.line) in
     let text = c.in-Ok.text.items in
     rw c.in-Moved.is
-    (both_one (reports_told (standing b)) (weight b.raw) (reports_told new) (weighed new)
+    (both_one (moving_reports (standing b)) (weight b.raw) (moving_reports new) (weighed new)
     (moved_one b.verifier b.raw b.remarks new c.args.bytes.now text call c.in-Ok.ensures)
     (moved_weighs b.verifier b.raw b.remarks new c.args.bytes.now text call c.in-Ok.ensures))

@@ -1,20 +1,20 @@
 use Rattle.std.proofs.Common.{◌+◌, ◌≤◌, Err, ap, subst, ◌∙◌, arith}
 use Rattle.wit_model.specs.Trace.Output.{reached, BadLine}
 use Rattle.wit_trace.specs.Machine.{Follows}
-use Rattle.wit_trace.specs.Replays.{allowed_at, progress_of, reports_told, EndsFor, Reaches}
+use Rattle.wit_trace.specs.Replays.{allowed_at, progress_of, reports_told, EndsFor, StandsAsDue}
 use Rattle.wit_grammar.specs.declared.errors.LineError.TheVariants.{Bad}
 use Rattle.wit_trace.proofs.ReportLemmas.{bad_one, ended_one, told_one}
-use Rattle.wit_trace.proofs.ReplayLemmas.{if_ok, told, line_ends, refused_step}
+use Rattle.wit_trace.proofs.ReplayLemmas.{if_ok, line_told, line_ends, refused_step}
 use Rattle.wit_trace.proofs.replaying.Replaying.any_line.Goals as goal
 
 pub returns-in-Ok-clause-step : goal.returns-in-Ok-clause-step
 returns-in-Ok-clause-step c =
-    let stands = subst (Reaches (reached (progress_of c.args.self.now.progress) c.args.number c.args.bytes.now) (progress_of c.args.self.now.progress) (progress_of c.reach.new.self)) c.in_default.is c.in_ok-number.ensures.stands in
-    told c.args.self.now.view (progress_of c.args.self.now.progress) (progress_of c.reach.new.self) (progress_of c.read.new.self) c.args.number c.args.bytes.now c.read.result c.in-Ok.text c.shown.result stands c.read.ensures c.in-Ok.is c.shown.ensures
+    let stands = subst (StandsAsDue (reached (progress_of c.args.self.now.progress) c.args.number c.args.bytes.now) (progress_of c.args.self.now.progress) (progress_of c.reach.new.self)) c.in_default.is c.in_ok-number.ensures.stands in
+    line_told c.args.self.now.view (progress_of c.args.self.now.progress) (progress_of c.reach.new.self) (progress_of c.read.new.self) c.args.number c.args.bytes.now c.read.result c.in-Ok.text c.shown.result stands c.read.ensures c.in-Ok.is c.shown.ensures
 
 pub returns-in-Err-clause-step : goal.returns-in-Err-clause-step
 returns-in-Err-clause-step c =
-    let stands = subst (Reaches (reached (progress_of c.args.self.now.progress) c.args.number c.args.bytes.now) (progress_of c.args.self.now.progress) (progress_of c.reach.new.self)) c.in_default.is c.in_ok-number.ensures.stands in
+    let stands = subst (StandsAsDue (reached (progress_of c.args.self.now.progress) c.args.number c.args.bytes.now) (progress_of c.args.self.now.progress) (progress_of c.reach.new.self)) c.in_default.is c.in_ok-number.ensures.stands in
     if_ok (EndsFor c.args.self.now.view (progress_of c.read.new.self) c.args.number c.in-Err.error) (Follows (allowed_at c.args.self.now.view) c.args.self.now.progress c.read.new.self c.args.number c.args.bytes.now) c.ended_step-in-Err.result
     (λ s ends. line_ends c.args.self.now.view c.args.self.now.progress c.read.new.self (progress_of c.reach.new.self) c.args.number c.args.bytes.now c.read.result c.in-Err.error s stands c.read.ensures c.in-Err.is ends)
     (c.ended_step-in-Err.ensures c.args.self.now.view)
@@ -22,7 +22,7 @@ returns-in-Err-clause-step c =
 pub returns-in-Some-clause-step : goal.returns-in-Some-clause-step
 returns-in-Some-clause-step c =
     let list : BadLine = (c.in-Some.number, c.in-Some.cause) in
-    let refused = subst (Reaches (reached (progress_of c.args.self.now.progress) c.args.number c.args.bytes.now) (progress_of c.args.self.now.progress) (progress_of c.reach.new.self)) c.in-Some.is c.in_ok-number.ensures.stands in
+    let refused = subst (StandsAsDue (reached (progress_of c.args.self.now.progress) c.args.number c.args.bytes.now) (progress_of c.args.self.now.progress) (progress_of c.reach.new.self)) c.in-Some.is c.in_ok-number.ensures.stands in
     if_ok (EndsFor c.args.self.now.view (progress_of c.reach.new.self) c.in-Some.number (Bad c.in-Some.cause)) (Follows (allowed_at c.args.self.now.view) c.args.self.now.progress c.reach.new.self c.args.number c.args.bytes.now) c.ended_step.result
     (λ s ends. refused_step c.args.self.now.view c.args.self.now.progress c.reach.new.self c.args.number c.args.bytes.now list s refused ends)
     (c.ended_step.ensures c.args.self.now.view)

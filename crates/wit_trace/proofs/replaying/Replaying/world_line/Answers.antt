@@ -5,7 +5,7 @@ use Rattle.wit_trace.specs.Machine.{Follows}
 use Rattle.wit_trace.specs.Replays.{allowed, allowed_at, progress_of, reports_told, EndsFor}
 use Rattle.wit_trace.specs.declared.replaying.Progress.TheVariants.{Stepping}
 use Rattle.wit_trace.proofs.ReportLemmas.{bad_one, ended_one, told_one}
-use Rattle.wit_trace.proofs.ReplayLemmas.{if_ok, told, line_ends}
+use Rattle.wit_trace.proofs.ReplayLemmas.{if_ok, line_told, line_ends}
 use Rattle.wit_trace.proofs.WorldLemmas.{world_line}
 use Rattle.wit_trace.specs.declared.replaying.Replaying.{Replaying}
 use Rattle.wit_trace.proofs.replaying.Replaying.world_line.Goals.{in-Stepping+in_default-parse_lock_line, in_default}
@@ -17,7 +17,7 @@ returns-in-Ok-clause-step c =
     let old = output.Stepping c.in-Stepping.world m in
     let new = output.Stepping c.step_on_lock.new.world c.step_on_lock.new.remarks in
     let passes = world_line c.in-Stepping.world m c.args.number c.args.bytes.now (as_line c.in-Some.line) new c.step_on_lock.result c.requires.short c.in-Some.ensures c.step_on_lock.ensures in
-    rw c.in-Stepping.is (told c.args.self.now.view old old new c.args.number c.args.bytes.now c.step_on_lock.result c.in-Ok.text c.shown.result refl passes c.in-Ok.is c.shown.ensures)
+    rw c.in-Stepping.is (line_told c.args.self.now.view old old new c.args.number c.args.bytes.now c.step_on_lock.result c.in-Ok.text c.shown.result refl passes c.in-Ok.is c.shown.ensures)
 
 pub returns-in-Err-clause-step : goal.returns-in-Err-clause-step
 returns-in-Err-clause-step c =

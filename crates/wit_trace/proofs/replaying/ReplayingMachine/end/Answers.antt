@@ -1,6 +1,6 @@
 use Rattle.std.proofs.Common.{[], subst}
 use Rattle.wit_model.specs.Trace.Output.{reached, BadLine}
-use Rattle.wit_trace.specs.Replays.{progress_of, Reaches}
+use Rattle.wit_trace.specs.Replays.{progress_of, StandsAsDue}
 use Rattle.wit_trace.proofs.ReplayLemmas.{refused_end}
 use Rattle.wit_trace.proofs.replaying.ReplayingMachine.end.Goals as goal
 
@@ -10,5 +10,5 @@ returns-in-Some c =
     let new = progress_of c.reach.new.self in
     let list : BadLine = (c.in-Some.number, c.in-Some.cause) in
     refused_end c.args.self.now.view old new c.args.number list c.ended.result
-    (subst (Reaches (reached old c.args.number []) old new) c.in-Some.is c.in_ok-number.ensures.stands)
+    (subst (StandsAsDue (reached old c.args.number []) old new) c.in-Some.is c.in_ok-number.ensures.stands)
     c.ended.ensures.text c.ended.ensures.total c.ended.ensures.circle

@@ -1,6 +1,6 @@
 use Rattle.std.proofs.Common.{◌<◌, Err, ap, subst, ◌∙◌, arith, ◌≡◌, IfOk, sym}
 use Rattle.wit_model.specs.Trace.Output as output
-use Rattle.wit_model.specs.Trace.Output.{shown}
+use Rattle.wit_model.specs.Trace.Output.{shown_by}
 use Rattle.wit_trace.specs.Machine.{Follows}
 use Rattle.wit_trace.specs.Replays.{allowed, allowed_at, progress_of, reports_told, EndsFor, GoesWith}
 use Rattle.wit_trace.proofs.ReportLemmas.{call_ended_one, made_one, refused_one}
@@ -28,7 +28,7 @@ pub returns-in-Ok-clause-step : goal.returns-in-Ok-clause-step
 returns-in-Ok-clause-step c =
     let new = c.call_on_lock.new.verifier in
     let remarks = c.in-Reading.remarks in
-    rw c.in-Reading.is (if_ok (GoesWith (shown c.args.self.now.view (output.told new c.in-Ok.reply))) (Follows (allowed_at c.args.self.now.view) (Reading c.in-Reading.verifier remarks) (Reading new remarks) c.args.number c.args.bytes.now) c.reply_step.result
+    rw c.in-Reading.is (if_ok (GoesWith (shown_by c.args.self.now.view (output.reply_text new c.in-Ok.reply))) (Follows (allowed_at c.args.self.now.view) (Reading c.in-Reading.verifier remarks) (Reading new remarks) c.args.number c.args.bytes.now) c.reply_step.result
     (λ s goes. call_goes_on c.args.self.now.view c.in-Reading.verifier new remarks c.args.number c.args.bytes.now (as_line c.in-Some.line) c.call_on_lock.result c.requires.short c.in-Some.ensures c.call_on_lock.ensures c.in-Ok.reply s c.in-Ok.is goes)
     c.reply_step.ensures)
 

@@ -1,6 +1,6 @@
 use Rattle.std.proofs.Common.{◌∙◌}
 use Rattle.wit_report.proofs.LockTypes.{class_as_made}
-use Rattle.wit_report.proofs.locks.class_of.Goals as goal
+use Rattle.wit_report.proofs.locks.class_of_lock.Goals as goal
 
 pub returns-in-Some : goal.returns-in-Some
 returns-in-Some c =

@@ -4,10 +4,10 @@ use Rattle.wit_model.specs.declared.locks.Lock.{Lock}
 use Rattle.wit_model.specs.declared.locks.TypeNo.{TypeNo}
 use Rattle.wit_model.specs.Rules.Locks.{lock_at}
 use Rattle.wit_model.specs.Rules.State.{State}
-use Rattle.wit_model.specs.Rules.Verdict.{asked_of}
+use Rattle.wit_model.specs.Rules.Verdict.{typed_request}
 use Rattle.wit_core.proofs.Now.{now}
 use Rattle.wit_core.proofs.Seen.{seen_as}
-use Rattle.wit_core.proofs.verifier.Verifier.asked.Goals as goal
+use Rattle.wit_core.proofs.verifier.Verifier.typed_request.Goals as goal
 
 pub returns : goal.returns
 returns c =
@@ -21,4 +21,4 @@ returns c =
     })
     (c.type_of_lock.ensures ∙ ap (λ (ls : List Lock). (lock_at ls c.args.request.lock.0).type_no) c.locks-locks.ensures)
     (c.flags_of_lock.ensures ∙ ap (λ (ls : List Lock). (lock_at ls c.args.request.lock.0).made.flags) c.locks-locks.ensures)
-    ∙ ap (λ (x : State). asked_of x.known c.args.request) (now (seen_as c.self.invariant c.self.view_is))
+    ∙ ap (λ (x : State). typed_request x.known c.args.request) (now (seen_as c.self.invariant c.self.view_is))
