@@ -6,7 +6,7 @@ use Rattle.wit_model.specs.Rules.Step.{is_logged}
 use Rattle.wit_model.proofs.Histories.Accepted.{same_reply}
 use Rattle.wit_check.specs.declared.answers.Verdict.{Verdict}
 use Rattle.wit_check.specs.declared.answers.Verdict.TheVariants as verdict
-use Rattle.wit_core.specs.Verdict.{answer_by}
+use Rattle.wit_check.specs.Answers.{answer_by}
 
 -- it is logged
 pub told-logged : (new : List (TypeNo × TypeNo)) (d : Verdict) (r : Reply) → answer_by new d ≡ Ok r → is_logged r ≡ true

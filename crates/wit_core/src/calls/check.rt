@@ -8,7 +8,8 @@ ghost use Rattle.wit_model.specs.Rules.Refusals.{IsRefusal};
 ghost use Rattle.wit_model.specs.Rules.State.{state_of, seat_at, is_seat, is_live};
 ghost use Rattle.wit_model.specs.Rules.Step.{AnswersOrFails, IsEntered, answer_of, is_logged, logged};
 ghost use Rattle.wit_model.specs.Rules.Verdict.{typed_request, verdict};
-ghost use Rattle.wit_core.specs.Verdict.{orders_taught, answer_by};
+ghost use Rattle.wit_check.specs.Answers.{answer_by};
+ghost use Rattle.wit_core.specs.Verdict.{orders_taught};
 
 use crate::known::{flags_of_lock, type_of_lock};
 use crate::ready::{Plan, Ready};

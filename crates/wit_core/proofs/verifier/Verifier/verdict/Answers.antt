@@ -2,7 +2,7 @@ use Rattle.std.proofs.Common.{◌≤◌, true, false, length, refl, ap, subst, s
 use Rattle.wit_model.specs.Rules.State.{state_of}
 use Rattle.wit_model.specs.Rules.Orders.{is_direct, is_found}
 use Rattle.wit_model.proofs.Histories.Accepted.{live-given}
-use Rattle.wit_core.specs.Verdict.{answer_by}
+use Rattle.wit_check.specs.Answers.{answer_by}
 use Rattle.wit_core.proofs.Judged.{request-given, types-given, matrix-sized, seat-within, list-within, judgeable, verdict-told, orders-told}
 use Rattle.wit_core.proofs.Seen.{seen_as}
 use Rattle.wit_core.proofs.verifier.Verifier.verdict.Goals as goal
