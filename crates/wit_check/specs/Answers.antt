@@ -10,7 +10,8 @@ use Rattle.wit_model.specs.Rules.Verdict.{Basis, new_parents, orders_behind}
 use Rattle.wit_check.specs.declared.answers.Verdict.{Verdict}
 use Rattle.wit_check.specs.declared.answers.Verdict.TheVariants as verdict
 
--- the orders that a request teaches behind all these held locks (oldest first), that behind the newest one first
+-- the orders that a request teaches behind all these held locks (oldest first), that behind the
+-- newest one first
 abbrev pub new_orders : Basis → List Instance → TypedRequest → List (TypeNo × TypeNo)
 new_orders g chain q = orders_behind q (new_parents g q [] (reverse chain))
 

@@ -1,10 +1,12 @@
 -- One look through a chain, newest lock first.
-use Rattle.std.specs.Prelude.{◌&&◌, List, [], ◌∷◌, Option, None, Some, is_some, is_none, if◌then◌else◌, find, reverse}
+use Rattle.std.specs.Prelude.{◌&&◌, List, [], ◌∷◌, Option, None, Some, is_some, is_none}
+use Rattle.std.specs.Prelude.{if◌then◌else◌, find, reverse}
 use Rattle.std.specs.List.{before_first}
 use Rattle.wit_model.specs.declared.locks.Instance.{Instance}
 use Rattle.wit_model.specs.declared.locks.TypeNo.{TypeNo}
 use Rattle.wit_model.specs.declared.calls.TypedRequest.{TypedRequest}
-use Rattle.wit_model.specs.Rules.Verdict.{Basis, is_of, has_type_of, is_sleepable, is_giant, violates}
+use Rattle.wit_model.specs.Rules.Verdict.{Basis, is_of, has_type_of, is_sleepable, is_giant}
+use Rattle.wit_model.specs.Rules.Verdict.{violates}
 use Rattle.wit_check.specs.declared.held.Seen.{Seen}
 use Rattle.wit_check.specs.declared.orders.Sort.{Sort}
 use Rattle.wit_check.specs.declared.orders.Sort.TheVariants.{Ordinary, Sleepable, Giant}

@@ -1,10 +1,12 @@
 -- One look through a chain, newest lock first, where the request is compared with all of it.
-use Rattle.std.specs.Prelude.{◌||◌, true, false, List, [], ◌∷◌, ◌++◌, Some, None, is_some, if◌then◌else◌, find, reverse}
+use Rattle.std.specs.Prelude.{◌||◌, true, false, List, [], ◌∷◌, ◌++◌, Some, None, is_some}
+use Rattle.std.specs.Prelude.{if◌then◌else◌, find, reverse}
 use Rattle.std.specs.List.{list_all}
 use Rattle.wit_model.specs.declared.locks.Instance.{Instance}
 use Rattle.wit_model.specs.declared.locks.TypeNo.{TypeNo}
 use Rattle.wit_model.specs.declared.calls.TypedRequest.{TypedRequest}
-use Rattle.wit_model.specs.Rules.Verdict.{Basis, is_of, type_held, has_type_of, is_learnt, is_direct_behind, is_new}
+use Rattle.wit_model.specs.Rules.Verdict.{Basis, is_of, type_held, has_type_of, is_learnt}
+use Rattle.wit_model.specs.Rules.Verdict.{is_direct_behind, is_new}
 use Rattle.wit_check.specs.declared.all_held.Met.{Met}
 
 -- what a look through the whole chain finds

@@ -9,8 +9,9 @@ use crate::answers::Verdict;
 use bitflags::Flags;
 use wit_model::{Fault, Instance, LockFlags, OpFlags, TypedRequest};
 
-/// The verdict on a request for a lock that its seat holds: `SharedOfExclusive` and `ExclusiveOfShared` where the modes differ; `Recursed`
-/// where the request says that the lock isn't held, or where it is held exclusive and isn't recursable; else `Pass`.
+/// The verdict on a request for a lock that its seat holds: `SharedOfExclusive` and
+/// `ExclusiveOfShared` where the modes differ; `Recursed` where the request says that the lock
+/// isn't held, or where it is held exclusive and isn't recursable; else `Pass`.
 pub fn again(request: TypedRequest, held: Instance) -> Verdict
     ensures { (new : List (TypeNo × TypeNo)) → answer_by new result ≡ again request held }
 {

@@ -92,7 +92,8 @@ pub fn behind_all<L: Lists>(basis: &Basis, lists: &L, list: u16, request: TypedR
     requires chain { IsJudgeable basis.now.lock_types (chain_of (L.chunks lists.now) list) }
     requires asked { IsGiven basis.now.types request.type_no.0 }
     ensures { let chain = chain_of (L.chunks lists.now) list in
-        answer_by (new_orders basis.now chain request) result ≡ decided (over_all basis.now chain request) }
+        answer_by (new_orders basis.now chain request) result
+        ≡ decided (over_all basis.now chain request) }
 {
     let met = meet(basis, lists, list, request);
     if let Some(held) = met.held {

@@ -11,11 +11,12 @@ use crate::basis::Basis;
 use bitflags::Flags;
 use wit_model::{Doubling, Instance, LockAt, LockFlags, OpFlags, TypedRequest};
 
-/// The verdict where this held lock is of the requested type: reported once for a type, and never where the lock, or the request,
-/// allows it.
+/// The verdict where this held lock is of the requested type: reported once for a type, and never
+/// where the lock, or the request, allows it.
 pub fn doubled(basis: &Basis, request: TypedRequest, last: Instance) -> Verdict
     requires { IsGiven basis.now.types request.type_no.0 }
-    ensures { (new : List (TypeNo × TypeNo)) → answer_by new result ≡ doubled basis.now request last }
+    ensures { (new : List (TypeNo × TypeNo))
+        → answer_by new result ≡ doubled basis.now request last }
 {
     let asked = request.type_no;
     if request.flags.contains(LockFlags::DUPOK) || request.ops.contains(OpFlags::DUPOK) {

@@ -20,8 +20,9 @@ use wit_model::chunks::{Lists, list_of};
 use wit_model::{Instance, NewOrders, TypeNo, TypedRequest};
 use wit_table::Table;
 
-/// The orders that a request teaches behind all the locks of its kind that its seat holds, that behind the newest one first: those that
-/// may be learnt and are new, each once. They are what the verdict `AdoptAll` stands for.
+/// The orders that a request teaches behind all the locks of its kind that its seat holds, that
+/// behind the newest one first: those that may be learnt and are new, each once. They are what the
+/// verdict `AdoptAll` stands for.
 ///
 /// The seat, the locks and the types are as `verdict` wants them. Nothing is changed.
 ///
@@ -36,8 +37,10 @@ pub fn new_orders<L: Lists>(
 ) -> Result<NewOrders, AllocError>
     requires seat { IsNumber 256 chains.seat.0 }
     requires lists { IsList (L.chunks chains.lists.now) (list_of true chains.seat.0) }
-    requires sleep { IsJudgeable chains.lock_types.now (sleep_chain (L.chunks chains.lists.now) chains.seat.0) }
-    requires spin { IsJudgeable chains.lock_types.now (spin_chain (L.chunks chains.lists.now) chains.seat.0) }
+    requires sleep { IsJudgeable chains.lock_types.now
+        (sleep_chain (L.chunks chains.lists.now) chains.seat.0) }
+    requires spin { IsJudgeable chains.lock_types.now
+        (spin_chain (L.chunks chains.lists.now) chains.seat.0) }
     requires types { AreTypes types.now chains.lock_types.now }
     requires asked { IsGiven types.now.types request.type_no.0 }
     requires sized { length types.now.types ≤ matrix.now.size }
@@ -72,7 +75,8 @@ fn learnt_behind<L: Lists>(
     requires list { IsList (L.chunks lists.now) list }
     requires typed { IsTyped basis.now.lock_types (chain_of (L.chunks lists.now) list) }
     requires asked { IsGiven basis.now.types request.type_no.0 }
-    ensures { IfOk result (λ new. new ≡ new_orders basis.now (chain_of (L.chunks lists.now) list) request) }
+    ensures { IfOk result (λ new. new
+        ≡ new_orders basis.now (chain_of (L.chunks lists.now) list) request) }
 {
     let mut learnt = NewOrders::new(alloc);
     let mut spot = lists.newest(list);
@@ -93,7 +97,8 @@ fn learn(
     requires typed { IsTyped basis.now.lock_types chunk.now }
     requires asked { IsGiven basis.now.types request.type_no.0 }
     ensures { (parents : List TypeNo) → learnt.old ≡ orders_behind request parents
-        → OnOk result (learnt.new ≡ orders_behind request (with_parents basis.now request chunk.now parents)) }
+        → OnOk result (learnt.new ≡ orders_behind request
+        (with_parents basis.now request chunk.now parents)) }
 {
     for place in (0..chunk.len()).rev() {
         let held = chunk[place];
@@ -104,7 +109,8 @@ fn learn(
     Ok(())
 }
 
-// Whether the order behind a held lock may be learnt and is new, where these orders of the same request are learnt before it.
+// Whether the order behind a held lock may be learnt and is new, where these orders of the same
+// request are learnt before it.
 fn is_new(basis: &Basis, request: TypedRequest, before: &[(TypeNo, TypeNo)], held: Instance) -> bool
     requires held { IsGiven basis.now.lock_types held.lock.0 }
     requires asked { IsGiven basis.now.types request.type_no.0 }

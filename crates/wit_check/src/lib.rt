@@ -1,4 +1,5 @@
-//! The verdict of a check: what WITNESS says of a request for a lock, by what its seat holds; and that on an order which a call defines.
+//! The verdict of a check: what WITNESS says of a request for a lock, by what its seat holds; and
+//! that on an order which a call defines.
 #![tactic(auto)]
 
 mod again;

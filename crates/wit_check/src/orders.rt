@@ -54,8 +54,8 @@ pub fn breach(basis: &Basis, sort: Sort, asked: TypeNo, held: TypeNo) -> Option<
     }
 }
 
-/// Whether the order behind a held lock may be learnt: where the request allows it, unless it is that of a sleepable lock behind Giant,
-/// or turns an order round.
+/// Whether the order behind a held lock may be learnt: where the request allows it, unless it is
+/// that of a sleepable lock behind Giant, or turns an order round.
 pub fn is_learnt(basis: &Basis, request: TypedRequest, held: Instance) -> bool
     requires held { IsGiven basis.now.lock_types held.lock.0 }
     requires asked { IsGiven basis.now.types request.type_no.0 }
@@ -72,11 +72,13 @@ pub fn is_learnt(basis: &Basis, request: TypedRequest, held: Instance) -> bool
     !basis.is_before(asked, parent)
 }
 
-/// The verdict where no order is broken: the one behind the last held lock is learnt, where it may be.
+/// The verdict where no order is broken: the one behind the last held lock is learnt, where it may
+/// be.
 pub fn learnt(basis: &Basis, request: TypedRequest, last: Instance) -> Verdict
     requires last { IsGiven basis.now.lock_types last.lock.0 }
     requires asked { IsGiven basis.now.types request.type_no.0 }
-    ensures { (new : List (TypeNo × TypeNo)) → answer_by new result ≡ decided (teaches basis.now (Some last) request ∷ []) }
+    ensures { (new : List (TypeNo × TypeNo))
+        → answer_by new result ≡ decided (teaches basis.now (Some last) request ∷ []) }
 {
     if is_learnt(basis, request, last) {
         Verdict::Adopt(basis.type_held(last), request.type_no)

@@ -14,8 +14,9 @@ use crate::duplicates::{place_asked, place_of};
 use crate::orders::{breach, sort_of};
 use wit_model::{Conflict, Heading, Instance, TypedRequest};
 
-/// The verdict where a held lock violates an order: reported once for a pair of types, and never where the pair is blessed. `older` is
-/// the newest lock of the requested type among those older than the one that violates the order.
+/// The verdict where a held lock violates an order: reported once for a pair of types, and never
+/// where the pair is blessed. `older` is the newest lock of the requested type among those older
+/// than the one that violates the order.
 pub fn reported(
     basis: &Basis,
     request: TypedRequest,
@@ -24,7 +25,9 @@ pub fn reported(
 ) -> Verdict
     requires held { IsGiven basis.now.lock_types broken.lock.0 }
     requires asked { IsGiven basis.now.types request.type_no.0 }
-    ensures { (new : List (TypeNo × TypeNo)) (chain : List Instance) → older ≡ find (has_type_of basis.now request) (reverse (before_first (is_of broken.lock.0) chain))
+    ensures { (new : List (TypeNo × TypeNo)) (chain : List Instance)
+        → older ≡ find (has_type_of basis.now request)
+        (reverse (before_first (is_of broken.lock.0) chain))
         → answer_by new result ≡ reported basis.now request chain broken }
 {
     let held = basis.type_held(broken);

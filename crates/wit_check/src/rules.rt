@@ -26,13 +26,16 @@ use wit_model::chunks::{Lists, list_of};
 use wit_model::{Fault, Instance, Profile, SeatNo, TypedRequest, Watch};
 use wit_table::Table;
 
-/// The verdict of a check: the first of WITNESS's rules that applies decides (witness(4); `witness_checkorder` in subr_witness.c).
+/// The verdict of a check: the first of WITNESS's rules that applies decides (witness(4);
+/// `witness_checkorder` in subr_witness.c).
 ///
-/// The seat, one of 256, holds each lock once in its lists, those of the sleep kind in one and those of the spin kind in the other. All
-/// types are the table's, and the matrix has room for them. The profile says which of the held locks the request is compared with.
+/// The seat, one of 256, holds each lock once in its lists, those of the sleep kind in one and
+/// those of the spin kind in the other. All types are the table's, and the matrix has room for
+/// them. The profile says which of the held locks the request is compared with.
 ///
-/// It takes no memory and changes nothing: what is to be adopted, or found in violation, is the caller's to enter. How often a lock was
-/// acquired again isn't looked at. Its faults are `SleepUnderSpin`, `SharedOfExclusive`, `ExclusiveOfShared` and `Recursed`.
+/// It takes no memory and changes nothing: what is to be adopted, or found in violation, is the
+/// caller's to enter. How often a lock was acquired again isn't looked at. Its faults are
+/// `SleepUnderSpin`, `SharedOfExclusive`, `ExclusiveOfShared` and `Recursed`.
 pub fn verdict<L: Lists>(
     types: &Table,
     matrix: &Matrix,
@@ -43,15 +46,18 @@ pub fn verdict<L: Lists>(
 ) -> Verdict
     requires seat { IsNumber 256 chains.seat.0 }
     requires lists { IsList (L.chunks chains.lists.now) (list_of true chains.seat.0) }
-    requires sleep { IsJudgeable chains.lock_types.now (sleep_chain (L.chunks chains.lists.now) chains.seat.0) }
-    requires spin { IsJudgeable chains.lock_types.now (spin_chain (L.chunks chains.lists.now) chains.seat.0) }
+    requires sleep { IsJudgeable chains.lock_types.now
+        (sleep_chain (L.chunks chains.lists.now) chains.seat.0) }
+    requires spin { IsJudgeable chains.lock_types.now
+        (spin_chain (L.chunks chains.lists.now) chains.seat.0) }
     requires types { AreTypes types.now chains.lock_types.now }
     requires asked { IsGiven types.now.types request.type_no.0 }
     requires sized { length types.now.types ≤ matrix.now.size }
     ensures { let basis = basis types.now matrix.now chains.entry.lock_types.now in
         let sleep = sleep_chain (L.chunks chains.entry.lists.now) chains.entry.seat.0 in
         let spin = spin_chain (L.chunks chains.entry.lists.now) chains.entry.seat.0 in
-        answer_by (new_orders basis (chain_asked basis sleep spin request) request) result ≡ ruling profile basis watch sleep spin request }
+        answer_by (new_orders basis (chain_asked basis sleep spin request) request) result
+        ≡ ruling profile basis watch sleep spin request }
 {
     if !watch.is_on() {
         return Verdict::Pass;
@@ -95,7 +101,8 @@ fn judge<L: Lists>(
     requires last { last_or None (chain_of (L.chunks lists.now) list) ≡ Some last }
     requires asked { IsGiven basis.now.types request.type_no.0 }
     ensures { let chain = chain_of (L.chunks lists.now) list in
-        answer_by (new_orders basis.now chain request) result ≡ decided (over profile basis.now chain last request) }
+        answer_by (new_orders basis.now chain request) result
+        ≡ decided (over profile basis.now chain last request) }
 {
     match profile {
         Profile::Plain => behind(basis, lists, list, request, last),
@@ -116,7 +123,8 @@ fn behind<L: Lists>(
     requires last { last_or None (chain_of (L.chunks lists.now) list) ≡ Some last }
     requires asked { IsGiven basis.now.types request.type_no.0 }
     ensures { (new : List (TypeNo × TypeNo))
-        → answer_by new result ≡ decided (over Plain basis.now (chain_of (L.chunks lists.now) list) last request) }
+        → answer_by new result ≡ decided
+        (over Plain basis.now (chain_of (L.chunks lists.now) list) last request) }
 {
     let parent = basis.type_held(last);
     let is_double = parent.0 == request.type_no.0;

@@ -41,5 +41,8 @@ option_named None = None
 -- what clap is asked to read: one word, which has to be there, and no option
 abbrev pub command_line : App
 command_line = with_rule
-    (record (new_app (codes "witness")) { top = record (new_app (codes "witness")).top { disable_help_flag = true } })
+    (record (new_app (codes "witness")) {
+      top = record
+          (new_app (codes "witness")).top { disable_help_flag = true };
+    })
     (record (new_rule (codes "word")) { required = true; action = Some Set })

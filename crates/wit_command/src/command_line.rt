@@ -1,8 +1,10 @@
 //! The command line: exactly one word, which says what is asked for.
 
-ghost use Rattle.std.specs.Prelude.{◌≡◌, [], ◌∷◌, IfOk, IfErr, IfSome, IfNone, None, true, codes, map, option_map};
+ghost use Rattle.std.specs.Prelude.{◌≡◌, [], ◌∷◌, IfOk, IfErr, IfSome, IfNone, None, true, codes};
+ghost use Rattle.std.specs.Prelude.{map, option_map};
 ghost use Rattle.clap.specs.Words.{first_of, kind_of, matches_of, takes};
-ghost use Rattle.wit_command.specs.CommandLine.{asked, bytes_of, command_line, command_named, only_word, option_named};
+ghost use Rattle.wit_command.specs.CommandLine.{asked, bytes_of, command_line, command_named};
+ghost use Rattle.wit_command.specs.CommandLine.{only_word, option_named};
 
 use crate::command::Command;
 use clap::error::ErrorKind;
@@ -39,7 +41,8 @@ fn only_text(words: &[Vec<u8>]) -> Option<&str>
 
 // What clap reads from the words of a command line, of which the first is the program's name.
 fn command_of<'a, S: AsStr>(alloc: Global, words: &'a [S]) -> Result<Option<Command>, AllocError>
-    ensures { IfOk result (λ command. command ≡ option_named (only_word (map S.text words.entry.now))) }
+    ensures { IfOk result (λ command. command
+        ≡ option_named (only_word (map S.text words.entry.now))) }
 {
     if words.len() != 2 {
         return Ok(None);

@@ -1,7 +1,11 @@
 -- Which locks are live, and how many of each type, once one more is made or one is destroyed.
-use Rattle.std.proofs.Common.{◌≡◌, ℕ, zero, suc, ◌+◌, ◌-◌, ◌<◌, ◌≤◌, Bool, true, false, not, ◌&&◌, ◌||◌, cond, eqb, nat_lt, nat_le, List, [], ◌∷◌, ◌++◌, length, map, set, get_or, count_by, unwrap_or, refl, ap, ap₂, sym, ◌∙◌, inl, inr, ⊎_elim, arith, length-append, append_assoc}
+use Rattle.std.proofs.Common.{◌≡◌, ℕ, zero, suc, ◌+◌, ◌-◌, ◌<◌, ◌≤◌, Bool, true, false, not, ◌&&◌}
+use Rattle.std.proofs.Common.{◌||◌, cond, eqb, nat_lt, nat_le, List, [], ◌∷◌, ◌++◌, length, map}
+use Rattle.std.proofs.Common.{set, get_or, count_by, unwrap_or, refl, ap, ap₂, sym, ◌∙◌, inl, inr}
+use Rattle.std.proofs.Common.{⊎_elim, arith, length-append, append_assoc}
 use Rattle.std.specs.List.{range_with_len}
-use Rattle.std.proofs.lemmas.Bool.{ne_eqb, eq-eqb, cases_lt, le-ltb, ltb-true, leb-true, and_parts, true≢false}
+use Rattle.std.proofs.lemmas.Bool.{ne_eqb, eq-eqb, cases_lt, le-ltb, ltb-true, leb-true, and_parts}
+use Rattle.std.proofs.lemmas.Bool.{true≢false}
 use Rattle.std.proofs.lemmas.Bool.Decides.{eqb_tells}
 use Rattle.std.proofs.lemmas.List.{get_or_at, get_or-set_same, get_or-set_other}
 use Rattle.std.proofs.lemmas.List.Sums.{sum_by-cons}
@@ -18,68 +22,85 @@ use Rattle.wit_core.specs.Live.{live_flags, is_flagged, live_count}
 
 -- ---- the flags
 
-map-push : (f : ℕ → Bool) (a n : ℕ) → map f (range_with_len a (n + 1)) ≡ map f (range_with_len a n) ++ f (a + n) ∷ []
+map-push : (f : ℕ → Bool) (a n : ℕ) → map f (range_with_len a (n + 1))
+    ≡ map f (range_with_len a n) ++ f (a + n) ∷ []
 map-push f a zero = ap (λ k. f k ∷ []) (let same : a ≡ a + 0 = omega arith in same)
 map-push f a (suc n) =
     let size : suc n + 1 ≡ suc (n + 1) = omega arith in
     let last : a + 1 + n ≡ a + suc n = omega arith in
-    ap (λ k. map f (range_with_len a k)) size ∙ ap (λ bs. f a ∷ bs) (map-push f (a + 1) n ∙ ap (λ k. map f (range_with_len (a + 1) n) ++ f k ∷ []) last)
+    ap (λ k. map f (range_with_len a k)) size ∙ ap (λ bs. f a ∷ bs)
+    (map-push f (a + 1) n ∙ ap (λ k. map f (range_with_len (a + 1) n) ++ f k ∷ []) last)
 
 -- one lock more
-pub flags-made : (n : ℕ) (locks : List Lock) (destroyed : List ℕ) → length locks ≡ n + 1 → is_destroyed destroyed (n + 1) ≡ false
+pub flags-made : (n : ℕ) (locks : List Lock) (destroyed : List ℕ) → length locks ≡ n + 1
+    → is_destroyed destroyed (n + 1) ≡ false
     → live_flags (length locks) destroyed ≡ live_flags n destroyed ++ true ∷ []
 flags-made n locks destroyed size fresh =
     let last : 1 + n ≡ n + 1 = omega arith in
     ap (λ k. live_flags k destroyed) size ∙ map-push (λ l. not (is_destroyed destroyed l)) 1 n
-    ∙ ap (λ b. live_flags n destroyed ++ b ∷ []) (ap (λ k. not (is_destroyed destroyed k)) last ∙ ap not fresh)
+    ∙ ap (λ b. live_flags n destroyed ++ b ∷ [])
+    (ap (λ k. not (is_destroyed destroyed k)) last ∙ ap not fresh)
 
 drop-later : (m : ℕ) (destroyed : List ℕ) (a n : ℕ) → m < a
-    → map (λ l. not (is_destroyed destroyed l)) (range_with_len a n) ≡ map (λ l. not (is_destroyed (m ∷ destroyed) l)) (range_with_len a n)
+    → map (λ l. not (is_destroyed destroyed l)) (range_with_len a n)
+    ≡ map (λ l. not (is_destroyed (m ∷ destroyed) l)) (range_with_len a n)
 drop-later m destroyed a zero past = refl
 drop-later m destroyed a (suc n) past =
-    ap₂ (λ b bs. not (b || is_destroyed destroyed a) ∷ bs) (sym (ne_eqb m a (λ (e : m ≡ a). let none : ⊥ = omega arith in none)))
+    ap₂ (λ b bs. not (b || is_destroyed destroyed a) ∷ bs)
+    (sym (ne_eqb m a (λ (e : m ≡ a). let none : ⊥ = omega arith in none)))
     (drop-later m destroyed (a + 1) n (omega (arith, past)))
 
 drop-at : (m : ℕ) (destroyed : List ℕ) (a n i : ℕ) → a + i ≡ m → i < n
-    → set (map (λ l. not (is_destroyed destroyed l)) (range_with_len a n)) i false ≡ map (λ l. not (is_destroyed (m ∷ destroyed) l)) (range_with_len a n)
+    → set (map (λ l. not (is_destroyed destroyed l)) (range_with_len a n)) i false
+    ≡ map (λ l. not (is_destroyed (m ∷ destroyed) l)) (range_with_len a n)
 drop-at m destroyed a zero i at lt = absurd (omega (arith, lt))
 drop-at m destroyed a (suc n) zero at lt =
     let here : m ≡ a = omega (arith, at) in
-    ap₂ (λ b bs. not (b || is_destroyed destroyed a) ∷ bs) (sym (eq-eqb m a here)) (drop-later m destroyed (a + 1) n (omega (arith, here)))
+    ap₂ (λ b bs. not (b || is_destroyed destroyed a) ∷ bs) (sym (eq-eqb m a here))
+    (drop-later m destroyed (a + 1) n (omega (arith, here)))
 drop-at m destroyed a (suc n) (suc i) at lt =
-    ap₂ (λ b bs. not (b || is_destroyed destroyed a) ∷ bs) (sym (ne_eqb m a (λ (e : m ≡ a). let none : ⊥ = omega (arith, at, e) in none)))
+    ap₂ (λ b bs. not (b || is_destroyed destroyed a) ∷ bs)
+    (sym (ne_eqb m a (λ (e : m ≡ a). let none : ⊥ = omega (arith, at, e) in none)))
     (drop-at m destroyed (a + 1) n i (omega (arith, at)) (omega (arith, lt)))
 
 -- one lock that is destroyed
-pub flags-destroyed : (n m : ℕ) (destroyed : List ℕ) → 0 < m → m ≤ n → set (live_flags n destroyed) (m - 1) false ≡ live_flags n (m ∷ destroyed)
-flags-destroyed n m destroyed some within = drop-at m destroyed 1 n (m - 1) (omega (arith, some)) (omega (arith, some, within))
+pub flags-destroyed : (n m : ℕ) (destroyed : List ℕ) → 0 < m → m ≤ n
+    → set (live_flags n destroyed) (m - 1) false ≡ live_flags n (m ∷ destroyed)
+flags-destroyed n m destroyed some within =
+    drop-at m destroyed 1 n (m - 1) (omega (arith, some)) (omega (arith, some, within))
 
 pub length-flags : (n : ℕ) (destroyed : List ℕ) → length (live_flags n destroyed) ≡ n
 length-flags n destroyed = length-map-range_with_len (λ l. not (is_destroyed destroyed l)) 1 n
 
 -- whether a lock is flagged
-pub flag-is : (n l : ℕ) (destroyed : List ℕ) → is_flagged (live_flags n destroyed) l ≡ (nat_lt 0 l && nat_le l n) && not (is_destroyed destroyed l)
+pub flag-is : (n l : ℕ) (destroyed : List ℕ) → is_flagged (live_flags n destroyed) l
+    ≡ (nat_lt 0 l && nat_le l n) && not (is_destroyed destroyed l)
 flag-is n l destroyed = go (nat_lt 0 l) refl (nat_le l n) refl
   where
     size : length (live_flags n destroyed) ≡ n
     size = length-map-range_with_len (λ k. not (is_destroyed destroyed k)) 1 n
 
-    absent : (a b : Bool) → (a && b) ≡ false → nat_lt 0 l ≡ a → nat_le l n ≡ b → is_flagged (live_flags n destroyed) l ≡ false
+    absent : (a b : Bool) → (a && b) ≡ false → nat_lt 0 l ≡ a → nat_le l n ≡ b
+        → is_flagged (live_flags n destroyed) l ≡ false
     absent a b none some within =
         ap (λ o. unwrap_or o false)
-        (with_number-none (live_flags n destroyed) l (ap (λ k. nat_lt 0 l && nat_le l k) size ∙ ap₂ (λ c e. c && e) some within ∙ none))
+        (with_number-none (live_flags n destroyed) l
+        (ap (λ k. nat_lt 0 l && nat_le l k) size ∙ ap₂ (λ c e. c && e) some within ∙ none))
 
-    go : (a : Bool) → nat_lt 0 l ≡ a → (b : Bool) → nat_le l n ≡ b → is_flagged (live_flags n destroyed) l ≡ (a && b) && not (is_destroyed destroyed l)
+    go : (a : Bool) → nat_lt 0 l ≡ a → (b : Bool) → nat_le l n ≡ b
+        → is_flagged (live_flags n destroyed) l ≡ (a && b) && not (is_destroyed destroyed l)
     go true some true within =
         let up = ltb-true 0 l some in
         let le = leb-true l n within in
         with_number-or (live_flags n destroyed) l false up
-        ∙ get_or-map-range_with_len (λ k. not (is_destroyed destroyed k)) 1 n (l - 1) l false (omega (arith, up)) (omega (arith, up, le))
+        ∙ get_or-map-range_with_len (λ k. not (is_destroyed destroyed k)) 1 n (l - 1) l false
+        (omega (arith, up)) (omega (arith, up, le))
     go true some false within = absent true false refl some within
     go false some b within = absent false b refl some within
 
 -- a flagged lock has a number
-pub flag-within : (flags : List Bool) (l : ℕ) → is_flagged flags l ≡ true → (0 < l) × (l ≤ length flags)
+pub flag-within : (flags : List Bool) (l : ℕ) → is_flagged flags l ≡ true
+    → (0 < l) × (l ≤ length flags)
 flag-within flags l live = go (nat_lt 0 l && nat_le l (length flags)) refl
   where
     go : (b : Bool) → is_given flags l ≡ b → (0 < l) × (l ≤ length flags)
@@ -88,7 +109,8 @@ flag-within flags l live = go (nat_lt 0 l && nat_le l (length flags)) refl
         let some = ltb-true 0 l parts.0 in
         let within = leb-true l (length flags) parts.1 in
         (omega (arith, some), omega (arith, within))
-    go false none = absurd (true≢false (sym live ∙ ap (λ o. unwrap_or o false) (with_number-none flags l none)))
+    go false none =
+        absurd (true≢false (sym live ∙ ap (λ o. unwrap_or o false) (with_number-none flags l none)))
 
 -- ---- the counts
 
@@ -99,35 +121,43 @@ get_or-extended (x ∷ xs) zero = refl
 get_or-extended (x ∷ xs) (suc i) = get_or-extended xs i
 
 -- what counts 0 more counts the same
-number-extended : (xs : List ℕ) (t : ℕ) → unwrap_or (with_number (xs ++ 0 ∷ []) t) 0 ≡ unwrap_or (with_number xs t) 0
+number-extended : (xs : List ℕ) (t : ℕ) → unwrap_or (with_number (xs ++ 0 ∷ []) t) 0
+    ≡ unwrap_or (with_number xs t) 0
 number-extended xs t =
     ⊎_elim
-    (λ (some : 0 < t). with_number-or (xs ++ 0 ∷ []) t 0 some ∙ get_or-extended xs (t - 1) ∙ sym (with_number-or xs t 0 some))
+    (λ (some : 0 < t). with_number-or (xs ++ 0 ∷ []) t 0 some ∙ get_or-extended xs (t - 1)
+    ∙ sym (with_number-or xs t 0 some))
     (λ (none : t ≤ 0). (let e = le-ltb 0 t none in rw e refl))
     (cases_lt 0 t)
 
 -- where there are no types nothing is counted
 pub none-counted : (types files t : ℕ) → live_of (no_names types files) t ≡ 0
 none-counted types files t =
-    ⊎_elim (λ (some : 0 < t). with_number-or [] t 0 some) (λ (none : t ≤ 0). (let zero-t = le-ltb 0 t none in rw zero-t refl)) (cases_lt 0 t)
+    ⊎_elim (λ (some : 0 < t). with_number-or [] t 0 some)
+    (λ (none : t ≤ 0). (let zero-t = le-ltb 0 t none in rw zero-t refl)) (cases_lt 0 t)
 
 -- a type that is enrolled leaves the counts
-pub live_of-enrolled : (n : Names) (name : List ℕ) (class : Class) (t : ℕ) → live_of (with_type n name class) t ≡ live_of n t
+pub live_of-enrolled : (n : Names) (name : List ℕ) (class : Class) (t : ℕ)
+    → live_of (with_type n name class) t ≡ live_of n t
 live_of-enrolled n name class t = go (is_enrolled name n.types)
   where
-    go : (b : Bool) → unwrap_or (with_number (cond b n.live (n.live ++ 0 ∷ [])) t) 0 ≡ unwrap_or (with_number n.live t) 0
+    go : (b : Bool) → unwrap_or (with_number (cond b n.live (n.live ++ 0 ∷ [])) t) 0
+        ≡ unwrap_or (with_number n.live t) 0
     go true = refl
     go false = number-extended n.live t
 
 -- one count that is changed
-pub live_of-changed : (n : Names) (m count t : ℕ) → IsGiven n.live m → live_of (with_live n m count) t ≡ cond (eqb m t) count (live_of n t)
+pub live_of-changed : (n : Names) (m count t : ℕ) → IsGiven n.live m
+    → live_of (with_live n m count) t ≡ cond (eqb m t) count (live_of n t)
 live_of-changed n m count t given =
     ⊎_elim
     (λ (some : 0 < t).
-    with_number-or (with_live n m count).live t 0 some ∙ ap (λ xs. get_or xs (t - 1) 0) (with_changed-at n.live m count given.0) ∙ by some)
+    with_number-or (with_live n m count).live t 0 some
+    ∙ ap (λ xs. get_or xs (t - 1) 0) (with_changed-at n.live m count given.0) ∙ by some)
     (λ (none : t ≤ 0).
     (let zero-t = le-ltb 0 t none in
-    let apart = ne_eqb m t (λ (e : m ≡ t). let no-way : ⊥ = omega (arith, e, given.0, none) in no-way) in
+    let apart =
+    ne_eqb m t (λ (e : m ≡ t). let no-way : ⊥ = omega (arith, e, given.0, none) in no-way) in
     rw (zero-t, apart) refl))
     (cases_lt 0 t)
   where
@@ -139,10 +169,12 @@ live_of-changed n m count t given =
         elim (eqb_tells m t) [
           | inl e ↦
               (let at : t - 1 ≡ m - 1 = omega (arith, e.1) in
-              rw e.0 (ap (λ i. get_or (set n.live (m - 1) count) i 0) at ∙ get_or-set_same n.live (m - 1) count 0 (omega (arith, given.0, given.1))))
+              rw e.0 (ap (λ i. get_or (set n.live (m - 1) count) i 0) at
+              ∙ get_or-set_same n.live (m - 1) count 0 (omega (arith, given.0, given.1))))
           | inr e ↦
               (let apart = e.1 in
-              rw e.0 (get_or-set_other n.live (m - 1) (t - 1) count 0 (later apart some) ∙ sym (with_number-or n.live t 0 some)))
+              rw e.0 (get_or-set_other n.live (m - 1) (t - 1) count 0 (later apart some)
+              ∙ sym (with_number-or n.live t 0 some)))
         ]
 
 abbrev one_if : Bool → ℕ
@@ -151,53 +183,74 @@ one_if b = cond b 1 0
 abbrev pub counts_one : Lock → Bool → ℕ → ℕ
 counts_one lock b t = cond (eqb lock.type_no.0 t && b) 1 0
 
-pub count-made : (locks : List Lock) (flags : List Bool) (lock : Lock) (t : ℕ) → length flags ≡ length locks
-    → live_count (locks ++ lock ∷ []) (flags ++ true ∷ []) t ≡ live_count locks flags t + counts_one lock true t
+pub count-made : (locks : List Lock) (flags : List Bool) (lock : Lock) (t : ℕ)
+    → length flags ≡ length locks
+    → live_count (locks ++ lock ∷ []) (flags ++ true ∷ []) t
+    ≡ live_count locks flags t + counts_one lock true t
 count-made [] [] lock t size = omega arith
 count-made [] (b ∷ flags) lock t size = absurd (omega (arith, size))
 count-made (l ∷ locks) [] lock t size = absurd (omega (arith, size))
 count-made (l ∷ locks) (b ∷ flags) lock t size =
     let more = count-made locks flags lock t (omega (arith, size)) in omega (arith, more)
 
-pub count-destroyed : (locks : List Lock) (flags : List Bool) (i t : ℕ) (d : Lock) → i < length locks → get_or flags i false ≡ true
-    → live_count locks (set flags i false) t + cond (eqb (get_or locks i d).type_no.0 t) 1 0 ≡ live_count locks flags t
+pub count-destroyed : (locks : List Lock) (flags : List Bool) (i t : ℕ) (d : Lock)
+    → i < length locks → get_or flags i false ≡ true
+    → live_count locks (set flags i false) t + cond (eqb (get_or locks i d).type_no.0 t) 1 0
+    ≡ live_count locks flags t
 count-destroyed [] flags i t d lt is = absurd (omega (arith, lt))
 count-destroyed (l ∷ locks) [] i t d lt is = (cc)
 count-destroyed (l ∷ locks) (b ∷ flags) zero t d lt is = by b is (eqb l.type_no.0 t)
   where
-    by : (c : Bool) → c ≡ true → (same : Bool) → cond (same && false) 1 0 + live_count locks flags t + cond same 1 0 ≡ cond (same && c) 1 0 + live_count locks flags t
+    by : (c : Bool) → c ≡ true → (same : Bool)
+        → cond (same && false) 1 0 + live_count locks flags t + cond same 1 0
+        ≡ cond (same && c) 1 0 + live_count locks flags t
     by true live true = omega arith
     by true live false = omega arith
     by false live same = (cc)
 count-destroyed (l ∷ locks) (b ∷ flags) (suc i) t d lt is =
     let fewer = count-destroyed locks flags i t d (omega (arith, lt)) is in omega (arith, fewer)
 
-pub count-few : (locks : List Lock) (flags : List Bool) (t : ℕ) → live_count locks flags t ≤ length locks
+pub count-few : (locks : List Lock) (flags : List Bool) (t : ℕ)
+    → live_count locks flags t ≤ length locks
 count-few [] flags t = omega arith
 count-few (l ∷ locks) [] t = omega arith
-count-few (l ∷ locks) (b ∷ flags) t = let few = count-few locks flags t in by (eqb l.type_no.0 t && b) few
+count-few (l ∷ locks) (b ∷ flags) t = let few =
+    count-few locks flags t in by (eqb l.type_no.0 t && b) few
   where
-    by : (c : Bool) → live_count locks flags t ≤ length locks → cond c 1 0 + live_count locks flags t ≤ suc (length locks)
+    by : (c : Bool) → live_count locks flags t ≤ length locks
+        → cond c 1 0 + live_count locks flags t ≤ suc (length locks)
     by true few = omega (arith, few)
     by false few = omega (arith, few)
 
 -- the count is that of the rules
 told-from : (before locks : List Lock) (destroyed : List ℕ) (t a : ℕ) → a ≡ length before + 1
-    → live_count locks (map (λ l. not (is_destroyed destroyed l)) (range_with_len a (length locks))) t
+    → live_count locks (map (λ l. not (is_destroyed destroyed l)) (range_with_len a (length locks)))
+    t
     ≡ count_by (is_live_of (before ++ locks) destroyed t) (range_with_len a (length locks))
 told-from before [] destroyed t a at = refl
 told-from before (l ∷ locks) destroyed t a at =
-    let whole : before ++ l ∷ locks ≡ (before ++ l ∷ []) ++ locks = sym (append_assoc before (l ∷ []) locks) in
-    let rest = told-from (before ++ l ∷ []) locks destroyed t (a + 1) (omega (arith, at, length-append before (l ∷ []))) in
-    let e = sum_by-cons (λ k. cond (is_live_of (before ++ l ∷ locks) destroyed t k) 1 0) a (range_with_len (a + 1) (length locks)) in
+    let whole : before ++ l ∷ locks ≡ (before ++ l ∷ []) ++ locks =
+    sym (append_assoc before (l ∷ []) locks) in
+    let rest =
+    told-from (before ++ l ∷ []) locks destroyed t (a + 1)
+    (omega (arith, at, length-append before (l ∷ []))) in
+    let e =
+    sum_by-cons (λ k. cond (is_live_of (before ++ l ∷ locks) destroyed t k) 1 0) a
+    (range_with_len (a + 1) (length locks)) in
     let here : lock_at (before ++ l ∷ locks) a ≡ l
-    = with_number-or (before ++ l ∷ locks) a unknown_lock (omega (arith, at)) ∙ get_or_at before l locks unknown_lock (a - 1) (omega (arith, at)) in
-    let f : counts_one l (not (is_destroyed destroyed a)) t ≡ cond (is_live_of (before ++ l ∷ locks) destroyed t a) 1 0
-    = sym (ap (λ (k : Lock). cond (eqb k.type_no.0 t && not (is_destroyed destroyed a)) 1 0) here) in
-    let g = ap (λ ls. count_by (is_live_of ls destroyed t) (range_with_len (a + 1) (length locks))) whole in
+    = with_number-or (before ++ l ∷ locks) a unknown_lock (omega (arith, at))
+    ∙ get_or_at before l locks unknown_lock (a - 1) (omega (arith, at)) in
+    let f : counts_one l (not (is_destroyed destroyed a)) t
+    ≡ cond (is_live_of (before ++ l ∷ locks) destroyed t a) 1 0
+    = sym (ap (λ (k : Lock). cond (eqb k.type_no.0 t && not (is_destroyed destroyed a)) 1 0) here)
+    in
+    let g =
+    ap (λ ls. count_by (is_live_of ls destroyed t) (range_with_len (a + 1) (length locks)))
+    whole in
     omega (arith, rest, e, f, g)
 
-pub count-told : (locks : List Lock) (destroyed : List ℕ) (t : ℕ) → live_count locks (live_flags (length locks) destroyed) t ≡ live_among locks destroyed t
+pub count-told : (locks : List Lock) (destroyed : List ℕ) (t : ℕ)
+    → live_count locks (live_flags (length locks) destroyed) t ≡ live_among locks destroyed t
 count-told locks destroyed t = told-from [] locks destroyed t 1 refl
 
 -- ---- what a table counts
@@ -206,16 +259,20 @@ abbrev pub Counts : Names → List Lock → List Bool → Type 0
 Counts names locks flags = (t : ℕ) → live_of names t ≡ live_count locks flags t
 
 -- each type has a count
-pub given-count : (n : Names) (types m : ℕ) → types ≡ length n.types → types ≡ length n.live → IsGiven n.types m → IsGiven n.live m
+pub given-count : (n : Names) (types m : ℕ) → types ≡ length n.types → types ≡ length n.live
+    → IsGiven n.types m → IsGiven n.live m
 given-count n types m of-types of-live given = (given.0, omega (arith, of-types, of-live, given.1))
 
 -- a type that is enrolled leaves what is counted
-counted-enrolled : (names enrolled : Names) (name : List ℕ) (class : Class) (locks : List Lock) (flags : List Bool) → enrolled ≡ with_type names name class
+counted-enrolled : (names enrolled : Names) (name : List ℕ) (class : Class) (locks : List Lock)
+    (flags : List Bool) → enrolled ≡ with_type names name class
     → Counts names locks flags → Counts enrolled locks flags
-counted-enrolled names enrolled name class locks flags is counts t = ap (λ n. live_of n t) is ∙ live_of-enrolled names name class t ∙ counts t
+counted-enrolled names enrolled name class locks flags is counts t =
+    ap (λ n. live_of n t) is ∙ live_of-enrolled names name class t ∙ counts t
 
 -- there is room for one more
-pub room-enrolled : (names enrolled : Names) (name : List ℕ) (class : Class) (m : ℕ) (locks : List Lock) (flags : List Bool) → enrolled ≡ with_type names name class
+pub room-enrolled : (names enrolled : Names) (name : List ℕ) (class : Class) (m : ℕ)
+    (locks : List Lock) (flags : List Bool) → enrolled ≡ with_type names name class
     → Counts names locks flags → length locks < 65536 → live_of enrolled m < 65536
 room-enrolled names enrolled name class m locks flags is counts few =
     let same = counted-enrolled names enrolled name class locks flags is counts m in
@@ -223,59 +280,82 @@ room-enrolled names enrolled name class m locks flags is counts few =
     omega (arith, same, le, few)
 
 -- a lock that is made
-pub counted-made : (names enrolled retained : Names) (name : List ℕ) (class : Class) (m : ℕ) (locks : List Lock) (flags : List Bool) (lock : Lock) → lock.type_no.0 ≡ m
-    → enrolled ≡ with_type names name class → retained ≡ with_live enrolled m (live_of enrolled m + 1) → IsGiven enrolled.live m → length flags ≡ length locks
+pub counted-made : (names enrolled retained : Names) (name : List ℕ) (class : Class) (m : ℕ)
+    (locks : List Lock) (flags : List Bool) (lock : Lock) → lock.type_no.0 ≡ m
+    → enrolled ≡ with_type names name class
+    → retained ≡ with_live enrolled m (live_of enrolled m + 1) → IsGiven enrolled.live m
+    → length flags ≡ length locks
     → Counts names locks flags → Counts retained (locks ++ lock ∷ []) (flags ++ true ∷ [])
 counted-made names enrolled retained name class m locks flags lock of is more given size counts t =
     let was = counted-enrolled names enrolled name class locks flags is counts in
-    let now = ap (λ n. live_of n t) more ∙ live_of-changed enrolled m (live_of enrolled m + 1) t given in
+    let now =
+    ap (λ n. live_of n t) more ∙ live_of-changed enrolled m (live_of enrolled m + 1) t given in
     let made = count-made locks flags lock t size in
     elim (eqb_tells m t) [
       | inl e ↦
           (let one : live_of retained t ≡ live_of enrolled m + 1 = now ∙ rw e.0 refl in
-          let here : counts_one lock true t ≡ 1 = ap (λ k. one_if (eqb k t && true)) of ∙ rw e.0 refl in
-          let old : live_of enrolled m ≡ live_count locks flags t = was m ∙ ap (live_count locks flags) e.1 in
+          let here : counts_one lock true t ≡ 1 =
+          ap (λ k. one_if (eqb k t && true)) of ∙ rw e.0 refl in
+          let old : live_of enrolled m ≡ live_count locks flags t =
+          was m ∙ ap (live_count locks flags) e.1 in
           omega (arith, one, here, old, made))
       | inr e ↦
           (let none : live_of retained t ≡ live_of enrolled t = now ∙ rw e.0 refl in
-          let here : counts_one lock true t ≡ 0 = ap (λ k. one_if (eqb k t && true)) of ∙ rw e.0 refl in
+          let here : counts_one lock true t ≡ 0 =
+          ap (λ k. one_if (eqb k t && true)) of ∙ rw e.0 refl in
           let old = was t in
           omega (arith, none, here, old, made))
     ]
 
 -- a live lock is counted
-pub counted-live : (names : Names) (locks : List Lock) (flags : List Bool) (l : ℕ) → length flags ≡ length locks → is_flagged flags l ≡ true
+pub counted-live : (names : Names) (locks : List Lock) (flags : List Bool) (l : ℕ)
+    → length flags ≡ length locks → is_flagged flags l ≡ true
     → Counts names locks flags → 0 < live_of names (lock_at locks l).type_no.0
 counted-live names locks flags l size live counts =
     let within = flag-within flags l live in
-    let here : lock_at locks l ≡ get_or locks (l - 1) unknown_lock = with_number-or locks l unknown_lock within.0 in
+    let here : lock_at locks l ≡ get_or locks (l - 1) unknown_lock =
+    with_number-or locks l unknown_lock within.0 in
     let flag = sym (with_number-or flags l false within.0) ∙ live in
-    let fewer = count-destroyed locks flags (l - 1) (lock_at locks l).type_no.0 unknown_lock (omega (arith, within.0, within.1, size)) flag in
-    let same : cond (eqb (get_or locks (l - 1) unknown_lock).type_no.0 (lock_at locks l).type_no.0) 1 0 ≡ 1
-    = ap one_if (eq-eqb (get_or locks (l - 1) unknown_lock).type_no.0 (lock_at locks l).type_no.0 (ap (λ (k : Lock). k.type_no.0) (sym here))) in
+    let fewer =
+    count-destroyed locks flags (l - 1) (lock_at locks l).type_no.0 unknown_lock
+    (omega (arith, within.0, within.1, size)) flag in
+    let same : cond (eqb (get_or locks (l - 1) unknown_lock).type_no.0 (lock_at locks l).type_no.0)
+    1 0 ≡ 1
+    = ap one_if (eq-eqb (get_or locks (l - 1) unknown_lock).type_no.0 (lock_at locks l).type_no.0
+    (ap (λ (k : Lock). k.type_no.0) (sym here))) in
     omega (arith, fewer, same, counts (lock_at locks l).type_no.0)
 
 -- a lock that is destroyed
-pub counted-destroyed : (names released : Names) (l : ℕ) (locks : List Lock) (flags : List Bool) → length flags ≡ length locks → is_flagged flags l ≡ true
-    → released ≡ with_live names (lock_at locks l).type_no.0 (live_of names (lock_at locks l).type_no.0 - 1) → IsGiven names.live (lock_at locks l).type_no.0
+pub counted-destroyed : (names released : Names) (l : ℕ) (locks : List Lock) (flags : List Bool)
+    → length flags ≡ length locks → is_flagged flags l ≡ true
+    → released ≡ with_live names (lock_at locks l).type_no.0
+    (live_of names (lock_at locks l).type_no.0 - 1)
+    → IsGiven names.live (lock_at locks l).type_no.0
     → Counts names locks flags → Counts released locks (set flags (l - 1) false)
 counted-destroyed names released l locks flags size live less given counts t =
     let within = flag-within flags l live in
     let m = (lock_at locks l).type_no.0 in
-    let here : lock_at locks l ≡ get_or locks (l - 1) unknown_lock = with_number-or locks l unknown_lock within.0 in
-    let of : (get_or locks (l - 1) unknown_lock).type_no.0 ≡ m = ap (λ (k : Lock). k.type_no.0) (sym here) in
+    let here : lock_at locks l ≡ get_or locks (l - 1) unknown_lock =
+    with_number-or locks l unknown_lock within.0 in
+    let of : (get_or locks (l - 1) unknown_lock).type_no.0 ≡ m =
+    ap (λ (k : Lock). k.type_no.0) (sym here) in
     let flag = sym (with_number-or flags l false within.0) ∙ live in
-    let fewer = count-destroyed locks flags (l - 1) t unknown_lock (omega (arith, within.0, within.1, size)) flag in
+    let fewer =
+    count-destroyed locks flags (l - 1) t unknown_lock
+    (omega (arith, within.0, within.1, size)) flag in
     let now = ap (λ n. live_of n t) less ∙ live_of-changed names m (live_of names m - 1) t given in
     elim (eqb_tells m t) [
       | inl e ↦
           (let one : live_of released t ≡ live_of names m - 1 = now ∙ rw e.0 refl in
-          let here : cond (eqb (get_or locks (l - 1) unknown_lock).type_no.0 t) 1 0 ≡ 1 = ap (λ k. one_if (eqb k t)) of ∙ rw e.0 refl in
-          let old : live_of names m ≡ live_count locks flags t = counts m ∙ ap (live_count locks flags) e.1 in
+          let here : cond (eqb (get_or locks (l - 1) unknown_lock).type_no.0 t) 1 0 ≡ 1 =
+          ap (λ k. one_if (eqb k t)) of ∙ rw e.0 refl in
+          let old : live_of names m ≡ live_count locks flags t =
+          counts m ∙ ap (live_count locks flags) e.1 in
           omega (arith, one, here, old, fewer))
       | inr e ↦
           (let none : live_of released t ≡ live_of names t = now ∙ rw e.0 refl in
-          let here : cond (eqb (get_or locks (l - 1) unknown_lock).type_no.0 t) 1 0 ≡ 0 = ap (λ k. one_if (eqb k t)) of ∙ rw e.0 refl in
+          let here : cond (eqb (get_or locks (l - 1) unknown_lock).type_no.0 t) 1 0 ≡ 0 =
+          ap (λ k. one_if (eqb k t)) of ∙ rw e.0 refl in
           let old = counts t in
           omega (arith, none, here, old, fewer))
     ]

@@ -1,5 +1,6 @@
 -- What is known of a call that is prepared, and what the answer to one teaches.
-use Rattle.std.proofs.Common.{◌≡◌, ℕ, List, [], ◌∷◌, ◌++◌, Option, None, Some, IfSome, Result, Ok, Err, IfOk, refl, sym, ap, ◌∙◌, subst}
+use Rattle.std.proofs.Common.{◌≡◌, ℕ, List, [], ◌∷◌, ◌++◌, Option, None, Some, IfSome, Result, Ok}
+use Rattle.std.proofs.Common.{Err, IfOk, refl, sym, ap, ◌∙◌, subst}
 use Rattle.std.specs.Option.{option_map}
 use Rattle.wit_model.specs.declared.faults.Fault.{Fault}
 use Rattle.wit_model.specs.declared.calls.Adoption.{Adoption}
@@ -34,33 +35,46 @@ module _ {v : Inside} {s : Story} (this : IsSeenAs v s) (r : Ready) (there : v.r
     same_call : planned r ≡ (t, call)
     same_call =
         same_pair (planned r) (t, call)
-        (sym (ap (λ (o : Option Ready). option_map planned o) there) ∙ (ap (λ (x : Story). x.ready) this.seen ∙ asked))
+        (sym (ap (λ (o : Option Ready). option_map planned o) there)
+        ∙ (ap (λ (x : Story). x.ready) this.seen ∙ asked))
 
     pub ready_answer : answer_of s t call ≡ Ok r.reply
     ready_answer =
         subst (λ (p : ℕ × Call). answer_of s p.0 p.1 ≡ Ok r.reply) same_call
-        (subst (λ (x : Story). answer_of x r.seat.0 (planned_call r.plan) ≡ Ok r.reply) this.seen is_ready.answer)
+        (subst (λ (x : Story). answer_of x r.seat.0 (planned_call r.plan) ≡ Ok r.reply) this.seen
+        is_ready.answer)
 
 no_more : (call : Call) → adopted call Ignored ≡ []
 no_more (Check q) = refl
 no_more (DefineOrder a b) = refl
 no_more _ = refl
 
--- what holds of the orders of each legal history holds of those with what the answer to a call teaches
+-- what holds of the orders of each legal history holds of those with what the answer to a call
+-- teaches
 teaches : (P : List Adoption → Type 0) (s : Story) → IsLegal s.start s.files s.history
     → ((h : List Entry) → IsLegal s.start s.files h → P (orders_of s.start h))
-    → (t : ℕ) (call : Call) (r : Result Reply Fault) (new : Story) → Prepares s t call r new → IfOk r (λ reply. P (adopted call reply ++ orders_of s.start s.history))
+    → (t : ℕ) (call : Call) (r : Result Reply Fault) (new : Story) → Prepares s t call r new
+    → IfOk r (λ reply. P (adopted call reply ++ orders_of s.start s.history))
 teaches P s legal all t call (Err fault) new told = tt
 teaches P s legal all t call (Ok reply) new told = go reply told.0
   where
     go : (r : Reply) → answer_of s t call ≡ Ok r → P (adopted call r ++ orders_of s.start s.history)
-    go Ignored ok = subst (λ os. P (os ++ orders_of s.start s.history)) (sym (no_more call)) (all s.history legal)
+    go Ignored ok =
+        subst (λ os. P (os ++ orders_of s.start s.history)) (sym (no_more call))
+        (all s.history legal)
     go r ok = all (entry t call r ∷ s.history) (ok, refl, legal)
 
-module _ (s : Story) (started : start_fault s.start ≡ None) (legal : IsLegal s.start s.files s.history) (t : ℕ) (call : Call) (r : Result Reply Fault) (new : Story)
+module _ (s : Story) (started : start_fault s.start ≡ None)
+    (legal : IsLegal s.start s.files s.history) (t : ℕ) (call : Call)
+    (r : Result Reply Fault) (new : Story)
     (told : Prepares s t call r new) where
-  pub teaches_among : IfOk r (λ reply. OrdersAmong s.start.sizes.types (adopted call reply ++ orders_of s.start s.history))
-  teaches_among = teaches (OrdersAmong s.start.sizes.types) s legal (λ h is. orders_within s.start s.files h started is) t call r new told
+  pub teaches_among : IfOk r (λ reply. OrdersAmong s.start.sizes.types
+      (adopted call reply ++ orders_of s.start s.history))
+  teaches_among =
+      teaches (OrdersAmong s.start.sizes.types) s legal
+      (λ h is. orders_within s.start s.files h started is) t call r new told
 
-  pub teaches_distinct : IfOk r (λ reply. AreDistinct (adopted call reply ++ orders_of s.start s.history))
-  teaches_distinct = teaches AreDistinct s legal (λ h is. distinct_legal s.start s.files h is) t call r new told
+  pub teaches_distinct : IfOk r
+      (λ reply. AreDistinct (adopted call reply ++ orders_of s.start s.history))
+  teaches_distinct =
+      teaches AreDistinct s legal (λ h is. distinct_legal s.start s.files h is) t call r new told

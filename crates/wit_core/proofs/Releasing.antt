@@ -17,12 +17,16 @@ use Rattle.wit_core.specs.Seats.{seat_in, locks_in}
 use Rattle.wit_core.proofs.Now.{chain-now}
 use Rattle.wit_core.proofs.Seen.{IsSeenAs}
 
-module _ {v : Inside} {s : Story} (this : IsSeenAs v s) (t : ℕ) (l : LockNo) (spin : Bool) (kind : spin ≡ is_spin (lock_at (state_of s).known.locks l.0).made.class) where
-  pub release-told : Admits (before_naming (state_of s) t l.0) → (m : Mode) (w : Watch) → w ≡ (state_of s).watch
-      → (r : Result Bool Fault) → release_reply r ≡ release_answer w m (find (is_of l.0) (locks_in spin (seat_in v.seats t)))
+module _ {v : Inside} {s : Story} (this : IsSeenAs v s) (t : ℕ) (l : LockNo) (spin : Bool)
+    (kind : spin ≡ is_spin (lock_at (state_of s).known.locks l.0).made.class) where
+  pub release-told : Admits (before_naming (state_of s) t l.0) → (m : Mode) (w : Watch)
+      → w ≡ (state_of s).watch
+      → (r : Result Bool Fault) → release_reply r
+      ≡ release_answer w m (find (is_of l.0) (locks_in spin (seat_in v.seats t)))
       → answer_of s t (Unlock l m) ≡ release_reply r
   release-told admitted m w watch r told =
       admitted (release_answer (state_of s).watch m (held_by (state_of s) t l.0))
       ∙ sym (told
       ∙ ap (λ x. release_answer x m (find (is_of l.0) (locks_in spin (seat_in v.seats t)))) watch
-      ∙ ap (λ chain. release_answer (state_of s).watch m (find (is_of l.0) chain)) (chain-now this t l.0 spin kind))
+      ∙ ap (λ chain. release_answer (state_of s).watch m (find (is_of l.0) chain))
+      (chain-now this t l.0 spin kind))

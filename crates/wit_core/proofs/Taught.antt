@@ -1,5 +1,6 @@
 -- What an accepted check's reply teaches can be learnt.
-use Rattle.std.proofs.Common.{◌≡◌, ℕ, Bool, true, false, cond, eqb, ◌||◌, List, [], ◌∷◌, Ok, Err, length, refl, sym, ap, ◌∙◌, subst}
+use Rattle.std.proofs.Common.{◌≡◌, ℕ, Bool, true, false, cond, eqb, ◌||◌, List, [], ◌∷◌, Ok, Err}
+use Rattle.std.proofs.Common.{length, refl, sym, ap, ◌∙◌, subst}
 use Rattle.std.specs.List.{AllByRecursion, list_all}
 use Rattle.std.proofs.lemmas.Bool.{and_parts}
 use Rattle.wit_model.specs.declared.locks.Lock.{Lock}
@@ -8,7 +9,8 @@ use Rattle.wit_model.specs.declared.calls.TypedRequest.{TypedRequest}
 use Rattle.wit_model.specs.declared.calls.Request.{Request}
 use Rattle.wit_model.specs.declared.calls.Call.TheVariants.{Check, DefineOrder}
 use Rattle.wit_model.specs.declared.calls.Reply.{Reply}
-use Rattle.wit_model.specs.declared.calls.Reply.TheVariants.{Adopted, AdoptedAll, Silent, Duplicate, Reversal}
+use Rattle.wit_model.specs.declared.calls.Reply.TheVariants.{Adopted, AdoptedAll, Silent, Duplicate}
+use Rattle.wit_model.specs.declared.calls.Reply.TheVariants.{Reversal}
 use Rattle.wit_model.specs.Rules.Locks.{lock_at}
 use Rattle.wit_model.specs.Rules.Numbers.{is_number, IsNumber}
 use Rattle.wit_model.specs.Rules.Orders.{is_before, is_direct, taught_at}
@@ -22,7 +24,9 @@ use Rattle.wit_model.specs.Rules.Step.{answer_of, is_logged}
 use Rattle.wit_model.proofs.Histories.Accepted.{same_reply, check_accepted}
 use Rattle.wit_model.proofs.Histories.AcceptedTurns.{define_accepted}
 use Rattle.wit_model.proofs.Orders.AllHeld.{AreFree}
-use Rattle.wit_model.proofs.Orders.Among.{adopted-orderly, defined-orderly, silent-known, duplicate-known, reversal-known, lock-type, number-from, parents-known}
+use Rattle.wit_model.proofs.Orders.Among.{adopted-orderly, defined-orderly, silent-known}
+use Rattle.wit_model.proofs.Orders.Among.{duplicate-known, reversal-known, lock-type, number-from}
+use Rattle.wit_model.proofs.Orders.Among.{parents-known}
 use Rattle.wit_model.proofs.Orders.Sound.{taught-all}
 use Rattle.wit_core.specs.declared.verifier.Verifier.TheInside.{Inside}
 use Rattle.wit_core.specs.Following.{CanFollow, CanAllFollow}
@@ -34,7 +38,9 @@ use Rattle.wit_core.proofs.Apt.{known-is, number}
 
 -- the answers of a definition behind its first faults
 defined-by : (kinds same back direct : Bool) (p c : TypeNo) (r : Reply)
-    → cond kinds (Err KindMismatch) (cond same (Err SameType) (cond back (Err WrongOrder) (cond direct (Ok reply.Known) (Ok (Adopted p c))))) ≡ Ok r
+    → cond kinds (Err KindMismatch)
+    (cond same (Err SameType) (cond back (Err WrongOrder)
+    (cond direct (Ok reply.Known) (Ok (Adopted p c))))) ≡ Ok r
     → IsDefined r
 defined-by true same back direct p c r is = absurd (cc)
 defined-by false true back direct p c r is = absurd (cc)
@@ -43,13 +49,25 @@ defined-by false false false true p c r is = subst IsDefined (same_reply is) tt
 defined-by false false false false p c r is = subst IsDefined (same_reply is) tt
 
 -- orders that can be learnt one after the other behind these types can all be adopted
-all-can-follow : (q : TypedRequest) (n : ℕ) (base : List Adoption) → IsNumber n q.type_no.0 → (ps : List TypeNo) (os : List Adoption)
-    → ((x : ℕ) → is_before os q.type_no.0 x ≡ false → is_before base q.type_no.0 x ≡ false) → AreFree q os ps → AllByRecursion (λ (p : TypeNo). IsNumber n p.0) ps
-    → AllByRecursion (λ (p : TypeNo × TypeNo). (p.1 ≡ q.type_no) × CanFollow n base p.0.0 p.1.0) (orders_behind q ps)
+all-can-follow : (q : TypedRequest) (n : ℕ) (base : List Adoption) → IsNumber n q.type_no.0
+    → (ps : List TypeNo) (os : List Adoption)
+    → ((x : ℕ) → is_before os q.type_no.0 x ≡ false → is_before base q.type_no.0 x ≡ false)
+    → AreFree q os ps → AllByRecursion (λ (p : TypeNo). IsNumber n p.0) ps
+    → AllByRecursion (λ (p : TypeNo × TypeNo). (p.1 ≡ q.type_no) × CanFollow n base p.0.0 p.1.0)
+    (orders_behind q ps)
 all-can-follow q n base child [] os grown free all = tt
 all-can-follow q n base child (p ∷ ps) os grown free all = (
-  (refl, record { parent = all.0; child = child; apart = free.0.apart; orderly = grown p.0 free.0.orderly }),
-  all-can-follow q n base child ps (taught_at q.site (p, q.type_no) ∷ os) (λ x none. grown x (first (is_before os q.type_no.0 x) _ none)) free.1 all.1,
+  (
+    refl,
+    record {
+      parent = all.0;
+      child = child;
+      apart = free.0.apart;
+      orderly = grown p.0 free.0.orderly;
+    },
+  ),
+  all-can-follow q n base child ps (taught_at q.site (p, q.type_no) ∷ os)
+      (λ x none. grown x (first (is_before os q.type_no.0 x) _ none)) free.1 all.1,
 )
   where
     first : (a b : Bool) → (a || b) ≡ false → a ≡ false
@@ -57,39 +75,53 @@ all-can-follow q n base child (p ∷ ps) os grown free all = (
     first false b none = refl
 
 module _ (v : Inside) (k : IsTied v) where
-  all-numbers : (ps : List TypeNo) → list_all (λ (p : TypeNo). is_number (length (types_of (start_in v) (history_in v))) p.0) ps ≡ true
+  all-numbers : (ps : List TypeNo)
+      → list_all (λ (p : TypeNo). is_number (length (types_of (start_in v) (history_in v))) p.0) ps
+      ≡ true
       → AllByRecursion (λ (p : TypeNo). IsNumber v.known.most_types p.0) ps
   all-numbers [] all = tt
   all-numbers (p ∷ ps) all =
       let parts = and_parts (is_number (length (types_of (start_in v) (history_in v))) p.0)
-      (list_all (λ (x : TypeNo). is_number (length (types_of (start_in v) (history_in v))) x.0) ps) all in
-      (number v k p.0 (number-from (length (types_of (start_in v) (history_in v))) p.0 parts.0), all-numbers ps parts.1)
+      (list_all (λ (x : TypeNo). is_number (length (types_of (start_in v) (history_in v))) x.0) ps)
+      all in (
+        number v k p.0 (number-from (length (types_of (start_in v) (history_in v))) p.0 parts.0),
+        all-numbers ps parts.1,
+      )
 
   locks-are : v.known.known.locks ≡ typed_locks (start_in v) (history_in v)
   locks-are = ap (λ (y : Known). y.locks) (known-is v k)
 
-  numbered : (l : ℕ) → IsNumber (length (types_of (start_in v) (history_in v))) (lock_at (typed_locks (start_in v) (history_in v)) l).type_no.0
+  numbered : (l : ℕ) → IsNumber (length (types_of (start_in v) (history_in v)))
+      (lock_at (typed_locks (start_in v) (history_in v)) l).type_no.0
       → IsNumber v.known.most_types (lock_at v.known.known.locks l).type_no.0
-  numbered l is = subst (λ (ls : List Lock). IsNumber v.known.most_types (lock_at ls l).type_no.0) (sym locks-are) (number v k _ is)
+  numbered l is =
+      subst (λ (ls : List Lock). IsNumber v.known.most_types (lock_at ls l).type_no.0)
+      (sym locks-are) (number v k _ is)
 
   -- an accepted definition that is logged gets one of two replies
-  pub defined-reply : (t : ℕ) (a b : LockNo) (reply : Reply) → answer_of (story_in v) t (DefineOrder a b) ≡ Ok reply → is_logged reply ≡ true
+  pub defined-reply : (t : ℕ) (a b : LockNo) (reply : Reply)
+      → answer_of (story_in v) t (DefineOrder a b) ≡ Ok reply → is_logged reply ≡ true
       → IsDefined reply
   defined-reply t a b reply ok logged =
       let k = (state_of (story_in v)).known in
       let p = (lock_at k.locks a.0).type_no in
       let c = (lock_at k.locks b.0).type_no in
-      defined-by (are_of_two_kinds k.types p c) (eqb p.0 c.0) (is_before k.orders c.0 p.0) (is_direct k.orders p.0 c.0) p c reply
+      defined-by (are_of_two_kinds k.types p c) (eqb p.0 c.0) (is_before k.orders c.0 p.0)
+      (is_direct k.orders p.0 c.0) p c reply
       (define_accepted (state_of (story_in v)) t a.0 b.0 reply ok logged).answer
 
   -- an order that it tells can be adopted
-  pub definable : (t : ℕ) (a b : LockNo) (told : Reply) → answer_of (story_in v) t (DefineOrder a b) ≡ Ok told → is_logged told ≡ true
+  pub definable : (t : ℕ) (a b : LockNo) (told : Reply)
+      → answer_of (story_in v) t (DefineOrder a b) ≡ Ok told → is_logged told ≡ true
       → IsApt v.known.most_types v.known.known told
   definable t a b told ok logged = go told ok (defined-reply t a b told ok logged)
     where
-      go : (r : Reply) → answer_of (story_in v) t (DefineOrder a b) ≡ Ok r → IsDefined r → IsApt v.known.most_types v.known.known r
+      go : (r : Reply) → answer_of (story_in v) t (DefineOrder a b) ≡ Ok r → IsDefined r
+          → IsApt v.known.most_types v.known.known r
       go (Adopted p c) is one =
-          let o = defined-orderly (start_in v) v.known.files (history_in v) t a.0 b.0 p c (define_accepted (state_of (story_in v)) t a.0 b.0 _ is refl) in
+          let o =
+          defined-orderly (start_in v) v.known.files (history_in v) t a.0 b.0 p c
+          (define_accepted (state_of (story_in v)) t a.0 b.0 _ is refl) in
           record {
             parent = number v k p.0 o.parent;
             child = number v k c.0 o.child;
@@ -99,9 +131,12 @@ module _ (v : Inside) (k : IsTied v) where
       go reply.Known is one = tt
       go _ is one = absurd one
 
-  pub apt : (t : ℕ) (q : Request) (reply : Reply) → answer_of (story_in v) t (Check q) ≡ Ok reply → IsApt v.known.most_types v.known.known reply
+  pub apt : (t : ℕ) (q : Request) (reply : Reply) → answer_of (story_in v) t (Check q) ≡ Ok reply
+      → IsApt v.known.most_types v.known.known reply
   apt t q (Adopted p c) ok =
-      let o = adopted-orderly (start_in v) v.known.files (history_in v) t q p c k.legal (check_accepted (state_of (story_in v)) t q _ ok) in
+      let o =
+      adopted-orderly (start_in v) v.known.files (history_in v) t q p c k.legal
+      (check_accepted (state_of (story_in v)) t q _ ok) in
       record {
         parent = number v k p.0 o.parent;
         child = number v k c.0 o.child;
@@ -112,19 +147,29 @@ module _ (v : Inside) (k : IsTied v) where
       let accepted = check_accepted (state_of (story_in v)) t q _ ok in
       let l = taught-all (start_in v) v.known.files (history_in v) t q pairs accepted in
       let asked = typed_request (known_of (start_in v) (history_in v)) q in
-      subst (λ os. CanAllFollow v.known.most_types os pairs) (sym (ap (λ (x : Known). x.orders) (known-is v k)))
-      (subst (CanAllFollow v.known.most_types (orders_of (start_in v) (history_in v))) (sym l.pairs) (
+      subst (λ os. CanAllFollow v.known.most_types os pairs)
+      (sym (ap (λ (x : Known). x.orders) (known-is v k)))
+      (subst (CanAllFollow v.known.most_types (orders_of (start_in v) (history_in v)))
+      (sym l.pairs) (
         asked.type_no,
         all-can-follow asked v.known.most_types (orders_of (start_in v) (history_in v))
-            (number v k asked.type_no.0 (lock-type (start_in v) (history_in v) q.lock.0 accepted.lock)) l.parents (orders_of (start_in v) (history_in v)) (λ x none. none) l.free
-            (all-numbers l.parents (parents-known (start_in v) v.known.files (history_in v) t q pairs k.legal l)),
+            (number v k asked.type_no.0 (lock-type (start_in v)
+            (history_in v) q.lock.0 accepted.lock)) l.parents
+            (orders_of (start_in v) (history_in v)) (λ x none. none) l.free
+            (all-numbers l.parents (parents-known (start_in v) v.known.files
+            (history_in v) t q pairs k.legal l)),
       ))
   apt t q (Silent a b) ok =
-      let o = silent-known (start_in v) v.known.files (history_in v) t q a b k.legal (check_accepted (state_of (story_in v)) t q _ ok) in
+      let o =
+      silent-known (start_in v) v.known.files (history_in v) t q a b k.legal
+      (check_accepted (state_of (story_in v)) t q _ ok) in
       (number v k a.0 o.0, number v k b.0 o.1)
   apt t q (Duplicate d) ok =
-      numbered d.asked.lock.0 (duplicate-known (start_in v) v.known.files (history_in v) t q d k.legal (check_accepted (state_of (story_in v)) t q _ ok))
+      numbered d.asked.lock.0 (duplicate-known (start_in v) v.known.files
+      (history_in v) t q d k.legal (check_accepted (state_of (story_in v)) t q _ ok))
   apt t q (Reversal x) ok =
-      let o = reversal-known (start_in v) v.known.files (history_in v) t q x k.legal (check_accepted (state_of (story_in v)) t q _ ok) in
+      let o =
+      reversal-known (start_in v) v.known.files (history_in v) t q x k.legal
+      (check_accepted (state_of (story_in v)) t q _ ok) in
       (numbered x.held.lock.0 o.0, numbered x.asked.lock.0 o.1)
   apt t q _ ok = tt

@@ -9,7 +9,8 @@ use Rattle.wit_check.specs.declared.answers.Verdict.TheVariants as verdict
 use Rattle.wit_check.specs.Answers.{answer_by}
 
 -- it is logged
-pub told-logged : (new : List (TypeNo × TypeNo)) (d : Verdict) (r : Reply) → answer_by new d ≡ Ok r → is_logged r ≡ true
+pub told-logged : (new : List (TypeNo × TypeNo)) (d : Verdict) (r : Reply) → answer_by new d ≡ Ok r
+    → is_logged r ≡ true
 told-logged new verdict.Pass r is = ap is_logged (sym (same_reply is))
 told-logged new (verdict.Adopt p c) r is = ap is_logged (sym (same_reply is))
 told-logged new verdict.AdoptAll r is = ap is_logged (sym (same_reply is))

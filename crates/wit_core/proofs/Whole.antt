@@ -1,7 +1,9 @@
 -- What a verifier keeps follows from what ties its parts to its history.
-use Rattle.std.proofs.Common.{◌≡◌, ℕ, ◌≤◌, Option, None, Some, IfSome, Ok, true, ap, sym, subst, refl, arith}
+use Rattle.std.proofs.Common.{◌≡◌, ℕ, ◌≤◌, Option, None, Some, IfSome, Ok, true, ap, sym, subst}
+use Rattle.std.proofs.Common.{refl, arith}
 use Rattle.wit_model.specs.declared.calls.Reply.{Reply}
-use Rattle.wit_model.specs.declared.calls.Reply.TheVariants.{Adopted, AdoptedAll, Silent, Duplicate, Reversal}
+use Rattle.wit_model.specs.declared.calls.Reply.TheVariants.{Adopted, AdoptedAll, Silent, Duplicate}
+use Rattle.wit_model.specs.declared.calls.Reply.TheVariants.{Reversal}
 use Rattle.wit_model.specs.Rules.Orders.{IsSound, cell}
 use Rattle.wit_model.specs.Rules.State.{Known}
 use Rattle.wit_model.specs.Rules.Step.{answer_of, is_logged}
@@ -41,18 +43,27 @@ abbrev pub with_ready : Inside → Facts → Journal → Option Ready → Inside
 with_ready v known log ready = record v { known = known; log = log; ready = ready }
 
 -- an answer asks nothing of the room
-pub same_answer : (v : Inside) (known : Facts) (log : Journal) (ready : Option Ready) (r : Ready) → known ≡ record v.known { spare = known.spare }
-    → log ≡ record v.log { spare = log.spare } → answer_of (story_in v) r.seat.0 (planned_call r.plan) ≡ Ok r.reply
-    → answer_of (story_in (with_ready v known log ready)) r.seat.0 (planned_call r.plan) ≡ Ok r.reply
+pub same_answer : (v : Inside) (known : Facts) (log : Journal) (ready : Option Ready) (r : Ready)
+    → known ≡ record v.known { spare = known.spare }
+    → log ≡ record v.log { spare = log.spare }
+    → answer_of (story_in v) r.seat.0 (planned_call r.plan) ≡ Ok r.reply
+    → answer_of (story_in (with_ready v known log ready)) r.seat.0 (planned_call r.plan)
+    ≡ Ok r.reply
 same_answer v known log ready r knows logs ok =
     rw (knows, logs) ok
 
 -- more room, and a call that is ready, leave all of it
-pub kept_ready : (v : Inside) (known : Facts) (log : Journal) (ready : Option Ready) → IsKept v → known ≡ record v.known { spare = known.spare }
-    → log ≡ record v.log { spare = log.spare } → IfSome ready (IsReady (with_ready v known log ready)) → IsKept (with_ready v known log ready)
+pub kept_ready : (v : Inside) (known : Facts) (log : Journal) (ready : Option Ready) → IsKept v
+    → known ≡ record v.known { spare = known.spare }
+    → log ≡ record v.log { spare = log.spare }
+    → IfSome ready (IsReady (with_ready v known log ready))
+    → IsKept (with_ready v known log ready)
 kept_ready v known log ready k knows logs =
-    subst (λ (f : Facts). IfSome ready (IsReady (with_ready v f log ready)) → IsKept (with_ready v f log ready)) (sym knows)
-    (subst (λ (l : Journal). IfSome ready (IsReady (with_ready v (record v.known { spare = known.spare }) l ready)) → IsKept (with_ready v (record v.known { spare = known.spare }) l ready)) (sym logs)
+    subst (λ (f : Facts). IfSome ready (IsReady (with_ready v f log ready))
+    → IsKept (with_ready v f log ready)) (sym knows)
+    (subst (λ (l : Journal). IfSome ready
+    (IsReady (with_ready v (record v.known { spare = known.spare }) l ready))
+    → IsKept (with_ready v (record v.known { spare = known.spare }) l ready)) (sym logs)
     (λ is. kept (record {
       started = k.tied.started;
       legal = k.tied.legal;
@@ -66,8 +77,10 @@ kept_ready v known log ready k knows logs =
     })))
 
 -- a call stays ready where there is more room
-ready_roomy : (v : Inside) (known : Facts) (log : Journal) (o : Option Ready) → known ≡ record v.known { spare = known.spare } → log ≡ record v.log { spare = log.spare }
-    → v.known.spare ≤ known.spare → v.log.spare ≤ log.spare → IfSome o (IsReady v) → IfSome o (IsReady (with_ready v known log v.ready))
+ready_roomy : (v : Inside) (known : Facts) (log : Journal) (o : Option Ready)
+    → known ≡ record v.known { spare = known.spare } → log ≡ record v.log { spare = log.spare }
+    → v.known.spare ≤ known.spare → v.log.spare ≤ log.spare → IfSome o (IsReady v)
+    → IfSome o (IsReady (with_ready v known log v.ready))
 ready_roomy v known log None knows logs more longer h = tt
 ready_roomy v known log (Some r) knows logs more longer h = record {
   answer = same_answer v known log v.ready r knows logs h.answer;
@@ -77,15 +90,28 @@ ready_roomy v known log (Some r) knows logs more longer h = record {
   known = room_more r.reply v.known.spare known.spare more h.known;
 }
 
-pub kept_roomy : (v : Inside) (known : Facts) (log : Journal) → IsKept v → known ≡ record v.known { spare = known.spare }
-    → log ≡ record v.log { spare = log.spare } → v.known.spare ≤ known.spare → v.log.spare ≤ log.spare → IsKept (record v { known = known; log = log })
+pub kept_roomy : (v : Inside) (known : Facts) (log : Journal) → IsKept v
+    → known ≡ record v.known { spare = known.spare }
+    → log ≡ record v.log { spare = log.spare } → v.known.spare ≤ known.spare
+    → v.log.spare ≤ log.spare → IsKept (record v { known = known; log = log })
 kept_roomy v known log k knows logs more longer =
-    kept_ready v known log v.ready k knows logs (ready_roomy v known log v.ready knows logs more longer k.tied.ready)
+    kept_ready v known log v.ready k knows logs
+    (ready_roomy v known log v.ready knows logs more longer k.tied.ready)
 
 -- and so does making a call ready, once there is room for it
-pub kept_made_ready : (v : Inside) (known : Facts) (log : Journal) (r : Ready) → IsKept v → known ≡ record v.known { spare = known.spare }
-    → log ≡ record v.log { spare = log.spare } → answer_of (story_in v) r.seat.0 (planned_call r.plan) ≡ Ok r.reply → r.kept ≡ r.reply → is_logged r.reply ≡ true
-    → entries_for (planned_call r.plan) ≤ log.spare → IsRoomFor r.reply known.spare → IsKept (with_ready v known log (Some r))
+pub kept_made_ready : (v : Inside) (known : Facts) (log : Journal) (r : Ready) → IsKept v
+    → known ≡ record v.known { spare = known.spare }
+    → log ≡ record v.log { spare = log.spare }
+    → answer_of (story_in v) r.seat.0 (planned_call r.plan) ≡ Ok r.reply → r.kept ≡ r.reply
+    → is_logged r.reply ≡ true
+    → entries_for (planned_call r.plan) ≤ log.spare → IsRoomFor r.reply known.spare
+    → IsKept (with_ready v known log (Some r))
 kept_made_ready v known log r k knows logs ok same kept_in_log longer more =
     kept_ready v known log (Some r) k knows logs
-    (record { answer = same_answer v known log (Some r) r knows logs ok; kept = same; logged = kept_in_log; log = longer; known = more })
+    (record {
+      answer = same_answer v known log (Some r) r knows logs ok;
+      kept = same;
+      logged = kept_in_log;
+      log = longer;
+      known = more;
+    })

@@ -10,7 +10,8 @@ use Rattle.wit_model.specs.declared.calls.Reply.{Reply}
 use Rattle.wit_model.specs.declared.calls.Reply.TheVariants as reply
 use Rattle.wit_model.specs.Rules.History.{is_off}
 use Rattle.wit_core.specs.declared.acquiring.Acquisition.{Acquisition}
-use Rattle.wit_core.specs.declared.acquiring.Acquisition.TheVariants.{Recorded, Exhausted, Unrecorded}
+use Rattle.wit_core.specs.declared.acquiring.Acquisition.TheVariants.{Recorded, Exhausted}
+use Rattle.wit_core.specs.declared.acquiring.Acquisition.TheVariants.{Unrecorded}
 use Rattle.wit_core.specs.Seats.{Seating, with_seat, having_acquired, has_no_room}
 
 abbrev pub reply_to : Acquisition → Reply
@@ -26,7 +27,8 @@ owed_after Unrecorded = 0
 
 -- what becomes of an acquisition by this seat
 abbrev pub acquisition : Watch → Seating → ℕ → Bool → ℕ → Acquisition
-acquisition watch seating t spin l = if is_off watch then Unrecorded else if has_no_room seating t spin l then Exhausted else Recorded
+acquisition watch seating t spin l = if is_off watch then Unrecorded
+    else if has_no_room seating t spin l then Exhausted else Recorded
 
 -- how much is watched then, and what the seats hold
 abbrev pub watch_then : Acquisition → Watch → Watch

@@ -15,4 +15,6 @@ pub record CanFollow (n : ℕ) (orders : List Adoption) (p c : ℕ) : Type 0 whe
 
 -- orders that are all behind one child, each of which can be adopted
 abbrev pub CanAllFollow : ℕ → List Adoption → List (TypeNo × TypeNo) → Type 0
-CanAllFollow n orders pairs = (child : TypeNo) × AllByRecursion (λ (p : TypeNo × TypeNo). (p.1 ≡ child) × CanFollow n orders p.0.0 p.1.0) pairs
+CanAllFollow n orders pairs =
+    (child : TypeNo) × AllByRecursion (λ (p : TypeNo × TypeNo). (p.1 ≡ child)
+    × CanFollow n orders p.0.0 p.1.0) pairs

@@ -8,5 +8,12 @@ use Rattle.wit_model.specs.Rules.State.{Start}
 use Rattle.wit_core.specs.Listed.{all_listed, pairs_of}
 
 -- how a verifier of this profile begins
-abbrev pub start_of : Profile → Sizes → List (Vec (Class × String Global)) → List (String Global × String Global) → Start
-start_of profile sizes lists blessed = record { sizes = sizes; profile = profile; lists = all_listed lists; blessed = pairs_of blessed }
+abbrev pub start_of : Profile → Sizes → List (Vec (Class × String Global))
+    → List (String Global × String Global) → Start
+start_of profile sizes lists blessed =
+    record {
+      sizes = sizes;
+      profile = profile;
+      lists = all_listed lists;
+      blessed = pairs_of blessed;
+    }

@@ -21,13 +21,25 @@ use Rattle.wit_core.specs.Plans.{planned_call, planned, entries_for}
 use Rattle.wit_core.specs.Seats.{seat_in, locks_in, HoldFor}
 
 abbrev pub start_in : Inside → Start
-start_in v = record { sizes = v.limits; profile = v.profile; lists = all_listed v.lists.items; blessed = v.known.known.blessed }
+start_in v =
+    record {
+      sizes = v.limits;
+      profile = v.profile;
+      lists = all_listed v.lists.items;
+      blessed = v.known.known.blessed;
+    }
 
 abbrev pub history_in : Inside → List Entry
 history_in v = v.log.history
 
 abbrev pub story_in : Inside → Story
-story_in v = record { start = start_in v; history = history_in v; files = v.known.files; ready = option_map planned v.ready }
+story_in v =
+    record {
+      start = start_in v;
+      history = history_in v;
+      files = v.known.files;
+      ready = option_map planned v.ready;
+    }
 
 abbrev pub state_in : Inside → State
 state_in v = record {
@@ -41,8 +53,8 @@ state_in v = record {
   used = length v.log.history;
 }
 
--- what is kept of a call that is prepared: its answer, which is logged, once more for the log, and room for its entries and for what it
--- teaches
+-- what is kept of a call that is prepared: its answer, which is logged, once more for the log, and
+-- room for its entries and for what it teaches
 pub record IsReady (v : Inside) (r : Ready) : Type 0 where
   pub answer : answer_of (story_in v) r.seat.0 (planned_call r.plan) ≡ Ok r.reply
   pub kept : r.kept ≡ r.reply
@@ -50,8 +62,9 @@ pub record IsReady (v : Inside) (r : Ready) : Type 0 where
   pub log : entries_for (planned_call r.plan) ≤ v.log.spare
   pub known : IsRoomFor r.reply v.known.spare
 
--- the start is accepted, the log is a legal history, the parts are its state, the locks that weren't destroyed are live, the log owes
--- what the rules say, the limits of the log, of types and of chunks are the start's, and what is prepared is ready
+-- the start is accepted, the log is a legal history, the parts are its state, the locks that
+-- weren't destroyed are live, the log owes what the rules say, the limits of the log, of types and
+-- of chunks are the start's, and what is prepared is ready
 pub record IsTied (v : Inside) : Type 0 where
   pub started : start_fault (start_in v) ≡ None
   pub legal : IsLegal (start_in v) v.known.files (history_in v)
@@ -71,8 +84,10 @@ pub record IsKept (v : Inside) : Type 0 where
   -- no type is before itself
   pub sound : IsSound v.known.known.orders
   -- each seat holds what the history has it hold, in that order
-  pub chains : (t : ℕ) (spin : Bool) → IsNumber v.limits.seats t → locks_in spin (seat_in v.seats t) ≡ chain spin t (history_in v)
-  -- lists of chunks in which the seats hold their locks have them as the history says, and each chunk once
+  pub chains : (t : ℕ) (spin : Bool) → IsNumber v.limits.seats t
+      → locks_in spin (seat_in v.seats t) ≡ chain spin t (history_in v)
+  -- lists of chunks in which the seats hold their locks have them as the history says, and each
+  -- chunk once
   pub chunks : (c : Chunks) → HoldFor v.seats c → HoldAll (story_in v) c
   -- while the log is clean no seats wait for one another in a circle, by what is recorded
   pub apart : CleanMeansNoCircle (story_in v)

@@ -3,7 +3,8 @@ use Rattle.std.specs.Prelude.{ℕ, ◌<◌, ◌≤◌, Bool, List, [], ◌++◌,
 use Rattle.wit_model.specs.declared.calls.Call.TheVariants.{Init, Check}
 use Rattle.wit_model.specs.declared.calls.NewLock.{NewLock}
 use Rattle.wit_model.specs.declared.calls.Reply.{Reply}
-use Rattle.wit_model.specs.declared.calls.Reply.TheVariants.{Adopted, AdoptedAll, Silent, Duplicate, Reversal}
+use Rattle.wit_model.specs.declared.calls.Reply.TheVariants.{Adopted, AdoptedAll, Silent, Duplicate}
+use Rattle.wit_model.specs.declared.calls.Reply.TheVariants.{Reversal}
 use Rattle.wit_model.specs.declared.calls.Request.{Request}
 use Rattle.wit_model.specs.Rules.Types.{types_after, type_name_of}
 use Rattle.wit_model.specs.Rules.Locks.{lock_at, made_among}
@@ -13,8 +14,8 @@ use Rattle.wit_model.specs.Rules.Numbers.{IsNumber}
 use Rattle.wit_table.specs.Known.{enroll_answer}
 use Rattle.wit_core.specs.Following.{CanFollow, CanAllFollow}
 
--- what is known, whether each lock is live, the files that were named, how many types there may be, and for how many more orders, and
--- pairs found in violation, there is memory
+-- what is known, whether each lock is live, the files that were named, how many types there may be,
+-- and for how many more orders, and pairs found in violation, there is memory
 pub record Facts : Type 0 where
   pub known : Known
   pub live : List Bool
@@ -35,7 +36,8 @@ IsApt n k (Adopted p c) = CanFollow n k.orders p.0 c.0
 IsApt n k (AdoptedAll pairs) = CanAllFollow n k.orders pairs
 IsApt n k (Silent a b) = IsNumber n a.0 × IsNumber n b.0
 IsApt n k (Duplicate d) = IsNumber n (lock_at k.locks d.asked.lock.0).type_no.0
-IsApt n k (Reversal c) = IsNumber n (lock_at k.locks c.held.lock.0).type_no.0 × IsNumber n (lock_at k.locks c.asked.lock.0).type_no.0
+IsApt n k (Reversal c) = IsNumber n (lock_at k.locks c.held.lock.0).type_no.0
+    × IsNumber n (lock_at k.locks c.asked.lock.0).type_no.0
 IsApt n k _ = Unit {0}
 
 -- memory for n more orders and pairs is enough for what a reply teaches
@@ -49,8 +51,16 @@ IsRoomFor _ n = Unit {0}
 
 -- what is known once a request was answered so
 abbrev pub learnt : Known → Request → Reply → Known
-learnt k q reply = record k { orders = adopted (Check q) reply ++ k.orders; found = found_after k.locks reply k.found }
+learnt k q reply =
+    record k {
+      orders = adopted (Check q) reply ++ k.orders;
+      found = found_after k.locks reply k.found;
+    }
 
 -- what is known once a lock was made
 abbrev pub with_lock : Known → NewLock → Known
-with_lock k lock = record k { types = types_after (Init lock) k.types; locks = k.locks ++ made_among k.types (Init lock) }
+with_lock k lock =
+    record k {
+      types = types_after (Init lock) k.types;
+      locks = k.locks ++ made_among k.types (Init lock);
+    }

@@ -1,5 +1,6 @@
 -- Which locks are live, by their numbers, and how many of them are of a type.
-use Rattle.std.specs.Prelude.{ℕ, ◌+◌, Bool, false, not, ◌&&◌, ◌==◌, List, [], ◌∷◌, Option, None, Some, map, unwrap_or, if◌then◌else◌}
+use Rattle.std.specs.Prelude.{ℕ, ◌+◌, Bool, false, not, ◌&&◌, ◌==◌, List, [], ◌∷◌, Option, None}
+use Rattle.std.specs.Prelude.{Some, map, unwrap_or, if◌then◌else◌}
 use Rattle.std.specs.List.{range_with_len}
 use Rattle.wit_model.specs.declared.locks.Lock.{Lock}
 use Rattle.wit_model.specs.Rules.Locks.{is_destroyed}
@@ -18,7 +19,8 @@ is_flagged flags l = unwrap_or (with_number flags l) false
 abbrev pub live_count : List Lock → List Bool → ℕ → ℕ
 live_count [] flags t = 0
 live_count (l ∷ locks) [] t = 0
-live_count (l ∷ locks) (b ∷ flags) t = (if (l.type_no.0 == t) && b then 1 else 0) + live_count locks flags t
+live_count (l ∷ locks) (b ∷ flags) t =
+    (if (l.type_no.0 == t) && b then 1 else 0) + live_count locks flags t
 
 -- what callers are told of a type: nothing under a number that was never given
 abbrev pub live_told : State → ℕ → Option ℕ

@@ -23,4 +23,5 @@ type_class types n = option_map (λ (t : LockType). t.class) (with_number types 
 
 -- the relation of two types, in the bits of subr_witness.c's matrix
 abbrev pub relation : Known → ℕ → ℕ → Option ℕ
-relation k a b = if is_given k.types a && is_given k.types b then Some (cell k.orders k.found a b) else None
+relation k a b =
+    if is_given k.types a && is_given k.types b then Some (cell k.orders k.found a b) else None

@@ -15,7 +15,8 @@ planned_call (Define a b) = call.DefineOrder a b
 abbrev pub planned : Ready → ℕ × Call
 planned r = (r.seat.0, planned_call r.plan)
 
--- how many entries of the log a call that can be prepared needs: a check its own, its note's and its unlock's
+-- how many entries of the log a call that can be prepared needs: a check its own, its note's and
+-- its unlock's
 abbrev pub entries_for : Call → ℕ
 entries_for (call.Check q) = 3
 entries_for _ = 1

@@ -1,5 +1,6 @@
 -- Orders as their callers see them, and what they keep.
-use Rattle.std.specs.Prelude.{ℕ, ◌≡◌, ◌-◌, ◌<◌, Bool, ◌&&◌, ◌==◌, List, Option, None, Some, IfSome, find, length, min, reverse, slice_get, vec_len}
+use Rattle.std.specs.Prelude.{ℕ, ◌≡◌, ◌-◌, ◌<◌, Bool, ◌&&◌, ◌==◌, List, Option, None, Some, IfSome}
+use Rattle.std.specs.Prelude.{find, length, min, reverse, slice_get, vec_len}
 use Rattle.std.specs.Vec.{vec_capacity}
 use Rattle.std.specs.Map.{lookup}
 use Rattle.wit_model.specs.declared.calls.Adoption.{Adoption}
@@ -13,7 +14,8 @@ use Rattle.wit_core.specs.Ordering.{Ordering}
 -- for how many orders more, with their places, and for how many pairs there is memory
 abbrev pub room_in : Inside → ℕ
 room_in o =
-    min (vec_capacity o.adopted - vec_len o.adopted) (min (spare o.places) (vec_capacity o.found - vec_len o.found))
+    min (vec_capacity o.adopted - vec_len o.adopted)
+    (min (spare o.places) (vec_capacity o.found - vec_len o.found))
 
 abbrev pub ordering_in : Inside → Ordering
 ordering_in o = record {
@@ -32,11 +34,15 @@ order_at orders None = None
 order_at orders (Some place) = slice_get orders place
 
 -- under each pair of types stands the place of its order, and under no other pair anything
-pub record HavePlaces (places : List ((TypeNo × TypeNo) × ℕ)) (orders : List Adoption) : Type 0 where
-  pub within : (p : TypeNo × TypeNo) → IfSome (lookup (is_pair p) places) (λ place. place < length orders)
-  pub tells : (a b : TypeNo) → order_at orders (lookup (is_pair (a, b)) places) ≡ find (is_adoption_of a.0 b.0) (reverse orders)
+pub record HavePlaces (places : List ((TypeNo × TypeNo) × ℕ))
+    (orders : List Adoption) : Type 0 where
+  pub within : (p : TypeNo × TypeNo)
+      → IfSome (lookup (is_pair p) places) (λ place. place < length orders)
+  pub tells : (a b : TypeNo) → order_at orders (lookup (is_pair (a, b)) places)
+      ≡ find (is_adoption_of a.0 b.0) (reverse orders)
 
--- the matrix holds the same orders and pairs, all are between its types, and the places are those of the orders
+-- the matrix holds the same orders and pairs, all are between its types, and the places are those
+-- of the orders
 pub record IsRelated (o : Inside) : Type 0 where
   pub orders : HasSameOrders o.matrix.orders (reverse o.adopted.items)
   pub found : HasSameFound o.matrix.found (reverse o.found.items)

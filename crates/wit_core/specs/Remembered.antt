@@ -25,8 +25,8 @@ facts_in k = record {
 abbrev pub AreCounted : Inside → Type 0
 AreCounted k = (t : ℕ) → live_of k.names t ≡ live_count k.locks.items k.live.items t
 
--- there may be orders between all types that there may be, and all numbers of files; the types of the locks are theirs; and each lock is live
--- or not, which the counts of live locks know
+-- there may be orders between all types that there may be, and all numbers of files; the types of
+-- the locks are theirs; and each lock is live or not, which the counts of live locks know
 pub record IsSized (k : Inside) : Type 0 where
   pub orders : k.orders.size ≡ k.names.most_types
   pub files : k.names.most_files ≡ 65535

@@ -9,7 +9,8 @@ use Rattle.wit_model.specs.declared.calls.Reply.{Reply}
 use Rattle.wit_model.specs.declared.calls.Reply.TheVariants.{Made}
 
 abbrev pub new_lock : List ℕ → Option (List ℕ) → Class → LockFlags → NewLock
-new_lock name type_name class flags = record { class = class; flags = flags; name = name; type_name = type_name }
+new_lock name type_name class flags =
+    record { class = class; flags = flags; name = name; type_name = type_name }
 
 abbrev pub made_reply : Result LockNo Fault → Result Reply Fault
 made_reply (Ok l) = Ok (Made l)

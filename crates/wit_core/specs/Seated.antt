@@ -1,5 +1,6 @@
 -- Seats as their callers see them, and what they keep.
-use Rattle.std.specs.Prelude.{ℕ, true, false, ◌*◌, ◌≡◌, ◌≤◌, List, Option, None, length, map, get_or, ◌-◌}
+use Rattle.std.specs.Prelude.{ℕ, true, false, ◌*◌, ◌≡◌, ◌≤◌, List, Option, None, length, map}
+use Rattle.std.specs.Prelude.{get_or, ◌-◌}
 use Rattle.std.specs.List.{range_with_len}
 use Rattle.wit_model.specs.declared.calls.Request.{Request}
 use Rattle.wit_model.specs.Rules.Chunks.{Chunks, IsPlaced, groups_of, list_of}

@@ -1,5 +1,8 @@
--- The seats with the groups of locks that they hold, and what a request, an acquisition and a release leave of one.
-use Rattle.std.specs.Prelude.{ℕ, ◌+◌, ◌-◌, ◌*◌, ◌≡◌, ◌≤◌, ◌==◌, ◌&&◌, Bool, not, List, [], Option, None, is_some, length, find, replicate, unwrap_or, get_or, set, sum_by, if◌then◌else◌}
+-- The seats with the groups of locks that they hold, and what a request, an acquisition and a
+-- release leave of one.
+use Rattle.std.specs.Prelude.{ℕ, ◌+◌, ◌-◌, ◌*◌, ◌≡◌, ◌≤◌, ◌==◌, ◌&&◌, Bool, not, List, [], Option}
+use Rattle.std.specs.Prelude.{None, is_some, length, find, replicate, unwrap_or, get_or, set}
+use Rattle.std.specs.Prelude.{sum_by, if◌then◌else◌}
 use Rattle.wit_model.specs.declared.locks.Instance.{Instance}
 use Rattle.wit_model.specs.declared.calls.Request.{Request}
 use Rattle.wit_model.specs.Rules.Chunks.{Chunks, IsPlaced, groups_of, list_of}
@@ -47,7 +50,11 @@ free_in seating = seating.chunks - sum_by chunks_held seating.seats
 
 -- the seating where the seat with this number is changed so
 abbrev pub with_seat : ℕ → (Holdings → Holdings) → Seating → Seating
-with_seat t change seating = record seating { seats = set seating.seats (t - 1) (change (get_or seating.seats (t - 1) no_holdings)) }
+with_seat t change seating =
+    record seating {
+      seats = set seating.seats (t - 1)
+          (change (get_or seating.seats (t - 1) no_holdings));
+    }
 
 -- a seat that asks for this, or for nothing
 abbrev pub asking : Option Request → Holdings → Holdings
@@ -66,19 +73,23 @@ having_acquired spin i s = in_groups spin (recorded i) s
 abbrev pub having_released : Bool → ℕ → Holdings → Holdings
 having_released spin l s = in_groups spin (forgotten l) s
 
--- whether an acquisition finds no room: the seat doesn't hold the lock, it would open a group, and no chunk is free
+-- whether an acquisition finds no room: the seat doesn't hold the lock, it would open a group, and
+-- no chunk is free
 abbrev pub has_no_room : Seating → ℕ → Bool → ℕ → Bool
 has_no_room seating t spin l =
-    not (is_some (find (is_of l) (locks_in spin (seat_in seating t)))) && (opens (groups_held spin (seat_in seating t)) && (free_in seating == 0))
+    not (is_some (find (is_of l) (locks_in spin (seat_in seating t))))
+    && (opens (groups_held spin (seat_in seating t)) && (free_in seating == 0))
 
 -- the seating after an acquisition
 abbrev pub after_acquired : ℕ → Bool → Instance → Seating → Seating
-after_acquired t spin i seating = if has_no_room seating t spin i.lock.0 then seating else with_seat t (having_acquired spin i) seating
+after_acquired t spin i seating = if has_no_room seating t spin i.lock.0 then seating
+    else with_seat t (having_acquired spin i) seating
 
 -- the lists of these chunks hold what the seats hold, 256 at most, and each chunk stands once
 pub record HoldFor (seating : Seating) (c : Chunks) : Type 0 where
   pub few : length seating.seats ≤ 256
-  pub groups : (t : ℕ) (spin : Bool) → IsGiven seating.seats t → groups_of c (list_of spin t) ≡ groups_held spin (seat_in seating t)
+  pub groups : (t : ℕ) (spin : Bool) → IsGiven seating.seats t
+      → groups_of c (list_of spin t) ≡ groups_held spin (seat_in seating t)
   pub lists : length c.groups ≡ 2 * length seating.seats
   pub size : c.size ≡ seating.chunks
   pub placed : IsPlaced c

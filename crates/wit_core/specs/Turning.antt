@@ -7,7 +7,8 @@ use Rattle.wit_model.specs.declared.locks.Mode.{Mode}
 use Rattle.wit_model.specs.declared.locks.Mode.TheVariants.{Shared, Exclusive}
 use Rattle.wit_model.specs.declared.locks.Watch.{Watch}
 use Rattle.wit_model.specs.declared.calls.Call.{Call}
-use Rattle.wit_model.specs.declared.calls.Call.TheVariants.{Upgrade, Downgrade, NoRelease, ReleaseOk}
+use Rattle.wit_model.specs.declared.calls.Call.TheVariants.{Upgrade, Downgrade, NoRelease}
+use Rattle.wit_model.specs.declared.calls.Call.TheVariants.{ReleaseOk}
 use Rattle.wit_model.specs.declared.calls.Reply.{Reply}
 use Rattle.wit_model.specs.Rules.Turning.{upgraded, downgraded}
 use Rattle.wit_held.specs.Chains.{change_lock}

@@ -5,7 +5,8 @@ ghost use Rattle.wit_model.specs.Rules.Numbers.{IsGiven};
 ghost use Rattle.wit_held.specs.Chains.{IsOnce, IsShallow};
 ghost use Rattle.wit_model.specs.Rules.History.{is_off};
 ghost use Rattle.wit_core.specs.Seats.{seat_in, locks_in};
-ghost use Rattle.wit_core.specs.Acquiring.{reply_to, owed_after, acquisition, watch_then, seating_then};
+ghost use Rattle.wit_core.specs.Acquiring.{reply_to, owed_after, acquisition, watch_then};
+ghost use Rattle.wit_core.specs.Acquiring.{seating_then};
 
 use crate::seats::Seats;
 use wit_model::{Instance, Reply, SeatNo, Watch};
@@ -44,7 +45,8 @@ impl Acquisition {
     }
 }
 
-/// A seat acquires a lock of this kind. Where no chunk is free for it, nothing is watched from now on. It takes no memory.
+/// A seat acquires a lock of this kind. Where no chunk is free for it, nothing is watched from now
+/// on. It takes no memory.
 pub fn acquire(
     seats: &mut Seats,
     watch: &mut Watch,
@@ -54,7 +56,8 @@ pub fn acquire(
 ) -> Acquisition
     requires seat { IsGiven seats.old.seats seat.0 }
     requires once { IsOnce taken.lock.0 (locks_in spin (seat_in seats.old seat.0)) }
-    requires shallow { is_off watch.old ≡ false → IsShallow taken.lock.0 (locks_in spin (seat_in seats.old seat.0)) }
+    requires shallow { is_off watch.old ≡ false
+        → IsShallow taken.lock.0 (locks_in spin (seat_in seats.old seat.0)) }
     ensures result { result ≡ acquisition watch.old seats.old seat.0 spin taken.lock.0 }
     ensures watch { watch.new ≡ watch_then result watch.old }
     ensures seats { seats.new ≡ seating_then result seat.0 spin taken seats.old }

@@ -1,5 +1,6 @@
-//! The calls. Each that is logged has its answer before it changes anything. A change that wants memory changes nothing where it gets
-//! none, and comes before those that can't fail; the log's entry comes last.
+//! The calls. Each that is logged has its answer before it changes anything. A change that wants
+//! memory changes nothing where it gets none, and comes before those that can't fail; the log's
+//! entry comes last.
 
 mod assert_lock;
 mod call;

@@ -1,4 +1,5 @@
-//! Circles of seats that wait for one another, by what is recorded: a shortest one from the least seat from which one starts.
+//! Circles of seats that wait for one another, by what is recorded: a shortest one from the least
+//! seat from which one starts.
 
 ghost use Rattle.std.specs.Prelude.{◌≡◌, ◌<◌, ◌≤◌, true, [], None, length, IfOk, IfErr, OnOk};
 ghost use Rattle.wit_model.specs.declared.faults.Fault.TheVariants.{OutOfMemory};
@@ -6,23 +7,28 @@ ghost use Rattle.wit_model.specs.Rules.Circles.{waits_for, TellsCircle, circle_n
 ghost use Rattle.wit_model.specs.Rules.Clean.{is_clean};
 ghost use Rattle.wit_model.specs.Rules.Numbers.{IsNumber};
 ghost use Rattle.wit_model.specs.Rules.State.{state_of};
-ghost use Rattle.wit_core.specs.Searching.{waiting, all_waiting, table_of, says, IsTable, seat_reached, IsTrail, IsSearch, Reaches, IsClosing, IsCircleFrom, TellsCircleBy};
+ghost use Rattle.wit_core.specs.Searching.{waiting, all_waiting, table_of, says, IsTable};
+ghost use Rattle.wit_core.specs.Searching.{seat_reached, IsTrail, IsSearch, Reaches, IsClosing};
+ghost use Rattle.wit_core.specs.Searching.{IsCircleFrom, TellsCircleBy};
 
 use crate::verifier::Verifier;
 use std::alloc::{AllocError, Global};
 use wit_model::{Fault, SeatNo};
 
 impl Verifier {
-    /// Seats that wait for one another in a circle, by what is recorded: each has asked for a lock that it doesn't hold and that the
-    /// next one holds, where one of the two modes is exclusive; and the last waits so for the first, which is the least of them.
-    /// `None` exactly where there is no such circle, and so while the log is clean (nothing was reported or tried, everything was
-    /// watched, each check might teach its order, and nothing is excepted).
+    /// Seats that wait for one another in a circle, by what is recorded: each has asked for a lock
+    /// that it doesn't hold and that the next one holds, where one of the two modes is exclusive;
+    /// and the last waits so for the first, which is the least of them. `None` exactly where there
+    /// is no such circle, and so while the log is clean (nothing was reported or tried, everything
+    /// was watched, each check might teach its order, and nothing is excepted).
     ///
     /// # Errors
     /// `OutOfMemory` alone.
     pub fn wait_circle(&self) -> Result<Option<Vec<SeatNo>>, Fault>
         ensures ok { IfOk result (λ c. TellsCircle (state_of self.now) (circle_numbers c)) }
-        ensures clean { self.now.start.blessed ≡ [] → is_clean self.now.start.profile self.now.history ≡ true → IfOk result (λ c. c ≡ None) }
+        ensures clean { self.now.start.blessed ≡ []
+            → is_clean self.now.start.profile self.now.history ≡ true
+            → IfOk result (λ c. c ≡ None) }
         ensures err { IfErr result (λ e. e ≡ OutOfMemory) }
     {
         // Called for its clause that there are never more than 256 seats.
@@ -33,7 +39,8 @@ impl Verifier {
 
     // For each seat, which seats wait for it.
     fn all_waiting(&self) -> Result<Vec<Vec<bool>>, AllocError>
-        ensures { IfOk result (λ rows. table_of rows.items ≡ all_waiting (waits_for (state_of self.now)) self.now.start.sizes.seats) }
+        ensures { IfOk result (λ rows. table_of rows.items
+            ≡ all_waiting (waits_for (state_of self.now)) self.now.start.sizes.seats) }
     {
         let mut rows = Vec::new(self.alloc);
         for place in 0..self.seats() {
@@ -45,7 +52,8 @@ impl Verifier {
     // Which seats wait for this one.
     fn waiting(&self, other: SeatNo) -> Result<Vec<bool>, AllocError>
         requires { IsNumber self.now.start.sizes.seats other.0 }
-        ensures { IfOk result (λ row. row.items ≡ waiting (waits_for (state_of self.now)) self.now.start.sizes.seats other.0) }
+        ensures { IfOk result (λ row. row.items
+            ≡ waiting (waits_for (state_of self.now)) self.now.start.sizes.seats other.0) }
     {
         let mut row = Vec::new(self.alloc);
         for place in 0..self.seats() {
@@ -73,9 +81,10 @@ impl Verifier {
     }
 }
 
-/// Seats that wait for one another in a circle, by a table with a row for each seat (256 at most), and in it a mark for each seat,
-/// which tells whether that one waits for the row's. Each waits for the next, and the last for the first, which is the least of them.
-/// `None` exactly where there is no such circle.
+/// Seats that wait for one another in a circle, by a table with a row for each seat (256 at most),
+/// and in it a mark for each seat, which tells whether that one waits for the row's. Each waits for
+/// the next, and the last for the first, which is the least of them. `None` exactly where there is
+/// no such circle.
 ///
 /// # Errors
 /// Want of memory alone.
@@ -102,14 +111,16 @@ fn says(rows: &[Vec<bool>], seat: SeatNo, other: SeatNo) -> bool
     rows[other.0 as usize - 1][seat.0 as usize - 1]
 }
 
-// A seat that leads to the first one: it waits for the seat at the place `next` among those reached.
+// A seat that leads to the first one: it waits for the seat at the place `next` among those
+// reached.
 #[derive(Clone, Copy)]
 struct Reached {
     seat: SeatNo,
     next: usize,
 }
 
-// A shortest circle that starts with this seat and goes through greater ones: the seats that lead to it are reached one after the other.
+// A shortest circle that starts with this seat and goes through greater ones: the seats that lead
+// to it are reached one after the other.
 fn circle_from(
     alloc: Global,
     rows: &[Vec<bool>],
@@ -139,7 +150,8 @@ fn circle_from(
     Ok(None)
 }
 
-// Where the first seat waits for the one at this place: the first, and the queue from there back to it.
+// Where the first seat waits for the one at this place: the first, and the queue from there back to
+// it.
 fn circle_at(
     alloc: Global,
     rows: &[Vec<bool>],
@@ -177,7 +189,8 @@ fn reach(
     requires few { length rows.now ≤ 256 }
     requires search { IsSearch (table_of rows.now) first.0 reached.old.items seen.old }
     requires place { place < length reached.old.items }
-    ensures { OnOk result (Reaches (table_of rows.now) first.0 place (length rows.now) reached.old.items reached.new.items seen.old seen.new) }
+    ensures { OnOk result (Reaches (table_of rows.now) first.0 place
+        (length rows.now) reached.old.items reached.new.items seen.old seen.new) }
 {
     let goal = reached[place].seat;
     for index in first.0..rows.len() as u16 {

@@ -25,11 +25,15 @@ pub fn defined(verdict: Verdict) -> Result<Reply, Fault>
 }
 
 impl Known {
-    /// Adopts the order that a reply to its definition tells, where it tells one. It takes no memory.
+    /// Adopts the order that a reply to its definition tells, where it tells one. It takes no
+    /// memory.
     pub fn define(&mut self, reply: &Reply)
         requires apt { IsApt self.old.most_types self.old.known reply.now }
         requires room { IsRoomFor reply.now self.old.spare }
-        ensures { self.new ≡ record self.old { known = with_defined self.old.known reply.now; spare = self.new.spare } }
+        ensures { self.new ≡ record self.old {
+          known = with_defined self.old.known reply.now;
+          spare = self.new.spare;
+        } }
     {
         if let Reply::Adopted(parent, child) = reply {
             self.orders.adopt(Adoption {

@@ -1,6 +1,7 @@
 //! What is known of types, locks and orders.
 
-ghost use Rattle.std.specs.Prelude.{◌≡◌, ◌<◌, ◌≤◌, ◌++◌, [], ◌∷◌, true, false, map, length, Ok, OnOk, OnErr, IfOk, IfErr};
+ghost use Rattle.std.specs.Prelude.{◌≡◌, ◌<◌, ◌≤◌, ◌++◌, [], ◌∷◌, true, false, map, length, Ok};
+ghost use Rattle.std.specs.Prelude.{OnOk, OnErr, IfOk, IfErr};
 ghost use Rattle.std.specs.Option.{option_copied};
 ghost use Rattle.wit_model.specs.declared.faults.Fault.TheVariants.{OutOfMemory};
 ghost use Rattle.wit_model.specs.declared.locks.Lock.{Lock};
@@ -9,7 +10,8 @@ ghost use Rattle.wit_model.specs.Rules.Locks.{lock_at};
 ghost use Rattle.wit_model.specs.Rules.Numbers.{with_number, with_changed, IsGiven};
 ghost use Rattle.wit_model.specs.Rules.Refusals.{IsRefusal};
 ghost use Rattle.wit_core.specs.Live.{is_flagged, live_count};
-ghost use Rattle.wit_core.specs.Known.{nothing_known, learnt, with_lock, IsApt, IsRoomFor, IsAdmitted};
+ghost use Rattle.wit_core.specs.Known.{nothing_known, learnt, with_lock, IsApt, IsRoomFor};
+ghost use Rattle.wit_core.specs.Known.{IsAdmitted};
 
 use crate::orders::Orders;
 use std::alloc::{AllocError, Global};
@@ -55,7 +57,14 @@ impl Known {
     pub fn new(alloc: Global, types: u32) -> Result<Known, Fault>
         requires positive { 0 < types }
         requires within { types ≤ 1023 }
-        ensures ok { IfOk result (λ k. k ≡ record { known = nothing_known; live = []; files = []; most_types = types; spare = k.spare }) }
+        ensures ok { IfOk result (λ k. k
+            ≡ record {
+              known = nothing_known;
+              live = [];
+              files = [];
+              most_types = types;
+              spare = k.spare;
+            }) }
         ensures err { IfErr result (λ e. e ≡ OutOfMemory) }
     {
         Ok(Known {
@@ -128,9 +137,11 @@ impl Known {
     /// In this order: `BadName`, `FilesFull`, `OutOfMemory`; the files are then as before.
     pub fn file(&mut self, name: &str) -> Result<FileNo, Fault>
         ensures ok { IfOk result (λ f. file_answer name.now 65535 self.old.files ≡ Ok f.0) }
-        ensures entered { OnOk result (self.new ≡ record self.old { files = files_after name.now self.old.files }) }
+        ensures entered { OnOk result
+            (self.new ≡ record self.old { files = files_after name.now self.old.files }) }
         ensures err { IfErr result (IsRefusal (file_answer name.now 65535 self.old.files)) }
-        ensures absent { IfErr result (λ e. e ≡ OutOfMemory → is_known_file name.now self.old.files ≡ false) }
+        ensures absent { IfErr result (λ e. e ≡ OutOfMemory
+            → is_known_file name.now self.old.files ≡ false) }
         ensures unchanged { OnErr result (self.new ≡ self.old) }
     {
         self.names.file(name)
@@ -153,12 +164,15 @@ impl Known {
         }
     }
 
-    /// Learns what the reply to a request tells: the orders behind held locks, or a pair of types found in violation. It takes no
-    /// memory.
+    /// Learns what the reply to a request tells: the orders behind held locks, or a pair of types
+    /// found in violation. It takes no memory.
     pub fn learn(&mut self, request: Request, reply: &Reply)
         requires apt { IsApt self.old.most_types self.old.known reply.now }
         requires room { IsRoomFor reply.now self.old.spare }
-        ensures { self.new ≡ record self.old { known = learnt self.old.known request reply.now; spare = self.new.spare } }
+        ensures { self.new ≡ record self.old {
+          known = learnt self.old.known request reply.now;
+          spare = self.new.spare;
+        } }
     {
         match reply {
             Reply::Adopted(parent, child) => self.orders.adopt(Adoption {
@@ -182,15 +196,19 @@ impl Known {
         }
     }
 
-    /// Enters a live lock whose type is known or can be enrolled, and its type where that is new. The type has fewer than 65,536 live
-    /// locks.
+    /// Enters a live lock whose type is known or can be enrolled, and its type where that is new.
+    /// The type has fewer than 65,536 live locks.
     ///
     /// # Errors
     /// `OutOfMemory` alone; nothing is entered then.
     pub fn add_lock(&mut self, made: NewLock) -> Result<(), Fault>
         requires admitted { IsAdmitted self.old made }
         requires few { length self.old.known.locks < 65536 }
-        ensures ok { OnOk result (self.new ≡ record self.old { known = with_lock self.old.known made; live = self.old.live ++ true ∷ [] }) }
+        ensures ok { OnOk result (self.new
+            ≡ record self.old {
+              known = with_lock self.old.known made;
+              live = self.old.live ++ true ∷ [];
+            }) }
         ensures err { OnErr result (self.new ≡ self.old) }
         ensures memory { IfErr result (λ e. e ≡ OutOfMemory) }
     {
@@ -210,7 +228,8 @@ impl Known {
     /// Takes a live lock of a known type from the live ones. Its number, name and type stay.
     pub fn destroy(&mut self, lock: LockNo)
         requires live { is_flagged self.old.live lock.0 ≡ true }
-        requires typed { IsGiven self.old.known.types (lock_at self.old.known.locks lock.0).type_no.0 }
+        requires typed { IsGiven self.old.known.types
+            (lock_at self.old.known.locks lock.0).type_no.0 }
         ensures { self.new ≡ record self.old { live = with_changed self.old.live lock.0 false } }
     {
         let type_no = type_of_lock(&self.locks, lock);

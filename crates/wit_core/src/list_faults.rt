@@ -22,7 +22,8 @@ pub(crate) fn has_bad_name(list: &[(Class, String)]) -> bool
 
 /// Whether an entry gives a name another class than it has, or than the list gives it elsewhere.
 pub(crate) fn has_other_class(names: &Table, list: &[(Class, String)]) -> bool
-    ensures { result ≡ list_any (is_misclassed names.now.types (listed list.now)) (listed list.now) }
+    ensures { result ≡ list_any (is_misclassed names.now.types (listed list.now))
+        (listed list.now) }
 {
     list.iter().any(|e| is_misclassed(names, list, e))
 }
@@ -35,7 +36,8 @@ fn is_misclassed(names: &Table, list: &[(Class, String)], entry: &(Class, String
 
 /// Whether a list has this name with another class.
 fn is_listed_otherwise(list: &[(Class, String)], name: &str, class: Class) -> bool
-    ensures { result ≡ list_any (λ (e : Class × List ℕ). bytes_eq e.1 name.now && not (is_same_class e.0 class)) (listed list.now) }
+    ensures { result ≡ list_any (λ (e : Class × List ℕ). bytes_eq e.1 name.now
+        && not (is_same_class e.0 class)) (listed list.now) }
 {
     list.iter().any(|e| e.1.as_str() == name && !e.0.is(class))
 }
@@ -63,7 +65,8 @@ pub(crate) fn types_with(names: &Table, list: &[(Class, String)]) -> usize
 /// Whether no type and none of these entries has an entry's name.
 fn is_new(names: &Table, earlier: &[(Class, String)], entry: &(Class, String)) -> bool
     ensures { result ≡ not (is_enrolled (string_bytes entry.now.1) names.now.types
-        || list_any (λ (e : Class × List ℕ). bytes_eq e.1 (string_bytes entry.now.1)) (listed earlier.now)) }
+        || list_any (λ (e : Class × List ℕ). bytes_eq e.1 (string_bytes entry.now.1))
+        (listed earlier.now)) }
 {
     !(is_enrolled(names, &entry.1) || is_listed(earlier, &entry.1))
 }

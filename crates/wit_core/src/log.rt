@@ -1,6 +1,7 @@
 //! The log of a verifier, with room for the entries that are owed.
 
-ghost use Rattle.std.specs.Prelude.{◌≡◌, ◌<◌, ◌≤◌, ◌+◌, ◌-◌, [], ◌∷◌, length, nat_le, reverse, OnOk};
+ghost use Rattle.std.specs.Prelude.{◌≡◌, ◌<◌, ◌≤◌, ◌+◌, ◌-◌, [], ◌∷◌, length, nat_le, reverse};
+ghost use Rattle.std.specs.Prelude.{OnOk};
 ghost use Rattle.wit_model.specs.Rules.History.{is_report, reports_of};
 ghost use Rattle.wit_model.specs.Rules.Step.{is_logged};
 
@@ -8,8 +9,9 @@ use std::alloc::{AllocError, Global};
 use std::marker::Model;
 use wit_model::{Entry, Reply};
 
-/// The accepted calls, up to a number of entries, and how many entries are owed to calls that may not be refused room: the
-/// note and the release of each pending request, and the release of each recorded acquisition.
+/// The accepted calls, up to a number of entries, and how many entries are owed to calls that may
+/// not be refused room: the note and the release of each pending request, and the release of each
+/// recorded acquisition.
 #[derive(Drop)]
 pub struct Log {
     limit: u32,
@@ -74,7 +76,8 @@ impl Log {
 }
 
 impl Log {
-    /// Makes room for this many entries more, beside those that are owed. How far it grows is left to `Vec`, which doubles.
+    /// Makes room for this many entries more, beside those that are owed. How far it grows is left
+    /// to `Vec`, which doubles.
     ///
     /// # Errors
     /// Want of memory alone.
@@ -103,7 +106,8 @@ impl Log {
         self.entries.push_reserved(entry);
     }
 
-    /// Enters a call to which its entry was owed, and after which so many more aren't owed any longer. It takes no memory.
+    /// Enters a call to which its entry was owed, and after which so many more aren't owed any
+    /// longer. It takes no memory.
     pub fn push_owed(&mut self, entry: Entry, dropped: u32)
         requires { dropped < self.old.owed }
         ensures { self.new ≡ record self.old {

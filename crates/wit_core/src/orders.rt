@@ -1,8 +1,10 @@
 //! The adopted orders, which types are before one another, and which were found in violation.
 
-ghost use Rattle.std.specs.Prelude.{◌≡◌, ◌<◌, ◌≤◌, ◌+◌, ◌&&◌, ◌∷◌, ◌++◌, ℕ, true, [], IfSome, OnOk, IfOk, IfErr, length, map, reverse};
+ghost use Rattle.std.specs.Prelude.{◌≡◌, ◌<◌, ◌≤◌, ◌+◌, ◌&&◌, ◌∷◌, ◌++◌, ℕ, true, [], IfSome, OnOk};
+ghost use Rattle.std.specs.Prelude.{IfOk, IfErr, length, map, reverse};
 ghost use Rattle.wit_model.specs.declared.faults.Fault.TheVariants.{OutOfMemory};
-ghost use Rattle.wit_model.specs.Rules.Orders.{is_direct, is_before, is_found, found_once, origin_of, cell, taught_at};
+ghost use Rattle.wit_model.specs.Rules.Orders.{is_direct, is_before, is_found, found_once};
+ghost use Rattle.wit_model.specs.Rules.Orders.{origin_of, cell, taught_at};
 ghost use Rattle.wit_model.specs.Rules.Numbers.{IsNumber, is_number};
 ghost use Rattle.wit_model.specs.Trace.Paths.{path, path_numbers};
 ghost use Rattle.wit_matrix.specs.Relation.{HasSameOrders, HasSameFound, OrdersAmong, LeadsBy};
@@ -14,8 +16,8 @@ use std::marker::Model;
 use wit_matrix::Matrix;
 use wit_model::{Adoption, Fault, Origin, Site, TypeNo};
 
-/// The orders that were adopted, and the pairs of types that were found in violation, for up to a number of types.
-/// A type beyond that number is before none, and none before it.
+/// The orders that were adopted, and the pairs of types that were found in violation, for up to a
+/// number of types. A type beyond that number is before none, and none before it.
 #[derive(Drop)]
 pub struct Orders {
     adopted: Vec<Adoption>,
@@ -46,7 +48,8 @@ impl Orders {
     pub fn new(alloc: Global, types: u32) -> Result<Orders, Fault>
         requires positive { 0 < types }
         requires within { types ≤ 1023 }
-        ensures ok { IfOk result (λ o. o ≡ record { size = types; orders = []; found = []; spare = o.spare }) }
+        ensures ok { IfOk result (λ o. o
+            ≡ record { size = types; orders = []; found = []; spare = o.spare }) }
         ensures err { IfErr result (λ e. e ≡ OutOfMemory) }
     {
         Ok(Orders {
@@ -81,8 +84,8 @@ impl Orders {
         self.covers(a, b) && self.matrix.direct(a, b)
     }
 
-    /// Where the direct order from a to b comes from; `None` where there is none. The number of orders doesn't matter
-    /// to how long it takes.
+    /// Where the direct order from a to b comes from; `None` where there is none. The number of
+    /// orders doesn't matter to how long it takes.
     pub fn origin(&self, a: TypeNo, b: TypeNo) -> Option<Origin>
         ensures { result ≡ origin_of a.0 b.0 self.now.orders }
     {
@@ -114,16 +117,19 @@ impl Orders {
         self.matrix.cell(a, b)
     }
 
-    /// The path of adopted orders from one type to another that goes each time to the least type: `None` where none
-    /// leads there. It is the same among any number of types that the orders are between.
+    /// The path of adopted orders from one type to another that goes each time to the least type:
+    /// `None` where none leads there. It is the same among any number of types that the orders are
+    /// between.
     ///
     /// # Errors
     /// `OutOfMemory` alone, and only where a path leads there.
     pub fn path(&self, from: TypeNo, to: TypeNo) -> Result<Option<Vec<TypeNo>>, Fault>
         ensures ok { IfOk result (λ p. (types : ℕ) → OrdersAmong types self.now.orders
             → path_numbers p ≡ path self.now.orders types from.0 to.0) }
-        ensures leads { IfOk result (λ p. IfSome (path_numbers p) (LeadsBy self.now.orders from.0 to.0)) }
-        ensures err { IfErr result (λ e. (e ≡ OutOfMemory) × (is_before self.now.orders from.0 to.0 ≡ true)) }
+        ensures leads { IfOk result (λ p. IfSome (path_numbers p)
+            (LeadsBy self.now.orders from.0 to.0)) }
+        ensures err { IfErr result (λ e. (e ≡ OutOfMemory)
+            × (is_before self.now.orders from.0 to.0 ≡ true)) }
     {
         if !self.is_before(from, to) {
             return Ok(None);
@@ -157,11 +163,15 @@ impl Orders {
         Ok(())
     }
 
-    /// Adopts an order. With it the parent and all types before it come before the child and all after it. It takes no memory.
+    /// Adopts an order. With it the parent and all types before it come before the child and all
+    /// after it. It takes no memory.
     pub fn adopt(&mut self, order: Adoption)
         requires follows { CanFollow self.old.size self.old.orders order.parent.0 order.child.0 }
         requires room { 0 < self.old.spare }
-        ensures adopted { self.new ≡ record self.old { orders = order ∷ self.old.orders; spare = self.new.spare } }
+        ensures adopted { self.new ≡ record self.old {
+          orders = order ∷ self.old.orders;
+          spare = self.new.spare;
+        } }
         ensures room { self.old.spare ≤ self.new.spare + 1 }
     {
         let place = self.adopted.len();
@@ -173,7 +183,8 @@ impl Orders {
         self.matrix.adopt(order.parent, order.child);
     }
 
-    /// Adopts the orders that a request at this place teaches, one after the other. It takes no memory.
+    /// Adopts the orders that a request at this place teaches, one after the other. It takes no
+    /// memory.
     pub fn adopt_all(&mut self, pairs: &[(TypeNo, TypeNo)], site: Site)
         requires follow { CanAllFollow self.old.size self.old.orders pairs.now }
         requires room { length pairs.now ≤ self.old.spare }
@@ -187,12 +198,16 @@ impl Orders {
         }
     }
 
-    /// Finds the unordered pair of a and b in violation; a pair that was found stays as it is. It takes no memory.
+    /// Finds the unordered pair of a and b in violation; a pair that was found stays as it is. It
+    /// takes no memory.
     pub fn find(&mut self, a: TypeNo, b: TypeNo)
         requires a { IsNumber self.old.size a.0 }
         requires b { IsNumber self.old.size b.0 }
         requires room { 0 < self.old.spare }
-        ensures found { self.new ≡ record self.old { found = found_once a b self.old.found; spare = self.new.spare } }
+        ensures found { self.new ≡ record self.old {
+          found = found_once a b self.old.found;
+          spare = self.new.spare;
+        } }
         ensures room { self.old.spare ≤ self.new.spare + 1 }
     {
         if !self.is_found(a, b) {

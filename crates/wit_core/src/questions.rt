@@ -1,10 +1,12 @@
 //! What the answers ask of a verifier, in the words of the rules.
 
-ghost use Rattle.std.specs.Prelude.{◌≡◌, ◌+◌, ◌&&◌, true, Some, not, is_some, IfSome, IfOk, IfErr, OnOk, length, nat_le};
+ghost use Rattle.std.specs.Prelude.{◌≡◌, ◌+◌, ◌&&◌, true, Some, not, is_some, IfSome, IfOk, IfErr};
+ghost use Rattle.std.specs.Prelude.{OnOk, length, nat_le};
 ghost use Rattle.wit_model.specs.Rules.Locks.{lock_at};
 ghost use Rattle.wit_model.specs.Rules.Numbers.{is_number};
 ghost use Rattle.wit_model.specs.Rules.State.{state_of, seat_at, is_seat, is_live, has_room};
-ghost use Rattle.wit_model.specs.Rules.Step.{about_lock, about_seat, held_by, is_too_deep, before_acquiring, before_answering, before_naming};
+ghost use Rattle.wit_model.specs.Rules.Step.{about_lock, about_seat, held_by, is_too_deep};
+ghost use Rattle.wit_model.specs.Rules.Step.{before_acquiring, before_answering, before_naming};
 ghost use Rattle.wit_model.specs.Rules.Destroying.{is_used};
 ghost use Rattle.wit_model.specs.Rules.Types.{is_otherwise, is_enrolled};
 ghost use Rattle.wit_core.specs.Replies.{Admits, Refuses};
@@ -65,7 +67,8 @@ impl Verifier {
         if self.watch().is_off() {
             return false;
         }
-        // A lock so deep is owed 65,536 releases: where the log owes fewer, the lock needn't be looked for.
+        // A lock so deep is owed 65,536 releases: where the log owes fewer, the lock needn't be
+        // looked for.
         if self.log.owed() < Limits::MOST_ACQUISITIONS {
             return false;
         }
@@ -124,10 +127,12 @@ impl Verifier {
         mode: Mode,
         site: Site,
     ) -> Result<(), Fault>
-        ensures ok { OnOk result (Admits (before_acquiring (state_of self.now) seat.0 lock.0 mode site)) }
+        ensures ok { OnOk result (Admits
+            (before_acquiring (state_of self.now) seat.0 lock.0 mode site)) }
         ensures seat { OnOk result (is_seat (state_of self.now) seat.0 ≡ true) }
         ensures lock { OnOk result (is_live (state_of self.now) lock.0 ≡ true) }
-        ensures err { IfErr result (Refuses (before_acquiring (state_of self.now) seat.0 lock.0 mode site)) }
+        ensures err { IfErr result (Refuses
+            (before_acquiring (state_of self.now) seat.0 lock.0 mode site)) }
     {
         self.about_lock(seat, lock)?;
         if !self.is_file(site.file) {
@@ -193,7 +198,9 @@ impl Verifier {
 
     // The number of the next lock, where one is left.
     pub(crate) fn next_lock(&self) -> Option<LockNo>
-        ensures left { is_some result ≡ not (nat_le (state_of self.now).sizes.locks (length (state_of self.now).known.locks)) }
+        ensures left { is_some result
+            ≡ not (nat_le (state_of self.now).sizes.locks
+            (length (state_of self.now).known.locks)) }
         ensures number { IfSome result (λ l. l.0 ≡ length (state_of self.now).known.locks + 1) }
     {
         let locks = self.known.locks().len();

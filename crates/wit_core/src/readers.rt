@@ -7,7 +7,8 @@ ghost use Rattle.wit_model.specs.declared.locks.Instance.{Instance};
 ghost use Rattle.wit_model.specs.declared.faults.Fault.TheVariants.{OutOfMemory};
 ghost use Rattle.wit_model.specs.Rules.Numbers.{with_number, IsNumber};
 ghost use Rattle.wit_model.specs.Rules.Orders.{Before, is_direct, origin_of};
-ghost use Rattle.wit_model.specs.Rules.State.{state_of, seat_at, chain_in, free, is_live, known_of, orders_of, types_of, typed_locks};
+ghost use Rattle.wit_model.specs.Rules.State.{state_of, seat_at, chain_in, free, is_live, known_of};
+ghost use Rattle.wit_model.specs.Rules.State.{orders_of, types_of, typed_locks};
 ghost use Rattle.wit_model.specs.Rules.Step.{held_by};
 ghost use Rattle.wit_model.specs.Trace.Paths.{path, path_numbers};
 ghost use Rattle.wit_matrix.specs.Relation.{LeadsBy};
@@ -39,17 +40,21 @@ impl Verifier {
         self.limits.types() as u16
     }
 
-    /// The lock that a seat has asked for, and the mode: from its accepted `check` to its `note` or `give_up`.
+    /// The lock that a seat has asked for, and the mode: from its accepted `check` to its `note` or
+    /// `give_up`.
     pub fn pending(&self, seat: SeatNo) -> Option<(LockNo, Mode)>
-        ensures { result ≡ option_map (λ (q : Request). (q.lock, q.mode)) (seat_at (state_of self.now) seat.0).pending }
+        ensures { result ≡ option_map (λ (q : Request). (q.lock, q.mode))
+            (seat_at (state_of self.now) seat.0).pending }
     {
         let request = self.request(seat)?;
         Some((request.lock, request.mode))
     }
 
-    /// How many times a seat has acquired again a lock that it holds, by what is recorded; `None` where it doesn't hold the lock.
+    /// How many times a seat has acquired again a lock that it holds, by what is recorded; `None`
+    /// where it doesn't hold the lock.
     pub fn recorded(&self, seat: SeatNo, lock: LockNo) -> Option<u16>
-        ensures { result ≡ option_map (λ (i : Instance). i.count) (held_by (state_of self.now) seat.0 lock.0) }
+        ensures { result ≡ option_map (λ (i : Instance). i.count)
+            (held_by (state_of self.now) seat.0 lock.0) }
     {
         if !self.is_seat(seat) {
             return None;
@@ -58,7 +63,8 @@ impl Verifier {
         Some(held.count)
     }
 
-    /// The lock of one kind that a seat holds at this place, counted from the oldest, 0; `None` beyond the newest.
+    /// The lock of one kind that a seat holds at this place, counted from the oldest, 0; `None`
+    /// beyond the newest.
     pub fn chain_at(&self, seat: SeatNo, spin: bool, place: usize) -> Option<Instance>
         ensures { result ≡ slice_get (chain_in spin (seat_at (state_of self.now) seat.0)) place }
     {
@@ -76,8 +82,9 @@ impl Verifier {
         self.seats.free_chunks()
     }
 
-    /// The lists of chunks in which the seats hold their locks: that of the sleep kind of seat s is number 2s - 1, that of the spin
-    /// kind 2s. Each chunk stands once in one of the lists or among the free ones.
+    /// The lists of chunks in which the seats hold their locks: that of the sleep kind of seat s is
+    /// number 2s - 1, that of the spin kind 2s. Each chunk stands once in one of the lists or among
+    /// the free ones.
     pub fn chunks(&self) -> &Chunked
         ensures { HoldAll self.now result.now }
     {
@@ -89,7 +96,8 @@ impl Verifier {
 impl Verifier {
     /// The name of a lock.
     pub fn lock_name(&self, lock: LockNo) -> Option<&str>
-        ensures { option_copied result ≡ lock_name (typed_locks self.now.start self.now.history) lock.0 }
+        ensures { option_copied result
+            ≡ lock_name (typed_locks self.now.start self.now.history) lock.0 }
     {
         let named = lock_with(self.known.locks(), lock)?;
         Some(named.made.name.as_str())
@@ -112,7 +120,8 @@ impl Verifier {
 
     /// The name of a type.
     pub fn type_name(&self, number: TypeNo) -> Option<&str>
-        ensures { option_copied result ≡ type_name (types_of self.now.start self.now.history) number.0 }
+        ensures { option_copied result
+            ≡ type_name (types_of self.now.start self.now.history) number.0 }
     {
         let names = self.known.names();
         if !is_type(names, number) {
@@ -179,23 +188,27 @@ impl Verifier {
         self.known.orders().origin(parent, child)
     }
 
-    /// The path of adopted orders from one type to another that goes each time to the least type: `None` where
-    /// none leads there.
+    /// The path of adopted orders from one type to another that goes each time to the least type:
+    /// `None` where none leads there.
     ///
     /// # Errors
     /// `OutOfMemory` alone, and only where a path leads there.
     pub fn path(&self, from: TypeNo, to: TypeNo) -> Result<Option<Vec<TypeNo>>, Fault>
-        ensures ok { IfOk result (λ p. path_numbers p ≡ path (orders_of self.now.start self.now.history)
+        ensures ok { IfOk result (λ p. path_numbers p
+            ≡ path (orders_of self.now.start self.now.history)
             (length (types_of self.now.start self.now.history)) from.0 to.0) }
-        ensures leads { IfOk result (λ p. IfSome (path_numbers p) (LeadsBy (orders_of self.now.start self.now.history) from.0 to.0)) }
-        ensures err { IfErr result (λ e. (e ≡ OutOfMemory) × Before (orders_of self.now.start self.now.history) from.0 to.0) }
+        ensures leads { IfOk result (λ p. IfSome (path_numbers p)
+            (LeadsBy (orders_of self.now.start self.now.history) from.0 to.0)) }
+        ensures err { IfErr result (λ e. (e ≡ OutOfMemory)
+            × Before (orders_of self.now.start self.now.history) from.0 to.0) }
     {
         self.known.orders().path(from, to)
     }
 
-    /// How one type is related to another, as the sum of 0x01 where the order from the first to the second was
-    /// adopted, 0x02 where the first is before the second, 0x04 and 0x08 where they are so the other way round,
-    /// and 0x10 where the pair was found in violation; `None` for a number that was never given.
+    /// How one type is related to another, as the sum of 0x01 where the order from the first to the
+    /// second was adopted, 0x02 where the first is before the second, 0x04 and 0x08 where they are
+    /// so the other way round, and 0x10 where the pair was found in violation; `None` for a number
+    /// that was never given.
     pub fn relation(&self, a: TypeNo, b: TypeNo) -> Option<u8>
         ensures { result ≡ relation (known_of self.now.start self.now.history) a.0 b.0 }
     {

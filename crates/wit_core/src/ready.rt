@@ -29,7 +29,8 @@ impl Plan {
     }
 }
 
-/// The call of a seat that is prepared, with the reply that it will be told and the same for the log.
+/// The call of a seat that is prepared, with the reply that it will be told and the same for the
+/// log.
 #[derive(Drop)]
 pub struct Ready {
     /// Who will make the call.

@@ -1,6 +1,7 @@
 //! The seats: what each holds, and what it has asked for.
 
-ghost use Rattle.std.specs.Prelude.{◌≡◌, ◌≢◌, true, false, not, find, is_some, slice_get, replicate, Ok, IfOk, IfErr, None, Some};
+ghost use Rattle.std.specs.Prelude.{◌≡◌, ◌≢◌, true, false, not, find, is_some, slice_get};
+ghost use Rattle.std.specs.Prelude.{replicate, Ok, IfOk, IfErr, None, Some};
 ghost use Rattle.wit_model.specs.declared.faults.Fault.TheVariants.{OutOfMemory};
 ghost use Rattle.wit_model.specs.Rules.Numbers.{is_given, IsGiven, IsNumber};
 ghost use Rattle.wit_model.specs.Rules.Assertions.{assertion};
@@ -12,7 +13,9 @@ ghost use Rattle.wit_held.specs.Chains.{IsOnce, IsShallow, in_mode};
 ghost use Rattle.wit_held.specs.Marks.{marked};
 ghost use Rattle.wit_held.specs.Releases.{release_reply, release_answer};
 ghost use Rattle.wit_core.specs.Held.{seat_view};
-ghost use Rattle.wit_core.specs.Seats.{Holdings, idle_seating, seat_in, locks_in, free_in, with_seat, asking, having_released, has_no_room, after_acquired, HoldFor};
+ghost use Rattle.wit_core.specs.Seats.{Holdings, idle_seating, seat_in, locks_in, free_in};
+ghost use Rattle.wit_core.specs.Seats.{with_seat, asking, having_released, has_no_room};
+ghost use Rattle.wit_core.specs.Seats.{after_acquired, HoldFor};
 ghost use Rattle.wit_core.specs.Turning.{changed};
 
 use std::alloc::{AllocError, Global};
@@ -25,7 +28,8 @@ use wit_pool::Pool;
 /// The lists in which the seats hold their locks.
 pub type Chunked = Pool;
 
-/// The seats, by number from 1. Each has two lists of held locks, one a kind, and what it has asked for.
+/// The seats, by number from 1. Each has two lists of held locks, one a kind, and what it has asked
+/// for.
 #[derive(Drop)]
 pub struct Seats {
     lists: Chunked,
@@ -45,8 +49,8 @@ impl Model for Seats {
 }
 
 impl Seats {
-    /// So many seats, which hold nothing and have asked for nothing, and so many chunks for the locks that they will hold. All the
-    /// room that the other calls will need is taken here.
+    /// So many seats, which hold nothing and have asked for nothing, and so many chunks for the
+    /// locks that they will hold. All the room that the other calls will need is taken here.
     ///
     /// # Errors
     /// `OutOfMemory` alone.
@@ -80,7 +84,8 @@ impl Seats {
         }
     }
 
-    /// The lists: `list_of` numbers them. Each chunk stands once in one of them or among the free ones.
+    /// The lists: `list_of` numbers them. Each chunk stands once in one of them or among the free
+    /// ones.
     pub fn lists(&self) -> &Chunked
         ensures { HoldFor self.now result.now }
     {
@@ -164,7 +169,8 @@ impl Seats {
         flags: LockAssert,
     ) -> AssertAnswer
         requires { IsGiven self.now.seats seat.0 }
-        ensures { result ≡ assertion watch flags (find (is_of lock.0) (locks_in spin (seat_in self.now seat.0))) }
+        ensures { result ≡ assertion watch flags
+            (find (is_of lock.0) (locks_in spin (seat_in self.now seat.0))) }
     {
         assert_is(&self.lists, list_of(seat, spin), lock, watch, flags)
     }
@@ -188,8 +194,8 @@ impl Seats {
         self.requests[seat.0 as usize - 1] = None;
     }
 
-    /// A seat acquires a lock of this kind: `wit_held::record` in its list. False, and nothing is changed, where that needs a chunk
-    /// and none is free.
+    /// A seat acquires a lock of this kind: `wit_held::record` in its list. False, and nothing is
+    /// changed, where that needs a chunk and none is free.
     pub fn record(&mut self, seat: SeatNo, spin: bool, taken: Instance) -> bool
         requires seat { IsGiven self.old.seats seat.0 }
         requires once { IsOnce taken.lock.0 (locks_in spin (seat_in self.old seat.0)) }
@@ -200,7 +206,8 @@ impl Seats {
         record(&mut self.lists, list_of(seat, spin), taken)
     }
 
-    /// A seat releases a lock of this kind in this mode: `wit_held::release` in its list, with its errors.
+    /// A seat releases a lock of this kind in this mode: `wit_held::release` in its list, with its
+    /// errors.
     pub fn release(
         &mut self,
         seat: SeatNo,
@@ -211,8 +218,10 @@ impl Seats {
     ) -> Result<bool, Fault>
         requires seat { IsGiven self.old.seats seat.0 }
         requires once { IsOnce lock.0 (locks_in spin (seat_in self.old seat.0)) }
-        ensures result { release_reply result ≡ release_answer watch mode (find (is_of lock.0) (locks_in spin (seat_in self.old seat.0))) }
-        ensures seats { result ≡ Ok true → self.new ≡ with_seat seat.0 (having_released spin lock.0) self.old }
+        ensures result { release_reply result ≡ release_answer watch mode
+            (find (is_of lock.0) (locks_in spin (seat_in self.old seat.0))) }
+        ensures seats { result ≡ Ok true
+            → self.new ≡ with_seat seat.0 (having_released spin lock.0) self.old }
         ensures unchanged { result ≢ Ok true → self.new ≡ self.old }
     {
         release(&mut self.lists, list_of(seat, spin), lock, mode, watch)

@@ -1,6 +1,7 @@
 //! Static lists: why one is refused, and how one is entered.
 
-ghost use Rattle.std.specs.Prelude.{◌≡◌, ◌<◌, ◌≤◌, ◌+◌, ◌++◌, true, false, None, Some, ◌⊎◌, length, drop, string_bytes, IfErr, OnOk, ℕ, List};
+ghost use Rattle.std.specs.Prelude.{◌≡◌, ◌<◌, ◌≤◌, ◌+◌, ◌++◌, true, false, None, Some, ◌⊎◌, length};
+ghost use Rattle.std.specs.Prelude.{drop, string_bytes, IfErr, OnOk, ℕ, List};
 ghost use Rattle.std.specs.List.{list_any};
 ghost use Rattle.wit_model.specs.declared.locks.Class.{Class};
 ghost use Rattle.wit_model.specs.Rules.Types.{enrolled_all, type_number};
@@ -8,7 +9,9 @@ ghost use Rattle.wit_model.specs.Rules.Orders.{listed_pairs, adopted_once};
 ghost use Rattle.wit_model.specs.declared.locks.Origin.TheVariants.{Listed};
 ghost use Rattle.wit_model.specs.Rules.Start.{list_fault, lists_fault, has_bad_pair};
 ghost use Rattle.wit_model.specs.declared.faults.Fault.TheVariants.{BadName, OutOfMemory};
-ghost use Rattle.wit_core.specs.Listed.{listed, all_listed, pairs_of, list_entered, lists_entered, IsWithin, is_back, goes_back, AreRefused, CanBeEnrolled, CanBeAdopted, KeepsRest};
+ghost use Rattle.wit_core.specs.Listed.{listed, all_listed, pairs_of, list_entered, lists_entered};
+ghost use Rattle.wit_core.specs.Listed.{IsWithin, is_back, goes_back, AreRefused, CanBeEnrolled};
+ghost use Rattle.wit_core.specs.Listed.{CanBeAdopted, KeepsRest};
 ghost use Rattle.wit_core.specs.Following.{CanFollow};
 
 use crate::known::Known;
@@ -24,7 +27,8 @@ use wit_table::Table;
 /// Why a verifier can't be made.
 #[derive(Clone, Copy, Debug, PartialEq, Eq)]
 pub struct StartError {
-    /// The static list that is refused, from 1; 0 for the blessed pairs and for want of memory outside the lists.
+    /// The static list that is refused, from 1; 0 for the blessed pairs and for want of memory
+    /// outside the lists.
     pub list: u64,
     /// Why it is refused.
     pub fault: Fault,
@@ -53,7 +57,8 @@ impl Known {
     /// Enters static lists, each behind those before it, where there may be this many types.
     ///
     /// # Errors
-    /// The first list that is refused, from 1, and why; or `OutOfMemory` in place of a list's acceptance.
+    /// The first list that is refused, from 1, and why; or `OutOfMemory` in place of a list's
+    /// acceptance.
     pub fn enter_lists(
         &mut self,
         most: u32,
@@ -62,13 +67,15 @@ impl Known {
         requires most { most ≡ self.old.most_types }
         requires within { IsWithin (length self.old.known.types) self.old.known.orders }
         ensures accepted { OnOk result
-            (lists_fault most 1 (all_listed lists.now) self.old.known.types self.old.known.orders ≡ None) }
+            (lists_fault most 1 (all_listed lists.now) self.old.known.types self.old.known.orders
+            ≡ None) }
         ensures entered { OnOk result (self.new ≡ record self.old {
           known = lists_entered self.old.known (all_listed lists.now);
           spare = self.new.spare;
         }) }
         ensures err { IfErr result (λ e. AreRefused
-            (lists_fault most 1 (all_listed lists.now) self.old.known.types self.old.known.orders) (all_listed lists.now) e.list e.fault) }
+            (lists_fault most 1 (all_listed lists.now) self.old.known.types self.old.known.orders)
+            (all_listed lists.now) e.list e.fault) }
     {
         for (place, list) in lists.iter().enumerate() {
             let number = place as u64 + 1;
@@ -86,15 +93,18 @@ impl Known {
     ) -> Result<(), StartError>
         requires most { most ≡ self.old.most_types }
         requires within { IsWithin (length self.old.known.types) self.old.known.orders }
-        ensures accepted { OnOk result (list_fault most self.old.known.types self.old.known.orders (listed list.now) ≡ None) }
+        ensures accepted { OnOk result
+            (list_fault most self.old.known.types self.old.known.orders (listed list.now) ≡ None) }
         ensures entered { OnOk result (self.new ≡ record self.old {
           known = list_entered self.old.known (listed list.now);
           spare = self.new.spare;
         }) }
         ensures number { IfErr result (λ e. e.list ≡ number) }
         ensures err { IfErr result (λ e.
-            (list_fault most self.old.known.types self.old.known.orders (listed list.now) ≡ Some e.fault)
-            ⊎ ((e.fault ≡ OutOfMemory) × (list_fault most self.old.known.types self.old.known.orders (listed list.now) ≡ None))) }
+            (list_fault most self.old.known.types self.old.known.orders (listed list.now)
+            ≡ Some e.fault)
+            ⊎ ((e.fault ≡ OutOfMemory) × (list_fault most self.old.known.types self.old.known.orders
+            (listed list.now) ≡ None))) }
     {
         if let Some(fault) = self.list_fault(most, list) {
             return Err(StartError {
@@ -114,7 +124,8 @@ impl Known {
     // Why a list is refused, where there may be this many types.
     fn list_fault(&self, most: u32, list: &[(Class, String)]) -> Option<Fault>
         requires { IsWithin (length self.now.known.types) self.now.known.orders }
-        ensures { result ≡ list_fault most self.now.known.types self.now.known.orders (listed list.now) }
+        ensures { result ≡ list_fault most self.now.known.types self.now.known.orders
+            (listed list.now) }
     {
         if has_bad_name(list) {
             return Some(Fault::BadName);
@@ -137,8 +148,8 @@ impl Known {
         None
     }
 
-    // Whether a later entry's type is an earlier one's or before it. So is the second of two neighbours that
-    // is before the first once those before them are adopted.
+    // Whether a later entry's type is an earlier one's or before it. So is the second of two
+    // neighbours that is before the first once those before them are adopted.
     fn goes_back(&self, list: &[(Class, String)]) -> bool
         ensures { result ≡ goes_back self.now.known.types self.now.known.orders (listed list.now) }
     {
@@ -152,7 +163,8 @@ impl Known {
 
     // Whether the type of one of these entries is that of another or before it.
     fn is_behind(&self, first: &(Class, String), list: &[(Class, String)]) -> bool
-        ensures { result ≡ list_any (λ (e : Class × List ℕ). is_back self.now.known.types self.now.known.orders
+        ensures { result ≡ list_any (λ (e : Class × List ℕ).
+            is_back self.now.known.types self.now.known.orders
             (string_bytes first.now.1) e.1) (listed list.now) }
     {
         for entry in list {
@@ -178,7 +190,8 @@ impl Known {
     // Enters a list that isn't refused.
     fn enter_list(&mut self, most: u32, list: &[(Class, String)]) -> Result<(), Fault>
         requires most { most ≡ self.old.most_types }
-        requires accepted { list_fault most self.old.known.types self.old.known.orders (listed list.now) ≡ None }
+        requires accepted { list_fault most self.old.known.types self.old.known.orders
+            (listed list.now) ≡ None }
         ensures ok { OnOk result (self.new ≡ record self.old {
           known = list_entered self.old.known (listed list.now);
           spare = self.new.spare;
@@ -193,13 +206,15 @@ impl Known {
     /// Blesses pairs of names.
     ///
     /// # Errors
-    /// `BadName` where one of them is no name; `OutOfMemory`. The pairs before the one that is refused are blessed then.
+    /// `BadName` where one of them is no name; `OutOfMemory`. The pairs before the one that is
+    /// refused are blessed then.
     pub fn bless_all(&mut self, pairs: &[(String, String)]) -> Result<(), Fault>
         ensures good { OnOk result (has_bad_pair (pairs_of pairs.now) ≡ false) }
         ensures ok { OnOk result (self.new ≡ record self.old {
           known = record self.old.known { blessed = self.old.known.blessed ++ pairs_of pairs.now };
         }) }
-        ensures err { IfErr result (λ e. ((e ≡ BadName) × (has_bad_pair (pairs_of pairs.now) ≡ true)) ⊎ (e ≡ OutOfMemory)) }
+        ensures err { IfErr result (λ e. ((e ≡ BadName)
+            × (has_bad_pair (pairs_of pairs.now) ≡ true)) ⊎ (e ≡ OutOfMemory)) }
     {
         bless_each(&mut self.names, pairs)
     }
@@ -208,9 +223,11 @@ impl Known {
 // Blesses pairs of names, up to one that is refused.
 fn bless_each(names: &mut Table, pairs: &[(String, String)]) -> Result<(), Fault>
     ensures good { OnOk result (has_bad_pair (pairs_of pairs.now) ≡ false) }
-    ensures ok { OnOk result (names.new ≡ record names.old { blessed = names.old.blessed ++ pairs_of pairs.now }) }
+    ensures ok { OnOk result (names.new
+        ≡ record names.old { blessed = names.old.blessed ++ pairs_of pairs.now }) }
     ensures rest { names.new ≡ record names.old { blessed = names.new.blessed } }
-    ensures err { IfErr result (λ e. ((e ≡ BadName) × (has_bad_pair (pairs_of pairs.now) ≡ true)) ⊎ (e ≡ OutOfMemory)) }
+    ensures err { IfErr result (λ e. ((e ≡ BadName) × (has_bad_pair (pairs_of pairs.now) ≡ true))
+        ⊎ (e ≡ OutOfMemory)) }
 {
     for pair in pairs {
         names.bless(&pair.0, &pair.1)?;

@@ -21,12 +21,12 @@ use std::alloc::Global;
 use std::marker::Model;
 use wit_model::{Adoption, Class, Entry, Fault, FileNo, Limits, Profile, Watch};
 
-/// A verifier of lock orders, as witness(4) describes it: it is told of each acquisition and release, keeps
-/// what each seat holds, learns the orders in which types of locks are acquired, and reports a reversal of a
-/// known order, which is a possible deadlock.
+/// A verifier of lock orders, as witness(4) describes it: it is told of each acquisition and
+/// release, keeps what each seat holds, learns the orders in which types of locks are acquired, and
+/// reports a reversal of a known order, which is a possible deadlock.
 ///
-/// Clauses see it as how it began, its history, the files that were named to it, and the call that is prepared. A refused call
-/// changes nothing of these.
+/// Clauses see it as how it began, its history, the files that were named to it, and the call that
+/// is prepared. A refused call changes nothing of these.
 pub struct Verifier {
     pub(crate) alloc: Global,
     pub(crate) limits: Limits,
@@ -40,7 +40,8 @@ pub struct Verifier {
     pub(crate) ready: Option<Ready>,
 }
 
-// Written by hand so that it is one call wherever a verifier goes, and not one for each field of each field.
+// Written by hand so that it is one call wherever a verifier goes, and not one for each field of
+// each field.
 impl Drop for Verifier {
     fn drop(self) {
         let Verifier {
@@ -70,33 +71,38 @@ impl Model for Verifier {
 }
 
 impl Verifier {
-    /// A verifier with these limits, static lists of types in order, and pairs of type names that may be taken
-    /// in either order. The types of the lists get their numbers in the order of the lists, and the order of
-    /// each two neighbours is adopted with the origin `Listed`. Watching is on, and its history is empty.
+    /// A verifier with these limits, static lists of types in order, and pairs of type names that
+    /// may be taken in either order. The types of the lists get their numbers in the order of the
+    /// lists, and the order of each two neighbours is adopted with the origin `Listed`. Watching is
+    /// on, and its history is empty.
     ///
     /// # Errors
-    /// The first list with a fault is named, where lists count from 1, with the first of these faults that is
-    /// anywhere in it: `BadName`; `ClassMismatch` where a name has another class, in this list or before;
-    /// `TypesFull` where it has more new names than there are numbers left; `KindMismatch` where it has both spin
-    /// locks and others; `SameType` where two neighbours have one name; `WrongOrder` where, of two neighbours,
-    /// the second is before the first, once those before them are adopted; `OutOfMemory`. Then, with 0 for the
-    /// list, `BadName` where a blessed name is no name. `OutOfMemory` with 0 for the list, for what is made before
-    /// and after the lists, may stand in place of any answer. Nothing is left of a refused start.
+    /// The first list with a fault is named, where lists count from 1, with the first of these
+    /// faults that is anywhere in it: `BadName`; `ClassMismatch` where a name has another class, in
+    /// this list or before; `TypesFull` where it has more new names than there are numbers left;
+    /// `KindMismatch` where it has both spin locks and others; `SameType` where two neighbours have
+    /// one name; `WrongOrder` where, of two neighbours, the second is before the first, once those
+    /// before them are adopted; `OutOfMemory`. Then, with 0 for the list, `BadName` where a blessed
+    /// name is no name. `OutOfMemory` with 0 for the list, for what is made before and after the
+    /// lists, may stand in place of any answer. Nothing is left of a refused start.
     pub fn new(
         alloc: Global,
         limits: Limits,
         lists: Vec<Vec<(Class, String)>>,
         blessed: Vec<(String, String)>,
     ) -> Result<Verifier, StartError>
-        ensures ok { IfOk result (λ v. (start_fault (start_of Plain limits lists.items blessed.items) ≡ None)
+        ensures ok { IfOk result (λ v.
+            (start_fault (start_of Plain limits lists.items blessed.items) ≡ None)
             × (v ≡ fresh (start_of Plain limits lists.items blessed.items))) }
-        ensures err { IfErr result (λ e. IsRefused (start_of Plain limits lists.items blessed.items) e.list e.fault) }
+        ensures err { IfErr result (λ e. IsRefused (start_of Plain limits lists.items blessed.items)
+            e.list e.fault) }
     {
         Verifier::start(alloc, Profile::Plain, limits, lists, blessed)
     }
 
-    /// The same, of the profile in which a request is compared with all locks of its kind that its seat holds, and not with the last
-    /// one alone: what `new` says of its arguments, its errors and what it makes holds here too. It is for programs that try locks.
+    /// The same, of the profile in which a request is compared with all locks of its kind that its
+    /// seat holds, and not with the last one alone: what `new` says of its arguments, its errors
+    /// and what it makes holds here too. It is for programs that try locks.
     ///
     /// # Errors
     /// Those of `new`.
@@ -106,9 +112,11 @@ impl Verifier {
         lists: Vec<Vec<(Class, String)>>,
         blessed: Vec<(String, String)>,
     ) -> Result<Verifier, StartError>
-        ensures ok { IfOk result (λ v. (start_fault (start_of AllHeld limits lists.items blessed.items) ≡ None)
+        ensures ok { IfOk result (λ v.
+            (start_fault (start_of AllHeld limits lists.items blessed.items) ≡ None)
             × (v ≡ fresh (start_of AllHeld limits lists.items blessed.items))) }
-        ensures err { IfErr result (λ e. IsRefused (start_of AllHeld limits lists.items blessed.items) e.list e.fault) }
+        ensures err { IfErr result (λ e. IsRefused
+            (start_of AllHeld limits lists.items blessed.items) e.list e.fault) }
     {
         Verifier::start(alloc, Profile::AllHeld, limits, lists, blessed)
     }
@@ -121,9 +129,11 @@ impl Verifier {
         lists: Vec<Vec<(Class, String)>>,
         blessed: Vec<(String, String)>,
     ) -> Result<Verifier, StartError>
-        ensures ok { IfOk result (λ v. (start_fault (start_of profile limits lists.items blessed.items) ≡ None)
+        ensures ok { IfOk result (λ v.
+            (start_fault (start_of profile limits lists.items blessed.items) ≡ None)
             × (v ≡ fresh (start_of profile limits lists.items blessed.items))) }
-        ensures err { IfErr result (λ e. IsRefused (start_of profile limits lists.items blessed.items) e.list e.fault) }
+        ensures err { IfErr result (λ e. IsRefused
+            (start_of profile limits lists.items blessed.items) e.list e.fault) }
     {
         let types = limits.types();
         let mut known = Known::new(alloc, types)?;
@@ -143,21 +153,22 @@ impl Verifier {
         })
     }
 
-    /// The number of a source file: a file that was named before keeps its number, a new one gets the next.
-    /// The history stays.
+    /// The number of a source file: a file that was named before keeps its number, a new one gets
+    /// the next. The history stays.
     ///
     /// # Errors
-    /// `BadName` where the text is no file name; `FilesFull` where it is new and 65,535 files have numbers;
-    /// `OutOfMemory` where it is new. The files are then as before.
+    /// `BadName` where the text is no file name; `FilesFull` where it is new and 65,535 files have
+    /// numbers; `OutOfMemory` where it is new. The files are then as before.
     pub fn file(&mut self, name: &str) -> Result<FileNo, Fault>
         ensures { NamesFile self.old name.now result self.new }
     {
         self.known.file(name)
     }
 
-    /// The log: each accepted call with its seat and reply, oldest first. Each reply is the answer of the rules
-    /// after the entries before it, behind a start that isn't refused. While it is clean (nothing was reported or tried, everything
-    /// was watched, each check might teach its order, and nothing is excepted) no seats wait for one another in a circle, by what is
+    /// The log: each accepted call with its seat and reply, oldest first. Each reply is the answer
+    /// of the rules after the entries before it, behind a start that isn't refused. While it is
+    /// clean (nothing was reported or tried, everything was watched, each check might teach its
+    /// order, and nothing is excepted) no seats wait for one another in a circle, by what is
     /// recorded.
     pub fn history(&self) -> &[Entry]
         ensures log { reverse result.now ≡ self.now.history }
@@ -182,11 +193,13 @@ impl Verifier {
         self.watch
     }
 
-    /// The adopted orders with their origins, oldest first: those of static lists, then those that calls taught. All are between
-    /// numbers of types, none stands twice, and by them no type is before itself.
+    /// The adopted orders with their origins, oldest first: those of static lists, then those that
+    /// calls taught. All are between numbers of types, none stands twice, and by them no type is
+    /// before itself.
     pub fn orders(&self) -> &[Adoption]
         ensures orders { reverse result.now ≡ orders_of self.now.start self.now.history }
-        ensures among { OrdersAmong self.now.start.sizes.types (orders_of self.now.start self.now.history) }
+        ensures among { OrdersAmong self.now.start.sizes.types
+            (orders_of self.now.start self.now.history) }
         ensures distinct { AreDistinct (orders_of self.now.start self.now.history) }
         ensures sound { IsSound (orders_of self.now.start self.now.history) }
     {

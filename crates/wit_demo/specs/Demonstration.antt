@@ -15,7 +15,8 @@ abbrev pub demo_start : Start
 demo_start = record { sizes = sizes_of 6 2 2 12 4096; profile = Plain; lists = []; blessed = [] }
 
 abbrev pub sum_of : Story → Summary
-sum_of s = record { calls = length s.history; reports = reports_of s.history; circle = false; bad = None }
+sum_of s =
+    record { calls = length s.history; reports = reports_of s.history; circle = false; bad = None }
 
 -- this sums up a verifier's log, which is legal behind the start
 pub record IsTold (summary : Summary) : Type 0 where

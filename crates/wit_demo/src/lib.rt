@@ -1,4 +1,5 @@
-//! The demonstration: four threads take two mutexes in one order, and then one seat takes them in the other.
+//! The demonstration: four threads take two mutexes in one order, and then one seat takes them in
+//! the other.
 #![tactic(auto)]
 
 mod rounds;

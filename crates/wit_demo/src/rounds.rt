@@ -36,7 +36,8 @@ fn take_turns<J: Room, R: Wait>(
     Ok(())
 }
 
-/// Takes a mutex at this line of the file `demo`, and at the next line a second one, and lets both go.
+/// Takes a mutex at this line of the file `demo`, and at the next line a second one, and lets both
+/// go.
 ///
 /// # Errors
 /// Those of the verifier's calls.

@@ -15,9 +15,9 @@ use wit_model::{Cause, Fault, Limits};
 use wit_shared::{Opened, Reason};
 use wit_trace::{ReplayError, Summary};
 
-/// Shows what the verifier does for threads: four of them take a mutex `A` and then a mutex `B` a hundred times, and when
-/// they have ended one seat takes `B` and then `A`. Then the reports are written, and how many calls, orders and
-/// reports there were.
+/// Shows what the verifier does for threads: four of them take a mutex `A` and then a mutex `B` a
+/// hundred times, and when they have ended one seat takes `B` and then `A`. Then the reports are
+/// written, and how many calls, orders and reports there were.
 ///
 /// A fault of a call ends it as a bad line 0, with nothing written.
 ///
@@ -28,7 +28,8 @@ pub fn demo<R: Threads + Wait + Sync, W: Write>(
     alloc: Global,
     output: &mut W,
 ) -> Result<Summary, ReplayError>
-    ensures { IfOk result (λ summary. IsTold summary ⊎ IsEnded (W.contents output.old) (W.contents output.new) summary) }
+    ensures { IfOk result (λ summary. IsTold summary
+        ⊎ IsEnded (W.contents output.old) (W.contents output.new) summary) }
 {
     match show(rt, alloc) {
         Ok(verifier) => tell(alloc, &verifier, output),

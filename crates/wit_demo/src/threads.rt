@@ -13,7 +13,8 @@ use wit_locks::Mtx;
 use wit_model::{Fault, LockFlags};
 use wit_shared::{Opened, Room, Seat, Shared};
 
-/// Runs the demonstration, and gives the verifier back. Where a thread can't be started its work is done in this one.
+/// Runs the demonstration, and gives the verifier back. Where a thread can't be started its work is
+/// done in this one.
 ///
 /// # Errors
 /// Those of the calls.

@@ -76,8 +76,8 @@ fn header_keyword(word: &[u8]) -> Option<Keyword>
     }
 }
 
-// The keyword that a word is, but for that of the header. It is compared in place, byte by byte, which is faster
-// than by `==`.
+// The keyword that a word is, but for that of the header. It is compared in place, byte by byte,
+// which is faster than by `==`.
 #[tactic(auto, unfolding(wit_model::specs::Trace::Reading::keyword_named))]
 #[inline(always)]
 fn compared(word: &[u8]) -> Option<Keyword>

@@ -1,7 +1,8 @@
 //! Lines on a lock, read where they lie.
 
 ghost use Rattle.std.specs.Prelude.{◌≡◌, IfOk};
-ghost use Rattle.wit_model.specs.Trace.Reading.{check_of, try_of, unlock_of, plain_of, step_of, try_take_of, line_of};
+ghost use Rattle.wit_model.specs.Trace.Reading.{check_of, try_of, unlock_of, plain_of, step_of};
+ghost use Rattle.wit_model.specs.Trace.Reading.{try_take_of, line_of};
 ghost use Rattle.wit_model.specs.declared.lines.Line.TheVariants.{OnLock};
 ghost use Rattle.wit_grammar.specs.Lines.{GivesIfFound, Gives, as_line};
 

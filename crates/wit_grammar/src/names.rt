@@ -1,8 +1,10 @@
-//! The names of a line, with or without quotation marks, and lists of them. Each reader gives a value and the bytes after it, or
-//! `LineError::SYNTAX` where the bytes begin with none; `LineError::Memory` where a growth was refused.
+//! The names of a line, with or without quotation marks, and lists of them. Each reader gives a
+//! value and the bytes after it, or `LineError::SYNTAX` where the bytes begin with none;
+//! `LineError::Memory` where a growth was refused.
 
 ghost use Rattle.wit_model.specs.Rules.Names.{is_name, is_file_name};
-ghost use Rattle.wit_model.specs.Trace.Reading.{parted_at_last, accepted, site_of, field_at, leading_quoted, optional, leading_type, whole_list};
+ghost use Rattle.wit_model.specs.Trace.Reading.{parted_at_last, accepted, site_of, field_at};
+ghost use Rattle.wit_model.specs.Trace.Reading.{leading_quoted, optional, leading_type, whole_list};
 ghost use Rattle.wit_grammar.specs.Lines.{Gives};
 
 use crate::errors::LineError;

@@ -1,8 +1,11 @@
-//! The numbers of a line: each reader gives a number and the bytes after it, or `LineError::SYNTAX` where the bytes begin with none.
+//! The numbers of a line: each reader gives a number and the bytes after it, or `LineError::SYNTAX`
+//! where the bytes begin with none.
 
-ghost use Rattle.std.specs.Prelude.{◌+◌, ◌*◌, ◌≡◌, ◌≤◌, ◌<◌, ◌==◌, ◌&&◌, ◌||◌, not, length, true, None, IfOk, IfSome, slice_index};
+ghost use Rattle.std.specs.Prelude.{◌+◌, ◌*◌, ◌≡◌, ◌≤◌, ◌<◌, ◌==◌, ◌&&◌, ◌||◌, not, length, true};
+ghost use Rattle.std.specs.Prelude.{None, IfOk, IfSome, slice_index};
 ghost use Rattle.std.specs.Char.{is_ascii_digit, digit_value};
-ghost use Rattle.wit_model.specs.Trace.Reading.{number_of, field_at, behind, leading_count, leading_seat, leading_lock};
+ghost use Rattle.wit_model.specs.Trace.Reading.{number_of, field_at, behind, leading_count};
+ghost use Rattle.wit_model.specs.Trace.Reading.{leading_seat, leading_lock};
 ghost use Rattle.wit_grammar.specs.Lines.{Gives, leading_number};
 
 use crate::errors::LineError;
@@ -23,7 +26,8 @@ fn begins_numeral(word: &[u8]) -> bool
 fn with_digit(most: u32, number: u32, byte: u8) -> Option<u32>
     ensures some { IfSome result (λ n. (is_ascii_digit byte ≡ true)
         × (n ≡ number * 10 + digit_value byte) × (n ≤ most)) }
-    ensures none { result ≡ None → is_ascii_digit byte ≡ true → most < number * 10 + digit_value byte }
+    ensures none { result ≡ None → is_ascii_digit byte ≡ true
+        → most < number * 10 + digit_value byte }
 {
     if !byte.is_ascii_digit() {
         return None;
@@ -35,7 +39,8 @@ fn with_digit(most: u32, number: u32, byte: u8) -> Option<u32>
     Some(more as u32)
 }
 
-/// The number that a word spells, without leading zeros and up to this bound; `LineError::SYNTAX` where it spells none.
+/// The number that a word spells, without leading zeros and up to this bound; `LineError::SYNTAX`
+/// where it spells none.
 #[inline(always)]
 pub fn number_of(most: u32, word: &[u8]) -> Result<u32, LineError>
     ensures value { Gives (λ n. n) result (number_of (most + 1) word.now) }
@@ -54,7 +59,8 @@ pub fn number_of(most: u32, word: &[u8]) -> Result<u32, LineError>
     Ok(number)
 }
 
-/// The number that the bytes up to the next space or the end spell, without leading zeros, and the bytes from there on. One look.
+/// The number that the bytes up to the next space or the end spell, without leading zeros, and the
+/// bytes from there on. One look.
 #[inline(always)]
 fn leading_number(most: u32, bytes: &[u8]) -> Result<(u32, &[u8]), LineError>
     ensures value { Gives (λ x. (x.0, x.1.now)) result

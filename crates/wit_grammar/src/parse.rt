@@ -4,7 +4,8 @@ ghost use Rattle.std.specs.Prelude.{◌≡◌, ◌≤◌, ◌<◌, ◌↔◌, le
 ghost use Rattle.wit_model.specs.declared.lines.Line.{Line};
 ghost use Rattle.wit_model.specs.declared.lines.Cause.TheVariants.{Long};
 ghost use Rattle.wit_model.specs.Trace.Spelling.{Spells};
-ghost use Rattle.wit_model.specs.Trace.Reading.{header_of, profile_of, order_of, bless_of, init_of, fields_of, line_of};
+ghost use Rattle.wit_model.specs.Trace.Reading.{header_of, profile_of, order_of, bless_of, init_of};
+ghost use Rattle.wit_model.specs.Trace.Reading.{fields_of, line_of};
 ghost use Rattle.wit_grammar.specs.declared.errors.LineError.TheVariants.{Bad};
 ghost use Rattle.wit_grammar.specs.Lines.{Gives, IsWhy};
 
@@ -22,8 +23,9 @@ pub const LONGEST: usize = 4096;
 /// The line that the bytes spell; the line feed that ends a line isn't among them.
 ///
 /// # Errors
-/// `Bad(Cause::Long)` exactly where there are more than 4,096 bytes. `Bad(Cause::Syntax)` where there
-/// are at most so many and they spell no line. No other cause. `Memory` where a growth was refused.
+/// `Bad(Cause::Long)` exactly where there are more than 4,096 bytes. `Bad(Cause::Syntax)` where
+/// there are at most so many and they spell no line. No other cause. `Memory` where a growth was
+/// refused.
 pub fn parse_line(alloc: Global, bytes: &[u8]) -> Result<Line, LineError>
     ensures found { IfOk result (λ line. Spells bytes.now line × (length bytes.now ≤ LONGEST)) }
     ensures only { (line : Line) → Spells bytes.now line → length bytes.now ≤ LONGEST

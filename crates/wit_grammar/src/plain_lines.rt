@@ -1,8 +1,9 @@
-//! Assertions, warnings, defined orders and watch levels: lines without text. Each reader takes what stands behind the keyword,
-//! and answers `LineError::SYNTAX` where that isn't its fields.
+//! Assertions, warnings, defined orders and watch levels: lines without text. Each reader takes
+//! what stands behind the keyword, and answers `LineError::SYNTAX` where that isn't its fields.
 
 ghost use Rattle.std.specs.Prelude.{◌≡◌};
-ghost use Rattle.wit_model.specs.Trace.Reading.{lock_if_any, assert_of, warn_of, define_of, watch_line};
+ghost use Rattle.wit_model.specs.Trace.Reading.{lock_if_any, assert_of, warn_of, define_of};
+ghost use Rattle.wit_model.specs.Trace.Reading.{watch_line};
 ghost use Rattle.wit_grammar.specs.Lines.{Gives};
 
 use crate::errors::LineError;

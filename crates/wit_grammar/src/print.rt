@@ -3,7 +3,8 @@
 ghost use Rattle.std.specs.Prelude.{◌≡◌, [], ◌++◌, ◌∷◌, IfOk, IfErr};
 ghost use Rattle.std.specs.Fmt.{decimal};
 ghost use Rattle.wit_model.specs.Trace.Spelling.{keyword_text, number_if_any, spelling};
-ghost use Rattle.wit_model.specs.declared.lines.Line.TheVariants.{Header, Order, Bless, Init, Assert, Warn, Define};
+ghost use Rattle.wit_model.specs.declared.lines.Line.TheVariants.{Header, Order, Bless, Init};
+ghost use Rattle.wit_model.specs.declared.lines.Line.TheVariants.{Assert, Warn, Define};
 ghost use Rattle.wit_model.specs.declared.lines.Line.TheVariants as lines;
 ghost use Rattle.wit_grammar.specs.Lines.{IsPrelude, IsSpelled};
 ghost use Rattle.wit_model.specs.declared.faults.Fault.TheVariants.{OutOfMemory};
@@ -85,7 +86,8 @@ fn spell_header(
     locks: u32,
     chunks: u32,
 ) -> Result<Vec<u8>, AllocError>
-    ensures { IfOk result (λ bytes. bytes.items ≡ spelling (Header version seats types locks chunks)) }
+    ensures { IfOk result (λ bytes. bytes.items
+        ≡ spelling (Header version seats types locks chunks)) }
 {
     let mut out = Vec::from_slice(alloc, keyword_text(Keyword::Header))?;
     put_word(&mut out, version_text(version))?;

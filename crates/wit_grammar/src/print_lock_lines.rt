@@ -48,7 +48,8 @@ fn spell_check(
     file: &FileName,
     line: u32,
 ) -> Result<Vec<u8>, AllocError>
-    ensures { IfOk result (λ bytes. bytes.items ≡ spelling (OnLock (Check seat lock mode ops file.now line))) }
+    ensures { IfOk result (λ bytes. bytes.items
+        ≡ spelling (OnLock (Check seat lock mode ops file.now line))) }
 {
     let mut out = call_on_lock(alloc, Keyword::Check, seat, lock)?;
     put_word(&mut out, mode_text(mode))?;
@@ -69,7 +70,8 @@ fn spell_step(
     lock: LockNo,
     step: RawStep,
 ) -> Result<Vec<u8>, AllocError>
-    ensures { IfOk result (λ bytes. bytes.items ≡ spelling (OnLock (lock_lines.Step seat lock step))) }
+    ensures { IfOk result (λ bytes. bytes.items
+        ≡ spelling (OnLock (lock_lines.Step seat lock step))) }
 {
     let mut out = Vec::new(alloc);
     put_step(&mut out, seat, lock, step)?;
@@ -114,7 +116,8 @@ fn spell_try(
     file: &FileName,
     line: u32,
 ) -> Result<Vec<u8>, AllocError>
-    ensures { IfOk result (λ bytes. bytes.items ≡ spelling (OnLock (Try seat lock mode file.now line))) }
+    ensures { IfOk result (λ bytes. bytes.items
+        ≡ spelling (OnLock (Try seat lock mode file.now line))) }
 {
     let mut out = call_on_lock(alloc, Keyword::Try, seat, lock)?;
     put_word(&mut out, mode_text(mode))?;

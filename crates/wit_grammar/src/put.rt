@@ -2,7 +2,9 @@
 
 ghost use Rattle.std.specs.Prelude.{◌≡◌, ◌++◌, ◌∷◌, OnOk};
 ghost use Rattle.std.specs.Fmt.{decimal};
-ghost use Rattle.wit_model.specs.Trace.Spelling.{keyword_text, version_text, class_text, mode_text, level_text, chosen_letters, flags_text, quoted, site_text, spaced, lock_fields, list_fields};
+ghost use Rattle.wit_model.specs.Trace.Spelling.{keyword_text, version_text, class_text, mode_text};
+ghost use Rattle.wit_model.specs.Trace.Spelling.{level_text, chosen_letters, flags_text, quoted};
+ghost use Rattle.wit_model.specs.Trace.Spelling.{site_text, spaced, lock_fields, list_fields};
 
 use crate::keywords::keyword_text;
 use crate::letters;
@@ -41,7 +43,8 @@ fn put_digits(out: &mut Vec<u8>, number: u32) -> Result<(), AllocError>
 
 /// A number behind a fixed word.
 pub fn put_count(out: &mut Vec<u8>, label: &[u8], number: u32) -> Result<(), AllocError>
-    ensures { OnOk result (out.new.items ≡ out.old.items ++ 32 ∷ (label.now ++ 32 ∷ decimal number)) }
+    ensures { OnOk result (out.new.items
+        ≡ out.old.items ++ 32 ∷ (label.now ++ 32 ∷ decimal number)) }
 {
     put_word(out, label)?;
     put_number(out, number)

@@ -3,7 +3,9 @@
 ghost use Rattle.std.specs.Prelude.{◌≡◌, ◌≤◌, ◌<◌, ◌^◌, List, ℕ, ◌↔◌, length, IsTrue, IfSome};
 ghost use Rattle.std.specs.List.{list_all};
 ghost use Rattle.wit_model.specs.Rules.Names.{is_name, is_file_name};
-ghost use Rattle.wit_model.specs.Trace.Spelling.{spaced, list_fields, spelling, IsSpellableLock, IsSpellableList, IsNamed, IsSpellableOnLock, IsSpellable};
+ghost use Rattle.wit_model.specs.Trace.Spelling.{spaced, list_fields, spelling, IsSpellableLock};
+ghost use Rattle.wit_model.specs.Trace.Spelling.{IsSpellableList, IsNamed, IsSpellableOnLock};
+ghost use Rattle.wit_model.specs.Trace.Spelling.{IsSpellable};
 ghost use Rattle.wit_model.specs.declared.locks.Class.{Class};
 ghost use Rattle.wit_grammar.specs.Lines.{IsPrelude, IsSpelled};
 

@@ -1,7 +1,10 @@
-//! The words of a line: each reader gives a value and the bytes after it, or `LineError::SYNTAX` where the bytes begin with none.
+//! The words of a line: each reader gives a value and the bytes after it, or `LineError::SYNTAX`
+//! where the bytes begin with none.
 
 ghost use Rattle.std.specs.Prelude.{◌≡◌, ◌≤◌, ◌<◌, ◌^◌, length, IfSome};
-ghost use Rattle.wit_model.specs.Trace.Reading.{after, byte_place, until, version_named, class_named, mode_named, level_named, bits_of, flags_of, leading_word, field_at, fixed_at};
+ghost use Rattle.wit_model.specs.Trace.Reading.{after, byte_place, until, version_named};
+ghost use Rattle.wit_model.specs.Trace.Reading.{class_named, mode_named, level_named, bits_of};
+ghost use Rattle.wit_model.specs.Trace.Reading.{flags_of, leading_word, field_at, fixed_at};
 ghost use Rattle.wit_grammar.specs.Lines.{Gives};
 
 use crate::errors::LineError;
@@ -158,7 +161,8 @@ fn bits_of(letters: &[u8], word: &[u8]) -> Option<u8>
     }
 }
 
-/// Flags: `-` for none, else letters of these in their order, none twice. The first letter is bit 0.
+/// Flags: `-` for none, else letters of these in their order, none twice. The first letter is bit
+/// 0.
 #[tactic(auto, unfolding(wit_model::specs::Trace::Reading::flags_of))]
 #[inline(always)]
 pub fn flags<'a>(letters: &[u8], bytes: &'a [u8]) -> Result<(u8, &'a [u8]), LineError>

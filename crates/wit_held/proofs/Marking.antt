@@ -1,5 +1,6 @@
 -- What a mark of a lock that stands once makes of the lists.
-use Rattle.std.proofs.Common.{◌≡◌, ℕ, ◌-◌, Bool, [], map, find, position, get_or, None, Some, ap, sym, ◌∙◌}
+use Rattle.std.proofs.Common.{◌≡◌, ℕ, ◌-◌, Bool, [], map, find, position, get_or, None, Some, ap}
+use Rattle.std.proofs.Common.{sym, ◌∙◌}
 use Rattle.std.proofs.lemmas.List.{set-get_or}
 use Rattle.wit_model.specs.declared.locks.Instance.{Instance}
 use Rattle.wit_model.specs.Rules.Verdict.{is_of}
@@ -16,10 +17,14 @@ module _ (c : Chunks) (list l : ℕ) (norelease : Bool) where
   mark-none missed =
       sym
       (ap (set_groups c list)
-      (absent-all l (map (at_lock l (marked norelease))) (change-absent l (marked norelease)) (groups_of c list) (missed-stands l (chain_of c list) missed))
+      (absent-all l (map (at_lock l (marked norelease))) (change-absent l (marked norelease))
+      (groups_of c list) (missed-stands l (chain_of c list) missed))
       ∙ set-get_or c.groups (list - 1) [])
 
   -- the lock is there once
-  pub mark-one : (i : ℕ) (d : Instance) → Some i ≡ position (is_of l) (chain_of c list) → d ≡ get_or (chain_of c list) i d → IsOnce l (chain_of c list)
-      → set_groups c list (replaced_at i (marked norelease d) (groups_of c list)) ≡ after_mark c list l norelease
-  mark-one i d found at once = ap (set_groups c list) (changed c list l i d found at once (marked norelease))
+  pub mark-one : (i : ℕ) (d : Instance) → Some i ≡ position (is_of l) (chain_of c list)
+      → d ≡ get_or (chain_of c list) i d → IsOnce l (chain_of c list)
+      → set_groups c list (replaced_at i (marked norelease d) (groups_of c list))
+      ≡ after_mark c list l norelease
+  mark-one i d found at once =
+      ap (set_groups c list) (changed c list l i d found at once (marked norelease))

@@ -1,5 +1,6 @@
 -- What an acquisition, a release and a turn to another mode make of a list of held locks.
-use Rattle.std.specs.Prelude.{ℕ, ◌+◌, ◌-◌, ◌<◌, ◌≤◌, Bool, not, ◌&&◌, List, length, Option, None, Some, is_some, map, filter, find, nat_lt, if◌then◌else◌}
+use Rattle.std.specs.Prelude.{ℕ, ◌+◌, ◌-◌, ◌<◌, ◌≤◌, Bool, not, ◌&&◌, List, length, Option, None}
+use Rattle.std.specs.Prelude.{Some, is_some, map, filter, find, nat_lt, if◌then◌else◌}
 use Rattle.wit_model.specs.declared.locks.Mode.{Mode}
 use Rattle.wit_model.specs.declared.locks.Site.{Site}
 use Rattle.wit_model.specs.declared.locks.Instance.{Instance}
@@ -45,7 +46,8 @@ abbrev pub recorded_by : Instance → List (List Instance) → Option Instance �
 recorded_by i gs None = joined i gs
 recorded_by i gs (Some held) = change_lock i.lock.0 (recursed i.site) gs
 
--- a list's groups after an acquisition: a held lock's count rises and it has the new site, a new one goes to the end
+-- a list's groups after an acquisition: a held lock's count rises and it has the new site, a new
+-- one goes to the end
 abbrev pub recorded : Instance → List (List Instance) → List (List Instance)
 recorded i gs = recorded_by i gs (find (is_of i.lock.0) (flat gs))
 
@@ -54,7 +56,8 @@ is_other l i = not (is_of l i)
 
 abbrev pub forgotten_by : ℕ → List (List Instance) → Option Instance → List (List Instance)
 forgotten_by l gs None = gs
-forgotten_by l gs (Some held) = if nat_lt 0 held.count then change_lock l fewer gs else left (is_other l) gs
+forgotten_by l gs (Some held) =
+    if nat_lt 0 held.count then change_lock l fewer gs else left (is_other l) gs
 
 -- a list's groups after a release: the lock's count falls, or it goes out where it has none
 abbrev pub forgotten : ℕ → List (List Instance) → List (List Instance)
@@ -65,7 +68,8 @@ abbrev pub is_unrecorded : Chunks → ℕ → ℕ → Bool
 is_unrecorded c list l = not (is_some (find (is_of l) (chain_of c list))) && is_refused c list
 
 abbrev pub after_record : Chunks → ℕ → Instance → List (List (List Instance))
-after_record c list i = if is_unrecorded c list i.lock.0 then c.groups else set_groups c list (recorded i (groups_of c list))
+after_record c list i = if is_unrecorded c list i.lock.0 then c.groups
+    else set_groups c list (recorded i (groups_of c list))
 
 abbrev pub after_forget : Chunks → ℕ → ℕ → List (List (List Instance))
 after_forget c list l = set_groups c list (forgotten l (groups_of c list))

@@ -26,4 +26,6 @@ HaveRoom chunks = HaveRoomFor CHUNK chunks
 
 -- the list at this place has room for one more chunk
 abbrev pub HasSpaceAt : {A : Type 0} → ℕ → List (Vec ℕ A) → Type 0
-HasSpaceAt {A} list lists = (d : Vec ℕ A) → vec_len (slice_index_or lists list d) < vec_capacity (slice_index_or lists list d)
+HasSpaceAt {A} list lists =
+    (d : Vec ℕ A) → vec_len (slice_index_or lists list d)
+    < vec_capacity (slice_index_or lists list d)

@@ -3,15 +3,17 @@
 ghost use Rattle.std.specs.Prelude.{◌≡◌, ◌≤◌, None, Some, find};
 ghost use Rattle.wit_model.specs.Rules.Verdict.{is_of};
 ghost use Rattle.wit_model.specs.Rules.Chunks.{IsList, chain_of};
-ghost use Rattle.wit_model.specs.Rules.Assertions.{is_with_count, is_assertion, asserted, assertion};
+ghost use Rattle.wit_model.specs.Rules.Assertions.{is_with_count, is_assertion, asserted};
+ghost use Rattle.wit_model.specs.Rules.Assertions.{assertion};
 
 use bitflags::Flags;
 use wit_model::chunks::Lists;
 use wit_model::{AssertAnswer, Instance, LockAssert, LockNo, Watch};
 
-/// What an assertion about a lock comes to, by the list that holds it where it is held (`witness_assert` of witness(4)): `Skipped` where
-/// not everything is watched, `Invalid` where no assertion has these flags; else `Holds`, or the first thing that isn't so. It changes
-/// nothing and takes no memory.
+/// What an assertion about a lock comes to, by the list that holds it where it is held
+/// (`witness_assert` of witness(4)): `Skipped` where not everything is watched, `Invalid` where no
+/// assertion has these flags; else `Holds`, or the first thing that isn't so. It changes nothing
+/// and takes no memory.
 pub fn assert_is<L: Lists>(
     lists: &L,
     list: u16,
@@ -20,7 +22,8 @@ pub fn assert_is<L: Lists>(
     flags: LockAssert,
 ) -> AssertAnswer
     requires { IsList (L.chunks lists.now) list }
-    ensures { result ≡ assertion watch flags (find (is_of lock.0) (chain_of (L.chunks lists.now) list)) }
+    ensures { result ≡ assertion watch flags
+        (find (is_of lock.0) (chain_of (L.chunks lists.now) list)) }
 {
     if !watch.is_on() {
         return AssertAnswer::Skipped;
@@ -34,7 +37,8 @@ pub fn assert_is<L: Lists>(
     }
 }
 
-// Whether an assertion may have these flags: that the lock isn't held; or that it is, perhaps in a mode, and perhaps how often.
+// Whether an assertion may have these flags: that the lock isn't held; or that it is, perhaps in a
+// mode, and perhaps how often.
 fn is_assertion(flags: LockAssert) -> bool
     ensures { result ≡ is_assertion flags.0 }
 {

@@ -1,5 +1,5 @@
-//! What an acquisition and a turn to another mode make of a list of held locks, and how a lock is held, over any lists. Nothing here takes
-//! memory.
+//! What an acquisition and a turn to another mode make of a list of held locks, and how a lock is
+//! held, over any lists. Nothing here takes memory.
 
 ghost use Rattle.std.specs.Prelude.{◌≡◌, false, not, find};
 ghost use Rattle.std.specs.Option.{option_map};
@@ -12,11 +12,12 @@ use crate::spots::find_held;
 use wit_model::chunks::Lists;
 use wit_model::{Instance, LockNo, Mode};
 
-/// Records an acquisition in a list that holds the lock once at most: a held lock's count rises by one, it has the new site, and it
-/// keeps its mode; a new one goes to the end as it is given. False, and nothing is changed, exactly where that needs a chunk and none
-/// is free.
+/// Records an acquisition in a list that holds the lock once at most: a held lock's count rises by
+/// one, it has the new site, and it keeps its mode; a new one goes to the end as it is given.
+/// False, and nothing is changed, exactly where that needs a chunk and none is free.
 ///
-/// A held lock's count is below 65,535, since a count has 16 bits. A verifier refuses a deeper recursion before it comes here.
+/// A held lock's count is below 65,535, since a count has 16 bits. A verifier refuses a deeper
+/// recursion before it comes here.
 pub fn record<L: Lists>(lists: &mut L, list: u16, taken: Instance) -> bool
     requires list { IsList (L.chunks lists.old) list }
     requires once { IsOnce taken.lock.0 (chain_of (L.chunks lists.old) list) }
@@ -39,7 +40,8 @@ pub fn record<L: Lists>(lists: &mut L, list: u16, taken: Instance) -> bool
     }
 }
 
-/// A lock as a list holds it that holds it once at most; `None` where it doesn't. The list is looked through newest group first.
+/// A lock as a list holds it that holds it once at most; `None` where it doesn't. The list is
+/// looked through newest group first.
 pub fn held<L: Lists>(lists: &L, list: u16, lock: LockNo) -> Option<Instance>
     requires list { IsList (L.chunks lists.now) list }
     requires once { IsOnce lock.0 (chain_of (L.chunks lists.now) list) }
@@ -62,7 +64,8 @@ fn held_lock<L: Lists>(lists: &L, list: u16, lock: LockNo) -> Option<Instance>
 /// How often a lock was acquired again: `None` where the list doesn't hold it.
 pub fn recursion<L: Lists>(lists: &L, list: u16, lock: LockNo) -> Option<u16>
     requires { IsList (L.chunks lists.now) list }
-    ensures { result ≡ option_map (λ (i : Instance). i.count) (find (is_of lock.0) (chain_of (L.chunks lists.now) list)) }
+    ensures { result ≡ option_map (λ (i : Instance). i.count)
+        (find (is_of lock.0) (chain_of (L.chunks lists.now) list)) }
 {
     Some(held_lock(lists, list, lock)?.count)
 }
@@ -70,17 +73,19 @@ pub fn recursion<L: Lists>(lists: &L, list: u16, lock: LockNo) -> Option<u16>
 /// How a lock is held: `None` where the list doesn't hold it.
 pub fn mode<L: Lists>(lists: &L, list: u16, lock: LockNo) -> Option<Mode>
     requires { IsList (L.chunks lists.now) list }
-    ensures { result ≡ option_map (λ (i : Instance). i.mode) (find (is_of lock.0) (chain_of (L.chunks lists.now) list)) }
+    ensures { result ≡ option_map (λ (i : Instance). i.mode)
+        (find (is_of lock.0) (chain_of (L.chunks lists.now) list)) }
 {
     Some(held_lock(lists, list, lock)?.mode)
 }
 
-/// Turns a lock that the list holds once at most to another mode: its count and its site stay. Nothing is changed where the list
-/// doesn't hold it.
+/// Turns a lock that the list holds once at most to another mode: its count and its site stay.
+/// Nothing is changed where the list doesn't hold it.
 pub fn set_mode<L: Lists>(lists: &mut L, list: u16, lock: LockNo, mode: Mode)
     requires list { IsList (L.chunks lists.old) list }
     requires once { IsOnce lock.0 (chain_of (L.chunks lists.old) list) }
-    ensures groups { (L.chunks lists.new).groups ≡ after_turn (L.chunks lists.old) list lock.0 mode }
+    ensures groups { (L.chunks lists.new).groups
+        ≡ after_turn (L.chunks lists.old) list lock.0 mode }
     ensures size { (L.chunks lists.new).size ≡ (L.chunks lists.old).size }
     ensures placed { IsPlaced (L.chunks lists.old) → IsPlaced (L.chunks lists.new) }
 {

@@ -1,4 +1,5 @@
-//! The lists of locks that the seats of a verifier hold: chunks on vectors, and what an acquisition and a release make of a list.
+//! The lists of locks that the seats of a verifier hold: chunks on vectors, and what an acquisition
+//! and a release make of a list.
 #![tactic(auto)]
 
 mod assertions;

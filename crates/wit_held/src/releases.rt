@@ -1,4 +1,5 @@
-//! What a release makes of a list of held locks, over any lists, and whether it may be. Nothing here takes memory.
+//! What a release makes of a list of held locks, over any lists, and whether it may be. Nothing
+//! here takes memory.
 
 ghost use Rattle.std.specs.Prelude.{◌≡◌, ◌≢◌, true, find, None, Some, Ok, Err, OnOk, IfErr};
 ghost use Rattle.wit_model.specs.declared.calls.Reply.TheVariants.{Unlocked};
@@ -14,8 +15,8 @@ use crate::spots::{Found, find_held};
 use wit_model::chunks::Lists;
 use wit_model::{Fault, Instance, LockNo, Mode, Watch};
 
-/// Takes an acquisition back in a list that holds the lock once at most: its count falls by one, or it goes out where its count is 0.
-/// Nothing is changed where the list doesn't hold it.
+/// Takes an acquisition back in a list that holds the lock once at most: its count falls by one, or
+/// it goes out where its count is 0. Nothing is changed where the list doesn't hold it.
 pub fn forget<L: Lists>(lists: &mut L, list: u16, lock: LockNo)
     requires list { IsList (L.chunks lists.old) list }
     requires once { IsOnce lock.0 (chain_of (L.chunks lists.old) list) }
@@ -28,12 +29,14 @@ pub fn forget<L: Lists>(lists: &mut L, list: u16, lock: LockNo)
     }
 }
 
-/// Records a release in this mode in a list that holds the lock once at most: an acquisition is taken back as by `forget`. Where not
-/// everything is watched, any release of a held lock is recorded, and one of another lock is passed over: false.
+/// Records a release in this mode in a list that holds the lock once at most: an acquisition is
+/// taken back as by `forget`. Where not everything is watched, any release of a held lock is
+/// recorded, and one of another lock is passed over: false.
 ///
 /// # Errors
-/// Where everything is watched, and then nothing is changed: `NotLocked`; `SharedUnlock` and `ExclusiveUnlock` where the lock is held in
-/// the other mode; `ForbiddenUnlock` where it must not be released and was acquired once.
+/// Where everything is watched, and then nothing is changed: `NotLocked`; `SharedUnlock` and
+/// `ExclusiveUnlock` where the lock is held in the other mode; `ForbiddenUnlock` where it must not
+/// be released and was acquired once.
 pub fn release<L: Lists>(
     lists: &mut L,
     list: u16,
@@ -43,8 +46,10 @@ pub fn release<L: Lists>(
 ) -> Result<bool, Fault>
     requires list { IsList (L.chunks lists.old) list }
     requires once { IsOnce lock.0 (chain_of (L.chunks lists.old) list) }
-    ensures result { release_reply result ≡ release_answer watch mode (find (is_of lock.0) (chain_of (L.chunks lists.old) list)) }
-    ensures groups { result ≡ Ok true → (L.chunks lists.new).groups ≡ after_forget (L.chunks lists.old) list lock.0 }
+    ensures result { release_reply result
+        ≡ release_answer watch mode (find (is_of lock.0) (chain_of (L.chunks lists.old) list)) }
+    ensures groups { result ≡ Ok true → (L.chunks lists.new).groups
+        ≡ after_forget (L.chunks lists.old) list lock.0 }
     ensures size { (L.chunks lists.new).size ≡ (L.chunks lists.old).size }
     ensures placed { IsPlaced (L.chunks lists.old) → IsPlaced (L.chunks lists.new) }
     ensures unchanged { result ≢ Ok true → L.chunks lists.new ≡ L.chunks lists.old }
@@ -64,7 +69,8 @@ fn take_back<L: Lists>(lists: &mut L, list: u16, there: Found)
     requires list { IsList (L.chunks lists.old) list }
     requires once { IsOnce there.held.lock.0 (chain_of (L.chunks lists.old) list) }
     requires there { IsThere (L.chunks lists.old) list there.held.lock.0 there }
-    ensures groups { (L.chunks lists.new).groups ≡ after_forget (L.chunks lists.old) list there.held.lock.0 }
+    ensures groups { (L.chunks lists.new).groups
+        ≡ after_forget (L.chunks lists.old) list there.held.lock.0 }
     ensures size { (L.chunks lists.new).size ≡ (L.chunks lists.old).size }
     ensures placed { IsPlaced (L.chunks lists.old) → IsPlaced (L.chunks lists.new) }
 {

@@ -1,6 +1,8 @@
-//! Chunks and lists on vectors: each chunk is named by its number, which is its place among all chunks.
+//! Chunks and lists on vectors: each chunk is named by its number, which is its place among all
+//! chunks.
 
-ghost use Rattle.std.specs.Prelude.{◌≡◌, ◌==◌, ◌<◌, ℕ, ◌-◌, ◌++◌, [], ◌∷◌, not, length, vec_len, is_some, slice_get, slice_set, IfSome};
+ghost use Rattle.std.specs.Prelude.{◌≡◌, ◌==◌, ◌<◌, ℕ, ◌-◌, ◌++◌, [], ◌∷◌, not, length, vec_len};
+ghost use Rattle.std.specs.Prelude.{is_some, slice_get, slice_set, IfSome};
 ghost use Rattle.std.specs.List.{slice_index_or, remove};
 ghost use Rattle.wit_model.specs.Rules.Groups.{opens};
 ghost use Rattle.wit_model.specs.Rules.Chunks.{StandsIn, upto};
@@ -32,7 +34,8 @@ pub fn put<A: Allocator>(chunks: &mut Vec<Vec<Instance, A>, A>, place: usize, in
     requires place { place < vec_len chunks.old }
     requires room { HaveRoom chunks.old.items }
     requires short { length (row (rows_of chunks.old.items) place) < CHUNK }
-    ensures rows { rows_of chunks.new.items ≡ slice_set (rows_of chunks.old.items) place (row (rows_of chunks.old.items) place ++ instance ∷ []) }
+    ensures rows { rows_of chunks.new.items ≡ slice_set (rows_of chunks.old.items) place
+        (row (rows_of chunks.old.items) place ++ instance ∷ []) }
     ensures room { HaveRoom chunks.new.items }
 {
     let chunk = &mut chunks[place];
@@ -49,7 +52,8 @@ pub fn write<A: Allocator>(
     requires place { place < vec_len chunks.old }
     requires index { index < length (row (rows_of chunks.old.items) place) }
     requires room { HaveRoom chunks.old.items }
-    ensures rows { rows_of chunks.new.items ≡ slice_set (rows_of chunks.old.items) place (slice_set (row (rows_of chunks.old.items) place) index instance) }
+    ensures rows { rows_of chunks.new.items ≡ slice_set (rows_of chunks.old.items) place
+        (slice_set (row (rows_of chunks.old.items) place) index instance) }
     ensures room { HaveRoom chunks.new.items }
 {
     let chunk = &mut chunks[place];
@@ -65,7 +69,8 @@ pub fn take_out<A: Allocator>(
     requires place { place < vec_len chunks.old }
     requires index { index < length (row (rows_of chunks.old.items) place) }
     requires room { HaveRoom chunks.old.items }
-    ensures rows { rows_of chunks.new.items ≡ slice_set (rows_of chunks.old.items) place (remove (row (rows_of chunks.old.items) place) index) }
+    ensures rows { rows_of chunks.new.items ≡ slice_set (rows_of chunks.old.items) place
+        (remove (row (rows_of chunks.old.items) place) index) }
     ensures room { HaveRoom chunks.new.items }
     ensures empty { result ≡ (length (remove (row (rows_of chunks.old.items) place) index) == 0) }
 {
@@ -78,8 +83,10 @@ pub fn take_out<A: Allocator>(
 pub fn add<A: Allocator>(lists: &mut Vec<Vec<u16, A>, A>, list: usize, chunk: u16)
     requires list { list < vec_len lists.old }
     requires space { HasSpaceAt list lists.old.items }
-    ensures places { places_of lists.new.items ≡ slice_set (places_of lists.old.items) list (places_at (places_of lists.old.items) list ++ chunk ∷ []) }
-    ensures room { (size : ℕ) → HaveRoomFor size lists.old.items → HaveRoomFor size lists.new.items }
+    ensures places { places_of lists.new.items ≡ slice_set (places_of lists.old.items) list
+        (places_at (places_of lists.old.items) list ++ chunk ∷ []) }
+    ensures room { (size : ℕ) → HaveRoomFor size lists.old.items
+        → HaveRoomFor size lists.new.items }
 {
     let places = &mut lists[list];
     places.push_reserved(chunk);
@@ -89,9 +96,11 @@ pub fn add<A: Allocator>(lists: &mut Vec<Vec<u16, A>, A>, list: usize, chunk: u1
 pub fn take_chunk<A: Allocator>(lists: &mut Vec<Vec<u16, A>, A>, list: usize, group: usize) -> u16
     requires list { list < vec_len lists.old }
     requires group { group < length (places_at (places_of lists.old.items) list) }
-    ensures places { places_of lists.new.items ≡ slice_set (places_of lists.old.items) list (remove (places_at (places_of lists.old.items) list) group) }
+    ensures places { places_of lists.new.items ≡ slice_set (places_of lists.old.items) list
+        (remove (places_at (places_of lists.old.items) list) group) }
     ensures chunk { result ≡ slice_index_or (places_at (places_of lists.old.items) list) group 0 }
-    ensures room { (size : ℕ) → HaveRoomFor size lists.old.items → HaveRoomFor size lists.new.items }
+    ensures room { (size : ℕ) → HaveRoomFor size lists.old.items
+        → HaveRoomFor size lists.new.items }
 {
     let places = &mut lists[list];
     places.remove(group)

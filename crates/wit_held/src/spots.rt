@@ -1,4 +1,5 @@
-//! Where a lock stands in a list of held locks, which is looked through newest chunk first: most locks are released soon.
+//! Where a lock stands in a list of held locks, which is looked through newest chunk first: most
+//! locks are released soon.
 
 ghost use Rattle.std.specs.Prelude.{◌≡◌, find, IfSome};
 ghost use Rattle.std.specs.Option.{option_map};
@@ -26,7 +27,8 @@ pub fn find_held<L: Lists>(lists: &L, list: u16, lock: LockNo) -> Option<Found>
     requires list { IsList (L.chunks lists.now) list }
     requires once { IsOnce lock.0 (chain_of (L.chunks lists.now) list) }
     ensures there { IfSome result (IsThere (L.chunks lists.now) list lock.0) }
-    ensures held { option_map held_at result ≡ find (is_of lock.0) (chain_of (L.chunks lists.now) list) }
+    ensures held { option_map held_at result
+        ≡ find (is_of lock.0) (chain_of (L.chunks lists.now) list) }
 {
     let mut spot = lists.newest(list);
     while let Some(at) = spot {

@@ -38,8 +38,8 @@ impl<A: Allocator> Model for VecLists<A> {
 }
 
 impl<A: Allocator> VecLists<A> {
-    /// Lists that hold nothing, numbered from 1, and so many free chunks: 1 to 512 lists, 1 to 65,536 chunks. All the room that the
-    /// other calls will need is taken here.
+    /// Lists that hold nothing, numbered from 1, and so many free chunks: 1 to 512 lists, 1 to
+    /// 65,536 chunks. All the room that the other calls will need is taken here.
     ///
     /// # Errors
     /// `OutOfMemory` alone.

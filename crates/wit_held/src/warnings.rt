@@ -1,6 +1,7 @@
 //! How many held locks a seat is warned of. Nothing here takes memory.
 
-ghost use Rattle.std.specs.Prelude.{◌≡◌, ◌-◌, ◌^◌, ◌<◌, true, false, List, length, filter, not, slice_get};
+ghost use Rattle.std.specs.Prelude.{◌≡◌, ◌-◌, ◌^◌, ◌<◌, true, false, List, length, filter, not};
+ghost use Rattle.std.specs.Prelude.{slice_get};
 ghost use Rattle.wit_model.specs.declared.locks.Instance.{Instance};
 ghost use Rattle.wit_model.specs.Rules.Numbers.{IsNumber, IsGiven};
 ghost use Rattle.wit_model.specs.Rules.Chunks.{IsList, chain_of, list_of};
@@ -27,9 +28,10 @@ pub trait LockTypes {
         ensures { result ≡ is_sleepable (basis self.now) (type_held (basis self.now) held) };
 }
 
-/// How many held locks a seat, one of 256, is warned of, where it should hold none (`witness_warn` of witness(4)): none where not everything
-/// is watched. Counted are its locks of the sleep kind, but for the named one, Giant under `GIANTOK`, and
-/// sleepable ones under `SLEEPOK`; and all of the spin kind, unless the named one is the only lock that would be counted.
+/// How many held locks a seat, one of 256, is warned of, where it should hold none (`witness_warn`
+/// of witness(4)): none where not everything is watched. Counted are its locks of the sleep kind,
+/// but for the named one, Giant under `GIANTOK`, and sleepable ones under `SLEEPOK`; and all of the
+/// spin kind, unless the named one is the only lock that would be counted.
 pub fn warn_count<L: Lists, T: LockTypes>(
     lists: &L,
     types: &T,
@@ -40,9 +42,11 @@ pub fn warn_count<L: Lists, T: LockTypes>(
 ) -> usize
     requires seat { IsNumber 256 seat.0 }
     requires lists { IsList (L.chunks lists.now) (list_of true seat.0) }
-    requires typed { AreTyped (T.basis types.now) (chain_of (L.chunks lists.now) (list_of false seat.0)) }
+    requires typed { AreTyped (T.basis types.now)
+        (chain_of (L.chunks lists.now) (list_of false seat.0)) }
     ensures { result ≡ length (warning (T.basis types.now) watch named flags
-        (chain_of (L.chunks lists.now) (list_of false seat.0)) (chain_of (L.chunks lists.now) (list_of true seat.0))) }
+        (chain_of (L.chunks lists.now) (list_of false seat.0))
+        (chain_of (L.chunks lists.now) (list_of true seat.0))) }
 {
     if !watch.is_on() {
         return 0;
@@ -61,7 +65,9 @@ fn count_sleep<L: Lists, T: LockTypes>(
 ) -> usize
     requires list { IsList (L.chunks lists.now) list }
     requires typed { AreTyped (T.basis types.now) (chain_of (L.chunks lists.now) list) }
-    ensures value { result ≡ length (filter (λ (i : Instance). not (is_allowed (T.basis types.now) named flags i)) (chain_of (L.chunks lists.now) list)) }
+    ensures value { result ≡ length
+        (filter (λ (i : Instance). not (is_allowed (T.basis types.now) named flags i))
+        (chain_of (L.chunks lists.now) list)) }
     ensures few { result < 2 ^ 32 }
 {
     let mut counted = lists.len(list);
@@ -92,8 +98,8 @@ fn allowed_in<T: LockTypes>(
     allowed
 }
 
-/// Whether a lock of the sleep kind may be held where none should be: the named one, Giant under `GIANTOK`, or a sleepable one under
-/// `SLEEPOK`.
+/// Whether a lock of the sleep kind may be held where none should be: the named one, Giant under
+/// `GIANTOK`, or a sleepable one under `SLEEPOK`.
 pub fn is_allowed<T: LockTypes>(
     types: &T,
     named: Option<LockNo>,
@@ -111,7 +117,8 @@ pub fn is_allowed<T: LockTypes>(
 // How many locks of the spin kind are counted beside so many of the sleep kind.
 fn count_spin<L: Lists>(lists: &L, list: u16, named: Option<LockNo>, sleep: usize) -> usize
     requires { IsList (L.chunks lists.now) list }
-    ensures value { (counted : List Instance) → sleep ≡ length counted → result ≡ length (counted_spin named counted (chain_of (L.chunks lists.now) list)) }
+    ensures value { (counted : List Instance) → sleep ≡ length counted
+        → result ≡ length (counted_spin named counted (chain_of (L.chunks lists.now) list)) }
     ensures few { result < 2 ^ 32 }
 {
     let spin = lists.len(list);
@@ -124,7 +131,9 @@ fn count_spin<L: Lists>(lists: &L, list: u16, named: Option<LockNo>, sleep: usiz
 // Whether the newest lock of a list is the named one.
 fn is_last_named<L: Lists>(lists: &L, list: u16, named: Option<LockNo>) -> bool
     requires { IsList (L.chunks lists.now) list }
-    ensures { result ≡ is_last_named named (slice_get (chain_of (L.chunks lists.now) list) (length (chain_of (L.chunks lists.now) list) - 1)) }
+    ensures { result ≡ is_last_named named
+        (slice_get (chain_of (L.chunks lists.now) list)
+        (length (chain_of (L.chunks lists.now) list) - 1)) }
 {
     match lists.last(list) {
         Some(last) => is_named(named, last),

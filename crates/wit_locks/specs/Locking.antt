@@ -17,18 +17,24 @@ use Rattle.wit_shared.specs.Own.{Leaves}
 
 -- a lock that isn't held is asked for: an order may be learnt, and the holder isn't to have it
 abbrev pub first_request : LockNo → Mode → Site → Request
-first_request lock mode site = record { lock = lock; site = site; mode = mode; ops = record { 0 = 5 } }
+first_request lock mode site =
+    record { lock = lock; site = site; mode = mode; ops = record { 0 = 5 } }
 
 -- a lock that may be held is asked for once more
 abbrev pub next_request : LockNo → Mode → Site → Request
-next_request lock mode site = record { lock = lock; site = site; mode = mode; ops = record { 0 = 1 } }
+next_request lock mode site =
+    record { lock = lock; site = site; mode = mode; ops = record { 0 = 1 } }
 
--- a call was accepted and logged: of the seat's own entries its entry is the latest, and the others are as before
-abbrev pub Enters : (Story → ℕ → Call → Result Reply Fault → Story → Type 0) → Start → Call → Reply → Known → Known → Type 0
-Enters rules start call reply v w = (is_logged reply ≡ true) × Leaves rules start call (Ok reply) v w
+-- a call was accepted and logged: of the seat's own entries its entry is the latest, and the others
+-- are as before
+abbrev pub Enters : (Story → ℕ → Call → Result Reply Fault → Story → Type 0) → Start → Call → Reply
+    → Known → Known → Type 0
+Enters rules start call reply v w =
+    (is_logged reply ≡ true) × Leaves rules start call (Ok reply) v w
 
 -- two calls were, the second right behind the first
-pub record EntersBoth (start : Start) (first : Call) (one : Reply) (second : Call) (other : Reply) (v w : Known) : Type 0 where
+pub record EntersBoth (start : Start) (first : Call) (one : Reply) (second : Call) (other : Reply)
+    (v w : Known) : Type 0 where
   pub between : Known
   pub earlier : Enters AnswersOrFails start first one v between
   pub later : Enters Answers start second other between w
@@ -38,11 +44,13 @@ abbrev pub Acquires : Start → Request → Option Reply → Reply → Known →
 Acquires start q None noted v w = ⊥
 Acquires start q (Some asked) noted v w = EntersBoth start (Check q) asked (Note q.lock) noted v w
 
--- none: the check was refused, which left nothing; or the gate refused, and the request was given up
+-- none: the check was refused, which left nothing; or the gate refused, and the request was given
+-- up
 abbrev pub FailsToAcquire : Start → Request → Fault → Known → Known → Type 0
 FailsToAcquire start q fault v w =
     Leaves AnswersOrFails start (Check q) (Err fault) v w
-    ⊎ ((fault ≡ GateRefused) × (asked : Reply) × EntersBoth start (Check q) asked (GiveUp q.lock) Done v w)
+    ⊎ ((fault ≡ GateRefused) × (asked : Reply)
+    × EntersBoth start (Check q) asked (GiveUp q.lock) Done v w)
 
 -- no further acquisition: the check was refused, or the lock was acquired as often as it can be
 abbrev pub FailsToRecurse : Start → Request → ℕ → Fault → Known → Known → Type 0
@@ -51,5 +59,6 @@ FailsToRecurse start q depth fault v w =
     ⊎ ((fault ≡ RecursionTooDeep) × (65535 ≤ depth) × (w ≡ v))
 
 -- a call was accepted, and may have been passed over
-abbrev pub IsMade : (Story → ℕ → Call → Result Reply Fault → Story → Type 0) → Start → Call → Known → Known → Type 0
+abbrev pub IsMade : (Story → ℕ → Call → Result Reply Fault → Story → Type 0) → Start → Call → Known
+    → Known → Type 0
 IsMade rules start call v w = (reply : Reply) × Leaves rules start call (Ok reply) v w

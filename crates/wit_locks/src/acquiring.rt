@@ -27,9 +27,13 @@ impl<J: Room, G: Gate, K: Kind> Lock<J, G, K> {
         mode: Mode,
         site: Site,
     ) -> Result<Held<G>, Fault>
-        ensures calls { IfOk result (λ h. Acquires J.start (first_request self.now.number mode site) h.hold.asked h.hold.noted seat.old seat.new) }
-        ensures failed { IfErr result (λ fault. FailsToAcquire J.start (first_request self.now.number mode site) fault seat.old seat.new) }
-        ensures held { IfOk result (λ h. G.admits self.now.gate mode h.ticket × (h.hold.lock ≡ self.now.number) × (h.hold.seat.0 ≡ seat.old.seat)
+        ensures calls { IfOk result (λ h. Acquires J.start
+            (first_request self.now.number mode site) h.hold.asked h.hold.noted seat.old seat.new) }
+        ensures failed { IfErr result
+            (λ fault. FailsToAcquire J.start (first_request self.now.number mode site) fault
+            seat.old seat.new) }
+        ensures held { IfOk result (λ h. G.admits self.now.gate mode h.ticket
+            × (h.hold.lock ≡ self.now.number) × (h.hold.seat.0 ≡ seat.old.seat)
             × (h.hold.mode ≡ mode) × (h.hold.depth ≡ 0)) }
         ensures seat { (seat.new.seat ≡ seat.old.seat) × (seat.new.given ≡ seat.old.given) }
     {
@@ -66,9 +70,13 @@ impl<J: Room, G: Gate, K: Kind> Lock<J, G, K> {
         site: Site,
     ) -> Result<Option<Held<G>>, Fault>
         ensures calls { IfOk result (λ o. MatchOption o (seat.new ≡ seat.old)
-            (λ h. Enters AnswersOrFails J.start (NoteTry self.now.number mode site) h.hold.noted seat.old seat.new)) }
-        ensures failed { IfErr result (λ fault. Leaves AnswersOrFails J.start (NoteTry self.now.number mode site) (Err fault) seat.old seat.new) }
-        ensures held { IfOk result (λ o. IfSome o (λ h. G.admits self.now.gate mode h.ticket × (h.hold.lock ≡ self.now.number) × (h.hold.seat.0 ≡ seat.old.seat)
+            (λ h. Enters AnswersOrFails J.start (NoteTry self.now.number mode site) h.hold.noted
+            seat.old seat.new)) }
+        ensures failed { IfErr result
+            (λ fault. Leaves AnswersOrFails J.start (NoteTry self.now.number mode site)
+            (Err fault) seat.old seat.new) }
+        ensures held { IfOk result (λ o. IfSome o (λ h. G.admits self.now.gate mode h.ticket
+            × (h.hold.lock ≡ self.now.number) × (h.hold.seat.0 ≡ seat.old.seat)
             × (h.hold.mode ≡ mode) × (h.hold.depth ≡ 0))) }
         ensures seat { (seat.new.seat ≡ seat.old.seat) × (seat.new.given ≡ seat.old.given) }
     {

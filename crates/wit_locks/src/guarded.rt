@@ -24,7 +24,8 @@ pub trait Task<T> {
     // What is known of that, of the data before and after.
     ghost done: { Self → T → T → Self.Out → Type 0 };
 
-    /// Does it, while the lock is held. `asked` is what the verifier answered to the request, which may be a report.
+    /// Does it, while the lock is held. `asked` is what the verifier answered to the request, which
+    /// may be a report.
     fn run(self, value: &mut T, asked: Option<&Reply>) -> Self::Out
         ensures { done self value.old value.new result };
 }
@@ -37,8 +38,8 @@ pub enum Unfinished<W, O, G: Gate> {
     NotReleased(O, Held<G>, Fault),
 }
 
-/// A lock with data that is reached under it alone. It can't be forgotten to release it, since it is held for the time of a task,
-/// which has no seat and so takes no other lock.
+/// A lock with data that is reached under it alone. It can't be forgotten to release it, since it
+/// is held for the time of a task, which has no seat and so takes no other lock.
 pub struct Guarded<J: Room, T, G: Gate, K: Kind> {
     lock: Lock<J, G, K>,
     value: Mutex<T>,
@@ -79,7 +80,8 @@ impl<J: Room, T, G: Gate, K: Kind> Guarded<J, T, G, K> {
     /// Acquires the lock exclusively, does the task with the data, and releases the lock.
     ///
     /// # Errors
-    /// `NotAcquired` with the faults of a mutex's `lock`; the task comes back. `NotReleased` with those of `Lock::unlock`.
+    /// `NotAcquired` with the faults of a mutex's `lock`; the task comes back. `NotReleased` with
+    /// those of `Lock::unlock`.
     pub fn with<R: Wait, W: Task<T>>(
         &self,
         rt: &R,
@@ -88,14 +90,21 @@ impl<J: Room, T, G: Gate, K: Kind> Guarded<J, T, G, K> {
         site: Site,
         task: W,
     ) -> Result<W::Out, Unfinished<W, W::Out, G>>
-        ensures calls { IfOk result (λ out. Visits J.start (first_request self.now.lock.number Exclusive site) seat.old seat.new) }
-        ensures done { IfOk result (λ out. (before : T) × (after : T) × W.done task before after out) }
+        ensures calls { IfOk result (λ out. Visits J.start
+            (first_request self.now.lock.number Exclusive site) seat.old seat.new) }
+        ensures done { IfOk result (λ out. (before : T) × (after : T)
+            × W.done task before after out) }
         ensures task { (w : W) → (fault : Fault) → result ≡ Err (NotAcquired w fault) → (w ≡ task)
-            × FailsToAcquire J.start (first_request self.now.lock.number Exclusive site) fault seat.old seat.new }
-        ensures refused { (out : W.Out) → (held : Held G G.Ticket) → (fault : Fault) → result ≡ Err (NotReleased out held fault)
-            → Stays J.start (first_request self.now.lock.number Exclusive site) fault seat.old seat.new }
-        ensures held { (out : W.Out) → (held : Held G G.Ticket) → (fault : Fault) → result ≡ Err (NotReleased out held fault)
-            → G.admits self.now.lock.gate Exclusive held.ticket × (held.hold.lock ≡ self.now.lock.number) × (held.hold.seat.0 ≡ seat.new.seat)
+            × FailsToAcquire J.start (first_request self.now.lock.number Exclusive site) fault
+            seat.old seat.new }
+        ensures refused { (out : W.Out) → (held : Held G G.Ticket) → (fault : Fault)
+            → result ≡ Err (NotReleased out held fault)
+            → Stays J.start (first_request self.now.lock.number Exclusive site) fault
+            seat.old seat.new }
+        ensures held { (out : W.Out) → (held : Held G G.Ticket) → (fault : Fault)
+            → result ≡ Err (NotReleased out held fault)
+            → G.admits self.now.lock.gate Exclusive held.ticket
+            × (held.hold.lock ≡ self.now.lock.number) × (held.hold.seat.0 ≡ seat.new.seat)
             × (held.hold.mode ≡ Exclusive) × (held.hold.depth ≡ 0) }
         ensures seat { (seat.new.seat ≡ seat.old.seat) × (seat.new.given ≡ seat.old.given) }
     {

@@ -6,8 +6,8 @@ ghost use Rattle.std.specs.Option.{option_copied};
 use wit_gates::Gate;
 use wit_model::{LockNo, Mode, Reply, SeatNo};
 
-// What is known of an acquisition: whose it is, of which lock and in which mode, how often the lock was acquired again
-// through it, and what the verifier answered at the latest acquisition.
+// What is known of an acquisition: whose it is, of which lock and in which mode, how often the lock
+// was acquired again through it, and what the verifier answered at the latest acquisition.
 #[derive(Drop)]
 pub(crate) struct Hold {
     pub(crate) lock: LockNo,
@@ -18,8 +18,8 @@ pub(crate) struct Hold {
     pub(crate) noted: Reply,
 }
 
-/// What who acquired a lock has in hand. It names its lock, its seat, its mode and its depth, which is how
-/// often the lock was acquired again through it, and has a ticket of the lock's gate.
+/// What who acquired a lock has in hand. It names its lock, its seat, its mode and its depth, which
+/// is how often the lock was acquired again through it, and has a ticket of the lock's gate.
 ///
 /// It isn't `Drop`: it has to be handed back to its lock, or abandoned.
 pub struct Held<G: Gate> {
@@ -56,7 +56,8 @@ impl<G: Gate> Held<G> {
         self.hold.depth
     }
 
-    /// What the latest request was answered, which may be a report; `None` where the lock was had by a try.
+    /// What the latest request was answered, which may be a report; `None` where the lock was had
+    /// by a try.
     pub fn asked(&self) -> Option<&Reply>
         ensures { option_copied result ≡ self.now.hold.asked }
     {
@@ -71,8 +72,8 @@ impl<G: Gate> Held<G> {
     }
 }
 
-/// Gives up a token whose release is refused. The gate and the verifier's record stay as they are: the lock
-/// counts as held for good.
+/// Gives up a token whose release is refused. The gate and the verifier's record stay as they are:
+/// the lock counts as held for good.
 pub fn abandon<G: Gate>(held: Held<G>)
 where
     G::Ticket: Drop,

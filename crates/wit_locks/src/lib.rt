@@ -1,5 +1,5 @@
-//! Locks that a shared verifier watches: a gate each, and the calls that tell the verifier of it. They guard no
-//! data, as FreeBSD's.
+//! Locks that a shared verifier watches: a gate each, and the calls that tell the verifier of it.
+//! They guard no data, as FreeBSD's.
 #![tactic(auto)]
 
 mod acquiring;

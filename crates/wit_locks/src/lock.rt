@@ -18,10 +18,10 @@ use wit_shared::{Room, Seat, Shared};
 
 /// A lock of this class over any gate, which a shared verifier watches. It guards no data.
 ///
-/// Each call takes the verifier with which the lock was made and a seat of it, which the type says by its
-/// `J`. It calls the verifier as the thread of that seat, and never enters the gate under the verifier's own
-/// lock. What it comes to is what the verifier answers; a fault of another call than `new`, `destroy` and those that
-/// take a token leaves nothing but what it says.
+/// Each call takes the verifier with which the lock was made and a seat of it, which the type says
+/// by its `J`. It calls the verifier as the thread of that seat, and never enters the gate under
+/// the verifier's own lock. What it comes to is what the verifier answers; a fault of another call
+/// than `new`, `destroy` and those that take a token leaves nothing but what it says.
 pub struct Lock<J: Room, G: Gate, K: Kind> {
     pub(crate) number: LockNo,
     pub(crate) gate: G,
@@ -53,7 +53,8 @@ pub type Rw<J, G> = Lock<J, G, RwKind>;
 pub type Sx<J, G> = Lock<J, G, SxKind>;
 
 impl<J: Room, G: Gate, K: Kind> Lock<J, G, K> {
-    /// Makes a lock over a gate that nobody has. Its type is that of `type_name`, or of its own name where there is none.
+    /// Makes a lock over a gate that nobody has. Its type is that of `type_name`, or of its own
+    /// name where there is none.
     ///
     /// # Errors
     /// Those of `Shared::init`; the gate comes back.
@@ -67,8 +68,12 @@ impl<J: Room, G: Gate, K: Kind> Lock<J, G, K> {
         gate: G,
     ) -> Result<Lock<J, G, K>, (G, Fault)>
         ensures call { MatchResult result
-            (λ l. Enters AnswersOrFails J.start (Init (new_lock name.now (option_copied type_name.entry) K.class flags)) (Made l.number) seat.old seat.new)
-            (λ e. Leaves AnswersOrFails J.start (Init (new_lock name.now (option_copied type_name.entry) K.class flags)) (Err e.1) seat.old seat.new) }
+            (λ l. Enters AnswersOrFails J.start
+            (Init (new_lock name.now (option_copied type_name.entry) K.class flags))
+            (Made l.number) seat.old seat.new)
+            (λ e. Leaves AnswersOrFails J.start
+            (Init (new_lock name.now (option_copied type_name.entry) K.class flags))
+            (Err e.1) seat.old seat.new) }
         ensures gate { MatchResult result (λ l. l.gate ≡ gate) (λ e. e.0 ≡ gate) }
     {
         match shared.init(rt, seat, name, type_name, K::class(), flags) {
@@ -89,7 +94,8 @@ impl<J: Room, G: Gate, K: Kind> Lock<J, G, K> {
         self.number
     }
 
-    /// Takes the lock apart: its gate is left. Its number, name and type stay with the verifier, for texts.
+    /// Takes the lock apart: its gate is left. Its number, name and type stay with the verifier,
+    /// for texts.
     ///
     /// # Errors
     /// Those of `Shared::destroy`; the lock comes back.

@@ -1,6 +1,7 @@
 //! How a lock that is held is acquired again and released.
 
-ghost use Rattle.std.specs.Prelude.{◌≡◌, ◌+◌, ◌-◌, ◌<◌, Err, Ok, Some, IfOk, IfErr, MatchOption, MatchResult};
+ghost use Rattle.std.specs.Prelude.{◌≡◌, ◌+◌, ◌-◌, ◌<◌, Err, Ok, Some, IfOk, IfErr, MatchOption};
+ghost use Rattle.std.specs.Prelude.{MatchResult};
 ghost use Rattle.wit_model.specs.declared.calls.Call.TheVariants.{Check, Unlock};
 ghost use Rattle.wit_model.specs.Rules.Step.{Answers, AnswersOrFails};
 ghost use Rattle.wit_shared.specs.Own.{Leaves};
@@ -18,10 +19,12 @@ use wit_shared::{Room, Seat, Shared};
 const DEEPEST: u16 = 65_535;
 
 impl<J: Room, G: Gate, K: Kind> Lock<J, G, K> {
-    /// Acquires a held lock again, in the token's mode: its depth is one more. The gate has no part in it.
+    /// Acquires a held lock again, in the token's mode: its depth is one more. The gate has no part
+    /// in it.
     ///
     /// # Errors
-    /// Those of `Shared::check`, and `RecursionTooDeep` where the depth is 65,535, of which the verifier isn't told; the token comes back.
+    /// Those of `Shared::check`, and `RecursionTooDeep` where the depth is 65,535, of which the
+    /// verifier isn't told; the token comes back.
     pub fn recurse<R: Wait>(
         &self,
         rt: &R,
@@ -30,10 +33,20 @@ impl<J: Room, G: Gate, K: Kind> Lock<J, G, K> {
         site: Site,
         held: Held<G>,
     ) -> Result<Held<G>, (Held<G>, Fault)>
-        requires held { G.admits self.now.gate held.hold.mode held.ticket × (held.hold.lock ≡ self.now.number) × (held.hold.seat.0 ≡ seat.old.seat) }
-        ensures calls { IfOk result (λ h. Acquires J.start (next_request self.now.number held.hold.mode site) h.hold.asked h.hold.noted seat.old seat.new) }
-        ensures failed { IfErr result (λ e. FailsToRecurse J.start (next_request self.now.number held.hold.mode site) held.hold.depth e.1 seat.old seat.new) }
-        ensures held { IfOk result (λ h. (h.ticket ≡ held.ticket) × (h.hold ≡ record held.hold { depth = held.hold.depth + 1; asked = h.hold.asked; noted = h.hold.noted })) }
+        requires held { G.admits self.now.gate held.hold.mode held.ticket
+            × (held.hold.lock ≡ self.now.number) × (held.hold.seat.0 ≡ seat.old.seat) }
+        ensures calls { IfOk result (λ h. Acquires J.start
+            (next_request self.now.number held.hold.mode site) h.hold.asked h.hold.noted
+            seat.old seat.new) }
+        ensures failed { IfErr result
+            (λ e. FailsToRecurse J.start (next_request self.now.number held.hold.mode site)
+            held.hold.depth e.1 seat.old seat.new) }
+        ensures held { IfOk result (λ h. (h.ticket ≡ held.ticket)
+            × (h.hold ≡ record held.hold {
+              depth = held.hold.depth + 1;
+              asked = h.hold.asked;
+              noted = h.hold.noted;
+            })) }
         ensures back { IfErr result (λ e. e.0 ≡ held) }
         ensures seat { (seat.new.seat ≡ seat.old.seat) × (seat.new.given ≡ seat.old.given) }
     {
@@ -66,8 +79,11 @@ impl<J: Room, G: Gate, K: Kind> Lock<J, G, K> {
         mode: Mode,
         site: Site,
     ) -> Result<(Reply, Reply), Fault>
-        ensures calls { IfOk result (λ r. Acquires J.start (next_request self.now.number mode site) (Some r.0) r.1 seat.old seat.new) }
-        ensures failed { IfErr result (λ fault. Leaves AnswersOrFails J.start (Check (next_request self.now.number mode site)) (Err fault) seat.old seat.new) }
+        ensures calls { IfOk result (λ r. Acquires J.start (next_request self.now.number mode site)
+            (Some r.0) r.1 seat.old seat.new) }
+        ensures failed { IfErr result
+            (λ fault. Leaves AnswersOrFails J.start (Check (next_request self.now.number mode site))
+            (Err fault) seat.old seat.new) }
         ensures seat { (seat.new.seat ≡ seat.old.seat) × (seat.new.given ≡ seat.old.given) }
     {
         let asked = shared.check(rt, seat, self.number, mode, OpFlags::NEWORDER, site)?;
@@ -77,7 +93,8 @@ impl<J: Room, G: Gate, K: Kind> Lock<J, G, K> {
         }
     }
 
-    /// Releases a lock once: the token comes back where its depth is above 0, one less; at 0 the gate is left, and the answer is None.
+    /// Releases a lock once: the token comes back where its depth is above 0, one less; at 0 the
+    /// gate is left, and the answer is None.
     ///
     /// # Errors
     /// Those of `Shared::unlock`; the token comes back, and the gate stays entered.
@@ -88,11 +105,16 @@ impl<J: Room, G: Gate, K: Kind> Lock<J, G, K> {
         seat: &mut Seat<J>,
         held: Held<G>,
     ) -> Result<Option<Held<G>>, (Held<G>, Fault)>
-        requires held { G.admits self.now.gate held.hold.mode held.ticket × (held.hold.lock ≡ self.now.number) × (held.hold.seat.0 ≡ seat.old.seat) }
-        ensures calls { MatchResult result (λ o. IsMade Answers J.start (Unlock self.now.number held.hold.mode) seat.old seat.new)
-            (λ e. Leaves Answers J.start (Unlock self.now.number held.hold.mode) (Err e.1) seat.old seat.new) }
+        requires held { G.admits self.now.gate held.hold.mode held.ticket
+            × (held.hold.lock ≡ self.now.number) × (held.hold.seat.0 ≡ seat.old.seat) }
+        ensures calls { MatchResult result
+            (λ o. IsMade Answers J.start (Unlock self.now.number held.hold.mode) seat.old seat.new)
+            (λ e. Leaves Answers J.start (Unlock self.now.number held.hold.mode)
+            (Err e.1) seat.old seat.new) }
         ensures held { IfOk result (λ o. MatchOption o (held.hold.depth ≡ 0)
-            (λ h. (h.ticket ≡ held.ticket) × (h.hold ≡ record held.hold { depth = held.hold.depth - 1 }) × (0 < held.hold.depth))) }
+            (λ h. (h.ticket ≡ held.ticket)
+            × (h.hold ≡ record held.hold { depth = held.hold.depth - 1 })
+            × (0 < held.hold.depth))) }
         ensures back { IfErr result (λ e. e.0 ≡ held) }
         ensures seat { (seat.new.seat ≡ seat.old.seat) × (seat.new.given ≡ seat.old.given) }
     {

@@ -17,12 +17,13 @@ use wit_model::{Fault, Mode};
 use wit_shared::{Room, Seat, Shared};
 
 impl<J: Room, G: Gate, K: Kind> Lock<J, G, K> {
-    /// Turns a shared hold into an exclusive one, where nobody else shares the lock: the gate first, then the verifier. Of a token
-    /// that is exclusive already the verifier alone is asked.
+    /// Turns a shared hold into an exclusive one, where nobody else shares the lock: the gate
+    /// first, then the verifier. Of a token that is exclusive already the verifier alone is asked.
     ///
     /// # Errors
-    /// `GateRefused` where others share the lock, of which the verifier isn't told; those of `Shared::upgrade`. The token comes back
-    /// as it was, but that its share of the gate may be another.
+    /// `GateRefused` where others share the lock, of which the verifier isn't told; those of
+    /// `Shared::upgrade`. The token comes back as it was, but that its share of the gate may be
+    /// another.
     pub fn try_upgrade<R: Wait>(
         &self,
         rt: &R,
@@ -30,12 +31,18 @@ impl<J: Room, G: Gate, K: Kind> Lock<J, G, K> {
         seat: &mut Seat<J>,
         held: Held<G>,
     ) -> Result<Held<G>, (Held<G>, Fault)>
-        requires held { G.admits self.now.gate held.hold.mode held.ticket × (held.hold.lock ≡ self.now.number) × (held.hold.seat.0 ≡ seat.old.seat) }
-        ensures calls { IfOk result (λ h. IsMade AnswersOrFails J.start (Upgrade self.now.number) seat.old seat.new) }
-        ensures failed { IfErr result (λ e. Leaves AnswersOrFails J.start (Upgrade self.now.number) (Err e.1) seat.old seat.new
+        requires held { G.admits self.now.gate held.hold.mode held.ticket
+            × (held.hold.lock ≡ self.now.number) × (held.hold.seat.0 ≡ seat.old.seat) }
+        ensures calls { IfOk result (λ h. IsMade AnswersOrFails J.start
+            (Upgrade self.now.number) seat.old seat.new) }
+        ensures failed { IfErr result
+            (λ e. Leaves AnswersOrFails J.start (Upgrade self.now.number)
+            (Err e.1) seat.old seat.new
             ⊎ ((e.1 ≡ GateRefused) × (held.hold.mode ≡ AsShared) × (seat.new ≡ seat.old))) }
-        ensures held { IfOk result (λ h. G.admits self.now.gate Exclusive h.ticket × (h.hold ≡ record held.hold { mode = Exclusive })) }
-        ensures back { IfErr result (λ e. G.admits self.now.gate held.hold.mode e.0.ticket × (e.0.hold ≡ held.hold)) }
+        ensures held { IfOk result (λ h. G.admits self.now.gate Exclusive h.ticket
+            × (h.hold ≡ record held.hold { mode = Exclusive })) }
+        ensures back { IfErr result (λ e. G.admits self.now.gate held.hold.mode e.0.ticket
+            × (e.0.hold ≡ held.hold)) }
         ensures seat { (seat.new.seat ≡ seat.old.seat) × (seat.new.given ≡ seat.old.given) }
     {
         match held.hold.mode {
@@ -57,12 +64,18 @@ impl<J: Room, G: Gate, K: Kind> Lock<J, G, K> {
         seat: &mut Seat<J>,
         held: Held<G>,
     ) -> Result<Held<G>, (Held<G>, Fault)>
-        requires held { G.admits self.now.gate AsShared held.ticket × (held.hold.mode ≡ AsShared) × (held.hold.lock ≡ self.now.number) × (held.hold.seat.0 ≡ seat.old.seat) }
-        ensures calls { IfOk result (λ h. IsMade AnswersOrFails J.start (Upgrade self.now.number) seat.old seat.new) }
-        ensures failed { IfErr result (λ e. Leaves AnswersOrFails J.start (Upgrade self.now.number) (Err e.1) seat.old seat.new
+        requires held { G.admits self.now.gate AsShared held.ticket × (held.hold.mode ≡ AsShared)
+            × (held.hold.lock ≡ self.now.number) × (held.hold.seat.0 ≡ seat.old.seat) }
+        ensures calls { IfOk result (λ h. IsMade AnswersOrFails J.start
+            (Upgrade self.now.number) seat.old seat.new) }
+        ensures failed { IfErr result
+            (λ e. Leaves AnswersOrFails J.start (Upgrade self.now.number)
+            (Err e.1) seat.old seat.new
             ⊎ ((e.1 ≡ GateRefused) × (seat.new ≡ seat.old))) }
-        ensures held { IfOk result (λ h. G.admits self.now.gate Exclusive h.ticket × (h.hold ≡ record held.hold { mode = Exclusive })) }
-        ensures back { IfErr result (λ e. G.admits self.now.gate AsShared e.0.ticket × (e.0.hold ≡ held.hold)) }
+        ensures held { IfOk result (λ h. G.admits self.now.gate Exclusive h.ticket
+            × (h.hold ≡ record held.hold { mode = Exclusive })) }
+        ensures back { IfErr result (λ e. G.admits self.now.gate AsShared e.0.ticket
+            × (e.0.hold ≡ held.hold)) }
         ensures seat { (seat.new.seat ≡ seat.old.seat) × (seat.new.given ≡ seat.old.given) }
     {
         let Held { hold, ticket } = held;
@@ -89,8 +102,8 @@ impl<J: Room, G: Gate, K: Kind> Lock<J, G, K> {
         })
     }
 
-    /// Turns an exclusive hold into a shared one: the verifier first, then the gate. Of a token that is shared already the verifier
-    /// alone is asked.
+    /// Turns an exclusive hold into a shared one: the verifier first, then the gate. Of a token
+    /// that is shared already the verifier alone is asked.
     ///
     /// # Errors
     /// Those of `Shared::downgrade`; the token comes back.
@@ -101,10 +114,15 @@ impl<J: Room, G: Gate, K: Kind> Lock<J, G, K> {
         seat: &mut Seat<J>,
         held: Held<G>,
     ) -> Result<Held<G>, (Held<G>, Fault)>
-        requires held { G.admits self.now.gate held.hold.mode held.ticket × (held.hold.lock ≡ self.now.number) × (held.hold.seat.0 ≡ seat.old.seat) }
-        ensures calls { IfOk result (λ h. IsMade AnswersOrFails J.start (Downgrade self.now.number) seat.old seat.new) }
-        ensures failed { IfErr result (λ e. Leaves AnswersOrFails J.start (Downgrade self.now.number) (Err e.1) seat.old seat.new) }
-        ensures held { IfOk result (λ h. G.admits self.now.gate AsShared h.ticket × (h.hold ≡ record held.hold { mode = AsShared })) }
+        requires held { G.admits self.now.gate held.hold.mode held.ticket
+            × (held.hold.lock ≡ self.now.number) × (held.hold.seat.0 ≡ seat.old.seat) }
+        ensures calls { IfOk result (λ h. IsMade AnswersOrFails J.start
+            (Downgrade self.now.number) seat.old seat.new) }
+        ensures failed { IfErr result
+            (λ e. Leaves AnswersOrFails J.start (Downgrade self.now.number)
+            (Err e.1) seat.old seat.new) }
+        ensures held { IfOk result (λ h. G.admits self.now.gate AsShared h.ticket
+            × (h.hold ≡ record held.hold { mode = AsShared })) }
         ensures back { IfErr result (λ e. e.0 ≡ held) }
         ensures seat { (seat.new.seat ≡ seat.old.seat) × (seat.new.given ≡ seat.old.given) }
     {

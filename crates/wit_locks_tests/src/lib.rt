@@ -1,4 +1,5 @@
-//! No code but tests of locks over gates that count their calls, refuse, or wait for another thread.
+//! No code but tests of locks over gates that count their calls, refuse, or wait for another
+//! thread.
 #![tactic(auto)]
 
 #[cfg(test)]

@@ -21,7 +21,8 @@ pub(crate) fn taken<R: Wait + Abort, J: Room, G: Gate>(
 ) -> Held<G>
 where
     G::Ticket: Drop,
-    ensures gate { G.admits mutex.now.gate Exclusive result.ticket × (result.hold.mode ≡ Exclusive) }
+    ensures gate { G.admits mutex.now.gate Exclusive result.ticket
+        × (result.hold.mode ≡ Exclusive) }
     ensures held { (result.hold.lock ≡ mutex.now.number) × (result.hold.seat.0 ≡ seat.old.seat) }
     ensures seat { seat.new.seat ≡ seat.old.seat }
 {

@@ -1,4 +1,5 @@
--- What a matrix says of its types, as the relation matrix in the comments of subr_witness.c does: for each two, how one is related to the other.
+-- What a matrix says of its types, as the relation matrix in the comments of subr_witness.c does:
+-- for each two, how one is related to the other.
 use Rattle.std.specs.Prelude.{ℕ, ◌≡◌, true, List, [], ◌∷◌, ◌++◌}
 use Rattle.wit_model.specs.declared.locks.Origin.TheVariants.{Listed}
 use Rattle.wit_model.specs.declared.locks.TypeNo.{TypeNo}
@@ -6,8 +7,9 @@ use Rattle.wit_model.specs.declared.calls.Adoption.{Adoption}
 use Rattle.wit_model.specs.Rules.Orders.{is_direct, IsPath, is_found, adopted_once, found_once}
 use Rattle.wit_model.specs.Rules.Numbers.{IsNumber}
 
--- the number of types, the adopted orders, and the unordered pairs found in violation. Both lists stand for sets:
--- they hold each member once, by rows, and nothing is said of where an order came from
+-- the number of types, the adopted orders, and the unordered pairs found in violation. Both lists
+-- stand for sets: they hold each member once, by rows, and nothing is said of where an order came
+-- from
 pub record Relation : Type 0 where
   pub size : ℕ
   pub orders : List Adoption
@@ -42,4 +44,5 @@ pub record Finds (old : Relation) (a b : TypeNo) (new : Relation) : Type 0 where
 
 -- the list starts with a and ends with b, and each step is an adopted order
 abbrev pub LeadsBy : List Adoption → ℕ → ℕ → List ℕ → Type 0
-LeadsBy os a b types = (between : List ℕ) × ((types ≡ a ∷ between ++ b ∷ []) × IsPath os a between b)
+LeadsBy os a b types =
+    (between : List ℕ) × ((types ≡ a ∷ between ++ b ∷ []) × IsPath os a between b)

@@ -1,5 +1,7 @@
--- Squares of bits: for each of n types a row of words of 64 bits, in which the bit of a number stands for the type of that number.
-use Rattle.std.specs.Prelude.{ℕ, ◌+◌, ◌-◌, ◌*◌, ◌/◌, ◌%◌, ◌≡◌, ◌<◌, ◌≤◌, Bool, true, false, ◌&&◌, ◌||◌, ◌==◌, List, map, filter, length, get_or, nat_le}
+-- Squares of bits: for each of n types a row of words of 64 bits, in which the bit of a number
+-- stands for the type of that number.
+use Rattle.std.specs.Prelude.{ℕ, ◌+◌, ◌-◌, ◌*◌, ◌/◌, ◌%◌, ◌≡◌, ◌<◌, ◌≤◌, Bool, true, false, ◌&&◌}
+use Rattle.std.specs.Prelude.{◌||◌, ◌==◌, List, map, filter, length, get_or, nat_le}
 use Rattle.std.specs.Int.{bit_at}
 use Rattle.std.specs.List.{range_with_len, flat_map}
 use Rattle.wit_model.specs.declared.locks.Origin.TheVariants.{Listed}
@@ -26,7 +28,8 @@ has n words a b = bit_at (word_at n words a (b / 64)) (b % 64) == 1
 
 -- the pairs of n types for which this holds, row by row
 abbrev pub pairs_where : ℕ → (ℕ → ℕ → Bool) → List (ℕ × ℕ)
-pairs_where n holds = flat_map (λ a. map (λ b. (a, b)) (filter (holds a) (range_with_len 1 n))) (range_with_len 1 n)
+pairs_where n holds =
+    flat_map (λ a. map (λ b. (a, b)) (filter (holds a) (range_with_len 1 n))) (range_with_len 1 n)
 
 abbrev pub as_order : ℕ × ℕ → Adoption
 as_order p = record { parent = record { 0 = p.0 }; child = record { 0 = p.1 }; origin = Listed }
@@ -43,7 +46,8 @@ abbrev pub found_in : ℕ → List ℕ → List (TypeNo × TypeNo)
 found_in n found = map as_types (pairs_where n (λ a b. nat_le a b && has n found a b))
 
 abbrev pub relation_in : ℕ → List ℕ → List ℕ → Relation
-relation_in n direct found = record { size = n; orders = orders_in n direct; found = found_in n found }
+relation_in n direct found =
+    record { size = n; orders = orders_in n direct; found = found_in n found }
 
 -- the square holds this test of n types
 abbrev pub Holds : ℕ → List ℕ → (ℕ → ℕ → Bool) → Type 0
@@ -52,7 +56,8 @@ Holds n words test = (a b : ℕ) → IsNumber n a → IsNumber n b → has n wor
 abbrev pub IsSquare : ℕ → List ℕ → Type 0
 IsSquare n words = length words ≡ n * width n
 
--- four squares: the adopted orders, what is before what by them, the mirror of that, and the pairs found in violation
+-- four squares: the adopted orders, what is before what by them, the mirror of that, and the pairs
+-- found in violation
 pub record IsKept (n : ℕ) (direct before after found : List ℕ) : Type 0 where
   pub positive : 1 ≤ n
   pub within : n ≤ 1023
@@ -90,7 +95,8 @@ links n before p c a b = ((p == a) || has n before a p) && ((c == b) || has n be
 -- what leads on from b leads from each row that has the bit of b
 abbrev pub IsTransitive : ℕ → List ℕ → Type 0
 IsTransitive n words =
-    (a b c : ℕ) → IsNumber n a → IsNumber n b → IsNumber n c → has n words a b ≡ true → has n words b c ≡ true → has n words a c ≡ true
+    (a b c : ℕ) → IsNumber n a → IsNumber n b → IsNumber n c → has n words a b ≡ true
+    → has n words b c ≡ true → has n words a c ≡ true
 
 abbrev pub AreMirrors : ℕ → List ℕ → List ℕ → Type 0
 AreMirrors n before after = Holds n after (λ a b. has n before b a)

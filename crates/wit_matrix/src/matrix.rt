@@ -1,12 +1,15 @@
 //! The relation matrix.
 
-ghost use Rattle.std.specs.Prelude.{◌≡◌, ◌↔◌, ◌≤◌, if◌then◌else◌, true, false, [], IsTrue, IfOk, IfErr, IfSome};
+ghost use Rattle.std.specs.Prelude.{◌≡◌, ◌↔◌, ◌≤◌, if◌then◌else◌, true, false, [], IsTrue, IfOk};
+ghost use Rattle.std.specs.Prelude.{IfErr, IfSome};
 ghost use Rattle.wit_model.specs.declared.locks.TypeNo.{TypeNo};
 ghost use Rattle.std.specs.Option.{option_map};
 ghost use Rattle.wit_model.specs.declared.faults.Fault.TheVariants.{OutOfMemory};
-ghost use Rattle.wit_model.specs.Rules.Orders.{Before, IsSound, is_before, is_direct, is_found, cell};
+ghost use Rattle.wit_model.specs.Rules.Orders.{Before, IsSound, is_before, is_direct, is_found};
+ghost use Rattle.wit_model.specs.Rules.Orders.{cell};
 ghost use Rattle.wit_model.specs.Rules.Numbers.{IsNumber};
-ghost use Rattle.wit_model.specs.Trace.Paths.{leads, next_type, way, path, type_numbers, path_numbers};
+ghost use Rattle.wit_model.specs.Trace.Paths.{leads, next_type, way, path, type_numbers};
+ghost use Rattle.wit_model.specs.Trace.Paths.{path_numbers};
 ghost use Rattle.wit_matrix.specs.Relation.{Adopts, Finds, LeadsBy};
 
 use crate::squares::{add, blank, has, link, skip};
@@ -57,7 +60,8 @@ impl Model for Matrix {
 
     ghost view = { λ m. relation_in m.size m.direct.items m.found.items };
 
-    ghost invariant = { λ m. IsKept m.size m.direct.items m.before.items m.after.items m.found.items };
+    ghost invariant = { λ m. IsKept m.size m.direct.items m.before.items m.after.items
+        m.found.items };
 }
 
 impl Matrix {
@@ -110,9 +114,9 @@ impl Matrix {
         has(&self.direct, self.size, a, b)
     }
 
-    /// The relation of a to b, as the sum of 0x01 where the order from a to b was adopted, 0x02 where a is
-    /// before b, 0x04 where the order from b to a was adopted, 0x08 where b is before a, and 0x10 where the
-    /// pair was found in violation.
+    /// The relation of a to b, as the sum of 0x01 where the order from a to b was adopted, 0x02
+    /// where a is before b, 0x04 where the order from b to a was adopted, 0x08 where b is before a,
+    /// and 0x10 where the pair was found in violation.
     pub fn cell(&self, a: TypeNo, b: TypeNo) -> u8
         requires a { IsNumber self.now.size a.0 }
         requires b { IsNumber self.now.size b.0 }
@@ -125,8 +129,8 @@ impl Matrix {
             + bit(REVERSAL, self.reversed(a, b))
     }
 
-    /// Adopts an order between two types that differ and of which the child isn't before the parent. An
-    /// order that was adopted stays as it is.
+    /// Adopts an order between two types that differ and of which the child isn't before the
+    /// parent. An order that was adopted stays as it is.
     pub fn adopt(&mut self, parent: TypeNo, child: TypeNo)
         requires parent { IsNumber self.old.size parent.0 }
         requires child { IsNumber self.old.size child.0 }
@@ -141,7 +145,8 @@ impl Matrix {
         }
     }
 
-    /// Finds the unordered pair of a and b in violation; a type found doubled is paired with itself.
+    /// Finds the unordered pair of a and b in violation; a type found doubled is paired with
+    /// itself.
     pub fn set_reversal(&mut self, a: TypeNo, b: TypeNo)
         requires a { IsNumber self.old.size a.0 }
         requires b { IsNumber self.old.size b.0 }
@@ -160,16 +165,18 @@ impl Matrix {
         has(&self.found, self.size, a, b)
     }
 
-    /// The path of adopted orders from a to b that goes each time to the least-numbered type that is b or before it:
-    /// `None` exactly where a isn't before b.
+    /// The path of adopted orders from a to b that goes each time to the least-numbered type that
+    /// is b or before it: `None` exactly where a isn't before b.
     ///
     /// # Errors
     /// `OutOfMemory` alone, and only where a is before b.
     pub fn path(&self, a: TypeNo, b: TypeNo) -> Result<Option<Vec<TypeNo>>, Fault>
         requires a { IsNumber self.now.size a.0 }
         requires b { IsNumber self.now.size b.0 }
-        ensures ok { IfOk result (λ p. path_numbers p ≡ path self.now.orders self.now.size a.0 b.0) }
-        ensures leads { IfOk result (λ p. IfSome (path_numbers p) (LeadsBy self.now.orders a.0 b.0)) }
+        ensures ok { IfOk result (λ p. path_numbers p
+            ≡ path self.now.orders self.now.size a.0 b.0) }
+        ensures leads { IfOk result (λ p. IfSome (path_numbers p)
+            (LeadsBy self.now.orders a.0 b.0)) }
         ensures err { IfErr result (λ e. (e ≡ OutOfMemory) × Before self.now.orders a.0 b.0) }
     {
         if !self.before(a, b) {
@@ -182,7 +189,8 @@ impl Matrix {
     fn way(&self, alloc: Global, from: TypeNo, to: TypeNo) -> Result<Vec<TypeNo>, AllocError>
         requires from { IsNumber self.now.size from.0 }
         requires to { IsNumber self.now.size to.0 }
-        ensures { IfOk result (λ v. type_numbers v.items ≡ way self.now.orders self.now.size self.now.size from.0 to.0) }
+        ensures { IfOk result (λ v. type_numbers v.items
+            ≡ way self.now.orders self.now.size self.now.size from.0 to.0) }
     {
         let mut way = Vec::new(alloc);
         let mut at = from;
@@ -203,7 +211,8 @@ impl Matrix {
     fn next_type(&self, from: TypeNo, to: TypeNo) -> Option<TypeNo>
         requires from { IsNumber self.now.size from.0 }
         requires to { IsNumber self.now.size to.0 }
-        ensures value { option_map (λ (t : TypeNo). t.0) result ≡ next_type self.now.orders self.now.size from.0 to.0 }
+        ensures value { option_map (λ (t : TypeNo). t.0) result
+            ≡ next_type self.now.orders self.now.size from.0 to.0 }
         ensures number { IfSome result (λ (t : TypeNo). IsNumber self.now.size t.0) }
     {
         let mut number = 1;

@@ -1,8 +1,12 @@
-//! Squares of bits: for each type a row of words, in which the bit of a number stands for the type of that number.
+//! Squares of bits: for each type a row of words, in which the bit of a number stands for the type
+//! of that number.
 
-ghost use Rattle.std.specs.Prelude.{◌≡◌, ◌<◌, ◌*◌, ◌&&◌, ◌==◌, ◌+◌, ◌/◌, ◌%◌, ◌^◌, ◌≤◌, not, false, IfOk, IfErr, replicate};
+ghost use Rattle.std.specs.Prelude.{◌≡◌, ◌<◌, ◌*◌, ◌&&◌, ◌==◌, ◌+◌, ◌/◌, ◌%◌, ◌^◌, ◌≤◌, not, false};
+ghost use Rattle.std.specs.Prelude.{IfOk, IfErr, replicate};
 ghost use Rattle.wit_model.specs.declared.faults.Fault.TheVariants.{OutOfMemory};
-ghost use Rattle.wit_matrix.specs.Squares.{width, word_place, has, IsSquare, AddsWhere, AreMirrors, IsTransitive, HasNone, ReachesNone, is_at, reaches, joins_row, joins, links};
+ghost use Rattle.wit_matrix.specs.Squares.{width, word_place, has, IsSquare, AddsWhere, AreMirrors};
+ghost use Rattle.wit_matrix.specs.Squares.{IsTransitive, HasNone, ReachesNone, is_at, reaches};
+ghost use Rattle.wit_matrix.specs.Squares.{joins_row, joins, links};
 ghost use Rattle.wit_model.specs.Rules.Numbers.{IsNumber};
 
 use std::alloc::Global;
@@ -72,7 +76,8 @@ fn unite(words: &mut [u64], n: u16, row: TypeNo, source: TypeNo)
     requires source { IsNumber n source.0 }
     requires apart { row.0 ≡ source.0 → ⊥ }
     ensures square { IsSquare n words.new }
-    ensures united { AddsWhere n (λ a b. (row.0 == a) && has n words.old source.0 b) words.old words.new }
+    ensures united { AddsWhere n (λ a b. (row.0 == a) && has n words.old source.0 b)
+        words.old words.new }
 {
     for word in 0..width(n) {
         let more = words[place(n, source, word)];
@@ -103,8 +108,8 @@ fn reaches(words: &[u64], n: u16, a: TypeNo, b: TypeNo) -> bool
     a.0 == b.0 || has(words, n, a, b)
 }
 
-// Whether a row is still to be joined: the mirror's row reaches it, and it doesn't have the source. A row that has
-// the source has all that the source's row has.
+// Whether a row is still to be joined: the mirror's row reaches it, and it doesn't have the source.
+// A row that has the source has all that the source's row has.
 fn is_to_join(
     words: &[u64],
     mirror: &[u64],
@@ -123,8 +128,8 @@ fn is_to_join(
     reaches(mirror, n, first, row) && !has(words, n, row, source)
 }
 
-/// A number from this one on, before which a row has none of them: the least that it has in this one's word, or else
-/// the word's last.
+/// A number from this one on, before which a row has none of them: the least that it has in this
+/// one's word, or else the word's last.
 pub fn skip(words: &[u64], n: u16, row: TypeNo, from: u16) -> u16
     requires square { IsSquare n words.now }
     requires row { IsNumber n row.0 }
@@ -170,7 +175,8 @@ fn join_rows(words: &mut [u64], mirror: &[u64], n: u16, first: TypeNo, source: T
     requires apart { reaches n mirror.now first.0 source.0 ≡ false }
     requires transitive { IsTransitive n words.old }
     ensures square { IsSquare n words.new }
-    ensures joined { AddsWhere n (joins n mirror.now first.0 words.old source.0) words.old words.new }
+    ensures joined { AddsWhere n (joins n mirror.now first.0 words.old source.0)
+        words.old words.new }
 {
     let mut row = 1;
     while row <= n {

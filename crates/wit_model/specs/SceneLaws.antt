@@ -10,7 +10,8 @@ use Rattle.wit_model.specs.Rules.Step.{answer_of}
 use Rattle.wit_model.specs.World.Deeds.{Deed}
 use Rattle.wit_model.specs.World.Steps.{CanDo, IsWorld}
 use Rattle.wit_model.specs.World.Waiting.{IsWaiting, IsDeadlock}
-use Rattle.wit_model.specs.World.Scenes.{Scene, opening, stage_at, deed_of, is_known, is_way_back, may_call, step_raw, answer_in, scene_after}
+use Rattle.wit_model.specs.World.Scenes.{Scene, opening, stage_at, deed_of, is_known, is_way_back}
+use Rattle.wit_model.specs.World.Scenes.{may_call, step_raw, answer_in, scene_after}
 use Rattle.wit_model.specs.World.Shown.{Shows, deed_called, waits_in, WaitsIn}
 
 -- where nothing was done yet
@@ -21,7 +22,8 @@ OpeningShows =
 -- an accepted step of a lock is a deed of its thread, and the scene shows the longer world
 abbrev pub StepsAreDeeds : Type 0
 StepsAreDeeds =
-    (start : Start) (files : List (List ℕ)) (w : List Deed) (s then : Scene) (t l : ℕ) (step : RawStep)
+    (start : Start) (files : List (List ℕ)) (w : List Deed) (s then : Scene) (t l : ℕ)
+    (step : RawStep)
     → IsWorld start files w → Shows start files w s → step_raw s t l step ≡ Ok then
     → IsWorld start files (deed_of (stage_at s t) t l step ∷ w)
     × Shows start files (deed_of (stage_at s t) t l step ∷ w) then
@@ -29,7 +31,8 @@ StepsAreDeeds =
 -- and so is an accepted call
 abbrev pub CallsAreDeeds : Type 0
 CallsAreDeeds =
-    (start : Start) (files : List (List ℕ)) (w : List Deed) (s : Scene) (t : ℕ) (call : Call) (r : Reply)
+    (start : Start) (files : List (List ℕ)) (w : List Deed) (s : Scene) (t : ℕ)
+    (call : Call) (r : Reply)
     → IsWorld start files w → Shows start files w s → answer_in s t call ≡ Ok r
     → IsWorld start files (deed_called t call r ∷ w)
     × Shows start files (deed_called t call r ∷ w) (scene_after s t call r)
@@ -48,7 +51,8 @@ DeedsAreSteps =
 -- and so is each call
 abbrev pub DeedsAreCalls : Type 0
 DeedsAreCalls =
-    (start : Start) (files : List (List ℕ)) (w : List Deed) (s : Scene) (t : ℕ) (call : Call) (r : Reply)
+    (start : Start) (files : List (List ℕ)) (w : List Deed) (s : Scene) (t : ℕ)
+    (call : Call) (r : Reply)
     → Shows start files w s → CanDo start files (deed_called t call r) w
     → answer_in s t call ≡ Ok r
 

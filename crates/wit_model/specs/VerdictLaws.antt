@@ -1,5 +1,6 @@
 -- Laws of the verdict of a check: what its replies say of the orders between types.
-use Rattle.std.specs.Prelude.{ℕ, ◌<◌, ◌≡◌, ◌⊎◌, Bool, true, false, ◌&&◌, ◌||◌, List, [], ◌∷◌, ◌++◌, Option, None, Some, Ok, codes}
+use Rattle.std.specs.Prelude.{ℕ, ◌<◌, ◌≡◌, ◌⊎◌, Bool, true, false, ◌&&◌, ◌||◌, List, [], ◌∷◌, ◌++◌}
+use Rattle.std.specs.Prelude.{Option, None, Some, Ok, codes}
 use Rattle.std.specs.List.{last_or}
 use Rattle.wit_model.specs.declared.profiles.Profile.TheVariants.{Plain}
 use Rattle.wit_model.specs.declared.locks.TypeNo.{TypeNo}
@@ -14,7 +15,8 @@ use Rattle.wit_model.specs.declared.calls.Request.{Request}
 use Rattle.wit_model.specs.declared.calls.Call.{Call}
 use Rattle.wit_model.specs.declared.calls.Call.TheVariants.{Init, Check, Note}
 use Rattle.wit_model.specs.declared.calls.Reply.{Reply}
-use Rattle.wit_model.specs.declared.calls.Reply.TheVariants.{Made, Pass, Adopted, Reversal, Duplicate, Recorded}
+use Rattle.wit_model.specs.declared.calls.Reply.TheVariants.{Made, Pass, Adopted, Reversal}
+use Rattle.wit_model.specs.declared.calls.Reply.TheVariants.{Duplicate, Recorded}
 use Rattle.wit_model.specs.declared.calls.Entry.{Entry}
 use Rattle.wit_model.specs.Rules.Numbers.{IsGiven}
 use Rattle.wit_model.specs.Rules.Types.{is_same_class}
@@ -43,7 +45,8 @@ abbrev pub ReversalsAreOfHeldLocks : Type 0
 ReversalsAreOfHeldLocks =
     (start : Start) (files : List (List ℕ)) (e : Entry) (h : List Entry) (x : Conflict)
     → IsLegal start files (e ∷ h) → e.reply ≡ Reversal x
-    → (is_held e.seat.0 x.held.lock.0 h ≡ true) × (q : Request) × (e.call ≡ Check q) × (x.asked.lock ≡ q.lock)
+    → (is_held e.seat.0 x.held.lock.0 h ≡ true) × (q : Request) × (e.call ≡ Check q)
+    × (x.asked.lock ≡ q.lock)
 
 -- a plain reversal is told only where the requested lock's type is before the held one's, by the
 -- orders adopted until then
@@ -51,7 +54,8 @@ abbrev pub ReversalsBreakOrders : Type 0
 ReversalsBreakOrders =
     (start : Start) (files : List (List ℕ)) (e : Entry) (h : List Entry) (x : Conflict)
     → IsLegal start files (e ∷ h) → e.reply ≡ Reversal x → x.heading ≡ heading.Order
-    → Before (orders_of start h) (type_of_lock start h x.asked.lock.0) (type_of_lock start h x.held.lock.0)
+    → Before (orders_of start h) (type_of_lock start h x.asked.lock.0)
+    (type_of_lock start h x.held.lock.0)
 
 -- the two locks of a duplicate are of one type
 abbrev pub DuplicatesAreOfOneType : Type 0
@@ -62,8 +66,10 @@ DuplicatesAreOfOneType =
 
 -- the types of the held lock and of the requested one that a report names
 abbrev pub reported_pair : List Lock → Reply → List (TypeNo × TypeNo)
-reported_pair locks (Reversal x) = ((lock_at locks x.held.lock.0).type_no, (lock_at locks x.asked.lock.0).type_no) ∷ []
-reported_pair locks (Duplicate d) = ((lock_at locks d.last.lock.0).type_no, (lock_at locks d.asked.lock.0).type_no) ∷ []
+reported_pair locks (Reversal x) =
+    ((lock_at locks x.held.lock.0).type_no, (lock_at locks x.asked.lock.0).type_no) ∷ []
+reported_pair locks (Duplicate d) =
+    ((lock_at locks d.last.lock.0).type_no, (lock_at locks d.asked.lock.0).type_no) ∷ []
 reported_pair locks _ = []
 
 -- those of all reports of a history, newest first
@@ -104,7 +110,8 @@ is_sleepable_lock lock = is_same_class lock.class Sx
 -- Giant and a sleepable lock: Giant is let go while its holder sleeps, so they may be taken in
 -- either order
 abbrev pub is_with_giant : NewLock → NewLock → Bool
-is_with_giant a b = (is_giant_lock a && is_sleepable_lock b) || (is_sleepable_lock a && is_giant_lock b)
+is_with_giant a b =
+    (is_giant_lock a && is_sleepable_lock b) || (is_sleepable_lock a && is_giant_lock b)
 
 -- such a request passed, or taught its order, where all rules were to be met: everything was
 -- watched, the seat didn't hold the lock, an order might be learnt (0x01), no second lock of one
@@ -115,8 +122,10 @@ pub record HasPassed (start : Start) (h : List Entry) (e : Entry) (a b : ℕ) : 
   pub on : watch_of h ≡ On
   pub unheld : is_held e.seat.0 behind.request.lock.0 h ≡ false
   pub teaches : has_flag behind.request.ops.0 0x01 ≡ true
-  pub single : a ≡ b → (has_flag (lock_of (locks_of h) behind.request.lock.0).flags.0 0x02 || has_flag behind.request.ops.0 0x02) ≡ false
-  pub bound : is_with_giant (lock_of (locks_of h) behind.last) (lock_of (locks_of h) behind.request.lock.0) ≡ false
+  pub single : a ≡ b → (has_flag (lock_of (locks_of h) behind.request.lock.0).flags.0 0x02
+      || has_flag behind.request.ops.0 0x02) ≡ false
+  pub bound : is_with_giant (lock_of (locks_of h) behind.last)
+      (lock_of (locks_of h) behind.request.lock.0) ≡ false
 
 -- its order is then a direct one
 abbrev pub PassedIsDirect : Type 0
@@ -132,7 +141,8 @@ DirectPasses =
     (start : Start) (files : List (List ℕ)) (h : List Entry) (t : ℕ) (q : Request) (last : ℕ)
     → start_fault start ≡ None → IsLegal start files h → IsGiven (locks_of h) q.lock.0
     → last_of_kind t q.lock.0 h ≡ Some last
-    → is_direct (orders_of start h) (type_of_lock start h last) (type_of_lock start h q.lock.0) ≡ true
+    → is_direct (orders_of start h) (type_of_lock start h last) (type_of_lock start h q.lock.0)
+    ≡ true
     → is_held t q.lock.0 h ≡ false
     → (is_spin_lock (locks_of h) q.lock.0 ≡ false → held_of true t h ≡ [])
     → verdict Plain (known_of start h) (watch_of h) (seat_of h t) q ≡ Ok Pass
@@ -141,7 +151,8 @@ DirectPasses =
 -- refuses the check
 abbrev pub PassedPassesOn : Type 0
 PassedPassesOn =
-    (start : Start) (files : List (List ℕ)) (next : Entry) (later : List Entry) (e : Entry) (h : List Entry) (a b : ℕ)
+    (start : Start) (files : List (List ℕ)) (next : Entry) (later : List Entry) (e : Entry)
+    (h : List Entry) (a b : ℕ)
     → start.profile ≡ Plain → start_fault start ≡ None
     → IsLegal start files (next ∷ later ++ e ∷ h)
     → HasPassed start h e a b → AsksBehind start (later ++ e ∷ h) next a b → next.reply ≡ Pass
@@ -178,13 +189,26 @@ NoneIsAheadOfItself =
 -- ---- a history of which the last law says something
 
 abbrev one_seat : Start
-one_seat = record { sizes = record { seats = 1; types = 2; locks = 2; chunks = 1; log = 8 }; profile = Plain; lists = []; blessed = [] }
+one_seat =
+    record {
+      sizes = record { seats = 1; types = 2; locks = 2; chunks = 1; log = 8 };
+      profile = Plain;
+      lists = [];
+      blessed = [];
+    }
 
 abbrev mutex : List ℕ → Call
-mutex name = Init (record { class = SleepMutex; flags = record { 0 = 0 }; name = name; type_name = None })
+mutex name =
+    Init (record { class = SleepMutex; flags = record { 0 = 0 }; name = name; type_name = None })
 
 abbrev request_for : ℕ → Request
-request_for l = record { lock = record { 0 = l }; site = record { file = record { 0 = 1 }; line = 1 }; mode = Exclusive; ops = record { 0 = 0x01 } }
+request_for l =
+    record {
+      lock = record { 0 = l };
+      site = record { file = record { 0 = 1 }; line = 1 };
+      mode = Exclusive;
+      ops = record { 0 = 0x01 };
+    }
 
 abbrev by_one : Call → Reply → Entry
 by_one call reply = record { seat = record { 0 = 1 }; call = call; reply = reply }
@@ -201,4 +225,6 @@ two_in_order =
 
 -- that is a clean history
 abbrev pub TwoMutexesAreClean : Type 0
-TwoMutexesAreClean = (start_fault one_seat ≡ None) × (IsLegal one_seat (codes "main.c" ∷ []) two_in_order × (is_clean Plain two_in_order ≡ true))
+TwoMutexesAreClean =
+    (start_fault one_seat ≡ None)
+    × (IsLegal one_seat (codes "main.c" ∷ []) two_in_order × (is_clean Plain two_in_order ≡ true))

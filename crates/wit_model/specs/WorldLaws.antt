@@ -16,7 +16,8 @@ use Rattle.wit_model.specs.World.Stages.{Asked, stage}
 use Rattle.wit_model.specs.World.Steps.{admits, IsWorld}
 use Rattle.wit_model.specs.World.Waiting.{IsWaiting, IsDeadlock}
 use Rattle.wit_model.specs.World.Reordering.{IsReordering}
-use Rattle.wit_model.specs.World.Examples.{small, files, in_turn, crossed, agreed, defined, defined_before}
+use Rattle.wit_model.specs.World.Examples.{small, files, in_turn, crossed, agreed, defined}
+use Rattle.wit_model.specs.World.Examples.{defined_before}
 use Rattle.wit_model.specs.World.Tried.{small_all_held, tried, tried_in_turn, tried_crossed}
 use Rattle.wit_model.specs.World.Sequences.{varied, scarce, exhausted}
 

@@ -6,7 +6,8 @@ use std::alloc::{AllocError, Global};
 use std::marker::Model;
 use std::sync::Arc;
 
-/// A value on the heap, which may have several holders. Clauses see the value alone, and not where it lies.
+/// A value on the heap, which may have several holders. Clauses see the value alone, and not where
+/// it lies.
 #[derive(Debug, Drop)]
 pub struct Boxed<T> {
     inner: Arc<T>,

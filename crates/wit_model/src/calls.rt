@@ -152,8 +152,8 @@ pub struct Conflict {
 /// What a report of two locks of one type is about.
 #[derive(Clone, Copy, Debug, PartialEq, Eq, Hash)]
 pub struct Doubling {
-    /// The last held lock, which is of the requested type; where all held locks are compared with, the
-    /// newest one of that type.
+    /// The last held lock, which is of the requested type; where all held locks are compared with,
+    /// the newest one of that type.
     pub last: LockAt,
     /// The requested lock.
     pub asked: LockAt,
@@ -170,16 +170,18 @@ pub enum Reply {
     Pass,
     /// The order of these types was learnt.
     Adopted(TypeNo, TypeNo),
-    /// These orders behind held locks were learnt, that behind the newest one first. There is at least
-    /// one, and none was known. Where all held locks are compared with, it stands in place of `Adopted`.
+    /// These orders behind held locks were learnt, that behind the newest one first. There is at
+    /// least one, and none was known. Where all held locks are compared with, it stands in place of
+    /// `Adopted`.
     AdoptedAll(Boxed<NewOrders>),
-    /// The request breaks the order of these types, the held one and the requested one, and nothing is said of it: that was reported
-    /// before, or the pair is blessed. Where both are one type, a second lock of a type that was found doubled is asked for.
+    /// The request breaks the order of these types, the held one and the requested one, and nothing
+    /// is said of it: that was reported before, or the pair is blessed. Where both are one type, a
+    /// second lock of a type that was found doubled is asked for.
     Silent(TypeNo, TypeNo),
     /// The request breaks an order: a possible deadlock.
     Reversal(Boxed<Conflict>),
-    /// The last held lock is of the requested type, and that is told for the first time. Where all held locks are compared with,
-    /// the newest one of that type.
+    /// The last held lock is of the requested type, and that is told for the first time. Where all
+    /// held locks are compared with, the newest one of that type.
     Duplicate(Boxed<Doubling>),
     /// The acquisition is recorded.
     Recorded,

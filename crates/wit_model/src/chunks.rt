@@ -1,20 +1,24 @@
 //! Lists of held locks in chunks.
 
-ghost use Rattle.std.specs.Prelude.{◌≡◌, ◌<◌, ◌+◌, ◌-◌, ◌^◌, ◌++◌, List, false, not, length, position, take, slice_get, IfSome};
+ghost use Rattle.std.specs.Prelude.{◌≡◌, ◌<◌, ◌+◌, ◌-◌, ◌^◌, ◌++◌, List, false, not, length};
+ghost use Rattle.std.specs.Prelude.{position, take, slice_get, IfSome};
 ghost use Rattle.std.specs.List.{slice_index_or};
 ghost use Rattle.wit_model.specs.declared.locks.Instance.{Instance};
 ghost use Rattle.wit_model.specs.Rules.Numbers.{IsNumber};
 ghost use Rattle.wit_model.specs.Rules.Verdict.{is_of};
-ghost use Rattle.wit_model.specs.Rules.Groups.{flat, replaced_at, removed_at, replaced_in, removed_in};
-ghost use Rattle.wit_model.specs.Rules.Chunks.{Chunks, IsList, IsPlaced, IsSpot, KeepOthers, upto, groups_of, group_of, chain_of, set_groups, is_refused, pushed, list_of};
+ghost use Rattle.wit_model.specs.Rules.Groups.{flat, replaced_at, removed_at, replaced_in};
+ghost use Rattle.wit_model.specs.Rules.Groups.{removed_in};
+ghost use Rattle.wit_model.specs.Rules.Chunks.{Chunks, IsList, IsPlaced, IsSpot, KeepOthers, upto};
+ghost use Rattle.wit_model.specs.Rules.Chunks.{groups_of, group_of, chain_of, set_groups};
+ghost use Rattle.wit_model.specs.Rules.Chunks.{is_refused, pushed, list_of};
 
 use crate::locks::{Instance, LockNo, SeatNo};
 
 /// How many locks a chunk holds at most.
 pub const CHUNK: usize = 5;
 
-/// The list of the locks of one kind that a seat holds: of seat s, the list 2s - 1 has those of the sleep kind, and 2s those of the
-/// spin kind.
+/// The list of the locks of one kind that a seat holds: of seat s, the list 2s - 1 has those of the
+/// sleep kind, and 2s those of the spin kind.
 pub fn list_of(seat: SeatNo, spin: bool) -> u16
     requires { IsNumber 256 seat.0 }
     ensures { result ≡ list_of spin seat.0 }
@@ -36,15 +40,18 @@ pub struct Spot {
 
 /// Lists of held locks, by their numbers from 1, in chunks of five.
 ///
-/// A list takes a free chunk where it has none or its newest one is full, and gives an emptied chunk back unless it is the list's
-/// only one. An older chunk is never filled up. Which free chunk is taken isn't said. No call takes memory. At any time each
-/// chunk stands once in one of the lists or among the free ones. What a call does to one list changes no other.
+/// A list takes a free chunk where it has none or its newest one is full, and gives an emptied
+/// chunk back unless it is the list's only one. An older chunk is never filled up. Which free chunk
+/// is taken isn't said. No call takes memory. At any time each chunk stands once in one of the
+/// lists or among the free ones. What a call does to one list changes no other.
 ///
-/// A list is gone through from its newest chunk on, by `newest` and `older`. Places in a list count from the oldest lock, 0.
+/// A list is gone through from its newest chunk on, by `newest` and `older`. Places in a list count
+/// from the oldest lock, 0.
 pub trait Lists {
     ghost chunks: { Self → Chunks };
 
-    /// Puts a lock at the end of a list: false, and nothing is changed, exactly where this needs a chunk and none is free.
+    /// Puts a lock at the end of a list: false, and nothing is changed, exactly where this needs a
+    /// chunk and none is free.
     fn push(&mut self, list: u16, instance: Instance) -> bool
         requires list { IsList (chunks self.old) list }
         ensures result { result ≡ not (is_refused (chunks self.old) list) }
@@ -104,7 +111,8 @@ pub trait Lists {
     /// The newest lock of a list: `None` where it holds none.
     final fn last(&self, list: u16) -> Option<Instance>
         requires list { IsList (chunks self.now) list }
-        ensures { result ≡ slice_get (chain_of (chunks self.now) list) (length (chain_of (chunks self.now) list) - 1) }
+        ensures { result ≡ slice_get (chain_of (chunks self.now) list)
+            (length (chain_of (chunks self.now) list) - 1) }
     {
         let mut spot = self.newest(list);
         while let Some(at) = spot {
@@ -161,7 +169,8 @@ pub trait Lists {
     final fn replace(&mut self, list: u16, place: usize, instance: Instance)
         requires list { IsList (chunks self.old) list }
         requires place { place < length (chain_of (chunks self.old) list) }
-        ensures groups { (chunks self.new).groups ≡ set_groups (chunks self.old) list (replaced_at place instance (groups_of (chunks self.old) list)) }
+        ensures groups { (chunks self.new).groups ≡ set_groups (chunks self.old) list
+            (replaced_at place instance (groups_of (chunks self.old) list)) }
         ensures size { (chunks self.new).size ≡ (chunks self.old).size }
         ensures placed { IsPlaced (chunks self.new) }
         ensures others { KeepOthers (chunks self.old) (chunks self.new) list }
@@ -174,7 +183,8 @@ pub trait Lists {
     final fn remove(&mut self, list: u16, place: usize)
         requires list { IsList (chunks self.old) list }
         requires place { place < length (chain_of (chunks self.old) list) }
-        ensures groups { (chunks self.new).groups ≡ set_groups (chunks self.old) list (removed_at place (groups_of (chunks self.old) list)) }
+        ensures groups { (chunks self.new).groups ≡ set_groups (chunks self.old) list
+            (removed_at place (groups_of (chunks self.old) list)) }
         ensures size { (chunks self.new).size ≡ (chunks self.old).size }
         ensures placed { IsPlaced (chunks self.new) }
         ensures others { KeepOthers (chunks self.old) (chunks self.new) list }
@@ -190,7 +200,8 @@ fn locate<L: Lists>(lists: &L, list: u16, place: usize) -> (Spot, usize)
     requires place { place < length (chain_of (L.chunks lists.now) list) }
     ensures spot { IsSpot (L.chunks lists.now) list result.0 }
     ensures index { result.1 < length (group_of (L.chunks lists.now) list result.0) }
-    ensures before { place ≡ length (flat (take result.0.group (groups_of (L.chunks lists.now) list))) + result.1 }
+    ensures before { place ≡ length
+        (flat (take result.0.group (groups_of (L.chunks lists.now) list))) + result.1 }
 {
     let mut start = lists.len(list);
     let mut spot = lists.newest(list);
@@ -204,10 +215,12 @@ fn locate<L: Lists>(lists: &L, list: u16, place: usize) -> (Spot, usize)
     unreachable!()
 }
 
-// The place of the oldest instance of a lock in a chunk and what is newer, where there it has this place.
+// The place of the oldest instance of a lock in a chunk and what is newer, where there it has this
+// place.
 fn find_before(group: &[Instance], lock: LockNo, newer: Option<usize>) -> Option<usize>
     requires { IfSome newer (λ i. i < 2 ^ 32) }
-    ensures { (later : List Instance) → newer ≡ position (is_of lock.0) later → result ≡ position (is_of lock.0) (group.now ++ later) }
+    ensures { (later : List Instance) → newer ≡ position (is_of lock.0) later
+        → result ≡ position (is_of lock.0) (group.now ++ later) }
 {
     match find_lock(group, lock) {
         Some(index) => Some(index),

@@ -9,8 +9,8 @@ use std::fmt;
 
 /// Why a call was refused. A refused call changes nothing.
 ///
-/// Where FreeBSD's WITNESS panics or runs out of types, the verifier answers one of these. Its text is
-/// its number and its name, as `F6 SleepUnderSpin`.
+/// Where FreeBSD's WITNESS panics or runs out of types, the verifier answers one of these. Its text
+/// is its number and its name, as `F6 SleepUnderSpin`.
 #[derive(Clone, Copy, Debug, PartialEq, Eq, Hash)]
 pub enum Fault {
     /// The seat's number is 0 or over the number of seats.
@@ -79,9 +79,9 @@ pub enum Fault {
     FilesFull,
     /// The site's file was never named.
     UnknownFile,
-    /// The lock itself doesn't admit the step: it can't be had so, or the seat hasn't the only share
-    /// that it turns exclusive, or no exclusive one to turn shared. No call of the verifier answers
-    /// it, nor the next one: a world of threads does.
+    /// The lock itself doesn't admit the step: it can't be had so, or the seat hasn't the only
+    /// share that it turns exclusive, or no exclusive one to turn shared. No call of the verifier
+    /// answers it, nor the next one: a world of threads does.
     RawNotFree,
     /// The step or call isn't one that the seat may do next, or it frees a lock of which it has no
     /// share.

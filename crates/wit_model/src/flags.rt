@@ -109,7 +109,8 @@ impl Flags for LockAssert {
 
     ghost exact = { ⊤ };
 
-    ghost table = { (codes "UNLOCKED", 1) ∷ (codes "LOCKED", 2) ∷ (codes "SLOCKED", 4) ∷ (codes "XLOCKED", 8) ∷ (codes "RECURSED", 16) ∷ (codes "NOTRECURSED", 32) ∷ [] };
+    ghost table = { (codes "UNLOCKED", 1) ∷ (codes "LOCKED", 2) ∷ (codes "SLOCKED", 4)
+        ∷ (codes "XLOCKED", 8) ∷ (codes "RECURSED", 16) ∷ (codes "NOTRECURSED", 32) ∷ [] };
 
     ghost set_of = { λ f. f.0 };
 

@@ -7,7 +7,8 @@ ghost use Rattle.wit_model.specs.Rules.Names.{is_name, is_file_name, is_name_byt
 use std::alloc::{AllocError, Global};
 use std::marker::Model;
 
-/// The name of a lock or of a type: 1 to 63 bytes, each from 0x20 to 0x7e, without `"`. Who has one needn't test it.
+/// The name of a lock or of a type: 1 to 63 bytes, each from 0x20 to 0x7e, without `"`. Who has one
+/// needn't test it.
 #[derive(Debug, Drop)]
 pub struct Name {
     text: String,
@@ -90,8 +91,8 @@ impl Name {
     }
 }
 
-/// The name of a source file, as somebody gives it: any text. `accepts` tells whether it is 1 to 255 bytes, each from 0x21 to 0x7e,
-/// without `"`.
+/// The name of a source file, as somebody gives it: any text. `accepts` tells whether it is 1 to
+/// 255 bytes, each from 0x21 to 0x7e, without `"`.
 #[derive(Debug, Drop)]
 pub struct FileName {
     text: String,

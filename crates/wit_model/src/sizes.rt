@@ -25,7 +25,13 @@ impl Model for Limits {
 
     ghost invariant = { λ l. AreWithinLimits (sizes_of l.seats l.types l.locks l.chunks l.log) };
 
-    ghost inverse = { λ s. record { seats = s.seats; types = s.types; locks = s.locks; chunks = s.chunks; log = s.log } };
+    ghost inverse = { λ s. record {
+      seats = s.seats;
+      types = s.types;
+      locks = s.locks;
+      chunks = s.chunks;
+      log = s.log;
+    } };
 }
 
 impl Limits {
@@ -50,8 +56,8 @@ impl Limits {
     /// How often a seat may have acquired a lock: always so often.
     pub const MOST_ACQUISITIONS: u32 = 65_536;
 
-    /// Limits with these numbers: `None` exactly where one is 0 or over its greatest value, which is
-    /// 256 seats, 1,023 types, 65,536 locks, 65,536 chunks and 16,777,216 log entries.
+    /// Limits with these numbers: `None` exactly where one is 0 or over its greatest value, which
+    /// is 256 seats, 1,023 types, 65,536 locks, 65,536 chunks and 16,777,216 log entries.
     pub fn new(seats: u32, types: u32, locks: u32, chunks: u32, log: u32) -> Option<Limits>
         ensures within { IsSome result ↔ AreWithinLimits (sizes_of seats types locks chunks log) }
         ensures value { IfSome result (λ l. l ≡ sizes_of seats types locks chunks log) }

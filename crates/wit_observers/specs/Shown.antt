@@ -18,7 +18,8 @@ shape_of s = shape s.page s.tail.orders s.size s.cells.items
 
 -- what is shown once a change is taken in
 abbrev pub with_change : Shape → Change → Shape
-with_change s c = shape c.page c.orders.items s.size (numbered_all s.size s.cells c.before c.orders.items)
+with_change s c =
+    shape c.page c.orders.items s.size (numbered_all s.size s.cells c.before c.orders.items)
 
 -- the orders that are shown: those on the page, and those that it doesn't have yet
 abbrev pub shown : Name → Shape → List Adoption
@@ -32,7 +33,8 @@ pub record IsExact (name : Name) (s : Shape) : Type 0 where
 
 -- what each observer was told is how the orders that are shown begin
 abbrev pub Begins : List Adoption → List (List Adoption) → Type 0
-Begins orders views = (seat : ℕ) (told : List Adoption) → get_elem? views seat ≡ some told → IsPrefix told orders
+Begins orders views = (seat : ℕ) (told : List Adoption) → get_elem? views seat ≡ some told
+    → IsPrefix told orders
 
 abbrev pub IsShownTo : Name → Shape → List (List Adoption) → Type 0
 IsShownTo name s views = IsExact name s × Begins (shown name s) views
@@ -55,8 +57,8 @@ pub record Published : Type 0 where
   pub orders : List Adoption
   pub size : ℕ
 
--- a look at all orders that are shown: some of them were told before, some are on the page, and it gives the number of the
--- order from a to b
+-- a look at all orders that are shown: some of them were told before, some are on the page, and it
+-- gives the number of the order from a to b
 pub record Tells (told seen : List Adoption) (said a b : ℕ) (all : List Adoption) : Type 0 where
   pub more : IsPrefix told all
   pub begins : IsPrefix seen all

@@ -2,7 +2,8 @@
 //! from the row's to the column's, or 0.
 
 ghost use Rattle.std.specs.Prelude.{◌≡◌, ◌+◌, ◌*◌, ◌<◌, ◌≤◌, ◌^◌, ◌&&◌, IfOk, length, replicate};
-ghost use Rattle.wit_observers.specs.Numbers.{fits, cell_place, number_at, numbered_one, numbered_all};
+ghost use Rattle.wit_observers.specs.Numbers.{fits, cell_place, number_at, numbered_one};
+ghost use Rattle.wit_observers.specs.Numbers.{numbered_all};
 ghost use Rattle.wit_model.specs.Rules.Numbers.{IsNumber};
 
 use std::alloc::{AllocError, Global};

@@ -16,8 +16,8 @@ use std::marker::Model;
 use wit_adoptions::{Front, Naming};
 use wit_model::TypeNo;
 
-/// Who looks at adopted orders without waiting for anybody. Contracts see it as a list: how the list
-/// of adopted orders begins, as far as it has learnt or seen. That never gets shorter.
+/// Who looks at adopted orders without waiting for anybody. Contracts see it as a list: how the
+/// list of adopted orders begins, as far as it has learnt or seen. That never gets shorter.
 #[derive(Drop)]
 pub struct Observer<J: Naming> {
     front: Front<J>,
@@ -67,7 +67,8 @@ fn rise<J: Naming>(front: &mut Front<J>, seen: Front<J>, told: bool) -> bool
     requires few { (length front.old < 2 ^ 32) × (length seen < 2 ^ 32) }
     ensures few { length front.new < 2 ^ 32 }
     ensures kept { IsPrefix front.old front.new }
-    ensures told { (all : List Adoption) → IsPrefix seen all → (told ≡ true → IsPrefix front.old all)
+    ensures told { (all : List Adoption) → IsPrefix seen all
+        → (told ≡ true → IsPrefix front.old all)
         → result ≡ true → IsPrefix front.new all }
 {
     match front.compare(&seen) {
@@ -144,8 +145,8 @@ impl<J: Naming> Observer<J> {
         Some(1 <= number && number as u64 <= self.front.len())
     }
 
-    /// How many adopted orders it has learnt or sees now. It waits for nobody. `None` stands for what
-    /// it stands for in `known`.
+    /// How many adopted orders it has learnt or sees now. It waits for nobody. `None` stands for
+    /// what it stands for in `known`.
     pub fn orders_seen(&mut self) -> Option<u32>
         ensures kept { IsPrefix self.old self.new }
         ensures seen { IfSome result (λ n. n ≡ length self.new) }

@@ -1,6 +1,7 @@
 //! Who publishes adopted orders.
 
-ghost use Rattle.std.specs.Prelude.{◌≡◌, ◌+◌, ◌<◌, ◌^◌, ◌++◌, ◌∷◌, true, [], length, drop, fold, replicate, ◌*◌, IfOk, IfErr, IfSome, MatchResult};
+ghost use Rattle.std.specs.Prelude.{◌≡◌, ◌+◌, ◌<◌, ◌^◌, ◌++◌, ◌∷◌, true, [], length, drop, fold};
+ghost use Rattle.std.specs.Prelude.{replicate, ◌*◌, IfOk, IfErr, IfSome, MatchResult};
 ghost use mathlib.Core.List.{IsPrefix};
 ghost use Rattle.left_right.specs.Sides.{view as told_at};
 ghost use Rattle.wit_adoptions.specs.Naming.{IsOf, orders_on};
@@ -42,7 +43,8 @@ fn show<J: Naming, R: Wait>(rt: &R, writer: Showing<J>) -> Showing<J>
         GoesOn J.list now (fold with_change now (drop writer.behind writer.log.items)) }
     ensures none { drop result.behind result.log.items ≡ [] }
     ensures shape { shape_of result.desk.shown.value
-        ≡ fold with_change (shape_of writer.desk.shown.value) (drop writer.behind writer.log.items) }
+        ≡ fold with_change (shape_of writer.desk.shown.value)
+        (drop writer.behind writer.log.items) }
     ensures view { told_at result.desk.place ≡ shown J.list (shape_of result.desk.shown.value) }
 {
     let (writer, _shown) = writer.publish_as::<Looks<J>, R>(rt);
@@ -56,7 +58,8 @@ fn show_change<J: Naming, R: Wait>(
     change: Change,
 ) -> Result<(), AllocError>
     requires none { drop writer.old.behind writer.old.log.items ≡ [] }
-    requires goes_on { let now = shape_of writer.old.desk.shown.value in GoesOn J.list now (with_change now change) }
+    requires goes_on { let now = shape_of writer.old.desk.shown.value in
+        GoesOn J.list now (with_change now change) }
     ensures none { drop writer.new.behind writer.new.log.items ≡ [] }
     ensures ok { let now = shape_of writer.new.desk.shown.value in
         IfOk result (λ _. (now ≡ with_change (shape_of writer.old.desk.shown.value) change)
@@ -90,7 +93,8 @@ fn change<J: Naming>(keeper: &Keeper<J>, orders: Vec<Adoption>) -> Change
 // A place to look from that is told all that was shown, where one is free.
 fn free_place<J: Naming>(writer: &mut Showing<J>) -> Option<Place<J>>
     ensures shown { writer.new.desk.shown ≡ writer.old.desk.shown }
-    ensures pending { drop writer.new.behind writer.new.log.items ≡ drop writer.old.behind writer.old.log.items }
+    ensures pending { drop writer.new.behind writer.new.log.items
+        ≡ drop writer.old.behind writer.old.log.items }
     ensures kept { told_at writer.new.desk.place ≡ told_at writer.old.desk.place }
     ensures told { IfSome result (λ p. told_at p.place ≡ told_at writer.old.desk.place) }
 {
@@ -152,8 +156,8 @@ impl<J: Naming> Publisher<J> {
     }
 
     /// Publishes adopted orders, none, one or several, which observers then see all at once. The
-    /// growth of memory is asked for before anything changes. It waits for observers that still look
-    /// at the copy that it changes.
+    /// growth of memory is asked for before anything changes. It waits for observers that still
+    /// look at the copy that it changes.
     ///
     /// # Errors
     /// Want of memory alone; then nothing has changed.

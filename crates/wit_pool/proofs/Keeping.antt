@@ -1,5 +1,7 @@
 -- What is kept, and what a call leaves.
-use Rattle.std.proofs.Common.{◌≡◌, ℕ, zero, suc, ◌+◌, ◌-◌, ◌^◌, ◌<◌, ◌≤◌, List, [], ◌∷◌, ◌++◌, length, map, take, replicate, set, get_or, None, Some, slice_get, refl, ap, ap₂, sym, ◌∙◌, subst, arith}
+use Rattle.std.proofs.Common.{◌≡◌, ℕ, zero, suc, ◌+◌, ◌-◌, ◌^◌, ◌<◌, ◌≤◌, List, [], ◌∷◌, ◌++◌}
+use Rattle.std.proofs.Common.{length, map, take, replicate, set, get_or, None, Some, slice_get}
+use Rattle.std.proofs.Common.{refl, ap, ap₂, sym, ◌∙◌, subst, arith}
 use Rattle.std.specs.Prelude.{Option}
 use Rattle.std.specs.List.{All}
 use Rattle.std.proofs.lemmas.List.{length-map, length-append, length-set, get_or-map}
@@ -8,11 +10,13 @@ use Rattle.std.proofs.lemmas.Option.{slice_get_within, slice_get_past, get_or_fr
 use Rattle.wit_model.specs.declared.locks.Instance.{Instance}
 use Rattle.wit_model.specs.declared.chunks.Spot.{Spot}
 use Rattle.wit_model.specs.Rules.Groups.{flat, replaced_in}
-use Rattle.wit_model.specs.Rules.Chunks.{Chunks, IsList, IsSpot, IsPlaced, StandsIn, groups_of, group_of, set_groups}
+use Rattle.wit_model.specs.Rules.Chunks.{Chunks, IsList, IsSpot, IsPlaced, StandsIn, groups_of}
+use Rattle.wit_model.specs.Rules.Chunks.{group_of, set_groups}
 use Rattle.wit_model.specs.Rules.Rows.{row, groups_at, AreSettled}
 use Rattle.wit_model.proofs.Rows.Placing.{IsTaken, taken}
 use Rattle.wit_model.proofs.Rows.Settled as Settled
-use Rattle.wit_model.proofs.Rows.Settled.{Leaves, list-within, groups-shown, placed-shown, chain-fits}
+use Rattle.wit_model.proofs.Rows.Settled.{Leaves, list-within, groups-shown, placed-shown}
+use Rattle.wit_model.proofs.Rows.Settled.{chain-fits}
 use denote.RawPtr.{Ptr}
 use Rattle.circular_buffer.proofs.Places.{slice_get-take, slice_get-last}
 use Rattle.wit_pool.specs.declared.chunk.Next.{Next}
@@ -25,9 +29,12 @@ use Rattle.wit_pool.specs.Kept.{rows_of, lists_of, free_of, chunks_in, AreKept}
 use Rattle.wit_pool.proofs.Links.{Stood, stood, first, none-left, length-places}
 use Rattle.wit_pool.proofs.Standing as Standing
 
-module _ {A : Type 0} (v : Inside A) (shows : Chunks) (is : chunks_in v ≡ shows) (kept : AreKept v) where
-  pub stands : Stands v.cells.at v.cells.slots v.chains.items v.free (rows_of v) (lists_of v) (free_of v)
-  stands = record { rows = refl; lists = refl; unused = refl; linked = kept.linked; spare = kept.spare }
+module _ {A : Type 0} (v : Inside A) (shows : Chunks) (is : chunks_in v ≡ shows)
+    (kept : AreKept v) where
+  pub stands : Stands v.cells.at v.cells.slots v.chains.items v.free (rows_of v)
+      (lists_of v) (free_of v)
+  stands =
+      record { rows = refl; lists = refl; unused = refl; linked = kept.linked; spare = kept.spare }
 
   pub placed : IsPlaced shows
   placed = subst IsPlaced is (placed-shown (rows_of v) (lists_of v) (free_of v) kept.settled.placed)
@@ -44,35 +51,49 @@ module _ {A : Type 0} (v : Inside A) (shows : Chunks) (is : chunks_in v ≡ show
 
   module _ (list : ℕ) (there : IsList shows list) where
     pub in-lists : list - 1 < length (lists_of v)
-    in-lists = list-within (rows_of v) (lists_of v) (free_of v) list (subst (λ s. IsList s list) (sym is) there)
+    in-lists =
+        list-within (rows_of v) (lists_of v) (free_of v) list
+        (subst (λ s. IsList s list) (sym is) there)
 
     pub in-chains : list - 1 < length v.chains.items
     in-chains = omega (arith, in-lists, length-map v.chains.items (chain_chunks v.cells.slots))
 
-    pub list-is : (d : Chain) → get_or (lists_of v) (list - 1) [] ≡ chain_chunks v.cells.slots (get_or v.chains.items (list - 1) d)
-    list-is d = Standing.list-at v.cells.at v.cells.slots v.chains.items v.free (rows_of v) (lists_of v) (free_of v) stands (list - 1) d in-chains
+    pub list-is : (d : Chain) → get_or (lists_of v) (list - 1) []
+        ≡ chain_chunks v.cells.slots (get_or v.chains.items (list - 1) d)
+    list-is d =
+        Standing.list-at v.cells.at v.cells.slots v.chains.items v.free (rows_of v) (lists_of v)
+        (free_of v) stands (list - 1) d in-chains
 
-    pub linked : (d : Chain) → IsLinked v.cells.at v.cells.slots (get_or v.chains.items (list - 1) d)
+    pub linked : (d : Chain) → IsLinked v.cells.at v.cells.slots
+        (get_or v.chains.items (list - 1) d)
     linked d = kept.linked (list - 1) d in-chains
 
-    pub groups-are : groups_of shows list ≡ groups_at (rows_of v) (get_or (lists_of v) (list - 1) [])
-    groups-are = ap (λ s. groups_of s list) (sym is) ∙ groups-shown (rows_of v) (lists_of v) (list - 1) in-lists
+    pub groups-are : groups_of shows list
+        ≡ groups_at (rows_of v) (get_or (lists_of v) (list - 1) [])
+    groups-are =
+        ap (λ s. groups_of s list) (sym is) ∙ groups-shown (rows_of v) (lists_of v)
+        (list - 1) in-lists
 
-    pub groups-many : (d : Chain) → length (groups_of shows list) ≡ (get_or v.chains.items (list - 1) d).count
+    pub groups-many : (d : Chain) → length (groups_of shows list)
+        ≡ (get_or v.chains.items (list - 1) d).count
     groups-many d =
         ap length groups-are
         ∙ length-map (get_or (lists_of v) (list - 1) []) (row (rows_of v))
         ∙ ap length (list-is d)
-        ∙ length-places v.cells.at v.cells.slots (get_or v.chains.items (list - 1) d).count (get_or v.chains.items (list - 1) d).head (linked d)
+        ∙ length-places v.cells.at v.cells.slots (get_or v.chains.items (list - 1) d).count
+        (get_or v.chains.items (list - 1) d).head (linked d)
 
     pub fits : length (flat (groups_of shows list)) < 2 ^ 32
-    fits = subst (λ gs. length (flat gs) < 2 ^ 32) (sym groups-are) (chain-fits (rows_of v) (lists_of v) (free_of v) (list - 1) kept.settled)
+    fits =
+        subst (λ gs. length (flat gs) < 2 ^ 32) (sym groups-are)
+        (chain-fits (rows_of v) (lists_of v) (free_of v) (list - 1) kept.settled)
 
     pub few : (d : Chain) → (get_or v.chains.items (list - 1) d).count ≤ 65536
     few d =
         omega (
           arith,
-          length-places v.cells.at v.cells.slots (get_or v.chains.items (list - 1) d).count (get_or v.chains.items (list - 1) d).head (linked d),
+          length-places v.cells.at v.cells.slots (get_or v.chains.items (list - 1) d).count
+              (get_or v.chains.items (list - 1) d).head (linked d),
           ap length (list-is d),
           Settled.list-short (lists_of v) (list - 1),
           kept.settled.placed.all,
@@ -87,12 +108,15 @@ module _ {A : Type 0} (v : Inside A) (shows : Chunks) (is : chunks_in v ≡ show
       in-list = slice_get_within (get_or (lists_of v) (list - 1) []) s.group s.chunk stands-in.chunk
 
       pub chunk-is : get_or (get_or (lists_of v) (list - 1) []) s.group 0 ≡ s.chunk
-      chunk-is = get_or_from_slice_get (get_or (lists_of v) (list - 1) []) s.group s.chunk 0 stands-in.chunk
+      chunk-is =
+          get_or_from_slice_get (get_or (lists_of v) (list - 1) []) s.group s.chunk 0
+          stands-in.chunk
 
       pub known : IsTaken (length (rows_of v)) (lists_of v) (free_of v) s.chunk
       known =
           subst (IsTaken (length (rows_of v)) (lists_of v) (free_of v)) chunk-is
-          (taken (length (rows_of v)) (lists_of v) (free_of v) kept.settled.placed (list - 1) s.group 0 in-lists in-list)
+          (taken (length (rows_of v)) (lists_of v) (free_of v) kept.settled.placed
+          (list - 1) s.group 0 in-lists in-list)
 
       pub chunk-within : s.chunk < length v.cells.slots
       chunk-within = in-block s.chunk known.within
@@ -100,12 +124,16 @@ module _ {A : Type 0} (v : Inside A) (shows : Chunks) (is : chunks_in v ≡ show
       pub chunk-fits : s.chunk < 2 ^ 16
       chunk-fits = omega (arith, known.within, kept.settled.few)
 
-      pub stood-there : (d : Chain) → Stood v.cells.at v.cells.slots (get_or v.chains.items (list - 1) d).count (get_or v.chains.items (list - 1) d).head s.group s.chunk
+      pub stood-there : (d : Chain)
+          → Stood v.cells.at v.cells.slots (get_or v.chains.items (list - 1) d).count
+          (get_or v.chains.items (list - 1) d).head s.group s.chunk
       stood-there d =
-          stood v.cells.at v.cells.slots (get_or v.chains.items (list - 1) d).count (get_or v.chains.items (list - 1) d).head (linked d) s.group s.chunk
+          stood v.cells.at v.cells.slots (get_or v.chains.items (list - 1) d).count
+          (get_or v.chains.items (list - 1) d).head (linked d) s.group s.chunk
           (subst (λ ps. slice_get ps s.group ≡ Some s.chunk) (list-is d) stands-in.chunk)
 
-      pub is-at : (l : Next) → Leads v.cells.at l → l.place ≡ s.chunk → IsAt v.cells.at v.cells.slots l
+      pub is-at : (l : Next) → Leads v.cells.at l → l.place ≡ s.chunk
+          → IsAt v.cells.at v.cells.slots l
       is-at l leads e =
           let old = stood-there (record { head = None; count = 0 }) in
           record {
@@ -117,7 +145,8 @@ module _ {A : Type 0} (v : Inside A) (shows : Chunks) (is : chunks_in v ≡ show
       pub group-is : group_of shows list s ≡ content (chunk_at v.cells.slots s.chunk)
       group-is =
           ap (λ gs. get_or gs s.group []) groups-are
-          ∙ Settled.row-at (rows_of v) (lists_of v) (free_of v) kept.settled (list - 1) in-lists s.group in-list
+          ∙ Settled.row-at (rows_of v) (lists_of v) (free_of v) kept.settled
+          (list - 1) in-lists s.group in-list
           ∙ ap (row (rows_of v)) chunk-is
           ∙ get_or-map content v.cells.slots s.chunk None [] chunk-within
 
@@ -128,31 +157,42 @@ module _ {A : Type 0} (v : Inside A) (shows : Chunks) (is : chunks_in v ≡ show
 
       module _ (l : Next) (e : next_of (chunk_at v.cells.slots s.chunk) ≡ Some l) where
         begins : (1 ≤ s.group) × IsAt v.cells.at v.cells.slots l
-            × (places v.cells.slots s.group (Some l) ≡ places v.cells.slots (s.group - 1) (next_of (chunk_at v.cells.slots l.place)) ++ l.place ∷ [])
-            × IsChain v.cells.at v.cells.slots (s.group - 1) (next_of (chunk_at v.cells.slots l.place))
+            × (places v.cells.slots s.group (Some l)
+            ≡ places v.cells.slots (s.group - 1) (next_of (chunk_at v.cells.slots l.place))
+            ++ l.place ∷ [])
+            × IsChain v.cells.at v.cells.slots (s.group - 1)
+            (next_of (chunk_at v.cells.slots l.place))
         begins =
             first v.cells.at v.cells.slots s.group l
-            (subst (IsChain v.cells.at v.cells.slots s.group) e (stood-there (record { head = None; count = 0 })).older.1)
+            (subst (IsChain v.cells.at v.cells.slots s.group) e
+            (stood-there (record { head = None; count = 0 })).older.1)
 
         pub older-some : s.group - 1 + 1 ≡ s.group
         older-some = omega (arith, begins.0)
 
-        pub older-spot : IsSpot shows list (record { group = s.group - 1; chunk = l.place; newer = Some s.chunk })
+        pub older-spot : IsSpot shows list
+            (record { group = s.group - 1; chunk = l.place; newer = Some s.chunk })
         older-spot =
             let d : Chain = record { head = None; count = 0 } in
             let ps : List ℕ = get_or (lists_of v) (list - 1) [] in
-            let xs : List ℕ = places v.cells.slots (s.group - 1) (next_of (chunk_at v.cells.slots l.place)) in
+            let xs : List ℕ =
+            places v.cells.slots (s.group - 1) (next_of (chunk_at v.cells.slots l.place)) in
             let long : length xs ≡ s.group - 1 =
-            length-places v.cells.at v.cells.slots (s.group - 1) (next_of (chunk_at v.cells.slots l.place)) begins.3 in
+            length-places v.cells.at v.cells.slots (s.group - 1)
+            (next_of (chunk_at v.cells.slots l.place)) begins.3 in
             let front : take s.group ps ≡ xs ++ l.place ∷ [] =
-            ap (take s.group) (list-is d) ∙ sym (stood-there d).older.0 ∙ ap (places v.cells.slots s.group) e ∙ begins.2 in
+            ap (take s.group) (list-is d) ∙ sym (stood-there d).older.0
+            ∙ ap (places v.cells.slots s.group) e ∙ begins.2 in
             let less : s.group - 1 < s.group = omega (arith, begins.0) in
             record {
               group = omega (arith, at.group, less);
-              stands = subst (λ c. StandsIn (get_or c.places (list - 1) []) (record { group = s.group - 1; chunk = l.place; newer = Some s.chunk })) is
+              stands =
+                  subst (λ c. StandsIn (get_or c.places (list - 1) [])
+                  (record { group = s.group - 1; chunk = l.place; newer = Some s.chunk })) is
                   (record {
                     chunk =
-                        sym (slice_get-take s.group ps (s.group - 1) less) ∙ ap (λ qs. slice_get qs (s.group - 1)) front
+                        sym (slice_get-take s.group ps (s.group - 1) less)
+                        ∙ ap (λ qs. slice_get qs (s.group - 1)) front
                         ∙ slice_get-last xs l.place (s.group - 1) (sym long);
                     newer = ap (slice_get ps) older-some ∙ stands-in.chunk;
                   });
@@ -165,24 +205,37 @@ module _ {A : Type 0} (v : Inside A) (shows : Chunks) (is : chunks_in v ≡ show
         pub in-content : index < length (content (chunk_at v.cells.slots s.chunk))
         in-content = subst (λ (g : List Instance). index < length g) group-is in_group
 
-        pub in-row : index < length (row (rows_of v) (get_or (get_or (lists_of v) (list - 1) []) s.group 0))
-        in-row = subst (λ (g : List Instance). index < length g) (sym (ap (row (rows_of v)) chunk-is ∙ row-is)) in-content
+        pub in-row : index < length (row (rows_of v)
+            (get_or (get_or (lists_of v) (list - 1) []) s.group 0))
+        in-row =
+            subst (λ (g : List Instance). index < length g)
+            (sym (ap (row (rows_of v)) chunk-is ∙ row-is)) in-content
 
         -- what a lock that is written over another one leaves
-        pub replaces : (x : Instance) → Leaves (set (rows_of v) s.chunk (set (content (chunk_at v.cells.slots s.chunk)) index x)) (lists_of v) (free_of v)
+        pub replaces : (x : Instance)
+            → Leaves (set (rows_of v) s.chunk
+            (set (content (chunk_at v.cells.slots s.chunk)) index x)) (lists_of v) (free_of v)
             (set_groups shows list (replaced_in s.group index x (groups_of shows list)))
         replaces x =
-            subst (λ c. Leaves (set (rows_of v) s.chunk (set (content (chunk_at v.cells.slots s.chunk)) index x)) (lists_of v) (free_of v)
+            subst (λ c. Leaves (set (rows_of v) s.chunk
+            (set (content (chunk_at v.cells.slots s.chunk)) index x)) (lists_of v) (free_of v)
             (set_groups c list (replaced_in s.group index x (groups_of c list)))) is
-            (subst (λ (g : List Instance). Leaves (set (rows_of v) s.chunk (set g index x)) (lists_of v) (free_of v)
-            (set_groups (chunks_in v) list (replaced_in s.group index x (groups_of (chunks_in v) list)))) row-is
-            (subst (λ p. Leaves (set (rows_of v) p (set (row (rows_of v) p) index x)) (lists_of v) (free_of v)
-            (set_groups (chunks_in v) list (replaced_in s.group index x (groups_of (chunks_in v) list)))) chunk-is
-            (Settled.replaced (rows_of v) (lists_of v) list in-lists (free_of v) kept.settled s.group index in-list in-row x)))
+            (subst (λ (g : List Instance). Leaves (set (rows_of v) s.chunk (set g index x))
+            (lists_of v) (free_of v)
+            (set_groups (chunks_in v) list
+            (replaced_in s.group index x (groups_of (chunks_in v) list)))) row-is
+            (subst (λ p. Leaves (set (rows_of v) p (set (row (rows_of v) p) index x))
+            (lists_of v) (free_of v)
+            (set_groups (chunks_in v) list
+            (replaced_in s.group index x (groups_of (chunks_in v) list)))) chunk-is
+            (Settled.replaced (rows_of v) (lists_of v) list in-lists
+            (free_of v) kept.settled s.group index in-list in-row x)))
 
-    pub newest-none : (d : Chain) → (get_or v.chains.items (list - 1) d).head ≡ None → 0 ≡ length (groups_of shows list)
+    pub newest-none : (d : Chain) → (get_or v.chains.items (list - 1) d).head ≡ None
+        → 0 ≡ length (groups_of shows list)
     newest-none d e =
-        sym (groups-many d ∙ none-left v.cells.at v.cells.slots (get_or v.chains.items (list - 1) d).count
+        sym (groups-many d ∙ none-left v.cells.at v.cells.slots
+        (get_or v.chains.items (list - 1) d).count
         (get_or v.chains.items (list - 1) d).head (linked d) e)
 
     module _ (d : Chain) (l : Next) (e : (get_or v.chains.items (list - 1) d).head ≡ Some l) where
@@ -190,27 +243,37 @@ module _ {A : Type 0} (v : Inside A) (shows : Chunks) (is : chunks_in v ≡ show
       n = (get_or v.chains.items (list - 1) d).count
 
       starts : (1 ≤ n) × IsAt v.cells.at v.cells.slots l
-          × (places v.cells.slots n (Some l) ≡ places v.cells.slots (n - 1) (next_of (chunk_at v.cells.slots l.place)) ++ l.place ∷ [])
+          × (places v.cells.slots n (Some l) ≡ places v.cells.slots (n - 1)
+          (next_of (chunk_at v.cells.slots l.place)) ++ l.place ∷ [])
           × IsChain v.cells.at v.cells.slots (n - 1) (next_of (chunk_at v.cells.slots l.place))
-      starts = first v.cells.at v.cells.slots n l (subst (IsChain v.cells.at v.cells.slots n) e (linked d))
+      starts =
+          first v.cells.at v.cells.slots n l
+          (subst (IsChain v.cells.at v.cells.slots n) e (linked d))
 
       pub newest-all : n - 1 + 1 ≡ length (groups_of shows list)
       newest-all = omega (arith, starts.0, groups-many d)
 
       pub newest-spot : IsSpot shows list (record { group = n - 1; chunk = l.place; newer = None })
       newest-spot =
-          let xs : List ℕ = places v.cells.slots (n - 1) (next_of (chunk_at v.cells.slots l.place)) in
+          let xs : List ℕ =
+          places v.cells.slots (n - 1) (next_of (chunk_at v.cells.slots l.place)) in
           let long : length xs ≡ n - 1 =
-          length-places v.cells.at v.cells.slots (n - 1) (next_of (chunk_at v.cells.slots l.place)) starts.3 in
+          length-places v.cells.at v.cells.slots (n - 1)
+          (next_of (chunk_at v.cells.slots l.place)) starts.3 in
           let all : get_or (lists_of v) (list - 1) [] ≡ xs ++ l.place ∷ [] =
           list-is d ∙ ap (places v.cells.slots n) e ∙ starts.2 in
           record {
             group = omega (arith, starts.0, groups-many d);
-            stands = subst (λ c. StandsIn (get_or c.places (list - 1) []) (record { group = n - 1; chunk = l.place; newer = None })) is
+            stands =
+                subst (λ c. StandsIn (get_or c.places (list - 1) [])
+                (record { group = n - 1; chunk = l.place; newer = None })) is
                 (record {
-                  chunk = ap (λ qs. slice_get qs (n - 1)) all ∙ slice_get-last xs l.place (n - 1) (sym long);
+                  chunk =
+                      ap (λ qs. slice_get qs (n - 1)) all
+                      ∙ slice_get-last xs l.place (n - 1) (sym long);
                   newer = ap (λ qs. slice_get qs (n - 1 + 1)) all
-                      ∙ slice_get_past (xs ++ l.place ∷ []) (n - 1 + 1) (omega (arith, long, length-append xs (l.place ∷ [])));
+                      ∙ slice_get_past (xs ++ l.place ∷ []) (n - 1 + 1)
+                      (omega (arith, long, length-append xs (l.place ∷ [])));
                 });
           }
 
@@ -222,30 +285,38 @@ pub record IsBeside {A : Type 0} (v w : Inside A) : Type 0 where
   pub deed : (w.deed.at ≡ w.first.ptr) × (w.deed.len ≡ w.count) × (w.deed.alloc ≡ w.alloc)
 
 -- what a call leaves where one list's groups become others
-pub record IsLeft {A : Type 0} (shows : Chunks) (list : ℕ) (groups : List (List (List Instance))) (w : Inside A) : Type 0 where
+pub record IsLeft {A : Type 0} (shows : Chunks) (list : ℕ) (groups : List (List (List Instance)))
+    (w : Inside A) : Type 0 where
   pub kept : AreKept w
   pub are : map (groups_at (rows_of w)) (lists_of w) ≡ groups
   pub size : length (rows_of w) ≡ shows.size
   pub placed : IsPlaced (chunks_in w)
   pub others : lists_of w ≡ set shows.places (list - 1) (get_or (lists_of w) (list - 1) [])
 
-module _ {A : Type 0} (v : Inside A) (shows : Chunks) (is : chunks_in v ≡ shows) (kept : AreKept v) (list : ℕ) (there : IsList shows list)
-    (w : Inside A) (beside : IsBeside v w) (p : ℕ) (y : List Instance) (ps unused : List ℕ) (groups : List (List (List Instance))) where
+module _ {A : Type 0} (v : Inside A) (shows : Chunks) (is : chunks_in v ≡ shows) (kept : AreKept v)
+    (list : ℕ) (there : IsList shows list)
+    (w : Inside A) (beside : IsBeside v w) (p : ℕ) (y : List Instance) (ps unused : List ℕ)
+    (groups : List (List (List Instance))) where
   -- one chunk holds other locks, and one list has these chunks
   pub left-now : (lists : List (List ℕ)) → lists ≡ set (lists_of v) (list - 1) ps
       → Stands v.cells.at w.cells.slots w.chains.items w.free (set (rows_of v) p y) lists unused
       → Leaves (set (rows_of v) p y) lists unused groups → IsLeft shows list groups w
   left-now lists e s leaves =
-      let settled : AreSettled (rows_of w) (lists_of w) (free_of w) = rw (s.rows, s.lists, s.unused) leaves.settled in
-      let long : length (rows_of w) ≡ length (rows_of v) = ap length s.rows ∙ length-set (rows_of v) p y in
+      let settled : AreSettled (rows_of w) (lists_of w) (free_of w) =
+      rw (s.rows, s.lists, s.unused) leaves.settled in
+      let long : length (rows_of w) ≡ length (rows_of v) =
+      ap length s.rows ∙ length-set (rows_of v) p y in
       let set-there : lists_of w ≡ set (lists_of v) (list - 1) ps = s.lists ∙ e in
       record {
         kept = record {
           settled = settled;
-          linked = subst (λ a. All (IsLinked a w.cells.slots) w.chains.items) (sym beside.at) s.linked;
+          linked =
+              subst (λ a. All (IsLinked a w.cells.slots) w.chains.items) (sym beside.at) s.linked;
           spare = subst (λ a. IsLinked a w.cells.slots w.free) (sym beside.at) s.spare;
           first = beside.first ∙ kept.first ∙ sym beside.at;
-          size = sym (length-map w.cells.slots content) ∙ long ∙ length-map v.cells.slots content ∙ kept.size ∙ sym beside.count;
+          size =
+              sym (length-map w.cells.slots content) ∙ long ∙ length-map v.cells.slots content
+              ∙ kept.size ∙ sym beside.count;
           deed = beside.deed;
         };
         are = ap₂ (λ gs ls. map (groups_at gs) ls) s.rows s.lists ∙ leaves.groups;
@@ -254,15 +325,20 @@ module _ {A : Type 0} (v : Inside A) (shows : Chunks) (is : chunks_in v ≡ show
         others =
             subst (λ ls. ls ≡ set shows.places (list - 1) (get_or ls (list - 1) [])) (sym set-there)
             (Settled.others-set (lists_of v) (list - 1) ps (in-lists v shows is kept list there)
-            ∙ ap (λ (c : Chunks). set c.places (list - 1) (get_or (set (lists_of v) (list - 1) ps) (list - 1) [])) is);
+            ∙ ap (λ (c : Chunks). set c.places (list - 1)
+            (get_or (set (lists_of v) (list - 1) ps) (list - 1) [])) is);
       }
 
 -- lists that have no chunk
-pub no-chunks : (cs : List (Option Chunk)) (lists : ℕ) → map (chain_chunks cs) (replicate lists (record { head = None; count = 0 })) ≡ replicate lists []
+pub no-chunks : (cs : List (Option Chunk)) (lists : ℕ)
+    → map (chain_chunks cs) (replicate lists (record { head = None; count = 0 }))
+    ≡ replicate lists []
 no-chunks cs zero = refl
 no-chunks cs (suc n) = ap (λ ls. [] ∷ ls) (no-chunks cs n)
 
-pub all-none : (at : Ptr) (cs : List (Option Chunk)) (lists : ℕ) (chains : List Chain) → chains ≡ replicate lists (record { head = None; count = 0 })
+pub all-none : (at : Ptr) (cs : List (Option Chunk)) (lists : ℕ) (chains : List Chain)
+    → chains ≡ replicate lists (record { head = None; count = 0 })
     → All (IsLinked at cs) chains
 all-none at cs lists chains e =
-    subst (All (IsLinked at cs)) (sym e) (All-replicate (IsLinked at cs) lists (record { head = None; count = 0 }) refl)
+    subst (All (IsLinked at cs)) (sym e)
+    (All-replicate (IsLinked at cs) lists (record { head = None; count = 0 }) refl)

@@ -14,7 +14,8 @@ use mir.Val.{Val, vstruct, vcons, vnil, of_list}
 use base.Logic.{SProp, ent, emp, id⊢, via}
 use base.Fml.{fat, froom}
 use types.Logic.{Logic, sem}
-use types.Kit.{Item, Goal, Seq, ‵, ◌⊛◌, some, given, ◌$◌, ◌∵◌, !, qed, move, keep, drop as skip, use1, pick, learn, split, fsplit, fjoin, fpick, feq_l, done}
+use types.Kit.{Item, Goal, Seq, ‵, ◌⊛◌, some, given, ◌$◌, ◌∵◌, !, qed, move, keep, drop as skip}
+use types.Kit.{use1, pick, learn, split, fsplit, fjoin, fpick, feq_l, done}
 use denote.RattleType.{RattleType}
 use denote.Shadow.{makes_shadow}
 use denote.Struct.Struct.{Struct}
@@ -48,27 +49,33 @@ mark_made E 𝓛 =
     makes_shadow 𝓛 ((Marked E).own_val (tt, tt) (mark ∷ [])) (λ vss. (tt, ((λ uss. (tt, tt)), tt)))
     ((vstruct vnil ∷ [], tt), (refl, ((tt, (refl, tt)), tt)))
 
-pub at_words : {M : Type 1} (𝓤 : Ura M) (Q : List Val → SProp 𝓤) {us ws : List Val} → us ≡ ws → ent 𝓤 (Q ws) (Q us)
+pub at_words : {M : Type 1} (𝓤 : Ura M) (Q : List Val → SProp 𝓤) {us ws : List Val} → us ≡ ws
+    → ent 𝓤 (Q ws) (Q us)
 at_words 𝓤 Q {us} {ws} e = subst (λ vs. ent 𝓤 (Q ws) (Q vs)) (sym e) (id⊢ 𝓤 (Q ws))
 
-module _ {M : Type 1} {𝓤 : Ura M} {𝓛 : Logic 𝓤} {K : Type 0} {Γ : List (Item 𝓤)} {G : Goal 𝓤 𝓛.H} where
+module _ {M : Type 1} {𝓤 : Ura M} {𝓛 : Logic 𝓤} {K : Type 0} {Γ : List (Item 𝓤)}
+    {G : Goal 𝓤 𝓛.H} where
   pub mark_had : K → (E : El) (vs : List Val) → (vs ≡ mark ∷ [] → Seq K 𝓛 Γ G)
       → Seq K 𝓛 (‵ ((Marked E).own_val (tt, tt) vs) ∷ Γ) G
   mark_had t E vs k =
-      fpick t (λ vss. fsplit t $ feq_l t (λ outer. fsplit t $ fpick t (λ uss. fsplit t $ feq_l t (λ inner. skip t $ skip t $
+      fpick t (λ vss. fsplit t $ feq_l t (λ outer. fsplit t
+      $ fpick t (λ uss. fsplit t $ feq_l t (λ inner. skip t $ skip t $
       k (subst (λ (ws : List Val). vs ≡ vstruct (of_list (ws ++ [])) ∷ []) inner outer)))))
 
 module _ (E : El) {M : Type 1} {𝓤 : Ura M} (𝓛 : Logic 𝓤) (b : ℕ) where
   open 𝓛 use {H}
 
-  pub slot_emptied : (o : ℕ) (c : Place E) → ent 𝓤 (sem 𝓛 (slot (R E) b o c)) (sem 𝓛 (slot (R E) b o None))
+  pub slot_emptied : (o : ℕ) (c : Place E)
+      → ent 𝓤 (sem 𝓛 (slot (R E) b o c)) (sem 𝓛 (slot (R E) b o None))
   slot_emptied o None = id⊢ 𝓤 (sem 𝓛 (slot (R E) b o None))
   slot_emptied o (Some x) =
       qed 𝓛 (‵ (slot (R E) b o (Some x)) ∷ []) ∵
-      use1 𝓛 (some (λ (v : Val). given (Good (elτ E) v) (‵ (fat full_share (elτ E) b o v) ⊛ ‵ (E.row.own_val x (v ∷ [])))))
+      use1 𝓛 (some (λ (v : Val). given (Good (elτ E) v)
+      (‵ (fat full_share (elτ E) b o v) ⊛ ‵ (E.row.own_val x (v ∷ [])))))
       (value_out 0 E.row E.laws 𝓛 x b o) $
       pick ! (λ v. learn ! (λ good. split ! $
-      use1 𝓛 (‵ (froom (elτ E) b o)) (𝓛.laws.at_room (elτ E) b o v) $ as_raw ! (elτ E) b o $ keep ! (0 ∷ []) $ done !))
+      use1 𝓛 (‵ (froom (elτ E) b o)) (𝓛.laws.at_room (elτ E) b o v) $ as_raw ! (elτ E) b o
+      $ keep ! (0 ∷ []) $ done !))
 
   all_emptied : (cs : List (Place E)) (o : ℕ)
       → ent 𝓤 (sem 𝓛 (slots (R E) b o cs)) (sem 𝓛 (slots (R E) b o (replicate (length cs) None)))
@@ -84,4 +91,5 @@ module _ (E : El) {M : Type 1} {𝓤 : Ura M} (𝓛 : Logic 𝓤) (b : ℕ) wher
       → ent 𝓤 (sem 𝓛 (slots (R E) b o cs)) (H.room (ty_array (elτ E) n) b o)
   room_left cs n o long =
       subst (λ k. ent 𝓤 (sem 𝓛 (slots (R E) b o cs)) (H.room (ty_array (elτ E) k) b o)) long
-      (via 𝓤 (sem 𝓛 (slots (R E) b o (replicate (length cs) None))) (all_emptied cs o) (to_room E 𝓛 b (length cs) o))
+      (via 𝓤 (sem 𝓛 (slots (R E) b o (replicate (length cs) None))) (all_emptied cs o)
+      (to_room E 𝓛 b (length cs) o))

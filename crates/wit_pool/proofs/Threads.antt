@@ -1,4 +1,5 @@
--- The places of a block, and the right to give it back, go to another thread where what they are made of does.
+-- The places of a block, and the right to give it back, go to another thread where what they are
+-- made of does.
 use Rattle.std.specs.Prelude.{ℕ, ◌+◌, List, [], ◌∷◌, Option, Some, None}
 use Rattle.std.specs.Mem.{type_size}
 use base.Fraction.{full_share}
@@ -7,10 +8,12 @@ use denote.RattleType.{RattleType}
 use denote.RawPtr.{Ptr, block_ptr, null_ptr}
 use denote.Struct.Struct.{exits_of}
 use denote.Struct.Owning.{shape, fields, to}
-use denote.Param.Send.{IsSend, IsSync, Common, AllSend, part_keyless, owning_send, struct_send, struct_sync, sendable}
+use denote.Param.Send.{IsSend, IsSync, Common, AllSend, part_keyless, owning_send, struct_send}
+use denote.Param.Send.{struct_sync, sendable}
 use Rattle.core.specs.declared.alloc.Allocator.{Ghosts}
 use Rattle.std_alloc.proofs.SendSync.{FreesAnywhere, quiet}
-use Rattle.circular_buffer.specs.Ownership.{slot, slots, slot_lent, slots_lent, cells_own, cells_lent}
+use Rattle.circular_buffer.specs.Ownership.{slot, slots, slot_lent, slots_lent, cells_own}
+use Rattle.circular_buffer.specs.Ownership.{cells_lent}
 use Rattle.wit_pool.specs.contracts.cells.Cells as Cells
 use Rattle.wit_pool.specs.contracts.cells.Deed as Deed
 
@@ -51,8 +54,10 @@ module _ (R : RattleType) where
   Cells-sync sync =
       let T = Cells.the_type R in
       record {
-        shared = λ c b o κ.
-            ((struct_sync (shape T) (search sendable, tt)).shared (to T c) b o κ, block-shared sync c.at c.slots κ);
+        shared = λ c b o κ. (
+          (struct_sync (shape T) (search sendable, tt)).shared (to T c) b o κ,
+          block-shared sync c.at c.slots κ,
+        );
       }
 
   module _ (A : RattleType) (g : Ghosts A.Denot) where
@@ -67,5 +72,6 @@ module _ (R : RattleType) where
     Deed-sync =
         let T = Deed.the_type R A g in
         record {
-          shared = λ d b o κ. ((struct_sync (shape T) (search sendable, tt)).shared (to T d) b o κ, tt);
+          shared =
+              λ d b o κ. ((struct_sync (shape T) (search sendable, tt)).shared (to T d) b o κ, tt);
         }

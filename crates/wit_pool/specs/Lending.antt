@@ -14,9 +14,11 @@ with_slots c cs = record { mark = c.mark; at = c.at; slots = cs }
 -- the place at this address ends with what was left behind the reference
 abbrev pub LendsPlace : (R : RattleType) → MutBor (Cells R.Denot) → Ptr → MutBor R.Denot → Fml
 LendsPlace R c p r =
-    Lends (the_row R) R c r (λ w. with_slots c.now (slice_set c.now.slots (spot R c.now.at p) (Some w)))
+    Lends (the_row R) R c r (λ w. with_slots c.now
+    (slice_set c.now.slots (spot R c.now.at p) (Some w)))
 
 -- the chunk at this place ends as what was left behind the reference
 abbrev pub LendsChunk : MutBor (Cells Chunk) → ℕ → MutBor Chunk → Fml
 LendsChunk c p r =
-    Lends (the_row chunk_row) chunk_row c r (λ w. with_slots c.now (slice_set c.now.slots p (Some w)))
+    Lends (the_row chunk_row) chunk_row c r
+    (λ w. with_slots c.now (slice_set c.now.slots p (Some w)))

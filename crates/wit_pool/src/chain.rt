@@ -3,7 +3,8 @@
 ghost use Rattle.std.specs.Prelude.{◌≡◌, ℕ, ◌+◌, ◌-◌, ◌<◌, ◌≤◌, [], None, Some, IfSome};
 ghost use Rattle.std.specs.Prelude.{length, replicate};
 ghost use Rattle.std.specs.List.{range_with_len};
-ghost use Rattle.wit_pool.specs.Chunks.{IsAt, IsLed, HasChunkAt, chunk_at, content, next_of, rows_in};
+ghost use Rattle.wit_pool.specs.Chunks.{IsAt, IsLed, HasChunkAt, chunk_at, content, next_of};
+ghost use Rattle.wit_pool.specs.Chunks.{rows_in};
 ghost use Rattle.wit_pool.specs.Chains.{IsLinked, IsFreed, Passes, chain_chunks};
 
 use crate::cells::{Cells, Link};

@@ -81,8 +81,8 @@ pub fn read(cells: &Cells<Chunk>, at: Next) -> &Chunk
     cells.get(at.link())
 }
 
-// The chunk at the end of a link, to be changed where it lies: a chunk is too large to be copied for
-// each lock.
+// The chunk at the end of a link, to be changed where it lies: a chunk is too large to be copied
+// for each lock.
 fn read_mut(cells: &mut Cells<Chunk>, at: Next) -> &mut Chunk
     requires { IsAt cells.old.at cells.old.slots at }
     ensures* writes_back { sem 𝓛 (LendsChunk cells.entry at.place result) }

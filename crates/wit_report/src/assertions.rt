@@ -12,8 +12,8 @@ use std::alloc::Global;
 use wit_core::Verifier;
 use wit_model::{AssertAnswer, Fault, LockNo};
 
-/// The text of an assertion about a lock that came to this answer: the panic of `witness_assert` (subr_witness.c) in a line. Empty where
-/// it holds, or where nothing was looked at.
+/// The text of an assertion about a lock that came to this answer: the panic of `witness_assert`
+/// (subr_witness.c) in a line. Empty where it holds, or where nothing was looked at.
 ///
 /// # Errors
 /// `OutOfMemory` alone, and only where the text isn't empty.
@@ -23,8 +23,10 @@ pub fn assert_text(
     lock: LockNo,
     answer: AssertAnswer,
 ) -> Result<String, Fault>
-    ensures ok { IfOk result (λ text. string_bytes text ≡ assert_text (typed_locks verifier.now.start verifier.now.history) lock.0 answer) }
-    ensures err { IfErr result (WantsMemory (assert_text (typed_locks verifier.now.start verifier.now.history) lock.0 answer)) }
+    ensures ok { IfOk result (λ text. string_bytes text
+        ≡ assert_text (typed_locks verifier.now.start verifier.now.history) lock.0 answer) }
+    ensures err { IfErr result (WantsMemory
+        (assert_text (typed_locks verifier.now.start verifier.now.history) lock.0 answer)) }
 {
     let Some(words) = answer_words(answer) else {
         return Ok(String::new(alloc));

@@ -5,7 +5,8 @@ ghost use Rattle.std.specs.Option.{option_copied, option_map};
 ghost use Rattle.wit_model.specs.declared.faults.Fault.TheVariants.{OutOfMemory};
 ghost use Rattle.wit_model.specs.Rules.Circles.{seat_numbers};
 ghost use Rattle.wit_model.specs.Rules.State.{state_of, seat_at};
-ghost use Rattle.wit_model.specs.Trace.Views.{wait_line, wait_lines, circle_lines, circle_text, asked_name};
+ghost use Rattle.wit_model.specs.Trace.Views.{wait_line, wait_lines, circle_lines, circle_text};
+ghost use Rattle.wit_model.specs.Trace.Views.{asked_name};
 
 use crate::locks::lock_name;
 use crate::pieces::{put_number, put_quoted};
@@ -13,8 +14,8 @@ use std::alloc::{AllocError, Global};
 use wit_core::Verifier;
 use wit_model::{Fault, SeatNo};
 
-/// The text of a circle: each of its seats waits for the next, and the last for the first. Or that there is none. A seat that asks for
-/// nothing waits for an empty name.
+/// The text of a circle: each of its seats waits for the next, and the last for the first. Or that
+/// there is none. A seat that asks for nothing waits for an empty name.
 ///
 /// # Errors
 /// `OutOfMemory` alone.
@@ -23,7 +24,9 @@ pub fn circle_text(
     verifier: &Verifier,
     circle: Option<&[SeatNo]>,
 ) -> Result<String, Fault>
-    ensures ok { IfOk result (λ text. string_bytes text ≡ circle_text (state_of verifier.now) (option_map seat_numbers (option_copied circle.entry))) }
+    ensures ok { IfOk result (λ text. string_bytes text
+        ≡ circle_text (state_of verifier.now)
+        (option_map seat_numbers (option_copied circle.entry))) }
     ensures err { IfErr result (λ e. e ≡ OutOfMemory) }
 {
     let Some(seats) = circle else {
@@ -40,7 +43,8 @@ fn put_circle(
     verifier: &Verifier,
     seats: &[SeatNo],
 ) -> Result<(), AllocError>
-    ensures { OnOk result (string_bytes text.new ≡ string_bytes text.old ++ circle_lines (state_of verifier.now) (seat_numbers seats.now)) }
+    ensures { OnOk result (string_bytes text.new ≡ string_bytes text.old
+        ++ circle_lines (state_of verifier.now) (seat_numbers seats.now)) }
 {
     match seats {
         [] => Ok(()),
@@ -75,7 +79,8 @@ fn put_wait(
     seat: SeatNo,
     next: SeatNo,
 ) -> Result<(), AllocError>
-    ensures { OnOk result (string_bytes text.new ≡ string_bytes text.old ++ wait_line (state_of verifier.now) seat.0 next.0) }
+    ensures { OnOk result (string_bytes text.new ≡ string_bytes text.old
+        ++ wait_line (state_of verifier.now) seat.0 next.0) }
 {
     text.push_str(" seat ")?;
     put_number(text, alloc, seat.0 as u64)?;
@@ -89,7 +94,8 @@ fn put_wait(
 
 // The name of the lock that a seat has asked for.
 fn asked_name(verifier: &Verifier, seat: SeatNo) -> &str
-    ensures { result.now ≡ asked_name (state_of verifier.now).known.locks (seat_at (state_of verifier.now) seat.0).pending }
+    ensures { result.now ≡ asked_name (state_of verifier.now).known.locks
+        (seat_at (state_of verifier.now) seat.0).pending }
 {
     match verifier.pending(seat) {
         Some((lock, _)) => lock_name(verifier, lock),

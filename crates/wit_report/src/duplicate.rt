@@ -21,7 +21,8 @@ pub fn duplicate_text(
     verifier: &Verifier,
     doubling: &Doubling,
 ) -> Result<String, AllocError>
-    ensures { IfOk result (λ text. string_bytes text ≡ reply_text verifier.now (Duplicate doubling.now)) }
+    ensures { IfOk result (λ text. string_bytes text
+        ≡ reply_text verifier.now (Duplicate doubling.now)) }
 {
     let mut text = String::from_str(alloc, "acquiring duplicate lock of same type: ")?;
     put_quoted(&mut text, type_name(verifier, doubling.asked.lock))?;

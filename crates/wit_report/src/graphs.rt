@@ -11,8 +11,8 @@ use std::alloc::{AllocError, Global};
 use wit_core::Verifier;
 use wit_model::{Fault, TypeNo};
 
-/// The direct orders, a line each, as `"PARENT","CHILD"`, by the parent's number, then by the child's: what the sysctl
-/// `debug.witness.fullgraph` (subr_witness.c) writes of the same relation.
+/// The direct orders, a line each, as `"PARENT","CHILD"`, by the parent's number, then by the
+/// child's: what the sysctl `debug.witness.fullgraph` (subr_witness.c) writes of the same relation.
 ///
 /// # Errors
 /// `OutOfMemory` alone, and only where the text isn't empty.
@@ -26,7 +26,8 @@ pub fn graph(alloc: Global, verifier: &Verifier) -> Result<String, Fault>
 }
 
 fn put_graph(text: &mut String, verifier: &Verifier) -> Result<(), AllocError>
-    ensures ok { OnOk result (string_bytes text.new ≡ string_bytes text.old ++ graph_text verifier.now) }
+    ensures ok { OnOk result (string_bytes text.new ≡ string_bytes text.old
+        ++ graph_text verifier.now) }
     ensures err { OnErr result (0 < length (graph_text verifier.now)) }
 {
     for place in 0..verifier.types() {

@@ -1,10 +1,12 @@
 //! The locks that seats hold, a line each.
 
-ghost use Rattle.std.specs.Prelude.{◌≡◌, ◌++◌, nat_lt, length, reverse, string_bytes, IfOk, IfErr, OnOk};
+ghost use Rattle.std.specs.Prelude.{◌≡◌, ◌++◌, nat_lt, length, reverse, string_bytes, IfOk, IfErr};
+ghost use Rattle.std.specs.Prelude.{OnOk};
 ghost use Rattle.std.specs.List.{flat_map, range_with_len};
 ghost use Rattle.wit_model.specs.declared.faults.Fault.TheVariants.{OutOfMemory};
 ghost use Rattle.wit_model.specs.Rules.State.{state_of, seat_at, chain_in, typed_locks};
-ghost use Rattle.wit_model.specs.Trace.Views.{mode_words, held_line, held_lines, all_held, locks_text, holder_text, all_locks_text};
+ghost use Rattle.wit_model.specs.Trace.Views.{mode_words, held_line, held_lines, all_held};
+ghost use Rattle.wit_model.specs.Trace.Views.{locks_text, holder_text, all_locks_text};
 ghost use Rattle.wit_report.specs.Wants.{WantsMemory};
 
 use crate::locks::{class_of_lock, class_words, lock_name, type_name};
@@ -14,8 +16,8 @@ use wit_core::Verifier;
 use wit_model::chunks::{Lists, list_of};
 use wit_model::{Fault, Instance, Mode, SeatNo};
 
-/// The locks that a seat holds, a line each, as `show locks` of witness(4): those of the sleep kind, then those of the spin kind, newest
-/// first. Empty for a seat that there isn't.
+/// The locks that a seat holds, a line each, as `show locks` of witness(4): those of the sleep
+/// kind, then those of the spin kind, newest first. Empty for a seat that there isn't.
 ///
 /// # Errors
 /// `OutOfMemory` alone, and only where the text isn't empty.
@@ -31,7 +33,8 @@ pub fn locks_of(alloc: Global, verifier: &Verifier, seat: SeatNo) -> Result<Stri
     Ok(text)
 }
 
-/// The locks of each seat that holds any, behind the seat's number, as `show all locks` of witness(4); and how many chunks are free.
+/// The locks of each seat that holds any, behind the seat's number, as `show all locks` of
+/// witness(4); and how many chunks are free.
 ///
 /// # Errors
 /// `OutOfMemory` alone.
@@ -64,7 +67,8 @@ fn put_holder(
     verifier: &Verifier,
     seat: SeatNo,
 ) -> Result<(), AllocError>
-    ensures { OnOk result (string_bytes text.new ≡ string_bytes text.old ++ holder_text verifier.now seat.0) }
+    ensures { OnOk result (string_bytes text.new ≡ string_bytes text.old
+        ++ holder_text verifier.now seat.0) }
 {
     if !holds_any(verifier, seat) {
         return Ok(());
@@ -88,7 +92,8 @@ fn put_seat(
     verifier: &Verifier,
     seat: SeatNo,
 ) -> Result<(), AllocError>
-    ensures { OnOk result (string_bytes text.new ≡ string_bytes text.old ++ locks_text verifier.now seat.0) }
+    ensures { OnOk result (string_bytes text.new ≡ string_bytes text.old
+        ++ locks_text verifier.now seat.0) }
 {
     let sleep = newest_first(alloc, verifier, seat, false)?;
     put_all(text, alloc, verifier, &sleep)?;
@@ -107,7 +112,8 @@ pub fn newest_first(
     seat: SeatNo,
     spin: bool,
 ) -> Result<Vec<Instance>, AllocError>
-    ensures { IfOk result (λ held. held.items ≡ reverse (chain_in spin (seat_at (state_of verifier.now) seat.0))) }
+    ensures { IfOk result (λ held. held.items
+        ≡ reverse (chain_in spin (seat_at (state_of verifier.now) seat.0))) }
 {
     let mut held = Vec::new(alloc);
     if seat.0 == 0 || verifier.seats() < seat.0 {
@@ -146,7 +152,8 @@ pub fn put_all(
     held: &[Instance],
 ) -> Result<(), AllocError>
     ensures { OnOk result (string_bytes text.new ≡ string_bytes text.old
-        ++ held_lines (typed_locks verifier.now.start verifier.now.history) verifier.now.files held.now) }
+        ++ held_lines (typed_locks verifier.now.start verifier.now.history)
+        verifier.now.files held.now) }
 {
     for instance in held {
         put_held(text, alloc, verifier, *instance)?;
@@ -162,7 +169,8 @@ fn put_held(
     held: Instance,
 ) -> Result<(), AllocError>
     ensures { OnOk result (string_bytes text.new ≡ string_bytes text.old
-        ++ held_line (typed_locks verifier.now.start verifier.now.history) verifier.now.files held) }
+        ++ held_line (typed_locks verifier.now.start verifier.now.history)
+        verifier.now.files held) }
 {
     text.push_str(mode_words(held.mode))?;
     text.push(' ')?;

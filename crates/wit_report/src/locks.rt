@@ -22,7 +22,8 @@ pub fn put_locks(
     conflict: &Conflict,
 ) -> Result<(), AllocError>
     ensures { OnOk result (string_bytes text.new ≡ string_bytes text.old
-        ++ conflict_lines (typed_locks verifier.now.start verifier.now.history) verifier.now.files conflict.now conflict.now.older) }
+        ++ conflict_lines (typed_locks verifier.now.start verifier.now.history) verifier.now.files
+        conflict.now conflict.now.older) }
 {
     match conflict.older {
         Some(older) => {
@@ -50,7 +51,8 @@ pub fn put_lock(
     at: LockAt,
 ) -> Result<(), AllocError>
     ensures { OnOk result (string_bytes text.new ≡ string_bytes text.old
-        ++ lock_line (typed_locks verifier.now.start verifier.now.history) verifier.now.files rank.now at) }
+        ++ lock_line (typed_locks verifier.now.start verifier.now.history) verifier.now.files
+        rank.now at) }
 {
     text.push(' ')?;
     text.push_str(rank)?;
@@ -80,7 +82,8 @@ pub fn class_words(class: Class) -> &'static str
 
 /// The name of a lock; empty for a number that was never given.
 pub fn lock_name(verifier: &Verifier, lock: LockNo) -> &str
-    ensures { result.now ≡ (lock_at (typed_locks verifier.now.start verifier.now.history) lock.0).made.name }
+    ensures { result.now ≡ (lock_at (typed_locks verifier.now.start verifier.now.history)
+        lock.0).made.name }
 {
     match verifier.lock_name(lock) {
         Some(name) => name,
@@ -90,7 +93,8 @@ pub fn lock_name(verifier: &Verifier, lock: LockNo) -> &str
 
 /// The type of a lock; 0 for a number that was never given.
 pub fn type_number(verifier: &Verifier, lock: LockNo) -> TypeNo
-    ensures { result ≡ (lock_at (typed_locks verifier.now.start verifier.now.history) lock.0).type_no }
+    ensures { result ≡ (lock_at (typed_locks verifier.now.start verifier.now.history)
+        lock.0).type_no }
 {
     match verifier.type_of(lock) {
         Some(number) => number,
@@ -100,7 +104,8 @@ pub fn type_number(verifier: &Verifier, lock: LockNo) -> TypeNo
 
 /// The name of the type of a lock; empty for a number that was never given.
 pub fn type_name(verifier: &Verifier, lock: LockNo) -> &str
-    ensures { result.now ≡ type_name_of (lock_at (typed_locks verifier.now.start verifier.now.history) lock.0).made }
+    ensures { result.now ≡ type_name_of
+        (lock_at (typed_locks verifier.now.start verifier.now.history) lock.0).made }
 {
     // In a legal log, a lock's type has its type name and its class.
     let _log = verifier.history();
@@ -112,7 +117,8 @@ pub fn type_name(verifier: &Verifier, lock: LockNo) -> &str
 
 /// The class of a lock; that of a sleep mutex for a number that was never given.
 pub fn class_of_lock(verifier: &Verifier, lock: LockNo) -> Class
-    ensures { result ≡ (lock_at (typed_locks verifier.now.start verifier.now.history) lock.0).made.class }
+    ensures { result ≡ (lock_at (typed_locks verifier.now.start verifier.now.history)
+        lock.0).made.class }
 {
     // In a legal log, a lock's type has its type name and its class.
     let _log = verifier.history();

@@ -11,7 +11,8 @@ use std::alloc::{AllocError, Global};
 use wit_core::Verifier;
 use wit_model::{Origin, TypeNo};
 
-/// Adds the path by which the order from one type to another is established, a line a step; nothing where no path leads there.
+/// Adds the path by which the order from one type to another is established, a line a step; nothing
+/// where no path leads there.
 ///
 /// # Errors
 /// Want of memory alone.
@@ -24,7 +25,8 @@ pub fn put_established(
 ) -> Result<(), AllocError>
     ensures { OnOk result (string_bytes text.new ≡ string_bytes text.old
         ++ established (known_of verifier.now.start verifier.now.history) verifier.now.files
-        (path (orders_of verifier.now.start verifier.now.history) (length (types_of verifier.now.start verifier.now.history)) from.0 to.0)) }
+        (path (orders_of verifier.now.start verifier.now.history)
+        (length (types_of verifier.now.start verifier.now.history)) from.0 to.0)) }
 {
     match verifier.path(from, to) {
         Ok(Some(path)) => {
@@ -45,7 +47,8 @@ fn put_orders(
     path: &[TypeNo],
 ) -> Result<(), AllocError>
     ensures { OnOk result (string_bytes text.new ≡ string_bytes text.old
-        ++ order_lines (known_of verifier.now.start verifier.now.history) verifier.now.files (type_numbers path.now)) }
+        ++ order_lines (known_of verifier.now.start verifier.now.history) verifier.now.files
+        (type_numbers path.now)) }
 {
     match path {
         [] => Ok(()),
@@ -61,7 +64,8 @@ fn put_orders_from(
     others: &[TypeNo],
 ) -> Result<(), AllocError>
     ensures { OnOk result (string_bytes text.new ≡ string_bytes text.old
-        ++ order_lines (known_of verifier.now.start verifier.now.history) verifier.now.files (first.0 ∷ type_numbers others.now)) }
+        ++ order_lines (known_of verifier.now.start verifier.now.history) verifier.now.files
+        (first.0 ∷ type_numbers others.now)) }
 {
     let mut parent = first;
     for child in others {
@@ -80,7 +84,8 @@ fn put_order(
     child: TypeNo,
 ) -> Result<(), AllocError>
     ensures { OnOk result (string_bytes text.new ≡ string_bytes text.old
-        ++ order_line (known_of verifier.now.start verifier.now.history) verifier.now.files parent.0 child.0) }
+        ++ order_line (known_of verifier.now.start verifier.now.history) verifier.now.files
+        parent.0 child.0) }
 {
     text.push(' ')?;
     put_quoted(text, type_words(verifier, parent))?;
@@ -108,7 +113,8 @@ fn put_origin(
     verifier: &Verifier,
     origin: Option<Origin>,
 ) -> Result<(), AllocError>
-    ensures { OnOk result (string_bytes text.new ≡ string_bytes text.old ++ origin_words verifier.now.files origin) }
+    ensures { OnOk result (string_bytes text.new ≡ string_bytes text.old
+        ++ origin_words verifier.now.files origin) }
 {
     match origin {
         None => Ok(()),

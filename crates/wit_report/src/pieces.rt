@@ -31,7 +31,8 @@ pub fn put_site(
     verifier: &Verifier,
     site: Site,
 ) -> Result<(), AllocError>
-    ensures { OnOk result (string_bytes text.new ≡ string_bytes text.old ++ site_words verifier.now.files site) }
+    ensures { OnOk result (string_bytes text.new ≡ string_bytes text.old
+        ++ site_words verifier.now.files site) }
 {
     text.push_str(file_words(verifier, site.file))?;
     text.push(':')?;

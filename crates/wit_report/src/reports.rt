@@ -10,8 +10,9 @@ use std::alloc::Global;
 use wit_core::Verifier;
 use wit_model::{Fault, Reply};
 
-/// The text of a reply's report, as things stand once the reply was given; empty where it reports nothing.
-/// A number that was never given stands for an empty name, and a lock under it for a sleep mutex.
+/// The text of a reply's report, as things stand once the reply was given; empty where it reports
+/// nothing. A number that was never given stands for an empty name, and a lock under it for a sleep
+/// mutex.
 ///
 /// # Errors
 /// `OutOfMemory` alone, and only where the text isn't empty.

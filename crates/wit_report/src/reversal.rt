@@ -11,7 +11,8 @@ use std::alloc::{AllocError, Global};
 use wit_core::Verifier;
 use wit_model::{Conflict, Heading};
 
-/// The text of a reversal: its heading, its locks, and the path by which the order that it breaks is established, where one is.
+/// The text of a reversal: its heading, its locks, and the path by which the order that it breaks
+/// is established, where one is.
 ///
 /// # Errors
 /// Want of memory alone.
@@ -22,7 +23,8 @@ pub fn reversal_text(
     verifier: &Verifier,
     conflict: &Conflict,
 ) -> Result<String, AllocError>
-    ensures { IfOk result (λ text. string_bytes text ≡ reply_text verifier.now (Reversal conflict.now)) }
+    ensures { IfOk result (λ text. string_bytes text
+        ≡ reply_text verifier.now (Reversal conflict.now)) }
 {
     let mut text = String::from_str(alloc, heading_words(conflict.heading))?;
     text.push('\n')?;

@@ -14,15 +14,18 @@ use std::alloc::{AllocError, Global};
 use wit_core::Verifier;
 use wit_model::{Class, Fault, TypeNo};
 
-/// The types by their numbers, a line each, with how many live locks each has: `N "TYPE" CLASS locks K`. `show witness` of witness(4)
-/// lists them by their orders.
+/// The types by their numbers, a line each, with how many live locks each has: `N "TYPE" CLASS
+/// locks K`. `show witness` of witness(4) lists them by their orders.
 ///
 /// # Errors
 /// `OutOfMemory` alone, and only where the text isn't empty.
 pub fn type_list(alloc: Global, verifier: &Verifier) -> Result<String, Fault>
     ensures ok { IfOk result (λ text. string_bytes text
-        ≡ type_lines (types_of verifier.now.start verifier.now.history) (live (state_of verifier.now))) }
-    ensures err { IfErr result (WantsMemory (type_lines (types_of verifier.now.start verifier.now.history) (live (state_of verifier.now)))) }
+        ≡ type_lines (types_of verifier.now.start verifier.now.history)
+        (live (state_of verifier.now))) }
+    ensures err { IfErr result (WantsMemory
+        (type_lines (types_of verifier.now.start verifier.now.history)
+        (live (state_of verifier.now)))) }
 {
     let mut text = String::new(alloc);
     put_types(&mut text, alloc, verifier)?;
@@ -31,9 +34,11 @@ pub fn type_list(alloc: Global, verifier: &Verifier) -> Result<String, Fault>
 
 fn put_types(text: &mut String, alloc: Global, verifier: &Verifier) -> Result<(), AllocError>
     ensures ok { OnOk result (string_bytes text.new ≡ string_bytes text.old
-        ++ type_lines (types_of verifier.now.start verifier.now.history) (live (state_of verifier.now))) }
+        ++ type_lines (types_of verifier.now.start verifier.now.history)
+        (live (state_of verifier.now))) }
     ensures err { OnErr result (0 < length
-        (type_lines (types_of verifier.now.start verifier.now.history) (live (state_of verifier.now)))) }
+        (type_lines (types_of verifier.now.start verifier.now.history)
+        (live (state_of verifier.now)))) }
 {
     for place in 0..verifier.types() {
         put_type(text, alloc, verifier, TypeNo(place as u16 + 1))?;
@@ -49,7 +54,8 @@ fn put_type(
 ) -> Result<(), AllocError>
     requires { IsGiven (types_of verifier.now.start verifier.now.history) number.0 }
     ensures { OnOk result (string_bytes text.new ≡ string_bytes text.old
-        ++ type_line (types_of verifier.now.start verifier.now.history) (live (state_of verifier.now)) number.0) }
+        ++ type_line (types_of verifier.now.start verifier.now.history)
+        (live (state_of verifier.now)) number.0) }
 {
     put_number(text, alloc, number.0 as u64)?;
     text.push(' ')?;

@@ -1,6 +1,7 @@
 //! The text of a warning.
 
-ghost use Rattle.std.specs.Prelude.{◌≡◌, ◌++◌, not, [], filter, reverse, string_bytes, if◌then◌else◌, IfOk, IfErr, OnOk};
+ghost use Rattle.std.specs.Prelude.{◌≡◌, ◌++◌, not, [], filter, reverse, string_bytes};
+ghost use Rattle.std.specs.Prelude.{if◌then◌else◌, IfOk, IfErr, OnOk};
 ghost use Rattle.wit_model.specs.declared.locks.Instance.{Instance};
 ghost use Rattle.wit_model.specs.declared.faults.Fault.TheVariants.{OutOfMemory};
 ghost use Rattle.wit_model.specs.Rules.State.{state_of, known_of, typed_locks};
@@ -15,8 +16,9 @@ use std::alloc::{AllocError, Global};
 use wit_core::Verifier;
 use wit_model::{Fault, Instance, LockNo, SeatNo, WarnFlags};
 
-/// The text of a warning: how many held locks the seat is warned of, as `witness_warn` (subr_witness.c) tells them, and a line for each, in
-/// the order of `locks_of`. Empty where it is warned of none.
+/// The text of a warning: how many held locks the seat is warned of, as `witness_warn`
+/// (subr_witness.c) tells them, and a line for each, in the order of `locks_of`. Empty where it is
+/// warned of none.
 ///
 /// # Errors
 /// `OutOfMemory` alone, and only where the text isn't empty.
@@ -27,9 +29,11 @@ pub fn warn_text(
     named: Option<LockNo>,
     flags: WarnFlags,
 ) -> Result<String, Fault>
-    ensures ok { IfOk result (λ text. string_bytes text ≡ warn_text (typed_locks verifier.now.start verifier.now.history) verifier.now.files
+    ensures ok { IfOk result (λ text. string_bytes text
+        ≡ warn_text (typed_locks verifier.now.start verifier.now.history) verifier.now.files
         (warned (state_of verifier.now) seat.0 named flags)) }
-    ensures err { IfErr result (WantsMemory (warn_text (typed_locks verifier.now.start verifier.now.history) verifier.now.files
+    ensures err { IfErr result (WantsMemory
+        (warn_text (typed_locks verifier.now.start verifier.now.history) verifier.now.files
         (warned (state_of verifier.now) seat.0 named flags))) }
 {
     let mut text = String::new(alloc);
@@ -76,7 +80,9 @@ fn add_counted(
     flags: WarnFlags,
 ) -> Result<(), AllocError>
     ensures { OnOk result (held.new.items ≡ held.old.items ++ filter
-        (λ (i : Instance). not (is_allowed (basis_of (known_of verifier.now.start verifier.now.history)) named flags i)) sleep.now) }
+        (λ (i : Instance). not (is_allowed
+        (basis_of (known_of verifier.now.start verifier.now.history)) named flags i))
+        sleep.now) }
 {
     for instance in sleep {
         if !verifier.is_allowed(*instance, named, flags) {

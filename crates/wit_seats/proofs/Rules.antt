@@ -1,9 +1,12 @@
 -- Each step keeps the rule.
-use Rattle.std.proofs.Common.{◌≡◌, ◌≢◌, ℕ, ◌+◌, ◌<◌, ◌≤◌, ◌⊎◌, ◌==◌, List, [], ◌∷◌, ◌++◌, length, set, Option, None, Some, IfSome, IsSomeAnd, refl, ap, sym, ◌∙◌, subst, inl, inr, ⊎_elim, arith, append_assoc}
+use Rattle.std.proofs.Common.{◌≡◌, ◌≢◌, ℕ, ◌+◌, ◌<◌, ◌≤◌, ◌⊎◌, ◌==◌, List, [], ◌∷◌, ◌++◌, length}
+use Rattle.std.proofs.Common.{set, Option, None, Some, IfSome, IsSomeAnd, refl, ap, sym, ◌∙◌, subst}
+use Rattle.std.proofs.Common.{inl, inr, ⊎_elim, arith, append_assoc}
 use Rattle.std.proofs.lemmas.List.Elements.{filter-append}
 use mathlib.Core.Option.{some, some-ne-none}
 use lib.ListN.{get_elem?}
-use Rattle.atomic_table.specs.Table.{State, Me, Allows, Splits, Joins, opening, keeps, Valid, stepped, carried_after}
+use Rattle.atomic_table.specs.Table.{State, Me, Allows, Splits, Joins, opening, keeps, Valid}
+use Rattle.atomic_table.specs.Table.{stepped, carried_after}
 use Rattle.atomic_table.proofs.Lists.{at_set}
 use Rattle.wit_model.specs.declared.calls.Entry.{Entry}
 use Rattle.wit_model.specs.declared.locks.FileNo.{FileNo}
@@ -13,9 +16,12 @@ use Rattle.wit_seats.specs.declared.views.Journal.{Journal}
 use Rattle.wit_seats.specs.declared.views.Known.{Known}
 use Rattle.wit_seats.specs.declared.views.View.{View}
 use Rattle.wit_seats.specs.Seats.{AreFiles, IsSeatOf, caught_up}
-use Rattle.wit_seats.specs.Rule.{shows, journal, without, alone, with_guest, one_more_out, newcomer, next, with_next, handed_out, IsOutside, Keeps, Sits, Fits, Kept, log_after, seat_after, MayBecome, MayFollow, Followed}
+use Rattle.wit_seats.specs.Rule.{shows, journal, without, alone, with_guest, one_more_out, newcomer}
+use Rattle.wit_seats.specs.Rule.{next, with_next, handed_out, IsOutside, Keeps, Sits, Fits, Kept}
+use Rattle.wit_seats.specs.Rule.{log_after, seat_after, MayBecome, MayFollow, Followed}
 use Rattle.wit_seats.proofs.Files.{files_more, files_both}
-use Rattle.wit_seats.proofs.Cards.{all_set, all_push, each_some, moved, moved_here, moved_else, sits_moved, sits_else, fits_else}
+use Rattle.wit_seats.proofs.Cards.{all_set, all_push, each_some, moved, moved_here, moved_else}
+use Rattle.wit_seats.proofs.Cards.{sits_moved, sits_else, fits_else}
 
 pub begins : Kept (shows (Some (journal [] [] 0)) None ∷ [])
 begins = record {
@@ -23,13 +29,16 @@ begins = record {
   place = λ t. 0;
   log = journal [] [] 0;
   outside = λ t o. refl;
-  each = all_push (Fits 0 (λ t. 0) (journal [] [] 0)) [] (shows (Some (journal [] [] 0)) None) (λ j u e. absurd (some-ne-none u (sym e))) (record {
-    keeps = record { card = refl; log = refl };
-    sits = tt;
-  });
+  each =
+      all_push (Fits 0 (λ t. 0) (journal [] [] 0)) [] (shows (Some (journal [] [] 0)) None)
+      (λ j u e. absurd (some-ne-none u (sym e))) (record {
+        keeps = record { card = refl; log = refl };
+        sits = tt;
+      });
 }
 
-pub gives : (id : ℕ) (v : View) → Splits {S = Unit {0}} (λ s. Kept s.views) id v (without v) (alone v)
+pub gives : (id : ℕ) (v : View)
+    → Splits {S = Unit {0}} (λ s. Kept s.views) id v (without v) (alone v)
 gives id v s h at =
     let views = set s.views id (without v) in
     let to = length views in
@@ -40,26 +49,38 @@ gives id v s h at =
       log = h.log;
       outside = h.outside;
       each = all_push (Fits h.keeper place h.log) views (alone v)
-          (all_set (Fits h.keeper place h.log) s.views id (without v) (record { keeps = mine.keeps; sits = tt })
-          (λ j u n e. fits_else h.place h.log h.keeper v.holder id to j mine.sits n u (h.each j u e)))
+          (all_set (Fits h.keeper place h.log) s.views id (without v)
+          (record { keeps = mine.keeps; sits = tt })
+          (λ j u n e. fits_else h.place h.log h.keeper v.holder id to j mine.sits n u
+          (h.each j u e)))
           (record { keeps = tt; sits = sits_moved h.place h.log v.holder id to mine.sits });
     }
 
-pub takes_in : (id : ℕ) (v : View) (other : ℕ) (w : View) → Joins {S = Unit {0}} (λ s. Kept s.views) id v other w (with_guest v w) (shows None None)
+pub takes_in : (id : ℕ) (v : View) (other : ℕ) (w : View)
+    → Joins {S = Unit {0}} (λ s. Kept s.views) id v other w (with_guest v w) (shows None None)
 takes_in id v other w s h at apart there =
     let both = with_guest v w in
     let views = set s.views id both in
     let mine = h.each id v at in
-    let theirs = h.each other w (⊎_elim (λ (x : (other ≡ id) × (both ≡ w)). absurd (apart x.0)) (λ (x : (other ≢ id) × (get_elem? s.views other ≡ some w)). x.1) (at_set s.views id other both w there)) in
+    let theirs =
+    h.each other w (⊎_elim (λ (x : (other ≡ id) × (both ≡ w)). absurd (apart x.0))
+    (λ (x : (other ≢ id) × (get_elem? s.views other ≡ some w)). x.1)
+    (at_set s.views id other both w there)) in
     let place = moved h.place w.holder id in record {
       keeper = h.keeper;
       place = place;
       log = h.log;
       outside = h.outside;
-      each = all_set (Fits h.keeper place h.log) views other (shows None None) (record { keeps = tt; sits = tt })
+      each =
+          all_set (Fits h.keeper place h.log) views other (shows None None)
+          (record { keeps = tt; sits = tt })
           (λ j u n e. all_set (λ i x. i ≢ other → Fits h.keeper place h.log i x) s.views id both
-          (λ m. record { keeps = mine.keeps; sits = sits_moved h.place h.log w.holder other id theirs.sits })
-          (λ i x k f m. fits_else h.place h.log h.keeper w.holder other id i theirs.sits m x (h.each i x f)) j u e n);
+          (λ m. record {
+            keeps = mine.keeps;
+            sits = sits_moved h.place h.log w.holder other id theirs.sits;
+          })
+          (λ i x k f m. fits_else h.place h.log h.keeper w.holder other id i theirs.sits m x
+          (h.each i x f)) j u e n);
     }
 
 -- ---- one more seat
@@ -69,22 +90,30 @@ grown j = record j { handed = j.handed + 1 }
 
 wider : (log : Journal) (k : Known) → IsSeatOf log k → IsSeatOf (grown log) k
 unfolding grown
-wider log k f = record { number = (f.number.0, omega arith); own = f.own; seen = f.seen; files = f.files }
+wider log k f =
+    record { number = (f.number.0, omega arith); own = f.own; seen = f.seen; files = f.files }
 
 -- one that is out is not the next one
-sits_wider : (place : ℕ → ℕ) (log : Journal) (to j : ℕ) (k : Known) → Sits place log j k → Sits (moved place (Some (newcomer log)) to) (grown log) j k
+sits_wider : (place : ℕ → ℕ) (log : Journal) (to j : ℕ) (k : Known) → Sits place log j k
+    → Sits (moved place (Some (newcomer log)) to) (grown log) j k
 sits_wider place log to j k s =
     let below : k.seat ≤ log.handed = s.known.number.1 in
-    record { card = moved_else place (newcomer log) to k.seat (λ e. omega arith) ∙ s.card; known = wider log k s.known }
+    record {
+      card = moved_else place (newcomer log) to k.seat (λ e. omega arith) ∙ s.card;
+      known = wider log k s.known;
+    }
 
-fresh_sits : (place : ℕ → ℕ) (log : Journal) (to : ℕ) → own_entries (log.handed + 1) log.entries ≡ [] → Sits (moved place (Some (newcomer log)) to) (grown log) to (newcomer log)
+fresh_sits : (place : ℕ → ℕ) (log : Journal) (to : ℕ) → own_entries (log.handed + 1) log.entries
+    ≡ [] → Sits (moved place (Some (newcomer log)) to) (grown log) to (newcomer log)
 unfolding grown
 fresh_sits place log to none = record {
   card = moved_here place (newcomer log) to;
   known = record { number = (omega arith, omega arith); own = none; seen = ([], refl); files = tt };
 }
 
-hands_to : (id : ℕ) (j : Journal) (k : Option Known) → Splits {S = Unit {0}} (λ s. Kept s.views) id (shows (Some j) k) (shows (Some (grown j)) k) (shows None (Some (newcomer j)))
+hands_to : (id : ℕ) (j : Journal) (k : Option Known)
+    → Splits {S = Unit {0}} (λ s. Kept s.views) id (shows (Some j) k) (shows (Some (grown j)) k)
+    (shows None (Some (newcomer j)))
 unfolding grown
 hands_to id j k s h at =
     let views = set s.views id (shows (Some (grown j)) k) in
@@ -95,118 +124,185 @@ hands_to id j k s h at =
       keeper = h.keeper;
       place = place;
       log = grown h.log;
-      outside = λ t o. h.outside t (⊎_elim (λ (z : t ≡ 0). inl z) (λ (l : h.log.handed + 1 < t). inr (omega arith)) o);
+      outside =
+          λ t o. h.outside t (⊎_elim (λ (z : t ≡ 0). inl z)
+          (λ (l : h.log.handed + 1 < t). inr (omega arith)) o);
       each = all_push all views (shows None (Some (newcomer j)))
           (all_set all s.views id (shows (Some (grown j)) k)
           (record {
             keeps = record { card = mine.keeps.card; log = ap grown mine.keeps.log };
-            sits = each_some k (Sits h.place h.log id) (Sits place (grown h.log) id) (sits_wider h.place h.log to id) mine.sits;
+            sits =
+                each_some k (Sits h.place h.log id) (Sits place (grown h.log) id)
+                (sits_wider h.place h.log to id) mine.sits;
           })
           (λ m u n e. record {
-            keeps = each_some u.journal (Keeps h.keeper h.log m) (Keeps h.keeper (grown h.log) m) (λ x f. absurd (n (f.card ∙ sym mine.keeps.card))) (h.each m u e).keeps;
-            sits = each_some u.holder (Sits h.place h.log m) (Sits place (grown h.log) m) (sits_wider h.place h.log to m) (h.each m u e).sits;
+            keeps =
+                each_some u.journal (Keeps h.keeper h.log m) (Keeps h.keeper (grown h.log) m)
+                (λ x f. absurd (n (f.card ∙ sym mine.keeps.card))) (h.each m u e).keeps;
+            sits =
+                each_some u.holder (Sits h.place h.log m) (Sits place (grown h.log) m)
+                (sits_wider h.place h.log to m) (h.each m u e).sits;
           }))
           (record {
             keeps = tt;
-            sits = subst (λ (x : Journal). Sits place (grown h.log) to (newcomer x)) (sym mine.keeps.log)
+            sits =
+                subst (λ (x : Journal). Sits place (grown h.log) to (newcomer x))
+                (sym mine.keeps.log)
                 (fresh_sits h.place h.log to (h.outside (h.log.handed + 1) (inr (omega arith))));
           });
     }
 
-hands_none : (id : ℕ) (k : Option Known) → Splits {S = Unit {0}} (λ s. Kept s.views) id (shows None k) (shows None k) (shows None None)
+hands_none : (id : ℕ) (k : Option Known)
+    → Splits {S = Unit {0}} (λ s. Kept s.views) id (shows None k) (shows None k) (shows None None)
 hands_none id k s h at = record {
   keeper = h.keeper;
   place = h.place;
   log = h.log;
   outside = h.outside;
   each = all_push (Fits h.keeper h.place h.log) (set s.views id (shows None k)) (shows None None)
-      (all_set (Fits h.keeper h.place h.log) s.views id (shows None k) (h.each id (shows None k) at) (λ m u n e. h.each m u e))
+      (all_set (Fits h.keeper h.place h.log) s.views id (shows None k) (h.each id (shows None k) at)
+      (λ m u n e. h.each m u e))
       (record { keeps = tt; sits = tt });
 }
 
-hands_by : (id : ℕ) (j : Option Journal) (k : Option Known) → Splits {S = Unit {0}} (λ s. Kept s.views) id (shows j k) (with_next (shows j k)) (handed_out (shows j k))
+hands_by : (id : ℕ) (j : Option Journal) (k : Option Known)
+    → Splits {S = Unit {0}} (λ s. Kept s.views) id (shows j k) (with_next (shows j k))
+    (handed_out (shows j k))
 unfolding grown
 hands_by id None k = hands_none id k
 hands_by id (Some j) k = hands_to id j k
 
-pub hands : (id : ℕ) (v : View) → Splits {S = Unit {0}} (λ s. Kept s.views) id v (with_next v) (handed_out v)
+pub hands : (id : ℕ) (v : View)
+    → Splits {S = Unit {0}} (λ s. Kept s.views) id v (with_next v) (handed_out v)
 hands id v = hands_by id v.journal v.holder
 
 -- ---- a step of the log
 
 -- a seat of another card, or of none, whose entries aren't among the added ones
-later_of : (log : Journal) (after : Story) (added : List Entry) (more : List (List ℕ)) (k : Known) → after.history ≡ added ++ log.entries → after.files ≡ log.files ++ more
-    → own_entries k.seat added ≡ [] → IsSeatOf log k → IsSeatOf (journal after.history after.files log.handed) k
+later_of : (log : Journal) (after : Story) (added : List Entry) (more : List (List ℕ)) (k : Known)
+    → after.history ≡ added ++ log.entries → after.files ≡ log.files ++ more
+    → own_entries k.seat added ≡ [] → IsSeatOf log k
+    → IsSeatOf (journal after.history after.files log.handed) k
 later_of log after added more k grows longer none f = record {
   number = f.number;
-  own = ap (own_entries k.seat) grows ∙ filter-append (λ (e : Entry). e.seat.0 == k.seat) added log.entries ∙ ap (λ l. l ++ own_entries k.seat log.entries) none ∙ f.own;
-  seen = (added ++ f.seen.0, grows ∙ ap (λ l. added ++ l) f.seen.1 ∙ sym (append_assoc added f.seen.0 k.seen));
-  files = subst (λ (l : List (List ℕ)). AreFiles l k.given) (sym longer) (files_more log.files more k.given f.files);
+  own =
+      ap (own_entries k.seat) grows ∙ filter-append (λ (e : Entry). e.seat.0 == k.seat) added
+      log.entries ∙ ap (λ l. l ++ own_entries k.seat log.entries) none ∙ f.own;
+  seen = (
+    added ++ f.seen.0,
+    grows ∙ ap (λ l. added ++ l) f.seen.1
+        ∙ sym (append_assoc added f.seen.0 k.seen),
+  );
+  files =
+      subst (λ (l : List (List ℕ)). AreFiles l k.given) (sym longer)
+      (files_more log.files more k.given f.files);
 }
 
 -- the seat that made the step
-mine_of : (log : Journal) (after : Story) (more : List (List ℕ)) (given : List (FileNo × List ℕ)) (k : Known) → after.files ≡ log.files ++ more → AreFiles after.files given
-    → IsSeatOf log k → IsSeatOf (journal after.history after.files log.handed) (caught_up after given k)
+mine_of : (log : Journal) (after : Story) (more : List (List ℕ)) (given : List (FileNo × List ℕ))
+    (k : Known) → after.files ≡ log.files ++ more → AreFiles after.files given
+    → IsSeatOf log k → IsSeatOf (journal after.history after.files log.handed)
+    (caught_up after given k)
 mine_of log after more given k longer named f = record {
   number = f.number;
   own = refl;
   seen = ([], refl);
-  files = files_both after.files given k.given named (subst (λ (l : List (List ℕ)). AreFiles l k.given) (sym longer) (files_more log.files more k.given f.files));
+  files =
+      files_both after.files given k.given named
+      (subst (λ (l : List (List ℕ)). AreFiles l k.given) (sym longer)
+      (files_more log.files more k.given f.files));
 }
 
-mine_sits : (place : ℕ → ℕ) (log : Journal) (after : Story) (more : List (List ℕ)) (given : List (FileNo × List ℕ)) (id : ℕ) (o : Option Known) → after.files ≡ log.files ++ more → AreFiles after.files given
-    → IfSome o (Sits place log id) → IfSome (seat_after after given o) (Sits place (journal after.history after.files log.handed) id)
+mine_sits : (place : ℕ → ℕ) (log : Journal) (after : Story) (more : List (List ℕ))
+    (given : List (FileNo × List ℕ)) (id : ℕ) (o : Option Known) → after.files ≡ log.files ++ more
+    → AreFiles after.files given
+    → IfSome o (Sits place log id)
+    → IfSome (seat_after after given o)
+    (Sits place (journal after.history after.files log.handed) id)
 mine_sits place log after more given id None longer named s = tt
-mine_sits place log after more given id (Some k) longer named s = record { card = s.card; known = mine_of log after more given k longer named s.known }
+mine_sits place log after more given id (Some k) longer named s =
+    record { card = s.card; known = mine_of log after more given k longer named s.known }
 
 -- the seats of other cards are others
-other_seat : (place : ℕ → ℕ) (log : Journal) (id m : ℕ) (o : Option Known) (k : Known) → IfSome o (Sits place log id) → m ≢ id → Sits place log m k
+other_seat : (place : ℕ → ℕ) (log : Journal) (id m : ℕ) (o : Option Known) (k : Known)
+    → IfSome o (Sits place log id) → m ≢ id → Sits place log m k
     → IfSome o (λ (x : Known). k.seat ≢ x.seat)
-other_seat place log id m o k mine n s = each_some o (Sits place log id) (λ (x : Known). k.seat ≢ x.seat) (λ x f e. n (sym s.card ∙ ap place e ∙ f.card)) mine
+other_seat place log id m o k mine n s =
+    each_some o (Sits place log id) (λ (x : Known). k.seat ≢ x.seat)
+    (λ x f e. n (sym s.card ∙ ap place e ∙ f.card)) mine
 
-no_seat : (place : ℕ → ℕ) (log : Journal) (id t : ℕ) (o : Option Known) → IfSome o (Sits place log id) → IsOutside log.handed t → IfSome o (λ (x : Known). t ≢ x.seat)
+no_seat : (place : ℕ → ℕ) (log : Journal) (id t : ℕ) (o : Option Known)
+    → IfSome o (Sits place log id) → IsOutside log.handed t → IfSome o (λ (x : Known). t ≢ x.seat)
 no_seat place log id t o mine out = each_some o (Sits place log id) (λ (x : Known). t ≢ x.seat)
-    (λ x f e. let low : 0 < x.seat = f.known.number.0 in let high : x.seat ≤ log.handed = f.known.number.1 in
+    (λ x f e. let low : 0 < x.seat = f.known.number.0 in
+    let high : x.seat ≤ log.handed = f.known.number.1 in
     ⊎_elim (λ (z : t ≡ 0). omega arith) (λ (l : log.handed < t). omega arith) out) mine
 
-goes_on : (after : Story) (given : List (FileNo × List ℕ)) (id : ℕ) (j : Journal) (k : Option Known) (s : State (Unit {0}) View) → MayBecome after k j → AreFiles after.files given
+goes_on : (after : Story) (given : List (FileNo × List ℕ)) (id : ℕ) (j : Journal) (k : Option Known)
+    (s : State (Unit {0}) View) → MayBecome after k j → AreFiles after.files given
     → (h : Kept s.views) → j ≡ h.log → get_elem? s.views id ≡ some (shows (Some j) k)
-    → Kept (set s.views id (shows (Some (journal after.history after.files j.handed)) (seat_after after given k)))
+    → Kept (set s.views id (shows (Some (journal after.history after.files j.handed))
+    (seat_after after given k)))
 goes_on after given id j k s may named h is at =
     let mine = h.each id (shows (Some j) k) at in
     let log = journal after.history after.files h.log.handed in
     let added = may.entries.0 in
-    let grows : after.history ≡ added ++ h.log.entries = may.entries.1 ∙ ap (λ (x : Journal). added ++ x.entries) is in
-    let longer : after.files ≡ h.log.files ++ may.files.0 = may.files.1 ∙ ap (λ (x : Journal). x.files ++ may.files.0) is in record {
+    let grows : after.history ≡ added ++ h.log.entries =
+    may.entries.1 ∙ ap (λ (x : Journal). added ++ x.entries) is in
+    let longer : after.files ≡ h.log.files ++ may.files.0 =
+    may.files.1 ∙ ap (λ (x : Journal). x.files ++ may.files.0) is in record {
       keeper = h.keeper;
       place = h.place;
       log = log;
-      outside = λ t o. ap (own_entries t) grows ∙ filter-append (λ (e : Entry). e.seat.0 == t) added h.log.entries
-          ∙ ap (λ l. l ++ own_entries t h.log.entries) (may.entries.2 t (no_seat h.place h.log id t k mine.sits o)) ∙ h.outside t o;
-      each = all_set (Fits h.keeper h.place log) s.views id (shows (Some (journal after.history after.files j.handed)) (seat_after after given k))
+      outside =
+          λ t o. ap (own_entries t) grows
+          ∙ filter-append (λ (e : Entry). e.seat.0 == t) added h.log.entries
+          ∙ ap (λ l. l ++ own_entries t h.log.entries)
+          (may.entries.2 t (no_seat h.place h.log id t k mine.sits o)) ∙ h.outside t o;
+      each =
+          all_set (Fits h.keeper h.place log) s.views id
+          (shows (Some (journal after.history after.files j.handed)) (seat_after after given k))
           (record {
-            keeps = record { card = mine.keeps.card; log = ap (λ (x : Journal). journal after.history after.files x.handed) is };
+            keeps =
+                record {
+                  card = mine.keeps.card;
+                  log = ap (λ (x : Journal). journal after.history after.files x.handed) is;
+                };
             sits = mine_sits h.place h.log after may.files.0 given id k longer named mine.sits;
           })
           (λ m u n e. record {
-            keeps = each_some u.journal (Keeps h.keeper h.log m) (Keeps h.keeper log m) (λ x f. absurd (n (f.card ∙ sym mine.keeps.card))) (h.each m u e).keeps;
+            keeps =
+                each_some u.journal (Keeps h.keeper h.log m) (Keeps h.keeper log m)
+                (λ x f. absurd (n (f.card ∙ sym mine.keeps.card))) (h.each m u e).keeps;
             sits = each_some u.holder (Sits h.place h.log m) (Sits h.place log m) (λ x f. record {
               card = f.card;
-              known = later_of h.log after added may.files.0 x grows longer (may.entries.2 x.seat (other_seat h.place h.log id m k x mine.sits n f)) f.known;
+              known =
+                  later_of h.log after added may.files.0 x grows longer
+                  (may.entries.2 x.seat (other_seat h.place h.log id m k x mine.sits n f))
+                  f.known;
             }) (h.each m u e).sits;
           });
     }
 
-learns : (after : Story) (given : List (FileNo × List ℕ)) (id : ℕ) (j : Journal) (k : Option Known) (views : List View) → (h : Kept views) → j ≡ h.log → IfSome k (Sits h.place h.log id)
-    → Followed after given (shows (Some j) k) (shows (Some (journal after.history after.files j.handed)) (seat_after after given k))
+learns : (after : Story) (given : List (FileNo × List ℕ)) (id : ℕ) (j : Journal) (k : Option Known)
+    (views : List View) → (h : Kept views) → j ≡ h.log → IfSome k (Sits h.place h.log id)
+    → Followed after given (shows (Some j) k)
+    (shows (Some (journal after.history after.files j.handed)) (seat_after after given k))
 learns after given id j k views h is sits = record {
   now = refl;
-  learnt = each_some k (Sits h.place h.log id) (IsSeatOf j) (λ x f. subst (λ (l : Journal). IsSeatOf l x) (sym is) f.known) sits;
-  outside = subst (λ (l : Journal). (t : ℕ) → IsOutside l.handed t → own_entries t l.entries ≡ []) (sym is) h.outside;
+  learnt =
+      each_some k (Sits h.place h.log id) (IsSeatOf j)
+      (λ x f. subst (λ (l : Journal). IsSeatOf l x) (sym is) f.known) sits;
+  outside =
+      subst (λ (l : Journal). (t : ℕ) → IsOutside l.handed t → own_entries t l.entries ≡ [])
+      (sym is) h.outside;
 }
 
-follows_by : (after : Story) (given : List (FileNo × List ℕ)) (slots id word : ℕ) (j : Option Journal) (k : Option Known) (c : List (ℕ × Unit {0})) → MayFollow after given (shows j k)
-    → Allows {S = Unit {0}} {V = View} (λ s. Kept s.views) slots id (shows j k, c) word (λ n. n) (λ n w. Followed after given (shows j k) w.0)
+follows_by : (after : Story) (given : List (FileNo × List ℕ)) (slots id word : ℕ)
+    (j : Option Journal) (k : Option Known) (c : List (ℕ × Unit {0}))
+    → MayFollow after given (shows j k)
+    → Allows {S = Unit {0}} {V = View} (λ s. Kept s.views) slots id (shows j k, c) word (λ n. n)
+    (λ n w. Followed after given (shows j k) w.0)
 follows_by after given slots id word None k c may s h long at fits = absurd may.log
 follows_by after given slots id word (Some j) k c may s h long at fits =
     let mine = h.each id (shows (Some j) k) at in (
@@ -217,6 +313,9 @@ follows_by after given slots id word (Some j) k c may s h long at fits =
       learns after given id j k s.views h mine.keeps.log mine.sits,
     )
 
-pub follows : (after : Story) (given : List (FileNo × List ℕ)) (slots id word : ℕ) (me : Me (Unit {0}) View) → MayFollow after given me.0
-    → Allows {S = Unit {0}} {V = View} (λ s. Kept s.views) slots id me word (λ n. n) (λ n w. Followed after given me.0 w.0)
-follows after given slots id word me may = follows_by after given slots id word me.0.journal me.0.holder me.1 may
+pub follows : (after : Story) (given : List (FileNo × List ℕ)) (slots id word : ℕ)
+    (me : Me (Unit {0}) View) → MayFollow after given me.0
+    → Allows {S = Unit {0}} {V = View} (λ s. Kept s.views) slots id me word (λ n. n)
+    (λ n w. Followed after given me.0 w.0)
+follows after given slots id word me may =
+    follows_by after given slots id word me.0.journal me.0.holder me.1 may

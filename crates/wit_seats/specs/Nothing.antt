@@ -6,7 +6,16 @@ use Rattle.wit_model.specs.Rules.Sizes.{sizes_of}
 use Rattle.wit_model.specs.Rules.State.{Start, Story, fresh}
 
 abbrev pub no_table : TableId
-no_table = record { words = 0; slots = 0; views_name = 0; atom = 0; block = 0; offset = 0; slot_names = [] }
+no_table =
+    record {
+      words = 0;
+      slots = 0;
+      views_name = 0;
+      atom = 0;
+      block = 0;
+      offset = 0;
+      slot_names = [];
+    }
 
 abbrev pub no_start : Start
 no_start = record { sizes = sizes_of 0 0 0 0 0; lists = []; blessed = []; profile = Plain }

@@ -1,6 +1,7 @@
--- The rule of the table: there is one log, each card that stands for it knows it as it is, and each seat's card has just the
--- seat's entries.
-use Rattle.std.specs.Prelude.{ℕ, ◌+◌, ◌≡◌, ◌≢◌, ◌⊎◌, ◌<◌, List, [], ◌++◌, Option, None, Some, IfSome, IsSomeAnd}
+-- The rule of the table: there is one log, each card that stands for it knows it as it is, and each
+-- seat's card has just the seat's entries.
+use Rattle.std.specs.Prelude.{ℕ, ◌+◌, ◌≡◌, ◌≢◌, ◌⊎◌, ◌<◌, List, [], ◌++◌, Option, None, Some}
+use Rattle.std.specs.Prelude.{IfSome, IsSomeAnd}
 use mathlib.Core.Option.{some}
 use lib.ListN.{get_elem?}
 use Rattle.atomic_table.specs.Table.{State, Me, Step}
@@ -83,20 +84,25 @@ abbrev pub seat_after : Story → List (FileNo × List ℕ) → Option Known →
 seat_after after given None = None
 seat_after after given (Some k) = Some (caught_up after given k)
 
--- the log may become this one: by entries of the seat that is there alone, and by more files, the given ones among them
+-- the log may become this one: by entries of the seat that is there alone, and by more files, the
+-- given ones among them
 pub record MayBecome (after : Story) (holder : Option Known) (j : Journal) : Type 0 where
-  pub entries : (added : List Entry) × (after.history ≡ added ++ j.entries) × ((t : ℕ) → IfSome holder (λ (k : Known). t ≢ k.seat) → own_entries t added ≡ [])
+  pub entries : (added : List Entry) × (after.history ≡ added ++ j.entries)
+      × ((t : ℕ) → IfSome holder (λ (k : Known). t ≢ k.seat) → own_entries t added ≡ [])
   pub files : (more : List (List ℕ)) × (after.files ≡ j.files ++ more)
 
 pub record MayFollow (after : Story) (given : List (FileNo × List ℕ)) (v : View) : Type 0 where
   pub log : IsSomeAnd v.journal (MayBecome after v.holder)
   pub named : AreFiles after.files given
 
--- what a step of the log tells its card: how the seat stood to the log, and that none else has entries
+-- what a step of the log tells its card: how the seat stood to the log, and that none else has
+-- entries
 pub record Followed (after : Story) (given : List (FileNo × List ℕ)) (v w : View) : Type 0 where
   pub now : w ≡ shows (log_after after v.journal) (seat_after after given v.holder)
   pub learnt : IfSome v.journal (λ (j : Journal). IfSome v.holder (IsSeatOf j))
-  pub outside : IfSome v.journal (λ (j : Journal). (t : ℕ) → IsOutside j.handed t → own_entries t j.entries ≡ [])
+  pub outside : IfSome v.journal (λ (j : Journal). (t : ℕ) → IsOutside j.handed t
+      → own_entries t j.entries ≡ [])
 
-abbrev pub Plays : Story → List (FileNo × List ℕ) → Step (Unit {0}) → Me (Unit {0}) View → ℕ → Me (Unit {0}) View → Type 0
+abbrev pub Plays : Story → List (FileNo × List ℕ) → Step (Unit {0}) → Me (Unit {0}) View → ℕ
+    → Me (Unit {0}) View → Type 0
 Plays after given st m n w = Followed after given m.0 w.0

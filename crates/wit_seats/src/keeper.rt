@@ -3,7 +3,8 @@
 ghost use Rattle.std.specs.Prelude.{◌≡◌, ℕ, ◌+◌, ◌<◌, ◌++◌, List, [], None, Some, IfOk};
 ghost use Rattle.wit_model.specs.Rules.History.{own_entries};
 ghost use Rattle.wit_model.specs.Rules.Step.{IsLegal};
-ghost use Rattle.wit_seats.specs.Rule.{shows, without, alone, with_guest, with_next, handed_out, journal, newcomer, IsOutside, MayFollow, Followed};
+ghost use Rattle.wit_seats.specs.Rule.{shows, without, alone, with_guest, with_next, handed_out};
+ghost use Rattle.wit_seats.specs.Rule.{journal, newcomer, IsOutside, MayFollow, Followed};
 ghost use Rattle.wit_seats.specs.Seats.{AreFiles, Grows, Entered};
 
 use crate::room::{Room, Step};
@@ -13,8 +14,8 @@ use std::alloc::{AllocError, Global};
 use std::marker::{Model, PhantomData};
 use wit_model::SeatNo;
 
-/// A log that no type names yet: it has no entry and no file, and no seat is out. Clauses see what no other log's table
-/// shares with its own.
+/// A log that no type names yet: it has no entry and no file, and no seat is out. Clauses see what
+/// no other log's table shares with its own.
 pub struct Opened {
     ledger: Ledger,
     card: Card,
@@ -29,7 +30,8 @@ impl Model for Opened {
 
     ghost view = { λ o. o.ledger.shared.table_id };
 
-    ghost invariant = { λ o. (o.card.table_id ≡ o.ledger.shared.table_id) × (o.ledger.shared.table_id.words ≡ 1)
+    ghost invariant = { λ o. (o.card.table_id ≡ o.ledger.shared.table_id)
+        × (o.ledger.shared.table_id.words ≡ 1)
         × (o.card.me.0 ≡ shows (Some (journal [] [] 0)) None) };
 }
 
@@ -39,8 +41,9 @@ impl Drop for Opened {
     }
 }
 
-/// The keeper of a log, which lies beside the verifier whose log it is. Clauses see it as the log's entries, newest first,
-/// its files, and how many seats it handed out. At run time it is an empty table.
+/// The keeper of a log, which lies beside the verifier whose log it is. Clauses see it as the log's
+/// entries, newest first, its files, and how many seats it handed out. At run time it is an empty
+/// table.
 pub struct Keeper<J: Room> {
     ledger: Ledger,
     card: Card,
@@ -58,7 +61,8 @@ impl<J: Room> Model for Keeper<J> {
 
     ghost view = { λ k. log_in k.card.me.0 };
 
-    ghost invariant = { λ k. (k.ledger.shared.table_id ≡ J.table) × (k.card.table_id ≡ J.table) × (0 < J.table.words)
+    ghost invariant = { λ k. (k.ledger.shared.table_id ≡ J.table) × (k.card.table_id ≡ J.table)
+        × (0 < J.table.words)
         × (k.card.me.0 ≡ shows (Some (log_in k.card.me.0)) None) };
 }
 
@@ -98,34 +102,43 @@ impl Opened {
 
 // Takes the seat off a card.
 fn take_off(ledger: &Ledger, card: &mut Card) -> Card
-    requires { (card.old.table_id ≡ ledger.now.shared.table_id) × (0 < ledger.now.shared.table_id.words) }
-    ensures card { (card.new.table_id ≡ card.old.table_id) × (card.new.me.0 ≡ without card.old.me.0) }
-    ensures taken { (result.table_id ≡ card.old.table_id) × (result.me ≡ (alone card.old.me.0, [])) }
+    requires { (card.old.table_id ≡ ledger.now.shared.table_id)
+        × (0 < ledger.now.shared.table_id.words) }
+    ensures card { (card.new.table_id ≡ card.old.table_id)
+        × (card.new.me.0 ≡ without card.old.me.0) }
+    ensures taken { (result.table_id ≡ card.old.table_id)
+        × (result.me ≡ (alone card.old.me.0, [])) }
 {
     ledger.shared.split_seat::<Parts>(card)
 }
 
 // Puts a seat to a card.
 fn put_to(ledger: &Ledger, card: &mut Card, seat: Card)
-    requires { (card.old.table_id ≡ ledger.now.shared.table_id) × (seat.table_id ≡ ledger.now.shared.table_id)
+    requires { (card.old.table_id ≡ ledger.now.shared.table_id)
+        × (seat.table_id ≡ ledger.now.shared.table_id)
         × (seat.me.1 ≡ []) × (0 < ledger.now.shared.table_id.words) }
-    ensures { (card.new.table_id ≡ card.old.table_id) × (card.new.me.0 ≡ with_guest card.old.me.0 seat.me.0) }
+    ensures { (card.new.table_id ≡ card.old.table_id)
+        × (card.new.me.0 ≡ with_guest card.old.me.0 seat.me.0) }
 {
     ledger.shared.join_seat::<Parts>(card, seat)
 }
 
 // Cuts a new seat off the log's card.
 fn hand_off(ledger: &Ledger, card: &mut Card) -> Card
-    requires { (card.old.table_id ≡ ledger.now.shared.table_id) × (0 < ledger.now.shared.table_id.words) }
-    ensures card { (card.new.table_id ≡ card.old.table_id) × (card.new.me.0 ≡ with_next card.old.me.0) }
-    ensures seat { (result.table_id ≡ card.old.table_id) × (result.me ≡ (handed_out card.old.me.0, [])) }
+    requires { (card.old.table_id ≡ ledger.now.shared.table_id)
+        × (0 < ledger.now.shared.table_id.words) }
+    ensures card { (card.new.table_id ≡ card.old.table_id)
+        × (card.new.me.0 ≡ with_next card.old.me.0) }
+    ensures seat { (result.table_id ≡ card.old.table_id)
+        × (result.me ≡ (handed_out card.old.me.0, [])) }
 {
     ledger.shared.split_seat::<Hands>(card)
 }
 
 // The log, and the seat that is put to its card, follow a step.
 fn follow<E: Step>(ledger: &Ledger, card: &mut Card)
-    requires table { (card.old.table_id ≡ ledger.now.shared.table_id) × (0 < ledger.now.shared.table_id.words) }
+    requires table { (card.old.table_id ≡ ledger.now.shared.table_id)
+        × (0 < ledger.now.shared.table_id.words) }
     requires step { MayFollow E.after E.given card.old.me.0 }
     ensures table { card.new.table_id ≡ card.old.table_id }
     ensures step { Followed E.after E.given card.old.me.0 card.new.me.0 }
@@ -156,19 +169,22 @@ impl<J: Room> Keeper<J> {
         requires longer { (more : List (List ℕ)) × (E.after.files ≡ self.old.files ++ more) }
         requires none { E.given ≡ [] }
         ensures kept { self.new ≡ journal E.after.history E.after.files self.old.handed }
-        ensures outside { (t : ℕ) → IsOutside self.old.handed t → own_entries t self.old.entries ≡ [] }
+        ensures outside { (t : ℕ) → IsOutside self.old.handed t
+            → own_entries t self.old.entries ≡ [] }
     {
         follow::<E>(&self.ledger, &mut self.card);
     }
 
-    /// Follows a seat's step, which logged entries of this seat alone, and gave it files that are among those named: the
-    /// seat has then seen all of it, and what others did since it last looked.
+    /// Follows a seat's step, which logged entries of this seat alone, and gave it files that are
+    /// among those named: the seat has then seen all of it, and what others did since it last
+    /// looked.
     pub fn enter_as<E: Step>(&mut self, seat: &mut Seat<J>)
         requires grows { Grows self.old seat.old.seat E.after }
         requires named { AreFiles E.after.files E.given }
         requires legal { IsLegal J.start E.after.files E.after.history }
         ensures kept { self.new ≡ journal E.after.history E.after.files self.old.handed }
-        ensures entered { Entered J.start E.given self.old.entries self.old.files E.after seat.old seat.new }
+        ensures entered { Entered J.start E.given self.old.entries self.old.files E.after
+            seat.old seat.new }
     {
         let card = take_off(&self.ledger, &mut seat.card);
         put_to(&self.ledger, &mut self.card, card);

@@ -1,4 +1,5 @@
-//! The seats of a verifier that threads share: what ties its log to the tokens of the seats that logged into it.
+//! The seats of a verifier that threads share: what ties its log to the tokens of the seats that
+//! logged into it.
 #![tactic(auto)]
 
 mod keeper;

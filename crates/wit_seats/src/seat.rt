@@ -8,9 +8,10 @@ use crate::rule::Card;
 use std::marker::{Model, PhantomData};
 use wit_model::SeatNo;
 
-/// The token of a seat of a shared verifier, for one thread. It lists the seat's own entries of the log, the files that it
-/// was given, and the log as the seat has seen it, which is a legal history whose entries of the seat are its own. These
-/// lists take no memory: at run time a token is a number. It can't be copied.
+/// The token of a seat of a shared verifier, for one thread. It lists the seat's own entries of the
+/// log, the files that it was given, and the log as the seat has seen it, which is a legal history
+/// whose entries of the seat are its own. These lists take no memory: at run time a token is a
+/// number. It can't be copied.
 pub struct Seat<J: Room> {
     pub(crate) number: SeatNo,
     pub(crate) card: Card,
@@ -29,7 +30,8 @@ impl<J: Room> Model for Seat<J> {
 
     ghost view = { λ s. known_in s.card.me.0 };
 
-    ghost invariant = { λ s. (s.card.table_id ≡ J.table) × (s.card.me.0 ≡ shows None (Some (known_in s.card.me.0)))
+    ghost invariant = { λ s. (s.card.table_id ≡ J.table)
+        × (s.card.me.0 ≡ shows None (Some (known_in s.card.me.0)))
         × ((known_in s.card.me.0).seat ≡ s.number.0) × IsKnown J.start (known_in s.card.me.0) };
 }
 

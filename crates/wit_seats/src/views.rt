@@ -3,8 +3,8 @@
 use std::collections::LinkedList;
 use wit_model::{Entry, FileNo};
 
-/// What who keeps a log knows: its entries, newest first, the files named, in the order of their numbers from 1, and how
-/// many seats were handed out. No value of it is made.
+/// What who keeps a log knows: its entries, newest first, the files named, in the order of their
+/// numbers from 1, and how many seats were handed out. No value of it is made.
 pub struct Journal {
     /// The entries, newest first.
     pub entries: LinkedList<Entry>,
@@ -14,8 +14,8 @@ pub struct Journal {
     pub handed: u64,
 }
 
-/// What a seat knows: its own entries and how the log began when it last looked, both newest first, and the files that it
-/// was given, newest first. No value of it is made.
+/// What a seat knows: its own entries and how the log began when it last looked, both newest first,
+/// and the files that it was given, newest first. No value of it is made.
 pub struct Known {
     /// Its number.
     pub seat: u64,
@@ -27,7 +27,8 @@ pub struct Known {
     pub given: LinkedList<(FileNo, LinkedList<u8>)>,
 }
 
-/// What a card of the table stands for: the log, or a seat, or both while a seat's call is under way.
+/// What a card of the table stands for: the log, or a seat, or both while a seat's call is under
+/// way.
 pub struct View {
     pub journal: Option<Journal>,
     pub holder: Option<Known>,

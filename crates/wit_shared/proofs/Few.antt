@@ -1,8 +1,11 @@
 -- Orders between n types, of which none stands twice, are at most n * n.
-use Rattle.std.proofs.Common.{◌≡◌, ℕ, ◌+◌, ◌*◌, ◌^◌, ◌<◌, ◌≤◌, true, false, eqb, ne_eqb, nat_lt, nat_le, List, [], ◌∷◌, ◌++◌, length, map, reverse, refl, ap, sym, ◌∙◌, subst, ⊎_elim, arith, length-append}
+use Rattle.std.proofs.Common.{◌≡◌, ℕ, ◌+◌, ◌*◌, ◌^◌, ◌<◌, ◌≤◌, true, false, eqb, ne_eqb, nat_lt}
+use Rattle.std.proofs.Common.{nat_le, List, [], ◌∷◌, ◌++◌, length, map, reverse, refl, ap, sym, ◌∙◌}
+use Rattle.std.proofs.Common.{subst, ⊎_elim, arith, length-append}
 use Rattle.std.specs.List.{AllByRecursion, IsDistinct, list_any}
 use Rattle.std.proofs.Math.Nat.{mul-le-mul}
-use Rattle.std.proofs.lemmas.Bool.{and_parts, and_from, or_cases, or_left, or_parts, or_right, eqb-true, eq-eqb, lt-ltb, le-leb, false≢true}
+use Rattle.std.proofs.lemmas.Bool.{and_parts, and_from, or_cases, or_left, or_parts, or_right}
+use Rattle.std.proofs.lemmas.Bool.{eqb-true, eq-eqb, lt-ltb, le-leb, false≢true}
 use Rattle.std.proofs.lemmas.List.{length-map, length-reverse, reverse-append}
 use Rattle.std.proofs.lemmas.List.Folds.{list_all-append, list_any-append}
 use Rattle.std.proofs.lemmas.Map.Steps.{length-le_from_distinct_below}
@@ -17,7 +20,8 @@ use Rattle.wit_observers.proofs.Numbers.{place_within, places_apart}
 
 is_self : (o : Adoption) → is_adoption_of o.parent.0 o.child.0 o ≡ true
 is_self o =
-    and_from (eqb o.parent.0 o.parent.0) (eqb o.child.0 o.child.0) (eq-eqb o.parent.0 o.parent.0 refl)
+    and_from (eqb o.parent.0 o.parent.0) (eqb o.child.0 o.child.0)
+    (eq-eqb o.parent.0 o.parent.0 refl)
     (eq-eqb o.child.0 o.child.0 refl)
 
 numbered : (n a : ℕ) → IsNumber n a → is_number n a ≡ true
@@ -27,9 +31,11 @@ all_among : (n : ℕ) (os : List Adoption) → OrdersAmong n os → all_fit n os
 all_among n [] among = refl
 all_among n (o ∷ os) among =
     let own = among o.parent.0 o.child.0
-    (or_left (is_adoption_of o.parent.0 o.child.0 o) (is_direct os o.parent.0 o.child.0) (is_self o)) in
+    (or_left (is_adoption_of o.parent.0 o.child.0 o) (is_direct os o.parent.0 o.child.0)
+    (is_self o)) in
     and_from (fits n o.parent.0 o.child.0) (all_fit n os)
-    (and_from (is_number n o.parent.0) (is_number n o.child.0) (numbered n o.parent.0 own.0) (numbered n o.child.0 own.1))
+    (and_from (is_number n o.parent.0) (is_number n o.child.0) (numbered n o.parent.0 own.0)
+    (numbered n o.child.0 own.1))
     (all_among n os (λ a b is. among a b (or_right (is_adoption_of a b o) (is_direct os a b) is)))
 
 all_reversed : (n : ℕ) (os : List Adoption) → all_fit n os ≡ true → all_fit n (reverse os) ≡ true
@@ -46,49 +52,60 @@ all_reversed n (o ∷ os) all =
 place_of : ℕ → Adoption → ℕ
 place_of n o = cell_place n o.parent.0 o.child.0
 
-new_place : (n : ℕ) (o : Adoption) (os : List Adoption) → fits n o.parent.0 o.child.0 ≡ true → all_fit n os ≡ true
-    → is_direct os o.parent.0 o.child.0 ≡ false → AllByRecursion (λ y. eqb (place_of n o) y ≡ false) (map (place_of n) os)
+new_place : (n : ℕ) (o : Adoption) (os : List Adoption) → fits n o.parent.0 o.child.0 ≡ true
+    → all_fit n os ≡ true
+    → is_direct os o.parent.0 o.child.0 ≡ false
+    → AllByRecursion (λ y. eqb (place_of n o) y ≡ false) (map (place_of n) os)
 unfolding place_of
 new_place n o [] here all none = tt
 new_place n o (p ∷ os) here all none =
     let fit = and_parts (fits n p.parent.0 p.child.0) (all_fit n os) all in
-    let other = or_parts (is_adoption_of o.parent.0 o.child.0 p) (is_direct os o.parent.0 o.child.0) none in (
+    let other =
+    or_parts (is_adoption_of o.parent.0 o.child.0 p) (is_direct os o.parent.0 o.child.0) none in (
       ne_eqb (place_of n o) (place_of n p)
-          (λ same. let e = places_apart n o.parent.0 o.child.0 p.parent.0 p.child.0 here fit.0 same in
+          (λ same. let e = places_apart n o.parent.0 o.child.0 p.parent.0 p.child.0
+          here fit.0 same in
           false≢true (sym other.0 ∙ and_from (eqb p.parent.0 o.parent.0) (eqb p.child.0 o.child.0)
           (eq-eqb p.parent.0 o.parent.0 (sym e.0)) (eq-eqb p.child.0 o.child.0 (sym e.1)))),
       new_place n o os here fit.1 other.1,
     )
 
-new_places : (n : ℕ) (os : List Adoption) → all_fit n os ≡ true → AreDistinct os → IsDistinct eqb (map (place_of n) os)
+new_places : (n : ℕ) (os : List Adoption) → all_fit n os ≡ true → AreDistinct os
+    → IsDistinct eqb (map (place_of n) os)
 unfolding IsDistinct
 new_places n [] all distinct = tt
 new_places n (o ∷ os) all distinct =
     let fit = and_parts (fits n o.parent.0 o.child.0) (all_fit n os) all in
     (new_place n o os fit.0 fit.1 distinct.0, new_places n os fit.1 distinct.1)
 
-places_below : (n : ℕ) (os : List Adoption) (q : ℕ) → all_fit n os ≡ true → list_any (eqb q) (map (place_of n) os) ≡ true → q < n * n
+places_below : (n : ℕ) (os : List Adoption) (q : ℕ) → all_fit n os ≡ true
+    → list_any (eqb q) (map (place_of n) os) ≡ true → q < n * n
 unfolding place_of
 places_below n [] q all is = absurd (false≢true is)
 places_below n (o ∷ os) q all is =
     let fit = and_parts (fits n o.parent.0 o.child.0) (all_fit n os) all in
-    ⊎_elim (λ here. subst (λ k. k < n * n) (sym (eqb-true q (place_of n o) here)) (place_within n o.parent.0 o.child.0 fit.0))
-    (λ later. places_below n os q fit.1 later) (or_cases (eqb q (place_of n o)) (list_any (eqb q) (map (place_of n) os)) is)
+    ⊎_elim (λ here. subst (λ k. k < n * n) (sym (eqb-true q (place_of n o) here))
+    (place_within n o.parent.0 o.child.0 fit.0))
+    (λ later. places_below n os q fit.1 later)
+    (or_cases (eqb q (place_of n o)) (list_any (eqb q) (map (place_of n) os)) is)
 
 few : (n : ℕ) (os : List Adoption) → all_fit n os ≡ true → AreDistinct os → length os ≤ n * n
 few n os all distinct =
     subst (λ k. k ≤ n * n) (length-map os (place_of n))
-    (length-le_from_distinct_below (map (place_of n) os) (n * n) (new_places n os all distinct) (λ q is. places_below n os q all is))
+    (length-le_from_distinct_below (map (place_of n) os) (n * n) (new_places n os all distinct)
+    (λ q is. places_below n os q all is))
 
 -- ---- orders that are adopted behind others
 
 module _ (n : ℕ) (more os : List Adoption) (among : OrdersAmong n (more ++ os)) where
   pub fit_more : all_fit n (reverse more) ≡ true
   fit_more =
-      all_reversed n more (all_among n more (λ a b is. among a b (list_any-append (is_adoption_of a b) more os
+      all_reversed n more (all_among n more
+      (λ a b is. among a b (list_any-append (is_adoption_of a b) more os
       ∙ or_left (is_direct more a b) (is_direct os a b) is)))
 
-  pub room_more : n ≤ 1023 → AreDistinct (more ++ os) → length (reverse os) + length (reverse more) < 2 ^ 32
+  pub room_more : n ≤ 1023 → AreDistinct (more ++ os)
+      → length (reverse os) + length (reverse more) < 2 ^ 32
   room_more most distinct =
       let all = few n (more ++ os) (all_among n (more ++ os) among) distinct in
       let square : n * n ≤ 1023 * 1023 = mul-le-mul most most in

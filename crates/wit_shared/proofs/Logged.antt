@@ -1,11 +1,14 @@
--- The answers to a check, a try and a note are never that the call is passed over: an accepted one is logged.
-use Rattle.std.proofs.Common.{◌≡◌, ℕ, Bool, true, false, ◌||◌, cond, List, [], ◌∷◌, reverse, Option, None, Some, is_some, Result, Ok, Err, refl, ap, sym, ◌∙◌}
+-- The answers to a check, a try and a note are never that the call is passed over: an accepted one
+-- is logged.
+use Rattle.std.proofs.Common.{◌≡◌, ℕ, Bool, true, false, ◌||◌, cond, List, [], ◌∷◌, reverse, Option}
+use Rattle.std.proofs.Common.{None, Some, is_some, Result, Ok, Err, refl, ap, sym, ◌∙◌}
 use Rattle.std.specs.List.{last_or}
 use Rattle.std.specs.Option.{option_map}
 use Rattle.wit_model.specs.declared.profiles.Profile.{Profile}
 use Rattle.wit_model.specs.declared.profiles.Profile.TheVariants.{Plain, AllHeld}
 use Rattle.wit_model.specs.declared.faults.Fault.{Fault}
-use Rattle.wit_model.specs.declared.faults.Fault.TheVariants.{SleepUnderSpin, SharedOfExclusive, ExclusiveOfShared, Recursed}
+use Rattle.wit_model.specs.declared.faults.Fault.TheVariants.{SleepUnderSpin, SharedOfExclusive}
+use Rattle.wit_model.specs.declared.faults.Fault.TheVariants.{ExclusiveOfShared, Recursed}
 use Rattle.wit_model.specs.declared.locks.TypeNo.{TypeNo}
 use Rattle.wit_model.specs.declared.locks.Mode.{Mode}
 use Rattle.wit_model.specs.declared.locks.Site.{Site}
@@ -19,8 +22,12 @@ use Rattle.wit_model.specs.Rules.Locks.{has_flag}
 use Rattle.wit_model.specs.Rules.History.{is_off}
 use Rattle.wit_model.specs.Rules.Orders.{is_found}
 use Rattle.wit_model.specs.Rules.State.{State, Known, Seat, seat_at}
-use Rattle.wit_model.specs.Rules.Verdict.{Basis, Rule, when, decided, rules, again, doubled, reported, basis_of, typed_request, chain_asked, verdict, doubles_in, follows_in, teaches_in, told_orders, new_parents}
-use Rattle.wit_model.specs.Rules.Step.{is_exhausted, held_by, recorded_reply, is_logged, step_check, step_note, step_note_try}
+use Rattle.wit_model.specs.Rules.Verdict.{Basis, Rule, when, decided, rules, again, doubled}
+use Rattle.wit_model.specs.Rules.Verdict.{reported, basis_of, typed_request, chain_asked, verdict}
+use Rattle.wit_model.specs.Rules.Verdict.{doubles_in, follows_in, teaches_in, told_orders}
+use Rattle.wit_model.specs.Rules.Verdict.{new_parents}
+use Rattle.wit_model.specs.Rules.Step.{is_exhausted, held_by, recorded_reply, is_logged, step_check}
+use Rattle.wit_model.specs.Rules.Step.{step_note, step_note_try}
 use Rattle.wit_model.proofs.Histories.Accepted.{check_accepted, note_accepted, try_accepted}
 
 -- a fault, or a reply that the log keeps
@@ -67,13 +74,16 @@ unfolding RuleKept
 when_kept true x kept = kept
 when_kept false x kept = tt
 
-map_kept : (f : Instance → Result Reply Fault) → ((i : Instance) → Kept (f i)) → (o : Option Instance) → RuleKept (option_map f o)
+map_kept : (f : Instance → Result Reply Fault) → ((i : Instance) → Kept (f i))
+    → (o : Option Instance) → RuleKept (option_map f o)
 unfolding RuleKept
 map_kept f kept None = tt
 map_kept f kept (Some i) = kept i
 
 again_kept : (q : TypedRequest) (i : Instance) → Kept (again q i)
-again_kept q i = fails SharedOfExclusive _ _ (fails ExclusiveOfShared _ _ (fails Recursed _ _ (fails Recursed _ _ (answered _ refl))))
+again_kept q i =
+    fails SharedOfExclusive _ _ (fails ExclusiveOfShared _ _
+    (fails Recursed _ _ (fails Recursed _ _ (answered _ refl))))
 
 doubled_kept : (g : Basis) (q : TypedRequest) (i : Instance) → Kept (doubled g q i)
 doubled_kept g q i =
@@ -84,13 +94,15 @@ module _ (g : Basis) (watch : Watch) (spin chain : List Instance) (q : TypedRequ
   reported_kept : (i : Instance) → Kept (reported g q chain i)
   reported_kept i = pick _ _ _ (answered _ refl) (answered _ refl)
 
-  doubles_kept : (profile : Profile) (last : Option Instance) → RuleKept (doubles_in profile g chain last q)
+  doubles_kept : (profile : Profile) (last : Option Instance)
+      → RuleKept (doubles_in profile g chain last q)
   unfolding RuleKept
   doubles_kept Plain None = tt
   doubles_kept Plain (Some last) = when_kept _ _ (doubled_kept g q last)
   doubles_kept AllHeld last = map_kept (doubled g q) (doubled_kept g q) _
 
-  follows_kept : (profile : Profile) (last : Option Instance) → RuleKept (follows_in profile g chain last q)
+  follows_kept : (profile : Profile) (last : Option Instance)
+      → RuleKept (follows_in profile g chain last q)
   unfolding RuleKept
   follows_kept Plain None = tt
   follows_kept Plain (Some last) = when_kept _ _ (answered _ refl)
@@ -101,13 +113,15 @@ module _ (g : Basis) (watch : Watch) (spin chain : List Instance) (q : TypedRequ
   told_kept [] = tt
   told_kept (p ∷ parents) = answered _ refl
 
-  teaches_kept : (profile : Profile) (last : Option Instance) → RuleKept (teaches_in profile g chain last q)
+  teaches_kept : (profile : Profile) (last : Option Instance)
+      → RuleKept (teaches_in profile g chain last q)
   unfolding RuleKept
   teaches_kept Plain None = tt
   teaches_kept Plain (Some last) = when_kept _ _ (answered _ refl)
   teaches_kept AllHeld last = told_kept (new_parents g q [] (reverse chain))
 
-  rules_kept : (profile : Profile) (last : Option Instance) → AllKept (rules profile g watch spin chain last q)
+  rules_kept : (profile : Profile) (last : Option Instance)
+      → AllKept (rules profile g watch spin chain last q)
   unfolding AllKept
   rules_kept profile last = (
     when_kept _ _ (answered _ refl),
@@ -129,7 +143,8 @@ module _ (g : Basis) (watch : Watch) (spin chain : List Instance) (q : TypedRequ
     ),
   )
 
-verdict_kept : (profile : Profile) (k : Known) (watch : Watch) (seat : Seat) (q : Request) → Kept (verdict profile k watch seat q)
+verdict_kept : (profile : Profile) (k : Known) (watch : Watch) (seat : Seat) (q : Request)
+    → Kept (verdict profile k watch seat q)
 verdict_kept profile k watch seat q =
     let g = basis_of k in
     let asked = typed_request k q in
@@ -144,21 +159,26 @@ unfolding Kept
 told x r kept is = sym (ap is_kept is) ∙ kept
 
 -- whatever is recorded of an acquisition
-by_record : (off held none : Bool) → is_logged (cond off Unrecorded (cond held Recorded (cond none Exhausted Recorded))) ≡ true
+by_record : (off held none : Bool)
+    → is_logged (cond off Unrecorded (cond held Recorded (cond none Exhausted Recorded))) ≡ true
 by_record true held none = refl
 by_record false true none = refl
 by_record false false true = refl
 by_record false false false = refl
 
 recorded_logged : (s : State) (t l : ℕ) (r : Reply) → r ≡ recorded_reply s t l → is_logged r ≡ true
-recorded_logged s t l r is = ap is_logged is ∙ by_record (is_off s.watch) (is_some (held_by s t l)) (is_exhausted s t l)
+recorded_logged s t l r is =
+    ap is_logged is ∙ by_record (is_off s.watch) (is_some (held_by s t l)) (is_exhausted s t l)
 
-pub check_logged : (s : State) (t : ℕ) (q : Request) (r : Reply) → step_check s t q ≡ Ok r → is_logged r ≡ true
+pub check_logged : (s : State) (t : ℕ) (q : Request) (r : Reply) → step_check s t q ≡ Ok r
+    → is_logged r ≡ true
 check_logged s t q r ok =
-    told (verdict s.profile s.known s.watch (seat_at s t) q) r (verdict_kept s.profile s.known s.watch (seat_at s t) q) (check_accepted s t q r ok).verdict
+    told (verdict s.profile s.known s.watch (seat_at s t) q) r
+    (verdict_kept s.profile s.known s.watch (seat_at s t) q) (check_accepted s t q r ok).verdict
 
 pub note_logged : (s : State) (t l : ℕ) (r : Reply) → step_note s t l ≡ Ok r → is_logged r ≡ true
 note_logged s t l r ok = recorded_logged s t l r (note_accepted s t l r ok).reply
 
-pub try_logged : (s : State) (t l : ℕ) (m : Mode) (site : Site) (r : Reply) → step_note_try s t l m site ≡ Ok r → is_logged r ≡ true
+pub try_logged : (s : State) (t l : ℕ) (m : Mode) (site : Site) (r : Reply)
+    → step_note_try s t l m site ≡ Ok r → is_logged r ≡ true
 try_logged s t l m site r ok = recorded_logged s t l r (try_accepted s t l m site r ok).reply

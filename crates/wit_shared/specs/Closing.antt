@@ -1,5 +1,6 @@
 -- What is left of a shared verifier that is closed.
-use Rattle.std.specs.Prelude.{ℕ, zero, suc, ◌+◌, ◌≡◌, ◌<◌, ◌≤◌, ◌==◌, Bool, true, false, List, [], ◌∷◌, length, if◌then◌else◌}
+use Rattle.std.specs.Prelude.{ℕ, zero, suc, ◌+◌, ◌≡◌, ◌<◌, ◌≤◌, ◌==◌, Bool, true, false, List, []}
+use Rattle.std.specs.Prelude.{◌∷◌, length, if◌then◌else◌}
 use Rattle.std.specs.List.{list_any}
 use Rattle.wit_model.specs.declared.calls.Entry.{Entry}
 use Rattle.wit_model.specs.Rules.Beginnings.{IsBeginning}
@@ -22,7 +23,8 @@ pub record IsMissing (n : ℕ) (seats : List Known) : Type 0 where
   pub missing : has_seat n seats ≡ false
   pub least : (m : ℕ) → 0 < m → m < n → has_seat m seats ≡ true
 
--- the verifier's log has just the entries of the seat's list and began with what the seat has seen; its files stand
+-- the verifier's log has just the entries of the seat's list and began with what the seat has seen;
+-- its files stand
 pub record IsLeft (v : Story) (k : Known) : Type 0 where
   pub own : own_entries k.seat v.history ≡ k.own
   pub seen : IsBeginning k.seen v.history
@@ -32,13 +34,15 @@ abbrev pub AreLeft : Story → List Known → Type 0
 AreLeft v [] = Unit {0}
 AreLeft v (k ∷ ks) = IsLeft v k × AreLeft v ks
 
--- a verifier that comes back is the one that was shared, with the entries of these seats and nobody else's
+-- a verifier that comes back is the one that was shared, with the entries of these seats and nobody
+-- else's
 pub record IsClosed (start : Start) (v : Story) (seats : List Known) : Type 0 where
   pub began : v.start ≡ start
   pub own : AreLeft v seats
   pub others : (n : ℕ) → has_seat n seats ≡ false → own_entries n v.history ≡ []
 
--- what wasn't closed: the seats given back, how many were handed out, and the least number of one that isn't there
+-- what wasn't closed: the seats given back, how many were handed out, and the least number of one
+-- that isn't there
 pub record Lacking : Type 0 where
   pub seats : List Known
   pub handed : ℕ
@@ -56,7 +60,9 @@ logged_to (suc n) seats = length (entries_of_seat (suc n) seats) + logged_to n s
 
 -- a log is as long as the lists of these seats together
 abbrev pub LogAddsUp : List Entry → List Known → Type 0
-LogAddsUp h seats = (n : ℕ) → ((m : ℕ) → n < m → has_seat m seats ≡ false) → length h ≡ logged_to n seats
+LogAddsUp h seats = (n : ℕ) → ((m : ℕ) → n < m → has_seat m seats ≡ false)
+    → length h ≡ logged_to n seats
 
 abbrev pub ClosedLogsAddUp : Type 0
-ClosedLogsAddUp = (start : Start) (v : Story) (seats : List Known) → IsClosed start v seats → LogAddsUp v.history seats
+ClosedLogsAddUp = (start : Start) (v : Story) (seats : List Known) → IsClosed start v seats
+    → LogAddsUp v.history seats

@@ -7,7 +7,8 @@ use Rattle.wit_adoptions.specs.Naming.{Name}
 use Rattle.wit_shared.specs.declared.opening.Reason.{Reason}
 use Rattle.wit_shared.specs.declared.opening.Reason.TheVariants.{HasEntries, OutOfMemory}
 
--- a verifier with no name yet: the table of its log and the list of its orders, which no other verifier shares with it
+-- a verifier with no name yet: the table of its log and the list of its orders, which no other
+-- verifier shares with it
 pub record Unnamed : Type 0 where
   pub story : Story
   pub table : TableId

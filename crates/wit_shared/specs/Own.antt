@@ -1,5 +1,6 @@
 -- What a seat's own entries and files tell of its next call.
-use Rattle.std.specs.Prelude.{ℕ, ◌≡◌, ◌⊎◌, true, List, [], ◌∷◌, ◌++◌, Result, Ok, Err, if◌then◌else◌}
+use Rattle.std.specs.Prelude.{ℕ, ◌≡◌, ◌⊎◌, true, List, [], ◌∷◌, ◌++◌, Result, Ok, Err}
+use Rattle.std.specs.Prelude.{if◌then◌else◌}
 use Rattle.wit_model.specs.declared.faults.Fault.{Fault}
 use Rattle.wit_model.specs.declared.locks.FileNo.{FileNo}
 use Rattle.wit_model.specs.declared.locks.LockNo.{LockNo}
@@ -16,14 +17,16 @@ use Rattle.wit_seats.specs.Seats.{Told}
 abbrev pub entry : ℕ → Call → Reply → Entry
 entry t call reply = record { seat = record { 0 = t }; call = call; reply = reply }
 
--- the entry that a call leaves where it is accepted and logged; a refused one, and one that is passed over, leave none
+-- the entry that a call leaves where it is accepted and logged; a refused one, and one that is
+-- passed over, leave none
 abbrev pub entries_left : ℕ → Call → Result Reply Fault → List Entry
 entries_left t call (Ok reply) = if is_logged reply then entry t call reply ∷ [] else []
 entries_left t call (Err fault) = []
 
--- what a logged call leaves of its seat, where the verifier's own call is answered by these rules: what it was told, and among its own
--- entries that of the call alone
-pub record Leaves (rules : Story → ℕ → Call → Result Reply Fault → Story → Type 0) (start : Start) (call : Call) (result : Result Reply Fault) (v w : Known) : Type 0 where
+-- what a logged call leaves of its seat, where the verifier's own call is answered by these rules:
+-- what it was told, and among its own entries that of the call alone
+pub record Leaves (rules : Story → ℕ → Call → Result Reply Fault → Story → Type 0) (start : Start)
+    (call : Call) (result : Result Reply Fault) (v w : Known) : Type 0 where
   pub told : Told start [] (λ s new. rules s v.seat call result new) v w
   pub own : w.own ≡ entries_left v.seat call result ++ v.own
   pub seat : w.seat ≡ v.seat

@@ -1,4 +1,5 @@
--- What a shared verifier publishes for observers: its adopted orders. Lists of entries are newest first.
+-- What a shared verifier publishes for observers: its adopted orders. Lists of entries are newest
+-- first.
 use Rattle.std.specs.Prelude.{ℕ, ◌≡◌, true, List, [], Result, Ok, Err}
 use Rattle.wit_model.specs.declared.faults.Fault.{Fault}
 use Rattle.wit_model.specs.declared.calls.Adoption.{Adoption}
@@ -11,7 +12,8 @@ pub use Rattle.wit_model.specs.HistoryLaws.{adoptions}
 use Rattle.wit_model.specs.Rules.Step.{AnswersOrFails}
 use Rattle.wit_observers.specs.Shown.{Published}
 
--- what a verifier's publisher has published: all that is adopted, and it takes orders between all types that there may be
+-- what a verifier's publisher has published: all that is adopted, and it takes orders between all
+-- types that there may be
 abbrev pub published : Story → Published
 published s = record { orders = adoptions s.start s.history; size = s.start.sizes.types }
 
@@ -21,7 +23,8 @@ orders_named own = orders_from [] own
 
 -- each pair that these entries name as adopted is among these orders
 abbrev pub IsNamedIn : List Entry → List Adoption → Type 0
-IsNamedIn own orders = (a b : ℕ) → is_direct (orders_named own) a b ≡ true → is_direct orders a b ≡ true
+IsNamedIn own orders = (a b : ℕ) → is_direct (orders_named own) a b ≡ true
+    → is_direct orders a b ≡ true
 
 -- what a call with this answer adopts, newest first
 abbrev pub adopts : Call → Result Reply Fault → List Adoption
@@ -33,7 +36,8 @@ abbrev pub IsSame : Story → Story → Type 0
 IsSame old new = new ≡ record old { ready = new.ready }
 
 -- a call of a verifier, for which it may be prepared first
-pub record Makes (old : Story) (t : ℕ) (call : Call) (result : Result Reply Fault) (new : Story) : Type 0 where
+pub record Makes (old : Story) (t : ℕ) (call : Call) (result : Result Reply Fault)
+    (new : Story) : Type 0 where
   pub before : Story
   pub same : IsSame old before
   pub did : AnswersOrFails before t call result new

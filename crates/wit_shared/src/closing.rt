@@ -2,7 +2,8 @@
 
 ghost use Rattle.std.specs.Prelude.{◌≡◌, ◌≤◌, IfOk, IfErr, MatchOption};
 ghost use Rattle.wit_seats.specs.Rule.{journal};
-ghost use Rattle.wit_shared.specs.Closing.{has_seat, HasSeatsTo, IsMissing, IsLeft, AreLeft, IsClosed};
+ghost use Rattle.wit_shared.specs.Closing.{has_seat, HasSeatsTo, IsMissing, IsLeft, AreLeft};
+ghost use Rattle.wit_shared.specs.Closing.{IsClosed};
 
 use crate::desk::Desk;
 use crate::following::{follow, look};
@@ -27,7 +28,11 @@ impl<J: Room> Model for Unclosed<J> {
 
     ghost Value = { Lacking };
 
-    ghost view = { λ u. record { seats = u.seats.items; handed = u.desk.handed; missing = u.missing.0 } };
+    ghost view = { λ u. record {
+      seats = u.seats.items;
+      handed = u.desk.handed;
+      missing = u.missing.0;
+    } };
 }
 
 impl<J: Room> Unclosed<J> {
@@ -62,8 +67,9 @@ impl<J: Room> Unclosed<J> {
 }
 
 impl<J: Room> Shared<J> {
-    /// Gives the verifier back for all its seats. For each of them the log has just the entries of its list, and began with
-    /// what it has seen, and its files stand; nobody else has entries; the verifier began as it did when it was shared.
+    /// Gives the verifier back for all its seats. For each of them the log has just the entries of
+    /// its list, and began with what it has seen, and its files stand; nobody else has entries; the
+    /// verifier began as it did when it was shared.
     ///
     /// Observers see nothing from then on. It may wait for one that looks.
     ///
@@ -71,7 +77,8 @@ impl<J: Room> Shared<J> {
     /// Where a seat that was handed out isn't there; the shared verifier and the seats come back.
     pub fn close<R: Wait>(self, rt: &R, seats: Vec<Seat<J>>) -> Result<Verifier, Unclosed<J>>
         ensures ok { IfOk result (λ v. IsClosed J.start v seats.items) }
-        ensures err { IfErr result (λ u. (u.seats ≡ seats.items) × (u.missing ≤ u.handed) × IsMissing u.missing seats.items) }
+        ensures err { IfErr result (λ u. (u.seats ≡ seats.items) × (u.missing ≤ u.handed)
+            × IsMissing u.missing seats.items) }
     {
         self.into_desk().close(rt, seats)
     }
@@ -92,7 +99,8 @@ impl<J: Room> Desk<J> {
         ensures all { IfOk result (λ v. HasSeatsTo self.handed seats.items) }
         ensures ok { IfOk result (λ v. IsClosed J.start v seats.items) }
         ensures handed { IfErr result (λ u. u.handed ≡ self.handed) }
-        ensures err { IfErr result (λ u. (u.seats ≡ seats.items) × (u.missing ≤ u.handed) × IsMissing u.missing seats.items) }
+        ensures err { IfErr result (λ u. (u.seats ≡ seats.items) × (u.missing ≤ u.handed)
+            × IsMissing u.missing seats.items) }
     {
         match missing_of(&seats, self.handed) {
             Some(missing) => Err(Unclosed {
@@ -120,7 +128,8 @@ impl<J: Room> Desk<J> {
 
 // The least number up to this one of a seat that isn't among these.
 fn missing_of<J: Room>(seats: &[Seat<J>], handed: u16) -> Option<SeatNo>
-    ensures { MatchOption result (HasSeatsTo handed seats.now) (λ n. (n.0 ≤ handed) × IsMissing n.0 seats.now) }
+    ensures { MatchOption result (HasSeatsTo handed seats.now) (λ n. (n.0 ≤ handed)
+        × IsMissing n.0 seats.now) }
 {
     for number in 1..=handed {
         if !has_seat(seats, SeatNo(number)) {

@@ -51,7 +51,8 @@ impl<J: Room> Model for Desk<J> {
 
     ghost view = { λ d. record { story = d.verifier; handed = d.handed } };
 
-    ghost invariant = { λ d. (d.verifier.start ≡ J.start) × (d.keeper ≡ journal d.verifier.history d.verifier.files d.handed)
+    ghost invariant = { λ d. (d.verifier.start ≡ J.start)
+        × (d.keeper ≡ journal d.verifier.history d.verifier.files d.handed)
         × (d.publisher ≡ published d.verifier) };
 }
 
@@ -74,8 +75,10 @@ impl<J: Room> Desk<J> {
 
     /// Hands out the next seat.
     pub fn seat(&mut self) -> Result<Seat<J>, Fault>
-        ensures ok { IfOk result (λ s. (s.seat ≡ self.old.handed + 1) × (s.seat ≤ J.start.sizes.seats) × (s.own ≡ []) × (s.given ≡ [])) }
-        ensures err { IfErr result (λ e. (e ≡ UnknownSeat) × (J.start.sizes.seats ≤ self.old.handed)) }
+        ensures ok { IfOk result (λ s. (s.seat ≡ self.old.handed + 1)
+            × (s.seat ≤ J.start.sizes.seats) × (s.own ≡ []) × (s.given ≡ [])) }
+        ensures err { IfErr result (λ e. (e ≡ UnknownSeat)
+            × (J.start.sizes.seats ≤ self.old.handed)) }
     {
         // Called for its clause that the log is legal.
         let _log = self.verifier.history();
@@ -91,7 +94,8 @@ impl<J: Room> Desk<J> {
 
     /// Makes a logged call, whichever it is.
     pub fn call<R: Wait>(&mut self, rt: &R, seat: &mut Seat<J>, call: Call) -> Result<Reply, Fault>
-        ensures { Told J.start [] (λ s new. AnswersOrFails s seat.old.seat call result new) seat.old seat.new }
+        ensures { Told J.start [] (λ s new. AnswersOrFails s seat.old.seat call result new)
+            seat.old seat.new }
     {
         let answer = make(
             rt,
@@ -115,7 +119,8 @@ impl<J: Room> Desk<J> {
         flags: LockFlags,
     ) -> Result<LockNo, Fault>
         ensures { Told J.start [] (λ s new. AnswersOrFails s seat.old.seat
-            (Init (new_lock name.now (option_copied type_name.entry) class flags)) (made_reply result) new) seat.old seat.new }
+            (Init (new_lock name.now (option_copied type_name.entry) class flags))
+            (made_reply result) new) seat.old seat.new }
     {
         let answer = self
             .verifier
@@ -126,7 +131,8 @@ impl<J: Room> Desk<J> {
 
     /// Notes an acquisition.
     pub fn note(&mut self, seat: &mut Seat<J>, lock: LockNo) -> Result<Reply, Fault>
-        ensures { Told J.start [] (λ s new. Answers s seat.old.seat (Note lock) result new) seat.old seat.new }
+        ensures { Told J.start [] (λ s new. Answers s seat.old.seat (Note lock) result new)
+            seat.old seat.new }
     {
         let answer = self.verifier.note(seat.number(), lock);
         follow(&mut self.keeper, &self.verifier, seat);
@@ -135,7 +141,8 @@ impl<J: Room> Desk<J> {
 
     /// Drops a request.
     pub fn give_up(&mut self, seat: &mut Seat<J>, lock: LockNo) -> Result<Reply, Fault>
-        ensures { Told J.start [] (λ s new. Answers s seat.old.seat (GiveUp lock) result new) seat.old seat.new }
+        ensures { Told J.start [] (λ s new. Answers s seat.old.seat (GiveUp lock) result new)
+            seat.old seat.new }
     {
         let answer = self.verifier.give_up(seat.number(), lock);
         follow(&mut self.keeper, &self.verifier, seat);
@@ -144,7 +151,8 @@ impl<J: Room> Desk<J> {
 
     /// Notes a release.
     pub fn unlock(&mut self, seat: &mut Seat<J>, lock: LockNo, mode: Mode) -> Result<Reply, Fault>
-        ensures { Told J.start [] (λ s new. Answers s seat.old.seat (Unlock lock mode) result new) seat.old seat.new }
+        ensures { Told J.start [] (λ s new. Answers s seat.old.seat (Unlock lock mode) result new)
+            seat.old seat.new }
     {
         let answer = self.verifier.unlock(seat.number(), lock, mode);
         follow(&mut self.keeper, &self.verifier, seat);
@@ -153,7 +161,8 @@ impl<J: Room> Desk<J> {
 
     /// Names a file.
     pub fn file(&mut self, seat: &mut Seat<J>, name: &str) -> Result<FileNo, Fault>
-        ensures { Told J.start (given_by result name.now) (λ s new. NamesFile s name.now result new) seat.old seat.new }
+        ensures { Told J.start (given_by result name.now)
+            (λ s new. NamesFile s name.now result new) seat.old seat.new }
     {
         match self.verifier.file(name) {
             Ok(file) => {
@@ -174,7 +183,9 @@ impl<J: Room> Desk<J> {
         lock: LockNo,
         flags: LockAssert,
     ) -> Result<AssertAnswer, Fault>
-        ensures { Told J.start [] (λ s new. (result ≡ step_assert (state_of s) seat.old.seat lock.0 flags) × (new ≡ s)) seat.old seat.new }
+        ensures { Told J.start [] (λ s new.
+            (result ≡ step_assert (state_of s) seat.old.seat lock.0 flags)
+            × (new ≡ s)) seat.old seat.new }
     {
         follow(&mut self.keeper, &self.verifier, seat);
         self.verifier.assert_lock(seat.number(), lock, flags)
@@ -187,7 +198,9 @@ impl<J: Room> Desk<J> {
         named: Option<LockNo>,
         flags: WarnFlags,
     ) -> Result<usize, Fault>
-        ensures { Told J.start [] (λ s new. (result ≡ step_warn (state_of s) seat.old.seat named flags) × (new ≡ s)) seat.old seat.new }
+        ensures { Told J.start [] (λ s new.
+            (result ≡ step_warn (state_of s) seat.old.seat named flags)
+            × (new ≡ s)) seat.old seat.new }
     {
         follow(&mut self.keeper, &self.verifier, seat);
         self.verifier.warn(seat.number(), named, flags)
@@ -195,7 +208,8 @@ impl<J: Room> Desk<J> {
 
     /// Looks at the verifier.
     pub fn look<L: Look>(&mut self, seat: &mut Seat<J>, wanted: L) -> L::Out
-        ensures { Told J.start [] (λ s new. (L.done wanted result s) × (new ≡ s)) seat.old seat.new }
+        ensures { Told J.start [] (λ s new. (L.done wanted result s)
+            × (new ≡ s)) seat.old seat.new }
     {
         follow(&mut self.keeper, &self.verifier, seat);
         wanted.look(&self.verifier)

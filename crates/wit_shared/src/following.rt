@@ -17,7 +17,8 @@ fn follow_as<J: Room, E: Step>(keeper: &mut Keeper<J>, verifier: &Verifier, seat
     requires grows { Grows keeper.old seat.old.seat verifier.now }
     requires named { AreFiles verifier.now.files E.given }
     ensures kept { keeper.new ≡ journal verifier.now.history verifier.now.files keeper.old.handed }
-    ensures entered { Entered J.start E.given keeper.old.entries keeper.old.files verifier.now seat.old seat.new }
+    ensures entered { Entered J.start E.given keeper.old.entries keeper.old.files verifier.now
+        seat.old seat.new }
 {
     // Called for its clause that the log is legal.
     let _log = verifier.history();
@@ -29,7 +30,8 @@ pub(crate) fn follow<J: Room>(keeper: &mut Keeper<J>, verifier: &Verifier, seat:
     requires start { verifier.now.start ≡ J.start }
     requires grows { Grows keeper.old seat.old.seat verifier.now }
     ensures kept { keeper.new ≡ journal verifier.now.history verifier.now.files keeper.old.handed }
-    ensures entered { Entered J.start [] keeper.old.entries keeper.old.files verifier.now seat.old seat.new }
+    ensures entered { Entered J.start [] keeper.old.entries keeper.old.files verifier.now
+        seat.old seat.new }
 {
     follow_as::<J, Brand>(keeper, verifier, seat);
 }
@@ -48,7 +50,8 @@ fn follow_file_as<J: Room, E: Step>(
     requires grows { Grows keeper.old seat.old.seat verifier.now }
     requires named { AreFiles verifier.now.files ((file, name.now) ∷ []) }
     ensures kept { keeper.new ≡ journal verifier.now.history verifier.now.files keeper.old.handed }
-    ensures entered { Entered J.start ((file, name.now) ∷ []) keeper.old.entries keeper.old.files verifier.now seat.old seat.new }
+    ensures entered { Entered J.start ((file, name.now) ∷ []) keeper.old.entries keeper.old.files
+        verifier.now seat.old seat.new }
 {
     let (_file, _name) = (file, name);
     follow_as::<J, E>(keeper, verifier, seat);
@@ -66,7 +69,8 @@ pub(crate) fn follow_file<J: Room>(
     requires grows { Grows keeper.old seat.old.seat verifier.now }
     requires named { AreFiles verifier.now.files ((file, name.now) ∷ []) }
     ensures kept { keeper.new ≡ journal verifier.now.history verifier.now.files keeper.old.handed }
-    ensures entered { Entered J.start ((file, name.now) ∷ []) keeper.old.entries keeper.old.files verifier.now seat.old seat.new }
+    ensures entered { Entered J.start ((file, name.now) ∷ []) keeper.old.entries keeper.old.files
+        verifier.now seat.old seat.new }
 {
     follow_file_as::<J, Brand>(keeper, verifier, seat, file, name.as_bytes());
 }
@@ -78,18 +82,21 @@ fn look_as<J: Room, E: Step>(keeper: &mut Keeper<J>, verifier: &Verifier)
     requires same { verifier.now.history ≡ keeper.old.entries }
     requires longer { (more : List (List ℕ)) × (verifier.now.files ≡ keeper.old.files ++ more) }
     ensures kept { keeper.new ≡ journal verifier.now.history verifier.now.files keeper.old.handed }
-    ensures outside { (t : ℕ) → IsOutside keeper.old.handed t → own_entries t keeper.old.entries ≡ [] }
+    ensures outside { (t : ℕ) → IsOutside keeper.old.handed t
+        → own_entries t keeper.old.entries ≡ [] }
 {
     let _verifier = verifier;
     keeper.follow_as::<E>();
 }
 
-// Looks at a verifier that has logged nothing since, and learns that nobody has entries who has no seat here.
+// Looks at a verifier that has logged nothing since, and learns that nobody has entries who has no
+// seat here.
 pub(crate) fn look<J: Room>(keeper: &mut Keeper<J>, verifier: &Verifier)
     requires same { verifier.now.history ≡ keeper.old.entries }
     requires longer { (more : List (List ℕ)) × (verifier.now.files ≡ keeper.old.files ++ more) }
     ensures kept { keeper.new ≡ journal verifier.now.history verifier.now.files keeper.old.handed }
-    ensures outside { (t : ℕ) → IsOutside keeper.old.handed t → own_entries t keeper.old.entries ≡ [] }
+    ensures outside { (t : ℕ) → IsOutside keeper.old.handed t
+        → own_entries t keeper.old.entries ≡ [] }
 {
     look_as::<J, Brand>(keeper, verifier);
 }

@@ -1,4 +1,5 @@
-//! The shared verifier's calls that are not logged: of files, and what a verifier is asked as it stands.
+//! The shared verifier's calls that are not logged: of files, and what a verifier is asked as it
+//! stands.
 
 ghost use Rattle.std.specs.Prelude.{◌≡◌, []};
 ghost use Rattle.wit_model.specs.Rules.Assertions.{step_assert};
@@ -22,7 +23,8 @@ pub trait Look {
     // What is known of that, of the verifier that was looked at.
     ghost done: { Self → Self.Out → Story → Type 0 };
 
-    /// Looks. Where the verifier is shared, every other call waits meanwhile: a look that made one would wait for itself.
+    /// Looks. Where the verifier is shared, every other call waits meanwhile: a look that made one
+    /// would wait for itself.
     fn look(self, verifier: &Verifier) -> Self::Out
         ensures { done self result verifier.now };
 }
@@ -33,7 +35,8 @@ impl<J: Room> Shared<J> {
     /// # Errors
     /// Those of `Verifier::file`.
     pub fn file<R: Wait>(&self, rt: &R, seat: &mut Seat<J>, name: &str) -> Result<FileNo, Fault>
-        ensures { Told J.start (given_by result name.now) (λ s new. NamesFile s name.now result new) seat.old seat.new }
+        ensures { Told J.start (given_by result name.now)
+            (λ s new. NamesFile s name.now result new) seat.old seat.new }
     {
         let mut desk = self.desk.lock(rt);
         let answer = desk.file(seat, name);
@@ -52,7 +55,9 @@ impl<J: Room> Shared<J> {
         lock: LockNo,
         flags: LockAssert,
     ) -> Result<AssertAnswer, Fault>
-        ensures { Told J.start [] (λ s new. (result ≡ step_assert (state_of s) seat.old.seat lock.0 flags) × (new ≡ s)) seat.old seat.new }
+        ensures { Told J.start [] (λ s new.
+            (result ≡ step_assert (state_of s) seat.old.seat lock.0 flags)
+            × (new ≡ s)) seat.old seat.new }
     {
         let mut desk = self.desk.lock(rt);
         let answer = desk.assert_lock(seat, lock, flags);
@@ -71,7 +76,9 @@ impl<J: Room> Shared<J> {
         named: Option<LockNo>,
         flags: WarnFlags,
     ) -> Result<usize, Fault>
-        ensures { Told J.start [] (λ s new. (result ≡ step_warn (state_of s) seat.old.seat named flags) × (new ≡ s)) seat.old seat.new }
+        ensures { Told J.start [] (λ s new.
+            (result ≡ step_warn (state_of s) seat.old.seat named flags)
+            × (new ≡ s)) seat.old seat.new }
     {
         let mut desk = self.desk.lock(rt);
         let answer = desk.warn(seat, named, flags);
@@ -81,7 +88,8 @@ impl<J: Room> Shared<J> {
 
     /// Looks at the verifier while no call changes it. Nothing is logged.
     pub fn look<R: Wait, L: Look>(&self, rt: &R, seat: &mut Seat<J>, wanted: L) -> L::Out
-        ensures { Told J.start [] (λ s new. (L.done wanted result s) × (new ≡ s)) seat.old seat.new }
+        ensures { Told J.start [] (λ s new. (L.done wanted result s)
+            × (new ≡ s)) seat.old seat.new }
     {
         let mut desk = self.desk.lock(rt);
         let out = desk.look(seat, wanted);
@@ -89,7 +97,8 @@ impl<J: Room> Shared<J> {
         out
     }
 
-    /// Seats that wait for one another in a circle, by what is recorded: `Verifier::wait_circle`. It isn't logged.
+    /// Seats that wait for one another in a circle, by what is recorded: `Verifier::wait_circle`.
+    /// It isn't logged.
     ///
     /// # Errors
     /// Those of `Verifier::wait_circle`.

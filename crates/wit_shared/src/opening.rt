@@ -110,7 +110,8 @@ impl Opened {
     /// `HasEntries` where it has, else `OutOfMemory`; the verifier comes back.
     pub fn new(alloc: Global, verifier: Verifier) -> Result<Opened, Unopened>
         ensures ok { IfOk result (λ o. (o.story ≡ verifier) × (verifier.history ≡ [])) }
-        ensures err { IfErr result (λ u. (u.verifier ≡ verifier) × (u.reason ≡ why_refused verifier.history)) }
+        ensures err { IfErr result (λ u. (u.verifier ≡ verifier)
+            × (u.reason ≡ why_refused verifier.history)) }
     {
         if !verifier.history().is_empty() {
             return Err(Unopened {
@@ -142,7 +143,8 @@ impl Opened {
         rt: &R,
         observers: u16,
     ) -> Result<(Shared<J>, Vec<Observer<J>>), Unopened>
-        requires name { (self.story.start ≡ J.start) × (self.table ≡ J.table) × (self.list ≡ J.list) }
+        requires name { (self.story.start ≡ J.start) × (self.table ≡ J.table)
+            × (self.list ≡ J.list) }
         requires few { observers ≤ 256 }
         ensures ok { IfOk result (λ s. s.1.items ≡ replicate observers (adoptions J.start [])) }
         ensures err { IfErr result (λ u. (u.verifier ≡ self.story) × (u.reason ≡ OutOfMemory)) }

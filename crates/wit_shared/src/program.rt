@@ -49,10 +49,12 @@ fn run_as<J: Room + Send + Sync, R: Wait, S: Program<R>>(
     observers: u16,
     program: S,
 ) -> Result<S::Out, Refused<S>>
-    requires name { (opened.story.start ≡ J.start) × (opened.table ≡ J.table) × (opened.list ≡ J.list) }
+    requires name { (opened.story.start ≡ J.start) × (opened.table ≡ J.table)
+        × (opened.list ≡ J.list) }
     requires few { observers ≤ 256 }
     ensures ok { IfOk result (λ out. S.done program out) }
-    ensures err { IfErr result (λ r. (r.verifier ≡ opened.story) × (r.program ≡ program) × (r.reason ≡ OutOfMemory)) }
+    ensures err { IfErr result (λ r. (r.verifier ≡ opened.story) × (r.program ≡ program)
+        × (r.reason ≡ OutOfMemory)) }
 {
     match opened.named::<J, R>(rt, observers) {
         Ok((shared, observers)) => Ok(program.run::<J>(rt, shared, observers)),
@@ -64,8 +66,8 @@ fn run_as<J: Room + Send + Sync, R: Wait, S: Program<R>>(
     }
 }
 
-/// Runs a program with a verifier that has logged nothing, shared, and with this many observers, 256
-/// at most.
+/// Runs a program with a verifier that has logged nothing, shared, and with this many observers,
+/// 256 at most.
 ///
 /// # Errors
 /// `HasEntries` where it has, else `OutOfMemory`; the verifier and the program come back.
@@ -78,7 +80,8 @@ pub fn share<R: Wait, S: Program<R>>(
 ) -> Result<S::Out, Refused<S>>
     requires { observers ≤ 256 }
     ensures ok { IfOk result (λ out. S.done program out) }
-    ensures err { IfErr result (λ r. (r.verifier ≡ verifier) × (r.program ≡ program) × (r.reason ≡ why_refused verifier.history)) }
+    ensures err { IfErr result (λ r. (r.verifier ≡ verifier) × (r.program ≡ program)
+        × (r.reason ≡ why_refused verifier.history)) }
 {
     match Opened::new(alloc, verifier) {
         Ok(opened) => run_as::<Brand, R, S>(rt, opened, observers, program),

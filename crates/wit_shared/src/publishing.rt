@@ -1,6 +1,7 @@
 //! What a call teaches is published before the call is made.
 
-ghost use Rattle.std.specs.Prelude.{◌≡◌, ◌⊎◌, ◌++◌, [], ◌∷◌, true, false, Err, IfOk, IfErr, map, reverse};
+ghost use Rattle.std.specs.Prelude.{◌≡◌, ◌⊎◌, ◌++◌, [], ◌∷◌, true, false, Err, IfOk, IfErr, map};
+ghost use Rattle.std.specs.Prelude.{reverse};
 ghost use Rattle.wit_model.specs.declared.calls.Reply.{Reply};
 ghost use Rattle.wit_model.specs.Rules.Orders.{adopted, taught_at};
 ghost use Rattle.wit_model.specs.Rules.Preparing.{IsPreparable, IsPrepared};
@@ -21,7 +22,8 @@ fn order(
     child: TypeNo,
     origin: Origin,
 ) -> Result<Vec<Adoption>, AllocError>
-    ensures { IfOk result (λ v. v.items ≡ record { parent = parent; child = child; origin = origin } ∷ []) }
+    ensures { IfOk result (λ v. v.items
+        ≡ record { parent = parent; child = child; origin = origin } ∷ []) }
 {
     let order = Adoption {
         parent,
@@ -94,12 +96,15 @@ fn announce<J: Naming, R: Wait>(
     requires published { publisher.old ≡ published verifier.old }
     ensures same { IsSame verifier.old verifier.new }
     ensures more { IfOk result (λ _. publisher.new ≡ record publisher.old {
-      orders = publisher.old.orders ++ reverse (adopts call.now (answer_of verifier.new seat.0 call.now));
+      orders =
+          publisher.old.orders ++ reverse
+          (adopts call.now (answer_of verifier.new seat.0 call.now));
     }) }
     ensures sure { IfOk result (λ _. (adopts call.now (answer_of verifier.new seat.0 call.now) ≡ [])
         ⊎ IsPrepared verifier.new seat.0 call.now) }
     ensures kept { IfErr result (λ _. publisher.new ≡ publisher.old) }
-    ensures err { IfErr result (λ fault. AnswersOrFails verifier.new seat.0 call.now (Err fault) verifier.new) }
+    ensures err { IfErr result (λ fault. AnswersOrFails verifier.new seat.0 call.now
+        (Err fault) verifier.new) }
 {
     // Called for its clause that there can't be too many orders.
     let _most = verifier.most_types();

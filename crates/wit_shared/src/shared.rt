@@ -2,7 +2,11 @@
 
 ghost use Rattle.std.specs.Prelude.{◌≡◌, ◌≢◌, ◌≤◌, [], Err, IfOk, IfErr, IsOk};
 ghost use Rattle.std.specs.Option.{option_copied};
-ghost use Rattle.wit_model.specs.declared.calls.Call.TheVariants.{Init, Check, Note, NoteTry, GiveUp, Unlock, SetWatch, Destroy, Upgrade, Downgrade, NoRelease, ReleaseOk, DefineOrder};
+ghost use Rattle.wit_model.specs.declared.calls.Call.TheVariants.{Init, Check, Note, NoteTry};
+ghost use Rattle.wit_model.specs.declared.calls.Call.TheVariants.{GiveUp, Unlock, SetWatch};
+ghost use Rattle.wit_model.specs.declared.calls.Call.TheVariants.{Destroy, Upgrade, Downgrade};
+ghost use Rattle.wit_model.specs.declared.calls.Call.TheVariants.{NoRelease, ReleaseOk};
+ghost use Rattle.wit_model.specs.declared.calls.Call.TheVariants.{DefineOrder};
 ghost use Rattle.wit_model.specs.declared.faults.Fault.TheVariants.{UnknownFile, UnknownSeat};
 ghost use Rattle.wit_model.specs.Rules.Step.{Answers, AnswersOrFails};
 ghost use Rattle.wit_core.specs.Replies.{new_lock, made_reply};
@@ -16,11 +20,13 @@ use wit_model::{
 };
 use wit_seats::{Room, Seat};
 
-/// A verifier that threads share, each with the token of a seat. Its calls are the verifier's, made under one lock.
+/// A verifier that threads share, each with the token of a seat. Its calls are the verifier's, made
+/// under one lock.
 ///
-/// A call tells its seat (`Told`): others had made entries since the seat last looked, and none of them is its own; from there
-/// the call did what the verifier's own clause says; and the seat has then seen all of it. So its answer is that of the rules at
-/// a legal history of the start given, which begins with all that the seat had seen.
+/// A call tells its seat (`Told`): others had made entries since the seat last looked, and none of
+/// them is its own; from there the call did what the verifier's own clause says; and the seat has
+/// then seen all of it. So its answer is that of the rules at a legal history of the start given,
+/// which begins with all that the seat had seen.
 ///
 /// It can't be let go of: `close` gives the verifier back, and `abandon` drops it.
 pub struct Shared<J: Room> {
@@ -41,12 +47,14 @@ impl<J: Room> Shared<J> {
         desk.into_inner()
     }
 
-    /// Hands out a seat: their numbers are given from 1, in order. It has made no entry and was given no file.
+    /// Hands out a seat: their numbers are given from 1, in order. It has made no entry and was
+    /// given no file.
     ///
     /// # Errors
     /// `UnknownSeat` where no number is left.
     pub fn seat<R: Wait>(&self, rt: &R) -> Result<Seat<J>, Fault>
-        ensures ok { IfOk result (λ s. (s.seat ≤ J.start.sizes.seats) × (s.own ≡ []) × (s.given ≡ [])) }
+        ensures ok { IfOk result (λ s. (s.seat ≤ J.start.sizes.seats) × (s.own ≡ [])
+            × (s.given ≡ [])) }
         ensures err { IfErr result (λ e. e ≡ UnknownSeat) }
     {
         let mut desk = self.desk.lock(rt);
@@ -57,7 +65,8 @@ impl<J: Room> Shared<J> {
 
     // Makes a logged call, whichever it is.
     fn call<R: Wait>(&self, rt: &R, seat: &mut Seat<J>, call: Call) -> Result<Reply, Fault>
-        ensures { Told J.start [] (λ s new. AnswersOrFails s seat.old.seat call result new) seat.old seat.new }
+        ensures { Told J.start [] (λ s new. AnswersOrFails s seat.old.seat call result new)
+            seat.old seat.new }
     {
         let mut desk = self.desk.lock(rt);
         let answer = desk.call(rt, seat, call);
@@ -79,7 +88,8 @@ impl<J: Room> Shared<J> {
         flags: LockFlags,
     ) -> Result<LockNo, Fault>
         ensures { Told J.start [] (λ s new. AnswersOrFails s seat.old.seat
-            (Init (new_lock name.now (option_copied type_name.entry) class flags)) (made_reply result) new) seat.old seat.new }
+            (Init (new_lock name.now (option_copied type_name.entry) class flags))
+            (made_reply result) new) seat.old seat.new }
     {
         let mut desk = self.desk.lock(rt);
         let answer = desk.init(seat, name, type_name, class, flags);
@@ -101,7 +111,8 @@ impl<J: Room> Shared<J> {
         site: Site,
     ) -> Result<Reply, Fault>
         ensures told { Told J.start [] (λ s new. AnswersOrFails s seat.old.seat
-            (Check (record { lock = lock; site = site; mode = mode; ops = ops })) result new) seat.old seat.new }
+            (Check (record { lock = lock; site = site; mode = mode; ops = ops })) result new)
+            seat.old seat.new }
         ensures file { HasFile seat.old.given site.file → result ≢ Err UnknownFile }
     {
         let request = Request {
@@ -113,12 +124,14 @@ impl<J: Room> Shared<J> {
         self.call(rt, seat, Call::Check(request))
     }
 
-    /// A requested lock was acquired: `Verifier::note`. It takes no memory, and is accepted where the seat asks for the lock.
+    /// A requested lock was acquired: `Verifier::note`. It takes no memory, and is accepted where
+    /// the seat asks for the lock.
     ///
     /// # Errors
     /// Those of `Verifier::note`.
     pub fn note<R: Wait>(&self, rt: &R, seat: &mut Seat<J>, lock: LockNo) -> Result<Reply, Fault>
-        ensures told { Told J.start [] (λ s new. Answers s seat.old.seat (Note lock) result new) seat.old seat.new }
+        ensures told { Told J.start [] (λ s new. Answers s seat.old.seat (Note lock) result new)
+            seat.old seat.new }
         ensures asked { AsksFor seat.old lock → IsOk result }
     {
         let mut desk = self.desk.lock(rt);
@@ -139,18 +152,22 @@ impl<J: Room> Shared<J> {
         mode: Mode,
         site: Site,
     ) -> Result<Reply, Fault>
-        ensures told { Told J.start [] (λ s new. AnswersOrFails s seat.old.seat (NoteTry lock mode site) result new) seat.old seat.new }
+        ensures told { Told J.start []
+            (λ s new. AnswersOrFails s seat.old.seat (NoteTry lock mode site) result new)
+            seat.old seat.new }
         ensures file { HasFile seat.old.given site.file → result ≢ Err UnknownFile }
     {
         self.call(rt, seat, Call::NoteTry(lock, mode, site))
     }
 
-    /// A requested lock wasn't acquired: `Verifier::give_up`. It takes no memory, and is accepted where the seat asks for the lock.
+    /// A requested lock wasn't acquired: `Verifier::give_up`. It takes no memory, and is accepted
+    /// where the seat asks for the lock.
     ///
     /// # Errors
     /// Those of `Verifier::give_up`.
     pub fn give_up<R: Wait>(&self, rt: &R, seat: &mut Seat<J>, lock: LockNo) -> Result<Reply, Fault>
-        ensures told { Told J.start [] (λ s new. Answers s seat.old.seat (GiveUp lock) result new) seat.old seat.new }
+        ensures told { Told J.start [] (λ s new. Answers s seat.old.seat (GiveUp lock) result new)
+            seat.old seat.new }
         ensures asked { AsksFor seat.old lock → IsOk result }
     {
         let mut desk = self.desk.lock(rt);
@@ -170,7 +187,8 @@ impl<J: Room> Shared<J> {
         lock: LockNo,
         mode: Mode,
     ) -> Result<Reply, Fault>
-        ensures { Told J.start [] (λ s new. Answers s seat.old.seat (Unlock lock mode) result new) seat.old seat.new }
+        ensures { Told J.start [] (λ s new. Answers s seat.old.seat (Unlock lock mode) result new)
+            seat.old seat.new }
     {
         let mut desk = self.desk.lock(rt);
         let answer = desk.unlock(seat, lock, mode);
@@ -183,7 +201,8 @@ impl<J: Room> Shared<J> {
     /// # Errors
     /// Those of `Verifier::upgrade`.
     pub fn upgrade<R: Wait>(&self, rt: &R, seat: &mut Seat<J>, lock: LockNo) -> Result<Reply, Fault>
-        ensures { Told J.start [] (λ s new. AnswersOrFails s seat.old.seat (Upgrade lock) result new) seat.old seat.new }
+        ensures { Told J.start [] (λ s new. AnswersOrFails s seat.old.seat
+            (Upgrade lock) result new) seat.old seat.new }
     {
         self.call(rt, seat, Call::Upgrade(lock))
     }
@@ -198,7 +217,8 @@ impl<J: Room> Shared<J> {
         seat: &mut Seat<J>,
         lock: LockNo,
     ) -> Result<Reply, Fault>
-        ensures { Told J.start [] (λ s new. AnswersOrFails s seat.old.seat (Downgrade lock) result new) seat.old seat.new }
+        ensures { Told J.start [] (λ s new. AnswersOrFails s seat.old.seat
+            (Downgrade lock) result new) seat.old seat.new }
     {
         self.call(rt, seat, Call::Downgrade(lock))
     }
@@ -213,7 +233,8 @@ impl<J: Room> Shared<J> {
         seat: &mut Seat<J>,
         lock: LockNo,
     ) -> Result<Reply, Fault>
-        ensures { Told J.start [] (λ s new. AnswersOrFails s seat.old.seat (NoRelease lock) result new) seat.old seat.new }
+        ensures { Told J.start [] (λ s new. AnswersOrFails s seat.old.seat
+            (NoRelease lock) result new) seat.old seat.new }
     {
         self.call(rt, seat, Call::NoRelease(lock))
     }
@@ -228,7 +249,8 @@ impl<J: Room> Shared<J> {
         seat: &mut Seat<J>,
         lock: LockNo,
     ) -> Result<Reply, Fault>
-        ensures { Told J.start [] (λ s new. AnswersOrFails s seat.old.seat (ReleaseOk lock) result new) seat.old seat.new }
+        ensures { Told J.start [] (λ s new. AnswersOrFails s seat.old.seat
+            (ReleaseOk lock) result new) seat.old seat.new }
     {
         self.call(rt, seat, Call::ReleaseOk(lock))
     }
@@ -238,7 +260,8 @@ impl<J: Room> Shared<J> {
     /// # Errors
     /// Those of `Verifier::destroy`.
     pub fn destroy<R: Wait>(&self, rt: &R, seat: &mut Seat<J>, lock: LockNo) -> Result<Reply, Fault>
-        ensures { Told J.start [] (λ s new. AnswersOrFails s seat.old.seat (Destroy lock) result new) seat.old seat.new }
+        ensures { Told J.start [] (λ s new. AnswersOrFails s seat.old.seat
+            (Destroy lock) result new) seat.old seat.new }
     {
         self.call(rt, seat, Call::Destroy(lock))
     }
@@ -253,7 +276,8 @@ impl<J: Room> Shared<J> {
         seat: &mut Seat<J>,
         watch: Watch,
     ) -> Result<Reply, Fault>
-        ensures { Told J.start [] (λ s new. AnswersOrFails s seat.old.seat (SetWatch watch) result new) seat.old seat.new }
+        ensures { Told J.start [] (λ s new. AnswersOrFails s seat.old.seat
+            (SetWatch watch) result new) seat.old seat.new }
     {
         self.call(rt, seat, Call::SetWatch(watch))
     }
@@ -269,7 +293,8 @@ impl<J: Room> Shared<J> {
         first: LockNo,
         second: LockNo,
     ) -> Result<Reply, Fault>
-        ensures { Told J.start [] (λ s new. AnswersOrFails s seat.old.seat (DefineOrder first second) result new) seat.old seat.new }
+        ensures { Told J.start [] (λ s new. AnswersOrFails s seat.old.seat
+            (DefineOrder first second) result new) seat.old seat.new }
     {
         self.call(rt, seat, Call::DefineOrder(first, second))
     }

@@ -20,7 +20,8 @@ pub(crate) fn play<J: Room, R: Wait, G: Gate, K: Kind>(
     requires gate { G.admits lock.now.gate held.hold.mode held.ticket }
     requires held { (held.hold.lock ≡ lock.now.number) × (held.hold.seat.0 ≡ worker.old.seat.seat) }
     ensures gate { G.admits lock.now.gate result.hold.mode result.ticket }
-    ensures held { (result.hold.lock ≡ lock.now.number) × (result.hold.seat.0 ≡ worker.old.seat.seat) }
+    ensures held { (result.hold.lock ≡ lock.now.number)
+        × (result.hold.seat.0 ≡ worker.old.seat.seat) }
     ensures seat { worker.new.seat.seat ≡ worker.old.seat.seat }
 {
     if let Some(Reply::Adopted(parent, child)) = held.asked() {
@@ -52,7 +53,8 @@ fn recurse<J: Room, R: Wait, G: Gate, K: Kind>(
     requires gate { G.admits lock.now.gate held.hold.mode held.ticket }
     requires held { (held.hold.lock ≡ lock.now.number) × (held.hold.seat.0 ≡ worker.old.seat.seat) }
     ensures gate { G.admits lock.now.gate result.hold.mode result.ticket }
-    ensures held { (result.hold.lock ≡ lock.now.number) × (result.hold.seat.0 ≡ worker.old.seat.seat) }
+    ensures held { (result.hold.lock ≡ lock.now.number)
+        × (result.hold.seat.0 ≡ worker.old.seat.seat) }
     ensures seat { worker.new.seat.seat ≡ worker.old.seat.seat }
 {
     let site = worker.site();
@@ -77,7 +79,8 @@ fn turn_up<J: Room, R: Wait, G: Gate, K: Kind>(
     requires gate { G.admits lock.now.gate held.hold.mode held.ticket }
     requires held { (held.hold.lock ≡ lock.now.number) × (held.hold.seat.0 ≡ worker.old.seat.seat) }
     ensures gate { G.admits lock.now.gate result.hold.mode result.ticket }
-    ensures held { (result.hold.lock ≡ lock.now.number) × (result.hold.seat.0 ≡ worker.old.seat.seat) }
+    ensures held { (result.hold.lock ≡ lock.now.number)
+        × (result.hold.seat.0 ≡ worker.old.seat.seat) }
     ensures seat { worker.new.seat.seat ≡ worker.old.seat.seat }
 {
     match lock.try_upgrade(place.rt, place.shared, &mut worker.seat, held) {
@@ -98,7 +101,8 @@ fn turn_down<J: Room, R: Wait, G: Gate, K: Kind>(
     requires gate { G.admits lock.now.gate held.hold.mode held.ticket }
     requires held { (held.hold.lock ≡ lock.now.number) × (held.hold.seat.0 ≡ worker.old.seat.seat) }
     ensures gate { G.admits lock.now.gate result.hold.mode result.ticket }
-    ensures held { (result.hold.lock ≡ lock.now.number) × (result.hold.seat.0 ≡ worker.old.seat.seat) }
+    ensures held { (result.hold.lock ≡ lock.now.number)
+        × (result.hold.seat.0 ≡ worker.old.seat.seat) }
     ensures seat { worker.new.seat.seat ≡ worker.old.seat.seat }
 {
     match lock.downgrade(place.rt, place.shared, &mut worker.seat, held) {
@@ -173,7 +177,8 @@ fn unlock<J: Room, R: Wait, G: Gate, K: Kind>(
     requires gate { G.admits lock.now.gate held.hold.mode held.ticket }
     requires held { (held.hold.lock ≡ lock.now.number) × (held.hold.seat.0 ≡ worker.old.seat.seat) }
     ensures gate { IfSome result (λ h. G.admits lock.now.gate h.hold.mode h.ticket) }
-    ensures held { IfSome result (λ h. (h.hold.lock ≡ lock.now.number) × (h.hold.seat.0 ≡ worker.old.seat.seat)) }
+    ensures held { IfSome result (λ h. (h.hold.lock ≡ lock.now.number)
+        × (h.hold.seat.0 ≡ worker.old.seat.seat)) }
     ensures seat { worker.new.seat.seat ≡ worker.old.seat.seat }
 {
     match lock.unlock(place.rt, place.shared, &mut worker.seat, held) {

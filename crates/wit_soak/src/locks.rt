@@ -20,8 +20,9 @@ pub(crate) enum Watched<J: Room> {
 // How many types the locks of a class have.
 const TYPES: u32 = 5;
 
-/// The lock with this number, of so many. The last fifth are spin mutexes, which are taken behind all others; of the others each
-/// third is of one class. Locks of one type are apart, so that their types have no order.
+/// The lock with this number, of so many. The last fifth are spin mutexes, which are taken behind
+/// all others; of the others each third is of one class. Locks of one type are apart, so that their
+/// types have no order.
 ///
 /// # Errors
 /// Those of `Shared::init`.

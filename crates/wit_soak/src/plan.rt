@@ -20,7 +20,8 @@ pub(crate) struct Plan {
 }
 
 impl Plan {
-    /// The plan of the words `THREADS LOCKS ROUNDS SEED`. With fewer it is a small one, of which no trace is written.
+    /// The plan of the words `THREADS LOCKS ROUNDS SEED`. With fewer it is a small one, of which no
+    /// trace is written.
     pub(crate) fn of_words<R: Env>(rt: &R) -> Plan
         ensures { result.threads ≤ 255 }
     {

@@ -42,8 +42,8 @@ fn round<J: Room, R: Wait>(place: &Place<J, R>, worker: &mut Worker<J>) {
     }
 }
 
-// Takes a lock, and others behind it. A thread waits only for a lock that comes behind all that it has, so that no threads
-// wait for one another; others it tries.
+// Takes a lock, and others behind it. A thread waits only for a lock that comes behind all that it
+// has, so that no threads wait for one another; others it tries.
 fn nest<J: Room, R: Wait>(place: &Place<J, R>, worker: &mut Worker<J>, floor: u32, deeper: u32)
     ensures { worker.new.seat.seat ≡ worker.old.seat.seat }
 {

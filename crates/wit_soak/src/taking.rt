@@ -55,7 +55,8 @@ pub(crate) fn take_mutex<J: Room, R: Wait, G: Gate>(
     waits: bool,
 ) -> Option<Held<G>>
     ensures gate { IfSome result (λ h. G.admits lock.now.gate h.hold.mode h.ticket) }
-    ensures held { IfSome result (λ h. (h.hold.lock ≡ lock.now.number) × (h.hold.seat.0 ≡ worker.old.seat.seat)) }
+    ensures held { IfSome result (λ h. (h.hold.lock ≡ lock.now.number)
+        × (h.hold.seat.0 ≡ worker.old.seat.seat)) }
     ensures seat { worker.new.seat.seat ≡ worker.old.seat.seat }
 {
     let site = worker.site();
@@ -76,7 +77,8 @@ pub(crate) fn take_spin<J: Room, R: Wait, G: Gate>(
     waits: bool,
 ) -> Option<Held<G>>
     ensures gate { IfSome result (λ h. G.admits lock.now.gate h.hold.mode h.ticket) }
-    ensures held { IfSome result (λ h. (h.hold.lock ≡ lock.now.number) × (h.hold.seat.0 ≡ worker.old.seat.seat)) }
+    ensures held { IfSome result (λ h. (h.hold.lock ≡ lock.now.number)
+        × (h.hold.seat.0 ≡ worker.old.seat.seat)) }
     ensures seat { worker.new.seat.seat ≡ worker.old.seat.seat }
 {
     let site = worker.site();
@@ -108,7 +110,8 @@ pub(crate) fn take_rw<J: Room, R: Wait, G: Gate>(
     waits: bool,
 ) -> Option<Held<G>>
     ensures gate { IfSome result (λ h. G.admits lock.now.gate h.hold.mode h.ticket) }
-    ensures held { IfSome result (λ h. (h.hold.lock ≡ lock.now.number) × (h.hold.seat.0 ≡ worker.old.seat.seat)) }
+    ensures held { IfSome result (λ h. (h.hold.lock ≡ lock.now.number)
+        × (h.hold.seat.0 ≡ worker.old.seat.seat)) }
     ensures seat { worker.new.seat.seat ≡ worker.old.seat.seat }
 {
     let (site, mode) = (worker.site(), any_mode(worker));
@@ -129,7 +132,8 @@ pub(crate) fn take_sx<J: Room, R: Wait, G: Gate>(
     waits: bool,
 ) -> Option<Held<G>>
     ensures gate { IfSome result (λ h. G.admits lock.now.gate h.hold.mode h.ticket) }
-    ensures held { IfSome result (λ h. (h.hold.lock ≡ lock.now.number) × (h.hold.seat.0 ≡ worker.old.seat.seat)) }
+    ensures held { IfSome result (λ h. (h.hold.lock ≡ lock.now.number)
+        × (h.hold.seat.0 ≡ worker.old.seat.seat)) }
     ensures seat { worker.new.seat.seat ≡ worker.old.seat.seat }
 {
     let (site, mode) = (worker.site(), any_mode(worker));

@@ -11,7 +11,8 @@ use wit_core::Verifier;
 use wit_model::{Call, Fault, SeatNo};
 use wit_report::report_text;
 
-/// Writes the log as a trace, its reports and the counts, as the plan wants it. Whether nothing was wrong.
+/// Writes the log as a trace, its reports and the counts, as the plan wants it. Whether nothing was
+/// wrong.
 ///
 /// # Errors
 /// Want of memory.

@@ -35,7 +35,8 @@ pub(crate) struct Soaked {
     pub(crate) verifier: Verifier,
     /// What each thread counted, by its seat.
     pub(crate) tallies: Vec<(SeatNo, Tally)>,
-    /// Whether the observer that looked on while the verifier was closed never went back, and answers no more.
+    /// Whether the observer that looked on while the verifier was closed never went back, and
+    /// answers no more.
     pub(crate) looked_on: bool,
 }
 
@@ -49,7 +50,8 @@ pub(crate) fn run<J: Room + Send + Sync + 'static, R: Threads + Wait + Sync>(
     opened: Opened,
     plan: Plan,
 ) -> Result<Soaked, Fault>
-    requires name { (opened.story.start ≡ J.start) × (opened.table ≡ J.table) × (opened.list ≡ J.list) }
+    requires name { (opened.story.start ≡ J.start) × (opened.table ≡ J.table)
+        × (opened.list ≡ J.list) }
     requires few { plan.threads ≤ 255 }
 {
     let (shared, mut observers) = match opened.named::<J, R>(rt, plan.threads + 1) {
@@ -79,7 +81,8 @@ pub(crate) fn run<J: Room + Send + Sync + 'static, R: Threads + Wait + Sync>(
     }
 }
 
-// Closes the verifier while an observer looks on, as far as a thread can be had. It answers no more then.
+// Closes the verifier while an observer looks on, as far as a thread can be had. It answers no more
+// then.
 fn close<J: Room + Send + Sync + 'static, R: Threads + Wait + Sync>(
     rt: &R,
     shared: Shared<J>,
@@ -130,7 +133,8 @@ fn soak<J: Room + Send + Sync, R: Threads + Wait + Sync>(
             add(&mut locks, lock)?;
         }
     }
-    // Nobody turns the watch while another walks: a release that is forbidden might not be allowed again.
+    // Nobody turns the watch while another walks: a release that is forbidden might not be allowed
+    // again.
     for part in [Part::Walk, Part::Turn, Part::Rounds(plan.rounds)] {
         let locks = locks.as_slice();
         soak_all(rt, alloc, shared, locks, &mut workers, plan, part);

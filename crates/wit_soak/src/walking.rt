@@ -1,4 +1,5 @@
-//! A walk over all calls of a shared verifier, which each thread makes with locks that nobody else knows.
+//! A walk over all calls of a shared verifier, which each thread makes with locks that nobody else
+//! knows.
 
 use crate::observing::{circle, learn, look, name_file};
 use crate::worker::{Place, Worker, count};
@@ -45,7 +46,8 @@ impl Look for TypesOf {
     }
 }
 
-/// Makes each call but those that turn the watch. While nobody turns it each call is accepted, and each question has one answer.
+/// Makes each call but those that turn the watch. While nobody turns it each call is accepted, and
+/// each question has one answer.
 pub(crate) fn walk<J: Room, R: Wait>(place: &Place<J, R>, worker: &mut Worker<J>) {
     name_file(place, worker);
     if worker.file == FileNo(0) {

@@ -15,8 +15,8 @@ pub(crate) struct Place<'a, J: Room, R> {
     pub(crate) alloc: Global,
     pub(crate) shared: &'a Shared<J>,
     pub(crate) locks: &'a [Watched<J>],
-    /// Whether the watch is turned to quiet and back in the rounds. No release is forbidden in them then: a verifier that is quiet
-    /// passes over that it is allowed again.
+    /// Whether the watch is turned to quiet and back in the rounds. No release is forbidden in them
+    /// then: a verifier that is quiet passes over that it is allowed again.
     pub(crate) quiet: bool,
 }
 
@@ -68,7 +68,8 @@ pub(crate) fn count(answers: &mut u32) {
 /// What a thread counts.
 #[derive(Clone, Copy, Debug)]
 pub(crate) struct Tally {
-    /// Accepted calls of `check`, `note`, `note_try`, `give_up` and `unlock`, which the log always has.
+    /// Accepted calls of `check`, `note`, `note_try`, `give_up` and `unlock`, which the log always
+    /// has.
     pub(crate) calls: u64,
     /// Calls that were refused.
     pub(crate) refused: u64,

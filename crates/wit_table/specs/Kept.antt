@@ -17,7 +17,8 @@ names_in t = record {
   most_files = t.most_files;
 }
 
--- names are names, no list is longer than it may be, and no count is greater than the number of locks ever made
+-- names are names, no list is longer than it may be, and no count is greater than the number of
+-- locks ever made
 pub record AreKept (n : Names) : Type 0 where
   pub types : length n.types ≤ n.most_types
   pub most_types : n.most_types ≤ 1023

@@ -1,9 +1,13 @@
--- What a table of names knows, as its callers see it, and its answers. Types and files have their places as numbers, from 1.
-use Rattle.std.specs.Prelude.{ℕ, ◌≡◌, ◌⊎◌, Bool, true, false, not, ◌&&◌, List, [], ◌∷◌, ◌++◌, length, map, nat_le, slice_get, unwrap_or, Some, Result, Ok, Err, if◌then◌else◌}
+-- What a table of names knows, as its callers see it, and its answers. Types and files have their
+-- places as numbers, from 1.
+use Rattle.std.specs.Prelude.{ℕ, ◌≡◌, ◌⊎◌, Bool, true, false, not, ◌&&◌, List, [], ◌∷◌, ◌++◌}
+use Rattle.std.specs.Prelude.{length, map, nat_le, slice_get, unwrap_or, Some, Result, Ok, Err}
+use Rattle.std.specs.Prelude.{if◌then◌else◌}
 use Rattle.std.specs.List.{list_any}
 use Rattle.std.specs.Option.{option_map}
 use Rattle.wit_model.specs.declared.faults.Fault.{Fault}
-use Rattle.wit_model.specs.declared.faults.Fault.TheVariants.{BadName, ClassMismatch, TypesFull, OutOfMemory}
+use Rattle.wit_model.specs.declared.faults.Fault.TheVariants.{BadName, ClassMismatch, TypesFull}
+use Rattle.wit_model.specs.declared.faults.Fault.TheVariants.{OutOfMemory}
 use Rattle.wit_model.specs.declared.locks.Class.{Class}
 use Rattle.wit_model.specs.Rules.Names.{is_name}
 use Rattle.wit_model.specs.Rules.Numbers.{with_number, with_changed}
@@ -12,8 +16,8 @@ use Rattle.wit_model.specs.Rules.Types.{is_enrolled, is_otherwise, type_number, 
 use Rattle.wit_model.specs.Rules.Verdict.{is_named_pair}
 use Rattle.wit_model.specs.Rules.Files.{files_after}
 
--- the types, for each of them how many live locks it has, the source files, the pairs of names that were blessed, and how many
--- types and files there may be
+-- the types, for each of them how many live locks it has, the source files, the pairs of names that
+-- were blessed, and how many types and files there may be
 pub record Names : Type 0 where
   pub types : List LockType
   pub live : List ℕ
@@ -23,7 +27,15 @@ pub record Names : Type 0 where
   pub most_files : ℕ
 
 abbrev pub no_names : ℕ → ℕ → Names
-no_names types files = record { types = []; live = []; files = []; blessed = []; most_types = types; most_files = files }
+no_names types files =
+    record {
+      types = [];
+      live = [];
+      files = [];
+      blessed = [];
+      most_types = types;
+      most_files = files;
+    }
 
 abbrev pub type_names : List LockType → List (List ℕ)
 type_names types = map (λ (t : LockType). t.name) types
@@ -44,7 +56,8 @@ HasName types n name = option_map (λ (t : LockType). t.name) (with_number types
 abbrev pub HasClass : List LockType → ℕ → Class → Type 0
 HasClass types n class = option_map (λ (t : LockType). t.class) (with_number types n) ≡ Some class
 
--- the answer to an enrolment, want of memory aside: a known name of the same class gives its number also where no number is left
+-- the answer to an enrolment, want of memory aside: a known name of the same class gives its number
+-- also where no number is left
 abbrev pub enroll_answer : List ℕ → Class → ℕ → List LockType → Result ℕ Fault
 enroll_answer name class most types =
     if not (is_name name) then Err BadName
@@ -57,7 +70,8 @@ abbrev pub live_after : List ℕ → List LockType → List ℕ → List ℕ
 live_after name types live = if is_enrolled name types then live else live ++ 0 ∷ []
 
 abbrev pub with_type : Names → List ℕ → Class → Names
-with_type n name class = record n { types = enrolled name class n.types; live = live_after name n.types n.live }
+with_type n name class =
+    record n { types = enrolled name class n.types; live = live_after name n.types n.live }
 
 abbrev pub with_file : Names → List ℕ → Names
 with_file n name = record n { files = files_after name n.files }

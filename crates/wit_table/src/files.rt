@@ -1,6 +1,8 @@
 //! Source files by name, in order of first appearance.
 
-ghost use Rattle.std.specs.Prelude.{◌≡◌, ◌≤◌, ◌<◌, ◌+◌, ◌++◌, [], ◌∷◌, ℕ, List, true, false, length, is_some, slice_get, IfSome, IfNone, IfOk, IfErr, OnOk, OnErr, Some, Ok};
+ghost use Rattle.std.specs.Prelude.{◌≡◌, ◌≤◌, ◌<◌, ◌+◌, ◌++◌, [], ◌∷◌, ℕ, List, true, false};
+ghost use Rattle.std.specs.Prelude.{length, is_some, slice_get, IfSome, IfNone, IfOk, IfErr, OnOk};
+ghost use Rattle.std.specs.Prelude.{OnErr, Some, Ok};
 ghost use Rattle.std.specs.List.{All};
 ghost use Rattle.wit_model.specs.Rules.Names.{is_file_name};
 ghost use Rattle.wit_model.specs.Rules.Files.{is_known_file, file_number, files_after, file_answer};
@@ -30,8 +32,10 @@ pub fn file_in(
     ensures number { IfOk result (λ f. f.0 ≡ file_number name.now (texts files.old.keys)) }
     ensures given { IfOk result (λ f. IsGiven (texts files.new.keys) f.0) }
     ensures err { IfErr result (IsRefusal (file_answer name.now most (texts files.old.keys))) }
-    ensures absent { IfErr result (λ e. e ≡ OutOfMemory → is_known_file name.now (texts files.old.keys) ≡ false) }
-    ensures files { OnOk result (texts files.new.keys ≡ files_after name.now (texts files.old.keys)) }
+    ensures absent { IfErr result (λ e. e ≡ OutOfMemory
+        → is_known_file name.now (texts files.old.keys) ≡ false) }
+    ensures files { OnOk result (texts files.new.keys
+        ≡ files_after name.now (texts files.old.keys)) }
     ensures unchanged { OnErr result (files.new.keys ≡ files.old.keys) }
 {
     // A known name is a file name, and isn't tested again.
@@ -56,7 +60,8 @@ fn place_of(files: &IndexSet<String>, name: &str) -> Option<usize>
     ensures found { is_some result ≡ is_known_file name.now (texts files.now.keys) }
     ensures within { IfSome result (λ i. i < length (texts files.now.keys)) }
     ensures good { IfSome result (λ _. is_file_name name.now ≡ true) }
-    ensures next { IfNone result (file_number name.now (texts files.now.keys) ≡ length (texts files.now.keys) + 1) }
+    ensures next { IfNone result (file_number name.now (texts files.now.keys)
+        ≡ length (texts files.now.keys) + 1) }
 {
     files.get_index_of(name)
 }

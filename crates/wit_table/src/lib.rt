@@ -1,4 +1,5 @@
-//! The names that a lock order verifier knows: types with their classes, source files, and blessed pairs.
+//! The names that a lock order verifier knows: types with their classes, source files, and blessed
+//! pairs.
 #![tactic(auto)]
 
 mod files;

@@ -1,6 +1,7 @@
 //! The table of names.
 
-ghost use Rattle.std.specs.Prelude.{◌≡◌, ◌≤◌, ◌<◌, ◌+◌, ◌-◌, ◌++◌, [], ◌∷◌, true, false, length, is_some, IfSome, IfOk, IfErr, OnOk, OnErr, Some, Ok};
+ghost use Rattle.std.specs.Prelude.{◌≡◌, ◌≤◌, ◌<◌, ◌+◌, ◌-◌, ◌++◌, [], ◌∷◌, true, false, length};
+ghost use Rattle.std.specs.Prelude.{is_some, IfSome, IfOk, IfErr, OnOk, OnErr, Some, Ok};
 ghost use Rattle.std.specs.List.{IsDistinct};
 ghost use Rattle.std.specs.Str.{bytes_eq};
 ghost use Rattle.wit_model.specs.declared.faults.Fault.TheVariants.{OutOfMemory};
@@ -9,7 +10,9 @@ ghost use Rattle.wit_model.specs.Rules.Numbers.{with_number, IsGiven, IsNumber};
 ghost use Rattle.wit_model.specs.Rules.Types.{is_enrolled, is_otherwise, type_number};
 ghost use Rattle.wit_model.specs.Rules.Files.{is_known_file, file_number, file_answer};
 ghost use Rattle.wit_model.specs.Rules.Refusals.{IsRefusal};
-ghost use Rattle.wit_table.specs.Known.{no_names, type_names, HasName, HasClass, enroll_answer, with_type, with_file, live_of, with_live, are_blessed, with_blessed, are_names, IsBlessRefusal};
+ghost use Rattle.wit_table.specs.Known.{no_names, type_names, HasName, HasClass, enroll_answer};
+ghost use Rattle.wit_table.specs.Known.{with_type, with_file, live_of, with_live, are_blessed};
+ghost use Rattle.wit_table.specs.Known.{with_blessed, are_names, IsBlessRefusal};
 
 use crate::files::{file_at, file_in};
 use crate::types::{
@@ -20,11 +23,12 @@ use std::alloc::{AllocError, Global};
 use std::marker::Model;
 use wit_model::{Class, Fault, FileNo, Name, TypeNo};
 
-/// The names that a verifier knows: the types of locks, each with its class and the count of its live locks; the source
-/// files; and the pairs of names that are blessed, so that their types may be taken in either order.
+/// The names that a verifier knows: the types of locks, each with its class and the count of its
+/// live locks; the source files; and the pairs of names that are blessed, so that their types may
+/// be taken in either order.
 ///
-/// Types and files are numbered from 1 in order of first appearance, keep their numbers, and stay for good. A refused
-/// call changes nothing.
+/// Types and files are numbered from 1 in order of first appearance, keep their numbers, and stay
+/// for good. A refused call changes nothing.
 #[derive(Drop)]
 pub struct Table {
     alloc: Global,
@@ -48,7 +52,8 @@ impl Model for Table {
 }
 
 impl Table {
-    /// An empty table for up to this many types, 1 to 1,023, and up to this many files, 1 to 65,535.
+    /// An empty table for up to this many types, 1 to 1,023, and up to this many files, 1 to
+    /// 65,535.
     ///
     /// # Errors
     /// `OutOfMemory` alone.
@@ -69,19 +74,23 @@ impl Table {
         })
     }
 
-    /// The number of the type with this name and class: a known type keeps its number, also where the table is full; a
-    /// new one gets the next, and has no live lock.
+    /// The number of the type with this name and class: a known type keeps its number, also where
+    /// the table is full; a new one gets the next, and has no live lock.
     ///
     /// # Errors
-    /// In this order: `BadName` where the text is no name; `ClassMismatch` where the name is known with another class;
-    /// `TypesFull` where it is new and no number is left; `OutOfMemory`, only where it is new.
+    /// In this order: `BadName` where the text is no name; `ClassMismatch` where the name is known
+    /// with another class; `TypesFull` where it is new and no number is left; `OutOfMemory`, only
+    /// where it is new.
     pub fn enroll(&mut self, name: &str, class: Class) -> Result<TypeNo, Fault>
-        ensures ok { IfOk result (λ t. enroll_answer name.now class self.old.most_types self.old.types ≡ Ok t.0) }
+        ensures ok { IfOk result (λ t. enroll_answer name.now class self.old.most_types
+            self.old.types ≡ Ok t.0) }
         ensures number { IfOk result (λ t. t.0 ≡ type_number name.now self.old.types) }
         ensures given { IfOk result (λ t. IsGiven self.new.types t.0) }
         ensures enrolled { OnOk result (self.new ≡ with_type self.old name.now class) }
-        ensures err { IfErr result (IsRefusal (enroll_answer name.now class self.old.most_types self.old.types)) }
-        ensures absent { IfErr result (λ e. e ≡ OutOfMemory → is_enrolled name.now self.old.types ≡ false) }
+        ensures err { IfErr result (IsRefusal
+            (enroll_answer name.now class self.old.most_types self.old.types)) }
+        ensures absent { IfErr result (λ e. e ≡ OutOfMemory
+            → is_enrolled name.now self.old.types ≡ false) }
         ensures unchanged { OnErr result (self.new ≡ self.old) }
     {
         if !Name::accepts(name) {
@@ -93,15 +102,18 @@ impl Table {
     /// As `enroll`, for a name that was tested.
     ///
     /// # Errors
-    /// In this order: `ClassMismatch` where the name is known with another class; `TypesFull` where it is new and no
-    /// number is left; `OutOfMemory`, only where it is new.
+    /// In this order: `ClassMismatch` where the name is known with another class; `TypesFull` where
+    /// it is new and no number is left; `OutOfMemory`, only where it is new.
     pub fn enroll_name(&mut self, name: &Name, class: Class) -> Result<TypeNo, Fault>
-        ensures ok { IfOk result (λ t. enroll_answer name.now class self.old.most_types self.old.types ≡ Ok t.0) }
+        ensures ok { IfOk result (λ t. enroll_answer name.now class self.old.most_types
+            self.old.types ≡ Ok t.0) }
         ensures number { IfOk result (λ t. t.0 ≡ type_number name.now self.old.types) }
         ensures given { IfOk result (λ t. IsGiven self.new.types t.0) }
         ensures enrolled { OnOk result (self.new ≡ with_type self.old name.now class) }
-        ensures err { IfErr result (IsRefusal (enroll_answer name.now class self.old.most_types self.old.types)) }
-        ensures absent { IfErr result (λ e. e ≡ OutOfMemory → is_enrolled name.now self.old.types ≡ false) }
+        ensures err { IfErr result (IsRefusal
+            (enroll_answer name.now class self.old.most_types self.old.types)) }
+        ensures absent { IfErr result (λ e. e ≡ OutOfMemory
+            → is_enrolled name.now self.old.types ≡ false) }
         ensures unchanged { OnErr result (self.new ≡ self.old) }
     {
         enroll_in(
@@ -214,24 +226,29 @@ impl Table {
         set_live(&mut self.types, place, count - 1);
     }
 
-    /// The number of a source file: a known file keeps its number, also where the table is full; a new one gets the next.
+    /// The number of a source file: a known file keeps its number, also where the table is full; a
+    /// new one gets the next.
     ///
     /// # Errors
-    /// In this order: `BadName` where the text is no file name; `FilesFull` where it is new and no number is left;
-    /// `OutOfMemory`, only where it is new.
+    /// In this order: `BadName` where the text is no file name; `FilesFull` where it is new and no
+    /// number is left; `OutOfMemory`, only where it is new.
     pub fn file(&mut self, name: &str) -> Result<FileNo, Fault>
-        ensures ok { IfOk result (λ f. file_answer name.now self.old.most_files self.old.files ≡ Ok f.0) }
+        ensures ok { IfOk result (λ f. file_answer name.now self.old.most_files self.old.files
+            ≡ Ok f.0) }
         ensures number { IfOk result (λ f. f.0 ≡ file_number name.now self.old.files) }
         ensures given { IfOk result (λ f. IsGiven self.new.files f.0) }
         ensures entered { OnOk result (self.new ≡ with_file self.old name.now) }
-        ensures err { IfErr result (IsRefusal (file_answer name.now self.old.most_files self.old.files)) }
-        ensures absent { IfErr result (λ e. e ≡ OutOfMemory → is_known_file name.now self.old.files ≡ false) }
+        ensures err { IfErr result (IsRefusal
+            (file_answer name.now self.old.most_files self.old.files)) }
+        ensures absent { IfErr result (λ e. e ≡ OutOfMemory
+            → is_known_file name.now self.old.files ≡ false) }
         ensures unchanged { OnErr result (self.new ≡ self.old) }
     {
         file_in(self.alloc, &mut self.files, self.most_files, name)
     }
 
-    /// Blesses a pair of names: their types may be taken in either order. The names needn't be enrolled.
+    /// Blesses a pair of names: their types may be taken in either order. The names needn't be
+    /// enrolled.
     ///
     /// # Errors
     /// In this order: `BadName` where one of them is no name; `OutOfMemory`.

@@ -1,6 +1,8 @@
 //! Types by name, in order of first appearance.
 
-ghost use Rattle.std.specs.Prelude.{◌≡◌, ◌≤◌, ◌<◌, ◌+◌, ◌++◌, [], ◌∷◌, true, false, length, is_some, slice_set, slice_index, IfSome, IfNone, IfOk, IfErr, OnOk, OnErr, Ok};
+ghost use Rattle.std.specs.Prelude.{◌≡◌, ◌≤◌, ◌<◌, ◌+◌, ◌++◌, [], ◌∷◌, true, false, length};
+ghost use Rattle.std.specs.Prelude.{is_some, slice_set, slice_index, IfSome, IfNone, IfOk, IfErr};
+ghost use Rattle.std.specs.Prelude.{OnOk, OnErr, Ok};
 ghost use Rattle.wit_model.specs.Rules.Names.{is_name};
 ghost use Rattle.wit_model.specs.Rules.Types.{is_enrolled, is_otherwise, type_number, enrolled};
 ghost use Rattle.wit_model.specs.Rules.Numbers.{IsGiven};
@@ -22,7 +24,8 @@ pub struct TypeRow {
     pub live: u32,
 }
 
-/// Enrols a type where its name is new, and gives its number: `Table::enroll` for a name that was tested.
+/// Enrols a type where its name is new, and gives its number: `Table::enroll` for a name that was
+/// tested.
 ///
 /// # Errors
 /// In this order: `ClassMismatch`, `TypesFull`, `OutOfMemory`; the types are then as before.
@@ -36,13 +39,18 @@ pub fn enroll_in(
     requires few { length (types_in types.old.entries) ≤ most }
     requires most { most ≤ 1023 }
     requires good { is_name name.now ≡ true }
-    ensures ok { IfOk result (λ t. enroll_answer name.now class most (types_in types.old.entries) ≡ Ok t.0) }
+    ensures ok { IfOk result (λ t. enroll_answer name.now class most (types_in types.old.entries)
+        ≡ Ok t.0) }
     ensures number { IfOk result (λ t. t.0 ≡ type_number name.now (types_in types.old.entries)) }
     ensures given { IfOk result (λ t. IsGiven (types_in types.new.entries) t.0) }
-    ensures err { IfErr result (IsRefusal (enroll_answer name.now class most (types_in types.old.entries))) }
-    ensures absent { IfErr result (λ e. e ≡ OutOfMemory → is_enrolled name.now (types_in types.old.entries) ≡ false) }
-    ensures types { OnOk result (types_in types.new.entries ≡ enrolled name.now class (types_in types.old.entries)) }
-    ensures live { OnOk result (live_in types.new.entries ≡ live_after name.now (types_in types.old.entries) (live_in types.old.entries)) }
+    ensures err { IfErr result (IsRefusal
+        (enroll_answer name.now class most (types_in types.old.entries))) }
+    ensures absent { IfErr result (λ e. e ≡ OutOfMemory
+        → is_enrolled name.now (types_in types.old.entries) ≡ false) }
+    ensures types { OnOk result (types_in types.new.entries
+        ≡ enrolled name.now class (types_in types.old.entries)) }
+    ensures live { OnOk result (live_in types.new.entries
+        ≡ live_after name.now (types_in types.old.entries) (live_in types.old.entries)) }
     ensures unchanged { OnErr result (types.new.entries ≡ types.old.entries) }
 {
     if is_otherwise(types, name, class) {
@@ -61,10 +69,12 @@ pub fn enroll_in(
 
 /// The place of the type with this name.
 pub fn place_of(types: &IndexMap<String, TypeRow>, name: &str) -> Option<usize>
-    ensures number { IfSome result (λ i. i + 1 ≡ type_number name.now (types_in types.now.entries)) }
+    ensures number { IfSome result
+        (λ i. i + 1 ≡ type_number name.now (types_in types.now.entries)) }
     ensures found { is_some result ≡ is_enrolled name.now (types_in types.now.entries) }
     ensures within { IfSome result (λ i. i < length (types_in types.now.entries)) }
-    ensures next { IfNone result (type_number name.now (types_in types.now.entries) ≡ length (types_in types.now.entries) + 1) }
+    ensures next { IfNone result (type_number name.now (types_in types.now.entries)
+        ≡ length (types_in types.now.entries) + 1) }
 {
     types.get_index_of(name)
 }
@@ -89,7 +99,8 @@ fn add_type(
     class: Class,
 ) -> Result<(), AllocError>
     requires { is_enrolled name.now (types_in types.old.entries) ≡ false }
-    ensures types { OnOk result (types_in types.new.entries ≡ types_in types.old.entries ++ record { name = name.now; class = class } ∷ []) }
+    ensures types { OnOk result (types_in types.new.entries
+        ≡ types_in types.old.entries ++ record { name = name.now; class = class } ∷ []) }
     ensures live { OnOk result (live_in types.new.entries ≡ live_in types.old.entries ++ 0 ∷ []) }
     ensures err { OnErr result (types.new.entries ≡ types.old.entries) }
 {

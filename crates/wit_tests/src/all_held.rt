@@ -1,4 +1,5 @@
-//! A verifier that compares a request with all locks that its seat holds, and what it learns behind them.
+//! A verifier that compares a request with all locks that its seat holds, and what it learns behind
+//! them.
 
 use crate::verifiers::{check, make, take};
 use std::test::Fail;

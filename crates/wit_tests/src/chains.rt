@@ -1,5 +1,5 @@
-//! A lock acquired twice and let go twice, and lists that find no memory. What seats hold behind their calls is told by the cases of
-//! `tests/`.
+//! A lock acquired twice and let go twice, and lists that find no memory. What seats hold behind
+//! their calls is told by the cases of `tests/`.
 
 use linked_list_allocator::LocalHeap;
 use std::test::Fail;
@@ -21,7 +21,8 @@ fn held(lock: u32) -> Instance {
     }
 }
 
-/// Records an acquisition in a list of at most one lock; false where it may not be recorded or finds no room.
+/// Records an acquisition in a list of at most one lock; false where it may not be recorded or
+/// finds no room.
 fn acquire(lists: &mut VecLists, list: u16, taken: Instance) -> bool {
     if list == 0 || list as usize > lists.lists() || lists.len(list) > 1 {
         return false;
@@ -81,7 +82,8 @@ fn is_made_in(heap: &LocalHeap) -> Result<bool, Fault> {
     Ok(lists.push(4, held(1)) && lists.free_chunks() == 3)
 }
 
-// The heap grows by its least block, so that each growth of `new` is the first to be refused at one of the sizes.
+// The heap grows by its least block, so that each growth of `new` is the first to be refused at one
+// of the sizes.
 #[test]
 fn want_of_memory(rt: HostRuntime) -> Result<(), Fail> {
     let mut made = false;

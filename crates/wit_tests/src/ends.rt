@@ -156,7 +156,8 @@ fn lines_and_text(
     Ok((lines, text))
 }
 
-/// Whether a replay fails where the reader does, doesn't look again, and has told of every whole line before that.
+/// Whether a replay fails where the reader does, doesn't look again, and has told of every whole
+/// line before that.
 fn fails_at_look(alloc: Global, trace: &[u8], told: &[u8], look: usize) -> bool {
     let mut input = Drip::new(trace, 1);
     input.fails_at = Some(look);
@@ -184,8 +185,8 @@ fn failing_readers(rt: HostRuntime) -> Result<(), Fail> {
     Ok(())
 }
 
-/// Whether a replay fails where the writer fails or takes no byte, doesn't write again, and has written all bytes before
-/// that.
+/// Whether a replay fails where the writer fails or takes no byte, doesn't write again, and has
+/// written all bytes before that.
 fn fails_at_write(
     alloc: Global,
     trace: &[u8],

@@ -99,8 +99,8 @@ impl Write for Funnel {
     }
 }
 
-/// Takes the bytes of a line at each look, and counts the looks at which another writer's seen bytes aren't
-/// those that are due.
+/// Takes the bytes of a line at each look, and counts the looks at which another writer's seen
+/// bytes aren't those that are due.
 #[derive(Drop)]
 pub struct Watched<'a> {
     /// What hasn't been taken yet.

@@ -16,8 +16,9 @@ lock 2 2
 check 2 1 x n f:6
 "#;
 
-/// How often the reader was looked at while the bytes that were seen weren't those due, how often the writer was flushed,
-/// whether the replay ends as it should, and how much of the trace is left, where a flush fails or not.
+/// How often the reader was looked at while the bytes that were seen weren't those due, how often
+/// the writer was flushed, whether the replay ends as it should, and how much of the trace is left,
+/// where a flush fails or not.
 fn seen(alloc: Global, trace: &[u8], fails: bool) -> (usize, usize, bool, usize) {
     let seen = Cell::new(0);
     let mut input = Watched {

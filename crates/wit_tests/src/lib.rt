@@ -1,6 +1,7 @@
-//! What the cases of `tests/` can't show: libraries that are called as no trace calls them, and replays over readers and writers that fail,
-//! or that show and take few bytes at a time. They stand in a crate of their own, since the tests of a crate prove all of its
-//! functions a second time.
+//! What the cases of `tests/` can't show: libraries that are called as no trace calls them, and
+//! replays over readers and writers that fail, or that show and take few bytes at a time. They
+//! stand in a crate of their own, since the tests of a crate prove all of its functions a second
+//! time.
 #![tactic(auto)]
 
 #[cfg(test)]

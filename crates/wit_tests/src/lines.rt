@@ -1,5 +1,5 @@
-//! Lines of each kind, read and printed again. What is no line, and which bytes and lengths there may be, is told by the cases of
-//! `tests/`.
+//! Lines of each kind, read and printed again. What is no line, and which bytes and lengths there
+//! may be, is told by the cases of `tests/`.
 
 use std::alloc::{AllocError, Global};
 use std::test::Fail;

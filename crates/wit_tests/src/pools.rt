@@ -183,8 +183,8 @@ fn is_made_in(heap: &LocalHeap) -> Result<bool, Fault> {
     Ok(pool.push(4, held(1)) && pool.free_chunks() == 3)
 }
 
-// The heap grows by its least block, so that each growth of `new` is the first to be refused at one of the sizes. What was
-// taken is given back, whether or not the pool was made.
+// The heap grows by its least block, so that each growth of `new` is the first to be refused at one
+// of the sizes. What was taken is given back, whether or not the pool was made.
 #[test]
 fn want_of_memory(rt: HostRuntime) -> Result<(), Fail> {
     let mut made = false;

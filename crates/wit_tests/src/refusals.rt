@@ -1,4 +1,5 @@
-//! Calls that are refused leave a verifier as it was. A trace ends at the first one, so no case of `tests/` shows it.
+//! Calls that are refused leave a verifier as it was. A trace ends at the first one, so no case of
+//! `tests/` shows it.
 
 use crate::verifiers::{asks_for, check, counts_of, has, start, take};
 use std::alloc::Global;
@@ -6,7 +7,8 @@ use std::test::Fail;
 use wit_core::Verifier;
 use wit_model::{Class, Fault, FileNo, LockFlags, LockNo, Mode, SeatNo, Site};
 
-/// A verifier in which seat 1 holds a reader-writer lock, shared, and has made a mutex and a spin lock.
+/// A verifier in which seat 1 holds a reader-writer lock, shared, and has made a mutex and a spin
+/// lock.
 fn shared_lock(alloc: Global) -> Result<Verifier, Fail> {
     let mut verifier = start(alloc, 64, ["A", "B"], ["C", "D"])??;
     verifier.file("f")?;

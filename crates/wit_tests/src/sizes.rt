@@ -15,7 +15,8 @@ fn is_made(alloc: Global, limits: Limits) -> Result<bool, Fail> {
     Ok(lock.is_ok())
 }
 
-/// Verifiers that are dropped give back what they took: together they take more than any machine has.
+/// Verifiers that are dropped give back what they took: together they take more than any machine
+/// has.
 #[test]
 fn verifiers_made_and_dropped(rt: HostRuntime) -> Result<(), Fail> {
     let limits = Limits::new(256, 1023, 1024, 16384, 64).ok_or("limits")?;
@@ -25,7 +26,8 @@ fn verifiers_made_and_dropped(rt: HostRuntime) -> Result<(), Fail> {
     Ok(())
 }
 
-/// A hundred thousand bytes in which a lock that is held is said to be held, again and again, and once that it isn't.
+/// A hundred thousand bytes in which a lock that is held is said to be held, again and again, and
+/// once that it isn't.
 fn assertions(alloc: Global) -> Result<String, AllocError> {
     let mut trace = String::from_str(alloc, HEADER)?;
     trace.push_str("init 1 mtx - \"a\"\ncheck 1 1 x n f:1\nlock 1 1\n")?;

@@ -73,7 +73,8 @@ fn word(alloc: Global, letter: char, number: u16, len: usize) -> Result<String, 
 /// Room for a list as long as a line can be, and for twenty locks.
 const WIDE: &str = "witness-trace 1 seats 1 types 128 locks 20 chunks 4\n";
 
-/// A list that is a line of so many bytes, from 4,073 up. Its first 58 names have 63 bytes, the last one what is left.
+/// A list that is a line of so many bytes, from 4,073 up. Its first 58 names have 63 bytes, the
+/// last one what is left.
 fn long_list(alloc: Global, letter: char, len: usize) -> Result<String, AllocError> {
     let mut line = String::from_str(alloc, "order")?;
     for number in 0..58 {
@@ -87,7 +88,8 @@ fn long_list(alloc: Global, letter: char, len: usize) -> Result<String, AllocErr
     format!(in alloc; "{line} mtx \"{name}\"")
 }
 
-/// Whether a stream that moves so many bytes at a time ends at this bad line, with so many bytes left.
+/// Whether a stream that moves so many bytes at a time ends at this bad line, with so many bytes
+/// left.
 fn ends_at(
     alloc: Global,
     input: &[u8],
@@ -135,8 +137,9 @@ fn put_held(trace: &mut String, alloc: Global, lock: u16) -> Result<(), AllocErr
     trace.push_str(&taken)
 }
 
-/// More than 8,193 bytes, of which as many are written: a seat that takes twenty locks with names as long as they can be, and is
-/// warned of them. At the end stands a line of every byte but a line feed, 16 times over.
+/// More than 8,193 bytes, of which as many are written: a seat that takes twenty locks with names
+/// as long as they can be, and is warned of them. At the end stands a line of every byte but a line
+/// feed, 16 times over.
 fn long_trace(alloc: Global) -> Result<Vec<u8>, AllocError> {
     let mut trace = String::from_str(alloc, WIDE)?;
     for lock in 1..21 {
@@ -165,7 +168,8 @@ fn is_long(alloc: Global, bytes: &[u8]) -> bool {
     }
 }
 
-/// Whether a replay of these bytes, shown and taken so many at a time, leaves evidence of a failure.
+/// Whether a replay of these bytes, shown and taken so many at a time, leaves evidence of a
+/// failure.
 fn blames(alloc: Global, bytes: &[u8], step: usize) -> bool {
     let mut reader = Drip::new(bytes, step);
     let mut writer = Funnel::new(alloc, step);

@@ -1,5 +1,5 @@
-//! What no trace shows of a verifier: a log that is full, lists that no line can spell, and what it tells of itself. Calls and
-//! their answers are cases of `tests/`.
+//! What no trace shows of a verifier: a log that is full, lists that no line can spell, and what it
+//! tells of itself. Calls and their answers are cases of `tests/`.
 
 use std::alloc::{AllocError, Global};
 use std::test::Fail;
@@ -37,7 +37,8 @@ fn list_of(alloc: Global, names: [&str; 2]) -> Result<Vec<(Class, String)>, Allo
     Ok(mutexes)
 }
 
-/// A verifier for two seats and a log of so many entries, with a static list of two mutexes and a blessed pair.
+/// A verifier for two seats and a log of so many entries, with a static list of two mutexes and a
+/// blessed pair.
 pub fn start(
     alloc: Global,
     log: u32,
@@ -167,7 +168,8 @@ fn blessed_pair(rt: HostRuntime) -> Result<(), Fail> {
     Ok(())
 }
 
-/// A verifier in which seat 1 holds a lock of each of two types in their listed order, and seat 2 asks for the first.
+/// A verifier in which seat 1 holds a lock of each of two types in their listed order, and seat 2
+/// asks for the first.
 pub fn asked_and_held(alloc: Global) -> Result<Verifier, Fail> {
     let mut verifier = start(alloc, 64, ["AB", "CDE"], ["AB", "F"])??;
     verifier.file("long.c")?;

@@ -1,5 +1,6 @@
 -- What a verifier's questions tell of its log.
-use Rattle.std.proofs.Common.{◌≡◌, ℕ, ◌+◌, ◌-◌, Bool, true, false, Option, None, Some, refl, ap, sym, ◌∙◌, arith}
+use Rattle.std.proofs.Common.{◌≡◌, ℕ, ◌+◌, ◌-◌, Bool, true, false, Option, None, Some, refl, ap}
+use Rattle.std.proofs.Common.{sym, ◌∙◌, arith}
 use Rattle.std.specs.Option.{option_map}
 use Rattle.std.proofs.lemmas.Bool.{ltb-true, ltb-false}
 use Rattle.wit_model.specs.declared.calls.Request.{Request}
@@ -18,13 +19,16 @@ use Rattle.wit_model.proofs.Histories.Legal.{held_by-state, pending-state, sane_
 module _ (s : Story) (t : ℕ) (seat : is_seat (state_of s) t ≡ true) where
   module _ (l : ℕ) (legal : IsLegal s.start s.files s.history) where
     recorded-is : option_map (λ (i : Instance). i.count) (held_by (state_of s) t l)
-        ≡ option_map (λ (i : Instance). i.count) (if_some (is_held t l s.history) (instance t s.history l))
+        ≡ option_map (λ (i : Instance). i.count)
+        (if_some (is_held t l s.history) (instance t s.history l))
     recorded-is =
         ap (λ o. option_map (λ (i : Instance). i.count) o)
-        (held_by-state s.start s.files s.history t l seat (sane_legal s.start s.files s.history legal))
+        (held_by-state s.start s.files s.history t l seat
+        (sane_legal s.start s.files s.history legal))
 
     -- recursions count from the second acquisition on
-    pub num-some : (n : ℕ) → option_map (λ (i : Instance). i.count) (held_by (state_of s) t l) ≡ Some n
+    pub num-some : (n : ℕ) → option_map (λ (i : Instance). i.count) (held_by (state_of s) t l)
+        ≡ Some n
         → n + 1 ≡ num t l s.history
     num-some n is = go (is_held t l s.history) refl (sym recorded-is ∙ is)
       where
@@ -56,12 +60,15 @@ module _ (s : Story) (t : ℕ) (seat : is_seat (state_of s) t ≡ true) where
       (pending-state s.start s.files s.history t seat)
 
 pub mode-some : (p : Option Request) (l : LockNo) (mode : Mode)
-    → ◌≡◌ {A = Option (LockNo × Mode)} (Some (l, mode)) (option_map (λ (q : Request). (q.lock, q.mode)) p)
+    → ◌≡◌ {A = Option (LockNo × Mode)} (Some (l, mode))
+    (option_map (λ (q : Request). (q.lock, q.mode)) p)
     → mode ≡ mode_asked (stage_asked p)
 mode-some None l mode is = (cc)
-mode-some (Some q) l mode is = let same : ◌≡◌ {A = LockNo × Mode} (l, mode) (q.lock, q.mode) = cc in ap (λ (x : LockNo × Mode). x.1) same
+mode-some (Some q) l mode is = let same : ◌≡◌ {A = LockNo × Mode} (l, mode) (q.lock, q.mode) =
+    cc in ap (λ (x : LockNo × Mode). x.1) same
 
 pub mode-none : (p : Option Request)
-    → ◌≡◌ {A = Option (LockNo × Mode)} None (option_map (λ (q : Request). (q.lock, q.mode)) p) → Exclusive ≡ mode_asked (stage_asked p)
+    → ◌≡◌ {A = Option (LockNo × Mode)} None (option_map (λ (q : Request). (q.lock, q.mode)) p)
+    → Exclusive ≡ mode_asked (stage_asked p)
 mode-none None is = refl
 mode-none (Some q) is = (cc)

@@ -1,10 +1,14 @@
 -- What the locks weigh: a line that is migrated makes a lock, or gives a share, or neither.
-use Rattle.std.proofs.Common.{◌≡◌, ℕ, ◌+◌, ◌-◌, ◌<◌, ◌≤◌, max, Bool, true, false, cond, ◌==◌, nat_lt, nat_le, List, [], ◌∷◌, ◌++◌, length, get_or, set, sum_by, unwrap_or, Option, None, Some, Result, Ok, Err, refl, sym, subst, inl, inr, arith}
+use Rattle.std.proofs.Common.{◌≡◌, ℕ, ◌+◌, ◌-◌, ◌<◌, ◌≤◌, max, Bool, true, false, cond, ◌==◌}
+use Rattle.std.proofs.Common.{nat_lt, nat_le, List, [], ◌∷◌, ◌++◌, length, get_or, set, sum_by}
+use Rattle.std.proofs.Common.{unwrap_or, Option, None, Some, Result, Ok, Err, refl, sym, subst, inl}
+use Rattle.std.proofs.Common.{inr, arith}
 use Rattle.std.proofs.lemmas.Bool.{cases_Bool, and_parts, ltb-true, ltb-false, leb-true}
 use Rattle.std.proofs.lemmas.List.{set_past}
 use Rattle.std.proofs.lemmas.List.Sums.{sum_by-cons, sum_by-set, sum_by_push, get_or-le-sum_by}
 use Rattle.wit_model.specs.declared.calls.Call.{Call}
-use Rattle.wit_model.specs.declared.calls.Call.TheVariants.{Init, Note, NoteTry, Unlock, Upgrade, Downgrade}
+use Rattle.wit_model.specs.declared.calls.Call.TheVariants.{Init, Note, NoteTry, Unlock, Upgrade}
+use Rattle.wit_model.specs.declared.calls.Call.TheVariants.{Downgrade}
 use Rattle.wit_model.specs.declared.calls.Entry.{Entry}
 use Rattle.wit_model.specs.declared.calls.Reply.{Reply}
 use Rattle.wit_model.specs.declared.faults.Fault.{Fault}
@@ -22,15 +26,19 @@ use Rattle.wit_model.specs.Rules.Numbers.{is_given, with_changed}
 use Rattle.wit_model.specs.Rules.Sizes.{Sizes, sizes_of, are_within_limits}
 use Rattle.wit_model.specs.Rules.State.{Story}
 use Rattle.wit_model.specs.Rules.Step.{answer_of, grown, is_logged}
-use Rattle.wit_model.specs.Trace.Moving.{Moving, Unmoved, Keeping, Moved, MovingOutcome, Goes, Bad, step_line, answered, answered_at, line_alone, moves, keeps, moving_outcome}
+use Rattle.wit_model.specs.Trace.Moving.{Moving, Unmoved, Keeping, Moved, MovingOutcome, Goes, Bad}
+use Rattle.wit_model.specs.Trace.Moving.{step_line, answered, answered_at, line_alone, moves, keeps}
+use Rattle.wit_model.specs.Trace.Moving.{moving_outcome}
 use Rattle.wit_model.specs.Trace.Moving.{moving_entered, moving_read_as}
 use Rattle.wit_model.specs.Trace.Output.{LineCall, Logs, LogsAt, call_of, calls, empty_prelude}
 use Rattle.wit_model.specs.Trace.Output as output
 use Rattle.wit_model.specs.Trace.Reading.{line_of}
 use Rattle.wit_model.specs.Trace.Spelling.{spelling}
 use Rattle.wit_model.specs.World.Deeds.{RawDown}
-use Rattle.wit_model.specs.World.Moving.{LockStep, is_free_beside, is_kept, raw_beside, raw_moved, stage_asked, step_before, step_behind}
-use Rattle.wit_model.specs.World.Scenes.{RawLock, deed_of, got, turned, is_free, nobodys, one_fewer, one_more, raw_after, raw_of, shares_among, shares_of}
+use Rattle.wit_model.specs.World.Moving.{LockStep, is_free_beside, is_kept, raw_beside, raw_moved}
+use Rattle.wit_model.specs.World.Moving.{stage_asked, step_before, step_behind}
+use Rattle.wit_model.specs.World.Scenes.{RawLock, deed_of, got, turned, is_free, nobodys, one_fewer}
+use Rattle.wit_model.specs.World.Scenes.{one_more, raw_after, raw_of, shares_among, shares_of}
 use Rattle.wit_model.specs.World.Stages.{Stage}
 use Rattle.wit_model.proofs.Numbered.{with_number-none, with_number-or}
 use Rattle.wit_trace.specs.Migrates.{Writes, lock_weight, weighed, weight}
@@ -69,7 +77,8 @@ fewer-le t (x ∷ xs) = by (x.0 == t) (nat_lt 1 x.1) (fewer-le t xs)
         → counts (cond b (cond c ((t, x.1 - 1) ∷ xs) xs) (x ∷ one_fewer t xs)) ≤ counts (x ∷ xs)
     by true true rest = omega (arith, sum_by-cons count (t, x.1 - 1) xs, sum_by-cons count x xs)
     by true false rest = omega (arith, sum_by-cons count x xs)
-    by false c rest = omega (arith, rest, sum_by-cons count x (one_fewer t xs), sum_by-cons count x xs)
+    by false c rest =
+        omega (arith, rest, sum_by-cons count x (one_fewer t xs), sum_by-cons count x xs)
 
 -- ---- all locks
 
@@ -82,12 +91,20 @@ shares-le raw t l =
     elim (cases_Bool (is_given raw l)) [
       | inl given ↦
           let low = ltb-true 0 l (and_parts (nat_lt 0 l) (nat_le l (length raw)) given).0 in
-          let high = leb-true l (length raw) (and_parts (nat_lt 0 l) (nat_le l (length raw)) given).1 in
+          let high =
+          leb-true l (length raw) (and_parts (nat_lt 0 l) (nat_le l (length raw)) given).1 in
           let k = get_or raw (l - 1) nobodys in
-          subst (λ j. shares_among t j.holders ≤ weight raw) (sym (with_number-or raw l nobodys low))
-          (omega (arith, among-le t k.holders, get_or-le-sum_by lock_weight raw (l - 1) nobodys (omega (arith, low, high))))
+          subst (λ j. shares_among t j.holders ≤ weight raw)
+          (sym (with_number-or raw l nobodys low))
+          (omega (
+            arith,
+            among-le t k.holders,
+            get_or-le-sum_by lock_weight raw (l - 1) nobodys
+                (omega (arith, low, high)),
+          ))
       | inr none ↦
-          subst (λ o. shares_among t (unwrap_or o nobodys).holders ≤ weight raw) (sym (with_number-none raw l none))
+          subst (λ o. shares_among t (unwrap_or o nobodys).holders ≤ weight raw)
+          (sym (with_number-none raw l none))
           (omega arith)
     ]
 
@@ -101,7 +118,9 @@ changed-le raw l k more = by (nat_lt 0 l) refl
         → weight (set raw (l - 1) k) ≤ weight raw + 1
     set-le low true is =
         let within = ltb-true (l - 1) (length raw) is in
-        let here = subst (λ j. lock_weight k ≤ lock_weight j + 1) (with_number-or raw l nobodys low) more in
+        let here =
+        subst (λ j. lock_weight k ≤ lock_weight j + 1)
+        (with_number-or raw l nobodys low) more in
         omega (arith, here, sum_by-set lock_weight raw (l - 1) k nobodys within)
     set-le low false is =
         let past = ltb-false (l - 1) (length raw) is in
@@ -177,14 +196,17 @@ abbrev WeighsOne : ℕ → MovingOutcome → Type 0
 WeighsOne w (Goes q lines) = weighed q ≤ w + 1
 WeighsOne w (Bad cause) = Unit {0}
 
-answered_weighs : (s : Story) (raw : List RawLock) (m : ℕ) (bytes : List ℕ) (t : ℕ) (call : Call) (a : Result Reply Fault)
+answered_weighs : (s : Story) (raw : List RawLock) (m : ℕ) (bytes : List ℕ) (t : ℕ) (call : Call)
+    (a : Result Reply Fault)
     → WeighsOne (weight raw) (answered s raw m bytes t call a)
 answered_weighs s raw m bytes t call (Err fault) = tt
-answered_weighs s raw m bytes t call (Ok r) = go (is_free_beside s.history raw t (step_before s.history t call))
+answered_weighs s raw m bytes t call (Ok r) =
+    go (is_free_beside s.history raw t (step_before s.history t call))
   where
     go : (b : Bool) → WeighsOne (weight raw)
         (cond b (Goes (Moved (grown s t call r) (raw_moved s.history raw t call r) m)
-        (step_line t (step_before s.history t call) ++ bytes ∷ step_line t (step_behind s.history raw t call)))
+        (step_line t (step_before s.history t call) ++ bytes ∷ step_line t
+        (step_behind s.history raw t call)))
         (Bad (why.Fault RawNotFree)))
     go true = moved-le s.history raw t call r
     go false = tt
@@ -206,7 +228,8 @@ alone_weighs raw bytes (output.Bad cause) = tt
 moves_weighs : (s : Story) (raw : List RawLock) (m : ℕ) (bytes : List ℕ) (c : LineCall)
     → WeighsOne (weight raw) (moves s raw m bytes c)
 moves_weighs s raw m bytes (Logs t call) = answered_weighs s raw m bytes t call (answer_of s t call)
-moves_weighs s raw m bytes (LogsAt t file call) = at_weighs s raw m bytes t call file (naming_answer s file)
+moves_weighs s raw m bytes (LogsAt t file call) =
+    at_weighs s raw m bytes t call file (naming_answer s file)
 moves_weighs s raw m bytes c = alone_weighs raw bytes (calls s m c)
 
 keeps_weighs : (kept : List (List ℕ)) (line : List ℕ) (o : output.Outcome)
@@ -216,20 +239,24 @@ keeps_weighs kept line (output.Goes p text) = tt
 keeps_weighs kept line (output.Bad cause) = tt
 
 header_weighs : (sizes : Sizes) (line : List ℕ) (fits : Bool)
-    → WeighsOne 0 (cond fits (Goes (Keeping (empty_prelude One sizes) []) (line ∷ [])) (Bad why.Limit))
+    → WeighsOne 0 (cond fits (Goes (Keeping (empty_prelude One sizes) []) (line ∷ []))
+    (Bad why.Limit))
 header_weighs sizes line true = omega arith
 header_weighs sizes line false = tt
 
 entered_weighs : (m : Moving) (n : ℕ) (bytes : List ℕ) (line : Line)
     → WeighsOne (weighed m) (moving_entered m n bytes line)
 entered_weighs Unmoved n bytes (Header One s t l c) =
-    header_weighs (sizes_of s t l c output.log_limit) (spelling (Header Two s t l c)) (are_within_limits (sizes_of s t l c output.log_limit))
+    header_weighs (sizes_of s t l c output.log_limit) (spelling (Header Two s t l c))
+    (are_within_limits (sizes_of s t l c output.log_limit))
 entered_weighs Unmoved n bytes (Header Two s t l c) = tt
 entered_weighs Unmoved n bytes _ = tt
-entered_weighs (Keeping p kept) n bytes line = keeps_weighs kept bytes (output.entered (output.Opening p) n line)
+entered_weighs (Keeping p kept) n bytes line =
+    keeps_weighs kept bytes (output.entered (output.Opening p) n line)
 entered_weighs (Moved s raw m) n bytes line = moves_weighs s raw m bytes (call_of line)
 
-outcome_weighs : (m : Moving) (n : ℕ) (bytes : List ℕ) → WeighsOne (weighed m) (moving_outcome m n bytes)
+outcome_weighs : (m : Moving) (n : ℕ) (bytes : List ℕ)
+    → WeighsOne (weighed m) (moving_outcome m n bytes)
 outcome_weighs m n bytes = go (nat_lt 4096 (length bytes)) (line_of bytes)
   where
     go : (long : Bool) (o : Option Line)
@@ -241,11 +268,14 @@ outcome_weighs m n bytes = go (nat_lt 4096 (length bytes)) (line_of bytes)
 pub written_weighs : (m new : Moving) (n : ℕ) (bytes text : List ℕ)
     → Writes (moving_outcome m n bytes) new text
     → weighed new ≤ weighed m + 1
-written_weighs m new n bytes text w = subst (WeighsOne (weighed m)) w.goes (outcome_weighs m n bytes)
+written_weighs m new n bytes text w =
+    subst (WeighsOne (weighed m)) w.goes (outcome_weighs m n bytes)
 
-pub moved_weighs : (s : Story) (raw : List RawLock) (m : ℕ) (new : Moving) (bytes text : List ℕ) (c : LineCall)
+pub moved_weighs : (s : Story) (raw : List RawLock) (m : ℕ) (new : Moving) (bytes text : List ℕ)
+    (c : LineCall)
     → Writes (moves s raw m bytes c) new text → weighed new ≤ weight raw + 1
-moved_weighs s raw m new bytes text c w = subst (WeighsOne (weight raw)) w.goes (moves_weighs s raw m bytes c)
+moved_weighs s raw m new bytes text c w =
+    subst (WeighsOne (weight raw)) w.goes (moves_weighs s raw m bytes c)
 
 -- neither count is raised by more than one
 pub both_one : (a b c d : ℕ) → c ≤ a + 1 → d ≤ b + 1 → max c d ≤ max a b + 1

@@ -6,7 +6,8 @@ use Rattle.wit_model.specs.Rules.Files.{NamesFile}
 use Rattle.wit_model.specs.Rules.State.{Story}
 use Rattle.wit_model.specs.Trace.LineCalls as model
 use Rattle.wit_trace.specs.declared.replaying.line_calls.LineCall.{LineCall}
-use Rattle.wit_trace.specs.declared.replaying.line_calls.LineCall.TheVariants.{Logs, Asserts, Warns, Steps, NoCall}
+use Rattle.wit_trace.specs.declared.replaying.line_calls.LineCall.TheVariants.{Logs, Asserts, Warns}
+use Rattle.wit_trace.specs.declared.replaying.line_calls.LineCall.TheVariants.{Steps, NoCall}
 
 -- what the model calls it
 abbrev pub as_call : LineCall → model.LineCall

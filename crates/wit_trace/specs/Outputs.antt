@@ -12,20 +12,31 @@ use Rattle.wit_trace.specs.Replays.{IsWritten}
 use Rattle.wit_trace.specs.declared.summary.Summary.{Summary}
 
 -- what a view shows of a story
-abbrev pub some_view : (view : View) (s : Story) → (text : List ℕ) × ((circle : Bool) × output.IsViewOf view s text circle)
+abbrev pub some_view : (view : View) (s : Story) → (text : List ℕ)
+    × ((circle : Bool) × output.IsViewOf view s text circle)
 some_view Reports s = ([], (false, (refl, refl)))
 some_view Graph s = (graph_text s, (false, (refl, refl)))
 some_view Locks s = (all_locks_text s, (false, (refl, refl)))
-some_view Circle s = let told = circle_told (state_of s) in (circle_text (state_of s) told.0, (is_some told.0, (told.0, told.1, refl, refl)))
+some_view Circle s = let told =
+    circle_told (state_of s) in (
+      circle_text (state_of s) told.0,
+      (is_some told.0, (told.0, told.1, refl, refl)),
+    )
 
 -- what it shows of a scene
-abbrev pub some_view_in : (view : View) (s : Scene) → (text : List ℕ) × ((circle : Bool) × output.IsViewIn view s text circle)
+abbrev pub some_view_in : (view : View) (s : Scene) → (text : List ℕ)
+    × ((circle : Bool) × output.IsViewIn view s text circle)
 some_view_in Reports s = some_view Reports s.story
 some_view_in Graph s = some_view Graph s.story
 some_view_in Locks s = some_view Locks s.story
-some_view_in Circle s = let told = scene_circle_told s in (circle_text (state_of s.story) told.0, (is_some told.0, (told.0, told.1, refl, refl)))
+some_view_in Circle s = let told =
+    scene_circle_told s in (
+      circle_text (state_of s.story) told.0,
+      (is_some told.0, (told.0, told.1, refl, refl)),
+    )
 
-abbrev pub some_last : (view : View) (ending : output.Ending) → (text : List ℕ) × ((circle : Bool) × output.IsLast view ending text circle)
+abbrev pub some_last : (view : View) (ending : output.Ending) → (text : List ℕ)
+    × ((circle : Bool) × output.IsLast view ending text circle)
 some_last view (output.AllRead s m) = some_view view s
 some_last view (output.AllStepped s m) = some_view_in view s
 some_last view (output.EndsBad p bad) = (output.bad_text bad.0 bad.1, (false, (refl, refl)))
@@ -34,8 +45,18 @@ some_last view (output.EndsBad p bad) = (output.bad_text bad.0 bad.1, (false, (r
 abbrev pub summary_of : output.Total → Bool → Summary
 summary_of t circle = record { calls = t.calls; reports = t.reports; circle = circle; bad = t.bad }
 
-abbrev pub some_output : (view : View) (p : output.Progress) (n : ℕ) (lines : List (List ℕ)) (tail : List ℕ) → (text : List ℕ) × ((summary : Summary) × IsWritten view (output.course_from p n lines tail) text summary)
+abbrev pub some_output : (view : View) (p : output.Progress) (n : ℕ) (lines : List (List ℕ))
+    (tail : List ℕ) → (text : List ℕ)
+    × ((summary : Summary) × IsWritten view (output.course_from p n lines tail) text summary)
 some_output view p n lines tail =
     let c = output.course_from p n lines tail in
-    let last = some_last view c.ending in
-    (output.shown_by view c.text ++ last.0, (summary_of (output.total_of c.ending) last.1.0, record { is_shown = record { last = last.0; parts = refl; ends = last.1.1 }; summed = refl }))
+    let last = some_last view c.ending in (
+      output.shown_by view c.text ++ last.0,
+      (
+        summary_of (output.total_of c.ending) last.1.0,
+        record {
+          is_shown = record { last = last.0; parts = refl; ends = last.1.1 };
+          summed = refl;
+        },
+      ),
+    )

@@ -1,5 +1,6 @@
 -- What a replay of a trace writes and sums up.
-use Rattle.std.specs.Prelude.{Bool, not, ◌||◌, ℕ, ◌≡◌, List, Option, None, Some, Result, Ok, Err, false, unwrap_or}
+use Rattle.std.specs.Prelude.{Bool, not, ◌||◌, ℕ, ◌≡◌, List, Option, None, Some, Result, Ok, Err}
+use Rattle.std.specs.Prelude.{false, unwrap_or}
 use Rattle.std.specs.Global.{Vec}
 use Rattle.wit_model.specs.declared.calls.Reply.{Reply}
 use Rattle.wit_model.specs.declared.lines.Cause.{Cause}
@@ -16,7 +17,8 @@ use Rattle.wit_trace.specs.Text.{text_of}
 use Rattle.wit_trace.specs.declared.replaying.prelude.Prelude.{Prelude}
 use Rattle.wit_trace.specs.declared.replaying.Replaying.{Replaying}
 use Rattle.wit_trace.specs.declared.replaying.Progress.{Progress}
-use Rattle.wit_trace.specs.declared.replaying.Progress.TheVariants.{Unstarted, Opening, Reading, Stepping}
+use Rattle.wit_trace.specs.declared.replaying.Progress.TheVariants.{Unstarted, Opening, Reading}
+use Rattle.wit_trace.specs.declared.replaying.Progress.TheVariants.{Stepping}
 use Rattle.wit_trace.specs.declared.stream.machine.Step.{Step}
 use Rattle.wit_trace.specs.declared.stream.machine.Step.TheVariants as step
 use Rattle.wit_trace.specs.declared.summary.Summary.{Summary}
@@ -48,13 +50,16 @@ abbrev pub total : Summary → output.Total
 total s = record { calls = s.calls; reports = s.reports; bad = s.bad }
 
 -- the text is one that the view shows of the reading, and the summary sums it up
-pub record IsWritten (view : View) (c : output.Course) (bytes : List ℕ) (summary : Summary) : Type 0 where
+pub record IsWritten (view : View) (c : output.Course) (bytes : List ℕ)
+    (summary : Summary) : Type 0 where
   pub is_shown : output.IsShown view c bytes summary.circle
   pub summed : total summary ≡ output.total_of c.ending
 
 -- what the view shows of the rest of a trace, of which the first line has this number
 abbrev pub ShowsFrom : View → output.Progress → ℕ → List ℕ → List ℕ → Summary → Type 0
-ShowsFrom view p number input text summary = IsWritten view (output.course_from p number (text_of input).lines (text_of input).tail) text summary
+ShowsFrom view p number input text summary =
+    IsWritten view (output.course_from p number (text_of input).lines (text_of input).tail) text
+    summary
 
 -- what the view shows of a trace
 abbrev pub ShowsTrace : View → List ℕ → List ℕ → Summary → Type 0
@@ -84,14 +89,18 @@ FailsFor due old new Memory = Unit {0}
 FailsFor due old new (Bad cause) = IsBadFor due old new cause
 
 -- what became of a line is what should become of it
-abbrev pub GoesAsDue : output.Outcome → output.Progress → output.Progress → Result (Vec ℕ) LineError → Type 0
+abbrev pub GoesAsDue : output.Outcome → output.Progress → output.Progress
+    → Result (Vec ℕ) LineError → Type 0
 GoesAsDue due old new (Ok told) = GoesOnWith due new told.items
 GoesAsDue due old new (Err e) = FailsFor due old new e
 
--- the reply to a line's call leads to what should become of the line, however many failed assertions and warnings were told before
+-- the reply to a line's call leads to what should become of the line, however many failed
+-- assertions and warnings were told before
 abbrev pub Calls : (ℕ → output.Outcome) → Story → Story → Result Reply LineError → Type 0
-Calls due old new (Ok reply) = (n : ℕ) → due n ≡ output.Goes (output.Reading new n) (output.reply_text new reply)
-Calls due old new (Err e) = (n : ℕ) → FailsFor (due n) (output.Reading old n) (output.Reading new n) e
+Calls due old new (Ok reply) =
+    (n : ℕ) → due n ≡ output.Goes (output.Reading new n) (output.reply_text new reply)
+Calls due old new (Err e) =
+    (n : ℕ) → FailsFor (due n) (output.Reading old n) (output.Reading new n) e
 
 -- what is told of a line whose call isn't logged: it counts where it says something
 abbrev pub Remarks : Story → (ℕ → output.Outcome) → Result (Vec ℕ) LineError → Type 0
@@ -107,11 +116,13 @@ GoesWith told (step.Ends text summary) = ⊥
 abbrev pub EndsFor : View → output.Progress → ℕ → LineError → Step → Type 0
 EndsFor view p number Memory s = ⊥
 EndsFor view p number (Bad cause) (step.Goes text) = ⊥
-EndsFor view p number (Bad cause) (step.Ends text summary) = IsWritten view (output.ends_bad p (number, cause)) text.items summary
+EndsFor view p number (Bad cause) (step.Ends text summary) =
+    IsWritten view (output.ends_bad p (number, cause)) text.items summary
 
 -- what a replay that is so far may write and sum up
 abbrev pub allowed_at : View → Progress → ℕ → List (List ℕ) → List ℕ → List ℕ → Summary → Type 0
-allowed_at view p number lines tail text summary = IsWritten view (output.course_from (progress_of p) number lines tail) text summary
+allowed_at view p number lines tail text summary =
+    IsWritten view (output.course_from (progress_of p) number lines tail) text summary
 
 -- what a replay in progress may
 abbrev pub allowed : View → Replaying → ℕ → List (List ℕ) → List ℕ → List ℕ → Summary → Type 0
@@ -129,7 +140,9 @@ IsVerifierOf p due (Err bad) =
     (refused : ℕ × Fault) × (due ≡ Some refused)
     × (bad ≡ (unwrap_or (with_number p.lines refused.0) 0, why.Fault refused.1))
 
--- the reading came to where it should stand, or to the refusal of a list, which changes nothing of what is summed up
-abbrev pub StandsAsDue : Result output.Progress output.BadLine → output.Progress → output.Progress → Option (ℕ × Cause) → Type 0
+-- the reading came to where it should stand, or to the refusal of a list, which changes nothing of
+-- what is summed up
+abbrev pub StandsAsDue : Result output.Progress output.BadLine → output.Progress → output.Progress
+    → Option (ℕ × Cause) → Type 0
 StandsAsDue due old new None = due ≡ Ok new
 StandsAsDue due old new (Some bad) = (due ≡ Err bad) × KeepsTotal old new

@@ -1,5 +1,6 @@
 -- What is read and written by a stream of lines.
-use Rattle.std.specs.Prelude.{◌≡◌, Bool, true, false, ℕ, ◌+◌, ◌-◌, ◌^◌, ◌<◌, ◌≤◌, ◌⊎◌, List, [], ◌∷◌, ◌++◌, length, take, Option, None, Some}
+use Rattle.std.specs.Prelude.{◌≡◌, Bool, true, false, ℕ, ◌+◌, ◌-◌, ◌^◌, ◌<◌, ◌≤◌, ◌⊎◌, List, []}
+use Rattle.std.specs.Prelude.{◌∷◌, ◌++◌, length, take, Option, None, Some}
 use Rattle.std.specs.Io.KnownBytes.{Appends, Consumes}
 use Rattle.wit_trace.specs.Text.{text_of, HasNoFeed, IsWholeLines, IsLine, feeds}
 use Rattle.wit_trace.specs.declared.stream.machine.Step.{Step}
@@ -23,16 +24,23 @@ abbrev pub IsInput : Option (List ℕ) → List ℕ → Type 0
 IsInput None input = Unit
 IsInput (Some bytes) input = bytes ≡ input
 
--- the texts and summaries that a machine allows for the bytes, of which the first line has this number
-abbrev pub OutputFrom : {M : Type 0} → (M → ℕ → List (List ℕ) → List ℕ → List ℕ → Summary → Type 0) → M → ℕ → List ℕ → List ℕ → Summary → Type 0
-OutputFrom allows m number input text summary = allows m number (text_of input).lines (text_of input).tail text summary
+-- the texts and summaries that a machine allows for the bytes, of which the first line has this
+-- number
+abbrev pub OutputFrom : {M : Type 0} → (M → ℕ → List (List ℕ) → List ℕ → List ℕ → Summary → Type 0)
+    → M → ℕ → List ℕ → List ℕ → Summary → Type 0
+OutputFrom allows m number input text summary =
+    allows m number (text_of input).lines (text_of input).tail text summary
 
--- the reading goes on behind these whole lines, whose texts are this text: whatever comes behind them, what is an output of that from this place on is, behind the text, an output of all
-pub record ReadingGoesOn {P : Type 0} (output : P → ℕ → List ℕ → List ℕ → Summary → Type 0) (start : P) (lines text : List ℕ) : Type 0 where
+-- the reading goes on behind these whole lines, whose texts are this text: whatever comes behind
+-- them, what is an output of that from this place on is, behind the text, an output of all
+pub record ReadingGoesOn {P : Type 0} (output : P → ℕ → List ℕ → List ℕ → Summary
+    → Type 0) (start : P) (lines text : List ℕ) : Type 0 where
   pub at : P
-  pub on : (more rest : List ℕ) (summary : Summary) → output at (feeds lines + 1) more rest summary → output start 1 (lines ++ more) (text ++ rest) summary
+  pub on : (more rest : List ℕ) (summary : Summary) → output at (feeds lines + 1) more rest summary
+      → output start 1 (lines ++ more) (text ++ rest) summary
 
--- a last text and summary, for what was taken and anything behind it: that was all, or they are these whatever comes
+-- a last text and summary, for what was taken and anything behind it: that was all, or they are
+-- these whatever comes
 abbrev pub IsLastText : Type 0 → (List ℕ → Type 0) → Type 0
 IsLastText all output = (all × output []) ⊎ ((more : List ℕ) → output more)
 
@@ -46,28 +54,39 @@ pub record TakesPart (old new : Option (List ℕ)) (line line' : List ℕ) : Typ
   pub short : length line' ≤ LONGEST
 
 -- a look took the rest of a line, of which this text is told
-pub record TakesLine {M : Type 0} (output : M → ℕ → List ℕ → List ℕ → Summary → Type 0) (before after : M) (number : ℕ) (old new : Option (List ℕ)) (line line' text : List ℕ) : Type 0 where
+pub record TakesLine {M : Type 0} (output : M → ℕ → List ℕ → List ℕ → Summary
+    → Type 0) (before after : M) (number : ℕ) (old new : Option (List ℕ))
+    (line line' text : List ℕ) : Type 0 where
   pub rest : List ℕ
   pub taken : Consumes old new (rest ++ 10 ∷ [])
   pub plain : HasNoFeed rest
   pub none : line' ≡ []
-  pub told : (input more : List ℕ) (summary : Summary) → output after (number + 1) input more summary → output before number ((line ++ rest) ++ 10 ∷ input) (text ++ more) summary
+  pub told : (input more : List ℕ) (summary : Summary)
+      → output after (number + 1) input more summary
+      → output before number ((line ++ rest) ++ 10 ∷ input) (text ++ more) summary
 
 -- a look took what is left of the last line, or its beginning where it is too long
-pub record TakesLast {M : Type 0} (output : M → ℕ → List ℕ → List ℕ → Summary → Type 0) (before : M) (number : ℕ) (old new : Option (List ℕ)) (line text : List ℕ) (summary : Summary) : Type 0 where
+pub record TakesLast {M : Type 0} (output : M → ℕ → List ℕ → List ℕ → Summary → Type 0) (before : M)
+    (number : ℕ) (old new : Option (List ℕ)) (line text : List ℕ) (summary : Summary) : Type 0 where
   pub rest : List ℕ
   pub taken : Consumes old new rest
   pub one : IsLine (line ++ rest)
-  pub last : IsLastText (IsInput old rest) (λ more. output before number ((line ++ rest) ++ more) text summary)
+  pub last : IsLastText (IsInput old rest)
+      (λ more. output before number ((line ++ rest) ++ more) text summary)
 
 -- what a look took behind the line begun, and what follows
-abbrev pub Advances : {M : Type 0} → (M → ℕ → List ℕ → List ℕ → Summary → Type 0) → M → M → ℕ → Option (List ℕ) → Option (List ℕ) → List ℕ → List ℕ → Option Step → Type 0
-Advances output before after number old new line line' None = TakesPart old new line line' × (after ≡ before)
-Advances output before after number old new line line' (Some (Goes text)) = TakesLine output before after number old new line line' text.items
-Advances output before after number old new line line' (Some (Ends text summary)) = TakesLast output before number old new line text.items summary
+abbrev pub Advances : {M : Type 0} → (M → ℕ → List ℕ → List ℕ → Summary → Type 0) → M → M → ℕ
+    → Option (List ℕ) → Option (List ℕ) → List ℕ → List ℕ → Option Step → Type 0
+Advances output before after number old new line line' None =
+    TakesPart old new line line' × (after ≡ before)
+Advances output before after number old new line line' (Some (Goes text)) =
+    TakesLine output before after number old new line line' text.items
+Advances output before after number old new line line' (Some (Ends text summary)) =
+    TakesLast output before number old new line text.items summary
 
 -- a text was written that is an output of the input, with the summary
-pub record WritesOutput (output : List ℕ → List ℕ → Summary → Type 0) (read written_old written_new : Option (List ℕ)) (summary : Summary) : Type 0 where
+pub record WritesOutput (output : List ℕ → List ℕ → Summary → Type 0)
+    (read written_old written_new : Option (List ℕ)) (summary : Summary) : Type 0 where
   pub input : List ℕ
   pub text : List ℕ
   pub is_input : IsInput read input
@@ -75,7 +94,8 @@ pub record WritesOutput (output : List ℕ → List ℕ → Summary → Type 0) 
   pub written : Appends written_old written_new text
 
 -- a beginning was written of a text that is an output of the input, with some summary
-pub record WritesFront (output : List ℕ → List ℕ → Summary → Type 0) (read written_old written_new : Option (List ℕ)) : Type 0 where
+pub record WritesFront (output : List ℕ → List ℕ → Summary → Type 0)
+    (read written_old written_new : Option (List ℕ)) : Type 0 where
   pub input : List ℕ
   pub text : List ℕ
   pub summary : Summary
@@ -83,8 +103,10 @@ pub record WritesFront (output : List ℕ → List ℕ → Summary → Type 0) (
   pub is_output : output input text summary
   pub written : AppendsFront written_old written_new text
 
--- what was taken is whole lines behind which the reading goes on, and the line that ended it, of one that is too long its beginning; what was written is an output whatever may be left
-pub record ReadsToEnd {P : Type 0} (output : P → ℕ → List ℕ → List ℕ → Summary → Type 0) (start : P) (read_old read_new written_old written_new : Option (List ℕ)) (summary : Summary) : Type 0 where
+-- what was taken is whole lines behind which the reading goes on, and the line that ended it, of
+-- one that is too long its beginning; what was written is an output whatever may be left
+pub record ReadsToEnd {P : Type 0} (output : P → ℕ → List ℕ → List ℕ → Summary → Type 0) (start : P)
+    (read_old read_new written_old written_new : Option (List ℕ)) (summary : Summary) : Type 0 where
   pub lines : List ℕ
   pub last : List ℕ
   pub told : List ℕ
@@ -93,11 +115,14 @@ pub record ReadsToEnd {P : Type 0} (output : P → ℕ → List ℕ → List ℕ
   pub goes : ReadingGoesOn output start lines told
   pub one : IsLine last
   pub read : Consumes read_old read_new (lines ++ last)
-  pub is_last : IsLastText (IsInput read_old (lines ++ last)) (λ more. output start 1 (lines ++ (last ++ more)) text summary)
+  pub is_last : IsLastText (IsInput read_old (lines ++ last))
+      (λ more. output start 1 (lines ++ (last ++ more)) text summary)
   pub written : Appends written_old written_new text
 
--- what was taken is whole lines and a line begun, and what was written is the text of these lines, no less
-pub record WritesLines {P : Type 0} (output : P → ℕ → List ℕ → List ℕ → Summary → Type 0) (start : P) (read_old read_new written_old written_new : Option (List ℕ)) : Type 0 where
+-- what was taken is whole lines and a line begun, and what was written is the text of these lines,
+-- no less
+pub record WritesLines {P : Type 0} (output : P → ℕ → List ℕ → List ℕ → Summary → Type 0)
+    (start : P) (read_old read_new written_old written_new : Option (List ℕ)) : Type 0 where
   pub lines : List ℕ
   pub begun : List ℕ
   pub text : List ℕ

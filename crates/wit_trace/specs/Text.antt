@@ -1,5 +1,6 @@
 -- A byte list as lines.
-use Rattle.std.specs.Prelude.{◌≡◌, ◌≢◌, ◌⊎◌, ℕ, ◌+◌, ◌≤◌, List, [], ◌∷◌, ◌++◌, length, All, count_by, ◌==◌, if◌then◌else◌}
+use Rattle.std.specs.Prelude.{◌≡◌, ◌≢◌, ◌⊎◌, ℕ, ◌+◌, ◌≤◌, List, [], ◌∷◌, ◌++◌, length, All}
+use Rattle.std.specs.Prelude.{count_by, ◌==◌, if◌then◌else◌}
 use Rattle.wit_grammar.specs.declared.parse.TheConstants.{LONGEST}
 
 -- whole lines, without their line feeds, and the unfinished one behind them
@@ -19,7 +20,8 @@ with_byte b (line ∷ lines) tail = text ((b ∷ line) ∷ lines) tail
 -- the bytes, parted behind each line feed
 abbrev pub text_of : List ℕ → LinesAndTail
 text_of [] = text [] []
-text_of (b ∷ bytes) = if b == 10 then text ([] ∷ (text_of bytes).lines) (text_of bytes).tail else with_byte b (text_of bytes).lines (text_of bytes).tail
+text_of (b ∷ bytes) = if b == 10 then text ([] ∷ (text_of bytes).lines) (text_of bytes).tail
+    else with_byte b (text_of bytes).lines (text_of bytes).tail
 
 -- no byte is a line feed
 abbrev pub HasNoFeed : List ℕ → Type 0

@@ -6,10 +6,12 @@ ghost use Rattle.wit_trace.specs.Status.{exit_status, is_reported};
 use crate::summary::{ReplayError, Summary};
 use wit_model::View;
 
-/// The exit status where the view shows nothing to act upon: no report of `Reports`, no circle of `Circle`; and of `Graph` and `Locks`.
+/// The exit status where the view shows nothing to act upon: no report of `Reports`, no circle of
+/// `Circle`; and of `Graph` and `Locks`.
 pub const NOTHING_REPORTED: u8 = 0;
 
-/// The exit status where there was a report, failed assertion or warning, of `Reports`, or a circle, of `Circle`.
+/// The exit status where there was a report, failed assertion or warning, of `Reports`, or a
+/// circle, of `Circle`.
 pub const REPORTED: u8 = 1;
 
 /// The exit status where a line of the trace was bad.
@@ -18,8 +20,8 @@ pub const BAD_TRACE: u8 = 3;
 /// The exit status where the input or the output failed, or memory ran out.
 pub const FAILED: u8 = 4;
 
-/// The exit status of a replay: the highest that applies of `NOTHING_REPORTED`, `REPORTED`, `BAD_TRACE`
-/// and `FAILED`.
+/// The exit status of a replay: the highest that applies of `NOTHING_REPORTED`, `REPORTED`,
+/// `BAD_TRACE` and `FAILED`.
 pub fn status_of(view: View, outcome: &Result<Summary, ReplayError>) -> u8
     ensures { result ≡ exit_status view outcome.now }
 {

@@ -11,11 +11,13 @@ use wit_model::Cause;
 pub struct Summary {
     /// The calls that the verifier logged.
     pub calls: u64,
-    /// The reports, failed assertions and warnings of the trace, whether the view shows them or not.
+    /// The reports, failed assertions and warnings of the trace, whether the view shows them or
+    /// not.
     pub reports: u64,
     /// Whether a circle of waiting seats was written.
     pub circle: bool,
-    /// The bad line that ended the reading, counted from 1, and why; where a static list is refused, the list's line.
+    /// The bad line that ended the reading, counted from 1, and why; where a static list is
+    /// refused, the list's line.
     pub bad: Option<(u64, Cause)>,
 }
 

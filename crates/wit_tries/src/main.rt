@@ -1,7 +1,8 @@
-//! Makes the calls of a trace one after the other, and again where one was refused for want of memory: it then tells whether
-//! the verifier shows what it showed before. It reads the file `trace`; `tools/try-growths` refuses each growth in turn.
-//! With the word `prepare` checks and defined orders are prepared first. With the word `release` it goes on from a
-//! refusal by the release of all that is held.
+//! Makes the calls of a trace one after the other, and again where one was refused for want of
+//! memory: it then tells whether the verifier shows what it showed before. It reads the file
+//! `trace`; `tools/try-growths` refuses each growth in turn. With the word `prepare` checks and
+//! defined orders are prepared first. With the word `release` it goes on from a refusal by the
+//! release of all that is held.
 #![tactic(auto)]
 
 mod acts;

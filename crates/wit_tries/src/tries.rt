@@ -130,7 +130,8 @@ impl<W: Write> Tries<W> {
         }
     }
 
-    // Lets go what is held. A seat that asks for a lock gives that up first, since it may release nothing before.
+    // Lets go what is held. A seat that asks for a lock gives that up first, since it may release
+    // nothing before.
     fn release_all(&mut self) {
         for seat in 1..=self.verifier.seats() {
             if let Some((lock, _mode)) = self.verifier.pending(SeatNo(seat)) {

@@ -1,5 +1,6 @@
 -- What comes of a call and of a step, and what of that is known beforehand.
-use Rattle.std.specs.Prelude.{ℕ, ◌<◌, ◌-◌, ◌^◌, ◌≡◌, ◌⊎◌, Bool, true, false, List, Result, Ok, Err, IsOk}
+use Rattle.std.specs.Prelude.{ℕ, ◌<◌, ◌-◌, ◌^◌, ◌≡◌, ◌⊎◌, Bool, true, false, List, Result, Ok, Err}
+use Rattle.std.specs.Prelude.{IsOk}
 use Rattle.wit_model.specs.declared.faults.Fault.{Fault}
 use Rattle.wit_model.specs.declared.faults.Fault.TheVariants.{OutOfMemory}
 use Rattle.wit_model.specs.declared.locks.Mode.{Mode}
@@ -13,14 +14,18 @@ use Rattle.wit_model.specs.Rules.History.{is_held}
 use Rattle.wit_model.specs.Rules.Step.{IsEntered}
 use Rattle.wit_model.specs.World.Deeds.{Deed, Take, TryTake, Free, RawUp, RawDown}
 use Rattle.wit_model.specs.World.Stages.{Stage, Asked}
-use Rattle.wit_model.specs.World.Scenes.{RawLock, Scene, shares_of, answer_in, scene_after, step_raw}
+use Rattle.wit_model.specs.World.Scenes.{RawLock, Scene, shares_of, answer_in, scene_after}
+use Rattle.wit_model.specs.World.Scenes.{step_raw}
 
--- an accepted call gets its reply, and the scene is that after it; a refused one gets its fault, and changes nothing. In place of a reply
--- that the log would keep, a growth may be refused: then too nothing changes
+-- an accepted call gets its reply, and the scene is that after it; a refused one gets its fault,
+-- and changes nothing. In place of a reply that the log would keep, a growth may be refused: then
+-- too nothing changes
 abbrev pub AnswersIn : Scene → ℕ → Call → Result Reply Fault → Scene → Type 0
-AnswersIn old t call (Ok reply) new = (answer_in old t call ≡ Ok reply) × (new ≡ scene_after old t call reply)
+AnswersIn old t call (Ok reply) new =
+    (answer_in old t call ≡ Ok reply) × (new ≡ scene_after old t call reply)
 AnswersIn old t call (Err fault) new =
-    ((answer_in old t call ≡ Err fault) ⊎ ((fault ≡ OutOfMemory) × IsEntered (answer_in old t call))) × (new ≡ old)
+    ((answer_in old t call ≡ Err fault)
+    ⊎ ((fault ≡ OutOfMemory) × IsEntered (answer_in old t call))) × (new ≡ old)
 
 -- whether a thread gets a share by it
 abbrev pub takes_share : RawStep → Bool
@@ -28,12 +33,14 @@ takes_share raw_step.Take = true
 takes_share (raw_step.TryTake mode) = true
 takes_share _ = false
 
--- an accepted step makes the scene that after it; a refused one changes nothing. Only for a share that is had may a growth be refused in
--- its place
+-- an accepted step makes the scene that after it; a refused one changes nothing. Only for a share
+-- that is had may a growth be refused in its place
 abbrev pub StepsTo : {X : Type 0} → Scene → ℕ → ℕ → RawStep → Result X Fault → Scene → Type 0
 StepsTo old t l step (Ok done) new = step_raw old t l step ≡ Ok new
 StepsTo old t l step (Err fault) new =
-    ((step_raw old t l step ≡ Err fault) ⊎ ((fault ≡ OutOfMemory) × (takes_share step ≡ true) × IsOk (step_raw old t l step))) × (new ≡ old)
+    ((step_raw old t l step ≡ Err fault)
+    ⊎ ((fault ≡ OutOfMemory) × (takes_share step ≡ true) × IsOk (step_raw old t l step)))
+    × (new ≡ old)
 
 -- the deed of a step, where it takes the lock in this mode
 abbrev pub deed_in : Mode → ℕ → ℕ → RawStep → Deed

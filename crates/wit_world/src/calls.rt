@@ -1,6 +1,7 @@
 //! The calls of the verifier.
 
-ghost use Rattle.std.specs.Prelude.{◌≡◌, ◌<◌, ◌-◌, ◌^◌, ◌++◌, ◌∷◌, [], nat_lt, true, length, Err, OnOk, IfErr, if◌then◌else◌};
+ghost use Rattle.std.specs.Prelude.{◌≡◌, ◌<◌, ◌-◌, ◌^◌, ◌++◌, ◌∷◌, [], nat_lt, true, length, Err};
+ghost use Rattle.std.specs.Prelude.{OnOk, IfErr, if◌then◌else◌};
 ghost use Rattle.wit_model.specs.Rules.History.{num};
 ghost use Rattle.wit_model.specs.Rules.State.{state_of, is_seat};
 ghost use Rattle.wit_model.specs.Rules.Step.{answer_of, is_logged};
@@ -18,8 +19,9 @@ impl World {
     /// A seat makes a call of the verifier: `Verifier::call`.
     ///
     /// # Errors
-    /// In this order: `UnknownSeat`; `UnknownLock`; `StepOrder` where the call isn't the next one of a sequence; then the call's own, which is
-    /// `OutOfMemory` only in place of a reply that the log would keep. Nothing is changed then.
+    /// In this order: `UnknownSeat`; `UnknownLock`; `StepOrder` where the call isn't the next one
+    /// of a sequence; then the call's own, which is `OutOfMemory` only in place of a reply that the
+    /// log would keep. Nothing is changed then.
     pub fn call(&mut self, seat: SeatNo, call: Call) -> Result<Reply, Fault>
         ensures { AnswersIn self.old seat.0 call result self.new }
     {
@@ -38,7 +40,8 @@ impl World {
 
     // The faults of a call that come before its own.
     fn before_call(&self, seat: SeatNo, call: &Call) -> Result<(), Fault>
-        ensures ok { OnOk result (answer_in self.now seat.0 call.now ≡ answer_of self.now.story seat.0 call.now) }
+        ensures ok { OnOk result (answer_in self.now seat.0 call.now
+            ≡ answer_of self.now.story seat.0 call.now) }
         ensures seat { OnOk result (is_seat (state_of self.now.story) seat.0 ≡ true) }
         ensures err { IfErr result (λ f. answer_in self.now seat.0 call.now ≡ Err f) }
     {
@@ -100,7 +103,9 @@ impl World {
     // Where a seat stands after a call that is logged.
     fn stage_called(&self, seat: SeatNo, call: &Call) -> Stage
         requires { is_seat (state_of self.now.story) seat.0 ≡ true }
-        ensures { stage_of result ≡ stage_called (λ l. nat_lt (shares_of self.now.raw seat.0 l) (num seat.0 l self.now.story.history)) call.now }
+        ensures { stage_of result ≡ stage_called
+            (λ l. nat_lt (shares_of self.now.raw seat.0 l) (num seat.0 l self.now.story.history))
+            call.now }
     {
         match call {
             Call::Check(request) => Stage::Asked(*request),
@@ -113,7 +118,8 @@ impl World {
     // Whether a seat has fewer shares of a lock than acquisitions of it are recorded.
     fn has_fewer(&self, seat: SeatNo, lock: LockNo) -> bool
         requires { is_seat (state_of self.now.story) seat.0 ≡ true }
-        ensures { result ≡ nat_lt (shares_of self.now.raw seat.0 lock.0) (num seat.0 lock.0 self.now.story.history) }
+        ensures { result ≡ nat_lt (shares_of self.now.raw seat.0 lock.0)
+            (num seat.0 lock.0 self.now.story.history) }
     {
         match self.verifier.recorded(seat, lock) {
             Some(again) => self.raw.shares(seat, lock) < u64::from(again) + 1,

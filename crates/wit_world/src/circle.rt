@@ -14,9 +14,10 @@ use wit_core::circle_in;
 use wit_model::{Fault, SeatNo};
 
 impl World {
-    /// Seats that wait for one another in a circle, by shares and not by what is recorded of them: each asked last for a lock that it
-    /// doesn't hold by the record and of which the next one has a share, where that share or the request is exclusive; and the last waits so
-    /// for the first, which is the least of them. `None` exactly where there is no such circle.
+    /// Seats that wait for one another in a circle, by shares and not by what is recorded of them:
+    /// each asked last for a lock that it doesn't hold by the record and of which the next one has
+    /// a share, where that share or the request is exclusive; and the last waits so for the first,
+    /// which is the least of them. `None` exactly where there is no such circle.
     ///
     /// # Errors
     /// `OutOfMemory` alone.
@@ -32,7 +33,8 @@ impl World {
 
     // For each seat, which seats wait for it.
     fn all_waiting(&self) -> Result<Vec<Vec<bool>>, AllocError>
-        ensures { IfOk result (λ rows. table_of rows.items ≡ all_waiting (waits_in self.now) self.now.story.start.sizes.seats) }
+        ensures { IfOk result (λ rows. table_of rows.items
+            ≡ all_waiting (waits_in self.now) self.now.story.start.sizes.seats) }
     {
         let mut rows = Vec::new(self.alloc);
         for place in 0..self.verifier.seats() {
@@ -44,7 +46,8 @@ impl World {
     // Which seats wait for this one.
     fn waiting(&self, other: SeatNo) -> Result<Vec<bool>, AllocError>
         requires { IsNumber self.now.story.start.sizes.seats other.0 }
-        ensures { IfOk result (λ row. row.items ≡ waiting (waits_in self.now) self.now.story.start.sizes.seats other.0) }
+        ensures { IfOk result (λ row. row.items
+            ≡ waiting (waits_in self.now) self.now.story.start.sizes.seats other.0) }
     {
         let mut row = Vec::new(self.alloc);
         for place in 0..self.verifier.seats() {

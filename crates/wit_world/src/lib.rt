@@ -1,5 +1,5 @@
-//! A world as it is kept while it goes on: a verifier, and beside it which shares of the locks themselves threads have and where
-//! each stands in its sequence of steps.
+//! A world as it is kept while it goes on: a verifier, and beside it which shares of the locks
+//! themselves threads have and where each stands in its sequence of steps.
 #![tactic(auto)]
 
 mod calls;

@@ -1,18 +1,20 @@
 //! The shares of all locks.
 
-ghost use Rattle.std.specs.Prelude.{◌≡◌, ◌<◌, ◌≤◌, ◌+◌, ◌-◌, ◌^◌, ◌++◌, [], ◌∷◌, length, max, replicate, OnOk, OnErr};
+ghost use Rattle.std.specs.Prelude.{◌≡◌, ◌<◌, ◌≤◌, ◌+◌, ◌-◌, ◌^◌, ◌++◌, [], ◌∷◌, length, max};
+ghost use Rattle.std.specs.Prelude.{replicate, OnOk, OnErr};
 ghost use Rattle.std.specs.Option.{option_copied};
 ghost use Rattle.wit_model.specs.Rules.Numbers.{with_number, IsGiven};
 ghost use Rattle.wit_model.specs.Rules.Verdict.{is_exclusive};
-ghost use Rattle.wit_model.specs.World.Scenes.{nobodys, raw_of, shares_of, is_admitted, is_only, got, freed, turned};
+ghost use Rattle.wit_model.specs.World.Scenes.{nobodys, raw_of, shares_of, is_admitted, is_only};
+ghost use Rattle.wit_model.specs.World.Scenes.{got, freed, turned};
 
 use crate::shares::Shares;
 use std::alloc::{AllocError, Global};
 use std::marker::Model;
 use wit_model::{LockNo, Mode, SeatNo};
 
-/// Who has how many shares of each lock, whatever is recorded of it. Locks count from 1, in the order in which they were made; nobody
-/// has a share of any other.
+/// Who has how many shares of each lock, whatever is recorded of it. Locks count from 1, in the
+/// order in which they were made; nobody has a share of any other.
 #[derive(Drop)]
 pub struct Raw {
     alloc: Global,
@@ -54,8 +56,8 @@ impl Raw {
         self.made
     }
 
-    /// Whether a lock may be had in this mode: exclusively where nobody has it, the asker included, and shared where nobody has it
-    /// exclusively.
+    /// Whether a lock may be had in this mode: exclusively where nobody has it, the asker included,
+    /// and shared where nobody has it exclusively.
     pub fn is_admitted(&self, lock: LockNo, mode: Mode) -> bool
         ensures { result ≡ is_admitted mode (raw_of self.now lock.0) }
     {
@@ -75,7 +77,8 @@ impl Raw {
         }
     }
 
-    /// Whether a lock is had exclusively; as it was last where nobody has it, and exclusively where nobody ever had it.
+    /// Whether a lock is had exclusively; as it was last where nobody has it, and exclusively where
+    /// nobody ever had it.
     pub fn is_exclusive(&self, lock: LockNo) -> bool
         ensures { result ≡ is_exclusive (raw_of self.now lock.0).mode }
     {
@@ -130,7 +133,8 @@ impl Raw {
         shares.remove(seat);
     }
 
-    /// All shares of a lock, of which this seat has one, are in this mode from now on. It takes no memory.
+    /// All shares of a lock, of which this seat has one, are in this mode from now on. It takes no
+    /// memory.
     pub fn turn(&mut self, seat: SeatNo, lock: LockNo, mode: Mode)
         requires { 0 < shares_of self.old seat.0 lock.0 }
         ensures { self.new ≡ turned lock.0 mode self.old }
@@ -152,7 +156,8 @@ fn shares_with(locks: &[Shares], lock: LockNo) -> Option<&Shares>
 
 // Has a place for each lock up to this one.
 fn reach(alloc: Global, locks: &mut Vec<Shares>, lock: LockNo) -> Result<(), AllocError>
-    ensures same { locks.new.items ≡ locks.old.items ++ replicate (length locks.new.items - length locks.old.items) nobodys }
+    ensures same { locks.new.items ≡ locks.old.items
+        ++ replicate (length locks.new.items - length locks.old.items) nobodys }
     ensures longer { length locks.old.items ≤ length locks.new.items }
     ensures within { length locks.new.items ≤ max (length locks.old.items) lock.0 }
     ensures ok { OnOk result (lock.0 ≤ length locks.new.items) }

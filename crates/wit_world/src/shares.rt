@@ -2,7 +2,8 @@
 
 ghost use Rattle.std.specs.Prelude.{◌≡◌, ◌<◌, ◌^◌, ◌-◌, OnOk, OnErr};
 ghost use Rattle.std.specs.List.{list_all, position};
-ghost use Rattle.wit_model.specs.World.Scenes.{nobodys, shares_among, is_admitted, is_only, one_more, one_fewer};
+ghost use Rattle.wit_model.specs.World.Scenes.{nobodys, shares_among, is_admitted, is_only};
+ghost use Rattle.wit_model.specs.World.Scenes.{one_more, one_fewer};
 ghost use Rattle.wit_world.specs.Holders.{all_had, is_holder};
 
 use std::alloc::{AllocError, Global};
@@ -44,7 +45,8 @@ impl Shares {
         }
     }
 
-    /// Whether the lock may be had in this mode: exclusively where nobody has it, shared where nobody has it exclusively.
+    /// Whether the lock may be had in this mode: exclusively where nobody has it, shared where
+    /// nobody has it exclusively.
     pub fn is_admitted(&self, mode: Mode) -> bool
         ensures { result ≡ is_admitted mode self.now }
     {
@@ -89,7 +91,8 @@ impl Shares {
     /// Want of memory alone; nothing is changed then.
     pub fn add(&mut self, seat: SeatNo, mode: Mode) -> Result<(), AllocError>
         requires few { shares_among seat.0 self.old.holders < 2 ^ 64 - 1 }
-        ensures ok { OnOk result (self.new ≡ record { mode = mode; holders = one_more seat.0 self.old.holders }) }
+        ensures ok { OnOk result (self.new
+            ≡ record { mode = mode; holders = one_more seat.0 self.old.holders }) }
         ensures err { OnErr result (self.new ≡ self.old) }
     {
         add_one(&mut self.holders, seat)?;
@@ -115,7 +118,8 @@ impl Shares {
 // A seat has one share more among these.
 fn add_one(holders: &mut Vec<Holder>, seat: SeatNo) -> Result<(), AllocError>
     requires few { shares_among seat.0 (all_had holders.old.items) < 2 ^ 64 - 1 }
-    ensures ok { OnOk result (all_had holders.new.items ≡ one_more seat.0 (all_had holders.old.items)) }
+    ensures ok { OnOk result (all_had holders.new.items
+        ≡ one_more seat.0 (all_had holders.old.items)) }
     ensures err { OnErr result (holders.new.items ≡ holders.old.items) }
 {
     let Some(place) = place_of(holders, seat) else {

@@ -51,7 +51,8 @@ impl Stage {
         }
     }
 
-    /// Whether it is to note this lock, where it holds the lock that it asked for by the record, or doesn't.
+    /// Whether it is to note this lock, where it holds the lock that it asked for by the record, or
+    /// doesn't.
     pub fn may_note(self, lock: LockNo, holds: bool) -> bool
         ensures { result ≡ call_follows (Note lock) (λ _. holds) (stage_of self) }
     {
@@ -64,7 +65,8 @@ impl Stage {
 
     /// Whether it got this lock by a try in this mode just now.
     pub fn has_tried(self, lock: LockNo, mode: Mode) -> bool
-        ensures { (held : ℕ → Bool) (site : Site) → result ≡ call_follows (NoteTry lock mode site) held (stage_of self) }
+        ensures { (held : ℕ → Bool) (site : Site)
+            → result ≡ call_follows (NoteTry lock mode site) held (stage_of self) }
     {
         match self {
             Stage::Tried(tried, with) => tried.0 == lock.0 && is_same_mode(with, mode),
@@ -112,7 +114,8 @@ impl Stage {
         }
     }
 
-    /// Whether a call may come next, where the seat holds the lock that it asked for by the record, or doesn't.
+    /// Whether a call may come next, where the seat holds the lock that it asked for by the record,
+    /// or doesn't.
     pub fn may_call(self, call: &Call, holds: bool) -> bool
         ensures { result ≡ call_follows call.now (λ _. holds) (stage_of self) }
     {

@@ -2,7 +2,8 @@
 
 ghost use Rattle.std.specs.Prelude.{◌≡◌, true, Ok, Err, OnOk, OnErr, IfOk, IfErr};
 ghost use Rattle.wit_model.specs.Rules.State.{state_of, is_seat};
-ghost use Rattle.wit_model.specs.World.Scenes.{stage_at, deed_of, is_known, may_come, is_free, raw_after, stage_stepped, stepped, step_raw};
+ghost use Rattle.wit_model.specs.World.Scenes.{stage_at, deed_of, is_known, may_come, is_free};
+ghost use Rattle.wit_model.specs.World.Scenes.{raw_after, stage_stepped, stepped, step_raw};
 ghost use Rattle.wit_world.specs.Stages.{stage_of};
 ghost use Rattle.wit_world.specs.Steps.{StepsTo, IsReadyFor, deed_in, takes_share};
 
@@ -16,9 +17,10 @@ impl World {
     /// A seat does a step to a lock itself.
     ///
     /// # Errors
-    /// In this order: `UnknownSeat`; `UnknownLock`, for a share that is freed only where the lock was never made; `StepOrder` where the step
-    /// isn't the next one of a sequence, or the seat has no share to free; `RawNotFree` where the lock doesn't admit it. `OutOfMemory`
-    /// alone where the seat would get a share. Nothing is changed then.
+    /// In this order: `UnknownSeat`; `UnknownLock`, for a share that is freed only where the lock
+    /// was never made; `StepOrder` where the step isn't the next one of a sequence, or the seat has
+    /// no share to free; `RawNotFree` where the lock doesn't admit it. `OutOfMemory` alone where
+    /// the seat would get a share. Nothing is changed then.
     pub fn step(&mut self, seat: SeatNo, lock: LockNo, step: RawStep) -> Result<(), Fault>
         ensures { StepsTo self.old seat.0 lock.0 step result self.new }
     {
@@ -31,7 +33,8 @@ impl World {
 
     // The faults of a step; without one it can be done.
     fn before_step(&self, seat: SeatNo, lock: LockNo, step: RawStep) -> Result<(), Fault>
-        ensures ok { OnOk result (step_raw self.now seat.0 lock.0 step ≡ Ok (stepped self.now (deed_of (stage_at self.now seat.0) seat.0 lock.0 step))) }
+        ensures ok { OnOk result (step_raw self.now seat.0 lock.0 step
+            ≡ Ok (stepped self.now (deed_of (stage_at self.now seat.0) seat.0 lock.0 step))) }
         ensures seat { OnOk result (is_seat (state_of self.now.story) seat.0 ≡ true) }
         ensures ready { OnOk result (IsReadyFor self.now.raw seat.0 lock.0 step) }
         ensures err { IfErr result (λ f. step_raw self.now seat.0 lock.0 step ≡ Err f) }
@@ -68,7 +71,8 @@ impl World {
     // Whether a step may come next.
     fn may_step(&self, seat: SeatNo, lock: LockNo, step: RawStep) -> bool
         requires { is_seat (state_of self.now.story) seat.0 ≡ true }
-        ensures { result ≡ may_come self.now (deed_of (stage_at self.now seat.0) seat.0 lock.0 step) }
+        ensures { result ≡ may_come self.now
+            (deed_of (stage_at self.now seat.0) seat.0 lock.0 step) }
     {
         let stage = self.stage(seat);
         match step {
@@ -83,7 +87,8 @@ impl World {
     // Whether a lock admits a step.
     fn is_free(&self, seat: SeatNo, lock: LockNo, step: RawStep) -> bool
         requires { is_seat (state_of self.now.story) seat.0 ≡ true }
-        ensures { result ≡ is_free self.now.raw (deed_of (stage_at self.now seat.0) seat.0 lock.0 step) }
+        ensures { result ≡ is_free self.now.raw
+            (deed_of (stage_at self.now seat.0) seat.0 lock.0 step) }
     {
         match step {
             RawStep::Take => self.raw.is_admitted(lock, self.stage(seat).mode_asked()),
@@ -95,7 +100,8 @@ impl World {
     }
 }
 
-// What a step does to the shares of its lock, and where its seat stands then. A lock that is taken is taken in the mode asked for.
+// What a step does to the shares of its lock, and where its seat stands then. A lock that is taken
+// is taken in the mode asked for.
 fn change(
     raw: &mut Raw,
     seat: SeatNo,
@@ -105,7 +111,8 @@ fn change(
 ) -> Result<Stage, AllocError>
     requires { IsReadyFor raw.old seat.0 lock.0 step }
     ensures raw { OnOk result (raw.new ≡ raw_after (deed_in asked seat.0 lock.0 step) raw.old) }
-    ensures stage { IfOk result (λ at. stage_of at ≡ stage_stepped (deed_in asked seat.0 lock.0 step)) }
+    ensures stage { IfOk result (λ at. stage_of at
+        ≡ stage_stepped (deed_in asked seat.0 lock.0 step)) }
     ensures err { OnErr result (raw.new ≡ raw.old) }
     ensures takes { OnErr result (takes_share step ≡ true) }
 {

@@ -1,6 +1,7 @@
 //! A world that is kept.
 
-ghost use Rattle.std.specs.Prelude.{◌≡◌, ◌<◌, ◌^◌, [], replicate, length, is_some, true, IfOk, IfErr};
+ghost use Rattle.std.specs.Prelude.{◌≡◌, ◌<◌, ◌^◌, [], replicate, length, is_some, true, IfOk};
+ghost use Rattle.std.specs.Prelude.{IfErr};
 ghost use Rattle.wit_model.specs.Rules.Files.{NamesFile};
 ghost use Rattle.wit_model.specs.Rules.History.{is_held};
 ghost use Rattle.wit_model.specs.Rules.State.{state_of, is_seat};
@@ -16,9 +17,11 @@ use std::marker::Model;
 use wit_core::Verifier;
 use wit_model::{Fault, FileNo, LockNo, SeatNo};
 
-/// A verifier, and beside it which shares of the locks themselves each seat has and where it stands in its sequence of steps.
+/// A verifier, and beside it which shares of the locks themselves each seat has and where it stands
+/// in its sequence of steps.
 ///
-/// Clauses see it as a scene. Whatever is done to it, it shows a world: a list of steps of which each could be done when it came.
+/// Clauses see it as a scene. Whatever is done to it, it shows a world: a list of steps of which
+/// each could be done when it came.
 #[derive(Drop)]
 pub struct World {
     pub(crate) alloc: Global,
@@ -48,7 +51,8 @@ pub struct Unkept {
 }
 
 impl World {
-    /// The world of a verifier that has logged nothing: nobody has a share, and no sequence has begun.
+    /// The world of a verifier that has logged nothing: nobody has a share, and no sequence has
+    /// begun.
     ///
     /// # Errors
     /// Want of memory alone; the verifier comes back.

@@ -13,14 +13,17 @@ use Rattle.witness.specs.declared.program.Ended.{Ended}
 use Rattle.witness.specs.declared.program.Ended.TheVariants.{Exits, ShowsThreads}
 
 -- the whole of what the view shows of the input was written, and this is its status
-pub record IsShownWhole (view : View) (read written_old written_new : Option (List ℕ)) (ended : ℕ) : Type 0 where
+pub record IsShownWhole (view : View) (read written_old written_new : Option (List ℕ))
+    (ended : ℕ) : Type 0 where
   pub summary : Summary
   pub written : WritesOutput (ShowsTrace view) read written_old written_new summary
   pub status : ended ≡ exit_status view (Ok summary)
 
 -- and that is what is left to do
-abbrev pub IsShownAndExits : View → Option (List ℕ) → Option (List ℕ) → Option (List ℕ) → Ended → Type 0
-IsShownAndExits view read written_old written_new (Exits status) = IsShownWhole view read written_old written_new status
+abbrev pub IsShownAndExits : View → Option (List ℕ) → Option (List ℕ) → Option (List ℕ)
+    → Ended → Type 0
+IsShownAndExits view read written_old written_new (Exits status) =
+    IsShownWhole view read written_old written_new status
 IsShownAndExits view read written_old written_new ShowsThreads = ⊥
 
 -- a beginning was written of what the view shows of the input, which may be nothing
@@ -28,21 +31,24 @@ abbrev pub IsCutShort : View → Option (List ℕ) → Option (List ℕ) → Opt
 IsCutShort view read written_old written_new =
     Keeps written_old written_new ⊎ WritesFront (ShowsTrace view) read written_old written_new
 
--- the text of every whole line that was taken from the input was written, no less, whatever is left of it
+-- the text of every whole line that was taken from the input was written, no less, whatever is left
+-- of it
 pub record TellsLines (view : View) (read written_old written_new : Option (List ℕ)) : Type 0 where
   pub left : Option (List ℕ)
   pub told : WritesLines (ShowsFrom view) Unstarted read left written_old written_new
 
 -- what a migration makes of the input was written, and this is its status, as where nothing is
 -- reported
-pub record IsMigratedWhole (read written_old written_new : Option (List ℕ)) (ended : ℕ) : Type 0 where
+pub record IsMigratedWhole (read written_old written_new : Option (List ℕ))
+    (ended : ℕ) : Type 0 where
   pub summary : Summary
   pub written : WritesOutput Migrates read written_old written_new summary
   pub status : ended ≡ exit_status Graph (Ok summary)
 
 -- and that is what is left to do
 abbrev pub IsMigratedAndExits : Option (List ℕ) → Option (List ℕ) → Option (List ℕ) → Ended → Type 0
-IsMigratedAndExits read written_old written_new (Exits status) = IsMigratedWhole read written_old written_new status
+IsMigratedAndExits read written_old written_new (Exits status) =
+    IsMigratedWhole read written_old written_new status
 IsMigratedAndExits read written_old written_new ShowsThreads = ⊥
 
 -- a beginning was written of what a migration makes of the input, which may be nothing

@@ -33,8 +33,8 @@ pub fn refuse<W: Write>(complaints: &mut W) -> u8
     BAD_USAGE
 }
 
-/// Says why a replay failed, and gives the status of a failure. The status alone tells it where nothing
-/// can be said.
+/// Says why a replay failed, and gives the status of a failure. The status alone tells it where
+/// nothing can be said.
 pub fn fail<W: Write>(complaints: &mut W, error: &ReplayError) -> u8
     ensures { result ≡ 4 }
 {

@@ -8,7 +8,8 @@ use wit_demo::demo;
 use wit_model::View;
 use wit_trace::{ReplayError, status_of};
 
-/// Runs the demonstration, and gives the exit status: that of a replay that reports what was reported.
+/// Runs the demonstration, and gives the exit status: that of a replay that reports what was
+/// reported.
 ///
 /// # Errors
 /// Those of `demo`.

@@ -10,7 +10,8 @@ ghost use Rattle.wit_trace.specs.declared.summary.ReplayError.TheVariants as Rep
 ghost use Rattle.wit_trace.specs.declared.summary.ReplayError.TheVariants.{Memory};
 ghost use Rattle.wit_command.specs.declared.command.Command.TheVariants.{Demo, Migrate, Show};
 ghost use Rattle.witness.specs.declared.program.Ended.TheVariants.{Exits, ShowsThreads};
-ghost use Rattle.witness.specs.Program.{IsCutShort, IsMigratedAndExits, IsMigrationCut, IsShownAndExits, TellsLines};
+ghost use Rattle.witness.specs.Program.{IsCutShort, IsMigratedAndExits, IsMigrationCut};
+ghost use Rattle.witness.specs.Program.{IsShownAndExits, TellsLines};
 
 use crate::complaints::refuse;
 use std::alloc::Global;
@@ -28,15 +29,17 @@ pub enum Ended {
     ShowsThreads,
 }
 
-/// Runs the program on the words behind its name, up to its exit status: where they ask for a view of
-/// the input or its migration, that of the replay or the migration; where they ask for nothing, 2. The demonstration is left to the caller.
+/// Runs the program on the words behind its name, up to its exit status: where they ask for a view
+/// of the input or its migration, that of the replay or the migration; where they ask for nothing,
+/// 2. The demonstration is left to the caller.
 ///
-/// Only the input is read through a buffer: what is written is in the output when this returns. What goes
-/// to `complaints` is how the program is used, at status 2, and nothing else.
+/// Only the input is read through a buffer: what is written is in the output when this returns.
+/// What goes to `complaints` is how the program is used, at status 2, and nothing else.
 ///
 /// # Errors
-/// Those of `replay` and `migrate`; and `Memory` where memory runs out before the first line is read. What was written is then a
-/// beginning of the output; where the reader failed it is the text of every whole line that was taken.
+/// Those of `replay` and `migrate`; and `Memory` where memory runs out before the first line is
+/// read. What was written is then a beginning of the output; where the reader failed it is the text
+/// of every whole line that was taken.
 pub fn run<R: Read + Drop, W: Write, E: Write>(
     alloc: Global,
     words: &[Vec<u8>],
@@ -44,21 +47,31 @@ pub fn run<R: Read + Drop, W: Write, E: Write>(
     output: &mut W,
     complaints: &mut E,
 ) -> Result<Ended, ReplayError>
-    ensures usage { asked (bytes_of words.now) ≡ None → (result ≡ Ok (Exits 2)) ⊎ (result ≡ Err Memory) }
-    ensures unread { asked (bytes_of words.now) ≡ None → Keeps (W.contents output.old) (W.contents output.new) }
-    ensures demo { asked (bytes_of words.now) ≡ Some Demo → (result ≡ Ok ShowsThreads) ⊎ (result ≡ Err Memory) }
-    ensures untouched { asked (bytes_of words.now) ≡ Some Demo → Keeps (W.contents output.old) (W.contents output.new) }
+    ensures usage { asked (bytes_of words.now) ≡ None → (result ≡ Ok (Exits 2))
+        ⊎ (result ≡ Err Memory) }
+    ensures unread { asked (bytes_of words.now) ≡ None
+        → Keeps (W.contents output.old) (W.contents output.new) }
+    ensures demo { asked (bytes_of words.now) ≡ Some Demo → (result ≡ Ok ShowsThreads)
+        ⊎ (result ≡ Err Memory) }
+    ensures untouched { asked (bytes_of words.now) ≡ Some Demo
+        → Keeps (W.contents output.old) (W.contents output.new) }
     ensures shown { (view : View) → asked (bytes_of words.now) ≡ Some (Show view)
-        → IfOk result (IsShownAndExits view (R.remaining input) (W.contents output.old) (W.contents output.new)) }
+        → IfOk result (IsShownAndExits view (R.remaining input) (W.contents output.old)
+        (W.contents output.new)) }
     ensures cut_short { (view : View) → asked (bytes_of words.now) ≡ Some (Show view)
-        → OnErr result (IsCutShort view (R.remaining input) (W.contents output.old) (W.contents output.new)) }
-    ensures told { (view : View) → asked (bytes_of words.now) ≡ Some (Show view) → result ≡ Err ReplayError.Read
+        → OnErr result (IsCutShort view (R.remaining input) (W.contents output.old)
+        (W.contents output.new)) }
+    ensures told { (view : View) → asked (bytes_of words.now) ≡ Some (Show view)
+        → result ≡ Err ReplayError.Read
         → TellsLines view (R.remaining input) (W.contents output.old) (W.contents output.new) }
     ensures migrated { asked (bytes_of words.now) ≡ Some Migrate
-        → IfOk result (IsMigratedAndExits (R.remaining input) (W.contents output.old) (W.contents output.new)) }
+        → IfOk result (IsMigratedAndExits (R.remaining input) (W.contents output.old)
+        (W.contents output.new)) }
     ensures migration_cut { asked (bytes_of words.now) ≡ Some Migrate
-        → OnErr result (IsMigrationCut (R.remaining input) (W.contents output.old) (W.contents output.new)) }
-    ensures quiet { result ≢ Ok (Exits 2) → Keeps (E.contents complaints.old) (E.contents complaints.new) }
+        → OnErr result (IsMigrationCut (R.remaining input) (W.contents output.old)
+        (W.contents output.new)) }
+    ensures quiet { result ≢ Ok (Exits 2)
+        → Keeps (E.contents complaints.old) (E.contents complaints.new) }
 {
     match asked_command(alloc, words) {
         Ok(Some(Command::Show(view))) => show(alloc, view, input, output),
@@ -76,7 +89,8 @@ fn show<R: Read + Drop, W: Write>(
     input: R,
     output: &mut W,
 ) -> Result<Ended, ReplayError>
-    ensures shown { IfOk result (IsShownAndExits view (R.remaining input) (W.contents output.old) (W.contents output.new)) }
+    ensures shown { IfOk result (IsShownAndExits view (R.remaining input) (W.contents output.old)
+        (W.contents output.new)) }
     ensures cut_short { OnErr result (IsCutShort view
         (R.remaining input) (W.contents output.old) (W.contents output.new)) }
     ensures told { result ≡ Err ReplayError.Read → TellsLines view
@@ -116,7 +130,8 @@ fn move_on<R: Read + Drop, W: Write>(
     input: R,
     output: &mut W,
 ) -> Result<Ended, ReplayError>
-    ensures migrated { IfOk result (IsMigratedAndExits (R.remaining input) (W.contents output.old) (W.contents output.new)) }
+    ensures migrated { IfOk result
+        (IsMigratedAndExits (R.remaining input) (W.contents output.old) (W.contents output.new)) }
     ensures migration_cut { OnErr result (IsMigrationCut
         (R.remaining input) (W.contents output.old) (W.contents output.new)) }
 {

@@ -1,5 +1,7 @@
 -- A new verifier.
-use Rattle.std.proofs.Common.{◌≡◌, ℕ, zero, suc, ◌+◌, true, false, List, [], ◌∷◌, Option, None, IfSome, String, length, map, replicate, refl, sym, ap, ap₂, ◌∙◌, subst}
+use Rattle.std.proofs.Common.{◌≡◌, ℕ, zero, suc, ◌+◌, true, false, List, [], ◌∷◌, Option, None}
+use Rattle.std.proofs.Common.{IfSome, String, length, map, replicate, refl, sym, ap, ap₂, ◌∙◌}
+use Rattle.std.proofs.Common.{subst}
 use Rattle.std.specs.List.{range_with_len}
 use Rattle.std.specs.Option.{option_map}
 use Rattle.std.specs.Global.{Vec, Global}
@@ -27,22 +29,38 @@ use Rattle.wit_core.proofs.Steps.{same_state}
 use Rattle.wit_core.specs.Live.{live_flags}
 
 -- seats that hold nothing are those of no history
-seats-idle : (a n : ℕ) → map seat_view (replicate n no_holdings) ≡ map (seat_of []) (range_with_len a n)
+seats-idle : (a n : ℕ) → map seat_view (replicate n no_holdings)
+    ≡ map (seat_of []) (range_with_len a n)
 seats-idle a zero = refl
 seats-idle a (suc n) =
-    ap₂ (λ s ss. s ∷ ss) (sym (ap₂ (λ gs hs. record (seat_view no_holdings) { sleep_groups = gs; spin_groups = hs }) (seat_groups-nil false a) (seat_groups-nil true a)))
+    ap₂ (λ s ss. s ∷ ss) (sym (ap₂
+    (λ gs hs. record (seat_view no_holdings) { sleep_groups = gs; spin_groups = hs })
+    (seat_groups-nil false a) (seat_groups-nil true a)))
     (seats-idle (a + 1) n)
 
 -- a new verifier
-module _ (v : Inside) (sizes : Sizes) (lists : List (Vec (Class × String Global))) (blessed : List (String Global × String Global))
-    (limits : v.limits ≡ sizes) (same_lists : v.lists.items ≡ lists) (begun : IsBegun sizes (all_listed lists) (pairs_of blessed) v.known)
-    (seats : v.seats ≡ idle_seating sizes.seats sizes.chunks) (watch : v.watch ≡ On) (log : v.log ≡ record { limit = sizes.log; history = []; owed = 0; spare = v.log.spare })
+module _ (v : Inside) (sizes : Sizes) (lists : List (Vec (Class × String Global)))
+    (blessed : List (String Global × String Global))
+    (limits : v.limits ≡ sizes) (same_lists : v.lists.items ≡ lists)
+    (begun : IsBegun sizes (all_listed lists) (pairs_of blessed) v.known)
+    (seats : v.seats ≡ idle_seating sizes.seats sizes.chunks) (watch : v.watch ≡ On)
+    (log : v.log ≡ record { limit = sizes.log; history = []; owed = 0; spare = v.log.spare })
     (unready : v.ready ≡ None) where
   start_begun : start_in v ≡ start_of v.profile sizes lists blessed
   start_begun =
       ap (λ (x : Sizes). record (start_in v) { sizes = x }) limits
-      ∙ (ap (λ ls. record { sizes = sizes; profile = v.profile; lists = all_listed ls; blessed = v.known.known.blessed }) same_lists
-      ∙ ap (λ (x : Known). record { sizes = sizes; profile = v.profile; lists = all_listed lists; blessed = x.blessed }) (begun.known))
+      ∙ (ap (λ ls. record {
+        sizes = sizes;
+        profile = v.profile;
+        lists = all_listed ls;
+        blessed = v.known.known.blessed;
+      }) same_lists
+      ∙ ap (λ (x : Known). record {
+        sizes = sizes;
+        profile = v.profile;
+        lists = all_listed lists;
+        blessed = x.blessed;
+      }) (begun.known))
 
   no_history : history_in v ≡ []
   no_history = ap (λ (l : Journal). l.history) log
@@ -51,13 +69,17 @@ module _ (v : Inside) (sizes : Sizes) (lists : List (Vec (Class × String Global
   no_files = begun.files
 
   pub story_begun : story_in v ≡ fresh (start_of v.profile sizes lists blessed)
-  story_begun = ap (λ (o : Option Ready). record (story_in v) { ready = option_map planned o }) unready ∙ same_story _ _ _ _ _ _ start_begun no_files no_history
+  story_begun =
+      ap (λ (o : Option Ready). record (story_in v) { ready = option_map planned o }) unready
+      ∙ same_story _ _ _ _ _ _ start_begun no_files no_history
 
   state_begun : state_in v ≡ state_of (fresh (start_of v.profile sizes lists blessed))
   state_begun =
       ap (λ (x : Sizes). record (state_in v) { sizes = x }) limits
-      ∙ same_state sizes v.profile _ _ _ _ _ _ _ _ _ _ _ _ (ap (λ (l : List (List ℕ)). length l) no_files) (begun.known) (ap destroyed_of no_history)
-      (ap (λ (r : Seating). map seat_view r.seats) seats ∙ seats-idle 1 sizes.seats) watch (ap (λ (l : Journal). length l.history) log)
+      ∙ same_state sizes v.profile _ _ _ _ _ _ _ _ _ _ _ _
+      (ap (λ (l : List (List ℕ)). length l) no_files) (begun.known) (ap destroyed_of no_history)
+      (ap (λ (r : Seating). map seat_view r.seats) seats ∙ seats-idle 1 sizes.seats) watch
+      (ap (λ (l : Journal). length l.history) log)
 
   pub kept_begun : start_fault (start_of v.profile sizes lists blessed) ≡ None → IsTied v
   kept_begun accepted =
@@ -66,7 +88,9 @@ module _ (v : Inside) (sizes : Sizes) (lists : List (Vec (Class × String Global
         started = subst (λ (s : Start). start_fault s ≡ None) (sym start_begun) accepted;
         legal = subst (λ (s : Story). IsLegal s.start s.files s.history) (sym story_begun) tt;
         state = state_begun ∙ ap state_of (sym story_begun);
-        live = begun.live ∙ sym (ap₂ (λ (x : Known) h. live_flags (length x.locks) (destroyed_of h)) begun.known no_history);
+        live =
+            begun.live ∙ sym (ap₂ (λ (x : Known) h. live_flags (length x.locks) (destroyed_of h))
+            begun.known no_history);
         owed = ap (λ (l : Journal). l.owed) log ∙ sym owes;
         limit = ap (λ (l : Journal). l.limit) log ∙ ap (λ (x : Sizes). x.log) (sym limits);
         types = (begun.types ∙ sym (ap (λ (x : Sizes). x.types) limits));

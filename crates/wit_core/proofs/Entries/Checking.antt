@@ -1,5 +1,6 @@
 -- A request.
-use Rattle.std.proofs.Common.{◌≡◌, ℕ, ◌+◌, ◌<◌, false, Option, None, Some, Ok, length, refl, sym, ap, ◌∙◌, arith, is_some, append-nil}
+use Rattle.std.proofs.Common.{◌≡◌, ℕ, ◌+◌, ◌<◌, false, Option, None, Some, Ok, length, refl, sym}
+use Rattle.std.proofs.Common.{ap, ◌∙◌, arith, is_some, append-nil}
 use Rattle.std.proofs.lemmas.Bool.{true≢false}
 use Rattle.wit_model.specs.declared.locks.Watch.{Watch}
 use Rattle.wit_model.specs.declared.calls.Request.{Request}
@@ -22,10 +23,12 @@ use Rattle.wit_core.specs.Seats.{with_seat, asking}
 use Rattle.wit_core.proofs.Keeping.{Leaves}
 use Rattle.wit_core.proofs.Seen.{IsSeenAs}
 use Rattle.wit_core.proofs.Steps.{same_locks, seats-quiet}
-use Rattle.wit_core.proofs.Entries.Accepting.{accepted, known-now, left-by, owed_now, room_left, sane_next, seats-now, watch-now, within}
+use Rattle.wit_core.proofs.Entries.Accepting.{accepted, known-now, left-by, owed_now, room_left}
+use Rattle.wit_core.proofs.Entries.Accepting.{sane_next, seats-now, watch-now, within}
 
 -- a check leaves the watch level
-same_watch : (q : Request) (r : Reply) (w : Watch) → is_exhaustion r ≡ false → watch_after (Check q) r w ≡ w
+same_watch : (q : Request) (r : Reply) (w : Watch) → is_exhaustion r ≡ false
+    → watch_after (Check q) r w ≡ w
 same_watch q Exhausted w plain = absurd (true≢false plain)
 same_watch q r w plain = refl
 
@@ -34,20 +37,30 @@ none_from None e = refl
 none_from (Some q) e = absurd (true≢false e)
 
 module _ {v : Inside} {s : Story} (this : IsSeenAs v s) where
-  pub check_room : (t : ℕ) (q : Request) (r : Reply) (log : Journal) → answer_of s t (Check q) ≡ Ok r → log ≡ record v.log { spare = log.spare }
+  pub check_room : (t : ℕ) (q : Request) (r : Reply) (log : Journal)
+      → answer_of s t (Check q) ≡ Ok r → log ≡ record v.log { spare = log.spare }
       → length log.history + log.owed + 2 < log.limit
-  check_room t q r log ok same = room_left this 2 log (check_accepted (state_of (story_in v)) t q r (accepted this t (Check q) r ok)).room same
+  check_room t q r log ok same =
+      room_left this 2 log (check_accepted (state_of (story_in v)) t q r
+      (accepted this t (Check q) r ok)).room same
 
   pub leaves_check : (t : ℕ) (q : Request) (r : Reply) → answer_of s t (Check q) ≡ Ok r
-      → Leaves v t (Check q) r (learnt v.known.known q r) v.known.live (with_seat t (asking (Some q)) v.seats) v.watch (v.log.owed + 2)
+      → Leaves v t (Check q) r (learnt v.known.known q r) v.known.live
+      (with_seat t (asking (Some q)) v.seats) v.watch (v.log.owed + 2)
   leaves_check t q r ok =
       let sane = sane_next this t (Check q) r ok in
       let in_row = within this t (Check q) r ok in
       let at = check_accepted (state_of (story_in v)) t q r (accepted this t (Check q) r ok) in
-      let idle = none_from _ (sym (ap (λ (o : Option Request). is_some o) (pending-state (start_in v) v.known.files (history_in v) t at.seat)) ∙ at.idle) in
+      let idle =
+      none_from _ (sym (ap (λ (o : Option Request). is_some o)
+      (pending-state (start_in v) v.known.files (history_in v) t at.seat)) ∙ at.idle) in
       let more = owed-check v.limits.seats t q r (history_in v) sane in_row.0 in_row.1 idle in
       left-by this t (Check q) r _ _ _ _ _
-      (ap (λ (x : Known). learnt x q r) (known-now this) ∙ sym (same_locks (learnt (known_of (start_in v) (history_in v)) q r) _ (append-nil (typed_locks (start_in v) (history_in v)))))
+      (ap (λ (x : Known). learnt x q r) (known-now this)
+      ∙ sym (same_locks (learnt (known_of (start_in v) (history_in v)) q r) _
+      (append-nil (typed_locks (start_in v) (history_in v)))))
       this.tied.live
-      (seats-quiet (start_in v) v.known.files (history_in v) v.seats (seats-now this) t in_row.0 in_row.1 (Check q) r (Some q) sane refl refl)
-      (watch-now this ∙ sym (same_watch q r (watch_of (history_in v)) (check-told (state_of s) t q r ok))) (omega (arith, more, owed_now this)) refl
+      (seats-quiet (start_in v) v.known.files (history_in v) v.seats
+      (seats-now this) t in_row.0 in_row.1 (Check q) r (Some q) sane refl refl)
+      (watch-now this ∙ sym (same_watch q r (watch_of (history_in v))
+      (check-told (state_of s) t q r ok))) (omega (arith, more, owed_now this)) refl

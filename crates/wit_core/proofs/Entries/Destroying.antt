@@ -19,26 +19,38 @@ use Rattle.wit_core.proofs.Living.{flag-within, flags-destroyed, length-flags}
 use Rattle.wit_core.specs.Live.{is_flagged}
 use Rattle.wit_core.proofs.Judged.{asked-given}
 use Rattle.wit_model.proofs.Numbered.{with_changed-at}
-use Rattle.wit_core.proofs.Entries.Accepting.{known-now, left-by, owed_now, sane_next, seats-now, watch-now, within}
+use Rattle.wit_core.proofs.Entries.Accepting.{known-now, left-by, owed_now, sane_next, seats-now}
+use Rattle.wit_core.proofs.Entries.Accepting.{watch-now, within}
 
 module _ {v : Inside} {s : Story} (this : IsSeenAs v s) where
-  pub destroyed_live : (t : ℕ) (l : LockNo) → answer_of s t (Destroy l) ≡ Ok Done → is_flagged v.known.live l.0 ≡ true
+  pub destroyed_live : (t : ℕ) (l : LockNo) → answer_of s t (Destroy l) ≡ Ok Done
+      → is_flagged v.known.live l.0 ≡ true
   destroyed_live t l ok = live-now this l.0 ∙ (destroy_accepted (state_of s) t l.0 Done ok).live
 
-  pub destroyed_typed : (t : ℕ) (l : LockNo) → answer_of s t (Destroy l) ≡ Ok Done → IsGiven v.known.known.types (lock_at v.known.known.locks l.0).type_no.0
+  pub destroyed_typed : (t : ℕ) (l : LockNo) → answer_of s t (Destroy l) ≡ Ok Done
+      → IsGiven v.known.known.types (lock_at v.known.known.locks l.0).type_no.0
   destroyed_typed t l ok = asked-given this l.0 (destroy_accepted (state_of s) t l.0 Done ok).lock
 
   pub leaves_destroy : (t : ℕ) (l : LockNo) → answer_of s t (Destroy l) ≡ Ok Done
-      → Leaves v t (Destroy l) Done v.known.known (with_changed v.known.live l.0 false) v.seats v.watch (v.log.owed + 0)
+      → Leaves v t (Destroy l) Done v.known.known (with_changed v.known.live l.0 false) v.seats
+      v.watch (v.log.owed + 0)
   leaves_destroy t l ok =
       let sane = sane_next this t (Destroy l) Done ok in
       let in_row = within this t (Destroy l) Done ok in
-      let same = owed-same v.limits.seats t (Destroy l) Done (history_in v) sane in_row.0 in_row.1 refl refl in
+      let same =
+      owed-same v.limits.seats t (Destroy l) Done (history_in v) sane in_row.0
+      in_row.1 refl refl in
       let made = flag-within v.known.live l.0 (destroyed_live t l ok) in
-      let size : length v.known.live ≡ length v.known.known.locks = ap length this.tied.live ∙ length-flags (length v.known.known.locks) (destroyed_of (history_in v)) in
+      let size : length v.known.live ≡ length v.known.known.locks =
+      ap length this.tied.live ∙ length-flags (length v.known.known.locks)
+      (destroyed_of (history_in v)) in
       left-by this t (Destroy l) Done _ _ _ _ _
-      (known-now this ∙ known-same (start_in v) (history_in v) t (Destroy l) Done refl refl refl refl)
-      (with_changed-at v.known.live l.0 false made.0 ∙ ap (λ bs. set bs (l.0 - 1) false) this.tied.live
-      ∙ flags-destroyed (length v.known.known.locks) l.0 (destroyed_of (history_in v)) made.0 (omega (arith, made.1, size)))
-      (seats-same (start_in v) v.known.files (history_in v) v.seats (seats-now this) t in_row.0 in_row.1 (Destroy l) Done sane refl refl)
+      (known-now this ∙ known-same (start_in v) (history_in v) t
+      (Destroy l) Done refl refl refl refl)
+      (with_changed-at v.known.live l.0 false made.0
+      ∙ ap (λ bs. set bs (l.0 - 1) false) this.tied.live
+      ∙ flags-destroyed (length v.known.known.locks) l.0 (destroyed_of (history_in v)) made.0
+      (omega (arith, made.1, size)))
+      (seats-same (start_in v) v.known.files (history_in v) v.seats
+      (seats-now this) t in_row.0 in_row.1 (Destroy l) Done sane refl refl)
       (watch-now this) (omega (arith, same, owed_now this)) refl

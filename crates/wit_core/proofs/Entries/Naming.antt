@@ -1,5 +1,7 @@
 -- A file that is named.
-use Rattle.std.proofs.Common.{◌≡◌, ℕ, Bool, true, false, cond, List, [], ◌∷◌, ◌++◌, Option, None, Some, IfSome, Ok, Err, Result, IfOk, IfErr, OnOk, OnErr, length, sym, ap, subst}
+use Rattle.std.proofs.Common.{◌≡◌, ℕ, Bool, true, false, cond, List, [], ◌∷◌, ◌++◌, Option, None}
+use Rattle.std.proofs.Common.{Some, IfSome, Ok, Err, Result, IfOk, IfErr, OnOk, OnErr, length, sym}
+use Rattle.std.proofs.Common.{ap, subst}
 use Rattle.wit_model.specs.declared.faults.Fault.{Fault}
 use Rattle.wit_model.specs.declared.faults.Fault.TheVariants.{OutOfMemory}
 use Rattle.wit_model.specs.declared.locks.FileNo.{FileNo}
@@ -27,11 +29,14 @@ pub file_named : (v : Inside) (name : List ℕ) (r : Result FileNo Fault) (new :
     → IfErr r (λ e. e ≡ OutOfMemory → is_known_file name v.known.files ≡ false)
     → OnErr r (new ≡ v.known)
     → NamesFile (story_in v) name r (story_in (with_known v new))
-file_named v name (Ok f) new ok entered err absent same = (ok, ap (λ n. story_in (with_known v n)) entered)
-file_named v name (Err fault) new ok entered err absent same = (err, absent, ap (λ n. story_in (with_known v n)) same)
+file_named v name (Ok f) new ok entered err absent same =
+    (ok, ap (λ n. story_in (with_known v n)) entered)
+file_named v name (Err fault) new ok entered err absent same =
+    (err, absent, ap (λ n. story_in (with_known v n)) same)
 
 -- a naming that is accepted leaves the history legal
-files_legal : (start : Start) (h : List Entry) (old : List (List ℕ)) (name : List ℕ) → IsLegal start old h → IsLegal start (files_after name old) h
+files_legal : (start : Start) (h : List Entry) (old : List (List ℕ)) (name : List ℕ)
+    → IsLegal start old h → IsLegal start (files_after name old) h
 files_legal start h old name legal = go (is_known_file name old)
   where
     go : (b : Bool) → IsLegal start (cond b old (old ++ name ∷ [])) h
@@ -42,20 +47,33 @@ files_legal start h old name legal = go (is_known_file name old)
 ready_named : (v : Inside) (name : List ℕ) (o : Option Ready) → IfSome o (IsReady v)
     → IfSome o (IsReady (with_known v (record v.known { files = files_after name v.known.files })))
 ready_named v name None h = tt
-ready_named v name (Some r) h = record { answer = go (is_known_file name v.known.files); kept = h.kept; logged = h.logged; log = h.log; known = h.known }
+ready_named v name (Some r) h =
+    record {
+      answer = go (is_known_file name v.known.files);
+      kept = h.kept;
+      logged = h.logged;
+      log = h.log;
+      known = h.known;
+    }
   where
-    go : (b : Bool) → answer_of (story_after (start_in v) (cond b v.known.files (v.known.files ++ name ∷ [])) (history_in v)) r.seat.0 (planned_call r.plan) ≡ Ok r.reply
+    go : (b : Bool) → answer_of (story_after (start_in v)
+        (cond b v.known.files (v.known.files ++ name ∷ [])) (history_in v)) r.seat.0
+        (planned_call r.plan) ≡ Ok r.reply
     go true = h.answer
-    go false = answer-named (start_in v) v.known.files name (history_in v) r.seat.0 (planned_call r.plan) r.reply h.answer
+    go false =
+        answer-named (start_in v) v.known.files name (history_in v) r.seat.0
+        (planned_call r.plan) r.reply h.answer
 
 -- naming a file keeps the invariant
 pub kept_file : (v : Inside) (name : List ℕ) (r : Result FileNo Fault) (new : Facts) → IsTied v
-    → OnOk r (new ≡ record v.known { files = files_after name v.known.files }) → OnErr r (new ≡ v.known) → IsTied (with_known v new)
+    → OnOk r (new ≡ record v.known { files = files_after name v.known.files })
+    → OnErr r (new ≡ v.known) → IsTied (with_known v new)
 kept_file v name (Ok f) new k entered same =
     subst (λ n. IsTied (with_known v n)) (sym entered) (record {
       started = k.started;
       legal = files_legal (start_in v) (history_in v) v.known.files name k.legal;
-      state = ap (λ (s : State). record s { files = length (files_after name v.known.files) }) k.state;
+      state =
+          ap (λ (s : State). record s { files = length (files_after name v.known.files) }) k.state;
       live = k.live;
       owed = k.owed;
       limit = k.limit;

@@ -13,6 +13,9 @@ use Rattle.wit_core.proofs.Seen.{IsSeenAs}
 
 module _ {v : Inside} {s : Story} (this : IsSeenAs v s) where
   -- the room of a call that leaves requests and acquisitions
-  pub plain_room : (t : ℕ) (call : Call) (r : Reply) (log : Journal) → is_plain call ≡ true → is_logged r ≡ true → answer_of s t call ≡ Ok r
+  pub plain_room : (t : ℕ) (call : Call) (r : Reply) (log : Journal) → is_plain call ≡ true
+      → is_logged r ≡ true → answer_of s t call ≡ Ok r
       → log ≡ record v.log { spare = log.spare } → length log.history + log.owed + 0 < log.limit
-  plain_room t call r log plain kept ok same = room_left this 0 log (plain_accepted (state_of (story_in v)) t call r plain (accepted this t call r ok) kept).room same
+  plain_room t call r log plain kept ok same =
+      room_left this 0 log (plain_accepted (state_of (story_in v)) t call r plain
+      (accepted this t call r ok) kept).room same

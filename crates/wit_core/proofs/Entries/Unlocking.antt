@@ -18,29 +18,41 @@ use Rattle.wit_core.specs.Seats.{with_seat, having_released}
 use Rattle.wit_core.proofs.Keeping.{Leaves}
 use Rattle.wit_core.proofs.Seen.{IsSeenAs}
 use Rattle.wit_core.proofs.Steps.{known-same, seats-unlock}
-use Rattle.wit_core.proofs.Entries.Accepting.{accepted, kind-now, known-now, left-by, owed_now, sane_next, seats-now, watch-now, within}
+use Rattle.wit_core.proofs.Entries.Accepting.{accepted, kind-now, known-now, left-by, owed_now}
+use Rattle.wit_core.proofs.Entries.Accepting.{sane_next, seats-now, watch-now, within}
 
 module _ {v : Inside} {s : Story} (this : IsSeenAs v s) where
-  module _ (t : ℕ) (l : LockNo) (spin : Bool) (kind : spin ≡ is_spin (lock_at (state_of s).known.locks l.0).made.class) where
-    release_held : (m : Mode) → answer_of s t (Unlock l m) ≡ Ok Unlocked → is_held t l.0 (history_in v) ≡ true
+  module _ (t : ℕ) (l : LockNo) (spin : Bool)
+      (kind : spin ≡ is_spin (lock_at (state_of s).known.locks l.0).made.class) where
+    release_held : (m : Mode) → answer_of s t (Unlock l m) ≡ Ok Unlocked
+        → is_held t l.0 (history_in v) ≡ true
     release_held m ok =
-        (unlock-held (start_in v) v.known.files (history_in v) t l.0 m Unlocked (sane_next this t (Unlock l m) Unlocked ok).1
-        (unlock_accepted (state_of (story_in v)) t l.0 m Unlocked (accepted this t (Unlock l m) Unlocked ok) refl)).0
+        (unlock-held (start_in v) v.known.files (history_in v) t l.0 m Unlocked
+        (sane_next this t (Unlock l m) Unlocked ok).1
+        (unlock_accepted (state_of (story_in v)) t l.0 m Unlocked
+        (accepted this t (Unlock l m) Unlocked ok) refl)).0
 
     pub unlock_owed : (m : Mode) → answer_of s t (Unlock l m) ≡ Ok Unlocked → 0 < v.log.owed
     unlock_owed m ok =
         let in_row = within this t (Unlock l m) Unlocked ok in
-        let less = owed-unlock v.limits.seats t l m (history_in v) (sane_next this t (Unlock l m) Unlocked ok) in_row.0 in_row.1 (release_held m ok) in
+        let less =
+        owed-unlock v.limits.seats t l m (history_in v)
+        (sane_next this t (Unlock l m) Unlocked ok) in_row.0 in_row.1 (release_held m ok) in
         omega (arith, less, owed_now this)
 
     pub leaves_unlock : (m : Mode) → answer_of s t (Unlock l m) ≡ Ok Unlocked
-        → Leaves v t (Unlock l m) Unlocked v.known.known v.known.live (with_seat t (having_released spin l.0) v.seats) v.watch (v.log.owed - (0 + 1))
+        → Leaves v t (Unlock l m) Unlocked v.known.known v.known.live
+        (with_seat t (having_released spin l.0) v.seats) v.watch (v.log.owed - (0 + 1))
     leaves_unlock m ok =
         let sane = sane_next this t (Unlock l m) Unlocked ok in
         let in_row = within this t (Unlock l m) Unlocked ok in
-        let less = owed-unlock v.limits.seats t l m (history_in v) sane in_row.0 in_row.1 (release_held m ok) in
+        let less =
+        owed-unlock v.limits.seats t l m (history_in v) sane in_row.0 in_row.1
+        (release_held m ok) in
         left-by this t (Unlock l m) Unlocked _ _ _ _ _
-        (known-now this ∙ known-same (start_in v) (history_in v) t (Unlock l m) Unlocked refl refl refl refl)
+        (known-now this ∙ known-same (start_in v) (history_in v) t
+        (Unlock l m) Unlocked refl refl refl refl)
         this.tied.live
-        (seats-unlock (start_in v) v.known.files (history_in v) v.seats (seats-now this) t in_row.0 in_row.1 l spin (kind-now this l.0 spin kind) m sane)
+        (seats-unlock (start_in v) v.known.files (history_in v) v.seats
+        (seats-now this) t in_row.0 in_row.1 l spin (kind-now this l.0 spin kind) m sane)
         (watch-now this) (omega (arith, less, owed_now this)) refl

@@ -13,20 +13,29 @@ use Rattle.wit_core.specs.Kept.{start_in, history_in, story_in}
 use Rattle.wit_core.proofs.Keeping.{Leaves}
 use Rattle.wit_core.proofs.Seen.{IsSeenAs}
 use Rattle.wit_core.proofs.Steps.{known-same, seats-same}
-use Rattle.wit_core.proofs.Entries.Accepting.{accepted, known-now, left-by, owed_now, room_left, sane_next, seats-now, within}
+use Rattle.wit_core.proofs.Entries.Accepting.{accepted, known-now, left-by, owed_now, room_left}
+use Rattle.wit_core.proofs.Entries.Accepting.{sane_next, seats-now, within}
 
 module _ {v : Inside} {s : Story} (this : IsSeenAs v s) where
-  pub watch_room : (t : ℕ) (w : Watch) (log : Journal) → answer_of s t (SetWatch w) ≡ Ok Done → log ≡ record v.log { spare = log.spare }
+  pub watch_room : (t : ℕ) (w : Watch) (log : Journal) → answer_of s t (SetWatch w) ≡ Ok Done
+      → log ≡ record v.log { spare = log.spare }
       → length log.history + log.owed + 0 < log.limit
-  watch_room t w log ok same = room_left this 0 log (watch_accepted (state_of (story_in v)) t w Done (accepted this t (SetWatch w) Done ok)).room same
+  watch_room t w log ok same =
+      room_left this 0 log (watch_accepted (state_of (story_in v)) t w Done
+      (accepted this t (SetWatch w) Done ok)).room same
 
-  pub leaves_watch : (t : ℕ) (w : Watch) → answer_of s t (SetWatch w) ≡ Ok Done → Leaves v t (SetWatch w) Done v.known.known v.known.live v.seats w (v.log.owed + 0)
+  pub leaves_watch : (t : ℕ) (w : Watch) → answer_of s t (SetWatch w) ≡ Ok Done
+      → Leaves v t (SetWatch w) Done v.known.known v.known.live v.seats w (v.log.owed + 0)
   leaves_watch t w ok =
       let sane = sane_next this t (SetWatch w) Done ok in
       let in_row = within this t (SetWatch w) Done ok in
-      let same = owed-same v.limits.seats t (SetWatch w) Done (history_in v) sane in_row.0 in_row.1 refl refl in
+      let same =
+      owed-same v.limits.seats t (SetWatch w) Done
+      (history_in v) sane in_row.0 in_row.1 refl refl in
       left-by this t (SetWatch w) Done _ _ _ _ _
-      (known-now this ∙ known-same (start_in v) (history_in v) t (SetWatch w) Done refl refl refl refl)
+      (known-now this ∙ known-same (start_in v) (history_in v) t
+      (SetWatch w) Done refl refl refl refl)
       this.tied.live
-      (seats-same (start_in v) v.known.files (history_in v) v.seats (seats-now this) t in_row.0 in_row.1 (SetWatch w) Done sane refl refl)
+      (seats-same (start_in v) v.known.files (history_in v) v.seats
+      (seats-now this) t in_row.0 in_row.1 (SetWatch w) Done sane refl refl)
       refl (omega (arith, same, owed_now this)) refl

@@ -9,8 +9,9 @@ use crate::verifier::Verifier;
 use wit_model::{AssertAnswer, Fault, LockAssert, LockNo, SeatNo};
 
 impl Verifier {
-    /// Asserts how a seat holds a lock, or that it doesn't: `witness_assert` of witness(4), whose panics are answers here. Where not
-    /// everything is watched it is `Skipped`. It isn't logged, and takes no memory.
+    /// Asserts how a seat holds a lock, or that it doesn't: `witness_assert` of witness(4), whose
+    /// panics are answers here. Where not everything is watched it is `Skipped`. It isn't logged,
+    /// and takes no memory.
     ///
     /// # Errors
     /// In this order: `UnknownSeat`; `UnknownLock`.
@@ -34,7 +35,8 @@ impl Verifier {
     // What an assertion of a seat comes to.
     fn assertion(&self, seat: SeatNo, lock: LockNo, flags: LockAssert) -> AssertAnswer
         requires { is_seat (state_of self.now) seat.0 ≡ true }
-        ensures { result ≡ assertion (state_of self.now).watch flags (held_by (state_of self.now) seat.0 lock.0) }
+        ensures { result ≡ assertion (state_of self.now).watch flags
+            (held_by (state_of self.now) seat.0 lock.0) }
     {
         let spin = self.class_of_lock(lock).is_spin();
         self.seats.assert_is(seat, spin, lock, self.watch, flags)

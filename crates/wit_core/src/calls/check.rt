@@ -6,7 +6,8 @@ ghost use Rattle.wit_model.specs.declared.faults.Fault.TheVariants.{OutOfMemory}
 ghost use Rattle.wit_model.specs.Rules.Preparing.{IsPrepared, Prepares};
 ghost use Rattle.wit_model.specs.Rules.Refusals.{IsRefusal};
 ghost use Rattle.wit_model.specs.Rules.State.{state_of, seat_at, is_seat, is_live};
-ghost use Rattle.wit_model.specs.Rules.Step.{AnswersOrFails, IsEntered, answer_of, is_logged, logged};
+ghost use Rattle.wit_model.specs.Rules.Step.{AnswersOrFails, IsEntered, answer_of, is_logged};
+ghost use Rattle.wit_model.specs.Rules.Step.{logged};
 ghost use Rattle.wit_model.specs.Rules.Verdict.{typed_request, verdict};
 ghost use Rattle.wit_check.specs.Answers.{answer_by};
 ghost use Rattle.wit_core.specs.Verdict.{orders_taught};
@@ -22,20 +23,25 @@ use wit_model::{
 };
 
 impl Verifier {
-    /// Asks whether a lock may be acquired here: WITNESS's `checkorder`. Its request is then pending until it is noted or given up.
-    /// The answer is `Pass`; `Adopted` where the order behind the last held lock was learnt; `Duplicate` where that lock has the
-    /// requested type, and `Reversal` where the request breaks an order, which are reports; or `Silent` where that was reported
-    /// before, or where the broken order is that of a blessed pair. A second lock of a type that the lock or the request allows passes.
-    /// Where not everything is watched it is always `Pass`.
+    /// Asks whether a lock may be acquired here: WITNESS's `checkorder`. Its request is then
+    /// pending until it is noted or given up. The answer is `Pass`; `Adopted` where the order
+    /// behind the last held lock was learnt; `Duplicate` where that lock has the requested type,
+    /// and `Reversal` where the request breaks an order, which are reports; or `Silent` where that
+    /// was reported before, or where the broken order is that of a blessed pair. A second lock of a
+    /// type that the lock or the request allows passes. Where not everything is watched it is
+    /// always `Pass`.
     ///
-    /// In the profile that compares with all held locks it is `AdoptedAll` in place of `Adopted`, where new orders were learnt, with all
-    /// of them, that behind the newest lock first; and `Duplicate` where any of them has the requested type, the newest of which is told.
+    /// In the profile that compares with all held locks it is `AdoptedAll` in place of `Adopted`,
+    /// where new orders were learnt, with all of them, that behind the newest lock first; and
+    /// `Duplicate` where any of them has the requested type, the newest of which is told.
     ///
     /// # Errors
-    /// In this order: `UnknownSeat`; `UnknownLock`; `UnknownFile`; `ModeNotAllowed` for a mutex asked for shared;
-    /// `Pending` where the seat has a request; `RecursionTooDeep`, unless nothing is watched, where it has acquired the lock 65,536 times;
-    /// where everything is watched, `SleepUnderSpin` for a lock of the sleep kind where the seat holds a spin lock, and for a lock that
-    /// it holds `SharedOfExclusive`, `ExclusiveOfShared` and `Recursed`; `LogFull`; `OutOfMemory`, but not where it is prepared.
+    /// In this order: `UnknownSeat`; `UnknownLock`; `UnknownFile`; `ModeNotAllowed` for a mutex
+    /// asked for shared; `Pending` where the seat has a request; `RecursionTooDeep`, unless nothing
+    /// is watched, where it has acquired the lock 65,536 times; where everything is watched,
+    /// `SleepUnderSpin` for a lock of the sleep kind where the seat holds a spin lock, and for a
+    /// lock that it holds `SharedOfExclusive`, `ExclusiveOfShared` and `Recursed`; `LogFull`;
+    /// `OutOfMemory`, but not where it is prepared.
     pub fn check(
         &mut self,
         seat: SeatNo,
@@ -79,7 +85,8 @@ impl Verifier {
     }
 
     fn answer_check(&self, seat: SeatNo, request: Request) -> Result<Reply, Fault>
-        ensures ok { IfOk result (λ r. (answer_of self.now seat.0 (Check request) ≡ Ok r) × (is_logged r ≡ true)) }
+        ensures ok { IfOk result (λ r. (answer_of self.now seat.0 (Check request) ≡ Ok r)
+            × (is_logged r ≡ true)) }
         ensures err { IfErr result (λ e. (answer_of self.now seat.0 (Check request) ≡ Err e)
             ⊎ ((e ≡ OutOfMemory) × IsEntered (answer_of self.now seat.0 (Check request)))) }
     {
@@ -99,7 +106,8 @@ impl Verifier {
         requires seat { is_seat (state_of self.now) seat.0 ≡ true }
         requires lock { is_live (state_of self.now) request.lock.0 ≡ true }
         ensures { let s = state_of self.now in
-            answer_by (orders_taught s seat.0 request) result ≡ verdict s.profile s.known s.watch (seat_at s seat.0) request }
+            answer_by (orders_taught s seat.0 request) result
+            ≡ verdict s.profile s.known s.watch (seat_at s seat.0) request }
     {
         let known = &self.known;
         let chains = Chains {
@@ -117,7 +125,8 @@ impl Verifier {
         )
     }
 
-    // The orders that the request of a seat for a live lock teaches behind all the locks of its kind that it holds.
+    // The orders that the request of a seat for a live lock teaches behind all the locks of its
+    // kind that it holds.
     fn new_orders(&self, seat: SeatNo, request: Request) -> Result<NewOrders, AllocError>
         requires seat { is_seat (state_of self.now) seat.0 ≡ true }
         requires lock { is_live (state_of self.now) request.lock.0 ≡ true }
@@ -153,12 +162,15 @@ impl Verifier {
         }
     }
 
-    // The reply that tells the verdict on a request; its fault, or want of memory, where it has none.
+    // The reply that tells the verdict on a request; its fault, or want of memory, where it has
+    // none.
     fn reply_to(&self, seat: SeatNo, request: Request, verdict: Verdict) -> Result<Reply, Fault>
         requires seat { is_seat (state_of self.now) seat.0 ≡ true }
         requires lock { is_live (state_of self.now) request.lock.0 ≡ true }
-        ensures ok { IfOk result (λ reply. answer_by (orders_taught (state_of self.now) seat.0 request) verdict ≡ Ok reply) }
-        ensures err { IfErr result (IsRefusal (answer_by (orders_taught (state_of self.now) seat.0 request) verdict)) }
+        ensures ok { IfOk result (λ reply. answer_by
+            (orders_taught (state_of self.now) seat.0 request) verdict ≡ Ok reply) }
+        ensures err { IfErr result (IsRefusal
+            (answer_by (orders_taught (state_of self.now) seat.0 request) verdict)) }
     {
         let alloc = self.alloc;
         match verdict {

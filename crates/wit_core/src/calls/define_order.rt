@@ -16,14 +16,15 @@ use wit_check::define;
 use wit_model::{Call, Entry, Fault, LockNo, Reply, SeatNo};
 
 impl Verifier {
-    /// Defines an order without an acquisition, as `witness_defineorder` does: the first lock's type is before the second one's from
-    /// now on. It is `Adopted`; or `Known` where it is a direct order already; or, where nothing is watched, `Ignored`, which is not
-    /// logged.
+    /// Defines an order without an acquisition, as `witness_defineorder` does: the first lock's
+    /// type is before the second one's from now on. It is `Adopted`; or `Known` where it is a
+    /// direct order already; or, where nothing is watched, `Ignored`, which is not logged.
     ///
     /// # Errors
-    /// In this order: `UnknownSeat`; `UnknownLock` for either lock; `Pending` where the seat has a request; and where something is watched:
-    /// `KindMismatch` where one lock is a spin lock and the other isn't; `SameType` where both are of one type; `WrongOrder` where the
-    /// second one's type is before the first one's; `LogFull`; `OutOfMemory`, but not where it is prepared.
+    /// In this order: `UnknownSeat`; `UnknownLock` for either lock; `Pending` where the seat has a
+    /// request; and where something is watched: `KindMismatch` where one lock is a spin lock and
+    /// the other isn't; `SameType` where both are of one type; `WrongOrder` where the second one's
+    /// type is before the first one's; `LogFull`; `OutOfMemory`, but not where it is prepared.
     pub fn define_order(
         &mut self,
         seat: SeatNo,

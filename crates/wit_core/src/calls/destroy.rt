@@ -10,12 +10,13 @@ use std::alloc::AllocError;
 use wit_model::{Call, Entry, Fault, LockNo, Reply, SeatNo};
 
 impl Verifier {
-    /// Tells that a lock is destroyed, as `lock_destroy` does: no call may name it any more. Its number isn't used again; its name and
-    /// its type stay for readers and texts, and so do the orders of its type.
+    /// Tells that a lock is destroyed, as `lock_destroy` does: no call may name it any more. Its
+    /// number isn't used again; its name and its type stay for readers and texts, and so do the
+    /// orders of its type.
     ///
     /// # Errors
-    /// In this order: `UnknownSeat`; `UnknownLock`; `Pending` where the seat has a request; `Busy` where a seat, whichever it is, holds
-    /// the lock or asks for it; `LogFull`; `OutOfMemory`.
+    /// In this order: `UnknownSeat`; `UnknownLock`; `Pending` where the seat has a request; `Busy`
+    /// where a seat, whichever it is, holds the lock or asks for it; `LogFull`; `OutOfMemory`.
     pub fn destroy(&mut self, seat: SeatNo, lock: LockNo) -> Result<Reply, Fault>
         ensures { AnswersOrFails self.old seat.0 (Destroy lock) result self.new }
     {

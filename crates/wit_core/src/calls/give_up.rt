@@ -9,11 +9,12 @@ use crate::verifier::Verifier;
 use wit_model::{Call, Entry, Fault, LockNo, Reply, SeatNo};
 
 impl Verifier {
-    /// Tells that the lock asked for wasn't acquired, as where a wait was broken off: the seat asks for nothing any more. What its
-    /// check taught stays. It takes no memory.
+    /// Tells that the lock asked for wasn't acquired, as where a wait was broken off: the seat asks
+    /// for nothing any more. What its check taught stays. It takes no memory.
     ///
     /// # Errors
-    /// In this order: `UnknownSeat`; `UnknownLock`; `NotRequested` where the seat has no request for the lock.
+    /// In this order: `UnknownSeat`; `UnknownLock`; `NotRequested` where the seat has no request
+    /// for the lock.
     pub fn give_up(&mut self, seat: SeatNo, lock: LockNo) -> Result<Reply, Fault>
         ensures { Answers self.old seat.0 (GiveUp lock) result self.new }
     {

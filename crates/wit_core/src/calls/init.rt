@@ -7,7 +7,8 @@ ghost use Rattle.wit_model.specs.declared.calls.Reply.TheVariants.{Made};
 ghost use Rattle.wit_model.specs.declared.faults.Fault.TheVariants.{OutOfMemory};
 ghost use Rattle.wit_model.specs.Rules.Names.{is_name};
 ghost use Rattle.wit_model.specs.Rules.State.{state_of};
-ghost use Rattle.wit_model.specs.Rules.Step.{AnswersOrFails, answer_of, logged, step_typed, is_good_name};
+ghost use Rattle.wit_model.specs.Rules.Step.{AnswersOrFails, answer_of, logged, step_typed};
+ghost use Rattle.wit_model.specs.Rules.Step.{is_good_name};
 ghost use Rattle.wit_core.specs.Replies.{new_lock, made_reply};
 
 use crate::verifier::Verifier;
@@ -20,9 +21,9 @@ impl Verifier {
     /// Makes a lock, as `lock_init` does: its number is the next one.
     ///
     /// # Errors
-    /// In this order: `UnknownSeat`; `Pending` where the seat has a request; `BadName` where a name isn't one;
-    /// `ClassMismatch` where its type is known with another class; `TypesFull` and `LocksFull` where no number
-    /// is left; `LogFull`; `OutOfMemory`.
+    /// In this order: `UnknownSeat`; `Pending` where the seat has a request; `BadName` where a name
+    /// isn't one; `ClassMismatch` where its type is known with another class; `TypesFull` and
+    /// `LocksFull` where no number is left; `LogFull`; `OutOfMemory`.
     pub fn init(
         &mut self,
         seat: SeatNo,
@@ -32,7 +33,8 @@ impl Verifier {
         flags: LockFlags,
     ) -> Result<LockNo, Fault>
         ensures { AnswersOrFails self.old seat.0
-            (Init (new_lock name.now (option_copied type_name.entry) class flags)) (made_reply result) self.new }
+            (Init (new_lock name.now (option_copied type_name.entry) class flags))
+            (made_reply result) self.new }
     {
         let number = self.answer_init(seat, name, type_name, class, flags)?;
         let made = new_lock(self.alloc, name, type_name, class, flags)?;

@@ -14,12 +14,12 @@ use std::alloc::AllocError;
 use wit_model::{Call, Entry, Fault, LockNo, Reply, SeatNo};
 
 impl Verifier {
-    /// Tells that a held lock must not be released, until `releaseok`: `witness_norelease` of subr_witness.c. Where not everything is
-    /// watched it is `Ignored`, which is not logged.
+    /// Tells that a held lock must not be released, until `releaseok`: `witness_norelease` of
+    /// subr_witness.c. Where not everything is watched it is `Ignored`, which is not logged.
     ///
     /// # Errors
-    /// In this order: `UnknownSeat`; `UnknownLock`; `Pending` where the seat has a request; `NotLocked` where everything is watched;
-    /// `LogFull`; `OutOfMemory`.
+    /// In this order: `UnknownSeat`; `UnknownLock`; `Pending` where the seat has a request;
+    /// `NotLocked` where everything is watched; `LogFull`; `OutOfMemory`.
     pub fn norelease(&mut self, seat: SeatNo, lock: LockNo) -> Result<Reply, Fault>
         ensures { AnswersOrFails self.old seat.0 (NoRelease lock) result self.new }
     {
@@ -30,8 +30,8 @@ impl Verifier {
         Ok(reply)
     }
 
-    /// Tells that a held lock may be released again: `witness_releaseok` of subr_witness.c. Where not everything is watched it is
-    /// `Ignored`, which is not logged.
+    /// Tells that a held lock may be released again: `witness_releaseok` of subr_witness.c. Where
+    /// not everything is watched it is `Ignored`, which is not logged.
     ///
     /// # Errors
     /// Those of `norelease`.

@@ -11,12 +11,14 @@ use crate::verifier::Verifier;
 use wit_model::{Call, Entry, Fault, Instance, LockNo, Reply, Request, SeatNo};
 
 impl Verifier {
-    /// Tells that the lock asked for was acquired: WITNESS's `lock`. It is `Recorded`; or `Unrecorded` where nothing is watched any
-    /// more; or `Exhausted`, a report that comes once, where no chunk is free for it: it isn't recorded then, and nothing is watched
-    /// from now on. It takes no memory.
+    /// Tells that the lock asked for was acquired: WITNESS's `lock`. It is `Recorded`; or
+    /// `Unrecorded` where nothing is watched any more; or `Exhausted`, a report that comes once,
+    /// where no chunk is free for it: it isn't recorded then, and nothing is watched from now on.
+    /// It takes no memory.
     ///
     /// # Errors
-    /// In this order: `UnknownSeat`; `UnknownLock`; `NotRequested` where the seat has no request for the lock.
+    /// In this order: `UnknownSeat`; `UnknownLock`; `NotRequested` where the seat has no request
+    /// for the lock.
     pub fn note(&mut self, seat: SeatNo, lock: LockNo) -> Result<Reply, Fault>
         ensures { Answers self.old seat.0 (Note lock) result self.new }
     {
@@ -25,7 +27,8 @@ impl Verifier {
     }
 
     fn enter_note(&mut self, seat: SeatNo, lock: LockNo, request: Request) -> Acquisition
-        requires accepted { answer_of self.old seat.0 (Note lock) ≡ Ok (recorded_reply (state_of self.old) seat.0 lock.0) }
+        requires accepted { answer_of self.old seat.0 (Note lock)
+            ≡ Ok (recorded_reply (state_of self.old) seat.0 lock.0) }
         requires request { (seat_at (state_of self.old) seat.0).pending ≡ Some request }
         ensures result { reply_to result ≡ recorded_reply (state_of self.old) seat.0 lock.0 }
         ensures entered { self.new ≡ logged self.old seat.0 (Note lock) (reply_to result) }

@@ -10,11 +10,14 @@ use crate::verifier::Verifier;
 use wit_model::{Call, Fault, Reply, SeatNo};
 
 impl Verifier {
-    /// The answer that a call would get, with all that it will need asked for: room in the log, for its reply, and for what it teaches.
-    /// The same call, made next, gets just this answer, and isn't refused for want of memory. Nothing that readers tell changes. Any
-    /// other call that is logged lets it go; so does another one that is prepared, unless that one would be passed over.
+    /// The answer that a call would get, with all that it will need asked for: room in the log, for
+    /// its reply, and for what it teaches. The same call, made next, gets just this answer, and
+    /// isn't refused for want of memory. Nothing that readers tell changes. Any other call that is
+    /// logged lets it go; so does another one that is prepared, unless that one would be passed
+    /// over.
     ///
-    /// With the orders that the answer teaches, all orders are between numbers of types, and none stands twice.
+    /// With the orders that the answer teaches, all orders are between numbers of types, and none
+    /// stands twice.
     ///
     /// The call is a check, or defines an order.
     ///
@@ -24,7 +27,8 @@ impl Verifier {
         requires { IsPreparable call.now }
         ensures answer { Prepares self.old seat.0 call.now result self.new }
         ensures among { IfOk result (λ reply.
-            OrdersAmong self.old.start.sizes.types (adopted call.now reply ++ orders_of self.old.start self.old.history)) }
+            OrdersAmong self.old.start.sizes.types
+            (adopted call.now reply ++ orders_of self.old.start self.old.history)) }
         ensures distinct { IfOk result (λ reply.
             AreDistinct (adopted call.now reply ++ orders_of self.old.start self.old.history)) }
     {

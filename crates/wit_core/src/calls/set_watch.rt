@@ -10,13 +10,14 @@ use std::alloc::AllocError;
 use wit_model::{Call, Entry, Fault, Reply, SeatNo, Watch};
 
 impl Verifier {
-    /// Sets how much is watched, as the sysctl `debug.witness.watch` does: at `On` everything; at `Quiet` no request is checked or
-    /// teaches an order, though one may be defined, and what is held is recorded still; at `Off` no acquisition is recorded any more,
-    /// for good. What the seats hold stays, its releases are taken, and the level that stands may be set again.
+    /// Sets how much is watched, as the sysctl `debug.witness.watch` does: at `On` everything; at
+    /// `Quiet` no request is checked or teaches an order, though one may be defined, and what is
+    /// held is recorded still; at `Off` no acquisition is recorded any more, for good. What the
+    /// seats hold stays, its releases are taken, and the level that stands may be set again.
     ///
     /// # Errors
-    /// In this order: `UnknownSeat`; `Pending` where the seat has a request; `WatchOff` for another level where nothing is watched
-    /// any more; `LogFull`; `OutOfMemory`.
+    /// In this order: `UnknownSeat`; `Pending` where the seat has a request; `WatchOff` for another
+    /// level where nothing is watched any more; `LogFull`; `OutOfMemory`.
     pub fn set_watch(&mut self, seat: SeatNo, watch: Watch) -> Result<Reply, Fault>
         ensures { AnswersOrFails self.old seat.0 (SetWatch watch) result self.new }
     {

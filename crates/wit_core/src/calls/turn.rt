@@ -15,14 +15,16 @@ use std::alloc::AllocError;
 use wit_model::{Call, Class, Entry, Fault, Instance, LockNo, Mode, Reply, SeatNo, Watch};
 
 impl Verifier {
-    /// Tells that a lock held shared is held exclusively from now on, as after `rw_try_upgrade` of rwlock(9) and `sx_try_upgrade` of
-    /// sx(9): WITNESS's `upgrade`. Its place and its site stay. Where not everything is watched and the lock isn't held by the record,
-    /// it is `Ignored`, which is not logged.
+    /// Tells that a lock held shared is held exclusively from now on, as after `rw_try_upgrade` of
+    /// rwlock(9) and `sx_try_upgrade` of sx(9): WITNESS's `upgrade`. Its place and its site stay.
+    /// Where not everything is watched and the lock isn't held by the record, it is `Ignored`,
+    /// which is not logged.
     ///
     /// # Errors
-    /// In this order: `UnknownSeat`; `UnknownLock`; `Pending` where the seat has a request; `NotUpgradable` for a mutex; `NotLocked`
-    /// where everything is watched; `UpgradeOfExclusive` where the lock is held exclusively; `UpgradeRecursed` where it was acquired
-    /// again; `LogFull`; `OutOfMemory`.
+    /// In this order: `UnknownSeat`; `UnknownLock`; `Pending` where the seat has a request;
+    /// `NotUpgradable` for a mutex; `NotLocked` where everything is watched; `UpgradeOfExclusive`
+    /// where the lock is held exclusively; `UpgradeRecursed` where it was acquired again;
+    /// `LogFull`; `OutOfMemory`.
     pub fn upgrade(&mut self, seat: SeatNo, lock: LockNo) -> Result<Reply, Fault>
         ensures { AnswersOrFails self.old seat.0 (Upgrade lock) result self.new }
     {
@@ -33,14 +35,16 @@ impl Verifier {
         Ok(reply)
     }
 
-    /// Tells that a lock held exclusively is held shared from now on, as after `rw_downgrade` of rwlock(9) and `sx_downgrade` of sx(9):
-    /// WITNESS's `downgrade`. Its place and its site stay. Where not everything is watched and the lock isn't held by the record,
-    /// it is `Ignored`, which is not logged.
+    /// Tells that a lock held exclusively is held shared from now on, as after `rw_downgrade` of
+    /// rwlock(9) and `sx_downgrade` of sx(9): WITNESS's `downgrade`. Its place and its site stay.
+    /// Where not everything is watched and the lock isn't held by the record, it is `Ignored`,
+    /// which is not logged.
     ///
     /// # Errors
-    /// In this order: `UnknownSeat`; `UnknownLock`; `Pending` where the seat has a request; `NotUpgradable` for a mutex; `NotLocked`
-    /// where everything is watched; `DowngradeOfShared` where the lock is held shared; `DowngradeRecursed` where it was acquired
-    /// again; `LogFull`; `OutOfMemory`.
+    /// In this order: `UnknownSeat`; `UnknownLock`; `Pending` where the seat has a request;
+    /// `NotUpgradable` for a mutex; `NotLocked` where everything is watched; `DowngradeOfShared`
+    /// where the lock is held shared; `DowngradeRecursed` where it was acquired again; `LogFull`;
+    /// `OutOfMemory`.
     pub fn downgrade(&mut self, seat: SeatNo, lock: LockNo) -> Result<Reply, Fault>
         ensures { AnswersOrFails self.old seat.0 (Downgrade lock) result self.new }
     {
@@ -54,7 +58,8 @@ impl Verifier {
     // The answer to a turn to this mode.
     fn answer_turn(&self, seat: SeatNo, lock: LockNo, mode: Mode) -> Result<Reply, Fault>
         ensures answer { result ≡ step_turn (state_of self.now) seat.0 lock.0
-            (turn_answer mode (state_of self.now).watch (held_by (state_of self.now) seat.0 lock.0)) }
+            (turn_answer mode (state_of self.now).watch
+            (held_by (state_of self.now) seat.0 lock.0)) }
         ensures logged { IfOk result (λ r. is_logged r ≡ true → r ≡ Done) }
     {
         self.before_naming(seat, lock)?;
@@ -107,7 +112,8 @@ fn is_upgradable(class: Class) -> bool
     matches!(class, Class::Rw | Class::Sx)
 }
 
-// A held lock is turned to this mode: but not to the one that it has, and not where it was acquired again.
+// A held lock is turned to this mode: but not to the one that it has, and not where it was acquired
+// again.
 fn judge_turn(held: Instance, mode: Mode) -> Result<Reply, Fault>
     ensures answer { (watch : Watch) → result ≡ turn_answer mode watch (Some held) }
     ensures done { IfOk result (λ r. r ≡ Done) }
@@ -121,7 +127,8 @@ fn judge_turn(held: Instance, mode: Mode) -> Result<Reply, Fault>
     }
 }
 
-/// A call about a lock that isn't held: a fault where everything is watched; where less is, it is passed over.
+/// A call about a lock that isn't held: a fault where everything is watched; where less is, it is
+/// passed over.
 pub(crate) fn unless_held(watch: Watch) -> Result<Reply, Fault>
     ensures answer { result ≡ unless_held watch }
     ensures passed { IfOk result (λ r. is_logged r ≡ false) }

@@ -11,13 +11,15 @@ use crate::verifier::Verifier;
 use wit_model::{Call, Entry, Fault, LockNo, Mode, Reply, SeatNo};
 
 impl Verifier {
-    /// Tells that a lock held in this mode is released: WITNESS's `unlock`. It is `Unlocked`; or, where not everything is watched
-    /// and the lock isn't held by the record, `Ignored`, which is not logged. It takes no memory.
+    /// Tells that a lock held in this mode is released: WITNESS's `unlock`. It is `Unlocked`; or,
+    /// where not everything is watched and the lock isn't held by the record, `Ignored`, which is
+    /// not logged. It takes no memory.
     ///
     /// # Errors
-    /// In this order: `UnknownSeat`; `UnknownLock`; `Pending` where the seat has a request; and where everything is watched:
-    /// `NotLocked`; `SharedUnlock` and `ExclusiveUnlock` where the lock is held in the other mode; `ForbiddenUnlock` where it must
-    /// not be released and was acquired once.
+    /// In this order: `UnknownSeat`; `UnknownLock`; `Pending` where the seat has a request; and
+    /// where everything is watched: `NotLocked`; `SharedUnlock` and `ExclusiveUnlock` where the
+    /// lock is held in the other mode; `ForbiddenUnlock` where it must not be released and was
+    /// acquired once.
     pub fn unlock(&mut self, seat: SeatNo, lock: LockNo, mode: Mode) -> Result<Reply, Fault>
         ensures { Answers self.old seat.0 (Unlock lock mode) result self.new }
     {
@@ -29,7 +31,8 @@ impl Verifier {
         }
     }
 
-    // Records a release that nothing before it refuses: false where it is passed over. The lock is looked for once.
+    // Records a release that nothing before it refuses: false where it is passed over. The lock is
+    // looked for once.
     fn release(&mut self, seat: SeatNo, lock: LockNo, mode: Mode) -> Result<bool, Fault>
         requires seat { is_seat (state_of self.old) seat.0 ≡ true }
         requires admitted { Admits (before_naming (state_of self.old) seat.0 lock.0) }

@@ -12,8 +12,9 @@ use wit_held::{is_allowed, is_named, warn_count};
 use wit_model::{Fault, Instance, LockNo, SeatNo, WarnFlags};
 
 impl Verifier {
-    /// How many locks a seat holds where it should hold none but the named one, or such as the flags allow: `witness_warn` of
-    /// witness(4). Where not everything is watched it is none. It isn't logged, and takes no memory.
+    /// How many locks a seat holds where it should hold none but the named one, or such as the
+    /// flags allow: `witness_warn` of witness(4). Where not everything is watched it is none. It
+    /// isn't logged, and takes no memory.
     ///
     /// # Errors
     /// In this order: `UnknownSeat`; `UnknownLock` for a named lock.
@@ -44,7 +45,8 @@ impl Verifier {
         }
     }
 
-    /// How many held locks a seat is warned of, whatever lock is named: 0 for a seat that there isn't. It takes no memory.
+    /// How many held locks a seat is warned of, whatever lock is named: 0 for a seat that there
+    /// isn't. It takes no memory.
     pub fn warned(&self, seat: SeatNo, named: Option<LockNo>, flags: WarnFlags) -> usize
         ensures { result ≡ length (warned (state_of self.now) seat.0 named flags) }
     {
@@ -60,9 +62,10 @@ impl Verifier {
         warn_count(self.seats.lists(), &basis, seat, self.watch, named, flags)
     }
 
-    /// Whether a seat may hold a lock of the sleep kind where it should hold none: `warn` counts all but these, for which it is the named
-    /// one, Giant under `GIANTOK`, or one whose holder may sleep under `SLEEPOK` (sx(9)). A lock that was never made has no type, so none
-    /// but the named one is allowed. It takes no memory.
+    /// Whether a seat may hold a lock of the sleep kind where it should hold none: `warn` counts
+    /// all but these, for which it is the named one, Giant under `GIANTOK`, or one whose holder may
+    /// sleep under `SLEEPOK` (sx(9)). A lock that was never made has no type, so none but the named
+    /// one is allowed. It takes no memory.
     pub fn is_allowed(&self, held: Instance, named: Option<LockNo>, flags: WarnFlags) -> bool
         ensures { result ≡ is_allowed (basis_of (state_of self.now).known) named flags held }
     {

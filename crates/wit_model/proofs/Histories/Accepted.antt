@@ -1,5 +1,6 @@
 -- What the acceptance of a call says: each fault's absence, and the reply.
-use Rattle.std.proofs.Common.{◌≡◌, ℕ, ◌+◌, Bool, true, false, not, ◌&&◌, cond, eqb, nat_le, length, is_some, Option, Some, None, Result, Ok, Err, refl, ap, sym, ◌∙◌}
+use Rattle.std.proofs.Common.{◌≡◌, ℕ, ◌+◌, Bool, true, false, not, ◌&&◌, cond, eqb, nat_le, length}
+use Rattle.std.proofs.Common.{is_some, Option, Some, None, Result, Ok, Err, refl, ap, sym, ◌∙◌}
 use Rattle.std.proofs.lemmas.Bool.{eqb-true, false≢true, and_parts, not-true}
 use Rattle.wit_model.specs.declared.faults.Fault.{Fault}
 use Rattle.wit_model.specs.declared.faults.Fault.TheVariants.{LogFull}
@@ -10,23 +11,30 @@ use Rattle.wit_model.specs.declared.locks.Instance.{Instance}
 use Rattle.wit_model.specs.declared.calls.NewLock.{NewLock}
 use Rattle.wit_model.specs.declared.calls.Request.{Request}
 use Rattle.wit_model.specs.declared.calls.Reply.{Reply}
-use Rattle.wit_model.specs.declared.calls.Reply.TheVariants.{Made, Done, Recorded, Exhausted, Unrecorded, Unlocked}
+use Rattle.wit_model.specs.declared.calls.Reply.TheVariants.{Made, Done, Recorded, Exhausted}
+use Rattle.wit_model.specs.declared.calls.Reply.TheVariants.{Unrecorded, Unlocked}
 use Rattle.wit_model.specs.Rules.Names.{is_name}
 use Rattle.wit_model.specs.Rules.History.{is_on, is_off}
 use Rattle.wit_model.specs.Rules.Types.{type_name_of, is_enrolled, is_otherwise}
 use Rattle.wit_model.specs.Rules.Locks.{lock_at, is_destroyed}
 use Rattle.wit_model.specs.Rules.State.{State, seat_at, is_seat, is_live, has_room}
 use Rattle.wit_model.specs.Rules.Verdict.{is_exclusive, verdict}
-use Rattle.wit_model.specs.Rules.Step.{held_by, is_pending, is_for, is_good_name, is_shareable, is_too_deep, with_room, is_exhausted, recorded_reply, released, let_go, step_init, step_check, step_note, step_note_try, step_give_up, step_unlock, step_set_watch, is_logged}
+use Rattle.wit_model.specs.Rules.Step.{held_by, is_pending, is_for, is_good_name, is_shareable}
+use Rattle.wit_model.specs.Rules.Step.{is_too_deep, with_room, is_exhausted, recorded_reply}
+use Rattle.wit_model.specs.Rules.Step.{released, let_go, step_init, step_check, step_note}
+use Rattle.wit_model.specs.Rules.Step.{step_note_try, step_give_up, step_unlock, step_set_watch}
+use Rattle.wit_model.specs.Rules.Step.{is_logged}
 use Rattle.wit_model.specs.Rules.Numbers.{is_given, is_number}
 use Rattle.wit_model.specs.Rules.Destroying.{is_used, step_destroy}
 
 -- a fault that doesn't apply is passed by
-pub passed : (b : Bool) (f : Fault) (rest : Result Reply Fault) (r : Reply) → cond b (Err f) rest ≡ Ok r → (b ≡ false) × (rest ≡ Ok r)
+pub passed : (b : Bool) (f : Fault) (rest : Result Reply Fault) (r : Reply)
+    → cond b (Err f) rest ≡ Ok r → (b ≡ false) × (rest ≡ Ok r)
 passed true f rest r ok = (cc)
 passed false f rest r ok = (refl, ok)
 
-pub passed_not : (b : Bool) (f : Fault) (rest : Result Reply Fault) (r : Reply) → cond (not b) (Err f) rest ≡ Ok r → (b ≡ true) × (rest ≡ Ok r)
+pub passed_not : (b : Bool) (f : Fault) (rest : Result Reply Fault) (r : Reply)
+    → cond (not b) (Err f) rest ≡ Ok r → (b ≡ true) × (rest ≡ Ok r)
 passed_not true f rest r ok = (refl, ok)
 passed_not false f rest r ok = (cc)
 
@@ -37,7 +45,8 @@ pub same-request : (a b : Request) → ◌≡◌ {A = Option Request} (Some a) (
 same-request a b e = cc
 
 -- a pending request for this lock
-pub asked-lock : (l : ℕ) (o : Option Request) → is_for l o ≡ true → (q : Request) × (o ≡ Some q) × (q.lock.0 ≡ l)
+pub asked-lock : (l : ℕ) (o : Option Request) → is_for l o ≡ true
+    → (q : Request) × (o ≡ Some q) × (q.lock.0 ≡ l)
 asked-lock l None is = absurd (false≢true is)
 asked-lock l (Some q) is = (q, refl, eqb-true q.lock.0 l is)
 
@@ -47,40 +56,59 @@ live-given s l is = (and_parts (is_given s.known.locks l) (not (is_destroyed s.d
 
 -- and isn't destroyed
 pub live-undestroyed : (s : State) (l : ℕ) → is_live s l ≡ true → is_destroyed s.destroyed l ≡ false
-live-undestroyed s l is = not-true (is_destroyed s.destroyed l) (and_parts (is_given s.known.locks l) (not (is_destroyed s.destroyed l)) is).1
+live-undestroyed s l is =
+    not-true (is_destroyed s.destroyed l)
+    (and_parts (is_given s.known.locks l) (not (is_destroyed s.destroyed l)) is).1
 
 pub record CheckAccepted (s : State) (t : ℕ) (q : Request) (r : Reply) : Type 0 where
   pub seat : is_seat s t ≡ true
   pub lock : is_given s.known.locks q.lock.0 ≡ true
   pub live : is_live s q.lock.0 ≡ true
   pub file : is_number s.files q.site.file.0 ≡ true
-  pub mode : (not (is_exclusive q.mode) && not (is_shareable (lock_at s.known.locks q.lock.0).made.class)) ≡ false
+  pub mode : (not (is_exclusive q.mode)
+      && not (is_shareable (lock_at s.known.locks q.lock.0).made.class)) ≡ false
   pub idle : is_pending s t ≡ false
   pub shallow : is_too_deep s t q.lock.0 ≡ false
   pub verdict : verdict s.profile s.known s.watch (seat_at s t) q ≡ Ok r
   pub room : has_room s 3 ≡ true
 
-pub roomy : (s : State) (n : ℕ) (v : Result Reply Fault) (r : Reply) → with_room s n v ≡ Ok r → (v ≡ Ok r) × (has_room s n ≡ true)
+pub roomy : (s : State) (n : ℕ) (v : Result Reply Fault) (r : Reply) → with_room s n v ≡ Ok r
+    → (v ≡ Ok r) × (has_room s n ≡ true)
 roomy s n (Err f) r ok = (cc)
 roomy s n (Ok a) r ok = go (has_room s n) refl ok
   where
-    go : (b : Bool) → has_room s n ≡ b → cond b (Ok a) (Err LogFull) ≡ Ok r → (◌≡◌ {A = Result Reply Fault} (Ok a) (Ok r)) × (has_room s n ≡ true)
+    go : (b : Bool) → has_room s n ≡ b → cond b (Ok a) (Err LogFull) ≡ Ok r
+        → (◌≡◌ {A = Result Reply Fault} (Ok a) (Ok r)) × (has_room s n ≡ true)
     go true is same = (same, is)
     go false is same = (cc)
 
-pub check_accepted : (s : State) (t : ℕ) (q : Request) (r : Reply) → step_check s t q ≡ Ok r → CheckAccepted s t q r
+pub check_accepted : (s : State) (t : ℕ) (q : Request) (r : Reply) → step_check s t q ≡ Ok r
+    → CheckAccepted s t q r
 check_accepted s t q r ok =
     let a = passed_not (is_seat s t) _ _ r ok in
     let b = passed_not (is_live s q.lock.0) _ _ r a.1 in
     let c = passed_not (is_number s.files q.site.file.0) _ _ r b.1 in
-    let d = passed (not (is_exclusive q.mode) && not (is_shareable (lock_at s.known.locks q.lock.0).made.class)) _ _ r c.1 in
+    let d =
+    passed (not (is_exclusive q.mode)
+    && not (is_shareable (lock_at s.known.locks q.lock.0).made.class)) _ _ r c.1 in
     let e = passed (is_pending s t) _ _ r d.1 in
     let f = passed (is_too_deep s t q.lock.0) _ _ r e.1 in
     let g = roomy s 3 (verdict s.profile s.known s.watch (seat_at s t) q) r f.1 in
-    record { seat = a.0; lock = live-given s q.lock.0 b.0; live = b.0; file = c.0; mode = d.0; idle = e.0; shallow = f.0; verdict = g.0; room = g.1 }
+    record {
+      seat = a.0;
+      lock = live-given s q.lock.0 b.0;
+      live = b.0;
+      file = c.0;
+      mode = d.0;
+      idle = e.0;
+      shallow = f.0;
+      verdict = g.0;
+      room = g.1;
+    }
 
 -- what is recorded: nothing at Off, and no lock that is new where its chunk is wanting
-recorded_by : (off held none : Bool) → cond {A = Reply} off Unrecorded (cond held Recorded (cond none Exhausted Recorded)) ≡ Recorded
+recorded_by : (off held none : Bool)
+    → cond {A = Reply} off Unrecorded (cond held Recorded (cond none Exhausted Recorded)) ≡ Recorded
     → (off ≡ false) × (held ≡ false → none ≡ false)
 recorded_by true held none is = (cc)
 recorded_by false true none is = (refl, λ no. absurd (false≢true (sym no)))
@@ -88,10 +116,13 @@ recorded_by false false true is = (cc)
 recorded_by false false false is = (refl, λ no. refl)
 
 pub recorded_on : (s : State) (t l : ℕ) → recorded_reply s t l ≡ Recorded → is_off s.watch ≡ false
-recorded_on s t l is = (recorded_by (is_off s.watch) (is_some (held_by s t l)) (is_exhausted s t l) is).0
+recorded_on s t l is =
+    (recorded_by (is_off s.watch) (is_some (held_by s t l)) (is_exhausted s t l) is).0
 
-pub recorded_room : (s : State) (t l : ℕ) → recorded_reply s t l ≡ Recorded → is_some (held_by s t l) ≡ false → is_exhausted s t l ≡ false
-recorded_room s t l is new = (recorded_by (is_off s.watch) (is_some (held_by s t l)) (is_exhausted s t l) is).1 new
+pub recorded_room : (s : State) (t l : ℕ) → recorded_reply s t l ≡ Recorded
+    → is_some (held_by s t l) ≡ false → is_exhausted s t l ≡ false
+recorded_room s t l is new =
+    (recorded_by (is_off s.watch) (is_some (held_by s t l)) (is_exhausted s t l) is).1 new
 
 pub record NoteAccepted (s : State) (t l : ℕ) (r : Reply) : Type 0 where
   pub seat : is_seat s t ≡ true
@@ -100,34 +131,55 @@ pub record NoteAccepted (s : State) (t l : ℕ) (r : Reply) : Type 0 where
   pub asked : is_for l (seat_at s t).pending ≡ true
   pub reply : r ≡ recorded_reply s t l
 
-pub note_accepted : (s : State) (t l : ℕ) (r : Reply) → step_note s t l ≡ Ok r → NoteAccepted s t l r
+pub note_accepted : (s : State) (t l : ℕ) (r : Reply) → step_note s t l ≡ Ok r
+    → NoteAccepted s t l r
 note_accepted s t l r ok =
     let a = passed_not (is_seat s t) _ _ r ok in
     let b = passed_not (is_live s l) _ _ r a.1 in
     let c = passed_not (is_for l (seat_at s t).pending) _ _ r b.1 in
-    record { seat = a.0; lock = live-given s l b.0; live = b.0; asked = c.0; reply = sym (same_reply c.1) }
+    record {
+      seat = a.0;
+      lock = live-given s l b.0;
+      live = b.0;
+      asked = c.0;
+      reply = sym (same_reply c.1);
+    }
 
 pub record TryAccepted (s : State) (t l : ℕ) (m : Mode) (site : Site) (r : Reply) : Type 0 where
   pub seat : is_seat s t ≡ true
   pub lock : is_given s.known.locks l ≡ true
   pub live : is_live s l ≡ true
   pub file : is_number s.files site.file.0 ≡ true
-  pub mode : (not (is_exclusive m) && not (is_shareable (lock_at s.known.locks l).made.class)) ≡ false
+  pub mode : (not (is_exclusive m) && not (is_shareable (lock_at s.known.locks l).made.class))
+      ≡ false
   pub idle : is_pending s t ≡ false
   pub shallow : is_too_deep s t l ≡ false
   pub room : has_room s 2 ≡ true
   pub reply : r ≡ recorded_reply s t l
 
-pub try_accepted : (s : State) (t l : ℕ) (m : Mode) (site : Site) (r : Reply) → step_note_try s t l m site ≡ Ok r → TryAccepted s t l m site r
+pub try_accepted : (s : State) (t l : ℕ) (m : Mode) (site : Site) (r : Reply)
+    → step_note_try s t l m site ≡ Ok r → TryAccepted s t l m site r
 try_accepted s t l m site r ok =
     let a = passed_not (is_seat s t) _ _ r ok in
     let b = passed_not (is_live s l) _ _ r a.1 in
     let c = passed_not (is_number s.files site.file.0) _ _ r b.1 in
-    let d = passed (not (is_exclusive m) && not (is_shareable (lock_at s.known.locks l).made.class)) _ _ r c.1 in
+    let d =
+    passed (not (is_exclusive m) && not (is_shareable (lock_at s.known.locks l).made.class)) _ _
+    r c.1 in
     let e = passed (is_pending s t) _ _ r d.1 in
     let f = passed (is_too_deep s t l) _ _ r e.1 in
     let g = roomy s 2 (Ok (recorded_reply s t l)) r f.1 in
-    record { seat = a.0; lock = live-given s l b.0; live = b.0; file = c.0; mode = d.0; idle = e.0; shallow = f.0; room = g.1; reply = sym (same_reply g.0) }
+    record {
+      seat = a.0;
+      lock = live-given s l b.0;
+      live = b.0;
+      file = c.0;
+      mode = d.0;
+      idle = e.0;
+      shallow = f.0;
+      room = g.1;
+      reply = sym (same_reply g.0);
+    }
 
 pub record GiveUpAccepted (s : State) (t l : ℕ) (r : Reply) : Type 0 where
   pub seat : is_seat s t ≡ true
@@ -136,12 +188,19 @@ pub record GiveUpAccepted (s : State) (t l : ℕ) (r : Reply) : Type 0 where
   pub asked : is_for l (seat_at s t).pending ≡ true
   pub reply : r ≡ Done
 
-pub give_up_accepted : (s : State) (t l : ℕ) (r : Reply) → step_give_up s t l ≡ Ok r → GiveUpAccepted s t l r
+pub give_up_accepted : (s : State) (t l : ℕ) (r : Reply) → step_give_up s t l ≡ Ok r
+    → GiveUpAccepted s t l r
 give_up_accepted s t l r ok =
     let a = passed_not (is_seat s t) _ _ r ok in
     let b = passed_not (is_live s l) _ _ r a.1 in
     let c = passed_not (is_for l (seat_at s t).pending) _ _ r b.1 in
-    record { seat = a.0; lock = live-given s l b.0; live = b.0; asked = c.0; reply = sym (same_reply c.1) }
+    record {
+      seat = a.0;
+      lock = live-given s l b.0;
+      live = b.0;
+      asked = c.0;
+      reply = sym (same_reply c.1);
+    }
 
 pub record UnlockAccepted (s : State) (t l : ℕ) (m : Mode) (r : Reply) : Type 0 where
   pub seat : is_seat s t ≡ true
@@ -160,29 +219,42 @@ unlocked_reply m i r ok =
     sym (same_reply c.1)
 
 -- an accepted release that is logged finds the lock
-held_on : (m : Mode) (o : Option Instance) (r : Reply) → released m o ≡ Ok r → (i : Instance) × (o ≡ Some i) × (r ≡ Unlocked)
+held_on : (m : Mode) (o : Option Instance) (r : Reply) → released m o ≡ Ok r
+    → (i : Instance) × (o ≡ Some i) × (r ≡ Unlocked)
 held_on m None r ok = (cc)
 held_on m (Some i) r ok = (i, refl, unlocked_reply m i r ok)
 
-held_below : (o : Option Instance) (r : Reply) → is_logged r ≡ true → let_go o ≡ Ok r → (i : Instance) × (o ≡ Some i) × (r ≡ Unlocked)
+held_below : (o : Option Instance) (r : Reply) → is_logged r ≡ true → let_go o ≡ Ok r
+    → (i : Instance) × (o ≡ Some i) × (r ≡ Unlocked)
 held_below None r kept ok = absurd (false≢true (ap is_logged (same_reply ok) ∙ kept))
 held_below (Some i) r kept ok = (i, refl, sym (same_reply ok))
 
-release_found : (on : Bool) (m : Mode) (o : Option Instance) (r : Reply) → is_logged r ≡ true → cond on (released m o) (let_go o) ≡ Ok r
+release_found : (on : Bool) (m : Mode) (o : Option Instance) (r : Reply) → is_logged r ≡ true
+    → cond on (released m o) (let_go o) ≡ Ok r
     → (i : Instance) × (o ≡ Some i) × (r ≡ Unlocked)
 release_found true m o r kept ok = held_on m o r ok
 release_found false m o r kept ok = held_below o r kept ok
 
-pub unlock_accepted : (s : State) (t l : ℕ) (m : Mode) (r : Reply) → step_unlock s t l m ≡ Ok r → is_logged r ≡ true → UnlockAccepted s t l m r
+pub unlock_accepted : (s : State) (t l : ℕ) (m : Mode) (r : Reply) → step_unlock s t l m ≡ Ok r
+    → is_logged r ≡ true → UnlockAccepted s t l m r
 unlock_accepted s t l m r ok kept =
     let a = passed_not (is_seat s t) _ _ r ok in
     let b = passed_not (is_live s l) _ _ r a.1 in
     let c = passed (is_pending s t) _ _ r b.1 in
     let d = release_found (is_on s.watch) m (held_by s t l) r kept c.1 in
-    record { seat = a.0; lock = live-given s l b.0; live = b.0; idle = c.0; instance = d.0; held = d.1; reply = d.2 }
+    record {
+      seat = a.0;
+      lock = live-given s l b.0;
+      live = b.0;
+      idle = c.0;
+      instance = d.0;
+      held = d.1;
+      reply = d.2;
+    }
 
 -- the seat of a release is known, also where it is passed over
-pub unlock_seat : (s : State) (t l : ℕ) (m : Mode) (r : Reply) → step_unlock s t l m ≡ Ok r → is_seat s t ≡ true
+pub unlock_seat : (s : State) (t l : ℕ) (m : Mode) (r : Reply) → step_unlock s t l m ≡ Ok r
+    → is_seat s t ≡ true
 unlock_seat s t l m r ok = (passed_not (is_seat s t) _ _ r ok).0
 
 pub record WatchAccepted (s : State) (t : ℕ) (w : Watch) (r : Reply) : Type 0 where
@@ -192,7 +264,8 @@ pub record WatchAccepted (s : State) (t : ℕ) (w : Watch) (r : Reply) : Type 0 
   pub room : has_room s 1 ≡ true
   pub reply : r ≡ Done
 
-pub watch_accepted : (s : State) (t : ℕ) (w : Watch) (r : Reply) → step_set_watch s t w ≡ Ok r → WatchAccepted s t w r
+pub watch_accepted : (s : State) (t : ℕ) (w : Watch) (r : Reply) → step_set_watch s t w ≡ Ok r
+    → WatchAccepted s t w r
 watch_accepted s t w r ok =
     let a = passed_not (is_seat s t) _ _ r ok in
     let b = passed (is_pending s t) _ _ r a.1 in
@@ -205,21 +278,34 @@ pub record InitAccepted (s : State) (t : ℕ) (lock : NewLock) (r : Reply) : Typ
   pub idle : is_pending s t ≡ false
   pub names : (is_name lock.name && is_good_name lock.type_name) ≡ true
   pub class : is_otherwise (type_name_of lock) lock.class s.known.types ≡ false
-  pub types : (not (is_enrolled (type_name_of lock) s.known.types) && nat_le s.sizes.types (length s.known.types)) ≡ false
+  pub types : (not (is_enrolled (type_name_of lock) s.known.types)
+      && nat_le s.sizes.types (length s.known.types)) ≡ false
   pub locks : nat_le s.sizes.locks (length s.known.locks) ≡ false
   pub room : has_room s 1 ≡ true
   pub reply : r ≡ Made (record { 0 = length s.known.locks + 1 })
 
-pub init_accepted : (s : State) (t : ℕ) (lock : NewLock) (r : Reply) → step_init s t lock ≡ Ok r → InitAccepted s t lock r
+pub init_accepted : (s : State) (t : ℕ) (lock : NewLock) (r : Reply) → step_init s t lock ≡ Ok r
+    → InitAccepted s t lock r
 init_accepted s t lock r ok =
     let a = passed_not (is_seat s t) _ _ r ok in
     let b = passed (is_pending s t) _ _ r a.1 in
     let c = passed_not (is_name lock.name && is_good_name lock.type_name) _ _ r b.1 in
     let d = passed (is_otherwise (type_name_of lock) lock.class s.known.types) _ _ r c.1 in
-    let e = passed (not (is_enrolled (type_name_of lock) s.known.types) && nat_le s.sizes.types (length s.known.types)) _ _ r d.1 in
+    let e =
+    passed (not (is_enrolled (type_name_of lock) s.known.types)
+    && nat_le s.sizes.types (length s.known.types)) _ _ r d.1 in
     let f = passed (nat_le s.sizes.locks (length s.known.locks)) _ _ r e.1 in
     let g = passed_not (has_room s 1) _ _ r f.1 in
-    record { seat = a.0; idle = b.0; names = c.0; class = d.0; types = e.0; locks = f.0; room = g.0; reply = sym (same_reply g.1) }
+    record {
+      seat = a.0;
+      idle = b.0;
+      names = c.0;
+      class = d.0;
+      types = e.0;
+      locks = f.0;
+      room = g.0;
+      reply = sym (same_reply g.1);
+    }
 
 pub record DestroyAccepted (s : State) (t l : ℕ) (r : Reply) : Type 0 where
   pub seat : is_seat s t ≡ true
@@ -230,11 +316,20 @@ pub record DestroyAccepted (s : State) (t l : ℕ) (r : Reply) : Type 0 where
   pub room : has_room s 1 ≡ true
   pub reply : r ≡ Done
 
-pub destroy_accepted : (s : State) (t l : ℕ) (r : Reply) → step_destroy s t l ≡ Ok r → DestroyAccepted s t l r
+pub destroy_accepted : (s : State) (t l : ℕ) (r : Reply) → step_destroy s t l ≡ Ok r
+    → DestroyAccepted s t l r
 destroy_accepted s t l r ok =
     let a = passed_not (is_seat s t) _ _ r ok in
     let b = passed_not (is_live s l) _ _ r a.1 in
     let c = passed (is_pending s t) _ _ r b.1 in
     let d = passed (is_used s l) _ _ r c.1 in
     let e = passed_not (has_room s 1) _ _ r d.1 in
-    record { seat = a.0; lock = live-given s l b.0; live = b.0; idle = c.0; unused = d.0; room = e.0; reply = sym (same_reply e.1) }
+    record {
+      seat = a.0;
+      lock = live-given s l b.0;
+      live = b.0;
+      idle = c.0;
+      unused = d.0;
+      room = e.0;
+      reply = sym (same_reply e.1);
+    }

@@ -1,12 +1,17 @@
 -- A check or a try that tells a named file isn't refused for its file.
-use Rattle.std.proofs.Common.{◌≡◌, ℕ, Bool, true, false, not, ◌||◌, cond, List, [], ◌∷◌, reverse, Option, None, Some, Result, Ok, Err, refl, ap, sym, ◌∙◌, subst}
+use Rattle.std.proofs.Common.{◌≡◌, ℕ, Bool, true, false, not, ◌||◌, cond, List, [], ◌∷◌, reverse}
+use Rattle.std.proofs.Common.{Option, None, Some, Result, Ok, Err, refl, ap, sym, ◌∙◌, subst}
 use Rattle.std.specs.List.{last_or}
 use Rattle.std.specs.Option.{option_map}
 use Rattle.std.proofs.lemmas.Bool.{false≢true}
 use Rattle.wit_model.specs.declared.profiles.Profile.{Profile}
 use Rattle.wit_model.specs.declared.profiles.Profile.TheVariants.{Plain, AllHeld}
 use Rattle.wit_model.specs.declared.faults.Fault.{Fault}
-use Rattle.wit_model.specs.declared.faults.Fault.TheVariants.{UnknownSeat, UnknownLock, UnknownFile, ModeNotAllowed, Pending, RecursionTooDeep, LogFull, SleepUnderSpin, SharedOfExclusive, ExclusiveOfShared, Recursed}
+use Rattle.wit_model.specs.declared.faults.Fault.TheVariants.{UnknownSeat, UnknownLock, UnknownFile}
+use Rattle.wit_model.specs.declared.faults.Fault.TheVariants.{ModeNotAllowed, Pending}
+use Rattle.wit_model.specs.declared.faults.Fault.TheVariants.{RecursionTooDeep, LogFull}
+use Rattle.wit_model.specs.declared.faults.Fault.TheVariants.{SleepUnderSpin, SharedOfExclusive}
+use Rattle.wit_model.specs.declared.faults.Fault.TheVariants.{ExclusiveOfShared, Recursed}
 use Rattle.wit_model.specs.declared.locks.TypeNo.{TypeNo}
 use Rattle.wit_model.specs.declared.locks.Mode.{Mode}
 use Rattle.wit_model.specs.declared.locks.Site.{Site}
@@ -20,7 +25,10 @@ use Rattle.wit_model.specs.Rules.Numbers.{is_number}
 use Rattle.wit_model.specs.Rules.Locks.{has_flag}
 use Rattle.wit_model.specs.Rules.Orders.{is_found}
 use Rattle.wit_model.specs.Rules.State.{State, Known, Seat, seat_at, has_room}
-use Rattle.wit_model.specs.Rules.Verdict.{Basis, Rule, when, decided, rules, again, doubled, reported, basis_of, typed_request, chain_asked, verdict, doubles_in, follows_in, teaches_in, told_orders, new_parents}
+use Rattle.wit_model.specs.Rules.Verdict.{Basis, Rule, when, decided, rules, again, doubled}
+use Rattle.wit_model.specs.Rules.Verdict.{reported, basis_of, typed_request, chain_asked, verdict}
+use Rattle.wit_model.specs.Rules.Verdict.{doubles_in, follows_in, teaches_in, told_orders}
+use Rattle.wit_model.specs.Rules.Verdict.{new_parents}
 use Rattle.wit_model.specs.Rules.Step.{with_room, recorded_reply, step_check, step_note_try}
 
 -- the answer is another than that the file is unknown
@@ -49,7 +57,8 @@ fails : (fault : Fault) → is_other (Err fault) ≡ true
 fails fault other b y next = pick b (Err fault) y (failed fault other) next
 
 -- the file is known
-past : (b : Bool) (x : Result Reply Fault) → b ≡ true → Other x → Other (cond (not b) (Err UnknownFile) x)
+past : (b : Bool) (x : Result Reply Fault) → b ≡ true → Other x
+    → Other (cond (not b) (Err UnknownFile) x)
 past b x known other = subst (λ f. Other (cond (not f) (Err UnknownFile) x)) (sym known) other
 
 -- ---- the verdict
@@ -93,13 +102,15 @@ module _ (g : Basis) (watch : Watch) (spin chain : List Instance) (q : TypedRequ
   reported_other : (i : Instance) → Other (reported g q chain i)
   reported_other i = pick _ _ _ (answered _) (answered _)
 
-  doubles_other : (profile : Profile) (last : Option Instance) → RuleOther (doubles_in profile g chain last q)
+  doubles_other : (profile : Profile) (last : Option Instance)
+      → RuleOther (doubles_in profile g chain last q)
   unfolding RuleOther
   doubles_other Plain None = tt
   doubles_other Plain (Some last) = when_other _ _ (doubled_other g q last)
   doubles_other AllHeld last = map_other (doubled g q) (doubled_other g q) _
 
-  follows_other : (profile : Profile) (last : Option Instance) → RuleOther (follows_in profile g chain last q)
+  follows_other : (profile : Profile) (last : Option Instance)
+      → RuleOther (follows_in profile g chain last q)
   unfolding RuleOther
   follows_other Plain None = tt
   follows_other Plain (Some last) = when_other _ _ (answered _)
@@ -110,13 +121,15 @@ module _ (g : Basis) (watch : Watch) (spin chain : List Instance) (q : TypedRequ
   told_other [] = tt
   told_other (p ∷ parents) = answered _
 
-  teaches_other : (profile : Profile) (last : Option Instance) → RuleOther (teaches_in profile g chain last q)
+  teaches_other : (profile : Profile) (last : Option Instance)
+      → RuleOther (teaches_in profile g chain last q)
   unfolding RuleOther
   teaches_other Plain None = tt
   teaches_other Plain (Some last) = when_other _ _ (answered _)
   teaches_other AllHeld last = told_other (new_parents g q [] (reverse chain))
 
-  rules_other : (profile : Profile) (last : Option Instance) → AllOther (rules profile g watch spin chain last q)
+  rules_other : (profile : Profile) (last : Option Instance)
+      → AllOther (rules profile g watch spin chain last q)
   unfolding AllOther
   rules_other profile last = (
     when_other _ _ (answered _),
@@ -180,4 +193,5 @@ check_known s t q known = told-known (step_check s t q) (check_other s t q known
 
 pub try_known : (s : State) (t l : ℕ) (m : Mode) (site : Site)
     → is_number s.files site.file.0 ≡ true → step_note_try s t l m site ≡ Err UnknownFile → ⊥
-try_known s t l m site known = told-known (step_note_try s t l m site) (try_other s t l m site known)
+try_known s t l m site known =
+    told-known (step_note_try s t l m site) (try_other s t l m site known)

@@ -1,5 +1,7 @@
 -- What stays as a history goes on: numbers of files and of orders.
-use Rattle.std.proofs.Common.{◌≡◌, ℕ, ◌+◌, ◌-◌, Bool, true, false, cond, nat_lt, is_some, List, [], ◌∷◌, ◌++◌, length, reverse, None, Some, find, Ok, refl, ap, sym, ◌∙◌, inl, inr, arith, length-append}
+use Rattle.std.proofs.Common.{◌≡◌, ℕ, ◌+◌, ◌-◌, Bool, true, false, cond, nat_lt, is_some, List, []}
+use Rattle.std.proofs.Common.{◌∷◌, ◌++◌, length, reverse, None, Some, find, Ok, refl, ap, sym, ◌∙◌}
+use Rattle.std.proofs.Common.{inl, inr, arith, length-append}
 use Rattle.std.specs.List.{slice_get, list_any, position_or_len}
 use Rattle.std.specs.Str.{bytes_eq}
 use Rattle.std.proofs.lemmas.Bool.{cases_Bool, false≢true}
@@ -12,19 +14,27 @@ use Rattle.wit_model.specs.declared.locks.Origin.{Origin}
 use Rattle.wit_model.specs.declared.locks.Origin.TheVariants.{Defined, At}
 use Rattle.wit_model.specs.declared.calls.Adoption.{Adoption}
 use Rattle.wit_model.specs.declared.calls.Call.{Call}
-use Rattle.wit_model.specs.declared.calls.Call.TheVariants.{Init, Destroy, Check, Note, NoteTry, GiveUp, Unlock, SetWatch, Upgrade, Downgrade, NoRelease, ReleaseOk, DefineOrder}
+use Rattle.wit_model.specs.declared.calls.Call.TheVariants.{Init, Destroy, Check, Note, NoteTry}
+use Rattle.wit_model.specs.declared.calls.Call.TheVariants.{GiveUp, Unlock, SetWatch, Upgrade}
+use Rattle.wit_model.specs.declared.calls.Call.TheVariants.{Downgrade, NoRelease, ReleaseOk}
+use Rattle.wit_model.specs.declared.calls.Call.TheVariants.{DefineOrder}
 use Rattle.wit_model.specs.declared.calls.Reply.{Reply}
-use Rattle.wit_model.specs.declared.calls.Reply.TheVariants.{Adopted, Recorded, Exhausted, Unrecorded}
+use Rattle.wit_model.specs.declared.calls.Reply.TheVariants.{Adopted, Recorded, Exhausted}
+use Rattle.wit_model.specs.declared.calls.Reply.TheVariants.{Unrecorded}
 use Rattle.wit_model.specs.declared.calls.Entry.{Entry}
 use Rattle.wit_model.specs.Rules.Files.{is_known_file, file_number, files_after}
 use Rattle.wit_model.specs.Rules.Numbers.{with_number}
 use Rattle.wit_model.specs.Rules.Orders.{adopted}
 use Rattle.wit_model.specs.Rules.History.{is_off}
 use Rattle.wit_model.specs.Rules.State.{Start, State, state_of, orders_of}
-use Rattle.wit_model.specs.Rules.Step.{is_exhausted, held_by, recorded_reply, step, story_after, IsLegal}
+use Rattle.wit_model.specs.Rules.Step.{is_exhausted, held_by, recorded_reply, step, story_after}
+use Rattle.wit_model.specs.Rules.Step.{IsLegal}
 use Rattle.wit_model.specs.HistoryLaws.{adoptions}
-use Rattle.wit_model.proofs.Histories.Accepted.{init_accepted, destroy_accepted, note_accepted, try_accepted, give_up_accepted, unlock_accepted, watch_accepted}
-use Rattle.wit_model.proofs.Histories.AcceptedTurns.{upgrade_accepted, downgrade_accepted, mark_accepted}
+use Rattle.wit_model.proofs.Histories.Accepted.{init_accepted, destroy_accepted, note_accepted}
+use Rattle.wit_model.proofs.Histories.Accepted.{try_accepted, give_up_accepted, unlock_accepted}
+use Rattle.wit_model.proofs.Histories.Accepted.{watch_accepted}
+use Rattle.wit_model.proofs.Histories.AcceptedTurns.{upgrade_accepted, downgrade_accepted}
+use Rattle.wit_model.proofs.Histories.AcceptedTurns.{mark_accepted}
 use Rattle.wit_model.proofs.Numbered.{with_number-at}
 
 -- ---- numbers
@@ -74,7 +84,8 @@ module _ (name : List ℕ) where
       go (f ∷ fs) is =
           elim (cases_Bool (bytes_eq f name)) [
             | inl same ↦ rw same (ap Some ((bytes_eq-Decides f name).0 same))
-            | inr other ↦ rw other (go fs (let later : list_any is_it fs ≡ true = sym (rw other refl) ∙ is in later))
+            | inr other ↦ rw other (go fs (let later : list_any is_it fs
+                ≡ true = sym (rw other refl) ∙ is in later))
           ]
 
   place-stays : (files more : List (List ℕ)) → list_any is_it files ≡ true
@@ -111,7 +122,8 @@ file-there name files = go (is_known_file name files) refl
         → with_number (cond b files (files ++ name ∷ [])) (file_number name files) ≡ Some name
     go true known = number-next files (position_or_len (is_it name) files) ∙ found name files known
     go false none =
-        ap (λ n. with_number (files ++ name ∷ []) (n + 1)) (place-new name files none) ∙ number-added files name
+        ap (λ n. with_number (files ++ name ∷ []) (n + 1)) (place-new name files none)
+        ∙ number-added files name
 
 pub files-added : (name : List ℕ) (files : List (List ℕ))
     → (more : List (List ℕ)) × (files_after name files ≡ files ++ more)
@@ -172,28 +184,40 @@ module _ (s : State) (t : ℕ) (a b : TypeNo) where
   other-reply r other is = absurd (false≢true (ap is_other is ∙ other))
 
   adopts : (c : Call) → step s t c ≡ Ok (Adopted a b)
-      → (origin : Origin) × (adopted c (Adopted a b) ≡ record { parent = a; child = b; origin = origin } ∷ [])
+      → (origin : Origin) × (adopted c (Adopted a b)
+      ≡ record { parent = a; child = b; origin = origin } ∷ [])
   adopts (Check q) ok = (At q.site, refl)
   adopts (DefineOrder x y) ok = (Defined, refl)
-  adopts (Init lock) ok = absurd (other-reply _ refl (init_accepted s t lock (Adopted a b) ok).reply)
+  adopts (Init lock) ok =
+      absurd (other-reply _ refl (init_accepted s t lock (Adopted a b) ok).reply)
   adopts (Note l) ok = absurd (by-record l.0 (note_accepted s t l.0 (Adopted a b) ok).reply)
-  adopts (NoteTry l m site) ok = absurd (by-record l.0 (try_accepted s t l.0 m site (Adopted a b) ok).reply)
-  adopts (GiveUp l) ok = absurd (other-reply _ refl (give_up_accepted s t l.0 (Adopted a b) ok).reply)
-  adopts (Unlock l m) ok = absurd (other-reply _ refl (unlock_accepted s t l.0 m (Adopted a b) ok refl).reply)
+  adopts (NoteTry l m site) ok =
+      absurd (by-record l.0 (try_accepted s t l.0 m site (Adopted a b) ok).reply)
+  adopts (GiveUp l) ok =
+      absurd (other-reply _ refl (give_up_accepted s t l.0 (Adopted a b) ok).reply)
+  adopts (Unlock l m) ok =
+      absurd (other-reply _ refl (unlock_accepted s t l.0 m (Adopted a b) ok refl).reply)
   adopts (SetWatch w) ok = absurd (other-reply _ refl (watch_accepted s t w (Adopted a b) ok).reply)
-  adopts (Destroy l) ok = absurd (other-reply _ refl (destroy_accepted s t l.0 (Adopted a b) ok).reply)
-  adopts (Upgrade l) ok = absurd (other-reply _ refl (upgrade_accepted s t l.0 (Adopted a b) ok refl).reply)
-  adopts (Downgrade l) ok = absurd (other-reply _ refl (downgrade_accepted s t l.0 (Adopted a b) ok refl).reply)
-  adopts (NoRelease l) ok = absurd (other-reply _ refl (mark_accepted s t l.0 (Adopted a b) ok refl).reply)
-  adopts (ReleaseOk l) ok = absurd (other-reply _ refl (mark_accepted s t l.0 (Adopted a b) ok refl).reply)
+  adopts (Destroy l) ok =
+      absurd (other-reply _ refl (destroy_accepted s t l.0 (Adopted a b) ok).reply)
+  adopts (Upgrade l) ok =
+      absurd (other-reply _ refl (upgrade_accepted s t l.0 (Adopted a b) ok refl).reply)
+  adopts (Downgrade l) ok =
+      absurd (other-reply _ refl (downgrade_accepted s t l.0 (Adopted a b) ok refl).reply)
+  adopts (NoRelease l) ok =
+      absurd (other-reply _ refl (mark_accepted s t l.0 (Adopted a b) ok refl).reply)
+  adopts (ReleaseOk l) ok =
+      absurd (other-reply _ refl (mark_accepted s t l.0 (Adopted a b) ok refl).reply)
 
-pub adopted-numbered : (start : Start) (files : List (List ℕ)) (e : Entry) (later h : List Entry) (a b : TypeNo)
+pub adopted-numbered : (start : Start) (files : List (List ℕ)) (e : Entry) (later h : List Entry)
+    (a b : TypeNo)
     → IsLegal start files (e ∷ h) → e.reply ≡ Adopted a b
     → (origin : Origin)
     × (with_number (adoptions start (later ++ e ∷ h)) (length (orders_of start h) + 1)
     ≡ Some (record { parent = a; child = b; origin = origin }))
 adopted-numbered start files e later h a b legal is =
-    let made = adopts (state_of (story_after start files h)) e.seat.0 a b e.call (legal.0 ∙ ap Ok is) in
+    let made =
+    adopts (state_of (story_after start files h)) e.seat.0 a b e.call (legal.0 ∙ ap Ok is) in
     let o : Adoption = record { parent = a; child = b; origin = made.0 } in
     let now : adoptions start (e ∷ h) ≡ adoptions start h ++ o ∷ []
     = ap (λ r. reverse (adopted e.call r ++ orders_of start h)) is
@@ -202,6 +226,7 @@ adopted-numbered start files e later h a b legal is =
     let number = number-added (adoptions start h) o in
     let there : with_number (adoptions start (e ∷ h)) (length (orders_of start h) + 1) ≡ Some o
     = ap (λ os. with_number os (length (orders_of start h) + 1)) now
-    ∙ ap (λ n. with_number (adoptions start h ++ o ∷ []) (n + 1)) (sym (length-reverse (orders_of start h)))
+    ∙ ap (λ n. with_number (adoptions start h ++ o ∷ []) (n + 1))
+    (sym (length-reverse (orders_of start h)))
     ∙ number in
     (made.0, order-stays start later (e ∷ h) (length (orders_of start h) + 1) o there)

@@ -1,13 +1,16 @@
 -- The lines that a migration writes of steps are read as these steps.
-use Rattle.std.proofs.Common.{◌≡◌, ℕ, ◌^◌, ◌<◌, ◌≤◌, Bool, true, false, cond, List, length, Option, None, Some, ap, ◌∙◌}
+use Rattle.std.proofs.Common.{◌≡◌, ℕ, ◌^◌, ◌<◌, ◌≤◌, Bool, true, false, cond, List, length, Option}
+use Rattle.std.proofs.Common.{None, Some, ap, ◌∙◌}
 use Rattle.std.proofs.lemmas.Bool.{le-ltb}
 use Rattle.wit_model.specs.declared.calls.Call.{Call}
-use Rattle.wit_model.specs.declared.calls.Call.TheVariants.{Note, NoteTry, Unlock, Upgrade, Downgrade}
+use Rattle.wit_model.specs.declared.calls.Call.TheVariants.{Note, NoteTry, Unlock, Upgrade}
+use Rattle.wit_model.specs.declared.calls.Call.TheVariants.{Downgrade}
 use Rattle.wit_model.specs.declared.calls.Entry.{Entry}
 use Rattle.wit_model.specs.declared.locks.LockNo.{LockNo}
 use Rattle.wit_model.specs.declared.locks.Class.{Class}
 use Rattle.wit_model.specs.declared.lines.Line.{Line}
-use Rattle.wit_model.specs.declared.lines.Line.TheVariants.{Header, Profile, Order, Bless, Init, OnLock, Assert, Warn, Define, Watch}
+use Rattle.wit_model.specs.declared.lines.Line.TheVariants.{Header, Profile, Order, Bless, Init}
+use Rattle.wit_model.specs.declared.lines.Line.TheVariants.{OnLock, Assert, Warn, Define, Watch}
 use Rattle.wit_model.specs.declared.lines.LockLine.TheVariants.{Check, Try, Plain, Step}
 use Rattle.wit_model.specs.declared.lines.LockLine.TheVariants as lock_line
 use Rattle.wit_model.specs.declared.lines.Cause.TheVariants as why
@@ -17,19 +20,25 @@ use Rattle.wit_model.specs.Rules.History.{is_held}
 use Rattle.wit_model.specs.World.Deeds.{RawDown}
 use Rattle.wit_model.specs.World.Moving.{LockStep, step_before, step_behind, is_kept}
 use Rattle.wit_model.specs.World.Scenes.{RawLock, is_free}
-use Rattle.wit_model.specs.Trace.Output.{Progress, Bad, LineCall, Logs, LogsAt, verb_call, call_of, entered, read_as, outcome}
+use Rattle.wit_model.specs.Trace.Output.{Progress, Bad, LineCall, Logs, LogsAt, verb_call, call_of}
+use Rattle.wit_model.specs.Trace.Output.{entered, read_as, outcome}
 use Rattle.wit_model.specs.Trace.Reading.{line_of}
 use Rattle.wit_model.specs.Trace.Spelling.{spelling, IsSpellable}
 use Rattle.wit_model.proofs.Spelling.Laws.{line_again}
 use Rattle.wit_model.proofs.Spelling.Lengths.{spelled-le}
 
 -- a line of good length is read as what it spells
-pub read-short : (p : Progress) (n : ℕ) (bytes : List ℕ) (line : Line) → length bytes ≤ 4096 → line_of bytes ≡ Some line → outcome p n bytes ≡ entered p n line
+pub read-short : (p : Progress) (n : ℕ) (bytes : List ℕ) (line : Line) → length bytes ≤ 4096
+    → line_of bytes ≡ Some line → outcome p n bytes ≡ entered p n line
 read-short p n bytes line short is =
-    ap (λ b. cond b (Bad why.Long) (read_as p n (line_of bytes))) (le-ltb 4096 (length bytes) short) ∙ ap (λ o. read_as p n o) is
+    ap (λ b. cond b (Bad why.Long) (read_as p n (line_of bytes))) (le-ltb 4096 (length bytes) short)
+    ∙ ap (λ o. read_as p n o) is
 
-pub read-spelled : (p : Progress) (n : ℕ) (line : Line) → IsSpellable line → ((list : List (Class × List ℕ)) → line ≡ Order list → ⊥) → outcome p n (spelling line) ≡ entered p n line
-read-spelled p n line fits other = read-short p n (spelling line) line (spelled-le line fits other) (line_again line fits)
+pub read-spelled : (p : Progress) (n : ℕ) (line : Line) → IsSpellable line
+    → ((list : List (Class × List ℕ)) → line ≡ Order list → ⊥)
+    → outcome p n (spelling line) ≡ entered p n line
+read-spelled p n line fits other =
+    read-short p n (spelling line) line (spelled-le line fits other) (line_again line fits)
 
 -- ---- numbers of a step that stands beside a call
 
@@ -58,13 +67,15 @@ if-small' : (b : Bool) (k : LockStep) → k.0.0 < 2 ^ 32 → IsSmallStep (cond b
 if-small' true k small = small
 if-small' false k small = tt
 
-pub small-before : (h : List Entry) (t : ℕ) (call : Call) → IsSmallCall call → IsSmallStep (step_before h t call)
+pub small-before : (h : List Entry) (t : ℕ) (call : Call) → IsSmallCall call
+    → IsSmallStep (step_before h t call)
 small-before h t (Note l) small = if-small (is_held t l.0 h) _ small
 small-before h t (NoteTry l m site) small = small
 small-before h t (Upgrade l) small = small
 small-before h t _ small = tt
 
-pub small-behind : (h : List Entry) (raw : List RawLock) (t : ℕ) (call : Call) → IsSmallCall call → IsSmallStep (step_behind h raw t call)
+pub small-behind : (h : List Entry) (raw : List RawLock) (t : ℕ) (call : Call) → IsSmallCall call
+    → IsSmallStep (step_behind h raw t call)
 small-behind h raw t (Unlock l m) small = if-small (is_kept h raw t l.0) _ small
 small-behind h raw t (Downgrade l) small = if-small' (is_free raw (RawDown t l.0)) _ small
 small-behind h raw t _ small = tt

@@ -1,5 +1,6 @@
 -- The prelude and the header of a migrated trace, and so all of it.
-use Rattle.std.proofs.Common.{◌≡◌, ℕ, ◌+◌, Bool, true, false, cond, List, [], ◌∷◌, ◌++◌, Option, None, Some, Result, Ok, refl, ap, ap₂, sym, ◌∙◌, append_assoc}
+use Rattle.std.proofs.Common.{◌≡◌, ℕ, ◌+◌, Bool, true, false, cond, List, [], ◌∷◌, ◌++◌, Option}
+use Rattle.std.proofs.Common.{None, Some, Result, Ok, refl, ap, ap₂, sym, ◌∙◌, append_assoc}
 use Rattle.wit_model.specs.declared.faults.Fault.{Fault}
 use Rattle.wit_model.specs.declared.lines.Line.{Line}
 use Rattle.wit_model.specs.declared.lines.Line.TheVariants.{Header, Order, Bless, OnLock}
@@ -10,10 +11,13 @@ use Rattle.wit_model.specs.Rules.Sizes.{sizes_of, are_within_limits}
 use Rattle.wit_model.specs.Rules.Start.{start_fault}
 use Rattle.wit_model.specs.Rules.State.{Story, fresh}
 use Rattle.wit_model.specs.World.Scenes.{Scene, opening}
-use Rattle.wit_model.specs.Trace.Moving.{Moving, Unmoved, Keeping, Moved, Written, TellsTheSame, MigrationsTellTheSame, keeps, step_line, moving_from}
+use Rattle.wit_model.specs.Trace.Moving.{Moving, Unmoved, Keeping, Moved, Written, TellsTheSame}
+use Rattle.wit_model.specs.Trace.Moving.{MigrationsTellTheSame, keeps, step_line, moving_from}
 use Rattle.wit_model.specs.Trace.Moving as moving
 use Rattle.wit_model.specs.Trace.Moving.{moving_ends, moving_opened, moving_outcome, moving_entered}
-use Rattle.wit_model.specs.Trace.Output.{Prelude, Unstarted, Opening, Reading, Stepping, AllRead, BadLine, empty_prelude, is_prelude, is_profile, log_limit, text_before, course_at, course_after, course_from}
+use Rattle.wit_model.specs.Trace.Output.{Prelude, Unstarted, Opening, Reading, Stepping, AllRead}
+use Rattle.wit_model.specs.Trace.Output.{BadLine, empty_prelude, is_prelude, is_profile, log_limit}
+use Rattle.wit_model.specs.Trace.Output.{text_before, course_at, course_after, course_from}
 use Rattle.wit_model.specs.Trace.Output as output
 use Rattle.wit_model.specs.Trace.Spelling.{spelling, IsSpellable}
 use Rattle.wit_model.proofs.Moved.Agreement.{all_read, calls-agree}
@@ -28,31 +32,42 @@ use Rattle.wit_model.proofs.World.MovedAll.{opening-fits}
 abbrev two : Prelude → Prelude
 two p = record p { version = Two }
 
-two-goes : (p : Prelude) → p.version ≡ One → output.begun p.version p.start ≡ Reading (fresh p.start) 0
+two-goes : (p : Prelude) → p.version ≡ One → output.begun p.version p.start
+    ≡ Reading (fresh p.start) 0
 two-goes p is = ap (λ v. output.begun v p.start) is
 
 -- ---- the prelude ends
 
-module _ (p : Prelude) (version : p.version ≡ One) (good : start_fault p.start ≡ None) (n : ℕ) (first : List ℕ) (ends : is_opening n first ≡ false) where
+module _ (p : Prelude) (version : p.version ≡ One) (good : start_fault p.start ≡ None) (n : ℕ)
+    (first : List ℕ) (ends : is_opening n first ≡ false) where
   reached-one : output.reached (Opening p) n first ≡ Ok (Reading (fresh p.start) 0)
   reached-one =
       ap (λ b. cond b (Ok (Opening p)) (output.opened p (start_fault p.start))) ends
       ∙ (ap (λ o. output.opened p o) good ∙ ap (λ q. Ok q) (two-goes p version))
 
   reached-two : output.reached (Opening (two p)) n first ≡ Ok (Stepping (opening (fresh p.start)) 0)
-  reached-two = ap (λ b. cond b (Ok (Opening (two p))) (output.opened (two p) (start_fault p.start))) ends ∙ ap (λ o. output.opened (two p) o) good
+  reached-two =
+      ap (λ b. cond b (Ok (Opening (two p))) (output.opened (two p) (start_fault p.start))) ends
+      ∙ ap (λ o. output.opened (two p) o) good
 
-  pub over-one : (rest : List (List ℕ)) → course_from (Opening p) n (first ∷ rest) [] ≡ course_from (Reading (fresh p.start) 0) n (first ∷ rest) []
+  pub over-one : (rest : List (List ℕ)) → course_from (Opening p) n (first ∷ rest) []
+      ≡ course_from (Reading (fresh p.start) 0) n (first ∷ rest) []
   over-one rest =
-      ap (λ (r : Result output.Progress BadLine). course_at (Opening p) r (λ q. course_after q n (output.outcome q n first) (λ u. course_from u (n + 1) rest []))) reached-one
+      ap (λ (r : Result output.Progress BadLine). course_at (Opening p) r
+      (λ q. course_after q n (output.outcome q n first) (λ u. course_from u (n + 1) rest [])))
+      reached-one
 
-  pub over-two : (rest : List (List ℕ)) → course_from (Opening (two p)) n (first ∷ rest) [] ≡ course_from (Stepping (opening (fresh p.start)) 0) n (first ∷ rest) []
+  pub over-two : (rest : List (List ℕ)) → course_from (Opening (two p)) n (first ∷ rest) []
+      ≡ course_from (Stepping (opening (fresh p.start)) 0) n (first ∷ rest) []
   over-two rest =
-      ap (λ (r : Result output.Progress BadLine). course_at (Opening (two p)) r (λ q. course_after q n (output.outcome q n first) (λ u. course_from u (n + 1) rest []))) reached-two
+      ap (λ (r : Result output.Progress BadLine). course_at (Opening (two p)) r
+      (λ q. course_after q n (output.outcome q n first) (λ u. course_from u (n + 1) rest [])))
+      reached-two
 
 -- ---- lines of the prelude
 
-record KeptOn (p : Prelude) (kept : List (List ℕ)) (n : ℕ) (bytes : List ℕ) (line : Line) (then : Moving) (lines : List (List ℕ)) : Type 0 where
+record KeptOn (p : Prelude) (kept : List (List ℕ)) (n : ℕ) (bytes : List ℕ) (line : Line)
+    (then : Moving) (lines : List (List ℕ)) : Type 0 where
   prelude : Prelude
   version : prelude.version ≡ One
   next : then ≡ Keeping prelude (kept ++ bytes ∷ [])
@@ -60,12 +75,38 @@ record KeptOn (p : Prelude) (kept : List (List ℕ)) (n : ℕ) (bytes : List ℕ
   one : output.entered (Opening p) n line ≡ output.Goes (Opening prelude) []
   both : output.entered (Opening (two p)) n line ≡ output.Goes (Opening (two prelude)) []
 
-kept-on : (p : Prelude) (kept : List (List ℕ)) (n : ℕ) (bytes : List ℕ) (line : Line) (then : Moving) (lines : List (List ℕ)) → p.version ≡ One
-    → keeps kept bytes (output.entered (Opening p) n line) ≡ moving.Goes then lines → KeptOn p kept n bytes line then lines
-kept-on p kept n bytes (Order list) then lines version goes = record { prelude = output.with_list p n list; version = version; next = cc; none = cc; one = refl; both = refl }
-kept-on p kept n bytes (Bless a b) then lines version goes = record { prelude = output.with_pair p a b; version = version; next = cc; none = cc; one = refl; both = refl }
+kept-on : (p : Prelude) (kept : List (List ℕ)) (n : ℕ) (bytes : List ℕ) (line : Line)
+    (then : Moving) (lines : List (List ℕ)) → p.version ≡ One
+    → keeps kept bytes (output.entered (Opening p) n line) ≡ moving.Goes then lines
+    → KeptOn p kept n bytes line then lines
+kept-on p kept n bytes (Order list) then lines version goes =
+    record {
+      prelude = output.with_list p n list;
+      version = version;
+      next = cc;
+      none = cc;
+      one = refl;
+      both = refl;
+    }
+kept-on p kept n bytes (Bless a b) then lines version goes =
+    record {
+      prelude = output.with_pair p a b;
+      version = version;
+      next = cc;
+      none = cc;
+      one = refl;
+      both = refl;
+    }
 kept-on p kept n bytes (Header v s t l c) then lines version goes = (cc)
-kept-on p kept n bytes kind.Profile then lines version goes = record { prelude = output.with_profile p; version = version; next = cc; none = cc; one = refl; both = refl }
+kept-on p kept n bytes kind.Profile then lines version goes =
+    record {
+      prelude = output.with_profile p;
+      version = version;
+      next = cc;
+      none = cc;
+      one = refl;
+      both = refl;
+    }
 kept-on p kept n bytes (kind.Init s lock) then lines version goes = (cc)
 kept-on p kept n bytes (OnLock l) then lines version goes = (cc)
 kept-on p kept n bytes (kind.Assert s l a) then lines version goes = (cc)
@@ -73,7 +114,8 @@ kept-on p kept n bytes (kind.Warn s l f) then lines version goes = (cc)
 kept-on p kept n bytes (kind.Define s a b) then lines version goes = (cc)
 kept-on p kept n bytes (kind.Watch s w) then lines version goes = (cc)
 
-record KeptAgrees (p : Prelude) (n : ℕ) (lines : List (List ℕ)) (tail : List ℕ) (kept written : List (List ℕ)) (story : Story) (count : ℕ) : Type 0 where
+record KeptAgrees (p : Prelude) (n : ℕ) (lines : List (List ℕ)) (tail : List ℕ)
+    (kept written : List (List ℕ)) (story : Story) (count : ℕ) : Type 0 where
   text : List ℕ
   scene : Scene
   rest : List (List ℕ)
@@ -84,19 +126,25 @@ record KeptAgrees (p : Prelude) (n : ℕ) (lines : List (List ℕ)) (tail : List
   same : scene.story ≡ story
 
 abbrev end_at : Prelude → List (List ℕ) → ℕ → Bool → Option (ℕ × Fault) → Written
-end_at p kept n b o = cond b (moving_ends (Keeping p kept) n []) (moving_opened p kept o (λ q. moving_ends q n []))
+end_at p kept n b o =
+    cond b (moving_ends (Keeping p kept) n []) (moving_opened p kept o (λ q. moving_ends q n []))
 
 -- the input ends with the prelude
-end-agrees : (p : Prelude) (kept : List (List ℕ)) (n : ℕ) (tail : List ℕ) (story : Story) (count : ℕ) → p.version ≡ One
-    → (moving_from (Keeping p kept) n [] tail).ending ≡ AllRead story count → KeptAgrees p n [] tail kept (moving_from (Keeping p kept) n [] tail).lines story count
-end-agrees p kept n [] story count version ends = go (is_opening n []) refl (start_fault p.start) refl ends
+end-agrees : (p : Prelude) (kept : List (List ℕ)) (n : ℕ) (tail : List ℕ) (story : Story)
+    (count : ℕ) → p.version ≡ One
+    → (moving_from (Keeping p kept) n [] tail).ending ≡ AllRead story count
+    → KeptAgrees p n [] tail kept (moving_from (Keeping p kept) n [] tail).lines story count
+end-agrees p kept n [] story count version ends =
+    go (is_opening n []) refl (start_fault p.start) refl ends
   where
-    go : (b : Bool) → is_opening n [] ≡ b → (o : Option (ℕ × Fault)) → start_fault p.start ≡ o → (end_at p kept n b o).ending ≡ AllRead story count
+    go : (b : Bool) → is_opening n [] ≡ b → (o : Option (ℕ × Fault)) → start_fault p.start ≡ o
+        → (end_at p kept n b o).ending ≡ AllRead story count
         → KeptAgrees p n [] [] kept (end_at p kept n b o).lines story count
     go true opened o good ends = (cc)
     go false opened (Some refused) good ends = (cc)
     go false opened None good ends =
-        let same : ◌≡◌ {A = output.Ending} (AllRead (fresh p.start) 0) (AllRead story count) = ends in
+        let same : ◌≡◌ {A = output.Ending} (AllRead (fresh p.start) 0) (AllRead story count) =
+        ends in
         let counts : 0 ≡ count = cc in
         record {
           text = [];
@@ -104,64 +152,108 @@ end-agrees p kept n [] story count version ends = go (is_opening n []) refl (sta
           rest = [];
           none = refl;
           is = refl;
-          was = ap (λ (r : Result output.Progress BadLine). course_at (Opening p) r (λ q. output.ends q n [])) (reached-one p version good n [] opened) ∙ ap (λ e. record { text = []; ending = e }) same;
-          now = ap (λ (r : Result output.Progress BadLine). course_at (Opening (two p)) r (λ q. output.ends q n [])) (reached-two p version good n [] opened)
+          was =
+              ap (λ (r : Result output.Progress BadLine). course_at (Opening p) r
+              (λ q. output.ends q n [])) (reached-one p version good n [] opened)
+              ∙ ap (λ e. record { text = []; ending = e }) same;
+          now =
+              ap (λ (r : Result output.Progress BadLine). course_at (Opening (two p)) r
+              (λ q. output.ends q n [])) (reached-two p version good n [] opened)
               ∙ ap (λ c. all_stepped [] (opening (fresh p.start)) c) counts;
           same = cc;
         }
-end-agrees p kept n (b ∷ tail) story count version ends = go (is_opening n (b ∷ tail)) (start_fault p.start) ends
+end-agrees p kept n (b ∷ tail) story count version ends =
+    go (is_opening n (b ∷ tail)) (start_fault p.start) ends
   where
-    go : (c : Bool) (o : Option (ℕ × Fault)) → (cond c (moving_ends (Keeping p kept) n (b ∷ tail)) (moving_opened p kept o (λ q. moving_ends q n (b ∷ tail)))).ending ≡ AllRead story count
-        → KeptAgrees p n [] (b ∷ tail) kept (moving_from (Keeping p kept) n [] (b ∷ tail)).lines story count
+    go : (c : Bool) (o : Option (ℕ × Fault))
+        → (cond c (moving_ends (Keeping p kept) n (b ∷ tail))
+        (moving_opened p kept o (λ q. moving_ends q n (b ∷ tail)))).ending ≡ AllRead story count
+        → KeptAgrees p n [] (b ∷ tail) kept
+        (moving_from (Keeping p kept) n [] (b ∷ tail)).lines story count
     go true o ends = (cc)
     go false (Some refused) ends = (cc)
     go false None ends = (cc)
 
 -- what comes of this line and those behind it, once the prelude is over or not
 abbrev next_of : ℕ → List ℕ → List (List ℕ) → List ℕ → Moving → Written
-next_of n bytes lines tail q = moving.moving_after q n (moving_outcome q n bytes) (λ r. moving_from r (n + 1) lines tail)
+next_of n bytes lines tail q =
+    moving.moving_after q n (moving_outcome q n bytes) (λ r. moving_from r (n + 1) lines tail)
 
 abbrev line_at : Prelude → List (List ℕ) → (Moving → Written) → Bool → Option (ℕ × Fault) → Written
 line_at p kept next b o = cond b (next (Keeping p kept)) (moving_opened p kept o next)
 
 -- what follows a line of the prelude agrees
-inside : (p : Prelude) (kept : List (List ℕ)) (n : ℕ) (bytes : List ℕ) (lines : List (List ℕ)) (tail : List ℕ) (story : Story) (count : ℕ) → p.version ≡ One
-    → ((p' : Prelude) (kept' : List (List ℕ)) → p'.version ≡ One → (moving_from (Keeping p' kept') (n + 1) lines tail).ending ≡ AllRead story count
-    → KeptAgrees p' (n + 1) lines tail kept' (moving_from (Keeping p' kept') (n + 1) lines tail).lines story count)
-    → is_opening n bytes ≡ true → (next_of n bytes lines tail (Keeping p kept)).ending ≡ AllRead story count → KeptAgrees p n (bytes ∷ lines) tail kept (next_of n bytes lines tail (Keeping p kept)).lines story count
+inside : (p : Prelude) (kept : List (List ℕ)) (n : ℕ) (bytes : List ℕ) (lines : List (List ℕ))
+    (tail : List ℕ) (story : Story) (count : ℕ) → p.version ≡ One
+    → ((p' : Prelude) (kept' : List (List ℕ)) → p'.version ≡ One
+    → (moving_from (Keeping p' kept') (n + 1) lines tail).ending ≡ AllRead story count
+    → KeptAgrees p' (n + 1) lines tail kept'
+    (moving_from (Keeping p' kept') (n + 1) lines tail).lines story count)
+    → is_opening n bytes ≡ true → (next_of n bytes lines tail (Keeping p kept)).ending
+    ≡ AllRead story count → KeptAgrees p n (bytes ∷ lines) tail kept
+    (next_of n bytes lines tail (Keeping p kept)).lines story count
 inside p kept n bytes lines tail story count version on opened ends =
-    let g = gone-on (Keeping p kept) n (moving_outcome (Keeping p kept) n bytes) (λ r. moving_from r (n + 1) lines tail) story count ends in
+    let g =
+    gone-on (Keeping p kept) n (moving_outcome (Keeping p kept) n bytes)
+    (λ r. moving_from r (n + 1) lines tail) story count ends in
     let r = was-read (Keeping p kept) n bytes g.then g.lines g.is in
     let k = kept-on p kept n bytes r.line g.then g.lines version r.enters in
-    let ih = on k.prelude (kept ++ bytes ∷ []) k.version (ap (λ q. (moving_from q (n + 1) lines tail).ending) (sym k.next) ∙ g.ends) in
+    let ih =
+    on k.prelude (kept ++ bytes ∷ []) k.version
+    (ap (λ q. (moving_from q (n + 1) lines tail).ending) (sym k.next) ∙ g.ends) in
     record {
       text = ih.text;
       scene = ih.scene;
       rest = bytes ∷ ih.rest;
       none = ih.none;
-      is = ap (λ o. (moving.moving_after (Keeping p kept) n o (λ r. moving_from r (n + 1) lines tail)).lines) g.is
-          ∙ (ap₂ (λ ls q. ls ++ (moving_from q (n + 1) lines tail).lines) k.none k.next ∙ (ih.is ∙ append_assoc kept (bytes ∷ []) ih.rest));
-      was = ap (λ b. course_at (Opening p) (cond b (Ok (Opening p)) (output.opened p (start_fault p.start))) (λ q. course_after q n (output.outcome q n bytes) (λ u. course_from u (n + 1) lines []))) opened
-          ∙ (ap (λ o. course_after (Opening p) n o (λ u. course_from u (n + 1) lines [])) (read-short (Opening p) n bytes r.line r.short r.spelled ∙ k.one) ∙ ap (λ c. text_before [] c) ih.was);
-      now = ap (λ b. course_at (Opening (two p)) (cond b (Ok (Opening (two p))) (output.opened (two p) (start_fault p.start))) (λ q. course_after q n (output.outcome q n bytes) (λ u. course_from u (n + 1) ih.rest []))) opened
-          ∙ (ap (λ o. course_after (Opening (two p)) n o (λ u. course_from u (n + 1) ih.rest [])) (read-short (Opening (two p)) n bytes r.line r.short r.spelled ∙ k.both) ∙ ap (λ c. text_before [] c) ih.now);
+      is =
+          ap (λ o. (moving.moving_after (Keeping p kept) n o
+          (λ r. moving_from r (n + 1) lines tail)).lines) g.is
+          ∙ (ap₂ (λ ls q. ls ++ (moving_from q (n + 1) lines tail).lines) k.none k.next
+          ∙ (ih.is ∙ append_assoc kept (bytes ∷ []) ih.rest));
+      was =
+          ap (λ b. course_at (Opening p)
+          (cond b (Ok (Opening p)) (output.opened p (start_fault p.start)))
+          (λ q. course_after q n (output.outcome q n bytes)
+          (λ u. course_from u (n + 1) lines []))) opened
+          ∙ (ap (λ o. course_after (Opening p) n o (λ u. course_from u (n + 1) lines []))
+          (read-short (Opening p) n bytes r.line r.short r.spelled ∙ k.one)
+          ∙ ap (λ c. text_before [] c) ih.was);
+      now =
+          ap (λ b. course_at (Opening (two p))
+          (cond b (Ok (Opening (two p))) (output.opened (two p) (start_fault p.start)))
+          (λ q. course_after q n (output.outcome q n bytes)
+          (λ u. course_from u (n + 1) ih.rest []))) opened
+          ∙ (ap (λ o. course_after (Opening (two p)) n o (λ u. course_from u (n + 1) ih.rest []))
+          (read-short (Opening (two p)) n bytes r.line r.short r.spelled ∙ k.both)
+          ∙ ap (λ c. text_before [] c) ih.now);
       same = ih.same;
     }
 
 -- and so does what follows the first line behind it
-behind : (p : Prelude) (kept : List (List ℕ)) (n : ℕ) (bytes : List ℕ) (lines : List (List ℕ)) (tail : List ℕ) (story : Story) (count : ℕ) → p.version ≡ One
-    → is_opening n bytes ≡ false → start_fault p.start ≡ None → (next_of n bytes lines tail (Moved (fresh p.start) [] 0)).ending ≡ AllRead story count
-    → KeptAgrees p n (bytes ∷ lines) tail kept (kept ++ (next_of n bytes lines tail (Moved (fresh p.start) [] 0)).lines) story count
+behind : (p : Prelude) (kept : List (List ℕ)) (n : ℕ) (bytes : List ℕ) (lines : List (List ℕ))
+    (tail : List ℕ) (story : Story) (count : ℕ) → p.version ≡ One
+    → is_opening n bytes ≡ false → start_fault p.start ≡ None
+    → (next_of n bytes lines tail (Moved (fresh p.start) [] 0)).ending ≡ AllRead story count
+    → KeptAgrees p n (bytes ∷ lines) tail kept
+    (kept ++ (next_of n bytes lines tail (Moved (fresh p.start) [] 0)).lines) story count
 behind p kept n bytes lines tail story count version over good ends =
     let x = opening (fresh p.start) in
-    let a = calls-agree (bytes ∷ lines) x (opening-fits (fresh p.start) refl) 0 n tail story count ends in
+    let a =
+    calls-agree (bytes ∷ lines) x (opening-fits (fresh p.start) refl) 0 n tail
+    story count ends in
     let q = Moved (fresh p.start) [] 0 in
-    let g = gone-on q n (moving_outcome q n bytes) (λ r. moving_from r (n + 1) lines tail) story count ends in
+    let g =
+    gone-on q n (moving_outcome q n bytes) (λ r. moving_from r (n + 1) lines tail)
+    story count ends in
     let r = was-read q n bytes g.then g.lines g.is in
-    let first = moves-start n (fresh p.start) [] 0 bytes g.then g.lines over (output.call_of r.line) r.enters in
+    let first =
+    moves-start n (fresh p.start) [] 0 bytes g.then g.lines over
+    (output.call_of r.line) r.enters in
     let more = first.rest ++ (moving_from g.then (n + 1) lines tail).lines in
     let written : (next_of n bytes lines tail q).lines ≡ first.first ∷ more
-    = ap (λ o. (moving.moving_after q n o (λ r. moving_from r (n + 1) lines tail)).lines) g.is ∙ ap (λ ls. ls ++ (moving_from g.then (n + 1) lines tail).lines) first.is in
+    = ap (λ o. (moving.moving_after q n o (λ r. moving_from r (n + 1) lines tail)).lines) g.is
+    ∙ ap (λ ls. ls ++ (moving_from g.then (n + 1) lines tail).lines) first.is in
     record {
       text = a.text;
       scene = a.now.scene;
@@ -170,28 +262,42 @@ behind p kept n bytes lines tail story count version over good ends =
       is = refl;
       was = over-one p version good n bytes over lines ∙ a.was;
       now = ap (λ ls. course_from (Opening (two p)) n ls []) written
-          ∙ (over-two p version good n first.first first.ends more ∙ (ap (λ ls. course_from (Stepping x 0) n ls []) (sym written) ∙ a.now.ends n));
+          ∙ (over-two p version good n first.first first.ends more
+          ∙ (ap (λ ls. course_from (Stepping x 0) n ls []) (sym written) ∙ a.now.ends n));
       same = a.now.same;
     }
 
-by-line : (p : Prelude) (kept : List (List ℕ)) (n : ℕ) (bytes : List ℕ) (lines : List (List ℕ)) (tail : List ℕ) (story : Story) (count : ℕ) → p.version ≡ One
-    → ((p' : Prelude) (kept' : List (List ℕ)) → p'.version ≡ One → (moving_from (Keeping p' kept') (n + 1) lines tail).ending ≡ AllRead story count
-    → KeptAgrees p' (n + 1) lines tail kept' (moving_from (Keeping p' kept') (n + 1) lines tail).lines story count)
+by-line : (p : Prelude) (kept : List (List ℕ)) (n : ℕ) (bytes : List ℕ) (lines : List (List ℕ))
+    (tail : List ℕ) (story : Story) (count : ℕ) → p.version ≡ One
+    → ((p' : Prelude) (kept' : List (List ℕ)) → p'.version ≡ One
+    → (moving_from (Keeping p' kept') (n + 1) lines tail).ending ≡ AllRead story count
+    → KeptAgrees p' (n + 1) lines tail kept'
+    (moving_from (Keeping p' kept') (n + 1) lines tail).lines story count)
     → (moving_from (Keeping p kept) n (bytes ∷ lines) tail).ending ≡ AllRead story count
-    → KeptAgrees p n (bytes ∷ lines) tail kept (moving_from (Keeping p kept) n (bytes ∷ lines) tail).lines story count
-by-line p kept n bytes lines tail story count version on ends = go (is_opening n bytes) refl (start_fault p.start) refl ends
+    → KeptAgrees p n (bytes ∷ lines) tail kept
+    (moving_from (Keeping p kept) n (bytes ∷ lines) tail).lines story count
+by-line p kept n bytes lines tail story count version on ends =
+    go (is_opening n bytes) refl (start_fault p.start) refl ends
   where
-    go : (b : Bool) → is_opening n bytes ≡ b → (o : Option (ℕ × Fault)) → start_fault p.start ≡ o → (line_at p kept (next_of n bytes lines tail) b o).ending ≡ AllRead story count
-        → KeptAgrees p n (bytes ∷ lines) tail kept (line_at p kept (next_of n bytes lines tail) b o).lines story count
+    go : (b : Bool) → is_opening n bytes ≡ b → (o : Option (ℕ × Fault)) → start_fault p.start ≡ o
+        → (line_at p kept (next_of n bytes lines tail) b o).ending ≡ AllRead story count
+        → KeptAgrees p n (bytes ∷ lines) tail kept
+        (line_at p kept (next_of n bytes lines tail) b o).lines story count
     go true opened o good ends = inside p kept n bytes lines tail story count version on opened ends
     go false over (Some refused) good ends = (cc)
-    go false over None good ends = behind p kept n bytes lines tail story count version over good ends
+    go false over None good ends =
+        behind p kept n bytes lines tail story count version over good ends
 
-prelude-agrees : (lines : List (List ℕ)) (p : Prelude) (kept : List (List ℕ)) (n : ℕ) (tail : List ℕ) (story : Story) (count : ℕ) → p.version ≡ One
-    → (moving_from (Keeping p kept) n lines tail).ending ≡ AllRead story count → KeptAgrees p n lines tail kept (moving_from (Keeping p kept) n lines tail).lines story count
-prelude-agrees [] p kept n tail story count version ends = end-agrees p kept n tail story count version ends
+prelude-agrees : (lines : List (List ℕ)) (p : Prelude) (kept : List (List ℕ)) (n : ℕ)
+    (tail : List ℕ) (story : Story) (count : ℕ) → p.version ≡ One
+    → (moving_from (Keeping p kept) n lines tail).ending ≡ AllRead story count
+    → KeptAgrees p n lines tail kept
+    (moving_from (Keeping p kept) n lines tail).lines story count
+prelude-agrees [] p kept n tail story count version ends =
+    end-agrees p kept n tail story count version ends
 prelude-agrees (bytes ∷ lines) p kept n tail story count version ends =
-    by-line p kept n bytes lines tail story count version (λ p' kept' v e. prelude-agrees lines p' kept' (n + 1) tail story count v e) ends
+    by-line p kept n bytes lines tail story count version
+    (λ p' kept' v e. prelude-agrees lines p' kept' (n + 1) tail story count v e) ends
 
 -- ---- the header
 
@@ -204,11 +310,14 @@ record Headed (then : Moving) (lines : List (List ℕ)) (line : Line) : Type 0 w
   one : output.entered Unstarted 1 line ≡ output.Goes (Opening prelude) []
   both : output.outcome Unstarted 1 (spelling header) ≡ output.Goes (Opening (two prelude)) []
 
-headed : (bytes : List ℕ) (line : Line) (then : Moving) (lines : List (List ℕ)) → IsSpellable line → moving_entered Unmoved 1 bytes line ≡ moving.Goes then lines → Headed then lines line
-headed bytes (Header One s t l c) then lines fits goes = go (are_within_limits (sizes_of s t l c log_limit)) refl goes
+headed : (bytes : List ℕ) (line : Line) (then : Moving) (lines : List (List ℕ)) → IsSpellable line
+    → moving_entered Unmoved 1 bytes line ≡ moving.Goes then lines → Headed then lines line
+headed bytes (Header One s t l c) then lines fits goes =
+    go (are_within_limits (sizes_of s t l c log_limit)) refl goes
   where
     go : (b : Bool) → are_within_limits (sizes_of s t l c log_limit) ≡ b
-        → cond b (moving.Goes (Keeping (empty_prelude One (sizes_of s t l c log_limit)) []) (spelling (Header Two s t l c) ∷ [])) (moving.Bad why.Limit) ≡ moving.Goes then lines
+        → cond b (moving.Goes (Keeping (empty_prelude One (sizes_of s t l c log_limit)) [])
+        (spelling (Header Two s t l c) ∷ [])) (moving.Bad why.Limit) ≡ moving.Goes then lines
         → Headed then lines (Header One s t l c)
     go true within goes = record {
       prelude = empty_prelude One (sizes_of s t l c log_limit);
@@ -216,9 +325,12 @@ headed bytes (Header One s t l c) then lines fits goes = go (are_within_limits (
       header = Header Two s t l c;
       next = cc;
       written = cc;
-      one = ap (λ b. cond b (output.Goes (Opening (empty_prelude One (sizes_of s t l c log_limit))) []) (output.Bad why.Limit)) within;
+      one =
+          ap (λ b. cond b (output.Goes (Opening (empty_prelude One (sizes_of s t l c log_limit)))
+          []) (output.Bad why.Limit)) within;
       both = read-spelled Unstarted 1 (Header Two s t l c) fits (λ list same. (cc))
-          ∙ ap (λ b. cond b (output.Goes (Opening (empty_prelude Two (sizes_of s t l c log_limit))) []) (output.Bad why.Limit)) within;
+          ∙ ap (λ b. cond b (output.Goes (Opening (empty_prelude Two (sizes_of s t l c log_limit)))
+          []) (output.Bad why.Limit)) within;
     }
     go false within goes = (cc)
 headed bytes (Header Two s t l c) then lines fits goes = (cc)
@@ -236,22 +348,31 @@ pub tells-same : MigrationsTellTheSame
 tells-same [] [] story count ends = (cc)
 tells-same [] (b ∷ tail) story count ends = (cc)
 tells-same (bytes ∷ lines) tail story count ends =
-    let g = gone-on Unmoved 1 (moving_outcome Unmoved 1 bytes) (λ r. moving_from r 2 lines tail) story count ends in
+    let g =
+    gone-on Unmoved 1 (moving_outcome Unmoved 1 bytes)
+    (λ r. moving_from r 2 lines tail) story count ends in
     let r = was-read Unmoved 1 bytes g.then g.lines g.is in
     let h = headed bytes r.line g.then g.lines (line_takes bytes r.line r.spelled).1 r.enters in
-    let a = prelude-agrees lines h.prelude [] 2 tail story count h.version (ap (λ q. (moving_from q 2 lines tail).ending) (sym h.next) ∙ g.ends) in
+    let a =
+    prelude-agrees lines h.prelude [] 2 tail story count h.version
+    (ap (λ q. (moving_from q 2 lines tail).ending) (sym h.next) ∙ g.ends) in
     let written : (moving_from Unmoved 1 (bytes ∷ lines) tail).lines ≡ spelling h.header ∷ a.rest
     = ap (λ o. (moving.moving_after Unmoved 1 o (λ r. moving_from r 2 lines tail)).lines) g.is
-    ∙ (ap₂ (λ ls q. ls ++ (moving_from q 2 lines tail).lines) h.written h.next ∙ ap (λ ls. spelling h.header ∷ ls) a.is) in (
+    ∙ (ap₂ (λ ls q. ls ++ (moving_from q 2 lines tail).lines) h.written h.next
+    ∙ ap (λ ls. spelling h.header ∷ ls) a.is) in (
       a.none,
       record {
         text = a.text;
         story = story;
         scene = a.scene;
         count = count;
-        was = ap (λ o. course_after Unstarted 1 o (λ u. course_from u 2 lines [])) (read-short Unstarted 1 bytes r.line r.short r.spelled ∙ h.one) ∙ ap (λ c. text_before [] c) a.was;
+        was =
+            ap (λ o. course_after Unstarted 1 o (λ u. course_from u 2 lines []))
+            (read-short Unstarted 1 bytes r.line r.short r.spelled ∙ h.one)
+            ∙ ap (λ c. text_before [] c) a.was;
         now = ap (λ ls. course_from Unstarted 1 ls []) written
-            ∙ (ap (λ o. course_after Unstarted 1 o (λ u. course_from u 2 a.rest [])) h.both ∙ ap (λ c. text_before [] c) a.now);
+            ∙ (ap (λ o. course_after Unstarted 1 o (λ u. course_from u 2 a.rest [])) h.both
+            ∙ ap (λ c. text_before [] c) a.now);
         same = a.same;
       },
     )

@@ -1,5 +1,7 @@
--- What an accepted verdict says: the request passes, an order is learnt, a type is held twice, or a held lock violates an order.
-use Rattle.std.proofs.Common.{◌≡◌, Bool, true, false, not, ◌&&◌, List, [], ◌∷◌, Option, None, Some, Ok, Err, is_some, find, reverse, refl, ap, sym, ◌∙◌}
+-- What an accepted verdict says: the request passes, an order is learnt, a type is held twice, or a
+-- held lock violates an order.
+use Rattle.std.proofs.Common.{◌≡◌, Bool, true, false, not, ◌&&◌, List, [], ◌∷◌, Option, None, Some}
+use Rattle.std.proofs.Common.{Ok, Err, is_some, find, reverse, refl, ap, sym, ◌∙◌}
 use Rattle.std.specs.List.{list_all, last_or}
 use Rattle.std.specs.Option.{option_map}
 use Rattle.wit_model.specs.declared.profiles.Profile.{Profile}
@@ -15,7 +17,12 @@ use Rattle.wit_model.specs.Rules.Locks.{has_flag}
 use Rattle.wit_model.specs.Rules.Orders.{is_direct}
 use Rattle.wit_model.specs.Rules.History.{is_on}
 use Rattle.wit_model.specs.Rules.Types.{is_spin, class_of}
-use Rattle.wit_model.specs.Rules.Verdict.{Basis, Rule, is_exclusive, is_of, type_held, has_type_of, again, doubled, violates, reported, is_learnt, when, decided, follows, breaks_order, teaches, is_direct_behind, follows_all, new_parents, orders_behind, told_orders, teaches_all, doubles_in, follows_in, teaches_in, holds_it, holds_nothing, sleeps_under_spin, chain_asked, ruling}
+use Rattle.wit_model.specs.Rules.Verdict.{Basis, Rule, is_exclusive, is_of, type_held, has_type_of}
+use Rattle.wit_model.specs.Rules.Verdict.{again, doubled, violates, reported, is_learnt, when}
+use Rattle.wit_model.specs.Rules.Verdict.{decided, follows, breaks_order, teaches, is_direct_behind}
+use Rattle.wit_model.specs.Rules.Verdict.{follows_all, new_parents, orders_behind, told_orders}
+use Rattle.wit_model.specs.Rules.Verdict.{teaches_all, doubles_in, follows_in, teaches_in, holds_it}
+use Rattle.wit_model.specs.Rules.Verdict.{holds_nothing, sleeps_under_spin, chain_asked, ruling}
 use Rattle.wit_model.proofs.Histories.Accepted.{passed, same_reply}
 use Rattle.wit_model.proofs.Orders.Ends.{found-last, all-last, found-passes}
 
@@ -25,7 +32,8 @@ pub record IsBehind (q : TypedRequest) (c : List Instance) (last : Instance) : T
   pub free : find (is_of q.lock.0) c ≡ None
 
 -- behind one of another type, by an order that isn't a direct one
-pub record IsNewBehind (g : Basis) (q : TypedRequest) (c : List Instance) (last : Instance) : Type 0 where
+pub record IsNewBehind (g : Basis) (q : TypedRequest) (c : List Instance)
+    (last : Instance) : Type 0 where
   pub behind : IsBehind q c last
   pub apart : has_type_of g q last ≡ false
   pub new : is_direct g.orders (type_held g last).0 q.type_no.0 ≡ false
@@ -49,7 +57,8 @@ pub record LearnsAll (g : Basis) (q : TypedRequest) (c : List Instance) (r : Rep
   pub reply : r ≡ AdoptedAll (orders_behind q (new_parents g q [] (reverse c)))
 
 -- a held lock is of the type: the last one, where the last one alone is compared with
-pub record Doubles (profile : Profile) (g : Basis) (q : TypedRequest) (c : List Instance) (r : Reply) : Type 0 where
+pub record Doubles (profile : Profile) (g : Basis) (q : TypedRequest) (c : List Instance)
+    (r : Reply) : Type 0 where
   pub held : Instance
   pub of_chain : (has : Instance → Bool) → list_all has c ≡ true → has held ≡ true
   pub behind : profile ≡ Plain → IsBehind q c held
@@ -62,7 +71,8 @@ pub record IsUnknown (g : Basis) (q : TypedRequest) (c : List Instance) : Type 0
   pub is_new : IsNewBehind g q c last
 
 -- a held lock violates an order
-pub record Breaks (profile : Profile) (g : Basis) (q : TypedRequest) (c : List Instance) (r : Reply) : Type 0 where
+pub record Breaks (profile : Profile) (g : Basis) (q : TypedRequest) (c : List Instance)
+    (r : Reply) : Type 0 where
   pub unknown : profile ≡ Plain → IsUnknown g q c
   pub held : Instance
   pub violation : find (violates g q) (reverse c) ≡ Some held
@@ -93,16 +103,19 @@ pub record Recurs (q : TypedRequest) (c : List Instance) : Type 0 where
   pub is_held : find (is_of q.lock.0) c ≡ Some held
 
 -- why a request passes where nothing doubles it
-pub data Cause (profile : Profile) (g : Basis) (watch : Watch) (q : TypedRequest) (c : List Instance) : Type 0 where
+pub data Cause (profile : Profile) (g : Basis) (watch : Watch) (q : TypedRequest)
+    (c : List Instance) : Type 0 where
   Unwatched : is_on watch ≡ false → Cause profile g watch q c
   Empty : last_or None c ≡ None → Cause profile g watch q c
   Recursion : Recurs q c → Cause profile g watch q c
   Known : profile ≡ Plain → Follows g q c → Cause profile g watch q c
-  KnownAll : profile ≡ AllHeld → list_all (is_direct_behind g q) c ≡ true → Cause profile g watch q c
+  KnownAll : profile ≡ AllHeld → list_all (is_direct_behind g q) c ≡ true
+      → Cause profile g watch q c
   Untaught : profile ≡ Plain → Forgoes g q c → Cause profile g watch q c
   UntaughtAll : profile ≡ AllHeld → ForgoesAll g q c → Cause profile g watch q c
 
-pub data Says (profile : Profile) (g : Basis) (watch : Watch) (q : TypedRequest) (c : List Instance) (r : Reply) : Type 0 where
+pub data Says (profile : Profile) (g : Basis) (watch : Watch) (q : TypedRequest) (c : List Instance)
+    (r : Reply) : Type 0 where
   Passed : r ≡ Pass → Cause profile g watch q c → Says profile g watch q c r
   Learnt : profile ≡ Plain → Learns g q c r → Says profile g watch q c r
   LearntAll : profile ≡ AllHeld → LearnsAll g q c r → Says profile g watch q c r
@@ -117,54 +130,103 @@ again_passes q i r ok =
     let one = passed (is_exclusive i.mode && not (is_exclusive q.mode)) _ _ r ok in
     let two = passed (not (is_exclusive i.mode) && is_exclusive q.mode) _ _ r one.1 in
     let three = passed (has_flag q.ops.0 0x04) _ _ r two.1 in
-    let four = passed (is_exclusive i.mode && not (has_flag q.flags.0 0x01)) _ (Ok Pass) r three.1 in
+    let four =
+    passed (is_exclusive i.mode && not (has_flag q.flags.0 0x01)) _ (Ok Pass) r three.1 in
     sym (same_reply four.1)
 
 -- the last held lock alone is compared with
 module _ (g : Basis) (watch : Watch) (q : TypedRequest) (c : List Instance) (r : Reply) where
   learning : (last : Instance) → IsNewBehind g q c last → find (violates g q) (reverse c) ≡ None
-      → (b : Bool) → is_learnt g q last ≡ b → decided (when b (Ok (Adopted (type_held g last) q.type_no)) ∷ []) ≡ Ok r → Says Plain g watch q c r
-  learning last new orderly true is told = Learnt refl (record { last = last; is_new = new; orderly = orderly; allowed = is; reply = sym (same_reply told) })
-  learning last new orderly false is told = Passed (sym (same_reply told)) (Untaught refl (record { last = last; is_new = new; orderly = orderly; barred = is }))
+      → (b : Bool) → is_learnt g q last ≡ b
+      → decided (when b (Ok (Adopted (type_held g last) q.type_no)) ∷ []) ≡ Ok r
+      → Says Plain g watch q c r
+  learning last new orderly true is told =
+      Learnt refl (record {
+        last = last;
+        is_new = new;
+        orderly = orderly;
+        allowed = is;
+        reply = sym (same_reply told);
+      })
+  learning last new orderly false is told =
+      Passed (sym (same_reply told))
+      (Untaught refl (record { last = last; is_new = new; orderly = orderly; barred = is }))
 
-  breaking : (last : Instance) → IsNewBehind g q c last → (o : Option Instance) → find (violates g q) (reverse c) ≡ o
-      → decided (option_map (reported g q c) o ∷ teaches g (Some last) q ∷ []) ≡ Ok r → Says Plain g watch q c r
-  breaking last new (Some i) sees told = Broken (record { unknown = λ plain. record { last = last; is_new = new }; held = i; violation = sees; reply = told })
+  breaking : (last : Instance) → IsNewBehind g q c last → (o : Option Instance)
+      → find (violates g q) (reverse c) ≡ o
+      → decided (option_map (reported g q c) o ∷ teaches g (Some last) q ∷ []) ≡ Ok r
+      → Says Plain g watch q c r
+  breaking last new (Some i) sees told =
+      Broken (record {
+        unknown = λ plain. record { last = last; is_new = new };
+        held = i;
+        violation = sees;
+        reply = told;
+      })
   breaking last new None sees told = learning last new sees (is_learnt g q last) refl told
 
   following : (last : Instance) → IsBehind q c last → has_type_of g q last ≡ false
       → (b : Bool) → is_direct g.orders (type_held g last).0 q.type_no.0 ≡ b
-      → decided (when b (Ok Pass) ∷ breaks_order g c q ∷ teaches g (Some last) q ∷ []) ≡ Ok r → Says Plain g watch q c r
-  following last behind apart true is told = Passed (sym (same_reply told)) (Known refl (record { last = last; behind = behind; direct = is }))
+      → decided (when b (Ok Pass) ∷ breaks_order g c q ∷ teaches g (Some last) q ∷ []) ≡ Ok r
+      → Says Plain g watch q c r
+  following last behind apart true is told =
+      Passed (sym (same_reply told))
+      (Known refl (record { last = last; behind = behind; direct = is }))
   following last behind apart false is told =
-      breaking last (record { behind = behind; apart = apart; new = is }) (find (violates g q) (reverse c)) refl told
+      breaking last (record { behind = behind; apart = apart; new = is })
+      (find (violates g q) (reverse c)) refl told
 
   doubling : (last : Instance) → IsBehind q c last → (b : Bool) → has_type_of g q last ≡ b
-      → decided (when b (doubled g q last) ∷ follows g (Some last) q ∷ breaks_order g c q ∷ teaches g (Some last) q ∷ []) ≡ Ok r → Says Plain g watch q c r
+      → decided (when b (doubled g q last) ∷ follows g (Some last) q ∷ breaks_order g c q
+      ∷ teaches g (Some last) q ∷ []) ≡ Ok r → Says Plain g watch q c r
   doubling last behind true is told =
-      Doubled (record { held = last; of_chain = λ has all. all-last has c last all behind.is_last; behind = λ plain. behind; same = is; reply = told })
-  doubling last behind false is told = following last behind is (is_direct g.orders (type_held g last).0 q.type_no.0) refl told
+      Doubled (record {
+        held = last;
+        of_chain = λ has all. all-last has c last all behind.is_last;
+        behind = λ plain. behind;
+        same = is;
+        reply = told;
+      })
+  doubling last behind false is told =
+      following last behind is (is_direct g.orders (type_held g last).0 q.type_no.0) refl told
 
 -- all held locks are
 module _ (g : Basis) (watch : Watch) (q : TypedRequest) (c : List Instance) (r : Reply) where
-  learning-all : AreApart g q c → find (violates g q) (reverse c) ≡ None → (ps : List TypeNo) → new_parents g q [] (reverse c) ≡ ps
+  learning-all : AreApart g q c → find (violates g q) (reverse c) ≡ None → (ps : List TypeNo)
+      → new_parents g q [] (reverse c) ≡ ps
       → decided (told_orders q ps ∷ []) ≡ Ok r → Says AllHeld g watch q c r
-  learning-all apart orderly [] is told = Passed (sym (same_reply told)) (UntaughtAll refl (record { apart = apart; orderly = orderly; barred = is }))
+  learning-all apart orderly [] is told =
+      Passed (sym (same_reply told))
+      (UntaughtAll refl (record { apart = apart; orderly = orderly; barred = is }))
   learning-all apart orderly (p ∷ ps) is told =
-      LearntAll refl (record { apart = apart; orderly = orderly; reply = sym (same_reply told) ∙ ap (λ l. AdoptedAll (orders_behind q l)) (sym is) })
+      LearntAll refl (record {
+        apart = apart;
+        orderly = orderly;
+        reply = sym (same_reply told) ∙ ap (λ l. AdoptedAll (orders_behind q l)) (sym is);
+      })
 
   breaking-all : AreApart g q c → (o : Option Instance) → find (violates g q) (reverse c) ≡ o
-      → decided (option_map (reported g q c) o ∷ teaches_all g c q ∷ []) ≡ Ok r → Says AllHeld g watch q c r
-  breaking-all apart (Some i) sees told = Broken (record { unknown = λ plain. unlike (IsUnknown g q c) plain; held = i; violation = sees; reply = told })
-  breaking-all apart None sees told = learning-all apart sees (new_parents g q [] (reverse c)) refl told
+      → decided (option_map (reported g q c) o ∷ teaches_all g c q ∷ []) ≡ Ok r
+      → Says AllHeld g watch q c r
+  breaking-all apart (Some i) sees told =
+      Broken (record {
+        unknown = λ plain. unlike (IsUnknown g q c) plain;
+        held = i;
+        violation = sees;
+        reply = told;
+      })
+  breaking-all apart None sees told =
+      learning-all apart sees (new_parents g q [] (reverse c)) refl told
 
   following-all : AreApart g q c → (b : Bool) → list_all (is_direct_behind g q) c ≡ b
-      → decided (when b (Ok Pass) ∷ breaks_order g c q ∷ teaches_all g c q ∷ []) ≡ Ok r → Says AllHeld g watch q c r
+      → decided (when b (Ok Pass) ∷ breaks_order g c q ∷ teaches_all g c q ∷ []) ≡ Ok r
+      → Says AllHeld g watch q c r
   following-all apart true is told = Passed (sym (same_reply told)) (KnownAll refl is)
   following-all apart false is told = breaking-all apart (find (violates g q) (reverse c)) refl told
 
   doubling-all : (o : Option Instance) → find (has_type_of g q) (reverse c) ≡ o
-      → decided (option_map (doubled g q) o ∷ follows_all g c q ∷ breaks_order g c q ∷ teaches_all g c q ∷ []) ≡ Ok r → Says AllHeld g watch q c r
+      → decided (option_map (doubled g q) o ∷ follows_all g c q ∷ breaks_order g c q
+      ∷ teaches_all g c q ∷ []) ≡ Ok r → Says AllHeld g watch q c r
   doubling-all None is told = following-all is (list_all (is_direct_behind g q) c) refl told
   doubling-all (Some i) is told =
       Doubled (record {
@@ -177,36 +239,54 @@ module _ (g : Basis) (watch : Watch) (q : TypedRequest) (c : List Instance) (r :
 
 -- the rules that the profile tells apart, and what they stand with
 abbrev later_rules : Profile → Basis → List Instance → Option Instance → TypedRequest → List Rule
-later_rules profile g c last q = doubles_in profile g c last q ∷ follows_in profile g c last q ∷ breaks_order g c q ∷ teaches_in profile g c last q ∷ []
+later_rules profile g c last q =
+    doubles_in profile g c last q ∷ follows_in profile g c last q ∷ breaks_order g c q
+    ∷ teaches_in profile g c last q ∷ []
 
-comparing : (profile : Profile) (g : Basis) (watch : Watch) (q : TypedRequest) (c : List Instance) (r : Reply) (last : Instance) → IsBehind q c last
+comparing : (profile : Profile) (g : Basis) (watch : Watch) (q : TypedRequest) (c : List Instance)
+    (r : Reply) (last : Instance) → IsBehind q c last
     → decided (later_rules profile g c (Some last) q) ≡ Ok r → Says profile g watch q c r
-comparing Plain g watch q c r last behind told = doubling g watch q c r last behind (has_type_of g q last) refl told
-comparing AllHeld g watch q c r last behind told = doubling-all g watch q c r (find (has_type_of g q) (reverse c)) refl told
+comparing Plain g watch q c r last behind told =
+    doubling g watch q c r last behind (has_type_of g q last) refl told
+comparing AllHeld g watch q c r last behind told =
+    doubling-all g watch q c r (find (has_type_of g q) (reverse c)) refl told
 
-module _ (profile : Profile) (g : Basis) (watch : Watch) (q : TypedRequest) (c : List Instance) (r : Reply) where
-  recurring : (last : Instance) → last_or None c ≡ Some last → (o : Option Instance) → find (is_of q.lock.0) c ≡ o
-      → decided (option_map (again q) o ∷ later_rules profile g c (Some last) q) ≡ Ok r → Says profile g watch q c r
-  recurring last is_last (Some i) there told = Passed (again_passes q i r told) (Recursion (record { held = i; is_held = there }))
-  recurring last is_last None free told = comparing profile g watch q c r last (record { is_last = is_last; free = free }) told
+module _ (profile : Profile) (g : Basis) (watch : Watch) (q : TypedRequest) (c : List Instance)
+    (r : Reply) where
+  recurring : (last : Instance) → last_or None c ≡ Some last → (o : Option Instance)
+      → find (is_of q.lock.0) c ≡ o
+      → decided (option_map (again q) o ∷ later_rules profile g c (Some last) q) ≡ Ok r
+      → Says profile g watch q c r
+  recurring last is_last (Some i) there told =
+      Passed (again_passes q i r told) (Recursion (record { held = i; is_held = there }))
+  recurring last is_last None free told =
+      comparing profile g watch q c r last (record { is_last = is_last; free = free }) told
 
   holding : (o : Option Instance) → last_or None c ≡ o
-      → decided (holds_nothing o ∷ holds_it c q ∷ later_rules profile g c o q) ≡ Ok r → Says profile g watch q c r
+      → decided (holds_nothing o ∷ holds_it c q ∷ later_rules profile g c o q) ≡ Ok r
+      → Says profile g watch q c r
   holding None is told = Passed (sym (same_reply told)) (Empty is)
   holding (Some last) is told = recurring last is (find (is_of q.lock.0) c) refl told
 
   sleeping : (spin : List Instance) (b : Bool)
-      → decided (when b (Err SleepUnderSpin) ∷ holds_nothing (last_or None c) ∷ holds_it c q ∷ later_rules profile g c (last_or None c) q) ≡ Ok r
+      → decided (when b (Err SleepUnderSpin) ∷ holds_nothing (last_or None c) ∷ holds_it c q
+      ∷ later_rules profile g c (last_or None c) q) ≡ Ok r
       → Says profile g watch q c r
   sleeping spin true told = (cc)
   sleeping spin false told = holding (last_or None c) refl told
 
   watching : (spin : List Instance) (b : Bool) → is_on watch ≡ b
-      → decided (when (not b) (Ok Pass) ∷ sleeps_under_spin g spin q ∷ holds_nothing (last_or None c) ∷ holds_it c q
+      → decided (when (not b) (Ok Pass) ∷ sleeps_under_spin g spin q
+      ∷ holds_nothing (last_or None c) ∷ holds_it c q
       ∷ later_rules profile g c (last_or None c) q) ≡ Ok r → Says profile g watch q c r
   watching spin false is told = Passed (sym (same_reply told)) (Unwatched is)
-  watching spin true is told = sleeping spin (not (is_spin (class_of q.type_no.0 g.types)) && is_some (last_or None spin)) told
+  watching spin true is told =
+      sleeping spin (not (is_spin (class_of q.type_no.0 g.types))
+      && is_some (last_or None spin)) told
 
-pub ruled : (profile : Profile) (g : Basis) (watch : Watch) (sleep spin : List Instance) (q : TypedRequest) (r : Reply)
-    → ruling profile g watch sleep spin q ≡ Ok r → Says profile g watch q (chain_asked g sleep spin q) r
-ruled profile g watch sleep spin q r ok = watching profile g watch q (chain_asked g sleep spin q) r spin (is_on watch) refl ok
+pub ruled : (profile : Profile) (g : Basis) (watch : Watch) (sleep spin : List Instance)
+    (q : TypedRequest) (r : Reply)
+    → ruling profile g watch sleep spin q ≡ Ok r
+    → Says profile g watch q (chain_asked g sleep spin q) r
+ruled profile g watch sleep spin q r ok =
+    watching profile g watch q (chain_asked g sleep spin q) r spin (is_on watch) refl ok

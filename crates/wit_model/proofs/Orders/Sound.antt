@@ -1,5 +1,6 @@
 -- An order is learnt only where it turns none round: so no type is ever before itself.
-use Rattle.std.proofs.Common.{◌≡◌, ℕ, Bool, true, false, not, ◌&&◌, ◌||◌, cond, List, [], ◌∷◌, ◌++◌, reverse, find, map, Some, None, Result, Ok, refl, ap, sym, ◌∙◌, subst}
+use Rattle.std.proofs.Common.{◌≡◌, ℕ, Bool, true, false, not, ◌&&◌, ◌||◌, cond, List, [], ◌∷◌, ◌++◌}
+use Rattle.std.proofs.Common.{reverse, find, map, Some, None, Result, Ok, refl, ap, sym, ◌∙◌, subst}
 use Rattle.std.specs.List.{list_all, last_or}
 use Rattle.std.proofs.lemmas.Bool.{and_parts, and_from, eq-eqb, true≢false, not-true}
 use Rattle.wit_model.specs.declared.profiles.Profile.TheVariants.{Plain}
@@ -14,22 +15,30 @@ use Rattle.wit_model.specs.declared.calls.Request.{Request}
 use Rattle.wit_model.specs.declared.calls.Call.{Call}
 use Rattle.wit_model.specs.declared.calls.Call.TheVariants.{Check, DefineOrder}
 use Rattle.wit_model.specs.declared.calls.Reply.{Reply}
-use Rattle.wit_model.specs.declared.calls.Reply.TheVariants.{Pass, Adopted, AdoptedAll, Silent, Duplicate, Reversal}
+use Rattle.wit_model.specs.declared.calls.Reply.TheVariants.{Pass, Adopted, AdoptedAll, Silent}
+use Rattle.wit_model.specs.declared.calls.Reply.TheVariants.{Duplicate, Reversal}
 use Rattle.wit_model.specs.declared.calls.Entry.{Entry}
 use Rattle.wit_model.specs.Rules.Types.{is_spin, class_of}
 use Rattle.wit_model.specs.Rules.Locks.{Lock, locks_of, has_flag, lock_at, unknown_lock, is_of_kind}
 use Rattle.wit_model.specs.Rules.Orders.{is_before, is_found, IsSound, adopted}
 use Rattle.wit_model.specs.Rules.History.{is_held, held_of, chain, instance}
-use Rattle.wit_model.specs.Rules.State.{Start, Known, Seat, seat_at, is_seat, known_of, state_of, types_of, typed_locks, orders_of}
-use Rattle.wit_model.specs.Rules.Verdict.{Basis, type_held, is_sleepable, is_giant, place_of, place_asked, doubled, violates, is_blessed, conflict, has_type_of, reported, is_learnt, new_parents, orders_behind, chain_asked, ruling, basis_of, typed_request}
+use Rattle.wit_model.specs.Rules.State.{Start, Known, Seat, seat_at, is_seat, known_of, state_of}
+use Rattle.wit_model.specs.Rules.State.{types_of, typed_locks, orders_of}
+use Rattle.wit_model.specs.Rules.Verdict.{Basis, type_held, is_sleepable, is_giant, place_of}
+use Rattle.wit_model.specs.Rules.Verdict.{place_asked, doubled, violates, is_blessed, conflict}
+use Rattle.wit_model.specs.Rules.Verdict.{has_type_of, reported, is_learnt, new_parents}
+use Rattle.wit_model.specs.Rules.Verdict.{orders_behind, chain_asked, ruling, basis_of}
+use Rattle.wit_model.specs.Rules.Verdict.{typed_request}
 use Rattle.wit_model.specs.Rules.Step.{answer_of, story_after, IsLegal}
 use Rattle.wit_model.specs.Rules.Numbers.{IsGiven}
 use Rattle.wit_model.proofs.Numbered.{with_number-or-map}
 use Rattle.wit_model.proofs.Orders.Paths.{sound_adopt}
 use Rattle.wit_model.proofs.Orders.Defined.{define_adopted}
-use Rattle.wit_model.proofs.Orders.AllHeld.{AreFree, learnt_on, on-adopted, sound-on, parents-free, parents-have}
+use Rattle.wit_model.proofs.Orders.AllHeld.{AreFree, learnt_on, on-adopted, sound-on, parents-free}
+use Rattle.wit_model.proofs.Orders.AllHeld.{parents-have}
 use Rattle.wit_model.proofs.Orders.Ends.{all-last, all-reverse, none-passes}
-use Rattle.wit_model.proofs.Orders.Ruled.{IsNewBehind, AreApart, Says, Passed, Learnt, LearntAll, Doubled, Broken, ruled}
+use Rattle.wit_model.proofs.Orders.Ruled.{IsNewBehind, AreApart, Says, Passed, Learnt, LearntAll}
+use Rattle.wit_model.proofs.Orders.Ruled.{Doubled, Broken, ruled}
 use Rattle.wit_model.proofs.Chains.Held.{made_sane, held_of-all}
 use Rattle.wit_model.proofs.Chains.Seats.{entry}
 use Rattle.wit_model.proofs.Orders.TypedLocks.{made-known}
@@ -38,7 +47,8 @@ use Rattle.wit_model.proofs.Histories.AcceptedTurns.{define_accepted}
 use Rattle.wit_model.proofs.Histories.Legal.{seat_at-state, one_chain, sane_legal}
 
 -- what a learnt order says of the chain
-pub record IsLearnt (g : Basis) (q : TypedRequest) (c : List Instance) (p child' : TypeNo) : Type 0 where
+pub record IsLearnt (g : Basis) (q : TypedRequest) (c : List Instance)
+    (p child' : TypeNo) : Type 0 where
   pub last : Instance
   pub is_new : IsNewBehind g q c last
   pub orderly : find (violates g q) (reverse c) ≡ None
@@ -46,29 +56,43 @@ pub record IsLearnt (g : Basis) (q : TypedRequest) (c : List Instance) (p child'
   pub parent : type_held g last ≡ p
   pub child : q.type_no ≡ child'
 
-reported_teaches_nothing : (g : Basis) (q : TypedRequest) (c : List Instance) (i : Instance) (a b : TypeNo) → reported g q c i ≡ Ok (Adopted a b) → ⊥
-reported_teaches_nothing g q c i a b ok = go (is_found g.found (type_held g i).0 q.type_no.0 || is_blessed g (type_held g i) q.type_no) ok
+reported_teaches_nothing : (g : Basis) (q : TypedRequest) (c : List Instance) (i : Instance)
+    (a b : TypeNo) → reported g q c i ≡ Ok (Adopted a b) → ⊥
+reported_teaches_nothing g q c i a b ok =
+    go (is_found g.found (type_held g i).0 q.type_no.0 || is_blessed g (type_held g i) q.type_no) ok
   where
-    go : (f : Bool) → cond {A = Result Reply Fault} f (Ok (Silent (type_held g i) q.type_no)) (Ok (Reversal (conflict g q c i))) ≡ Ok (Adopted a b) → ⊥
+    go : (f : Bool) → cond {A = Result Reply Fault} f (Ok (Silent (type_held g i) q.type_no))
+        (Ok (Reversal (conflict g q c i))) ≡ Ok (Adopted a b) → ⊥
     go true same = (cc)
     go false same = (cc)
 
-doubled_teaches_nothing : (g : Basis) (q : TypedRequest) (i : Instance) (a b : TypeNo) → doubled g q i ≡ Ok (Adopted a b) → ⊥
-doubled_teaches_nothing g q i a b ok = go (has_flag q.flags.0 0x02 || has_flag q.ops.0 0x02) (is_found g.found q.type_no.0 q.type_no.0) ok
+doubled_teaches_nothing : (g : Basis) (q : TypedRequest) (i : Instance) (a b : TypeNo)
+    → doubled g q i ≡ Ok (Adopted a b) → ⊥
+doubled_teaches_nothing g q i a b ok =
+    go (has_flag q.flags.0 0x02 || has_flag q.ops.0 0x02)
+    (is_found g.found q.type_no.0 q.type_no.0) ok
   where
-    go : (allowed f : Bool) → cond {A = Result Reply Fault} allowed (Ok Pass) (cond f (Ok (Silent q.type_no q.type_no)) (Ok (Duplicate (record { last = place_of i; asked = place_asked q })))) ≡ Ok (Adopted a b) → ⊥
+    go : (allowed f : Bool) → cond {A = Result Reply Fault} allowed (Ok Pass)
+        (cond f (Ok (Silent q.type_no q.type_no))
+        (Ok (Duplicate (record { last = place_of i; asked = place_asked q }))))
+        ≡ Ok (Adopted a b) → ⊥
     go true f same = (cc)
     go false true same = (cc)
     go false false same = (cc)
 
-pub learnt : (profile : Profile) (g : Basis) (watch : Watch) (sleep spin : List Instance) (q : TypedRequest) (a b : TypeNo) → ruling profile g watch sleep spin q ≡ Ok (Adopted a b)
+pub learnt : (profile : Profile) (g : Basis) (watch : Watch) (sleep spin : List Instance)
+    (q : TypedRequest) (a b : TypeNo) → ruling profile g watch sleep spin q ≡ Ok (Adopted a b)
     → IsLearnt g q (chain_asked g sleep spin q) a b
-learnt profile g watch sleep spin q a b ok = go (ruled profile g watch sleep spin q (Adopted a b) ok)
+learnt profile g watch sleep spin q a b ok =
+    go (ruled profile g watch sleep spin q (Adopted a b) ok)
   where
-    go : Says profile g watch q (chain_asked g sleep spin q) (Adopted a b) → IsLearnt g q (chain_asked g sleep spin q) a b
+    go : Says profile g watch q (chain_asked g sleep spin q) (Adopted a b)
+        → IsLearnt g q (chain_asked g sleep spin q) a b
     go (Passed passes why) = (cc)
     go (Doubled d) = absurd (doubled_teaches_nothing g q d.held a b d.reply)
-    go (Broken broken) = absurd (reported_teaches_nothing g q (chain_asked g sleep spin q) broken.held a b broken.reply)
+    go (Broken broken) =
+        absurd (reported_teaches_nothing g q (chain_asked g sleep spin q) broken.held a
+        b broken.reply)
     go (LearntAll all l) = (let same = l.reply in cc)
     go (Learnt plain l) = record {
       last = l.last;
@@ -80,34 +104,49 @@ learnt profile g watch sleep spin q a b ok = go (ruled profile g watch sleep spi
     }
 
 -- the same of orders behind all held locks
-pub record IsLearntAll (g : Basis) (q : TypedRequest) (c : List Instance) (ps : List (TypeNo × TypeNo)) : Type 0 where
+pub record IsLearntAll (g : Basis) (q : TypedRequest) (c : List Instance)
+    (ps : List (TypeNo × TypeNo)) : Type 0 where
   pub apart : AreApart g q c
   pub orderly : find (violates g q) (reverse c) ≡ None
   pub pairs : ps ≡ orders_behind q (new_parents g q [] (reverse c))
 
-reported_teaches_none : (g : Basis) (q : TypedRequest) (c : List Instance) (i : Instance) (ps : List (TypeNo × TypeNo)) → reported g q c i ≡ Ok (AdoptedAll ps) → ⊥
-reported_teaches_none g q c i ps ok = go (is_found g.found (type_held g i).0 q.type_no.0 || is_blessed g (type_held g i) q.type_no) ok
+reported_teaches_none : (g : Basis) (q : TypedRequest) (c : List Instance) (i : Instance)
+    (ps : List (TypeNo × TypeNo)) → reported g q c i ≡ Ok (AdoptedAll ps) → ⊥
+reported_teaches_none g q c i ps ok =
+    go (is_found g.found (type_held g i).0 q.type_no.0 || is_blessed g (type_held g i) q.type_no) ok
   where
-    go : (f : Bool) → cond {A = Result Reply Fault} f (Ok (Silent (type_held g i) q.type_no)) (Ok (Reversal (conflict g q c i))) ≡ Ok (AdoptedAll ps) → ⊥
+    go : (f : Bool) → cond {A = Result Reply Fault} f (Ok (Silent (type_held g i) q.type_no))
+        (Ok (Reversal (conflict g q c i))) ≡ Ok (AdoptedAll ps) → ⊥
     go true same = (cc)
     go false same = (cc)
 
-doubled_teaches_none : (g : Basis) (q : TypedRequest) (i : Instance) (ps : List (TypeNo × TypeNo)) → doubled g q i ≡ Ok (AdoptedAll ps) → ⊥
-doubled_teaches_none g q i ps ok = go (has_flag q.flags.0 0x02 || has_flag q.ops.0 0x02) (is_found g.found q.type_no.0 q.type_no.0) ok
+doubled_teaches_none : (g : Basis) (q : TypedRequest) (i : Instance) (ps : List (TypeNo × TypeNo))
+    → doubled g q i ≡ Ok (AdoptedAll ps) → ⊥
+doubled_teaches_none g q i ps ok =
+    go (has_flag q.flags.0 0x02 || has_flag q.ops.0 0x02)
+    (is_found g.found q.type_no.0 q.type_no.0) ok
   where
-    go : (allowed f : Bool) → cond {A = Result Reply Fault} allowed (Ok Pass) (cond f (Ok (Silent q.type_no q.type_no)) (Ok (Duplicate (record { last = place_of i; asked = place_asked q })))) ≡ Ok (AdoptedAll ps) → ⊥
+    go : (allowed f : Bool) → cond {A = Result Reply Fault} allowed (Ok Pass)
+        (cond f (Ok (Silent q.type_no q.type_no))
+        (Ok (Duplicate (record { last = place_of i; asked = place_asked q }))))
+        ≡ Ok (AdoptedAll ps) → ⊥
     go true f same = (cc)
     go false true same = (cc)
     go false false same = (cc)
 
-pub learnt-all : (profile : Profile) (g : Basis) (watch : Watch) (sleep spin : List Instance) (q : TypedRequest) (ps : List (TypeNo × TypeNo))
-    → ruling profile g watch sleep spin q ≡ Ok (AdoptedAll ps) → IsLearntAll g q (chain_asked g sleep spin q) ps
-learnt-all profile g watch sleep spin q ps ok = go (ruled profile g watch sleep spin q (AdoptedAll ps) ok)
+pub learnt-all : (profile : Profile) (g : Basis) (watch : Watch) (sleep spin : List Instance)
+    (q : TypedRequest) (ps : List (TypeNo × TypeNo))
+    → ruling profile g watch sleep spin q ≡ Ok (AdoptedAll ps)
+    → IsLearntAll g q (chain_asked g sleep spin q) ps
+learnt-all profile g watch sleep spin q ps ok =
+    go (ruled profile g watch sleep spin q (AdoptedAll ps) ok)
   where
-    go : Says profile g watch q (chain_asked g sleep spin q) (AdoptedAll ps) → IsLearntAll g q (chain_asked g sleep spin q) ps
+    go : Says profile g watch q (chain_asked g sleep spin q) (AdoptedAll ps)
+        → IsLearntAll g q (chain_asked g sleep spin q) ps
     go (Passed passes why) = (cc)
     go (Doubled d) = absurd (doubled_teaches_none g q d.held ps d.reply)
-    go (Broken broken) = absurd (reported_teaches_none g q (chain_asked g sleep spin q) broken.held ps broken.reply)
+    go (Broken broken) =
+        absurd (reported_teaches_none g q (chain_asked g sleep spin q) broken.held ps broken.reply)
     go (Learnt plain l) = (let same = l.reply in cc)
     go (LearntAll all l) = record {
       apart = l.apart;
@@ -116,61 +155,83 @@ learnt-all profile g watch sleep spin q ps ok = go (ruled profile g watch sleep 
     }
 
 -- where the last held lock alone is compared with, no reply tells several
-pub never-all : (g : Basis) (watch : Watch) (sleep spin : List Instance) (q : TypedRequest) (ps : List (TypeNo × TypeNo))
+pub never-all : (g : Basis) (watch : Watch) (sleep spin : List Instance) (q : TypedRequest)
+    (ps : List (TypeNo × TypeNo))
     → ruling Plain g watch sleep spin q ≡ Ok (AdoptedAll ps) → ⊥
 never-all g watch sleep spin q ps ok = go (ruled Plain g watch sleep spin q (AdoptedAll ps) ok)
   where
     go : Says Plain g watch q (chain_asked g sleep spin q) (AdoptedAll ps) → ⊥
     go (Passed passes why) = (cc)
     go (Doubled d) = doubled_teaches_none g q d.held ps d.reply
-    go (Broken broken) = reported_teaches_none g q (chain_asked g sleep spin q) broken.held ps broken.reply
+    go (Broken broken) =
+        reported_teaches_none g q (chain_asked g sleep spin q) broken.held ps broken.reply
     go (Learnt plain l) = (let same = l.reply in cc)
     go (LearntAll all l) = (cc)
 
-through : (t : ℕ) (h : List Entry) (k : Bool) (ls : List ℕ) → list_all (λ l. is_held t l h && is_of_kind k (locks_of h) l) ls ≡ true
+through : (t : ℕ) (h : List Entry) (k : Bool) (ls : List ℕ)
+    → list_all (λ l. is_held t l h && is_of_kind k (locks_of h) l) ls ≡ true
     → list_all (λ (i : Instance). is_held t i.lock.0 h) (map (instance t h) ls) ≡ true
 through t h k [] all = refl
 through t h k (l ∷ ls) all =
-    let parts = and_parts (is_held t l h && is_of_kind k (locks_of h) l) (list_all (λ m. is_held t m h && is_of_kind k (locks_of h) m) ls) all in
+    let parts =
+    and_parts (is_held t l h && is_of_kind k (locks_of h) l)
+    (list_all (λ m. is_held t m h && is_of_kind k (locks_of h) m) ls) all in
     let here = and_parts (is_held t l h) (is_of_kind k (locks_of h) l) parts.0 in
     rw (here.0, through t h k ls parts.1) refl
 
 -- the locks of a chain are held
-pub chain-held : (k : Bool) (t : ℕ) (h : List Entry) → list_all (λ (i : Instance). is_held t i.lock.0 h) (chain k t h) ≡ true
+pub chain-held : (k : Bool) (t : ℕ) (h : List Entry)
+    → list_all (λ (i : Instance). is_held t i.lock.0 h) (chain k t h) ≡ true
 chain-held k t h = through t h k (held_of k t h) (held_of-all k t h)
 
 -- the last lock of a seat's chain is held
-pub last-held : (k : Bool) (t : ℕ) (h : List Entry) (x : Instance) → last_or None (chain k t h) ≡ Some x → is_held t x.lock.0 h ≡ true
+pub last-held : (k : Bool) (t : ℕ) (h : List Entry) (x : Instance)
+    → last_or None (chain k t h) ≡ Some x → is_held t x.lock.0 h ≡ true
 last-held k t h x is =
     all-last (λ (i : Instance). is_held t i.lock.0 h) (chain k t h) x (chain-held k t h) is
 
 -- a learnt order isn't turned round, and its types differ
-learnt-orderly : (g : Basis) (q : TypedRequest) (c : List Instance) (a b : TypeNo) → IsLearnt g q c a b → is_before g.orders b.0 a.0 ≡ false
+learnt-orderly : (g : Basis) (q : TypedRequest) (c : List Instance) (a b : TypeNo)
+    → IsLearnt g q c a b → is_before g.orders b.0 a.0 ≡ false
 learnt-orderly g q c a b l =
     let parts =
-    and_parts (has_flag q.ops.0 0x01 && not (is_giant g (type_held g l.last) && is_sleepable g q.type_no)) (not (is_before g.orders q.type_no.0 (type_held g l.last).0)) l.allowed in
+    and_parts (has_flag q.ops.0 0x01
+    && not (is_giant g (type_held g l.last) && is_sleepable g q.type_no))
+    (not (is_before g.orders q.type_no.0 (type_held g l.last).0)) l.allowed in
     subst (λ (x : TypeNo). is_before g.orders b.0 x.0 ≡ false) l.parent
-    (subst (λ (x : TypeNo). is_before g.orders x.0 (type_held g l.last).0 ≡ false) l.child (not-true (is_before g.orders q.type_no.0 (type_held g l.last).0) parts.1))
+    (subst (λ (x : TypeNo). is_before g.orders x.0 (type_held g l.last).0 ≡ false) l.child
+    (not-true (is_before g.orders q.type_no.0 (type_held g l.last).0) parts.1))
 
-learnt-apart : (g : Basis) (q : TypedRequest) (c : List Instance) (a b : TypeNo) → IsLearnt g q c a b → a.0 ≡ b.0 → ⊥
+learnt-apart : (g : Basis) (q : TypedRequest) (c : List Instance) (a b : TypeNo)
+    → IsLearnt g q c a b → a.0 ≡ b.0 → ⊥
 learnt-apart g q c a b l same =
     true≢false
-    (sym (eq-eqb (type_held g l.last).0 q.type_no.0 (ap (λ (n : TypeNo). n.0) l.parent ∙ same ∙ sym (ap (λ (n : TypeNo). n.0) l.child)))
+    (sym (eq-eqb (type_held g l.last).0 q.type_no.0
+    (ap (λ (n : TypeNo). n.0) l.parent ∙ same ∙ sym (ap (λ (n : TypeNo). n.0) l.child)))
     ∙ l.is_new.apart)
 
 -- the type of a held lock, by what a verifier knows
-pub type-held : (k : Known) (i : Instance) → type_held (basis_of k) i ≡ (lock_at k.locks i.lock.0).type_no
+pub type-held : (k : Known) (i : Instance) → type_held (basis_of k) i
+    ≡ (lock_at k.locks i.lock.0).type_no
 type-held k i = with_number-or-map (λ (l : Lock). l.type_no) k.locks i.lock.0 unknown_lock
 
 -- the chain that a seat's request is judged by
-pub chain-judged : (start : Start) (files : List (List ℕ)) (h : List Entry) (t : ℕ) (q : Request) → is_seat (state_of (story_after start files h)) t ≡ true
-    → chain_asked (basis_of (known_of start h)) (seat_at (state_of (story_after start files h)) t).sleep (seat_at (state_of (story_after start files h)) t).spin (typed_request (known_of start h) q)
-    ≡ chain (is_spin (class_of (lock_at (typed_locks start h) q.lock.0).type_no.0 (types_of start h))) t h
+pub chain-judged : (start : Start) (files : List (List ℕ)) (h : List Entry) (t : ℕ) (q : Request)
+    → is_seat (state_of (story_after start files h)) t ≡ true
+    → chain_asked (basis_of (known_of start h))
+    (seat_at (state_of (story_after start files h)) t).sleep
+    (seat_at (state_of (story_after start files h)) t).spin
+    (typed_request (known_of start h) q)
+    ≡ chain (is_spin (class_of (lock_at (typed_locks start h) q.lock.0).type_no.0
+    (types_of start h))) t h
 chain-judged start files h t q is =
-    ap (λ (s : Seat). chain_asked (basis_of (known_of start h)) s.sleep s.spin (typed_request (known_of start h) q)) (seat_at-state start files h t is)
-    ∙ one_chain (is_spin (class_of (lock_at (typed_locks start h) q.lock.0).type_no.0 (types_of start h))) t h
+    ap (λ (s : Seat). chain_asked (basis_of (known_of start h)) s.sleep s.spin
+    (typed_request (known_of start h) q)) (seat_at-state start files h t is)
+    ∙ one_chain (is_spin (class_of (lock_at (typed_locks start h) q.lock.0).type_no.0
+    (types_of start h))) t h
 
--- what a check that teaches an order says of it: which made locks are of its types, that these differ, and that the child isn't before the parent
+-- what a check that teaches an order says of it: which made locks are of its types, that these
+-- differ, and that the child isn't before the parent
 pub record IsTaught (start : Start) (h : List Entry) (q : Request) (a b : TypeNo) : Type 0 where
   pub last : ℕ
   pub was : IsGiven (locks_of h) last
@@ -180,17 +241,23 @@ pub record IsTaught (start : Start) (h : List Entry) (q : Request) (a b : TypeNo
   pub apart : a.0 ≡ b.0 → ⊥
   pub orderly : is_before (orders_of start h) b.0 a.0 ≡ false
 
-pub taught : (start : Start) (files : List (List ℕ)) (h : List Entry) (t : ℕ) (q : Request) (a b : TypeNo) → IsLegal start files h
-    → CheckAccepted (state_of (story_after start files h)) t q (Adopted a b) → IsTaught start h q a b
+pub taught : (start : Start) (files : List (List ℕ)) (h : List Entry) (t : ℕ) (q : Request)
+    (a b : TypeNo) → IsLegal start files h
+    → CheckAccepted (state_of (story_after start files h)) t q (Adopted a b)
+    → IsTaught start h q a b
 taught start files h t q a b legal accepted =
     let s = state_of (story_after start files h) in
     let g = basis_of (known_of start h) in
     let asked = typed_request (known_of start h) q in
     let c = chain_asked g (seat_at s t).sleep (seat_at s t).spin asked in
-    let kind = is_spin (class_of (lock_at (typed_locks start h) q.lock.0).type_no.0 (types_of start h)) in
-    let l = learnt start.profile g s.watch (seat_at s t).sleep (seat_at s t).spin asked a b accepted.verdict in
+    let kind =
+    is_spin (class_of (lock_at (typed_locks start h) q.lock.0).type_no.0 (types_of start h)) in
+    let l =
+    learnt start.profile g s.watch (seat_at s t).sleep
+    (seat_at s t).spin asked a b accepted.verdict in
     let held : is_held t l.last.lock.0 h ≡ true =
-    last-held kind t h l.last (subst (λ c. last_or None c ≡ Some l.last) (chain-judged start files h t q accepted.seat) l.is_new.behind.is_last) in
+    last-held kind t h l.last (subst (λ c. last_or None c ≡ Some l.last)
+    (chain-judged start files h t q accepted.seat) l.is_new.behind.is_last) in
     record {
       last = l.last.lock.0;
       was = made_sane t l.last.lock.0 h (sane_legal start files h legal) held;
@@ -201,13 +268,17 @@ taught start files h t q a b legal accepted =
       orderly = learnt-orderly g asked c a b l;
     }
 
--- what a check that teaches orders behind all held locks says of them: they can be learnt, and each type is that of a lock which is held
-pub record IsTaughtAll (start : Start) (h : List Entry) (t : ℕ) (q : Request) (ps : List (TypeNo × TypeNo)) : Type 0 where
+-- what a check that teaches orders behind all held locks says of them: they can be learnt, and each
+-- type is that of a lock which is held
+pub record IsTaughtAll (start : Start) (h : List Entry) (t : ℕ) (q : Request)
+    (ps : List (TypeNo × TypeNo)) : Type 0 where
   pub parents : List TypeNo
   pub asks : IsGiven (locks_of h) q.lock.0
   pub pairs : ps ≡ orders_behind (typed_request (known_of start h) q) parents
   pub free : AreFree (typed_request (known_of start h) q) (orders_of start h) parents
-  pub held : (has : TypeNo → Bool) → ((l : ℕ) → is_held t l h ≡ true → has (lock_at (typed_locks start h) l).type_no ≡ true) → list_all has parents ≡ true
+  pub held : (has : TypeNo → Bool)
+      → ((l : ℕ) → is_held t l h ≡ true → has (lock_at (typed_locks start h) l).type_no ≡ true)
+      → list_all has parents ≡ true
 
 of-held : (start : Start) (h : List Entry) (t : ℕ) (has : TypeNo → Bool)
     → ((l : ℕ) → is_held t l h ≡ true → has (lock_at (typed_locks start h) l).type_no ≡ true)
@@ -215,60 +286,88 @@ of-held : (start : Start) (h : List Entry) (t : ℕ) (has : TypeNo → Bool)
     → list_all (λ (i : Instance). has (type_held (basis_of (known_of start h)) i)) c ≡ true
 of-held start h t has of [] all = refl
 of-held start h t has of (i ∷ c) all =
-    let parts = and_parts (is_held t i.lock.0 h) (list_all (λ (j : Instance). is_held t j.lock.0 h) c) all in
-    and_from (has (type_held (basis_of (known_of start h)) i)) (list_all (λ (j : Instance). has (type_held (basis_of (known_of start h)) j)) c)
-    (ap has (type-held (known_of start h) i) ∙ of i.lock.0 parts.0) (of-held start h t has of c parts.1)
+    let parts =
+    and_parts (is_held t i.lock.0 h)
+    (list_all (λ (j : Instance). is_held t j.lock.0 h) c) all in
+    and_from (has (type_held (basis_of (known_of start h)) i))
+    (list_all (λ (j : Instance). has (type_held (basis_of (known_of start h)) j)) c)
+    (ap has (type-held (known_of start h) i) ∙ of i.lock.0 parts.0)
+    (of-held start h t has of c parts.1)
 
-pub taught-all : (start : Start) (files : List (List ℕ)) (h : List Entry) (t : ℕ) (q : Request) (ps : List (TypeNo × TypeNo))
-    → CheckAccepted (state_of (story_after start files h)) t q (AdoptedAll ps) → IsTaughtAll start h t q ps
+pub taught-all : (start : Start) (files : List (List ℕ)) (h : List Entry) (t : ℕ) (q : Request)
+    (ps : List (TypeNo × TypeNo))
+    → CheckAccepted (state_of (story_after start files h)) t q (AdoptedAll ps)
+    → IsTaughtAll start h t q ps
 taught-all start files h t q ps accepted =
     let s = state_of (story_after start files h) in
     let g = basis_of (known_of start h) in
     let asked = typed_request (known_of start h) q in
     let c = chain_asked g (seat_at s t).sleep (seat_at s t).spin asked in
-    let kind = is_spin (class_of (lock_at (typed_locks start h) q.lock.0).type_no.0 (types_of start h)) in
-    let l = learnt-all start.profile g s.watch (seat_at s t).sleep (seat_at s t).spin asked ps accepted.verdict in
+    let kind =
+    is_spin (class_of (lock_at (typed_locks start h) q.lock.0).type_no.0 (types_of start h)) in
+    let l =
+    learnt-all start.profile g s.watch (seat_at s t).sleep
+    (seat_at s t).spin asked ps accepted.verdict in
     let held : list_all (λ (i : Instance). is_held t i.lock.0 h) c ≡ true
-    = subst (λ d. list_all (λ (i : Instance). is_held t i.lock.0 h) d ≡ true) (sym (chain-judged start files h t q accepted.seat)) (chain-held kind t h) in
+    = subst (λ d. list_all (λ (i : Instance). is_held t i.lock.0 h) d ≡ true)
+    (sym (chain-judged start files h t q accepted.seat)) (chain-held kind t h) in
     record {
       parents = new_parents g asked [] (reverse c);
       asks = made-known start h q.lock.0 accepted.lock;
       pairs = l.pairs;
-      free = parents-free asked g (reverse c) (none-passes (has_type_of g asked) (reverse c) l.apart);
+      free =
+          parents-free asked g (reverse c) (none-passes (has_type_of g asked) (reverse c) l.apart);
       held = λ has of. parents-have asked g has (reverse c) []
-          (of-held start h t has of (reverse c) (all-reverse (λ (i : Instance). is_held t i.lock.0 h) c held));
+          (of-held start h t has of (reverse c)
+          (all-reverse (λ (i : Instance). is_held t i.lock.0 h) c held));
     }
 
 -- the orders once they are learnt
-pub after-all : (start : Start) (h : List Entry) (t : ℕ) (q : Request) (ps : List (TypeNo × TypeNo)) (l : IsTaughtAll start h t q ps)
-    → adopted (Check q) (AdoptedAll ps) ++ orders_of start h ≡ learnt_on (typed_request (known_of start h) q) l.parents (orders_of start h)
+pub after-all : (start : Start) (h : List Entry) (t : ℕ) (q : Request) (ps : List (TypeNo × TypeNo))
+    (l : IsTaughtAll start h t q ps)
+    → adopted (Check q) (AdoptedAll ps) ++ orders_of start h
+    ≡ learnt_on (typed_request (known_of start h) q) l.parents (orders_of start h)
 after-all start h t q ps l =
     ap (λ pairs. adopted (Check q) (AdoptedAll pairs) ++ orders_of start h) l.pairs
     ∙ on-adopted (typed_request (known_of start h) q) l.parents (orders_of start h)
 
-sound_check : (start : Start) (files : List (List ℕ)) (h : List Entry) (t : ℕ) (q : Request) (a b : TypeNo) → IsLegal start files h
-    → CheckAccepted (state_of (story_after start files h)) t q (Adopted a b) → IsSound (orders_of start h)
+sound_check : (start : Start) (files : List (List ℕ)) (h : List Entry) (t : ℕ) (q : Request)
+    (a b : TypeNo) → IsLegal start files h
+    → CheckAccepted (state_of (story_after start files h)) t q (Adopted a b)
+    → IsSound (orders_of start h)
     → IsSound (record { parent = a; child = b; origin = At q.site } ∷ orders_of start h)
 sound_check start files h t q a b legal accepted sound =
     let l = taught start files h t q a b legal accepted in
-    sound_adopt (record { parent = a; child = b; origin = At q.site }) (orders_of start h) sound l.orderly l.apart
+    sound_adopt (record { parent = a; child = b; origin = At q.site })
+    (orders_of start h) sound l.orderly l.apart
 
-sound_by : (start : Start) (files : List (List ℕ)) (h : List Entry) (t : ℕ) (c : Call) (r : Reply) → IsLegal start files h
-    → answer_of (story_after start files h) t c ≡ Ok r → IsSound (orders_of start h) → IsSound (orders_of start (entry t c r ∷ h))
+sound_by : (start : Start) (files : List (List ℕ)) (h : List Entry) (t : ℕ) (c : Call) (r : Reply)
+    → IsLegal start files h
+    → answer_of (story_after start files h) t c ≡ Ok r → IsSound (orders_of start h)
+    → IsSound (orders_of start (entry t c r ∷ h))
 sound_by start files h t (Check q) (Adopted a b) legal ok sound =
-    sound_check start files h t q a b legal (check_accepted (state_of (story_after start files h)) t q (Adopted a b) ok) sound
+    sound_check start files h t q a b legal
+    (check_accepted (state_of (story_after start files h)) t q (Adopted a b) ok) sound
 sound_by start files h t (Check q) (AdoptedAll ps) legal ok sound =
-    let l = taught-all start files h t q ps (check_accepted (state_of (story_after start files h)) t q (AdoptedAll ps) ok) in
-    subst IsSound (sym (after-all start h t q ps l)) (sound-on (typed_request (known_of start h) q) l.parents (orders_of start h) l.free sound)
+    let l =
+    taught-all start files h t q ps
+    (check_accepted (state_of (story_after start files h)) t q (AdoptedAll ps) ok) in
+    subst IsSound (sym (after-all start h t q ps l))
+    (sound-on (typed_request (known_of start h) q) l.parents (orders_of start h) l.free sound)
 sound_by start files h t (DefineOrder a b) (Adopted p c) legal ok sound =
     let s = state_of (story_after start files h) in
     let d = define_accepted s t a.0 b.0 (Adopted p c) ok refl in
-    let f = define_adopted s.known.types s.known.orders (lock_at s.known.locks a.0).type_no (lock_at s.known.locks b.0).type_no p c d.answer in
-    sound_adopt (record { parent = p; child = c; origin = Defined }) (orders_of start h) sound f.orderly f.apart
+    let f =
+    define_adopted s.known.types s.known.orders (lock_at s.known.locks a.0).type_no
+    (lock_at s.known.locks b.0).type_no p c d.answer in
+    sound_adopt (record { parent = p; child = c; origin = Defined })
+    (orders_of start h) sound f.orderly f.apart
 sound_by start files h t c r legal ok sound = sound
 
 -- no type is ever before itself
-pub sound_legal : (start : Start) (files : List (List ℕ)) (h : List Entry) → IsSound (orders_of start []) → IsLegal start files h → IsSound (orders_of start h)
+pub sound_legal : (start : Start) (files : List (List ℕ)) (h : List Entry)
+    → IsSound (orders_of start []) → IsLegal start files h → IsSound (orders_of start h)
 sound_legal start files [] sound legal = sound
 sound_legal start files (x ∷ h) sound legal =
-    sound_by start files h x.seat.0 x.call x.reply legal.2 legal.0 (sound_legal start files h sound legal.2)
+    sound_by start files h x.seat.0 x.call x.reply legal.2 legal.0
+    (sound_legal start files h sound legal.2)

@@ -1,18 +1,27 @@
 -- The lines of a trace are printed and read alike.
 use Rattle.std.proofs.Common.{◌≡◌, List, ◌∷◌, ◌++◌, Some, refl, sym, ap, subst, ◌∙◌, ℕ, []}
 use Rattle.wit_model.specs.declared.lines.Line.{Line}
-use Rattle.wit_model.specs.declared.lines.Line.TheVariants.{Header, Profile, Order, Bless, Init, OnLock, Assert, Warn, Define, Watch}
+use Rattle.wit_model.specs.declared.lines.Line.TheVariants.{Header, Profile, Order, Bless, Init}
+use Rattle.wit_model.specs.declared.lines.Line.TheVariants.{OnLock, Assert, Warn, Define, Watch}
 use Rattle.wit_model.specs.declared.lines.LockLine.{LockLine}
 use Rattle.wit_model.specs.declared.lines.LockLine.TheVariants.{Check, Try, Unlock, Plain, Step}
 use Rattle.wit_model.specs.declared.lines.Keyword.{Keyword}
 use Rattle.wit_model.specs.declared.lines.Keyword.TheVariants as keyword
 use Rattle.wit_model.specs.declared.locks.Class.{Class}
-use Rattle.wit_model.specs.Trace.Spelling.{keyword_text, spaced, list_fields, lock_keyword, lock_line_fields, spelling, IsSpellable, Spells}
+use Rattle.wit_model.specs.Trace.Spelling.{keyword_text, spaced, list_fields, lock_keyword}
+use Rattle.wit_model.specs.Trace.Spelling.{lock_line_fields, spelling, IsSpellable, Spells}
 use Rattle.wit_model.specs.Trace.Reading.{◌>>=◌, until, keyword_named, fields_of, line_of}
 use Rattle.wit_model.proofs.Spelling.Codecs.{Ends, bind_some, until_end, until_whole}
 use Rattle.wit_model.proofs.Spelling.Named.{keyword_plain, keyword_takes, keyword_again}
-use Rattle.wit_model.proofs.Spelling.Kinds.{header_takes, header_again, profile_takes, profile_again, order_takes, order_again, bless_takes, bless_again, init_takes, init_again}
-use Rattle.wit_model.proofs.Spelling.CallKinds.{check_takes, try_takes, unlock_takes, plain_takes, take_takes, try_take_takes, free_takes, raw_up_takes, raw_down_takes, lock_line_again, assert_takes, assert_again, warn_takes, warn_again, define_takes, define_again, watch_takes, watch_again}
+use Rattle.wit_model.proofs.Spelling.Kinds.{header_takes, header_again, profile_takes}
+use Rattle.wit_model.proofs.Spelling.Kinds.{profile_again, order_takes, order_again, bless_takes}
+use Rattle.wit_model.proofs.Spelling.Kinds.{bless_again, init_takes, init_again}
+use Rattle.wit_model.proofs.Spelling.CallKinds.{check_takes, try_takes, unlock_takes, plain_takes}
+use Rattle.wit_model.proofs.Spelling.CallKinds.{take_takes, try_take_takes, free_takes}
+use Rattle.wit_model.proofs.Spelling.CallKinds.{raw_up_takes, raw_down_takes, lock_line_again}
+use Rattle.wit_model.proofs.Spelling.CallKinds.{assert_takes, assert_again, warn_takes, warn_again}
+use Rattle.wit_model.proofs.Spelling.CallKinds.{define_takes, define_again, watch_takes}
+use Rattle.wit_model.proofs.Spelling.CallKinds.{watch_again}
 
 -- the fields that are read behind a keyword are the rest of the line's spelling
 fields_take : (word : Keyword) (rest : List ℕ) (line : Line) → fields_of word rest ≡ Some line
@@ -51,7 +60,8 @@ by_keyword : (word : Keyword) (rest : List ℕ) → Ends 32 rest
     → line_of (keyword_text word ++ rest) ≡ fields_of word rest
 unfolding line_of
 by_keyword word rest ends =
-    ap (λ (u : List ℕ × List ℕ). keyword_named u.0 >>= λ word. fields_of word u.1) (until_end 32 (keyword_text word) rest (keyword_plain word) ends)
+    ap (λ (u : List ℕ × List ℕ). keyword_named u.0 >>= λ word. fields_of word u.1)
+    (until_end 32 (keyword_text word) rest (keyword_plain word) ends)
     ∙ rw (keyword_again word) refl
 
 list_starts : (list : List (Class × List ℕ)) → Ends 32 (spaced (list_fields list))
@@ -70,13 +80,17 @@ pub line_again : (line : Line) → IsSpellable line → line_of (spelling line) 
 line_again (Header v s t l c) (p0, p1, p2, p3) =
     by_keyword keyword.Header _ refl ∙ header_again (v, (s, (t, (l, c)))) (tt, (p0, (p1, (p2, p3))))
 line_again Profile p = by_keyword keyword.Profile _ refl ∙ profile_again
-line_again (Order list) (p0, p1) = by_keyword keyword.Order _ (list_starts list) ∙ order_again list p0 p1
+line_again (Order list) (p0, p1) =
+    by_keyword keyword.Order _ (list_starts list) ∙ order_again list p0 p1
 line_again (Bless a b) (p0, p1) = by_keyword keyword.Bless _ refl ∙ bless_again (a, b) (p0, p1)
 line_again (Init seat lock) (p0, p1) = by_keyword keyword.Init _ refl ∙ init_again seat lock p0 p1
-line_again (OnLock line) p = by_keyword (lock_keyword line) _ (lock_line_starts line) ∙ lock_line_again line p
-line_again (Assert s l a) (p0, p1, p2) = by_keyword keyword.Assert _ refl ∙ assert_again s l a p0 p1 p2
+line_again (OnLock line) p =
+    by_keyword (lock_keyword line) _ (lock_line_starts line) ∙ lock_line_again line p
+line_again (Assert s l a) (p0, p1, p2) =
+    by_keyword keyword.Assert _ refl ∙ assert_again s l a p0 p1 p2
 line_again (Warn s l f) (p0, p1, p2) = by_keyword keyword.Warn _ refl ∙ warn_again s l f p0 p1 p2
-line_again (Define s a b) (p0, p1, p2) = by_keyword keyword.Define _ refl ∙ define_again s a b p0 p1 p2
+line_again (Define s a b) (p0, p1, p2) =
+    by_keyword keyword.Define _ refl ∙ define_again s a b p0 p1 p2
 line_again (Watch s w) p0 = by_keyword keyword.Watch _ refl ∙ watch_again s w p0
 
 -- nothing else is read of the bytes that spell a line

@@ -1,11 +1,14 @@
 -- Words that name one of a few values are printed and read alike.
 use Rattle.std.proofs.Common.{◌≡◌, ℕ, true, not, eqb, List, [], ◌∷◌, Some, refl}
 use Rattle.std.specs.List.{list_all}
-use Rattle.wit_model.specs.Trace.Reading.{version_named, class_named, mode_named, level_named, keyword_named, keywords}
-use Rattle.wit_model.specs.Trace.Spelling.{version_text, class_text, mode_text, level_text, keyword_text}
+use Rattle.wit_model.specs.Trace.Reading.{version_named, class_named, mode_named, level_named}
+use Rattle.wit_model.specs.Trace.Reading.{keyword_named, keywords}
+use Rattle.wit_model.specs.Trace.Spelling.{version_text, class_text, mode_text, level_text}
+use Rattle.wit_model.specs.Trace.Spelling.{keyword_text}
 use Rattle.wit_model.specs.declared.lines.Version.{Version}
 use Rattle.wit_model.specs.declared.lines.Version.TheVariants.{One, Two}
-use Rattle.wit_model.specs.declared.lines.Verb.TheVariants.{Note, GiveUp, Destroy, Upgrade, Downgrade, NoRelease, ReleaseOk}
+use Rattle.wit_model.specs.declared.lines.Verb.TheVariants.{Note, GiveUp, Destroy, Upgrade}
+use Rattle.wit_model.specs.declared.lines.Verb.TheVariants.{Downgrade, NoRelease, ReleaseOk}
 use Rattle.wit_model.specs.declared.lines.Keyword.{Keyword}
 use Rattle.wit_model.specs.declared.lines.Keyword.TheVariants as keyword
 use Rattle.wit_model.specs.declared.locks.Class.{Class}
@@ -100,7 +103,8 @@ no_space keyword.Watch = refl
 pub keyword_plain : (word : Keyword) → Lacks 32 (keyword_text word)
 keyword_plain word = Lacks-test 32 (keyword_text word) (no_space word)
 
-pub keyword_takes : (bytes : List ℕ) (word : Keyword) → keyword_named bytes ≡ Some word → bytes ≡ keyword_text word
+pub keyword_takes : (bytes : List ℕ) (word : Keyword) → keyword_named bytes ≡ Some word
+    → bytes ≡ keyword_text word
 unfolding keyword_named
 keyword_takes = named_takes keyword_text keywords
 

@@ -1,8 +1,12 @@
--- A request that passed where all rules were to be met has a direct order behind the last held lock, and by it passes from then on.
-use Rattle.std.proofs.Common.{◌≡◌, ℕ, Bool, true, false, not, ◌&&◌, ◌||◌, cond, eqb, List, [], ◌∷◌, ◌++◌, map, Option, None, Some, Result, Ok, is_some, find, reverse, refl, ap, ap₂, sym, ◌∙◌, subst, ⊎_elim, codes}
+-- A request that passed where all rules were to be met has a direct order behind the last held
+-- lock, and by it passes from then on.
+use Rattle.std.proofs.Common.{◌≡◌, ℕ, Bool, true, false, not, ◌&&◌, ◌||◌, cond, eqb, List, [], ◌∷◌}
+use Rattle.std.proofs.Common.{◌++◌, map, Option, None, Some, Result, Ok, is_some, find, reverse}
+use Rattle.std.proofs.Common.{refl, ap, ap₂, sym, ◌∙◌, subst, ⊎_elim, codes}
 use Rattle.std.specs.List.{last_or}
 use Rattle.std.specs.Str.{bytes_eq}
-use Rattle.std.proofs.lemmas.Bool.{true≢false, or_left, or_right, and_parts, and_from, eq-eqb, eqb-true}
+use Rattle.std.proofs.lemmas.Bool.{true≢false, or_left, or_right, and_parts, and_from, eq-eqb}
+use Rattle.std.proofs.lemmas.Bool.{eqb-true}
 use Rattle.std.proofs.lemmas.List.{reverse-append}
 use Rattle.std.proofs.lemmas.List.Folds.{list_any-append}
 use Rattle.wit_model.specs.declared.profiles.Profile.TheVariants.{Plain, AllHeld}
@@ -17,16 +21,21 @@ use Rattle.wit_model.specs.declared.calls.Heading.{Heading}
 use Rattle.wit_model.specs.declared.calls.Heading.TheVariants as heading
 use Rattle.wit_model.specs.declared.calls.Call.TheVariants.{Check}
 use Rattle.wit_model.specs.declared.calls.Reply.{Reply}
-use Rattle.wit_model.specs.declared.calls.Reply.TheVariants.{Pass, Adopted, Silent, Reversal, Duplicate}
+use Rattle.wit_model.specs.declared.calls.Reply.TheVariants.{Pass, Adopted, Silent, Reversal}
+use Rattle.wit_model.specs.declared.calls.Reply.TheVariants.{Duplicate}
 use Rattle.wit_model.specs.declared.calls.Entry.{Entry}
 use Rattle.wit_model.specs.Rules.Numbers.{is_given}
 use Rattle.wit_model.specs.Rules.Types.{is_same_class}
-use Rattle.wit_model.specs.Rules.Locks.{locks_of, lock_of, lock_at, has_flag, is_spin_lock, is_of_kind}
-use Rattle.wit_model.specs.Rules.Orders.{is_adoption_of, is_direct, is_before, is_found, IsSound, adopted}
+use Rattle.wit_model.specs.Rules.Locks.{locks_of, lock_of, lock_at, has_flag, is_spin_lock}
+use Rattle.wit_model.specs.Rules.Locks.{is_of_kind}
+use Rattle.wit_model.specs.Rules.Orders.{is_adoption_of, is_direct, is_before, is_found, IsSound}
+use Rattle.wit_model.specs.Rules.Orders.{adopted}
 use Rattle.wit_model.specs.Rules.History.{is_on, held_of, chain, instance, watch_of}
 use Rattle.wit_model.specs.Rules.State.{Start, known_of, typed_locks, orders_of}
 use Rattle.wit_model.specs.Rules.Start.{start_fault}
-use Rattle.wit_model.specs.Rules.Verdict.{Basis, type_held, has_type_of, is_sleepable, is_giant, place_of, place_asked, doubled, violates, is_blessed, conflict, reported, is_learnt, basis_of, typed_request}
+use Rattle.wit_model.specs.Rules.Verdict.{Basis, type_held, has_type_of, is_sleepable, is_giant}
+use Rattle.wit_model.specs.Rules.Verdict.{place_of, place_asked, doubled, violates, is_blessed}
+use Rattle.wit_model.specs.Rules.Verdict.{conflict, reported, is_learnt, basis_of, typed_request}
 use Rattle.wit_model.specs.Rules.Step.{IsLegal}
 use Rattle.wit_model.specs.Rules.Clean.{is_giant_lock}
 use Rattle.wit_model.specs.VerdictLaws.{AsksBehind, HasPassed, is_sleepable_lock}
@@ -34,7 +43,9 @@ use Rattle.wit_model.proofs.Chains.Found.{if_some, found}
 use Rattle.wit_model.proofs.Chains.Held.{made_sane}
 use Rattle.wit_model.proofs.Histories.Legal.{sane_legal}
 use Rattle.wit_model.proofs.Orders.Paths.{direct-before}
-use Rattle.wit_model.proofs.Orders.Ruled.{Says, Passed, Learnt, LearntAll, Doubled, Broken, Unwatched, Empty, Recursion, Known, KnownAll, Untaught, UntaughtAll}
+use Rattle.wit_model.proofs.Orders.Ruled.{Says, Passed, Learnt, LearntAll, Doubled, Broken}
+use Rattle.wit_model.proofs.Orders.Ruled.{Unwatched, Empty, Recursion, Known, KnownAll, Untaught}
+use Rattle.wit_model.proofs.Orders.Ruled.{UntaughtAll}
 use Rattle.wit_model.proofs.Orders.Ends.{last_whole}
 use Rattle.wit_model.proofs.Orders.Sound.{type-held, last-held, sound_legal}
 use Rattle.wit_model.proofs.Orders.Started.{sound_started}
@@ -47,32 +58,41 @@ not-all same = (cc)
 
 -- ---- the last lock of a chain
 
-last-map_from : (f : ℕ → Instance) (d : ℕ) (ls : List ℕ) (l : ℕ) → last_or (Some d) ls ≡ Some l → last_or (Some (f d)) (map f ls) ≡ Some (f l)
+last-map_from : (f : ℕ → Instance) (d : ℕ) (ls : List ℕ) (l : ℕ) → last_or (Some d) ls ≡ Some l
+    → last_or (Some (f d)) (map f ls) ≡ Some (f l)
 last-map_from f d [] l is = ap (λ n. Some (f n)) (let e : d ≡ l = cc in e)
 last-map_from f d (m ∷ ls) l is = last-map_from f m ls l is
 
-pub last-map : (f : ℕ → Instance) (ls : List ℕ) (l : ℕ) → last_or None ls ≡ Some l → last_or None (map f ls) ≡ Some (f l)
+pub last-map : (f : ℕ → Instance) (ls : List ℕ) (l : ℕ) → last_or None ls ≡ Some l
+    → last_or None (map f ls) ≡ Some (f l)
 last-map f [] l is = (cc)
 last-map f (m ∷ ls) l is = last-map_from f m ls l is
 
 -- where none violates, the last one doesn't
-last-orderly : (p : Instance → Bool) (c : List Instance) (i : Instance) → last_or None c ≡ Some i → find p (reverse c) ≡ None → p i ≡ false
+last-orderly : (p : Instance → Bool) (c : List Instance) (i : Instance) → last_or None c ≡ Some i
+    → find p (reverse c) ≡ None → p i ≡ false
 last-orderly p c i is none =
     let s = last_whole c i is in
     go (p i) refl (sym (ap (λ d. find p d) (ap reverse s.1 ∙ reverse-append s.0 (i ∷ []))) ∙ none)
   where
-    go : (b : Bool) → p i ≡ b → cond b (Some i) (find p (reverse (last_whole c i is).0)) ≡ None → p i ≡ false
+    go : (b : Bool) → p i ≡ b → cond b (Some i) (find p (reverse (last_whole c i is).0))
+        ≡ None → p i ≡ false
     go true here same = (cc)
     go false here same = here
 
-same-last : (c : List Instance) (i j : Instance) → last_or None c ≡ Some i → last_or None c ≡ Some j → i ≡ j
+same-last : (c : List Instance) (i j : Instance) → last_or None c ≡ Some i
+    → last_or None c ≡ Some j → i ≡ j
 same-last c i j a b = let e : ◌≡◌ {A = Option Instance} (Some i) (Some j) = sym a ∙ b in cc
 
 -- ---- an order that isn't violated may be learnt, save by Giant and a sleepable lock
 
-may-learn : (giant asked_sleeps sleeps asked_giant turned : Bool) → ((giant && asked_sleeps) || (sleeps && asked_giant)) ≡ false
-    → (let breaks : Option Heading = cond (asked_giant && sleeps) None (cond (asked_sleeps && giant) None (cond (asked_sleeps && not sleeps) (Some heading.Sleepable)
-    (cond (asked_giant && not sleeps) (Some heading.Giant) (cond turned (Some heading.Order) None)))) in is_some breaks ≡ false)
+may-learn : (giant asked_sleeps sleeps asked_giant turned : Bool)
+    → ((giant && asked_sleeps) || (sleeps && asked_giant)) ≡ false
+    → (let breaks : Option Heading = cond (asked_giant && sleeps) None
+    (cond (asked_sleeps && giant) None
+    (cond (asked_sleeps && not sleeps) (Some heading.Sleepable)
+    (cond (asked_giant && not sleeps) (Some heading.Giant)
+    (cond turned (Some heading.Order) None)))) in is_some breaks ≡ false)
     → (not (giant && asked_sleeps) && not turned) ≡ true
 may-learn true true s a t apart none = absurd (true≢false apart)
 may-learn true false true true t apart none = absurd (true≢false apart)
@@ -86,7 +106,8 @@ may-learn false true true false true apart none = absurd (true≢false none)
 may-learn false true true false false apart none = refl
 may-learn false true false a t apart none = absurd (sleep a t none)
   where
-    sleep : (a t : Bool) → (let breaks : Option Heading = cond (a && false) None (Some heading.Sleepable) in is_some breaks ≡ false) → ⊥
+    sleep : (a t : Bool) → (let breaks : Option Heading = cond (a && false) None
+        (Some heading.Sleepable) in is_some breaks ≡ false) → ⊥
     sleep true t none = true≢false none
     sleep false t none = true≢false none
 may-learn false false true true t apart none = absurd (true≢false apart)
@@ -97,45 +118,65 @@ may-learn false false false false true apart none = absurd (true≢false none)
 may-learn false false false false false apart none = refl
 
 pub learnt-unless : (g : Basis) (q : TypedRequest) (i : Instance) → has_flag q.ops.0 0x01 ≡ true
-    → ((is_giant g (type_held g i) && is_sleepable g q.type_no) || (is_sleepable g (type_held g i) && is_giant g q.type_no)) ≡ false
+    → ((is_giant g (type_held g i) && is_sleepable g q.type_no)
+    || (is_sleepable g (type_held g i) && is_giant g q.type_no)) ≡ false
     → violates g q i ≡ false → is_learnt g q i ≡ true
 learnt-unless g q i new apart none =
-    let both = and_parts _ _ (may-learn (is_giant g (type_held g i)) (is_sleepable g q.type_no) (is_sleepable g (type_held g i)) (is_giant g q.type_no)
+    let both =
+    and_parts _ _ (may-learn (is_giant g (type_held g i)) (is_sleepable g q.type_no)
+    (is_sleepable g (type_held g i)) (is_giant g q.type_no)
     (is_before g.orders q.type_no.0 (type_held g i).0) apart none) in
-    and_from (has_flag q.ops.0 0x01 && not (is_giant g (type_held g i) && is_sleepable g q.type_no)) (not (is_before g.orders q.type_no.0 (type_held g i).0))
-    (and_from (has_flag q.ops.0 0x01) (not (is_giant g (type_held g i) && is_sleepable g q.type_no)) new both.0) both.1
+    and_from (has_flag q.ops.0 0x01 && not (is_giant g (type_held g i) && is_sleepable g q.type_no))
+    (not (is_before g.orders q.type_no.0 (type_held g i).0))
+    (and_from (has_flag q.ops.0 0x01) (not (is_giant g (type_held g i) && is_sleepable g q.type_no))
+    new both.0) both.1
 
 -- ---- a violation doesn't pass, nor does a second lock of a type where none is allowed
 
-pub reported-no_pass : (g : Basis) (q : TypedRequest) (c : List Instance) (i : Instance) → reported g q c i ≡ Ok Pass → ⊥
-reported-no_pass g q c i ok = go (is_found g.found (type_held g i).0 q.type_no.0 || is_blessed g (type_held g i) q.type_no) ok
+pub reported-no_pass : (g : Basis) (q : TypedRequest) (c : List Instance) (i : Instance)
+    → reported g q c i ≡ Ok Pass → ⊥
+reported-no_pass g q c i ok =
+    go (is_found g.found (type_held g i).0 q.type_no.0 || is_blessed g (type_held g i) q.type_no) ok
   where
-    go : (f : Bool) → cond {A = Result Reply Fault} f (Ok (Silent (type_held g i) q.type_no)) (Ok (Reversal (conflict g q c i))) ≡ Ok Pass → ⊥
+    go : (f : Bool) → cond {A = Result Reply Fault} f (Ok (Silent (type_held g i) q.type_no))
+        (Ok (Reversal (conflict g q c i))) ≡ Ok Pass → ⊥
     go true same = (cc)
     go false same = (cc)
 
-pub doubled-no_pass : (g : Basis) (q : TypedRequest) (i : Instance) → (has_flag q.flags.0 0x02 || has_flag q.ops.0 0x02) ≡ false → doubled g q i ≡ Ok Pass → ⊥
-doubled-no_pass g q i single ok = go (has_flag q.flags.0 0x02 || has_flag q.ops.0 0x02) (is_found g.found q.type_no.0 q.type_no.0) single ok
+pub doubled-no_pass : (g : Basis) (q : TypedRequest) (i : Instance)
+    → (has_flag q.flags.0 0x02 || has_flag q.ops.0 0x02) ≡ false → doubled g q i ≡ Ok Pass → ⊥
+doubled-no_pass g q i single ok =
+    go (has_flag q.flags.0 0x02 || has_flag q.ops.0 0x02)
+    (is_found g.found q.type_no.0 q.type_no.0) single ok
   where
     go : (allowed f : Bool) → allowed ≡ false
-        → cond {A = Result Reply Fault} allowed (Ok Pass) (cond f (Ok (Silent q.type_no q.type_no)) (Ok (Duplicate (record { last = place_of i; asked = place_asked q })))) ≡ Ok Pass → ⊥
+        → cond {A = Result Reply Fault} allowed (Ok Pass)
+        (cond f (Ok (Silent q.type_no q.type_no))
+        (Ok (Duplicate (record { last = place_of i; asked = place_asked q })))) ≡ Ok Pass
+        → ⊥
     go true f none same = absurd (true≢false none)
     go false true none same = (cc)
     go false false none same = (cc)
 
 -- ---- Giant and sleepable locks, by their types
 
-module _ (start : Start) (files : List (List ℕ)) (h : List Entry) (l : ℕ) (legal : IsLegal start files h) (given : is_given (typed_locks start h) l ≡ true) where
-  pub giant-lock : is_giant (basis_of (known_of start h)) (lock_at (typed_locks start h) l).type_no ≡ is_giant_lock (lock_of (locks_of h) l)
+module _ (start : Start) (files : List (List ℕ)) (h : List Entry) (l : ℕ)
+    (legal : IsLegal start files h) (given : is_given (typed_locks start h) l ≡ true) where
+  pub giant-lock : is_giant (basis_of (known_of start h)) (lock_at (typed_locks start h) l).type_no
+      ≡ is_giant_lock (lock_of (locks_of h) l)
   giant-lock =
-      ap₂ (λ (name : List ℕ) (class : Class). is_same_class class SleepMutex && bytes_eq name (codes "Giant")) (type-name start h l given) (type-class start files h l legal given)
+      ap₂ (λ (name : List ℕ) (class : Class). is_same_class class SleepMutex
+      && bytes_eq name (codes "Giant")) (type-name start h l given)
+      (type-class start files h l legal given)
 
-  sleepable-lock : is_sleepable (basis_of (known_of start h)) (lock_at (typed_locks start h) l).type_no ≡ is_sleepable_lock (lock_of (locks_of h) l)
+  sleepable-lock : is_sleepable (basis_of (known_of start h))
+      (lock_at (typed_locks start h) l).type_no ≡ is_sleepable_lock (lock_of (locks_of h) l)
   sleepable-lock = ap (λ class. is_same_class class Sx) (type-class start files h l legal given)
 
 -- ---- what the last held lock is to a check
 
-module _ (start : Start) (files : List (List ℕ)) (e : Entry) (h : List Entry) (a b : ℕ) (legal : IsLegal start files (e ∷ h)) (behind : AsksBehind start h e a b) where
+module _ (start : Start) (files : List (List ℕ)) (e : Entry) (h : List Entry) (a b : ℕ)
+    (legal : IsLegal start files (e ∷ h)) (behind : AsksBehind start h e a b) where
   abbrev g : Basis
   g = basis_of (known_of start h)
 
@@ -152,45 +193,65 @@ module _ (start : Start) (files : List (List ℕ)) (e : Entry) (h : List Entry) 
   is-last = last-map (instance e.seat.0 h) (held_of kind e.seat.0 h) behind.last behind.is_last
 
   last-given : is_given (typed_locks start h) behind.last ≡ true
-  last-given = known-made start h behind.last (made_sane e.seat.0 behind.last h (sane_legal start files h legal.2) (last-held kind e.seat.0 h last is-last))
+  last-given =
+      known-made start h behind.last
+      (made_sane e.seat.0 behind.last h (sane_legal start files h legal.2)
+      (last-held kind e.seat.0 h last is-last))
 
   type-last : (type_held g last).0 ≡ a
   type-last = ap (λ (n : TypeNo). n.0) (type-held (known_of start h) last) ∙ behind.parent
 
-  pub type-of_last : (i : Instance) → last_or None (chain kind e.seat.0 h) ≡ Some i → type_held g i ≡ (lock_at (typed_locks start h) behind.last).type_no
-  type-of_last i is = ap (λ (j : Instance). type_held g j) (same-last (chain kind e.seat.0 h) i last is is-last) ∙ type-held (known_of start h) last
+  pub type-of_last : (i : Instance) → last_or None (chain kind e.seat.0 h) ≡ Some i
+      → type_held g i ≡ (lock_at (typed_locks start h) behind.last).type_no
+  type-of_last i is =
+      ap (λ (j : Instance). type_held g j) (same-last (chain kind e.seat.0 h) i last is is-last)
+      ∙ type-held (known_of start h) last
 
-  direct-last : (i : Instance) → last_or None (chain kind e.seat.0 h) ≡ Some i → is_direct g.orders (type_held g i).0 q.type_no.0 ≡ is_direct (orders_of start h) a b
+  direct-last : (i : Instance) → last_or None (chain kind e.seat.0 h) ≡ Some i
+      → is_direct g.orders (type_held g i).0 q.type_no.0 ≡ is_direct (orders_of start h) a b
   direct-last i is =
       ap₂ (λ x y. is_direct (orders_of start h) x y)
-      (ap (λ (j : Instance). (type_held g j).0) (same-last (chain kind e.seat.0 h) i last is is-last) ∙ type-last) behind.child
+      (ap (λ (j : Instance). (type_held g j).0)
+      (same-last (chain kind e.seat.0 h) i last is is-last) ∙ type-last) behind.child
 
-  same-type : (i : Instance) → last_or None (chain kind e.seat.0 h) ≡ Some i → has_type_of g q i ≡ true → a ≡ b
+  same-type : (i : Instance) → last_or None (chain kind e.seat.0 h) ≡ Some i
+      → has_type_of g q i ≡ true → a ≡ b
   same-type i is same =
-      sym (ap (λ (j : Instance). (type_held g j).0) (same-last (chain kind e.seat.0 h) i last is is-last) ∙ type-last)
+      sym (ap (λ (j : Instance). (type_held g j).0)
+      (same-last (chain kind e.seat.0 h) i last is is-last) ∙ type-last)
       ∙ (eqb-true (type_held g i).0 q.type_no.0 same ∙ behind.child)
 
-  says : start.profile ≡ Plain → (r : Reply) → e.reply ≡ r → Says Plain g (watch_of h) q (chain kind e.seat.0 h) r
+  says : start.profile ≡ Plain → (r : Reply) → e.reply ≡ r
+      → Says Plain g (watch_of h) q (chain kind e.seat.0 h) r
   says plain r is =
       subst (λ s. Says Plain g (watch_of h) q (chain kind e.seat.0 h) s) is
-      (subst (λ p. Says p g (watch_of h) q (chain kind e.seat.0 h) e.reply) plain (chain-of_kind start files e h behind.request legal behind.asks))
+      (subst (λ p. Says p g (watch_of h) q (chain kind e.seat.0 h) e.reply) plain
+      (chain-of_kind start files e h behind.request legal behind.asks))
 
   -- a direct order is never violated
-  pub direct-passes : start.profile ≡ Plain → IsSound (orders_of start h) → is_direct (orders_of start h) a b ≡ true → e.reply ≡ Pass
+  pub direct-passes : start.profile ≡ Plain → IsSound (orders_of start h)
+      → is_direct (orders_of start h) a b ≡ true → e.reply ≡ Pass
   direct-passes plain sound direct = go (says plain e.reply refl)
     where
       go : Says Plain g (watch_of h) q (chain kind e.seat.0 h) e.reply → e.reply ≡ Pass
       go (Passed passes why) = passes
       go (LearntAll all l) = absurd (not-all all)
-      go (Learnt one l) = absurd (true≢false (sym direct ∙ (sym (direct-last l.last l.is_new.behind.is_last) ∙ l.is_new.new)))
+      go (Learnt one l) =
+          absurd (true≢false (sym direct
+          ∙ (sym (direct-last l.last l.is_new.behind.is_last) ∙ l.is_new.new)))
       go (Doubled d) =
-          absurd (sound a (direct-before (orders_of start h) a a (subst (λ n. is_direct (orders_of start h) a n ≡ true) (sym (same-type d.held (d.behind refl).is_last d.same)) direct)))
+          absurd (sound a (direct-before (orders_of start h) a a
+          (subst (λ n. is_direct (orders_of start h) a n ≡ true)
+          (sym (same-type d.held (d.behind refl).is_last d.same)) direct)))
       go (Broken v) =
-          let u = v.unknown refl in absurd (true≢false (sym direct ∙ (sym (direct-last u.last u.is_new.behind.is_last) ∙ u.is_new.new)))
+          let u =
+          v.unknown refl in absurd (true≢false
+          (sym direct ∙ (sym (direct-last u.last u.is_new.behind.is_last) ∙ u.is_new.new)))
 
 -- ---- what passed has a direct order
 
-module _ (start : Start) (files : List (List ℕ)) (e : Entry) (h : List Entry) (a b : ℕ) (plain : start.profile ≡ Plain) (legal : IsLegal start files (e ∷ h))
+module _ (start : Start) (files : List (List ℕ)) (e : Entry) (h : List Entry) (a b : ℕ)
+    (plain : start.profile ≡ Plain) (legal : IsLegal start files (e ∷ h))
     (has : HasPassed start h e a b) where
   abbrev basis : Basis
   basis = g start files e h a b legal has.behind
@@ -203,32 +264,43 @@ module _ (start : Start) (files : List (List ℕ)) (e : Entry) (h : List Entry) 
 
   unheld : find (λ (i : Instance). eqb i.lock.0 has.behind.request.lock.0) held_before ≡ None
   unheld =
-      found (kind start files e h a b legal has.behind) e.seat.0 has.behind.request.lock.0 h (sane_legal start files h legal.2)
-      ∙ ap (λ held. if_some (held && is_of_kind (kind start files e h a b legal has.behind) (locks_of h) has.behind.request.lock.0) (instance e.seat.0 h has.behind.request.lock.0)) has.unheld
+      found (kind start files e h a b legal has.behind) e.seat.0 has.behind.request.lock.0 h
+      (sane_legal start files h legal.2)
+      ∙ ap (λ held. if_some (held && is_of_kind (kind start files e h a b legal has.behind)
+      (locks_of h) has.behind.request.lock.0) (instance e.seat.0 h has.behind.request.lock.0))
+      has.unheld
 
   bound-types : (i : Instance) → last_or None held_before ≡ Some i
-      → ((is_giant basis (type_held basis i) && is_sleepable basis asked.type_no) || (is_sleepable basis (type_held basis i) && is_giant basis asked.type_no)) ≡ false
+      → ((is_giant basis (type_held basis i) && is_sleepable basis asked.type_no)
+      || (is_sleepable basis (type_held basis i) && is_giant basis asked.type_no)) ≡ false
   bound-types i is =
       let was = last-given start files e h a b legal has.behind in
       let asks = (checked start files e h has.behind.request legal has.behind.asks).lock in
       ap₂ (λ x y. x || y)
       (ap₂ (λ x y. x && y)
-      (ap (λ n. is_giant basis n) (type-of_last start files e h a b legal has.behind i is) ∙ giant-lock start files h has.behind.last legal.2 was)
+      (ap (λ n. is_giant basis n) (type-of_last start files e h a b legal has.behind i is)
+      ∙ giant-lock start files h has.behind.last legal.2 was)
       (sleepable-lock start files h has.behind.request.lock.0 legal.2 asks))
       (ap₂ (λ x y. x && y)
-      (ap (λ n. is_sleepable basis n) (type-of_last start files e h a b legal has.behind i is) ∙ sleepable-lock start files h has.behind.last legal.2 was)
+      (ap (λ n. is_sleepable basis n) (type-of_last start files e h a b legal has.behind i is)
+      ∙ sleepable-lock start files h has.behind.last legal.2 was)
       (giant-lock start files h has.behind.request.lock.0 legal.2 asks))
       ∙ has.bound
 
-  passed-direct : Says Plain basis (watch_of h) asked held_before Pass → is_direct (orders_of start h) a b ≡ true
+  passed-direct : Says Plain basis (watch_of h) asked held_before Pass
+      → is_direct (orders_of start h) a b ≡ true
   passed-direct (Passed passes (Unwatched off)) = absurd (true≢false (sym (ap is_on has.on) ∙ off))
   passed-direct (Passed passes (Empty none)) =
-      let e' : ◌≡◌ {A = Option Instance} None (Some (last start files e h a b legal has.behind)) = sym none ∙ is-last start files e h a b legal has.behind in (cc)
-  passed-direct (Passed passes (Recursion r)) = let e' : ◌≡◌ {A = Option Instance} None (Some r.held) = sym unheld ∙ r.is_held in (cc)
-  passed-direct (Passed passes (Known one f)) = sym (direct-last start files e h a b legal has.behind f.last f.behind.is_last) ∙ f.direct
+      let e' : ◌≡◌ {A = Option Instance} None (Some (last start files e h a b legal has.behind)) =
+      sym none ∙ is-last start files e h a b legal has.behind in (cc)
+  passed-direct (Passed passes (Recursion r)) =
+      let e' : ◌≡◌ {A = Option Instance} None (Some r.held) = sym unheld ∙ r.is_held in (cc)
+  passed-direct (Passed passes (Known one f)) =
+      sym (direct-last start files e h a b legal has.behind f.last f.behind.is_last) ∙ f.direct
   passed-direct (Passed passes (Untaught one u)) =
       absurd (true≢false
-      (sym (learnt-unless basis asked u.last has.teaches (bound-types u.last u.is_new.behind.is_last)
+      (sym (learnt-unless basis asked u.last has.teaches
+      (bound-types u.last u.is_new.behind.is_last)
       (last-orderly (violates basis asked) held_before u.last u.is_new.behind.is_last u.orderly))
       ∙ u.barred))
   passed-direct (Passed passes (KnownAll all some)) = absurd (not-all all)
@@ -237,37 +309,50 @@ module _ (start : Start) (files : List (List ℕ)) (e : Entry) (h : List Entry) 
   passed-direct (Learnt one l) = let e' = l.reply in (cc)
   passed-direct (Doubled d) =
       absurd (doubled-no_pass basis asked d.held
-      (ap (λ (n : NewLock). has_flag n.flags.0 0x02 || has_flag has.behind.request.ops.0 0x02) (lock_at-made start h has.behind.request.lock.0)
-      ∙ has.single (same-type start files e h a b legal has.behind d.held (d.behind refl).is_last d.same))
+      (ap (λ (n : NewLock). has_flag n.flags.0 0x02 || has_flag has.behind.request.ops.0 0x02)
+      (lock_at-made start h has.behind.request.lock.0)
+      ∙ has.single (same-type start files e h a b legal has.behind d.held
+      (d.behind refl).is_last d.same))
       d.reply)
   passed-direct (Broken v) = absurd (reported-no_pass basis asked held_before v.held v.reply)
 
-  orders-after : (r : Reply) → e.reply ≡ r → orders_of start (e ∷ h) ≡ adopted (Check has.behind.request) r ++ orders_of start h
+  orders-after : (r : Reply) → e.reply ≡ r → orders_of start (e ∷ h)
+      ≡ adopted (Check has.behind.request) r ++ orders_of start h
   orders-after r is = ap₂ (λ c s. adopted c s ++ orders_of start h) has.behind.asks is
 
   pub passed-is_direct : is_direct (orders_of start (e ∷ h)) a b ≡ true
   passed-is_direct =
       ⊎_elim
-      (λ passes. ap (λ os. is_direct os a b) (orders-after Pass passes) ∙ passed-direct (says start files e h a b legal has.behind plain Pass passes))
-      (λ adopts. ap (λ os. is_direct os a b) (orders-after (Adopted (record { 0 = a }) (record { 0 = b })) adopts)
-      ∙ or_left (eqb a a && eqb b b) (is_direct (orders_of start h) a b) (and_from (eqb a a) (eqb b b) (eq-eqb a a refl) (eq-eqb b b refl)))
+      (λ passes. ap (λ os. is_direct os a b) (orders-after Pass passes)
+      ∙ passed-direct (says start files e h a b legal has.behind plain Pass passes))
+      (λ adopts. ap (λ os. is_direct os a b)
+      (orders-after (Adopted (record { 0 = a }) (record { 0 = b })) adopts)
+      ∙ or_left (eqb a a && eqb b b) (is_direct (orders_of start h) a b)
+      (and_from (eqb a a) (eqb b b) (eq-eqb a a refl) (eq-eqb b b refl)))
       has.passed
 
 -- ---- and keeps it
 
-pub legal-before : (start : Start) (files : List (List ℕ)) (later h : List Entry) → IsLegal start files (later ++ h) → IsLegal start files h
+pub legal-before : (start : Start) (files : List (List ℕ)) (later h : List Entry)
+    → IsLegal start files (later ++ h) → IsLegal start files h
 legal-before start files [] h legal = legal
 legal-before start files (x ∷ later) h legal = legal-before start files later h legal.2
 
-pub direct-stays : (start : Start) (later h : List Entry) (a b : ℕ) → is_direct (orders_of start h) a b ≡ true → is_direct (orders_of start (later ++ h)) a b ≡ true
+pub direct-stays : (start : Start) (later h : List Entry) (a b : ℕ)
+    → is_direct (orders_of start h) a b ≡ true → is_direct (orders_of start (later ++ h)) a b ≡ true
 direct-stays start [] h a b is = is
 direct-stays start (x ∷ later) h a b is =
     list_any-append (is_adoption_of a b) (adopted x.call x.reply) (orders_of start (later ++ h))
-    ∙ or_right (is_direct (adopted x.call x.reply) a b) (is_direct (orders_of start (later ++ h)) a b) (direct-stays start later h a b is)
+    ∙ or_right (is_direct (adopted x.call x.reply) a b)
+    (is_direct (orders_of start (later ++ h)) a b) (direct-stays start later h a b is)
 
-pub passed-on : (start : Start) (files : List (List ℕ)) (next : Entry) (later : List Entry) (e : Entry) (h : List Entry) (a b : ℕ)
+pub passed-on : (start : Start) (files : List (List ℕ)) (next : Entry) (later : List Entry)
+    (e : Entry) (h : List Entry) (a b : ℕ)
     → start.profile ≡ Plain → start_fault start ≡ None → IsLegal start files (next ∷ later ++ e ∷ h)
     → HasPassed start h e a b → AsksBehind start (later ++ e ∷ h) next a b → next.reply ≡ Pass
 passed-on start files next later e h a b plain accepted legal has behind =
-    direct-passes start files next (later ++ e ∷ h) a b legal behind plain (sound_legal start files (later ++ e ∷ h) (sound_started start accepted) legal.2)
-    (direct-stays start later (e ∷ h) a b (passed-is_direct start files e h a b plain (legal-before start files later (e ∷ h) legal.2) has))
+    direct-passes start files next (later ++ e ∷ h) a b legal behind plain
+    (sound_legal start files (later ++ e ∷ h) (sound_started start accepted) legal.2)
+    (direct-stays start later (e ∷ h) a b
+    (passed-is_direct start files e h a b plain
+    (legal-before start files later (e ∷ h) legal.2) has))

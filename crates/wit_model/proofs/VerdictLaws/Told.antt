@@ -1,6 +1,9 @@
 -- What a reversal and a duplicate tell, and that no pair of types is told of twice.
-use Rattle.std.proofs.Common.{◌≡◌, ℕ, Bool, true, false, not, ◌&&◌, ◌||◌, cond, List, [], ◌∷◌, ◌++◌, Option, None, Some, Result, Ok, is_some, unwrap_or, find, reverse, refl, ap, sym, ◌∙◌, subst, ⊎_elim}
-use Rattle.std.proofs.lemmas.Bool.{false≢true, true≢false, or_cases, or_left, or_right, eqb-true, false_from_ne_true}
+use Rattle.std.proofs.Common.{◌≡◌, ℕ, Bool, true, false, not, ◌&&◌, ◌||◌, cond, List, [], ◌∷◌, ◌++◌}
+use Rattle.std.proofs.Common.{Option, None, Some, Result, Ok, is_some, unwrap_or, find, reverse}
+use Rattle.std.proofs.Common.{refl, ap, sym, ◌∙◌, subst, ⊎_elim}
+use Rattle.std.proofs.lemmas.Bool.{false≢true, true≢false, or_cases, or_left, or_right, eqb-true}
+use Rattle.std.proofs.lemmas.Bool.{false_from_ne_true}
 use Rattle.wit_model.specs.declared.profiles.Profile.{Profile}
 use Rattle.wit_model.specs.declared.faults.Fault.{Fault}
 use Rattle.wit_model.specs.declared.locks.TypeNo.{TypeNo}
@@ -19,8 +22,11 @@ use Rattle.wit_model.specs.declared.calls.Entry.{Entry}
 use Rattle.wit_model.specs.Rules.Locks.{locks_of, lock_at, has_flag, is_spin_lock}
 use Rattle.wit_model.specs.Rules.Orders.{Before, is_before, is_pair_of, is_found, found_once}
 use Rattle.wit_model.specs.Rules.History.{is_held, chain, watch_of}
-use Rattle.wit_model.specs.Rules.State.{Start, known_of, typed_locks, orders_of, found_after, found_of}
-use Rattle.wit_model.specs.Rules.Verdict.{Basis, type_held, has_type_of, is_sleepable, is_giant, place_of, place_asked, doubled, breach, violates, is_blessed, conflict, reported, basis_of, typed_request}
+use Rattle.wit_model.specs.Rules.State.{Start, known_of, typed_locks, orders_of, found_after}
+use Rattle.wit_model.specs.Rules.State.{found_of}
+use Rattle.wit_model.specs.Rules.Verdict.{Basis, type_held, has_type_of, is_sleepable, is_giant}
+use Rattle.wit_model.specs.Rules.Verdict.{place_of, place_asked, doubled, breach, violates}
+use Rattle.wit_model.specs.Rules.Verdict.{is_blessed, conflict, reported, basis_of, typed_request}
 use Rattle.wit_model.specs.Rules.Step.{IsLegal}
 use Rattle.wit_model.specs.Rules.Ahead.{type_of_lock}
 use Rattle.wit_model.specs.VerdictLaws.{reported_pair, reported_pairs, AreUnlike}
@@ -40,28 +46,46 @@ record IsReversal (g : Basis) (q : TypedRequest) (c : List Instance) (x : Confli
   fresh : is_found g.found (type_held g held).0 q.type_no.0 ≡ false
   is : conflict g q c held ≡ x
 
-same-conflict : (a b : Conflict) → ◌≡◌ {A = Result Reply Fault} (Ok (Reversal a)) (Ok (Reversal b)) → a ≡ b
+same-conflict : (a b : Conflict) → ◌≡◌ {A = Result Reply Fault} (Ok (Reversal a)) (Ok (Reversal b))
+    → a ≡ b
 same-conflict a b ok = let e : ◌≡◌ {A = Reply} (Reversal a) (Reversal b) = same_reply ok in cc
 
-reversal-broken : (g : Basis) (q : TypedRequest) (c : List Instance) (x : Conflict) (i : Instance) → find (violates g q) (reverse c) ≡ Some i
+reversal-broken : (g : Basis) (q : TypedRequest) (c : List Instance) (x : Conflict) (i : Instance)
+    → find (violates g q) (reverse c) ≡ Some i
     → reported g q c i ≡ Ok (Reversal x) → IsReversal g q c x
-reversal-broken g q c x i violation told = go (is_found g.found (type_held g i).0 q.type_no.0) (is_blessed g (type_held g i) q.type_no) refl told
+reversal-broken g q c x i violation told =
+    go (is_found g.found (type_held g i).0 q.type_no.0)
+    (is_blessed g (type_held g i) q.type_no) refl told
   where
     go : (f b : Bool) → is_found g.found (type_held g i).0 q.type_no.0 ≡ f
-        → cond {A = Result Reply Fault} (f || b) (Ok (Silent (type_held g i) q.type_no)) (Ok (Reversal (conflict g q c i))) ≡ Ok (Reversal x) → IsReversal g q c x
+        → cond {A = Result Reply Fault} (f || b) (Ok (Silent (type_held g i) q.type_no))
+        (Ok (Reversal (conflict g q c i))) ≡ Ok (Reversal x) → IsReversal g q c x
     go true b is same = (cc)
     go false true is same = (cc)
-    go false false is same = record { held = i; violation = violation; fresh = is; is = same-conflict (conflict g q c i) x same }
+    go false false is same =
+        record {
+          held = i;
+          violation = violation;
+          fresh = is;
+          is = same-conflict (conflict g q c i) x same;
+        }
 
-doubled-no_reversal : (g : Basis) (q : TypedRequest) (i : Instance) (x : Conflict) → doubled g q i ≡ Ok (Reversal x) → ⊥
-doubled-no_reversal g q i x ok = go (has_flag q.flags.0 0x02 || has_flag q.ops.0 0x02) (is_found g.found q.type_no.0 q.type_no.0) ok
+doubled-no_reversal : (g : Basis) (q : TypedRequest) (i : Instance) (x : Conflict)
+    → doubled g q i ≡ Ok (Reversal x) → ⊥
+doubled-no_reversal g q i x ok =
+    go (has_flag q.flags.0 0x02 || has_flag q.ops.0 0x02)
+    (is_found g.found q.type_no.0 q.type_no.0) ok
   where
-    go : (allowed f : Bool) → cond {A = Result Reply Fault} allowed (Ok Pass) (cond f (Ok (Silent q.type_no q.type_no)) (Ok (Duplicate (record { last = place_of i; asked = place_asked q })))) ≡ Ok (Reversal x) → ⊥
+    go : (allowed f : Bool) → cond {A = Result Reply Fault} allowed (Ok Pass)
+        (cond f (Ok (Silent q.type_no q.type_no))
+        (Ok (Duplicate (record { last = place_of i; asked = place_asked q }))))
+        ≡ Ok (Reversal x) → ⊥
     go true f same = (cc)
     go false true same = (cc)
     go false false same = (cc)
 
-says-reversal : (profile : Profile) (g : Basis) (w : Watch) (q : TypedRequest) (c : List Instance) (x : Conflict) → Says profile g w q c (Reversal x) → IsReversal g q c x
+says-reversal : (profile : Profile) (g : Basis) (w : Watch) (q : TypedRequest) (c : List Instance)
+    (x : Conflict) → Says profile g w q c (Reversal x) → IsReversal g q c x
 says-reversal profile g w q c x (Passed passes why) = (cc)
 says-reversal profile g w q c x (LearntAll all l) = let e = l.reply in (cc)
 says-reversal profile g w q c x (Learnt plain l) = let e = l.reply in (cc)
@@ -76,27 +100,44 @@ record IsDuplicate (g : Basis) (q : TypedRequest) (c : List Instance) (d : Doubl
   fresh : is_found g.found q.type_no.0 q.type_no.0 ≡ false
   is : record { last = place_of last; asked = place_asked q } ≡ d
 
-same-doubling : (a b : Doubling) → ◌≡◌ {A = Result Reply Fault} (Ok (Duplicate a)) (Ok (Duplicate b)) → a ≡ b
+same-doubling : (a b : Doubling)
+    → ◌≡◌ {A = Result Reply Fault} (Ok (Duplicate a)) (Ok (Duplicate b)) → a ≡ b
 same-doubling a b ok = let e : ◌≡◌ {A = Reply} (Duplicate a) (Duplicate b) = same_reply ok in cc
 
-duplicate-doubled : (g : Basis) (q : TypedRequest) (c : List Instance) (d : Doubling) (i : Instance) → has_type_of g q i ≡ true → doubled g q i ≡ Ok (Duplicate d) → IsDuplicate g q c d
-duplicate-doubled g q c d i same ok = go (has_flag q.flags.0 0x02 || has_flag q.ops.0 0x02) (is_found g.found q.type_no.0 q.type_no.0) refl ok
+duplicate-doubled : (g : Basis) (q : TypedRequest) (c : List Instance) (d : Doubling) (i : Instance)
+    → has_type_of g q i ≡ true → doubled g q i ≡ Ok (Duplicate d) → IsDuplicate g q c d
+duplicate-doubled g q c d i same ok =
+    go (has_flag q.flags.0 0x02 || has_flag q.ops.0 0x02)
+    (is_found g.found q.type_no.0 q.type_no.0) refl ok
   where
     go : (allowed f : Bool) → is_found g.found q.type_no.0 q.type_no.0 ≡ f
-        → cond {A = Result Reply Fault} allowed (Ok Pass) (cond f (Ok (Silent q.type_no q.type_no)) (Ok (Duplicate (record { last = place_of i; asked = place_asked q })))) ≡ Ok (Duplicate d)
+        → cond {A = Result Reply Fault} allowed (Ok Pass)
+        (cond f (Ok (Silent q.type_no q.type_no))
+        (Ok (Duplicate (record { last = place_of i; asked = place_asked q }))))
+        ≡ Ok (Duplicate d)
         → IsDuplicate g q c d
     go true f is told = (cc)
     go false true is told = (cc)
-    go false false is told = record { last = i; same = same; fresh = is; is = same-doubling (record { last = place_of i; asked = place_asked q }) d told }
+    go false false is told =
+        record {
+          last = i;
+          same = same;
+          fresh = is;
+          is = same-doubling (record { last = place_of i; asked = place_asked q }) d told;
+        }
 
-reported-no_duplicate : (g : Basis) (q : TypedRequest) (c : List Instance) (i : Instance) (d : Doubling) → reported g q c i ≡ Ok (Duplicate d) → ⊥
-reported-no_duplicate g q c i d ok = go (is_found g.found (type_held g i).0 q.type_no.0 || is_blessed g (type_held g i) q.type_no) ok
+reported-no_duplicate : (g : Basis) (q : TypedRequest) (c : List Instance) (i : Instance)
+    (d : Doubling) → reported g q c i ≡ Ok (Duplicate d) → ⊥
+reported-no_duplicate g q c i d ok =
+    go (is_found g.found (type_held g i).0 q.type_no.0 || is_blessed g (type_held g i) q.type_no) ok
   where
-    go : (f : Bool) → cond {A = Result Reply Fault} f (Ok (Silent (type_held g i) q.type_no)) (Ok (Reversal (conflict g q c i))) ≡ Ok (Duplicate d) → ⊥
+    go : (f : Bool) → cond {A = Result Reply Fault} f (Ok (Silent (type_held g i) q.type_no))
+        (Ok (Reversal (conflict g q c i))) ≡ Ok (Duplicate d) → ⊥
     go true same = (cc)
     go false same = (cc)
 
-says-duplicate : (profile : Profile) (g : Basis) (w : Watch) (q : TypedRequest) (c : List Instance) (d : Doubling) → Says profile g w q c (Duplicate d) → IsDuplicate g q c d
+says-duplicate : (profile : Profile) (g : Basis) (w : Watch) (q : TypedRequest) (c : List Instance)
+    (d : Doubling) → Says profile g w q c (Duplicate d) → IsDuplicate g q c d
 says-duplicate profile g w q c d (Passed passes why) = (cc)
 says-duplicate profile g w q c d (LearntAll all l) = let e = l.reply in (cc)
 says-duplicate profile g w q c d (Learnt plain l) = let e = l.reply in (cc)
@@ -105,7 +146,9 @@ says-duplicate profile g w q c d (Broken b) = absurd (reported-no_duplicate g q 
 
 -- ---- a plain heading is that of an order which is violated
 
-plain-breach : (a b c d e : Bool) → let o : Option Heading = cond a None (cond b None (cond c (Some heading.Sleepable) (cond d (Some heading.Giant) (cond e (Some heading.Order) None)))) in
+plain-breach : (a b c d e : Bool) → let o : Option Heading =
+    cond a None (cond b None (cond c (Some heading.Sleepable)
+    (cond d (Some heading.Giant) (cond e (Some heading.Order) None)))) in
     is_some o ≡ true → unwrap_or o heading.Order ≡ heading.Order → e ≡ true
 plain-breach true b c d e some plain = absurd (false≢true some)
 plain-breach false true c d e some plain = absurd (false≢true some)
@@ -114,19 +157,26 @@ plain-breach false false false true e some plain = (cc)
 plain-breach false false false false true some plain = refl
 plain-breach false false false false false some plain = absurd (false≢true some)
 
-breach-plain : (g : Basis) (asked held : TypeNo) → is_some (breach g asked held) ≡ true → unwrap_or (breach g asked held) heading.Order ≡ heading.Order
+breach-plain : (g : Basis) (asked held : TypeNo) → is_some (breach g asked held) ≡ true
+    → unwrap_or (breach g asked held) heading.Order ≡ heading.Order
     → is_before g.orders asked.0 held.0 ≡ true
 breach-plain g asked held some plain =
-    plain-breach (is_giant g asked && is_sleepable g held) (is_sleepable g asked && is_giant g held) (is_sleepable g asked && not (is_sleepable g held))
+    plain-breach (is_giant g asked && is_sleepable g held) (is_sleepable g asked && is_giant g held)
+    (is_sleepable g asked && not (is_sleepable g held))
     (is_giant g asked && not (is_sleepable g held)) (is_before g.orders asked.0 held.0) some plain
 
 -- ---- the laws
 
-module _ (start : Start) (files : List (List ℕ)) (e : Entry) (h : List Entry) (legal : IsLegal start files (e ∷ h)) where
+module _ (start : Start) (files : List (List ℕ)) (e : Entry) (h : List Entry)
+    (legal : IsLegal start files (e ∷ h)) where
   judged : (q : Request) → e.call ≡ Check q → (r : Reply) → e.reply ≡ r
-      → Says start.profile (basis_of (known_of start h)) (watch_of h) (typed_request (known_of start h) q) (chain (is_spin_lock (locks_of h) q.lock.0) e.seat.0 h) r
+      → Says start.profile (basis_of (known_of start h)) (watch_of h)
+      (typed_request (known_of start h) q)
+      (chain (is_spin_lock (locks_of h) q.lock.0) e.seat.0 h) r
   judged q asks r is =
-      subst (λ r'. Says start.profile (basis_of (known_of start h)) (watch_of h) (typed_request (known_of start h) q) (chain (is_spin_lock (locks_of h) q.lock.0) e.seat.0 h) r') is
+      subst (λ r'. Says start.profile (basis_of (known_of start h)) (watch_of h)
+      (typed_request (known_of start h) q)
+      (chain (is_spin_lock (locks_of h) q.lock.0) e.seat.0 h) r') is
       (chain-of_kind start files e h q legal asks)
 
   asked-reversal : (x : Conflict) → e.reply ≡ Reversal x → (q : Request) × (e.call ≡ Check q)
@@ -136,22 +186,34 @@ module _ (start : Start) (files : List (List ℕ)) (e : Entry) (h : List Entry) 
   asked-duplicate d is = told-asked start files e h legal (rw is refl)
 
   as-reversal : (q : Request) → e.call ≡ Check q → (x : Conflict) → e.reply ≡ Reversal x
-      → IsReversal (basis_of (known_of start h)) (typed_request (known_of start h) q) (chain (is_spin_lock (locks_of h) q.lock.0) e.seat.0 h) x
+      → IsReversal (basis_of (known_of start h)) (typed_request (known_of start h) q)
+      (chain (is_spin_lock (locks_of h) q.lock.0) e.seat.0 h) x
   as-reversal q asks x is =
-      says-reversal start.profile (basis_of (known_of start h)) (watch_of h) (typed_request (known_of start h) q) (chain (is_spin_lock (locks_of h) q.lock.0) e.seat.0 h) x (judged q asks (Reversal x) is)
+      says-reversal start.profile (basis_of (known_of start h)) (watch_of h)
+      (typed_request (known_of start h) q)
+      (chain (is_spin_lock (locks_of h) q.lock.0) e.seat.0 h) x
+      (judged q asks (Reversal x) is)
 
   as-duplicate : (q : Request) → e.call ≡ Check q → (d : Doubling) → e.reply ≡ Duplicate d
-      → IsDuplicate (basis_of (known_of start h)) (typed_request (known_of start h) q) (chain (is_spin_lock (locks_of h) q.lock.0) e.seat.0 h) d
+      → IsDuplicate (basis_of (known_of start h)) (typed_request (known_of start h) q)
+      (chain (is_spin_lock (locks_of h) q.lock.0) e.seat.0 h) d
   as-duplicate q asks d is =
-      says-duplicate start.profile (basis_of (known_of start h)) (watch_of h) (typed_request (known_of start h) q) (chain (is_spin_lock (locks_of h) q.lock.0) e.seat.0 h) d (judged q asks (Duplicate d) is)
+      says-duplicate start.profile (basis_of (known_of start h)) (watch_of h)
+      (typed_request (known_of start h) q)
+      (chain (is_spin_lock (locks_of h) q.lock.0) e.seat.0 h) d
+      (judged q asks (Duplicate d) is)
 
-  pub reversal-held : (x : Conflict) → e.reply ≡ Reversal x → (is_held e.seat.0 x.held.lock.0 h ≡ true) × (q : Request) × (e.call ≡ Check q) × (x.asked.lock ≡ q.lock)
+  pub reversal-held : (x : Conflict) → e.reply ≡ Reversal x
+      → (is_held e.seat.0 x.held.lock.0 h ≡ true) × (q : Request) × (e.call ≡ Check q)
+      × (x.asked.lock ≡ q.lock)
   reversal-held x is =
       let a = asked-reversal x is in
       let b = as-reversal a.0 a.1 x is in
       let kind = is_spin_lock (locks_of h) a.0.lock.0 in (
         subst (λ (y : Conflict). is_held e.seat.0 y.held.lock.0 h ≡ true) b.is
-            (found-last (λ (i : Instance). is_held e.seat.0 i.lock.0 h) (violates (basis_of (known_of start h)) (typed_request (known_of start h) a.0)) (chain kind e.seat.0 h) b.held
+            (found-last (λ (i : Instance). is_held e.seat.0 i.lock.0 h)
+            (violates (basis_of (known_of start h)) (typed_request (known_of start h) a.0))
+            (chain kind e.seat.0 h) b.held
             (chain-held kind e.seat.0 h) b.violation),
         a.0,
         a.1,
@@ -159,55 +221,74 @@ module _ (start : Start) (files : List (List ℕ)) (e : Entry) (h : List Entry) 
       )
 
   pub reversal-order : (x : Conflict) → e.reply ≡ Reversal x → x.heading ≡ heading.Order
-      → Before (orders_of start h) (type_of_lock start h x.asked.lock.0) (type_of_lock start h x.held.lock.0)
+      → Before (orders_of start h) (type_of_lock start h x.asked.lock.0)
+      (type_of_lock start h x.held.lock.0)
   reversal-order x is plain =
       let a = asked-reversal x is in
       let b = as-reversal a.0 a.1 x is in
       let g = basis_of (known_of start h) in
       let q = typed_request (known_of start h) a.0 in
-      let before = breach-plain g q.type_no (type_held g b.held) (found-passes (violates g q) _ b.held b.violation) (ap (λ (y : Conflict). y.heading) b.is ∙ plain) in
-      subst (λ (y : Conflict). Before (orders_of start h) (type_of_lock start h y.asked.lock.0) (type_of_lock start h y.held.lock.0)) b.is
-      (before_from_test (orders_of start h) (type_of_lock start h a.0.lock.0) (type_of_lock start h b.held.lock.0)
-      (ap (λ (n : TypeNo). is_before (orders_of start h) (type_of_lock start h a.0.lock.0) n.0) (sym (type-held (known_of start h) b.held)) ∙ before))
+      let before =
+      breach-plain g q.type_no (type_held g b.held)
+      (found-passes (violates g q) _ b.held b.violation)
+      (ap (λ (y : Conflict). y.heading) b.is ∙ plain) in
+      subst (λ (y : Conflict). Before (orders_of start h) (type_of_lock start h y.asked.lock.0)
+      (type_of_lock start h y.held.lock.0)) b.is
+      (before_from_test (orders_of start h) (type_of_lock start h a.0.lock.0)
+      (type_of_lock start h b.held.lock.0)
+      (ap (λ (n : TypeNo). is_before (orders_of start h) (type_of_lock start h a.0.lock.0) n.0)
+      (sym (type-held (known_of start h) b.held)) ∙ before))
 
-  pub duplicate-one : (d : Doubling) → e.reply ≡ Duplicate d → type_of_lock start h d.last.lock.0 ≡ type_of_lock start h d.asked.lock.0
+  pub duplicate-one : (d : Doubling) → e.reply ≡ Duplicate d
+      → type_of_lock start h d.last.lock.0 ≡ type_of_lock start h d.asked.lock.0
   duplicate-one d is =
       let a = asked-duplicate d is in
       let b = as-duplicate a.0 a.1 d is in
-      subst (λ (y : Doubling). type_of_lock start h y.last.lock.0 ≡ type_of_lock start h y.asked.lock.0) b.is
+      subst (λ (y : Doubling). type_of_lock start h y.last.lock.0
+      ≡ type_of_lock start h y.asked.lock.0) b.is
       (ap (λ (n : TypeNo). n.0) (sym (type-held (known_of start h) b.last)) ∙ eqb-true _ _ b.same)
 
   -- the pair that a report names wasn't found before
-  reversal-fresh : (x : Conflict) → e.reply ≡ Reversal x → is_found (found_of start h) (type_of_lock start h x.held.lock.0) (type_of_lock start h x.asked.lock.0) ≡ false
+  reversal-fresh : (x : Conflict) → e.reply ≡ Reversal x
+      → is_found (found_of start h) (type_of_lock start h x.held.lock.0)
+      (type_of_lock start h x.asked.lock.0) ≡ false
   reversal-fresh x is =
       let a = asked-reversal x is in
       let b = as-reversal a.0 a.1 x is in
-      subst (λ (y : Conflict). is_found (found_of start h) (type_of_lock start h y.held.lock.0) (type_of_lock start h y.asked.lock.0) ≡ false) b.is
-      (ap (λ (n : TypeNo). is_found (found_of start h) n.0 (type_of_lock start h a.0.lock.0)) (sym (type-held (known_of start h) b.held)) ∙ b.fresh)
+      subst (λ (y : Conflict). is_found (found_of start h) (type_of_lock start h y.held.lock.0)
+      (type_of_lock start h y.asked.lock.0) ≡ false) b.is
+      (ap (λ (n : TypeNo). is_found (found_of start h) n.0 (type_of_lock start h a.0.lock.0))
+      (sym (type-held (known_of start h) b.held)) ∙ b.fresh)
 
-  duplicate-fresh : (d : Doubling) → e.reply ≡ Duplicate d → is_found (found_of start h) (type_of_lock start h d.asked.lock.0) (type_of_lock start h d.asked.lock.0) ≡ false
+  duplicate-fresh : (d : Doubling) → e.reply ≡ Duplicate d
+      → is_found (found_of start h) (type_of_lock start h d.asked.lock.0)
+      (type_of_lock start h d.asked.lock.0) ≡ false
   duplicate-fresh d is =
       let a = asked-duplicate d is in
       let b = as-duplicate a.0 a.1 d is in
-      subst (λ (y : Doubling). is_found (found_of start h) (type_of_lock start h y.asked.lock.0) (type_of_lock start h y.asked.lock.0) ≡ false) b.is b.fresh
+      subst (λ (y : Doubling). is_found (found_of start h) (type_of_lock start h y.asked.lock.0)
+      (type_of_lock start h y.asked.lock.0) ≡ false) b.is b.fresh
 
 -- ---- the reported pairs were all found
 
-found-stays : (p q : TypeNo) (pairs : List (TypeNo × TypeNo)) (a b : ℕ) → is_found pairs a b ≡ true → is_found (found_once p q pairs) a b ≡ true
+found-stays : (p q : TypeNo) (pairs : List (TypeNo × TypeNo)) (a b : ℕ) → is_found pairs a b ≡ true
+    → is_found (found_once p q pairs) a b ≡ true
 found-stays p q pairs a b is = go (is_found pairs p.0 q.0)
   where
     go : (f : Bool) → is_found (cond f pairs ((p, q) ∷ pairs)) a b ≡ true
     go true = is
     go false = or_right (is_pair_of a b (p, q)) (is_found pairs a b) is
 
-found-fresh : (p q : TypeNo) (pairs : List (TypeNo × TypeNo)) → is_found pairs p.0 q.0 ≡ false → found_once p q pairs ≡ (p, q) ∷ pairs
+found-fresh : (p q : TypeNo) (pairs : List (TypeNo × TypeNo)) → is_found pairs p.0 q.0 ≡ false
+    → found_once p q pairs ≡ (p, q) ∷ pairs
 found-fresh p q pairs fresh = ap (λ f. cond f pairs ((p, q) ∷ pairs)) fresh
 
 -- each reported pair was found
 AreFound : List (TypeNo × TypeNo) → List (TypeNo × TypeNo) → Type 0
 AreFound told found = (a b : ℕ) → is_found told a b ≡ true → is_found found a b ≡ true
 
-find-more : (p : TypeNo × TypeNo) (told found : List (TypeNo × TypeNo)) → AreFound told found → AreFound (p ∷ told) (p ∷ found)
+find-more : (p : TypeNo × TypeNo) (told found : List (TypeNo × TypeNo)) → AreFound told found
+    → AreFound (p ∷ told) (p ∷ found)
 unfolding AreFound
 find-more p told found all a b is =
     ⊎_elim
@@ -215,52 +296,74 @@ find-more p told found all a b is =
     (λ there. or_right (is_pair_of a b p) (is_found found a b) (all a b there))
     (or_cases (is_pair_of a b p) (is_found told a b) is)
 
-find-same : (p : TypeNo × TypeNo) (told found : List (TypeNo × TypeNo)) → AreFound told found → is_found found p.0.0 p.1.0 ≡ false → is_found told p.0.0 p.1.0 ≡ false
+find-same : (p : TypeNo × TypeNo) (told found : List (TypeNo × TypeNo)) → AreFound told found
+    → is_found found p.0.0 p.1.0 ≡ false → is_found told p.0.0 p.1.0 ≡ false
 unfolding AreFound
-find-same p told found all fresh = false_from_ne_true (is_found told p.0.0 p.1.0) (λ is. true≢false (sym (all p.0.0 p.1.0 is) ∙ fresh))
+find-same p told found all fresh =
+    false_from_ne_true (is_found told p.0.0 p.1.0)
+    (λ is. true≢false (sym (all p.0.0 p.1.0 is) ∙ fresh))
 
 -- the pair that a report names wasn't found before
 IsFresh : Start → List Entry → Reply → Type 0
-IsFresh start h (Reversal x) = is_found (found_of start h) (type_of_lock start h x.held.lock.0) (type_of_lock start h x.asked.lock.0) ≡ false
+IsFresh start h (Reversal x) =
+    is_found (found_of start h) (type_of_lock start h x.held.lock.0)
+    (type_of_lock start h x.asked.lock.0) ≡ false
 IsFresh start h (Duplicate d) =
-    (is_found (found_of start h) (type_of_lock start h d.asked.lock.0) (type_of_lock start h d.asked.lock.0) ≡ false)
+    (is_found (found_of start h) (type_of_lock start h d.asked.lock.0)
+    (type_of_lock start h d.asked.lock.0) ≡ false)
     × (type_of_lock start h d.last.lock.0 ≡ type_of_lock start h d.asked.lock.0)
 IsFresh start h _ = Unit {0}
 
-fresh_by : (start : Start) (files : List (List ℕ)) (e : Entry) (h : List Entry) → IsLegal start files (e ∷ h) → (r : Reply) → e.reply ≡ r → IsFresh start h r
+fresh_by : (start : Start) (files : List (List ℕ)) (e : Entry) (h : List Entry)
+    → IsLegal start files (e ∷ h) → (r : Reply) → e.reply ≡ r → IsFresh start h r
 unfolding IsFresh
 fresh_by start files e h legal (Reversal x) is = reversal-fresh start files e h legal x is
-fresh_by start files e h legal (Duplicate d) is = (duplicate-fresh start files e h legal d is, duplicate-one start files e h legal d is)
+fresh_by start files e h legal (Duplicate d) is =
+    (duplicate-fresh start files e h legal d is, duplicate-one start files e h legal d is)
 fresh_by start files e h legal _ is = tt
 
 AreOnce : List (TypeNo × TypeNo) → List (TypeNo × TypeNo) → Type 0
 AreOnce told found = AreFound told found × AreUnlike told
 
-once_more : (p : TypeNo × TypeNo) (told found : List (TypeNo × TypeNo)) → is_found found p.0.0 p.1.0 ≡ false → AreOnce told found
+once_more : (p : TypeNo × TypeNo) (told found : List (TypeNo × TypeNo))
+    → is_found found p.0.0 p.1.0 ≡ false → AreOnce told found
     → AreOnce (p ∷ told) (found_once p.0 p.1 found)
 unfolding AreOnce
-once_more p told found fresh all =
-    (subst (λ ps. AreFound (p ∷ told) ps) (sym (found-fresh p.0 p.1 found fresh)) (find-more p told found all.0), (find-same p told found all.0 fresh, all.1))
+once_more p told found fresh all = (
+  subst (λ ps. AreFound (p ∷ told) ps) (sym (found-fresh p.0 p.1 found fresh))
+      (find-more p told found all.0),
+  (find-same p told found all.0 fresh, all.1),
+)
 
-once_by : (start : Start) (h : List Entry) (r : Reply) (told : List (TypeNo × TypeNo)) → IsFresh start h r → AreOnce told (found_of start h)
-    → AreOnce (reported_pair (typed_locks start h) r ++ told) (found_after (typed_locks start h) r (found_of start h))
+once_by : (start : Start) (h : List Entry) (r : Reply) (told : List (TypeNo × TypeNo))
+    → IsFresh start h r → AreOnce told (found_of start h)
+    → AreOnce (reported_pair (typed_locks start h) r ++ told)
+    (found_after (typed_locks start h) r (found_of start h))
 unfolding IsFresh AreOnce AreFound
 once_by start h (Reversal x) told fresh all =
-    once_more ((lock_at (typed_locks start h) x.held.lock.0).type_no, (lock_at (typed_locks start h) x.asked.lock.0).type_no) told (found_of start h) fresh all
+    once_more (
+      (lock_at (typed_locks start h) x.held.lock.0).type_no,
+      (lock_at (typed_locks start h) x.asked.lock.0).type_no,
+    ) told (found_of start h) fresh all
 once_by start h (Duplicate d) told fresh all =
     let asked : TypeNo = (lock_at (typed_locks start h) d.asked.lock.0).type_no in
-    subst (λ (n : TypeNo). AreOnce ((n, asked) ∷ told) (found_once asked asked (found_of start h))) (ap (λ n. record { 0 = n }) (sym fresh.1))
+    subst (λ (n : TypeNo). AreOnce ((n, asked) ∷ told) (found_once asked asked (found_of start h)))
+    (ap (λ n. record { 0 = n }) (sym fresh.1))
     (once_more (asked, asked) told (found_of start h) fresh.0 all)
-once_by start h (Silent a b) told fresh all = (λ c d is. found-stays a b (found_of start h) c d (all.0 c d is), all.1)
+once_by start h (Silent a b) told fresh all =
+    (λ c d is. found-stays a b (found_of start h) c d (all.0 c d is), all.1)
 once_by start h _ told fresh all = all
 
-once_all : (start : Start) (files : List (List ℕ)) (h : List Entry) → IsLegal start files h → AreOnce (reported_pairs start h) (found_of start h)
+once_all : (start : Start) (files : List (List ℕ)) (h : List Entry) → IsLegal start files h
+    → AreOnce (reported_pairs start h) (found_of start h)
 unfolding AreOnce AreFound
 once_all start files [] legal = (λ a b is. is, tt)
 once_all start files (e ∷ h) legal =
-    once_by start h e.reply (reported_pairs start h) (fresh_by start files e h legal e.reply refl) (once_all start files h legal.2)
+    once_by start h e.reply (reported_pairs start h) (fresh_by start files e h legal e.reply refl)
+    (once_all start files h legal.2)
 
 -- no unordered pair of types is reported twice
-pub reported-once : (start : Start) (files : List (List ℕ)) (h : List Entry) → IsLegal start files h → AreUnlike (reported_pairs start h)
+pub reported-once : (start : Start) (files : List (List ℕ)) (h : List Entry) → IsLegal start files h
+    → AreUnlike (reported_pairs start h)
 unfolding AreOnce
 reported-once start files h legal = (once_all start files h legal).1

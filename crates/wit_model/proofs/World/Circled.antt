@@ -1,6 +1,8 @@
 -- Who waits for whom in a scene, and in the world that it shows.
-use Rattle.std.proofs.Common.{◌≡◌, ℕ, ◌<◌, Bool, true, false, not, ◌||◌, eqb, nat_lt, List, [], ◌∷◌, refl, ap, sym, ◌∙◌, subst}
-use Rattle.std.proofs.lemmas.Bool.{and_parts, and_from, eq-eqb, ne_eqb, not-true, lt-ltb, ltb-true, false≢true, true≢false}
+use Rattle.std.proofs.Common.{◌≡◌, ℕ, ◌<◌, Bool, true, false, not, ◌||◌, eqb, nat_lt, List, [], ◌∷◌}
+use Rattle.std.proofs.Common.{refl, ap, sym, ◌∙◌, subst}
+use Rattle.std.proofs.lemmas.Bool.{and_parts, and_from, eq-eqb, ne_eqb, not-true, lt-ltb, ltb-true}
+use Rattle.std.proofs.lemmas.Bool.{false≢true, true≢false}
 use Rattle.wit_model.specs.declared.calls.Request.{Request}
 use Rattle.wit_model.specs.Rules.History.{is_held}
 use Rattle.wit_model.specs.Rules.State.{Start}
@@ -12,12 +14,14 @@ use Rattle.wit_model.specs.World.Waiting.{IsWaiting}
 use Rattle.wit_model.specs.World.Scenes.{Scene, raw_of, shares_of, stage_at}
 use Rattle.wit_model.specs.World.Shown.{Shows, is_barred_by, waits_in}
 
-queue-through : {P Q : ℕ → ℕ → Type 0} → ((t u : ℕ) → P t u → Q t u) → (t : ℕ) (vs : List ℕ) (u : ℕ) → IsQueue P t vs u → IsQueue Q t vs u
+queue-through : {P Q : ℕ → ℕ → Type 0} → ((t u : ℕ) → P t u → Q t u) → (t : ℕ) (vs : List ℕ) (u : ℕ)
+    → IsQueue P t vs u → IsQueue Q t vs u
 queue-through f t [] u waits = f t u waits
 queue-through f t (v ∷ vs) u waits = (f t v waits.0, queue-through f v vs u waits.1)
 
 -- a circle of waits is one of whatever they imply
-pub circle-through : {P Q : ℕ → ℕ → Type 0} → ((t u : ℕ) → P t u → Q t u) → (threads : List ℕ) → IsCircle P threads → IsCircle Q threads
+pub circle-through : {P Q : ℕ → ℕ → Type 0} → ((t u : ℕ) → P t u → Q t u) → (threads : List ℕ)
+    → IsCircle P threads → IsCircle Q threads
 circle-through f [] circle = circle
 circle-through f (first ∷ others) circle = queue-through f first others first circle
 
@@ -54,28 +58,35 @@ untrue : (b : Bool) → b ≡ false → not b ≡ true
 untrue true is = absurd (true≢false is)
 untrue false is = refl
 
-module _ (start : Start) (files : List (List ℕ)) (w : List Deed) (s : Scene) (shown : Shows start files w s) where
+module _ (start : Start) (files : List (List ℕ)) (w : List Deed) (s : Scene)
+    (shown : Shows start files w s) where
   held-shown : (t l : ℕ) → is_held t l s.story.history ≡ is_held t l (log_of w)
   held-shown t l = ap (λ h. is_held t l h) shown.logs
 
   pub waits-world : (t u : ℕ) → waits_in s t u ≡ true → IsWaiting w t u
   waits-world t u is =
       let b = barred s t u (stage_at s t) is in
-      let some : 0 < shares u b.request.lock.0 w = subst (λ n. 0 < n) (shown.had u b.request.lock.0) b.taken in
+      let some : 0 < shares u b.request.lock.0 w =
+      subst (λ n. 0 < n) (shown.had u b.request.lock.0) b.taken in
       record {
         request = b.request;
         asks = sym (shown.stages t) ∙ b.asks;
         unheld = sym (held-shown t b.request.lock.0) ∙ b.unheld;
         another = λ same. true≢false (sym (eq-eqb u t same) ∙ b.another);
         taken = some;
-        barred = ap (λ mode. is_exclusive mode || is_exclusive b.request.mode) (sym (shown.modes u b.request.lock.0 some)) ∙ b.exclusive;
+        barred =
+            ap (λ mode. is_exclusive mode || is_exclusive b.request.mode)
+            (sym (shown.modes u b.request.lock.0 some)) ∙ b.exclusive;
       }
 
   pub waits-scene : (t u : ℕ) → IsWaiting w t u → waits_in s t u ≡ true
   waits-scene t u x =
       let l = x.request.lock.0 in
       ap (λ at. is_barred_by s t u at) (shown.stages t ∙ x.asks)
-      ∙ and_from (not (is_held t l s.story.history)) _ (untrue (is_held t l s.story.history) (held-shown t l ∙ x.unheld))
+      ∙ and_from (not (is_held t l s.story.history)) _
+      (untrue (is_held t l s.story.history) (held-shown t l ∙ x.unheld))
       (and_from (not (eqb u t)) _ (untrue (eqb u t) (ne_eqb u t x.another))
-      (and_from (nat_lt 0 (shares_of s.raw u l)) _ (lt-ltb 0 (shares_of s.raw u l) (subst (λ n. 0 < n) (sym (shown.had u l)) x.taken))
-      (ap (λ mode. is_exclusive mode || is_exclusive x.request.mode) (shown.modes u l x.taken) ∙ x.barred)))
+      (and_from (nat_lt 0 (shares_of s.raw u l)) _
+      (lt-ltb 0 (shares_of s.raw u l) (subst (λ n. 0 < n) (sym (shown.had u l)) x.taken))
+      (ap (λ mode. is_exclusive mode || is_exclusive x.request.mode)
+      (shown.modes u l x.taken) ∙ x.barred)))

@@ -15,10 +15,12 @@ pub begins : (t : ℕ) → IsBeginning (map kept (own t crossed)) (map kept (own
 unfolding num
 begins t =
     elim (eqb_tells 1 t) [
-      | inl one ↦ subst (λ n. IsBeginning (map kept (own n crossed)) (map kept (own n in_turn))) one.1 (take 6 (map kept (own 1 in_turn)), refl)
+      | inl one ↦ subst (λ n. IsBeginning (map kept (own n crossed)) (map kept (own n in_turn)))
+          one.1 (take 6 (map kept (own 1 in_turn)), refl)
       | inr first ↦
           elim (eqb_tells 2 t) [
-            | inl two ↦ subst (λ n. IsBeginning (map kept (own n crossed)) (map kept (own n in_turn))) two.1 ([], refl)
+            | inl two ↦ subst (λ n. IsBeginning (map kept (own n crossed))
+                (map kept (own n in_turn))) two.1 ([], refl)
             | inr second ↦ ([], rw (first.0, second.0) refl)
           ]
     ]
@@ -30,11 +32,13 @@ unfolding num
 defined-begins t =
     elim (eqb_tells 1 t) [
       | inl one ↦
-          subst (λ n. IsBeginning (map kept (own n defined_before)) (map kept (own n defined))) one.1 ([], refl)
+          subst (λ n. IsBeginning (map kept (own n defined_before)) (map kept (own n defined)))
+          one.1 ([], refl)
       | inr first ↦
           elim (eqb_tells 2 t) [
             | inl two ↦
-                subst (λ n. IsBeginning (map kept (own n defined_before)) (map kept (own n defined))) two.1 ([], refl)
+                subst (λ n. IsBeginning (map kept (own n defined_before))
+                (map kept (own n defined))) two.1 ([], refl)
             | inr second ↦ ([], rw (first.0, second.0) refl)
           ]
     ]
@@ -65,21 +69,40 @@ asked t q is =
       | inl one ↦ absurd (over q (subst (λ n. stage n (own n in_turn) ≡ Asked q) (sym one.1) is))
       | inr first ↦
           elim (eqb_tells 2 t) [
-            | inl two ↦ wants (request 1 4) q (subst (λ n. stage n (own n in_turn) ≡ Asked q) (sym two.1) is)
-            | inr second ↦ absurd (over q (let none : stage t (own t in_turn) ≡ Over = rw (first.0, second.0) refl in sym none ∙ is))
+            | inl two ↦ wants (request 1 4) q
+                (subst (λ n. stage n (own n in_turn) ≡ Asked q) (sym two.1) is)
+            | inr second ↦ absurd (over q (let none : stage t (own t in_turn)
+                ≡ Over = rw (first.0, second.0) refl in sym none ∙ is))
           ]
     ]
 
 pub none_waits : (t u : ℕ) → IsWaiting in_turn t u → ⊥
 none_waits t u waits =
-    let none : shares u waits.request.lock.0 in_turn ≡ 0 = subst (λ l. shares u l in_turn ≡ 0) (asked t waits.request waits.asks) (free u) in
+    let none : shares u waits.request.lock.0 in_turn ≡ 0 =
+    subst (λ l. shares u l in_turn ≡ 0) (asked t waits.request waits.asks) (free u) in
     let some = waits.taken in
     omega arith
 
 pub one_waits : IsWaiting crossed 1 2
 unfolding num
-one_waits = record { request = request 2 2; asks = refl; unheld = refl; another = λ e. omega arith; taken = omega arith; barred = refl }
+one_waits =
+    record {
+      request = request 2 2;
+      asks = refl;
+      unheld = refl;
+      another = λ e. omega arith;
+      taken = omega arith;
+      barred = refl;
+    }
 
 pub two_waits : IsWaiting crossed 2 1
 unfolding num
-two_waits = record { request = request 1 4; asks = refl; unheld = refl; another = λ e. omega arith; taken = omega arith; barred = refl }
+two_waits =
+    record {
+      request = request 1 4;
+      asks = refl;
+      unheld = refl;
+      another = λ e. omega arith;
+      taken = omega arith;
+      barred = refl;
+    }

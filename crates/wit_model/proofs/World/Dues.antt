@@ -1,5 +1,7 @@
--- The shares of a lock that a thread is still to record, or to free; and what each deed does to the two numbers.
-use Rattle.std.proofs.Common.{◌≡◌, ℕ, ◌+◌, ◌-◌, ◌≤◌, Bool, true, false, cond, eqb, nat_lt, refl, ap, sym, ◌∙◌, inl, inr, arith}
+-- The shares of a lock that a thread is still to record, or to free; and what each deed does to the
+-- two numbers.
+use Rattle.std.proofs.Common.{◌≡◌, ℕ, ◌+◌, ◌-◌, ◌≤◌, Bool, true, false, cond, eqb, nat_lt, refl, ap}
+use Rattle.std.proofs.Common.{sym, ◌∙◌, inl, inr, arith}
 use Rattle.std.proofs.lemmas.Bool.{and_parts, eqb-true, ltb-true, false≢true}
 use Rattle.std.proofs.lemmas.Bool.Decides.{eqb_tells}
 use Rattle.wit_model.specs.declared.locks.LockNo.{LockNo}
@@ -7,7 +9,8 @@ use Rattle.wit_model.specs.declared.locks.Mode.{Mode}
 use Rattle.wit_model.specs.declared.locks.Site.{Site}
 use Rattle.wit_model.specs.declared.calls.Call.TheVariants.{Note, NoteTry, GiveUp, Upgrade}
 use Rattle.wit_model.specs.World.Deeds.{Take, Free, RawDown}
-use Rattle.wit_model.specs.World.Stages.{Stage, Over, Asked, Taken, Tried, Forgot, Raised, Lowered, is_over, call_follows, deed_follows, is_same_mode}
+use Rattle.wit_model.specs.World.Stages.{Stage, Over, Asked, Taken, Tried, Forgot, Raised, Lowered}
+use Rattle.wit_model.specs.World.Stages.{is_over, call_follows, deed_follows, is_same_mode}
 
 abbrev pub due : ℕ → Stage → ℕ
 due l (Taken m) = cond (eqb m l) 1 0
@@ -28,11 +31,13 @@ pub nothing-due : (l n s : ℕ) (g : Stage) → due l g ≡ 0 → Covers l n s g
 nothing-due l n s g none c = let all = c.all in omega arith
 
 module _ (l t m : ℕ) (held : ℕ → Bool) where
-  pub due-taking : (mode : Mode) (g : Stage) → deed_follows (Take t m mode) held g ≡ true → due l g ≡ 0
+  pub due-taking : (mode : Mode) (g : Stage) → deed_follows (Take t m mode) held g
+      ≡ true → due l g ≡ 0
   due-taking mode (Asked q) is = refl
   due-taking mode _ is = absurd (false≢true is)
 
-  pub due-freeing : (g : Stage) → deed_follows (Free t m) held g ≡ true → due l g ≡ cond (eqb m l) 1 0
+  pub due-freeing : (g : Stage) → deed_follows (Free t m) held g ≡ true
+      → due l g ≡ cond (eqb m l) 1 0
   due-freeing (Tried k mode) is = ap (λ j. cond (eqb j l) 1 0) (eqb-true k m is)
   due-freeing (Forgot k has_fewer) is = ap (λ j. cond (eqb j l) 1 0) (eqb-true k m is)
   due-freeing _ is = absurd (false≢true is)
@@ -43,9 +48,11 @@ module _ (l t m : ℕ) (held : ℕ → Bool) where
   due-lowering _ is = absurd (false≢true is)
 
 module _ (l : ℕ) (m : LockNo) (held : ℕ → Bool) where
-  pub due-noting : (g : Stage) → call_follows (Note m) held g ≡ true → due l g ≤ cond (eqb m.0 l) 1 0
+  pub due-noting : (g : Stage) → call_follows (Note m) held g ≡ true
+      → due l g ≤ cond (eqb m.0 l) 1 0
   due-noting (Taken k) is =
-      let same : due l (Taken k) ≡ cond (eqb m.0 l) 1 0 = ap (λ j. cond (eqb j l) 1 0) (eqb-true k m.0 is) in
+      let same : due l (Taken k) ≡ cond (eqb m.0 l) 1 0 =
+      ap (λ j. cond (eqb j l) 1 0) (eqb-true k m.0 is) in
       omega arith
   due-noting (Asked q) is = omega arith
   due-noting Over is = absurd (false≢true is)
@@ -54,10 +61,12 @@ module _ (l : ℕ) (m : LockNo) (held : ℕ → Bool) where
   due-noting (Raised k) is = absurd (false≢true is)
   due-noting (Lowered k passed) is = absurd (false≢true is)
 
-  pub due-trying : (mode : Mode) (site : Site) (g : Stage) → call_follows (NoteTry m mode site) held g ≡ true → due l g ≤ cond (eqb m.0 l) 1 0
+  pub due-trying : (mode : Mode) (site : Site) (g : Stage)
+      → call_follows (NoteTry m mode site) held g ≡ true → due l g ≤ cond (eqb m.0 l) 1 0
   due-trying mode site (Tried k tried) is =
       let same : due l (Tried k tried) ≡ cond (eqb m.0 l) 1 0
-      = ap (λ j. cond (eqb j l) 1 0) (eqb-true k m.0 (and_parts (eqb k m.0) (is_same_mode tried mode) is).0) in
+      = ap (λ j. cond (eqb j l) 1 0)
+      (eqb-true k m.0 (and_parts (eqb k m.0) (is_same_mode tried mode) is).0) in
       omega arith
   due-trying mode site _ is = absurd (false≢true is)
 
@@ -87,7 +96,8 @@ pub let_go : (b : Bool) (n s : ℕ) → s ≤ n → s ≤ cond b (n - 1) n + con
 let_go true n s le = omega arith
 let_go false n s le = omega arith
 
-pub fewer : (l m n s : ℕ) (has_fewer : Bool) → (m ≡ l → has_fewer ≡ nat_lt s n) → s ≤ n → has_fewer ≡ true → s ≤ cond (eqb m l) (n - 1) n
+pub fewer : (l m n s : ℕ) (has_fewer : Bool) → (m ≡ l → has_fewer ≡ nat_lt s n) → s ≤ n
+    → has_fewer ≡ true → s ≤ cond (eqb m l) (n - 1) n
 fewer l m n s has_fewer is le less =
     elim (eqb_tells m l) [
       | inl here ↦ let lt = ltb-true s n (sym (is here.1) ∙ less) in rw here.0 (omega arith)

@@ -1,4 +1,5 @@
--- Who stands in a circle waits for somebody; and what leads from each to the next leads round to where it began.
+-- Who stands in a circle waits for somebody; and what leads from each to the next leads round to
+-- where it began.
 use Rattle.std.proofs.Common.{ℕ, List, [], ◌∷◌}
 use Rattle.wit_model.specs.Rules.Circles.{IsQueue, IsCircle}
 
@@ -11,7 +12,8 @@ module _ (waits : ℕ → ℕ → Type 0) where
   first_waits [] circle = absurd circle
   first_waits (first ∷ others) circle = let u = next first others first circle in (first, u.0, u.1)
 
-  module _ (Leads : ℕ → ℕ → Type 0) (link : (t u x : ℕ) → waits t u → waits u x → Leads t u) (join : (t u x : ℕ) → Leads t u → Leads u x → Leads t x) where
+  module _ (Leads : ℕ → ℕ → Type 0) (link : (t u x : ℕ) → waits t u → waits u x
+      → Leads t u) (join : (t u x : ℕ) → Leads t u → Leads u x → Leads t x) where
     along : (a : ℕ) (vs : List ℕ) (b : ℕ) → IsQueue waits a vs b → (x : ℕ) → waits b x → Leads a b
     along a [] b queue x beyond = link a b x queue beyond
     along a (v ∷ vs) b queue x beyond =
@@ -20,4 +22,5 @@ module _ (waits : ℕ → ℕ → Type 0) where
 
     pub round : (threads : List ℕ) → IsCircle waits threads → (t : ℕ) × Leads t t
     round [] circle = absurd circle
-    round (first ∷ others) circle = let u = next first others first circle in (first, along first others first circle u.0 u.1)
+    round (first ∷ others) circle = let u =
+        next first others first circle in (first, along first others first circle u.0 u.1)

@@ -9,7 +9,8 @@ use Rattle.wit_model.specs.Rules.Numbers.{is_number}
 use Rattle.wit_model.specs.Rules.State.{Start}
 use Rattle.wit_model.specs.Rules.Verdict.{is_exclusive}
 use Rattle.wit_model.specs.Rules.Step.{answer_of, story_after, is_logged}
-use Rattle.wit_model.specs.World.Deeds.{Deed, Logged, PassedOver, Take, TryTake, Free, RawUp, RawDown, log_of, shares, raw_mode}
+use Rattle.wit_model.specs.World.Deeds.{Deed, Logged, PassedOver, Take, TryTake, Free, RawUp}
+use Rattle.wit_model.specs.World.Deeds.{RawDown, log_of, shares, raw_mode}
 use Rattle.wit_model.specs.World.Stages.{may_follow}
 use Rattle.wit_model.specs.World.Steps.{admits, is_alone, IsWorld}
 
@@ -17,8 +18,10 @@ module _ (start : Start) (files : List (List ℕ)) where
   -- what is answered to the calls of a world
   abbrev answers : List Deed → List (Result Reply Fault)
   answers [] = []
-  answers (Logged e ∷ w) = answer_of (story_after start files (log_of w)) e.seat.0 e.call ∷ answers w
-  answers (PassedOver t call ∷ w) = answer_of (story_after start files (log_of w)) t call ∷ answers w
+  answers (Logged e ∷ w) =
+      answer_of (story_after start files (log_of w)) e.seat.0 e.call ∷ answers w
+  answers (PassedOver t call ∷ w) =
+      answer_of (story_after start files (log_of w)) t call ∷ answers w
   answers (d ∷ w) = answers w
 
   -- the replies that stand in it
@@ -32,12 +35,15 @@ module _ (start : Start) (files : List (List ℕ)) where
   can_do (Logged e) w = is_logged e.reply && may_follow (Logged e) w
   can_do (PassedOver t call) w = may_follow (PassedOver t call) w
   can_do (Take t l mode) w =
-      is_number start.sizes.seats t && (may_follow (Take t l mode) w && admits start.sizes.seats l mode w)
+      is_number start.sizes.seats t
+      && (may_follow (Take t l mode) w && admits start.sizes.seats l mode w)
   can_do (TryTake t l mode) w =
-      is_number start.sizes.seats t && (may_follow (TryTake t l mode) w && admits start.sizes.seats l mode w)
+      is_number start.sizes.seats t
+      && (may_follow (TryTake t l mode) w && admits start.sizes.seats l mode w)
   can_do (Free t l) w = may_follow (Free t l) w && nat_lt 0 (shares t l w)
   can_do (RawUp t l) w =
-      may_follow (RawUp t l) w && (is_alone start.sizes.seats t l w && not (is_exclusive (raw_mode t l w)))
+      may_follow (RawUp t l) w && (is_alone start.sizes.seats t l w
+      && not (is_exclusive (raw_mode t l w)))
   can_do (RawDown t l) w =
       may_follow (RawDown t l) w && (nat_lt 0 (shares t l w) && is_exclusive (raw_mode t l w))
 
@@ -48,7 +54,8 @@ module _ (start : Start) (files : List (List ℕ)) where
   pub is_world : (w : List Deed) → answers w ≡ replies w → can_all w ≡ true → IsWorld start files w
   is_world [] same can = tt
   is_world (Logged e ∷ w) same can =
-      let answer : answer_of (story_after start files (log_of w)) e.seat.0 e.call ≡ Ok e.reply = cc in
+      let answer : answer_of (story_after start files (log_of w)) e.seat.0 e.call
+      ≡ Ok e.reply = cc in
       let past : answers w ≡ replies w = cc in
       let parts = and_parts _ _ can in
       let now = and_parts _ _ parts.0 in ((answer, now.0, now.1), is_world w past parts.1)
@@ -66,7 +73,11 @@ module _ (start : Start) (files : List (List ℕ)) where
       let then = and_parts _ _ now.1 in ((now.0, then.0, then.1), is_world w same parts.1)
   is_world (Free t l ∷ w) same can =
       let parts = and_parts _ _ can in
-      let now = and_parts _ _ parts.0 in ((now.0, ltb-true 0 (shares t l w) now.1), is_world w same parts.1)
+      let now =
+      and_parts _ _ parts.0 in (
+        (now.0, ltb-true 0 (shares t l w) now.1),
+        is_world w same parts.1,
+      )
   is_world (RawUp t l ∷ w) same can =
       let parts = and_parts _ _ can in
       let now = and_parts _ _ parts.0 in

@@ -1,5 +1,6 @@
 -- A deed of a world, and what a scene shows then.
-use Rattle.std.proofs.Common.{◌≡◌, ℕ, ◌+◌, ◌-◌, ◌<◌, Bool, true, false, ◌&&◌, cond, eqb, nat_lt, List, ◌∷◌, length, refl, ap, ap₂, sym, ◌∙◌, subst, inl, inr, arith}
+use Rattle.std.proofs.Common.{◌≡◌, ℕ, ◌+◌, ◌-◌, ◌<◌, Bool, true, false, ◌&&◌, cond, eqb, nat_lt}
+use Rattle.std.proofs.Common.{List, ◌∷◌, length, refl, ap, ap₂, sym, ◌∙◌, subst, inl, inr, arith}
 use Rattle.std.proofs.lemmas.Bool.{eq-eqb, true≢false}
 use Rattle.std.proofs.lemmas.Bool.Decides.{eqb_tells}
 use Rattle.wit_model.specs.declared.locks.Mode.{Mode}
@@ -12,14 +13,22 @@ use Rattle.wit_model.specs.Rules.History.{num}
 use Rattle.wit_model.specs.Rules.State.{Start, typed_locks, state_of}
 use Rattle.wit_model.specs.Rules.Verdict.{is_exclusive}
 use Rattle.wit_model.specs.Rules.Step.{story_after, is_logged, logged}
-use Rattle.wit_model.specs.World.Deeds.{Deed, Logged, PassedOver, Take, TryTake, Free, RawUp, RawDown, thread_of, own, log_of, are_these, shares, raw_mode}
-use Rattle.wit_model.specs.World.Stages.{Stage, Over, Forgot, stage_passed, stage_called, stage_logged, stage_after, stage}
+use Rattle.wit_model.specs.World.Deeds.{Deed, Logged, PassedOver, Take, TryTake, Free, RawUp}
+use Rattle.wit_model.specs.World.Deeds.{RawDown, thread_of, own, log_of, are_these, shares}
+use Rattle.wit_model.specs.World.Deeds.{raw_mode}
+use Rattle.wit_model.specs.World.Stages.{Stage, Over, Forgot, stage_passed, stage_called}
+use Rattle.wit_model.specs.World.Stages.{stage_logged, stage_after, stage}
 use Rattle.wit_model.specs.World.Steps.{admits, is_alone, IsWorld}
-use Rattle.wit_model.specs.World.Scenes.{RawLock, Scene, nobodys, raw_of, shares_among, shares_of, stage_among, one_more, one_fewer, raw_called, stage_stepped, stepped, scene_after}
+use Rattle.wit_model.specs.World.Scenes.{RawLock, Scene, nobodys, raw_of, shares_among, shares_of}
+use Rattle.wit_model.specs.World.Scenes.{stage_among, one_more, one_fewer, raw_called}
+use Rattle.wit_model.specs.World.Scenes.{stage_stepped, stepped, scene_after}
 use Rattle.wit_model.specs.World.Shown.{IsTidy, Shows, deed_called}
-use Rattle.wit_model.proofs.World.Exclusion.{had-more, had-less, alone-is, has_seat, got-by, exclusive_alone}
-use Rattle.wit_model.proofs.World.Holders.{shares-one_more, shares-one_fewer, tidy-one_more, tidy-one_fewer}
-use Rattle.wit_model.proofs.World.Placed.{length-changed, changed-here, changed-elsewhere, raw-called, length-called}
+use Rattle.wit_model.proofs.World.Exclusion.{had-more, had-less, alone-is, has_seat, got-by}
+use Rattle.wit_model.proofs.World.Exclusion.{exclusive_alone}
+use Rattle.wit_model.proofs.World.Holders.{shares-one_more, shares-one_fewer, tidy-one_more}
+use Rattle.wit_model.proofs.World.Holders.{tidy-one_fewer}
+use Rattle.wit_model.proofs.World.Placed.{length-changed, changed-here, changed-elsewhere}
+use Rattle.wit_model.proofs.World.Placed.{raw-called, length-called}
 use Rattle.wit_model.proofs.World.Own.{own-mine, own-other, shares-own, num-own}
 
 -- ---- the next scene shows the next world
@@ -47,17 +56,22 @@ both-shared Shared Shared one two = refl
 not-zero : (n : ℕ) → n ≡ 1 → 0 < n
 not-zero n is = omega (arith, is)
 
-module _ (start : Start) (files : List (List ℕ)) (w : List Deed) (s : Scene) (shown : Shows start files w s) where
+module _ (start : Start) (files : List (List ℕ)) (w : List Deed) (s : Scene)
+    (shown : Shows start files w s) where
   -- the stage of a deed's thread is another, and no other thread's
-  pub stages-after : (d : Deed) (g : Stage) → is_number start.sizes.seats (thread_of d) ≡ true → g ≡ stage_after (thread_of d) d (own (thread_of d) w)
+  pub stages-after : (d : Deed) (g : Stage) → is_number start.sizes.seats (thread_of d) ≡ true
+      → g ≡ stage_after (thread_of d) d (own (thread_of d) w)
       → (u : ℕ) → stage_among (with_changed s.stages (thread_of d) g) u ≡ stage u (own u (d ∷ w))
   stages-after d g seat same u =
-      let given : is_given s.stages (thread_of d) ≡ true = ap (λ n. is_number n (thread_of d)) shown.seats ∙ seat in
+      let given : is_given s.stages (thread_of d) ≡ true =
+      ap (λ n. is_number n (thread_of d)) shown.seats ∙ seat in
       elim (eqb_tells (thread_of d) u) [
         | inl is ↦
-            subst (λ v. stage_among (with_changed s.stages (thread_of d) g) v ≡ stage v (own v (d ∷ w))) is.1
+            subst (λ v. stage_among (with_changed s.stages (thread_of d) g) v
+            ≡ stage v (own v (d ∷ w))) is.1
             (changed-here s.stages (thread_of d) g Over given
-            ∙ (same ∙ ap (λ o. stage (thread_of d) o) (sym (own-mine (thread_of d) d w (eq-eqb (thread_of d) (thread_of d) refl)))))
+            ∙ (same ∙ ap (λ o. stage (thread_of d) o)
+            (sym (own-mine (thread_of d) d w (eq-eqb (thread_of d) (thread_of d) refl)))))
         | inr other ↦
             changed-elsewhere s.stages (thread_of d) g Over given u other.1
             ∙ (shown.stages u ∙ ap (λ o. stage u o) (sym (own-other u d w other.0)))
@@ -77,10 +91,13 @@ module _ (start : Start) (files : List (List ℕ)) (w : List Deed) (s : Scene) (
     raw-elsewhere l other = changed-elsewhere s.raw m k nobodys raw-given l other
 
     -- what holds of the changed lock and of the others holds of each
-    by_lock : (P : ℕ → RawLock → Type 0) → P m k → ((l : ℕ) → (m ≡ l → ⊥) → eqb m l ≡ false → P l (raw_of s.raw l)) → (l : ℕ) → P l (raw_of (with_changed s.raw m k) l)
+    by_lock : (P : ℕ → RawLock → Type 0) → P m k
+        → ((l : ℕ) → (m ≡ l → ⊥) → eqb m l ≡ false → P l (raw_of s.raw l)) → (l : ℕ)
+        → P l (raw_of (with_changed s.raw m k) l)
     by_lock P here elsewhere l =
         elim (eqb_tells m l) [
-          | inl is ↦ subst (λ j. P j (raw_of (with_changed s.raw m k) j)) is.1 (subst (P m) (sym raw-here) here)
+          | inl is ↦ subst (λ j. P j (raw_of (with_changed s.raw m k) j)) is.1
+              (subst (P m) (sym raw-here) here)
           | inr other ↦ subst (P l) (sym (raw-elsewhere l other.1)) (elsewhere l other.1 other.0)
         ]
 
@@ -91,26 +108,39 @@ module _ (start : Start) (files : List (List ℕ)) (w : List Deed) (s : Scene) (
     tidy-after tidy = by_lock (λ l x. IsTidy x.holders) tidy (λ l other none. shown.tidy l)
 
     -- a thread gets one more or one fewer
-    had-after : (f : ℕ → ℕ) (u : ℕ) → ((t : ℕ) → shares_among t k.holders ≡ cond (eqb u t) (f (shares_of s.raw t m)) (shares_of s.raw t m))
-        → (t l : ℕ) → shares_of (with_changed s.raw m k) t l ≡ cond (are_these t l u m) (f (shares t l w)) (shares t l w)
+    had-after : (f : ℕ → ℕ) (u : ℕ)
+        → ((t : ℕ) → shares_among t k.holders
+        ≡ cond (eqb u t) (f (shares_of s.raw t m)) (shares_of s.raw t m))
+        → (t l : ℕ) → shares_of (with_changed s.raw m k) t l
+        ≡ cond (are_these t l u m) (f (shares t l w)) (shares t l w)
     had-after f u fix t =
-        by_lock (λ l x. shares_among t x.holders ≡ cond (are_these t l u m) (f (shares t l w)) (shares t l w))
-        (fix t ∙ (ap (λ n. cond (eqb u t) (f n) n) (shown.had t m) ∙ ap (λ b. cond b (f (shares t m w)) (shares t m w)) (sym (these-here t m u m refl))))
-        (λ l other none. shown.had t l ∙ ap (λ b. cond b (f (shares t l w)) (shares t l w)) (sym (these-elsewhere t l u m none)))
+        by_lock (λ l x. shares_among t x.holders
+        ≡ cond (are_these t l u m) (f (shares t l w)) (shares t l w))
+        (fix t ∙ (ap (λ n. cond (eqb u t) (f n) n) (shown.had t m)
+        ∙ ap (λ b. cond b (f (shares t m w)) (shares t m w)) (sym (these-here t m u m refl))))
+        (λ l other none. shown.had t l ∙ ap (λ b. cond b (f (shares t l w)) (shares t l w))
+        (sym (these-elsewhere t l u m none)))
 
-    had-kept : k.holders ≡ (raw_of s.raw m).holders → (t l : ℕ) → shares_of (with_changed s.raw m k) t l ≡ shares t l w
+    had-kept : k.holders ≡ (raw_of s.raw m).holders → (t l : ℕ)
+        → shares_of (with_changed s.raw m k) t l ≡ shares t l w
     had-kept same t =
-        by_lock (λ l x. shares_among t x.holders ≡ shares t l w) (ap (λ xs. shares_among t xs) same ∙ shown.had t m) (λ l other none. shown.had t l)
+        by_lock (λ l x. shares_among t x.holders ≡ shares t l w)
+        (ap (λ xs. shares_among t xs) same ∙ shown.had t m) (λ l other none. shown.had t l)
 
-    mode-kept : k.mode ≡ (raw_of s.raw m).mode → (t l : ℕ) → 0 < shares t l w → (raw_of (with_changed s.raw m k) l).mode ≡ raw_mode t l w
+    mode-kept : k.mode ≡ (raw_of s.raw m).mode → (t l : ℕ) → 0 < shares t l w
+        → (raw_of (with_changed s.raw m k) l).mode ≡ raw_mode t l w
     mode-kept same t =
-        by_lock (λ l x. 0 < shares t l w → x.mode ≡ raw_mode t l w) (λ some. same ∙ shown.modes t m some) (λ l other none some. shown.modes t l some)
+        by_lock (λ l x. 0 < shares t l w → x.mode ≡ raw_mode t l w)
+        (λ some. same ∙ shown.modes t m some) (λ l other none some. shown.modes t l some)
 
     -- the lock's mode is another: others who have shares have the same
     mode-after : (u : ℕ) → ((t : ℕ) → (u ≡ t → ⊥) → 0 < shares t m w → k.mode ≡ raw_mode t m w)
-        → (t l : ℕ) → (are_these t l u m ≡ false → 0 < shares t l w) → (raw_of (with_changed s.raw m k) l).mode ≡ cond (are_these t l u m) k.mode (raw_mode t l w)
+        → (t l : ℕ) → (are_these t l u m ≡ false → 0 < shares t l w)
+        → (raw_of (with_changed s.raw m k) l).mode
+        ≡ cond (are_these t l u m) k.mode (raw_mode t l w)
     mode-after u others t =
-        by_lock (λ l x. (are_these t l u m ≡ false → 0 < shares t l w) → x.mode ≡ cond (are_these t l u m) k.mode (raw_mode t l w))
+        by_lock (λ l x. (are_these t l u m ≡ false → 0 < shares t l w)
+        → x.mode ≡ cond (are_these t l u m) k.mode (raw_mode t l w))
         (λ some. elim (eqb_tells u t) [
           | inl is ↦ ap (λ b. cond b k.mode (raw_mode t m w)) (sym (these-here t m u m refl ∙ is.0))
           | inr other ↦
@@ -123,39 +153,56 @@ module _ (start : Start) (files : List (List ℕ)) (w : List Deed) (s : Scene) (
 
   -- ---- each deed of a lock
 
-  module _ (world : IsWorld start files w) (t l : ℕ) (seat : is_number start.sizes.seats t ≡ true) (made : is_given (typed_locks start (log_of w)) l ≡ true) where
+  module _ (world : IsWorld start files w) (t l : ℕ) (seat : is_number start.sizes.seats t ≡ true)
+      (made : is_given (typed_locks start (log_of w)) l ≡ true) where
     got-lock : Mode → RawLock
     got-lock mode = record { mode = mode; holders = one_more t (raw_of s.raw l).holders }
 
-    got-mode : (mode : Mode) → admits start.sizes.seats l mode w ≡ true → (u : ℕ) → (t ≡ u → ⊥) → 0 < shares u l w → mode ≡ raw_mode u l w
+    got-mode : (mode : Mode) → admits start.sizes.seats l mode w ≡ true → (u : ℕ) → (t ≡ u → ⊥)
+        → 0 < shares u l w → mode ≡ raw_mode u l w
     got-mode mode admitted u other some =
-        let shared = got-by start files mode w u l (has_seat start files w world u l some) some admitted in
+        let shared =
+        got-by start files mode w u l (has_seat start files w world u l some) some admitted in
         both-shared mode (raw_mode u l w) shared.0 shared.1
 
-    pub take-shows : (mode : Mode) → admits start.sizes.seats l mode w ≡ true → Shows start files (Take t l mode ∷ w) (stepped s (Take t l mode))
+    pub take-shows : (mode : Mode) → admits start.sizes.seats l mode w ≡ true
+        → Shows start files (Take t l mode ∷ w) (stepped s (Take t l mode))
     unfolding got-lock
     take-shows mode admitted = record {
       begun = shown.begun;
       logs = shown.logs;
       named = shown.named;
       locks = locks-after l (got-lock mode) made;
-      had = had-after l (got-lock mode) made (λ n. n + 1) t (λ u. shares-one_more t u (raw_of s.raw l).holders);
-      modes = λ u m some. mode-after l (got-lock mode) made t (got-mode mode admitted) u m (λ apart. had-more (are_these u m t l) (shares u m w) apart some);
-      tidy = tidy-after l (got-lock mode) made (tidy-one_more t (raw_of s.raw l).holders (shown.tidy l));
+      had =
+          had-after l (got-lock mode) made (λ n. n + 1) t
+          (λ u. shares-one_more t u (raw_of s.raw l).holders);
+      modes =
+          λ u m some. mode-after l (got-lock mode) made t (got-mode mode admitted) u m
+          (λ apart. had-more (are_these u m t l) (shares u m w) apart some);
+      tidy =
+          tidy-after l (got-lock mode) made
+          (tidy-one_more t (raw_of s.raw l).holders (shown.tidy l));
       stages = stages-after (Take t l mode) (stage_stepped (Take t l mode)) seat refl;
       seats = seats-after t (stage_stepped (Take t l mode));
     }
 
-    pub try-shows : (mode : Mode) → admits start.sizes.seats l mode w ≡ true → Shows start files (TryTake t l mode ∷ w) (stepped s (TryTake t l mode))
+    pub try-shows : (mode : Mode) → admits start.sizes.seats l mode w ≡ true
+        → Shows start files (TryTake t l mode ∷ w) (stepped s (TryTake t l mode))
     unfolding got-lock
     try-shows mode admitted = record {
       begun = shown.begun;
       logs = shown.logs;
       named = shown.named;
       locks = locks-after l (got-lock mode) made;
-      had = had-after l (got-lock mode) made (λ n. n + 1) t (λ u. shares-one_more t u (raw_of s.raw l).holders);
-      modes = λ u m some. mode-after l (got-lock mode) made t (got-mode mode admitted) u m (λ apart. had-more (are_these u m t l) (shares u m w) apart some);
-      tidy = tidy-after l (got-lock mode) made (tidy-one_more t (raw_of s.raw l).holders (shown.tidy l));
+      had =
+          had-after l (got-lock mode) made (λ n. n + 1) t
+          (λ u. shares-one_more t u (raw_of s.raw l).holders);
+      modes =
+          λ u m some. mode-after l (got-lock mode) made t (got-mode mode admitted) u m
+          (λ apart. had-more (are_these u m t l) (shares u m w) apart some);
+      tidy =
+          tidy-after l (got-lock mode) made
+          (tidy-one_more t (raw_of s.raw l).holders (shown.tidy l));
       stages = stages-after (TryTake t l mode) (stage_stepped (TryTake t l mode)) seat refl;
       seats = seats-after t (stage_stepped (TryTake t l mode));
     }
@@ -170,9 +217,14 @@ module _ (start : Start) (files : List (List ℕ)) (w : List Deed) (s : Scene) (
       logs = shown.logs;
       named = shown.named;
       locks = locks-after l freed-lock made;
-      had = had-after l freed-lock made (λ n. n - 1) t (λ u. shares-one_fewer t u (raw_of s.raw l).holders (shown.tidy l));
-      modes = λ u m some. mode-kept l freed-lock made refl u m (had-less (are_these u m t l) (shares u m w) some);
-      tidy = tidy-after l freed-lock made (tidy-one_fewer t (raw_of s.raw l).holders (shown.tidy l));
+      had =
+          had-after l freed-lock made (λ n. n - 1) t
+          (λ u. shares-one_fewer t u (raw_of s.raw l).holders (shown.tidy l));
+      modes =
+          λ u m some. mode-kept l freed-lock made refl u m
+          (had-less (are_these u m t l) (shares u m w) some);
+      tidy =
+          tidy-after l freed-lock made (tidy-one_fewer t (raw_of s.raw l).holders (shown.tidy l));
       stages = stages-after (Free t l) Over seat refl;
       seats = seats-after t Over;
     }
@@ -180,7 +232,8 @@ module _ (start : Start) (files : List (List ℕ)) (w : List Deed) (s : Scene) (
     turned-lock : Mode → RawLock
     turned-lock mode = record (raw_of s.raw l) { mode = mode }
 
-    pub up-shows : is_alone start.sizes.seats t l w ≡ true → Shows start files (RawUp t l ∷ w) (stepped s (RawUp t l))
+    pub up-shows : is_alone start.sizes.seats t l w ≡ true
+        → Shows start files (RawUp t l ∷ w) (stepped s (RawUp t l))
     unfolding turned-lock
     up-shows alone = record {
       begun = shown.begun;
@@ -189,13 +242,16 @@ module _ (start : Start) (files : List (List ℕ)) (w : List Deed) (s : Scene) (
       locks = locks-after l (turned-lock Exclusive) made;
       had = had-kept l (turned-lock Exclusive) made refl;
       modes = λ u m some. mode-after l (turned-lock Exclusive) made t
-          (λ v other had. absurd (other (sym (alone-is start.sizes.seats v l w (has_seat start files w world v l had) had t alone)))) u m (λ apart. some);
+          (λ v other had. absurd (other
+          (sym (alone-is start.sizes.seats v l w (has_seat start files w world v l had) had t
+          alone)))) u m (λ apart. some);
       tidy = tidy-after l (turned-lock Exclusive) made (shown.tidy l);
       stages = stages-after (RawUp t l) (stage_stepped (RawUp t l)) seat refl;
       seats = seats-after t (stage_stepped (RawUp t l));
     }
 
-    pub down-shows : 0 < shares t l w → is_exclusive (raw_mode t l w) ≡ true → Shows start files (RawDown t l ∷ w) (stepped s (RawDown t l))
+    pub down-shows : 0 < shares t l w → is_exclusive (raw_mode t l w) ≡ true
+        → Shows start files (RawDown t l ∷ w) (stepped s (RawDown t l))
     unfolding turned-lock
     down-shows some exclusive = record {
       begun = shown.begun;
@@ -204,7 +260,9 @@ module _ (start : Start) (files : List (List ℕ)) (w : List Deed) (s : Scene) (
       locks = locks-after l (turned-lock Shared) made;
       had = had-kept l (turned-lock Shared) made refl;
       modes = λ u m had. mode-after l (turned-lock Shared) made t
-          (λ v other has. absurd (true≢false (sym exclusive ∙ exclusive_alone start files w t v l world (λ same. other (sym same)) some has))) u m (λ apart. had);
+          (λ v other has. absurd (true≢false
+          (sym exclusive ∙ exclusive_alone start files w t v l world
+          (λ same. other (sym same)) some has))) u m (λ apart. had);
       tidy = tidy-after l (turned-lock Shared) made (shown.tidy l);
       stages = stages-after (RawDown t l) Over seat refl;
       seats = seats-after t Over;
@@ -215,33 +273,53 @@ module _ (start : Start) (files : List (List ℕ)) (w : List Deed) (s : Scene) (
   pub state-shown : state_of s.story ≡ state_of (story_after start files (log_of w))
   state-shown =
       ap (λ (x : Start). state_of (story_after x s.story.files s.story.history)) shown.begun
-      ∙ (ap (λ h. state_of (story_after start s.story.files h)) shown.logs ∙ ap (λ names. state_of (story_after start names (log_of w))) shown.named)
+      ∙ (ap (λ h. state_of (story_after start s.story.files h)) shown.logs
+      ∙ ap (λ names. state_of (story_after start names (log_of w))) shown.named)
 
-  stage-called : (t : ℕ) (call : Call) → stage_called (λ l. nat_lt (shares_of s.raw t l) (num t l s.story.history)) call ≡ stage_logged t call (own t w)
+  stage-called : (t : ℕ) (call : Call)
+      → stage_called (λ l. nat_lt (shares_of s.raw t l) (num t l s.story.history)) call
+      ≡ stage_logged t call (own t w)
   stage-called t (Unlock l mode) =
       ap₂ (λ a b. Forgot l.0 (nat_lt a b)) (shown.had t l.0 ∙ sym (shares-own t l.0 w))
       (ap (λ h. num t l.0 h) shown.logs ∙ sym (num-own t l.0 w))
   stage-called t call = refl
 
-  pub call-shows : (t : ℕ) (call : Call) (r : Reply) → is_number start.sizes.seats t ≡ true → Shows start files (deed_called t call r ∷ w) (scene_after s t call r)
+  pub call-shows : (t : ℕ) (call : Call) (r : Reply) → is_number start.sizes.seats t ≡ true
+      → Shows start files (deed_called t call r ∷ w) (scene_after s t call r)
   call-shows t call r seat = go (is_logged r)
     where
-      go : (b : Bool) → Shows start files (cond b (Logged (record { seat = record { 0 = t }; call = call; reply = r })) (PassedOver t call) ∷ w) (record {
-        story = cond b (logged s.story t call r) s.story;
-        raw = cond b (raw_called call s.raw) s.raw;
-        stages = with_changed s.stages t (cond b (stage_called (λ l. nat_lt (shares_of s.raw t l) (num t l s.story.history)) call) (stage_passed call));
-      })
+      go : (b : Bool) → Shows start files
+          (cond b (Logged (record { seat = record { 0 = t }; call = call; reply = r }))
+          (PassedOver t call) ∷ w) (record {
+            story = cond b (logged s.story t call r) s.story;
+            raw = cond b (raw_called call s.raw) s.raw;
+            stages =
+                with_changed s.stages t (cond b
+                (stage_called (λ l. nat_lt (shares_of s.raw t l) (num t l s.story.history)) call)
+                (stage_passed call));
+          })
       go true = record {
         begun = shown.begun;
         logs = ap (λ h. record { seat = record { 0 = t }; call = call; reply = r } ∷ h) shown.logs;
         named = shown.named;
-        locks = length-called start (record { seat = record { 0 = t }; call = call; reply = r }) (log_of w) s.raw shown.locks;
-        had = λ u l. ap (λ (k : RawLock). shares_among u k.holders) (raw-called call s.raw l) ∙ shown.had u l;
-        modes = λ u l some. ap (λ (k : RawLock). k.mode) (raw-called call s.raw l) ∙ shown.modes u l some;
-        tidy = λ l. subst (λ (k : RawLock). IsTidy k.holders) (sym (raw-called call s.raw l)) (shown.tidy l);
+        locks =
+            length-called start (record { seat = record { 0 = t }; call = call; reply = r })
+            (log_of w) s.raw shown.locks;
+        had =
+            λ u l. ap (λ (k : RawLock). shares_among u k.holders) (raw-called call s.raw l)
+            ∙ shown.had u l;
+        modes =
+            λ u l some. ap (λ (k : RawLock). k.mode) (raw-called call s.raw l)
+            ∙ shown.modes u l some;
+        tidy =
+            λ l. subst (λ (k : RawLock). IsTidy k.holders) (sym (raw-called call s.raw l))
+            (shown.tidy l);
         stages = stages-after (Logged (record { seat = record { 0 = t }; call = call; reply = r }))
-            (stage_called (λ l. nat_lt (shares_of s.raw t l) (num t l s.story.history)) call) seat (stage-called t call);
-        seats = seats-after t (stage_called (λ l. nat_lt (shares_of s.raw t l) (num t l s.story.history)) call);
+            (stage_called (λ l. nat_lt (shares_of s.raw t l) (num t l s.story.history)) call) seat
+            (stage-called t call);
+        seats =
+            seats-after t (stage_called (λ l. nat_lt (shares_of s.raw t l)
+            (num t l s.story.history)) call);
       }
       go false = record {
         begun = shown.begun;

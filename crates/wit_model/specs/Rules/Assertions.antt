@@ -1,24 +1,31 @@
--- What a program asserts of a lock: witness_assert of witness(4), whose panics are answers here. An assertion isn't logged.
-use Rattle.std.specs.Prelude.{ℕ, ◌+◌, Bool, not, ◌&&◌, ◌||◌, ◌==◌, nat_lt, [], ◌∷◌, Option, None, Some, Result, Ok, if◌then◌else◌}
+-- What a program asserts of a lock: witness_assert of witness(4), whose panics are answers here. An
+-- assertion isn't logged.
+use Rattle.std.specs.Prelude.{ℕ, ◌+◌, Bool, not, ◌&&◌, ◌||◌, ◌==◌, nat_lt, [], ◌∷◌, Option, None}
+use Rattle.std.specs.Prelude.{Some, Result, Ok, if◌then◌else◌}
 use Rattle.std.specs.List.{list_any}
 use Rattle.wit_model.specs.declared.faults.Fault.{Fault}
 use Rattle.wit_model.specs.declared.locks.Watch.{Watch}
 use Rattle.wit_model.specs.declared.locks.Instance.{Instance}
 use Rattle.wit_model.specs.declared.flags.LockAssert.{LockAssert}
 use Rattle.wit_model.specs.declared.assertions.AssertAnswer.{AssertAnswer}
-use Rattle.wit_model.specs.declared.assertions.AssertAnswer.TheVariants.{Holds, Skipped, Invalid, IsLocked, IsNotLocked, IsNotExclusive, IsExclusive, IsNotRecursed, IsRecursed}
+use Rattle.wit_model.specs.declared.assertions.AssertAnswer.TheVariants.{Holds, Skipped, Invalid}
+use Rattle.wit_model.specs.declared.assertions.AssertAnswer.TheVariants.{IsLocked, IsNotLocked}
+use Rattle.wit_model.specs.declared.assertions.AssertAnswer.TheVariants.{IsNotExclusive}
+use Rattle.wit_model.specs.declared.assertions.AssertAnswer.TheVariants.{IsExclusive, IsNotRecursed}
+use Rattle.wit_model.specs.declared.assertions.AssertAnswer.TheVariants.{IsRecursed}
 use Rattle.wit_model.specs.Rules.Locks.{has_flag}
 use Rattle.wit_model.specs.Rules.History.{is_on}
 use Rattle.wit_model.specs.Rules.State.{State}
 use Rattle.wit_model.specs.Rules.Verdict.{is_exclusive}
 use Rattle.wit_model.specs.Rules.Questions.{about_lock, held_by}
 
--- the flags of this set, alone or with one that says how often the lock is acquired (0x10 more than once, 0x20 once)
+-- the flags of this set, alone or with one that says how often the lock is acquired (0x10 more than
+-- once, 0x20 once)
 abbrev pub is_with_count : ℕ → ℕ → Bool
 is_with_count flags holds = (flags == holds) || (flags == holds + 0x10) || (flags == holds + 0x20)
 
--- the sets of flags that an assertion may have: the lock isn't held (0x01); or it is held (0x02), held shared (0x04) or held exclusively
--- (0x08), and perhaps how often
+-- the sets of flags that an assertion may have: the lock isn't held (0x01); or it is held (0x02),
+-- held shared (0x04) or held exclusively (0x08), and perhaps how often
 abbrev pub is_assertion : ℕ → Bool
 is_assertion flags = (flags == 0x01) || list_any (is_with_count flags) (0x02 ∷ 0x04 ∷ 0x08 ∷ [])
 

@@ -1,6 +1,7 @@
--- Lists of held locks in chunks, as their callers see them. Each list is held in groups, and each group lies in a chunk of its own. The
--- lists are counted from 1.
-use Rattle.std.specs.Prelude.{ℕ, ◌+◌, ◌-◌, ◌*◌, ◌<◌, ◌≡◌, ◌==◌, Bool, ◌&&◌, List, [], ◌∷◌, ◌++◌, length, map, nat_lt, replicate}
+-- Lists of held locks in chunks, as their callers see them. Each list is held in groups, and each
+-- group lies in a chunk of its own. The lists are counted from 1.
+use Rattle.std.specs.Prelude.{ℕ, ◌+◌, ◌-◌, ◌*◌, ◌<◌, ◌≡◌, ◌==◌, Bool, ◌&&◌, List, [], ◌∷◌, ◌++◌}
+use Rattle.std.specs.Prelude.{length, map, nat_lt, replicate}
 use Rattle.std.specs.Prelude.{slice_get, slice_set, Option, Some, None, if◌then◌else◌}
 use Rattle.std.specs.List.{slice_index_or, sum_by, concat}
 use Rattle.wit_model.specs.declared.chunks.Spot.{Spot}
@@ -8,7 +9,8 @@ use Rattle.wit_model.specs.declared.locks.Instance.{Instance}
 use Rattle.wit_model.specs.Rules.Numbers.{IsGiven}
 use Rattle.wit_model.specs.Rules.Groups.{flat, joined, opens}
 
--- how many chunks there are, numbered from 0; each list's groups, oldest first; the chunk of each of these groups; and the free chunks
+-- how many chunks there are, numbered from 0; each list's groups, oldest first; the chunk of each
+-- of these groups; and the free chunks
 pub record Chunks : Type 0 where
   pub size : ℕ
   pub groups : List (List (List Instance))
@@ -66,15 +68,16 @@ is_refused c list = opens (groups_of c list) && (length c.unused == 0)
 
 -- all groups, once one more was taken in, or refused
 abbrev pub pushed : Chunks → ℕ → Instance → List (List (List Instance))
-pushed c list i = if is_refused c list then c.groups else set_groups c list (joined i (groups_of c list))
+pushed c list i =
+    if is_refused c list then c.groups else set_groups c list (joined i (groups_of c list))
 
 -- how often a number stands in a list
 abbrev pub times : ℕ → List ℕ → ℕ
 times p [] = 0
 times p (q ∷ qs) = if q == p then times p qs + 1 else times p qs
 
--- each list has a chunk for each of its groups; in all lists and the free list together each chunk stands once, and nothing else; so
--- the groups and the free chunks are as many as there are chunks
+-- each list has a chunk for each of its groups; in all lists and the free list together each chunk
+-- stands once, and nothing else; so the groups and the free chunks are as many as there are chunks
 pub record IsPlaced (c : Chunks) : Type 0 where
   pub lists : map length c.places ≡ map length c.groups
   pub once : (p : ℕ) → times p (concat c.places ++ c.unused) ≡ if nat_lt p c.size then 1 else 0

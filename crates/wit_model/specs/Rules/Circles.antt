@@ -1,5 +1,7 @@
--- Circles of seats that wait for one another: a deadlock, where each waits for what the next one holds.
-use Rattle.std.specs.Prelude.{ℕ, ◌≡◌, Bool, true, false, not, ◌&&◌, ◌||◌, ◌==◌, nat_le, List, [], ◌∷◌, Option, None, Some, is_none, map}
+-- Circles of seats that wait for one another: a deadlock, where each waits for what the next one
+-- holds.
+use Rattle.std.specs.Prelude.{ℕ, ◌≡◌, Bool, true, false, not, ◌&&◌, ◌||◌, ◌==◌, nat_le, List, []}
+use Rattle.std.specs.Prelude.{◌∷◌, Option, None, Some, is_none, map}
 use Rattle.std.specs.Global.{Vec}
 use Rattle.std.specs.List.{list_all}
 use Rattle.std.specs.Option.{option_map}
@@ -35,10 +37,12 @@ abbrev pub is_barred : Mode → Option Instance → Bool
 is_barred mode None = false
 is_barred mode (Some i) = is_exclusive i.mode || is_exclusive mode
 
--- whether seat t, with this request, waits for seat u: it doesn't hold the lock that it asks for, and u, another seat, bars it from it
+-- whether seat t, with this request, waits for seat u: it doesn't hold the lock that it asks for,
+-- and u, another seat, bars it from it
 abbrev pub is_kept_by : State → ℕ → ℕ → Option Request → Bool
 is_kept_by s t u None = false
-is_kept_by s t u (Some q) = is_none (held_by s t q.lock.0) && (not (u == t) && is_barred q.mode (held_by s u q.lock.0))
+is_kept_by s t u (Some q) =
+    is_none (held_by s t q.lock.0) && (not (u == t) && is_barred q.mode (held_by s u q.lock.0))
 
 -- whether t waits for u by the record
 abbrev pub waits_for : State → ℕ → ℕ → Bool
@@ -51,7 +55,8 @@ Waits s t u = waits_for s t u ≡ true
 abbrev pub IsRecordCircle : State → List ℕ → Type 0
 IsRecordCircle s seats = IsCircle (Waits s) seats
 
--- what can be told of circles: one that starts with its least seat, or none exactly where there is none
+-- what can be told of circles: one that starts with its least seat, or none exactly where there is
+-- none
 abbrev pub TellsCircle : State → Option (List ℕ) → Type 0
 TellsCircle s None = (seats : List ℕ) → IsRecordCircle s seats → ⊥
 TellsCircle s (Some seats) = IsRecordCircle s seats × (starts_with_least seats ≡ true)

@@ -17,7 +17,8 @@ use Rattle.wit_model.specs.Rules.Circles.{IsRecordCircle}
 
 -- Giant is the mutex of that type (locking(9))
 abbrev pub is_giant_lock : NewLock → Bool
-is_giant_lock lock = is_same_class lock.class SleepMutex && bytes_eq (type_name_of lock) (codes "Giant")
+is_giant_lock lock =
+    is_same_class lock.class SleepMutex && bytes_eq (type_name_of lock) (codes "Giant")
 
 -- whether locks may be acquired by a try: the orders behind such a lock are learnt once all held
 -- locks are compared with
@@ -25,8 +26,9 @@ abbrev pub allows_tries : Profile → Bool
 allows_tries Plain = false
 allows_tries AllHeld = true
 
--- no lock is Giant or allows a second one of its type (0x02); each check may teach an order (0x01) and allows no second lock of a type
--- (0x02); nothing is tried, unless the profile allows it; and everything is watched
+-- no lock is Giant or allows a second one of its type (0x02); each check may teach an order (0x01)
+-- and allows no second lock of a type (0x02); nothing is tried, unless the profile allows it; and
+-- everything is watched
 abbrev pub is_clean_call : Profile → Call → Bool
 is_clean_call profile (Init lock) = not (has_flag lock.flags.0 0x02) && not (is_giant_lock lock)
 is_clean_call profile (Check q) = has_flag q.ops.0 0x01 && not (has_flag q.ops.0 0x02)
@@ -41,6 +43,8 @@ is_clean_entry profile e = is_clean_call profile e.call && not (is_report e.repl
 abbrev pub is_clean : Profile → List Entry → Bool
 is_clean profile h = list_all (is_clean_entry profile) h
 
--- where a story's history is clean, and it blesses no pair, no seats wait for one another in a circle
+-- where a story's history is clean, and it blesses no pair, no seats wait for one another in a
+-- circle
 abbrev pub CleanMeansNoCircle : Story → Type 0
-CleanMeansNoCircle s = s.start.blessed ≡ [] → is_clean s.start.profile s.history ≡ true → (seats : List ℕ) → IsRecordCircle (state_of s) seats → ⊥
+CleanMeansNoCircle s = s.start.blessed ≡ [] → is_clean s.start.profile s.history ≡ true
+    → (seats : List ℕ) → IsRecordCircle (state_of s) seats → ⊥

@@ -1,4 +1,5 @@
--- An order that is defined by a call, without an acquisition: witness_defineorder of subr_witness.c.
+-- An order that is defined by a call, without an acquisition: witness_defineorder of
+-- subr_witness.c.
 use Rattle.std.specs.Prelude.{ℕ, Bool, not, ◌&&◌, ◌||◌, ◌==◌, List, Result, Ok, Err, if◌then◌else◌}
 use Rattle.wit_model.specs.declared.faults.Fault.{Fault}
 use Rattle.wit_model.specs.declared.faults.Fault.TheVariants.{WrongOrder, SameType, KindMismatch}
@@ -16,9 +17,11 @@ use Rattle.wit_model.specs.Rules.Questions.{about_lock, before_naming, with_room
 -- whether one type is of the spin kind and the other of the sleep kind
 abbrev pub are_of_two_kinds : List LockType → TypeNo → TypeNo → Bool
 are_of_two_kinds types a b =
-    (is_spin (class_of a.0 types) && not (is_spin (class_of b.0 types))) || (not (is_spin (class_of a.0 types)) && is_spin (class_of b.0 types))
+    (is_spin (class_of a.0 types) && not (is_spin (class_of b.0 types)))
+    || (not (is_spin (class_of a.0 types)) && is_spin (class_of b.0 types))
 
--- the answer to the defining of an order between two types, the first to be before the second, where these types and orders are known
+-- the answer to the defining of an order between two types, the first to be before the second,
+-- where these types and orders are known
 abbrev pub defining : List LockType → List Adoption → TypeNo → TypeNo → Result Reply Fault
 defining types orders a b =
     if are_of_two_kinds types a b then Err KindMismatch

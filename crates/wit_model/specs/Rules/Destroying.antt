@@ -1,4 +1,5 @@
--- A lock that is destroyed: its number, name and type stay for texts, and so do the orders of its type; no call may name it any more.
+-- A lock that is destroyed: its number, name and type stay for texts, and so do the orders of its
+-- type; no call may name it any more.
 use Rattle.std.specs.Prelude.{ℕ, Bool, not, ◌||◌, Result, Ok, Err, if◌then◌else◌}
 use Rattle.std.specs.List.{list_any}
 use Rattle.wit_model.specs.declared.faults.Fault.{Fault}

@@ -1,7 +1,20 @@
 -- The texts of the faults.
 use Rattle.std.specs.Prelude.{ℕ, List, codes}
 use Rattle.wit_model.specs.declared.faults.Fault.{Fault}
-use Rattle.wit_model.specs.declared.faults.Fault.TheVariants.{UnknownSeat, UnknownLock, ClassMismatch, TypesFull, LocksFull, SleepUnderSpin, SharedOfExclusive, ExclusiveOfShared, Recursed, RecursionTooDeep, NotLocked, SharedUnlock, ExclusiveUnlock, ForbiddenUnlock, NotUpgradable, UpgradeOfExclusive, UpgradeRecursed, DowngradeOfShared, DowngradeRecursed, WrongOrder, SameType, KindMismatch, Busy, Pending, NotRequested, LogFull, OutOfMemory, GateRefused, BadName, WatchOff, ModeNotAllowed, FilesFull, UnknownFile, RawNotFree, StepOrder}
+use Rattle.wit_model.specs.declared.faults.Fault.TheVariants.{UnknownSeat, UnknownLock}
+use Rattle.wit_model.specs.declared.faults.Fault.TheVariants.{ClassMismatch, TypesFull, LocksFull}
+use Rattle.wit_model.specs.declared.faults.Fault.TheVariants.{SleepUnderSpin, SharedOfExclusive}
+use Rattle.wit_model.specs.declared.faults.Fault.TheVariants.{ExclusiveOfShared, Recursed}
+use Rattle.wit_model.specs.declared.faults.Fault.TheVariants.{RecursionTooDeep, NotLocked}
+use Rattle.wit_model.specs.declared.faults.Fault.TheVariants.{SharedUnlock, ExclusiveUnlock}
+use Rattle.wit_model.specs.declared.faults.Fault.TheVariants.{ForbiddenUnlock, NotUpgradable}
+use Rattle.wit_model.specs.declared.faults.Fault.TheVariants.{UpgradeOfExclusive, UpgradeRecursed}
+use Rattle.wit_model.specs.declared.faults.Fault.TheVariants.{DowngradeOfShared, DowngradeRecursed}
+use Rattle.wit_model.specs.declared.faults.Fault.TheVariants.{WrongOrder, SameType, KindMismatch}
+use Rattle.wit_model.specs.declared.faults.Fault.TheVariants.{Busy, Pending, NotRequested, LogFull}
+use Rattle.wit_model.specs.declared.faults.Fault.TheVariants.{OutOfMemory, GateRefused, BadName}
+use Rattle.wit_model.specs.declared.faults.Fault.TheVariants.{WatchOff, ModeNotAllowed, FilesFull}
+use Rattle.wit_model.specs.declared.faults.Fault.TheVariants.{UnknownFile, RawNotFree, StepOrder}
 
 -- a fault's number and name
 abbrev pub fault_text : Fault → List ℕ

@@ -1,5 +1,6 @@
 -- Source files, by number from 1 in order of first appearance.
-use Rattle.std.specs.Prelude.{ℕ, ◌+◌, ◌≡◌, Bool, false, not, ◌&&◌, List, [], ◌∷◌, ◌++◌, length, nat_le, Result, Ok, Err, if◌then◌else◌}
+use Rattle.std.specs.Prelude.{ℕ, ◌+◌, ◌≡◌, Bool, false, not, ◌&&◌, List, [], ◌∷◌, ◌++◌, length}
+use Rattle.std.specs.Prelude.{nat_le, Result, Ok, Err, if◌then◌else◌}
 use Rattle.std.specs.List.{list_any, position_or_len}
 use Rattle.std.specs.Str.{bytes_eq}
 use Rattle.wit_model.specs.declared.faults.Fault.{Fault}
@@ -17,7 +18,8 @@ is_known_file name files = list_any (λ (f : List ℕ). bytes_eq f name) files
 abbrev pub file_number : List ℕ → List (List ℕ) → ℕ
 file_number name files = position_or_len (λ (f : List ℕ). bytes_eq f name) files + 1
 
--- the answer to the naming of a file, want of memory aside: a known file gives its number also where no number is left
+-- the answer to the naming of a file, want of memory aside: a known file gives its number also
+-- where no number is left
 abbrev pub file_answer : List ℕ → ℕ → List (List ℕ) → Result ℕ Fault
 file_answer name most files =
     if not (is_file_name name) then Err BadName
@@ -32,9 +34,11 @@ files_after name files = if is_known_file name files then files else files ++ na
 abbrev pub naming_answer : Story → List ℕ → Result ℕ Fault
 naming_answer story name = file_answer name 65535 story.files
 
--- naming a file adds it where it is new and changes nothing else; a refusal changes nothing, and a known file isn't refused for want of
--- memory
+-- naming a file adds it where it is new and changes nothing else; a refusal changes nothing, and a
+-- known file isn't refused for want of memory
 abbrev pub NamesFile : Story → List ℕ → Result FileNo Fault → Story → Type 0
-NamesFile old name (Ok f) new = (naming_answer old name ≡ Ok f.0) × (new ≡ record old { files = files_after name old.files })
+NamesFile old name (Ok f) new =
+    (naming_answer old name ≡ Ok f.0) × (new ≡ record old { files = files_after name old.files })
 NamesFile old name (Err fault) new =
-    IsRefusal (naming_answer old name) fault × (fault ≡ OutOfMemory → is_known_file name old.files ≡ false) × (new ≡ old)
+    IsRefusal (naming_answer old name) fault
+    × (fault ≡ OutOfMemory → is_known_file name old.files ≡ false) × (new ≡ old)

@@ -1,6 +1,7 @@
--- Held locks in groups, oldest first, as the chunks of a list of held locks in subr_witness.c: each group has room for five. These words
--- are the same for lock numbers and for whole instances.
-use Rattle.std.specs.Prelude.{ℕ, ◌-◌, ◌≤◌, Bool, true, not, List, [], ◌∷◌, ◌++◌, length, map, filter, nat_lt, slice_set, if◌then◌else◌}
+-- Held locks in groups, oldest first, as the chunks of a list of held locks in subr_witness.c: each
+-- group has room for five. These words are the same for lock numbers and for whole instances.
+use Rattle.std.specs.Prelude.{ℕ, ◌-◌, ◌≤◌, Bool, true, not, List, [], ◌∷◌, ◌++◌, length, map}
+use Rattle.std.specs.Prelude.{filter, nat_lt, slice_set, if◌then◌else◌}
 use Rattle.std.specs.List.{flat_map, remove, slice_index_or}
 use Rattle.wit_model.specs.declared.chunks.TheConstants.{CHUNK}
 
@@ -40,7 +41,8 @@ left stays gs = tidied (map (filter stays) gs)
 -- the groups where the one at this place, counted from the oldest, is edited within its group
 abbrev pub edited_at : {X : Type 0} → (ℕ → List X → List X) → ℕ → List (List X) → List (List X)
 edited_at edit i [] = []
-edited_at edit i (g ∷ gs) = if nat_lt i (length g) then edit i g ∷ gs else g ∷ edited_at edit (i - length g) gs
+edited_at edit i (g ∷ gs) =
+    if nat_lt i (length g) then edit i g ∷ gs else g ∷ edited_at edit (i - length g) gs
 
 -- another one stands at this place
 abbrev pub replaced_at : {X : Type 0} → ℕ → X → List (List X) → List (List X)

@@ -1,6 +1,9 @@
--- What a seat holds after a history, by counting. A history is newest entry first: a cons is the next call.
--- One definition, `act`, says what an entry does to the locks that its seat holds, and it alone knows the calls.
-use Rattle.std.specs.Prelude.{ℕ, ◌-◌, Bool, true, false, not, ◌&&◌, ◌==◌, nat_lt, List, [], ◌∷◌, ◌++◌, Option, None, Some, map, filter, length, count_by, if◌then◌else◌}
+-- What a seat holds after a history, by counting. A history is newest entry first: a cons is the
+-- next call. One definition, `act`, says what an entry does to the locks that its seat holds, and
+-- it alone knows the calls.
+use Rattle.std.specs.Prelude.{ℕ, ◌-◌, Bool, true, false, not, ◌&&◌, ◌==◌, nat_lt, List, [], ◌∷◌}
+use Rattle.std.specs.Prelude.{◌++◌, Option, None, Some, map, filter, length, count_by}
+use Rattle.std.specs.Prelude.{if◌then◌else◌}
 use Rattle.wit_model.specs.declared.locks.Mode.{Mode}
 use Rattle.wit_model.specs.declared.locks.Mode.TheVariants.{Shared, Exclusive}
 use Rattle.wit_model.specs.declared.locks.Watch.{Watch}
@@ -8,9 +11,12 @@ use Rattle.wit_model.specs.declared.locks.Watch.TheVariants.{Off, On}
 use Rattle.wit_model.specs.declared.locks.Site.{Site}
 use Rattle.wit_model.specs.declared.locks.Instance.{Instance}
 use Rattle.wit_model.specs.declared.calls.Call.{Call}
-use Rattle.wit_model.specs.declared.calls.Call.TheVariants.{Check, Note, NoteTry, GiveUp, Unlock, SetWatch, Upgrade, Downgrade, NoRelease, ReleaseOk}
+use Rattle.wit_model.specs.declared.calls.Call.TheVariants.{Check, Note, NoteTry, GiveUp, Unlock}
+use Rattle.wit_model.specs.declared.calls.Call.TheVariants.{SetWatch, Upgrade, Downgrade, NoRelease}
+use Rattle.wit_model.specs.declared.calls.Call.TheVariants.{ReleaseOk}
 use Rattle.wit_model.specs.declared.calls.Reply.{Reply}
-use Rattle.wit_model.specs.declared.calls.Reply.TheVariants.{Done, Reversal, Duplicate, Recorded, Exhausted, Unlocked}
+use Rattle.wit_model.specs.declared.calls.Reply.TheVariants.{Done, Reversal, Duplicate, Recorded}
+use Rattle.wit_model.specs.declared.calls.Reply.TheVariants.{Exhausted, Unlocked}
 use Rattle.wit_model.specs.declared.calls.Request.{Request}
 use Rattle.wit_model.specs.declared.calls.Entry.{Entry}
 use Rattle.wit_model.specs.Rules.Locks.{locks_of, is_of_kind}
@@ -97,7 +103,8 @@ asked_site (Note l) (Some q) = q.site
 asked_site (NoteTry l m s) p = s
 asked_site _ _ = no_site
 
--- in which mode lock l is held behind an act, and whether it must not be released, by what it was before
+-- in which mode lock l is held behind an act, and whether it must not be released, by what it was
+-- before
 abbrev pub turned_by : ℕ → Act → Mode → Mode
 turned_by l (Turns m new) old = if m == l then new else old
 turned_by l _ old = old
@@ -109,7 +116,8 @@ marked_by l _ old = old
 -- the mode in which t holds l: that of its place, as turned since
 unfoldable pub mode : ℕ → ℕ → List Entry → Mode
 mode t l [] = Exclusive
-mode t l (e ∷ h) = if rises t l e h then asked_mode e.call (pending t h) else turned_by l (act_by t e) (mode t l h)
+mode t l (e ∷ h) =
+    if rises t l e h then asked_mode e.call (pending t h) else turned_by l (act_by t e) (mode t l h)
 
 -- whether l must not be released: as marked since its place
 unfoldable pub mark : ℕ → ℕ → List Entry → Bool
@@ -124,7 +132,13 @@ site t l (e ∷ h) = if records t l e then asked_site e.call (pending t h) else 
 -- l as t holds it
 abbrev pub instance : ℕ → List Entry → ℕ → Instance
 instance t h l =
-    record { lock = record { 0 = l }; mode = mode t l h; norelease = mark t l h; count = num t l h - 1; site = site t l h }
+    record {
+      lock = record { 0 = l };
+      mode = mode t l h;
+      norelease = mark t l h;
+      count = num t l h - 1;
+      site = site t l h;
+    }
 
 -- the lock that this act records, where t holds it after h and its place is i
 abbrev pub recorded_at : ℕ → List Entry → Act → ℕ → List ℕ
@@ -156,7 +170,8 @@ abbrev pub is_off : Watch → Bool
 is_off Off = true
 is_off _ = false
 
--- how much is watched: everything, until a call sets another level; nothing, once the chunks were exhausted
+-- how much is watched: everything, until a call sets another level; nothing, once the chunks were
+-- exhausted
 abbrev pub watch_after : Call → Reply → Watch → Watch
 watch_after (SetWatch level) reply watch = level
 watch_after call Exhausted watch = Off

@@ -56,7 +56,8 @@ is_of_kind false locks l = not (is_spin_lock locks l)
 
 -- what a call adds to the locks, where these are the types before it
 abbrev pub made_among : List LockType → Call → List Lock
-made_among types (Init lock) = record { type_no = record { 0 = type_number (type_name_of lock) types }; made = lock } ∷ []
+made_among types (Init lock) =
+    record { type_no = record { 0 = type_number (type_name_of lock) types }; made = lock } ∷ []
 made_among types _ = []
 
 -- stands for a lock that was never made

@@ -1,5 +1,6 @@
 -- Numbers of what stands in a list: the first has number 1, and none has number 0.
-use Rattle.std.specs.Prelude.{ℕ, ◌-◌, ◌<◌, ◌≤◌, Bool, ◌&&◌, nat_lt, nat_le, List, length, slice_get, slice_set, Option, None, if◌then◌else◌}
+use Rattle.std.specs.Prelude.{ℕ, ◌-◌, ◌<◌, ◌≤◌, Bool, ◌&&◌, nat_lt, nat_le, List, length, slice_get}
+use Rattle.std.specs.Prelude.{slice_set, Option, None, if◌then◌else◌}
 
 -- whether n is one of the numbers from 1 to most
 abbrev pub is_number : ℕ → ℕ → Bool

@@ -1,6 +1,7 @@
--- Orders between lock types: witness "keeps track of the order in which locks are acquired with respect to each other" (witness(4)).
--- Lists of adoptions are newest first.
-use Rattle.std.specs.Prelude.{ℕ, ◌+◌, ◌≡◌, map, reverse, Bool, true, false, ◌&&◌, ◌||◌, ◌==◌, List, [], ◌∷◌, ◌++◌, Option, find, if◌then◌else◌}
+-- Orders between lock types: witness "keeps track of the order in which locks are acquired with
+-- respect to each other" (witness(4)). Lists of adoptions are newest first.
+use Rattle.std.specs.Prelude.{ℕ, ◌+◌, ◌≡◌, map, reverse, Bool, true, false, ◌&&◌, ◌||◌, ◌==◌, List}
+use Rattle.std.specs.Prelude.{[], ◌∷◌, ◌++◌, Option, find, if◌then◌else◌}
 use Rattle.std.specs.List.{list_any}
 use Rattle.std.specs.Option.{option_map}
 use Rattle.wit_model.specs.declared.locks.Origin.{Origin}
@@ -41,7 +42,8 @@ abbrev pub is_before : List Adoption → ℕ → ℕ → Bool
 is_before [] a b = false
 is_before (o ∷ orders) a b =
     is_before orders a b
-    || (((o.parent.0 == a) || is_before orders a o.parent.0) && ((o.child.0 == b) || is_before orders o.child.0 b))
+    || (((o.parent.0 == a) || is_before orders a o.parent.0)
+    && ((o.child.0 == b) || is_before orders o.child.0 b))
 
 -- no order stands twice: each was new when it was adopted
 abbrev pub AreDistinct : List Adoption → Type 0
@@ -66,11 +68,12 @@ found_once a b pairs = if is_found pairs a.0 b.0 then pairs else (a, b) ∷ pair
 abbrev bit : ℕ → Bool → ℕ
 bit value b = if b then value else 0
 
--- the relation of a row's type to a column's, as the bits of subr_witness.c's matrix: 0x01 parent, 0x02 ancestor,
--- 0x04 child, 0x08 descendant, 0x10 found in a reversal
+-- the relation of a row's type to a column's, as the bits of subr_witness.c's matrix: 0x01 parent,
+-- 0x02 ancestor, 0x04 child, 0x08 descendant, 0x10 found in a reversal
 abbrev pub cell : List Adoption → List (TypeNo × TypeNo) → ℕ → ℕ → ℕ
 cell orders found i j =
-    bit 0x01 (is_direct orders i j) + bit 0x02 (is_before orders i j) + bit 0x04 (is_direct orders j i) + bit 0x08 (is_before orders j i)
+    bit 0x01 (is_direct orders i j) + bit 0x02 (is_before orders i j)
+    + bit 0x04 (is_direct orders j i) + bit 0x08 (is_before orders j i)
     + bit 0x10 (is_found found i j)
 
 -- the orders once (p, c) is adopted: a direct order stays as it is
@@ -84,13 +87,16 @@ abbrev pub listed_pairs : List LockType → List (Class × List ℕ) → List Ad
 listed_pairs types [] orders = orders
 listed_pairs types (a ∷ []) orders = orders
 listed_pairs types (a ∷ b ∷ list) orders =
-    listed_pairs types (b ∷ list) (adopted_once (type_number a.1 types) (type_number b.1 types) Listed orders)
+    listed_pairs types (b ∷ list)
+    (adopted_once (type_number a.1 types) (type_number b.1 types) Listed orders)
 
 -- the orders of static lists, each list entered behind those before it
-abbrev pub listed_orders : List (List (Class × List ℕ)) → List LockType → List Adoption → List Adoption
+abbrev pub listed_orders : List (List (Class × List ℕ)) → List LockType → List Adoption
+    → List Adoption
 listed_orders [] types orders = orders
 listed_orders (list ∷ lists) types orders =
-    listed_orders lists (enrolled_all list types) (listed_pairs (enrolled_all list types) list orders)
+    listed_orders lists (enrolled_all list types)
+    (listed_pairs (enrolled_all list types) list orders)
 
 -- the order of these types, as a request at this place teaches it
 abbrev pub taught_at : Site → TypeNo × TypeNo → Adoption

@@ -17,9 +17,11 @@ IsPreparable _ = ⊥
 abbrev pub prepared : Story → ℕ → Call → Reply → Story
 prepared s t call reply = if is_logged reply then record s { ready = Some (t, call) } else s
 
--- a call is told the answer that it would get, and is prepared; or it is refused as the call itself would be, and nothing changes
+-- a call is told the answer that it would get, and is prepared; or it is refused as the call itself
+-- would be, and nothing changes
 abbrev pub Prepares : Story → ℕ → Call → Result Reply Fault → Story → Type 0
-Prepares old t call (Ok reply) new = (answer_of old t call ≡ Ok reply) × (new ≡ prepared old t call reply)
+Prepares old t call (Ok reply) new =
+    (answer_of old t call ≡ Ok reply) × (new ≡ prepared old t call reply)
 Prepares old t call (Err fault) new = AnswersOrFails old t call (Err fault) new
 
 -- this call of the seat is prepared

@@ -1,7 +1,10 @@
--- What an answer asks of the state: the lock, the seat's hold of it, its request, and room in the log.
-use Rattle.std.specs.Prelude.{ℕ, Bool, false, not, ◌==◌, List, Option, None, Some, Result, Ok, Err, find, is_some, if◌then◌else◌}
+-- What an answer asks of the state: the lock, the seat's hold of it, its request, and room in the
+-- log.
+use Rattle.std.specs.Prelude.{ℕ, Bool, false, not, ◌==◌, List, Option, None, Some, Result, Ok, Err}
+use Rattle.std.specs.Prelude.{find, is_some, if◌then◌else◌}
 use Rattle.wit_model.specs.declared.faults.Fault.{Fault}
-use Rattle.wit_model.specs.declared.faults.Fault.TheVariants.{UnknownSeat, UnknownLock, Pending, NotRequested, LogFull}
+use Rattle.wit_model.specs.declared.faults.Fault.TheVariants.{UnknownSeat, UnknownLock, Pending}
+use Rattle.wit_model.specs.declared.faults.Fault.TheVariants.{NotRequested, LogFull}
 use Rattle.wit_model.specs.declared.locks.Class.{Class}
 use Rattle.wit_model.specs.declared.locks.Instance.{Instance}
 use Rattle.wit_model.specs.declared.calls.Request.{Request}
@@ -54,9 +57,11 @@ before_naming s t l rest = about_lock s t l (if is_pending s t then Err Pending 
 
 -- and that answers the seat's request for the lock
 abbrev pub before_answering : State → ℕ → ℕ → Result Reply Fault → Result Reply Fault
-before_answering s t l rest = about_lock s t l (if not (is_for l (seat_at s t).pending) then Err NotRequested else rest)
+before_answering s t l rest =
+    about_lock s t l (if not (is_for l (seat_at s t).pending) then Err NotRequested else rest)
 
--- an answer that isn't a fault needs room for this many entries: the call's own and those that must be able to follow it
+-- an answer that isn't a fault needs room for this many entries: the call's own and those that must
+-- be able to follow it
 abbrev pub with_room : State → ℕ → Result Reply Fault → Result Reply Fault
 with_room s n (Err fault) = Err fault
 with_room s n (Ok reply) = if has_room s n then Ok reply else Err LogFull

@@ -1,5 +1,6 @@
 -- Chunks by number: what each holds, beside the numbers of each list's chunks, and the free ones.
-use Rattle.std.specs.Prelude.{ℕ, ◌+◌, ◌<◌, ◌≡◌, ◌≤◌, ◌++◌, List, [], map, length, nat_lt, if◌then◌else◌}
+use Rattle.std.specs.Prelude.{ℕ, ◌+◌, ◌<◌, ◌≡◌, ◌≤◌, ◌++◌, List, [], map, length, nat_lt}
+use Rattle.std.specs.Prelude.{if◌then◌else◌}
 use Rattle.std.specs.List.{All, concat, slice_index_or}
 use Rattle.wit_model.specs.declared.chunks.TheConstants.{CHUNK}
 use Rattle.wit_model.specs.declared.locks.Instance.{Instance}
@@ -26,10 +27,17 @@ pub record ArePlaced (size : ℕ) (lists : List (List ℕ)) (unused : List ℕ) 
 -- what callers see
 abbrev pub shown_chunks : List (List Instance) → List (List ℕ) → List ℕ → Chunks
 shown_chunks rows lists unused =
-    record { size = length rows; groups = map (groups_at rows) lists; places = lists; unused = unused }
+    record {
+      size = length rows;
+      groups = map (groups_at rows) lists;
+      places = lists;
+      unused = unused;
+    }
 
--- each chunk stands once and holds five at most, the free ones are empty, and no group is empty unless it is its list's only one
-pub record AreSettled (rows : List (List Instance)) (lists : List (List ℕ)) (unused : List ℕ) : Type 0 where
+-- each chunk stands once and holds five at most, the free ones are empty, and no group is empty
+-- unless it is its list's only one
+pub record AreSettled (rows : List (List Instance)) (lists : List (List ℕ))
+    (unused : List ℕ) : Type 0 where
   pub placed : ArePlaced (length rows) lists unused
   pub few : length rows ≤ 65536
   pub short : All (λ (g : List Instance). length g ≤ CHUNK) rows

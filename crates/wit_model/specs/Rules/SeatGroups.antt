@@ -1,4 +1,5 @@
--- The groups in which the locks of one kind that a seat holds lie after a history. A history is newest entry first: a cons is the next call.
+-- The groups in which the locks of one kind that a seat holds lie after a history. A history is
+-- newest entry first: a cons is the next call.
 use Rattle.std.specs.Prelude.{ℕ, Bool, not, ◌&&◌, ◌==◌, List, [], ◌∷◌, map, if◌then◌else◌}
 use Rattle.wit_model.specs.declared.locks.Instance.{Instance}
 use Rattle.wit_model.specs.declared.calls.Entry.{Entry}
@@ -12,8 +13,10 @@ falls t l e h = is_held t l h && not (is_held t l (e ∷ h))
 
 -- a lock of this kind that becomes held joins the groups, and one that stops being held leaves them
 abbrev pub regrouped : Bool → ℕ → Act → Entry → List Entry → List (List ℕ) → List (List ℕ)
-regrouped kind t (Records l) e h gs = if is_of_kind kind (locks_of h) l && rises t l e h then joined l gs else gs
-regrouped kind t (Releases l) e h gs = if is_of_kind kind (locks_of h) l && falls t l e h then left (λ m. not (m == l)) gs else gs
+regrouped kind t (Records l) e h gs =
+    if is_of_kind kind (locks_of h) l && rises t l e h then joined l gs else gs
+regrouped kind t (Releases l) e h gs =
+    if is_of_kind kind (locks_of h) l && falls t l e h then left (λ m. not (m == l)) gs else gs
 regrouped kind t _ e h gs = gs
 
 -- the groups of a seat's held locks of one kind, oldest first

@@ -24,4 +24,6 @@ pub record AreWithinLimits (s : Sizes) : Type 0 where
 
 -- the test for it
 abbrev pub are_within_limits : Sizes → Bool
-are_within_limits s = is_number 256 s.seats && (is_number 1023 s.types && (is_number 65536 s.locks && (is_number 65536 s.chunks && is_number 16777216 s.log)))
+are_within_limits s =
+    is_number 256 s.seats && (is_number 1023 s.types
+    && (is_number 65536 s.locks && (is_number 65536 s.chunks && is_number 16777216 s.log)))

@@ -1,5 +1,7 @@
 -- The state of a verifier: what its rules speak of, taken over its history.
-use Rattle.std.specs.Prelude.{ℕ, ◌+◌, ◌-◌, Bool, true, false, not, ◌&&◌, ◌==◌, nat_le, List, [], ◌∷◌, ◌++◌, Option, None, Some, map, length, count_by, unwrap_or, sum_by, if◌then◌else◌}
+use Rattle.std.specs.Prelude.{ℕ, ◌+◌, ◌-◌, Bool, true, false, not, ◌&&◌, ◌==◌, nat_le, List, []}
+use Rattle.std.specs.Prelude.{◌∷◌, ◌++◌, Option, None, Some, map, length, count_by, unwrap_or}
+use Rattle.std.specs.Prelude.{sum_by, if◌then◌else◌}
 use Rattle.std.specs.List.{range_with_len}
 use Rattle.wit_model.specs.declared.profiles.Profile.{Profile}
 use Rattle.wit_model.specs.declared.locks.Class.{Class}
@@ -20,16 +22,17 @@ use Rattle.wit_model.specs.Rules.Orders.{listed_orders, orders_from, found_once}
 use Rattle.wit_model.specs.Rules.History.{chain, pending, watch_of}
 use Rattle.wit_model.specs.Rules.SeatGroups.{seat_groups}
 
--- what a verifier is made with: its sizes, which held locks a request is compared with, static lists of types in
--- order, and pairs of type names that may be taken in either order
+-- what a verifier is made with: its sizes, which held locks a request is compared with, static
+-- lists of types in order, and pairs of type names that may be taken in either order
 pub record Start : Type 0 where
   pub sizes : Sizes
   pub profile : Profile
   pub lists : List (List (Class × List ℕ))
   pub blessed : List (List ℕ × List ℕ)
 
--- a verifier as its callers see it: how it began, its history (newest entry first), the files that were
--- named to it (in the order of their numbers, from 1), and the call of a seat that is prepared, which no rule reads
+-- a verifier as its callers see it: how it began, its history (newest entry first), the files that
+-- were named to it (in the order of their numbers, from 1), and the call of a seat that is
+-- prepared, which no rule reads
 pub record Story : Type 0 where
   pub start : Start
   pub history : List Entry
@@ -40,7 +43,8 @@ pub record Story : Type 0 where
 abbrev pub fresh : Start → Story
 fresh start = record { start = start; history = []; files = []; ready = None }
 
--- what a seat holds, of each kind oldest first, the groups in which these locks lie, and what it has asked for
+-- what a seat holds, of each kind oldest first, the groups in which these locks lie, and what it
+-- has asked for
 pub record Seat : Type 0 where
   pub sleep : List Instance
   pub spin : List Instance
@@ -69,7 +73,8 @@ types_of start h = types_from (listed_types start.lists []) h
 abbrev pub orders_of : Start → List Entry → List Adoption
 orders_of start h = orders_from (listed_orders start.lists [] []) h
 
--- the locks made, oldest first, each with its type's number at the time (numbers stay, since types only grow)
+-- the locks made, oldest first, each with its type's number at the time (numbers stay, since types
+-- only grow)
 abbrev pub typed_locks : Start → List Entry → List Lock
 typed_locks start [] = []
 typed_locks start (e ∷ h) = typed_locks start h ++ made_among (types_of start h) e.call
@@ -77,8 +82,10 @@ typed_locks start (e ∷ h) = typed_locks start h ++ made_among (types_of start 
 -- the pairs of types found in violation, once a reply names one
 abbrev pub found_after : List Lock → Reply → List (TypeNo × TypeNo) → List (TypeNo × TypeNo)
 found_after locks (Silent a b) pairs = found_once a b pairs
-found_after locks (Reversal c) pairs = found_once (lock_at locks c.held.lock.0).type_no (lock_at locks c.asked.lock.0).type_no pairs
-found_after locks (Duplicate d) pairs = found_once (lock_at locks d.asked.lock.0).type_no (lock_at locks d.asked.lock.0).type_no pairs
+found_after locks (Reversal c) pairs =
+    found_once (lock_at locks c.held.lock.0).type_no (lock_at locks c.asked.lock.0).type_no pairs
+found_after locks (Duplicate d) pairs =
+    found_once (lock_at locks d.asked.lock.0).type_no (lock_at locks d.asked.lock.0).type_no pairs
 found_after _ _ pairs = pairs
 
 -- the pairs of types found in violation, newest first
@@ -86,7 +93,8 @@ abbrev pub found_of : Start → List Entry → List (TypeNo × TypeNo)
 found_of start [] = []
 found_of start (e ∷ h) = found_after (typed_locks start h) e.reply (found_of start h)
 
--- what is known of types, locks and orders, and the pairs of type names that may be taken in either order
+-- what is known of types, locks and orders, and the pairs of type names that may be taken in either
+-- order
 pub record Known : Type 0 where
   pub types : List LockType
   pub locks : List Lock
@@ -152,11 +160,13 @@ is_live s l = is_given s.known.locks l && not (is_destroyed s.destroyed l)
 
 -- whether this is the number of a live lock of a type
 abbrev pub is_live_of : List Lock → List ℕ → ℕ → ℕ → Bool
-is_live_of locks destroyed t l = ((lock_at locks l).type_no.0 == t) && not (is_destroyed destroyed l)
+is_live_of locks destroyed t l =
+    ((lock_at locks l).type_no.0 == t) && not (is_destroyed destroyed l)
 
 -- how many of these locks are of a type and not among the destroyed ones
 abbrev pub live_among : List Lock → List ℕ → ℕ → ℕ
-live_among locks destroyed t = count_by (is_live_of locks destroyed t) (range_with_len 1 (length locks))
+live_among locks destroyed t =
+    count_by (is_live_of locks destroyed t) (range_with_len 1 (length locks))
 
 -- how many locks of a type are live
 abbrev pub live : State → ℕ → ℕ

@@ -1,8 +1,15 @@
--- What a verifier answers to a call, and which histories are legal. In each call the faults stand in the order in
--- which they apply; want of memory is never among them.
-use Rattle.std.specs.Prelude.{ℕ, ◌+◌, ◌≡◌, ◌⊎◌, Bool, true, false, not, ◌&&◌, ◌==◌, nat_le, List, [], ◌∷◌, Option, None, Some, Result, Ok, Err, length, is_some, if◌then◌else◌}
+-- What a verifier answers to a call, and which histories are legal. In each call the faults stand
+-- in the order in which they apply; want of memory is never among them.
+use Rattle.std.specs.Prelude.{ℕ, ◌+◌, ◌≡◌, ◌⊎◌, Bool, true, false, not, ◌&&◌, ◌==◌, nat_le, List}
+use Rattle.std.specs.Prelude.{[], ◌∷◌, Option, None, Some, Result, Ok, Err, length, is_some}
+use Rattle.std.specs.Prelude.{if◌then◌else◌}
 use Rattle.wit_model.specs.declared.faults.Fault.{Fault}
-use Rattle.wit_model.specs.declared.faults.Fault.TheVariants.{ClassMismatch, TypesFull, LocksFull, RecursionTooDeep, NotLocked, SharedUnlock, ExclusiveUnlock, ForbiddenUnlock, Pending, LogFull, BadName, WatchOff, ModeNotAllowed, UnknownFile, OutOfMemory}
+use Rattle.wit_model.specs.declared.faults.Fault.TheVariants.{ClassMismatch, TypesFull, LocksFull}
+use Rattle.wit_model.specs.declared.faults.Fault.TheVariants.{RecursionTooDeep, NotLocked}
+use Rattle.wit_model.specs.declared.faults.Fault.TheVariants.{SharedUnlock, ExclusiveUnlock}
+use Rattle.wit_model.specs.declared.faults.Fault.TheVariants.{ForbiddenUnlock, Pending, LogFull}
+use Rattle.wit_model.specs.declared.faults.Fault.TheVariants.{BadName, WatchOff, ModeNotAllowed}
+use Rattle.wit_model.specs.declared.faults.Fault.TheVariants.{UnknownFile, OutOfMemory}
 use Rattle.wit_model.specs.declared.locks.Class.{Class}
 use Rattle.wit_model.specs.declared.locks.Class.TheVariants.{Rw, Sx}
 use Rattle.wit_model.specs.declared.locks.Mode.{Mode}
@@ -12,9 +19,13 @@ use Rattle.wit_model.specs.declared.locks.Instance.{Instance}
 use Rattle.wit_model.specs.declared.calls.NewLock.{NewLock}
 use Rattle.wit_model.specs.declared.calls.Request.{Request}
 use Rattle.wit_model.specs.declared.calls.Call.{Call}
-use Rattle.wit_model.specs.declared.calls.Call.TheVariants.{Init, Check, Note, NoteTry, GiveUp, Unlock, SetWatch, Destroy, Upgrade, Downgrade, NoRelease, ReleaseOk, DefineOrder}
+use Rattle.wit_model.specs.declared.calls.Call.TheVariants.{Init, Check, Note, NoteTry, GiveUp}
+use Rattle.wit_model.specs.declared.calls.Call.TheVariants.{Unlock, SetWatch, Destroy, Upgrade}
+use Rattle.wit_model.specs.declared.calls.Call.TheVariants.{Downgrade, NoRelease, ReleaseOk}
+use Rattle.wit_model.specs.declared.calls.Call.TheVariants.{DefineOrder}
 use Rattle.wit_model.specs.declared.calls.Reply.{Reply}
-use Rattle.wit_model.specs.declared.calls.Reply.TheVariants.{Made, Done, Recorded, Exhausted, Unrecorded, Unlocked, Ignored}
+use Rattle.wit_model.specs.declared.calls.Reply.TheVariants.{Made, Done, Recorded, Exhausted}
+use Rattle.wit_model.specs.declared.calls.Reply.TheVariants.{Unrecorded, Unlocked, Ignored}
 use Rattle.wit_model.specs.declared.calls.Entry.{Entry}
 use Rattle.wit_model.specs.Rules.Names.{is_name}
 use Rattle.wit_model.specs.Rules.Numbers.{is_number}
@@ -24,7 +35,9 @@ use Rattle.wit_model.specs.Rules.Groups.{opens}
 use Rattle.wit_model.specs.Rules.History.{is_on, is_off}
 use Rattle.wit_model.specs.Rules.State.{Start, Story, State, state_of, seat_at, free, has_room}
 use Rattle.wit_model.specs.Rules.Verdict.{is_exclusive, verdict}
-pub use Rattle.wit_model.specs.Rules.Questions.{chain_for, groups_for, held_by, is_pending, is_for, about_seat, about_lock, before_naming, before_answering, with_room}
+pub use Rattle.wit_model.specs.Rules.Questions.{chain_for, groups_for, held_by, is_pending, is_for}
+pub use Rattle.wit_model.specs.Rules.Questions.{about_seat, about_lock, before_naming}
+pub use Rattle.wit_model.specs.Rules.Questions.{before_answering, with_room}
 use Rattle.wit_model.specs.Rules.Turning.{step_upgrade, step_downgrade, step_mark}
 use Rattle.wit_model.specs.Rules.Defining.{step_define}
 use Rattle.wit_model.specs.Rules.Destroying.{step_destroy}
@@ -33,11 +46,13 @@ abbrev pub is_good_name : Option (List ℕ) → Bool
 is_good_name None = true
 is_good_name (Some name) = is_name name
 
--- the answer to `init` for a lock of the type with this name, where the seat asks for nothing and the names are good
+-- the answer to `init` for a lock of the type with this name, where the seat asks for nothing and
+-- the names are good
 abbrev pub step_typed : State → List ℕ → Class → Result Reply Fault
 step_typed s type_name class =
     if is_otherwise type_name class s.known.types then Err ClassMismatch
-    else if not (is_enrolled type_name s.known.types) && nat_le s.sizes.types (length s.known.types) then Err TypesFull
+    else if not (is_enrolled type_name s.known.types) && nat_le s.sizes.types (length s.known.types)
+    then Err TypesFull
     else if nat_le s.sizes.locks (length s.known.locks) then Err LocksFull
     else if not (has_room s 1) then Err LogFull
     else Ok (Made (record { 0 = length s.known.locks + 1 }))
@@ -68,7 +83,8 @@ abbrev pub before_acquiring : State → ℕ → ℕ → Mode → Site → Result
 before_acquiring s t l m site rest =
     about_lock s t l (
     if not (is_number s.files site.file.0) then Err UnknownFile
-    else if not (is_exclusive m) && not (is_shareable (lock_at s.known.locks l).made.class) then Err ModeNotAllowed
+    else if not (is_exclusive m) && not (is_shareable (lock_at s.known.locks l).made.class)
+    then Err ModeNotAllowed
     else if is_pending s t then Err Pending
     else if is_too_deep s t l then Err RecursionTooDeep
     else rest)
@@ -76,7 +92,8 @@ before_acquiring s t l m site rest =
 -- a check needs room for itself, its note and its unlock
 abbrev pub step_check : State → ℕ → Request → Result Reply Fault
 step_check s t q =
-    before_acquiring s t q.lock.0 q.mode q.site (with_room s 3 (verdict s.profile s.known s.watch (seat_at s t) q))
+    before_acquiring s t q.lock.0 q.mode q.site
+    (with_room s 3 (verdict s.profile s.known s.watch (seat_at s t) q))
 
 -- whether the lock would lie in a new chunk, and none is free
 abbrev pub is_exhausted : State → ℕ → ℕ → Bool
@@ -93,9 +110,11 @@ recorded_reply s t l =
 abbrev pub step_note : State → ℕ → ℕ → Result Reply Fault
 step_note s t l = before_answering s t l (Ok (recorded_reply s t l))
 
--- a try is no request: no order is checked, nor how the lock is held. It needs room for itself and its unlock
+-- a try is no request: no order is checked, nor how the lock is held. It needs room for itself and
+-- its unlock
 abbrev pub step_note_try : State → ℕ → ℕ → Mode → Site → Result Reply Fault
-step_note_try s t l m site = before_acquiring s t l m site (with_room s 2 (Ok (recorded_reply s t l)))
+step_note_try s t l m site =
+    before_acquiring s t l m site (with_room s 2 (Ok (recorded_reply s t l)))
 
 abbrev pub step_give_up : State → ℕ → ℕ → Result Reply Fault
 step_give_up s t l = before_answering s t l (Ok Done)
@@ -116,7 +135,8 @@ let_go (Some i) = Ok Unlocked
 
 abbrev pub step_unlock : State → ℕ → ℕ → Mode → Result Reply Fault
 step_unlock s t l m =
-    before_naming s t l (if is_on s.watch then released m (held_by s t l) else let_go (held_by s t l))
+    before_naming s t l (if is_on s.watch then released m (held_by s t l)
+    else let_go (held_by s t l))
 
 -- nothing is watched again once nothing was
 abbrev pub step_set_watch : State → ℕ → Watch → Result Reply Fault
@@ -157,20 +177,26 @@ is_logged _ = true
 abbrev pub IsLegal : Start → List (List ℕ) → List Entry → Type 0
 IsLegal start files [] = Unit {0}
 IsLegal start files (e ∷ h) =
-    (answer_of (story_after start files h) e.seat.0 e.call ≡ Ok e.reply) × (is_logged e.reply ≡ true) × IsLegal start files h
+    (answer_of (story_after start files h) e.seat.0 e.call ≡ Ok e.reply)
+    × (is_logged e.reply ≡ true) × IsLegal start files h
 
 -- the story with one more entry, after which no call is prepared any longer
 abbrev pub logged : Story → ℕ → Call → Reply → Story
 logged s t call reply =
-    record s { history = record { seat = record { 0 = t }; call = call; reply = reply } ∷ s.history; ready = None }
+    record s {
+      history = record { seat = record { 0 = t }; call = call; reply = reply } ∷ s.history;
+      ready = None;
+    }
 
 -- the story after an accepted call
 abbrev pub grown : Story → ℕ → Call → Reply → Story
 grown s t call reply = if is_logged reply then logged s t call reply else s
 
--- an accepted call gets the step's reply and is logged with it, unless it is passed over; a refused one gets the step's fault and changes nothing
+-- an accepted call gets the step's reply and is logged with it, unless it is passed over; a refused
+-- one gets the step's fault and changes nothing
 abbrev pub Answers : Story → ℕ → Call → Result Reply Fault → Story → Type 0
-Answers old t call (Ok reply) new = (answer_of old t call ≡ Ok reply) × (new ≡ grown old t call reply)
+Answers old t call (Ok reply) new =
+    (answer_of old t call ≡ Ok reply) × (new ≡ grown old t call reply)
 Answers old t call (Err fault) new = (answer_of old t call ≡ Err fault) × (new ≡ old)
 
 -- an answer that the log keeps
@@ -178,8 +204,11 @@ abbrev pub IsEntered : Result Reply Fault → Type 0
 IsEntered (Ok reply) = is_logged reply ≡ true
 IsEntered (Err fault) = ⊥
 
--- the same, where a growth may be refused in place of an acceptance that is logged: then too nothing changes
+-- the same, where a growth may be refused in place of an acceptance that is logged: then too
+-- nothing changes
 abbrev pub AnswersOrFails : Story → ℕ → Call → Result Reply Fault → Story → Type 0
-AnswersOrFails old t call (Ok reply) new = (answer_of old t call ≡ Ok reply) × (new ≡ grown old t call reply)
+AnswersOrFails old t call (Ok reply) new =
+    (answer_of old t call ≡ Ok reply) × (new ≡ grown old t call reply)
 AnswersOrFails old t call (Err fault) new =
-    ((answer_of old t call ≡ Err fault) ⊎ ((fault ≡ OutOfMemory) × IsEntered (answer_of old t call))) × (new ≡ old)
+    ((answer_of old t call ≡ Err fault)
+    ⊎ ((fault ≡ OutOfMemory) × IsEntered (answer_of old t call))) × (new ≡ old)

@@ -1,8 +1,12 @@
--- Calls that change how a lock is held: its mode (rw_try_upgrade and rw_downgrade of rwlock(9), sx_try_upgrade and sx_downgrade of sx(9)),
--- and whether it may be released (witness_norelease and witness_releaseok of subr_witness.c). The place and the site of the lock stay.
-use Rattle.std.specs.Prelude.{ℕ, Bool, true, false, not, nat_lt, Option, None, Some, Result, Ok, Err, if◌then◌else◌}
+-- Calls that change how a lock is held: its mode (rw_try_upgrade and rw_downgrade of rwlock(9),
+-- sx_try_upgrade and sx_downgrade of sx(9)), and whether it may be released (witness_norelease and
+-- witness_releaseok of subr_witness.c). The place and the site of the lock stay.
+use Rattle.std.specs.Prelude.{ℕ, Bool, true, false, not, nat_lt, Option, None, Some, Result, Ok}
+use Rattle.std.specs.Prelude.{Err, if◌then◌else◌}
 use Rattle.wit_model.specs.declared.faults.Fault.{Fault}
-use Rattle.wit_model.specs.declared.faults.Fault.TheVariants.{NotLocked, NotUpgradable, UpgradeOfExclusive, UpgradeRecursed, DowngradeOfShared, DowngradeRecursed}
+use Rattle.wit_model.specs.declared.faults.Fault.TheVariants.{NotLocked, NotUpgradable}
+use Rattle.wit_model.specs.declared.faults.Fault.TheVariants.{UpgradeOfExclusive, UpgradeRecursed}
+use Rattle.wit_model.specs.declared.faults.Fault.TheVariants.{DowngradeOfShared, DowngradeRecursed}
 use Rattle.wit_model.specs.declared.locks.Class.{Class}
 use Rattle.wit_model.specs.declared.locks.Class.TheVariants.{Rw, Sx}
 use Rattle.wit_model.specs.declared.locks.Watch.{Watch}
@@ -48,7 +52,8 @@ mark_answer watch (Some i) = if is_on watch then Ok Done else Ok Ignored
 -- a turn of a lock, where the answer is this one for a lock that can be turned
 abbrev pub step_turn : State → ℕ → ℕ → Result Reply Fault → Result Reply Fault
 step_turn s t l answer =
-    before_naming s t l (if not (is_upgradable (class_at s l)) then Err NotUpgradable else with_entry s answer)
+    before_naming s t l (if not (is_upgradable (class_at s l)) then Err NotUpgradable
+    else with_entry s answer)
 
 abbrev pub step_upgrade : State → ℕ → ℕ → Result Reply Fault
 step_upgrade s t l = step_turn s t l (upgraded s.watch (held_by s t l))

@@ -1,7 +1,8 @@
--- Lock types: the name that mtx_init is passed as type "is used by the witness code to classify a mutex when doing
--- checks of lock ordering" (mutex(9)). A type is a name with a class, and its number is its place among the types
--- enrolled so far, from 1.
-use Rattle.std.specs.Prelude.{ℕ, ◌+◌, Bool, true, false, not, ◌&&◌, List, [], ◌∷◌, ◌++◌, unwrap_or, if◌then◌else◌}
+-- Lock types: the name that mtx_init is passed as type "is used by the witness code to classify a
+-- mutex when doing checks of lock ordering" (mutex(9)). A type is a name with a class, and its
+-- number is its place among the types enrolled so far, from 1.
+use Rattle.std.specs.Prelude.{ℕ, ◌+◌, Bool, true, false, not, ◌&&◌, List, [], ◌∷◌, ◌++◌, unwrap_or}
+use Rattle.std.specs.Prelude.{if◌then◌else◌}
 use Rattle.std.specs.List.{list_any, position_or_len}
 use Rattle.std.specs.Str.{bytes_eq}
 use Rattle.wit_model.specs.declared.locks.Class.{Class}
@@ -38,7 +39,8 @@ type_number name types = position_or_len (is_named name) types + 1
 
 -- whether a type has this name and another class
 abbrev pub is_otherwise : List ℕ → Class → List LockType → Bool
-is_otherwise name class types = list_any (λ t. is_named name t && not (is_same_class t.class class)) types
+is_otherwise name class types =
+    list_any (λ t. is_named name t && not (is_same_class t.class class)) types
 
 abbrev no_type : LockType
 no_type = record { name = []; class = SleepMutex }
@@ -53,9 +55,11 @@ class_of number types = (unwrap_or (with_number types number) no_type).class
 
 -- the types once this name is enrolled: a known name stays where it is
 abbrev pub enrolled : List ℕ → Class → List LockType → List LockType
-enrolled name class types = if is_enrolled name types then types else types ++ record { name = name; class = class } ∷ []
+enrolled name class types =
+    if is_enrolled name types then types else types ++ record { name = name; class = class } ∷ []
 
--- the name under which a new lock takes part in orders: its type name, or its own where none was given
+-- the name under which a new lock takes part in orders: its type name, or its own where none was
+-- given
 abbrev pub type_name_of : NewLock → List ℕ
 type_name_of lock = unwrap_or lock.type_name lock.name
 

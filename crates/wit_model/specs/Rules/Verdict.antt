@@ -1,13 +1,16 @@
--- The verdict of a check: WITNESS compares the requested lock with the held ones (witness(4); the comments of
--- witness_checkorder in subr_witness.c). The first rule that applies decides.
-use Rattle.std.specs.Prelude.{ℕ, Bool, true, false, not, ◌&&◌, ◌||◌, ◌==◌, List, [], ◌∷◌, Option, None, Some, is_some, is_none, unwrap_or, Result, Ok, Err, codes, map, reverse, find, if◌then◌else◌}
+-- The verdict of a check: WITNESS compares the requested lock with the held ones (witness(4); the
+-- comments of witness_checkorder in subr_witness.c). The first rule that applies decides.
+use Rattle.std.specs.Prelude.{ℕ, Bool, true, false, not, ◌&&◌, ◌||◌, ◌==◌, List, [], ◌∷◌, Option}
+use Rattle.std.specs.Prelude.{None, Some, is_some, is_none, unwrap_or, Result, Ok, Err, codes, map}
+use Rattle.std.specs.Prelude.{reverse, find, if◌then◌else◌}
 use Rattle.std.specs.List.{list_any, list_all, last_or, before_first}
 use Rattle.std.specs.Option.{option_map}
 use Rattle.std.specs.Str.{bytes_eq}
 use Rattle.wit_model.specs.declared.profiles.Profile.{Profile}
 use Rattle.wit_model.specs.declared.profiles.Profile.TheVariants.{Plain, AllHeld}
 use Rattle.wit_model.specs.declared.faults.Fault.{Fault}
-use Rattle.wit_model.specs.declared.faults.Fault.TheVariants.{SleepUnderSpin, SharedOfExclusive, ExclusiveOfShared, Recursed}
+use Rattle.wit_model.specs.declared.faults.Fault.TheVariants.{SleepUnderSpin, SharedOfExclusive}
+use Rattle.wit_model.specs.declared.faults.Fault.TheVariants.{ExclusiveOfShared, Recursed}
 use Rattle.wit_model.specs.declared.locks.Class.TheVariants.{SleepMutex, Sx}
 use Rattle.wit_model.specs.declared.locks.Mode.{Mode}
 use Rattle.wit_model.specs.declared.locks.Mode.TheVariants.{Shared, Exclusive}
@@ -20,7 +23,8 @@ use Rattle.wit_model.specs.declared.calls.Heading.TheVariants as heading
 use Rattle.wit_model.specs.declared.calls.LockAt.{LockAt}
 use Rattle.wit_model.specs.declared.calls.Conflict.{Conflict}
 use Rattle.wit_model.specs.declared.calls.Reply.{Reply}
-use Rattle.wit_model.specs.declared.calls.Reply.TheVariants.{Pass, Adopted, AdoptedAll, Silent, Duplicate, Reversal}
+use Rattle.wit_model.specs.declared.calls.Reply.TheVariants.{Pass, Adopted, AdoptedAll, Silent}
+use Rattle.wit_model.specs.declared.calls.Reply.TheVariants.{Duplicate, Reversal}
 use Rattle.wit_model.specs.declared.calls.Request.{Request}
 use Rattle.wit_model.specs.declared.calls.TypedRequest.{TypedRequest}
 use Rattle.wit_model.specs.Rules.Numbers.{with_number}
@@ -30,8 +34,9 @@ use Rattle.wit_model.specs.Rules.Orders.{is_direct, is_before, is_found}
 use Rattle.wit_model.specs.Rules.History.{is_on}
 use Rattle.wit_model.specs.Rules.State.{Known, Seat, chain_in}
 
--- what a verdict rests on: the types, the type of each lock by the lock's number, the adopted orders, the pairs of types found in
--- violation, and the pairs of type names that may be taken in either order
+-- what a verdict rests on: the types, the type of each lock by the lock's number, the adopted
+-- orders, the pairs of types found in violation, and the pairs of type names that may be taken in
+-- either order
 pub record Basis : Type 0 where
   pub types : List LockType
   pub lock_types : List TypeNo
@@ -62,7 +67,9 @@ is_sleepable g t = is_same_class (class_of t.0 g.types) Sx
 
 -- Giant is the mutex of that name (locking(9))
 abbrev pub is_giant : Basis → TypeNo → Bool
-is_giant g t = is_same_class (class_of t.0 g.types) SleepMutex && bytes_eq (name_of t.0 g.types) (codes "Giant")
+is_giant g t =
+    is_same_class (class_of t.0 g.types) SleepMutex
+    && bytes_eq (name_of t.0 g.types) (codes "Giant")
 
 abbrev pub place_of : Instance → LockAt
 place_of i = record { lock = i.lock; site = i.site }
@@ -90,14 +97,17 @@ isnt_watched watch = when (not (is_on watch)) (Ok Pass)
 
 -- 2: a spin lock is held, and a lock of the sleep kind asked for
 abbrev pub sleeps_under_spin : Basis → List Instance → TypedRequest → Rule
-sleeps_under_spin g spin q = when (not (is_spin (class_of q.type_no.0 g.types)) && is_some (last_or None spin)) (Err SleepUnderSpin)
+sleeps_under_spin g spin q =
+    when (not (is_spin (class_of q.type_no.0 g.types)) && is_some (last_or None spin))
+    (Err SleepUnderSpin)
 
 -- 3: no lock of its kind is held
 abbrev pub holds_nothing : Option Instance → Rule
 holds_nothing last = when (is_none last) (Ok Pass)
 
--- a held lock that is asked for again: the modes must agree, and the lock has to be recursable where it is exclusive.
--- Flags of a request: 0x04 the caller doesn't hold the lock; of a lock: 0x01 recursable
+-- a held lock that is asked for again: the modes must agree, and the lock has to be recursable
+-- where it is exclusive. Flags of a request: 0x04 the caller doesn't hold the lock; of a lock: 0x01
+-- recursable
 abbrev pub again : TypedRequest → Instance → Result Reply Fault
 again q i =
     if is_exclusive i.mode && not (is_exclusive q.mode) then Err SharedOfExclusive
@@ -110,7 +120,8 @@ again q i =
 abbrev pub holds_it : List Instance → TypedRequest → Rule
 holds_it chain q = option_map (again q) (find (is_of q.lock.0) chain)
 
--- two locks of one type: reported once for a type, and never where the lock, or the request, allows it (0x02)
+-- two locks of one type: reported once for a type, and never where the lock, or the request, allows
+-- it (0x02)
 abbrev pub doubled : Basis → TypedRequest → Instance → Result Reply Fault
 doubled g q last =
     if has_flag q.flags.0 0x02 || has_flag q.ops.0 0x02 then Ok Pass
@@ -127,8 +138,8 @@ abbrev pub follows : Basis → Option Instance → TypedRequest → Rule
 follows g None q = None
 follows g (Some last) q = when (is_direct g.orders (type_held g last).0 q.type_no.0) (Ok Pass)
 
--- which order a held lock's type breaks, where a lock of the first type is asked for. Giant is let go while its holder sleeps: so it may
--- stand before a sleepable lock, and behind one
+-- which order a held lock's type breaks, where a lock of the first type is asked for. Giant is let
+-- go while its holder sleeps: so it may stand before a sleepable lock, and behind one
 abbrev pub breach : Basis → TypeNo → TypeNo → Option Heading
 breach g asked held =
     if is_giant g asked && is_sleepable g held then None
@@ -141,13 +152,14 @@ breach g asked held =
 abbrev pub violates : Basis → TypedRequest → Instance → Bool
 violates g q i = is_some (breach g q.type_no (type_held g i))
 
--- what is told of a reversal: the violating held lock, the newest held lock of the requested type among those older
--- than it, and the requested lock
+-- what is told of a reversal: the violating held lock, the newest held lock of the requested type
+-- among those older than it, and the requested lock
 abbrev pub conflict : Basis → TypedRequest → List Instance → Instance → Conflict
 conflict g q chain i = record {
   heading = unwrap_or (breach g q.type_no (type_held g i)) heading.Order;
   held = place_of i;
-  older = option_map place_of (find (has_type_of g q) (reverse (before_first (is_of i.lock.0) chain)));
+  older =
+      option_map place_of (find (has_type_of g q) (reverse (before_first (is_of i.lock.0) chain)));
   asked = place_asked q;
 }
 
@@ -161,15 +173,16 @@ is_blessed g a b = list_any (is_named_pair (name_of a.0 g.types) (name_of b.0 g.
 -- 8: a violation is reported, once for a pair of types, and never where the pair is blessed
 abbrev pub reported : Basis → TypedRequest → List Instance → Instance → Result Reply Fault
 reported g q chain i =
-    if is_found g.found (type_held g i).0 q.type_no.0 || is_blessed g (type_held g i) q.type_no then Ok (Silent (type_held g i) q.type_no)
+    if is_found g.found (type_held g i).0 q.type_no.0 || is_blessed g (type_held g i) q.type_no
+    then Ok (Silent (type_held g i) q.type_no)
     else Ok (Reversal (conflict g q chain i))
 
 -- 7: a held lock violates the order: the newest one that does
 abbrev pub breaks_order : Basis → List Instance → TypedRequest → Rule
 breaks_order g chain q = option_map (reported g q chain) (find (violates g q) (reverse chain))
 
--- whether the order behind the last held lock may be learnt: the request allows it (0x01), it isn't that of a sleepable lock behind Giant,
--- and it turns no order round
+-- whether the order behind the last held lock may be learnt: the request allows it (0x01), it isn't
+-- that of a sleepable lock behind Giant, and it turns no order round
 abbrev pub is_learnt : Basis → TypedRequest → Instance → Bool
 is_learnt g q last =
     has_flag q.ops.0 0x01
@@ -238,10 +251,11 @@ abbrev pub teaches_in : Profile → Basis → List Instance → Option Instance 
 teaches_in Plain g chain last q = teaches g last q
 teaches_in AllHeld g chain last q = teaches_all g chain q
 
--- ---- the rules in their order, where these are the spin locks that the seat holds, its locks of the requested kind, oldest
--- first, and the last of these
+-- ---- the rules in their order, where these are the spin locks that the seat holds, its locks of
+-- the requested kind, oldest first, and the last of these
 
-abbrev pub rules : Profile → Basis → Watch → List Instance → List Instance → Option Instance → TypedRequest → List Rule
+abbrev pub rules : Profile → Basis → Watch → List Instance → List Instance → Option Instance
+    → TypedRequest → List Rule
 rules profile g watch spin chain last q =
     isnt_watched watch
     ∷ sleeps_under_spin g spin q
@@ -253,14 +267,17 @@ rules profile g watch spin chain last q =
     ∷ teaches_in profile g chain last q
     ∷ []
 
--- the one of a seat's two chains, of the sleep kind and of the spin kind, that a request is judged by
+-- the one of a seat's two chains, of the sleep kind and of the spin kind, that a request is judged
+-- by
 abbrev pub chain_asked : Basis → List Instance → List Instance → TypedRequest → List Instance
 chain_asked g sleep spin q = if is_spin (class_of q.type_no.0 g.types) then spin else sleep
 
 -- the ruling on a request of a seat that holds these locks of the sleep kind and of the spin kind
-abbrev pub ruling : Profile → Basis → Watch → List Instance → List Instance → TypedRequest → Result Reply Fault
+abbrev pub ruling : Profile → Basis → Watch → List Instance → List Instance → TypedRequest
+    → Result Reply Fault
 ruling profile g watch sleep spin q =
-    decided (rules profile g watch spin (chain_asked g sleep spin q) (last_or None (chain_asked g sleep spin q)) q)
+    decided (rules profile g watch spin (chain_asked g sleep spin q)
+    (last_or None (chain_asked g sleep spin q)) q)
 
 -- ---- the verdict is the ruling over what a verifier knows
 
@@ -284,7 +301,8 @@ typed_request k q = record {
 }
 
 abbrev pub verdict : Profile → Known → Watch → Seat → Request → Result Reply Fault
-verdict profile k watch seat q = ruling profile (basis_of k) watch seat.sleep seat.spin (typed_request k q)
+verdict profile k watch seat q =
+    ruling profile (basis_of k) watch seat.sleep seat.spin (typed_request k q)
 
 -- the seat's chain of the lock's kind, oldest first
 abbrev pub chain_of_kind : Known → Seat → ℕ → List Instance

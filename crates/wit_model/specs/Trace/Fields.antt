@@ -1,6 +1,7 @@
--- Reading the fields of a line from left to right: a value and the bytes after it. Each field stands
--- behind its own space.
-use Rattle.std.specs.Prelude.{ℕ, zero, suc, ◌^◌, List, [], ◌∷◌, length, Option, Some, None, ◌==◌, if◌then◌else◌}
+-- Reading the fields of a line from left to right: a value and the bytes after it. Each field
+-- stands behind its own space.
+use Rattle.std.specs.Prelude.{ℕ, zero, suc, ◌^◌, List, [], ◌∷◌, length, Option, Some, None, ◌==◌}
+use Rattle.std.specs.Prelude.{if◌then◌else◌}
 use Rattle.std.specs.Str.{bytes_eq}
 use Rattle.wit_model.specs.declared.locks.Class.{Class}
 use Rattle.wit_model.specs.Rules.Names.{is_name}
@@ -19,7 +20,8 @@ field_at read bytes = leading_word bytes >>= λ word. read word.0 >>= λ value. 
 
 -- a fixed word, and what follows it
 unfoldable pub fixed_at : List ℕ → List ℕ → Option (List ℕ)
-fixed_at fixed bytes = leading_word bytes >>= λ word. if bytes_eq word.0 fixed then Some word.1 else None
+fixed_at fixed bytes =
+    leading_word bytes >>= λ word. if bytes_eq word.0 fixed then Some word.1 else None
 
 -- a field behind a fixed word
 abbrev pub behind : {A : Type 0} → List ℕ → Reader A → Reader A

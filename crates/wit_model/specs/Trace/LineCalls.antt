@@ -1,11 +1,13 @@
 -- What a line has a verifier do: the call that it makes, if it makes one.
 use Rattle.std.specs.Prelude.{ℕ, List, Option}
 use Rattle.wit_model.specs.declared.lines.Line.{Line}
-use Rattle.wit_model.specs.declared.lines.Line.TheVariants.{Init, OnLock, Assert, Warn, Define, Watch}
+use Rattle.wit_model.specs.declared.lines.Line.TheVariants.{Init, OnLock, Assert, Warn, Define}
+use Rattle.wit_model.specs.declared.lines.Line.TheVariants.{Watch}
 use Rattle.wit_model.specs.declared.lines.LockLine.{LockLine}
 use Rattle.wit_model.specs.declared.lines.LockLine.TheVariants.{Check, Try, Unlock, Plain, Step}
 use Rattle.wit_model.specs.declared.lines.Verb.{Verb}
-use Rattle.wit_model.specs.declared.lines.Verb.TheVariants.{Note, GiveUp, Destroy, Upgrade, Downgrade, NoRelease, ReleaseOk}
+use Rattle.wit_model.specs.declared.lines.Verb.TheVariants.{Note, GiveUp, Destroy, Upgrade}
+use Rattle.wit_model.specs.declared.lines.Verb.TheVariants.{Downgrade, NoRelease, ReleaseOk}
 use Rattle.wit_model.specs.declared.flags.LockAssert.{LockAssert}
 use Rattle.wit_model.specs.declared.flags.OpFlags.{OpFlags}
 use Rattle.wit_model.specs.declared.flags.WarnFlags.{WarnFlags}
@@ -16,8 +18,9 @@ use Rattle.wit_model.specs.declared.locks.Site.{Site}
 use Rattle.wit_model.specs.declared.calls.Call.{Call}
 use Rattle.wit_model.specs.declared.calls.Call.TheVariants as call
 
--- what a line has a verifier do: a call of a seat, perhaps with the number of a file; an assertion or
--- a warning, which aren't logged; nothing where a seat does something to a lock itself; or nothing
+-- what a line has a verifier do: a call of a seat, perhaps with the number of a file; an assertion
+-- or a warning, which aren't logged; nothing where a seat does something to a lock itself; or
+-- nothing
 pub data LineCall : Type 0 where
   Logs : ℕ → Call → LineCall
   LogsAt : ℕ → List ℕ → (ℕ → Call) → LineCall

@@ -1,6 +1,7 @@
 -- How a trace of the first version is written in the second: its own lines, with the steps of the
 -- locks themselves between them.
-use Rattle.std.specs.Prelude.{◌≡◌, ℕ, ◌+◌, ◌-◌, ◌||◌, nat_lt, List, [], ◌∷◌, ◌++◌, length, take, unwrap_or, Option, None, Some, Result, Ok, Err, if◌then◌else◌}
+use Rattle.std.specs.Prelude.{◌≡◌, ℕ, ◌+◌, ◌-◌, ◌||◌, nat_lt, List, [], ◌∷◌, ◌++◌, length, take}
+use Rattle.std.specs.Prelude.{unwrap_or, Option, None, Some, Result, Ok, Err, if◌then◌else◌}
 use Rattle.wit_model.specs.declared.faults.Fault.{Fault}
 use Rattle.wit_model.specs.declared.faults.Fault.TheVariants.{RawNotFree}
 use Rattle.wit_model.specs.declared.calls.Call.{Call}
@@ -17,9 +18,13 @@ use Rattle.wit_model.specs.Rules.Sizes.{sizes_of, are_within_limits}
 use Rattle.wit_model.specs.Rules.Start.{start_fault}
 use Rattle.wit_model.specs.Rules.State.{Story, fresh}
 use Rattle.wit_model.specs.Rules.Step.{answer_of, grown}
-use Rattle.wit_model.specs.World.Moving.{LockStep, step_before, step_behind, is_free_beside, raw_moved}
+use Rattle.wit_model.specs.World.Moving.{LockStep, step_before, step_behind, is_free_beside}
+use Rattle.wit_model.specs.World.Moving.{raw_moved}
 use Rattle.wit_model.specs.World.Scenes.{RawLock, Scene}
-use Rattle.wit_model.specs.Trace.Output.{Prelude, Progress, BadLine, Ending, Course, LineCall, Logs, LogsAt, empty_prelude, is_prelude, is_profile, longest_line, log_limit, call_of, calls, bad_text, course_from}
+use Rattle.wit_model.specs.Trace.Output.{Prelude, Progress, BadLine, Ending, Course, LineCall, Logs}
+use Rattle.wit_model.specs.Trace.Output.{LogsAt, empty_prelude, is_prelude, is_profile}
+use Rattle.wit_model.specs.Trace.Output.{longest_line, log_limit, call_of, calls, bad_text}
+use Rattle.wit_model.specs.Trace.Output.{course_from}
 use Rattle.wit_model.specs.Trace.Output as output
 use Rattle.wit_model.specs.Trace.Reading.{line_of}
 use Rattle.wit_model.specs.Trace.Spelling.{spelling}
@@ -55,7 +60,8 @@ step_line t None = []
 step_line t (Some k) = spelling (OnLock (Step (record { 0 = t }) k.0 k.1)) ∷ []
 
 -- a call that is answered so: its own fault comes before that of the step before it
-abbrev pub answered : Story → List RawLock → ℕ → List ℕ → ℕ → Call → Result Reply Fault → MovingOutcome
+abbrev pub answered : Story → List RawLock → ℕ → List ℕ → ℕ → Call → Result Reply Fault
+    → MovingOutcome
 answered s raw n line t call (Ok r) =
     let before = step_before s.history t call in
     if is_free_beside s.history raw t before
@@ -64,7 +70,8 @@ answered s raw n line t call (Ok r) =
     else Bad (why.Fault RawNotFree)
 answered s raw n line t call (Err fault) = Bad (why.Fault fault)
 
-abbrev pub answered_at : Story → List RawLock → ℕ → List ℕ → ℕ → (ℕ → Call) → List ℕ → Result ℕ Fault → MovingOutcome
+abbrev pub answered_at : Story → List RawLock → ℕ → List ℕ → ℕ → (ℕ → Call) → List ℕ
+    → Result ℕ Fault → MovingOutcome
 answered_at s raw n line t call file (Ok f) =
     let named = record s { files = files_after file s.files } in
     answered named raw n line t (call f) (answer_of named t (call f))
@@ -78,7 +85,8 @@ line_alone raw line (output.Bad cause) = Bad cause
 
 abbrev pub moves : Story → List RawLock → ℕ → List ℕ → LineCall → MovingOutcome
 moves s raw n line (Logs t call) = answered s raw n line t call (answer_of s t call)
-moves s raw n line (LogsAt t file call) = answered_at s raw n line t call file (naming_answer s file)
+moves s raw n line (LogsAt t file call) =
+    answered_at s raw n line t call file (naming_answer s file)
 moves s raw n line call = line_alone raw line (calls s n call)
 
 -- ---- a line
@@ -94,11 +102,13 @@ abbrev pub moving_entered : Moving → ℕ → List ℕ → Line → MovingOutco
 moving_entered Unmoved n bytes (Header One seats types locks chunks) =
     let sizes = sizes_of seats types locks chunks log_limit in
     if are_within_limits sizes
-    then Goes (Keeping (empty_prelude One sizes) []) (spelling (Header Two seats types locks chunks) ∷ [])
+    then Goes (Keeping (empty_prelude One sizes) [])
+    (spelling (Header Two seats types locks chunks) ∷ [])
     else Bad why.Limit
 moving_entered Unmoved n bytes (Header Two seats types locks chunks) = Bad why.Version
 moving_entered Unmoved n bytes _ = Bad why.Syntax
-moving_entered (Keeping p kept) n bytes line = keeps kept bytes (output.entered (output.Opening p) n line)
+moving_entered (Keeping p kept) n bytes line =
+    keeps kept bytes (output.entered (output.Opening p) n line)
 moving_entered (Moved s raw m) n bytes line = moves s raw m bytes (call_of line)
 
 abbrev pub moving_read_as : Moving → ℕ → List ℕ → Option Line → MovingOutcome
@@ -108,7 +118,8 @@ moving_read_as m n bytes (Some line) = moving_entered m n bytes line
 -- a whole line, without its line feed
 abbrev pub moving_outcome : Moving → ℕ → List ℕ → MovingOutcome
 moving_outcome m n line =
-    if nat_lt longest_line (length line) then Bad why.Long else moving_read_as m n line (line_of line)
+    if nat_lt longest_line (length line) then Bad why.Long
+    else moving_read_as m n line (line_of line)
 
 -- ---- the whole trace
 
@@ -134,9 +145,10 @@ moving_ends m n (b ∷ tail) =
 abbrev pub kept_before : ℕ → List (List ℕ) → List (List ℕ)
 kept_before n kept = take (n - 2) kept
 
--- the prelude ends: what was kept is written, and the migration goes on; where a list is refused, the
--- lines before it alone
-abbrev pub moving_opened : Prelude → List (List ℕ) → Option (ℕ × Fault) → (Moving → Written) → Written
+-- the prelude ends: what was kept is written, and the migration goes on; where a list is refused,
+-- the lines before it alone
+abbrev pub moving_opened : Prelude → List (List ℕ) → Option (ℕ × Fault)
+    → (Moving → Written) → Written
 moving_opened p kept None next = lines_before kept (next (Moved (fresh p.start) [] 0))
 moving_opened p kept (Some refused) next =
     let n = unwrap_or (with_number p.lines refused.0) 0 in
@@ -179,15 +191,17 @@ moved_text w = with_feeds w.lines ++ last_text w.ending
 
 -- ---- the two traces
 
--- these lines are a trace of the first version and those one of the second, of which the same is told
--- and which end with the same story, so with the same log, files and listed orders
+-- these lines are a trace of the first version and those one of the second, of which the same is
+-- told and which end with the same story, so with the same log, files and listed orders
 pub record TellsTheSame (lines moved : List (List ℕ)) : Type 0 where
   pub text : List ℕ
   pub story : Story
   pub scene : Scene
   pub count : ℕ
-  pub was : course_from output.Unstarted 1 lines [] ≡ record { text = text; ending = output.AllRead story count }
-  pub now : course_from output.Unstarted 1 moved [] ≡ record { text = text; ending = output.AllStepped scene count }
+  pub was : course_from output.Unstarted 1 lines []
+      ≡ record { text = text; ending = output.AllRead story count }
+  pub now : course_from output.Unstarted 1 moved []
+      ≡ record { text = text; ending = output.AllStepped scene count }
   pub same : scene.story ≡ story
 
 -- where no line is bad, what a migration writes tells the same

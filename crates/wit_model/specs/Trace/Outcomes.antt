@@ -1,6 +1,8 @@
 -- How far the reading of a trace is, and what becomes of a line: the reading goes on, having told a
 -- text, or the line is bad.
-use Rattle.std.specs.Prelude.{ℕ, ◌+◌, Bool, ◌&&◌, ◌||◌, ◌==◌, nat_lt, List, [], ◌∷◌, ◌++◌, length, take, unwrap_or, Option, None, Some, Result, Ok, Err, codes, if◌then◌else◌}
+use Rattle.std.specs.Prelude.{ℕ, ◌+◌, Bool, ◌&&◌, ◌||◌, ◌==◌, nat_lt, List, [], ◌∷◌, ◌++◌, length}
+use Rattle.std.specs.Prelude.{take, unwrap_or, Option, None, Some, Result, Ok, Err, codes}
+use Rattle.std.specs.Prelude.{if◌then◌else◌}
 use Rattle.std.specs.Str.{bytes_eq}
 use Rattle.wit_model.specs.declared.profiles.Profile.TheVariants.{Plain, AllHeld}
 use Rattle.wit_model.specs.declared.faults.Fault.{Fault}
@@ -36,9 +38,9 @@ pub record Prelude : Type 0 where
   pub start : Start
   pub lines : List ℕ
 
--- how far the reading is: before the header, in the prelude, or behind it, with the verifier's story,
--- in the second version the scene, and the number of failed assertions and warnings so far, which no
--- log holds
+-- how far the reading is: before the header, in the prelude, or behind it, with the verifier's
+-- story, in the second version the scene, and the number of failed assertions and warnings so far,
+-- which no log holds
 pub data Progress : Type 0 where
   Unstarted : Progress
   Opening : Prelude → Progress
@@ -202,12 +204,13 @@ calls_in s n call = in_scene s (calls s.story n call)
 
 -- ---- a line
 
--- a line in its place, with its number; of those that name a profile the prelude is still open at the
--- second line alone
+-- a line in its place, with its number; of those that name a profile the prelude is still open at
+-- the second line alone
 abbrev pub entered : Progress → ℕ → Line → Outcome
 entered Unstarted n (Header version seats types locks chunks) =
     let sizes = sizes_of seats types locks chunks log_limit in
-    if are_within_limits sizes then Goes (Opening (empty_prelude version sizes)) [] else Bad why.Limit
+    if are_within_limits sizes then Goes (Opening (empty_prelude version sizes)) []
+    else Bad why.Limit
 entered (Opening p) n Profile = Goes (Opening (with_profile p)) []
 entered (Opening p) n (Order list) = Goes (Opening (with_list p n list)) []
 entered (Opening p) n (Bless first second) = Goes (Opening (with_pair p first second)) []

@@ -1,5 +1,6 @@
 -- What a replay writes for a trace, and what it sums up.
-use Rattle.std.specs.Prelude.{◌≡◌, ℕ, ◌+◌, Bool, false, nat_lt, List, [], ◌∷◌, ◌++◌, length, Option, None, Some, is_some, Result, Ok, Err, codes, if◌then◌else◌}
+use Rattle.std.specs.Prelude.{◌≡◌, ℕ, ◌+◌, Bool, false, nat_lt, List, [], ◌∷◌, ◌++◌, length, Option}
+use Rattle.std.specs.Prelude.{None, Some, is_some, Result, Ok, Err, codes, if◌then◌else◌}
 use Rattle.std.specs.Fmt.{decimal}
 use Rattle.wit_model.specs.declared.lines.View as view
 use Rattle.wit_model.specs.declared.lines.View.TheVariants.{Reports, Graph, Locks, Circle}
@@ -13,8 +14,17 @@ use Rattle.wit_model.specs.World.Scenes.{Scene}
 use Rattle.wit_model.specs.World.Shown.{TellsCircleIn}
 use Rattle.wit_model.specs.Trace.Texts as texts
 use Rattle.wit_model.specs.Trace.Views.{graph_text, all_locks_text, circle_text}
-pub use Rattle.wit_model.specs.Trace.LineCalls.{LineCall, Logs, LogsAt, Asserts, Warns, Steps, NoCall, verb_call, site_in, check_in, try_in, lock_call, call_of}
-pub use Rattle.wit_model.specs.Trace.Outcomes.{Prelude, Progress, Unstarted, Opening, Reading, Stepping, Outcome, Goes, Bad, empty_prelude, with_profile, with_list, with_pair, BadLine, is_prelude, is_profile, begun, opened, reached, reply_text, called, makes, at_file, longest_line, log_limit, said, remarks, asserts, warns, calls, called_in, makes_in, with_file_in, at_file_in, steps, in_scene, calls_in, entered, read_as, outcome}
+pub use Rattle.wit_model.specs.Trace.LineCalls.{LineCall, Logs, LogsAt, Asserts, Warns, Steps}
+pub use Rattle.wit_model.specs.Trace.LineCalls.{NoCall, verb_call, site_in, check_in, try_in}
+pub use Rattle.wit_model.specs.Trace.LineCalls.{lock_call, call_of}
+pub use Rattle.wit_model.specs.Trace.Outcomes.{Prelude, Progress, Unstarted, Opening, Reading}
+pub use Rattle.wit_model.specs.Trace.Outcomes.{Stepping, Outcome, Goes, Bad, empty_prelude}
+pub use Rattle.wit_model.specs.Trace.Outcomes.{with_profile, with_list, with_pair, BadLine}
+pub use Rattle.wit_model.specs.Trace.Outcomes.{is_prelude, is_profile, begun, opened, reached}
+pub use Rattle.wit_model.specs.Trace.Outcomes.{reply_text, called, makes, at_file, longest_line}
+pub use Rattle.wit_model.specs.Trace.Outcomes.{log_limit, said, remarks, asserts, warns, calls}
+pub use Rattle.wit_model.specs.Trace.Outcomes.{called_in, makes_in, with_file_in, at_file_in, steps}
+pub use Rattle.wit_model.specs.Trace.Outcomes.{in_scene, calls_in, entered, read_as, outcome}
 
 abbrev pub cause_text : cause.Cause → List ℕ
 cause_text why.Long = codes "long"

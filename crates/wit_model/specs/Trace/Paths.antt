@@ -1,5 +1,6 @@
 -- The path by which an established order is told.
-use Rattle.std.specs.Prelude.{ℕ, suc, zero, Bool, ◌&&◌, ◌||◌, ◌==◌, List, [], ◌∷◌, map, Option, None, Some, find, if◌then◌else◌}
+use Rattle.std.specs.Prelude.{ℕ, suc, zero, Bool, ◌&&◌, ◌||◌, ◌==◌, List, [], ◌∷◌, map, Option}
+use Rattle.std.specs.Prelude.{None, Some, find, if◌then◌else◌}
 use Rattle.std.specs.List.{range_with_len}
 use Rattle.std.specs.Global.{Vec}
 use Rattle.std.specs.Option.{option_map}
@@ -22,7 +23,8 @@ onward go (Some c) = go c
 -- from a to b, each time to the least type that leads there, over this many types at most
 abbrev pub way : List Adoption → ℕ → ℕ → ℕ → ℕ → List ℕ
 way orders n zero a b = []
-way orders n (suc most) a b = a ∷ (if a == b then [] else onward (λ c. way orders n most c b) (next_type orders n a b))
+way orders n (suc most) a b =
+    a ∷ (if a == b then [] else onward (λ c. way orders n most c b) (next_type orders n a b))
 
 -- the path from a to b among n types, where there is one
 abbrev pub path : List Adoption → ℕ → ℕ → ℕ → Option (List ℕ)

@@ -1,7 +1,9 @@
 -- Reading a line of a trace from left to right: its keyword, and what stands behind it.
-use Rattle.std.specs.Prelude.{◌≡◌, ◌↔◌, ℕ, List, length, Option, Some, None, codes, ◌==◌, if◌then◌else◌}
+use Rattle.std.specs.Prelude.{◌≡◌, ◌↔◌, ℕ, List, length, Option, Some, None, codes, ◌==◌}
+use Rattle.std.specs.Prelude.{if◌then◌else◌}
 use Rattle.wit_model.specs.declared.lines.Line.{Line}
-use Rattle.wit_model.specs.declared.lines.Line.TheVariants.{Header, Profile, Order, Bless, Init, OnLock, Assert, Warn, Define, Watch}
+use Rattle.wit_model.specs.declared.lines.Line.TheVariants.{Header, Profile, Order, Bless, Init}
+use Rattle.wit_model.specs.declared.lines.Line.TheVariants.{OnLock, Assert, Warn, Define, Watch}
 use Rattle.wit_model.specs.declared.lines.LockLine.TheVariants.{Check, Try, Unlock, Plain, Step}
 use Rattle.wit_model.specs.declared.lines.Verb.{Verb}
 use Rattle.wit_model.specs.declared.lines.Keyword.{Keyword}
@@ -9,9 +11,19 @@ use Rattle.wit_model.specs.declared.lines.Keyword.TheVariants as keyword
 use Rattle.wit_model.specs.declared.raw_steps.RawStep.{RawStep}
 use Rattle.wit_model.specs.declared.raw_steps.RawStep.TheVariants as raw_step
 use Rattle.wit_model.specs.declared.locks.LockNo.{LockNo}
-use Rattle.wit_model.specs.Trace.Spelling.{Spells, lock_letters, op_letters, assert_letters, warn_letters}
-unfoldable pub use Rattle.wit_model.specs.Trace.Words.{◌>>=◌, after, byte_place, until, parted_before, parted_at_last, is_numeral, number_of, named, version_named, class_named, mode_named, level_named, keywords, keyword_named, bits_of, flags_of, accepted, site_of}
-unfoldable pub use Rattle.wit_model.specs.Trace.Fields.{Reader, leading_word, field_at, fixed_at, behind, leading_quoted, optional, repeated, one_or_more, both, whole, leading_count, leading_seat, leading_lock, leading_type, whole_list}
+use Rattle.wit_model.specs.Trace.Spelling.{Spells, lock_letters, op_letters, assert_letters}
+use Rattle.wit_model.specs.Trace.Spelling.{warn_letters}
+unfoldable pub use Rattle.wit_model.specs.Trace.Words.{◌>>=◌, after, byte_place, until}
+unfoldable pub use Rattle.wit_model.specs.Trace.Words.{parted_before, parted_at_last, is_numeral}
+unfoldable pub use Rattle.wit_model.specs.Trace.Words.{number_of, named, version_named, class_named}
+unfoldable pub use Rattle.wit_model.specs.Trace.Words.{mode_named, level_named, keywords}
+unfoldable pub use Rattle.wit_model.specs.Trace.Words.{keyword_named, bits_of, flags_of, accepted}
+unfoldable pub use Rattle.wit_model.specs.Trace.Words.{site_of}
+unfoldable pub use Rattle.wit_model.specs.Trace.Fields.{Reader, leading_word, field_at, fixed_at}
+unfoldable pub use Rattle.wit_model.specs.Trace.Fields.{behind, leading_quoted, optional, repeated}
+unfoldable pub use Rattle.wit_model.specs.Trace.Fields.{one_or_more, both, whole, leading_count}
+unfoldable pub use Rattle.wit_model.specs.Trace.Fields.{leading_seat, leading_lock, leading_type}
+unfoldable pub use Rattle.wit_model.specs.Trace.Fields.{whole_list}
 
 -- a number behind a fixed word
 abbrev pub labelled : List ℕ → Reader ℕ
@@ -54,7 +66,8 @@ check_of bytes =
 
 unfoldable pub try_of : List ℕ → Option Line
 try_of bytes =
-    whole (both leading_seat (both leading_lock (both (field_at mode_named) (field_at site_of)))) bytes
+    whole (both leading_seat (both leading_lock (both (field_at mode_named) (field_at site_of))))
+    bytes
     >>= λ x. Some (OnLock (Try (record { 0 = x.0 }) (record { 0 = x.1.0 })
     x.1.1.0 x.1.1.1.0 x.1.1.1.1))
 
@@ -77,7 +90,8 @@ step_of step bytes =
 unfoldable pub try_take_of : List ℕ → Option Line
 try_take_of bytes =
     whole (both leading_seat (both leading_lock (field_at mode_named))) bytes
-    >>= λ x. Some (OnLock (Step (record { 0 = x.0 }) (record { 0 = x.1.0 }) (raw_step.TryTake x.1.1)))
+    >>= λ x. Some (OnLock (Step (record { 0 = x.0 }) (record { 0 = x.1.0 })
+    (raw_step.TryTake x.1.1)))
 
 unfoldable pub assert_of : List ℕ → Option Line
 assert_of bytes =
@@ -100,7 +114,8 @@ define_of bytes =
 
 unfoldable pub watch_line : List ℕ → Option Line
 watch_line bytes =
-    whole (both leading_seat (field_at level_named)) bytes >>= λ x. Some (Watch (record { 0 = x.0 }) x.1)
+    whole (both leading_seat (field_at level_named)) bytes >>= λ x.
+    Some (Watch (record { 0 = x.0 }) x.1)
 
 -- the fields of a line, by its keyword
 abbrev pub fields_of : Keyword → List ℕ → Option Line

@@ -46,7 +46,8 @@ site_words files site = file_with files site.file.0 ++ 58 ∷ decimal site.line
 abbrev pub lock_line : List Lock → List (List ℕ) → List ℕ → LockAt → List ℕ
 lock_line locks files rank at =
     let lock = (lock_at locks at.lock.0).made in
-    line (codes " " ∷ rank ∷ codes " " ∷ quoted lock.name ∷ codes " (" ∷ type_name_of lock ∷ codes ", " ∷ class_words lock.class ∷ codes ") @ "
+    line (codes " " ∷ rank ∷ codes " " ∷ quoted lock.name ∷ codes " (" ∷ type_name_of lock
+    ∷ codes ", " ∷ class_words lock.class ∷ codes ") @ "
     ∷ site_words files at.site ∷ [])
 
 abbrev pub heading_words : Heading → List ℕ
@@ -56,13 +57,17 @@ heading_words Giant = codes "lock order reversal: (Giant after non-sleepable)"
 
 -- the locks of a reversal, oldest first
 abbrev pub conflict_lines : List Lock → List (List ℕ) → Conflict → Option LockAt → List ℕ
-conflict_lines locks files c None = lock_line locks files (codes "1st") c.held ++ lock_line locks files (codes "2nd") c.asked
+conflict_lines locks files c None =
+    lock_line locks files (codes "1st") c.held ++ lock_line locks files (codes "2nd") c.asked
 conflict_lines locks files c (Some older) =
-    lock_line locks files (codes "1st") older ++ (lock_line locks files (codes "2nd") c.held ++ lock_line locks files (codes "3rd") c.asked)
+    lock_line locks files (codes "1st") older
+    ++ (lock_line locks files (codes "2nd") c.held
+    ++ lock_line locks files (codes "3rd") c.asked)
 
 -- the two locks of one type: the last held one, and the requested one
 abbrev pub doubling_lines : List Lock → List (List ℕ) → Doubling → List ℕ
-doubling_lines locks files d = lock_line locks files (codes "1st") d.last ++ lock_line locks files (codes "2nd") d.asked
+doubling_lines locks files d =
+    lock_line locks files (codes "1st") d.last ++ lock_line locks files (codes "2nd") d.asked
 
 -- where an order comes from
 abbrev pub origin_words : List (List ℕ) → Option Origin → List ℕ
@@ -74,7 +79,8 @@ origin_words files (Some (At site)) = site_words files site
 -- a direct order, as a line: "TYPE" -> "TYPE" @ ORIGIN
 abbrev pub order_line : Known → List (List ℕ) → ℕ → ℕ → List ℕ
 order_line k files a b =
-    line (codes " " ∷ quoted (name_of a k.types) ∷ codes " -> " ∷ quoted (name_of b k.types) ∷ codes " @ "
+    line (codes " " ∷ quoted (name_of a k.types) ∷ codes " -> "
+    ∷ quoted (name_of b k.types) ∷ codes " @ "
     ∷ origin_words files (origin_of a b k.orders) ∷ [])
 
 -- the orders between neighbours of a path
@@ -92,8 +98,10 @@ established k files (Some way) = line (codes "established order:" ∷ []) ++ ord
 abbrev pub report_text : Known → List (List ℕ) → Reply → List ℕ
 report_text k files (Reversal c) =
     line (heading_words c.heading ∷ []) ++ conflict_lines k.locks files c c.older
-    ++ established k files (path k.orders (length k.types) (lock_at k.locks c.asked.lock.0).type_no.0 (lock_at k.locks c.held.lock.0).type_no.0)
+    ++ established k files (path k.orders (length k.types)
+    (lock_at k.locks c.asked.lock.0).type_no.0 (lock_at k.locks c.held.lock.0).type_no.0)
 report_text k files (Duplicate d) =
-    line (codes "acquiring duplicate lock of same type: " ∷ quoted (type_name_of (lock_at k.locks d.asked.lock.0).made) ∷ []) ++ doubling_lines k.locks files d
+    line (codes "acquiring duplicate lock of same type: " ∷ quoted
+    (type_name_of (lock_at k.locks d.asked.lock.0).made) ∷ []) ++ doubling_lines k.locks files d
 report_text k files Exhausted = line (codes "witness exhausted" ∷ [])
 report_text k files _ = []

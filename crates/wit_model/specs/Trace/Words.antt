@@ -1,12 +1,15 @@
 -- Reading the words of a line: numbers, keywords, letters, a file with a line.
-use Rattle.std.specs.Prelude.{ℕ, ◌+◌, ◌*◌, ◌^◌, Bool, ◌&&◌, ◌||◌, not, List, [], ◌∷◌, length, take, drop, Option, Some, None, nat_lt, codes, ◌==◌, if◌then◌else◌, slice_index}
+use Rattle.std.specs.Prelude.{ℕ, ◌+◌, ◌*◌, ◌^◌, Bool, ◌&&◌, ◌||◌, not, List, [], ◌∷◌, length, take}
+use Rattle.std.specs.Prelude.{drop, Option, Some, None, nat_lt, codes, ◌==◌, if◌then◌else◌}
+use Rattle.std.specs.Prelude.{slice_index}
 use Rattle.std.specs.List.{position_or_len, list_all}
 use Rattle.std.specs.Char.{is_ascii_digit}
 use Rattle.std.specs.Str.{bytes_eq}
 use Rattle.std.specs.Str.Parse.{digits_value}
 use Rattle.wit_model.specs.declared.lines.Version.{Version}
 use Rattle.wit_model.specs.declared.lines.Version.TheVariants.{One, Two}
-use Rattle.wit_model.specs.declared.lines.Verb.TheVariants.{Note, GiveUp, Destroy, Upgrade, Downgrade, NoRelease, ReleaseOk}
+use Rattle.wit_model.specs.declared.lines.Verb.TheVariants.{Note, GiveUp, Destroy, Upgrade}
+use Rattle.wit_model.specs.declared.lines.Verb.TheVariants.{Downgrade, NoRelease, ReleaseOk}
 use Rattle.wit_model.specs.declared.lines.Keyword.{Keyword}
 use Rattle.wit_model.specs.declared.lines.Keyword.TheVariants as keyword
 use Rattle.wit_model.specs.declared.locks.Class.{Class}
@@ -16,7 +19,8 @@ use Rattle.wit_model.specs.declared.locks.Mode.TheVariants.{Shared, Exclusive}
 use Rattle.wit_model.specs.declared.locks.Watch as level
 use Rattle.wit_model.specs.declared.locks.Watch.TheVariants.{On, Quiet, Off}
 use Rattle.wit_model.specs.Rules.Names.{is_file_name}
-use Rattle.wit_model.specs.Trace.Spelling.{version_text, keyword_text, class_text, mode_text, level_text}
+use Rattle.wit_model.specs.Trace.Spelling.{version_text, keyword_text, class_text, mode_text}
+use Rattle.wit_model.specs.Trace.Spelling.{level_text}
 
 infixl 10 ◌>>=◌
 abbrev pub ◌>>=◌ : {A B : Type 0} → Option A → (A → Option B) → Option B
@@ -59,7 +63,8 @@ is_numeral word =
 -- a number below a bound
 abbrev pub number_of : ℕ → List ℕ → Option ℕ
 number_of bound word =
-    if is_numeral word && nat_lt (digits_value 10 word) bound then Some (digits_value 10 word) else None
+    if is_numeral word && nat_lt (digits_value 10 word) bound
+    then Some (digits_value 10 word) else None
 
 -- the value among these that a word names
 abbrev pub named : {A : Type 0} → (A → List ℕ) → List A → List ℕ → Option A
@@ -103,7 +108,8 @@ bits_of (letter ∷ letters) (b ∷ word) =
 -- flags: a dash, or letters
 unfoldable pub flags_of : List ℕ → List ℕ → Option ℕ
 flags_of letters word =
-    if bytes_eq word (codes "-") then Some 0 else if length word == 0 then None else bits_of letters word
+    if bytes_eq word (codes "-") then Some 0 else if length word == 0 then None
+    else bits_of letters word
 
 -- text that passes a test
 abbrev pub accepted : (List ℕ → Bool) → List ℕ → Option (List ℕ)

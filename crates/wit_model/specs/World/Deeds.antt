@@ -1,6 +1,7 @@
 -- What threads do: calls that the verifier logs or passes over, and steps of the locks themselves,
 -- of which it isn't told. A thread is a seat. Lists of deeds are newest first, as histories are.
-use Rattle.std.specs.Prelude.{ℕ, ◌+◌, ◌-◌, Bool, ◌&&◌, ◌==◌, List, [], ◌∷◌, ◌++◌, filter, if◌then◌else◌}
+use Rattle.std.specs.Prelude.{ℕ, ◌+◌, ◌-◌, Bool, ◌&&◌, ◌==◌, List, [], ◌∷◌, ◌++◌, filter}
+use Rattle.std.specs.Prelude.{if◌then◌else◌}
 use Rattle.wit_model.specs.declared.locks.Mode.{Mode}
 use Rattle.wit_model.specs.declared.locks.Mode.TheVariants.{Shared, Exclusive}
 use Rattle.wit_model.specs.declared.calls.Call.{Call}

@@ -1,7 +1,9 @@
 -- Which steps of the locks themselves go with the calls of a log that tells of calls alone.
-use Rattle.std.specs.Prelude.{ℕ, Bool, true, not, ◌||◌, nat_lt, List, Option, None, Some, if◌then◌else◌}
+use Rattle.std.specs.Prelude.{ℕ, Bool, true, not, ◌||◌, nat_lt, List, Option, None, Some}
+use Rattle.std.specs.Prelude.{if◌then◌else◌}
 use Rattle.wit_model.specs.declared.calls.Call.{Call}
-use Rattle.wit_model.specs.declared.calls.Call.TheVariants.{Note, NoteTry, Unlock, Upgrade, Downgrade}
+use Rattle.wit_model.specs.declared.calls.Call.TheVariants.{Note, NoteTry, Unlock, Upgrade}
+use Rattle.wit_model.specs.declared.calls.Call.TheVariants.{Downgrade}
 use Rattle.wit_model.specs.declared.calls.Reply.{Reply}
 use Rattle.wit_model.specs.declared.calls.Request.{Request}
 use Rattle.wit_model.specs.declared.calls.Entry.{Entry}
@@ -25,7 +27,8 @@ step_before h t (NoteTry l mode site) = Some (l, raw_step.TryTake mode)
 step_before h t (Upgrade l) = Some (l, raw_step.Up)
 step_before h t _ = None
 
--- whether an unlock leaves the lock as it is: where t has no share, or more was recorded than it has
+-- whether an unlock leaves the lock as it is: where t has no share, or more was recorded than it
+-- has
 abbrev pub is_kept : List Entry → List RawLock → ℕ → ℕ → Bool
 is_kept h raw t l = not (nat_lt 0 (shares_of raw t l)) || nat_lt (shares_of raw t l) (num t l h)
 

@@ -1,13 +1,19 @@
 -- A world as it is kept while it goes on: what the verifier was told, which shares of the locks
 -- themselves threads have, and where each thread stands in its latest sequence.
-use Rattle.std.specs.Prelude.{ℕ, ◌+◌, ◌-◌, Bool, true, false, not, ◌&&◌, ◌||◌, ◌==◌, nat_lt, List, [], ◌∷◌, ◌++◌, length, replicate, unwrap_or, Result, Ok, Err, if◌then◌else◌}
+use Rattle.std.specs.Prelude.{ℕ, ◌+◌, ◌-◌, Bool, true, false, not, ◌&&◌, ◌||◌, ◌==◌, nat_lt, List}
+use Rattle.std.specs.Prelude.{[], ◌∷◌, ◌++◌, length, replicate, unwrap_or, Result, Ok, Err}
+use Rattle.std.specs.Prelude.{if◌then◌else◌}
 use Rattle.std.specs.List.{list_all}
 use Rattle.wit_model.specs.declared.faults.Fault.{Fault}
-use Rattle.wit_model.specs.declared.faults.Fault.TheVariants.{UnknownSeat, UnknownLock, RawNotFree, StepOrder}
+use Rattle.wit_model.specs.declared.faults.Fault.TheVariants.{UnknownSeat, UnknownLock, RawNotFree}
+use Rattle.wit_model.specs.declared.faults.Fault.TheVariants.{StepOrder}
 use Rattle.wit_model.specs.declared.locks.Mode.{Mode}
 use Rattle.wit_model.specs.declared.locks.Mode.TheVariants.{Shared, Exclusive}
 use Rattle.wit_model.specs.declared.calls.Call.{Call}
-use Rattle.wit_model.specs.declared.calls.Call.TheVariants.{Init, Check, Note, NoteTry, GiveUp, Unlock, SetWatch, Destroy, Upgrade, Downgrade, NoRelease, ReleaseOk, DefineOrder}
+use Rattle.wit_model.specs.declared.calls.Call.TheVariants.{Init, Check, Note, NoteTry, GiveUp}
+use Rattle.wit_model.specs.declared.calls.Call.TheVariants.{Unlock, SetWatch, Destroy, Upgrade}
+use Rattle.wit_model.specs.declared.calls.Call.TheVariants.{Downgrade, NoRelease, ReleaseOk}
+use Rattle.wit_model.specs.declared.calls.Call.TheVariants.{DefineOrder}
 use Rattle.wit_model.specs.declared.calls.Reply.{Reply}
 use Rattle.wit_model.specs.declared.raw_steps.RawStep.{RawStep}
 use Rattle.wit_model.specs.declared.raw_steps.RawStep.TheVariants as raw_step
@@ -17,8 +23,10 @@ use Rattle.wit_model.specs.Rules.State.{Story, state_of, is_seat, is_live}
 use Rattle.wit_model.specs.Rules.State as state
 use Rattle.wit_model.specs.Rules.Verdict.{is_exclusive}
 use Rattle.wit_model.specs.Rules.Step.{answer_of, grown, is_logged}
-use Rattle.wit_model.specs.World.Deeds.{Deed, Logged, PassedOver, Take, TryTake, Free, RawUp, RawDown, thread_of}
-use Rattle.wit_model.specs.World.Stages.{Stage, Over, Asked, Taken, Tried, Raised, stage_called, stage_passed, call_follows, deed_follows}
+use Rattle.wit_model.specs.World.Deeds.{Deed, Logged, PassedOver, Take, TryTake, Free, RawUp}
+use Rattle.wit_model.specs.World.Deeds.{RawDown, thread_of}
+use Rattle.wit_model.specs.World.Stages.{Stage, Over, Asked, Taken, Tried, Raised, stage_called}
+use Rattle.wit_model.specs.World.Stages.{stage_passed, call_follows, deed_follows}
 
 -- who has how many shares of a lock, and in which mode
 pub record RawLock : Type 0 where

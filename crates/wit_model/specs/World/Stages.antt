@@ -14,10 +14,12 @@ use Rattle.wit_model.specs.declared.locks.Mode.{Mode}
 use Rattle.wit_model.specs.declared.locks.Mode.TheVariants.{Shared, Exclusive}
 use Rattle.wit_model.specs.declared.calls.Request.{Request}
 use Rattle.wit_model.specs.declared.calls.Call.{Call}
-use Rattle.wit_model.specs.declared.calls.Call.TheVariants.{Check, Note, NoteTry, GiveUp, Unlock, Upgrade, Downgrade}
+use Rattle.wit_model.specs.declared.calls.Call.TheVariants.{Check, Note, NoteTry, GiveUp, Unlock}
+use Rattle.wit_model.specs.declared.calls.Call.TheVariants.{Upgrade, Downgrade}
 use Rattle.wit_model.specs.Rules.History.{num, is_held}
 use Rattle.wit_model.specs.Rules.Verdict.{is_exclusive}
-use Rattle.wit_model.specs.World.Deeds.{Deed, Logged, PassedOver, Take, TryTake, Free, RawUp, RawDown, thread_of, own, log_of, shares}
+use Rattle.wit_model.specs.World.Deeds.{Deed, Logged, PassedOver, Take, TryTake, Free, RawUp}
+use Rattle.wit_model.specs.World.Deeds.{RawDown, thread_of, own, log_of, shares}
 
 -- where a thread stands in its latest sequence
 pub data Stage : Type 0 where
@@ -107,4 +109,5 @@ deed_follows _ held _ = false
 -- whether it may come next, as its thread stands
 abbrev pub may_follow : Deed → List Deed → Bool
 may_follow d w =
-    deed_follows d (λ l. is_held (thread_of d) l (log_of w)) (stage (thread_of d) (own (thread_of d) w))
+    deed_follows d (λ l. is_held (thread_of d) l (log_of w))
+    (stage (thread_of d) (own (thread_of d) w))

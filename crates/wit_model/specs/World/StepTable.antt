@@ -3,7 +3,8 @@ use Rattle.std.specs.Prelude.{◌≡◌, Bool, true, false, List, [], ◌∷◌,
 use Rattle.wit_model.specs.declared.locks.Class.TheVariants.{Rw}
 use Rattle.wit_model.specs.declared.locks.LockNo.{LockNo}
 use Rattle.wit_model.specs.declared.locks.Mode.TheVariants.{Shared, Exclusive}
-use Rattle.wit_model.specs.declared.calls.Call.TheVariants.{Init, Check, Note, NoteTry, GiveUp, Upgrade}
+use Rattle.wit_model.specs.declared.calls.Call.TheVariants.{Init, Check, Note, NoteTry, GiveUp}
+use Rattle.wit_model.specs.declared.calls.Call.TheVariants.{Upgrade}
 use Rattle.wit_model.specs.declared.calls.Reply.TheVariants.{Made, Pass, Recorded}
 use Rattle.wit_model.specs.declared.raw_steps.RawStep.TheVariants as raw_step
 use Rattle.wit_model.specs.Rules.Step.{story_after}
@@ -38,13 +39,19 @@ unheld at = standing_at lock_made at
 
 -- the same where it holds the lock by the record
 abbrev holding : Stage → Scene
-holding at = standing_at (by 1 (Note first) Recorded ∷ by 1 (Check (request 1 1)) Pass ∷ lock_made) at
+holding at =
+    standing_at (by 1 (Note first) Recorded ∷ by 1 (Check (request 1 1)) Pass ∷ lock_made) at
 
 -- whether these may come next: a sequence's first call or step (an init, a try); and of the first
 -- lock a take, a note, a giving up, a try's note, an upgrade, a free, a turn to shared
 abbrev nexts : Scene → Stage → List Bool
 nexts s at =
-    may_call s 1 (Init (record { class = Rw; flags = record { 0 = 0 }; name = codes "s"; type_name = None }))
+    may_call s 1 (Init (record {
+      class = Rw;
+      flags = record { 0 = 0 };
+      name = codes "s";
+      type_name = None;
+    }))
     ∷ may_come s (deed_of at 1 1 (raw_step.TryTake Exclusive))
     ∷ may_come s (deed_of at 1 1 raw_step.Take)
     ∷ may_call s 1 (Note first)

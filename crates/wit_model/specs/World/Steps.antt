@@ -1,6 +1,7 @@
 -- Worlds: which deed may come next. The verifier answers calls by its rules, and a lock has one
 -- exclusive holder or any number of shared ones.
-use Rattle.std.specs.Prelude.{ℕ, ◌<◌, ◌≡◌, Bool, true, false, not, ◌&&◌, ◌||◌, ◌==◌, List, [], ◌∷◌, Ok}
+use Rattle.std.specs.Prelude.{ℕ, ◌<◌, ◌≡◌, Bool, true, false, not, ◌&&◌, ◌||◌, ◌==◌, List, [], ◌∷◌}
+use Rattle.std.specs.Prelude.{Ok}
 use Rattle.std.specs.List.{list_all, range_with_len}
 use Rattle.wit_model.specs.declared.locks.Mode.{Mode}
 use Rattle.wit_model.specs.declared.locks.Mode.TheVariants.{Shared, Exclusive}
@@ -9,7 +10,8 @@ use Rattle.wit_model.specs.Rules.Numbers.{is_number}
 use Rattle.wit_model.specs.Rules.State.{Start}
 use Rattle.wit_model.specs.Rules.Verdict.{is_exclusive}
 use Rattle.wit_model.specs.Rules.Step.{answer_of, story_after, is_logged}
-use Rattle.wit_model.specs.World.Deeds.{Deed, Logged, PassedOver, Take, TryTake, Free, RawUp, RawDown, log_of, shares, raw_mode}
+use Rattle.wit_model.specs.World.Deeds.{Deed, Logged, PassedOver, Take, TryTake, Free, RawUp}
+use Rattle.wit_model.specs.World.Deeds.{RawDown, log_of, shares, raw_mode}
 use Rattle.wit_model.specs.World.Stages.{may_follow}
 
 -- whether lock l may be had so, where threads count from 1 to this many: exclusive where nobody has
@@ -17,12 +19,14 @@ use Rattle.wit_model.specs.World.Stages.{may_follow}
 abbrev pub admits : ℕ → ℕ → Mode → List Deed → Bool
 admits threads l Exclusive w = list_all (λ t. shares t l w == 0) (range_with_len 1 threads)
 admits threads l Shared w =
-    list_all (λ t. (shares t l w == 0) || not (is_exclusive (raw_mode t l w))) (range_with_len 1 threads)
+    list_all (λ t. (shares t l w == 0) || not (is_exclusive (raw_mode t l w)))
+    (range_with_len 1 threads)
 
 -- whether t has the only share of lock l
 abbrev pub is_alone : ℕ → ℕ → ℕ → List Deed → Bool
 is_alone threads t l w =
-    (shares t l w == 1) && list_all (λ u. (u == t) || (shares u l w == 0)) (range_with_len 1 threads)
+    (shares t l w == 1) && list_all (λ u. (u == t) || (shares u l w == 0))
+    (range_with_len 1 threads)
 
 -- whether a deed may come next
 abbrev pub CanDo : Start → List (List ℕ) → Deed → List Deed → Type 0

@@ -8,7 +8,8 @@ use Rattle.wit_model.specs.declared.calls.Call.TheVariants.{NoteTry}
 use Rattle.wit_model.specs.declared.calls.Reply.TheVariants.{Pass, AdoptedAll, Recorded}
 use Rattle.wit_model.specs.Rules.State.{Start}
 use Rattle.wit_model.specs.World.Deeds.{Deed, TryTake}
-use Rattle.wit_model.specs.World.Examples.{small, by, at_line, makes_mutex, asks, locks, unlocks, reverses}
+use Rattle.wit_model.specs.World.Examples.{small, by, at_line, makes_mutex, asks, locks, unlocks}
+use Rattle.wit_model.specs.World.Examples.{reverses}
 
 abbrev pub small_all_held : Start
 small_all_held = record small { profile = AllHeld }

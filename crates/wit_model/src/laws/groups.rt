@@ -1,6 +1,7 @@
 //! Laws of the groups in which held locks lie. Each function is a theorem, and does nothing.
 
-ghost use Rattle.wit_model.specs.GroupLaws.{GroupsMakeChains, GroupsAreShort, GroupsAreTidy, ChunksAddUp};
+ghost use Rattle.wit_model.specs.GroupLaws.{GroupsMakeChains, GroupsAreShort, GroupsAreTidy};
+ghost use Rattle.wit_model.specs.GroupLaws.{ChunksAddUp};
 
 /// The groups of a seat's held locks of one kind, joined in order, are its chain.
 pub fn law_groups_make_chains()
@@ -13,7 +14,8 @@ pub fn law_groups_are_tidy()
     ensures tidy { GroupsAreTidy }
 {}
 
-/// The free chunks and those of all seats make up the number of chunks: `Exhausted` comes only where none is left.
+/// The free chunks and those of all seats make up the number of chunks: `Exhausted` comes only
+/// where none is left.
 pub fn law_chunks_add_up()
     ensures { ChunksAddUp }
 {}

@@ -1,4 +1,5 @@
-//! Laws of the rules: what holds of every legal history. Each function is a theorem, and does nothing.
+//! Laws of the rules: what holds of every legal history. Each function is a theorem, and does
+//! nothing.
 
 ghost use Rattle.wit_model.specs.Trace.Spelling.{IsOneSpelling};
 ghost use Rattle.wit_model.specs.Trace.Reading.{ReadsSpellings};
@@ -24,7 +25,8 @@ pub fn law_before_is_path()
     ensures { TestFindsPaths }
 {}
 
-/// The note of a request that passed its check is accepted as long as it is pending, and so is its being given up.
+/// The note of a request that passed its check is accepted as long as it is pending, and so is its
+/// being given up.
 pub fn law_note_after_check()
     ensures pending { PendingIsNoted }
     ensures given_up { PendingIsGivenUp }

@@ -53,7 +53,8 @@ impl Progress {
         number: u64,
         error: LineError,
     ) -> Result<Step, AllocError>
-        requires { (cause : Cause) → error ≡ Bad cause → reports_told (progress_of self.now) < 2 ^ 64 }
+        requires { (cause : Cause) → error ≡ Bad cause
+            → reports_told (progress_of self.now) < 2 ^ 64 }
         ensures { (view : View) → IfOk result (EndsFor view (progress_of self.now) number error) }
     {
         match error {
@@ -77,7 +78,8 @@ impl Progress {
     ) -> Result<(Vec<u8>, Summary), AllocError>
         requires { reports_told (progress_of self.now) < 2 ^ 64 }
         ensures text { IfOk result (λ r. r.0.items ≡ bad_text number cause) }
-        ensures total { IfOk result (λ r. total r.1 ≡ summed (progress_of self.now) (Some (number, cause))) }
+        ensures total { IfOk result (λ r. total r.1
+            ≡ summed (progress_of self.now) (Some (number, cause))) }
         ensures circle { IfOk result (λ r. r.1.circle ≡ false) }
     {
         let text = bad_text(alloc, number, cause)?;

@@ -3,7 +3,8 @@
 ghost use Rattle.std.specs.Prelude.{◌≡◌, ◌||◌, None, unwrap_or, IfOk, IfErr, OnOk};
 ghost use Rattle.wit_model.specs.Rules.Numbers.{with_number};
 ghost use Rattle.wit_core.specs.Listed.{listed};
-ghost use Rattle.wit_model.specs.Trace.Output.{Opening, begun, empty_prelude, entered, is_prelude, is_profile, opened, with_list, with_pair};
+ghost use Rattle.wit_model.specs.Trace.Output.{Opening, begun, empty_prelude, entered, is_prelude};
+ghost use Rattle.wit_model.specs.Trace.Output.{is_profile, opened, with_list, with_pair};
 ghost use Rattle.wit_model.specs.Rules.Start.{start_fault, IsRefused};
 ghost use Rattle.wit_core.specs.Fresh.{start_of};
 ghost use Rattle.wit_model.specs.Rules.State.{fresh};
@@ -43,8 +44,8 @@ pub fn new_prelude(alloc: Global, version: Version, limits: Limits) -> Prelude
     }
 }
 
-/// Whether a line, with its number, stands in the prelude: its first six bytes decide it, but for the
-/// second line, which may name a profile.
+/// Whether a line, with its number, stands in the prelude: its first six bytes decide it, but for
+/// the second line, which may name a profile.
 pub fn is_prelude(number: u64, line: &[u8]) -> bool
     ensures { result ≡ (is_prelude line.now || is_profile number line.now) }
 {
@@ -91,7 +92,8 @@ fn add_list(
     number: u64,
     list: TypeList,
 ) -> Result<(), AllocError>
-    ensures { OnOk result (prelude_of prelude.new ≡ with_list (prelude_of prelude.old) number list) }
+    ensures { OnOk result (prelude_of prelude.new
+        ≡ with_list (prelude_of prelude.old) number list) }
 {
     prelude.lists.push(names_of(alloc, list)?)?;
     prelude.lines.push(number)?;
@@ -99,7 +101,8 @@ fn add_list(
 }
 
 fn add_pair(prelude: &mut Prelude, first: Name, second: Name) -> Result<(), AllocError>
-    ensures { OnOk result (prelude_of prelude.new ≡ with_pair (prelude_of prelude.old) first second) }
+    ensures { OnOk result (prelude_of prelude.new
+        ≡ with_pair (prelude_of prelude.old) first second) }
 {
     let pair = (first.into_string(), second.into_string());
     prelude.blessed.push(pair)?;
@@ -117,13 +120,14 @@ fn names_of(alloc: Global, list: TypeList) -> Result<Vec<(Class, String)>, Alloc
     Ok(types)
 }
 
-/// A replay with the verifier that the prelude asks for, or the number of the first line whose list is
-/// refused, and why.
+/// A replay with the verifier that the prelude asks for, or the number of the first line whose list
+/// is refused, and why.
 ///
 /// # Errors
 /// Want of memory alone.
 pub fn open(alloc: Global, prelude: Prelude) -> Result<Result<Progress, (u64, Cause)>, AllocError>
-    ensures { IfOk result (Opens (opened (prelude_of prelude) (start_fault (prelude_of prelude).start))) }
+    ensures { IfOk result (Opens
+        (opened (prelude_of prelude) (start_fault (prelude_of prelude).start))) }
 {
     let version = prelude.version;
     match verifier_of(alloc, prelude)? {
@@ -132,8 +136,8 @@ pub fn open(alloc: Global, prelude: Prelude) -> Result<Result<Progress, (u64, Ca
     }
 }
 
-/// The verifier that the prelude asks for, or the number of the first line whose list is refused, and
-/// why.
+/// The verifier that the prelude asks for, or the number of the first line whose list is refused,
+/// and why.
 ///
 /// # Errors
 /// Want of memory alone.
@@ -141,7 +145,8 @@ pub fn verifier_of(
     alloc: Global,
     prelude: Prelude,
 ) -> Result<Result<Verifier, (u64, Cause)>, AllocError>
-    ensures { IfOk result (IsVerifierOf (prelude_of prelude) (start_fault (prelude_of prelude).start)) }
+    ensures { IfOk result (IsVerifierOf (prelude_of prelude)
+        (start_fault (prelude_of prelude).start)) }
 {
     let made = make(
         alloc,
@@ -173,9 +178,11 @@ fn make(
     lists: Vec<Vec<(Class, String)>>,
     blessed: Vec<(String, String)>,
 ) -> Result<Verifier, StartError>
-    ensures ok { IfOk result (λ v. (start_fault (start_of profile limits lists.items blessed.items) ≡ None)
+    ensures ok { IfOk result (λ v.
+        (start_fault (start_of profile limits lists.items blessed.items) ≡ None)
         × (v ≡ fresh (start_of profile limits lists.items blessed.items))) }
-    ensures err { IfErr result (λ e. IsRefused (start_of profile limits lists.items blessed.items) e.list e.fault) }
+    ensures err { IfErr result (λ e. IsRefused (start_of profile limits lists.items blessed.items)
+        e.list e.fault) }
 {
     match profile {
         Profile::Plain => Verifier::new(alloc, limits, lists, blessed),

@@ -1,4 +1,5 @@
-//! How a replay gets to a line: where the prelude ends before it, the verifier or the world is made.
+//! How a replay gets to a line: where the prelude ends before it, the verifier or the world is
+//! made.
 
 ghost use Rattle.std.specs.Prelude.{◌≡◌, ℕ, List, true, IfOk};
 ghost use Rattle.wit_model.specs.Trace.Output.{reached};
@@ -11,7 +12,8 @@ use std::mem;
 use wit_model::Cause;
 
 impl Progress {
-    /// The prelude ends before a line that begins otherwise; a list that is refused then is the bad line.
+    /// The prelude ends before a line that begins otherwise; a list that is refused then is the bad
+    /// line.
     ///
     /// # Errors
     /// Want of memory alone.
@@ -22,8 +24,11 @@ impl Progress {
         number: u64,
         line: &[u8],
     ) -> Result<Option<(u64, Cause)>, AllocError>
-        ensures stands { IfOk result (StandsAsDue (reached (progress_of self.old) number line.now) (progress_of self.old) (progress_of self.new)) }
-        ensures counted { IfOk result (λ r. reports_told (progress_of self.new) ≡ reports_told (progress_of self.old)) }
+        ensures stands { IfOk result
+            (StandsAsDue (reached (progress_of self.old) number line.now) (progress_of self.old)
+            (progress_of self.new)) }
+        ensures counted { IfOk result (λ r. reports_told (progress_of self.new)
+            ≡ reports_told (progress_of self.old)) }
     {
         if self.ends_prelude(number, line) {
             self.end_prelude(alloc)
@@ -36,8 +41,10 @@ impl Progress {
     #[cold]
     #[inline(never)]
     fn end_prelude(&mut self, alloc: Global) -> Result<Option<(u64, Cause)>, AllocError>
-        ensures { (number : ℕ) (line : List ℕ) → ends_prelude (progress_of self.old) number line ≡ true
-            → IfOk result (StandsAsDue (reached (progress_of self.old) number line) (progress_of self.old) (progress_of self.new)) }
+        ensures { (number : ℕ) (line : List ℕ)
+            → ends_prelude (progress_of self.old) number line ≡ true
+            → IfOk result (StandsAsDue (reached (progress_of self.old) number line)
+            (progress_of self.old) (progress_of self.new)) }
     {
         match mem::replace(self, Progress::Unstarted) {
             Progress::Opening(prelude) => match open(alloc, prelude)? {

@@ -1,8 +1,10 @@
-//! The lines of the second version: the calls that they make in a world, and the steps of locks themselves.
+//! The lines of the second version: the calls that they make in a world, and the steps of locks
+//! themselves.
 
 ghost use Rattle.std.specs.Prelude.{◌≡◌, ◌-◌, ◌<◌, ◌^◌, ℕ, IfOk};
 ghost use Rattle.std.specs.Option.{option_copied};
-ghost use Rattle.wit_model.specs.Trace.Output.{Stepping, Steps, call_of, calls_in, makes_in, reply_text};
+ghost use Rattle.wit_model.specs.Trace.Output.{Stepping, Steps, call_of, calls_in, makes_in};
+ghost use Rattle.wit_model.specs.Trace.Output.{reply_text};
 ghost use Rattle.wit_grammar.specs.Lines.{as_line};
 ghost use Rattle.wit_trace.specs.LineCalls.{NumbersFile, as_call};
 ghost use Rattle.wit_trace.specs.Replays.{GoesAsDue};

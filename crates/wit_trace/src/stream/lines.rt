@@ -1,6 +1,7 @@
 //! Lines and their ends.
 
-ghost use Rattle.std.specs.Prelude.{◌≡◌, ◌+◌, ◌<◌, ◌≤◌, false, [], ◌++◌, length, take, slice_index, IfOk, OnOk, MatchOption};
+ghost use Rattle.std.specs.Prelude.{◌≡◌, ◌+◌, ◌<◌, ◌≤◌, false, [], ◌++◌, length, take, slice_index};
+ghost use Rattle.std.specs.Prelude.{IfOk, OnOk, MatchOption};
 ghost use Rattle.wit_trace.specs.Machine.{Follows};
 ghost use Rattle.wit_trace.specs.Text.{HasNoFeed};
 ghost use Rattle.wit_trace.specs.Stream.{OutputFrom};
@@ -15,7 +16,8 @@ use wit_model::Cause;
 /// The place of the first line feed.
 pub fn feed_in(bytes: &[u8]) -> Option<usize>
     ensures { MatchOption result (HasNoFeed bytes.now) (λ len.
-        (len < length bytes.now) × HasNoFeed (take len bytes.now) × (slice_index bytes.now len ≡ 10)) }
+        (len < length bytes.now) × HasNoFeed (take len bytes.now)
+        × (slice_index bytes.now len ≡ 10)) }
 {
     memchr(b'\n', bytes)
 }
@@ -76,9 +78,9 @@ pub fn at_end<M: Machine>(
     }
 }
 
-/// Whether the next look may have to wait, where these bytes were shown behind a line. Where it might
-/// have had to before, nothing is kept that is to be written; if the line tells nothing either, the
-/// answer serves nobody, and nothing is looked for.
+/// Whether the next look may have to wait, where these bytes were shown behind a line. Where it
+/// might have had to before, nothing is kept that is to be written; if the line tells nothing
+/// either, the answer serves nobody, and nothing is looked for.
 pub fn may_wait(waited: bool, step: &Step, shown: &[u8]) -> bool
     ensures { result ≡ false → HasNoFeed shown.now → LONGEST < length shown.now }
 {

@@ -21,11 +21,11 @@ pub enum Step {
 
 /// Reads lines one at a time, writes texts, and ends with a summary.
 ///
-/// `allows by m number lines tail text summary` says that from `m` on, where the next line has this number
-/// and these whole lines and this unfinished one are still to come, this text may be written by a machine that
-/// shows by this what it reads, and this summary given. `shows_by m` is that of a machine, and stays the same.
-/// Some text and summary are always allowed. `reports m` is at least how many reports the machine has counted,
-/// and a line adds one at most.
+/// `allows by m number lines tail text summary` says that from `m` on, where the next line has this
+/// number and these whole lines and this unfinished one are still to come, this text may be written
+/// by a machine that shows by this what it reads, and this summary given. `shows_by m` is that of a
+/// machine, and stays the same. Some text and summary are always allowed. `reports m` is at least
+/// how many reports the machine has counted, and a line adds one at most.
 pub trait Machine {
     /// By what it shows what it reads.
     type View;
@@ -36,8 +36,8 @@ pub trait Machine {
 
     ghost reports: { Self → ℕ };
 
-    /// Reads a whole line of at most 4,096 bytes, without its line feed. Lines count from 1. The room
-    /// is that of an earlier text, for this one: so not each line takes memory.
+    /// Reads a whole line of at most 4,096 bytes, without its line feed. Lines count from 1. The
+    /// room is that of an earlier text, for this one: so not each line takes memory.
     ///
     /// # Errors
     /// Want of memory alone; nothing is promised then.
@@ -52,7 +52,8 @@ pub trait Machine {
         requires empty { room.items ≡ [] }
         requires short { length bytes.now ≤ LONGEST }
         requires plain { HasNoFeed bytes.now }
-        ensures step { IfOk result (Follows (allows (shows_by self.old)) self.old self.new number bytes.now) }
+        ensures step { IfOk result (Follows (allows (shows_by self.old)) self.old self.new
+            number bytes.now) }
         ensures kept { IfOk result (λ s. shows_by self.new ≡ shows_by self.old) }
         ensures counted { IfOk result (λ s. reports self.new ≤ reports self.old + 1) };
 
@@ -79,8 +80,10 @@ pub trait Machine {
     /// Want of memory alone; nothing is promised then.
     fn end(&mut self, alloc: Global, number: u64) -> Result<(Vec<u8>, Summary), AllocError>
         requires { reports self.old < number }
-        ensures { IfOk result (λ r. allows (shows_by self.old) self.old number [] [] r.0.items r.1) };
+        ensures { IfOk result (λ r. allows (shows_by self.old) self.old number [] []
+            r.0.items r.1) };
 
-    ghost answers: { (by : Self.View) (m : Self) (number : ℕ) (lines : List (List ℕ)) (tail : List ℕ) →
+    ghost answers: { (by : Self.View) (m : Self) (number : ℕ) (lines : List (List ℕ))
+        (tail : List ℕ) →
         (text : List ℕ) × ((summary : Summary) × allows by m number lines tail text summary) };
 }

@@ -1,11 +1,13 @@
 //! One look at a reader, one text to a writer, and the evidence of their failures.
 
-ghost use Rattle.std.specs.Prelude.{◌≡◌, ◌≢◌, ℕ, ◌+◌, ◌-◌, ◌^◌, ◌<◌, ◌≤◌, Bool, [], length, Ok, Some, IsTrue, IfOk, OnOk, OnErr};
+ghost use Rattle.std.specs.Prelude.{◌≡◌, ◌≢◌, ℕ, ◌+◌, ◌-◌, ◌^◌, ◌<◌, ◌≤◌, Bool, [], length, Ok};
+ghost use Rattle.std.specs.Prelude.{Some, IsTrue, IfOk, OnOk, OnErr};
 ghost use Rattle.std.specs.Global.{Vec};
 ghost use Rattle.std.specs.Io.KnownBytes.{Appends, Keeps};
 ghost use Rattle.wit_trace.specs.Text.{HasNoFeed};
 ghost use Rattle.wit_trace.specs.declared.stream.machine.Step.TheVariants.{Goes};
-ghost use Rattle.wit_trace.specs.Stream.{Advances, AppendsFront, OutputFrom, has_read_failed, has_write_failed, no_failure};
+ghost use Rattle.wit_trace.specs.Stream.{Advances, AppendsFront, OutputFrom, has_read_failed};
+ghost use Rattle.wit_trace.specs.Stream.{has_write_failed, no_failure};
 
 use crate::stream::lines::{at_end, feed_in, may_wait, whole_line};
 use crate::stream::machine::{Machine, Step};
@@ -27,8 +29,9 @@ pub trait Ports<R: BufRead, W: Write> {
 
     ghost waits: { Self → Bool };
 
-    /// Looks at the reader once, and takes what it shows of a line, behind what was begun of it: `None` where
-    /// the line goes on. A line that the reader shows whole goes to the machine without a copy.
+    /// Looks at the reader once, and takes what it shows of a line, behind what was begun of it:
+    /// `None` where the line goes on. A line that the reader shows whole goes to the machine
+    /// without a copy.
     ///
     /// # Errors
     /// `Read` where the reader failed, of which nothing is taken then; `Memory` where the machine
@@ -50,9 +53,12 @@ pub trait Ports<R: BufRead, W: Write> {
         ensures ok { IfOk result (Advances (OutputFrom (M.allows (M.shows_by machine.old)))
             machine.old machine.new number
             (R.remaining reader.old) (R.remaining reader.new) begun.old.items begun.new.items) }
-        ensures kept { result ≡ Err ReplayError.Read → Keeps (R.remaining reader.old) (R.remaining reader.new) }
-        ensures reported { (text : Vec ℕ) → result ≡ Ok (Some (Goes text)) → M.reports machine.new ≤ M.reports machine.old + 1 }
-        ensures shown { (text : Vec ℕ) → result ≡ Ok (Some (Goes text)) → M.shows_by machine.new ≡ M.shows_by machine.old }
+        ensures kept { result ≡ Err ReplayError.Read
+            → Keeps (R.remaining reader.old) (R.remaining reader.new) }
+        ensures reported { (text : Vec ℕ) → result ≡ Ok (Some (Goes text))
+            → M.reports machine.new ≤ M.reports machine.old + 1 }
+        ensures shown { (text : Vec ℕ) → result ≡ Ok (Some (Goes text))
+            → M.shows_by machine.new ≡ M.shows_by machine.old }
         ensures counted { looks self.new ≡ looks self.old + 1 }
         ensures failed { result ≡ Err ReplayError.Read → IsTrue (read_failed self.new) }
         ensures not_write { result ≢ Err ReplayError.Write };
@@ -63,15 +69,17 @@ pub trait Ports<R: BufRead, W: Write> {
     /// `Write` where the writer failed, took no byte or didn't flush; it has then a beginning of
     /// the bytes.
     fn put(&mut self, writer: &mut W, bytes: &[u8]) -> Result<(), ReplayError>
-        ensures ok { OnOk result (Appends (W.contents writer.old) (W.contents writer.new) bytes.now) }
-        ensures err { OnErr result (AppendsFront (W.contents writer.old) (W.contents writer.new) bytes.now) }
+        ensures ok { OnOk result (Appends (W.contents writer.old)
+            (W.contents writer.new) bytes.now) }
+        ensures err { OnErr result (AppendsFront (W.contents writer.old)
+            (W.contents writer.new) bytes.now) }
         ensures counted { looks self.new ≡ looks self.old }
         ensures read { read_failed self.new ≡ read_failed self.old }
         ensures failed { OnErr result (IsTrue (write_failed self.new)) }
         ensures only_write { OnErr result (result ≡ Err ReplayError.Write) };
 
-    /// Whether the next look may have to wait, since the last one showed no whole line behind the one
-    /// that it took. What is told is to be written before it then.
+    /// Whether the next look may have to wait, since the last one showed no whole line behind the
+    /// one that it took. What is told is to be written before it then.
     fn may_wait(&self) -> bool
         ensures { result ≡ waits self.now };
 }

@@ -12,5 +12,6 @@ compare_exchange-requires c =
       book,
       pen.0 ∙ book,
       offer.0,
-      rw (ap (λ w. w.key) head, pen.1, offer.3) (ends_moves c.again-now.result.log c.plain-offer.result.ask),
+      rw (ap (λ w. w.key) head, pen.1, offer.3)
+          (ends_moves c.again-now.result.log c.plain-offer.result.ask),
     )

@@ -8,7 +8,8 @@ use Rattle.wit_check.proofs.held.held_lock.Given as goal
 abbrev pub invariant-loop-spot : goal.invariant-loop-spot
 invariant-loop-spot g l =
     IsNext (g.L.Lists.chunks l.lists) l.list l.spot
-    × (find (is_of l.lock.0) (reverse (flat (newer_than (g.L.Lists.chunks l.lists) l.list l.spot))) ≡ None)
+    × (find (is_of l.lock.0) (reverse (flat (newer_than (g.L.Lists.chunks l.lists) l.list l.spot)))
+    ≡ None)
 
 abbrev pub decreases-loop-spot : goal.decreases-loop-spot
 decreases-loop-spot g l = upto l.spot

@@ -16,5 +16,6 @@ returns c = λ parents is.
     ∙ sym
     (ap₂ (λ a b. (a && not b) && not (is_among (type_held c.args.basis.now c.args.held).0 parents))
     (sym c.is_learnt.ensures ∙ c.if-not-is_learnt.false)
-    (ap (λ (t : TypeNo). is_direct c.args.basis.now.orders t.0 c.args.request.type_no.0) (sym c.type_held-parent.ensures.value)
+    (ap (λ (t : TypeNo). is_direct c.args.basis.now.orders t.0 c.args.request.type_no.0)
+    (sym c.type_held-parent.ensures.value)
     ∙ sym c.is_direct.ensures ∙ c.if-is_direct.false))

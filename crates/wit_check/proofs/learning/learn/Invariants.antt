@@ -7,4 +7,5 @@ use Rattle.wit_check.proofs.learning.learn.Given as goal
 abbrev pub invariant-loop-place : goal.invariant-loop-place
 invariant-loop-place l =
     (parents : List TypeNo) → l.fn.learnt ≡ orders_behind l.request parents
-    → l.learnt ≡ orders_behind l.request (with_parents l.basis l.request (drop l.place l.chunk) parents)
+    → l.learnt ≡ orders_behind l.request
+    (with_parents l.basis l.request (drop l.place l.chunk) parents)

@@ -9,7 +9,9 @@ use Rattle.wit_check.proofs.learning.learnt_behind.Given as goal
 abbrev pub invariant-loop-spot : goal.invariant-loop-spot
 invariant-loop-spot g l =
     IsNext (g.L.Lists.chunks l.lists) l.list l.spot
-    × (l.learnt ≡ orders_behind l.request (with_parents l.basis l.request (flat (newer_than (g.L.Lists.chunks l.lists) l.list l.spot)) []))
+    × (l.learnt ≡ orders_behind l.request
+    (with_parents l.basis l.request
+    (flat (newer_than (g.L.Lists.chunks l.lists) l.list l.spot)) []))
 
 abbrev pub decreases-loop-spot : goal.decreases-loop-spot
 decreases-loop-spot g l = upto l.spot

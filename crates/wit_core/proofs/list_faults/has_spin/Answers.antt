@@ -9,5 +9,7 @@ use Rattle.wit_core.proofs.list_faults.has_spin.Goals as goal
 
 pub returns : goal.returns
 returns c =
-    any_from_yields_List (λ (e : Class × String Global). is_spin e.0) _ _ c.any.result c.any.ensures.ran (YieldsList-from_slice c.args.list.now cc) (λ x b q k. search (rules, tests))
+    any_from_yields_List (λ (e : Class × String Global). is_spin e.0) _ _ c.any.result
+    c.any.ensures.ran (YieldsList-from_slice c.args.list.now cc)
+    (λ x b q k. search (rules, tests))
     ∙ sym (any-map _ _ c.args.list.now)

@@ -10,5 +10,7 @@ use Rattle.wit_core.proofs.list_faults.is_listed_otherwise.Goals as goal
 
 pub returns : goal.returns
 returns c =
-    any_from_yields_List (λ (e : Class × String Global). bytes_eq (string_bytes e.1) c.args.name.now && not (is_same_class e.0 c.args.class)) _ _ c.any.result c.any.ensures.ran (YieldsList-from_slice c.args.list.now cc) (λ x b q k. search (rules, tests))
+    any_from_yields_List (λ (e : Class × String Global). bytes_eq (string_bytes e.1) c.args.name.now
+    && not (is_same_class e.0 c.args.class)) _ _ c.any.result c.any.ensures.ran
+    (YieldsList-from_slice c.args.list.now cc) (λ x b q k. search (rules, tests))
     ∙ sym (any-map _ _ c.args.list.now)

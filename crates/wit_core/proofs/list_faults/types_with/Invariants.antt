@@ -5,4 +5,5 @@ use Rattle.wit_core.proofs.list_faults.types_with.Given as goal
 
 abbrev pub invariant-loop-place : goal.invariant-loop-place
 invariant-loop-place l =
-    (l.count ≡ length (enrolled_all (listed (take l.place l.list)) l.names.types)) × (l.count ≤ length l.names.types + l.place)
+    (l.count ≡ length (enrolled_all (listed (take l.place l.list)) l.names.types))
+    × (l.count ≤ length l.names.types + l.place)

@@ -12,14 +12,22 @@ loop-entry-preserved c =
     let names = c.loop-entry.names in
     let can = c.loop-entry.invariant.can in
     record {
-      types = types-step list i a name names (omega arith) c.entry-item.is c.deref.ensures can c.enroll.new.self _ c.in_ok-_number.ensures.enrolled c.loop-entry.invariant.types;
-      can = can-step list i a name names (omega arith) c.entry-item.is c.deref.ensures can c.enroll.new.self c.in_ok-_number.ensures.enrolled;
-      rest = rest-step list i a name names (omega arith) c.entry-item.is c.deref.ensures can c.args.names.now c.enroll.new.self c.in_ok-_number.ensures.enrolled c.loop-entry.invariant.rest;
+      types =
+          types-step list i a name names (omega arith) c.entry-item.is c.deref.ensures can
+          c.enroll.new.self _ c.in_ok-_number.ensures.enrolled c.loop-entry.invariant.types;
+      can =
+          can-step list i a name names (omega arith) c.entry-item.is c.deref.ensures can
+          c.enroll.new.self c.in_ok-_number.ensures.enrolled;
+      rest =
+          rest-step list i a name names (omega arith) c.entry-item.is c.deref.ensures can
+          c.args.names.now c.enroll.new.self c.in_ok-_number.ensures.enrolled
+          c.loop-entry.invariant.rest;
     }
 
 pub returns-in_err-_number-clause-err : goal.returns-in_err-_number-clause-err
 returns-in_err-_number-clause-err c =
     let p = err_from_is_err_and c.from_residual.result c.from_residual.ensures.1 in
     rw (p.1, p.2)
-    (no-refusal c.args.list.now c.loop-entry.entry-index c.entry-item.result c.deref.result.now c.loop-entry.names (omega arith) c.entry-item.is c.deref.ensures c.loop-entry.invariant.can
+    (no-refusal c.args.list.now c.loop-entry.entry-index c.entry-item.result c.deref.result.now
+    c.loop-entry.names (omega arith) c.entry-item.is c.deref.ensures c.loop-entry.invariant.can
     c.in_err-_number.field-0.0 c.in_err-_number.ensures.err)

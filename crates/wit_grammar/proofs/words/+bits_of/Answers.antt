@@ -10,4 +10,6 @@ none_set (letter ∷ letters) = rw (sym (none_set letters)) refl
 
 pub returns-in_default-empty-clause-value : goal.returns-in_default-empty-clause-value
 returns-in_default-empty-clause-value t c =
-    subst (λ (word : List ℕ). Some 0 ≡ bits_of c.args.letters.now word) (sym (nil_from_length c.args.word.now (omega (arith, c.in_default-empty.len_below)))) (none_set c.args.letters.now)
+    subst (λ (word : List ℕ). Some 0 ≡ bits_of c.args.letters.now word)
+    (sym (nil_from_length c.args.word.now (omega (arith, c.in_default-empty.len_below))))
+    (none_set c.args.letters.now)

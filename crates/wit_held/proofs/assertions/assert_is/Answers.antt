@@ -8,13 +8,17 @@ use Rattle.wit_held.proofs.assertions.assert_is.Goals as goal
 pub returns-in-Some : goal.returns-in-Some
 returns-in-Some g c =
     c.asserted_held.ensures
-    ∙ asserting c.args.watch c.args.flags (sym c.if-not-is_on.false ∙ c.is_on.ensures) (sym c.if-not-is_assertion.false ∙ c.is_assertion.ensures)
-    (find (is_of c.args.lock.0) (chain_of (g.L.Lists.chunks c.args.lists.now) c.args.list)) (Some c.at.result)
-    (some (g.L.Lists.chunks c.args.lists.now) c.args.list c.args.lock.0 c.in-Some.place c.at.result c.in-Some.ensures.place c.at.ensures)
+    ∙ asserting c.args.watch c.args.flags (sym c.if-not-is_on.false ∙ c.is_on.ensures)
+    (sym c.if-not-is_assertion.false ∙ c.is_assertion.ensures)
+    (find (is_of c.args.lock.0) (chain_of (g.L.Lists.chunks c.args.lists.now) c.args.list))
+    (Some c.at.result)
+    (some (g.L.Lists.chunks c.args.lists.now) c.args.list c.args.lock.0 c.in-Some.place c.at.result
+    c.in-Some.ensures.place c.at.ensures)
 
 pub returns-in-None : goal.returns-in-None
 returns-in-None g c =
     c.asserted_free.ensures
-    ∙ asserting c.args.watch c.args.flags (sym c.if-not-is_on.false ∙ c.is_on.ensures) (sym c.if-not-is_assertion.false ∙ c.is_assertion.ensures)
+    ∙ asserting c.args.watch c.args.flags (sym c.if-not-is_on.false ∙ c.is_on.ensures)
+    (sym c.if-not-is_assertion.false ∙ c.is_assertion.ensures)
     (find (is_of c.args.lock.0) (chain_of (g.L.Lists.chunks c.args.lists.now) c.args.list)) None
     (none (g.L.Lists.chunks c.args.lists.now) c.args.list c.args.lock.0 c.in-None.ensures.place)

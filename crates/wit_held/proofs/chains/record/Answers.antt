@@ -11,6 +11,9 @@ returns-in-Some-clause-groups g c =
     let chunks = g.L.Lists.chunks c.args.lists.now in
     let l = c.args.taken.lock.0 in
     c.replace_in.ensures.groups
-    ∙ writes chunks c.args.list l c.in-Some.there c.in-Some.ensures.there (recursed c.args.taken.site c.in-Some.there.held)
-    ∙ record-again chunks c.args.list c.args.taken (place_at (groups_of chunks c.args.list) c.in-Some.there) c.in-Some.there.held
-    c.in-Some.ensures.there.place (held-found chunks c.args.list l c.in-Some.there c.in-Some.ensures.there) c.requires.once
+    ∙ writes chunks c.args.list l c.in-Some.there c.in-Some.ensures.there
+    (recursed c.args.taken.site c.in-Some.there.held)
+    ∙ record-again chunks c.args.list c.args.taken
+    (place_at (groups_of chunks c.args.list) c.in-Some.there) c.in-Some.there.held
+    c.in-Some.ensures.there.place
+    (held-found chunks c.args.list l c.in-Some.there c.in-Some.ensures.there) c.requires.once

@@ -5,4 +5,5 @@ use Rattle.wit_held.proofs.fresh.empty_rows.Given as goal
 
 abbrev pub invariant-loop-row : goal.invariant-loop-row
 invariant-loop-row g l =
-    (vec_len l.rows ≡ l._row) × (vec_capacity l.rows ≡ l.count) × (contents l.rows.items ≡ replicate l._row []) × HaveRoomFor l.room l.rows.items
+    (vec_len l.rows ≡ l._row) × (vec_capacity l.rows ≡ l.count)
+    × (contents l.rows.items ≡ replicate l._row []) × HaveRoomFor l.room l.rows.items

@@ -11,10 +11,14 @@ returns-in-Some-clause-groups g c =
     let chunks = g.L.Lists.chunks c.args.lists.now in
     let l = c.args.lock.0 in
     c.replace_in.ensures.groups
-    ∙ writes chunks c.args.list l c.in-Some.there c.in-Some.ensures.there (marked c.args.norelease c.in-Some.there.held)
-    ∙ mark-one chunks c.args.list l c.args.norelease (place_at (groups_of chunks c.args.list) c.in-Some.there) c.in-Some.there.held
-    c.in-Some.ensures.there.place (held-found chunks c.args.list l c.in-Some.there c.in-Some.ensures.there) c.requires.once
+    ∙ writes chunks c.args.list l c.in-Some.there c.in-Some.ensures.there
+    (marked c.args.norelease c.in-Some.there.held)
+    ∙ mark-one chunks c.args.list l c.args.norelease
+    (place_at (groups_of chunks c.args.list) c.in-Some.there) c.in-Some.there.held
+    c.in-Some.ensures.there.place
+    (held-found chunks c.args.list l c.in-Some.there c.in-Some.ensures.there) c.requires.once
 
 pub returns-in-None-clause-groups : goal.returns-in-None-clause-groups
 returns-in-None-clause-groups g c =
-    mark-none (g.L.Lists.chunks c.args.lists.now) c.args.list c.args.lock.0 c.args.norelease (sym c.in-None.ensures.held)
+    mark-none (g.L.Lists.chunks c.args.lists.now) c.args.list c.args.lock.0 c.args.norelease
+    (sym c.in-None.ensures.held)

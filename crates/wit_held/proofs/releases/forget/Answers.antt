@@ -7,14 +7,17 @@ use Rattle.wit_held.proofs.releases.forget.Goals as goal
 
 pub take_back-requires-clause-there : goal.take_back-requires-clause-there
 take_back-requires-clause-there g c =
-    named (g.L.Lists.chunks c.args.lists.now) c.args.list c.args.lock.0 c.in-Some.there c.in-Some.ensures.there
+    named (g.L.Lists.chunks c.args.lists.now) c.args.list c.args.lock.0 c.in-Some.there
+    c.in-Some.ensures.there
 
 pub take_back-requires-clause-once : goal.take_back-requires-clause-once
 take_back-requires-clause-once g c =
-    once-named (g.L.Lists.chunks c.args.lists.now) c.args.list c.args.lock.0 c.in-Some.there c.in-Some.ensures.there c.requires.once
+    once-named (g.L.Lists.chunks c.args.lists.now) c.args.list c.args.lock.0 c.in-Some.there
+    c.in-Some.ensures.there c.requires.once
 
 pub returns-in-Some-clause-groups : goal.returns-in-Some-clause-groups
 returns-in-Some-clause-groups g c =
     c.take_back.ensures.groups
     ∙ ap (after_forget (g.L.Lists.chunks c.args.lists.now) c.args.list)
-    (found-lock c.args.lock.0 (chain_of (g.L.Lists.chunks c.args.lists.now) c.args.list) c.in-Some.there.held c.in-Some.ensures.held)
+    (found-lock c.args.lock.0 (chain_of (g.L.Lists.chunks c.args.lists.now) c.args.list)
+    c.in-Some.there.held c.in-Some.ensures.held)

@@ -12,8 +12,10 @@ returns-then-held-gt0-clause-groups g c =
     let l = c.args.there.held.lock.0 in
     c.replace_in.ensures.groups
     ∙ writes chunks c.args.list l c.args.there c.requires.there (fewer c.args.there.held)
-    ∙ forget-fewer chunks c.args.list l (place_at (groups_of chunks c.args.list) c.args.there) c.args.there.held c.requires.there.place
-    (held-found chunks c.args.list l c.args.there c.requires.there) c.requires.once c.if-held-gt0.true
+    ∙ forget-fewer chunks c.args.list l (place_at (groups_of chunks c.args.list) c.args.there)
+    c.args.there.held c.requires.there.place
+    (held-found chunks c.args.list l c.args.there c.requires.there) c.requires.once
+    c.if-held-gt0.true
 
 pub returns-else-held-gt0-clause-groups : goal.returns-else-held-gt0-clause-groups
 returns-else-held-gt0-clause-groups g c =
@@ -21,5 +23,7 @@ returns-else-held-gt0-clause-groups g c =
     let l = c.args.there.held.lock.0 in
     c.remove_in.ensures.groups
     ∙ takes chunks c.args.list l c.args.there c.requires.there
-    ∙ forget-last chunks c.args.list l (place_at (groups_of chunks c.args.list) c.args.there) c.args.there.held c.requires.there.place
-    (held-found chunks c.args.list l c.args.there c.requires.there) c.requires.once c.if-held-gt0.false
+    ∙ forget-last chunks c.args.list l (place_at (groups_of chunks c.args.list) c.args.there)
+    c.args.there.held c.requires.there.place
+    (held-found chunks c.args.list l c.args.there c.requires.there) c.requires.once
+    c.if-held-gt0.false

@@ -9,7 +9,8 @@ overflow_add-allowed g c =
     omega (
       arith,
       c.loop-held.invariant,
-      both (is_allowed (g.T.LockTypes.basis c.args.types.now) c.args.named c.args.flags) (take c.loop-held.held-index c.args.chunk.now),
+      both (is_allowed (g.T.LockTypes.basis c.args.types.now) c.args.named c.args.flags)
+          (take c.loop-held.held-index c.args.chunk.now),
       length-take-le c.loop-held.held-index c.args.chunk.now (omega arith),
       c.loop-held-test.true,
     )

@@ -9,7 +9,8 @@ abbrev pub invariant-loop-spot : goal.invariant-loop-spot
 invariant-loop-spot g l =
     IsNext (g.L.Lists.chunks l.lists) l.list l.spot
     × (l.counted
-    + length (filter (is_allowed (g.T.LockTypes.basis l.types) l.named l.flags) (flat (newer_than (g.L.Lists.chunks l.lists) l.list l.spot)))
+    + length (filter (is_allowed (g.T.LockTypes.basis l.types) l.named l.flags)
+    (flat (newer_than (g.L.Lists.chunks l.lists) l.list l.spot)))
     ≡ length (chain_of (g.L.Lists.chunks l.lists) l.list))
 
 abbrev pub decreases-loop-spot : goal.decreases-loop-spot

@@ -4,4 +4,5 @@ abbrev pub ghosts-wait_for_one_another-J-Naming : goal.ghosts-wait_for_one_anoth
 ghosts-wait_for_one_another-J-Naming g a = record { list = a.opened.list }
 
 abbrev pub ghosts-wait_for_one_another-J-Room : goal.ghosts-wait_for_one_another-J-Room
-ghosts-wait_for_one_another-J-Room g a = record { table = a.opened.table; start = a.opened.story.start }
+ghosts-wait_for_one_another-J-Room g a =
+    record { table = a.opened.table; start = a.opened.story.start }

@@ -8,7 +8,8 @@ overflow_sub-start g c =
       arith,
       c.loop-spot.invariant.1,
       ap length c.group.ensures,
-      all-lengths (g.L.Lists.chunks c.args.lists.now) c.args.list c.loop-spot.spot c.in-Some.at c.in-Some.is c.loop-spot.invariant.0,
+      all-lengths (g.L.Lists.chunks c.args.lists.now) c.args.list c.loop-spot.spot c.in-Some.at
+          c.in-Some.is c.loop-spot.invariant.0,
     )
 
 pub returns-then-start-place-clause-before : goal.returns-then-start-place-clause-before
@@ -18,5 +19,6 @@ returns-then-start-place-clause-before g c =
       c.loop-spot.invariant.1,
       ap length c.group.ensures,
       c.if-start-place.true,
-      all-lengths (g.L.Lists.chunks c.args.lists.now) c.args.list c.loop-spot.spot c.in-Some.at c.in-Some.is c.loop-spot.invariant.0,
+      all-lengths (g.L.Lists.chunks c.args.lists.now) c.args.list c.loop-spot.spot c.in-Some.at
+          c.in-Some.is c.loop-spot.invariant.0,
     )

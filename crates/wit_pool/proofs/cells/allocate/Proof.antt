@@ -1,6 +1,20 @@
--- A block that the allocator gave is a row of empty places, with the right to give it back; where it gave none, nothing
--- is taken. Assumes `Logic`.
-use Rattle.wit_pool.proofs.Steps.{◌≡◌, refl, sym, ap, subst, ℕ, ◌*◌, ◌<◌, ◌^◌, arith, List, [], ◌∷◌, ◌++◌, length, replicate, length-replicate, SProp, Incl-trans, ftrue, flft, inst_fn, Body, ty_array, w64, Val, vint, vptr, vstruct, vcons, vnil, WpFn, fact, tables, ◌⊑◌, Sq, prop, ‵, raw, ◌⊛◌, later, at_ret, ◌$◌, ◌∵◌, !, qed, move, keep, skip, use0, use1, use2, use3, split, join, fsplit, fjoin, feq_l, flt_i, flt_l, await, suffices, frame, done, whole, agg, enter, lit, size_word, align_word, bin, stop, fld, of_opd, and_then, no_more, switches_on, first, exec, returns, alloc_all, pass_all, free_all, look_at, get, get_in, get_tag, is, sets, sets_last, lands_as, env, yes, RattleType, owns, layout, Ptr, block_ptr, RefOf, usize, plain, types_at, nothing, heard, owned, calls_at, framed, Stays, stay_dropped, walk_of, says, ends_at, Goes-dropped, None, proved_at, after, Good, word, word-Good, as_written, El, R, elτ, slots, sz, word_made}
+-- A block that the allocator gave is a row of empty places, with the right to give it back; where
+-- it gave none, nothing is taken. Assumes `Logic`.
+use Rattle.wit_pool.proofs.Steps.{◌≡◌, refl, sym, ap, subst, ℕ, ◌*◌, ◌<◌, ◌^◌, arith, List, [], ◌∷◌}
+use Rattle.wit_pool.proofs.Steps.{◌++◌, length, replicate, length-replicate, SProp, Incl-trans}
+use Rattle.wit_pool.proofs.Steps.{ftrue, flft, inst_fn, Body, ty_array, w64, Val, vint, vptr}
+use Rattle.wit_pool.proofs.Steps.{vstruct, vcons, vnil, WpFn, fact, tables, ◌⊑◌, Sq, prop, ‵, raw}
+use Rattle.wit_pool.proofs.Steps.{◌⊛◌, later, at_ret, ◌$◌, ◌∵◌, !, qed, move, keep, skip, use0}
+use Rattle.wit_pool.proofs.Steps.{use1, use2, use3, split, join, fsplit, fjoin, feq_l, flt_i, flt_l}
+use Rattle.wit_pool.proofs.Steps.{await, suffices, frame, done, whole, agg, enter, lit, size_word}
+use Rattle.wit_pool.proofs.Steps.{align_word, bin, stop, fld, of_opd, and_then, no_more}
+use Rattle.wit_pool.proofs.Steps.{switches_on, first, exec, returns, alloc_all, pass_all, free_all}
+use Rattle.wit_pool.proofs.Steps.{look_at, get, get_in, get_tag, is, sets, sets_last, lands_as, env}
+use Rattle.wit_pool.proofs.Steps.{yes, RattleType, owns, layout, Ptr, block_ptr, RefOf, usize}
+use Rattle.wit_pool.proofs.Steps.{plain, types_at, nothing, heard, owned, calls_at, framed, Stays}
+use Rattle.wit_pool.proofs.Steps.{stay_dropped, walk_of, says, ends_at, Goes-dropped, None}
+use Rattle.wit_pool.proofs.Steps.{proved_at, after, Good, word, word-Good, as_written, El, R, elτ}
+use Rattle.wit_pool.proofs.Steps.{slots, sz, word_made}
 use lib.Dec.{lit<}
 use mathlib.Core.Bool.{true, false}
 use prog.Capped.{capped_fits}
@@ -16,7 +30,8 @@ use Rattle.std.specs.Prelude.{Ok, Err, IfOk}
 use Rattle.std.specs.Vec.Ownership.{FitsInBlock}
 use Rattle.core.specs.contracts.result.Result as Outcome
 use Rattle.core.specs.contracts.alloc.AllocError as Want
-use Rattle.core.proofs.alloc.Calls.{Al, Answer-typed, Takes, at_takes, Answered, Takes-goes, Takes-gives, answers}
+use Rattle.core.proofs.alloc.Calls.{Al, Answer-typed, Takes, at_takes, Answered, Takes-goes}
+use Rattle.core.proofs.alloc.Calls.{Takes-gives, answers}
 use Rattle.core.proofs.slots.Leases.{uncapped, block_ty, block_size, block_align, args as both, P}
 use Rattle.std_alloc.proofs.VecSteps.Shapes.{head, arm_body}
 use Rattle.std_alloc.proofs.RcSteps.{first_Good}
@@ -47,30 +62,40 @@ allocate_spec 𝓤 𝓛 𝓜 𝓡 wired X W LX LW g d dd met md =
       (Goes-dropped 𝓛 3 (plain (λ _. usize)) yes (λ κs x w. refl), tt),
     )
     (f.Key.name (both E Z)) fn (code.unfolded 𝓤 𝓛.H 𝓜 𝓡 wired (X, (W, tt)) d dd) (λ y are.
-    let κs = y.0.0 in let qs = y.0.1 in let a = y.0.3 in let us = y.0.4 in let κ = κs.0 in let q = qs.0 in
+    let κs = y.0.0 in let qs = y.0.1 in let a = y.0.3 in let us = y.0.4 in let κ =
+    κs.0 in let q = qs.0 in
     let rb = a.0.ref_ptr.0 in let ro = a.0.ref_ptr.1 in let alloc = a.0.now in let n : ℕ = a.1.0 in
     let Post : Val → SProp 𝓤 = (walk_of 𝓛 T hs c).post y in
     let Runs : List Val → SProp 𝓤 = λ ws. WpFn 𝓤 𝓛.H 𝓣.C 𝓣.Λ fn ws Post in
     let others = ‵ (flft κs.1.0 qs.1.0) ⊛ (‵ (flft κs.1.1.0 qs.1.1.0) ⊛ ‵ ftrue) in
-    let Gives : Out.Denot → Type 0 = λ r. IfOk r (λ t. (t.1.at ≡ t.0.ptr) × (t.1.slots ≡ replicate n None) ×
+    let Gives : Out.Denot → Type 0 =
+    λ r. IfOk r (λ t. (t.1.at ≡ t.0.ptr) × (t.1.slots ≡ replicate n None) ×
     (t.2.at ≡ t.0.ptr) × (t.2.len ≡ n) × (t.2.alloc ≡ alloc)) in
     let out : (r : Out.Denot) (v : Val) → Gives r → Sq 𝓛 (‵ (Out.own_val r (v ∷ [])) ∷ ‵
     (flft κ q) ∷ others ∷ []) (prop (Post v)) = λ r v gives.
     suffices ! _ (ends_at 𝓛 T hs c y v r (tt, (tt, tt)) (tt, (tt, tt))) $ says ! gives $
-    move ! (1 ∷ 2 ∷ []) $ join ! $ frame ! $ nothing ! $ nothing ! $ fjoin ! $ nothing ! $ fjoin ! $ done ! in
+    move ! (1 ∷ 2 ∷ []) $ join ! $ frame ! $ nothing ! $ nothing ! $ fjoin ! $ nothing !
+    $ fjoin ! $ done ! in
     qed 𝓛 (((‵ (flft κ q) ⊛ others) ⊛ ‵ (owns (types_at T.signature.params κs) a us))
-    ∷ (raw (fact 𝓤 (κs.1.0 ⊑ X.lives)) ⊛ (raw (fact 𝓤 (κs.1.1.0 ⊑ W.lives)) ⊛ raw (fact 𝓤 (FitsInBlock
+    ∷ (raw (fact 𝓤 (κs.1.0 ⊑ X.lives)) ⊛
+    (raw (fact 𝓤 (κs.1.1.0 ⊑ W.lives)) ⊛ raw (fact 𝓤 (FitsInBlock
     (R E) n)))) ∷ []) ∵
-    move ! (1 ∷ []) $ split ! $ heard ! _ (λ short. split ! $ heard ! _ (λ within. heard ! _ (λ asked.
-    split ! $ move ! (1 ∷ []) $ fsplit ! $ fsplit ! $ feq_l ! (λ e0. move ! (1 ∷ []) $ fsplit ! $ fsplit ! $
+    move ! (1 ∷ []) $ split ! $ heard ! _ (λ short. split !
+    $ heard ! _ (λ within. heard ! _ (λ asked.
+    split ! $ move ! (1 ∷ []) $ fsplit ! $ fsplit !
+    $ feq_l ! (λ e0. move ! (1 ∷ []) $ fsplit ! $ fsplit ! $
     feq_l ! (λ e1. flt_l ! (λ fits. skip ! $ move ! (1 ∷ []) $ split ! $
     let bytes : n * s < 2 ^ 64 = omega (arith, asked.0) in let al : ℕ = capped (align (elτ E)) in
-    let G = Takes Z 𝓛 𝓜.mem 𝓡.returns in let z : G.Ghost = at_takes Z 𝓛 𝓜.mem 𝓡.returns κ q (rb, ro) alloc
+    let G = Takes Z 𝓛 𝓜.mem 𝓡.returns in let z : G.Ghost =
+    at_takes Z 𝓛 𝓜.mem 𝓡.returns κ q (rb, ro) alloc
     (n * s) al (block_ty E n) in
     suffices ! (Runs (vptr rb ro ∷ vint w64 n ∷ [])) (at_words 𝓤 Runs (λ j. e0 j ++ (e1 j ++ []))) $
-    enter ! _ _ _ _ _ $ alloc_all ! (λ l. pass_all ! refl ((tt, tt), ((tt, record { fits = fits }), tt)) $
-    let En = env fn.locals l in let asks : Body = head (after 2 fn.body) in let rest : Body = after 3 fn.body in
-    let Then : Goes 𝓤 𝓛.H = any_q (after_seq 𝓤 𝓛.H (Wp 𝓤 𝓛.H 𝓣.C 𝓣.Λ En rest (at_return 𝓤 𝓛.H En Post))
+    enter ! _ _ _ _ _ $ alloc_all !
+    (λ l. pass_all ! refl ((tt, tt), ((tt, record { fits = fits }), tt)) $
+    let En = env fn.locals l in let asks : Body = head (after 2 fn.body) in let rest : Body =
+    after 3 fn.body in
+    let Then : Goes 𝓤 𝓛.H =
+    any_q (after_seq 𝓤 𝓛.H (Wp 𝓤 𝓛.H 𝓣.C 𝓣.Λ En rest (at_return 𝓤 𝓛.H En Post))
     (at_return 𝓤 𝓛.H En Post)) in
     -- [the first token; the allocator; the other tokens]
     sets ! (is ! (bin ! (get ! refl) (size_word !) (record {
@@ -79,9 +104,12 @@ allocate_spec 𝓤 𝓛 𝓜 𝓡 wired X W LX LW g d dd met md =
     })) (ap (vint w64)
     (uncapped n s bytes))) refl (tt, record { fits = bytes }) $
     move ! (2 ∷ 0 ∷ 1 ∷ []) $
-    use2 𝓛 (raw (G.pre z)) (Takes-goes Z 𝓛 𝓜.mem 𝓡.returns κ q (rb, ro) alloc (Incl-trans y.0.2.0 within)
-    (n * s) al (block_ty E n) (block_size E n bytes) (block_align E n) bytes (capped_fits (align (elτ E)))) $
-    calls_at ! (framed 𝓤 𝓛.H 𝓜 𝓣) G (met.allocate dd) z (and_then ! (get ! refl) (and_then ! (get ! refl)
+    use2 𝓛 (raw (G.pre z)) (Takes-goes Z 𝓛 𝓜.mem 𝓡.returns κ q (rb, ro) alloc
+    (Incl-trans y.0.2.0 within)
+    (n * s) al (block_ty E n) (block_size E n bytes) (block_align E n) bytes
+    (capped_fits (align (elτ E)))) $
+    calls_at ! (framed 𝓤 𝓛.H 𝓜 𝓣) G (met.allocate dd) z
+    (and_then ! (get ! refl) (and_then ! (get ! refl)
     (and_then ! (align_word !) (no_more !)))) (λ v.
     use1 𝓛 (later (raw (Answered Z 𝓛 𝓜.mem 𝓡.returns alloc (block_ty E n) v) ⊛ ‵ (flft κ q)))
     (Takes-gives Z 𝓛 𝓜.mem 𝓡.returns κ q (rb, ro) alloc (n * s) al (block_ty E n) v) $
@@ -109,9 +137,11 @@ allocate_spec 𝓤 𝓛 𝓜 𝓡 wired X W LX LW g d dd met md =
     (no_more !))))) refl good $
     sets_last ! (agg ! (and_then ! (lit ! tt) (and_then ! (get ! refl) (no_more !)))) refl well $
     exec ! 𝓣.C 𝓣.Λ En rest (at_ret En Post) $ sets ! (of_opd ! (get ! refl)) refl well $
-    move ! (1 ∷ []) $ use0 𝓛 (‵ ((Marked E).own_val (tt, tt) (mark ∷ []))) (mark_made E 𝓛) $ fjoin ! $
+    move ! (1 ∷ []) $ use0 𝓛 (‵ ((Marked E).own_val (tt, tt) (mark ∷ []))) (mark_made E 𝓛) $ fjoin !
+    $
     move ! (1 ∷ []) $
-    as_written ! (ty_array (elτ E) n) b o $ use1 𝓛 (‵ (slots (R E) b o cells.slots)) (of_room E 𝓛 b n o) $
+    as_written ! (ty_array (elτ E) n) b o
+    $ use1 𝓛 (‵ (slots (R E) b o cells.slots)) (of_room E 𝓛 b n o) $
     flt_i ! (length cells.slots * s) (2 ^ 63) (subst (λ k. k * s < 2 ^ 63)
     (sym (length-replicate n None)) asked.0) $ fjoin ! $
     use0 𝓛 (‵ ((Marked E).own_val (tt, tt) (mark ∷ []))) (mark_made E 𝓛) $ fjoin ! $ word_made ! p $
@@ -133,9 +163,11 @@ allocate_spec 𝓤 𝓛 𝓜 𝓡 wired X W LX LW g d dd met md =
     (no_more !)))) refl (tt, (record { fits = lit< tt }, (tt, tt))) $
     exec ! 𝓣.C 𝓣.Λ En rest (at_ret En Post) $
     sets ! (of_opd ! (get ! refl)) refl (tt, (record { fits = lit< tt }, (tt, tt))) $
-    owned ! Refusal (Is Refusal) (Struct-Makes 𝓛 (Declared.shape Want.the_type) tt) tt (vstruct vnil ∷ [])
+    owned ! Refusal (Is Refusal) (Struct-Makes 𝓛 (Declared.shape Want.the_type) tt) tt
+    (vstruct vnil ∷ [])
     (tt, (refl, tt)) $
-    use1 𝓛 (‵ (Out.own_val (Err (record {})) (refused ∷ []))) (err_of 𝓛 Three Want.the_row (record {})
+    use1 𝓛 (‵ (Out.own_val (Err (record {})) (refused ∷ [])))
+    (err_of 𝓛 Three Want.the_row (record {})
     (vstruct vnil)) $
     returns ! (look_at ! 0 refl) $ free_all ! refl $ keep ! (0 ∷ 1 ∷ 2 ∷ []) $
     out (Err (record {})) refused tt))))))))))

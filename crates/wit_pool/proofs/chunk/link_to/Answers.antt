@@ -6,6 +6,10 @@ use Rattle.wit_pool.proofs.chunk.link_to.Goals as goal
 pub returns-clause-leads : goal.returns-clause-leads
 unfolding spot
 returns-clause-leads c = record {
-  address = c.to.ensures.0 ∙ c.link.ensures.0 ∙ ap (spot_at the_row c.args.cells.now.at) (sym c.to.ensures.1);
-  number = ap (spot the_row c.args.cells.now.at) c.to.ensures.0 ∙ c.link.ensures.1 (omega arith) ∙ sym c.to.ensures.1;
+  address =
+      c.to.ensures.0 ∙ c.link.ensures.0 ∙ ap (spot_at the_row c.args.cells.now.at)
+      (sym c.to.ensures.1);
+  number =
+      ap (spot the_row c.args.cells.now.at) c.to.ensures.0 ∙ c.link.ensures.1 (omega arith)
+      ∙ sym c.to.ensures.1;
 }

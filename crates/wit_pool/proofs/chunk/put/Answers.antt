@@ -8,5 +8,7 @@ returns-clause-slots c = record {
   group = c.push.new.self;
   there = c.read_mut-chunk.ensures.value;
   now = refl;
-  holds = c.push.ensures ∙ ap (λ g. g ++ c.args.instance ∷ []) (sym (ap content c.read_mut-chunk.ensures.value));
+  holds =
+      c.push.ensures ∙ ap (λ g. g ++ c.args.instance ∷ [])
+      (sym (ap content c.read_mut-chunk.ensures.value));
 }

@@ -8,5 +8,7 @@ returns-clause-slots c = record {
   group = c.write.new.self;
   there = c.read_mut-chunk.ensures.value;
   now = refl;
-  holds = c.write.ensures ∙ ap (λ g. set g c.args.index c.args.instance) (sym (ap content c.read_mut-chunk.ensures.value));
+  holds =
+      c.write.ensures ∙ ap (λ g. set g c.args.index c.args.instance)
+      (sym (ap content c.read_mut-chunk.ensures.value));
 }

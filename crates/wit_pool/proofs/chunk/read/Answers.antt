@@ -8,7 +8,8 @@ pub get-requires : goal.get-requires
 unfolding spot
 get-requires c =
     let at = c.args.cells.now.at in
-    let e : spot the_row at c.link.result.ptr ≡ c.args.at.place = ap (spot the_row at) c.link.ensures ∙ c.requires.leads.number in (
+    let e : spot the_row at c.link.result.ptr ≡ c.args.at.place =
+    ap (spot the_row at) c.link.ensures ∙ c.requires.leads.number in (
       c.link.ensures ∙ c.requires.leads.address ∙ ap (spot_at the_row at) (sym e),
       (c.requires.chunk, ap (chunk_at c.args.cells.now.slots) e ∙ c.requires.there),
     )
@@ -17,5 +18,6 @@ pub returns : goal.returns
 unfolding spot
 returns c =
     let at = c.args.cells.now.at in
-    let e : spot the_row at c.link.result.ptr ≡ c.args.at.place = ap (spot the_row at) c.link.ensures ∙ c.requires.leads.number in
+    let e : spot the_row at c.link.result.ptr ≡ c.args.at.place =
+    ap (spot the_row at) c.link.ensures ∙ c.requires.leads.number in
     sym (ap (chunk_at c.args.cells.now.slots) e) ∙ c.get.ensures

@@ -9,5 +9,7 @@ returns-clause-slots c = record {
   group = c.remove.new.self;
   there = c.read_mut-chunk.ensures.value;
   now = refl;
-  holds = c.remove.ensures ∙ ap (λ g. remove g c.args.index) (sym (ap content c.read_mut-chunk.ensures.value));
+  holds =
+      c.remove.ensures ∙ ap (λ g. remove g c.args.index)
+      (sym (ap content c.read_mut-chunk.ensures.value));
 }

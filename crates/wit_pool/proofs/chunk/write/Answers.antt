@@ -7,7 +7,8 @@ pub put-requires : goal.put-requires
 unfolding spot
 put-requires c =
     let at = c.args.cells.now.at in
-    let e : spot the_row at c.link.result.ptr ≡ c.args.at.place = ap (spot the_row at) c.link.ensures ∙ c.requires.leads.number in (
+    let e : spot the_row at c.link.result.ptr ≡ c.args.at.place =
+    ap (spot the_row at) c.link.ensures ∙ c.requires.leads.number in (
       c.link.ensures ∙ c.requires.leads.address ∙ ap (spot_at the_row at) (sym e),
       subst (λ k. k < length c.args.cells.now.slots) (sym e) c.requires.place,
     )
@@ -16,5 +17,6 @@ pub returns-clause-slots : goal.returns-clause-slots
 unfolding spot
 returns-clause-slots c =
     let at = c.args.cells.now.at in
-    let e : spot the_row at c.link.result.ptr ≡ c.args.at.place = ap (spot the_row at) c.link.ensures ∙ c.requires.leads.number in
+    let e : spot the_row at c.link.result.ptr ≡ c.args.at.place =
+    ap (spot the_row at) c.link.ensures ∙ c.requires.leads.number in
     c.put.ensures.1 ∙ ap (λ k. set c.args.cells.now.slots k (Some c.args.chunk)) e

@@ -8,5 +8,6 @@ use Rattle.wit_report.proofs.circles.put_waits.Given as goal
 abbrev pub invariant-loop-next : goal.invariant-loop-next
 invariant-loop-next l =
     let s = state_of l.verifier in
-    string_bytes l.text ++ wait_lines s l.seat.0 (seat_numbers (drop l.next-index l.others)) l.first.0
+    string_bytes l.text ++ wait_lines s l.seat.0
+    (seat_numbers (drop l.next-index l.others)) l.first.0
     ≡ string_bytes l.initial.text ++ wait_lines s l.first.0 (seat_numbers l.others) l.first.0

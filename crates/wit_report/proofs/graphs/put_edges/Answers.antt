@@ -18,9 +18,12 @@ loop-place-preserved c =
     elim c.if-is_direct.branch [
       | then-is_direct+in_ok-put_edge w ↦
           rw w.text-is
-          (some_turn (is_direct k.orders parent) (edge_line k parent) place before now _ (sym c.is_direct.ensures ∙ w.if-is_direct.true) c.loop-place.invariant w.in_ok-put_edge.ensures)
+          (some_turn (is_direct k.orders parent) (edge_line k parent) place before now _
+          (sym c.is_direct.ensures ∙ w.if-is_direct.true) c.loop-place.invariant
+          w.in_ok-put_edge.ensures)
       | else-is_direct w ↦
-          rw w.text-is (some_skip (is_direct k.orders parent) (edge_line k parent) place before now (sym c.is_direct.ensures ∙ w.if-is_direct.false) c.loop-place.invariant)
+          rw w.text-is (some_skip (is_direct k.orders parent) (edge_line k parent) place before now
+          (sym c.is_direct.ensures ∙ w.if-is_direct.false) c.loop-place.invariant)
     ]
 
 pub returns-in_err-put_edge-clause-err : goal.returns-in_err-put_edge-clause-err
@@ -28,7 +31,9 @@ returns-in_err-put_edge-clause-err c =
     let v = c.args.verifier.now in
     let k = known_of v.start v.history in
     let place = c.loop-place.place in
-    let before : place < length k.types = subst (λ n. place < n) c.types-place-end.ensures.value c.loop-place-test.true in
+    let before : place < length k.types =
+    subst (λ n. place < n) c.types-place-end.ensures.value c.loop-place-test.true in
     on-error c.from_residual.result
-    (some-filled (is_direct k.orders c.args.parent.0) (edge_line k c.args.parent.0) (length k.types) place before
+    (some-filled (is_direct k.orders c.args.parent.0) (edge_line k c.args.parent.0)
+    (length k.types) place before
     (sym c.is_direct.ensures ∙ c.if-is_direct.true) (edge-filled k c.args.parent.0 (place + 1)))

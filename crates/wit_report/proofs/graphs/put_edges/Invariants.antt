@@ -8,4 +8,5 @@ use Rattle.wit_report.proofs.graphs.put_edges.Given as goal
 abbrev pub invariant-loop-place : goal.invariant-loop-place
 invariant-loop-place l =
     let k = known_of l.verifier.start l.verifier.history in
-    string_bytes l.text ≡ string_bytes l.initial.text ++ flat_map (edge_line k l.parent.0) (filter (is_direct k.orders l.parent.0) (range_with_len 1 l.place))
+    string_bytes l.text ≡ string_bytes l.initial.text ++ flat_map (edge_line k l.parent.0)
+    (filter (is_direct k.orders l.parent.0) (range_with_len 1 l.place))

@@ -6,4 +6,5 @@ use Rattle.wit_report.proofs.graphs.put_graph.Given as goal
 
 abbrev pub invariant-loop-place : goal.invariant-loop-place
 invariant-loop-place l =
-    string_bytes l.text ≡ string_bytes l.initial.text ++ flat_map (edge_lines (known_of l.verifier.start l.verifier.history)) (range_with_len 1 l.place)
+    string_bytes l.text ≡ string_bytes l.initial.text ++ flat_map
+    (edge_lines (known_of l.verifier.start l.verifier.history)) (range_with_len 1 l.place)

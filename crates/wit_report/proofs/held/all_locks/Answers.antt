@@ -9,5 +9,7 @@ pub returns-clause-ok : goal.returns-clause-ok
 returns-clause-ok c =
     let v = c.args.verifier.now in
     let held = flat_map (holder_text v) (range_with_len 1 v.start.sizes.seats) in
-    free-written held (free (state_of v)) (c.in_ok-put_holders.ensures ∙ ap (λ bytes. bytes ++ held) c.new-text.ensures.bytes) c.in_ok-push_str.ensures.bytes
-    (rw c.free_chunks.ensures at c.in_ok-put_number.ensures) (rw (c.push.ensures.ascii (omega arith)) at c.in_ok-push.ensures.bytes)
+    free-written held (free (state_of v)) (c.in_ok-put_holders.ensures
+    ∙ ap (λ bytes. bytes ++ held) c.new-text.ensures.bytes) c.in_ok-push_str.ensures.bytes
+    (rw c.free_chunks.ensures at c.in_ok-put_number.ensures)
+    (rw (c.push.ensures.ascii (omega arith)) at c.in_ok-push.ensures.bytes)

@@ -6,4 +6,5 @@ use Rattle.wit_report.proofs.held.put_all.Given as goal
 abbrev pub invariant-loop-instance : goal.invariant-loop-instance
 invariant-loop-instance l =
     string_bytes l.text
-    ≡ string_bytes l.initial.text ++ held_lines (typed_locks l.verifier.start l.verifier.history) l.verifier.files (take l.instance-index l.held)
+    ≡ string_bytes l.initial.text ++ held_lines (typed_locks l.verifier.start l.verifier.history)
+    l.verifier.files (take l.instance-index l.held)

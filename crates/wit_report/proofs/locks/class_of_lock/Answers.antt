@@ -6,4 +6,5 @@ pub returns-in-Some : goal.returns-in-Some
 returns-in-Some c =
     let v = c.args.verifier.now in
     c.unwrap_or.ensures
-    ∙ class_as_made v.start v.files v.history c.args.lock.0 c.in-Some.number c.class_of.result c.history-log.ensures.legal c.in-Some.ensures c.class_of.ensures
+    ∙ class_as_made v.start v.files v.history c.args.lock.0 c.in-Some.number c.class_of.result
+    c.history-log.ensures.legal c.in-Some.ensures c.class_of.ensures

@@ -6,7 +6,10 @@ use Rattle.wit_report.proofs.orders.put_order.Goals as goal
 pub returns : goal.returns
 returns c =
     let v = c.args.verifier.now in
-    order-written (string_bytes c.args.text.now) (known_of v.start v.history) v.files c.args.parent.0 c.args.child.0
-    (rw (c.push.ensures.ascii (omega arith)) at c.in_ok-push.ensures.bytes) (rw c.type_words.ensures at c.in_ok-put_quoted.ensures) c.in_ok-push_str.ensures.bytes
-    (rw c.type_words-2.ensures at c.in_ok-put_quoted-2.ensures) c.in_ok-push_str-2.ensures.bytes (rw c.origin.ensures at c.in_ok-put_origin.ensures)
+    order-written (string_bytes c.args.text.now) (known_of v.start v.history) v.files
+    c.args.parent.0 c.args.child.0
+    (rw (c.push.ensures.ascii (omega arith)) at c.in_ok-push.ensures.bytes)
+    (rw c.type_words.ensures at c.in_ok-put_quoted.ensures) c.in_ok-push_str.ensures.bytes
+    (rw c.type_words-2.ensures at c.in_ok-put_quoted-2.ensures) c.in_ok-push_str-2.ensures.bytes
+    (rw c.origin.ensures at c.in_ok-put_origin.ensures)
     (rw (c.push-2.ensures.ascii (omega arith)) at c.in_ok-push-2.ensures.bytes)

@@ -7,4 +7,6 @@ use Rattle.wit_report.proofs.type_lists.put_types.Given as goal
 abbrev pub invariant-loop-place : goal.invariant-loop-place
 invariant-loop-place l =
     string_bytes l.text
-    ≡ string_bytes l.initial.text ++ flat_map (type_line (types_of l.verifier.start l.verifier.history) (live (state_of l.verifier))) (range_with_len 1 l.place)
+    ≡ string_bytes l.initial.text
+    ++ flat_map (type_line (types_of l.verifier.start l.verifier.history)
+    (live (state_of l.verifier))) (range_with_len 1 l.place)

@@ -9,4 +9,6 @@ abbrev pub invariant-loop-instance : goal.invariant-loop-instance
 invariant-loop-instance l =
     l.held.items
     ≡ l.initial.held.items
-    ++ filter (λ (i : Instance). not (is_allowed (basis_of (known_of l.verifier.start l.verifier.history)) l.named l.flags i)) (take l.instance-index l.sleep)
+    ++ filter (λ (i : Instance).
+    not (is_allowed (basis_of (known_of l.verifier.start l.verifier.history)) l.named l.flags
+    i)) (take l.instance-index l.sleep)

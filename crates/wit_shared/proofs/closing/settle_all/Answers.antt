@@ -9,5 +9,7 @@ loop-seat-preserved g c = record {
   parts = append_assoc c.loop-seat.yielded (c.in-Some.seat ∷ []) c.next.new.self.rest.items
       ∙ ap (λ ks. c.loop-seat.yielded ++ ks) (sym c.in-Some.ensures.steps.0)
       ∙ c.loop-seat.invariant.parts;
-  left = left_more c.args.verifier.now c.loop-seat.yielded c.in-Some.seat c.loop-seat.invariant.left c.settle.ensures.left;
+  left =
+      left_more c.args.verifier.now c.loop-seat.yielded c.in-Some.seat c.loop-seat.invariant.left
+      c.settle.ensures.left;
 }

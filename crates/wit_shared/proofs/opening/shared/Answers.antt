@@ -4,5 +4,8 @@ use Rattle.wit_shared.proofs.opening.shared.Goals as goal
 
 -- the first files are all new to the keeper
 pub look-requires-clause-longer : goal.look-requires-clause-longer
-look-requires-clause-longer g c =
-    (c.args.verifier.files, ap (λ (j : Journal). j.files ++ c.args.verifier.files) (sym c.named-keeper.ensures))
+look-requires-clause-longer g c = (
+  c.args.verifier.files,
+  ap (λ (j : Journal). j.files ++ c.args.verifier.files)
+      (sym c.named-keeper.ensures),
+)

@@ -11,5 +11,7 @@ returns-clause-ok c =
     let text = c.in_ok-text.text in
     let same = c.in_ok-text.ensures.ok in
     ap texts (c.in_ok-insert.ensures.keys ∙ ap (λ b. if b then keys else keys ++ text ∷ [])
-    (list_any-texts (string_bytes text) keys ∙ ap (λ (n : List ℕ). is_known_file n (texts keys)) same ∙ c.requires))
-    ∙ map-append (λ (k : Text). string_bytes k) keys (text ∷ []) ∙ ap (λ (n : List ℕ). texts keys ++ n ∷ []) same
+    (list_any-texts (string_bytes text) keys
+    ∙ ap (λ (n : List ℕ). is_known_file n (texts keys)) same ∙ c.requires))
+    ∙ map-append (λ (k : Text). string_bytes k) keys (text ∷ [])
+    ∙ ap (λ (n : List ℕ). texts keys ++ n ∷ []) same

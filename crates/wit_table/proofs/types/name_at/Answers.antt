@@ -6,5 +6,7 @@ use Rattle.wit_table.proofs.types.name_at.Goals as goal
 
 pub returns : goal.returns
 returns c =
-    let named = name-at c.args.types.now.entries c.args.place (deref_pair c.unwrap.result) (sym c.get_index.ensures.entry ∙ ap (option_map deref_pair) c.unwrap.ensures) in
+    let named =
+    name-at c.args.types.now.entries c.args.place (deref_pair c.unwrap.result)
+    (sym c.get_index.ensures.entry ∙ ap (option_map deref_pair) c.unwrap.ensures) in
     (named.0, named.1, c.as_str.ensures.value ∙ named.2)

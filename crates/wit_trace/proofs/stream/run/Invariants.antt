@@ -5,8 +5,11 @@ use Rattle.wit_trace.proofs.stream.run.Given as goal
 
 abbrev pub invariant-loop-left : goal.invariant-loop-left
 invariant-loop-left g l = record {
-  going : Going (OutputFrom (g.M.Machine.allows (g.M.Machine.shows_by l.fn.machine))) l.fn.machine l.machine
-      (g.R.Read.remaining l.fn.reader) (g.R.Read.remaining l.reader) (g.W.Write.contents l.fn.writer) (g.W.Write.contents l.writer) l.number l.line.items l.told.items;
+  going : Going (OutputFrom (g.M.Machine.allows (g.M.Machine.shows_by l.fn.machine)))
+      l.fn.machine l.machine
+      (g.R.Read.remaining l.fn.reader) (g.R.Read.remaining l.reader)
+      (g.W.Write.contents l.fn.writer) (g.W.Write.contents l.writer) l.number
+      l.line.items l.told.items;
   shown : g.M.Machine.shows_by l.machine ≡ g.M.Machine.shows_by l.fn.machine;
   none : l.room.items ≡ [];
   short : length l.line.items ≤ 4096;

@@ -16,7 +16,9 @@ loop-alloc-preserved c =
     let len = c.len.ensures in
     let items = c.loop-alloc.locks.ok.0 in
     record {
-      same = reached_more c.args.locks.now.items old c.push.new.self.items c.loop-alloc.invariant.same longer more;
+      same =
+          reached_more c.args.locks.now.items old c.push.new.self.items
+          c.loop-alloc.invariant.same longer more;
       longer = omega (arith, count, pushed, longer);
       within = omega (arith, count, pushed, within, below, len, items);
     }

@@ -10,7 +10,9 @@ returns-in_default-clause-ok c =
     let xs = c.args.holders.now.items in
     let t = c.args.seat.0 in
     let h : Holder = record { seat = c.args.seat; count = 1 } in
-    let none : position (is_holder t) xs ≡ None = sym (c.place_of.ensures ∙ ap (position (is_holder t)) c.deref.ensures.value) ∙ c.in_default.is in
+    let none : position (is_holder t) xs ≡ None =
+    sym (c.place_of.ensures ∙ ap (position (is_holder t)) c.deref.ensures.value)
+    ∙ c.in_default.is in
     ap all_had c.in_ok-push.ensures.items ∙ more-absent t xs h h (absent t xs h none) refl refl
 
 pub overflow_add-index_mut : goal.overflow_add-index_mut
@@ -18,7 +20,10 @@ overflow_add-index_mut c =
     let xs = c.args.holders.now.items in
     let t = c.args.seat.0 in
     let d = c.index_mut.result.now in
-    let at = stands t xs c.in-Some.place d (sym (c.place_of.ensures ∙ ap (position (is_holder t)) c.deref.ensures.value) ∙ c.in-Some.is) in
+    let at =
+    stands t xs c.in-Some.place d
+    (sym (c.place_of.ensures ∙ ap (position (is_holder t)) c.deref.ensures.value)
+    ∙ c.in-Some.is) in
     let few = c.requires.few in
     let had = shares-at t xs c.in-Some.place d at in
     let here = ap (λ h. h.count) c.index_mut.ensures.value in
@@ -29,5 +34,10 @@ returns-clause-ok c =
     let xs = c.args.holders.now.items in
     let t = c.args.seat.0 in
     let d = c.index_mut.result.now in
-    let at = stands t xs c.in-Some.place d (sym (c.place_of.ensures ∙ ap (position (is_holder t)) c.deref.ensures.value) ∙ c.in-Some.is) in
-    more-at t xs c.in-Some.place d (record d { count = d.count + 1 }) at (ap (λ h. h.seat) c.index_mut.ensures.value) (ap (λ h. h.count + 1) c.index_mut.ensures.value)
+    let at =
+    stands t xs c.in-Some.place d
+    (sym (c.place_of.ensures ∙ ap (position (is_holder t)) c.deref.ensures.value)
+    ∙ c.in-Some.is) in
+    more-at t xs c.in-Some.place d (record d { count = d.count + 1 }) at
+    (ap (λ h. h.seat) c.index_mut.ensures.value)
+    (ap (λ h. h.count + 1) c.index_mut.ensures.value)

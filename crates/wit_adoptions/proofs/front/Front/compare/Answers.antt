@@ -13,8 +13,13 @@ returns g c =
     let one = c.self.inside in
     let two = c.other.inside in
     let both = c.learn.new.self.log in
-    let first : IsPrefix one.seen.log both = subst (λ (l : List Link). IsPrefix l both) (ap (λ s. s.log) c.again-both.ensures) c.learn.ensures.2 in
+    let first : IsPrefix one.seen.log both =
+    subst (λ (l : List Link). IsPrefix l both) (ap (λ s. s.log) c.again-both.ensures)
+    c.learn.ensures.2 in
     rw (← c.self.view_is, ← c.other.view_is)
-    (compared (orders_since start one.seen.log) (orders_since start two.seen.log) (orders_since start both) one.count two.count
-    (orders_begin start one.seen.log both first) (orders_begin start two.seen.log both c.learn.ensures.3)
-    c.self.invariant.1 c.other.invariant.1 c.cmp.result (ranked one.count two.count c.cmp.result c.cmp.ensures))
+    (compared (orders_since start one.seen.log) (orders_since start two.seen.log)
+    (orders_since start both) one.count two.count
+    (orders_begin start one.seen.log both first)
+    (orders_begin start two.seen.log both c.learn.ensures.3)
+    c.self.invariant.1 c.other.invariant.1 c.cmp.result
+    (ranked one.count two.count c.cmp.result c.cmp.ensures))

@@ -13,5 +13,6 @@ compare_exchange-requires g c =
       kept.2.0 ∙ book,
       offer.0,
       rw (ap (λ w. w.key) kept.1, offer.3)
-          (adds_moves c.self.inside.seen.log c.plain-offer.result.ask pen.nib kept.2.1 (sym (ap (λ l. l.end) offer.1))),
+          (adds_moves c.self.inside.seen.log c.plain-offer.result.ask pen.nib kept.2.1
+          (sym (ap (λ l. l.end) offer.1))),
     )

@@ -18,10 +18,12 @@ compare_exchange-requires g c =
       c.learn.ensures.0 ∙ (ap (λ s. s.book) c.again-both.ensures ∙ (kept.0.0 ∙ book)),
       kept.2.0 ∙ book,
       offer.0,
-      rw (ap (λ w. w.key) kept.1, offer.3) (covers_moves c.learn.new.self.log c.plain-offer.result.ask pen.nib kept.2.1),
+      rw (ap (λ w. w.key) kept.1, offer.3)
+          (covers_moves c.learn.new.self.log c.plain-offer.result.ask pen.nib kept.2.1),
     )
 
--- all that is in the book behind the list's start was seen by the keeper, and the front is a beginning of it
+-- all that is in the book behind the list's start was seen by the keeper, and the front is a
+-- beginning of it
 pub returns-clause-begins : goal.returns-clause-begins
 returns-clause-begins g c =
     let start = g.J.Naming.list.start in
@@ -29,7 +31,12 @@ returns-clause-begins g c =
     let theirs = c.front.inside.seen.log in
     let both = c.learn.new.self.log in
     let book = c.compare_exchange.new.seen.log in
-    let seen : IsPrefix own both = subst (λ (l : List Link). IsPrefix l both) (ap (λ s. s.log) c.again-both.ensures) c.learn.ensures.2 in
+    let seen : IsPrefix own both =
+    subst (λ (l : List Link). IsPrefix l both) (ap (λ s. s.log) c.again-both.ensures)
+    c.learn.ensures.2 in
     let all = c.compare_exchange.ensures.7.1 start own seen c.self.invariant.3 in
-    let begins = orders_begin start theirs book (begins_through theirs both book c.learn.ensures.3 c.compare_exchange.ensures.6) in
-    rw (← c.front.view_is) (subst (λ (l : List Adoption). IsPrefix (orders_since start theirs) l) all begins)
+    let begins =
+    orders_begin start theirs book
+    (begins_through theirs both book c.learn.ensures.3 c.compare_exchange.ensures.6) in
+    rw (← c.front.view_is) (subst
+    (λ (l : List Adoption). IsPrefix (orders_since start theirs) l) all begins)

@@ -5,5 +5,7 @@ use Rattle.wit_core.proofs.known.Known.enter_list.Goals as goal
 
 pub adopt_all-requires-clause-can : goal.adopt_all-requires-clause-can
 adopt_all-requires-clause-can c =
-    subst (λ ts. CanBeAdopted ts c.self.inside.orders.orders (listed c.args.list.now)) (sym c.in_ok-enroll_all.ensures.types)
-    (can-adopt c.args.most c.self.inside.names.types c.self.inside.orders.orders (listed c.args.list.now) (rw (← c.self.view_is) at c.requires.accepted))
+    subst (λ ts. CanBeAdopted ts c.self.inside.orders.orders (listed c.args.list.now))
+    (sym c.in_ok-enroll_all.ensures.types)
+    (can-adopt c.args.most c.self.inside.names.types c.self.inside.orders.orders
+    (listed c.args.list.now) (rw (← c.self.view_is) at c.requires.accepted))

@@ -6,4 +6,6 @@ use Rattle.wit_core.proofs.known.Known.is_behind.Given as goal
 
 abbrev pub invariant-loop-entry : goal.invariant-loop-entry
 invariant-loop-entry l =
-    (k : ℕ) (d : Class × String Global) → k < l.entry-index → is_back l.self.known.types l.self.known.orders (string_bytes l.first.1) (string_bytes (get_or l.list k d).1) ≡ false
+    (k : ℕ) (d : Class × String Global) → k < l.entry-index
+    → is_back l.self.known.types l.self.known.orders (string_bytes l.first.1)
+    (string_bytes (get_or l.list k d).1) ≡ false

@@ -8,7 +8,9 @@ use Rattle.wit_core.proofs.known.Known.new.Goals as goal
 
 pub invariant_of-result : goal.invariant_of-result
 invariant_of-result c = record {
-  orders = ap (λ (o : Ordering). o.size) c.in_ok-new-2.ensures.ok ∙ sym (ap (λ (n : Names). n.most_types) c.in_ok-new.ensures.ok);
+  orders =
+      ap (λ (o : Ordering). o.size) c.in_ok-new-2.ensures.ok
+      ∙ sym (ap (λ (n : Names). n.most_types) c.in_ok-new.ensures.ok);
   files = ap (λ (n : Names). n.most_files) c.in_ok-new.ensures.ok;
   typed = c.new-3.ensures.items ∙ sym (ap (map (λ (l : Lock). l.type_no)) c.new-2.ensures.items);
   live = ap length c.new-4.ensures.items ∙ sym (ap length c.new-2.ensures.items);

@@ -6,17 +6,20 @@ use Rattle.wit_core.proofs.orders.Orders.adopt.Goals as goal
 
 pub adopt-requires-clause-orderly : goal.adopt-requires-clause-orderly
 adopt-requires-clause-orderly c =
-    before-by c.self.inside c.self.invariant c.args.self.now c.self.view_is c.args.order.child.0 c.args.order.parent.0 ∙ c.requires.follows.orderly
+    before-by c.self.inside c.self.invariant c.args.self.now c.self.view_is c.args.order.child.0
+    c.args.order.parent.0 ∙ c.requires.follows.orderly
 
 pub invariant_of-self : goal.invariant_of-self
 invariant_of-self c =
-    let count : c.len-place.result ≡ length c.self.inside.adopted.items = omega (arith, c.len-place.ensures, c.self.inside.adopted.ok.0) in
+    let count : c.len-place.result ≡ length c.self.inside.adopted.items =
+    omega (arith, c.len-place.ensures, c.self.inside.adopted.ok.0) in
     related-adopted c.self.inside (record {
       adopted = c.push_reserved.new.self;
       found = c.self.inside.found;
       matrix = c.adopt.new.self;
       places = c.insert.new.self;
     }) c.args.order c.self.invariant
-    (subst (λ (r : Ordering). CanFollow r.size r.orders c.args.order.parent.0 c.args.order.child.0) (sym c.self.view_is) c.requires.follows)
+    (subst (λ (r : Ordering). CanFollow r.size r.orders c.args.order.parent.0 c.args.order.child.0)
+    (sym c.self.view_is) c.requires.follows)
     c.push_reserved.ensures.items refl c.adopt.ensures.adopted
     (rw (c.unwrap-new.ensures, count) at c.insert.ensures.updates).0

@@ -5,13 +5,18 @@ use Rattle.wit_core.proofs.SeatRows.{number-now, list-now, chain-now}
 use Rattle.wit_core.proofs.seats.Seats.assert_is.Goals as goal
 
 pub list_of-requires : goal.list_of-requires
-list_of-requires c = number-now c.self.inside c.args.self.now c.self.view_is c.self.invariant c.args.seat.0 c.requires
+list_of-requires c =
+    number-now c.self.inside c.args.self.now c.self.view_is c.self.invariant
+    c.args.seat.0 c.requires
 
 pub assert_is-requires : goal.assert_is-requires
-assert_is-requires c = list-now c.self.inside c.args.self.now c.self.view_is c.self.invariant c.args.seat.0 c.requires c.list_of.result c.args.spin c.list_of.ensures
+assert_is-requires c =
+    list-now c.self.inside c.args.self.now c.self.view_is c.self.invariant c.args.seat.0 c.requires
+    c.list_of.result c.args.spin c.list_of.ensures
 
 pub returns : goal.returns
 returns c =
     c.assert_is.ensures
     ∙ ap (λ chain. assertion c.args.watch c.args.flags (find (is_of c.args.lock.0) chain))
-    (chain-now c.self.inside c.args.self.now c.self.view_is c.self.invariant c.args.seat.0 c.requires c.list_of.result c.args.spin c.list_of.ensures)
+    (chain-now c.self.inside c.args.self.now c.self.view_is c.self.invariant c.args.seat.0
+    c.requires c.list_of.result c.args.spin c.list_of.ensures)

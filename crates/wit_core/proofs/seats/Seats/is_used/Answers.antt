@@ -14,19 +14,25 @@ uses-requires c =
 pub returns-then-uses : goal.returns-then-uses
 returns-then-uses c =
     let count = count-now c.self.inside c.args.self.now c.self.view_is in
-    any-here (λ (s : Holdings). uses c.args.lock.0 (seat_view s)) c.args.self.now.seats c.loop-place.place c.uses.result _
+    any-here (λ (s : Holdings). uses c.args.lock.0 (seat_view s)) c.args.self.now.seats
+    c.loop-place.place c.uses.result _
     (omega (arith, count, c.len-place-end.ensures, c.self.inside.requests.ok.0))
-    (c.uses.ensures ∙ ap (λ (s : Holdings). uses c.args.lock.0 (seat_view s)) (seat-at c.args.self.now c.loop-place.place)) c.if-uses.true c.loop-place.invariant
+    (c.uses.ensures ∙ ap (λ (s : Holdings). uses c.args.lock.0 (seat_view s))
+    (seat-at c.args.self.now c.loop-place.place)) c.if-uses.true c.loop-place.invariant
 
 pub loop-place-preserved : goal.loop-place-preserved
 loop-place-preserved c =
     let count = count-now c.self.inside c.args.self.now c.self.view_is in
-    any-step (λ (s : Holdings). uses c.args.lock.0 (seat_view s)) c.args.self.now.seats c.loop-place.place c.uses.result _
+    any-step (λ (s : Holdings). uses c.args.lock.0 (seat_view s)) c.args.self.now.seats
+    c.loop-place.place c.uses.result _
     (omega (arith, count, c.len-place-end.ensures, c.self.inside.requests.ok.0))
-    (c.uses.ensures ∙ ap (λ (s : Holdings). uses c.args.lock.0 (seat_view s)) (seat-at c.args.self.now c.loop-place.place)) c.if-uses.false c.loop-place.invariant
+    (c.uses.ensures ∙ ap (λ (s : Holdings). uses c.args.lock.0 (seat_view s))
+    (seat-at c.args.self.now c.loop-place.place)) c.if-uses.false c.loop-place.invariant
 
 pub returns : goal.returns
 returns c =
     let count = count-now c.self.inside c.args.self.now c.self.view_is in
-    any-end (λ (s : Holdings). uses c.args.lock.0 (seat_view s)) c.args.self.now.seats c.loop-place.place _
-    (omega (arith, count, c.len-place-end.ensures, c.self.inside.requests.ok.0)) c.loop-place.invariant
+    any-end (λ (s : Holdings). uses c.args.lock.0 (seat_view s)) c.args.self.now.seats
+    c.loop-place.place _
+    (omega (arith, count, c.len-place-end.ensures, c.self.inside.requests.ok.0))
+    c.loop-place.invariant

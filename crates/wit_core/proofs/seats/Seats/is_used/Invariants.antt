@@ -6,4 +6,6 @@ use Rattle.wit_core.specs.Seats.{Holdings}
 use Rattle.wit_core.proofs.seats.Seats.is_used.Given as goal
 
 abbrev pub invariant-loop-place : goal.invariant-loop-place
-invariant-loop-place l = list_any (λ (s : Holdings). uses l.lock.0 (seat_view s)) (drop l.place l.self.seats) ≡ list_any (λ (s : Holdings). uses l.lock.0 (seat_view s)) l.self.seats
+invariant-loop-place l =
+    list_any (λ (s : Holdings). uses l.lock.0 (seat_view s)) (drop l.place l.self.seats)
+    ≡ list_any (λ (s : Holdings). uses l.lock.0 (seat_view s)) l.self.seats

@@ -4,11 +4,19 @@ use Rattle.wit_core.proofs.seats.Seats.pending.Goals as goal
 
 pub index-requires : goal.index-requires
 index-requires c =
-    let lt = within-row c.self.inside c.args.self.now c.self.view_is c.self.invariant c.args.seat.0 (given-tested c.self.inside c.args.self.now c.self.view_is c.args.seat.0 (sym c.is_seat.ensures ∙ c.if-is_seat.true)) in omega (arith, lt, c.self.inside.requests.ok.0)
+    let lt =
+    within-row c.self.inside c.args.self.now c.self.view_is c.self.invariant c.args.seat.0
+    (given-tested c.self.inside c.args.self.now c.self.view_is c.args.seat.0
+    (sym c.is_seat.ensures ∙ c.if-is_seat.true)) in
+    omega (arith, lt, c.self.inside.requests.ok.0)
 
 pub returns-then-is_seat : goal.returns-then-is_seat
 returns-then-is_seat c =
-    request-now c.self.inside c.args.self.now c.self.view_is c.self.invariant c.args.seat.0 (given-tested c.self.inside c.args.self.now c.self.view_is c.args.seat.0 (sym c.is_seat.ensures ∙ c.if-is_seat.true)) _ c.index.ensures
+    request-now c.self.inside c.args.self.now c.self.view_is c.self.invariant c.args.seat.0
+    (given-tested c.self.inside c.args.self.now c.self.view_is c.args.seat.0
+    (sym c.is_seat.ensures ∙ c.if-is_seat.true)) _ c.index.ensures
 
 pub returns-else-is_seat : goal.returns-else-is_seat
-returns-else-is_seat c = no_request-now c.self.inside c.args.self.now c.self.view_is c.args.seat.0 (sym c.is_seat.ensures ∙ c.if-is_seat.false)
+returns-else-is_seat c =
+    no_request-now c.self.inside c.args.self.now c.self.view_is c.args.seat.0
+    (sym c.is_seat.ensures ∙ c.if-is_seat.false)

@@ -15,4 +15,5 @@ returns c =
     c.assert_is.ensures
     ∙ ap₂ (λ watch chain. assertion watch c.args.flags (find (is_of c.args.lock.0) chain))
     (ap (λ (s : State). s.watch) (now (seen_as c.self.invariant c.self.view_is)))
-    (chain-now (seen_as c.self.invariant c.self.view_is) c.args.seat.0 c.args.lock.0 c.is_spin-spin.result (c.is_spin-spin.ensures ∙ ap is_spin c.class_of_lock.ensures))
+    (chain-now (seen_as c.self.invariant c.self.view_is) c.args.seat.0 c.args.lock.0
+    c.is_spin-spin.result (c.is_spin-spin.ensures ∙ ap is_spin c.class_of_lock.ensures))

@@ -40,9 +40,12 @@ invariant_of-self c =
     let none : c.take.new.self ≡ None = search rules in
     let is = is_ready now r there in
     let ok = ready_answer now r there c.args.seat.0 (Check c.args.request) c.requires in
-    subst (λ (o : Option Ready). IsKept (record (with_parts c.self.inside c.learn.new.self c.ask.new.self c.self.inside.watch c.push.new.self) { ready = o })) (sym none)
+    subst (λ (o : Option Ready).
+    IsKept (record (with_parts c.self.inside c.learn.new.self c.ask.new.self c.self.inside.watch
+    c.push.new.self) { ready = o })) (sym none)
     (kept (
-    kept_entered c.self.inside c.args.seat.0 (Check c.args.request) r.reply _ _ _ _ _ c.learn.new.self c.ask.new.self c.self.inside.watch c.push.new.self _
+    kept_entered c.self.inside c.args.seat.0 (Check c.args.request) r.reply _ _ _ _ _
+    c.learn.new.self c.ask.new.self c.self.inside.watch c.push.new.self _
     (leaves_check now c.args.seat.0 c.args.request r.reply ok)
     c.learn.ensures c.ask.ensures refl
     (subst (λ x. c.push.new.self ≡ record c.self.inside.log {

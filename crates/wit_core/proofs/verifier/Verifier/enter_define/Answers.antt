@@ -32,8 +32,10 @@ push-requires-clause-room c =
     let r = c.unwrap-reply.result in
     let there : c.self.inside.ready ≡ Some r = search rules in
     let is = is_ready now r there in
-    plain_room now c.args.seat.0 (DefineOrder c.args.first c.args.second) r.reply c.self.inside.log refl
-    is.logged (ready_answer now r there c.args.seat.0 (DefineOrder c.args.first c.args.second) c.requires) refl
+    plain_room now c.args.seat.0 (DefineOrder c.args.first c.args.second) r.reply
+    c.self.inside.log refl
+    is.logged (ready_answer now r there c.args.seat.0 (DefineOrder c.args.first c.args.second)
+    c.requires) refl
 
 pub invariant_of-self : goal.invariant_of-self
 invariant_of-self c =
@@ -43,16 +45,23 @@ invariant_of-self c =
     let there : c.self.inside.ready ≡ Some r = search rules in
     let none : c.take.new.self ≡ None = search rules in
     let is = is_ready now r there in
-    let told = ready_answer now r there c.args.seat.0 (DefineOrder c.args.first c.args.second) c.requires in
+    let told =
+    ready_answer now r there c.args.seat.0
+    (DefineOrder c.args.first c.args.second) c.requires in
     let ok = accepted now c.args.seat.0 (DefineOrder c.args.first c.args.second) r.reply told in
-    subst (λ (o : Option Ready). IsKept (record (with_parts c.self.inside c.define.new.self c.self.inside.seats c.self.inside.watch c.push.new.self) { ready = o })) (sym none)
+    subst (λ (o : Option Ready).
+    IsKept (record (with_parts c.self.inside c.define.new.self c.self.inside.seats
+    c.self.inside.watch c.push.new.self) { ready = o })) (sym none)
     (kept (
-    kept_entered c.self.inside c.args.seat.0 (DefineOrder c.args.first c.args.second) r.reply _ _ _ _ _ c.define.new.self c.self.inside.seats c.self.inside.watch c.push.new.self _
+    kept_entered c.self.inside c.args.seat.0 (DefineOrder c.args.first c.args.second) r.reply _ _ _
+    _ _ c.define.new.self c.self.inside.seats c.self.inside.watch c.push.new.self _
     (leaves_define now c.args.seat.0 c.args.first c.args.second r.reply told
     (defined-reply c.self.inside k c.args.seat.0 c.args.first c.args.second r.reply ok is.logged))
     c.define.ensures refl refl
     (subst (λ x. c.push.new.self ≡ record c.self.inside.log {
-      history = entry c.args.seat.0 (DefineOrder c.args.first c.args.second) x ∷ c.self.inside.log.history;
+      history =
+          entry c.args.seat.0 (DefineOrder c.args.first c.args.second) x
+          ∷ c.self.inside.log.history;
       owed = c.self.inside.log.owed + 0;
       spare = c.self.inside.log.spare - 1;
     }) is.kept c.push.ensures)

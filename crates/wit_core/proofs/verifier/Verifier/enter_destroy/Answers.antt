@@ -10,23 +10,30 @@ use Rattle.wit_core.proofs.Whole.{kept, kept_roomy}
 use Rattle.wit_core.proofs.verifier.Verifier.enter_destroy.Goals as goal
 
 pub destroy-requires-clause-live : goal.destroy-requires-clause-live
-destroy-requires-clause-live c = destroyed_live (seen_as c.self.invariant c.self.view_is) c.args.seat.0 c.args.lock c.requires
+destroy-requires-clause-live c =
+    destroyed_live (seen_as c.self.invariant c.self.view_is) c.args.seat.0 c.args.lock c.requires
 
 pub destroy-requires-clause-typed : goal.destroy-requires-clause-typed
-destroy-requires-clause-typed c = destroyed_typed (seen_as c.self.invariant c.self.view_is) c.args.seat.0 c.args.lock c.requires
+destroy-requires-clause-typed c =
+    destroyed_typed (seen_as c.self.invariant c.self.view_is) c.args.seat.0 c.args.lock c.requires
 
 pub push-requires-clause-room : goal.push-requires-clause-room
 push-requires-clause-room c =
-    plain_room (seen_as c.self.invariant c.self.view_is) c.args.seat.0 (Destroy c.args.lock) Done _ refl refl c.requires c.reserve.ensures.same
+    plain_room (seen_as c.self.invariant c.self.view_is) c.args.seat.0
+    (Destroy c.args.lock) Done _ refl refl c.requires c.reserve.ensures.same
 
 pub invariant_of-self-2 : goal.invariant_of-self-2
 invariant_of-self-2 c =
     kept (
-    kept_entered c.self.inside c.args.seat.0 _ _ _ _ _ _ _ _ c.self.inside.seats c.self.inside.watch c.push.new.self _
+    kept_entered c.self.inside c.args.seat.0 _ _ _ _ _ _ _ _ c.self.inside.seats c.self.inside.watch
+    c.push.new.self _
     (leaves_destroy (seen_as c.self.invariant c.self.view_is) c.args.seat.0 c.args.lock c.requires)
-    c.destroy.ensures refl refl (log_after c.self.inside.log c.reserve.new.self c.push.new.self _ 0 _ c.reserve.ensures.same c.push.ensures)
-    c.self.invariant.tied refl (accepted (seen_as c.self.invariant c.self.view_is) c.args.seat.0 (Destroy c.args.lock) Done c.requires))
+    c.destroy.ensures refl refl (log_after c.self.inside.log c.reserve.new.self c.push.new.self _ 0
+    _ c.reserve.ensures.same c.push.ensures)
+    c.self.invariant.tied refl (accepted (seen_as c.self.invariant c.self.view_is) c.args.seat.0
+    (Destroy c.args.lock) Done c.requires))
 
 pub invariant_of-self : goal.invariant_of-self
 invariant_of-self c =
-    kept_roomy c.self.inside c.self.inside.known c.reserve.new.self c.self.invariant refl c.reserve.ensures.same (omega arith) c.reserve.ensures.grows
+    kept_roomy c.self.inside c.self.inside.known c.reserve.new.self c.self.invariant refl
+    c.reserve.ensures.same (omega arith) c.reserve.ensures.grows

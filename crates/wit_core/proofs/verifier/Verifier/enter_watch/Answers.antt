@@ -9,16 +9,21 @@ use Rattle.wit_core.proofs.Whole.{kept, kept_roomy}
 use Rattle.wit_core.proofs.verifier.Verifier.enter_watch.Goals as goal
 
 pub push-requires-clause-room : goal.push-requires-clause-room
-push-requires-clause-room c = watch_room (seen_as c.self.invariant c.self.view_is) c.args.seat.0 c.args.watch _ c.requires c.reserve.ensures.same
+push-requires-clause-room c =
+    watch_room (seen_as c.self.invariant c.self.view_is) c.args.seat.0 c.args.watch _ c.requires
+    c.reserve.ensures.same
 
 pub invariant_of-self-2 : goal.invariant_of-self-2
 invariant_of-self-2 c =
     kept (
     kept_entered c.self.inside c.args.seat.0 _ _ _ _ _ _ _ _ _ _ c.push.new.self _
     (leaves_watch (seen_as c.self.invariant c.self.view_is) c.args.seat.0 c.args.watch c.requires)
-    refl refl refl (log_after c.self.inside.log c.reserve.new.self c.push.new.self _ 0 _ c.reserve.ensures.same c.push.ensures)
-    c.self.invariant.tied refl (accepted (seen_as c.self.invariant c.self.view_is) c.args.seat.0 (SetWatch c.args.watch) Done c.requires))
+    refl refl refl (log_after c.self.inside.log c.reserve.new.self c.push.new.self _ 0 _
+    c.reserve.ensures.same c.push.ensures)
+    c.self.invariant.tied refl (accepted (seen_as c.self.invariant c.self.view_is) c.args.seat.0
+    (SetWatch c.args.watch) Done c.requires))
 
 pub invariant_of-self : goal.invariant_of-self
 invariant_of-self c =
-    kept_roomy c.self.inside c.self.inside.known c.reserve.new.self c.self.invariant refl c.reserve.ensures.same (omega arith) c.reserve.ensures.grows
+    kept_roomy c.self.inside c.self.inside.known c.reserve.new.self c.self.invariant refl
+    c.reserve.ensures.same (omega arith) c.reserve.ensures.grows

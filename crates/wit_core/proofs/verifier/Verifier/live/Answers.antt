@@ -8,4 +8,5 @@ pub returns-then-is_type : goal.returns-then-is_type
 returns-then-is_type c =
     ap Some c.live.ensures
     ∙ live-told (seen_as c.self.invariant c.self.view_is) c.args.number.0
-    (sym (ap (λ ts. is_given ts c.args.number.0) c.names.ensures.types) ∙ sym c.is_type.ensures ∙ c.if-is_type.true)
+    (sym (ap (λ ts. is_given ts c.args.number.0) c.names.ensures.types) ∙ sym c.is_type.ensures
+    ∙ c.if-is_type.true)

@@ -5,7 +5,8 @@ pub returns-clause-among : goal.returns-clause-among
 returns-clause-among c = rw (← c.self.view_is) (among_kept c.self.inside c.self.invariant.tied)
 
 pub returns-clause-distinct : goal.returns-clause-distinct
-returns-clause-distinct c = rw (← c.self.view_is) (distinct_kept c.self.inside c.self.invariant.tied)
+returns-clause-distinct c =
+    rw (← c.self.view_is) (distinct_kept c.self.inside c.self.invariant.tied)
 
 pub returns-clause-sound : goal.returns-clause-sound
 returns-clause-sound c = rw (← c.self.view_is) (sound_kept c.self.inside c.self.invariant.tied)

@@ -16,47 +16,70 @@ use Rattle.wit_core.proofs.Whole.{kept}
 use Rattle.wit_core.proofs.verifier.Verifier.release.Goals as goal
 
 pub release-requires-clause-once : goal.release-requires-clause-once
-release-requires-clause-once c = once-now (seen_as c.self.invariant c.self.view_is) c.args.seat.0 c.args.lock.0 c.is_spin-spin.result (c.is_spin-spin.ensures ∙ ap is_spin c.class_of_lock.ensures) c.requires.seat
+release-requires-clause-once c =
+    once-now (seen_as c.self.invariant c.self.view_is) c.args.seat.0 c.args.lock.0
+    c.is_spin-spin.result (c.is_spin-spin.ensures ∙ ap is_spin c.class_of_lock.ensures)
+    c.requires.seat
 
 pub returns-in_err-release : goal.returns-in_err-release
 returns-in_err-release c =
     let p = err_from_is_err_and c.from_residual.result c.from_residual.ensures.1 in
     rw (p.1, p.2) (
-      release-told (seen_as c.self.invariant c.self.view_is) c.args.seat.0 c.args.lock c.is_spin-spin.result (c.is_spin-spin.ensures ∙ ap is_spin c.class_of_lock.ensures)
-          c.requires.admitted c.args.mode c.watch-watch.result c.watch-watch.ensures c.release.result c.release.ensures.result
+      release-told (seen_as c.self.invariant c.self.view_is) c.args.seat.0 c.args.lock
+          c.is_spin-spin.result (c.is_spin-spin.ensures ∙ ap is_spin c.class_of_lock.ensures)
+          c.requires.admitted c.args.mode c.watch-watch.result c.watch-watch.ensures
+          c.release.result c.release.ensures.result
           ∙ ap release_reply c.in_err-release.was,
       c.self.view_is,
     )
 
 pub returns-then-not-branch : goal.returns-then-not-branch
 returns-then-not-branch c = (
-  release-told (seen_as c.self.invariant c.self.view_is) c.args.seat.0 c.args.lock c.is_spin-spin.result (c.is_spin-spin.ensures ∙ ap is_spin c.class_of_lock.ensures)
-      c.requires.admitted c.args.mode c.watch-watch.result c.watch-watch.ensures c.release.result c.release.ensures.result
+  release-told (seen_as c.self.invariant c.self.view_is) c.args.seat.0 c.args.lock
+      c.is_spin-spin.result (c.is_spin-spin.ensures ∙ ap is_spin c.class_of_lock.ensures)
+      c.requires.admitted c.args.mode c.watch-watch.result c.watch-watch.ensures c.release.result
+      c.release.ensures.result
       ∙ ap release_reply (c.in_ok-release.was ∙ ap Ok c.if-not-branch.true),
   c.self.view_is,
 )
 
 pub push_owed-requires : goal.push_owed-requires
-push_owed-requires c = unlock_owed (seen_as c.self.invariant c.self.view_is) c.args.seat.0 c.args.lock c.is_spin-spin.result (c.is_spin-spin.ensures ∙ ap is_spin c.class_of_lock.ensures) c.args.mode
-    (release-told (seen_as c.self.invariant c.self.view_is) c.args.seat.0 c.args.lock c.is_spin-spin.result (c.is_spin-spin.ensures ∙ ap is_spin c.class_of_lock.ensures)
-    c.requires.admitted c.args.mode c.watch-watch.result c.watch-watch.ensures c.release.result c.release.ensures.result
+push_owed-requires c =
+    unlock_owed (seen_as c.self.invariant c.self.view_is) c.args.seat.0 c.args.lock
+    c.is_spin-spin.result (c.is_spin-spin.ensures ∙ ap is_spin c.class_of_lock.ensures)
+    c.args.mode
+    (release-told (seen_as c.self.invariant c.self.view_is) c.args.seat.0 c.args.lock
+    c.is_spin-spin.result (c.is_spin-spin.ensures ∙ ap is_spin c.class_of_lock.ensures)
+    c.requires.admitted c.args.mode c.watch-watch.result c.watch-watch.ensures c.release.result
+    c.release.ensures.result
     ∙ ap release_reply (c.in_ok-release.was ∙ ap Ok c.if-not-branch.false))
 
 pub invariant_of-self-2 : goal.invariant_of-self-2
 invariant_of-self-2 c =
     kept (
-    let ok = release-told (seen_as c.self.invariant c.self.view_is) c.args.seat.0 c.args.lock c.is_spin-spin.result (c.is_spin-spin.ensures ∙ ap is_spin c.class_of_lock.ensures)
-    c.requires.admitted c.args.mode c.watch-watch.result c.watch-watch.ensures c.release.result c.release.ensures.result
+    let ok =
+    release-told (seen_as c.self.invariant c.self.view_is) c.args.seat.0 c.args.lock
+    c.is_spin-spin.result (c.is_spin-spin.ensures ∙ ap is_spin c.class_of_lock.ensures)
+    c.requires.admitted c.args.mode c.watch-watch.result c.watch-watch.ensures c.release.result
+    c.release.ensures.result
     ∙ ap release_reply (c.in_ok-release.was ∙ ap Ok c.if-not-branch.false) in
-    kept_entered c.self.inside c.args.seat.0 _ _ _ _ _ _ _ _ c.release.new.self _ c.push_owed.new.self _
-    (leaves_unlock (seen_as c.self.invariant c.self.view_is) c.args.seat.0 c.args.lock c.is_spin-spin.result (c.is_spin-spin.ensures ∙ ap is_spin c.class_of_lock.ensures) c.args.mode ok)
-    refl (c.release.ensures.seats (c.in_ok-release.was ∙ ap Ok c.if-not-branch.false)) refl c.push_owed.ensures c.self.invariant.tied refl
-    (accepted (seen_as c.self.invariant c.self.view_is) c.args.seat.0 (Unlock c.args.lock c.args.mode) Unlocked ok))
+    kept_entered c.self.inside c.args.seat.0 _ _ _ _ _ _ _ _ c.release.new.self _
+    c.push_owed.new.self _
+    (leaves_unlock (seen_as c.self.invariant c.self.view_is) c.args.seat.0 c.args.lock
+    c.is_spin-spin.result (c.is_spin-spin.ensures ∙ ap is_spin c.class_of_lock.ensures)
+    c.args.mode ok)
+    refl (c.release.ensures.seats (c.in_ok-release.was ∙ ap Ok c.if-not-branch.false)) refl
+    c.push_owed.ensures c.self.invariant.tied refl
+    (accepted (seen_as c.self.invariant c.self.view_is) c.args.seat.0
+    (Unlock c.args.lock c.args.mode) Unlocked ok))
 
 pub returns : goal.returns
 returns c = (
-  release-told (seen_as c.self.invariant c.self.view_is) c.args.seat.0 c.args.lock c.is_spin-spin.result (c.is_spin-spin.ensures ∙ ap is_spin c.class_of_lock.ensures)
-      c.requires.admitted c.args.mode c.watch-watch.result c.watch-watch.ensures c.release.result c.release.ensures.result
+  release-told (seen_as c.self.invariant c.self.view_is) c.args.seat.0 c.args.lock
+      c.is_spin-spin.result (c.is_spin-spin.ensures ∙ ap is_spin c.class_of_lock.ensures)
+      c.requires.admitted c.args.mode c.watch-watch.result c.watch-watch.ensures c.release.result
+      c.release.ensures.result
       ∙ ap release_reply (c.in_ok-release.was ∙ ap Ok c.if-not-branch.false),
-  rw c.push_owed.ensures (ap (λ (s : Story). logged s c.args.seat.0 (Unlock c.args.lock c.args.mode) Unlocked) c.self.view_is),
+  rw c.push_owed.ensures (ap (λ (s : Story). logged s c.args.seat.0
+      (Unlock c.args.lock c.args.mode) Unlocked) c.self.view_is),
 )

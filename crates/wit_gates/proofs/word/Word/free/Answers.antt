@@ -7,10 +7,21 @@ use Rattle.wit_gates.proofs.word.Word.free.Goals as goal
 
 pub fetch_sub-requires : goal.fetch_sub-requires
 fetch_sub-requires c =
-    let seat = c.ticket.inside.seat in
-    (search rules, search rules, sets c.self.inside.table.shared.table_id.slots seat.id seat.me (claim 1 0) nothing _ (stands seat.me Shared c.ticket.invariant (ap (λ (p : Pass). p.mode) (c.ticket.view_is ∙ c.requires) ∙ c.in-Shared.is)) one_less)
+    let seat = c.ticket.inside.seat in (
+      search rules,
+      search rules,
+      sets c.self.inside.table.shared.table_id.slots seat.id seat.me
+          (claim 1 0) nothing _ (stands seat.me Shared c.ticket.invariant
+          (ap (λ (p : Pass). p.mode) (c.ticket.view_is ∙ c.requires) ∙ c.in-Shared.is)) one_less,
+    )
 
 pub store-requires : goal.store-requires
 store-requires c =
-    let seat = c.ticket.inside.seat in
-    (search rules, search rules, sets c.self.inside.table.shared.table_id.slots seat.id seat.me (claim 0 1) nothing _ (stands seat.me Exclusive c.ticket.invariant (ap (λ (p : Pass). p.mode) (c.ticket.view_is ∙ c.requires) ∙ c.in-Exclusive.is)) gives_all)
+    let seat = c.ticket.inside.seat in (
+      search rules,
+      search rules,
+      sets c.self.inside.table.shared.table_id.slots seat.id seat.me
+          (claim 0 1) nothing _ (stands seat.me Exclusive c.ticket.invariant
+          (ap (λ (p : Pass). p.mode) (c.ticket.view_is ∙ c.requires) ∙ c.in-Exclusive.is))
+          gives_all,
+    )

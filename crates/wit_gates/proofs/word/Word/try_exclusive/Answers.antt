@@ -8,5 +8,9 @@ load_new_seat-seat-requires c = (search rules, enters c.self.inside.table.shared
 
 pub compare_exchange-requires : goal.compare_exchange-requires
 compare_exchange-requires c =
-    let seat = c.load_new_seat-seat.result.1 in
-    (search rules, search rules, tries c.self.inside.table.shared.table_id.slots seat.id 0 4294967295 seat.me nothing (claim 0 1) c.load_new_seat-seat.ensures.2 takes_all)
+    let seat = c.load_new_seat-seat.result.1 in (
+      search rules,
+      search rules,
+      tries c.self.inside.table.shared.table_id.slots seat.id 0
+          4294967295 seat.me nothing (claim 0 1) c.load_new_seat-seat.ensures.2 takes_all,
+    )

@@ -9,5 +9,10 @@ load_new_seat-found-requires c = (search rules, enters c.self.inside.table.share
 pub compare_exchange-requires : goal.compare_exchange-requires
 compare_exchange-requires c =
     let seat = c.load_new_seat-found.result.1 in
-    let found = c.load_new_seat-found.result.0 in
-    (search rules, search rules, tries c.self.inside.table.shared.table_id.slots seat.id found (found + 1) seat.me nothing (claim 1 0) c.load_new_seat-found.ensures.2 (one_more found (omega arith)))
+    let found = c.load_new_seat-found.result.0 in (
+      search rules,
+      search rules,
+      tries c.self.inside.table.shared.table_id.slots seat.id found
+          (found + 1) seat.me nothing (claim 1 0) c.load_new_seat-found.ensures.2
+          (one_more found (omega arith)),
+    )

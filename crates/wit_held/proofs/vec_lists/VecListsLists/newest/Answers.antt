@@ -9,8 +9,10 @@ returns-clause-all g c =
       c.newest_spot.ensures.all,
       ap length c.deref.ensures.value,
       c.index.result.now.ok.0,
-      groups-many c.self.inside c.args.self.now c.self.view_is c.self.invariant c.args.list c.requires.list c.index.result.now c.index.ensures,
+      groups-many c.self.inside c.args.self.now c.self.view_is c.self.invariant c.args.list
+          c.requires.list c.index.result.now c.index.ensures,
     )
 
 pub returns-clause-few : goal.returns-clause-few
-returns-clause-few g c = fits c.self.inside c.args.self.now c.self.view_is c.self.invariant c.args.list c.requires.list
+returns-clause-few g c =
+    fits c.self.inside c.args.self.now c.self.view_is c.self.invariant c.args.list c.requires.list

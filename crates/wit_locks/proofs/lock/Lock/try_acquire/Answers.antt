@@ -3,4 +3,5 @@ use Rattle.wit_locks.proofs.lock.Lock.try_acquire.Goals as goal
 
 pub returns-in-Ok-clause-calls : goal.returns-in-Ok-clause-calls
 returns-in-Ok-clause-calls g c =
-    try_entered g.J.Room.start c.args.self.now.number c.args.mode c.args.site c.in-Ok.noted c.args.seat.now c.note_try.new.seat c.in-Ok.ensures.told
+    try_entered g.J.Room.start c.args.self.now.number c.args.mode c.args.site c.in-Ok.noted
+    c.args.seat.now c.note_try.new.seat c.in-Ok.ensures.told

@@ -8,7 +8,8 @@ use Rattle.wit_model.proofs.chunks.Lists.find.Given as goal
 abbrev pub invariant-loop-spot : goal.invariant-loop-spot
 invariant-loop-spot g l =
     IsNext (g.Self.Lists.chunks l.self) l.list l.spot
-    × (l.found ≡ position (is_of l.lock.0) (flat (newer_than (g.Self.Lists.chunks l.self) l.list l.spot)))
+    × (l.found ≡ position (is_of l.lock.0)
+    (flat (newer_than (g.Self.Lists.chunks l.self) l.list l.spot)))
 
 abbrev pub decreases-loop-spot : goal.decreases-loop-spot
 decreases-loop-spot g l = upto l.spot

@@ -6,7 +6,8 @@ use Rattle.wit_model.proofs.chunks.Lists.last.Given as goal
 
 abbrev pub invariant-loop-spot : goal.invariant-loop-spot
 invariant-loop-spot g l =
-    IsNext (g.Self.Lists.chunks l.self) l.list l.spot × (flat (newer_than (g.Self.Lists.chunks l.self) l.list l.spot) ≡ [])
+    IsNext (g.Self.Lists.chunks l.self) l.list l.spot
+    × (flat (newer_than (g.Self.Lists.chunks l.self) l.list l.spot) ≡ [])
 
 abbrev pub decreases-loop-spot : goal.decreases-loop-spot
 decreases-loop-spot g l = upto l.spot

@@ -9,5 +9,6 @@ overflow_add-held g c =
       c.loop-spot.invariant.1,
       ap length c.group.ensures,
       c.newest-spot.ensures.few,
-      all-lengths (g.Self.Lists.chunks c.args.self.now) c.args.list c.loop-spot.spot c.in-Some.at c.in-Some.is c.loop-spot.invariant.0,
+      all-lengths (g.Self.Lists.chunks c.args.self.now) c.args.list c.loop-spot.spot c.in-Some.at
+          c.in-Some.is c.loop-spot.invariant.0,
     )

@@ -11,5 +11,6 @@ returns-clause-groups g c =
     let chunks = g.Self.Lists.chunks c.args.self.now in
     c.remove_in.ensures.groups
     ∙ ap (λ (gs : List (List Instance)). set_groups chunks c.args.list (tidied gs))
-    (edited-there chunks c.args.list c.args.place c.locate-index.result.0 c.locate-index.result.1 c.locate-index.ensures.spot c.locate-index.ensures.index
+    (edited-there chunks c.args.list c.args.place c.locate-index.result.0 c.locate-index.result.1
+    c.locate-index.ensures.spot c.locate-index.ensures.index
     c.locate-index.ensures.before (λ n h. remove h n))

@@ -8,5 +8,6 @@ returns-clause-groups g c =
     let chunks = g.Self.Lists.chunks c.args.self.now in
     c.replace_in.ensures.groups
     ∙ ap (set_groups chunks c.args.list)
-    (edited-there chunks c.args.list c.args.place c.locate-index.result.0 c.locate-index.result.1 c.locate-index.ensures.spot c.locate-index.ensures.index
+    (edited-there chunks c.args.list c.args.place c.locate-index.result.0 c.locate-index.result.1
+    c.locate-index.ensures.spot c.locate-index.ensures.index
     c.locate-index.ensures.before (λ n h. set h n c.args.instance))

@@ -3,4 +3,5 @@ use Rattle.wit_model.proofs.Orders.Sound.{sound_legal}
 use Rattle.wit_model.proofs.Orders.Started.{sound_started}
 
 pub returns : goal.returns
-returns c = λ start files h accepted legal. sound_legal start files h (sound_started start accepted) legal
+returns c =
+    λ start files h accepted legal. sound_legal start files h (sound_started start accepted) legal

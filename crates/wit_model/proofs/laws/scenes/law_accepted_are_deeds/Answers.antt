@@ -7,7 +7,9 @@ pub returns-clause-begins : goal.returns-clause-begins
 returns-clause-begins c = opening-shows
 
 pub returns-clause-steps : goal.returns-clause-steps
-returns-clause-steps c = λ start files w s then t l step world shown. step-deed start files w s shown world t l then step
+returns-clause-steps c =
+    λ start files w s then t l step world shown. step-deed start files w s shown world t l then step
 
 pub returns-clause-calls : goal.returns-clause-calls
-returns-clause-calls c = λ start files w s t call r world shown. call-deed start files w s shown t call r world
+returns-clause-calls c =
+    λ start files w s t call r world shown. call-deed start files w s shown t call r world

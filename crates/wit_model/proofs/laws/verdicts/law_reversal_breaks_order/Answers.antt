@@ -5,4 +5,5 @@ pub returns-clause-held : goal.returns-clause-held
 returns-clause-held c = λ start files e h x legal is. reversal-held start files e h legal x is
 
 pub returns-clause-order : goal.returns-clause-order
-returns-clause-order c = λ start files e h x legal is plain. reversal-order start files e h legal x is plain
+returns-clause-order c =
+    λ start files e h x legal is plain. reversal-order start files e h legal x is plain

@@ -13,7 +13,8 @@ unfolding num place mode mark site seat_groups
 returns-clause-run c = (refl, is_world small files in_turn refl refl)
 
 pub returns-clause-none : goal.returns-clause-none
-returns-clause-none c = λ threads circle. let two = first_waits (IsWaiting in_turn) threads circle in none_waits two.0 two.1 two.2
+returns-clause-none c = λ threads circle. let two =
+    first_waits (IsWaiting in_turn) threads circle in none_waits two.0 two.1 two.2
 
 pub returns-clause-reordering : goal.returns-clause-reordering
 unfolding num place mode mark site seat_groups

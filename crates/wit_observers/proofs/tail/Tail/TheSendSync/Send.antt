@@ -9,4 +9,7 @@ quiet to unchanged q = λ x w. tt
 quiet to (leaves L l S s r₀) q = λ d. q (to d)
 
 pub send : IsSend the_row
-send = let all : AllSend (fields the_type) = tt in owning_send the_type all (λ d. tt) (λ k. quiet (to the_type) (exits_of k (fields the_type)) ((struct_send (shape the_type) all).leaving k))
+send = let all : AllSend (fields the_type) =
+    tt in owning_send the_type all (λ d. tt)
+    (λ k. quiet (to the_type) (exits_of k (fields the_type))
+    ((struct_send (shape the_type) all).leaving k))

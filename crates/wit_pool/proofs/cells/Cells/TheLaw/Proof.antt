@@ -15,7 +15,8 @@ use Rattle.wit_pool.proofs.cells.Cells.TheLaw.Statement.{statement}
 
 pub shares : (R : RattleType) (L : Laws R) → statement R L
 shares R L =
-    of_Lends (Cells.struct R) (Cells.the_codes R.Denot R.coded (Mark.the_row RawPtr).coded) (Cells.the_heap R) (Cells.the_lent R)
+    of_Lends (Cells.struct R) (Cells.the_codes R.Denot R.coded (Mark.the_row RawPtr).coded)
+    (Cells.the_heap R) (Cells.the_lent R)
     (λ c p. cells_lent_laws R L.shr_laws c.at c.slots)
     (copy_shared (Mark.the_field RawPtr) (field_copy (Mark.the_type RawPtr) tt), tt)
     (λ M 𝓤 𝓛 c p.

@@ -1,5 +1,17 @@
 -- The pointer to a place that the block has. Assumes `Logic`.
-use Rattle.wit_pool.proofs.Steps.{◌≡◌, refl, sym, ap, subst, ◌∙◌, ℕ, ◌+◌, ◌*◌, ◌<◌, ◌^◌, arith, List, [], ◌∷◌, ◌++◌, length, full_share, SProp, never, id⊢, ftrue, fat, flft, inst_fn, w64, Val, vint, vptr, WpFn, fact, tables, ◌⊑◌, ‵, raw, ◌⊛◌, at_ret, ◌$◌, ◌∵◌, !, qed, move, keep, skip, split, fsplit, fjoin, feq_l, flt_l, rewrite, suffices, frame, done, whole, sub, agg, enter, size_lit, bin, stop, fld, of_opd, and_then, no_more, first, blocks, exec, returns, alloc_all, pass_all, free_all, look_at, get, get_in, sets, sets_last, take_at, give_at, env, yes, no, owns, layout, Ptr, block_ptr, in_a_block, RefOf, usize, plain, types_at, unhide, nothing, heard, Stays, stay_dropped, walk_of, says, ends_at, Goes-dropped, proved_at, after, word, word-Good, El, R, args, cells_lent, sz, word_had, word_made, spot, spot_at}
+use Rattle.wit_pool.proofs.Steps.{◌≡◌, refl, sym, ap, subst, ◌∙◌, ℕ, ◌+◌, ◌*◌, ◌<◌, ◌^◌, arith}
+use Rattle.wit_pool.proofs.Steps.{List, [], ◌∷◌, ◌++◌, length, full_share, SProp, never, id⊢, ftrue}
+use Rattle.wit_pool.proofs.Steps.{fat, flft, inst_fn, w64, Val, vint, vptr, WpFn, fact, tables, ◌⊑◌}
+use Rattle.wit_pool.proofs.Steps.{‵, raw, ◌⊛◌, at_ret, ◌$◌, ◌∵◌, !, qed, move, keep, skip, split}
+use Rattle.wit_pool.proofs.Steps.{fsplit, fjoin, feq_l, flt_l, rewrite, suffices, frame, done}
+use Rattle.wit_pool.proofs.Steps.{whole, sub, agg, enter, size_lit, bin, stop, fld, of_opd}
+use Rattle.wit_pool.proofs.Steps.{and_then, no_more, first, blocks, exec, returns, alloc_all}
+use Rattle.wit_pool.proofs.Steps.{pass_all, free_all, look_at, get, get_in, sets, sets_last}
+use Rattle.wit_pool.proofs.Steps.{take_at, give_at, env, yes, no, owns, layout, Ptr, block_ptr}
+use Rattle.wit_pool.proofs.Steps.{in_a_block, RefOf, usize, plain, types_at, unhide, nothing, heard}
+use Rattle.wit_pool.proofs.Steps.{Stays, stay_dropped, walk_of, says, ends_at, Goes-dropped}
+use Rattle.wit_pool.proofs.Steps.{proved_at, after, word, word-Good, El, R, args, cells_lent, sz}
+use Rattle.wit_pool.proofs.Steps.{word_had, word_made, spot, spot_at}
 use Rattle.core.proofs.ptr.Rows.{one_below, times_below}
 use Rattle.wit_pool.proofs.Memory.{Cr, Lk, at_words}
 use Rattle.wit_pool.proofs.Spots.{spot-back}
@@ -35,7 +47,8 @@ link_spec 𝓤 𝓛 𝓜 𝓡 wired X LX =
     let Runs : List Val → SProp 𝓤 = λ ws. WpFn 𝓤 𝓛.H 𝓣.C 𝓣.Λ fn ws Post in
     let toks = ‵ (flft κs.0 qs.0) ⊛ (‵ (flft κs.1.0 qs.1.0) ⊛ ‵ ftrue) in
     qed 𝓛 ((toks ⊛ ‵ (owns (types_at T.signature.params κs) a us))
-    ∷ (raw (fact 𝓤 (κs.1.0 ⊑ X.lives)) ⊛ raw (fact 𝓤 ((base.ptr ≡ cs.at) × (i < length cs.slots)))) ∷ []) ∵
+    ∷ (raw (fact 𝓤 (κs.1.0 ⊑ X.lives)) ⊛ raw (fact 𝓤 ((base.ptr ≡ cs.at) × (i < length cs.slots))))
+    ∷ []) ∵
     move ! (1 ∷ []) $ split ! $ heard ! _ (λ short. heard ! _ (λ asked.
     split ! $ move ! (1 ∷ []) $ fsplit ! $ fsplit ! $ feq_l ! (λ e0. move ! (1 ∷ []) $ fsplit ! $
     word_had ! base.ptr us.1.0 (λ e1.
@@ -51,19 +64,24 @@ link_spec 𝓤 𝓛 𝓜 𝓡 wired X LX =
     ) $
     -- [what the owner lends; the tokens]
     unhide ! $ fsplit ! $ skip ! $
-    in_a_block ! cs.at (λ p. cells_lent (R E) p cs.slots (κs.0)) (id⊢ 𝓤 (never 𝓤)) (λ b o e. fsplit ! $
+    in_a_block ! cs.at (λ p. cells_lent (R E) p cs.slots (κs.0)) (id⊢ 𝓤 (never 𝓤))
+    (λ b o e. fsplit ! $
     flt_l ! (λ small.
-    let tiny : s < 2 ^ 64 = omega (arith, one_below (length cs.slots) s (2 ^ 63) (omega arith) small) in
-    let far : i * s < 2 ^ 64 = omega (arith, times_below i (length cs.slots) s (2 ^ 63) (omega arith) small) in
+    let tiny : s < 2 ^ 64 =
+    omega (arith, one_below (length cs.slots) s (2 ^ 63) (omega arith) small) in
+    let far : i * s < 2 ^ 64 =
+    omega (arith, times_below i (length cs.slots) s (2 ^ 63) (omega arith) small) in
     let there : Ptr = block_ptr b (i * s + o) in
-    let back : 0 < s → spot (R E) cs.at there ≡ i = subst (λ p. 0 < s → spot (R E) p there ≡ i) (sym e)
+    let back : 0 < s → spot (R E) cs.at there ≡ i =
+    subst (λ p. 0 < s → spot (R E) p there ≡ i) (sym e)
     (spot-back (R E) b o i) in
     take_at ! 2 $ rewrite ! 0 (λ (p : Ptr). ‵ (fat full_share (layout (Lk E)) (l 2) 0 (word p)))
     (asked.0 ∙ e) refl $ give_at ! 2 $
     first ! $ blocks ! $
     sets ! (bin ! (get ! refl) (size_lit ! (record { fits = tiny }))
     (record { fits = far })) refl (tt, record { fits = far }) $
-    sets ! (bin ! (get_in ! (fld ! refl (stop !)) (sub ! 0 refl (whole !))) (get ! refl) tt) refl (tt, tt) $
+    sets ! (bin ! (get_in ! (fld ! refl (stop !)) (sub ! 0 refl (whole !))) (get ! refl) tt)
+    refl (tt, tt) $
     sets_last ! (agg ! (and_then ! (get ! refl) (no_more !))) refl (word-Good [] there) $
     exec ! 𝓣.C 𝓣.Λ (env fn.locals l) (after 1 fn.body) (at_ret _ Post) $
     sets ! (of_opd ! (get ! refl)) refl (word-Good [] there) $

@@ -13,7 +13,8 @@ use Rattle.wit_pool.proofs.cells.Deed.TheLaw.Statement.{statement}
 
 pub shares : (R A : RattleType) (g : Ghosts A.Denot) (L : Laws R) (P : Laws A) → statement R A g L P
 shares R A g L P =
-    of_Lends (Deed.struct R A g) (Deed.the_codes R.Denot A.Denot R.coded A.coded (Mark.the_row RawPtr).coded)
+    of_Lends (Deed.struct R A g)
+    (Deed.the_codes R.Denot A.Denot R.coded A.coded (Mark.the_row RawPtr).coded)
     (Deed.the_heap R A g) (Deed.the_lent R A g) (λ d p. nothing_shr_laws)
     (copy_shared (Mark.the_field RawPtr) (field_copy (Mark.the_type RawPtr) tt), tt)
     (λ M 𝓤 𝓛 d p. Lends-nothing 𝓛 (Deed.the_heap R A g d) (Deed.the_row R A g).lives)

@@ -7,4 +7,5 @@ pub returns : goal.returns
 returns c =
     let g = c.args.self.now in
     let lt : c.args.index < g.held = omega (arith, c.requires, length-take g.held g.items) in
-    ap (take (g.held - 1)) c.copy_within.ensures.after ∙ moved-down g.items g.held c.args.index lt (omega (arith, g.short, g.whole))
+    ap (take (g.held - 1)) c.copy_within.ensures.after
+    ∙ moved-down g.items g.held c.args.index lt (omega (arith, g.short, g.whole))

@@ -11,11 +11,15 @@ pub invariant_of-result : goal.invariant_of-result
 invariant_of-result g c =
     let cells = c.link_all-free.new.cells in
     let empty = c.in_ok-chains.ensures.items_if_clones_equal (λ y e. e) in
-    let made = fresh-shown c.args.chunks c.args.lists (rows_in cells.slots) (map (chain_chunks cells.slots) c.in_ok-chains.chains.items)
+    let made =
+    fresh-shown c.args.chunks c.args.lists (rows_in cells.slots)
+    (map (chain_chunks cells.slots) c.in_ok-chains.chains.items)
     (chain_chunks cells.slots c.link_all-free.result) c.requires c.link_all-free.ensures.rows
-    (ap (map (chain_chunks cells.slots)) empty ∙ no-chunks cells.slots c.args.lists) c.link_all-free.ensures.places in
+    (ap (map (chain_chunks cells.slots)) empty ∙ no-chunks cells.slots c.args.lists)
+    c.link_all-free.ensures.places in
     let long : length cells.slots ≡ c.args.chunks =
-    sym (length-map cells.slots content) ∙ ap length c.link_all-free.ensures.rows ∙ length-replicate {A = List Instance} c.args.chunks [] in
+    sym (length-map cells.slots content) ∙ ap length c.link_all-free.ensures.rows
+    ∙ length-replicate {A = List Instance} c.args.chunks [] in
     record {
       settled = made.0;
       linked = all-none cells.at cells.slots c.args.lists c.in_ok-chains.chains.items empty;
@@ -29,6 +33,8 @@ pub returns : goal.returns
 returns g c =
     let cells = c.link_all-free.new.cells in
     let empty = c.in_ok-chains.ensures.items_if_clones_equal (λ y e. e) in
-    (fresh-shown c.args.chunks c.args.lists (rows_in cells.slots) (map (chain_chunks cells.slots) c.in_ok-chains.chains.items)
+    (fresh-shown c.args.chunks c.args.lists (rows_in cells.slots)
+    (map (chain_chunks cells.slots) c.in_ok-chains.chains.items)
     (chain_chunks cells.slots c.link_all-free.result) c.requires c.link_all-free.ensures.rows
-    (ap (map (chain_chunks cells.slots)) empty ∙ no-chunks cells.slots c.args.lists) c.link_all-free.ensures.places).1
+    (ap (map (chain_chunks cells.slots)) empty ∙ no-chunks cells.slots c.args.lists)
+    c.link_all-free.ensures.places).1

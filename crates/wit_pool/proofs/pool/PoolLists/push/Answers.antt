@@ -6,7 +6,8 @@ use Rattle.wit_model.proofs.Rows.Settled.{others-kept}
 use Rattle.wit_pool.specs.declared.chain.Chain.{Chain}
 use Rattle.wit_pool.specs.Chunks.{IsAt}
 use Rattle.wit_pool.proofs.Keeping.{IsLeft, placed, in-chains, few}
-use Rattle.wit_pool.proofs.Pushing.{linked-here, newest-there, room, joins, some-free, free-there, not-refused, led-at, led-short, opened, refused, refused-groups}
+use Rattle.wit_pool.proofs.Pushing.{linked-here, newest-there, room, joins, some-free, free-there}
+use Rattle.wit_pool.proofs.Pushing.{not-refused, led-at, led-short, opened, refused, refused-groups}
 use Rattle.wit_pool.proofs.pool.PoolLists.push.Given.{Over}
 use Rattle.wit_pool.proofs.pool.PoolLists.push.Goals as goal
 
@@ -15,19 +16,31 @@ overflow_sub-list g c = c.requires.list.0
 
 pub index-chain-requires : goal.index-chain-requires
 index-chain-requires g c =
-    omega (arith, in-chains c.self.inside c.args.self.now c.self.view_is c.self.invariant c.args.list c.requires.list, c.self.inside.chains.ok.0)
+    omega (
+      arith,
+      in-chains c.self.inside c.args.self.now c.self.view_is c.self.invariant
+          c.args.list c.requires.list,
+      c.self.inside.chains.ok.0,
+    )
 
 pub index_mut-requires : goal.index_mut-requires
 index_mut-requires g c =
-    omega (arith, in-chains c.self.inside c.args.self.now c.self.view_is c.self.invariant c.args.list c.requires.list, c.self.inside.chains.ok.0)
+    omega (
+      arith,
+      in-chains c.self.inside c.args.self.now c.self.view_is c.self.invariant
+          c.args.list c.requires.list,
+      c.self.inside.chains.ok.0,
+    )
 
 pub open_chunk-requires : goal.open_chunk-requires
 open_chunk-requires g c =
-    linked-here c.self.inside c.args.self.now c.self.view_is c.self.invariant c.args.list c.requires.list c.index-chain.result.now c.index-chain.ensures
+    linked-here c.self.inside c.args.self.now c.self.view_is c.self.invariant c.args.list
+    c.requires.list c.index-chain.result.now c.index-chain.ensures
 
 pub put-requires-clause-there : goal.put-requires-clause-there
 put-requires-clause-there g c =
-    newest-there c.self.inside c.args.self.now c.self.view_is c.self.invariant c.args.list c.requires.list c.index-chain.result.now c.index-chain.ensures
+    newest-there c.self.inside c.args.self.now c.self.view_is c.self.invariant c.args.list
+    c.requires.list c.index-chain.result.now c.index-chain.ensures
     c.in-Some.at c.in-Some.ensures.newest
 
 pub put-requires-clause-short : goal.put-requires-clause-short
@@ -36,19 +49,40 @@ put-requires-clause-short g c = c.in-Some.ensures.short
 -- what a lock in the newest chunk leaves
 joined : (g : Over) (c : goal.After-put g)
     → IsLeft c.args.self.now c.args.list (pushed c.args.self.now c.args.list c.args.instance)
-    (record { chains = c.self.inside.chains; free = c.self.inside.free; first = c.self.inside.first; count = c.self.inside.count; cells = c.put.new.cells; deed = c.self.inside.deed; alloc = c.self.inside.alloc })
+    (record {
+      chains = c.self.inside.chains;
+      free = c.self.inside.free;
+      first = c.self.inside.first;
+      count = c.self.inside.count;
+      cells = c.put.new.cells;
+      deed = c.self.inside.deed;
+      alloc =
+          c.self.inside.alloc;
+    })
 joined g c =
-    joins c.self.inside c.args.self.now c.self.view_is c.self.invariant c.args.list c.requires.list c.index-chain.result.now c.index-chain.ensures
+    joins c.self.inside c.args.self.now c.self.view_is c.self.invariant c.args.list c.requires.list
+    c.index-chain.result.now c.index-chain.ensures
     c.in-Some.at c.in-Some.ensures.newest c.in-Some.ensures.short
-    (record { chains = c.self.inside.chains; free = c.self.inside.free; first = c.self.inside.first; count = c.self.inside.count; cells = c.put.new.cells; deed = c.self.inside.deed; alloc = c.self.inside.alloc })
-    (record { at = c.put.ensures.at; first = refl; count = refl; deed = c.self.invariant.deed }) c.args.instance c.put.ensures.slots refl refl
+    (record {
+      chains = c.self.inside.chains;
+      free = c.self.inside.free;
+      first = c.self.inside.first;
+      count = c.self.inside.count;
+      cells = c.put.new.cells;
+      deed = c.self.inside.deed;
+      alloc =
+          c.self.inside.alloc;
+    })
+    (record { at = c.put.ensures.at; first = refl; count = refl; deed = c.self.invariant.deed })
+    c.args.instance c.put.ensures.slots refl refl
 
 pub invariant_of-self : goal.invariant_of-self
 invariant_of-self g c = (joined g c).kept
 
 pub returns-in-Some-clause-result : goal.returns-in-Some-clause-result
 returns-in-Some-clause-result g c =
-    ap not (sym (room c.self.inside c.args.self.now c.self.view_is c.self.invariant c.args.list c.requires.list c.index-chain.result.now c.index-chain.ensures
+    ap not (sym (room c.self.inside c.args.self.now c.self.view_is c.self.invariant c.args.list
+    c.requires.list c.index-chain.result.now c.index-chain.ensures
     c.in-Some.at c.in-Some.ensures.newest c.in-Some.ensures.short))
 
 pub returns-in-Some-clause-groups : goal.returns-in-Some-clause-groups
@@ -65,43 +99,78 @@ returns-in-Some-clause-others g c = (joined g c).others
 
 pub take_free-requires-clause-there : goal.take_free-requires-clause-there
 take_free-requires-clause-there g c =
-    free-there c.self.inside c.args.self.now c.self.view_is c.self.invariant c.args.list c.requires.list c.index-chain.result.now c.index-chain.ensures
+    free-there c.self.inside c.args.self.now c.self.view_is c.self.invariant c.args.list
+    c.requires.list c.index-chain.result.now c.index-chain.ensures
     (c.in-None.ensures.full refl) c.in-Some-head.at c.in-Some-head.is
 
 pub take_free-requires-clause-few : goal.take_free-requires-clause-few
 take_free-requires-clause-few g c =
     omega (
       arith,
-      few c.self.inside c.args.self.now c.self.view_is c.self.invariant c.args.list c.requires.list c.index-chain.result.now,
+      few c.self.inside c.args.self.now c.self.view_is c.self.invariant c.args.list c.requires.list
+          c.index-chain.result.now,
       ap (λ (ch : Chain). ch.count) c.index-chain.ensures,
     )
 
 pub take_free-requires-clause-some : goal.take_free-requires-clause-some
 take_free-requires-clause-some g c =
-    some-free c.self.inside c.args.self.now c.self.view_is c.self.invariant c.args.list c.requires.list c.index-chain.result.now c.index-chain.ensures
+    some-free c.self.inside c.args.self.now c.self.view_is c.self.invariant c.args.list
+    c.requires.list c.index-chain.result.now c.index-chain.ensures
     (c.in-None.ensures.full refl) c.in-Some-head.at c.in-Some-head.is
 
 pub put-requires-in-Some-head-clause-there : goal.put-requires-in-Some-head-clause-there
 put-requires-in-Some-head-clause-there g c =
     subst (λ a. IsAt a c.take_free.new.cells.slots c.in-Some-head.at) (sym c.take_free.ensures.at)
-    (led-at c.self.inside c.args.self.now c.self.view_is c.self.invariant c.args.list c.requires.list c.index-chain.result.now c.index-chain.ensures
-    (c.in-None.ensures.full refl) c.in-Some-head.at c.in-Some-head.is c.take_free.new.cells.slots c.take_free.ensures.slots)
+    (led-at c.self.inside c.args.self.now c.self.view_is c.self.invariant c.args.list
+    c.requires.list c.index-chain.result.now c.index-chain.ensures
+    (c.in-None.ensures.full refl) c.in-Some-head.at c.in-Some-head.is c.take_free.new.cells.slots
+    c.take_free.ensures.slots)
 
 pub put-requires-in-Some-head-clause-short : goal.put-requires-in-Some-head-clause-short
 put-requires-in-Some-head-clause-short g c =
-    led-short c.self.inside c.args.self.now c.self.view_is c.self.invariant c.args.list c.requires.list c.index-chain.result.now c.index-chain.ensures
-    (c.in-None.ensures.full refl) c.in-Some-head.at c.in-Some-head.is c.take_free.new.cells.slots c.take_free.ensures.slots
+    led-short c.self.inside c.args.self.now c.self.view_is c.self.invariant c.args.list
+    c.requires.list c.index-chain.result.now c.index-chain.ensures
+    (c.in-None.ensures.full refl) c.in-Some-head.at c.in-Some-head.is c.take_free.new.cells.slots
+    c.take_free.ensures.slots
 
 -- what a lock in a chunk that was free leaves
 began : (g : Over) (c : goal.After-free-in-Some-head-1 g)
     → IsLeft c.args.self.now c.args.list (pushed c.args.self.now c.args.list c.args.instance)
-    (record { chains = with_item c.self.inside.chains (c.args.list - 1) c.take_free.result.0; free = c.take_free.result.1; first = c.self.inside.first; count = c.self.inside.count; cells = c.put-in-Some-head.new.cells; deed = c.self.inside.deed; alloc = c.self.inside.alloc })
+    (record {
+      chains = with_item c.self.inside.chains (c.args.list - 1) c.take_free.result.0;
+      free = c.take_free.result.1;
+      first = c.self.inside.first;
+      count =
+          c.self.inside.count;
+      cells = c.put-in-Some-head.new.cells;
+      deed =
+          c.self.inside.deed;
+      alloc = c.self.inside.alloc;
+    })
 began g c =
-    opened c.self.inside c.args.self.now c.self.view_is c.self.invariant c.args.list c.requires.list c.index-chain.result.now c.index-chain.ensures
-    (c.in-None.ensures.full refl) c.in-Some-head.at c.in-Some-head.is c.take_free.new.cells.slots c.take_free.ensures.slots
-    (record { chains = with_item c.self.inside.chains (c.args.list - 1) c.take_free.result.0; free = c.take_free.result.1; first = c.self.inside.first; count = c.self.inside.count; cells = c.put-in-Some-head.new.cells; deed = c.self.inside.deed; alloc = c.self.inside.alloc })
-    (record { at = c.put-in-Some-head.ensures.at ∙ c.take_free.ensures.at; first = refl; count = refl; deed = c.self.invariant.deed })
-    c.args.instance c.put-in-Some-head.ensures.slots c.take_free.result.0 c.take_free.ensures.chain.0 c.take_free.ensures.chain.1 refl
+    opened c.self.inside c.args.self.now c.self.view_is c.self.invariant c.args.list c.requires.list
+    c.index-chain.result.now c.index-chain.ensures
+    (c.in-None.ensures.full refl) c.in-Some-head.at c.in-Some-head.is c.take_free.new.cells.slots
+    c.take_free.ensures.slots
+    (record {
+      chains = with_item c.self.inside.chains (c.args.list - 1) c.take_free.result.0;
+      free = c.take_free.result.1;
+      first = c.self.inside.first;
+      count =
+          c.self.inside.count;
+      cells = c.put-in-Some-head.new.cells;
+      deed =
+          c.self.inside.deed;
+      alloc = c.self.inside.alloc;
+    })
+    (record {
+      at = c.put-in-Some-head.ensures.at ∙ c.take_free.ensures.at;
+      first = refl;
+      count = refl;
+      deed = c.self.invariant.deed;
+    })
+    c.args.instance c.put-in-Some-head.ensures.slots c.take_free.result.0
+    c.take_free.ensures.chain.0 c.take_free.ensures.chain.1 refl
     c.take_free.ensures.free.0 c.take_free.ensures.free.1
 
 pub invariant_of-self-in-Some-head : goal.invariant_of-self-in-Some-head
@@ -109,7 +178,8 @@ invariant_of-self-in-Some-head g c = (began g c).kept
 
 pub returns-in-Some-head-clause-result : goal.returns-in-Some-head-clause-result
 returns-in-Some-head-clause-result g c =
-    ap not (sym (not-refused c.self.inside c.args.self.now c.self.view_is c.self.invariant c.args.list c.requires.list c.index-chain.result.now c.index-chain.ensures
+    ap not (sym (not-refused c.self.inside c.args.self.now c.self.view_is c.self.invariant
+    c.args.list c.requires.list c.index-chain.result.now c.index-chain.ensures
     (c.in-None.ensures.full refl) c.in-Some-head.at c.in-Some-head.is))
 
 pub returns-in-Some-head-clause-groups : goal.returns-in-Some-head-clause-groups
@@ -126,19 +196,22 @@ returns-in-Some-head-clause-others g c = (began g c).others
 
 pub returns-in-None-head-clause-result : goal.returns-in-None-head-clause-result
 returns-in-None-head-clause-result g c =
-    ap not (sym (refused c.self.inside c.args.self.now c.self.view_is c.self.invariant c.args.list c.requires.list c.index-chain.result.now c.index-chain.ensures
+    ap not (sym (refused c.self.inside c.args.self.now c.self.view_is c.self.invariant c.args.list
+    c.requires.list c.index-chain.result.now c.index-chain.ensures
     (c.in-None.ensures.full refl) c.in-None-head.is))
 
 pub returns-in-None-head-clause-groups : goal.returns-in-None-head-clause-groups
 returns-in-None-head-clause-groups g c =
-    refused-groups c.self.inside c.args.self.now c.self.view_is c.self.invariant c.args.list c.requires.list c.index-chain.result.now c.index-chain.ensures
+    refused-groups c.self.inside c.args.self.now c.self.view_is c.self.invariant c.args.list
+    c.requires.list c.index-chain.result.now c.index-chain.ensures
     (c.in-None.ensures.full refl) c.in-None-head.is c.args.instance
 
 pub returns-in-None-head-clause-size : goal.returns-in-None-head-clause-size
 returns-in-None-head-clause-size g c = refl
 
 pub returns-in-None-head-clause-placed : goal.returns-in-None-head-clause-placed
-returns-in-None-head-clause-placed g c = placed c.self.inside c.args.self.now c.self.view_is c.self.invariant
+returns-in-None-head-clause-placed g c =
+    placed c.self.inside c.args.self.now c.self.view_is c.self.invariant
 
 pub returns-in-None-head-clause-others : goal.returns-in-None-head-clause-others
 returns-in-None-head-clause-others g c = others-kept c.args.self.now.places (c.args.list - 1)

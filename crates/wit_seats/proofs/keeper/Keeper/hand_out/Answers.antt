@@ -13,11 +13,13 @@ invariant_of-result g c =
     let j = c.args.self.now in
     let is : log_in c.self.inside.card.me.0 ≡ j = c.self.view_is in
     let shown : c.hand_off-card.result.me.0 ≡ shows None (Some (newcomer j)) =
-    ap (λ m. m.0) c.hand_off-card.ensures.seat.1 ∙ ap handed_out c.self.invariant.3 ∙ ap (λ (x : Journal). shows None (Some (newcomer x))) is in
+    ap (λ m. m.0) c.hand_off-card.ensures.seat.1 ∙ ap handed_out c.self.invariant.3
+    ∙ ap (λ (x : Journal). shows None (Some (newcomer x))) is in
     let e = of_seat c.hand_off-card.result.me.0 (newcomer j) shown in (
       c.hand_off-card.ensures.seat.0 ∙ c.self.invariant.1,
       e.0,
       ap (λ (x : Known). x.seat) e.1 ∙ sym c.requires.number,
       subst (λ (x : Known). IsKnown g.J.Room.start x) (sym e.1)
-          (known_newcomer g.J.Room.start j c.requires.legal (ap (λ n. own_entries n j.entries) (sym c.requires.number) ∙ c.requires.new)),
+          (known_newcomer g.J.Room.start j c.requires.legal
+          (ap (λ n. own_entries n j.entries) (sym c.requires.number) ∙ c.requires.new)),
     )

@@ -10,18 +10,41 @@ use Rattle.wit_shared.proofs.desk.Desk.note.Goals as goal
 
 pub follow-requires : goal.follow-requires
 follow-requires g c = record {
-  start = (answers c.self.inside.verifier c.args.seat.now.seat (Note c.args.lock) c.note-answer.result c.note-answer.new.self (subst (λ t. Answers c.self.inside.verifier t (Note c.args.lock) c.note-answer.result c.note-answer.new.self) c.number.ensures c.note-answer.ensures)).start ∙ c.self.invariant.0;
-  grows = may_follow c.self.inside.keeper c.self.inside.verifier c.note-answer.new.self c.self.inside.handed c.args.seat.now.seat c.self.invariant.1
-      (answers c.self.inside.verifier c.args.seat.now.seat (Note c.args.lock) c.note-answer.result c.note-answer.new.self (subst (λ t. Answers c.self.inside.verifier t (Note c.args.lock) c.note-answer.result c.note-answer.new.self) c.number.ensures c.note-answer.ensures));
+  start =
+      (answers c.self.inside.verifier c.args.seat.now.seat
+      (Note c.args.lock) c.note-answer.result c.note-answer.new.self
+      (subst (λ t. Answers c.self.inside.verifier t (Note c.args.lock) c.note-answer.result
+      c.note-answer.new.self) c.number.ensures c.note-answer.ensures)).start
+      ∙ c.self.invariant.0;
+  grows =
+      may_follow c.self.inside.keeper c.self.inside.verifier c.note-answer.new.self
+      c.self.inside.handed c.args.seat.now.seat c.self.invariant.1
+      (answers c.self.inside.verifier c.args.seat.now.seat
+      (Note c.args.lock) c.note-answer.result c.note-answer.new.self
+      (subst (λ t. Answers c.self.inside.verifier t (Note c.args.lock) c.note-answer.result
+      c.note-answer.new.self) c.number.ensures c.note-answer.ensures));
 }
 
 pub invariant_of-self : goal.invariant_of-self
 invariant_of-self g c = (
-  (answers c.self.inside.verifier c.args.seat.now.seat (Note c.args.lock) c.note-answer.result c.note-answer.new.self (subst (λ t. Answers c.self.inside.verifier t (Note c.args.lock) c.note-answer.result c.note-answer.new.self) c.number.ensures c.note-answer.ensures)).start ∙ c.self.invariant.0,
-  c.follow.ensures.kept ∙ ap (λ (j : Journal). journal c.note-answer.new.self.history c.note-answer.new.self.files j.handed) c.self.invariant.1,
-  c.self.invariant.2 ∙ sym (stays_so c.self.inside.verifier c.number.result.0 (Note c.args.lock) c.note-answer.result c.note-answer.new.self c.note-answer.ensures (λ reply. refl)),
+  (answers c.self.inside.verifier c.args.seat.now.seat
+      (Note c.args.lock) c.note-answer.result c.note-answer.new.self
+      (subst (λ t. Answers c.self.inside.verifier t (Note c.args.lock) c.note-answer.result
+      c.note-answer.new.self) c.number.ensures c.note-answer.ensures)).start
+      ∙ c.self.invariant.0,
+  c.follow.ensures.kept ∙ ap (λ (j : Journal). journal c.note-answer.new.self.history
+      c.note-answer.new.self.files j.handed) c.self.invariant.1,
+  c.self.invariant.2 ∙ sym (stays_so c.self.inside.verifier c.number.result.0
+      (Note c.args.lock) c.note-answer.result c.note-answer.new.self c.note-answer.ensures
+      (λ reply. refl)),
 )
 
 pub returns : goal.returns
-returns g c = tells g.J.Room.start [] (λ (s new : Story). Answers s c.args.seat.now.seat (Note c.args.lock) c.note-answer.result new) c.self.inside.keeper c.self.inside.verifier c.note-answer.new.self
-    c.self.inside.handed c.args.seat.now c.follow.new.seat c.self.invariant.0 c.self.invariant.1 c.follow.ensures.entered (subst (λ t. Answers c.self.inside.verifier t (Note c.args.lock) c.note-answer.result c.note-answer.new.self) c.number.ensures c.note-answer.ensures)
+returns g c =
+    tells g.J.Room.start [] (λ (s new : Story). Answers s c.args.seat.now.seat
+    (Note c.args.lock) c.note-answer.result new) c.self.inside.keeper c.self.inside.verifier
+    c.note-answer.new.self
+    c.self.inside.handed c.args.seat.now c.follow.new.seat c.self.invariant.0 c.self.invariant.1
+    c.follow.ensures.entered (subst
+    (λ t. Answers c.self.inside.verifier t (Note c.args.lock) c.note-answer.result
+    c.note-answer.new.self) c.number.ensures c.note-answer.ensures)

@@ -7,9 +7,11 @@ use Rattle.wit_table.proofs.table.Table.name_of.Goals as goal
 
 pub returns-clause-number : goal.returns-clause-number
 returns-clause-number c =
-    type_number-HasName c.args.self.now.types c.args.number.0 _ c.len-len.ensures.distinct c.requires.0 (rw (← c.self.view_is) c.name_at.ensures)
+    type_number-HasName c.args.self.now.types c.args.number.0 _ c.len-len.ensures.distinct
+    c.requires.0 (rw (← c.self.view_is) c.name_at.ensures)
 
 pub returns-clause-good : goal.returns-clause-good
 returns-clause-good c =
     let has = c.name_at.ensures in
-    ap is_name has.2 ∙ All-at (λ (t : LockType). is_name t.name ≡ true) (types_in c.self.inside.types.entries) _ has.0 c.self.invariant.names has.1
+    ap is_name has.2 ∙ All-at (λ (t : LockType). is_name t.name ≡ true)
+    (types_in c.self.inside.types.entries) _ has.0 c.self.invariant.names has.1

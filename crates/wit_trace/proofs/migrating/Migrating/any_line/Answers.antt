@@ -17,23 +17,27 @@ returns-in_ok-join-in-Ok-clause-step c =
     let n = c.args.number in
     let line = c.args.bytes.now in
     let before = c.in_ok-reached.reached.text.items in
-    let over = subst (ReachesLine old n line q before) c.in_default.is c.in_ok-reached.ensures.stands in
+    let over =
+    subst (ReachesLine old n line q before) c.in_default.is c.in_ok-reached.ensures.stands in
     let text = c.in_ok-join-in-Ok.ensures ∙ ap (λ t. before ++ t) c.deref.ensures.value in
     λ lines tail more summary h.
     subst (λ t. IsMigrated (moving_from old n (line ∷ lines) tail) (t ++ more) summary) (sym text)
-    (line-goes old q n line before over (moved_to c.read.new.self) c.in-Ok.text.items c.in-Ok.ensures lines tail more summary h)
+    (line-goes old q n line before over (moved_to c.read.new.self) c.in-Ok.text.items
+    c.in-Ok.ensures lines tail more summary h)
 
 pub returns-in_ok-join-in-Ok-clause-counted : goal.returns-in_ok-join-in-Ok-clause-counted
 returns-in_ok-join-in-Ok-clause-counted c =
     let one =
-    written_one (moved_to c.reach.new.self) (moved_to c.read.new.self) c.args.number c.args.bytes.now c.in-Ok.text.items c.in-Ok.ensures in
+    written_one (moved_to c.reach.new.self) (moved_to c.read.new.self) c.args.number
+    c.args.bytes.now c.in-Ok.text.items c.in-Ok.ensures in
     let before = c.in_ok-reached.ensures.counted in
     omega (arith, one, before)
 
 pub returns-in_ok-join-in-Ok-clause-weighed : goal.returns-in_ok-join-in-Ok-clause-weighed
 returns-in_ok-join-in-Ok-clause-weighed c =
     let one =
-    written_weighs (moved_to c.reach.new.self) (moved_to c.read.new.self) c.args.number c.args.bytes.now c.in-Ok.text.items c.in-Ok.ensures in
+    written_weighs (moved_to c.reach.new.self) (moved_to c.read.new.self) c.args.number
+    c.args.bytes.now c.in-Ok.text.items c.in-Ok.ensures in
     let before = c.in_ok-reached.ensures.weighed in
     omega (arith, one, before)
 
@@ -46,12 +50,18 @@ returns-in-Err-Bad-clause-step c =
     let cause = c.in-Err-Bad.cause in
     let found = c.found-found.result in
     let before = c.in_ok-reached.reached.text.items in
-    let over = subst (ReachesLine old n line q before) c.in_default.is c.in_ok-reached.ensures.stands in
+    let over =
+    subst (ReachesLine old n line q before) c.in_default.is c.in_ok-reached.ensures.stands in
     let bad = rw c.in-Err-Bad.field-0-is at c.in-Err-Bad.ensures in
-    let text : List ℕ = before ++ (with_feeds (kept_lines (moved_to c.read.new.self)) ++ bad_text n cause) in
+    let text : List ℕ =
+    before ++ (with_feeds (kept_lines (moved_to c.read.new.self)) ++ bad_text n cause) in
     let summary : Summary = record found { bad = Some (n, cause) } in
-    if_ok (EndsWith text summary) (Follows migrated c.args.self.now c.ended_step-in-Err-Bad.new.self n line) c.ended_step-in-Err-Bad.result
-    (λ s ends. ends-follow c.args.self.now c.ended_step-in-Err-Bad.new.self n line text summary s ends
+    if_ok (EndsWith text summary)
+    (Follows migrated c.args.self.now c.ended_step-in-Err-Bad.new.self n line)
+    c.ended_step-in-Err-Bad.result
+    (λ s ends. ends-follow c.args.self.now c.ended_step-in-Err-Bad.new.self n line text
+    summary s ends
     (line-bad old q n line before over cause found summary text bad.0
-    (ap (λ ls. before ++ (with_feeds ls ++ bad_text n cause)) bad.1) c.found-found.ensures.total c.found-found.ensures.circle refl))
+    (ap (λ ls. before ++ (with_feeds ls ++ bad_text n cause)) bad.1) c.found-found.ensures.total
+    c.found-found.ensures.circle refl))
     c.ended_step-in-Err-Bad.ensures.step

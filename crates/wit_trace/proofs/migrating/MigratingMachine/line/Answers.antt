@@ -12,9 +12,11 @@ returns-in-Ok-clause-step c =
     let b = c.in-Moved.behind in
     let new = c.enter_on_lock.new.self in
     rw c.in-Moved.is
-    (line-goes (standing b) (standing b) c.args.number c.args.bytes.now [] (record { lines = []; written = refl; on = λ next. refl })
+    (line-goes (standing b) (standing b) c.args.number c.args.bytes.now []
+    (record { lines = []; written = refl; on = λ next. refl })
     (standing new) c.in-Ok.text.items
-    (line-writes b.verifier b.raw b.remarks c.args.number c.args.bytes.now (as_line c.in-Some.line) (standing new) c.in-Ok.text.items
+    (line-writes b.verifier b.raw b.remarks c.args.number c.args.bytes.now (as_line c.in-Some.line)
+    (standing new) c.in-Ok.text.items
     c.requires.short c.in-Some.ensures c.in-Ok.ensures))
 
 pub returns-in-Ok-clause-counted : goal.returns-in-Ok-clause-counted

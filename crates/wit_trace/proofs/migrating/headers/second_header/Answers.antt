@@ -9,4 +9,5 @@ print_line-requires c =
     let types = c.ranges.types in
     let locks = c.ranges.locks in
     let chunks = c.ranges.chunks in
-    header_spelled Two c.args.seats c.args.types c.args.locks c.args.chunks (omega (arith, seats)) (omega (arith, types)) (omega (arith, locks)) (omega (arith, chunks))
+    header_spelled Two c.args.seats c.args.types c.args.locks c.args.chunks (omega (arith, seats))
+    (omega (arith, types)) (omega (arith, locks)) (omega (arith, chunks))

@@ -9,10 +9,13 @@ pub loop-line-preserved : goal.loop-line-preserved
 loop-line-preserved c =
     c.in_ok-put_line.ensures
     ∙ ap (λ t. t ++ (c.deref.result.now ++ 10 ∷ [])) c.loop-line.invariant
-    ∙ ap (λ x. with_feeds (kept_bytes (take c.loop-line.line-index c.args.lines.now)) ++ (x ++ 10 ∷ [])) c.deref.ensures.value
-    ∙ feeds-more c.args.lines.now c.loop-line.line-index c.line-item.result c.loop-line-test.true c.line-item.is
+    ∙ ap (λ x. with_feeds (kept_bytes (take c.loop-line.line-index c.args.lines.now))
+    ++ (x ++ 10 ∷ [])) c.deref.ensures.value
+    ∙ feeds-more c.args.lines.now c.loop-line.line-index c.line-item.result c.loop-line-test.true
+    c.line-item.is
 
 pub returns : goal.returns
 returns c =
     c.loop-line.invariant
-    ∙ ap (λ xs. with_feeds (kept_bytes xs)) (take_all c.loop-line.line-index c.args.lines.now c.loop-line-test.false)
+    ∙ ap (λ xs. with_feeds (kept_bytes xs))
+    (take_all c.loop-line.line-index c.args.lines.now c.loop-line-test.false)

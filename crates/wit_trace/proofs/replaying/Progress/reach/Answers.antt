@@ -9,6 +9,8 @@ pub returns-then-ends_prelude-clause-counted : goal.returns-then-ends_prelude-cl
 returns-then-ends_prelude-clause-counted c =
     let old = progress_of c.args.self.now in
     let new = progress_of c.end_prelude.new.self in
-    if_ok (StandsAsDue (reached old c.args.number c.args.line.now) old new) (λ r. reports_told new ≡ reports_told old) c.end_prelude.result
+    if_ok (StandsAsDue (reached old c.args.number c.args.line.now) old new)
+    (λ r. reports_told new ≡ reports_told old) c.end_prelude.result
     (λ r reaches. reaches_same old new c.args.number c.args.line.now r reaches)
-    (c.end_prelude.ensures c.args.number c.args.line.now (sym c.ends_prelude.ensures ∙ c.if-ends_prelude.true))
+    (c.end_prelude.ensures c.args.number c.args.line.now
+    (sym c.ends_prelude.ensures ∙ c.if-ends_prelude.true))

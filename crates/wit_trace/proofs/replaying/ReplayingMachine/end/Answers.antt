@@ -10,5 +10,6 @@ returns-in-Some c =
     let new = progress_of c.reach.new.self in
     let list : BadLine = (c.in-Some.number, c.in-Some.cause) in
     refused_end c.args.self.now.view old new c.args.number list c.ended.result
-    (subst (StandsAsDue (reached old c.args.number []) old new) c.in-Some.is c.in_ok-number.ensures.stands)
+    (subst (StandsAsDue (reached old c.args.number []) old new) c.in-Some.is
+    c.in_ok-number.ensures.stands)
     c.ended.ensures.text c.ended.ensures.total c.ended.ensures.circle

@@ -5,11 +5,16 @@ use Rattle.wit_trace.proofs.replaying.world_lines.enter_world_line.Goals as goal
 
 pub returns-in_err-file : goal.returns-in_err-file
 returns-in_err-file c =
-    not_numbered_in c.args.world.now c.number_in.new.world (call_of c.args.line) c.args.remarks.now c.in_err-file.field-0.0
-    c.from_residual.result (rw c.file_of.ensures at c.in_err-file.ensures.story) c.in_err-file.ensures.rest c.from_residual.ensures.1
+    not_numbered_in c.args.world.now c.number_in.new.world
+    (call_of c.args.line) c.args.remarks.now c.in_err-file.field-0.0
+    c.from_residual.result (rw c.file_of.ensures at c.in_err-file.ensures.story)
+    c.in_err-file.ensures.rest c.from_residual.ensures.1
 
 pub returns : goal.returns
 returns c =
-    line_numbered_in c.args.world.now c.number_in.new.world (call_of c.args.line) (as_call c.in_ok-call.call) c.in_ok-file.file
-    c.args.remarks.now (Stepping c.make_call_in.new.world c.make_call_in.new.remarks) c.make_call_in.result
-    (rw c.file_of.ensures at c.in_ok-file.ensures.story) c.in_ok-file.ensures.rest c.in_ok-call.ensures c.make_call_in.ensures
+    line_numbered_in c.args.world.now c.number_in.new.world (call_of c.args.line)
+    (as_call c.in_ok-call.call) c.in_ok-file.file
+    c.args.remarks.now (Stepping c.make_call_in.new.world c.make_call_in.new.remarks)
+    c.make_call_in.result
+    (rw c.file_of.ensures at c.in_ok-file.ensures.story) c.in_ok-file.ensures.rest
+    c.in_ok-call.ensures c.make_call_in.ensures

@@ -1,4 +1,5 @@
-use Rattle.std.proofs.Common.{◌≡◌, Bool, true, ◌&&◌, cond, nat_lt, ◌++◌, ◌∷◌, [], length, Ok, refl, ap, sym, subst, ◌∙◌, arith}
+use Rattle.std.proofs.Common.{◌≡◌, Bool, true, ◌&&◌, cond, nat_lt, ◌++◌, ◌∷◌, [], length, Ok, refl}
+use Rattle.std.proofs.Common.{ap, sym, subst, ◌∙◌, arith}
 use Rattle.std.proofs.lemmas.List.{length-map}
 use Rattle.wit_model.specs.Rules.History.{num}
 use Rattle.wit_model.specs.Rules.State.{state_of, is_seat}
@@ -23,9 +24,17 @@ make-requires c =
 
 pub index_mut-requires : goal.index_mut-requires
 index_mut-requires c =
-    let seat = subst (λ (s : Scene). is_seat (state_of s.story) c.args.seat.0 ≡ true) (sym c.self.view_is) c.in_ok-before_call.ensures.seat in
+    let seat =
+    subst (λ (s : Scene). is_seat (state_of s.story) c.args.seat.0 ≡ true)
+    (sym c.self.view_is) c.in_ok-before_call.ensures.seat in
     let at = seat-within (scene_in c.self.inside) c.self.invariant c.args.seat.0 seat in
-    omega (arith, at.0, at.1, length-map c.self.inside.stages.items stage_of, c.self.inside.stages.ok.0)
+    omega (
+      arith,
+      at.0,
+      at.1,
+      length-map c.self.inside.stages.items stage_of,
+      c.self.inside.stages.ok.0,
+    )
 
 pub invariant_of-self-2 : goal.invariant_of-self-2
 invariant_of-self-2 c =
@@ -33,19 +42,35 @@ invariant_of-self-2 c =
     let t = c.args.seat.0 in
     let call = c.args.call in
     let r = c.in_ok-reply.reply in
-    let seat = subst (λ (s : Scene). is_seat (state_of s.story) t ≡ true) (sym c.self.view_is) c.in_ok-before_call.ensures.seat in
+    let seat =
+    subst (λ (s : Scene). is_seat (state_of s.story) t ≡ true)
+    (sym c.self.view_is) c.in_ok-before_call.ensures.seat in
     let at = seat-within v c.self.invariant t seat in
-    let both : c.if-makes.make ≡ (c.makes_lock-makes.result && c.is_logged-kept.result) = elim c.if-makes.branch [
-      | then-makes w ↦ w.make-is ∙ and-then c.makes_lock-makes.result c.is_logged-kept.result w.if-makes.true
-      | else-makes w ↦ w.make-is ∙ and-else c.makes_lock-makes.result c.is_logged-kept.result w.if-makes.false
+    let both : c.if-makes.make ≡ (c.makes_lock-makes.result && c.is_logged-kept.result) =
+    elim c.if-makes.branch [
+      | then-makes w ↦ w.make-is ∙ and-then c.makes_lock-makes.result c.is_logged-kept.result
+          w.if-makes.true
+      | else-makes w ↦ w.make-is ∙ and-else c.makes_lock-makes.result c.is_logged-kept.result
+          w.if-makes.false
     ] in
-    let now = called-now v t call r c.call.new.self c.make.new.raw c.self.inside.stages.items c.either.result c.stage_called-logged.result c.stage_passed-passed.result c.makes_lock-makes.result
-    c.is_logged-kept.result refl at.0 c.in_ok-reply.ensures.answer.1 c.is_logged-kept.ensures c.makes_lock-makes.ensures
-    (c.make.ensures ∙ ap (λ (b : Bool). cond b (c.self.inside.raw ++ nobodys ∷ []) c.self.inside.raw) both)
-    (c.stage_called-logged.ensures ∙ ap (λ (s : Scene). stage_called (λ l. nat_lt (shares_of s.raw t l) (num t l s.story.history)) call) (sym c.self.view_is))
+    let now =
+    called-now v t call r c.call.new.self c.make.new.raw c.self.inside.stages.items
+    c.either.result c.stage_called-logged.result c.stage_passed-passed.result
+    c.makes_lock-makes.result
+    c.is_logged-kept.result refl at.0 c.in_ok-reply.ensures.answer.1 c.is_logged-kept.ensures
+    c.makes_lock-makes.ensures
+    (c.make.ensures ∙ ap (λ (b : Bool). cond b (c.self.inside.raw ++ nobodys ∷ [])
+    c.self.inside.raw) both)
+    (c.stage_called-logged.ensures
+    ∙ ap (λ (s : Scene). stage_called
+    (λ l. nat_lt (shares_of s.raw t l) (num t l s.story.history)) call)
+    (sym c.self.view_is))
     c.stage_passed-passed.ensures c.either.ensures in
-    let same = subst (λ (s : Scene). answer_in s t call ≡ answer_of s.story t call) (sym c.self.view_is) c.in_ok-before_call.ensures.ok in
-    subst IsKept (sym now) (kept-called v c.self.invariant t call r (same ∙ c.in_ok-reply.ensures.answer.0))
+    let same =
+    subst (λ (s : Scene). answer_in s t call ≡ answer_of s.story t call)
+    (sym c.self.view_is) c.in_ok-before_call.ensures.ok in
+    subst IsKept (sym now) (kept-called v c.self.invariant t call r
+    (same ∙ c.in_ok-reply.ensures.answer.0))
 
 pub returns : goal.returns
 returns c =
@@ -53,18 +78,34 @@ returns c =
     let t = c.args.seat.0 in
     let call = c.args.call in
     let r = c.in_ok-reply.reply in
-    let seat = subst (λ (s : Scene). is_seat (state_of s.story) t ≡ true) (sym c.self.view_is) c.in_ok-before_call.ensures.seat in
+    let seat =
+    subst (λ (s : Scene). is_seat (state_of s.story) t ≡ true)
+    (sym c.self.view_is) c.in_ok-before_call.ensures.seat in
     let at = seat-within v c.self.invariant t seat in
-    let both : c.if-makes.make ≡ (c.makes_lock-makes.result && c.is_logged-kept.result) = elim c.if-makes.branch [
-      | then-makes w ↦ w.make-is ∙ and-then c.makes_lock-makes.result c.is_logged-kept.result w.if-makes.true
-      | else-makes w ↦ w.make-is ∙ and-else c.makes_lock-makes.result c.is_logged-kept.result w.if-makes.false
+    let both : c.if-makes.make ≡ (c.makes_lock-makes.result && c.is_logged-kept.result) =
+    elim c.if-makes.branch [
+      | then-makes w ↦ w.make-is ∙ and-then c.makes_lock-makes.result c.is_logged-kept.result
+          w.if-makes.true
+      | else-makes w ↦ w.make-is ∙ and-else c.makes_lock-makes.result c.is_logged-kept.result
+          w.if-makes.false
     ] in
-    let now = called-now v t call r c.call.new.self c.make.new.raw c.self.inside.stages.items c.either.result c.stage_called-logged.result c.stage_passed-passed.result c.makes_lock-makes.result
-    c.is_logged-kept.result refl at.0 c.in_ok-reply.ensures.answer.1 c.is_logged-kept.ensures c.makes_lock-makes.ensures
-    (c.make.ensures ∙ ap (λ (b : Bool). cond b (c.self.inside.raw ++ nobodys ∷ []) c.self.inside.raw) both)
-    (c.stage_called-logged.ensures ∙ ap (λ (s : Scene). stage_called (λ l. nat_lt (shares_of s.raw t l) (num t l s.story.history)) call) (sym c.self.view_is))
+    let now =
+    called-now v t call r c.call.new.self c.make.new.raw c.self.inside.stages.items
+    c.either.result c.stage_called-logged.result c.stage_passed-passed.result
+    c.makes_lock-makes.result
+    c.is_logged-kept.result refl at.0 c.in_ok-reply.ensures.answer.1 c.is_logged-kept.ensures
+    c.makes_lock-makes.ensures
+    (c.make.ensures ∙ ap (λ (b : Bool). cond b (c.self.inside.raw ++ nobodys ∷ [])
+    c.self.inside.raw) both)
+    (c.stage_called-logged.ensures
+    ∙ ap (λ (s : Scene). stage_called
+    (λ l. nat_lt (shares_of s.raw t l) (num t l s.story.history)) call)
+    (sym c.self.view_is))
     c.stage_passed-passed.ensures c.either.ensures in
-    let same = subst (λ (s : Scene). answer_in s t call ≡ answer_of s.story t call) (sym c.self.view_is) c.in_ok-before_call.ensures.ok in (
-      subst (λ (s : Scene). answer_in s t call ≡ Ok r) c.self.view_is (same ∙ c.in_ok-reply.ensures.answer.0),
+    let same =
+    subst (λ (s : Scene). answer_in s t call ≡ answer_of s.story t call)
+    (sym c.self.view_is) c.in_ok-before_call.ensures.ok in (
+      subst (λ (s : Scene). answer_in s t call ≡ Ok r) c.self.view_is
+          (same ∙ c.in_ok-reply.ensures.answer.0),
       now ∙ ap (λ (s : Scene). scene_after s t call r) c.self.view_is,
     )

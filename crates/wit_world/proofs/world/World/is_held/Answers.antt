@@ -10,6 +10,9 @@ pub returns : goal.returns
 returns c =
     let t = c.args.seat.0 in
     let l = c.args.lock.0 in
-    let seat = subst (λ (s : Scene). is_seat (state_of s.story) t ≡ true) (sym c.self.view_is) c.requires in
-    c.is_some.ensures ∙ ap is_some c.recorded.ensures ∙ held-is (scene_in c.self.inside) c.self.invariant t l seat
+    let seat =
+    subst (λ (s : Scene). is_seat (state_of s.story) t ≡ true)
+    (sym c.self.view_is) c.requires in
+    c.is_some.ensures ∙ ap is_some c.recorded.ensures
+    ∙ held-is (scene_in c.self.inside) c.self.invariant t l seat
     ∙ ap (λ (s : Scene). is_held t l s.story.history) c.self.view_is

@@ -6,5 +6,6 @@ use Rattle.wit_world.proofs.world.World.is_seat.Goals as goal
 
 pub returns-then-seat-gt0 : goal.returns-then-seat-gt0
 returns-then-seat-gt0 c =
-    ap (nat_le c.args.seat.0) c.seats.ensures.value ∙ number-tested c.self.inside.verifier c.args.seat.0 c.if-seat-gt0.true
+    ap (nat_le c.args.seat.0) c.seats.ensures.value
+    ∙ number-tested c.self.inside.verifier c.args.seat.0 c.if-seat-gt0.true
     ∙ ap (λ (s : Scene). is_seat (state_of s.story) c.args.seat.0) c.self.view_is

@@ -5,7 +5,8 @@ use Rattle.wit_trace.proofs.stream.ports.FailuresPorts.put.Given as goal
 abbrev pub invariant-loop-done : goal.invariant-loop-done
 invariant-loop-done g l = record {
   within : l.done ≤ length l.bytes;
-  written : Appends (g.W.Write.contents l.fn.writer) (g.W.Write.contents l.writer) (take l.done l.bytes);
+  written : Appends (g.W.Write.contents l.fn.writer) (g.W.Write.contents l.writer)
+      (take l.done l.bytes);
   looks : l.self.looks ≡ l.fn.self.looks;
   read : l.self.read ≡ l.fn.self.read;
 }
