@@ -58,7 +58,7 @@ impl<'a> Basis<'a> {
         requires { IsGiven self.now.types number.0 }
         ensures { result ≡ is_sleepable self.now number }
     {
-        self.class_of(number).is(Class::Sx)
+        self.class_of(number) == Class::Sx
     }
 
     /// Whether it is Giant: the mutex of that name alone (locking(9)).
@@ -66,7 +66,7 @@ impl<'a> Basis<'a> {
         requires { IsGiven self.now.types number.0 }
         ensures { result ≡ is_giant self.now number }
     {
-        self.class_of(number).is(Class::SleepMutex) && self.types.name_of(number) == "Giant"
+        self.class_of(number) == Class::SleepMutex && self.types.name_of(number) == "Giant"
     }
 
     /// Whether the order from a to b was adopted.

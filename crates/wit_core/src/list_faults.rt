@@ -39,7 +39,7 @@ fn is_listed_otherwise(list: &[(Class, String)], name: &str, class: Class) -> bo
     ensures { result ≡ list_any (λ (e : Class × List ℕ). bytes_eq e.1 name.now
         && not (is_same_class e.0 class)) (listed list.now) }
 {
-    list.iter().any(|e| e.1.as_str() == name && !e.0.is(class))
+    list.iter().any(|e| e.1.as_str() == name && e.0 != class)
 }
 
 /// Whether a list has this name.

@@ -1,4 +1,5 @@
 pub mod Chains
+pub mod Classes
 pub mod Gates
 pub mod Histories
 pub mod Lists

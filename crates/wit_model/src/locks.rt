@@ -1,7 +1,7 @@
 //! Classes, modes, numbers, types and locks: the plain words of locking(9).
 
 ghost use Rattle.std.specs.Prelude.{◌≡◌};
-ghost use Rattle.wit_model.specs.Rules.Types.{is_spin, is_same_class};
+ghost use Rattle.wit_model.specs.Rules.Types.{is_spin};
 ghost use Rattle.wit_model.specs.Rules.History.{is_on, is_off};
 ghost use Rattle.wit_model.specs.Rules.Verdict.{is_exclusive};
 ghost use Rattle.wit_model.specs.Rules.Step.{is_shareable};
@@ -41,13 +41,6 @@ impl Class {
             Class::Rw | Class::Sx => true,
             _ => false,
         }
-    }
-
-    /// Whether it is this class.
-    pub fn is(self, other: Class) -> bool
-        ensures { result ≡ is_same_class self other }
-    {
-        self == other
     }
 }
 

@@ -86,7 +86,7 @@ pub fn is_otherwise(types: &IndexMap<String, TypeRow>, name: &str, class: Class)
     // `len` is called for its clause that the keys are unique, which the proof cites.
     let _len = types.len();
     match types.get(name) {
-        Some(row) => !row.class.is(class),
+        Some(row) => row.class != class,
         None => false,
     }
 }
