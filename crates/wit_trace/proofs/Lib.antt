@@ -6,6 +6,7 @@ pub mod ListedTypes
 pub mod MigrateEnds
 pub mod MigrateLemmas
 pub mod MigrateReports
+pub mod NumberedLemmas
 pub mod Recorded
 pub mod ReplayLemmas
 pub mod ReportLemmas

@@ -20,10 +20,11 @@ use Rattle.wit_model.specs.World.Moving as model
 use Rattle.wit_model.specs.World.Moving.{step_before, step_behind, deed_beside, stage_asked}
 use Rattle.wit_model.specs.World.Scenes.{RawLock, is_free, mode_asked, raw_after}
 use Rattle.wit_model.specs.Trace.Moving as moving
-use Rattle.wit_model.specs.Trace.Moving.{Moving, Written, MovingOutcome, with_feeds, moved_text, lines_before}
+use Rattle.wit_model.specs.Trace.Moving.{Moving, Written, MovingOutcome, with_feeds, moved_text}
+use Rattle.wit_model.specs.Trace.Moving.{lines_before}
 use Rattle.wit_model.specs.Trace.Moving.{kept_lines, moving_from, moving_reached}
 use Rattle.wit_model.specs.Trace.Output as output
-use Rattle.wit_model.specs.Trace.Output.{BadLine, LineCall, Logs, LogsAt, total_of}
+use Rattle.wit_model.specs.Trace.Output.{BadLine, total_of}
 use Rattle.wit_model.specs.Trace.Spelling.{spelling}
 use Rattle.wit_grammar.specs.declared.errors.LineError.{LineError}
 use Rattle.wit_grammar.specs.declared.errors.LineError.TheVariants.{Bad, Memory}
@@ -84,8 +85,13 @@ migrated m number lines tail text summary =
 -- something is written of every trace
 abbrev pub some_migration : (w : Written)
     → (text : List ℕ) × ((summary : Summary) × IsMigrated w text summary)
-some_migration w =
-    (moved_text w, (summary_of (total_of w.ending) false, record { written = refl; summed = refl; none = refl }))
+some_migration w = (
+  moved_text w,
+  (
+    summary_of (total_of w.ending) false,
+    record { written = refl; summed = refl; none = refl },
+  ),
+)
 
 -- what a migration that stands there makes of the rest of a trace, whose first line has this number
 abbrev pub MigratesFrom : Moving → ℕ → List ℕ → List ℕ → Summary → Type 0
@@ -117,7 +123,8 @@ EndsWith text summary (step.Goes more) = ⊥
 EndsWith text summary (step.Ends last found) = (last.items ≡ text) × (found ≡ summary)
 
 -- whatever follows a line that is looked at, this is written before it
-pub record GoesOver (m : Moving) (n : ℕ) (line : List ℕ) (new : Moving) (text : List ℕ) : Type 0 where
+pub record GoesOver (m : Moving) (n : ℕ) (line : List ℕ) (new : Moving)
+    (text : List ℕ) : Type 0 where
   pub lines : List (List ℕ)
   pub written : text ≡ with_feeds lines
   pub on : (next : Moving → Written) → moving_reached m n line next ≡ lines_before lines (next new)
@@ -128,7 +135,8 @@ pub record IsRefusedAt (m : Moving) (n : ℕ) (line text : List ℕ) (bad : BadL
   pub lines : List (List ℕ)
   pub written : text ≡ with_feeds lines
   pub is : (next : Moving → Written)
-      → moving_reached m n line next ≡ record { lines = lines; ending = output.EndsBad (output.Opening prelude) bad }
+      → moving_reached m n line next
+      ≡ record { lines = lines; ending = output.EndsBad (output.Opening prelude) bad }
 
 abbrev pub ReachesLine : Moving → ℕ → List ℕ → Moving → List ℕ → Option BadLine → Type 0
 ReachesLine m n line new text None = GoesOver m n line new text
@@ -176,18 +184,15 @@ IsStepOf h raw t (Some k) =
     × (is_first k.step ≡ false → is_free raw (deed k) ≡ true)
 
 -- this step, or none, goes with a call of t
-pub record IsBeside (h : List Entry) (raw : List RawLock) (t : ℕ) (call : Call) (k : Option LockStep) : Type 0 where
+pub record IsBeside (h : List Entry) (raw : List RawLock) (t : ℕ) (call : Call)
+    (k : Option LockStep) : Type 0 where
   pub first : step_before h t call ≡ before_of k
   pub last : step_behind h raw t call ≡ behind_of k
   pub own : IsStepOf h raw t k
 
--- it goes with the call of a line, if a seat makes one
-abbrev pub GoesWithCall : Story → List RawLock → LineCall → Option LockStep → Type 0
-GoesWithCall s raw (Logs t call) k =
-    is_seat (state_of s) t ≡ true → IsBeside s.history raw t call k
-GoesWithCall s raw (LogsAt t file call) k =
-    is_seat (state_of s) t ≡ true → (f : ℕ) → IsBeside s.history raw t (call f) k
-GoesWithCall s raw _ k = Unit {0}
+-- it goes with a call, if a seat makes it
+abbrev pub GoesWithCall : Story → List RawLock → ℕ → Call → Option LockStep → Type 0
+GoesWithCall s raw t call k = is_seat (state_of s) t ≡ true → IsBeside s.history raw t call k
 
 -- the line of a step
 abbrev pub line_of_step : LockStep → List ℕ
@@ -199,7 +204,8 @@ line_and_step k bytes =
     if is_first k.step then line_of_step k ∷ bytes ∷ [] else bytes ∷ line_of_step k ∷ []
 
 -- the step was done, and both lines are the text; or the lock doesn't admit it
-abbrev pub DoesBeside : LockStep → List ℕ → List RawLock → List RawLock → Result (Vec ℕ) LineError → Type 0
+abbrev pub DoesBeside : LockStep → List ℕ → List RawLock → List RawLock
+    → Result (Vec ℕ) LineError → Type 0
 DoesBeside k bytes old new (Ok text) =
     (is_free old (deed k) ≡ true) × (new ≡ raw_after (deed k) old)
     × (text.items ≡ with_feeds (line_and_step k bytes))

@@ -7,7 +7,8 @@ ghost use Rattle.wit_model.specs.Trace.Moving.{moving_from, moving_outcome, movi
 ghost use Rattle.wit_model.specs.Trace.Moving as moving;
 ghost use Rattle.wit_trace.specs.Machine.{Follows};
 ghost use Rattle.wit_trace.specs.Migrates.{MovesAsDue, Migrates, MigratesFrom, ReachesLine};
-ghost use Rattle.wit_trace.specs.Migrates.{migrated, moved_to, moving_reports, some_migration, weighed};
+ghost use Rattle.wit_trace.specs.Migrates.{migrated, moved_to, moving_reports, some_migration};
+ghost use Rattle.wit_trace.specs.Migrates.{weighed};
 ghost use Rattle.wit_trace.specs.Stream.{ReadsToEnd, WritesFront, WritesLines, WritesOutput};
 
 mod behind;
@@ -40,8 +41,8 @@ use wit_model::{Cause, Line};
 /// At a bad line the writing ends: all lines before it are written, then its number and cause. A
 /// line is bad too where its step can't be done, as two seats can't have a mutex at once; its own
 /// fault comes first. Nothing of the prelude is written before all of it is known to be good, but
-/// what stands before a list that is refused. Lines are written together while the reader shows a whole
-/// one more, and flushed before it may have to wait for one.
+/// what stands before a list that is refused. Lines are written together while the reader shows a
+/// whole one more, and flushed before it may have to wait for one.
 ///
 /// # Errors
 /// `Read` where the reader failed, `Write` where the writer failed, took no byte or didn't flush,
@@ -188,7 +189,7 @@ impl Machine for Migrating {
         if let Migrating::Moved(behind) = self {
             if let Some(line) = parse_lock_line(bytes) {
                 let found = behind.summary();
-                return match behind.enter_on_lock(room, line, bytes) {
+                return match behind.enter_on_lock(alloc, room, line, bytes) {
                     Ok(text) => Ok(Step::Goes(text)),
                     Err(LineError::Bad(cause)) => self.ended_step(
                         alloc,

@@ -4,14 +4,16 @@ ghost use Rattle.std.specs.Prelude.{◌≡◌, ◌⊎◌, ◌+◌, ◌<◌, ◌�
 ghost use Rattle.wit_model.specs.Trace.Output.{Unstarted, entered, outcome};
 ghost use Rattle.wit_trace.specs.Machine.{Follows};
 ghost use Rattle.wit_trace.specs.Outputs.{some_output};
-ghost use Rattle.wit_trace.specs.Replays.{allowed, progress, progress_of, reports_told, GoesAsDue, ShowsTrace, ShowsFrom};
-ghost use Rattle.wit_trace.specs.Stream.{IsSpent, ReadsToEnd, WritesFront, WritesLines, WritesOutput};
+ghost use Rattle.wit_trace.specs.Replays.{allowed, progress, progress_of, reports_told, GoesAsDue};
+ghost use Rattle.wit_trace.specs.Replays.{ShowsTrace, ShowsFrom};
+ghost use Rattle.wit_trace.specs.Stream.{IsSpent, ReadsToEnd, WritesFront, WritesLines};
+ghost use Rattle.wit_trace.specs.Stream.{WritesOutput};
 ghost use Rattle.wit_grammar.specs.declared.parse.TheConstants.{LONGEST};
 
 mod bad_lines;
 pub mod calls;
 mod endings;
-mod line_calls;
+pub mod line_calls;
 pub mod prelude;
 mod reaching;
 mod views;
@@ -33,22 +35,22 @@ use wit_model::{Cause, Limits, Line, View};
 use wit_world::World;
 use world_lines::{enter_world_line, step_on_lock};
 
-/// Reads a trace, and writes what the view shows of it: for `Reports` the texts of the reports, failed
-/// assertions and warnings as they come; for each other view its text after the whole trace. The reading ends at a bad
-/// line, of which its number and cause are written, for those other views nothing else.
+/// Reads a trace, and writes what the view shows of it: for `Reports` the texts of the reports,
+/// failed assertions and warnings as they come; for each other view its text after the whole trace.
+/// At a bad line the reading ends: its number and cause are written, for other views nothing else.
 ///
-/// A text is written and flushed before the reader is looked at again. After `Ok` exactly the lines up to
-/// the one that ended the reading were taken from the reader, of one that is too long its first 4,097 bytes.
+/// A text is written and flushed before the reader is looked at again. After `Ok` exactly the lines
+/// up to the one that ended the reading were taken, of one that is too long its first 4,097 bytes.
 ///
-/// It keeps, beside the verifier, no more than one line of the input and, up to the end of the prelude, the
-/// lists and pairs there. A list that is refused is a bad line, found where the prelude ends. It returns for
-/// every reader: once the looks at it and the lines read together come to 18,446,744,073,709,551,615, the
-/// reader counts as failed.
+/// It keeps, beside the verifier, no more than one line of the input and, up to the end of the
+/// prelude, the lists and pairs there. A list that is refused is a bad line, found where the
+/// prelude ends. It returns for every reader: once the looks at it and the lines read together come
+/// to 18,446,744,073,709,551,615, the reader counts as failed.
 ///
 /// # Errors
-/// `Read` where the reader failed: what was written is then the text of every whole line that was taken.
-/// `Write` where the writer failed, took no byte or didn't flush, `Memory` where a growth was refused: what was
-/// written is then a beginning of an output.
+/// `Read` where the reader failed: what was written is then the text of every whole line that was
+/// taken. `Write` where the writer failed, took no byte or didn't flush, `Memory` where a growth
+/// was refused: what was written is then a beginning of an output.
 pub fn replay<R: BufRead, W: Write>(
     alloc: Global,
     input: &mut R,
@@ -60,18 +62,20 @@ pub fn replay<R: BufRead, W: Write>(
     ensures err { OnErr result (WritesFront (ShowsTrace view)
         (R.remaining input.old) (W.contents output.old) (W.contents output.new)) }
     ensures taken { IfOk result (ReadsToEnd (ShowsFrom view) Unstarted
-        (R.remaining input.old) (R.remaining input.new) (W.contents output.old) (W.contents output.new)) }
+        (R.remaining input.old) (R.remaining input.new) (W.contents output.old)
+        (W.contents output.new)) }
     ensures told { result ≡ Err ReplayError.Read → WritesLines (ShowsFrom view) Unstarted
-        (R.remaining input.old) (R.remaining input.new) (W.contents output.old) (W.contents output.new) }
+        (R.remaining input.old) (R.remaining input.new) (W.contents output.old)
+        (W.contents output.new) }
 {
     replay_through(alloc, &mut Failures::new(), input, output, view)
 }
 
-/// A replay as `replay` makes it, through ports that keep the evidence of failures and weren't used before.
+/// A replay as `replay` makes it, through unused ports that keep the evidence of failures.
 ///
 /// # Errors
-/// As those of `replay`. `Read` comes only where the ports have seen the reader fail, or where the looks and
-/// the lines are spent; `Write` only where they have seen the writer fail.
+/// As those of `replay`. `Read` comes only where the ports have seen the reader fail, or where the
+/// looks and the lines are spent; `Write` only where they have seen the writer fail.
 pub fn replay_through<R: BufRead, W: Write, P: Ports<R, W>>(
     alloc: Global,
     ports: &mut P,
@@ -85,9 +89,11 @@ pub fn replay_through<R: BufRead, W: Write, P: Ports<R, W>>(
     ensures err { OnErr result (WritesFront (ShowsTrace view)
         (R.remaining input.old) (W.contents output.old) (W.contents output.new)) }
     ensures taken { IfOk result (ReadsToEnd (ShowsFrom view) Unstarted
-        (R.remaining input.old) (R.remaining input.new) (W.contents output.old) (W.contents output.new)) }
+        (R.remaining input.old) (R.remaining input.new) (W.contents output.old)
+        (W.contents output.new)) }
     ensures told { result ≡ Err ReplayError.Read → WritesLines (ShowsFrom view) Unstarted
-        (R.remaining input.old) (R.remaining input.new) (W.contents output.old) (W.contents output.new) }
+        (R.remaining input.old) (R.remaining input.new) (W.contents output.old)
+        (W.contents output.new) }
     ensures read { result ≡ Err ReplayError.Read → IsTrue (P.read_failed ports.new)
         ⊎ IsSpent (R.remaining input.old) (R.remaining input.new) (P.looks ports.new) }
     ensures write { result ≡ Err ReplayError.Write → IsTrue (P.write_failed ports.new) }
@@ -133,9 +139,11 @@ impl Replaying {
     fn world_line(&mut self, alloc: Global, number: u64, bytes: &[u8]) -> Result<Step, AllocError>
         requires room { reports_told (progress self.old) < number }
         requires short { length bytes.now ≤ LONGEST }
-        ensures step { IfOk result (Follows (allowed self.old.view) self.old self.new number bytes.now) }
+        ensures step { IfOk result (Follows (allowed self.old.view) self.old self.new
+            number bytes.now) }
         ensures kept { self.new.view ≡ self.old.view }
-        ensures counted { IfOk result (λ s. reports_told (progress self.new) ≤ reports_told (progress self.old) + 1) }
+        ensures counted { IfOk result (λ s. reports_told (progress self.new)
+            ≤ reports_told (progress self.old) + 1) }
     {
         let view = self.view;
         if let Progress::Stepping { world, remarks } = &mut self.progress {
@@ -149,15 +157,16 @@ impl Replaying {
         self.any_line(alloc, number, bytes)
     }
 
-    // A line of any kind, in its place. By itself, so that a line that makes a call on a lock doesn't pay for
-    // its large locals.
+    // A line of any kind, in its place; by itself, so that a call on a lock doesn't pay for it.
     #[inline(never)]
     fn any_line(&mut self, alloc: Global, number: u64, bytes: &[u8]) -> Result<Step, AllocError>
         requires room { reports_told (progress self.old) < number }
         requires short { length bytes.now ≤ LONGEST }
-        ensures step { IfOk result (Follows (allowed self.old.view) self.old self.new number bytes.now) }
+        ensures step { IfOk result (Follows (allowed self.old.view) self.old self.new
+            number bytes.now) }
         ensures kept { self.new.view ≡ self.old.view }
-        ensures counted { IfOk result (λ s. reports_told (progress self.new) ≤ reports_told (progress self.old) + 1) }
+        ensures counted { IfOk result (λ s. reports_told (progress self.new)
+            ≤ reports_told (progress self.old) + 1) }
     {
         if let Some((number, cause)) = self.progress.reach(alloc, number, bytes)? {
             return self
@@ -195,10 +204,10 @@ impl Progress {
         }
     }
 
-    // The header comes first.
     fn start(&mut self, alloc: Global, line: Line) -> Result<Vec<u8>, LineError>
         requires { progress_of self.old ≡ Unstarted }
-        ensures { (number : ℕ) → GoesAsDue (entered Unstarted number line) Unstarted (progress_of self.new) result }
+        ensures { (number : ℕ) → GoesAsDue (entered Unstarted number line) Unstarted
+            (progress_of self.new) result }
     {
         let Line::Header {
             version,

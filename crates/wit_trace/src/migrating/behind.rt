@@ -2,19 +2,22 @@
 
 ghost use Rattle.std.specs.Prelude.{◌≡◌, ◌+◌, ◌-◌, ◌<◌, ◌≤◌, ◌^◌, ◌++◌, ◌∷◌, [], false, None};
 ghost use Rattle.wit_model.specs.Trace.Moving.{moves, read_to};
-ghost use Rattle.wit_model.specs.Trace.Output.{call_of, summed};
+ghost use Rattle.wit_model.specs.Trace.Output.{Logs, call_of, summed};
 ghost use Rattle.wit_grammar.specs.Lines.{as_line};
+ghost use Rattle.wit_world.specs.Steps.{makes_lock};
+ghost use Rattle.wit_trace.specs.LineCalls.{as_call};
 ghost use Rattle.wit_trace.specs.Migrates.{MovesAsDue, moving_reports, standing, weight};
 ghost use Rattle.wit_trace.specs.Replays.{total};
 
 use crate::migrating::steps::{do_beside, step_beside};
-use crate::migrating::texts::{line_in, one_line};
-use crate::replaying::calls::{assertion, call_on_lock, remark, warning};
+use crate::migrating::texts::line_in;
+use crate::replaying::calls::{assertion, number_of, quick_call, remark, warning};
+use crate::replaying::line_calls::{LineCall, call_of, file_of, file_on_lock, lock_call};
 use crate::summary::Summary;
 use std::alloc::Global;
 use wit_core::Verifier;
-use wit_grammar::{LineError, borrowed};
-use wit_model::{Line, LockLine};
+use wit_grammar::LineError;
+use wit_model::{Call, Line, LockLine, SeatNo};
 use wit_world::Raw;
 
 /// A verifier that was told the calls so far, and what seats have of the locks themselves.
@@ -54,32 +57,30 @@ impl Behind {
         }
     }
 
-    /// A line on a lock makes its call, and is written with the step that goes with it, in the room of
-    /// a text that has nothing.
+    /// A line on a lock makes its call, and is written with the step that goes with it, in the room
+    /// of a text that has nothing.
     ///
     /// # Errors
     /// `Bad` where its file gets no number, its call is refused, or the lock doesn't admit the step
-    /// before it; `Memory`. The call may have been made then.
+    /// that goes with it; `Memory`. The call may have been made then.
     pub fn enter_on_lock(
         &mut self,
+        alloc: Global,
         room: Vec<u8>,
         line: LockLine<&str>,
         bytes: &[u8],
     ) -> Result<Vec<u8>, LineError>
+        requires counted { self.old.remarks < 2 ^ 64 - 1 }
         requires few { weight self.old.raw < 2 ^ 64 - 1 }
         requires room { room.items ≡ [] }
         ensures { MovesAsDue (moves self.old.verifier self.old.raw self.old.remarks bytes.now
             (call_of (as_line line.entry))) (standing self.old) (standing self.new) result }
     {
-        let step = step_beside(&self.verifier, &self.raw, &line);
-        let _reply = call_on_lock(&mut self.verifier, line)?;
-        match step {
-            Some(step) => do_beside(room, &mut self.raw, step, bytes),
-            None => Ok(line_in(room, bytes)?),
-        }
+        let file = number_of(&mut self.verifier, file_on_lock(&line))?;
+        self.make_call(alloc, room, lock_call(line, file), bytes)
     }
 
-    /// A line of any kind makes its call.
+    /// The same of a line of any kind.
     ///
     /// # Errors
     /// Those of `enter_on_lock`; and `Bad` where the line makes no call.
@@ -89,42 +90,73 @@ impl Behind {
         ensures { MovesAsDue (moves self.old.verifier self.old.raw self.old.remarks bytes.now
             (call_of line)) (standing self.old) (standing self.new) result }
     {
-        match line {
-            Line::OnLock(line) => self.enter_on_lock(Vec::new(alloc), borrowed(&line), bytes),
-            Line::Assert {
-                seat,
-                lock,
-                asserted,
-            } => {
+        let file = number_of(&mut self.verifier, file_of(&line))?;
+        let call = call_of(alloc, line, file)?;
+        self.make_call(alloc, Vec::new(alloc), call, bytes)
+    }
+
+    // A line of the first version has no step of its own.
+    #[inline(always)]
+    fn make_call(
+        &mut self,
+        alloc: Global,
+        room: Vec<u8>,
+        call: LineCall,
+        bytes: &[u8],
+    ) -> Result<Vec<u8>, LineError>
+        requires counted { self.old.remarks < 2 ^ 64 - 1 }
+        requires few { weight self.old.raw < 2 ^ 64 - 1 }
+        requires room { room.items ≡ [] }
+        ensures { MovesAsDue (moves self.old.verifier self.old.raw self.old.remarks bytes.now
+            (as_call call)) (standing self.old) (standing self.new) result }
+    {
+        match call {
+            LineCall::Logs(seat, call) => self.log(room, seat, call, bytes),
+            LineCall::Asserts(seat, lock, asserted) => {
                 let said = assertion(alloc, &self.verifier, seat, lock, asserted);
                 remark(&mut self.remarks, said)?;
-                Ok(one_line(alloc, bytes)?)
+                Ok(line_in(room, bytes)?)
             }
-            Line::Warn { seat, lock, flags } => {
+            LineCall::Warns(seat, lock, flags) => {
                 let said = warning(alloc, &self.verifier, seat, lock, flags);
                 remark(&mut self.remarks, said)?;
-                Ok(one_line(alloc, bytes)?)
+                Ok(line_in(room, bytes)?)
             }
-            Line::Init { seat, lock } => {
-                let _number = self.verifier.make(seat, lock)?;
-                self.raw.made();
-                Ok(one_line(alloc, bytes)?)
-            }
-            Line::Define {
-                seat,
-                first,
-                second,
-            } => {
-                let _reply = self.verifier.define_order(seat, first, second)?;
-                Ok(one_line(alloc, bytes)?)
-            }
-            Line::Watch { seat, watch } => {
-                let _reply = self.verifier.set_watch(seat, watch)?;
-                Ok(one_line(alloc, bytes)?)
-            }
-            Line::Header { .. } | Line::Profile | Line::Order { .. } | Line::Bless { .. } => {
-                Err(LineError::SYNTAX)
+            LineCall::Steps(..) | LineCall::NoCall => Err(LineError::SYNTAX),
+        }
+    }
+
+    // A call that is logged. With one that makes a lock no step of a lock goes.
+    #[inline(always)]
+    fn log(
+        &mut self,
+        room: Vec<u8>,
+        seat: SeatNo,
+        call: Call,
+        bytes: &[u8],
+    ) -> Result<Vec<u8>, LineError>
+        requires few { weight self.old.raw < 2 ^ 64 - 1 }
+        requires room { room.items ≡ [] }
+        ensures { MovesAsDue (moves self.old.verifier self.old.raw self.old.remarks bytes.now
+            (Logs seat.0 call)) (standing self.old) (standing self.new) result }
+    {
+        let step = step_beside(&self.verifier, &self.raw, seat, &call);
+        let makes = makes_lock(&call);
+        let _reply = quick_call(&mut self.verifier, seat, call)?;
+        match step {
+            Some(step) => do_beside(room, &mut self.raw, step, bytes),
+            None => {
+                if makes {
+                    self.raw.made();
+                }
+                Ok(line_in(room, bytes)?)
             }
         }
     }
+}
+
+fn makes_lock(call: &Call) -> bool
+    ensures { result ≡ makes_lock call.now }
+{
+    matches!(call, Call::Init(_))
 }

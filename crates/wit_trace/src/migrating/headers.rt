@@ -23,7 +23,8 @@ use wit_model::{Cause, Limits, Line, Version};
 /// limits; `Memory`.
 pub fn start(alloc: Global, machine: &mut Migrating, line: Line) -> Result<Vec<u8>, LineError>
     requires { moved_to machine.old ≡ moving.Unmoved }
-    ensures { (number : ℕ) (bytes : List ℕ) → MovesAsDue (moving_entered moving.Unmoved number bytes line)
+    ensures { (number : ℕ) (bytes : List ℕ)
+        → MovesAsDue (moving_entered moving.Unmoved number bytes line)
         moving.Unmoved (moved_to machine.new) result }
 {
     let Line::Header {

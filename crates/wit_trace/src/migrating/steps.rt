@@ -1,25 +1,26 @@
 //! The steps of locks themselves that go with calls.
 
-ghost use Rattle.std.specs.Prelude.{◌≡◌, ◌<◌, ◌-◌, ◌^◌, ◌++◌, ◌∷◌, [], true, None, Some, if◌then◌else◌};
+ghost use Rattle.std.specs.Prelude.{◌≡◌, ◌<◌, ◌-◌, ◌^◌, ◌++◌, ◌∷◌, [], true, false, None, Some};
+ghost use Rattle.std.specs.Prelude.{if◌then◌else◌};
 ghost use Rattle.std.specs.Prelude.{IfOk, IfSome, OnOk, OnErr};
 ghost use Rattle.wit_model.specs.Rules.History.{is_held, num, pending};
 ghost use Rattle.wit_model.specs.Rules.State.{state_of, is_seat};
 ghost use Rattle.wit_model.specs.Trace.Moving.{with_feeds};
-ghost use Rattle.wit_model.specs.Trace.Output.{call_of, verb_call};
 ghost use Rattle.wit_model.specs.World.Deeds.{RawDown};
 ghost use Rattle.wit_model.specs.World.Moving.{is_kept, stage_asked};
 ghost use Rattle.wit_model.specs.World.Scenes.{got, has_share, is_free, mode_asked, raw_after};
 ghost use Rattle.wit_model.specs.World.Scenes.{shares_of};
 ghost use Rattle.wit_model.specs.declared.raw_steps.RawStep.TheVariants.{Take, Free, Down};
-ghost use Rattle.wit_grammar.specs.Lines.{as_line};
-ghost use Rattle.wit_trace.specs.Migrates.{DoesBeside, GoesWithCall, IsBeside};
-ghost use Rattle.wit_trace.specs.Migrates.{line_and_step, deed, line_of_step, step_asked, step_at, weight};
+ghost use Rattle.wit_world.specs.Steps.{makes_lock};
+ghost use Rattle.wit_trace.specs.Migrates.{DoesBeside, GoesWithCall};
+ghost use Rattle.wit_trace.specs.Migrates.{line_and_step, deed, line_of_step, step_asked, step_at};
+ghost use Rattle.wit_trace.specs.Migrates.{weight};
 
 use crate::migrating::texts::put_line;
 use std::alloc::AllocError;
 use wit_core::Verifier;
 use wit_grammar::{LineError, put_step};
-use wit_model::{Cause, Fault, LockLine, LockNo, Mode, RawStep, SeatNo, Verb};
+use wit_model::{Call, Cause, Fault, LockNo, Mode, RawStep, SeatNo};
 use wit_world::Raw;
 
 /// A step of a lock that goes with a call.
@@ -32,40 +33,20 @@ pub struct LockStep {
     pub asked: Mode,
 }
 
-/// The step that goes with a line's call, if one does.
-pub fn step_beside(verifier: &Verifier, raw: &Raw, line: &LockLine<&str>) -> Option<LockStep>
-    ensures goes { GoesWithCall verifier.now raw.now (call_of (as_line line.now)) result }
+/// The step that goes with a call, if one does.
+#[inline(always)]
+pub fn step_beside(verifier: &Verifier, raw: &Raw, seat: SeatNo, call: &Call) -> Option<LockStep>
+    ensures goes { GoesWithCall verifier.now raw.now seat.0 call.now result }
     ensures share { IfSome result (λ k. has_share raw.now (deed k) ≡ true) }
+    ensures makes { IfSome result (λ k. makes_lock call.now ≡ false) }
 {
-    match *line {
-        LockLine::Try {
-            seat,
-            lock,
-            mode,
-            ..
-        } => Some(step_at(seat, lock, RawStep::TryTake(mode))),
-        LockLine::Unlock { seat, lock, .. } => free(verifier, raw, seat, lock),
-        LockLine::Plain { verb, seat, lock } => step_of_verb(verifier, raw, verb, seat, lock),
-        LockLine::Check { .. } | LockLine::Step { .. } => None,
-    }
-}
-
-fn step_of_verb(
-    verifier: &Verifier,
-    raw: &Raw,
-    verb: Verb,
-    seat: SeatNo,
-    lock: LockNo,
-) -> Option<LockStep>
-    ensures goes { is_seat (state_of verifier.now) seat.0 ≡ true
-        → IsBeside verifier.now.history raw.now seat.0 (verb_call verb lock) result }
-    ensures share { IfSome result (λ k. has_share raw.now (deed k) ≡ true) }
-{
-    match verb {
-        Verb::Note => take(verifier, seat, lock),
-        Verb::Upgrade => Some(step_at(seat, lock, RawStep::Up)),
-        Verb::Downgrade => turn(raw, seat, lock),
-        Verb::GiveUp | Verb::Destroy | Verb::NoRelease | Verb::ReleaseOk => None,
+    match call {
+        Call::Note(lock) => take(verifier, seat, *lock),
+        Call::NoteTry(lock, mode, _) => Some(step_at(seat, *lock, RawStep::TryTake(*mode))),
+        Call::Unlock(lock, _) => free(verifier, raw, seat, *lock),
+        Call::Upgrade(lock) => Some(step_at(seat, *lock, RawStep::Up)),
+        Call::Downgrade(lock) => turn(raw, seat, *lock),
+        _ => None,
     }
 }
 
@@ -148,8 +129,8 @@ fn turn(raw: &Raw, seat: SeatNo, lock: LockNo) -> Option<LockStep>
     None
 }
 
-/// Does the step, and tells the line with the step's, in the room of a text that has nothing: that of
-/// a share that is gained stands before it, that of one that is given back behind it.
+/// Does the step, and tells the line with the step's, in the room of a text that has nothing: that
+/// of a share that is gained stands before it, that of one that is given back behind it.
 ///
 /// # Errors
 /// `Bad` where the lock doesn't admit the step; `Memory`.

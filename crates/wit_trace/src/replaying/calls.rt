@@ -3,7 +3,8 @@
 ghost use Rattle.std.specs.Prelude.{◌≡◌, ◌+◌, ◌-◌, ◌<◌, ◌^◌, IfOk, OnErr};
 ghost use Rattle.std.specs.Option.{option_copied};
 ghost use Rattle.wit_model.specs.Rules.Step.{AnswersOrFails};
-ghost use Rattle.wit_model.specs.Trace.Output.{Reading, Asserts, Warns, call_of, calls, said, shown_by, reply_text};
+ghost use Rattle.wit_model.specs.Trace.Output.{Reading, Asserts, Warns, call_of, calls, said};
+ghost use Rattle.wit_model.specs.Trace.Output.{shown_by, reply_text};
 ghost use Rattle.wit_grammar.specs.Lines.{as_line};
 ghost use Rattle.wit_trace.specs.LineCalls.{NumbersFile, as_call};
 ghost use Rattle.wit_trace.specs.Replays.{Calls, GoesWith, GoesAsDue, Remarks};
@@ -19,10 +20,12 @@ use wit_model::{
 };
 use wit_report::{assert_text, report_text, warn_text};
 
-/// A line behind the prelude makes its call, and tells of it; one with a site enters its file first.
+/// A line behind the prelude makes its call, and tells of it; one with a site enters its file
+/// first.
 ///
 /// # Errors
-/// `Bad` where the line makes no call, its file gets no number, or its call is refused. `Memory`: the call may have been made then.
+/// `Bad` where the line makes no call, its file gets no number, or its call is refused. `Memory`:
+/// the call may have been made then.
 pub fn enter_line(
     alloc: Global,
     verifier: &mut Verifier,
@@ -133,7 +136,8 @@ pub fn assertion(
     lock: LockNo,
     asserted: LockAssert,
 ) -> Result<Vec<u8>, LineError>
-    ensures { Remarks verifier.now (λ n. calls verifier.now n (Asserts seat.0 lock asserted)) result }
+    ensures { Remarks verifier.now
+        (λ n. calls verifier.now n (Asserts seat.0 lock asserted)) result }
 {
     let answer = verifier.assert_lock(seat, lock, asserted)?;
     Ok(assert_text(alloc, verifier, lock, answer)?.into_bytes())
@@ -162,7 +166,8 @@ pub fn warning(
 /// `Bad` where it makes none, its file gets no number or its call is refused; `Memory`.
 #[inline(always)]
 pub fn call_on_lock(verifier: &mut Verifier, line: LockLine<&str>) -> Result<Reply, LineError>
-    ensures { Calls (λ n. calls verifier.old n (call_of (as_line line.entry))) verifier.old verifier.new result }
+    ensures { Calls (λ n. calls verifier.old n (call_of (as_line line.entry))) verifier.old
+        verifier.new result }
 {
     let file = number_of(verifier, file_on_lock(&line))?;
     match lock_call(line, file) {
@@ -174,10 +179,10 @@ pub fn call_on_lock(verifier: &mut Verifier, line: LockLine<&str>) -> Result<Rep
     }
 }
 
-// As `Verifier::call`. Two calls in three note a lock or release it, and would pay there for the
-// locals of a check: 3 in 100 of a line.
+/// As `Verifier::call`, with its errors. Two calls in three note a lock or release it, and would
+/// pay there for the locals of a check: 3 in 100 of a line.
 #[inline(always)]
-fn quick_call(verifier: &mut Verifier, seat: SeatNo, call: Call) -> Result<Reply, Fault>
+pub fn quick_call(verifier: &mut Verifier, seat: SeatNo, call: Call) -> Result<Reply, Fault>
     ensures { AnswersOrFails verifier.old seat.0 call result verifier.new }
 {
     match call {
@@ -187,9 +192,12 @@ fn quick_call(verifier: &mut Verifier, seat: SeatNo, call: Call) -> Result<Reply
     }
 }
 
-// The number of the file that a line names; of one that names none, no file's.
+/// The number of the file that a line names; of one that names none, no file's.
+///
+/// # Errors
+/// Those of `Verifier::file`.
 #[inline(always)]
-fn number_of(verifier: &mut Verifier, file: Option<&str>) -> Result<FileNo, Fault>
+pub fn number_of(verifier: &mut Verifier, file: Option<&str>) -> Result<FileNo, Fault>
     ensures { NumbersFile verifier.old (option_copied file.entry) result verifier.new }
 {
     match file {
