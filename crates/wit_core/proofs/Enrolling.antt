@@ -30,7 +30,7 @@ use Rattle.wit_core.specs.Following.{CanFollow}
 use Rattle.wit_core.specs.Listed.{entry_of, listed, CanBeEnrolled, CanBeAdopted, KeepsRest}
 use Rattle.wit_core.proofs.Listing.{item-at, two-at, length-one, enroll-step}
 use Rattle.wit_core.proofs.Going.{more-types}
-use Rattle.wit_core.proofs.Living.{live_of-enrolled}
+use Rattle.wit_core.proofs.LiveFlags.{live_of-enrolled}
 
 -- once the types of an accepted list are enrolled, its orders can be adopted
 pub can-adopt : (most : ℕ) (types : List LockType) (orders : List Adoption)

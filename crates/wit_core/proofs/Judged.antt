@@ -27,9 +27,9 @@ use Rattle.wit_model.proofs.Chains.Held.{made_sane}
 use Rattle.wit_model.proofs.Chains.Stands.{stands-chain}
 use Rattle.wit_model.proofs.Histories.Legal.{seat_at-state, one_chain, sane_legal}
 use Rattle.wit_model.proofs.Numbered.{with_number-or}
-use Rattle.wit_model.proofs.Orders.Among.{lock-type}
+use Rattle.wit_model.proofs.Orders.Orderly.{lock-type}
 use Rattle.wit_model.proofs.Orders.Reads.{same-ruling, parents-same}
-use Rattle.wit_model.proofs.Orders.Sound.{chain-held}
+use Rattle.wit_model.proofs.Orders.Learnt.{chain-held}
 use Rattle.wit_model.proofs.Orders.TypedLocks.{length-typed}
 use Rattle.wit_table.specs.Known.{Names}
 use Rattle.wit_matrix.specs.Relation.{Relation, HasSameOrders, HasSameFound}

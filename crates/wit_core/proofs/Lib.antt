@@ -10,6 +10,7 @@ pub mod Holding
 pub mod Judged
 pub mod Keeping
 pub mod Listing
+pub mod LiveFlags
 pub mod Living
 pub mod Now
 pub mod Owing
@@ -18,6 +19,7 @@ pub mod Reaching
 pub mod Readying
 pub mod Relating
 pub mod Releasing
+pub mod SeatLists
 pub mod SeatRows
 pub mod SeatTests
 pub mod Seen
@@ -26,6 +28,7 @@ pub mod Taught
 pub mod Told
 pub mod Turning
 pub mod Turns
+pub mod WaitTables
 pub mod Waits
 pub mod Warned
 pub mod Ways

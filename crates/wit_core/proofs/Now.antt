@@ -31,7 +31,8 @@ use Rattle.wit_core.specs.Seats.{Holdings, Seating, no_holdings, seat_in, locks_
 use Rattle.wit_core.specs.Seats.{has_no_room}
 use Rattle.wit_core.specs.Seats as seats
 use Rattle.wit_core.proofs.HeldSeats.{opens-numbers, chunks-viewed, stands-filter}
-use Rattle.wit_core.proofs.Living.{count-told, flag-is}
+use Rattle.wit_core.proofs.Living.{count-told}
+use Rattle.wit_core.proofs.LiveFlags.{flag-is}
 use Rattle.wit_core.specs.Live.{is_flagged, live_count, live_told}
 use Rattle.wit_core.proofs.Seen.{IsSeenAs}
 

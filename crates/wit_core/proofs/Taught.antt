@@ -24,9 +24,9 @@ use Rattle.wit_model.specs.Rules.Step.{answer_of, is_logged}
 use Rattle.wit_model.proofs.Histories.Accepted.{same_reply, check_accepted}
 use Rattle.wit_model.proofs.Histories.AcceptedTurns.{define_accepted}
 use Rattle.wit_model.proofs.Orders.AllHeld.{AreFree}
-use Rattle.wit_model.proofs.Orders.Among.{adopted-orderly, defined-orderly, silent-known}
-use Rattle.wit_model.proofs.Orders.Among.{duplicate-known, reversal-known, lock-type, number-from}
-use Rattle.wit_model.proofs.Orders.Among.{parents-known}
+use Rattle.wit_model.proofs.Orders.Orderly.{adopted-orderly, defined-orderly, silent-known}
+use Rattle.wit_model.proofs.Orders.Orderly.{duplicate-known, reversal-known, lock-type, number-from}
+use Rattle.wit_model.proofs.Orders.Orderly.{parents-known}
 use Rattle.wit_model.proofs.Orders.Sound.{taught-all}
 use Rattle.wit_core.specs.declared.verifier.Verifier.TheInside.{Inside}
 use Rattle.wit_core.specs.Following.{CanFollow, CanAllFollow}

@@ -24,7 +24,7 @@ use Rattle.wit_model.proofs.Numbered.{with_number-or, with_number-none}
 use Rattle.wit_core.specs.Searching.{is_marked, waiting, all_waiting, table_of, says, Says, IsTable}
 use Rattle.wit_core.specs.Searching.{IsCircleFrom, TellsCircleBy}
 use Rattle.wit_core.proofs.Queues.{circle_likewise, turned}
-use Rattle.wit_core.proofs.Reaching.{marked-at, marked_within, rows-many}
+use Rattle.wit_core.proofs.WaitTables.{marked-at, marked_within, rows-many}
 
 -- ---- only seats wait, and only for seats
 

@@ -11,7 +11,7 @@ use Rattle.wit_core.specs.declared.circle.Reached.{Reached}
 use Rattle.wit_core.specs.Searching.{is_marked, says, Says, IsTable, seat_reached, next_reached}
 use Rattle.wit_core.specs.Searching.{IsTrail, IsSearch, Reaches, AreClosed, IsCircleFrom}
 use Rattle.wit_core.proofs.Queues.{queue_more, none_from}
-use Rattle.wit_core.proofs.Reaching.{says_within}
+use Rattle.wit_core.proofs.WaitTables.{says_within}
 
 -- ---- the way back from a place to the first seat
 

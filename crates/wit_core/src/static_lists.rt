@@ -27,8 +27,7 @@ use wit_table::Table;
 /// Why a verifier can't be made.
 #[derive(Clone, Copy, Debug, PartialEq, Eq)]
 pub struct StartError {
-    /// The static list that is refused, from 1; 0 for the blessed pairs and for want of memory
-    /// outside the lists.
+    /// The refused static list, from 1; 0 for the blessed pairs, and for want of memory elsewhere.
     pub list: u64,
     /// Why it is refused.
     pub fault: Fault,
@@ -57,8 +56,7 @@ impl Known {
     /// Enters static lists, each behind those before it, where there may be this many types.
     ///
     /// # Errors
-    /// The first list that is refused, from 1, and why; or `OutOfMemory` in place of a list's
-    /// acceptance.
+    /// The first list that is refused, from 1, and why; or `OutOfMemory` in place of an acceptance.
     pub fn enter_lists(
         &mut self,
         most: u32,

@@ -4,7 +4,7 @@ use Rattle.std.proofs.Common.{take, drop, Some, None, sym, ap, ◌∙◌, arith}
 use Rattle.std.proofs.lemmas.List.{take-append-drop, take_all, length-drop}
 use Rattle.std.proofs.Math.Seq.{drop-cons}
 use Rattle.wit_model.specs.Trace.Reading.{parted_at_last}
-use Rattle.wit_model.proofs.Spelling.Words.{parted_here}
+use Rattle.wit_model.proofs.Spelling.Sites.{parted_here}
 
 -- the bytes from a place on are the byte there, and the others
 from_place : (word : List ℕ) (i : ℕ) → 0 < i → i ≤ length word

@@ -5,5 +5,6 @@ pub mod Kept
 pub mod Marking
 pub mod Newest
 pub mod Passing
+pub mod Pushed
 pub mod Recording
 pub mod VecRows

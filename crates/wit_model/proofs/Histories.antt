@@ -1,5 +1,6 @@
 -- Legal histories: what acceptance says, and what stays so.
 pub mod Accepted
+pub mod AcceptedLocks
 pub mod AcceptedTurns
 pub mod Asked
 pub mod Exhaustion

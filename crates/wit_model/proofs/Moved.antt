@@ -2,6 +2,7 @@
 pub mod Agreement
 pub mod FirstLines
 pub mod GoneOn
+pub mod KeptLines
 pub mod Lines
 pub mod Preludes
 pub mod Tells

@@ -3,7 +3,9 @@ pub mod AllHeld
 pub mod Among
 pub mod Defined
 pub mod Ends
+pub mod Learnt
 pub mod Once
+pub mod Orderly
 pub mod Paths
 pub mod Reads
 pub mod Ruled

@@ -3,4 +3,5 @@ pub mod Emptiness
 pub mod Newest
 pub mod Placing
 pub mod Settled
+pub mod Shown
 pub mod Writing

@@ -7,4 +7,5 @@ pub mod Laws
 pub mod Lengths
 pub mod Named
 pub mod Repeats
+pub mod Sites
 pub mod Words

@@ -1,14 +1,17 @@
 -- Laws of worlds.
+pub mod Apart
 pub mod Backed
 pub mod Barred
 pub mod Beside
 pub mod Calling
 pub mod Circled
 pub mod Covered
+pub mod Covering
 pub mod Crossed
 pub mod Dues
 pub mod Exclusion
 pub mod Holders
+pub mod Keeping
 pub mod Moments
 pub mod MovedAll
 pub mod MovedCalls
@@ -23,5 +26,6 @@ pub mod Rounds
 pub mod Runs
 pub mod SceneCircles
 pub mod Shown
+pub mod ShownCalls
 pub mod Stepping
 pub mod TriedCrossed

@@ -1,26 +1,20 @@
--- What is kept, and what a call leaves.
-use Rattle.std.proofs.Common.{◌≡◌, ℕ, zero, suc, ◌+◌, ◌-◌, ◌^◌, ◌<◌, ◌≤◌, List, [], ◌∷◌, ◌++◌}
-use Rattle.std.proofs.Common.{length, map, take, replicate, set, get_or, None, Some, slice_get}
-use Rattle.std.proofs.Common.{refl, ap, ap₂, sym, ◌∙◌, subst, arith}
-use Rattle.std.specs.Prelude.{Option}
-use Rattle.std.specs.List.{All}
-use Rattle.std.proofs.lemmas.List.{length-map, length-append, length-set, get_or-map}
-use Rattle.std.proofs.lemmas.List.Elements.{All-replicate}
+-- What is kept.
+use Rattle.std.proofs.Common.{◌≡◌, ℕ, ◌+◌, ◌-◌, ◌^◌, ◌<◌, ◌≤◌, List, [], ◌∷◌, ◌++◌, length, take}
+use Rattle.std.proofs.Common.{set, get_or, None, Some, slice_get, refl, ap, sym, ◌∙◌, subst, arith}
+use Rattle.std.proofs.lemmas.List.{length-map, length-append, get_or-map}
 use Rattle.std.proofs.lemmas.Option.{slice_get_within, slice_get_past, get_or_from_slice_get}
 use Rattle.wit_model.specs.declared.locks.Instance.{Instance}
 use Rattle.wit_model.specs.declared.chunks.Spot.{Spot}
 use Rattle.wit_model.specs.Rules.Groups.{flat, replaced_in}
 use Rattle.wit_model.specs.Rules.Chunks.{Chunks, IsList, IsSpot, IsPlaced, StandsIn, groups_of}
 use Rattle.wit_model.specs.Rules.Chunks.{group_of, set_groups}
-use Rattle.wit_model.specs.Rules.Rows.{row, groups_at, AreSettled}
+use Rattle.wit_model.specs.Rules.Rows.{row, groups_at}
 use Rattle.wit_model.proofs.Rows.Placing.{IsTaken, taken}
-use Rattle.wit_model.proofs.Rows.Settled as Settled
-use Rattle.wit_model.proofs.Rows.Settled.{Leaves, list-within, groups-shown, placed-shown}
-use Rattle.wit_model.proofs.Rows.Settled.{chain-fits}
-use denote.RawPtr.{Ptr}
+use Rattle.wit_model.proofs.Rows.Settled.{replaced}
+use Rattle.wit_model.proofs.Rows.Shown.{Leaves, list-within, groups-shown, placed-shown}
+use Rattle.wit_model.proofs.Rows.Shown.{list-short, row-at, chain-fits}
 use Rattle.circular_buffer.proofs.Places.{slice_get-take, slice_get-last}
 use Rattle.wit_pool.specs.declared.chunk.Next.{Next}
-use Rattle.wit_pool.specs.declared.chunk.Chunk.{Chunk}
 use Rattle.wit_pool.specs.declared.chain.Chain.{Chain}
 use Rattle.wit_pool.specs.declared.pool.Pool.TheInside.{Inside}
 use Rattle.wit_pool.specs.Chunks.{chunk_at, content, next_of, Leads, IsAt}
@@ -95,7 +89,7 @@ module _ {A : Type 0} (v : Inside A) (shows : Chunks) (is : chunks_in v ≡ show
           length-places v.cells.at v.cells.slots (get_or v.chains.items (list - 1) d).count
               (get_or v.chains.items (list - 1) d).head (linked d),
           ap length (list-is d),
-          Settled.list-short (lists_of v) (list - 1),
+          list-short (lists_of v) (list - 1),
           kept.settled.placed.all,
           kept.settled.few,
         )
@@ -145,7 +139,7 @@ module _ {A : Type 0} (v : Inside A) (shows : Chunks) (is : chunks_in v ≡ show
       pub group-is : group_of shows list s ≡ content (chunk_at v.cells.slots s.chunk)
       group-is =
           ap (λ gs. get_or gs s.group []) groups-are
-          ∙ Settled.row-at (rows_of v) (lists_of v) (free_of v) kept.settled
+          ∙ row-at (rows_of v) (lists_of v) (free_of v) kept.settled
           (list - 1) in-lists s.group in-list
           ∙ ap (row (rows_of v)) chunk-is
           ∙ get_or-map content v.cells.slots s.chunk None [] chunk-within
@@ -228,7 +222,7 @@ module _ {A : Type 0} (v : Inside A) (shows : Chunks) (is : chunks_in v ≡ show
             (lists_of v) (free_of v)
             (set_groups (chunks_in v) list
             (replaced_in s.group index x (groups_of (chunks_in v) list)))) chunk-is
-            (Settled.replaced (rows_of v) (lists_of v) list in-lists
+            (replaced (rows_of v) (lists_of v) list in-lists
             (free_of v) kept.settled s.group index in-list in-row x)))
 
     pub newest-none : (d : Chain) → (get_or v.chains.items (list - 1) d).head ≡ None
@@ -276,69 +270,3 @@ module _ {A : Type 0} (v : Inside A) (shows : Chunks) (is : chunks_in v ≡ show
                       (omega (arith, long, length-append xs (l.place ∷ [])));
                 });
           }
-
--- the same block, with other chunks in it
-pub record IsBeside {A : Type 0} (v w : Inside A) : Type 0 where
-  pub at : w.cells.at ≡ v.cells.at
-  pub first : w.first.ptr ≡ v.first.ptr
-  pub count : w.count ≡ v.count
-  pub deed : (w.deed.at ≡ w.first.ptr) × (w.deed.len ≡ w.count) × (w.deed.alloc ≡ w.alloc)
-
--- what a call leaves where one list's groups become others
-pub record IsLeft {A : Type 0} (shows : Chunks) (list : ℕ) (groups : List (List (List Instance)))
-    (w : Inside A) : Type 0 where
-  pub kept : AreKept w
-  pub are : map (groups_at (rows_of w)) (lists_of w) ≡ groups
-  pub size : length (rows_of w) ≡ shows.size
-  pub placed : IsPlaced (chunks_in w)
-  pub others : lists_of w ≡ set shows.places (list - 1) (get_or (lists_of w) (list - 1) [])
-
-module _ {A : Type 0} (v : Inside A) (shows : Chunks) (is : chunks_in v ≡ shows) (kept : AreKept v)
-    (list : ℕ) (there : IsList shows list)
-    (w : Inside A) (beside : IsBeside v w) (p : ℕ) (y : List Instance) (ps unused : List ℕ)
-    (groups : List (List (List Instance))) where
-  -- one chunk holds other locks, and one list has these chunks
-  pub left-now : (lists : List (List ℕ)) → lists ≡ set (lists_of v) (list - 1) ps
-      → Stands v.cells.at w.cells.slots w.chains.items w.free (set (rows_of v) p y) lists unused
-      → Leaves (set (rows_of v) p y) lists unused groups → IsLeft shows list groups w
-  left-now lists e s leaves =
-      let settled : AreSettled (rows_of w) (lists_of w) (free_of w) =
-      rw (s.rows, s.lists, s.unused) leaves.settled in
-      let long : length (rows_of w) ≡ length (rows_of v) =
-      ap length s.rows ∙ length-set (rows_of v) p y in
-      let set-there : lists_of w ≡ set (lists_of v) (list - 1) ps = s.lists ∙ e in
-      record {
-        kept = record {
-          settled = settled;
-          linked =
-              subst (λ a. All (IsLinked a w.cells.slots) w.chains.items) (sym beside.at) s.linked;
-          spare = subst (λ a. IsLinked a w.cells.slots w.free) (sym beside.at) s.spare;
-          first = beside.first ∙ kept.first ∙ sym beside.at;
-          size =
-              sym (length-map w.cells.slots content) ∙ long ∙ length-map v.cells.slots content
-              ∙ kept.size ∙ sym beside.count;
-          deed = beside.deed;
-        };
-        are = ap₂ (λ gs ls. map (groups_at gs) ls) s.rows s.lists ∙ leaves.groups;
-        size = long ∙ ap (λ (c : Chunks). c.size) is;
-        placed = placed-shown (rows_of w) (lists_of w) (free_of w) settled.placed;
-        others =
-            subst (λ ls. ls ≡ set shows.places (list - 1) (get_or ls (list - 1) [])) (sym set-there)
-            (Settled.others-set (lists_of v) (list - 1) ps (in-lists v shows is kept list there)
-            ∙ ap (λ (c : Chunks). set c.places (list - 1)
-            (get_or (set (lists_of v) (list - 1) ps) (list - 1) [])) is);
-      }
-
--- lists that have no chunk
-pub no-chunks : (cs : List (Option Chunk)) (lists : ℕ)
-    → map (chain_chunks cs) (replicate lists (record { head = None; count = 0 }))
-    ≡ replicate lists []
-no-chunks cs zero = refl
-no-chunks cs (suc n) = ap (λ ls. [] ∷ ls) (no-chunks cs n)
-
-pub all-none : (at : Ptr) (cs : List (Option Chunk)) (lists : ℕ) (chains : List Chain)
-    → chains ≡ replicate lists (record { head = None; count = 0 })
-    → All (IsLinked at cs) chains
-all-none at cs lists chains e =
-    subst (All (IsLinked at cs)) (sym e)
-    (All-replicate (IsLinked at cs) lists (record { head = None; count = 0 }) refl)

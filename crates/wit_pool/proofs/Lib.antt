@@ -1,5 +1,6 @@
 pub mod First
 pub mod Keeping
+pub mod Leaving
 pub mod Links
 pub mod Memory
 pub mod Pushing

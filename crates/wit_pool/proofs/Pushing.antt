@@ -13,8 +13,9 @@ use Rattle.wit_model.specs.Rules.Groups.{joined}
 use Rattle.wit_model.specs.Rules.Rows.{row, groups_at, shown_chunks, AreSettled}
 use Rattle.wit_model.proofs.Rows.Newest.{opens-at}
 use Rattle.wit_model.proofs.Rows.Placing.{IsFree, free}
-use Rattle.wit_model.proofs.Rows.Settled.{Leaves, push-fits, push-opens, push-refused, groups-shown}
-use Rattle.wit_model.proofs.Rows.Settled.{both-nil, flat-push}
+use Rattle.wit_model.proofs.Rows.Settled.{push-fits, push-opens, push-refused}
+use Rattle.wit_model.proofs.Rows.Shown.{Leaves, groups-shown}
+use Rattle.wit_model.proofs.Rows.Shown.{both-nil, flat-push}
 use Rattle.circular_buffer.proofs.Places.{slice_get-last}
 use Rattle.wit_pool.specs.declared.chunk.Next.{Next}
 use Rattle.wit_pool.specs.declared.chunk.Chunk.{Chunk}
@@ -26,8 +27,10 @@ use Rattle.wit_pool.specs.Kept.{rows_of, lists_of, free_of, chunks_in, AreKept}
 use Rattle.wit_pool.proofs.Links.{Runs, times-end, first, longer, within, read-here, still-there}
 use Rattle.wit_pool.proofs.Links.{length-places, none-left}
 use Rattle.wit_pool.proofs.Standing as Standing
-use Rattle.wit_pool.proofs.Keeping.{IsBeside, IsLeft, stands, in-lists, in-chains, list-is, linked}
-use Rattle.wit_pool.proofs.Keeping.{count-free, left-now}
+use Rattle.wit_pool.proofs.Keeping.{stands, in-lists, in-chains, list-is, linked}
+use Rattle.wit_pool.proofs.Leaving.{IsBeside, IsLeft}
+use Rattle.wit_pool.proofs.Keeping.{count-free}
+use Rattle.wit_pool.proofs.Leaving.{left-now}
 
 module _ {A : Type 0} (v : Inside A) (shows : Chunks) (is : chunks_in v ≡ shows) (kept : AreKept v)
     (list : ℕ) (there : IsList shows list)

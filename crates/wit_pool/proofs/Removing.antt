@@ -15,7 +15,8 @@ use Rattle.wit_model.specs.Rules.Chunks.{Chunks, IsList, IsSpot, groups_of, grou
 use Rattle.wit_model.specs.Rules.Chunks.{times}
 use Rattle.wit_model.specs.Rules.Rows.{row}
 use Rattle.wit_model.proofs.Rows.Placing.{IsTaken, taken, free, placed-freed, times-in}
-use Rattle.wit_model.proofs.Rows.Settled.{Leaves, removed-kept, removed-freed}
+use Rattle.wit_model.proofs.Rows.Settled.{removed-kept, removed-freed}
+use Rattle.wit_model.proofs.Rows.Shown.{Leaves}
 use Rattle.wit_pool.specs.declared.chunk.Next.{Next}
 use Rattle.wit_pool.specs.declared.chunk.Chunk.{Chunk}
 use Rattle.wit_pool.specs.declared.chain.Chain.{Chain}
@@ -27,8 +28,10 @@ use Rattle.wit_pool.specs.Kept.{rows_of, lists_of, free_of, chunks_in, AreKept}
 use Rattle.wit_pool.proofs.Links.{Runs, Stood, stood, longer, times-end, within, read-here}
 use Rattle.wit_pool.proofs.Links.{length-places}
 use Rattle.wit_pool.proofs.Standing as Standing
-use Rattle.wit_pool.proofs.Keeping.{IsBeside, IsLeft, stands, in-lists, in-chains, list-is, linked}
-use Rattle.wit_pool.proofs.Keeping.{stands-in, in-list, chunk-is, known, row-is, in-row, left-now}
+use Rattle.wit_pool.proofs.Keeping.{stands, in-lists, in-chains, list-is, linked}
+use Rattle.wit_pool.proofs.Leaving.{IsBeside, IsLeft}
+use Rattle.wit_pool.proofs.Keeping.{stands-in, in-list, chunk-is, known, row-is, in-row}
+use Rattle.wit_pool.proofs.Leaving.{left-now}
 
 module _ {A : Type 0} (v : Inside A) (shows : Chunks) (is : chunks_in v ≡ shows) (kept : AreKept v)
     (list : ℕ) (there : IsList shows list)

@@ -28,7 +28,7 @@ use Rattle.wit_model.specs.Rules.Locks.{made_among, unknown_lock, lock_at}
 use Rattle.wit_model.specs.Rules.State.{Start, state_of, types_of, typed_locks}
 use Rattle.wit_model.specs.Rules.Step.{answer_of, story_after, IsLegal}
 use Rattle.wit_model.proofs.Chains.Seats.{entry}
-use Rattle.wit_model.proofs.Histories.Accepted.{init_accepted}
+use Rattle.wit_model.proofs.Histories.AcceptedLocks.{init_accepted}
 use Rattle.wit_model.proofs.Orders.Types.{IsTyped, typed_made, typed-same}
 use Rattle.wit_model.specs.Rules.Numbers.{with_number}
 use Rattle.wit_model.proofs.Numbered.{with_number-at, with_number-or}

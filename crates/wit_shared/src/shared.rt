@@ -34,7 +34,6 @@ pub struct Shared<J: Room> {
 }
 
 impl<J: Room> Shared<J> {
-    // Behind a lock.
     pub(crate) fn of(desk: Desk<J>) -> Shared<J> {
         Shared {
             desk: Mutex::new(desk),

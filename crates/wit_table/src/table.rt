@@ -52,8 +52,7 @@ impl Model for Table {
 }
 
 impl Table {
-    /// An empty table for up to this many types, 1 to 1,023, and up to this many files, 1 to
-    /// 65,535.
+    /// An empty table for up to so many types, 1 to 1,023, and so many files, 1 to 65,535.
     ///
     /// # Errors
     /// `OutOfMemory` alone.

@@ -2,6 +2,7 @@ pub mod AloneLemmas
 pub mod AnswerLemmas
 pub mod BesideLemmas
 pub mod CallLemmas
+pub mod CountLemmas
 pub mod ListedTypes
 pub mod MigrateEnds
 pub mod MigrateLemmas
@@ -10,7 +11,9 @@ pub mod NumberedLemmas
 pub mod Recorded
 pub mod ReplayLemmas
 pub mod ReportLemmas
+pub mod StreamInputs
 pub mod StreamLemmas
 pub mod TextLemmas
 pub mod Weights
 pub mod WorldLemmas
+pub mod WrittenLemmas

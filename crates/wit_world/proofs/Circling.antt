@@ -13,7 +13,7 @@ use Rattle.wit_model.proofs.World.Circled.{circle-through, waits-world}
 use Rattle.wit_model.proofs.World.Exclusion.{has_seat}
 use Rattle.wit_core.specs.Searching as search
 use Rattle.wit_core.specs.Searching.{all_waiting, table_of, Says, IsTable}
-use Rattle.wit_core.proofs.Reaching.{rows-many}
+use Rattle.wit_core.proofs.WaitTables.{rows-many}
 use Rattle.wit_core.proofs.Waits.{count-rows, is_table, says-is, says_true}
 use Rattle.wit_world.specs.Kept.{IsKept}
 

@@ -25,7 +25,7 @@ use Rattle.wit_model.specs.World.Shown.{Shows, deed_called}
 use Rattle.wit_model.proofs.Chains.Found.{if_some}
 use Rattle.wit_model.proofs.Histories.Legal.{held_by-state, sane_legal}
 use Rattle.wit_model.proofs.World.Calling.{call-deed, world-named, shown-named}
-use Rattle.wit_model.proofs.World.Covered.{legal_world}
+use Rattle.wit_model.proofs.World.Covering.{legal_world}
 use Rattle.wit_model.proofs.World.Opening.{opening-shows}
 use Rattle.wit_model.proofs.World.Stepping.{seat-shown, step-deed}
 use Rattle.wit_world.specs.Kept.{IsKept}

@@ -8,14 +8,14 @@ use Rattle.wit_model.specs.Rules.Locks.{lock_at, destroyed_of}
 use Rattle.wit_model.specs.Rules.State.{Story, state_of}
 use Rattle.wit_model.specs.Rules.Step.{answer_of}
 use Rattle.wit_model.proofs.Chains.Owed.{owed-same}
-use Rattle.wit_model.proofs.Histories.Accepted.{destroy_accepted}
+use Rattle.wit_model.proofs.Histories.AcceptedLocks.{destroy_accepted}
 use Rattle.wit_core.specs.declared.verifier.Verifier.TheInside.{Inside}
 use Rattle.wit_core.specs.Kept.{start_in, history_in}
 use Rattle.wit_core.proofs.Keeping.{Leaves}
 use Rattle.wit_core.proofs.Now.{live-now}
 use Rattle.wit_core.proofs.Seen.{IsSeenAs}
 use Rattle.wit_core.proofs.Steps.{known-same, seats-same}
-use Rattle.wit_core.proofs.Living.{flag-within, flags-destroyed, length-flags}
+use Rattle.wit_core.proofs.LiveFlags.{flag-within, flags-destroyed, length-flags}
 use Rattle.wit_core.specs.Live.{is_flagged}
 use Rattle.wit_core.proofs.Judged.{asked-given}
 use Rattle.wit_model.proofs.Numbered.{with_changed-at}

@@ -13,7 +13,7 @@ use Rattle.wit_model.specs.Rules.Locks.{destroyed_of, is_destroyed, made_among}
 use Rattle.wit_model.specs.Rules.State.{Story, State, Known, types_of, typed_locks, state_of}
 use Rattle.wit_model.specs.Rules.Step.{answer_of, is_good_name}
 use Rattle.wit_model.proofs.Chains.Owed.{owed-init}
-use Rattle.wit_model.proofs.Histories.Accepted.{init_accepted}
+use Rattle.wit_model.proofs.Histories.AcceptedLocks.{init_accepted}
 use Rattle.wit_table.specs.Known.{enroll_answer}
 use Rattle.wit_core.specs.declared.verifier.Verifier.TheInside.{Inside}
 use Rattle.wit_core.specs.Journal.{Journal}
@@ -22,7 +22,7 @@ use Rattle.wit_core.specs.Known.{with_lock, IsAdmitted}
 use Rattle.wit_core.proofs.Keeping.{Leaves}
 use Rattle.wit_core.proofs.Seen.{IsSeenAs}
 use Rattle.wit_core.proofs.Steps.{seats-same}
-use Rattle.wit_core.proofs.Living.{flags-made}
+use Rattle.wit_core.proofs.LiveFlags.{flags-made}
 use Rattle.wit_model.proofs.Histories.Live.{next-undestroyed}
 use Rattle.wit_core.proofs.Entries.Accepting.{accepted, known-now, left-by, owed_now, room_left}
 use Rattle.wit_core.proofs.Entries.Accepting.{sane_next, seats-now, watch-now, within}

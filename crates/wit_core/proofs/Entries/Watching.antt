@@ -6,7 +6,7 @@ use Rattle.wit_model.specs.declared.calls.Reply.TheVariants.{Done}
 use Rattle.wit_model.specs.Rules.State.{Story, state_of}
 use Rattle.wit_model.specs.Rules.Step.{answer_of}
 use Rattle.wit_model.proofs.Chains.Owed.{owed-same}
-use Rattle.wit_model.proofs.Histories.Accepted.{watch_accepted}
+use Rattle.wit_model.proofs.Histories.AcceptedLocks.{watch_accepted}
 use Rattle.wit_core.specs.declared.verifier.Verifier.TheInside.{Inside}
 use Rattle.wit_core.specs.Journal.{Journal}
 use Rattle.wit_core.specs.Kept.{start_in, history_in, story_in}

@@ -26,7 +26,7 @@ use Rattle.wit_model.specs.Rules.Turning.{is_upgradable, upgraded, downgraded, m
 use Rattle.wit_model.specs.Rules.Turning.{step_turn, step_upgrade, step_downgrade, step_mark}
 use Rattle.wit_model.specs.Rules.Defining.{are_of_two_kinds, define, step_define}
 use Rattle.wit_model.proofs.Histories.Accepted.{passed, passed_not, same_reply, live-given, roomy}
-use Rattle.wit_model.proofs.Histories.Accepted.{watch_accepted, destroy_accepted}
+use Rattle.wit_model.proofs.Histories.AcceptedLocks.{watch_accepted, destroy_accepted}
 
 -- a call that may be passed over, and isn't
 entered : (s : State) (v : Result Reply Fault) (r : Reply) → is_logged r ≡ true

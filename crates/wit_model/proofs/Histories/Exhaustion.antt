@@ -29,7 +29,7 @@ use Rattle.wit_model.specs.Rules.Step.{answer_of, story_after, IsLegal}
 use Rattle.wit_model.proofs.Orders.Ruled.{Says, Passed, Learnt, LearntAll, Doubled, Broken, ruled}
 use Rattle.wit_model.proofs.Histories.Accepted.{same_reply, check_accepted, note_accepted}
 use Rattle.wit_model.proofs.Histories.Accepted.{try_accepted, give_up_accepted, unlock_accepted}
-use Rattle.wit_model.proofs.Histories.Accepted.{watch_accepted, init_accepted}
+use Rattle.wit_model.proofs.Histories.AcceptedLocks.{watch_accepted, init_accepted}
 use Rattle.wit_model.proofs.Histories.AcceptedTurns.{is_plain_reply, plain_accepted}
 use Rattle.wit_model.proofs.Histories.Legal.{watched-before}
 

@@ -32,7 +32,8 @@ use Rattle.wit_model.proofs.Chains.Seats.{get_or-seats_of}
 use Rattle.wit_model.proofs.Orders.TypedLocks.{spin_at, made-known}
 use Rattle.wit_model.proofs.Histories.Accepted.{check_accepted, note_accepted, try_accepted}
 use Rattle.wit_model.proofs.Histories.Accepted.{give_up_accepted, UnlockAccepted, unlock_accepted}
-use Rattle.wit_model.proofs.Histories.Accepted.{unlock_seat, watch_accepted, init_accepted}
+use Rattle.wit_model.proofs.Histories.Accepted.{unlock_seat}
+use Rattle.wit_model.proofs.Histories.AcceptedLocks.{watch_accepted, init_accepted}
 use Rattle.wit_model.proofs.Histories.AcceptedTurns.{plain_seat, is_plain}
 use Rattle.wit_model.specs.declared.calls.Request.{Request}
 use Rattle.wit_model.proofs.Chains.Acts.{downgrade-even, fit-even, is_even, norelease-even}

@@ -10,7 +10,7 @@ use Rattle.wit_model.specs.declared.calls.Call.TheVariants.{Destroy}
 use Rattle.wit_model.specs.declared.calls.Entry.{Entry}
 use Rattle.wit_model.specs.Rules.Step.{IsLegal, answer_of, story_after}
 use Rattle.wit_model.specs.declared.calls.Reply.{Reply}
-use Rattle.wit_model.proofs.Histories.Accepted.{destroy_accepted}
+use Rattle.wit_model.proofs.Histories.AcceptedLocks.{destroy_accepted}
 use Rattle.wit_model.proofs.Orders.TypedLocks.{length-typed, made-known}
 
 -- a destroyed lock was made

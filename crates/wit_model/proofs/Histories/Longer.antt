@@ -30,9 +30,10 @@ use Rattle.wit_model.specs.Rules.State.{Start, State, state_of, orders_of}
 use Rattle.wit_model.specs.Rules.Step.{is_exhausted, held_by, recorded_reply, step, story_after}
 use Rattle.wit_model.specs.Rules.Step.{IsLegal}
 use Rattle.wit_model.specs.HistoryLaws.{adoptions}
-use Rattle.wit_model.proofs.Histories.Accepted.{init_accepted, destroy_accepted, note_accepted}
+use Rattle.wit_model.proofs.Histories.Accepted.{note_accepted}
+use Rattle.wit_model.proofs.Histories.AcceptedLocks.{init_accepted, destroy_accepted}
 use Rattle.wit_model.proofs.Histories.Accepted.{try_accepted, give_up_accepted, unlock_accepted}
-use Rattle.wit_model.proofs.Histories.Accepted.{watch_accepted}
+use Rattle.wit_model.proofs.Histories.AcceptedLocks.{watch_accepted}
 use Rattle.wit_model.proofs.Histories.AcceptedTurns.{upgrade_accepted, downgrade_accepted}
 use Rattle.wit_model.proofs.Histories.AcceptedTurns.{mark_accepted}
 use Rattle.wit_model.proofs.Numbered.{with_number-at}

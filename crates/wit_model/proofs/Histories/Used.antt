@@ -27,7 +27,8 @@ use Rattle.wit_model.specs.Rules.Destroying.{uses}
 use Rattle.wit_model.proofs.Chains.Sane.{IsSane}
 use Rattle.wit_model.proofs.Chains.Found.{if_some, found}
 use Rattle.wit_model.proofs.Histories.Accepted.{live-undestroyed, check_accepted, note_accepted}
-use Rattle.wit_model.proofs.Histories.Accepted.{try_accepted, destroy_accepted}
+use Rattle.wit_model.proofs.Histories.Accepted.{try_accepted}
+use Rattle.wit_model.proofs.Histories.AcceptedLocks.{destroy_accepted}
 use Rattle.wit_model.proofs.Histories.Legal.{seat-within, own_kind, sane_legal, plain-unrecorded}
 use Rattle.wit_model.specs.declared.locks.LockNo.{LockNo}
 use Rattle.wit_model.proofs.Chains.HeldLocks.{held-from, num-of_held}

@@ -11,13 +11,13 @@ use Rattle.wit_model.specs.Rules.Sizes.{sizes_of, are_within_limits}
 use Rattle.wit_model.specs.Rules.Start.{start_fault}
 use Rattle.wit_model.specs.Rules.State.{Story, fresh}
 use Rattle.wit_model.specs.World.Scenes.{Scene, opening}
-use Rattle.wit_model.specs.Trace.Moving.{Moving, Unmoved, Keeping, Moved, Written, TellsTheSame}
-use Rattle.wit_model.specs.Trace.Moving.{MigrationsTellTheSame, keeps, step_line, moving_from}
+use Rattle.wit_model.specs.Trace.Moving.{Moving, Unmoved, Keeping, Moved, Written}
+use Rattle.wit_model.specs.Trace.Moving.{MigrationsTellTheSame, moving_from, moving_ends}
+use Rattle.wit_model.specs.Trace.Moving.{moving_opened, moving_outcome, moving_entered}
 use Rattle.wit_model.specs.Trace.Moving as moving
-use Rattle.wit_model.specs.Trace.Moving.{moving_ends, moving_opened, moving_outcome, moving_entered}
-use Rattle.wit_model.specs.Trace.Output.{Prelude, Unstarted, Opening, Reading, Stepping, AllRead}
-use Rattle.wit_model.specs.Trace.Output.{BadLine, empty_prelude, is_prelude, is_profile, log_limit}
-use Rattle.wit_model.specs.Trace.Output.{text_before, course_at, course_after, course_from}
+use Rattle.wit_model.specs.Trace.Output.{Prelude, Unstarted, Opening, Stepping, AllRead, BadLine}
+use Rattle.wit_model.specs.Trace.Output.{empty_prelude, log_limit, text_before, course_at}
+use Rattle.wit_model.specs.Trace.Output.{course_after, course_from}
 use Rattle.wit_model.specs.Trace.Output as output
 use Rattle.wit_model.specs.Trace.Spelling.{spelling, IsSpellable}
 use Rattle.wit_model.proofs.Moved.Agreement.{all_read, calls-agree}
@@ -27,92 +27,8 @@ use Rattle.wit_model.proofs.Moved.Lines.{read-short, read-spelled}
 use Rattle.wit_model.proofs.Moved.Tells.{all_stepped}
 use Rattle.wit_model.proofs.Spelling.Laws.{line_takes}
 use Rattle.wit_model.proofs.World.MovedAll.{opening-fits}
-
--- the same prelude in the second version
-abbrev two : Prelude → Prelude
-two p = record p { version = Two }
-
-two-goes : (p : Prelude) → p.version ≡ One → output.begun p.version p.start
-    ≡ Reading (fresh p.start) 0
-two-goes p is = ap (λ v. output.begun v p.start) is
-
--- ---- the prelude ends
-
-module _ (p : Prelude) (version : p.version ≡ One) (good : start_fault p.start ≡ None) (n : ℕ)
-    (first : List ℕ) (ends : is_opening n first ≡ false) where
-  reached-one : output.reached (Opening p) n first ≡ Ok (Reading (fresh p.start) 0)
-  reached-one =
-      ap (λ b. cond b (Ok (Opening p)) (output.opened p (start_fault p.start))) ends
-      ∙ (ap (λ o. output.opened p o) good ∙ ap (λ q. Ok q) (two-goes p version))
-
-  reached-two : output.reached (Opening (two p)) n first ≡ Ok (Stepping (opening (fresh p.start)) 0)
-  reached-two =
-      ap (λ b. cond b (Ok (Opening (two p))) (output.opened (two p) (start_fault p.start))) ends
-      ∙ ap (λ o. output.opened (two p) o) good
-
-  pub over-one : (rest : List (List ℕ)) → course_from (Opening p) n (first ∷ rest) []
-      ≡ course_from (Reading (fresh p.start) 0) n (first ∷ rest) []
-  over-one rest =
-      ap (λ (r : Result output.Progress BadLine). course_at (Opening p) r
-      (λ q. course_after q n (output.outcome q n first) (λ u. course_from u (n + 1) rest [])))
-      reached-one
-
-  pub over-two : (rest : List (List ℕ)) → course_from (Opening (two p)) n (first ∷ rest) []
-      ≡ course_from (Stepping (opening (fresh p.start)) 0) n (first ∷ rest) []
-  over-two rest =
-      ap (λ (r : Result output.Progress BadLine). course_at (Opening (two p)) r
-      (λ q. course_after q n (output.outcome q n first) (λ u. course_from u (n + 1) rest [])))
-      reached-two
-
--- ---- lines of the prelude
-
-record KeptOn (p : Prelude) (kept : List (List ℕ)) (n : ℕ) (bytes : List ℕ) (line : Line)
-    (then : Moving) (lines : List (List ℕ)) : Type 0 where
-  prelude : Prelude
-  version : prelude.version ≡ One
-  next : then ≡ Keeping prelude (kept ++ bytes ∷ [])
-  none : lines ≡ []
-  one : output.entered (Opening p) n line ≡ output.Goes (Opening prelude) []
-  both : output.entered (Opening (two p)) n line ≡ output.Goes (Opening (two prelude)) []
-
-kept-on : (p : Prelude) (kept : List (List ℕ)) (n : ℕ) (bytes : List ℕ) (line : Line)
-    (then : Moving) (lines : List (List ℕ)) → p.version ≡ One
-    → keeps kept bytes (output.entered (Opening p) n line) ≡ moving.Goes then lines
-    → KeptOn p kept n bytes line then lines
-kept-on p kept n bytes (Order list) then lines version goes =
-    record {
-      prelude = output.with_list p n list;
-      version = version;
-      next = cc;
-      none = cc;
-      one = refl;
-      both = refl;
-    }
-kept-on p kept n bytes (Bless a b) then lines version goes =
-    record {
-      prelude = output.with_pair p a b;
-      version = version;
-      next = cc;
-      none = cc;
-      one = refl;
-      both = refl;
-    }
-kept-on p kept n bytes (Header v s t l c) then lines version goes = (cc)
-kept-on p kept n bytes kind.Profile then lines version goes =
-    record {
-      prelude = output.with_profile p;
-      version = version;
-      next = cc;
-      none = cc;
-      one = refl;
-      both = refl;
-    }
-kept-on p kept n bytes (kind.Init s lock) then lines version goes = (cc)
-kept-on p kept n bytes (OnLock l) then lines version goes = (cc)
-kept-on p kept n bytes (kind.Assert s l a) then lines version goes = (cc)
-kept-on p kept n bytes (kind.Warn s l f) then lines version goes = (cc)
-kept-on p kept n bytes (kind.Define s a b) then lines version goes = (cc)
-kept-on p kept n bytes (kind.Watch s w) then lines version goes = (cc)
+use Rattle.wit_model.proofs.Moved.KeptLines.{two, reached-one, reached-two, over-one, over-two}
+use Rattle.wit_model.proofs.Moved.KeptLines.{kept-on}
 
 record KeptAgrees (p : Prelude) (n : ℕ) (lines : List (List ℕ)) (tail : List ℕ)
     (kept written : List (List ℕ)) (story : Story) (count : ℕ) : Type 0 where

@@ -21,7 +21,8 @@ use Rattle.wit_model.proofs.Chains.Seats.{entry}
 use Rattle.wit_model.proofs.Histories.Accepted.{check_accepted}
 use Rattle.wit_model.proofs.Histories.AcceptedTurns.{define_accepted}
 use Rattle.wit_model.proofs.Orders.AllHeld.{distinct-on}
-use Rattle.wit_model.proofs.Orders.Sound.{learnt, taught-all, after-all}
+use Rattle.wit_model.proofs.Orders.Sound.{taught-all, after-all}
+use Rattle.wit_model.proofs.Orders.Learnt.{learnt}
 use Rattle.wit_model.proofs.Orders.Defined.{define_adopted}
 
 distinct_once : (a b : ℕ) (orders : List Adoption) → AreDistinct orders

@@ -22,7 +22,7 @@ use Rattle.wit_model.specs.Rules.Verdict.{verdict}
 use Rattle.wit_model.proofs.Histories.Accepted.{same_reply}
 use Rattle.wit_model.proofs.Orders.Ends.{found-last}
 use Rattle.wit_model.proofs.Orders.Ruled.{Says, Passed, Learnt, LearntAll, Doubled, Broken, ruled}
-use Rattle.wit_model.proofs.Orders.Sound.{type-held}
+use Rattle.wit_model.proofs.Orders.Learnt.{type-held}
 
 -- the pair of types that a reply tells of a violation
 abbrev pub pair_of : Known → Reply → Option (TypeNo × TypeNo)

@@ -21,7 +21,7 @@ use Rattle.wit_model.specs.Rules.State.{Start, state_of, types_of, typed_locks}
 use Rattle.wit_model.specs.Rules.Step.{answer_of, story_after, IsLegal}
 use Rattle.wit_model.proofs.Numbered.{with_number-or, with_number-stays}
 use Rattle.wit_model.proofs.Chains.Seats.{entry}
-use Rattle.wit_model.proofs.Histories.Accepted.{init_accepted}
+use Rattle.wit_model.proofs.Histories.AcceptedLocks.{init_accepted}
 
 -- a place that is found stays in a longer list
 pub place-append : {X : Type 0} (p : X → Bool) (xs ys : List X) → list_any p xs ≡ true

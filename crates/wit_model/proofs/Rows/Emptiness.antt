@@ -13,7 +13,7 @@ use Rattle.wit_model.specs.Rules.Groups.{flat, AreTidy}
 use Rattle.wit_model.specs.Rules.Chunks.{times, IsNew}
 use Rattle.wit_model.specs.Rules.Rows.{row, groups_at, shown_chunks, AreSettled}
 use Rattle.wit_model.proofs.Rows.Placing.{times-append}
-use Rattle.wit_model.proofs.Rows.Settled.{placed-shown}
+use Rattle.wit_model.proofs.Rows.Shown.{placed-shown}
 
 -- the numbers below one that is greater by one
 pub range-more : (n : ℕ) → range_with_len 0 (n + 1) ≡ range_with_len 0 n ++ n ∷ []

@@ -20,7 +20,7 @@ use Rattle.wit_model.proofs.Spelling.Codecs.{until_whole, after_some, print_fiel
 use Rattle.wit_model.proofs.Spelling.Codecs.{field_codec, optional_codec}
 use Rattle.wit_model.proofs.Spelling.Named.{version_word, class_word, mode_word, level_word}
 use Rattle.wit_model.proofs.Spelling.Words.{HaveNoTwin, AreLetters, number_word, flags_word}
-use Rattle.wit_model.proofs.Spelling.Words.{site_word}
+use Rattle.wit_model.proofs.Spelling.Sites.{site_word}
 
 -- ---- names
 

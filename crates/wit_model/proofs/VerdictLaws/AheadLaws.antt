@@ -43,7 +43,8 @@ use Rattle.wit_model.proofs.VerdictLaws.Classes.{type-kind}
 use Rattle.wit_model.proofs.VerdictLaws.Judged.{checked}
 use Rattle.wit_model.proofs.VerdictLaws.Quiet.{clean-parts, watch-clean}
 use Rattle.wit_model.proofs.VerdictLaws.Rises.{in_all}
-use Rattle.wit_model.proofs.VerdictLaws.Rising.{lock_leads, leads-stays, before-checked}
+use Rattle.wit_model.proofs.VerdictLaws.Rising.{before-checked}
+use Rattle.wit_model.proofs.VerdictLaws.Ahead.{lock_leads, leads-stays}
 
 -- ---- no sleep lock passes under a spin lock
 

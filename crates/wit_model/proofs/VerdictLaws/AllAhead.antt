@@ -41,13 +41,14 @@ use Rattle.wit_model.proofs.Orders.Paths.{direct-before, test_from_before}
 use Rattle.wit_model.proofs.Orders.Ruled.{Says, Passed, Learnt, LearntAll, Doubled, Broken}
 use Rattle.wit_model.proofs.Orders.Ruled.{Unwatched, Empty, Recursion, Known, KnownAll, Untaught}
 use Rattle.wit_model.proofs.Orders.Ruled.{UntaughtAll}
-use Rattle.wit_model.proofs.Orders.Sound.{type-held, chain-held}
+use Rattle.wit_model.proofs.Orders.Learnt.{type-held, chain-held}
 use Rattle.wit_model.proofs.Orders.TypedLocks.{known-made, made-known, lock_at-made}
 use Rattle.wit_model.proofs.VerdictLaws.Judged.{checked, chain-of_kind}
-use Rattle.wit_model.proofs.VerdictLaws.Passing.{learnt-unless, giant-lock}
+use Rattle.wit_model.proofs.VerdictLaws.Passing.{giant-lock}
+use Rattle.wit_model.proofs.VerdictLaws.Learning.{learnt-unless}
 use Rattle.wit_model.proofs.VerdictLaws.Quiet.{clean-parts, watch-clean, plain-parts, unheard}
 use Rattle.wit_model.proofs.VerdictLaws.Quiet.{found-clean}
-use Rattle.wit_model.proofs.VerdictLaws.Rising.{lock_leads, type-stays, given-from, made-all}
+use Rattle.wit_model.proofs.VerdictLaws.Ahead.{lock_leads, type-stays, given-from, made-all}
 
 -- what follows of each element from two facts of all
 both-all : {X : Type 0} (p r s : X → Bool) → ((x : X) → p x ≡ true → r x ≡ true → s x ≡ true)

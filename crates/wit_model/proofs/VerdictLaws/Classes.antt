@@ -27,7 +27,7 @@ use Rattle.wit_model.specs.Rules.Step.{answer_of, story_after, IsLegal}
 use Rattle.wit_model.proofs.Numbered.{with_number-or, with_number-stays}
 use Rattle.wit_model.proofs.Lists.{list_all-both}
 use Rattle.wit_model.proofs.Chains.Seats.{entry}
-use Rattle.wit_model.proofs.Histories.Accepted.{init_accepted}
+use Rattle.wit_model.proofs.Histories.AcceptedLocks.{init_accepted}
 use Rattle.wit_model.proofs.Orders.TypedLocks.{lock_at-made}
 use Rattle.wit_model.proofs.Orders.Types.{place-within, number-known, number-new, typed-same}
 use Rattle.wit_model.proofs.Orders.Types.{typed_made}

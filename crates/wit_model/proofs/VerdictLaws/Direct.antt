@@ -30,11 +30,12 @@ use Rattle.wit_model.specs.VerdictLaws.{last_of_kind}
 use Rattle.wit_model.proofs.Chains.Found.{if_some, found}
 use Rattle.wit_model.proofs.Histories.Legal.{one_chain, sane_legal}
 use Rattle.wit_model.proofs.Orders.Paths.{direct-before}
-use Rattle.wit_model.proofs.Orders.Sound.{type-held, sound_legal}
+use Rattle.wit_model.proofs.Orders.Sound.{sound_legal}
+use Rattle.wit_model.proofs.Orders.Learnt.{type-held}
 use Rattle.wit_model.proofs.Orders.Started.{sound_started}
 use Rattle.wit_model.proofs.Orders.TypedLocks.{known-made}
 use Rattle.wit_model.proofs.VerdictLaws.Classes.{type-kind}
-use Rattle.wit_model.proofs.VerdictLaws.Passing.{last-map}
+use Rattle.wit_model.proofs.VerdictLaws.Learning.{last-map}
 
 ruling-passes : (g : Basis) (w : Watch) (sleep spin : List Instance) (q : TypedRequest)
     (last : Instance) → (not (is_spin (class_of q.type_no.0 g.types))

@@ -16,12 +16,13 @@ use Rattle.wit_model.specs.Rules.State.{Start, State, known_of, state_of, seat_a
 use Rattle.wit_model.specs.Rules.Verdict.{basis_of, typed_request}
 use Rattle.wit_model.specs.Rules.Step.{held_by, is_exhausted, recorded_reply, step, answer_of}
 use Rattle.wit_model.specs.Rules.Step.{story_after, is_logged, IsLegal}
-use Rattle.wit_model.proofs.Histories.Accepted.{CheckAccepted, check_accepted, init_accepted}
+use Rattle.wit_model.proofs.Histories.Accepted.{CheckAccepted, check_accepted}
+use Rattle.wit_model.proofs.Histories.AcceptedLocks.{init_accepted}
 use Rattle.wit_model.proofs.Histories.Accepted.{note_accepted, try_accepted, give_up_accepted}
 use Rattle.wit_model.proofs.Histories.Accepted.{unlock_accepted}
 use Rattle.wit_model.proofs.Histories.AcceptedTurns.{is_plain_reply, plain_accepted}
 use Rattle.wit_model.proofs.Orders.Ruled.{Says, ruled}
-use Rattle.wit_model.proofs.Orders.Sound.{chain-judged}
+use Rattle.wit_model.proofs.Orders.Learnt.{chain-judged}
 use Rattle.wit_model.proofs.VerdictLaws.Classes.{type-kind}
 
 -- a check of a legal history was accepted

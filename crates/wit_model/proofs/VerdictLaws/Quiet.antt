@@ -39,7 +39,8 @@ use Rattle.wit_model.proofs.Numbered.{with_number-or}
 use Rattle.wit_model.proofs.Histories.Accepted.{same_reply}
 use Rattle.wit_model.proofs.Orders.Ruled.{Says, Passed, Learnt, LearntAll, Doubled, Broken}
 use Rattle.wit_model.proofs.VerdictLaws.Judged.{chain-of_kind, told-asked}
-use Rattle.wit_model.proofs.VerdictLaws.Passing.{not-all, type-of_last}
+use Rattle.wit_model.proofs.VerdictLaws.Passing.{type-of_last}
+use Rattle.wit_model.proofs.VerdictLaws.Learning.{not-all}
 
 module _ (profile : Profile) where
   -- ---- what an entry's cleanness says

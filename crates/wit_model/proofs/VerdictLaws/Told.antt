@@ -1,9 +1,8 @@
--- What a reversal and a duplicate tell, and that no pair of types is told of twice.
-use Rattle.std.proofs.Common.{◌≡◌, ℕ, Bool, true, false, not, ◌&&◌, ◌||◌, cond, List, [], ◌∷◌, ◌++◌}
-use Rattle.std.proofs.Common.{Option, None, Some, Result, Ok, is_some, unwrap_or, find, reverse}
-use Rattle.std.proofs.Common.{refl, ap, sym, ◌∙◌, subst, ⊎_elim}
-use Rattle.std.proofs.lemmas.Bool.{false≢true, true≢false, or_cases, or_left, or_right, eqb-true}
-use Rattle.std.proofs.lemmas.Bool.{false_from_ne_true}
+-- What a reversal and a duplicate tell.
+use Rattle.std.proofs.Common.{◌≡◌, ℕ, Bool, true, false, not, ◌&&◌, ◌||◌, cond, List, ◌∷◌, Option}
+use Rattle.std.proofs.Common.{None, Some, Result, Ok, is_some, unwrap_or, find, reverse, refl, ap}
+use Rattle.std.proofs.Common.{sym, ◌∙◌, subst}
+use Rattle.std.proofs.lemmas.Bool.{false≢true, eqb-true}
 use Rattle.wit_model.specs.declared.profiles.Profile.{Profile}
 use Rattle.wit_model.specs.declared.faults.Fault.{Fault}
 use Rattle.wit_model.specs.declared.locks.TypeNo.{TypeNo}
@@ -19,21 +18,19 @@ use Rattle.wit_model.specs.declared.calls.Call.TheVariants.{Check}
 use Rattle.wit_model.specs.declared.calls.Reply.{Reply}
 use Rattle.wit_model.specs.declared.calls.Reply.TheVariants.{Pass, Silent, Reversal, Duplicate}
 use Rattle.wit_model.specs.declared.calls.Entry.{Entry}
-use Rattle.wit_model.specs.Rules.Locks.{locks_of, lock_at, has_flag, is_spin_lock}
-use Rattle.wit_model.specs.Rules.Orders.{Before, is_before, is_pair_of, is_found, found_once}
+use Rattle.wit_model.specs.Rules.Locks.{locks_of, has_flag, is_spin_lock}
+use Rattle.wit_model.specs.Rules.Orders.{Before, is_before, is_found}
 use Rattle.wit_model.specs.Rules.History.{is_held, chain, watch_of}
-use Rattle.wit_model.specs.Rules.State.{Start, known_of, typed_locks, orders_of, found_after}
-use Rattle.wit_model.specs.Rules.State.{found_of}
+use Rattle.wit_model.specs.Rules.State.{Start, known_of, orders_of, found_of}
 use Rattle.wit_model.specs.Rules.Verdict.{Basis, type_held, has_type_of, is_sleepable, is_giant}
 use Rattle.wit_model.specs.Rules.Verdict.{place_of, place_asked, doubled, breach, violates}
 use Rattle.wit_model.specs.Rules.Verdict.{is_blessed, conflict, reported, basis_of, typed_request}
 use Rattle.wit_model.specs.Rules.Step.{IsLegal}
 use Rattle.wit_model.specs.Rules.Ahead.{type_of_lock}
-use Rattle.wit_model.specs.VerdictLaws.{reported_pair, reported_pairs, AreUnlike}
 use Rattle.wit_model.proofs.Histories.Accepted.{same_reply}
 use Rattle.wit_model.proofs.Orders.Paths.{before_from_test}
 use Rattle.wit_model.proofs.Orders.Ruled.{Says, Passed, Learnt, LearntAll, Doubled, Broken}
-use Rattle.wit_model.proofs.Orders.Sound.{type-held, chain-held}
+use Rattle.wit_model.proofs.Orders.Learnt.{type-held, chain-held}
 use Rattle.wit_model.proofs.Orders.Ends.{found-last, found-passes}
 use Rattle.wit_model.proofs.VerdictLaws.Judged.{chain-of_kind, told-asked}
 
@@ -249,7 +246,7 @@ module _ (start : Start) (files : List (List ℕ)) (e : Entry) (h : List Entry)
       (ap (λ (n : TypeNo). n.0) (sym (type-held (known_of start h) b.last)) ∙ eqb-true _ _ b.same)
 
   -- the pair that a report names wasn't found before
-  reversal-fresh : (x : Conflict) → e.reply ≡ Reversal x
+  pub reversal-fresh : (x : Conflict) → e.reply ≡ Reversal x
       → is_found (found_of start h) (type_of_lock start h x.held.lock.0)
       (type_of_lock start h x.asked.lock.0) ≡ false
   reversal-fresh x is =
@@ -260,7 +257,7 @@ module _ (start : Start) (files : List (List ℕ)) (e : Entry) (h : List Entry)
       (ap (λ (n : TypeNo). is_found (found_of start h) n.0 (type_of_lock start h a.0.lock.0))
       (sym (type-held (known_of start h) b.held)) ∙ b.fresh)
 
-  duplicate-fresh : (d : Doubling) → e.reply ≡ Duplicate d
+  pub duplicate-fresh : (d : Doubling) → e.reply ≡ Duplicate d
       → is_found (found_of start h) (type_of_lock start h d.asked.lock.0)
       (type_of_lock start h d.asked.lock.0) ≡ false
   duplicate-fresh d is =
@@ -270,100 +267,3 @@ module _ (start : Start) (files : List (List ℕ)) (e : Entry) (h : List Entry)
       (type_of_lock start h y.asked.lock.0) ≡ false) b.is b.fresh
 
 -- ---- the reported pairs were all found
-
-found-stays : (p q : TypeNo) (pairs : List (TypeNo × TypeNo)) (a b : ℕ) → is_found pairs a b ≡ true
-    → is_found (found_once p q pairs) a b ≡ true
-found-stays p q pairs a b is = go (is_found pairs p.0 q.0)
-  where
-    go : (f : Bool) → is_found (cond f pairs ((p, q) ∷ pairs)) a b ≡ true
-    go true = is
-    go false = or_right (is_pair_of a b (p, q)) (is_found pairs a b) is
-
-found-fresh : (p q : TypeNo) (pairs : List (TypeNo × TypeNo)) → is_found pairs p.0 q.0 ≡ false
-    → found_once p q pairs ≡ (p, q) ∷ pairs
-found-fresh p q pairs fresh = ap (λ f. cond f pairs ((p, q) ∷ pairs)) fresh
-
--- each reported pair was found
-AreFound : List (TypeNo × TypeNo) → List (TypeNo × TypeNo) → Type 0
-AreFound told found = (a b : ℕ) → is_found told a b ≡ true → is_found found a b ≡ true
-
-find-more : (p : TypeNo × TypeNo) (told found : List (TypeNo × TypeNo)) → AreFound told found
-    → AreFound (p ∷ told) (p ∷ found)
-unfolding AreFound
-find-more p told found all a b is =
-    ⊎_elim
-    (λ here. or_left (is_pair_of a b p) (is_found found a b) here)
-    (λ there. or_right (is_pair_of a b p) (is_found found a b) (all a b there))
-    (or_cases (is_pair_of a b p) (is_found told a b) is)
-
-find-same : (p : TypeNo × TypeNo) (told found : List (TypeNo × TypeNo)) → AreFound told found
-    → is_found found p.0.0 p.1.0 ≡ false → is_found told p.0.0 p.1.0 ≡ false
-unfolding AreFound
-find-same p told found all fresh =
-    false_from_ne_true (is_found told p.0.0 p.1.0)
-    (λ is. true≢false (sym (all p.0.0 p.1.0 is) ∙ fresh))
-
--- the pair that a report names wasn't found before
-IsFresh : Start → List Entry → Reply → Type 0
-IsFresh start h (Reversal x) =
-    is_found (found_of start h) (type_of_lock start h x.held.lock.0)
-    (type_of_lock start h x.asked.lock.0) ≡ false
-IsFresh start h (Duplicate d) =
-    (is_found (found_of start h) (type_of_lock start h d.asked.lock.0)
-    (type_of_lock start h d.asked.lock.0) ≡ false)
-    × (type_of_lock start h d.last.lock.0 ≡ type_of_lock start h d.asked.lock.0)
-IsFresh start h _ = Unit {0}
-
-fresh_by : (start : Start) (files : List (List ℕ)) (e : Entry) (h : List Entry)
-    → IsLegal start files (e ∷ h) → (r : Reply) → e.reply ≡ r → IsFresh start h r
-unfolding IsFresh
-fresh_by start files e h legal (Reversal x) is = reversal-fresh start files e h legal x is
-fresh_by start files e h legal (Duplicate d) is =
-    (duplicate-fresh start files e h legal d is, duplicate-one start files e h legal d is)
-fresh_by start files e h legal _ is = tt
-
-AreOnce : List (TypeNo × TypeNo) → List (TypeNo × TypeNo) → Type 0
-AreOnce told found = AreFound told found × AreUnlike told
-
-once_more : (p : TypeNo × TypeNo) (told found : List (TypeNo × TypeNo))
-    → is_found found p.0.0 p.1.0 ≡ false → AreOnce told found
-    → AreOnce (p ∷ told) (found_once p.0 p.1 found)
-unfolding AreOnce
-once_more p told found fresh all = (
-  subst (λ ps. AreFound (p ∷ told) ps) (sym (found-fresh p.0 p.1 found fresh))
-      (find-more p told found all.0),
-  (find-same p told found all.0 fresh, all.1),
-)
-
-once_by : (start : Start) (h : List Entry) (r : Reply) (told : List (TypeNo × TypeNo))
-    → IsFresh start h r → AreOnce told (found_of start h)
-    → AreOnce (reported_pair (typed_locks start h) r ++ told)
-    (found_after (typed_locks start h) r (found_of start h))
-unfolding IsFresh AreOnce AreFound
-once_by start h (Reversal x) told fresh all =
-    once_more (
-      (lock_at (typed_locks start h) x.held.lock.0).type_no,
-      (lock_at (typed_locks start h) x.asked.lock.0).type_no,
-    ) told (found_of start h) fresh all
-once_by start h (Duplicate d) told fresh all =
-    let asked : TypeNo = (lock_at (typed_locks start h) d.asked.lock.0).type_no in
-    subst (λ (n : TypeNo). AreOnce ((n, asked) ∷ told) (found_once asked asked (found_of start h)))
-    (ap (λ n. record { 0 = n }) (sym fresh.1))
-    (once_more (asked, asked) told (found_of start h) fresh.0 all)
-once_by start h (Silent a b) told fresh all =
-    (λ c d is. found-stays a b (found_of start h) c d (all.0 c d is), all.1)
-once_by start h _ told fresh all = all
-
-once_all : (start : Start) (files : List (List ℕ)) (h : List Entry) → IsLegal start files h
-    → AreOnce (reported_pairs start h) (found_of start h)
-unfolding AreOnce AreFound
-once_all start files [] legal = (λ a b is. is, tt)
-once_all start files (e ∷ h) legal =
-    once_by start h e.reply (reported_pairs start h) (fresh_by start files e h legal e.reply refl)
-    (once_all start files h legal.2)
-
--- no unordered pair of types is reported twice
-pub reported-once : (start : Start) (files : List (List ℕ)) (h : List Entry) → IsLegal start files h
-    → AreUnlike (reported_pairs start h)
-unfolding AreOnce
-reported-once start files h legal = (once_all start files h legal).1

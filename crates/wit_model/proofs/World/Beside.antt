@@ -27,11 +27,11 @@ use Rattle.wit_model.proofs.Chains.Sane.{IsSane}
 use Rattle.wit_model.proofs.Histories.Legal.{seat_accepted, sane_legal}
 use Rattle.wit_model.proofs.World.Backed.{IsBacked, IsApart, apart-nothing}
 use Rattle.wit_model.proofs.World.Calling.{call-answered, call-deed}
-use Rattle.wit_model.proofs.World.Covered.{legal_world}
+use Rattle.wit_model.proofs.World.Covering.{legal_world}
 use Rattle.wit_model.proofs.World.Exclusion.{these}
 use Rattle.wit_model.proofs.World.Own.{own-other}
 use Rattle.wit_model.proofs.World.Placed.{changed-here}
-use Rattle.wit_model.proofs.World.Shown.{state-shown}
+use Rattle.wit_model.proofs.World.ShownCalls.{state-shown}
 use Rattle.wit_model.proofs.World.Stepping.{accepts, step-deed, seat-shown}
 
 -- ---- between the lines of a log a thread has finished its sequence, or has just asked

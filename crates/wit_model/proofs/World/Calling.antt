@@ -22,7 +22,7 @@ use Rattle.wit_model.specs.World.Steps.{CanDo, IsWorld}
 use Rattle.wit_model.specs.World.Scenes.{Scene, names_live, may_call, answer_in, scene_after}
 use Rattle.wit_model.specs.World.Shown.{Shows, deed_called}
 use Rattle.wit_model.proofs.Histories.NamedFiles.{answer-named}
-use Rattle.wit_model.proofs.World.Shown.{state-shown, call-shows}
+use Rattle.wit_model.proofs.World.ShownCalls.{state-shown, call-shows}
 use Rattle.wit_model.proofs.World.Stepping.{gone-by, let-by, seat-shown, follow-shown}
 
 -- ---- the seat comes first, then the locks that are named

@@ -21,7 +21,8 @@ use Rattle.wit_model.specs.World.Shown.{Shows, deed_called}
 use Rattle.wit_model.specs.World.Stages.{Asked, stage, stage_logged, stage_passed}
 use Rattle.wit_model.proofs.Chains.Acts.{num-nil}
 use Rattle.wit_model.proofs.Histories.Accepted.{passed, passed_not, asked-lock, check_accepted}
-use Rattle.wit_model.proofs.Histories.Accepted.{init_accepted, watch_accepted, give_up_accepted}
+use Rattle.wit_model.proofs.Histories.Accepted.{give_up_accepted}
+use Rattle.wit_model.proofs.Histories.AcceptedLocks.{init_accepted, watch_accepted}
 use Rattle.wit_model.proofs.Histories.Legal.{pending-state}
 use Rattle.wit_model.proofs.World.Backed.{IsApart, apart-nothing, apart-norelease, apart-releaseok}
 use Rattle.wit_model.proofs.World.Backed.{call-apart}

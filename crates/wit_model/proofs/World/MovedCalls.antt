@@ -45,7 +45,7 @@ use Rattle.wit_model.proofs.World.Calling.{passed-ignored}
 use Rattle.wit_model.proofs.World.Exclusion.{has_seat, got-by}
 use Rattle.wit_model.proofs.World.Moves.{stepped-call, recorded-logged, only-try, try-turns}
 use Rattle.wit_model.proofs.World.Moves.{none-or_some, same-mode}
-use Rattle.wit_model.proofs.World.Shown.{both-shared}
+use Rattle.wit_model.proofs.World.Apart.{both-shared}
 
 -- a call that names one lock, where its seat asks for nothing
 pub naming : (s : State) (t l : ℕ) (rest : Result Reply Fault) (r : Reply)

@@ -1,6 +1,6 @@
 -- Releases and downgrades of a log, with the steps behind them.
-use Rattle.std.proofs.Common.{◌≡◌, ℕ, ◌-◌, ◌<◌, Bool, true, false, not, ◌||◌, eqb, nat_lt, List}
-use Rattle.std.proofs.Common.{◌∷◌, None, Ok, refl, ap, ap₂, sym, ◌∙◌, subst, inl, inr, arith}
+use Rattle.std.proofs.Common.{◌≡◌, ℕ, ◌-◌, ◌<◌, Bool, true, false, not, eqb, nat_lt, List, ◌∷◌}
+use Rattle.std.proofs.Common.{None, Ok, refl, ap, ap₂, sym, ◌∙◌, subst, inl, inr, arith}
 use Rattle.std.proofs.lemmas.Bool.{and_from, eq-eqb, cases_Bool, lt-ltb, ltb-false, false≢true}
 use Rattle.std.proofs.lemmas.Bool.{true≢false}
 use Rattle.wit_model.specs.declared.locks.LockNo.{LockNo}
@@ -43,18 +43,7 @@ use Rattle.wit_model.proofs.World.MovedCalls.{naming, entered-ignored, none-rele
 use Rattle.wit_model.proofs.World.MovedCalls.{unheld-log, held-log, ok-log, idle-now, over}
 use Rattle.wit_model.proofs.World.MovedCalls.{all-safe}
 use Rattle.wit_model.proofs.World.Own.{shares-own, num-own}
-
-either-false : (a b : Bool) → (not a || b) ≡ false → (a ≡ true) × (b ≡ false)
-either-false true b is = (refl, is)
-either-false false b is = absurd (true≢false is)
-
--- who has recorded more than none and keeps a lock has fewer shares
-keeps-fewer : (s n : ℕ) → 0 < n → (not (nat_lt 0 s) || nat_lt s n) ≡ true → nat_lt s n ≡ true
-keeps-fewer s n some is =
-    elim (cases_Bool (nat_lt 0 s)) [
-      | inl had ↦ ap (λ b. not b || nat_lt s n) (sym had) ∙ is
-      | inr none ↦ let few = ltb-false 0 s none in lt-ltb s n (omega (arith, few, some))
-    ]
+use Rattle.wit_model.proofs.World.Keeping.{either-false, keeps-fewer}
 
 module _ (x : Scene) (fits : Fits x) (t : ℕ) (l : LockNo) where
   abbrev w : List Deed

@@ -23,7 +23,8 @@ use Rattle.wit_model.proofs.Chains.HeldLocks.{num-of_free}
 use Rattle.wit_model.proofs.Histories.Legal.{sane_legal}
 use Rattle.wit_model.proofs.VerdictLaws.AheadLaws.{ahead-at_check, ahead-stays, ahead-trans}
 use Rattle.wit_model.proofs.VerdictLaws.AheadLaws.{ahead-sound}
-use Rattle.wit_model.proofs.World.Covered.{legal_world, clean-before, covered}
+use Rattle.wit_model.proofs.World.Covered.{covered}
+use Rattle.wit_model.proofs.World.Covering.{legal_world, clean-before}
 use Rattle.wit_model.proofs.World.Own.{own-mine, own-other, shares-own, shares-kept, num-own}
 use Rattle.wit_model.proofs.World.Own.{num-kept, act-mine, asked-deed, kept-check}
 use Rattle.wit_model.proofs.World.Rounds.{round}

@@ -28,7 +28,7 @@ use Rattle.wit_model.proofs.Histories.Legal.{pending-state, held_by-state, sane_
 use Rattle.wit_model.proofs.VerdictLaws.AheadLaws.{ahead-at_check, ahead-stays, ahead-trans}
 use Rattle.wit_model.proofs.VerdictLaws.AheadLaws.{ahead-sound}
 use Rattle.wit_model.proofs.VerdictLaws.Quiet.{clean-parts}
-use Rattle.wit_model.proofs.VerdictLaws.Rising.{asks-now}
+use Rattle.wit_model.proofs.VerdictLaws.Ahead.{asks-now}
 use Rattle.wit_model.proofs.World.Own.{act-mine, act-other}
 use Rattle.wit_model.proofs.World.Rounds.{round}
 

@@ -1,60 +1,27 @@
 -- A deed of a world, and what a scene shows then.
-use Rattle.std.proofs.Common.{◌≡◌, ℕ, ◌+◌, ◌-◌, ◌<◌, Bool, true, false, ◌&&◌, cond, eqb, nat_lt}
-use Rattle.std.proofs.Common.{List, ◌∷◌, length, refl, ap, ap₂, sym, ◌∙◌, subst, inl, inr, arith}
+use Rattle.std.proofs.Common.{◌≡◌, ℕ, ◌+◌, ◌-◌, ◌<◌, true, false, cond, eqb, List, ◌∷◌, length}
+use Rattle.std.proofs.Common.{refl, ap, sym, ◌∙◌, subst, inl, inr}
 use Rattle.std.proofs.lemmas.Bool.{eq-eqb, true≢false}
 use Rattle.std.proofs.lemmas.Bool.Decides.{eqb_tells}
 use Rattle.wit_model.specs.declared.locks.Mode.{Mode}
 use Rattle.wit_model.specs.declared.locks.Mode.TheVariants.{Shared, Exclusive}
-use Rattle.wit_model.specs.declared.calls.Call.{Call}
-use Rattle.wit_model.specs.declared.calls.Call.TheVariants.{Unlock}
-use Rattle.wit_model.specs.declared.calls.Reply.{Reply}
 use Rattle.wit_model.specs.Rules.Numbers.{is_given, is_number, with_changed}
-use Rattle.wit_model.specs.Rules.History.{num}
-use Rattle.wit_model.specs.Rules.State.{Start, typed_locks, state_of}
+use Rattle.wit_model.specs.Rules.State.{Start, typed_locks}
 use Rattle.wit_model.specs.Rules.Verdict.{is_exclusive}
-use Rattle.wit_model.specs.Rules.Step.{story_after, is_logged, logged}
-use Rattle.wit_model.specs.World.Deeds.{Deed, Logged, PassedOver, Take, TryTake, Free, RawUp}
-use Rattle.wit_model.specs.World.Deeds.{RawDown, thread_of, own, log_of, are_these, shares}
-use Rattle.wit_model.specs.World.Deeds.{raw_mode}
-use Rattle.wit_model.specs.World.Stages.{Stage, Over, Forgot, stage_passed, stage_called}
-use Rattle.wit_model.specs.World.Stages.{stage_logged, stage_after, stage}
+use Rattle.wit_model.specs.World.Deeds.{Deed, Take, TryTake, Free, RawUp, RawDown, thread_of, own}
+use Rattle.wit_model.specs.World.Deeds.{log_of, are_these, shares, raw_mode}
+use Rattle.wit_model.specs.World.Stages.{Stage, Over, stage_after, stage}
 use Rattle.wit_model.specs.World.Steps.{admits, is_alone, IsWorld}
 use Rattle.wit_model.specs.World.Scenes.{RawLock, Scene, nobodys, raw_of, shares_among, shares_of}
-use Rattle.wit_model.specs.World.Scenes.{stage_among, one_more, one_fewer, raw_called}
-use Rattle.wit_model.specs.World.Scenes.{stage_stepped, stepped, scene_after}
-use Rattle.wit_model.specs.World.Shown.{IsTidy, Shows, deed_called}
+use Rattle.wit_model.specs.World.Scenes.{stage_among, one_more, one_fewer, stage_stepped, stepped}
+use Rattle.wit_model.specs.World.Shown.{IsTidy, Shows}
 use Rattle.wit_model.proofs.World.Exclusion.{had-more, had-less, alone-is, has_seat, got-by}
 use Rattle.wit_model.proofs.World.Exclusion.{exclusive_alone}
 use Rattle.wit_model.proofs.World.Holders.{shares-one_more, shares-one_fewer, tidy-one_more}
 use Rattle.wit_model.proofs.World.Holders.{tidy-one_fewer}
 use Rattle.wit_model.proofs.World.Placed.{length-changed, changed-here, changed-elsewhere}
-use Rattle.wit_model.proofs.World.Placed.{raw-called, length-called}
-use Rattle.wit_model.proofs.World.Own.{own-mine, own-other, shares-own, num-own}
-
--- ---- the next scene shows the next world
-
-either_true : (a b : Bool) → b ≡ true → (a && b) ≡ a
-either_true true b is = is
-either_true false b is = refl
-
-either_false : (a b : Bool) → b ≡ false → (a && b) ≡ false
-either_false true b is = is
-either_false false b is = refl
-
--- of a thread that didn't do it, or a lock to which it wasn't done
-these-here : (t l u m : ℕ) → m ≡ l → are_these t l u m ≡ eqb u t
-these-here t l u m same = either_true (eqb u t) (eqb m l) (eq-eqb m l same)
-
-these-elsewhere : (t l u m : ℕ) → eqb m l ≡ false → are_these t l u m ≡ false
-these-elsewhere t l u m other = either_false (eqb u t) (eqb m l) other
-
-pub both-shared : (a b : Mode) → is_exclusive a ≡ false → is_exclusive b ≡ false → a ≡ b
-both-shared Exclusive b one two = absurd (true≢false one)
-both-shared Shared Exclusive one two = absurd (true≢false two)
-both-shared Shared Shared one two = refl
-
-not-zero : (n : ℕ) → n ≡ 1 → 0 < n
-not-zero n is = omega (arith, is)
+use Rattle.wit_model.proofs.World.Own.{own-mine, own-other}
+use Rattle.wit_model.proofs.World.Apart.{these-here, these-elsewhere, both-shared}
 
 module _ (start : Start) (files : List (List ℕ)) (w : List Deed) (s : Scene)
     (shown : Shows start files w s) where
@@ -267,68 +234,3 @@ module _ (start : Start) (files : List (List ℕ)) (w : List Deed) (s : Scene)
       stages = stages-after (RawDown t l) Over seat refl;
       seats = seats-after t Over;
     }
-
-  -- ---- each call
-
-  pub state-shown : state_of s.story ≡ state_of (story_after start files (log_of w))
-  state-shown =
-      ap (λ (x : Start). state_of (story_after x s.story.files s.story.history)) shown.begun
-      ∙ (ap (λ h. state_of (story_after start s.story.files h)) shown.logs
-      ∙ ap (λ names. state_of (story_after start names (log_of w))) shown.named)
-
-  stage-called : (t : ℕ) (call : Call)
-      → stage_called (λ l. nat_lt (shares_of s.raw t l) (num t l s.story.history)) call
-      ≡ stage_logged t call (own t w)
-  stage-called t (Unlock l mode) =
-      ap₂ (λ a b. Forgot l.0 (nat_lt a b)) (shown.had t l.0 ∙ sym (shares-own t l.0 w))
-      (ap (λ h. num t l.0 h) shown.logs ∙ sym (num-own t l.0 w))
-  stage-called t call = refl
-
-  pub call-shows : (t : ℕ) (call : Call) (r : Reply) → is_number start.sizes.seats t ≡ true
-      → Shows start files (deed_called t call r ∷ w) (scene_after s t call r)
-  call-shows t call r seat = go (is_logged r)
-    where
-      go : (b : Bool) → Shows start files
-          (cond b (Logged (record { seat = record { 0 = t }; call = call; reply = r }))
-          (PassedOver t call) ∷ w) (record {
-            story = cond b (logged s.story t call r) s.story;
-            raw = cond b (raw_called call s.raw) s.raw;
-            stages =
-                with_changed s.stages t (cond b
-                (stage_called (λ l. nat_lt (shares_of s.raw t l) (num t l s.story.history)) call)
-                (stage_passed call));
-          })
-      go true = record {
-        begun = shown.begun;
-        logs = ap (λ h. record { seat = record { 0 = t }; call = call; reply = r } ∷ h) shown.logs;
-        named = shown.named;
-        locks =
-            length-called start (record { seat = record { 0 = t }; call = call; reply = r })
-            (log_of w) s.raw shown.locks;
-        had =
-            λ u l. ap (λ (k : RawLock). shares_among u k.holders) (raw-called call s.raw l)
-            ∙ shown.had u l;
-        modes =
-            λ u l some. ap (λ (k : RawLock). k.mode) (raw-called call s.raw l)
-            ∙ shown.modes u l some;
-        tidy =
-            λ l. subst (λ (k : RawLock). IsTidy k.holders) (sym (raw-called call s.raw l))
-            (shown.tidy l);
-        stages = stages-after (Logged (record { seat = record { 0 = t }; call = call; reply = r }))
-            (stage_called (λ l. nat_lt (shares_of s.raw t l) (num t l s.story.history)) call) seat
-            (stage-called t call);
-        seats =
-            seats-after t (stage_called (λ l. nat_lt (shares_of s.raw t l)
-            (num t l s.story.history)) call);
-      }
-      go false = record {
-        begun = shown.begun;
-        logs = shown.logs;
-        named = shown.named;
-        locks = shown.locks;
-        had = shown.had;
-        modes = shown.modes;
-        tidy = shown.tidy;
-        stages = stages-after (PassedOver t call) (stage_passed call) seat refl;
-        seats = seats-after t (stage_passed call);
-      }

@@ -28,7 +28,8 @@ use Rattle.wit_model.specs.World.Shown.{Shows}
 use Rattle.wit_model.proofs.Histories.Accepted.{live-given}
 use Rattle.wit_model.proofs.World.Exclusion.{has_seat}
 use Rattle.wit_model.proofs.World.Holders.{holders_threads, admitted_exclusive, admitted_shared}
-use Rattle.wit_model.proofs.World.Shown.{state-shown, take-shows, try-shows, free-shows, up-shows}
+use Rattle.wit_model.proofs.World.Shown.{take-shows, try-shows, free-shows, up-shows}
+use Rattle.wit_model.proofs.World.ShownCalls.{state-shown}
 use Rattle.wit_model.proofs.World.Shown.{down-shows}
 
 -- ---- a step is accepted exactly where no fault stands

@@ -34,9 +34,8 @@ use Rattle.wit_model.specs.Rules.Orders.{is_direct, is_before, is_found}
 use Rattle.wit_model.specs.Rules.History.{is_on}
 use Rattle.wit_model.specs.Rules.State.{Known, Seat, chain_in}
 
--- what a verdict rests on: the types, the type of each lock by the lock's number, the adopted
--- orders, the pairs of types found in violation, and the pairs of type names that may be taken in
--- either order
+-- what a verdict rests on; of the pairs of types those found in violation, and of the pairs of type
+-- names those that may be taken in either order
 pub record Basis : Type 0 where
   pub types : List LockType
   pub lock_types : List TypeNo
@@ -48,13 +47,10 @@ abbrev pub is_exclusive : Mode → Bool
 is_exclusive Exclusive = true
 is_exclusive Shared = false
 
--- ---- held locks and types
-
 -- whether this is a held acquisition of the lock
 abbrev pub is_of : ℕ → Instance → Bool
 is_of l i = i.lock.0 == l
 
--- the type of a held lock
 abbrev pub type_held : Basis → Instance → TypeNo
 type_held g i = unwrap_or (with_number g.lock_types i.lock.0) (record { 0 = 0 })
 
@@ -120,8 +116,7 @@ again q i =
 abbrev pub holds_it : List Instance → TypedRequest → Rule
 holds_it chain q = option_map (again q) (find (is_of q.lock.0) chain)
 
--- two locks of one type: reported once for a type, and never where the lock, or the request, allows
--- it (0x02)
+-- two locks of one type: reported once a type, never where the lock or the request allows it (0x02)
 abbrev pub doubled : Basis → TypedRequest → Instance → Result Reply Fault
 doubled g q last =
     if has_flag q.flags.0 0x02 || has_flag q.ops.0 0x02 then Ok Pass
@@ -211,8 +206,7 @@ follows_all g chain q = when (list_all (is_direct_behind g q) chain) (Ok Pass)
 abbrev pub is_among : ℕ → List TypeNo → Bool
 is_among t types = list_any (λ (x : TypeNo). x.0 == t) types
 
--- whether the order behind a held lock may be learnt and is new, those behind locks of these types
--- being learnt before it
+-- whether the order behind a held lock may be learnt and is new once those behind these types are
 abbrev pub is_new : Basis → TypedRequest → List TypeNo → Instance → Bool
 is_new g q before i =
     is_learnt g q i && not (is_direct_behind g q i) && not (is_among (type_held g i).0 before)
@@ -224,7 +218,6 @@ new_parents g q before (i ∷ held) =
     if is_new g q before i then type_held g i ∷ new_parents g q (type_held g i ∷ before) held
     else new_parents g q before held
 
--- the orders behind these types
 abbrev pub orders_behind : TypedRequest → List TypeNo → List (TypeNo × TypeNo)
 orders_behind q parents = map (λ p. (p, q.type_no)) parents
 
@@ -253,7 +246,6 @@ teaches_in AllHeld g chain last q = teaches_all g chain q
 
 -- ---- the rules in their order, where these are the spin locks that the seat holds, its locks of
 -- the requested kind, oldest first, and the last of these
-
 abbrev pub rules : Profile → Basis → Watch → List Instance → List Instance → Option Instance
     → TypedRequest → List Rule
 rules profile g watch spin chain last q =
@@ -267,8 +259,7 @@ rules profile g watch spin chain last q =
     ∷ teaches_in profile g chain last q
     ∷ []
 
--- the one of a seat's two chains, of the sleep kind and of the spin kind, that a request is judged
--- by
+-- the one of a seat's two chains that a request is judged by
 abbrev pub chain_asked : Basis → List Instance → List Instance → TypedRequest → List Instance
 chain_asked g sleep spin q = if is_spin (class_of q.type_no.0 g.types) then spin else sleep
 

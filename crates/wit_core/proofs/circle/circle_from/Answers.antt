@@ -2,7 +2,8 @@ use Rattle.std.proofs.Common.{◌+◌, subst, ◌<◌, arith, refl, sym, length,
 use Rattle.std.specs.Global.{Vec}
 use Rattle.wit_model.specs.declared.locks.SeatNo.{SeatNo}
 use Rattle.wit_core.specs.Searching.{table_of, IsSearch, IsClosing, Reaches, AreClosed}
-use Rattle.wit_core.proofs.Reaching.{begins, reached-few, rows-many, marks-back}
+use Rattle.wit_core.proofs.Reaching.{begins, reached-few, marks-back}
+use Rattle.wit_core.proofs.WaitTables.{rows-many}
 use Rattle.wit_core.proofs.Ways.{closed_more, no_circle}
 use Rattle.wit_core.proofs.circle.circle_from.Goals as goal
 

@@ -1,6 +1,6 @@
 use Rattle.std.proofs.Common.{arith}
 use Rattle.wit_core.specs.Searching.{table_of}
-use Rattle.wit_core.proofs.Reaching.{rows-many}
+use Rattle.wit_core.proofs.WaitTables.{rows-many}
 use Rattle.wit_core.proofs.Waits.{tells_none}
 use Rattle.wit_core.proofs.circle.circle_in.Goals as goal
 

@@ -1,7 +1,7 @@
 use Rattle.std.proofs.Common.{◌≡◌, ◌∙◌, ◌+◌, ap, sym, arith, refl}
 use Rattle.wit_core.specs.Searching.{table_of, says, seat_reached}
 use Rattle.wit_core.proofs.Reaching.{reaches_more, reaches_same, marked-seen, not_said, seat-read}
-use Rattle.wit_core.proofs.Reaching.{rows-many}
+use Rattle.wit_core.proofs.WaitTables.{rows-many}
 use Rattle.wit_core.proofs.circle.reach.Goals as goal
 use Rattle.wit_core.proofs.circle.reach.Goals.{then-not-seen-index+then-says+in_ok-push}
 use Rattle.wit_core.proofs.circle.reach.Goals.{else-not-seen-index}

@@ -1,5 +1,5 @@
 use Rattle.std.proofs.Common.{◌-◌, arith}
-use Rattle.wit_core.proofs.Reaching.{row-length, said}
+use Rattle.wit_core.proofs.WaitTables.{row-length, said}
 use Rattle.wit_core.proofs.circle.says.Goals as goal
 
 pub index-requires : goal.index-requires

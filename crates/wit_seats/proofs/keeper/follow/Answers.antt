@@ -1,4 +1,4 @@
-use Rattle.wit_seats.proofs.Rules.{follows}
+use Rattle.wit_seats.proofs.Following.{follows}
 use Rattle.wit_seats.proofs.keeper.follow.Goals as goal
 
 pub load-requires : goal.load-requires

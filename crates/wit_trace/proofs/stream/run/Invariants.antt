@@ -1,6 +1,6 @@
 use Rattle.std.proofs.Common.{◌+◌, ◌^◌, ◌≡◌, ◌<◌, ◌≤◌, [], length}
 use Rattle.wit_trace.specs.Stream.{OutputFrom}
-use Rattle.wit_trace.proofs.StreamLemmas.{Going}
+use Rattle.wit_trace.proofs.StreamInputs.{Going}
 use Rattle.wit_trace.proofs.stream.run.Given as goal
 
 abbrev pub invariant-loop-left : goal.invariant-loop-left

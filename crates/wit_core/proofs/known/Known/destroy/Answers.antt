@@ -7,7 +7,8 @@ use Rattle.std.proofs.lemmas.List.{length-set}
 use Rattle.wit_table.specs.Known.{Names, live_of, with_live}
 use Rattle.wit_core.specs.Known.{Facts}
 use Rattle.wit_core.specs.Live.{is_flagged}
-use Rattle.wit_core.proofs.Living.{flag-within, given-count, counted-live, counted-destroyed}
+use Rattle.wit_core.proofs.Living.{given-count, counted-live, counted-destroyed}
+use Rattle.wit_core.proofs.LiveFlags.{flag-within}
 use Rattle.wit_core.proofs.known.Known.destroy.Goals as goal
 
 pub release-requires-clause-live : goal.release-requires-clause-live

@@ -3,7 +3,7 @@ use Rattle.wit_model.specs.declared.locks.Lock.{Lock}
 use Rattle.wit_table.specs.Known.{Names, live_of}
 use Rattle.wit_core.specs.Ordering.{Ordering}
 use Rattle.wit_core.specs.Live.{live_count}
-use Rattle.wit_core.proofs.Living.{none-counted}
+use Rattle.wit_core.proofs.LiveFlags.{none-counted}
 use Rattle.wit_core.proofs.known.Known.new.Goals as goal
 
 pub invariant_of-result : goal.invariant_of-result

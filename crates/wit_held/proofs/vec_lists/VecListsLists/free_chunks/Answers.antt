@@ -1,7 +1,7 @@
 use Rattle.std.proofs.Common.{subst}
 use Rattle.wit_model.specs.Rules.Chunks.{IsPlaced}
 use Rattle.wit_held.specs.Rows.{rows_of, places_of}
-use Rattle.wit_model.proofs.Rows.Settled.{placed-shown}
+use Rattle.wit_model.proofs.Rows.Shown.{placed-shown}
 use Rattle.wit_held.proofs.vec_lists.VecListsLists.free_chunks.Goals as goal
 
 pub returns-clause-placed : goal.returns-clause-placed

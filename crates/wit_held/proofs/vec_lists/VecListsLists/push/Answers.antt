@@ -4,10 +4,11 @@ use Rattle.std.proofs.lemmas.List.{append-nil}
 use Rattle.wit_model.specs.declared.locks.Instance.{Instance}
 use Rattle.wit_model.specs.Rules.Chunks.{IsPlaced}
 use Rattle.wit_model.specs.Rules.Rows.{row, groups_at, shown_chunks, AreSettled}
-use Rattle.wit_model.proofs.Rows.Settled.{placed-shown}
+use Rattle.wit_model.proofs.Rows.Shown.{placed-shown}
 use Rattle.wit_held.specs.Rows.{rows_of, places_of}
-use Rattle.wit_held.proofs.Kept.{the-places, read-chunks, push-leaves, push-room, open-within}
-use Rattle.wit_held.proofs.Kept.{open-short, open-space, open-leaves, refused, refused-groups}
+use Rattle.wit_held.proofs.Kept.{the-places}
+use Rattle.wit_held.proofs.Pushed.{read-chunks, push-leaves, push-room, open-within}
+use Rattle.wit_held.proofs.Pushed.{open-short, open-space, open-leaves, refused, refused-groups}
 use Rattle.wit_held.proofs.Kept.{others-stay, others-apart, kept-by}
 use Rattle.wit_held.proofs.vec_lists.VecListsLists.push.Given.{Over}
 use Rattle.wit_held.proofs.vec_lists.VecListsLists.push.Goals as goal

@@ -5,7 +5,7 @@ use Rattle.std.proofs.lemmas.Bool.{eqb-true, eqb-false}
 use Rattle.wit_model.specs.Rules.Groups.{removed_in}
 use Rattle.wit_model.specs.Rules.Chunks.{Chunks, IsPlaced, KeepOthers, groups_of, set_groups}
 use Rattle.wit_model.specs.Rules.Rows.{row, groups_at}
-use Rattle.wit_model.proofs.Rows.Settled.{Leaves, placed-shown}
+use Rattle.wit_model.proofs.Rows.Shown.{Leaves, placed-shown}
 use Rattle.wit_held.specs.Rows.{rows_of, places_of}
 use Rattle.wit_held.proofs.Kept.{chunk-within, in-chunk, count-is, keeps, frees, free-space}
 use Rattle.wit_held.proofs.Kept.{others-stay, others-apart, kept-by}

@@ -1,6 +1,6 @@
 use Rattle.std.proofs.Common.{set, refl, sym, subst, arith}
 use Rattle.wit_model.specs.Rules.Rows.{row}
-use Rattle.wit_model.proofs.Rows.Settled.{Leaves, placed-shown}
+use Rattle.wit_model.proofs.Rows.Shown.{Leaves, placed-shown}
 use Rattle.wit_model.specs.Rules.Chunks.{groups_of, set_groups}
 use Rattle.wit_model.specs.Rules.Groups.{replaced_in}
 use Rattle.wit_held.specs.Rows.{rows_of, places_of}

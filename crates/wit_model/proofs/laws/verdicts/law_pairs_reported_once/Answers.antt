@@ -1,4 +1,5 @@
-use Rattle.wit_model.proofs.VerdictLaws.Told.{reported-once, duplicate-one}
+use Rattle.wit_model.proofs.VerdictLaws.Told.{duplicate-one}
+use Rattle.wit_model.proofs.VerdictLaws.ToldOnce.{reported-once}
 use Rattle.wit_model.proofs.laws.verdicts.law_pairs_reported_once.Goals as goal
 
 pub returns-clause-once : goal.returns-clause-once

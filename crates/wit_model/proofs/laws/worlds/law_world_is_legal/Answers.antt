@@ -1,4 +1,4 @@
-use Rattle.wit_model.proofs.World.Covered.{legal_world}
+use Rattle.wit_model.proofs.World.Covering.{legal_world}
 use Rattle.wit_model.proofs.World.Moments.{own-logged}
 use Rattle.wit_model.proofs.laws.worlds.law_world_is_legal.Goals as goal
 

@@ -4,7 +4,7 @@ use Rattle.wit_model.specs.declared.locks.Instance.{Instance}
 use Rattle.wit_model.proofs.Rows.Emptiness.{fresh-shown}
 use Rattle.wit_pool.specs.Chunks.{content, rows_in}
 use Rattle.wit_pool.specs.Chains.{chain_chunks}
-use Rattle.wit_pool.proofs.Keeping.{no-chunks, all-none}
+use Rattle.wit_pool.proofs.Leaving.{no-chunks, all-none}
 use Rattle.wit_pool.proofs.pool.Pool.make.Goals as goal
 
 pub invariant_of-result : goal.invariant_of-result

@@ -1,6 +1,7 @@
 use Rattle.std.proofs.Common.{length, ap, sym, ◌∙◌}
 use Rattle.wit_model.specs.Rules.Chunks.{Chunks}
-use Rattle.wit_pool.proofs.Keeping.{placed, count-free}
+use Rattle.wit_pool.proofs.Keeping.{count-free}
+use Rattle.wit_pool.proofs.Keeping.{placed}
 use Rattle.wit_pool.proofs.pool.PoolLists.free_chunks.Goals as goal
 
 pub returns-clause-free : goal.returns-clause-free

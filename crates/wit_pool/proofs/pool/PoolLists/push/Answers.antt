@@ -5,7 +5,9 @@ use Rattle.wit_model.specs.Rules.Chunks.{pushed}
 use Rattle.wit_model.proofs.Rows.Settled.{others-kept}
 use Rattle.wit_pool.specs.declared.chain.Chain.{Chain}
 use Rattle.wit_pool.specs.Chunks.{IsAt}
-use Rattle.wit_pool.proofs.Keeping.{IsLeft, placed, in-chains, few}
+use Rattle.wit_pool.proofs.Keeping.{in-chains, few}
+use Rattle.wit_pool.proofs.Keeping.{placed}
+use Rattle.wit_pool.proofs.Leaving.{IsLeft}
 use Rattle.wit_pool.proofs.Pushing.{linked-here, newest-there, room, joins, some-free, free-there}
 use Rattle.wit_pool.proofs.Pushing.{not-refused, led-at, led-short, opened, refused, refused-groups}
 use Rattle.wit_pool.proofs.pool.PoolLists.push.Given.{Over}

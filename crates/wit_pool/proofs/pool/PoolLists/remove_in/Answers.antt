@@ -5,7 +5,8 @@ use Rattle.std_alloc.specs.Vec.{with_item}
 use Rattle.wit_model.specs.Rules.Groups.{removed_in}
 use Rattle.wit_model.specs.Rules.Chunks.{Chunks, IsPlaced, KeepOthers, groups_of, set_groups}
 use Rattle.wit_pool.specs.Chunks.{chunk_at, content, Leads, IsAt}
-use Rattle.wit_pool.proofs.Keeping.{IsLeft, in-chains, chunk-within, is-at, in-content, few-free}
+use Rattle.wit_pool.proofs.Keeping.{in-chains, chunk-within, is-at, in-content, few-free}
+use Rattle.wit_pool.proofs.Leaving.{IsLeft}
 use Rattle.wit_pool.proofs.Removing.{stays, newer-within, chunk-there, newer-there, freed}
 use Rattle.wit_pool.proofs.pool.PoolLists.remove_in.Given.{Over}
 use Rattle.wit_pool.proofs.pool.PoolLists.remove_in.Goals as goal

@@ -5,8 +5,9 @@ use Rattle.wit_model.specs.Rules.Chunks.{groups_of, set_groups}
 use Rattle.wit_pool.specs.Chunks.{chunk_at, content, IsRegrouped}
 use Rattle.wit_pool.specs.Kept.{rows_of, lists_of, free_of}
 use Rattle.wit_pool.proofs.Standing.{regrouped}
-use Rattle.wit_pool.proofs.Keeping.{IsLeft, stands, chunk-within, is-at, in-content, replaces}
-use Rattle.wit_pool.proofs.Keeping.{left-now}
+use Rattle.wit_pool.proofs.Keeping.{stands, chunk-within, is-at, in-content, replaces}
+use Rattle.wit_pool.proofs.Leaving.{IsLeft}
+use Rattle.wit_pool.proofs.Leaving.{left-now}
 use Rattle.wit_pool.proofs.pool.PoolLists.replace_in.Given.{Over}
 use Rattle.wit_pool.proofs.pool.PoolLists.replace_in.Goals as goal
 

@@ -7,7 +7,7 @@ use Rattle.wit_trace.specs.declared.summary.Summary.{Summary}
 use Rattle.wit_trace.proofs.MigrateLemmas.{line-goes, line-bad, ends-follow}
 use Rattle.wit_trace.proofs.MigrateReports.{written_one}
 use Rattle.wit_trace.proofs.Weights.{written_weighs}
-use Rattle.wit_trace.proofs.ReplayLemmas.{if_ok}
+use Rattle.wit_trace.proofs.WrittenLemmas.{if_ok}
 use Rattle.wit_trace.proofs.migrating.Migrating.any_line.Goals as goal
 
 pub returns-in_ok-join-in-Ok-clause-step : goal.returns-in_ok-join-in-Ok-clause-step

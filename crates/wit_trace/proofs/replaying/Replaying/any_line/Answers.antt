@@ -4,7 +4,7 @@ use Rattle.wit_trace.specs.Machine.{Follows}
 use Rattle.wit_trace.specs.Replays.{allowed_at, progress_of, reports_told, EndsFor, StandsAsDue}
 use Rattle.wit_grammar.specs.declared.errors.LineError.TheVariants.{Bad}
 use Rattle.wit_trace.proofs.ReportLemmas.{bad_one, ended_one, told_one}
-use Rattle.wit_trace.proofs.ReplayLemmas.{if_ok, line_told, line_ends, refused_step}
+use Rattle.wit_trace.proofs.WrittenLemmas.{if_ok, line_told, line_ends, refused_step}
 use Rattle.wit_trace.proofs.replaying.Replaying.any_line.Goals as goal
 
 pub returns-in-Ok-clause-step : goal.returns-in-Ok-clause-step

@@ -5,7 +5,7 @@ use Rattle.wit_trace.specs.Machine.{Follows}
 use Rattle.wit_trace.specs.Replays.{allowed, allowed_at, progress_of, reports_told, EndsFor}
 use Rattle.wit_trace.specs.declared.replaying.Progress.TheVariants.{Stepping}
 use Rattle.wit_trace.proofs.ReportLemmas.{bad_one, ended_one, told_one}
-use Rattle.wit_trace.proofs.ReplayLemmas.{if_ok, line_told, line_ends}
+use Rattle.wit_trace.proofs.WrittenLemmas.{if_ok, line_told, line_ends}
 use Rattle.wit_trace.proofs.WorldLemmas.{world_line}
 use Rattle.wit_trace.specs.declared.replaying.Replaying.{Replaying}
 use Rattle.wit_trace.proofs.replaying.Replaying.world_line.Goals.{in-Stepping+in_default-parse_lock_line}

@@ -1,7 +1,7 @@
 use Rattle.std.proofs.Common.{[], subst}
 use Rattle.wit_model.specs.Trace.Output.{reached, BadLine}
 use Rattle.wit_trace.specs.Replays.{progress_of, StandsAsDue}
-use Rattle.wit_trace.proofs.ReplayLemmas.{refused_end}
+use Rattle.wit_trace.proofs.WrittenLemmas.{refused_end}
 use Rattle.wit_trace.proofs.replaying.ReplayingMachine.end.Goals as goal
 
 pub returns-in-Some : goal.returns-in-Some

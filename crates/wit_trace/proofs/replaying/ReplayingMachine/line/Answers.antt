@@ -7,7 +7,7 @@ use Rattle.wit_trace.specs.Replays.{GoesWith}
 use Rattle.wit_trace.proofs.ReportLemmas.{call_ended_one, made_one, refused_one}
 use Rattle.wit_trace.specs.declared.replaying.Progress.TheVariants.{Reading}
 use Rattle.wit_grammar.specs.Lines.{as_line}
-use Rattle.wit_trace.proofs.ReplayLemmas.{at_ok, if_ok, call_ends, call_goes_on}
+use Rattle.wit_trace.proofs.WrittenLemmas.{at_ok, if_ok, call_ends, call_goes_on}
 use Rattle.wit_trace.specs.declared.replaying.Replaying.{Replaying}
 use Rattle.wit_trace.proofs.replaying.ReplayingMachine.line.Goals.{in-Reading+in_default-parse_lock_line}
 use Rattle.wit_trace.proofs.replaying.ReplayingMachine.line.Goals.{in_default}

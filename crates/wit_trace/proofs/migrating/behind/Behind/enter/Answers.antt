@@ -1,4 +1,3 @@
-use Rattle.wit_model.specs.Trace.Moving.{Moved}
 use Rattle.wit_model.specs.Trace.Output.{call_of}
 use Rattle.wit_trace.specs.LineCalls.{as_call}
 use Rattle.wit_trace.specs.Migrates.{standing}

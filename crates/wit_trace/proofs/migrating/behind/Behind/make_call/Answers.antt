@@ -1,4 +1,3 @@
-use Rattle.std.proofs.Common.{refl}
 use Rattle.wit_model.specs.Trace.Output.{Asserts, Warns, calls}
 use Rattle.wit_trace.proofs.AloneLemmas.{remark-goes, remark-fails}
 use Rattle.wit_trace.proofs.migrating.behind.Behind.make_call.Goals as goal
