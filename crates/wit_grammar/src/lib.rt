@@ -1,6 +1,7 @@
 //! The grammar of a trace: a line read from its bytes, and printed as them.
 #![tactic(auto)]
 
+mod beginnings;
 mod errors;
 mod keywords;
 mod letters;
@@ -15,8 +16,9 @@ mod put;
 mod spellable;
 mod words;
 
+pub use beginnings::{Begun, begin_line, finish_line};
 pub use errors::LineError;
-pub use lock_lines::{borrowed, parse_lock_line};
+pub use lock_lines::borrowed;
 pub use parse::{LONGEST, parse_line};
 pub use print::print_line;
 pub use print_lock_lines::put_step;

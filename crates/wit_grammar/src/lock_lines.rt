@@ -2,36 +2,14 @@
 
 ghost use Rattle.std.specs.Prelude.{◌≡◌, IfOk};
 ghost use Rattle.wit_model.specs.Trace.Reading.{check_of, try_of, unlock_of, plain_of, step_of};
-ghost use Rattle.wit_model.specs.Trace.Reading.{try_take_of, line_of};
+ghost use Rattle.wit_model.specs.Trace.Reading.{try_take_of};
 ghost use Rattle.wit_model.specs.declared.lines.Line.TheVariants.{OnLock};
-ghost use Rattle.wit_grammar.specs.Lines.{GivesIfFound, Gives, as_line};
+ghost use Rattle.wit_grammar.specs.Lines.{Gives, as_line};
 
 use crate::errors::LineError;
-use crate::keywords::keyword_of;
 use crate::{letters, names, numbers, words};
 use std::alloc::{AllocError, Global};
-use wit_model::{FileName, Keyword, Line, LockLine, OpFlags, RawStep, Verb};
-
-/// The line that the bytes spell, where it is one on a lock, without a copy. `None` says nothing.
-#[tactic(auto, unfolding(wit_model::specs::Trace::Reading::line_of))]
-#[inline(always)]
-pub fn parse_lock_line(bytes: &[u8]) -> Option<LockLine<&str>>
-    ensures { GivesIfFound as_line result (line_of bytes.now) }
-{
-    let (word, rest) = words::split_before(b' ', bytes);
-    match keyword_of(word)? {
-        Keyword::Check => check(rest).ok(),
-        Keyword::Unlock => unlock(rest).ok(),
-        Keyword::Try => try_lock(rest).ok(),
-        Keyword::Plain(verb) => plain(verb, rest).ok(),
-        Keyword::Take => step(RawStep::Take, rest).ok(),
-        Keyword::Free => step(RawStep::Free, rest).ok(),
-        Keyword::TryTake => try_take(rest).ok(),
-        Keyword::RawUp => step(RawStep::Up, rest).ok(),
-        Keyword::RawDown => step(RawStep::Down, rest).ok(),
-        _ => None,
-    }
-}
+use wit_model::{FileName, Line, LockLine, OpFlags, RawStep, Verb};
 
 /// The line by itself.
 ///

@@ -9,8 +9,8 @@ ghost use Rattle.wit_model.specs.Trace.Reading.{fields_of, line_of};
 ghost use Rattle.wit_grammar.specs.declared.errors.LineError.TheVariants.{Bad};
 ghost use Rattle.wit_grammar.specs.Lines.{Gives, IsWhy};
 
+use crate::beginnings::{begin_line, finish_line};
 use crate::errors::LineError;
-use crate::keywords::keyword_of;
 use crate::lock_lines::{check, owned, plain, step, try_lock, try_take, unlock};
 use crate::plain_lines::{assert_lock, define, warn, watch};
 use crate::{letters, names, numbers, words};
@@ -37,22 +37,14 @@ pub fn parse_line(alloc: Global, bytes: &[u8]) -> Result<Line, LineError>
     if bytes.len() > LONGEST {
         return Err(LineError::Bad(Cause::Long));
     }
-    line(alloc, bytes)
-}
-
-#[tactic(auto, unfolding(wit_model::specs::Trace::Reading::line_of))]
-fn line(alloc: Global, bytes: &[u8]) -> Result<Line, LineError>
-    ensures { Gives (λ l. l) result (line_of bytes.now) }
-{
-    let (word, rest) = words::split_before(b' ', bytes);
-    match keyword_of(word) {
-        Some(keyword) => fields(alloc, keyword, rest),
-        None => Err(LineError::SYNTAX),
-    }
+    finish_line(alloc, begin_line(bytes))
 }
 
 /// The line with this keyword, and what stands behind it.
-fn fields(alloc: Global, keyword: Keyword, bytes: &[u8]) -> Result<Line, LineError>
+///
+/// # Errors
+/// `Bad(Cause::Syntax)` where there is none; `Memory`.
+pub fn fields(alloc: Global, keyword: Keyword, bytes: &[u8]) -> Result<Line, LineError>
     ensures { Gives (λ l. l) result (fields_of keyword bytes.now) }
 {
     match keyword {

@@ -26,7 +26,6 @@ use Rattle.wit_model.specs.World.Scenes.{stage_at, step_raw, stepped}
 use Rattle.wit_model.specs.declared.lines.Version.{Version}
 use Rattle.wit_model.specs.declared.lines.Version.TheVariants.{One, Two}
 use Rattle.wit_model.specs.declared.raw_steps.RawStep.{RawStep}
-use Rattle.wit_grammar.specs.declared.errors.LineError.TheVariants.{Bad}
 use Rattle.wit_trace.specs.Replays.{KeepsTotal, StandsAsDue, reports_told}
 
 ok_is : (p q : output.Progress) → ◌≡◌ {A = Result output.Progress output.BadLine} (Ok p) (Ok q)

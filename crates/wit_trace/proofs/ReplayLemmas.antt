@@ -20,7 +20,7 @@ use Rattle.wit_trace.specs.Stream.{ReadingGoesOn, OutputFrom, ReadsToEnd, Writes
 use Rattle.wit_model.specs.declared.lines.View.{View}
 use Rattle.wit_trace.specs.declared.replaying.Replaying.{Replaying}
 use Rattle.wit_trace.specs.declared.replaying.Progress.{Progress}
-use Rattle.wit_trace.specs.declared.replaying.Progress.TheVariants.{Unstarted, Reading}
+use Rattle.wit_trace.specs.declared.replaying.Progress.TheVariants.{Unstarted}
 use Rattle.wit_trace.specs.declared.summary.Summary.{Summary}
 use Rattle.wit_trace.proofs.WrittenLemmas.{bad_written, refused, refused_at_end}
 

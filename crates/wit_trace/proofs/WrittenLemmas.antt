@@ -34,6 +34,12 @@ pub if_ok : {T E : Type 0} (P Q : T → Type 0) (r : Result T E) → ((x : T) �
 if_ok P Q (Err e) each h = tt
 if_ok P Q (Ok x) each h = each x h
 
+-- a line that isn't too long becomes what is read of it
+pub short_line : (p q : output.Progress) (n : ℕ) (bytes : List ℕ) (r : Result (Vec ℕ) LineError)
+    → length bytes ≤ 4096 → GoesAsDue (output.read_as p n (line_of bytes)) p q r
+    → GoesAsDue (output.outcome p n bytes) p q r
+short_line p q n bytes r short passes = rw (le-ltb 4096 (length bytes) short) passes
+
 -- ---- what is shown
 
 pub shown_none : (view : View) → output.shown_by view [] ≡ []

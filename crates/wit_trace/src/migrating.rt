@@ -2,7 +2,9 @@
 
 ghost use Rattle.std.specs.Prelude.{◌≡◌, ◌+◌, ◌-◌, ◌<◌, ◌≤◌, ◌^◌, ℕ, List, length, max};
 ghost use Rattle.std.specs.Prelude.{Err, IfOk, OnErr};
+ghost use Rattle.wit_grammar.specs.Lines.{IsBegun};
 ghost use Rattle.wit_grammar.specs.declared.parse.TheConstants.{LONGEST};
+ghost use Rattle.wit_model.specs.Trace.Reading.{line_of};
 ghost use Rattle.wit_model.specs.Trace.Moving.{moving_from, moving_outcome, moving_entered};
 ghost use Rattle.wit_model.specs.Trace.Moving as moving;
 ghost use Rattle.wit_trace.specs.Machine.{Follows};
@@ -29,7 +31,7 @@ use preludes::Reached;
 use std::alloc::{AllocError, Global};
 use std::io::{BufRead, Write};
 use texts::join;
-use wit_grammar::{LineError, parse_line, parse_lock_line};
+use wit_grammar::{Begun, LineError, begin_line, finish_line};
 use wit_model::{Cause, Line};
 
 /// Reads a trace of the first version, and writes it as one of the second: its own lines, and
@@ -106,14 +108,21 @@ impl Migrating {
     }
 
     // A line in its place.
-    fn read(&mut self, alloc: Global, number: u64, bytes: &[u8]) -> Result<Vec<u8>, LineError>
+    fn read(
+        &mut self,
+        alloc: Global,
+        number: u64,
+        bytes: &[u8],
+        begun: Begun,
+    ) -> Result<Vec<u8>, LineError>
         requires room { moving_reports (moved_to self.old) < 2 ^ 64 - 1 }
         requires few { weighed (moved_to self.old) < 2 ^ 64 - 1 }
         requires short { length bytes.now ≤ LONGEST }
+        requires begun { IsBegun begun (line_of bytes.now) }
         ensures { MovesAsDue (moving_outcome (moved_to self.old) number bytes.now)
             (moved_to self.old) (moved_to self.new) result }
     {
-        let line = parse_line(alloc, bytes)?;
+        let line = finish_line(alloc, begun)?;
         self.enter(alloc, number, line, bytes)
     }
 
@@ -140,10 +149,17 @@ impl Migrating {
 
     // A line of any kind.
     #[inline(never)]
-    fn any_line(&mut self, alloc: Global, number: u64, bytes: &[u8]) -> Result<Step, AllocError>
+    fn any_line(
+        &mut self,
+        alloc: Global,
+        number: u64,
+        bytes: &[u8],
+        begun: Begun,
+    ) -> Result<Step, AllocError>
         requires room { moving_reports (moved_to self.old) < number }
         requires few { weighed (moved_to self.old) < number }
         requires short { length bytes.now ≤ LONGEST }
+        requires begun { IsBegun begun (line_of bytes.now) }
         ensures step { IfOk result (Follows migrated self.old self.new number bytes.now) }
         ensures counted { IfOk result (λ s.
             moving_reports (moved_to self.new) ≤ moving_reports (moved_to self.old) + 1) }
@@ -155,7 +171,7 @@ impl Migrating {
         if let Some((number, cause)) = reached.refused {
             return self.ended_step(alloc, reached.text, found, number, cause);
         }
-        match self.read(alloc, number, bytes) {
+        match self.read(alloc, number, bytes, begun) {
             Ok(text) => Ok(Step::Goes(join(reached.text, &text)?)),
             Err(LineError::Bad(cause)) => self.ended_step(
                 alloc,
@@ -186,23 +202,26 @@ impl Machine for Migrating {
         bytes: &[u8],
         room: Vec<u8>,
     ) -> Result<Step, AllocError> {
-        if let Migrating::Moved(behind) = self {
-            if let Some(line) = parse_lock_line(bytes) {
-                let found = behind.summary();
-                return match behind.enter_on_lock(alloc, room, line, bytes) {
-                    Ok(text) => Ok(Step::Goes(text)),
-                    Err(LineError::Bad(cause)) => self.ended_step(
-                        alloc,
-                        Vec::new(alloc),
-                        found,
-                        number,
-                        cause,
-                    ),
-                    Err(LineError::Memory) => Err(AllocError),
-                };
+        match begin_line(bytes) {
+            Begun::OnLock(line) => {
+                if let Migrating::Moved(behind) = self {
+                    let found = behind.summary();
+                    return match behind.enter_on_lock(alloc, room, line, bytes) {
+                        Ok(text) => Ok(Step::Goes(text)),
+                        Err(LineError::Bad(cause)) => self.ended_step(
+                            alloc,
+                            Vec::new(alloc),
+                            found,
+                            number,
+                            cause,
+                        ),
+                        Err(LineError::Memory) => Err(AllocError),
+                    };
+                }
+                self.any_line(alloc, number, bytes, Begun::OnLock(line))
             }
+            begun => self.any_line(alloc, number, bytes, begun),
         }
-        self.any_line(alloc, number, bytes)
     }
 
     fn broken(

@@ -1,10 +1,13 @@
 //! The replay of a trace by the verifier.
 
 ghost use Rattle.std.specs.Prelude.{◌≡◌, ◌⊎◌, ◌+◌, ◌<◌, ◌≤◌, ℕ, length, IsTrue, IfOk, OnErr};
-ghost use Rattle.wit_model.specs.Trace.Output.{Unstarted, entered, outcome};
+ghost use Rattle.std.specs.Prelude.{Some};
+ghost use Rattle.wit_model.specs.Trace.Reading.{line_of};
+ghost use Rattle.wit_model.specs.Trace.Output.{Unstarted};
+ghost use Rattle.wit_grammar.specs.Lines.{IsBegun, as_line};
 ghost use Rattle.wit_trace.specs.Machine.{Follows};
 ghost use Rattle.wit_trace.specs.Outputs.{some_output};
-ghost use Rattle.wit_trace.specs.Replays.{allowed, progress, progress_of, reports_told, GoesAsDue};
+ghost use Rattle.wit_trace.specs.Replays.{allowed, progress, reports_told};
 ghost use Rattle.wit_trace.specs.Replays.{ShowsTrace, ShowsFrom};
 ghost use Rattle.wit_trace.specs.Stream.{IsSpent, ReadsToEnd, WritesFront, WritesLines};
 ghost use Rattle.wit_trace.specs.Stream.{WritesOutput};
@@ -13,6 +16,7 @@ ghost use Rattle.wit_grammar.specs.declared.parse.TheConstants.{LONGEST};
 mod bad_lines;
 pub mod calls;
 mod endings;
+mod entering;
 pub mod line_calls;
 pub mod prelude;
 mod reaching;
@@ -24,16 +28,16 @@ use crate::stream::ports::{Failures, Ports};
 use crate::stream::{Pace, run};
 use crate::summary::{ReplayError, Summary};
 pub use bad_lines::bad_text;
-use calls::{call_on_lock, enter_line, reply_step};
-use prelude::{Prelude, add_line, new_prelude};
+use calls::{call_on_lock, reply_step};
+use prelude::Prelude;
 use std::alloc::{AllocError, Global};
 use std::io::{BufRead, Write};
 use views::{last_text, last_world_text, shown};
 use wit_core::Verifier;
-use wit_grammar::{LineError, parse_line, parse_lock_line};
-use wit_model::{Cause, Limits, Line, View};
+use wit_grammar::{Begun, LineError, begin_line};
+use wit_model::{Cause, LockLine, View};
 use wit_world::World;
-use world_lines::{enter_world_line, step_on_lock};
+use world_lines::step_on_lock;
 
 /// Reads a trace, and writes what the view shows of it: for `Reports` the texts of the reports,
 /// failed assertions and warnings as they come; for each other view its text after the whole trace.
@@ -134,11 +138,19 @@ pub(crate) enum Progress {
 }
 
 impl Replaying {
-    // A line that may be one on a lock in a world. By itself, so that no other pays for its locals.
+    // A line on a lock, in a world or where none may stand. By itself, so that others don't pay for
+    // its locals.
     #[inline(never)]
-    fn world_line(&mut self, alloc: Global, number: u64, bytes: &[u8]) -> Result<Step, AllocError>
+    fn world_line(
+        &mut self,
+        alloc: Global,
+        number: u64,
+        bytes: &[u8],
+        line: LockLine<&str>,
+    ) -> Result<Step, AllocError>
         requires room { reports_told (progress self.old) < number }
         requires short { length bytes.now ≤ LONGEST }
+        requires line { line_of bytes.now ≡ Some (as_line line) }
         ensures step { IfOk result (Follows (allowed self.old.view) self.old self.new
             number bytes.now) }
         ensures kept { self.new.view ≡ self.old.view }
@@ -147,21 +159,26 @@ impl Replaying {
     {
         let view = self.view;
         if let Progress::Stepping { world, remarks } = &mut self.progress {
-            if let Some(line) = parse_lock_line(bytes) {
-                return match step_on_lock(alloc, world, remarks, line) {
-                    Ok(text) => Ok(Step::Goes(shown(alloc, view, text))),
-                    Err(error) => self.progress.ended_step(alloc, number, error),
-                };
-            }
+            return match step_on_lock(alloc, world, remarks, line) {
+                Ok(text) => Ok(Step::Goes(shown(alloc, view, text))),
+                Err(error) => self.progress.ended_step(alloc, number, error),
+            };
         }
-        self.any_line(alloc, number, bytes)
+        self.any_line(alloc, number, bytes, Begun::OnLock(line))
     }
 
     // A line of any kind, in its place; by itself, so that a call on a lock doesn't pay for it.
     #[inline(never)]
-    fn any_line(&mut self, alloc: Global, number: u64, bytes: &[u8]) -> Result<Step, AllocError>
+    fn any_line(
+        &mut self,
+        alloc: Global,
+        number: u64,
+        bytes: &[u8],
+        begun: Begun,
+    ) -> Result<Step, AllocError>
         requires room { reports_told (progress self.old) < number }
         requires short { length bytes.now ≤ LONGEST }
+        requires begun { IsBegun begun (line_of bytes.now) }
         ensures step { IfOk result (Follows (allowed self.old.view) self.old self.new
             number bytes.now) }
         ensures kept { self.new.view ≡ self.old.view }
@@ -173,57 +190,10 @@ impl Replaying {
                 .progress
                 .ended_step(alloc, number, LineError::Bad(cause));
         }
-        match self.progress.read(alloc, number, bytes) {
+        match self.progress.read(alloc, number, begun) {
             Ok(text) => Ok(Step::Goes(shown(alloc, self.view, text))),
             Err(error) => self.progress.ended_step(alloc, number, error),
         }
-    }
-}
-
-impl Progress {
-    fn read(&mut self, alloc: Global, number: u64, bytes: &[u8]) -> Result<Vec<u8>, LineError>
-        requires room { reports_told (progress_of self.old) < number }
-        requires short { length bytes.now ≤ LONGEST }
-        ensures { GoesAsDue (outcome (progress_of self.old) number bytes.now)
-            (progress_of self.old) (progress_of self.new) result }
-    {
-        let line = parse_line(alloc, bytes)?;
-        self.enter(alloc, number, line)
-    }
-
-    fn enter(&mut self, alloc: Global, number: u64, line: Line) -> Result<Vec<u8>, LineError>
-        requires { reports_told (progress_of self.old) < number }
-        ensures { GoesAsDue (entered (progress_of self.old) number line)
-            (progress_of self.old) (progress_of self.new) result }
-    {
-        match self {
-            Progress::Unstarted => self.start(alloc, line),
-            Progress::Opening(prelude) => add_line(alloc, prelude, number, line),
-            Progress::Reading { verifier, remarks } => enter_line(alloc, verifier, remarks, line),
-            Progress::Stepping { world, remarks } => enter_world_line(alloc, world, remarks, line),
-        }
-    }
-
-    fn start(&mut self, alloc: Global, line: Line) -> Result<Vec<u8>, LineError>
-        requires { progress_of self.old ≡ Unstarted }
-        ensures { (number : ℕ) → GoesAsDue (entered Unstarted number line) Unstarted
-            (progress_of self.new) result }
-    {
-        let Line::Header {
-            version,
-            seats,
-            types,
-            locks,
-            chunks,
-        } = line
-        else {
-            return Err(LineError::SYNTAX);
-        };
-        let Some(limits) = Limits::new(seats, types, locks, chunks, Limits::MOST_ENTRIES) else {
-            return Err(LineError::Bad(Cause::Limit));
-        };
-        *self = Progress::Opening(new_prelude(alloc, version, limits));
-        Ok(Vec::new(alloc))
     }
 }
 
@@ -246,15 +216,18 @@ impl Machine for Replaying {
         // Hardly a line has a text.
         drop(room);
         let view = self.view;
-        if let Progress::Reading { verifier, .. } = &mut self.progress {
-            if let Some(line) = parse_lock_line(bytes) {
-                return match call_on_lock(verifier, line) {
-                    Ok(reply) => reply_step(alloc, view, verifier, reply),
-                    Err(error) => self.progress.ended_step(alloc, number, error),
-                };
+        match begin_line(bytes) {
+            Begun::OnLock(line) => {
+                if let Progress::Reading { verifier, .. } = &mut self.progress {
+                    return match call_on_lock(verifier, line) {
+                        Ok(reply) => reply_step(alloc, view, verifier, reply),
+                        Err(error) => self.progress.ended_step(alloc, number, error),
+                    };
+                }
+                self.world_line(alloc, number, bytes, line)
             }
+            begun => self.any_line(alloc, number, bytes, begun),
         }
-        self.world_line(alloc, number, bytes)
     }
 
     fn broken(

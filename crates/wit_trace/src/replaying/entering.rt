@@ -1,0 +1,66 @@
+//! How a line is entered in its place.
+
+ghost use Rattle.std.specs.Prelude.{◌≡◌, ◌<◌, ℕ, Option};
+ghost use Rattle.wit_model.specs.declared.lines.Line.{Line};
+ghost use Rattle.wit_model.specs.Trace.Output.{Unstarted, entered, read_as};
+ghost use Rattle.wit_grammar.specs.Lines.{IsBegun};
+ghost use Rattle.wit_trace.specs.Replays.{progress_of, reports_told, GoesAsDue};
+
+use crate::replaying::Progress;
+use crate::replaying::calls::enter_line;
+use crate::replaying::prelude::{add_line, new_prelude};
+use crate::replaying::world_lines::enter_world_line;
+use std::alloc::Global;
+use wit_grammar::{Begun, LineError, finish_line};
+use wit_model::{Cause, Limits, Line};
+
+impl Progress {
+    /// A line of which the first word was read.
+    ///
+    /// # Errors
+    /// `Bad` where it spells no line, or what it spells has no place there or is refused; `Memory`.
+    pub fn read(&mut self, alloc: Global, number: u64, begun: Begun) -> Result<Vec<u8>, LineError>
+        requires { reports_told (progress_of self.old) < number }
+        ensures { (line : Option Line) → IsBegun begun.entry line
+            → GoesAsDue (read_as (progress_of self.old) number line)
+            (progress_of self.old) (progress_of self.new) result }
+    {
+        let line = finish_line(alloc, begun)?;
+        self.enter(alloc, number, line)
+    }
+
+    fn enter(&mut self, alloc: Global, number: u64, line: Line) -> Result<Vec<u8>, LineError>
+        requires { reports_told (progress_of self.old) < number }
+        ensures { GoesAsDue (entered (progress_of self.old) number line)
+            (progress_of self.old) (progress_of self.new) result }
+    {
+        match self {
+            Progress::Unstarted => self.start(alloc, line),
+            Progress::Opening(prelude) => add_line(alloc, prelude, number, line),
+            Progress::Reading { verifier, remarks } => enter_line(alloc, verifier, remarks, line),
+            Progress::Stepping { world, remarks } => enter_world_line(alloc, world, remarks, line),
+        }
+    }
+
+    fn start(&mut self, alloc: Global, line: Line) -> Result<Vec<u8>, LineError>
+        requires { progress_of self.old ≡ Unstarted }
+        ensures { (number : ℕ) → GoesAsDue (entered Unstarted number line) Unstarted
+            (progress_of self.new) result }
+    {
+        let Line::Header {
+            version,
+            seats,
+            types,
+            locks,
+            chunks,
+        } = line
+        else {
+            return Err(LineError::SYNTAX);
+        };
+        let Some(limits) = Limits::new(seats, types, locks, chunks, Limits::MOST_ENTRIES) else {
+            return Err(LineError::Bad(Cause::Limit));
+        };
+        *self = Progress::Opening(new_prelude(alloc, version, limits));
+        Ok(Vec::new(alloc))
+    }
+}
