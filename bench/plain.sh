@@ -1,8 +1,11 @@
 #!/bin/sh
 # Measures `witness replay` beside plain/plain.rs, a replay in Rust of which nothing is proved, on the traces named,
 # or on those that docs/SPEED.md has of it. What the two write must be the same. A line a trace: the least processor
-# time of three runs of each, in turn, what that makes a line, and the ratio. WITNESS names another program to measure,
-# RUNS how often each runs, TRACES a folder in which the traces stay for the next time, and RUSTC another compiler.
+# time of three runs of each, in turn, what that makes a line, and the ratio. A name with a 2 behind it (hot2) is that
+# of the trace in version 2, as the program migrates it; the trace itself is replayed in turn with it, and what is
+# written must be the same again. Two columns more are the times of version 2 over those of version 1. WITNESS names
+# another program to measure, RUNS how often each runs, TRACES a folder in which the traces stay for the next time, and
+# RUSTC another compiler.
 set -e
 here=$(dirname "$(readlink -f "$0")")
 program=${WITNESS:-$here/../crates/witness/out/witness}
@@ -14,18 +17,19 @@ folder=$(mktemp -d)
 trap 'rm -rf "$folder"' EXIT
 traces=${TRACES:-$folder}
 [ $# -gt 0 ] || set -- hot seats files names nest chain reports steps random
-"${RUSTC:-rustc}" --edition 2021 -O -o "$folder/plain" "$here/plain/plain.rs"
+# Aligned, so that it doesn't matter where a loop comes to lie: a change elsewhere makes up to a third of the time.
+"${RUSTC:-rustc}" --edition 2021 -O -C llvm-args=-align-all-nofallthru-blocks=5 \
+    -o "$folder/plain" "$here/plain/plain.rs"
 
 cat >"$folder/measure.py" <<'END_OF_PYTHON'
 import filecmp, os, sys
-name, trace, folder, runs, *programs = sys.argv[1:]
-texts = [os.path.join(folder, text) for text in ("text", "plain-text")]
-with open(trace, "rb") as it:
+name, folder, runs, program, plain, *traces = sys.argv[1:]
+with open(traces[0], "rb") as it:
     lines = sum(block.count(b"\n") for block in iter(lambda: it.read(1 << 20), b""))
 
 
-def run(words, text):
-    """Runs a command on the trace, and gives its processor seconds."""
+def run(words, trace, text):
+    """Runs a command on a trace, and gives its processor seconds."""
     opens = [(os.POSIX_SPAWN_OPEN, 0, trace, os.O_RDONLY, 0),
              (os.POSIX_SPAWN_OPEN, 1, text, os.O_WRONLY | os.O_CREAT | os.O_TRUNC, 0o600)]
     pid = os.posix_spawnp(words[0], words, os.environ, file_actions=opens)
@@ -35,19 +39,28 @@ def run(words, text):
     return used.ru_utime + used.ru_stime
 
 
-commands = [[programs[0], "replay"], [programs[1]]]
-for words, text in zip(commands, texts):
-    run(words, text)
-if not filecmp.cmp(*texts, shallow=False):
-    sys.exit(f"bench: {name}: the two write different texts")
-used = [min(each) for each in zip(*([run(words, "/dev/null") for words in commands] for _ in range(int(runs))))]
+# Version 2 comes first where there are both.
+commands = [(words, trace) for trace in traces for words in ([program, "replay"], [plain])]
+texts = [os.path.join(folder, f"text{place}") for place in range(len(commands))]
+for command, text in zip(commands, texts):
+    run(*command, text)
+if not all(filecmp.cmp(texts[0], text, shallow=False) for text in texts[1:]):
+    sys.exit(f"bench: {name}: different texts are written")
+used = [min(each) for each in zip(*([run(*it, "/dev/null") for it in commands] for _ in range(int(runs))))]
+growth = "".join(f" {new / old:{width}.2f}" for new, old, width in zip(used, used[2:], (7, 9)))
 print(f"{name:8} {lines:9} {used[0]:10.3f} {used[1]:8.3f} {used[0] / lines * 1e9:8.0f} {used[1] / lines * 1e9:8.0f}"
-      f" {used[0] / used[1]:6.2f}", flush=True)
+      f" {used[0] / used[1]:6.2f}{growth}", flush=True)
 END_OF_PYTHON
 
-printf '%-8s %9s %10s %8s %8s %8s %6s\n' trace lines witness-s plain-s ns/line plain-ns ratio
+printf '%-8s %9s %10s %8s %8s %8s %6s %7s %9s\n' trace lines witness-s plain-s ns/line plain-ns ratio 2/1 plain-2/1
 for name; do
-    [ -f "$traces/$name" ] || "$here/make_trace.sh" "$name" >"$traces/$name"
-    python3 "$folder/measure.py" "$name" "$traces/$name" "$folder" "${RUNS:-3}" "$program" "$folder/plain"
-    [ -n "${TRACES:-}" ] || rm "$traces/$name"
+    first=${name%2}
+    [ -f "$traces/$first" ] || "$here/make_trace.sh" "$first" >"$traces/$first"
+    set -- "$traces/$first"
+    if [ "$name" != "$first" ]; then
+        [ -f "$traces/$name" ] || "$program" migrate <"$traces/$first" >"$traces/$name"
+        set -- "$traces/$name" "$@"
+    fi
+    python3 "$folder/measure.py" "$name" "$folder" "${RUNS:-3}" "$program" "$folder/plain" "$@"
+    [ -n "${TRACES:-}" ] || rm "$@"
 done

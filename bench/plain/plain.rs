@@ -1,7 +1,7 @@
 //! `witness replay` as one would write it in Rust without a thought of proofs, for most of the traces
-//! of bench/make_trace.sh: mutexes that are made, taken and released, and orders that are defined.
-//! bench/plain.sh measures the two beside one another, and compares what they write. Chunks aren't
-//! counted, and other classes of locks and other lines aren't known.
+//! of bench/make_trace.sh, in both versions: mutexes that are made, taken, tried and released, and
+//! orders that are defined. bench/plain.sh measures the two beside one another, and compares what
+//! they write. Chunks aren't counted, and other classes of locks and other lines aren't known.
 use std::collections::HashMap;
 use std::fmt::Write as _;
 use std::io::{self, BufRead, BufReader};
@@ -22,11 +22,13 @@ type Bad = &'static str;
 
 type Done = Result<(), Bad>;
 
-#[derive(Clone, Copy)]
+const OUT_OF_TURN: Bad = "F36 StepOrder";
+
+#[derive(Clone, Copy, Default)]
 struct Site { file: u16, line: u32 }
-#[derive(Clone, Copy)]
+#[derive(Clone, Copy, Default)]
 struct LockAt { lock: u32, site: Site }
-#[derive(Clone, Copy)]
+#[derive(Clone, Copy, Default)]
 struct Request { at: LockAt, ops: u8 }
 #[derive(Clone, Copy)]
 struct Conflict { held: LockAt, older: Option<LockAt>, asked: LockAt }
@@ -35,7 +37,8 @@ struct Conflict { held: LockAt, older: Option<LockAt>, asked: LockAt }
 // is about, stands in lists of their own, so that an entry takes 32 bytes and is let go at once.
 #[allow(dead_code)]
 enum Call {
-    Init(u32), Check(Request), Note(u32), GiveUp(u32), Unlock(u32), DefineOrder(u32, u32),
+    Init(u32), Check(Request), Note(u32), NoteTry(LockAt), GiveUp(u32), Unlock(u32),
+    DefineOrder(u32, u32),
 }
 
 #[allow(dead_code)]
@@ -124,14 +127,44 @@ impl Orders {
 #[derive(Clone, Copy)]
 struct Held { at: LockAt, type_no: u16, count: u16 }
 
-/// The locks that a seat holds, oldest first, and what it has asked for.
-#[derive(Default)]
-struct Seat { chain: Vec<Held>, pending: Option<Request> }
+/// What may come next of a seat. In version 1 it is idle, or may note the lock that it asked for.
+#[derive(Clone, Copy, Default, PartialEq)]
+enum Stage {
+    /// Whatever begins something.
+    #[default]
+    Idle,
+    /// That, too.
+    MayFree,
+    MustFree,
+    /// Or it gives up, as the next.
+    MayTake,
+    MayNote,
+    MustNote,
+    MustTry,
+}
 
-struct Lock { name: String, type_no: u16, flags: u8 }
+/// The locks that a seat holds, oldest first, what may come next, and of which lock: what it asks
+/// for where it does.
+#[derive(Default)]
+struct Seat { chain: Vec<Held>, stage: Stage, about: Request }
+
+impl Seat {
+    fn is_idle(&self) -> bool {
+        matches!(self.stage, Stage::Idle | Stage::MayFree)
+    }
+
+    fn is_at(&self, stages: &[Stage], lock: u32) -> bool {
+        stages.contains(&self.stage) && self.about.at.lock == lock
+    }
+}
+
+/// The owner is the seat that has the lock itself, or 0; in version 1 nobody is told to have it.
+struct Lock { name: String, type_no: u16, flags: u8, owner: u16 }
 
 #[derive(Default)]
 struct Verifier {
+    /// Whether the lines tell what is done to the locks themselves: version 2.
+    has_steps: bool,
     most_locks: usize,
     types: Vec<String>,
     type_numbers: HashMap<String, u16>,
@@ -148,10 +181,11 @@ struct Verifier {
 }
 
 impl Verifier {
-    fn new([seats, types, locks, _]: [u32; 4]) -> Verifier {
+    fn new(has_steps: bool, [seats, types, locks, _]: [u32; 4]) -> Verifier {
         let square = || Square::new(types as usize);
         let (types, direct, before, found) = (types as u16, square(), square(), square());
         Verifier {
+            has_steps,
             most_locks: locks as usize,
             orders: Orders { types, direct, before, found, ..Orders::default() },
             seats: (0..seats).map(|_| Seat::default()).collect(),
@@ -187,6 +221,15 @@ impl Verifier {
         self.locks.get((lock as usize).wrapping_sub(1)).ok_or("F2 UnknownLock")
     }
 
+    fn need_idle(&self, seat: &Seat) -> Done {
+        if seat.is_idle() { Ok(()) } else { Err(self.out_of_turn("F24 Pending")) }
+    }
+
+    /// What is wrong with a line that may not come next; this in version 1.
+    fn out_of_turn(&self, bad: Bad) -> Bad {
+        if self.has_steps { OUT_OF_TURN } else { bad }
+    }
+
     fn type_of(&self, lock: u32) -> u16 {
         self.locks[lock as usize - 1].type_no
     }
@@ -201,7 +244,7 @@ impl Verifier {
     }
 
     fn init(&mut self, seat: u16, flags: u8, name: String, type_name: Option<String>) -> Done {
-        not_pending(self.seat(seat)?)?;
+        self.need_idle(self.seat(seat)?)?;
         let type_name = type_name.unwrap_or(name.clone());
         let known = self.type_numbers.get(&type_name).copied();
         match known {
@@ -214,18 +257,19 @@ impl Verifier {
             self.type_numbers.insert(type_name.clone(), type_no);
             self.types.push(type_name);
         }
-        self.locks.push(Lock { name, type_no, flags });
+        self.locks.push(Lock { name, type_no, flags, owner: 0 });
+        self.seats[seat as usize - 1].stage = Stage::Idle;
         let call = Call::Init(self.locks.len() as u32);
         self.log.push(Entry { seat, call, reply: Reply::Done });
         Ok(())
     }
 
-    /// The chain of a seat that asks for nothing, and a lock.
+    /// The chain of an idle seat, and a lock.
     fn before_naming(&self, seat: u16, lock: u32) -> Result<(&[Held], &Lock), Bad> {
-        let about = self.seat(seat)?;
+        let from = self.seat(seat)?;
         let lock = self.lock(lock)?;
-        not_pending(about)?;
-        Ok((&about.chain, lock))
+        self.need_idle(from)?;
+        Ok((&from.chain, lock))
     }
 
     /// Adds the text of the report, if any.
@@ -240,8 +284,12 @@ impl Verifier {
             _ => self.need_room(3)?,
         }
         let is_behind = held.is_none() && !is_alone;
+        let must_take = self.has_steps && held.is_none();
+        let stage = if must_take { Stage::MayTake } else { Stage::MayNote };
         let reply = if is_behind { self.judge(seat, &request, text) } else { Reply::Pass };
-        self.seats[seat as usize - 1].pending = Some(request);
+        let from = &mut self.seats[seat as usize - 1];
+        from.stage = stage;
+        from.about = request;
         self.owed += 2;
         self.log.push(Entry { seat, call: Call::Check(request), reply });
         Ok(())
@@ -297,20 +345,48 @@ impl Verifier {
     }
 
     /// The request of a seat for this lock, which isn't pending any more.
-    fn answer(&mut self, seat: u16, lock: u32) -> Result<Request, Bad> {
-        let pending = self.seat(seat)?.pending;
+    fn answer(&mut self, seat: u16, lock: u32, stages: &[Stage]) -> Result<Request, Bad> {
+        let from = self.seat(seat)?;
         self.lock(lock)?;
-        let request = pending.filter(|it| it.at.lock == lock).ok_or("F25 NotRequested")?;
-        self.seats[seat as usize - 1].pending = None;
+        if !from.is_at(stages, lock) {
+            return Err(self.out_of_turn("F25 NotRequested"));
+        }
+        let from = &mut self.seats[seat as usize - 1];
+        from.stage = Stage::Idle;
         self.owed -= 2;
-        Ok(request)
+        Ok(from.about)
     }
 
     fn note(&mut self, seat: u16, lock: u32) -> Done {
-        let at = self.answer(seat, lock)?.at;
-        let type_no = self.type_of(lock);
+        let at = self.answer(seat, lock, &[Stage::MayNote, Stage::MustNote])?.at;
+        self.record(seat, at);
+        self.log.push(Entry { seat, call: Call::Note(lock), reply: Reply::Recorded });
+        Ok(())
+    }
+
+    fn note_try(&mut self, seat: u16, at: LockAt) -> Done {
+        let from = self.seat(seat)?;
+        self.lock(at.lock)?;
+        if !self.has_steps {
+            self.need_idle(from)?;
+        } else if !from.is_at(&[Stage::MustTry], at.lock) {
+            return Err(OUT_OF_TURN);
+        }
+        let held = place_of(&from.chain, at.lock).map(|place| &from.chain[place]);
+        if held.is_some_and(|held| held.count == u16::MAX) {
+            return Err("F10 RecursionTooDeep");
+        }
+        self.need_room(2)?;
+        self.seats[seat as usize - 1].stage = Stage::Idle;
+        self.record(seat, at);
+        self.log.push(Entry { seat, call: Call::NoteTry(at), reply: Reply::Recorded });
+        Ok(())
+    }
+
+    fn record(&mut self, seat: u16, at: LockAt) {
+        let type_no = self.type_of(at.lock);
         let chain = &mut self.seats[seat as usize - 1].chain;
-        match place_of(chain, lock) {
+        match place_of(chain, at.lock) {
             Some(place) => {
                 chain[place].at = at;
                 chain[place].count += 1;
@@ -318,20 +394,23 @@ impl Verifier {
             None => chain.push(Held { at, type_no, count: 0 }),
         }
         self.owed += 1;
-        self.log.push(Entry { seat, call: Call::Note(lock), reply: Reply::Recorded });
-        Ok(())
     }
 
     fn give_up(&mut self, seat: u16, lock: u32) -> Done {
-        self.answer(seat, lock)?;
+        self.answer(seat, lock, &[Stage::MayTake, Stage::MayNote])?;
         self.log.push(Entry { seat, call: Call::GiveUp(lock), reply: Reply::Done });
         Ok(())
     }
 
     fn unlock(&mut self, seat: u16, lock: u32) -> Done {
-        self.before_naming(seat, lock)?;
-        let chain = &mut self.seats[seat as usize - 1].chain;
+        let (_, &Lock { owner, .. }) = self.before_naming(seat, lock)?;
+        let Seat { chain, stage, about } = &mut self.seats[seat as usize - 1];
         let place = place_of(chain, lock).ok_or("F11 NotLocked")?;
+        if self.has_steps {
+            let is_last = chain[place].count == 0 && owner == seat;
+            *stage = if is_last { Stage::MustFree } else { Stage::MayFree };
+            about.at.lock = lock;
+        }
         if chain[place].count > 0 {
             chain[place].count -= 1;
         } else {
@@ -343,9 +422,9 @@ impl Verifier {
     }
 
     fn define_order(&mut self, seat: u16, a: u32, b: u32) -> Done {
-        let about = self.seat(seat)?;
+        let from = self.seat(seat)?;
         let (parent, child) = (self.lock(a)?.type_no, self.lock(b)?.type_no);
-        not_pending(about)?;
+        self.need_idle(from)?;
         if parent == child {
             return Err("F21 SameType");
         }
@@ -353,6 +432,7 @@ impl Verifier {
             return Err("F20 WrongOrder");
         }
         self.need_room(1)?;
+        self.seats[seat as usize - 1].stage = Stage::Idle;
         let is_known = self.orders.direct.has(parent, child);
         let reply = if is_known { Reply::Known } else { Reply::Adopted(parent, child) };
         if !is_known {
@@ -367,8 +447,44 @@ fn place_of(chain: &[Held], lock: u32) -> Option<usize> {
     chain.iter().rposition(|held| held.at.lock == lock)
 }
 
-fn not_pending(seat: &Seat) -> Done {
-    if seat.pending.is_some() { Err("F24 Pending") } else { Ok(()) }
+// What is done to the locks themselves.
+impl Verifier {
+    fn take(&mut self, seat: u16, lock: u32) -> Done {
+        let from = self.seat(seat)?;
+        self.lock(lock)?;
+        if !from.is_at(&[Stage::MayTake], lock) {
+            return Err(OUT_OF_TURN);
+        }
+        self.own(seat, lock, Stage::MustNote)
+    }
+
+    fn try_take(&mut self, seat: u16, lock: u32) -> Done {
+        self.before_naming(seat, lock)?;
+        self.own(seat, lock, Stage::MustTry)
+    }
+
+    fn own(&mut self, seat: u16, lock: u32, stage: Stage) -> Done {
+        let owner = &mut self.locks[lock as usize - 1].owner;
+        if *owner != 0 {
+            return Err("F35 RawNotFree");
+        }
+        *owner = seat;
+        let from = &mut self.seats[seat as usize - 1];
+        from.stage = stage;
+        from.about.at.lock = lock;
+        Ok(())
+    }
+
+    fn free(&mut self, seat: u16, lock: u32) -> Done {
+        let from = self.seat(seat)?;
+        let owner = self.lock(lock)?.owner;
+        if !from.is_at(&[Stage::MayFree, Stage::MustFree], lock) || owner != seat {
+            return Err(OUT_OF_TURN);
+        }
+        self.seats[seat as usize - 1].stage = Stage::Idle;
+        self.locks[lock as usize - 1].owner = 0;
+        Ok(())
+    }
 }
 
 // The texts. To write into a `String` never fails.
@@ -490,7 +606,10 @@ fn is_text(text: &[u8], least: u8) -> bool {
 }
 
 fn start(it: &mut Fields) -> Result<Verifier, Bad> {
-    it.the(b"witness-trace 1")?;
+    let has_steps = it.the(b"witness-trace 2").is_ok();
+    if !has_steps {
+        it.the(b"witness-trace 1")?;
+    }
     let mut sizes = [0; 4];
     for (size, word) in sizes.iter_mut().zip([" seats", " types", " locks", " chunks"]) {
         it.the(word.as_bytes())?;
@@ -500,7 +619,7 @@ fn start(it: &mut Fields) -> Result<Verifier, Bad> {
     if sizes.iter().zip([256, 1_023, 65_536, 65_536]).any(|(n, most)| *n == 0 || *n > most) {
         return Err("limit");
     }
-    Ok(Verifier::new(sizes))
+    Ok(Verifier::new(has_steps, sizes))
 }
 
 fn act(verifier: &mut Verifier, it: &mut Fields, text: &mut String) -> Done {
@@ -517,6 +636,21 @@ fn act(verifier: &mut Verifier, it: &mut Fields, text: &mut String) -> Done {
         let (seat, lock) = (it.seat()?, it.number()?);
         it.the(b" x\n")?;
         verifier.unlock(seat, lock)
+    } else if verifier.has_steps && it.the(b"take").is_ok() {
+        verifier.take(it.seat()?, it.last_number()?)
+    } else if verifier.has_steps && it.the(b"free").is_ok() {
+        verifier.free(it.seat()?, it.last_number()?)
+    } else if verifier.has_steps && it.the(b"trytake").is_ok() {
+        let (seat, lock) = (it.seat()?, it.number()?);
+        it.the(b" x\n")?;
+        verifier.try_take(seat, lock)
+    } else if it.the(b"try").is_ok() {
+        let (seat, lock) = (it.seat()?, it.number()?);
+        it.the(b" x")?;
+        let (file, line) = it.site()?;
+        it.end()?;
+        let site = Site { file: verifier.file(file)?, line };
+        verifier.note_try(seat, LockAt { lock, site })
     } else if it.the(b"giveup").is_ok() {
         verifier.give_up(it.seat()?, it.last_number()?)
     } else if it.the(b"define").is_ok() {
