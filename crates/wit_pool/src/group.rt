@@ -12,6 +12,9 @@ pub struct Group {
     // How many of the items are held locks: the first ones.
     held: usize,
     items: [Instance; 5],
+    // Makes a chunk 128 bytes: where it lies is then a shift, and no product, which a long walk
+    // waits for at each chunk.
+    spare: [u64; 2],
     ghost short: { held ≤ 5 },
     ghost whole: { length items ≡ 5 },
 }
@@ -34,6 +37,7 @@ impl Group {
         Group {
             held: 0,
             items: [nobody; 5],
+            spare: [0, 0],
         }
     }
 
