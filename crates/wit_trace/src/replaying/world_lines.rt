@@ -51,6 +51,10 @@ pub fn step_on_lock(
     ensures { GoesAsDue (calls_in world.old remarks.old (call_of (as_line line.entry)))
         (Stepping world.old remarks.old) (Stepping world.new remarks.new) result }
 {
+    // It names no file and makes no call.
+    if let LockLine::Step { seat, lock, step } = line {
+        return step_in(alloc, world, seat, lock, step);
+    }
     let file = number_in(world, file_on_lock(&line))?;
     make_call_in(alloc, world, remarks, lock_call(line, file))
 }

@@ -4,6 +4,9 @@ use Rattle.wit_trace.specs.LineCalls.{as_call}
 use Rattle.wit_trace.proofs.WorldLemmas.{line_numbered_in, not_numbered_in}
 use Rattle.wit_trace.proofs.replaying.world_lines.step_on_lock.Goals as goal
 
+pub returns-in-Step : goal.returns-in-Step
+returns-in-Step c = rw c.in-Step.is (c.step_in.ensures c.args.remarks.now)
+
 pub returns-in_err-file : goal.returns-in_err-file
 returns-in_err-file c =
     not_numbered_in c.args.world.now c.number_in.new.world
