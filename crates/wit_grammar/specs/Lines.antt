@@ -15,8 +15,6 @@ use Rattle.wit_model.specs.declared.lines.Cause.TheVariants.{Long, Syntax, Cut, 
 use Rattle.wit_model.specs.declared.lines.Cause.TheVariants as why
 use Rattle.wit_model.specs.Trace.Reading.{◌>>=◌, named, number_of, until, fields_of}
 use Rattle.wit_model.specs.Trace.Spelling.{Spells, IsSpellable, keyword_text, spelling}
-use Rattle.wit_grammar.specs.declared.beginnings.Begun.{Begun}
-use Rattle.wit_grammar.specs.declared.beginnings.Begun.TheVariants as begun
 use Rattle.wit_grammar.specs.declared.errors.LineError.{LineError}
 use Rattle.wit_grammar.specs.declared.errors.LineError.TheVariants.{Bad, Memory}
 use Rattle.wit_grammar.specs.declared.parse.TheConstants.{LONGEST}
@@ -30,6 +28,11 @@ Fails (Bad cause) read = (cause ≡ Syntax) × (read ≡ None)
 abbrev pub Gives : {X Y : Type 0} → (X → Y) → Result X LineError → Option Y → Type 0
 Gives view (Ok x) read = read ≡ Some (view x)
 Gives view (Err e) read = Fails e read
+
+-- a value that was found, seen by view, is what is read
+abbrev pub GivesIfFound : {X Y : Type 0} → (X → Y) → Option X → Option Y → Type 0
+GivesIfFound view (Some x) read = read ≡ Some (view x)
+GivesIfFound view None read = Unit {0}
 
 -- the number that stands up to the next space, and what follows it
 abbrev pub leading_number : ℕ → List ℕ → Option (ℕ × List ℕ)
@@ -48,11 +51,10 @@ as_line (Unlock seat lock mode) = OnLock (Unlock seat lock mode)
 as_line (Plain verb seat lock) = OnLock (Plain verb seat lock)
 as_line (Step seat lock step) = OnLock (Step seat lock step)
 
--- what a line of which the first word was read is yet to give
-abbrev pub IsBegun : Begun → Option Line → Type 0
-IsBegun (begun.OnLock line) read = read ≡ Some (as_line line)
-IsBegun (begun.Other keyword rest) read = read ≡ fields_of keyword rest.now
-IsBegun begun.Nothing read = read ≡ None
+-- what a line that begins so spells
+abbrev pub Begins : Option (Keyword × Bor (List ℕ)) → Option Line → Type 0
+Begins (Some (keyword, rest)) read = read ≡ fields_of keyword rest.now
+Begins None read = read ≡ None
 
 -- the bytes spell no line
 abbrev pub SpellsNone : List ℕ → Type 0

@@ -16,7 +16,7 @@ mod put;
 mod spellable;
 mod words;
 
-pub use beginnings::{Begun, begin_line, finish_line};
+pub use beginnings::{Begun, begin_line, finish_line, lock_line};
 pub use errors::LineError;
 pub use lock_lines::borrowed;
 pub use parse::{LONGEST, parse_line};

@@ -105,12 +105,12 @@ pub fn borrowed(line: &LockLine<FileName>) -> LockLine<&str>
     }
 }
 
-/// What stands behind the word `check`.
+/// What stands behind the word `check`. By itself, so that shorter lines don't pay for its locals.
 ///
 /// # Errors
 /// `LineError::SYNTAX` where that isn't its fields.
 #[tactic(auto, unfolding(wit_model::specs::Trace::Reading::check_of))]
-#[inline(always)]
+#[inline(never)]
 pub fn check(bytes: &[u8]) -> Result<LockLine<&str>, LineError>
     ensures { Gives as_line result (check_of bytes.now) }
 {
@@ -137,6 +137,7 @@ pub fn check(bytes: &[u8]) -> Result<LockLine<&str>, LineError>
 /// # Errors
 /// `LineError::SYNTAX` where that isn't its fields.
 #[tactic(auto, unfolding(wit_model::specs::Trace::Reading::try_of))]
+#[inline(always)]
 pub fn try_lock(bytes: &[u8]) -> Result<LockLine<&str>, LineError>
     ensures { Gives as_line result (try_of bytes.now) }
 {
@@ -178,6 +179,7 @@ pub fn plain(verb: Verb, bytes: &[u8]) -> Result<LockLine<&str>, LineError>
 /// # Errors
 /// `LineError::SYNTAX` where that isn't its fields.
 #[tactic(auto, unfolding(wit_model::specs::Trace::Reading::step_of))]
+#[inline(always)]
 pub fn step(step: RawStep, bytes: &[u8]) -> Result<LockLine<&str>, LineError>
     ensures { Gives as_line result (step_of step bytes.now) }
 {
@@ -194,6 +196,7 @@ pub fn step(step: RawStep, bytes: &[u8]) -> Result<LockLine<&str>, LineError>
 /// # Errors
 /// `LineError::SYNTAX` where that isn't its fields.
 #[tactic(auto, unfolding(wit_model::specs::Trace::Reading::try_take_of))]
+#[inline(always)]
 pub fn try_take(bytes: &[u8]) -> Result<LockLine<&str>, LineError>
     ensures { Gives as_line result (try_take_of bytes.now) }
 {

@@ -2,7 +2,7 @@
 
 ghost use Rattle.std.specs.Prelude.{◌≡◌, ◌+◌, ◌-◌, ◌<◌, ◌≤◌, ◌^◌, ℕ, List, length, max};
 ghost use Rattle.std.specs.Prelude.{Err, IfOk, OnErr};
-ghost use Rattle.wit_grammar.specs.Lines.{IsBegun};
+ghost use Rattle.wit_grammar.specs.Lines.{Begins};
 ghost use Rattle.wit_grammar.specs.declared.parse.TheConstants.{LONGEST};
 ghost use Rattle.wit_model.specs.Trace.Reading.{line_of};
 ghost use Rattle.wit_model.specs.Trace.Moving.{moving_from, moving_outcome, moving_entered};
@@ -31,7 +31,7 @@ use preludes::Reached;
 use std::alloc::{AllocError, Global};
 use std::io::{BufRead, Write};
 use texts::join;
-use wit_grammar::{Begun, LineError, begin_line, finish_line};
+use wit_grammar::{Begun, LineError, begin_line, finish_line, lock_line};
 use wit_model::{Cause, Line};
 
 /// Reads a trace of the first version, and writes it as one of the second: its own lines, and
@@ -113,12 +113,12 @@ impl Migrating {
         alloc: Global,
         number: u64,
         bytes: &[u8],
-        begun: Begun,
+        begun: Option<Begun>,
     ) -> Result<Vec<u8>, LineError>
         requires room { moving_reports (moved_to self.old) < 2 ^ 64 - 1 }
         requires few { weighed (moved_to self.old) < 2 ^ 64 - 1 }
         requires short { length bytes.now ≤ LONGEST }
-        requires begun { IsBegun begun (line_of bytes.now) }
+        requires begun { Begins begun (line_of bytes.now) }
         ensures { MovesAsDue (moving_outcome (moved_to self.old) number bytes.now)
             (moved_to self.old) (moved_to self.new) result }
     {
@@ -154,12 +154,12 @@ impl Migrating {
         alloc: Global,
         number: u64,
         bytes: &[u8],
-        begun: Begun,
+        begun: Option<Begun>,
     ) -> Result<Step, AllocError>
         requires room { moving_reports (moved_to self.old) < number }
         requires few { weighed (moved_to self.old) < number }
         requires short { length bytes.now ≤ LONGEST }
-        requires begun { IsBegun begun (line_of bytes.now) }
+        requires begun { Begins begun (line_of bytes.now) }
         ensures step { IfOk result (Follows migrated self.old self.new number bytes.now) }
         ensures counted { IfOk result (λ s.
             moving_reports (moved_to self.new) ≤ moving_reports (moved_to self.old) + 1) }
@@ -202,26 +202,24 @@ impl Machine for Migrating {
         bytes: &[u8],
         room: Vec<u8>,
     ) -> Result<Step, AllocError> {
-        match begin_line(bytes) {
-            Begun::OnLock(line) => {
-                if let Migrating::Moved(behind) = self {
-                    let found = behind.summary();
-                    return match behind.enter_on_lock(alloc, room, line, bytes) {
-                        Ok(text) => Ok(Step::Goes(text)),
-                        Err(LineError::Bad(cause)) => self.ended_step(
-                            alloc,
-                            Vec::new(alloc),
-                            found,
-                            number,
-                            cause,
-                        ),
-                        Err(LineError::Memory) => Err(AllocError),
-                    };
-                }
-                self.any_line(alloc, number, bytes, Begun::OnLock(line))
+        let begun = begin_line(bytes);
+        if let Migrating::Moved(behind) = self {
+            if let Some(line) = lock_line(begun) {
+                let found = behind.summary();
+                return match behind.enter_on_lock(alloc, room, line, bytes) {
+                    Ok(text) => Ok(Step::Goes(text)),
+                    Err(LineError::Bad(cause)) => self.ended_step(
+                        alloc,
+                        Vec::new(alloc),
+                        found,
+                        number,
+                        cause,
+                    ),
+                    Err(LineError::Memory) => Err(AllocError),
+                };
             }
-            begun => self.any_line(alloc, number, bytes, begun),
         }
+        self.any_line(alloc, number, bytes, begun)
     }
 
     fn broken(

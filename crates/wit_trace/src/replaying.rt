@@ -1,10 +1,9 @@
 //! The replay of a trace by the verifier.
 
 ghost use Rattle.std.specs.Prelude.{◌≡◌, ◌⊎◌, ◌+◌, ◌<◌, ◌≤◌, ℕ, length, IsTrue, IfOk, OnErr};
-ghost use Rattle.std.specs.Prelude.{Some};
 ghost use Rattle.wit_model.specs.Trace.Reading.{line_of};
 ghost use Rattle.wit_model.specs.Trace.Output.{Unstarted};
-ghost use Rattle.wit_grammar.specs.Lines.{IsBegun, as_line};
+ghost use Rattle.wit_grammar.specs.Lines.{Begins};
 ghost use Rattle.wit_trace.specs.Machine.{Follows};
 ghost use Rattle.wit_trace.specs.Outputs.{some_output};
 ghost use Rattle.wit_trace.specs.Replays.{allowed, progress, reports_told};
@@ -34,8 +33,8 @@ use std::alloc::{AllocError, Global};
 use std::io::{BufRead, Write};
 use views::{last_text, last_world_text, shown};
 use wit_core::Verifier;
-use wit_grammar::{Begun, LineError, begin_line};
-use wit_model::{Cause, LockLine, View};
+use wit_grammar::{Begun, LineError, begin_line, lock_line};
+use wit_model::{Cause, View};
 use wit_world::World;
 use world_lines::step_on_lock;
 
@@ -138,19 +137,18 @@ pub(crate) enum Progress {
 }
 
 impl Replaying {
-    // A line on a lock, in a world or where none may stand. By itself, so that others don't pay for
-    // its locals.
+    // A line that may be one on a lock in a world. By itself, so that no other pays for its locals.
     #[inline(never)]
     fn world_line(
         &mut self,
         alloc: Global,
         number: u64,
         bytes: &[u8],
-        line: LockLine<&str>,
+        begun: Option<Begun>,
     ) -> Result<Step, AllocError>
         requires room { reports_told (progress self.old) < number }
         requires short { length bytes.now ≤ LONGEST }
-        requires line { line_of bytes.now ≡ Some (as_line line) }
+        requires begun { Begins begun (line_of bytes.now) }
         ensures step { IfOk result (Follows (allowed self.old.view) self.old self.new
             number bytes.now) }
         ensures kept { self.new.view ≡ self.old.view }
@@ -159,12 +157,14 @@ impl Replaying {
     {
         let view = self.view;
         if let Progress::Stepping { world, remarks } = &mut self.progress {
-            return match step_on_lock(alloc, world, remarks, line) {
-                Ok(text) => Ok(Step::Goes(shown(alloc, view, text))),
-                Err(error) => self.progress.ended_step(alloc, number, error),
-            };
+            if let Some(line) = lock_line(begun) {
+                return match step_on_lock(alloc, world, remarks, line) {
+                    Ok(text) => Ok(Step::Goes(shown(alloc, view, text))),
+                    Err(error) => self.progress.ended_step(alloc, number, error),
+                };
+            }
         }
-        self.any_line(alloc, number, bytes, Begun::OnLock(line))
+        self.any_line(alloc, number, bytes, begun)
     }
 
     // A line of any kind, in its place; by itself, so that a call on a lock doesn't pay for it.
@@ -174,11 +174,11 @@ impl Replaying {
         alloc: Global,
         number: u64,
         bytes: &[u8],
-        begun: Begun,
+        begun: Option<Begun>,
     ) -> Result<Step, AllocError>
         requires room { reports_told (progress self.old) < number }
         requires short { length bytes.now ≤ LONGEST }
-        requires begun { IsBegun begun (line_of bytes.now) }
+        requires begun { Begins begun (line_of bytes.now) }
         ensures step { IfOk result (Follows (allowed self.old.view) self.old self.new
             number bytes.now) }
         ensures kept { self.new.view ≡ self.old.view }
@@ -216,18 +216,16 @@ impl Machine for Replaying {
         // Hardly a line has a text.
         drop(room);
         let view = self.view;
-        match begin_line(bytes) {
-            Begun::OnLock(line) => {
-                if let Progress::Reading { verifier, .. } = &mut self.progress {
-                    return match call_on_lock(verifier, line) {
-                        Ok(reply) => reply_step(alloc, view, verifier, reply),
-                        Err(error) => self.progress.ended_step(alloc, number, error),
-                    };
-                }
-                self.world_line(alloc, number, bytes, line)
+        let begun = begin_line(bytes);
+        if let Progress::Reading { verifier, .. } = &mut self.progress {
+            if let Some(line) = lock_line(begun) {
+                return match call_on_lock(verifier, line) {
+                    Ok(reply) => reply_step(alloc, view, verifier, reply),
+                    Err(error) => self.progress.ended_step(alloc, number, error),
+                };
             }
-            begun => self.any_line(alloc, number, bytes, begun),
         }
+        self.world_line(alloc, number, bytes, begun)
     }
 
     fn broken(

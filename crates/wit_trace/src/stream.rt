@@ -101,6 +101,7 @@ const FULL: usize = 65_536;
 // Tells a text, behind what was told and isn't written yet. Where texts are gathered, all of it is
 // written when it is much, and else before a look that may have to wait: to write each by itself
 // would take as long as to read its line.
+#[inline(always)]
 fn tell<R: BufRead, W: Write, P: Ports<R, W>>(
     ports: &mut P,
     writer: &mut W,
@@ -128,6 +129,7 @@ fn tell<R: BufRead, W: Write, P: Ports<R, W>>(
 }
 
 // Writes all that was told and isn't written yet.
+#[inline(never)]
 fn tell_all<R: BufRead, W: Write, P: Ports<R, W>>(
     ports: &mut P,
     writer: &mut W,

@@ -3,7 +3,7 @@
 ghost use Rattle.std.specs.Prelude.{◌≡◌, ◌<◌, ℕ, Option};
 ghost use Rattle.wit_model.specs.declared.lines.Line.{Line};
 ghost use Rattle.wit_model.specs.Trace.Output.{Unstarted, entered, read_as};
-ghost use Rattle.wit_grammar.specs.Lines.{IsBegun};
+ghost use Rattle.wit_grammar.specs.Lines.{Begins};
 ghost use Rattle.wit_trace.specs.Replays.{progress_of, reports_told, GoesAsDue};
 
 use crate::replaying::Progress;
@@ -19,9 +19,14 @@ impl Progress {
     ///
     /// # Errors
     /// `Bad` where it spells no line, or what it spells has no place there or is refused; `Memory`.
-    pub fn read(&mut self, alloc: Global, number: u64, begun: Begun) -> Result<Vec<u8>, LineError>
+    pub fn read(
+        &mut self,
+        alloc: Global,
+        number: u64,
+        begun: Option<Begun>,
+    ) -> Result<Vec<u8>, LineError>
         requires { reports_told (progress_of self.old) < number }
-        ensures { (line : Option Line) → IsBegun begun.entry line
+        ensures { (line : Option Line) → Begins begun.entry line
             → GoesAsDue (read_as (progress_of self.old) number line)
             (progress_of self.old) (progress_of self.new) result }
     {

@@ -1,5 +1,6 @@
 use Rattle.std.proofs.Common.{[], refl}
 use Rattle.wit_model.specs.Trace.Output.{call_of}
+use Rattle.wit_model.specs.Trace.Reading.{line_of}
 use Rattle.wit_grammar.specs.Lines.{as_line}
 use Rattle.wit_trace.specs.Migrates.{moving_reports, standing, weighed, weight}
 use Rattle.wit_trace.proofs.MigrateLemmas.{line-goes, line-writes}
@@ -15,15 +16,17 @@ returns-in-Ok-clause-step c =
     (line-goes (standing b) (standing b) c.args.number c.args.bytes.now []
     (record { lines = []; written = refl; on = λ next. refl })
     (standing new) c.in-Ok.text.items
-    (line-writes b.verifier b.raw b.remarks c.args.number c.args.bytes.now
-    (as_line c.in-OnLock.line) (standing new) c.in-Ok.text.items
-    c.requires.short c.in-OnLock.ensures c.in-Ok.ensures))
+    (line-writes b.verifier b.raw b.remarks c.args.number c.args.bytes.now (as_line c.in-Some.line)
+    (standing new) c.in-Ok.text.items
+    c.requires.short
+    (c.in-Some.ensures (line_of c.args.bytes.now) c.begin_line-begun.ensures)
+    c.in-Ok.ensures))
 
 pub returns-in-Ok-clause-counted : goal.returns-in-Ok-clause-counted
 returns-in-Ok-clause-counted c =
     let b = c.in-Moved.behind in
     let new = standing c.enter_on_lock.new.self in
-    let call = call_of (as_line c.in-OnLock.line) in
+    let call = call_of (as_line c.in-Some.line) in
     let text = c.in-Ok.text.items in
     rw c.in-Moved.is
     (both_one (moving_reports (standing b)) (weight b.raw) (moving_reports new) (weighed new)
