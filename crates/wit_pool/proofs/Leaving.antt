@@ -15,9 +15,8 @@ use Rattle.wit_pool.specs.declared.chunk.Chunk.{Chunk}
 use Rattle.wit_pool.specs.declared.chain.Chain.{Chain}
 use Rattle.wit_pool.specs.declared.pool.Pool.TheInside.{Inside}
 use Rattle.wit_pool.specs.Chunks.{content}
-use Rattle.wit_pool.specs.Chains.{places, chain_chunks, IsLinked, Stands}
+use Rattle.wit_pool.specs.Chains.{chain_chunks, IsLinked, Stands}
 use Rattle.wit_pool.specs.Kept.{rows_of, lists_of, free_of, chunks_in, AreKept}
-use Rattle.wit_pool.proofs.Links.{first}
 use Rattle.wit_pool.proofs.Keeping.{in-lists}
 
 -- the same block, with other chunks in it
