@@ -80,8 +80,8 @@ fn meet<L: Lists>(basis: &Basis, lists: &L, list: u16, request: TypedRequest) ->
     };
     let mut spot = lists.newest(list);
     while let Some(at) = spot {
-        met.look_through(basis, request, lists.group(list, at));
         spot = lists.older(list, at);
+        met.look_through(basis, request, lists.group(list, at));
     }
     met
 }

@@ -9,7 +9,7 @@ ghost use Rattle.wit_check.specs.Looks.{sort_of, seen_in, with_older, with_locks
 
 use crate::basis::Basis;
 use crate::orders::{Sort, breach, sort_of};
-use wit_model::chunks::Lists;
+use wit_model::chunks::{Lists, is_full_without};
 use wit_model::{Instance, LockNo, TypedRequest};
 
 /// What one look through the held locks finds.
@@ -73,8 +73,8 @@ pub fn look<L: Lists>(basis: &Basis, lists: &L, list: u16, request: TypedRequest
     };
     let mut spot = lists.newest(list);
     while let Some(at) = spot {
-        seen.look_through(basis, sort, request, lists.group(list, at));
         spot = lists.older(list, at);
+        seen.look_through(basis, sort, request, lists.group(list, at));
     }
     seen
 }
@@ -86,11 +86,11 @@ pub fn held_lock<L: Lists>(lists: &L, list: u16, lock: LockNo) -> Option<Instanc
 {
     let mut spot = lists.newest(list);
     while let Some(at) = spot {
+        spot = lists.older(list, at);
         let found = newest_in(lists.group(list, at), lock);
         if found.is_some() {
             return found;
         }
-        spot = lists.older(list, at);
     }
     None
 }
@@ -99,5 +99,8 @@ pub fn held_lock<L: Lists>(lists: &L, list: u16, lock: LockNo) -> Option<Instanc
 fn newest_in(chunk: &[Instance], lock: LockNo) -> Option<Instance>
     ensures { result ≡ find (is_of lock.0) (reverse chunk.now) }
 {
+    if is_full_without(chunk, lock) {
+        return None;
+    }
     chunk.iter().rev().copied().find(|i| i.lock.0 == lock.0)
 }

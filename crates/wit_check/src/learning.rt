@@ -81,8 +81,8 @@ fn learnt_behind<L: Lists>(
     let mut learnt = NewOrders::new(alloc);
     let mut spot = lists.newest(list);
     while let Some(at) = spot {
-        learn(basis, request, lists.group(list, at), &mut learnt)?;
         spot = lists.older(list, at);
+        learn(basis, request, lists.group(list, at), &mut learnt)?;
     }
     Ok(learnt)
 }

@@ -32,6 +32,7 @@ pub fn find_held<L: Lists>(lists: &L, list: u16, lock: LockNo) -> Option<Found>
 {
     let mut spot = lists.newest(list);
     while let Some(at) = spot {
+        spot = lists.older(list, at);
         let chunk = lists.group(list, at);
         if let Some(index) = find_lock(chunk, lock) {
             return Some(Found {
@@ -40,7 +41,6 @@ pub fn find_held<L: Lists>(lists: &L, list: u16, lock: LockNo) -> Option<Found>
                 held: chunk[index],
             });
         }
-        spot = lists.older(list, at);
     }
     None
 }
