@@ -1,10 +1,13 @@
--- The orders that a check teaches.
-use Rattle.std.specs.Prelude.{ℕ, List}
+-- The orders that a check teaches, and its answer.
+use Rattle.std.specs.Prelude.{ℕ, ◌≡◌, List}
 use Rattle.wit_model.specs.declared.locks.TypeNo.{TypeNo}
+use Rattle.wit_model.specs.declared.calls.Call.TheVariants.{Check}
 use Rattle.wit_model.specs.declared.calls.Request.{Request}
-use Rattle.wit_model.specs.Rules.State.{State, seat_at}
+use Rattle.wit_model.specs.Rules.State.{State, Story, state_of, seat_at}
+use Rattle.wit_model.specs.Rules.Step.{answer_of}
 use Rattle.wit_model.specs.Rules.Verdict.{basis_of, typed_request, chain_asked}
-use Rattle.wit_check.specs.Answers.{new_orders}
+use Rattle.wit_check.specs.declared.answers.Verdict.{Verdict}
+use Rattle.wit_check.specs.Answers.{answer_by, new_orders}
 
 -- the orders that a seat's request teaches behind all the locks of its kind that it holds
 abbrev pub orders_taught : State → ℕ → Request → List (TypeNo × TypeNo)
@@ -12,3 +15,8 @@ orders_taught s t q =
     let g = basis_of s.known in
     let asked = typed_request s.known q in
     new_orders g (chain_asked g (seat_at s t).sleep (seat_at s t).spin asked) asked
+
+-- the answer to a seat's request tells this verdict
+abbrev pub IsToldBy : Story → ℕ → Request → Verdict → Type 0
+IsToldBy s t q v =
+    answer_of s t (Check q) ≡ answer_by (orders_taught (state_of s) t q) v

@@ -1,6 +1,7 @@
 //! `check`: a seat asks for a lock.
 
-ghost use Rattle.std.specs.Prelude.{◌≡◌, ◌⊎◌, true, IsOk, IfOk, IfErr, Ok, Err};
+ghost use Rattle.std.specs.Prelude.{◌≡◌, true, IsOk, IfOk, IfErr, OnOk, Ok, Err};
+ghost use Rattle.wit_model.specs.declared.calls.Reply.TheVariants.{Pass};
 ghost use Rattle.wit_model.specs.declared.calls.Call.TheVariants.{Check};
 ghost use Rattle.wit_model.specs.declared.faults.Fault.TheVariants.{OutOfMemory};
 ghost use Rattle.wit_model.specs.Rules.Preparing.{IsPrepared, Prepares};
@@ -10,7 +11,7 @@ ghost use Rattle.wit_model.specs.Rules.Step.{AnswersOrFails, IsEntered, answer_o
 ghost use Rattle.wit_model.specs.Rules.Step.{logged};
 ghost use Rattle.wit_model.specs.Rules.Verdict.{typed_request, verdict};
 ghost use Rattle.wit_check.specs.Answers.{answer_by};
-ghost use Rattle.wit_core.specs.Verdict.{orders_taught};
+ghost use Rattle.wit_core.specs.Verdict.{orders_taught, IsToldBy};
 
 use crate::known::{flags_of_lock, type_of_lock};
 use crate::ready::{Plan, Ready};
@@ -70,7 +71,11 @@ impl Verifier {
         ensures prepared { IsPrepared self.old seat.0 (Check request) → IsOk result }
     {
         if !self.is_ready(seat, Plan::Check(request)) {
-            let _reply = self.ready_check(seat, request)?;
+            let verdict = self.judge(seat, request)?;
+            if let Verdict::Pass = verdict {
+                return self.pass(seat, request);
+            }
+            let _reply = self.ready_verdict(seat, request, verdict)?;
         }
         Ok(self.enter_check(seat, request))
     }
@@ -80,15 +85,35 @@ impl Verifier {
         ensures answer { Prepares self.old seat.0 (Check request) result self.new }
         ensures logged { IfOk result (λ r. is_logged r ≡ true) }
     {
-        let reply = self.answer_check(seat, request)?;
+        let verdict = self.judge(seat, request)?;
+        self.ready_verdict(seat, request, verdict)
+    }
+
+    // Prepares a request on which this is the verdict. By itself, so that a request that passes
+    // doesn't pay for its locals.
+    #[inline(never)]
+    fn ready_verdict(
+        &mut self,
+        seat: SeatNo,
+        request: Request,
+        verdict: Verdict,
+    ) -> Result<Reply, Fault>
+        requires seat { is_seat (state_of self.old) seat.0 ≡ true }
+        requires lock { is_live (state_of self.old) request.lock.0 ≡ true }
+        requires verdict { IsToldBy self.old seat.0 request verdict }
+        ensures answer { Prepares self.old seat.0 (Check request) result self.new }
+        ensures logged { IfOk result (λ r. is_logged r ≡ true) }
+    {
+        let reply = self.reply_to(seat, request, verdict)?;
         self.make_ready(seat, Plan::Check(request), reply)
     }
 
-    fn answer_check(&self, seat: SeatNo, request: Request) -> Result<Reply, Fault>
-        ensures ok { IfOk result (λ r. (answer_of self.now seat.0 (Check request) ≡ Ok r)
-            × (is_logged r ≡ true)) }
-        ensures err { IfErr result (λ e. (answer_of self.now seat.0 (Check request) ≡ Err e)
-            ⊎ ((e ≡ OutOfMemory) × IsEntered (answer_of self.now seat.0 (Check request)))) }
+    // The verdict on a request, where it isn't refused.
+    fn judge(&self, seat: SeatNo, request: Request) -> Result<Verdict, Fault>
+        ensures seat { OnOk result (is_seat (state_of self.now) seat.0 ≡ true) }
+        ensures lock { OnOk result (is_live (state_of self.now) request.lock.0 ≡ true) }
+        ensures ok { IfOk result (IsToldBy self.now seat.0 request) }
+        ensures err { IfErr result (λ e. answer_of self.now seat.0 (Check request) ≡ Err e) }
     {
         self.before_acquiring(seat, request.lock, request.mode, request.site)?;
         let verdict = self.verdict(seat, request);
@@ -98,7 +123,7 @@ impl Verifier {
         if !self.has_room(3) {
             return Err(Fault::LogFull);
         }
-        self.reply_to(seat, request, verdict)
+        Ok(verdict)
     }
 
     // The verdict on the request of a seat for a live lock.
@@ -204,5 +229,22 @@ impl Verifier {
         };
         self.log.push(entry, 2);
         reply
+    }
+
+    // Enters a request that passes.
+    fn pass(&mut self, seat: SeatNo, request: Request) -> Result<Reply, Fault>
+        requires passes { answer_of self.old seat.0 (Check request) ≡ Ok Pass }
+        ensures { AnswersOrFails self.old seat.0 (Check request) result self.new }
+    {
+        self.log.reserve(3)?;
+        self.ready = None;
+        self.seats.ask(seat, request);
+        let entry = Entry {
+            seat,
+            call: Call::Check(request),
+            reply: Reply::Pass,
+        };
+        self.log.push(entry, 2);
+        Ok(Reply::Pass)
     }
 }
