@@ -9,12 +9,12 @@ use Rattle.wit_model.specs.declared.faults.Fault.{Fault}
 use Rattle.wit_model.specs.declared.faults.Fault.TheVariants.{BadName, ClassMismatch, TypesFull}
 use Rattle.wit_model.specs.declared.faults.Fault.TheVariants.{OutOfMemory}
 use Rattle.wit_model.specs.declared.locks.Class.{Class}
-use Rattle.wit_model.specs.Rules.Names.{is_name}
-use Rattle.wit_model.specs.Rules.Numbers.{with_number, with_changed}
+use Rattle.wit_model.specs.Rules.Names.{is_name, is_file_name}
+use Rattle.wit_model.specs.Rules.Numbers.{IsGiven, with_number, with_changed}
 use Rattle.wit_model.specs.declared.locks.LockType.{LockType}
 use Rattle.wit_model.specs.Rules.Types.{is_enrolled, is_otherwise, type_number, enrolled}
 use Rattle.wit_model.specs.Rules.Verdict.{is_named_pair}
-use Rattle.wit_model.specs.Rules.Files.{files_after}
+use Rattle.wit_model.specs.Rules.Files.{is_known_file, file_number, files_after}
 
 -- the types, for each of them how many live locks it has, the source files, the pairs of names that
 -- were blessed, and how many types and files there may be
@@ -72,6 +72,12 @@ live_after name types live = if is_enrolled name types then live else live ++ 0 
 abbrev pub with_type : Names → List ℕ → Class → Names
 with_type n name class =
     record n { types = enrolled name class n.types; live = live_after name n.types n.live }
+
+-- a known file with this name has this number
+abbrev pub HasFile : Names → List ℕ → ℕ → Type 0
+HasFile n name f =
+    IsGiven n.files f × (is_file_name name ≡ true) × (is_known_file name n.files ≡ true)
+    × (file_number name n.files ≡ f)
 
 abbrev pub with_file : Names → List ℕ → Names
 with_file n name = record n { files = files_after name n.files }

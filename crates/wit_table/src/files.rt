@@ -15,13 +15,15 @@ use indexmap::IndexSet;
 use std::alloc::{AllocError, Global};
 use wit_model::{Fault, FileName, FileNo};
 
-/// Enters a file where it is new, and gives its number: `Table::file`.
+/// Enters a file where it is new, and gives its number, which is the recent one from then on:
+/// `Table::file`.
 ///
 /// # Errors
 /// In this order: `BadName`, `FilesFull`, `OutOfMemory`; the files are then as before.
 pub fn file_in(
     alloc: Global,
     files: &mut IndexSet<String>,
+    recent: &mut FileNo,
     most: u32,
     name: &str,
 ) -> Result<FileNo, Fault>
@@ -40,7 +42,8 @@ pub fn file_in(
 {
     // A known name is a file name, and isn't tested again.
     if let Some(place) = place_of(files, name) {
-        return Ok(FileNo((place + 1) as u16));
+        *recent = FileNo((place + 1) as u16);
+        return Ok(*recent);
     }
     if !FileName::accepts(name) {
         return Err(Fault::BadName);
@@ -50,7 +53,8 @@ pub fn file_in(
         return Err(Fault::FilesFull);
     }
     add_file(alloc, files, name)?;
-    Ok(FileNo((count + 1) as u16))
+    *recent = FileNo((count + 1) as u16);
+    Ok(*recent)
 }
 
 // The place of the file with this name.

@@ -12,7 +12,7 @@ ghost use Rattle.wit_model.specs.Rules.Files.{is_known_file, file_number, file_a
 ghost use Rattle.wit_model.specs.Rules.Refusals.{IsRefusal};
 ghost use Rattle.wit_table.specs.Known.{no_names, type_names, HasName, HasClass, enroll_answer};
 ghost use Rattle.wit_table.specs.Known.{with_type, with_file, live_of, with_live, are_blessed};
-ghost use Rattle.wit_table.specs.Known.{with_blessed, are_names, IsBlessRefusal};
+ghost use Rattle.wit_table.specs.Known.{with_blessed, are_names, IsBlessRefusal, HasFile};
 
 use crate::files::{file_at, file_in};
 use crate::types::{
@@ -34,6 +34,8 @@ pub struct Table {
     alloc: Global,
     types: IndexMap<String, TypeRow>,
     files: IndexSet<String>,
+    // The file that was named last, 0 before any was: most sites follow others of their file.
+    recent: FileNo,
     blessed: Vec<(Name, Name)>,
     most_types: u32,
     most_files: u32,
@@ -67,6 +69,7 @@ impl Table {
             alloc,
             types: rows,
             files: IndexSet::new(alloc),
+            recent: FileNo(0),
             blessed: Vec::new(alloc),
             most_types: types,
             most_files: files,
@@ -243,7 +246,30 @@ impl Table {
             → is_known_file name.now self.old.files ≡ false) }
         ensures unchanged { OnErr result (self.new ≡ self.old) }
     {
-        file_in(self.alloc, &mut self.files, self.most_files, name)
+        let recent = self.recent;
+        if self.has_name(recent, name) {
+            return Ok(recent);
+        }
+        file_in(
+            self.alloc,
+            &mut self.files,
+            &mut self.recent,
+            self.most_files,
+            name,
+        )
+    }
+
+    // Whether there is a source file with this number, and it has this name.
+    fn has_name(&self, file: FileNo, name: &str) -> bool
+        ensures { result ≡ true → HasFile self.now name.now file.0 }
+    {
+        if file.0 == 0 {
+            return false;
+        }
+        if file.0 as usize > self.files() {
+            return false;
+        }
+        self.file_name(file) == name
     }
 
     /// Blesses a pair of names: their types may be taken in either order. The names needn't be
