@@ -1,6 +1,6 @@
 //! How a line begins: its first word is read once, whatever the line is.
 
-ghost use Rattle.std.specs.Prelude.{Option};
+ghost use Rattle.std.specs.Prelude.{◌≡◌, ◌++◌, Option, codes, drop, true};
 ghost use Rattle.wit_model.specs.declared.lines.Line.{Line};
 ghost use Rattle.wit_model.specs.Trace.Reading.{fields_of, line_of};
 ghost use Rattle.wit_grammar.specs.Lines.{Gives, GivesIfFound, Begins, as_line};
@@ -11,15 +11,53 @@ use crate::lock_lines::{check, plain, step, try_lock, try_take, unlock};
 use crate::parse::fields;
 use crate::words;
 use std::alloc::Global;
-use wit_model::{Keyword, Line, LockLine, RawStep};
+use wit_model::{Keyword, Line, LockLine, RawStep, Verb};
 
 /// The keyword that a line begins with, and the bytes behind it.
 pub type Begun<'a> = (Keyword, &'a [u8]);
 
-/// Reads the first word of a line: `None` where it is no keyword.
-#[tactic(auto, unfolding(wit_model::specs::Trace::Reading::line_of))]
+/// Reads the first word of a line: `None` where it is no keyword. The most frequent keywords are
+/// compared at once, and the end of no word has to be found then.
 #[inline(always)]
 pub fn begin_line(bytes: &[u8]) -> Option<Begun<'_>>
+    ensures { Begins result (line_of bytes.now) }
+{
+    if is_lock(bytes) {
+        return Some((Keyword::Plain(Verb::Note), &bytes[4..]));
+    }
+    if is_unlock(bytes) {
+        return Some((Keyword::Unlock, &bytes[6..]));
+    }
+    if is_check(bytes) {
+        return Some((Keyword::Check, &bytes[5..]));
+    }
+    begin_any(bytes)
+}
+
+#[inline(always)]
+fn is_lock(bytes: &[u8]) -> bool
+    ensures { result ≡ true → bytes.now ≡ codes "lock " ++ drop 5 bytes.now }
+{
+    matches!(bytes, [b'l', b'o', b'c', b'k', b' ', ..])
+}
+
+#[inline(always)]
+fn is_unlock(bytes: &[u8]) -> bool
+    ensures { result ≡ true → bytes.now ≡ codes "unlock " ++ drop 7 bytes.now }
+{
+    matches!(bytes, [b'u', b'n', b'l', b'o', b'c', b'k', b' ', ..])
+}
+
+#[inline(always)]
+fn is_check(bytes: &[u8]) -> bool
+    ensures { result ≡ true → bytes.now ≡ codes "check " ++ drop 6 bytes.now }
+{
+    matches!(bytes, [b'c', b'h', b'e', b'c', b'k', b' ', ..])
+}
+
+// The same of any line.
+#[tactic(auto, unfolding(wit_model::specs::Trace::Reading::line_of))]
+fn begin_any(bytes: &[u8]) -> Option<Begun<'_>>
     ensures { Begins result (line_of bytes.now) }
 {
     let (word, rest) = words::split_before(b' ', bytes);

@@ -1,7 +1,7 @@
 //! The numbers of a line: each reader gives a number and the bytes after it, or `LineError::SYNTAX`
 //! where the bytes begin with none.
 
-ghost use Rattle.std.specs.Prelude.{◌+◌, ◌*◌, ◌≡◌, ◌≤◌, ◌<◌, ◌==◌, ◌&&◌, ◌||◌, not, length, true};
+ghost use Rattle.std.specs.Prelude.{◌+◌, ◌*◌, ◌≡◌, ◌≤◌, ◌<◌, ◌==◌, ◌&&◌, ◌||◌, ◌∷◌, [], not, drop, length, true};
 ghost use Rattle.std.specs.Prelude.{None, IfOk, IfSome, slice_index};
 ghost use Rattle.std.specs.Char.{is_ascii_digit, digit_value};
 ghost use Rattle.wit_model.specs.Trace.Reading.{number_of, field_at, behind, leading_count};
@@ -83,9 +83,50 @@ fn leading_number(most: u32, bytes: &[u8]) -> Result<(u32, &[u8]), LineError>
     Ok((number, rest))
 }
 
-#[tactic(auto, unfolding(wit_model::specs::Trace::Reading::leading_word))]
+// A number behind a space. One of a single digit is read at once.
 #[inline(always)]
 fn number(most: u32, bytes: &[u8]) -> Result<(u32, &[u8]), LineError>
+    ensures value { Gives (λ x. (x.0, x.1.now)) result (field_at (number_of (most + 1)) bytes.now) }
+    ensures below { IfOk result (λ x. x.0 ≤ most) }
+{
+    if let Some(number) = last_digit(bytes) {
+        if number <= most {
+            return Ok((number, &bytes[2..]));
+        }
+    }
+    if let Some(number) = inner_digit(bytes) {
+        if number <= most {
+            return Ok((number, &bytes[2..]));
+        }
+    }
+    any_number(most, bytes)
+}
+
+// The number that the last word is, where it has a single digit.
+#[inline(always)]
+fn last_digit(bytes: &[u8]) -> Option<u32>
+    ensures { IfSome result (λ n. (n ≤ 9) × (bytes.now ≡ 32 ∷ (n + 48) ∷ [])) }
+{
+    match bytes {
+        [b' ', digit] if digit.is_ascii_digit() => Some(u32::from(*digit - b'0')),
+        _ => None,
+    }
+}
+
+// The same of a word before others.
+#[inline(always)]
+fn inner_digit(bytes: &[u8]) -> Option<u32>
+    ensures { IfSome result (λ n. (n ≤ 9)
+        × (bytes.now ≡ 32 ∷ (n + 48) ∷ 32 ∷ drop 3 bytes.now)) }
+{
+    match bytes {
+        [b' ', digit, b' ', ..] if digit.is_ascii_digit() => Some(u32::from(*digit - b'0')),
+        _ => None,
+    }
+}
+
+#[tactic(auto, unfolding(wit_model::specs::Trace::Reading::leading_word))]
+fn any_number(most: u32, bytes: &[u8]) -> Result<(u32, &[u8]), LineError>
     ensures value { Gives (λ x. (x.0, x.1.now)) result (field_at (number_of (most + 1)) bytes.now) }
     ensures below { IfOk result (λ x. x.0 ≤ most) }
 {

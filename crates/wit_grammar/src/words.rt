@@ -1,7 +1,7 @@
 //! The words of a line: each reader gives a value and the bytes after it, or `LineError::SYNTAX`
 //! where the bytes begin with none.
 
-ghost use Rattle.std.specs.Prelude.{◌≡◌, ◌≤◌, ◌<◌, ◌^◌, length, IfSome};
+ghost use Rattle.std.specs.Prelude.{◌≡◌, ◌≤◌, ◌<◌, ◌^◌, ◌++◌, codes, drop, length, true, IfSome};
 ghost use Rattle.wit_model.specs.Trace.Reading.{after, byte_place, until, version_named};
 ghost use Rattle.wit_model.specs.Trace.Reading.{class_named, mode_named, level_named, bits_of};
 ghost use Rattle.wit_model.specs.Trace.Reading.{flags_of, leading_word, field_at, fixed_at};
@@ -102,10 +102,37 @@ pub fn version(bytes: &[u8]) -> Result<(Version, &[u8]), LineError>
     }
 }
 
-/// A mode: `s` or `x`.
-#[tactic(auto, unfolding(wit_model::specs::Trace::Reading::mode_named))]
+/// A mode: `s` or `x`. The latter, in which mutexes are always held, is compared at once.
 #[inline(always)]
 pub fn mode(bytes: &[u8]) -> Result<(Mode, &[u8]), LineError>
+    ensures { Gives (λ x. (x.0, x.1.now)) result (field_at mode_named bytes.now) }
+{
+    if is_last_x(bytes) {
+        return Ok((Mode::Exclusive, &bytes[2..]));
+    }
+    if is_inner_x(bytes) {
+        return Ok((Mode::Exclusive, &bytes[2..]));
+    }
+    any_mode(bytes)
+}
+
+#[inline(always)]
+fn is_last_x(bytes: &[u8]) -> bool
+    ensures { result ≡ true → bytes.now ≡ codes " x" }
+{
+    matches!(bytes, [b' ', b'x'])
+}
+
+#[inline(always)]
+fn is_inner_x(bytes: &[u8]) -> bool
+    ensures { result ≡ true → bytes.now ≡ codes " x " ++ drop 3 bytes.now }
+{
+    matches!(bytes, [b' ', b'x', b' ', ..])
+}
+
+// The same of either.
+#[tactic(auto, unfolding(wit_model::specs::Trace::Reading::mode_named))]
+fn any_mode(bytes: &[u8]) -> Result<(Mode, &[u8]), LineError>
     ensures { Gives (λ x. (x.0, x.1.now)) result (field_at mode_named bytes.now) }
 {
     let (word, rest) = word(bytes)?;
