@@ -16,6 +16,7 @@ mod bad_lines;
 pub mod calls;
 mod endings;
 mod entering;
+mod frequent_lines;
 pub mod line_calls;
 pub mod prelude;
 mod reaching;
@@ -27,14 +28,13 @@ use crate::stream::ports::{Failures, Ports};
 use crate::stream::{Pace, run};
 use crate::summary::{ReplayError, Summary};
 pub use bad_lines::bad_text;
-use calls::{call_on_lock, reply_step};
 use prelude::Prelude;
 use std::alloc::{AllocError, Global};
 use std::io::{BufRead, Write};
 use views::{last_text, last_world_text, shown};
 use wit_core::Verifier;
 use wit_grammar::{Begun, LineError, begin_line, lock_line};
-use wit_model::{Cause, View};
+use wit_model::{Cause, Keyword, Verb, View};
 use wit_world::World;
 use world_lines::step_on_lock;
 
@@ -139,7 +139,7 @@ pub(crate) enum Progress {
 impl Replaying {
     // A line that may be one on a lock in a world. By itself, so that no other pays for its locals.
     #[inline(never)]
-    fn world_line(
+    pub(crate) fn world_line(
         &mut self,
         alloc: Global,
         number: u64,
@@ -215,17 +215,16 @@ impl Machine for Replaying {
     ) -> Result<Step, AllocError> {
         // Hardly a line has a text.
         drop(room);
-        let view = self.view;
         let begun = begin_line(bytes);
-        if let Progress::Reading { verifier, .. } = &mut self.progress {
-            if let Some(line) = lock_line(begun) {
-                return match call_on_lock(verifier, line) {
-                    Ok(reply) => reply_step(alloc, view, verifier, reply),
-                    Err(error) => self.progress.ended_step(alloc, number, error),
-                };
-            }
+        if !matches!(self.progress, Progress::Reading { .. }) {
+            return self.world_line(alloc, number, bytes, begun);
         }
-        self.world_line(alloc, number, bytes, begun)
+        match begun {
+            Some((Keyword::Check, rest)) => self.check_line(alloc, number, bytes, rest),
+            Some((Keyword::Unlock, rest)) => self.unlock_line(alloc, number, bytes, rest),
+            Some((Keyword::Plain(Verb::Note), rest)) => self.note_line(alloc, number, bytes, rest),
+            begun => self.other_line(alloc, number, bytes, begun),
+        }
     }
 
     fn broken(

@@ -10,9 +10,9 @@ use Rattle.wit_trace.specs.declared.replaying.Progress.TheVariants.{Reading}
 use Rattle.wit_grammar.specs.Lines.{as_line}
 use Rattle.wit_trace.proofs.WrittenLemmas.{at_ok, if_ok, call_ends, call_goes_on}
 use Rattle.wit_trace.specs.declared.replaying.Replaying.{Replaying}
-use Rattle.wit_trace.proofs.replaying.ReplayingMachine.line.Goals.{in-Reading+in_default-lock_line}
-use Rattle.wit_trace.proofs.replaying.ReplayingMachine.line.Goals.{in_default}
-use Rattle.wit_trace.proofs.replaying.ReplayingMachine.line.Goals as goal
+use Rattle.wit_trace.proofs.replaying.Replaying.begun_line.Goals.{in-Reading+in_default-lock_line}
+use Rattle.wit_trace.proofs.replaying.Replaying.begun_line.Goals.{in_default}
+use Rattle.wit_trace.proofs.replaying.Replaying.begun_line.Goals as goal
 
 pub returns-in-Err-clause-step : goal.returns-in-Err-clause-step
 returns-in-Err-clause-step c =
@@ -24,7 +24,7 @@ returns-in-Err-clause-step c =
     (Reading new remarks) c.args.number c.args.bytes.now) c.ended_step.result
     (λ s ends. call_ends c.args.self.now.view c.in-Reading.verifier new remarks c.args.number
     c.args.bytes.now (as_line c.in-Some.line) c.call_on_lock.result c.requires.short
-    (c.in-Some.ensures (line_of c.args.bytes.now) c.begin_line-begun.ensures)
+    (c.in-Some.ensures (line_of c.args.bytes.now) c.requires.begun)
     c.call_on_lock.ensures c.in-Err.error s c.in-Err.is ends)
     (c.ended_step.ensures c.args.self.now.view))
 
@@ -51,7 +51,7 @@ returns-in-Ok-clause-step c =
     (Reading new remarks) c.args.number c.args.bytes.now) c.reply_step.result
     (λ s goes. call_goes_on c.args.self.now.view c.in-Reading.verifier new remarks c.args.number
     c.args.bytes.now (as_line c.in-Some.line) c.call_on_lock.result c.requires.short
-    (c.in-Some.ensures (line_of c.args.bytes.now) c.begin_line-begun.ensures)
+    (c.in-Some.ensures (line_of c.args.bytes.now) c.requires.begun)
     c.call_on_lock.ensures c.in-Ok.reply s c.in-Ok.is goes)
     c.reply_step.ensures)
 
