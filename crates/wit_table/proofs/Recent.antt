@@ -19,5 +19,6 @@ known-at files n q some within is =
   where
     there : slice_get files (n - 1) ≡ Some q
     there =
-        ap (λ b. cond {A = Option (List ℕ)} b (slice_get files (n - 1)) None) (sym (lt-ltb 0 n some))
+        ap (λ b. cond {A = Option (List ℕ)} b (slice_get files (n - 1)) None)
+        (sym (lt-ltb 0 n some))
         ∙ is

@@ -2,6 +2,7 @@
 //! pairs.
 #![tactic(auto)]
 
+mod blessed;
 mod files;
 mod table;
 mod types;

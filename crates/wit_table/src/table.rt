@@ -1,6 +1,6 @@
 //! The table of names.
 
-ghost use Rattle.std.specs.Prelude.{◌≡◌, ◌≤◌, ◌<◌, ◌+◌, ◌-◌, ◌++◌, [], ◌∷◌, true, false, length};
+ghost use Rattle.std.specs.Prelude.{◌≡◌, ◌≤◌, ◌<◌, ◌+◌, ◌-◌, true, false, length};
 ghost use Rattle.std.specs.Prelude.{is_some, IfSome, IfOk, IfErr, OnOk, OnErr, Some, Ok};
 ghost use Rattle.std.specs.List.{IsDistinct};
 ghost use Rattle.std.specs.Str.{bytes_eq};
@@ -14,12 +14,13 @@ ghost use Rattle.wit_table.specs.Known.{no_names, type_names, HasName, HasClass,
 ghost use Rattle.wit_table.specs.Known.{with_type, with_file, live_of, with_live, are_blessed};
 ghost use Rattle.wit_table.specs.Known.{with_blessed, are_names, IsBlessRefusal, HasFile};
 
+use crate::blessed::{add_pair, is_blessed};
 use crate::files::{file_at, file_in};
 use crate::types::{
     TypeRow, class_at, enroll_in, is_otherwise, live_at, name_at, place_of, set_live,
 };
 use indexmap::{IndexMap, IndexSet};
-use std::alloc::{AllocError, Global};
+use std::alloc::Global;
 use std::marker::Model;
 use wit_model::{Class, Fault, FileNo, Name, TypeNo};
 
@@ -64,10 +65,9 @@ impl Table {
         ensures ok { IfOk result (λ t. t ≡ no_names types files) }
         ensures err { IfErr result (λ e. e ≡ OutOfMemory) }
     {
-        let rows = IndexMap::with_capacity(alloc, types as usize)?;
         Ok(Table {
             alloc,
-            types: rows,
+            types: IndexMap::with_capacity(alloc, types as usize)?,
             files: IndexSet::new(alloc),
             recent: FileNo(0),
             blessed: Vec::new(alloc),
@@ -297,30 +297,4 @@ impl Table {
     {
         is_blessed(&self.blessed, a, b)
     }
-}
-
-// Adds a pair of names.
-fn add_pair(
-    alloc: Global,
-    pairs: &mut Vec<(Name, Name)>,
-    a: &str,
-    b: &str,
-) -> Result<(), AllocError>
-    requires { are_names a.now b.now ≡ true }
-    ensures ok { OnOk result (pairs.new.items ≡ pairs.old.items ++ (a.now, b.now) ∷ []) }
-    ensures err { OnErr result (pairs.new.items ≡ pairs.old.items) }
-{
-    let first = Name::tested(alloc, a)?;
-    let second = Name::tested(alloc, b)?;
-    pairs.push((first, second))?;
-    Ok(())
-}
-
-// Whether one of the pairs holds these two names, in either order.
-fn is_blessed(pairs: &[(Name, Name)], a: &str, b: &str) -> bool
-    ensures { result ≡ are_blessed a.now b.now pairs.now }
-{
-    pairs.iter().any(|p| {
-        (p.0.as_str() == a && p.1.as_str() == b) || (p.0.as_str() == b && p.1.as_str() == a)
-    })
 }
