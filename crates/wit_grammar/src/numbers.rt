@@ -1,8 +1,8 @@
 //! The numbers of a line: each reader gives a number and the bytes after it, or `LineError::SYNTAX`
 //! where the bytes begin with none.
 
-ghost use Rattle.std.specs.Prelude.{◌+◌, ◌*◌, ◌≡◌, ◌≤◌, ◌<◌, ◌==◌, ◌&&◌, ◌||◌, ◌∷◌, [], not, drop, length, true};
-ghost use Rattle.std.specs.Prelude.{None, IfOk, IfSome, slice_index};
+ghost use Rattle.std.specs.Prelude.{◌+◌, ◌*◌, ◌≡◌, ◌≤◌, ◌<◌, ◌==◌, ◌&&◌, ◌||◌, ◌∷◌, [], not, drop};
+ghost use Rattle.std.specs.Prelude.{length, true, None, IfOk, IfSome, slice_index};
 ghost use Rattle.std.specs.Char.{is_ascii_digit, digit_value};
 ghost use Rattle.wit_model.specs.Trace.Reading.{number_of, field_at, behind, leading_count};
 ghost use Rattle.wit_model.specs.Trace.Reading.{leading_seat, leading_lock};
