@@ -45,9 +45,8 @@ pub struct Spot {
 /// is taken isn't said. No call takes memory. At any time each chunk stands once in one of the
 /// lists or among the free ones. What a call does to one list changes no other.
 ///
-/// A list is gone through from its newest chunk on, by `newest` and `older`. Where lists are long
-/// it is best to ask for the next older chunk before a chunk is looked at: a processor finds it
-/// meanwhile. Places in a list count from the oldest lock, 0.
+/// A list is gone through from its newest chunk on, by `newest` and `older`. Places in a list count
+/// from the oldest lock, 0.
 pub trait Lists {
     ghost chunks: { Self → Chunks };
 
@@ -243,8 +242,8 @@ pub fn find_lock(held: &[Instance], lock: LockNo) -> Option<usize>
     held.iter().position(|i| i.lock.0 == lock.0)
 }
 
-/// Whether a chunk is full and doesn't hold a lock. Most of those that are looked through are, and
-/// one test of five places takes a third of what five steps of a loop do.
+/// Whether a chunk is full and doesn't hold a lock: five comparisons without a loop. Most chunks
+/// that a look through a long list passes are so.
 #[inline(always)]
 pub fn is_full_without(held: &[Instance], lock: LockNo) -> bool
     ensures oldest { result ≡ true → position (is_of lock.0) held.now ≡ None }
