@@ -11,7 +11,7 @@ use Rattle.wit_model.specs.Rules.State.{State, is_seat, is_live, has_room}
 use Rattle.wit_model.specs.Rules.Step.{is_pending, is_good_name, step_init, step_set_watch}
 use Rattle.wit_model.specs.Rules.Numbers.{is_given}
 use Rattle.wit_model.specs.Rules.Destroying.{is_used, step_destroy}
-use Rattle.wit_model.proofs.Histories.Accepted.{passed, passed_not, same_reply, live-given}
+use Rattle.wit_model.proofs.Histories.Accepted.{passed, passed_not, same_reply, live-given, roomy}
 
 pub record WatchAccepted (s : State) (t : ℕ) (w : Watch) (r : Reply) : Type 0 where
   pub seat : is_seat s t ≡ true
@@ -26,8 +26,8 @@ watch_accepted s t w r ok =
     let a = passed_not (is_seat s t) _ _ r ok in
     let b = passed (is_pending s t) _ _ r a.1 in
     let c = passed (is_off s.watch && not (is_off w)) _ _ r b.1 in
-    let d = passed_not (has_room s 1) _ _ r c.1 in
-    record { seat = a.0; idle = b.0; level = c.0; room = d.0; reply = sym (same_reply d.1) }
+    let d = roomy s 1 (Ok Done) r c.1 in
+    record { seat = a.0; idle = b.0; level = c.0; room = d.1; reply = sym (same_reply d.0) }
 
 pub record InitAccepted (s : State) (t : ℕ) (lock : NewLock) (r : Reply) : Type 0 where
   pub seat : is_seat s t ≡ true
@@ -51,7 +51,7 @@ init_accepted s t lock r ok =
     passed (not (is_enrolled (type_name_of lock) s.known.types)
     && nat_le s.sizes.types (length s.known.types)) _ _ r d.1 in
     let f = passed (nat_le s.sizes.locks (length s.known.locks)) _ _ r e.1 in
-    let g = passed_not (has_room s 1) _ _ r f.1 in
+    let g = roomy s 1 (Ok (Made (record { 0 = length s.known.locks + 1 }))) r f.1 in
     record {
       seat = a.0;
       idle = b.0;
@@ -59,8 +59,8 @@ init_accepted s t lock r ok =
       class = d.0;
       types = e.0;
       locks = f.0;
-      room = g.0;
-      reply = sym (same_reply g.1);
+      room = g.1;
+      reply = sym (same_reply g.0);
     }
 
 pub record DestroyAccepted (s : State) (t l : ℕ) (r : Reply) : Type 0 where
@@ -79,13 +79,13 @@ destroy_accepted s t l r ok =
     let b = passed_not (is_live s l) _ _ r a.1 in
     let c = passed (is_pending s t) _ _ r b.1 in
     let d = passed (is_used s l) _ _ r c.1 in
-    let e = passed_not (has_room s 1) _ _ r d.1 in
+    let e = roomy s 1 (Ok Done) r d.1 in
     record {
       seat = a.0;
       lock = live-given s l b.0;
       live = b.0;
       idle = c.0;
       unused = d.0;
-      room = e.0;
-      reply = sym (same_reply e.1);
+      room = e.1;
+      reply = sym (same_reply e.0);
     }

@@ -7,7 +7,7 @@ use Rattle.wit_model.specs.declared.faults.Fault.{Fault}
 use Rattle.wit_model.specs.declared.faults.Fault.TheVariants.{ClassMismatch, TypesFull, LocksFull}
 use Rattle.wit_model.specs.declared.faults.Fault.TheVariants.{RecursionTooDeep, NotLocked}
 use Rattle.wit_model.specs.declared.faults.Fault.TheVariants.{SharedUnlock, ExclusiveUnlock}
-use Rattle.wit_model.specs.declared.faults.Fault.TheVariants.{ForbiddenUnlock, Pending, LogFull}
+use Rattle.wit_model.specs.declared.faults.Fault.TheVariants.{ForbiddenUnlock, Pending}
 use Rattle.wit_model.specs.declared.faults.Fault.TheVariants.{BadName, WatchOff, ModeNotAllowed}
 use Rattle.wit_model.specs.declared.faults.Fault.TheVariants.{UnknownFile, OutOfMemory}
 use Rattle.wit_model.specs.declared.locks.Class.{Class}
@@ -33,7 +33,7 @@ use Rattle.wit_model.specs.Rules.Types.{type_name_of, is_enrolled, is_otherwise}
 use Rattle.wit_model.specs.Rules.Locks.{lock_at}
 use Rattle.wit_model.specs.Rules.Groups.{opens}
 use Rattle.wit_model.specs.Rules.History.{is_on, is_off}
-use Rattle.wit_model.specs.Rules.State.{Start, Story, State, state_of, seat_at, free, has_room}
+use Rattle.wit_model.specs.Rules.State.{Start, Story, State, state_of, seat_at, free}
 use Rattle.wit_model.specs.Rules.Verdict.{is_exclusive, verdict}
 pub use Rattle.wit_model.specs.Rules.Questions.{chain_for, groups_for, held_by, is_pending, is_for}
 pub use Rattle.wit_model.specs.Rules.Questions.{about_seat, about_lock, before_naming}
@@ -54,8 +54,7 @@ step_typed s type_name class =
     else if not (is_enrolled type_name s.known.types) && nat_le s.sizes.types (length s.known.types)
     then Err TypesFull
     else if nat_le s.sizes.locks (length s.known.locks) then Err LocksFull
-    else if not (has_room s 1) then Err LogFull
-    else Ok (Made (record { 0 = length s.known.locks + 1 }))
+    else with_room s 1 (Ok (Made (record { 0 = length s.known.locks + 1 })))
 
 abbrev pub step_init : State → ℕ → NewLock → Result Reply Fault
 step_init s t lock =
@@ -142,9 +141,7 @@ step_unlock s t l m =
 abbrev pub step_set_watch : State → ℕ → Watch → Result Reply Fault
 step_set_watch s t watch =
     about_seat s t (
-    if is_off s.watch && not (is_off watch) then Err WatchOff
-    else if not (has_room s 1) then Err LogFull
-    else Ok Done)
+    if is_off s.watch && not (is_off watch) then Err WatchOff else with_room s 1 (Ok Done))
 
 -- the answer to a call of seat t
 abbrev pub step : State → ℕ → Call → Result Reply Fault
