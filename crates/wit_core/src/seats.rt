@@ -6,12 +6,12 @@ ghost use Rattle.wit_model.specs.declared.faults.Fault.TheVariants.{OutOfMemory}
 ghost use Rattle.wit_model.specs.Rules.Numbers.{is_given, IsGiven, IsNumber};
 ghost use Rattle.wit_model.specs.Rules.Assertions.{assertion};
 ghost use Rattle.wit_model.specs.Rules.Verdict.{is_of};
-ghost use Rattle.wit_model.specs.Rules.Step.{is_for};
+ghost use Rattle.wit_model.specs.Rules.Step.{is_for, released};
 ghost use Rattle.wit_model.specs.Rules.Destroying.{uses};
 ghost use Rattle.std.specs.List.{list_any};
 ghost use Rattle.wit_held.specs.Chains.{IsOnce, IsShallow, in_mode};
 ghost use Rattle.wit_held.specs.Marks.{marked};
-ghost use Rattle.wit_held.specs.Releases.{release_reply, release_answer};
+ghost use Rattle.wit_held.specs.Releases.{release_reply};
 ghost use Rattle.wit_core.specs.Held.{seat_view};
 ghost use Rattle.wit_core.specs.Seats.{Holdings, idle_seating, seat_in, locks_in, free_in};
 ghost use Rattle.wit_core.specs.Seats.{with_seat, asking, having_released, has_no_room};
@@ -218,7 +218,7 @@ impl Seats {
     ) -> Result<bool, Fault>
         requires seat { IsGiven self.old.seats seat.0 }
         requires once { IsOnce lock.0 (locks_in spin (seat_in self.old seat.0)) }
-        ensures result { release_reply result ≡ release_answer watch mode
+        ensures result { release_reply result ≡ released watch mode
             (find (is_of lock.0) (locks_in spin (seat_in self.old seat.0))) }
         ensures seats { result ≡ Ok true
             → self.new ≡ with_seat seat.0 (having_released spin lock.0) self.old }

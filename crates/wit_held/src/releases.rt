@@ -4,11 +4,13 @@
 ghost use Rattle.std.specs.Prelude.{◌≡◌, ◌≢◌, true, find, None, Some, Ok, Err, OnOk, IfErr};
 ghost use Rattle.wit_model.specs.declared.calls.Reply.TheVariants.{Unlocked};
 ghost use Rattle.wit_model.specs.declared.locks.Mode.{Mode};
+ghost use Rattle.wit_model.specs.declared.locks.Watch.{Watch};
+ghost use Rattle.wit_model.specs.Rules.History.{is_on};
 ghost use Rattle.wit_model.specs.Rules.Verdict.{is_of};
 ghost use Rattle.wit_model.specs.Rules.Chunks.{IsList, IsPlaced, chain_of};
 ghost use Rattle.wit_model.specs.Rules.Step.{released};
 ghost use Rattle.wit_held.specs.Chains.{IsOnce, after_forget};
-ghost use Rattle.wit_held.specs.Releases.{release_reply, release_answer};
+ghost use Rattle.wit_held.specs.Releases.{release_reply};
 ghost use Rattle.wit_held.specs.Spots.{IsThere};
 
 use crate::spots::{Found, find_held};
@@ -47,7 +49,7 @@ pub fn release<L: Lists>(
     requires list { IsList (L.chunks lists.old) list }
     requires once { IsOnce lock.0 (chain_of (L.chunks lists.old) list) }
     ensures result { release_reply result
-        ≡ release_answer watch mode (find (is_of lock.0) (chain_of (L.chunks lists.old) list)) }
+        ≡ released watch mode (find (is_of lock.0) (chain_of (L.chunks lists.old) list)) }
     ensures groups { result ≡ Ok true → (L.chunks lists.new).groups
         ≡ after_forget (L.chunks lists.old) list lock.0 }
     ensures size { (L.chunks lists.new).size ≡ (L.chunks lists.old).size }
@@ -85,7 +87,7 @@ fn take_back<L: Lists>(lists: &mut L, list: u16, there: Found)
 
 // What a release of a lock that isn't held comes to.
 fn release_of_none(watch: Watch) -> Result<bool, Fault>
-    ensures { (mode : Mode) → release_reply result ≡ release_answer watch mode None }
+    ensures { (mode : Mode) → release_reply result ≡ released watch mode None }
 {
     if !watch.is_on() {
         return Ok(false);
@@ -95,8 +97,10 @@ fn release_of_none(watch: Watch) -> Result<bool, Fault>
 
 // Whether a held lock may be released in this mode, where everything is watched.
 fn judge_release(held: Instance, mode: Mode) -> Result<(), Fault>
-    ensures ok { OnOk result (released mode (Some held) ≡ Ok Unlocked) }
-    ensures err { IfErr result (λ fault. released mode (Some held) ≡ Err fault) }
+    ensures ok { OnOk result ((watch : Watch) → is_on watch ≡ true
+        → released watch mode (Some held) ≡ Ok Unlocked) }
+    ensures err { IfErr result (λ fault. (watch : Watch) → is_on watch ≡ true
+        → released watch mode (Some held) ≡ Err fault) }
 {
     if held.mode.is_exclusive() && !mode.is_exclusive() {
         return Err(Fault::SharedUnlock);

@@ -3,20 +3,22 @@ use Rattle.std.proofs.Common.{◌≡◌, ℕ, Bool, true, false, not, ◌&&◌, 
 use Rattle.std.proofs.Common.{Some, None, Result, Ok, Err, refl, ap, sym, ◌∙◌}
 use Rattle.std.proofs.lemmas.Bool.{eqb-true, false≢true, and_parts, not-true}
 use Rattle.wit_model.specs.declared.faults.Fault.{Fault}
-use Rattle.wit_model.specs.declared.faults.Fault.TheVariants.{LogFull}
+use Rattle.wit_model.specs.declared.faults.Fault.TheVariants.{LogFull, NotLocked, SharedUnlock}
+use Rattle.wit_model.specs.declared.faults.Fault.TheVariants.{ExclusiveUnlock, ForbiddenUnlock}
 use Rattle.wit_model.specs.declared.locks.Mode.{Mode}
 use Rattle.wit_model.specs.declared.locks.Site.{Site}
+use Rattle.wit_model.specs.declared.locks.Watch.{Watch}
 use Rattle.wit_model.specs.declared.locks.Instance.{Instance}
 use Rattle.wit_model.specs.declared.calls.Request.{Request}
 use Rattle.wit_model.specs.declared.calls.Reply.{Reply}
 use Rattle.wit_model.specs.declared.calls.Reply.TheVariants.{Done, Recorded, Exhausted, Unrecorded}
-use Rattle.wit_model.specs.declared.calls.Reply.TheVariants.{Unlocked}
+use Rattle.wit_model.specs.declared.calls.Reply.TheVariants.{Unlocked, Ignored}
 use Rattle.wit_model.specs.Rules.History.{is_on, is_off}
 use Rattle.wit_model.specs.Rules.Locks.{lock_at, is_destroyed}
 use Rattle.wit_model.specs.Rules.State.{State, seat_at, is_seat, is_live, has_room}
 use Rattle.wit_model.specs.Rules.Verdict.{is_exclusive, verdict}
 use Rattle.wit_model.specs.Rules.Step.{held_by, is_pending, is_for, is_shareable, is_too_deep}
-use Rattle.wit_model.specs.Rules.Step.{with_room, is_exhausted, recorded_reply, released, let_go}
+use Rattle.wit_model.specs.Rules.Step.{with_room, is_exhausted, recorded_reply, released}
 use Rattle.wit_model.specs.Rules.Step.{step_check, step_note, step_note_try, step_give_up}
 use Rattle.wit_model.specs.Rules.Step.{step_unlock, is_logged}
 use Rattle.wit_model.specs.Rules.Numbers.{is_given, is_number}
@@ -205,29 +207,35 @@ pub record UnlockAccepted (s : State) (t l : ℕ) (m : Mode) (r : Reply) : Type 
   pub held : held_by s t l ≡ Some instance
   pub reply : r ≡ Unlocked
 
-unlocked_reply : (m : Mode) (i : Instance) (r : Reply) → released m (Some i) ≡ Ok r → r ≡ Unlocked
-unlocked_reply m i r ok =
-    let a = passed (is_exclusive i.mode && not (is_exclusive m)) _ _ r ok in
-    let b = passed (not (is_exclusive i.mode) && is_exclusive m) _ _ r a.1 in
-    let c = passed (eqb i.count 0 && i.norelease) _ _ r b.1 in
-    sym (same_reply c.1)
+-- a lock that isn't held is passed over, or refused
+pub missed : (on : Bool) (r : Reply) → is_logged r ≡ true
+    → cond {A = Result Reply Fault} on (Err NotLocked) (Ok Ignored) ≡ Ok r → ⊥
+missed true r kept ok = (cc)
+missed false r kept ok = false≢true (ap is_logged (same_reply ok) ∙ kept)
+
+-- a held lock is released
+pub unlocked_reply : (watch : Watch) (m : Mode) (i : Instance) (r : Reply)
+    → released watch m (Some i) ≡ Ok r → r ≡ Unlocked
+unlocked_reply watch m i r ok = by (is_on watch) ok
+  where
+    by : (on : Bool)
+        → cond (not on) (Ok Unlocked)
+        (cond (is_exclusive i.mode && not (is_exclusive m)) (Err SharedUnlock)
+        (cond (not (is_exclusive i.mode) && is_exclusive m) (Err ExclusiveUnlock)
+        (cond (eqb i.count 0 && i.norelease) (Err ForbiddenUnlock) (Ok Unlocked)))) ≡ Ok r
+        → r ≡ Unlocked
+    by false is = sym (same_reply is)
+    by true is =
+        let a = passed (is_exclusive i.mode && not (is_exclusive m)) _ _ r is in
+        let b = passed (not (is_exclusive i.mode) && is_exclusive m) _ _ r a.1 in
+        let c = passed (eqb i.count 0 && i.norelease) _ _ r b.1 in
+        sym (same_reply c.1)
 
 -- an accepted release that is logged finds the lock
-held_on : (m : Mode) (o : Option Instance) (r : Reply) → released m o ≡ Ok r
-    → (i : Instance) × (o ≡ Some i) × (r ≡ Unlocked)
-held_on m None r ok = (cc)
-held_on m (Some i) r ok = (i, refl, unlocked_reply m i r ok)
-
-held_below : (o : Option Instance) (r : Reply) → is_logged r ≡ true → let_go o ≡ Ok r
-    → (i : Instance) × (o ≡ Some i) × (r ≡ Unlocked)
-held_below None r kept ok = absurd (false≢true (ap is_logged (same_reply ok) ∙ kept))
-held_below (Some i) r kept ok = (i, refl, sym (same_reply ok))
-
-release_found : (on : Bool) (m : Mode) (o : Option Instance) (r : Reply) → is_logged r ≡ true
-    → cond on (released m o) (let_go o) ≡ Ok r
-    → (i : Instance) × (o ≡ Some i) × (r ≡ Unlocked)
-release_found true m o r kept ok = held_on m o r ok
-release_found false m o r kept ok = held_below o r kept ok
+release_found : (watch : Watch) (m : Mode) (o : Option Instance) (r : Reply) → is_logged r ≡ true
+    → released watch m o ≡ Ok r → (i : Instance) × (o ≡ Some i) × (r ≡ Unlocked)
+release_found watch m None r kept ok = absurd (missed (is_on watch) r kept ok)
+release_found watch m (Some i) r kept ok = (i, refl, unlocked_reply watch m i r ok)
 
 pub unlock_accepted : (s : State) (t l : ℕ) (m : Mode) (r : Reply) → step_unlock s t l m ≡ Ok r
     → is_logged r ≡ true → UnlockAccepted s t l m r
@@ -235,7 +243,7 @@ unlock_accepted s t l m r ok kept =
     let a = passed_not (is_seat s t) _ _ r ok in
     let b = passed_not (is_live s l) _ _ r a.1 in
     let c = passed (is_pending s t) _ _ r b.1 in
-    let d = release_found (is_on s.watch) m (held_by s t l) r kept c.1 in
+    let d = release_found s.watch m (held_by s t l) r kept c.1 in
     record {
       seat = a.0;
       lock = live-given s l b.0;

@@ -1,10 +1,10 @@
 -- What the acceptance of a call says that turns, marks or defines; and of one that leaves requests
 -- and acquisitions as they are.
-use Rattle.std.proofs.Common.{◌≡◌, ℕ, Bool, true, false, ◌&&◌, cond, eqb, nat_lt, Option, Some}
+use Rattle.std.proofs.Common.{◌≡◌, ℕ, Bool, true, false, cond, eqb, nat_lt, Option, Some}
 use Rattle.std.proofs.Common.{None, Result, Ok, Err, refl, ap, sym, ◌∙◌}
-use Rattle.std.proofs.lemmas.Bool.{false≢true, and_parts}
+use Rattle.std.proofs.lemmas.Bool.{false≢true}
 use Rattle.wit_model.specs.declared.faults.Fault.{Fault}
-use Rattle.wit_model.specs.declared.faults.Fault.TheVariants.{NotLocked, KindMismatch, SameType}
+use Rattle.wit_model.specs.declared.faults.Fault.TheVariants.{KindMismatch, SameType}
 use Rattle.wit_model.specs.declared.faults.Fault.TheVariants.{WrongOrder}
 use Rattle.wit_model.specs.declared.locks.Watch.{Watch}
 use Rattle.wit_model.specs.declared.locks.TypeNo.{TypeNo}
@@ -26,6 +26,7 @@ use Rattle.wit_model.specs.Rules.Turning.{is_upgradable, upgraded, downgraded, m
 use Rattle.wit_model.specs.Rules.Turning.{step_turn, step_upgrade, step_downgrade, step_mark}
 use Rattle.wit_model.specs.Rules.Defining.{are_of_two_kinds, define, step_define}
 use Rattle.wit_model.proofs.Histories.Accepted.{passed, passed_not, same_reply, live-given, roomy}
+use Rattle.wit_model.proofs.Histories.Accepted.{missed}
 use Rattle.wit_model.proofs.Histories.AcceptedLocks.{watch_accepted, destroy_accepted}
 
 -- a call that may be passed over, and isn't
@@ -33,12 +34,6 @@ entered : (s : State) (v : Result Reply Fault) (r : Reply) → is_logged r ≡ t
     → with_entry s v ≡ Ok r → (v ≡ Ok r) × (has_room s 1 ≡ true)
 entered s (Ok Ignored) r kept ok = absurd (false≢true (ap is_logged (same_reply ok) ∙ kept))
 entered s v r kept ok = roomy s 1 v r ok
-
--- a lock that isn't held is never turned or marked
-missed : (on : Bool) (r : Reply) → is_logged r ≡ true
-    → cond {A = Result Reply Fault} on (Err NotLocked) (Ok Ignored) ≡ Ok r → ⊥
-missed true r kept ok = (cc)
-missed false r kept ok = false≢true (ap is_logged (same_reply ok) ∙ kept)
 
 -- what is found of a lock whose mode is turned: it is held in the other mode (here, whether that is
 -- the exclusive one), and once

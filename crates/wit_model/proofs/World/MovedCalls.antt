@@ -1,5 +1,5 @@
 -- Tries and upgrades of a log, with the steps before them.
-use Rattle.std.proofs.Common.{◌≡◌, ◌⊎◌, ℕ, ◌<◌, Bool, true, false, not, ◌&&◌, cond, eqb, nat_lt}
+use Rattle.std.proofs.Common.{◌≡◌, ◌⊎◌, ℕ, ◌<◌, Bool, true, false, cond, eqb, nat_lt}
 use Rattle.std.proofs.Common.{is_some, List, ◌∷◌, Option, None, Some, Result, Ok, Err, refl, ap}
 use Rattle.std.proofs.Common.{sym, ◌∙◌, subst, inl, inr, arith}
 use Rattle.std.proofs.lemmas.Bool.{eq-eqb, cases_Bool, true≢false}
@@ -21,7 +21,7 @@ use Rattle.wit_model.specs.Rules.Verdict.{is_exclusive}
 use Rattle.wit_model.specs.Rules.Questions.{before_naming, with_room, with_entry, class_at}
 use Rattle.wit_model.specs.Rules.Turning.{is_upgradable, upgraded, downgraded}
 use Rattle.wit_model.specs.Rules.Step.{answer_of, story_after, is_pending, held_by, is_exhausted}
-use Rattle.wit_model.specs.Rules.Step.{is_logged, released, let_go, step}
+use Rattle.wit_model.specs.Rules.Step.{is_logged, released, step}
 use Rattle.wit_model.specs.World.Deeds.{Deed, TryTake, RawUp, log_of, are_these, shares, raw_mode}
 use Rattle.wit_model.specs.World.Deeds.{own}
 use Rattle.wit_model.specs.World.Moving.{step_before, is_free_beside}
@@ -32,7 +32,7 @@ use Rattle.wit_model.specs.World.Steps.{admits, IsWorld}
 use Rattle.wit_model.proofs.Chains.Sane.{IsSane}
 use Rattle.wit_model.proofs.Chains.Found.{if_some}
 use Rattle.wit_model.proofs.Chains.HeldLocks.{num-of_free, num-of_held}
-use Rattle.wit_model.proofs.Histories.Accepted.{passed, passed_not, try_accepted}
+use Rattle.wit_model.proofs.Histories.Accepted.{passed, passed_not, try_accepted, unlocked_reply}
 use Rattle.wit_model.proofs.Histories.AcceptedTurns.{upgrade_accepted}
 use Rattle.wit_model.proofs.Histories.Legal.{held_by-state, some-held, pending-state}
 use Rattle.wit_model.proofs.World.Backed.{IsBacked, raw-elsewhere, these-mine, IsApart}
@@ -72,15 +72,11 @@ entered-ignored s answer ok = roomed s answer ok
         go false is = (cc)
 
 -- a release or a turn is passed over where the lock isn't held
-pub none-released : (on : Bool) (m : Mode) (o : Option Instance)
-    → cond on (released m o) (let_go o) ≡ Ok Ignored → o ≡ None
-none-released on m None ok = refl
-none-released true m (Some i) ok =
-    let a = passed (is_exclusive i.mode && not (is_exclusive m)) _ _ Ignored ok in
-    let b = passed (not (is_exclusive i.mode) && is_exclusive m) _ _ Ignored a.1 in
-    let c = passed (eqb i.count 0 && i.norelease) _ _ Ignored b.1 in
-    let same : ◌≡◌ {A = Result Reply Fault} (Ok Unlocked) (Ok Ignored) = c.1 in (cc)
-none-released false m (Some i) ok = (cc)
+pub none-released : (watch : Watch) (m : Mode) (o : Option Instance)
+    → released watch m o ≡ Ok Ignored → o ≡ None
+none-released watch m None ok = refl
+none-released watch m (Some i) ok =
+    let is : Ignored ≡ Unlocked = unlocked_reply watch m i Ignored ok in (cc)
 
 none-raised : (watch : Watch) (o : Option Instance) → upgraded watch o ≡ Ok Ignored → o ≡ None
 none-raised watch None ok = refl

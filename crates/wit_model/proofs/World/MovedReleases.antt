@@ -15,7 +15,6 @@ use Rattle.wit_model.specs.declared.raw_steps.RawStep.TheVariants as raw_step
 use Rattle.wit_model.specs.Rules.Locks.{destroyed_of, is_destroyed}
 use Rattle.wit_model.specs.Rules.Numbers.{is_given}
 use Rattle.wit_model.specs.Rules.History.{Releases, act, act_by, num, pending, turned_by, mode}
-use Rattle.wit_model.specs.Rules.History.{is_on}
 use Rattle.wit_model.specs.Rules.State.{State, state_of, is_live, typed_locks}
 use Rattle.wit_model.specs.Rules.Verdict.{is_exclusive}
 use Rattle.wit_model.specs.Rules.Questions.{class_at}
@@ -180,7 +179,7 @@ module _ (x : Scene) (fits : Fits x) (t : ℕ) (l : LockNo) where
         unheld =
             let b = naming st t l.0 _ Ignored (ok-log x fits t (Unlock l m) Ignored ok) in
             unheld-log fits.start fits.files w x fits.world fits.shown t l.0 b.0
-            (none-released (is_on st.watch) m (held_by st t l.0) b.3)
+            (none-released st.watch m (held_by st t l.0) b.3)
 
     pub unlock-does : (r : Reply) → answer_of x.story t (Unlock l m) ≡ Ok r
         → Does t (Unlock l m) r x

@@ -4,14 +4,16 @@ use Rattle.std.specs.Prelude.{ℕ, Bool, false, not, ◌==◌, List, Option, Non
 use Rattle.std.specs.Prelude.{find, is_some, if◌then◌else◌}
 use Rattle.wit_model.specs.declared.faults.Fault.{Fault}
 use Rattle.wit_model.specs.declared.faults.Fault.TheVariants.{UnknownSeat, UnknownLock, Pending}
-use Rattle.wit_model.specs.declared.faults.Fault.TheVariants.{NotRequested, LogFull}
+use Rattle.wit_model.specs.declared.faults.Fault.TheVariants.{NotRequested, NotLocked, LogFull}
 use Rattle.wit_model.specs.declared.locks.Class.{Class}
+use Rattle.wit_model.specs.declared.locks.Watch.{Watch}
 use Rattle.wit_model.specs.declared.locks.Instance.{Instance}
 use Rattle.wit_model.specs.declared.calls.Request.{Request}
 use Rattle.wit_model.specs.declared.calls.Reply.{Reply}
 use Rattle.wit_model.specs.declared.calls.Reply.TheVariants.{Ignored}
 use Rattle.wit_model.specs.Rules.Types.{is_spin}
 use Rattle.wit_model.specs.Rules.Locks.{lock_at}
+use Rattle.wit_model.specs.Rules.History.{is_on}
 use Rattle.wit_model.specs.Rules.State.{State, seat_at, is_seat, is_live, groups_in, has_room}
 use Rattle.wit_model.specs.Rules.Verdict.{is_of, chain_of_kind}
 
@@ -70,3 +72,7 @@ with_room s n (Ok reply) = if has_room s n then Ok reply else Err LogFull
 abbrev pub with_entry : State → Result Reply Fault → Result Reply Fault
 with_entry s (Ok Ignored) = Ok Ignored
 with_entry s answer = with_room s 1 answer
+
+-- a lock that isn't held is a fault where everything is watched, and passed over where less is
+abbrev pub unless_held : Watch → Result Reply Fault
+unless_held watch = if is_on watch then Err NotLocked else Ok Ignored

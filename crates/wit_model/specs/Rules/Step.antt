@@ -5,7 +5,7 @@ use Rattle.std.specs.Prelude.{[], ◌∷◌, Option, None, Some, Result, Ok, Err
 use Rattle.std.specs.Prelude.{if◌then◌else◌}
 use Rattle.wit_model.specs.declared.faults.Fault.{Fault}
 use Rattle.wit_model.specs.declared.faults.Fault.TheVariants.{ClassMismatch, TypesFull, LocksFull}
-use Rattle.wit_model.specs.declared.faults.Fault.TheVariants.{RecursionTooDeep, NotLocked}
+use Rattle.wit_model.specs.declared.faults.Fault.TheVariants.{RecursionTooDeep}
 use Rattle.wit_model.specs.declared.faults.Fault.TheVariants.{SharedUnlock, ExclusiveUnlock}
 use Rattle.wit_model.specs.declared.faults.Fault.TheVariants.{ForbiddenUnlock, Pending}
 use Rattle.wit_model.specs.declared.faults.Fault.TheVariants.{BadName, WatchOff, ModeNotAllowed}
@@ -38,6 +38,7 @@ use Rattle.wit_model.specs.Rules.Verdict.{is_exclusive, verdict}
 pub use Rattle.wit_model.specs.Rules.Questions.{chain_for, groups_for, held_by, is_pending, is_for}
 pub use Rattle.wit_model.specs.Rules.Questions.{about_seat, about_lock, before_naming}
 pub use Rattle.wit_model.specs.Rules.Questions.{before_answering, with_room}
+use Rattle.wit_model.specs.Rules.Questions.{unless_held}
 use Rattle.wit_model.specs.Rules.Turning.{step_upgrade, step_downgrade, step_mark}
 use Rattle.wit_model.specs.Rules.Defining.{step_define}
 use Rattle.wit_model.specs.Rules.Destroying.{step_destroy}
@@ -118,24 +119,19 @@ step_note_try s t l m site =
 abbrev pub step_give_up : State → ℕ → ℕ → Result Reply Fault
 step_give_up s t l = before_answering s t l (Ok Done)
 
--- a release in this mode of a lock held so, where everything is watched; None where it isn't held
-abbrev pub released : Mode → Option Instance → Result Reply Fault
-released m None = Err NotLocked
-released m (Some i) =
-    if is_exclusive i.mode && not (is_exclusive m) then Err SharedUnlock
+-- a release in this mode of a lock held so; where less than everything is watched it is judged by
+-- nothing
+abbrev pub released : Watch → Mode → Option Instance → Result Reply Fault
+released watch m None = unless_held watch
+released watch m (Some i) =
+    if not (is_on watch) then Ok Unlocked
+    else if is_exclusive i.mode && not (is_exclusive m) then Err SharedUnlock
     else if not (is_exclusive i.mode) && is_exclusive m then Err ExclusiveUnlock
     else if (i.count == 0) && i.norelease then Err ForbiddenUnlock
     else Ok Unlocked
 
--- where less is watched, a release is judged by nothing, and passed over where the lock isn't held
-abbrev pub let_go : Option Instance → Result Reply Fault
-let_go None = Ok Ignored
-let_go (Some i) = Ok Unlocked
-
 abbrev pub step_unlock : State → ℕ → ℕ → Mode → Result Reply Fault
-step_unlock s t l m =
-    before_naming s t l (if is_on s.watch then released m (held_by s t l)
-    else let_go (held_by s t l))
+step_unlock s t l m = before_naming s t l (released s.watch m (held_by s t l))
 
 -- nothing is watched again once nothing was
 abbrev pub step_set_watch : State → ℕ → Watch → Result Reply Fault

@@ -4,7 +4,7 @@
 use Rattle.std.specs.Prelude.{ℕ, Bool, true, false, not, nat_lt, Option, None, Some, Result, Ok}
 use Rattle.std.specs.Prelude.{Err, if◌then◌else◌}
 use Rattle.wit_model.specs.declared.faults.Fault.{Fault}
-use Rattle.wit_model.specs.declared.faults.Fault.TheVariants.{NotLocked, NotUpgradable}
+use Rattle.wit_model.specs.declared.faults.Fault.TheVariants.{NotUpgradable}
 use Rattle.wit_model.specs.declared.faults.Fault.TheVariants.{UpgradeOfExclusive, UpgradeRecursed}
 use Rattle.wit_model.specs.declared.faults.Fault.TheVariants.{DowngradeOfShared, DowngradeRecursed}
 use Rattle.wit_model.specs.declared.locks.Class.{Class}
@@ -17,16 +17,13 @@ use Rattle.wit_model.specs.Rules.History.{is_on}
 use Rattle.wit_model.specs.Rules.State.{State}
 use Rattle.wit_model.specs.Rules.Verdict.{is_exclusive}
 use Rattle.wit_model.specs.Rules.Questions.{class_at, held_by, before_naming, with_entry}
+use Rattle.wit_model.specs.Rules.Questions.{unless_held}
 
 -- whether a lock of the class can be turned from shared to exclusive and back
 abbrev pub is_upgradable : Class → Bool
 is_upgradable Rw = true
 is_upgradable Sx = true
 is_upgradable _ = false
-
--- a lock that isn't held is a fault where everything is watched, and passed over where less is
-abbrev pub unless_held : Watch → Result Reply Fault
-unless_held watch = if is_on watch then Err NotLocked else Ok Ignored
 
 -- the answer to an upgrade of a lock held so
 abbrev pub upgraded : Watch → Option Instance → Result Reply Fault

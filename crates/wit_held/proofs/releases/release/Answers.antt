@@ -1,7 +1,7 @@
 use Rattle.std.proofs.Common.{ap, ◌∙◌}
 use Rattle.wit_model.specs.Rules.Chunks.{chain_of}
 use Rattle.wit_held.specs.Chains.{after_forget}
-use Rattle.wit_held.specs.Releases.{release_answer}
+use Rattle.wit_model.specs.Rules.Step.{released}
 use Rattle.wit_held.proofs.Newest.{found-lock}
 use Rattle.wit_held.proofs.FoundLock.{named, once-named}
 use Rattle.wit_held.proofs.releases.release.Goals as goal
@@ -9,7 +9,7 @@ use Rattle.wit_held.proofs.releases.release.Goals as goal
 pub returns-in_default-clause-result : goal.returns-in_default-clause-result
 returns-in_default-clause-result g c =
     c.release_of_none.ensures c.args.mode
-    ∙ ap (release_answer c.args.watch c.args.mode) c.in_default.ensures.held
+    ∙ ap (released c.args.watch c.args.mode) c.in_default.ensures.held
 
 pub take_back-requires-clause-there : goal.take_back-requires-clause-there
 take_back-requires-clause-there g c =

@@ -1,7 +1,7 @@
 use Rattle.std.proofs.Common.{find, sym, ap, subst, ◌∙◌}
 use Rattle.wit_model.specs.Rules.Verdict.{is_of}
+use Rattle.wit_model.specs.Rules.Step.{released}
 use Rattle.wit_held.specs.Chains.{IsOnce}
-use Rattle.wit_held.specs.Releases.{release_answer}
 use Rattle.wit_core.proofs.SeatRows.{number-now, list-now, chain-now, forgotten-now}
 use Rattle.wit_core.proofs.seats.Seats.release.Goals as goal
 
@@ -24,7 +24,7 @@ release-requires-clause-once c =
 pub returns-clause-result : goal.returns-clause-result
 returns-clause-result c =
     c.release.ensures.result
-    ∙ ap (λ chain. release_answer c.args.watch c.args.mode (find (is_of c.args.lock.0) chain))
+    ∙ ap (λ chain. released c.args.watch c.args.mode (find (is_of c.args.lock.0) chain))
     (chain-now c.self.inside c.args.self.now c.self.view_is c.self.invariant c.args.seat.0
     c.requires.seat c.list_of.result c.args.spin c.list_of.ensures)
 
