@@ -1,10 +1,9 @@
 //! Classes, modes, numbers, types and locks: the plain words of locking(9).
 
 ghost use Rattle.std.specs.Prelude.{◌≡◌};
-ghost use Rattle.wit_model.specs.Rules.Types.{is_spin};
+ghost use Rattle.wit_model.specs.Rules.Types.{is_spin, is_shareable};
 ghost use Rattle.wit_model.specs.Rules.History.{is_on, is_off};
 ghost use Rattle.wit_model.specs.Rules.Verdict.{is_exclusive};
-ghost use Rattle.wit_model.specs.Rules.Step.{is_shareable};
 
 use crate::calls::NewLock;
 use crate::names::Name;

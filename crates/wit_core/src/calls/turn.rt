@@ -6,13 +6,14 @@ ghost use Rattle.wit_model.specs.declared.calls.Reply.TheVariants.{Done};
 ghost use Rattle.wit_model.specs.declared.locks.Watch.{Watch};
 ghost use Rattle.wit_model.specs.Rules.State.{state_of};
 ghost use Rattle.wit_model.specs.Rules.Step.{AnswersOrFails, answer_of, held_by, is_logged, logged};
-ghost use Rattle.wit_model.specs.Rules.Turning.{is_upgradable, unless_held, step_turn};
+ghost use Rattle.wit_model.specs.Rules.Questions.{unless_held};
+ghost use Rattle.wit_model.specs.Rules.Turning.{step_turn};
 ghost use Rattle.wit_core.specs.Turning.{turn_call, turn_answer};
 
 use crate::log::is_logged;
 use crate::verifier::Verifier;
 use std::alloc::AllocError;
-use wit_model::{Call, Class, Entry, Fault, Instance, LockNo, Mode, Reply, SeatNo, Watch};
+use wit_model::{Call, Entry, Fault, Instance, LockNo, Mode, Reply, SeatNo, Watch};
 
 impl Verifier {
     /// Tells that a lock held shared is held exclusively from now on, as after `rw_try_upgrade` of
@@ -63,7 +64,7 @@ impl Verifier {
         ensures logged { IfOk result (λ r. is_logged r ≡ true → r ≡ Done) }
     {
         self.before_naming(seat, lock)?;
-        if !is_upgradable(self.class_of_lock(lock)) {
+        if !self.class_of_lock(lock).is_shareable() {
             return Err(Fault::NotUpgradable);
         }
         let Some(held) = self.held(seat, lock) else {
@@ -103,13 +104,6 @@ fn turn_call(lock: LockNo, mode: Mode) -> Call
         Mode::Exclusive => Call::Upgrade(lock),
         Mode::Shared => Call::Downgrade(lock),
     }
-}
-
-// Whether locks of the class can be turned from one mode to the other: mutexes never are.
-fn is_upgradable(class: Class) -> bool
-    ensures { result ≡ is_upgradable class }
-{
-    matches!(class, Class::Rw | Class::Sx)
 }
 
 // A held lock is turned to this mode: but not to the one that it has, and not where it was acquired

@@ -17,7 +17,8 @@ use Rattle.wit_model.specs.Rules.History.{is_on, is_off}
 use Rattle.wit_model.specs.Rules.Locks.{lock_at, is_destroyed}
 use Rattle.wit_model.specs.Rules.State.{State, seat_at, is_seat, is_live, has_room}
 use Rattle.wit_model.specs.Rules.Verdict.{is_exclusive, verdict}
-use Rattle.wit_model.specs.Rules.Step.{held_by, is_pending, is_for, is_shareable, is_too_deep}
+use Rattle.wit_model.specs.Rules.Types.{is_shareable}
+use Rattle.wit_model.specs.Rules.Step.{held_by, is_pending, is_for, is_too_deep}
 use Rattle.wit_model.specs.Rules.Step.{with_room, is_exhausted, recorded_reply, released}
 use Rattle.wit_model.specs.Rules.Step.{step_check, step_note, step_note_try, step_give_up}
 use Rattle.wit_model.specs.Rules.Step.{step_unlock, is_logged}

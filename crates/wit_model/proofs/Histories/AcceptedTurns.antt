@@ -22,7 +22,8 @@ use Rattle.wit_model.specs.Rules.Verdict.{is_exclusive}
 use Rattle.wit_model.specs.Rules.Step.{held_by, is_pending, step, is_logged}
 use Rattle.wit_model.specs.Rules.Numbers.{is_given}
 use Rattle.wit_model.specs.Rules.Questions.{class_at, with_entry}
-use Rattle.wit_model.specs.Rules.Turning.{is_upgradable, upgraded, downgraded, mark_answer}
+use Rattle.wit_model.specs.Rules.Types.{is_shareable}
+use Rattle.wit_model.specs.Rules.Turning.{upgraded, downgraded, mark_answer}
 use Rattle.wit_model.specs.Rules.Turning.{step_turn, step_upgrade, step_downgrade, step_mark}
 use Rattle.wit_model.specs.Rules.Defining.{are_of_two_kinds, define, step_define}
 use Rattle.wit_model.proofs.Histories.Accepted.{passed, passed_not, same_reply, live-given, roomy}
@@ -42,7 +43,7 @@ pub record TurnAccepted (s : State) (t l : ℕ) (exclusive : Bool) (r : Reply) :
   pub lock : is_given s.known.locks l ≡ true
   pub live : is_live s l ≡ true
   pub idle : is_pending s t ≡ false
-  pub class : is_upgradable (class_at s l) ≡ true
+  pub class : is_shareable (class_at s l) ≡ true
   pub instance : Instance
   pub held : held_by s t l ≡ Some instance
   pub mode : is_exclusive instance.mode ≡ exclusive
@@ -82,7 +83,7 @@ turn_accepted s t l exclusive answer r kept found ok =
     let a = passed_not (is_seat s t) _ _ r ok in
     let b = passed_not (is_live s l) _ _ r a.1 in
     let c = passed (is_pending s t) _ _ r b.1 in
-    let d = passed_not (is_upgradable (class_at s l)) _ _ r c.1 in
+    let d = passed_not (is_shareable (class_at s l)) _ _ r c.1 in
     let e = entered s answer r kept d.1 in
     let f = found e.0 in
     record {

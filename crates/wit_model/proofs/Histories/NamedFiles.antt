@@ -20,7 +20,8 @@ use Rattle.wit_model.specs.declared.calls.Entry.{Entry}
 use Rattle.wit_model.specs.Rules.Locks.{lock_at}
 use Rattle.wit_model.specs.Rules.State.{Start, State, state_of, seat_at, is_seat, is_live}
 use Rattle.wit_model.specs.Rules.Verdict.{is_exclusive, verdict}
-use Rattle.wit_model.specs.Rules.Step.{is_pending, is_shareable, is_too_deep, with_room}
+use Rattle.wit_model.specs.Rules.Types.{is_shareable}
+use Rattle.wit_model.specs.Rules.Step.{is_pending, is_too_deep, with_room}
 use Rattle.wit_model.specs.Rules.Step.{recorded_reply, answer_of, story_after, IsLegal}
 use Rattle.wit_model.specs.Rules.Numbers.{is_number}
 use Rattle.wit_model.specs.HistoryLaws.{tells_among, all_tell_among}

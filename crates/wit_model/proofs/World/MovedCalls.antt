@@ -19,7 +19,8 @@ use Rattle.wit_model.specs.Rules.History.{act, num, is_held, pending, turned_by,
 use Rattle.wit_model.specs.Rules.State.{Start, State, state_of, is_seat, is_live, has_room}
 use Rattle.wit_model.specs.Rules.Verdict.{is_exclusive}
 use Rattle.wit_model.specs.Rules.Questions.{before_naming, with_room, with_entry, class_at}
-use Rattle.wit_model.specs.Rules.Turning.{is_upgradable, upgraded, downgraded}
+use Rattle.wit_model.specs.Rules.Types.{is_shareable}
+use Rattle.wit_model.specs.Rules.Turning.{upgraded, downgraded}
 use Rattle.wit_model.specs.Rules.Step.{answer_of, story_after, is_pending, held_by, is_exhausted}
 use Rattle.wit_model.specs.Rules.Step.{is_logged, released, step}
 use Rattle.wit_model.specs.World.Deeds.{Deed, TryTake, RawUp, log_of, are_these, shares, raw_mode}
@@ -246,7 +247,7 @@ module _ (x : Scene) (fits : Fits x) (t : ℕ) where
       → num t l.0 (log_of w) ≡ 0
   upgrade-none l ok =
       let b = naming st t l.0 _ Ignored (ok-log (Upgrade l) Ignored ok) in
-      let c = passed_not (is_upgradable (class_at st l.0)) _ _ Ignored b.3 in
+      let c = passed_not (is_shareable (class_at st l.0)) _ _ Ignored b.3 in
       unheld-log fits.start fits.files w x fits.world fits.shown t l.0 b.0
       (none-raised st.watch (held_by st t l.0) (entered-ignored st _ c.1))
 

@@ -18,7 +18,7 @@ use Rattle.wit_model.specs.Rules.History.{Releases, act, act_by, num, pending, t
 use Rattle.wit_model.specs.Rules.State.{State, state_of, is_live, typed_locks}
 use Rattle.wit_model.specs.Rules.Verdict.{is_exclusive}
 use Rattle.wit_model.specs.Rules.Questions.{class_at}
-use Rattle.wit_model.specs.Rules.Turning.{is_upgradable}
+use Rattle.wit_model.specs.Rules.Types.{is_shareable}
 use Rattle.wit_model.specs.Rules.Step.{answer_of, story_after, held_by, is_logged, grown}
 use Rattle.wit_model.specs.World.Deeds.{Deed, Free, RawDown, log_of, shares, own}
 use Rattle.wit_model.specs.World.Moving.{is_kept}
@@ -279,7 +279,7 @@ module _ (x : Scene) (fits : Fits x) (t : ℕ) (l : LockNo) where
       unheld : num t l.0 (log_of w) ≡ 0
       unheld =
           let b = naming st t l.0 _ Ignored (ok-log x fits t (Downgrade l) Ignored ok) in
-          let c = passed_not (is_upgradable (class_at st l.0)) _ _ Ignored b.3 in
+          let c = passed_not (is_shareable (class_at st l.0)) _ _ Ignored b.3 in
           unheld-log fits.start fits.files w x fits.world fits.shown t l.0 b.0
           (none-lowered st.watch (held_by st t l.0) (entered-ignored st _ c.1))
 

@@ -11,7 +11,6 @@ use Rattle.wit_model.specs.declared.faults.Fault.TheVariants.{ForbiddenUnlock, P
 use Rattle.wit_model.specs.declared.faults.Fault.TheVariants.{BadName, WatchOff, ModeNotAllowed}
 use Rattle.wit_model.specs.declared.faults.Fault.TheVariants.{UnknownFile, OutOfMemory}
 use Rattle.wit_model.specs.declared.locks.Class.{Class}
-use Rattle.wit_model.specs.declared.locks.Class.TheVariants.{Rw, Sx}
 use Rattle.wit_model.specs.declared.locks.Mode.{Mode}
 use Rattle.wit_model.specs.declared.locks.Watch.{Watch}
 use Rattle.wit_model.specs.declared.locks.Site.{Site}
@@ -29,7 +28,7 @@ use Rattle.wit_model.specs.declared.calls.Reply.TheVariants.{Unrecorded, Unlocke
 use Rattle.wit_model.specs.declared.calls.Entry.{Entry}
 use Rattle.wit_model.specs.Rules.Names.{is_name}
 use Rattle.wit_model.specs.Rules.Numbers.{is_number}
-use Rattle.wit_model.specs.Rules.Types.{type_name_of, is_enrolled, is_otherwise}
+use Rattle.wit_model.specs.Rules.Types.{type_name_of, is_enrolled, is_otherwise, is_shareable}
 use Rattle.wit_model.specs.Rules.Locks.{lock_at}
 use Rattle.wit_model.specs.Rules.Groups.{opens}
 use Rattle.wit_model.specs.Rules.History.{is_on, is_off}
@@ -62,12 +61,6 @@ step_init s t lock =
     about_seat s t (
     if not (is_name lock.name && is_good_name lock.type_name) then Err BadName
     else step_typed s (type_name_of lock) lock.class)
-
--- mutexes are never held shared (mutex(9))
-abbrev pub is_shareable : Class → Bool
-is_shareable Rw = true
-is_shareable Sx = true
-is_shareable _ = false
 
 -- whether the recursion count has its greatest value
 abbrev pub is_deepest : Option Instance → Bool

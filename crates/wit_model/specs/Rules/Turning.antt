@@ -1,29 +1,22 @@
 -- Calls that change how a lock is held: its mode (rw_try_upgrade and rw_downgrade of rwlock(9),
 -- sx_try_upgrade and sx_downgrade of sx(9)), and whether it may be released (witness_norelease and
 -- witness_releaseok of subr_witness.c). The place and the site of the lock stay.
-use Rattle.std.specs.Prelude.{ℕ, Bool, true, false, not, nat_lt, Option, None, Some, Result, Ok}
+use Rattle.std.specs.Prelude.{ℕ, not, nat_lt, Option, None, Some, Result, Ok}
 use Rattle.std.specs.Prelude.{Err, if◌then◌else◌}
 use Rattle.wit_model.specs.declared.faults.Fault.{Fault}
 use Rattle.wit_model.specs.declared.faults.Fault.TheVariants.{NotUpgradable}
 use Rattle.wit_model.specs.declared.faults.Fault.TheVariants.{UpgradeOfExclusive, UpgradeRecursed}
 use Rattle.wit_model.specs.declared.faults.Fault.TheVariants.{DowngradeOfShared, DowngradeRecursed}
-use Rattle.wit_model.specs.declared.locks.Class.{Class}
-use Rattle.wit_model.specs.declared.locks.Class.TheVariants.{Rw, Sx}
 use Rattle.wit_model.specs.declared.locks.Watch.{Watch}
 use Rattle.wit_model.specs.declared.locks.Instance.{Instance}
 use Rattle.wit_model.specs.declared.calls.Reply.{Reply}
 use Rattle.wit_model.specs.declared.calls.Reply.TheVariants.{Done, Ignored}
+use Rattle.wit_model.specs.Rules.Types.{is_shareable}
 use Rattle.wit_model.specs.Rules.History.{is_on}
 use Rattle.wit_model.specs.Rules.State.{State}
 use Rattle.wit_model.specs.Rules.Verdict.{is_exclusive}
 use Rattle.wit_model.specs.Rules.Questions.{class_at, held_by, before_naming, with_entry}
 use Rattle.wit_model.specs.Rules.Questions.{unless_held}
-
--- whether a lock of the class can be turned from shared to exclusive and back
-abbrev pub is_upgradable : Class → Bool
-is_upgradable Rw = true
-is_upgradable Sx = true
-is_upgradable _ = false
 
 -- the answer to an upgrade of a lock held so
 abbrev pub upgraded : Watch → Option Instance → Result Reply Fault
@@ -49,7 +42,7 @@ mark_answer watch (Some i) = if is_on watch then Ok Done else Ok Ignored
 -- a turn of a lock, where the answer is this one for a lock that can be turned
 abbrev pub step_turn : State → ℕ → ℕ → Result Reply Fault → Result Reply Fault
 step_turn s t l answer =
-    before_naming s t l (if not (is_upgradable (class_at s l)) then Err NotUpgradable
+    before_naming s t l (if not (is_shareable (class_at s l)) then Err NotUpgradable
     else with_entry s answer)
 
 abbrev pub step_upgrade : State → ℕ → ℕ → Result Reply Fault

@@ -26,6 +26,13 @@ abbrev pub is_spin : Class → Bool
 is_spin SpinMutex = true
 is_spin _ = false
 
+-- whether a lock of the class can be held shared, and so be turned from one mode to the other:
+-- mutexes never are (mutex(9))
+abbrev pub is_shareable : Class → Bool
+is_shareable Rw = true
+is_shareable Sx = true
+is_shareable _ = false
+
 abbrev pub is_named : List ℕ → LockType → Bool
 is_named name t = bytes_eq t.name name
 
