@@ -27,7 +27,7 @@ use Rattle.wit_model.specs.Rules.Verdict.{reported, basis_of, typed_request, cha
 use Rattle.wit_model.specs.Rules.Verdict.{doubles_in, follows_in, teaches_in, told_orders}
 use Rattle.wit_model.specs.Rules.Verdict.{new_parents}
 use Rattle.wit_model.specs.Rules.Step.{is_exhausted, held_by, recorded_reply, is_logged, step_check}
-use Rattle.wit_model.specs.Rules.Step.{step_note, step_note_try}
+use Rattle.wit_model.specs.Rules.Step.{before_answering, step_note_try}
 use Rattle.wit_model.proofs.Histories.Accepted.{check_accepted, note_accepted, try_accepted}
 
 -- a fault, or a reply that the log keeps
@@ -176,7 +176,8 @@ check_logged s t q r ok =
     told (verdict s.profile s.known s.watch (seat_at s t) q) r
     (verdict_kept s.profile s.known s.watch (seat_at s t) q) (check_accepted s t q r ok).verdict
 
-pub note_logged : (s : State) (t l : ℕ) (r : Reply) → step_note s t l ≡ Ok r → is_logged r ≡ true
+pub note_logged : (s : State) (t l : ℕ) (r : Reply)
+    → before_answering s t l (Ok (recorded_reply s t l)) ≡ Ok r → is_logged r ≡ true
 note_logged s t l r ok = recorded_logged s t l r (note_accepted s t l r ok).reply
 
 pub try_logged : (s : State) (t l : ℕ) (m : Mode) (site : Site) (r : Reply)

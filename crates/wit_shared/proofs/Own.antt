@@ -12,13 +12,14 @@ use Rattle.wit_model.specs.declared.calls.Call.{Call}
 use Rattle.wit_model.specs.declared.calls.Call.TheVariants.{Check, Note, NoteTry, GiveUp}
 use Rattle.wit_model.specs.declared.calls.Entry.{Entry}
 use Rattle.wit_model.specs.declared.calls.Reply.{Reply}
+use Rattle.wit_model.specs.declared.calls.Reply.TheVariants.{Done}
 use Rattle.wit_model.specs.declared.calls.Request.{Request}
 use Rattle.wit_model.specs.Rules.History.{own_entries, pending, pending_after}
 use Rattle.wit_model.specs.Rules.Numbers.{is_given, with_number}
 use Rattle.wit_model.specs.Rules.Questions.{is_for}
 use Rattle.wit_model.specs.Rules.State.{Start, Story, state_of}
 use Rattle.wit_model.specs.Rules.Step.{Answers, AnswersOrFails, IsLegal, answer_of, is_logged}
-use Rattle.wit_model.specs.Rules.Step.{logged, step_note, step_give_up}
+use Rattle.wit_model.specs.Rules.Step.{logged, before_answering, recorded_reply}
 use Rattle.wit_model.proofs.Histories.Accepted.{asked-lock}
 use Rattle.wit_model.proofs.Histories.Asked.{note_pending, give_up_pending}
 use Rattle.wit_model.proofs.Histories.KnownFiles.{check_known, try_known}
@@ -113,14 +114,15 @@ module _ (s : Story) (t : ℕ) (lock : LockNo) (own : List Entry)
       let a = asked-lock lock.0 (pending t own) asks in
       (a.0, sym (pending_own t s.history) ∙ ap (pending t) is ∙ a.1, a.2)
 
-  noted : IsOk (step_note (state_of s) t lock.0)
+  noted : IsOk (answer_of s t (Note lock))
   noted =
-      subst (λ l. IsOk (step_note (state_of s) t l)) asked.2
+      subst (λ l. IsOk (before_answering (state_of s) t l (Ok (recorded_reply (state_of s) t l))))
+      asked.2
       (subst IsOk (sym (note_pending s.start s.files s.history t asked.0 legal asked.1)) refl)
 
-  given_up : IsOk (step_give_up (state_of s) t lock.0)
+  given_up : IsOk (answer_of s t (GiveUp lock))
   given_up =
-      subst (λ l. IsOk (step_give_up (state_of s) t l)) asked.2
+      subst (λ l. IsOk (before_answering (state_of s) t l (Ok Done))) asked.2
       (subst IsOk (sym (give_up_pending s.start s.files s.history t asked.0 legal asked.1))
       refl)
 

@@ -20,8 +20,8 @@ use Rattle.wit_model.specs.Rules.Verdict.{is_exclusive, verdict}
 use Rattle.wit_model.specs.Rules.Types.{is_shareable}
 use Rattle.wit_model.specs.Rules.Step.{held_by, is_pending, is_for, is_too_deep}
 use Rattle.wit_model.specs.Rules.Step.{with_room, is_exhausted, recorded_reply, released}
-use Rattle.wit_model.specs.Rules.Step.{step_check, step_note, step_note_try, step_give_up}
-use Rattle.wit_model.specs.Rules.Step.{step_unlock, is_logged}
+use Rattle.wit_model.specs.Rules.Step.{before_naming, before_answering, step_check, step_note_try}
+use Rattle.wit_model.specs.Rules.Step.{is_logged}
 use Rattle.wit_model.specs.Rules.Numbers.{is_given, is_number}
 
 -- a fault that doesn't apply is passed by
@@ -128,8 +128,8 @@ pub record NoteAccepted (s : State) (t l : ℕ) (r : Reply) : Type 0 where
   pub asked : is_for l (seat_at s t).pending ≡ true
   pub reply : r ≡ recorded_reply s t l
 
-pub note_accepted : (s : State) (t l : ℕ) (r : Reply) → step_note s t l ≡ Ok r
-    → NoteAccepted s t l r
+pub note_accepted : (s : State) (t l : ℕ) (r : Reply)
+    → before_answering s t l (Ok (recorded_reply s t l)) ≡ Ok r → NoteAccepted s t l r
 note_accepted s t l r ok =
     let a = passed_not (is_seat s t) _ _ r ok in
     let b = passed_not (is_live s l) _ _ r a.1 in
@@ -185,7 +185,7 @@ pub record GiveUpAccepted (s : State) (t l : ℕ) (r : Reply) : Type 0 where
   pub asked : is_for l (seat_at s t).pending ≡ true
   pub reply : r ≡ Done
 
-pub give_up_accepted : (s : State) (t l : ℕ) (r : Reply) → step_give_up s t l ≡ Ok r
+pub give_up_accepted : (s : State) (t l : ℕ) (r : Reply) → before_answering s t l (Ok Done) ≡ Ok r
     → GiveUpAccepted s t l r
 give_up_accepted s t l r ok =
     let a = passed_not (is_seat s t) _ _ r ok in
@@ -238,7 +238,8 @@ release_found : (watch : Watch) (m : Mode) (o : Option Instance) (r : Reply) →
 release_found watch m None r kept ok = absurd (missed (is_on watch) r kept ok)
 release_found watch m (Some i) r kept ok = (i, refl, unlocked_reply watch m i r ok)
 
-pub unlock_accepted : (s : State) (t l : ℕ) (m : Mode) (r : Reply) → step_unlock s t l m ≡ Ok r
+pub unlock_accepted : (s : State) (t l : ℕ) (m : Mode) (r : Reply)
+    → before_naming s t l (released s.watch m (held_by s t l)) ≡ Ok r
     → is_logged r ≡ true → UnlockAccepted s t l m r
 unlock_accepted s t l m r ok kept =
     let a = passed_not (is_seat s t) _ _ r ok in
@@ -256,6 +257,6 @@ unlock_accepted s t l m r ok kept =
     }
 
 -- the seat of a release is known, also where it is passed over
-pub unlock_seat : (s : State) (t l : ℕ) (m : Mode) (r : Reply) → step_unlock s t l m ≡ Ok r
-    → is_seat s t ≡ true
+pub unlock_seat : (s : State) (t l : ℕ) (m : Mode) (r : Reply)
+    → before_naming s t l (released s.watch m (held_by s t l)) ≡ Ok r → is_seat s t ≡ true
 unlock_seat s t l m r ok = (passed_not (is_seat s t) _ _ r ok).0

@@ -24,7 +24,7 @@ use Rattle.wit_model.specs.Rules.Numbers.{is_given}
 use Rattle.wit_model.specs.Rules.Questions.{class_at, with_entry}
 use Rattle.wit_model.specs.Rules.Types.{is_shareable}
 use Rattle.wit_model.specs.Rules.Turning.{upgraded, downgraded, mark_answer}
-use Rattle.wit_model.specs.Rules.Turning.{step_turn, step_upgrade, step_downgrade, step_mark}
+use Rattle.wit_model.specs.Rules.Turning.{step_turn, step_mark}
 use Rattle.wit_model.specs.Rules.Defining.{are_of_two_kinds, define, step_define}
 use Rattle.wit_model.proofs.Histories.Accepted.{passed, passed_not, same_reply, live-given, roomy}
 use Rattle.wit_model.proofs.Histories.Accepted.{missed}
@@ -100,13 +100,15 @@ turn_accepted s t l exclusive answer r kept found ok =
       reply = f.reply;
     }
 
-pub upgrade_accepted : (s : State) (t l : ℕ) (r : Reply) → step_upgrade s t l ≡ Ok r
+pub upgrade_accepted : (s : State) (t l : ℕ) (r : Reply)
+    → step_turn s t l (upgraded s.watch (held_by s t l)) ≡ Ok r
     → is_logged r ≡ true → TurnAccepted s t l false r
 upgrade_accepted s t l r ok kept =
     turn_accepted s t l false (upgraded s.watch (held_by s t l)) r kept
     (found_up s.watch (held_by s t l) r kept) ok
 
-pub downgrade_accepted : (s : State) (t l : ℕ) (r : Reply) → step_downgrade s t l ≡ Ok r
+pub downgrade_accepted : (s : State) (t l : ℕ) (r : Reply)
+    → step_turn s t l (downgraded s.watch (held_by s t l)) ≡ Ok r
     → is_logged r ≡ true → TurnAccepted s t l true r
 downgrade_accepted s t l r ok kept =
     turn_accepted s t l true (downgraded s.watch (held_by s t l)) r kept

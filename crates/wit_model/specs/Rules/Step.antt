@@ -38,7 +38,7 @@ pub use Rattle.wit_model.specs.Rules.Questions.{chain_for, groups_for, held_by, 
 pub use Rattle.wit_model.specs.Rules.Questions.{about_seat, about_lock, before_naming}
 pub use Rattle.wit_model.specs.Rules.Questions.{before_answering, with_room}
 use Rattle.wit_model.specs.Rules.Questions.{unless_held}
-use Rattle.wit_model.specs.Rules.Turning.{step_upgrade, step_downgrade, step_mark}
+use Rattle.wit_model.specs.Rules.Turning.{step_turn, upgraded, downgraded, step_mark}
 use Rattle.wit_model.specs.Rules.Defining.{step_define}
 use Rattle.wit_model.specs.Rules.Destroying.{step_destroy}
 
@@ -100,17 +100,11 @@ recorded_reply s t l =
     else if is_exhausted s t l then Exhausted
     else Recorded
 
-abbrev pub step_note : State → ℕ → ℕ → Result Reply Fault
-step_note s t l = before_answering s t l (Ok (recorded_reply s t l))
-
 -- a try is no request: no order is checked, nor how the lock is held. It needs room for itself and
 -- its unlock
 abbrev pub step_note_try : State → ℕ → ℕ → Mode → Site → Result Reply Fault
 step_note_try s t l m site =
     before_acquiring s t l m site (with_room s 2 (Ok (recorded_reply s t l)))
-
-abbrev pub step_give_up : State → ℕ → ℕ → Result Reply Fault
-step_give_up s t l = before_answering s t l (Ok Done)
 
 -- a release in this mode of a lock held so; where less than everything is watched it is judged by
 -- nothing
@@ -123,9 +117,6 @@ released watch m (Some i) =
     else if (i.count == 0) && i.norelease then Err ForbiddenUnlock
     else Ok Unlocked
 
-abbrev pub step_unlock : State → ℕ → ℕ → Mode → Result Reply Fault
-step_unlock s t l m = before_naming s t l (released s.watch m (held_by s t l))
-
 -- nothing is watched again once nothing was
 abbrev pub step_set_watch : State → ℕ → Watch → Result Reply Fault
 step_set_watch s t watch =
@@ -136,14 +127,14 @@ step_set_watch s t watch =
 abbrev pub step : State → ℕ → Call → Result Reply Fault
 step s t (Init lock) = step_init s t lock
 step s t (Check q) = step_check s t q
-step s t (Note l) = step_note s t l.0
+step s t (Note l) = before_answering s t l.0 (Ok (recorded_reply s t l.0))
 step s t (NoteTry l m site) = step_note_try s t l.0 m site
-step s t (GiveUp l) = step_give_up s t l.0
-step s t (Unlock l m) = step_unlock s t l.0 m
+step s t (GiveUp l) = before_answering s t l.0 (Ok Done)
+step s t (Unlock l m) = before_naming s t l.0 (released s.watch m (held_by s t l.0))
 step s t (SetWatch watch) = step_set_watch s t watch
 step s t (Destroy l) = step_destroy s t l.0
-step s t (Upgrade l) = step_upgrade s t l.0
-step s t (Downgrade l) = step_downgrade s t l.0
+step s t (Upgrade l) = step_turn s t l.0 (upgraded s.watch (held_by s t l.0))
+step s t (Downgrade l) = step_turn s t l.0 (downgraded s.watch (held_by s t l.0))
 step s t (NoRelease l) = step_mark s t l.0
 step s t (ReleaseOk l) = step_mark s t l.0
 step s t (DefineOrder a b) = step_define s t a.0 b.0

@@ -45,12 +45,6 @@ step_turn s t l answer =
     before_naming s t l (if not (is_shareable (class_at s l)) then Err NotUpgradable
     else with_entry s answer)
 
-abbrev pub step_upgrade : State → ℕ → ℕ → Result Reply Fault
-step_upgrade s t l = step_turn s t l (upgraded s.watch (held_by s t l))
-
-abbrev pub step_downgrade : State → ℕ → ℕ → Result Reply Fault
-step_downgrade s t l = step_turn s t l (downgraded s.watch (held_by s t l))
-
 -- that a held lock must not be released, or may be again
 abbrev pub step_mark : State → ℕ → ℕ → Result Reply Fault
 step_mark s t l = before_naming s t l (with_entry s (mark_answer s.watch (held_by s t l)))
