@@ -22,7 +22,7 @@ use Rattle.wit_model.specs.Rules.Types.{is_spin}
 use Rattle.wit_model.specs.Rules.Verdict.{is_of}
 use Rattle.wit_model.proofs.Numbered.{with_number-or, with_number-none}
 use Rattle.wit_core.specs.Searching.{is_marked, waiting, all_waiting, table_of, says, Says, IsTable}
-use Rattle.wit_core.specs.Searching.{IsCircleFrom, TellsCircleBy}
+use Rattle.wit_core.specs.Searching.{IsCircleFrom}
 use Rattle.wit_core.proofs.Queues.{circle_likewise, turned}
 use Rattle.wit_core.proofs.WaitTables.{marked-at, marked_within, rows-many}
 
@@ -171,8 +171,8 @@ module _ (s : Story) (rows : List (Vec Bool)) (is : table_of rows
       sym (rows-many rows) ∙ ap length is ∙ count-rows (waits_for (state_of s)) s.start.sizes.seats
 
   -- what the table tells is told of the state
-  pub told_of_state : (o : Option (List ℕ)) → TellsCircleBy (table_of rows) o
-      → TellsCircle (state_of s) o
+  pub told_of_state : (o : Option (List ℕ)) → TellsCircle (Says (table_of rows)) o
+      → TellsCircle (Waits (state_of s)) o
   told_of_state (Some seats) told =
       (circle_likewise (Says (table_of rows)) (Waits (state_of s)) from seats told.0, told.1)
     where
@@ -193,7 +193,7 @@ module _ (s : Story) (rows : List (Vec Bool)) (is : table_of rows
   -- none is told where there is none
   pub none_told : (o : Option (Vec SeatNo))
       → ((seats : List ℕ) → IsRecordCircle (state_of s) seats → ⊥)
-      → TellsCircle (state_of s) (circle_numbers o) → o ≡ None
+      → TellsCircle (Waits (state_of s)) (circle_numbers o) → o ≡ None
   none_told None none told = refl
   none_told (Some seats) none told = absurd (none (seat_numbers seats.items) told.0)
 
@@ -221,7 +221,7 @@ module _ (rows : List (List Bool)) (table : IsTable rows) where
           (within.0, omega (arith, within, many))
 
   pub tells_none : ((t : ℕ) → 0 < t → t ≤ length rows → IsCircleFrom rows t None)
-      → TellsCircleBy rows None
+      → TellsCircle (Says rows) None
   tells_none none = λ seats circle.
       let l = turned (Says rows) seats circle in
       let number = first-number l.first l.others l.first l.circle in

@@ -35,12 +35,6 @@ Says rows t u = says rows t u ≡ true
 abbrev pub IsTable : List (List Bool) → Type 0
 IsTable rows = (i : ℕ) → i < length rows → length (slice_index_or rows i []) ≡ length rows
 
--- what can be told of circles by such a table: one that starts with its least seat, or none exactly
--- where there is none
-abbrev pub TellsCircleBy : List (List Bool) → Option (List ℕ) → Type 0
-TellsCircleBy rows None = (seats : List ℕ) → IsCircle (Says rows) seats → ⊥
-TellsCircleBy rows (Some seats) = IsCircle (Says rows) seats × (starts_with_least seats ≡ true)
-
 abbrev pub nobody : Reached
 nobody = record { seat = record { 0 = 0 }; next = 0 }
 

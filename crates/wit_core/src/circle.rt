@@ -3,13 +3,13 @@
 
 ghost use Rattle.std.specs.Prelude.{◌≡◌, ◌<◌, ◌≤◌, true, [], None, length, IfOk, IfErr, OnOk};
 ghost use Rattle.wit_model.specs.declared.faults.Fault.TheVariants.{OutOfMemory};
-ghost use Rattle.wit_model.specs.Rules.Circles.{waits_for, TellsCircle, circle_numbers};
+ghost use Rattle.wit_model.specs.Rules.Circles.{waits_for, Waits, TellsCircle, circle_numbers};
 ghost use Rattle.wit_model.specs.Rules.Clean.{is_clean};
 ghost use Rattle.wit_model.specs.Rules.Numbers.{IsNumber};
 ghost use Rattle.wit_model.specs.Rules.State.{state_of};
-ghost use Rattle.wit_core.specs.Searching.{waiting, all_waiting, table_of, says, IsTable};
+ghost use Rattle.wit_core.specs.Searching.{waiting, all_waiting, table_of, says, Says, IsTable};
 ghost use Rattle.wit_core.specs.Searching.{seat_reached, IsTrail, IsSearch, Reaches, IsClosing};
-ghost use Rattle.wit_core.specs.Searching.{IsCircleFrom, TellsCircleBy};
+ghost use Rattle.wit_core.specs.Searching.{IsCircleFrom};
 
 use crate::verifier::Verifier;
 use std::alloc::{AllocError, Global};
@@ -25,7 +25,7 @@ impl Verifier {
     /// # Errors
     /// `OutOfMemory` alone.
     pub fn wait_circle(&self) -> Result<Option<Vec<SeatNo>>, Fault>
-        ensures ok { IfOk result (λ c. TellsCircle (state_of self.now) (circle_numbers c)) }
+        ensures ok { IfOk result (λ c. TellsCircle (Waits (state_of self.now)) (circle_numbers c)) }
         ensures clean { self.now.start.blessed ≡ []
             → is_clean self.now.start.profile self.now.history ≡ true
             → IfOk result (λ c. c ≡ None) }
@@ -91,7 +91,7 @@ impl Verifier {
 pub fn circle_in(alloc: Global, rows: &[Vec<bool>]) -> Result<Option<Vec<SeatNo>>, AllocError>
     requires table { IsTable (table_of rows.now) }
     requires few { length rows.now ≤ 256 }
-    ensures { IfOk result (λ c. TellsCircleBy (table_of rows.now) (circle_numbers c)) }
+    ensures { IfOk result (λ c. TellsCircle (Says (table_of rows.now)) (circle_numbers c)) }
 {
     for place in 0..rows.len() as u16 {
         if let Some(circle) = circle_from(alloc, rows, SeatNo(place + 1))? {

@@ -10,7 +10,7 @@ use Rattle.wit_model.specs.declared.calls.Request.{Request}
 use Rattle.wit_model.specs.declared.locks.Instance.{Instance}
 use Rattle.wit_model.specs.declared.locks.Origin.TheVariants.{Listed}
 use Rattle.wit_model.specs.Rules.Circles.{IsQueue, IsCircle, waits_for, is_kept_by}
-use Rattle.wit_model.specs.Rules.Circles.{starts_with_least, TellsCircle}
+use Rattle.wit_model.specs.Rules.Circles.{Waits, starts_with_least, TellsCircle}
 use Rattle.wit_model.specs.Rules.Numbers.{is_given}
 use Rattle.wit_model.specs.Rules.Orders.{is_direct, IsPath, Before, is_before}
 use Rattle.wit_model.specs.Rules.State.{State, Seat, no_seat, seat_at}
@@ -277,10 +277,10 @@ module _ (s : State) where
     ],
   )
 
-pub circle_told : (s : State) → (c : Option (List ℕ)) × TellsCircle s c
+pub circle_told : (s : State) → (c : Option (List ℕ)) × TellsCircle (Waits s) c
 circle_told s = go (told (waits_for s) (length s.seats) (seats_wait s))
   where
     go : (c : Option (List ℕ)) × Told (waits_for s) (length s.seats) (seats_wait s) c
-        → (c : Option (List ℕ)) × TellsCircle s c
+        → (c : Option (List ℕ)) × TellsCircle (Waits s) c
     go (None, h) = (None, h)
     go (Some seats, h) = (Some seats, h)

@@ -7,7 +7,7 @@ use Rattle.wit_model.specs.declared.faults.Fault.TheVariants.{OutOfMemory}
 use Rattle.wit_model.specs.declared.locks.FileNo.{FileNo}
 use Rattle.wit_model.specs.declared.locks.SeatNo.{SeatNo}
 use Rattle.wit_model.specs.declared.calls.Entry.{Entry}
-use Rattle.wit_model.specs.Rules.Circles.{TellsCircle, circle_numbers}
+use Rattle.wit_model.specs.Rules.Circles.{Waits, TellsCircle, circle_numbers}
 use Rattle.wit_model.specs.Rules.Clean.{is_clean}
 use Rattle.wit_model.specs.Rules.History.{own_entries}
 use Rattle.wit_model.specs.Rules.State.{Story, state_of}
@@ -27,7 +27,7 @@ given_by (Err fault) name = []
 -- the answer to whether seats wait for one another in a circle by the record: what is so, and while
 -- the log is clean that none do; or there was no memory to tell it
 pub record TellsWaits (s : Story) (result : Result (Option (Vec SeatNo)) Fault) : Type 0 where
-  pub told : IfOk result (λ c. TellsCircle (state_of s) (circle_numbers c))
+  pub told : IfOk result (λ c. TellsCircle (Waits (state_of s)) (circle_numbers c))
   pub clean : s.start.blessed ≡ [] → is_clean s.start.profile s.history ≡ true
       → IfOk result (λ c. c ≡ None)
   pub failed : IfErr result (λ e. e ≡ OutOfMemory)

@@ -4,14 +4,14 @@ use Rattle.std.proofs.Common.{Some, unwrap_or, refl, sym, ap, ◌∙◌, subst}
 use Rattle.std.specs.Global.{Vec}
 use Rattle.std.proofs.lemmas.Bool.{and_parts, ltb-true, leb-true}
 use Rattle.wit_model.specs.declared.calls.Request.{Request}
+use Rattle.wit_model.specs.Rules.Circles.{TellsCircle}
 use Rattle.wit_model.specs.Rules.Numbers.{is_given, is_number, IsNumber}
 use Rattle.wit_model.specs.World.Stages.{Stage, Over, Asked}
 use Rattle.wit_model.specs.World.Scenes.{Scene, stage_at}
-use Rattle.wit_model.specs.World.Shown.{waits_in, WaitsIn, TellsCircleIn}
+use Rattle.wit_model.specs.World.Shown.{waits_in, WaitsIn}
 use Rattle.wit_model.proofs.Numbered.{with_number-none}
 use Rattle.wit_model.proofs.World.Circled.{circle-through, waits-world}
 use Rattle.wit_model.proofs.World.Exclusion.{has_seat}
-use Rattle.wit_core.specs.Searching as search
 use Rattle.wit_core.specs.Searching.{all_waiting, table_of, Says, IsTable}
 use Rattle.wit_core.proofs.WaitTables.{rows-many}
 use Rattle.wit_core.proofs.Waits.{count-rows, is_table, says-is, says_true}
@@ -67,7 +67,7 @@ module _ (s : Scene) (k : IsKept s) where
         (says-is (waits_in s) s.story.start.sizes.seats t u within.0 within.1 ∙ waits)
 
     -- what the table tells is told of the scene
-    pub told_of_scene : (o : Option (List ℕ)) → search.TellsCircleBy (table_of rows) o
-        → TellsCircleIn s o
+    pub told_of_scene : (o : Option (List ℕ)) → TellsCircle (Says (table_of rows)) o
+        → TellsCircle (WaitsIn s) o
     told_of_scene (Some seats) told = (circle-through from seats told.0, told.1)
     told_of_scene None none = λ seats circle. none seats (circle-through into seats circle)

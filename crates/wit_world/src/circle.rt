@@ -2,9 +2,9 @@
 
 ghost use Rattle.std.specs.Prelude.{◌≡◌, IfOk, IfErr};
 ghost use Rattle.wit_model.specs.declared.faults.Fault.TheVariants.{OutOfMemory};
-ghost use Rattle.wit_model.specs.Rules.Circles.{circle_numbers};
+ghost use Rattle.wit_model.specs.Rules.Circles.{TellsCircle, circle_numbers};
 ghost use Rattle.wit_model.specs.Rules.Numbers.{IsNumber};
-ghost use Rattle.wit_model.specs.World.Shown.{waits_in, TellsCircleIn};
+ghost use Rattle.wit_model.specs.World.Shown.{waits_in, WaitsIn};
 ghost use Rattle.wit_core.specs.Searching.{waiting, all_waiting, table_of};
 
 use crate::stages::Stage;
@@ -22,7 +22,7 @@ impl World {
     /// # Errors
     /// `OutOfMemory` alone.
     pub fn wait_circle(&self) -> Result<Option<Vec<SeatNo>>, Fault>
-        ensures ok { IfOk result (λ c. TellsCircleIn self.now (circle_numbers c)) }
+        ensures ok { IfOk result (λ c. TellsCircle (WaitsIn self.now) (circle_numbers c)) }
         ensures err { IfErr result (λ e. e ≡ OutOfMemory) }
     {
         // Called for its clause that there are never more than 256 seats.

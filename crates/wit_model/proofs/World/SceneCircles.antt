@@ -2,10 +2,10 @@
 use Rattle.std.proofs.Common.{◌≡◌, ℕ, ◌≤◌, Bool, true, ◌&&◌, List, [], ◌∷◌, length, Option, None}
 use Rattle.std.proofs.Common.{Some, sym, ap, ◌∙◌, inl, inr, unwrap_or}
 use Rattle.std.proofs.lemmas.Bool.{and_parts, and_from, leb-true, cases_Bool, false≢true}
-use Rattle.wit_model.specs.Rules.Circles.{IsQueue, IsCircle}
+use Rattle.wit_model.specs.Rules.Circles.{IsQueue, IsCircle, TellsCircle}
 use Rattle.wit_model.specs.Rules.Numbers.{is_given}
 use Rattle.wit_model.specs.World.Scenes.{Scene}
-use Rattle.wit_model.specs.World.Shown.{is_barred_by, waits_in, WaitsIn, TellsCircleIn}
+use Rattle.wit_model.specs.World.Shown.{is_barred_by, waits_in, WaitsIn}
 use Rattle.wit_model.specs.World.Stages.{Over}
 use Rattle.wit_model.proofs.Numbered.{with_number-none}
 use Rattle.wit_model.proofs.Waits.{Told, told}
@@ -61,10 +61,10 @@ module _ (s : Scene) where
   circle_by_shares [] c = c
   circle_by_shares (t ∷ others) c = by_shares t others t c
 
-pub scene_circle_told : (s : Scene) → (c : Option (List ℕ)) × TellsCircleIn s c
+pub scene_circle_told : (s : Scene) → (c : Option (List ℕ)) × TellsCircle (WaitsIn s) c
 scene_circle_told s = go (told (waits_seat s) (length s.stages) (seats_wait s))
   where
     go : (c : Option (List ℕ)) × Told (waits_seat s) (length s.stages) (seats_wait s) c
-        → (c : Option (List ℕ)) × TellsCircleIn s c
+        → (c : Option (List ℕ)) × TellsCircle (WaitsIn s) c
     go (None, h) = (None, λ seats c. h seats (circle_seats s seats c))
     go (Some seats, h) = (Some seats, (circle_by_shares s seats h.0, h.1))

@@ -30,6 +30,12 @@ abbrev pub starts_with_least : List ℕ → Bool
 starts_with_least [] = false
 starts_with_least (first ∷ others) = list_all (nat_le first) others
 
+-- what can be told of circles: one that starts with its least seat, or none exactly where there is
+-- none
+abbrev pub TellsCircle : (ℕ → ℕ → Type 0) → Option (List ℕ) → Type 0
+TellsCircle waits None = (seats : List ℕ) → IsCircle waits seats → ⊥
+TellsCircle waits (Some seats) = IsCircle waits seats × (starts_with_least seats ≡ true)
+
 -- ---- by the record: who asks for what, and who holds it
 
 -- whether a request in this mode has to wait for the lock that another seat holds so
@@ -54,12 +60,6 @@ Waits s t u = waits_for s t u ≡ true
 -- a circle of the record
 abbrev pub IsRecordCircle : State → List ℕ → Type 0
 IsRecordCircle s seats = IsCircle (Waits s) seats
-
--- what can be told of circles: one that starts with its least seat, or none exactly where there is
--- none
-abbrev pub TellsCircle : State → Option (List ℕ) → Type 0
-TellsCircle s None = (seats : List ℕ) → IsRecordCircle s seats → ⊥
-TellsCircle s (Some seats) = IsRecordCircle s seats × (starts_with_least seats ≡ true)
 
 abbrev pub seat_numbers : List SeatNo → List ℕ
 seat_numbers seats = map (λ (t : SeatNo). t.0) seats

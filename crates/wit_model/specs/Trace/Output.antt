@@ -8,10 +8,10 @@ use Rattle.wit_model.specs.declared.lines.Cause as cause
 use Rattle.wit_model.specs.declared.lines.Cause.TheVariants as why
 use Rattle.wit_model.specs.Rules.Faults.{fault_text}
 use Rattle.wit_model.specs.Rules.History.{reports_of}
-use Rattle.wit_model.specs.Rules.Circles.{TellsCircle}
+use Rattle.wit_model.specs.Rules.Circles.{Waits, TellsCircle}
 use Rattle.wit_model.specs.Rules.State.{Story, state_of}
 use Rattle.wit_model.specs.World.Scenes.{Scene}
-use Rattle.wit_model.specs.World.Shown.{TellsCircleIn}
+use Rattle.wit_model.specs.World.Shown.{WaitsIn}
 use Rattle.wit_model.specs.Trace.Texts as texts
 use Rattle.wit_model.specs.Trace.Views.{graph_text, all_locks_text, circle_text}
 pub use Rattle.wit_model.specs.Trace.LineCalls.{LineCall, Logs, LogsAt, Asserts, Warns, Steps}
@@ -90,28 +90,22 @@ abbrev pub shown_by : view.View → List ℕ → List ℕ
 shown_by Reports text = text
 shown_by _ text = []
 
--- what is shown of a story after the whole trace, and whether that is a circle. There may be more
--- circles than one: any may be shown that starts with its least seat
-abbrev pub IsViewOf : view.View → Story → List ℕ → Bool → Type 0
-IsViewOf Reports s text circle = (text ≡ []) × (circle ≡ false)
-IsViewOf Graph s text circle = (text ≡ graph_text s) × (circle ≡ false)
-IsViewOf Locks s text circle = (text ≡ all_locks_text s) × (circle ≡ false)
-IsViewOf Circle s text circle =
-    (seats : Option (List ℕ)) × TellsCircle (state_of s) seats
+-- what is shown of a story after the whole trace, by who waits for whom, and whether that is a
+-- circle. There may be more circles than one: any may be shown that starts with its least seat
+abbrev pub IsViewOf : view.View → Story → (ℕ → ℕ → Type 0) → List ℕ → Bool → Type 0
+IsViewOf Reports s waits text circle = (text ≡ []) × (circle ≡ false)
+IsViewOf Graph s waits text circle = (text ≡ graph_text s) × (circle ≡ false)
+IsViewOf Locks s waits text circle = (text ≡ all_locks_text s) × (circle ≡ false)
+IsViewOf Circle s waits text circle =
+    (seats : Option (List ℕ)) × TellsCircle waits seats
     × (text ≡ circle_text (state_of s) seats) × (circle ≡ is_some seats)
 
--- of a scene the same, but that a circle is one of seats that wait for one another's shares
-abbrev pub IsViewIn : view.View → Scene → List ℕ → Bool → Type 0
-IsViewIn Circle s text circle =
-    (seats : Option (List ℕ)) × TellsCircleIn s seats
-    × (text ≡ circle_text (state_of s.story) seats) × (circle ≡ is_some seats)
-IsViewIn v s text circle = IsViewOf v s.story text circle
-
--- what is shown at the end: of a bad line its text, whatever the view
+-- what is shown at the end: of a bad line its text, whatever the view. Of a scene, circles are of
+-- seats that wait for one another's shares
 abbrev pub IsLast : view.View → Ending → List ℕ → Bool → Type 0
 IsLast v (EndsBad p bad) text circle = (text ≡ bad_text bad.0 bad.1) × (circle ≡ false)
-IsLast v (AllRead s m) text circle = IsViewOf v s text circle
-IsLast v (AllStepped s m) text circle = IsViewIn v s text circle
+IsLast v (AllRead s m) text circle = IsViewOf v s (Waits (state_of s)) text circle
+IsLast v (AllStepped s m) text circle = IsViewOf v s.story (WaitsIn s) text circle
 
 -- the text that a view shows of a reading, and whether it shows a circle
 pub record IsShown (v : view.View) (c : Course) (text : List ℕ) (circle : Bool) : Type 0 where

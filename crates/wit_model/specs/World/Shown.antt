@@ -1,12 +1,11 @@
 -- What a scene shows of a world.
 use Rattle.std.specs.Prelude.{ℕ, ◌<◌, ◌≡◌, Bool, true, false, not, ◌&&◌, ◌||◌, ◌==◌, nat_lt, List}
-use Rattle.std.specs.Prelude.{[], ◌∷◌, length, Option, None, Some, if◌then◌else◌}
+use Rattle.std.specs.Prelude.{[], ◌∷◌, length, if◌then◌else◌}
 use Rattle.wit_model.specs.declared.calls.Call.{Call}
 use Rattle.wit_model.specs.declared.calls.Reply.{Reply}
 use Rattle.wit_model.specs.Rules.History.{is_held}
 use Rattle.wit_model.specs.Rules.State.{Start, typed_locks}
 use Rattle.wit_model.specs.Rules.Verdict.{is_exclusive}
-use Rattle.wit_model.specs.Rules.Circles.{IsCircle, starts_with_least}
 use Rattle.wit_model.specs.Rules.Step.{is_logged}
 use Rattle.wit_model.specs.World.Deeds.{Deed, Logged, PassedOver, own, log_of, shares, raw_mode}
 use Rattle.wit_model.specs.World.Stages.{Stage, Asked, stage}
@@ -53,10 +52,3 @@ waits_in s t u = is_barred_by s t u (stage_at s t)
 
 abbrev pub WaitsIn : Scene → ℕ → ℕ → Type 0
 WaitsIn s t u = waits_in s t u ≡ true
-
--- what can be told of circles: one that starts with its least thread, or none exactly where there
--- is none
-abbrev pub TellsCircleIn : Scene → Option (List ℕ) → Type 0
-TellsCircleIn s None = (threads : List ℕ) → IsCircle (WaitsIn s) threads → ⊥
-TellsCircleIn s (Some threads) =
-    IsCircle (WaitsIn s) threads × (starts_with_least threads ≡ true)

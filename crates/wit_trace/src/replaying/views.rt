@@ -1,7 +1,10 @@
 //! What a view shows.
 
 ghost use Rattle.std.specs.Prelude.{◌≡◌, IfOk, IfErr};
-ghost use Rattle.wit_model.specs.Trace.Output.{shown_by, IsViewOf, IsViewIn};
+ghost use Rattle.wit_model.specs.Trace.Output.{shown_by, IsViewOf};
+ghost use Rattle.wit_model.specs.Rules.Circles.{Waits};
+ghost use Rattle.wit_model.specs.Rules.State.{state_of};
+ghost use Rattle.wit_model.specs.World.Shown.{WaitsIn};
 ghost use Rattle.wit_model.specs.declared.lines.View.TheVariants.{Circle};
 ghost use Rattle.wit_model.specs.declared.faults.Fault.TheVariants.{OutOfMemory};
 
@@ -26,7 +29,8 @@ pub fn shown(alloc: Global, view: View, told: Vec<u8>) -> Vec<u8>
 /// # Errors
 /// `OutOfMemory` alone.
 pub fn last_text(alloc: Global, view: View, verifier: &Verifier) -> Result<(Vec<u8>, bool), Fault>
-    ensures ok { IfOk result (λ r. IsViewOf view verifier.now r.0.items r.1) }
+    ensures ok { IfOk result (λ r. IsViewOf view verifier.now (Waits (state_of verifier.now))
+        r.0.items r.1) }
     ensures err { IfErr result (λ e. e ≡ OutOfMemory) }
 {
     match view {
@@ -38,7 +42,8 @@ pub fn last_text(alloc: Global, view: View, verifier: &Verifier) -> Result<(Vec<
 }
 
 fn last_circle(alloc: Global, verifier: &Verifier) -> Result<(Vec<u8>, bool), Fault>
-    ensures ok { IfOk result (λ r. IsViewOf Circle verifier.now r.0.items r.1) }
+    ensures ok { IfOk result (λ r. IsViewOf Circle verifier.now (Waits (state_of verifier.now))
+        r.0.items r.1) }
     ensures err { IfErr result (λ e. e ≡ OutOfMemory) }
 {
     let circle = verifier.wait_circle()?;
@@ -51,7 +56,8 @@ fn last_circle(alloc: Global, verifier: &Verifier) -> Result<(Vec<u8>, bool), Fa
 /// # Errors
 /// `OutOfMemory` alone.
 pub fn last_world_text(alloc: Global, view: View, world: &World) -> Result<(Vec<u8>, bool), Fault>
-    ensures ok { IfOk result (λ r. IsViewIn view world.now r.0.items r.1) }
+    ensures ok { IfOk result (λ r. IsViewOf view world.now.story (WaitsIn world.now)
+        r.0.items r.1) }
     ensures err { IfErr result (λ e. e ≡ OutOfMemory) }
 {
     match view {
@@ -61,7 +67,8 @@ pub fn last_world_text(alloc: Global, view: View, world: &World) -> Result<(Vec<
 }
 
 fn last_world_circle(alloc: Global, world: &World) -> Result<(Vec<u8>, bool), Fault>
-    ensures ok { IfOk result (λ r. IsViewIn Circle world.now r.0.items r.1) }
+    ensures ok { IfOk result (λ r. IsViewOf Circle world.now.story (WaitsIn world.now)
+        r.0.items r.1) }
     ensures err { IfErr result (λ e. e ≡ OutOfMemory) }
 {
     let circle = world.wait_circle()?;
