@@ -160,7 +160,7 @@ module _ (start : Start) (files : List (List ℕ)) where
   not-passed u c w world m mode site is =
       let st = state_of (story_after start files (log_of w)) in
       let ok : answer_of (story_after start files (log_of w)) u (NoteTry m mode site) ≡ Ok Ignored
-      = ap (λ y. answer_of (story_after start files (log_of w)) u y) (sym is) ∙ world.0.0 in
+      = ap (λ y. answer_of (story_after start files (log_of w)) u y) (sym is) ∙ world.0.1 in
       acquired-logged (is_off st.watch) (is_some (held_by st u m.0)) (is_exhausted st u m.0)
       (try_accepted st u m.0 mode site Ignored ok).reply
 
@@ -173,19 +173,19 @@ module _ (start : Start) (files : List (List ℕ)) where
       let next : length (log_of w) + 1 ≡ length (e ∷ log_of w) = omega arith in
       subst (λ k. Bound l (stage e.seat.0 (Logged e ∷ own e.seat.0 w)) (shares e.seat.0 l w) k) next
       (logged-bound l (stage e.seat.0 (own e.seat.0 w)) (λ m. is_held e.seat.0 m (log_of w))
-      (shares e.seat.0 l w) (length (log_of w)) was e.call _ world.0.2)
+      (shares e.seat.0 l w) (length (log_of w)) was e.call _ world.0.0)
   mine (PassedOver u c) w world l was =
       passed-bound l (stage u (own u w)) (λ m. is_held u m (log_of w)) (shares u l w)
-      (length (log_of w)) was c (not-passed u c w world) world.0.1
+      (length (log_of w)) was c (not-passed u c w world) world.0.0
   mine (Take u m mode) w world l was =
       let few =
       taking l (stage u (own u w)) (λ x. is_held u x (log_of w)) (shares u l w)
-      (length (log_of w)) was u m mode world.0.1 in
+      (length (log_of w)) was u m mode world.0.0 in
       let more = got-one (are_these u l u m) (shares u l w) in
       let least = one-le (are_these u l u m) in
       omega (arith, few, more, least)
   mine (TryTake u m mode) w world l was =
-      let few = at-end l (stage u (own u w)) (shares u l w) (length (log_of w)) was world.0.1 in
+      let few = at-end l (stage u (own u w)) (shares u l w) (length (log_of w)) was world.0.0 in
       subst (λ b. cond b (shares u l w + 1) (shares u l w) ≤ length (log_of w) + one (eqb m l))
       (sym (these u l m))
       (let more = got-one (eqb m l) (shares u l w) in omega (arith, few, more))

@@ -130,8 +130,8 @@ module _ (start : Start) (files : List (List ℕ)) (w : List Deed) (s : Scene)
           ≡ Ok r → may_follow (PassedOver t call) w ≡ true
           → CanDo start files (cond b (Logged
           (record { seat = record { 0 = t }; call = call; reply = r })) (PassedOver t call)) w
-      go true logs answer follows = (answer, logs, follows)
-      go false logs answer follows = (answer ∙ ap (λ x. Ok x) (passed-ignored r logs), follows)
+      go true logs answer follows = (follows, (answer, logs))
+      go false logs answer follows = (follows, answer ∙ ap (λ x. Ok x) (passed-ignored r logs))
 
   pub deed-call : CanDo start files (deed_called t call r) w → answer_in s t call ≡ Ok r
   deed-call can =
@@ -143,8 +143,8 @@ module _ (start : Start) (files : List (List ℕ)) (w : List Deed) (s : Scene)
           (record { seat = record { 0 = t }; call = call; reply = r })) (PassedOver t call)) w
           → (answer_of (story_after start files (log_of w)) t call ≡ Ok r)
           × (may_follow (PassedOver t call) w ≡ true)
-      go true logs can = (can.0, can.2)
-      go false logs can = (can.0 ∙ ap (λ x. Ok x) (sym (passed-ignored r logs)), can.1)
+      go true logs can = (can.1.0, can.0)
+      go false logs can = (can.1 ∙ ap (λ x. Ok x) (sym (passed-ignored r logs)), can.0)
 
 -- ---- one more file
 
@@ -153,14 +153,16 @@ pub world-named : (start : Start) (files : List (List ℕ)) (name : List ℕ) (w
 world-named start files name [] world = tt
 world-named start files name (Logged e ∷ w) world = (
   (
-    answer-named start files name (log_of w) e.seat.0 e.call e.reply world.0.0,
-    world.0.1,
-    world.0.2,
+    world.0.0,
+    (
+      answer-named start files name (log_of w) e.seat.0 e.call e.reply world.0.1.0,
+      world.0.1.1,
+    ),
   ),
   world-named start files name w world.1,
 )
 world-named start files name (PassedOver t call ∷ w) world = (
-  (answer-named start files name (log_of w) t call Ignored world.0.0, world.0.1),
+  (world.0.0, answer-named start files name (log_of w) t call Ignored world.0.1),
   world-named start files name w world.1,
 )
 world-named start files name (Take t l mode ∷ w) world =

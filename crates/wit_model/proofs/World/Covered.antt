@@ -42,7 +42,7 @@ module _ (start : Start) (files : List (List ℕ)) where
       let st = state_of (story_after start files (log_of w)) in
       let ok : answer_of (story_after start files (log_of w)) e.seat.0 (Note m) ≡ Ok e.reply =
       ap (λ c. answer_of (story_after start files (log_of w)) e.seat.0 c) (sym is)
-      ∙ world.0.0 in
+      ∙ world.0.1.0 in
       let parts = clean-parts start.profile e (log_of w) clean in
       recorded-by (is_off (watch_of (log_of w))) (is_some (held_by st e.seat.0 m.0))
       (is_exhausted st e.seat.0 m.0) e.reply
@@ -57,7 +57,8 @@ module _ (start : Start) (files : List (List ℕ)) where
       let st = state_of (story_after start files (log_of w)) in
       let ok : answer_of (story_after start files (log_of w)) e.seat.0 (NoteTry m mode site)
       ≡ Ok e.reply
-      = ap (λ c. answer_of (story_after start files (log_of w)) e.seat.0 c) (sym is) ∙ world.0.0 in
+      = ap (λ c. answer_of (story_after start files (log_of w)) e.seat.0 c) (sym is)
+      ∙ world.0.1.0 in
       let parts = clean-parts start.profile e (log_of w) clean in
       recorded-by (is_off (watch_of (log_of w))) (is_some (held_by st e.seat.0 m.0))
       (is_exhausted st e.seat.0 m.0) e.reply
@@ -71,8 +72,8 @@ module _ (start : Start) (files : List (List ℕ)) where
       let ok : answer_of (story_after start files (log_of w)) e.seat.0 (Unlock m mode)
       ≡ Ok e.reply =
       ap (λ c. answer_of (story_after start files (log_of w)) e.seat.0 c) (sym is)
-      ∙ world.0.0 in
-      (unlock_accepted st e.seat.0 m.0 mode e.reply ok world.0.1).reply
+      ∙ world.0.1.0 in
+      (unlock_accepted st e.seat.0 m.0 mode e.reply ok world.0.1.1).reply
 
   acquired-logged : (off held none : Bool)
       → Ignored ≡ cond off Unrecorded (cond held Recorded (cond none Exhausted Recorded)) → ⊥
@@ -93,7 +94,7 @@ module _ (start : Start) (files : List (List ℕ)) where
 
     answer-is : (x : Call) → c ≡ x → answer_of (story_after start files (log_of w)) u x ≡ Ok Ignored
     answer-is x is =
-        ap (λ y. answer_of (story_after start files (log_of w)) u y) (sym is) ∙ world.0.0
+        ap (λ y. answer_of (story_after start files (log_of w)) u y) (sym is) ∙ world.0.1
 
     note-not_passed : (m : LockNo) → c ≡ Note m → ⊥
     unfolding passed_state
@@ -124,16 +125,16 @@ module _ (start : Start) (files : List (List ℕ)) where
       (sym after)
       (entry-covers start files e.seat.0 l w was e.call e.reply (notes-recorded e w world clean)
       (tries-recorded e w world clean) (unlocks-recorded e w world)
-      (clean-parts start.profile e (log_of w) clean).0 world.0.2)
+      (clean-parts start.profile e (log_of w) clean).0 world.0.0)
   mine (PassedOver u c) w world clean l was =
       passed-covers start files u l w was c (note-not_passed u c w world)
-      (try-not_passed u c w world) world.0.1
+      (try-not_passed u c w world) world.0.0
   mine (Take u m mode) w world clean l was =
       got-covers start files u l w was m (Taken m) refl refl
       (nothing-due l (num u l (log_of w)) (shares u l w) (stage u (own u w))
-      (due-taking l u m (λ k. is_held u k (log_of w)) mode (stage u (own u w)) world.0.1) was)
+      (due-taking l u m (λ k. is_held u k (log_of w)) mode (stage u (own u w)) world.0.0) was)
   mine (TryTake u m mode) w world clean l was =
-      got-covers start files u l w was m (Tried m mode) refl refl (was.at_end world.0.1)
+      got-covers start files u l w was m (Tried m mode) refl refl (was.at_end world.0.0)
   mine (Free u m) w world clean l was = free-covers start files u l w was m world.0.0
   mine (RawUp u m) w world clean l was =
       settled l (num u l (log_of w)) (shares u l w) (Raised m) (was.at_end world.0.0) refl

@@ -35,7 +35,7 @@ pub legal_world : (start : Start) (files : List (List ℕ)) (w : List Deed) → 
     → IsLegal start files (log_of w)
 legal_world start files [] world = tt
 legal_world start files (Logged e ∷ w) world =
-    (world.0.0, world.0.1, legal_world start files w world.1)
+    (world.0.1.0, world.0.1.1, legal_world start files w world.1)
 legal_world start files (Take u m mode ∷ w) world = legal_world start files w world.1
 legal_world start files (TryTake u m mode ∷ w) world = legal_world start files w world.1
 legal_world start files (PassedOver u c ∷ w) world = legal_world start files w world.1

@@ -92,8 +92,8 @@ module _ (start : Start) (files : List (List ℕ)) where
   seat-step : (d : Deed) (w : List Deed) → CanDo start files d w → (t l : ℕ)
       → (0 < shares t l w → is_number start.sizes.seats t ≡ true)
       → 0 < shares t l (d ∷ w) → is_number start.sizes.seats t ≡ true
-  seat-step (Take u m mode) w can t l was some = seat-got t l u m w can.0 was some
-  seat-step (TryTake u m mode) w can t l was some = seat-got t l u m w can.0 was some
+  seat-step (Take u m mode) w can t l was some = seat-got t l u m w can.1.0 was some
+  seat-step (TryTake u m mode) w can t l was some = seat-got t l u m w can.1.0 was some
   seat-step (PassedOver u c) w can t l was some = was some
   seat-step (Free u m) w can t l was some = was (had-less (are_these t l u m) (shares t l w) some)
   seat-step (Logged e) w can t l was some = was some
@@ -155,8 +155,8 @@ module _ (start : Start) (files : List (List ℕ)) where
   unfolding IsSole
   sole-step (Logged e) w world was = was
   sole-step (PassedOver u c) w world was = was
-  sole-step (Take u m mode) w world was = sole-got u m mode w world.1 world.0.2 was
-  sole-step (TryTake u m mode) w world was = sole-got u m mode w world.1 world.0.2 was
+  sole-step (Take u m mode) w world was = sole-got u m mode w world.1 world.0.1.1 was
+  sole-step (TryTake u m mode) w world was = sole-got u m mode w world.1 world.0.1.1 was
   sole-step (Free u m) w world was = λ t x l other one two.
       was t x l other (had-less (are_these t l u m) (shares t l w) one)
       (had-less (are_these x l u m) (shares x l w) two)
@@ -165,7 +165,7 @@ module _ (start : Start) (files : List (List ℕ)) where
         | inl is ↦
             let a = these t l u m is in
             absurd (other (alone-is start.sizes.seats x l w (has_seat w world.1 x l two) two u
-            (subst (λ k. is_alone start.sizes.seats u k w ≡ true) a.1 world.0.1) ∙ a.0))
+            (subst (λ k. is_alone start.sizes.seats u k w ≡ true) a.1 world.0.1.0) ∙ a.0))
         | inr is ↦ rw is (was t x l other one two)
       ]
   sole-step (RawDown u m) w world was = λ t x l other one two.

@@ -186,7 +186,7 @@ module _ (x : Scene) (fits : Fits x) (t : ℕ) where
         (all-backed t l.0 w (deed_called t (NoteTry l m site) r ∷ d ∷ w)
         (λ u k other was. all-safe l.0 (NoteTry l m site) r (only-try l m site r)
         (d ∷ w) refl u k other (raw-elsewhere u k d w refl other was)) fits.backed
-        (both (none-or_some (num t l.0 (log_of w))) done.1.0.2))
+        (both (none-or_some (num t l.0 (log_of w))) done.1.0.1.1))
       where
         had : 0 < shares t l.0 (TryTake t l.0 m ∷ w)
         had = rw (these-mine t l.0) (omega arith)

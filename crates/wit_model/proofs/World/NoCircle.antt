@@ -62,7 +62,7 @@ module _ (start : Start) (files : List (List ℕ)) (unblessed : start.blessed �
       → e.call ≡ Check q → is_over (stage e.seat.0 (own e.seat.0 w)) ≡ true
   over-at_check e w q world asks =
       ap (λ c. call_follows c (λ l. is_held e.seat.0 l (log_of w))
-      (stage e.seat.0 (own e.seat.0 w))) (sym asks) ∙ world.0.2
+      (stage e.seat.0 (own e.seat.0 w))) (sym asks) ∙ world.0.0
 
   -- the check itself: all that its thread has is recorded
   ahead-asking : (e : Entry) (w : List Deed) (q : Request) (l : ℕ)

@@ -31,25 +31,21 @@ module _ (start : Start) (files : List (List ℕ)) where
   replies (PassedOver t call ∷ w) = Ok Ignored ∷ replies w
   replies (d ∷ w) = replies w
 
-  abbrev can_do : Deed → List Deed → Bool
-  can_do (Logged e) w = is_logged e.reply && may_follow (Logged e) w
-  can_do (PassedOver t call) w = may_follow (PassedOver t call) w
-  can_do (Take t l mode) w =
-      is_number start.sizes.seats t
-      && (may_follow (Take t l mode) w && admits start.sizes.seats l mode w)
-  can_do (TryTake t l mode) w =
-      is_number start.sizes.seats t
-      && (may_follow (TryTake t l mode) w && admits start.sizes.seats l mode w)
-  can_do (Free t l) w = may_follow (Free t l) w && nat_lt 0 (shares t l w)
-  can_do (RawUp t l) w =
-      may_follow (RawUp t l) w && (is_alone start.sizes.seats t l w
-      && not (is_exclusive (raw_mode t l w)))
-  can_do (RawDown t l) w =
-      may_follow (RawDown t l) w && (nat_lt 0 (shares t l w) && is_exclusive (raw_mode t l w))
+  abbrev is_allowed : Deed → List Deed → Bool
+  is_allowed (Logged e) w = is_logged e.reply
+  is_allowed (PassedOver t call) w = true
+  is_allowed (Take t l mode) w =
+      is_number start.sizes.seats t && admits start.sizes.seats l mode w
+  is_allowed (TryTake t l mode) w =
+      is_number start.sizes.seats t && admits start.sizes.seats l mode w
+  is_allowed (Free t l) w = nat_lt 0 (shares t l w)
+  is_allowed (RawUp t l) w =
+      is_alone start.sizes.seats t l w && not (is_exclusive (raw_mode t l w))
+  is_allowed (RawDown t l) w = nat_lt 0 (shares t l w) && is_exclusive (raw_mode t l w)
 
   abbrev can_all : List Deed → Bool
   can_all [] = true
-  can_all (d ∷ w) = can_do d w && can_all w
+  can_all (d ∷ w) = (may_follow d w && is_allowed d w) && can_all w
 
   pub is_world : (w : List Deed) → answers w ≡ replies w → can_all w ≡ true → IsWorld start files w
   is_world [] same can = tt
@@ -58,19 +54,20 @@ module _ (start : Start) (files : List (List ℕ)) where
       ≡ Ok e.reply = cc in
       let past : answers w ≡ replies w = cc in
       let parts = and_parts _ _ can in
-      let now = and_parts _ _ parts.0 in ((answer, now.0, now.1), is_world w past parts.1)
+      let now = and_parts _ _ parts.0 in ((now.0, (answer, now.1)), is_world w past parts.1)
   is_world (PassedOver t call ∷ w) same can =
       let answer : answer_of (story_after start files (log_of w)) t call ≡ Ok Ignored = cc in
       let past : answers w ≡ replies w = cc in
-      let parts = and_parts _ _ can in ((answer, parts.0), is_world w past parts.1)
+      let parts = and_parts _ _ can in
+      let now = and_parts _ _ parts.0 in ((now.0, answer), is_world w past parts.1)
   is_world (Take t l mode ∷ w) same can =
       let parts = and_parts _ _ can in
       let now = and_parts _ _ parts.0 in
-      let then = and_parts _ _ now.1 in ((now.0, then.0, then.1), is_world w same parts.1)
+      ((now.0, and_parts _ _ now.1), is_world w same parts.1)
   is_world (TryTake t l mode ∷ w) same can =
       let parts = and_parts _ _ can in
       let now = and_parts _ _ parts.0 in
-      let then = and_parts _ _ now.1 in ((now.0, then.0, then.1), is_world w same parts.1)
+      ((now.0, and_parts _ _ now.1), is_world w same parts.1)
   is_world (Free t l ∷ w) same can =
       let parts = and_parts _ _ can in
       let now =
@@ -81,10 +78,16 @@ module _ (start : Start) (files : List (List ℕ)) where
   is_world (RawUp t l ∷ w) same can =
       let parts = and_parts _ _ can in
       let now = and_parts _ _ parts.0 in
-      let then = and_parts _ _ now.1 in
-      ((now.0, then.0, not-true (is_exclusive (raw_mode t l w)) then.1), is_world w same parts.1)
+      let then =
+      and_parts _ _ now.1 in (
+        (now.0, (then.0, not-true (is_exclusive (raw_mode t l w)) then.1)),
+        is_world w same parts.1,
+      )
   is_world (RawDown t l ∷ w) same can =
       let parts = and_parts _ _ can in
       let now = and_parts _ _ parts.0 in
-      let then = and_parts _ _ now.1 in
-      ((now.0, ltb-true 0 (shares t l w) then.0, then.1), is_world w same parts.1)
+      let then =
+      and_parts _ _ now.1 in (
+        (now.0, (ltb-true 0 (shares t l w) then.0, then.1)),
+        is_world w same parts.1,
+      )

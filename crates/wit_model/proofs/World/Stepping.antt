@@ -167,7 +167,7 @@ module _ (start : Start) (files : List (List ℕ)) (w : List Deed) (s : Scene)
           let seat = sym (seat-shown t) ∙ x.seat in
           let follows = sym (follow-shown (Take t l mode)) ∙ (and_parts _ _ x.comes).0 in
           let free = sym (admitted-shown l mode) ∙ x.free in (
-            ((seat, follows, free), world),
+            ((follows, (seat, free)), world),
             subst (λ n. Shows start files (Take t l mode ∷ w) n)
                 x.next (take-shows start files w s shown world t l seat
                 (live-shown l x.lock) mode free),
@@ -177,7 +177,7 @@ module _ (start : Start) (files : List (List ℕ)) (w : List Deed) (s : Scene)
           let seat = sym (seat-shown t) ∙ x.seat in
           let follows = sym (follow-shown (TryTake t l mode)) ∙ (and_parts _ _ x.comes).0 in
           let free = sym (admitted-shown l mode) ∙ x.free in (
-            ((seat, follows, free), world),
+            ((follows, (seat, free)), world),
             subst (λ n. Shows start files (TryTake t l mode ∷ w) n)
                 x.next (try-shows start files w s shown world t l seat
                 (live-shown l x.lock) mode free),
@@ -206,7 +206,7 @@ module _ (start : Start) (files : List (List ℕ)) (w : List Deed) (s : Scene)
           let shared =
           ap is_exclusive (sym (shown.modes t l some))
           ∙ not-true (is_exclusive (raw_of s.raw l).mode) free.1 in (
-            ((follows, alone, shared), world),
+            ((follows, (alone, shared)), world),
             subst (λ n. Shows start files (RawUp t l ∷ w) n)
                 x.next (up-shows start files w s shown world t l seat (live-shown l x.lock) alone),
           )
@@ -219,7 +219,7 @@ module _ (start : Start) (files : List (List ℕ)) (w : List Deed) (s : Scene)
           (is_exclusive (raw_of s.raw l).mode) x.free in
           let some = subst (λ n. 0 < n) (shown.had t l) (ltb-true 0 (shares_of s.raw t l) free.0) in
           let exclusive = ap is_exclusive (sym (shown.modes t l some)) ∙ free.1 in (
-            ((follows, some, exclusive), world),
+            ((follows, (some, exclusive)), world),
             subst (λ n. Shows start files (RawDown t l ∷ w) n) x.next
                 (down-shows start files w s shown world t l seat
                 (live-shown l x.lock) some exclusive),
@@ -240,12 +240,12 @@ module _ (start : Start) (files : List (List ℕ)) (w : List Deed) (s : Scene)
           → step_raw s t l step ≡ Ok (stepped s (deed_of (stage_at s t) t l step))
       deed-step raw_step.Take can known forth =
           accepts s (Take t l (mode_asked (stage_at s t))) (is_live (state_of s.story) l)
-          (seat-shown t ∙ can.0) known
-          (comes-next (Take t l (mode_asked (stage_at s t))) can.1 forth refl)
-          (admitted-shown l (mode_asked (stage_at s t)) ∙ can.2)
+          (seat-shown t ∙ can.1.0) known
+          (comes-next (Take t l (mode_asked (stage_at s t))) can.0 forth refl)
+          (admitted-shown l (mode_asked (stage_at s t)) ∙ can.1.1)
       deed-step (raw_step.TryTake mode) can known forth =
-          accepts s (TryTake t l mode) (is_live (state_of s.story) l) (seat-shown t ∙ can.0) known
-          (comes-next (TryTake t l mode) can.1 forth refl) (admitted-shown l mode ∙ can.2)
+          accepts s (TryTake t l mode) (is_live (state_of s.story) l) (seat-shown t ∙ can.1.0) known
+          (comes-next (TryTake t l mode) can.0 forth refl) (admitted-shown l mode ∙ can.1.1)
       deed-step raw_step.Free can known forth =
           accepts s (Free t l) (is_given (state_of s.story).known.locks l)
           (seat-shown t ∙ has_seat start files w world t l can.1) known
@@ -253,17 +253,17 @@ module _ (start : Start) (files : List (List ℕ)) (w : List Deed) (s : Scene)
           (lt-ltb 0 (shares_of s.raw t l) (subst (λ n. 0 < n) (sym (shown.had t l)) can.1)))
           refl
       deed-step raw_step.Up can known forth =
-          let some = one-some (shares t l w) (and_parts (eqb (shares t l w) 1) _ can.1).0 in
+          let some = one-some (shares t l w) (and_parts (eqb (shares t l w) 1) _ can.1.0).0 in
           accepts s (RawUp t l) (is_live (state_of s.story) l)
           (seat-shown t ∙ has_seat start files w world t l some) known
           (comes-next (RawUp t l) can.0 forth refl)
-          (and_from _ _ (only-shown t l ∙ can.1)
+          (and_from _ _ (only-shown t l ∙ can.1.0)
           (untrue (is_exclusive (raw_of s.raw l).mode)
-          (ap is_exclusive (shown.modes t l some) ∙ can.2)))
+          (ap is_exclusive (shown.modes t l some) ∙ can.1.1)))
       deed-step raw_step.Down can known forth =
           accepts s (RawDown t l) (is_live (state_of s.story) l)
-          (seat-shown t ∙ has_seat start files w world t l can.1) known
+          (seat-shown t ∙ has_seat start files w world t l can.1.0) known
           (comes-next (RawDown t l) can.0 forth refl)
           (and_from _ _ (lt-ltb 0 (shares_of s.raw t l)
-          (subst (λ n. 0 < n) (sym (shown.had t l)) can.1))
-          (ap is_exclusive (shown.modes t l can.1) ∙ can.2))
+          (subst (λ n. 0 < n) (sym (shown.had t l)) can.1.0))
+          (ap is_exclusive (shown.modes t l can.1.0) ∙ can.1.1))

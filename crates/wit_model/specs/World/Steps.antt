@@ -28,32 +28,26 @@ is_alone threads t l w =
     (shares t l w == 1) && list_all (λ u. (u == t) || (shares u l w == 0))
     (range_with_len 1 threads)
 
--- whether a deed may come next
-abbrev pub CanDo : Start → List (List ℕ) → Deed → List Deed → Type 0
-CanDo start files (Logged e) w =
+-- whether the verifier, or the lock itself, allows a deed
+abbrev pub Allows : Start → List (List ℕ) → Deed → List Deed → Type 0
+Allows start files (Logged e) w =
     (answer_of (story_after start files (log_of w)) e.seat.0 e.call ≡ Ok e.reply)
     × (is_logged e.reply ≡ true)
-    × (may_follow (Logged e) w ≡ true)
-CanDo start files (PassedOver t call) w =
-    (answer_of (story_after start files (log_of w)) t call ≡ Ok Ignored)
-    × (may_follow (PassedOver t call) w ≡ true)
-CanDo start files (Take t l mode) w =
-    (is_number start.sizes.seats t ≡ true)
-    × (may_follow (Take t l mode) w ≡ true)
-    × (admits start.sizes.seats l mode w ≡ true)
-CanDo start files (TryTake t l mode) w =
-    (is_number start.sizes.seats t ≡ true)
-    × (may_follow (TryTake t l mode) w ≡ true)
-    × (admits start.sizes.seats l mode w ≡ true)
-CanDo start files (Free t l) w = (may_follow (Free t l) w ≡ true) × (0 < shares t l w)
-CanDo start files (RawUp t l) w =
-    (may_follow (RawUp t l) w ≡ true)
-    × (is_alone start.sizes.seats t l w ≡ true)
-    × (is_exclusive (raw_mode t l w) ≡ false)
-CanDo start files (RawDown t l) w =
-    (may_follow (RawDown t l) w ≡ true)
-    × (0 < shares t l w)
-    × (is_exclusive (raw_mode t l w) ≡ true)
+Allows start files (PassedOver t call) w =
+    answer_of (story_after start files (log_of w)) t call ≡ Ok Ignored
+Allows start files (Take t l mode) w =
+    (is_number start.sizes.seats t ≡ true) × (admits start.sizes.seats l mode w ≡ true)
+Allows start files (TryTake t l mode) w =
+    (is_number start.sizes.seats t ≡ true) × (admits start.sizes.seats l mode w ≡ true)
+Allows start files (Free t l) w = 0 < shares t l w
+Allows start files (RawUp t l) w =
+    (is_alone start.sizes.seats t l w ≡ true) × (is_exclusive (raw_mode t l w) ≡ false)
+Allows start files (RawDown t l) w =
+    (0 < shares t l w) × (is_exclusive (raw_mode t l w) ≡ true)
+
+-- whether a deed may come next: by what its thread did last, and by what is allowed
+abbrev pub CanDo : Start → List (List ℕ) → Deed → List Deed → Type 0
+CanDo start files d w = (may_follow d w ≡ true) × Allows start files d w
 
 -- a world over a start, where these files are named: each deed could come when it came. Its log is
 -- a legal history
