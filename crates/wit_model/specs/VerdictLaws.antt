@@ -19,7 +19,7 @@ use Rattle.wit_model.specs.declared.calls.Reply.TheVariants.{Made, Pass, Adopted
 use Rattle.wit_model.specs.declared.calls.Reply.TheVariants.{Duplicate, Recorded}
 use Rattle.wit_model.specs.declared.calls.Entry.{Entry}
 use Rattle.wit_model.specs.Rules.Numbers.{IsGiven}
-use Rattle.wit_model.specs.Rules.Types.{is_same_class}
+use Rattle.wit_model.specs.Rules.Types.{is_same_class, is_giant_type, type_name_of}
 use Rattle.wit_model.specs.Rules.Locks.{Lock, locks_of, lock_of, lock_at, has_flag, is_spin_lock}
 use Rattle.wit_model.specs.Rules.Orders.{Before, AreDistinct, is_direct, is_found}
 use Rattle.wit_model.specs.Rules.History.{num, is_held, held_of, watch_of}
@@ -28,7 +28,7 @@ use Rattle.wit_model.specs.Rules.Start.{start_fault}
 use Rattle.wit_model.specs.Rules.Verdict.{verdict}
 use Rattle.wit_model.specs.Rules.Step.{IsLegal}
 use Rattle.wit_model.specs.Rules.Ahead.{type_of_lock, IsAhead}
-use Rattle.wit_model.specs.Rules.Clean.{is_giant_lock, is_clean}
+use Rattle.wit_model.specs.Rules.Clean.{is_clean}
 
 -- ---- adoptions
 
@@ -103,6 +103,9 @@ pub record AsksBehind (start : Start) (h : List Entry) (e : Entry) (a b : ℕ) :
   pub is_last : last_of_kind e.seat.0 request.lock.0 h ≡ Some last
   pub parent : type_of_lock start h last ≡ a
   pub child : type_of_lock start h request.lock.0 ≡ b
+
+abbrev pub is_giant_lock : NewLock → Bool
+is_giant_lock lock = is_giant_type lock.class (type_name_of lock)
 
 abbrev pub is_sleepable_lock : NewLock → Bool
 is_sleepable_lock lock = is_same_class lock.class Sx

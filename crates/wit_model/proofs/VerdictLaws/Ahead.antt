@@ -25,7 +25,7 @@ use Rattle.wit_model.specs.Rules.History.{held, held_of, pending, pending_after}
 use Rattle.wit_model.specs.Rules.State.{Start, state_of, seat_at, is_seat, orders_of}
 use Rattle.wit_model.specs.Rules.Step.{is_pending, answer_of, story_after, is_logged}
 use Rattle.wit_model.specs.Rules.Ahead.{type_of_lock}
-use Rattle.wit_model.specs.Rules.Clean.{allows_tries, is_clean_call}
+use Rattle.wit_model.specs.Rules.Clean.{is_clean_call}
 use Rattle.wit_model.proofs.Lists.{filter-swap, list_all-filter, list_all-both}
 use Rattle.wit_model.proofs.Chains.Sane.{IsSane, IsFit, fit_by}
 use Rattle.wit_model.proofs.Chains.Acts.{num-step}
@@ -190,7 +190,7 @@ module _ (start : Start) (files : List (List ℕ)) (h : List Entry) (t : ℕ) wh
       → start.profile ≡ Plain → is_clean_call start.profile c ≡ true → act c r ≡ Records m
       → (q : Request) × (pending t h ≡ Some q) × (q.lock.0 ≡ m)
   asked-before (NoteTry l mode site) r m ok plain clean acts =
-      absurd (false≢true (ap allows_tries (sym plain) ∙ clean))
+      absurd (false≢true (ap (λ p. is_clean_call p (NoteTry l mode site)) (sym plain) ∙ clean))
   asked-before (Note l) Recorded m ok plain clean acts =
       let a = note_accepted (state_of (story_after start files h)) t l.0 Recorded ok in
       let asks =

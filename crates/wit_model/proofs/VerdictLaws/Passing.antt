@@ -2,14 +2,12 @@
 -- lock, and by it passes from then on.
 use Rattle.std.proofs.Common.{◌≡◌, ℕ, Bool, true, false, ◌&&◌, ◌||◌, eqb, List, [], ◌∷◌, ◌++◌}
 use Rattle.std.proofs.Common.{Option, None, Some, find, refl, ap, ap₂, sym, ◌∙◌, subst, ⊎_elim}
-use Rattle.std.proofs.Common.{codes}
 use Rattle.std.specs.List.{last_or}
-use Rattle.std.specs.Str.{bytes_eq}
 use Rattle.std.proofs.lemmas.Bool.{true≢false, or_left, or_right, and_from, eq-eqb, eqb-true}
 use Rattle.std.proofs.lemmas.List.Folds.{list_any-append}
 use Rattle.wit_model.specs.declared.profiles.Profile.TheVariants.{Plain}
 use Rattle.wit_model.specs.declared.locks.Class.{Class}
-use Rattle.wit_model.specs.declared.locks.Class.TheVariants.{SleepMutex, Sx}
+use Rattle.wit_model.specs.declared.locks.Class.TheVariants.{Sx}
 use Rattle.wit_model.specs.declared.locks.TypeNo.{TypeNo}
 use Rattle.wit_model.specs.declared.locks.Instance.{Instance}
 use Rattle.wit_model.specs.declared.calls.TypedRequest.{TypedRequest}
@@ -19,7 +17,7 @@ use Rattle.wit_model.specs.declared.calls.Reply.{Reply}
 use Rattle.wit_model.specs.declared.calls.Reply.TheVariants.{Pass, Adopted}
 use Rattle.wit_model.specs.declared.calls.Entry.{Entry}
 use Rattle.wit_model.specs.Rules.Numbers.{is_given}
-use Rattle.wit_model.specs.Rules.Types.{is_same_class}
+use Rattle.wit_model.specs.Rules.Types.{is_same_class, is_giant_type}
 use Rattle.wit_model.specs.Rules.Locks.{locks_of, lock_of, lock_at, has_flag, is_spin_lock}
 use Rattle.wit_model.specs.Rules.Locks.{is_of_kind}
 use Rattle.wit_model.specs.Rules.Orders.{is_adoption_of, is_direct, IsSound, adopted}
@@ -29,8 +27,7 @@ use Rattle.wit_model.specs.Rules.Start.{start_fault}
 use Rattle.wit_model.specs.Rules.Verdict.{Basis, type_held, has_type_of, is_sleepable, is_giant}
 use Rattle.wit_model.specs.Rules.Verdict.{violates, basis_of, typed_request}
 use Rattle.wit_model.specs.Rules.Step.{IsLegal}
-use Rattle.wit_model.specs.Rules.Clean.{is_giant_lock}
-use Rattle.wit_model.specs.VerdictLaws.{AsksBehind, HasPassed, is_sleepable_lock}
+use Rattle.wit_model.specs.VerdictLaws.{AsksBehind, HasPassed, is_giant_lock, is_sleepable_lock}
 use Rattle.wit_model.proofs.Chains.Found.{if_some, found}
 use Rattle.wit_model.proofs.Chains.Held.{made_sane}
 use Rattle.wit_model.proofs.Histories.Legal.{sane_legal}
@@ -52,8 +49,7 @@ module _ (start : Start) (files : List (List ℕ)) (h : List Entry) (l : ℕ)
   pub giant-lock : is_giant (basis_of (known_of start h)) (lock_at (typed_locks start h) l).type_no
       ≡ is_giant_lock (lock_of (locks_of h) l)
   giant-lock =
-      ap₂ (λ (name : List ℕ) (class : Class). is_same_class class SleepMutex
-      && bytes_eq name (codes "Giant")) (type-name start h l given)
+      ap₂ (λ (name : List ℕ) (class : Class). is_giant_type class name) (type-name start h l given)
       (type-class start files h l legal given)
 
   sleepable-lock : is_sleepable (basis_of (known_of start h))

@@ -33,8 +33,8 @@ use Rattle.wit_model.specs.Rules.Verdict.{Basis, type_held, place_of, place_aske
 use Rattle.wit_model.specs.Rules.Verdict.{is_blessed, conflict, reported, basis_of, typed_request}
 use Rattle.wit_model.specs.Rules.Step.{IsLegal}
 use Rattle.wit_model.specs.Rules.Ahead.{type_of_lock}
-use Rattle.wit_model.specs.Rules.Clean.{is_giant_lock, is_clean_call, is_clean_entry, is_clean}
-use Rattle.wit_model.specs.VerdictLaws.{AsksBehind, HasPassed, is_sleepable_lock}
+use Rattle.wit_model.specs.Rules.Clean.{is_clean_call, is_clean_entry, is_clean}
+use Rattle.wit_model.specs.VerdictLaws.{AsksBehind, HasPassed, is_giant_lock, is_sleepable_lock}
 use Rattle.wit_model.proofs.Numbered.{with_number-or}
 use Rattle.wit_model.proofs.Histories.Accepted.{same_reply}
 use Rattle.wit_model.proofs.Orders.Ruled.{Says, Passed, Learnt, LearntAll, Doubled, Broken}

@@ -1,38 +1,25 @@
 -- A clean history: nothing was reported, and each check was free to learn its order.
-use Rattle.std.specs.Prelude.{ℕ, ◌≡◌, Bool, true, false, not, ◌&&◌, List, [], codes}
+use Rattle.std.specs.Prelude.{ℕ, ◌≡◌, Bool, true, false, not, ◌&&◌, List, []}
 use Rattle.std.specs.List.{list_all}
-use Rattle.std.specs.Str.{bytes_eq}
 use Rattle.wit_model.specs.declared.profiles.Profile.{Profile}
-use Rattle.wit_model.specs.declared.profiles.Profile.TheVariants.{Plain, AllHeld}
-use Rattle.wit_model.specs.declared.locks.Class.TheVariants.{SleepMutex}
-use Rattle.wit_model.specs.declared.calls.NewLock.{NewLock}
+use Rattle.wit_model.specs.declared.profiles.Profile.TheVariants.{Plain}
 use Rattle.wit_model.specs.declared.calls.Call.{Call}
 use Rattle.wit_model.specs.declared.calls.Call.TheVariants.{Init, Check, NoteTry, SetWatch}
 use Rattle.wit_model.specs.declared.calls.Entry.{Entry}
-use Rattle.wit_model.specs.Rules.Types.{type_name_of, is_same_class}
+use Rattle.wit_model.specs.Rules.Types.{type_name_of, is_giant_type}
 use Rattle.wit_model.specs.Rules.Locks.{has_flag}
 use Rattle.wit_model.specs.Rules.History.{is_on, is_report}
 use Rattle.wit_model.specs.Rules.State.{Story, state_of}
 use Rattle.wit_model.specs.Rules.Circles.{IsRecordCircle}
 
--- Giant is the mutex of that type (locking(9))
-abbrev pub is_giant_lock : NewLock → Bool
-is_giant_lock lock =
-    is_same_class lock.class SleepMutex && bytes_eq (type_name_of lock) (codes "Giant")
-
--- whether locks may be acquired by a try: the orders behind such a lock are learnt once all held
--- locks are compared with
-abbrev pub allows_tries : Profile → Bool
-allows_tries Plain = false
-allows_tries AllHeld = true
-
 -- no lock is Giant or allows a second one of its type (0x02); each check may teach an order (0x01)
--- and allows no second lock of a type (0x02); nothing is tried, unless the profile allows it; and
--- everything is watched
+-- and allows no second lock of a type (0x02); nothing is tried, unless all held locks are compared
+-- with: then the orders behind a tried lock are learnt too; and everything is watched
 abbrev pub is_clean_call : Profile → Call → Bool
-is_clean_call profile (Init lock) = not (has_flag lock.flags.0 0x02) && not (is_giant_lock lock)
+is_clean_call profile (Init lock) =
+    not (has_flag lock.flags.0 0x02) && not (is_giant_type lock.class (type_name_of lock))
 is_clean_call profile (Check q) = has_flag q.ops.0 0x01 && not (has_flag q.ops.0 0x02)
-is_clean_call profile (NoteTry l m s) = allows_tries profile
+is_clean_call Plain (NoteTry l m s) = false
 is_clean_call profile (SetWatch level) = is_on level
 is_clean_call profile _ = true
 

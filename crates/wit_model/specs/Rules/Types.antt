@@ -2,7 +2,7 @@
 -- mutex when doing checks of lock ordering" (mutex(9)). A type is a name with a class, and its
 -- number is its place among the types enrolled so far, from 1.
 use Rattle.std.specs.Prelude.{ℕ, ◌+◌, Bool, true, false, not, ◌&&◌, List, [], ◌∷◌, ◌++◌, unwrap_or}
-use Rattle.std.specs.Prelude.{if◌then◌else◌}
+use Rattle.std.specs.Prelude.{codes, if◌then◌else◌}
 use Rattle.std.specs.List.{list_any, position_or_len}
 use Rattle.std.specs.Str.{bytes_eq}
 use Rattle.wit_model.specs.declared.locks.Class.{Class}
@@ -20,6 +20,10 @@ is_same_class SpinMutex SpinMutex = true
 is_same_class Rw Rw = true
 is_same_class Sx Sx = true
 is_same_class _ _ = false
+
+-- Giant is the mutex of that name (locking(9))
+abbrev pub is_giant_type : Class → List ℕ → Bool
+is_giant_type class name = is_same_class class SleepMutex && bytes_eq name (codes "Giant")
 
 -- whether the class is of the spin kind; all others are of the sleep kind (locking(9))
 abbrev pub is_spin : Class → Bool

@@ -1,7 +1,7 @@
 -- The verdict of a check: WITNESS compares the requested lock with the held ones (witness(4); the
 -- comments of witness_checkorder in subr_witness.c). The first rule that applies decides.
 use Rattle.std.specs.Prelude.{ℕ, Bool, true, false, not, ◌&&◌, ◌||◌, ◌==◌, List, [], ◌∷◌, Option}
-use Rattle.std.specs.Prelude.{None, Some, is_some, is_none, unwrap_or, Result, Ok, Err, codes, map}
+use Rattle.std.specs.Prelude.{None, Some, is_some, is_none, unwrap_or, Result, Ok, Err, map}
 use Rattle.std.specs.Prelude.{reverse, find, if◌then◌else◌}
 use Rattle.std.specs.List.{list_any, list_all, last_or, before_first}
 use Rattle.std.specs.Option.{option_map}
@@ -11,7 +11,7 @@ use Rattle.wit_model.specs.declared.profiles.Profile.TheVariants.{Plain, AllHeld
 use Rattle.wit_model.specs.declared.faults.Fault.{Fault}
 use Rattle.wit_model.specs.declared.faults.Fault.TheVariants.{SleepUnderSpin, SharedOfExclusive}
 use Rattle.wit_model.specs.declared.faults.Fault.TheVariants.{ExclusiveOfShared, Recursed}
-use Rattle.wit_model.specs.declared.locks.Class.TheVariants.{SleepMutex, Sx}
+use Rattle.wit_model.specs.declared.locks.Class.TheVariants.{Sx}
 use Rattle.wit_model.specs.declared.locks.Mode.{Mode}
 use Rattle.wit_model.specs.declared.locks.Mode.TheVariants.{Shared, Exclusive}
 use Rattle.wit_model.specs.declared.locks.Watch.{Watch}
@@ -28,7 +28,8 @@ use Rattle.wit_model.specs.declared.calls.Reply.TheVariants.{Duplicate, Reversal
 use Rattle.wit_model.specs.declared.calls.Request.{Request}
 use Rattle.wit_model.specs.declared.calls.TypedRequest.{TypedRequest}
 use Rattle.wit_model.specs.Rules.Numbers.{with_number}
-use Rattle.wit_model.specs.Rules.Types.{LockType, name_of, class_of, is_same_class, is_spin}
+use Rattle.wit_model.specs.Rules.Types.{LockType, name_of, class_of, is_same_class, is_giant_type}
+use Rattle.wit_model.specs.Rules.Types.{is_spin}
 use Rattle.wit_model.specs.Rules.Locks.{Lock, has_flag, lock_at}
 use Rattle.wit_model.specs.Rules.Orders.{is_direct, is_before, is_found}
 use Rattle.wit_model.specs.Rules.History.{is_on}
@@ -61,11 +62,8 @@ has_type_of g q i = (type_held g i).0 == q.type_no.0
 abbrev pub is_sleepable : Basis → TypeNo → Bool
 is_sleepable g t = is_same_class (class_of t.0 g.types) Sx
 
--- Giant is the mutex of that name (locking(9))
 abbrev pub is_giant : Basis → TypeNo → Bool
-is_giant g t =
-    is_same_class (class_of t.0 g.types) SleepMutex
-    && bytes_eq (name_of t.0 g.types) (codes "Giant")
+is_giant g t = is_giant_type (class_of t.0 g.types) (name_of t.0 g.types)
 
 abbrev pub place_of : Instance → LockAt
 place_of i = record { lock = i.lock; site = i.site }
