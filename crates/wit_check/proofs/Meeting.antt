@@ -4,6 +4,8 @@ use Rattle.std.proofs.Common.{[], ◌∷◌, ◌++◌, Option, None, Some, is_so
 use Rattle.std.proofs.Common.{find, reverse, Result, Ok, refl, ap, ap₂, sym, ◌∙◌}
 use Rattle.std.specs.List.{list_all, list_any}
 use Rattle.std.proofs.lemmas.List.{reverse-append, append-nil}
+use Rattle.std.proofs.lemmas.List.Folds.{list_all-append}
+use Rattle.wit_model.specs.declared.profiles.Profile.TheVariants.{AllHeld}
 use Rattle.wit_model.specs.declared.faults.Fault.{Fault}
 use Rattle.wit_model.specs.declared.locks.Instance.{Instance}
 use Rattle.wit_model.specs.declared.locks.TypeNo.{TypeNo}
@@ -19,9 +21,17 @@ use Rattle.wit_check.specs.Meets.{met_in, nothing_met, with_met, with_all_met, w
 use Rattle.wit_check.specs.Meets.{with_parents}
 use Rattle.wit_check.proofs.Chunks.{chunk-looked, newest-older}
 
-both : (a b : Bool) → cond a b false ≡ (a && b)
-both true b = refl
-both false b = refl
+both : (a b : Bool) → cond a b false ≡ (b && (a && true))
+both true true = refl
+both true false = refl
+both false true = refl
+both false false = refl
+
+all-older : {X : Type 0} (p : X → Bool) (x : X) (xs : List X)
+    → cond (p x) (list_all p (reverse xs)) false ≡ list_all p (reverse (x ∷ xs))
+all-older p x xs =
+    both (p x) (list_all p (reverse xs))
+    ∙ sym (ap (list_all p) (reverse-append (x ∷ []) xs) ∙ list_all-append p (reverse xs) (x ∷ []))
 
 -- an order that may be learnt and is none yet
 either : (known taught may : Bool) → cond known taught (taught || may)
@@ -63,9 +73,9 @@ module _ (g : Basis) (q : TypedRequest) where
       ∙ ap₂ (λ t k. met_of (find (is_of q.lock.0) (i ∷ c)) t k
       (cond (is_direct_behind g q i) taught (taught || is_learnt g q i)))
       (newest-older (has_type_of g q) i c)
-      (both (is_direct_behind g q i) (list_all (is_direct_behind g q) c))
+      (all-older (is_direct_behind g q) i c)
       ∙ ap (met_of (find (is_of q.lock.0) (i ∷ c)) (find (has_type_of g q) (reverse (i ∷ c)))
-      (list_all (is_direct_behind g q) (i ∷ c)))
+      (list_all (is_direct_behind g q) (reverse (i ∷ c))))
       (either (is_direct_behind g q i) taught (is_learnt g q i)
       ∙ is-some (find (is_new g q []) (reverse c)) (is_new g q [] i) i
       ∙ ap is_some (newest-older (is_new g q []) i c))
@@ -77,16 +87,17 @@ module _ (g : Basis) (q : TypedRequest) where
 
   -- none is, where none may be learnt and is new by itself
   pub teaches-none : (c : List Instance) → is_some (find (is_new g q []) c) ≡ false
-      → ◌≡◌ {A = Result Reply Fault} (Ok Pass) (decided (told_orders q (new_parents g q [] c) ∷ []))
+      → ◌≡◌ {A = Result Reply Fault} (Ok Pass)
+      (decided (told_orders AllHeld q (new_parents g q [] c) ∷ []))
   teaches-none [] none = refl
   teaches-none (i ∷ c) none = go (is_new g q [] i) none (λ rest. teaches-none c rest)
     where
       go : (b : Bool) → is_some (cond b (Some i) (find (is_new g q []) c)) ≡ false
           → (is_some (find (is_new g q []) c) ≡ false
           → ◌≡◌ {A = Result Reply Fault} (Ok Pass)
-          (decided (told_orders q (new_parents g q [] c) ∷ [])))
+          (decided (told_orders AllHeld q (new_parents g q [] c) ∷ [])))
           → ◌≡◌ {A = Result Reply Fault} (Ok Pass)
-          (decided (told_orders q (cond b
+          (decided (told_orders AllHeld q (cond b
           (type_held g i ∷ new_parents g q (type_held g i ∷ []) c) (new_parents g q [] c))
           ∷ []))
       go true none rest = (cc)
@@ -95,20 +106,21 @@ module _ (g : Basis) (q : TypedRequest) where
   -- else all that are learnt are told
   pub teaches-some : (c : List Instance) → is_some (find (is_new g q []) c) ≡ true
       → ◌≡◌ {A = Result Reply Fault} (Ok (AdoptedAll (orders_behind q (new_parents g q [] c))))
-      (decided (told_orders q (new_parents g q [] c) ∷ []))
+      (decided (told_orders AllHeld q (new_parents g q [] c) ∷ []))
   teaches-some [] some = (cc)
   teaches-some (i ∷ c) some = go (is_new g q [] i) some (λ rest. teaches-some c rest)
     where
       go : (b : Bool) → is_some (cond b (Some i) (find (is_new g q []) c)) ≡ true
           → (is_some (find (is_new g q []) c) ≡ true
           → ◌≡◌ {A = Result Reply Fault} (Ok (AdoptedAll (orders_behind q (new_parents g q [] c))))
-          (decided (told_orders q (new_parents g q [] c) ∷ [])))
+          (decided (told_orders AllHeld q (new_parents g q [] c) ∷ [])))
           → ◌≡◌ {A = Result Reply Fault}
           (Ok (AdoptedAll (orders_behind q
           (cond b (type_held g i ∷ new_parents g q (type_held g i ∷ []) c)
           (new_parents g q [] c)))))
-          (decided (told_orders q (cond b (type_held g i ∷ new_parents g q (type_held g i ∷ []) c)
-          (new_parents g q [] c)) ∷ []))
+          (decided (told_orders AllHeld q (cond b
+          (type_held g i ∷ new_parents g q (type_held g i ∷ []) c) (new_parents g q [] c))
+          ∷ []))
       go true some rest = refl
       go false some rest = rest some
 

@@ -1,55 +1,67 @@
 -- The rules from the fourth on, each where the ones before it don't apply.
 use Rattle.std.proofs.Common.{◌≡◌, ℕ, ap, ◌∙◌, Bool, true, false, not, ◌&&◌, List, [], ◌∷◌, None}
-use Rattle.std.proofs.Common.{Some, is_some, Result, Ok, Err, find, reverse, refl}
+use Rattle.std.proofs.Common.{Some, is_some, Result, Ok, Err, cond, find, reverse, refl}
 use Rattle.std.specs.List.{last_or, list_all}
 use Rattle.wit_model.specs.declared.profiles.Profile.{Profile}
-use Rattle.wit_model.specs.declared.profiles.Profile.TheVariants.{Plain}
+use Rattle.wit_model.specs.declared.profiles.Profile.TheVariants.{Plain, AllHeld}
 use Rattle.wit_model.specs.declared.faults.Fault.{Fault}
 use Rattle.wit_model.specs.declared.faults.Fault.TheVariants.{SleepUnderSpin}
 use Rattle.wit_model.specs.declared.locks.Watch.{Watch}
+use Rattle.wit_model.specs.declared.locks.TypeNo.{TypeNo}
 use Rattle.wit_model.specs.declared.locks.Instance.{Instance}
 use Rattle.wit_model.specs.declared.calls.TypedRequest.{TypedRequest}
 use Rattle.wit_model.specs.declared.calls.Reply.{Reply}
-use Rattle.wit_model.specs.declared.calls.Reply.TheVariants.{Pass}
+use Rattle.wit_model.specs.declared.calls.Reply.TheVariants.{Pass, Adopted}
 use Rattle.wit_model.specs.Rules.Types.{is_spin, class_of}
 use Rattle.wit_model.specs.Rules.Orders.{is_direct}
 use Rattle.wit_model.specs.Rules.History.{is_on}
 use Rattle.wit_model.specs.Rules.Verdict.{Basis, is_of, type_held, has_type_of, again, doubled}
-use Rattle.wit_model.specs.Rules.Verdict.{violates, reported, is_direct_behind, decided, teaches}
-use Rattle.wit_model.specs.Rules.Verdict.{teaches_all, chain_asked, ruling}
+use Rattle.wit_model.specs.Rules.Verdict.{violates, reported, is_direct_behind, is_learnt, when}
+use Rattle.wit_model.specs.Rules.Verdict.{decided, told_orders, teaches, chain_asked, ruling}
 use Rattle.wit_model.specs.Rules.Chunks.{Chunks, chain_of, list_of}
-use Rattle.wit_check.specs.Behind.{over, over_all}
+use Rattle.wit_model.proofs.Orders.Ends.{newest-one}
+use Rattle.wit_check.specs.Behind.{over}
 use Rattle.wit_check.specs.Held.{sleep_chain, spin_chain}
+
+-- an order that may be learnt is told
+told-learnt : (q : TypedRequest) (p : TypeNo) (b : Bool)
+    → decided (when b (Ok (Adopted p q.type_no)) ∷ [])
+    ≡ decided (told_orders Plain q (cond (b && true && true) (p ∷ []) []) ∷ [])
+told-learnt q p true = refl
+told-learnt q p false = refl
 
 module _ (g : Basis) (c : List Instance) (last : Instance) (q : TypedRequest) where
   pub again-decides : (i : Instance) → find (is_of q.lock.0) c ≡ Some i
-      → again q i ≡ decided (over Plain g c last q)
+      → again q i ≡ decided (over Plain g c q)
   again-decides i is = rw is refl
 
-  module _ (free : find (is_of q.lock.0) c ≡ None) where
+  module _ (is_last : last_or None c ≡ Some last) (free : find (is_of q.lock.0) c ≡ None) where
     pub double-decides : has_type_of g q last ≡ true
-        → doubled g q last ≡ decided (over Plain g c last q)
-    double-decides same = rw (free, same) refl
+        → doubled g q last ≡ decided (over Plain g c q)
+    double-decides same = rw (free, newest-one c last is_last, same) refl
 
     module _ (apart : has_type_of g q last ≡ false) where
       pub direct-decides : is_direct g.orders (type_held g last).0 q.type_no.0 ≡ true
-          → ◌≡◌ {A = Result Reply Fault} (Ok Pass) (decided (over Plain g c last q))
-      direct-decides direct = rw (free, apart, direct) refl
+          → ◌≡◌ {A = Result Reply Fault} (Ok Pass) (decided (over Plain g c q))
+      direct-decides direct = rw (free, newest-one c last is_last, apart, direct) refl
 
       module _ (new : is_direct g.orders (type_held g last).0 q.type_no.0 ≡ false) where
         pub violation-decides : (i : Instance) → find (violates g q) (reverse c) ≡ Some i
-            → reported g q c i ≡ decided (over Plain g c last q)
-        violation-decides i is = rw (free, apart, new, is) refl
+            → reported g q c i ≡ decided (over Plain g c q)
+        violation-decides i is = rw (free, newest-one c last is_last, apart, new, is) refl
 
         pub learning-decides : find (violates g q) (reverse c) ≡ None
-            → decided (teaches g (Some last) q ∷ []) ≡ decided (over Plain g c last q)
-        learning-decides none = rw (free, apart, new, none) refl
+            → decided (when (is_learnt g q last) (Ok (Adopted (type_held g last) q.type_no)) ∷ [])
+            ≡ decided (over Plain g c q)
+        learning-decides none =
+            told-learnt q (type_held g last) (is_learnt g q last)
+            ∙ rw (free, newest-one c last is_last, apart, new, none) refl
 
 -- the last one where it is compared with all of the chain
 pub teaching-decides : (g : Basis) (c : List Instance) (q : TypedRequest)
     → find (is_of q.lock.0) c ≡ None → find (has_type_of g q) (reverse c) ≡ None
-    → list_all (is_direct_behind g q) c ≡ false → find (violates g q) (reverse c) ≡ None
-    → decided (teaches_all g c q ∷ []) ≡ decided (over_all g c q)
+    → list_all (is_direct_behind g q) (reverse c) ≡ false → find (violates g q) (reverse c) ≡ None
+    → decided (teaches AllHeld g (reverse c) q ∷ []) ≡ decided (over AllHeld g c q)
 teaching-decides g c q free apart new none = rw (free, apart, new, none) refl
 
 -- the chain that a request is judged by
@@ -83,7 +95,7 @@ module _ (profile : Profile) (g : Basis) (watch : Watch) (sleep spin : List Inst
     nothing-decides none = rw (on, calm, none) refl
 
     pub chain-decides : (last : Instance) → last_or None (chain_asked g sleep spin q) ≡ Some last
-        → decided (over profile g (chain_asked g sleep spin q) last q)
+        → decided (over profile g (chain_asked g sleep spin q) q)
         ≡ ruling profile g watch sleep spin q
     chain-decides last is = rw (on, calm, is) refl
 

@@ -14,7 +14,7 @@ abbrev pub met_in : Basis → TypedRequest → List Instance → Met
 met_in g q c = record {
   held = find (is_of q.lock.0) c;
   twin = find (has_type_of g q) (reverse c);
-  known = list_all (is_direct_behind g q) c;
+  known = list_all (is_direct_behind g q) (reverse c);
   teaches = is_some (find (is_new g q []) (reverse c));
 }
 

@@ -1,11 +1,12 @@
 //! A lock is asked for behind others, and compared with all of them.
 
 ghost use Rattle.std.specs.Prelude.{◌≡◌};
+ghost use Rattle.wit_model.specs.declared.profiles.Profile.TheVariants.{AllHeld};
 ghost use Rattle.wit_model.specs.Rules.Numbers.{IsGiven};
 ghost use Rattle.wit_model.specs.Rules.Chunks.{IsList, chain_of};
 ghost use Rattle.wit_model.specs.Rules.Verdict.{decided};
 ghost use Rattle.wit_check.specs.Answers.{answer_by, new_orders};
-ghost use Rattle.wit_check.specs.Behind.{over_all};
+ghost use Rattle.wit_check.specs.Behind.{over};
 ghost use Rattle.wit_check.specs.Held.{IsTyped, IsJudgeable};
 ghost use Rattle.wit_check.specs.Meets.{met_in, with_met, with_all_met};
 
@@ -93,7 +94,7 @@ pub fn behind_all<L: Lists>(basis: &Basis, lists: &L, list: u16, request: TypedR
     requires asked { IsGiven basis.now.types request.type_no.0 }
     ensures { let chain = chain_of (L.chunks lists.now) list in
         answer_by (new_orders basis.now chain request) result
-        ≡ decided (over_all basis.now chain request) }
+        ≡ decided (over AllHeld basis.now chain request) }
 {
     let met = meet(basis, lists, list, request);
     if let Some(held) = met.held {

@@ -1,9 +1,10 @@
 //! Which orders a request breaks, and which it teaches.
 
-ghost use Rattle.std.specs.Prelude.{◌≡◌, List, [], ◌∷◌, Some};
+ghost use Rattle.std.specs.Prelude.{◌≡◌, List, [], ◌∷◌, Ok};
 ghost use Rattle.wit_model.specs.declared.locks.TypeNo.{TypeNo};
+ghost use Rattle.wit_model.specs.declared.calls.Reply.TheVariants.{Adopted};
 ghost use Rattle.wit_model.specs.Rules.Numbers.{IsGiven};
-ghost use Rattle.wit_model.specs.Rules.Verdict.{breach, is_learnt, teaches, decided};
+ghost use Rattle.wit_model.specs.Rules.Verdict.{breach, type_held, is_learnt, when, decided};
 ghost use Rattle.wit_check.specs.Answers.{answer_by};
 ghost use Rattle.wit_check.specs.Looks.{sort_of};
 
@@ -78,7 +79,8 @@ pub fn learnt(basis: &Basis, request: TypedRequest, last: Instance) -> Verdict
     requires last { IsGiven basis.now.lock_types last.lock.0 }
     requires asked { IsGiven basis.now.types request.type_no.0 }
     ensures { (new : List (TypeNo × TypeNo))
-        → answer_by new result ≡ decided (teaches basis.now (Some last) request ∷ []) }
+        → answer_by new result ≡ decided (when (is_learnt basis.now request last)
+        (Ok (Adopted (type_held basis.now last) request.type_no)) ∷ []) }
 {
     if is_learnt(basis, request, last) {
         Verdict::Adopt(basis.type_held(last), request.type_no)

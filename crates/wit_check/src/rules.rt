@@ -102,7 +102,7 @@ fn judge<L: Lists>(
     requires asked { IsGiven basis.now.types request.type_no.0 }
     ensures { let chain = chain_of (L.chunks lists.now) list in
         answer_by (new_orders basis.now chain request) result
-        ≡ decided (over profile basis.now chain last request) }
+        ≡ decided (over profile basis.now chain request) }
 {
     match profile {
         Profile::Plain => behind(basis, lists, list, request, last),
@@ -124,7 +124,7 @@ fn behind<L: Lists>(
     requires asked { IsGiven basis.now.types request.type_no.0 }
     ensures { (new : List (TypeNo × TypeNo))
         → answer_by new result ≡ decided
-        (over Plain basis.now (chain_of (L.chunks lists.now) list) last request) }
+        (over Plain basis.now (chain_of (L.chunks lists.now) list) request) }
 {
     let parent = basis.type_held(last);
     let is_double = parent.0 == request.type_no.0;

@@ -1,8 +1,7 @@
 -- The answers to a check, a try and a note are never that the call is passed over: an accepted one
 -- is logged.
-use Rattle.std.proofs.Common.{◌≡◌, ℕ, Bool, true, false, ◌||◌, cond, List, [], ◌∷◌, reverse, Option}
+use Rattle.std.proofs.Common.{◌≡◌, ℕ, Bool, true, false, ◌||◌, cond, List, [], ◌∷◌, Option}
 use Rattle.std.proofs.Common.{None, Some, is_some, Result, Ok, Err, refl, ap, sym, ◌∙◌}
-use Rattle.std.specs.List.{last_or}
 use Rattle.std.specs.Option.{option_map}
 use Rattle.wit_model.specs.declared.profiles.Profile.{Profile}
 use Rattle.wit_model.specs.declared.profiles.Profile.TheVariants.{Plain, AllHeld}
@@ -24,8 +23,7 @@ use Rattle.wit_model.specs.Rules.Orders.{is_found}
 use Rattle.wit_model.specs.Rules.State.{State, Known, Seat, seat_at}
 use Rattle.wit_model.specs.Rules.Verdict.{Basis, Rule, when, decided, rules, again, doubled}
 use Rattle.wit_model.specs.Rules.Verdict.{reported, basis_of, typed_request, chain_asked, verdict}
-use Rattle.wit_model.specs.Rules.Verdict.{doubles_in, follows_in, teaches_in, told_orders}
-use Rattle.wit_model.specs.Rules.Verdict.{new_parents}
+use Rattle.wit_model.specs.Rules.Verdict.{told_orders}
 use Rattle.wit_model.specs.Rules.Step.{is_exhausted, held_by, recorded_reply, is_logged, step_check}
 use Rattle.wit_model.specs.Rules.Step.{before_answering, step_note_try}
 use Rattle.wit_model.proofs.Histories.Accepted.{check_accepted, note_accepted, try_accepted}
@@ -94,36 +92,17 @@ module _ (g : Basis) (watch : Watch) (spin chain : List Instance) (q : TypedRequ
   reported_kept : (i : Instance) → Kept (reported g q chain i)
   reported_kept i = pick _ _ _ (answered _ refl) (answered _ refl)
 
-  doubles_kept : (profile : Profile) (last : Option Instance)
-      → RuleKept (doubles_in profile g chain last q)
+  told_kept : (profile : Profile) (parents : List TypeNo)
+      → RuleKept (told_orders profile q parents)
   unfolding RuleKept
-  doubles_kept Plain None = tt
-  doubles_kept Plain (Some last) = when_kept _ _ (doubled_kept g q last)
-  doubles_kept AllHeld last = map_kept (doubled g q) (doubled_kept g q) _
+  told_kept Plain [] = tt
+  told_kept AllHeld [] = tt
+  told_kept Plain (p ∷ parents) = answered _ refl
+  told_kept AllHeld (p ∷ parents) = answered _ refl
 
-  follows_kept : (profile : Profile) (last : Option Instance)
-      → RuleKept (follows_in profile g chain last q)
-  unfolding RuleKept
-  follows_kept Plain None = tt
-  follows_kept Plain (Some last) = when_kept _ _ (answered _ refl)
-  follows_kept AllHeld last = when_kept _ _ (answered _ refl)
-
-  told_kept : (parents : List TypeNo) → RuleKept (told_orders q parents)
-  unfolding RuleKept
-  told_kept [] = tt
-  told_kept (p ∷ parents) = answered _ refl
-
-  teaches_kept : (profile : Profile) (last : Option Instance)
-      → RuleKept (teaches_in profile g chain last q)
-  unfolding RuleKept
-  teaches_kept Plain None = tt
-  teaches_kept Plain (Some last) = when_kept _ _ (answered _ refl)
-  teaches_kept AllHeld last = told_kept (new_parents g q [] (reverse chain))
-
-  rules_kept : (profile : Profile) (last : Option Instance)
-      → AllKept (rules profile g watch spin chain last q)
+  rules_kept : (profile : Profile) → AllKept (rules profile g watch spin chain q)
   unfolding AllKept
-  rules_kept profile last = (
+  rules_kept profile = (
     when_kept _ _ (answered _ refl),
     (
       when_kept _ _ (failed SleepUnderSpin),
@@ -132,10 +111,10 @@ module _ (g : Basis) (watch : Watch) (spin chain : List Instance) (q : TypedRequ
         (
           map_kept (again q) (again_kept q) _,
           (
-            doubles_kept profile last,
+            map_kept (doubled g q) (doubled_kept g q) _,
             (
-              follows_kept profile last,
-              (map_kept (reported g q chain) reported_kept _, (teaches_kept profile last, tt)),
+              when_kept _ _ (answered _ refl),
+              (map_kept (reported g q chain) reported_kept _, (told_kept profile _, tt)),
             ),
           ),
         ),
@@ -149,8 +128,8 @@ verdict_kept profile k watch seat q =
     let g = basis_of k in
     let asked = typed_request k q in
     let chain = chain_asked g seat.sleep seat.spin asked in
-    decided_kept (rules profile g watch seat.spin chain (last_or None chain) asked)
-    (rules_kept g watch seat.spin chain asked profile (last_or None chain))
+    decided_kept (rules profile g watch seat.spin chain asked)
+    (rules_kept g watch seat.spin chain asked profile)
 
 -- ---- the calls
 

@@ -1,7 +1,6 @@
 -- A check or a try that tells a named file isn't refused for its file.
-use Rattle.std.proofs.Common.{◌≡◌, ℕ, Bool, true, false, not, ◌||◌, cond, List, [], ◌∷◌, reverse}
+use Rattle.std.proofs.Common.{◌≡◌, ℕ, Bool, true, false, not, ◌||◌, cond, List, [], ◌∷◌}
 use Rattle.std.proofs.Common.{Option, None, Some, Result, Ok, Err, refl, ap, sym, ◌∙◌, subst}
-use Rattle.std.specs.List.{last_or}
 use Rattle.std.specs.Option.{option_map}
 use Rattle.std.proofs.lemmas.Bool.{false≢true}
 use Rattle.wit_model.specs.declared.profiles.Profile.{Profile}
@@ -27,8 +26,7 @@ use Rattle.wit_model.specs.Rules.Orders.{is_found}
 use Rattle.wit_model.specs.Rules.State.{State, Known, Seat, seat_at, has_room}
 use Rattle.wit_model.specs.Rules.Verdict.{Basis, Rule, when, decided, rules, again, doubled}
 use Rattle.wit_model.specs.Rules.Verdict.{reported, basis_of, typed_request, chain_asked, verdict}
-use Rattle.wit_model.specs.Rules.Verdict.{doubles_in, follows_in, teaches_in, told_orders}
-use Rattle.wit_model.specs.Rules.Verdict.{new_parents}
+use Rattle.wit_model.specs.Rules.Verdict.{told_orders}
 use Rattle.wit_model.specs.Rules.Step.{with_room, recorded_reply, step_check, step_note_try}
 
 -- the answer is another than that the file is unknown
@@ -102,36 +100,17 @@ module _ (g : Basis) (watch : Watch) (spin chain : List Instance) (q : TypedRequ
   reported_other : (i : Instance) → Other (reported g q chain i)
   reported_other i = pick _ _ _ (answered _) (answered _)
 
-  doubles_other : (profile : Profile) (last : Option Instance)
-      → RuleOther (doubles_in profile g chain last q)
+  told_other : (profile : Profile) (parents : List TypeNo)
+      → RuleOther (told_orders profile q parents)
   unfolding RuleOther
-  doubles_other Plain None = tt
-  doubles_other Plain (Some last) = when_other _ _ (doubled_other g q last)
-  doubles_other AllHeld last = map_other (doubled g q) (doubled_other g q) _
+  told_other Plain [] = tt
+  told_other AllHeld [] = tt
+  told_other Plain (p ∷ parents) = answered _
+  told_other AllHeld (p ∷ parents) = answered _
 
-  follows_other : (profile : Profile) (last : Option Instance)
-      → RuleOther (follows_in profile g chain last q)
-  unfolding RuleOther
-  follows_other Plain None = tt
-  follows_other Plain (Some last) = when_other _ _ (answered _)
-  follows_other AllHeld last = when_other _ _ (answered _)
-
-  told_other : (parents : List TypeNo) → RuleOther (told_orders q parents)
-  unfolding RuleOther
-  told_other [] = tt
-  told_other (p ∷ parents) = answered _
-
-  teaches_other : (profile : Profile) (last : Option Instance)
-      → RuleOther (teaches_in profile g chain last q)
-  unfolding RuleOther
-  teaches_other Plain None = tt
-  teaches_other Plain (Some last) = when_other _ _ (answered _)
-  teaches_other AllHeld last = told_other (new_parents g q [] (reverse chain))
-
-  rules_other : (profile : Profile) (last : Option Instance)
-      → AllOther (rules profile g watch spin chain last q)
+  rules_other : (profile : Profile) → AllOther (rules profile g watch spin chain q)
   unfolding AllOther
-  rules_other profile last = (
+  rules_other profile = (
     when_other _ _ (answered _),
     (
       when_other _ _ (failed SleepUnderSpin refl),
@@ -140,10 +119,10 @@ module _ (g : Basis) (watch : Watch) (spin chain : List Instance) (q : TypedRequ
         (
           map_other (again q) (again_other q) _,
           (
-            doubles_other profile last,
+            map_other (doubled g q) (doubled_other g q) _,
             (
-              follows_other profile last,
-              (map_other (reported g q chain) reported_other _, (teaches_other profile last, tt)),
+              when_other _ _ (answered _),
+              (map_other (reported g q chain) reported_other _, (told_other profile _, tt)),
             ),
           ),
         ),
@@ -157,8 +136,8 @@ verdict_other profile k watch seat q =
     let g = basis_of k in
     let asked = typed_request k q in
     let chain = chain_asked g seat.sleep seat.spin asked in
-    decided_other (rules profile g watch seat.spin chain (last_or None chain) asked)
-    (rules_other g watch seat.spin chain asked profile (last_or None chain))
+    decided_other (rules profile g watch seat.spin chain asked)
+    (rules_other g watch seat.spin chain asked profile)
 
 -- ---- the calls
 

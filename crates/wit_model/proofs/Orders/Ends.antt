@@ -1,6 +1,6 @@
 -- The last lock of a chain, and the newest one that passes a test.
 use Rattle.std.proofs.Common.{◌≡◌, Bool, true, false, not, ◌&&◌, cond, List, [], ◌∷◌, ◌++◌, reverse}
-use Rattle.std.proofs.Common.{find, Some, None, refl, ap, sym, ◌∙◌, subst}
+use Rattle.std.proofs.Common.{take, find, Some, None, refl, ap, sym, ◌∙◌, subst}
 use Rattle.std.specs.List.{list_all, last_or}
 use Rattle.std.proofs.lemmas.Bool.{and_parts, and_from}
 use Rattle.std.proofs.lemmas.List.{reverse-append}
@@ -17,6 +17,13 @@ pub last_whole : (c : List Instance) (x : Instance) → last_or None c ≡ Some 
     → (front : List Instance) × (c ≡ front ++ x ∷ [])
 last_whole [] x is = (cc)
 last_whole (i ∷ c) x is = last_front i c x is
+
+-- and the one with which alone a request may be compared
+pub newest-one : (c : List Instance) (x : Instance) → last_or None c ≡ Some x
+    → take 1 (reverse c) ≡ x ∷ []
+newest-one c x is =
+    let whole = last_whole c x is in
+    ap (λ e. take 1 (reverse e)) whole.1 ∙ ap (take 1) (reverse-append whole.0 (x ∷ []))
 
 -- an element that is found from the end has what all have
 pub all-reverse : (p : Instance → Bool) (c : List Instance) → list_all p c ≡ true

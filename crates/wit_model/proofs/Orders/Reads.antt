@@ -6,7 +6,6 @@ use Rattle.std.proofs.Common.{◌∙◌}
 use Rattle.std.specs.List.{list_all, last_or, before_first}
 use Rattle.std.specs.Option.{option_map}
 use Rattle.wit_model.specs.declared.profiles.Profile.{Profile}
-use Rattle.wit_model.specs.declared.profiles.Profile.TheVariants.{Plain, AllHeld}
 use Rattle.wit_model.specs.declared.faults.Fault.{Fault}
 use Rattle.wit_model.specs.declared.locks.TypeNo.{TypeNo}
 use Rattle.wit_model.specs.declared.locks.Watch.{Watch}
@@ -17,7 +16,7 @@ use Rattle.wit_model.specs.declared.calls.Conflict.{Conflict}
 use Rattle.wit_model.specs.declared.calls.Heading.{Heading}
 use Rattle.wit_model.specs.declared.calls.Heading.TheVariants as heading
 use Rattle.wit_model.specs.declared.calls.Reply.{Reply}
-use Rattle.wit_model.specs.declared.calls.Reply.TheVariants.{Pass, Adopted, Silent, Duplicate}
+use Rattle.wit_model.specs.declared.calls.Reply.TheVariants.{Pass, Silent, Duplicate}
 use Rattle.wit_model.specs.declared.calls.Reply.TheVariants.{Reversal}
 use Rattle.wit_model.specs.Rules.Locks.{has_flag}
 use Rattle.wit_model.specs.Rules.Orders.{is_direct, is_before, is_found}
@@ -26,7 +25,7 @@ use Rattle.wit_model.specs.Rules.Verdict.{is_giant, is_blessed, place_of, place_
 use Rattle.wit_model.specs.Rules.Verdict.{breach, violates, conflict, reported, is_learnt}
 use Rattle.wit_model.specs.Rules.Verdict.{is_direct_behind, is_among, is_new, new_parents}
 use Rattle.wit_model.specs.Rules.Verdict.{told_orders, doubles, follows, breaks_order, teaches}
-use Rattle.wit_model.specs.Rules.Verdict.{doubles_in, follows_in, teaches_in, when, decided}
+use Rattle.wit_model.specs.Rules.Verdict.{compared, when, decided}
 use Rattle.wit_model.specs.Rules.Verdict.{isnt_watched, sleeps_under_spin, holds_nothing, holds_it}
 use Rattle.wit_model.specs.Rules.Verdict.{chain_asked, ruling}
 
@@ -70,21 +69,6 @@ module _ (g : Basis) (orders : List Adoption) (found : List (TypeNo × TypeNo)) 
       (Ok (Reversal x)))
       (pairs (type_held g i).0 q.type_no.0) (conflict-same q c i)
 
-  doubles-same : (last : Option Instance) (q : TypedRequest)
-      → doubles g last q ≡ doubles other last q
-  doubles-same None q = refl
-  doubles-same (Some i) q =
-      ap (λ b. when (has_type_of g q i)
-      (cond (has_flag q.flags.0 0x02 || has_flag q.ops.0 0x02) (Ok Pass)
-      (cond b (Ok (Silent q.type_no q.type_no))
-      (Ok (Duplicate (record { last = place_of i; asked = place_asked q }))))))
-      (pairs q.type_no.0 q.type_no.0)
-
-  follows-same : (last : Option Instance) (q : TypedRequest)
-      → follows g last q ≡ follows other last q
-  follows-same None q = refl
-  follows-same (Some i) q = ap (λ b. when b (Ok Pass)) (direct (type_held g i).0 q.type_no.0)
-
   map-same : (q : TypedRequest) (c : List Instance) (o : Option Instance)
       → option_map (reported g q c) o ≡ option_map (reported other q c) o
   map-same q c None = refl
@@ -96,17 +80,6 @@ module _ (g : Basis) (orders : List Adoption) (found : List (TypeNo × TypeNo)) 
       (find-same (violates g q) (violates other q)
       (λ i. ap is_some (breach-same q.type_no (type_held g i))) (reverse c))
       ∙ map-same q c (find (violates other q) (reverse c))
-
-  teaches-same : (last : Option Instance) (q : TypedRequest)
-      → teaches g last q ≡ teaches other last q
-  teaches-same None q = refl
-  teaches-same (Some i) q =
-      ap (λ b. when (has_flag q.ops.0 0x01
-      && not (is_giant g (type_held g i) && is_sleepable g q.type_no) && not b)
-      (Ok (Adopted (type_held g i) q.type_no)))
-      (before q.type_no.0 (type_held g i).0)
-
-  -- ---- the same where all held locks are compared with
 
   doubled-same : (q : TypedRequest) (i : Instance) → doubled g q i ≡ doubled other q i
   doubled-same q i =
@@ -146,38 +119,23 @@ module _ (g : Basis) (orders : List Adoption) (found : List (TypeNo × TypeNo)) 
       ∙ ap₂ (λ a b. cond (is_new other q ps i) (type_held g i ∷ a) b)
       (parents-same q (type_held g i ∷ ps) c) (parents-same q ps c)
 
-  doubles_in-same : (profile : Profile) (c : List Instance) (last : Option Instance)
-      (q : TypedRequest) → doubles_in profile g c last q ≡ doubles_in profile other c last q
-  doubles_in-same Plain c last q = doubles-same last q
-  doubles_in-same AllHeld c last q = doubled-map q (find (has_type_of g q) (reverse c))
-
-  follows_in-same : (profile : Profile) (c : List Instance) (last : Option Instance)
-      (q : TypedRequest) → follows_in profile g c last q ≡ follows_in profile other c last q
-  follows_in-same Plain c last q = follows-same last q
-  follows_in-same AllHeld c last q = ap (λ b. when b (Ok Pass)) (all-known q c)
-
-  teaches_in-same : (profile : Profile) (c : List Instance) (last : Option Instance)
-      (q : TypedRequest) → teaches_in profile g c last q ≡ teaches_in profile other c last q
-  teaches_in-same Plain c last q = teaches-same last q
-  teaches_in-same AllHeld c last q = ap (told_orders q) (parents-same q [] (reverse c))
-
-  module _ (profile : Profile) (watch : Watch) (spin c : List Instance) (last : Option Instance)
+  module _ (profile : Profile) (watch : Watch) (spin c held : List Instance)
       (q : TypedRequest) where
     with-rules : Rule → Rule → Rule → Rule → Result Reply Fault
     with-rules a b d e =
-        decided (isnt_watched watch ∷ sleeps_under_spin g spin q ∷ holds_nothing last ∷ holds_it c q
-        ∷ a ∷ b ∷ d ∷ e ∷ [])
+        decided (isnt_watched watch ∷ sleeps_under_spin g spin q ∷ holds_nothing (last_or None c)
+        ∷ holds_it c q ∷ a ∷ b ∷ d ∷ e ∷ [])
 
-    rules-same : with-rules (doubles_in profile g c last q) (follows_in profile g c last q)
-        (breaks_order g c q) (teaches_in profile g c last q)
-        ≡ with-rules (doubles_in profile other c last q) (follows_in profile other c last q)
-        (breaks_order other c q) (teaches_in profile other c last q)
+    rules-same : with-rules (doubles g held q) (follows g held q) (breaks_order g c q)
+        (teaches profile g held q)
+        ≡ with-rules (doubles other held q) (follows other held q) (breaks_order other c q)
+        (teaches profile other held q)
     rules-same =
-        ap₂ (λ a b. with-rules a b (breaks_order g c q) (teaches_in profile g c last q))
-        (doubles_in-same profile c last q) (follows_in-same profile c last q)
-        ∙ ap₂ (λ d e. with-rules (doubles_in profile other c last q)
-        (follows_in profile other c last q) d e) (breaks-same c q)
-        (teaches_in-same profile c last q)
+        ap₂ (λ a b. with-rules a b (breaks_order g c q) (teaches profile g held q))
+        (doubled-map q (find (has_type_of g q) held))
+        (ap (λ b. when b (Ok Pass)) (all-known q held))
+        ∙ ap₂ (λ d e. with-rules (doubles other held q) (follows other held q) d e)
+        (breaks-same c q) (ap (told_orders profile q) (parents-same q [] held))
 
   -- the ruling over other lists of the same orders and pairs
   pub same-ruling : (profile : Profile) (watch : Watch) (sleep spin : List Instance)
@@ -186,4 +144,4 @@ module _ (g : Basis) (orders : List Adoption) (found : List (TypeNo × TypeNo)) 
   unfolding with-rules
   same-ruling profile watch sleep spin q =
       rules-same profile watch spin (chain_asked g sleep spin q)
-      (last_or None (chain_asked g sleep spin q)) q
+      (compared profile (chain_asked g sleep spin q)) q

@@ -1,7 +1,7 @@
 -- What an accepted verdict says: the request passes, an order is learnt, a type is held twice, or a
 -- held lock violates an order.
-use Rattle.std.proofs.Common.{◌≡◌, Bool, true, false, not, ◌&&◌, List, [], ◌∷◌, Option, None, Some}
-use Rattle.std.proofs.Common.{Ok, Err, is_some, find, reverse, refl, ap, sym, ◌∙◌}
+use Rattle.std.proofs.Common.{◌≡◌, Bool, true, false, not, ◌&&◌, cond, List, [], ◌∷◌, Option, None}
+use Rattle.std.proofs.Common.{Some, Ok, Err, is_some, find, reverse, refl, ap, sym, ◌∙◌}
 use Rattle.std.specs.List.{list_all, last_or}
 use Rattle.std.specs.Option.{option_map}
 use Rattle.wit_model.specs.declared.profiles.Profile.{Profile}
@@ -19,12 +19,12 @@ use Rattle.wit_model.specs.Rules.History.{is_on}
 use Rattle.wit_model.specs.Rules.Types.{is_spin, class_of}
 use Rattle.wit_model.specs.Rules.Verdict.{Basis, Rule, is_exclusive, is_of, type_held, has_type_of}
 use Rattle.wit_model.specs.Rules.Verdict.{again, doubled, violates, reported, is_learnt, when}
-use Rattle.wit_model.specs.Rules.Verdict.{decided, follows, breaks_order, teaches, is_direct_behind}
-use Rattle.wit_model.specs.Rules.Verdict.{follows_all, new_parents, orders_behind, told_orders}
-use Rattle.wit_model.specs.Rules.Verdict.{teaches_all, doubles_in, follows_in, teaches_in, holds_it}
+use Rattle.wit_model.specs.Rules.Verdict.{decided, compared, doubles, follows, breaks_order}
+use Rattle.wit_model.specs.Rules.Verdict.{teaches, is_direct_behind, new_parents, orders_behind}
+use Rattle.wit_model.specs.Rules.Verdict.{told_orders, holds_it}
 use Rattle.wit_model.specs.Rules.Verdict.{holds_nothing, sleeps_under_spin, chain_asked, ruling}
 use Rattle.wit_model.proofs.Histories.Accepted.{passed, same_reply}
-use Rattle.wit_model.proofs.Orders.Ends.{found-last, all-last, found-passes}
+use Rattle.wit_model.proofs.Orders.Ends.{newest-one, found-last, all-last, found-passes}
 
 -- the lock is asked for behind another one
 pub record IsBehind (q : TypedRequest) (c : List Instance) (last : Instance) : Type 0 where
@@ -109,7 +109,7 @@ pub data Cause (profile : Profile) (g : Basis) (watch : Watch) (q : TypedRequest
   Empty : last_or None c ≡ None → Cause profile g watch q c
   Recursion : Recurs q c → Cause profile g watch q c
   Known : profile ≡ Plain → Follows g q c → Cause profile g watch q c
-  KnownAll : profile ≡ AllHeld → list_all (is_direct_behind g q) c ≡ true
+  KnownAll : profile ≡ AllHeld → list_all (is_direct_behind g q) (reverse c) ≡ true
       → Cause profile g watch q c
   Untaught : profile ≡ Plain → Forgoes g q c → Cause profile g watch q c
   UntaughtAll : profile ≡ AllHeld → ForgoesAll g q c → Cause profile g watch q c
@@ -138,7 +138,8 @@ again_passes q i r ok =
 module _ (g : Basis) (watch : Watch) (q : TypedRequest) (c : List Instance) (r : Reply) where
   learning : (last : Instance) → IsNewBehind g q c last → find (violates g q) (reverse c) ≡ None
       → (b : Bool) → is_learnt g q last ≡ b
-      → decided (when b (Ok (Adopted (type_held g last) q.type_no)) ∷ []) ≡ Ok r
+      → decided (told_orders Plain q (cond (b && true && true) (type_held g last ∷ []) []) ∷ [])
+      ≡ Ok r
       → Says Plain g watch q c r
   learning last new orderly true is told =
       Learnt refl (record {
@@ -154,7 +155,7 @@ module _ (g : Basis) (watch : Watch) (q : TypedRequest) (c : List Instance) (r :
 
   breaking : (last : Instance) → IsNewBehind g q c last → (o : Option Instance)
       → find (violates g q) (reverse c) ≡ o
-      → decided (option_map (reported g q c) o ∷ teaches g (Some last) q ∷ []) ≡ Ok r
+      → decided (option_map (reported g q c) o ∷ teaches Plain g (last ∷ []) q ∷ []) ≡ Ok r
       → Says Plain g watch q c r
   breaking last new (Some i) sees told =
       Broken (record {
@@ -163,11 +164,15 @@ module _ (g : Basis) (watch : Watch) (q : TypedRequest) (c : List Instance) (r :
         violation = sees;
         reply = told;
       })
-  breaking last new None sees told = learning last new sees (is_learnt g q last) refl told
+  breaking last new None sees told =
+      learning last new sees (is_learnt g q last) refl
+      (ap (λ b. decided (told_orders Plain q (cond (is_learnt g q last && not b && true)
+      (type_held g last ∷ []) []) ∷ [])) (sym new.new) ∙ told)
 
   following : (last : Instance) → IsBehind q c last → has_type_of g q last ≡ false
       → (b : Bool) → is_direct g.orders (type_held g last).0 q.type_no.0 ≡ b
-      → decided (when b (Ok Pass) ∷ breaks_order g c q ∷ teaches g (Some last) q ∷ []) ≡ Ok r
+      → decided (when (b && true) (Ok Pass) ∷ breaks_order g c q
+      ∷ teaches Plain g (last ∷ []) q ∷ []) ≡ Ok r
       → Says Plain g watch q c r
   following last behind apart true is told =
       Passed (sym (same_reply told))
@@ -177,8 +182,8 @@ module _ (g : Basis) (watch : Watch) (q : TypedRequest) (c : List Instance) (r :
       (find (violates g q) (reverse c)) refl told
 
   doubling : (last : Instance) → IsBehind q c last → (b : Bool) → has_type_of g q last ≡ b
-      → decided (when b (doubled g q last) ∷ follows g (Some last) q ∷ breaks_order g c q
-      ∷ teaches g (Some last) q ∷ []) ≡ Ok r → Says Plain g watch q c r
+      → decided (option_map (doubled g q) (cond b (Some last) None) ∷ follows g (last ∷ []) q
+      ∷ breaks_order g c q ∷ teaches Plain g (last ∷ []) q ∷ []) ≡ Ok r → Says Plain g watch q c r
   doubling last behind true is told =
       Doubled (record {
         held = last;
@@ -194,7 +199,7 @@ module _ (g : Basis) (watch : Watch) (q : TypedRequest) (c : List Instance) (r :
 module _ (g : Basis) (watch : Watch) (q : TypedRequest) (c : List Instance) (r : Reply) where
   learning-all : AreApart g q c → find (violates g q) (reverse c) ≡ None → (ps : List TypeNo)
       → new_parents g q [] (reverse c) ≡ ps
-      → decided (told_orders q ps ∷ []) ≡ Ok r → Says AllHeld g watch q c r
+      → decided (told_orders AllHeld q ps ∷ []) ≡ Ok r → Says AllHeld g watch q c r
   learning-all apart orderly [] is told =
       Passed (sym (same_reply told))
       (UntaughtAll refl (record { apart = apart; orderly = orderly; barred = is }))
@@ -206,7 +211,7 @@ module _ (g : Basis) (watch : Watch) (q : TypedRequest) (c : List Instance) (r :
       })
 
   breaking-all : AreApart g q c → (o : Option Instance) → find (violates g q) (reverse c) ≡ o
-      → decided (option_map (reported g q c) o ∷ teaches_all g c q ∷ []) ≡ Ok r
+      → decided (option_map (reported g q c) o ∷ teaches AllHeld g (reverse c) q ∷ []) ≡ Ok r
       → Says AllHeld g watch q c r
   breaking-all apart (Some i) sees told =
       Broken (record {
@@ -218,16 +223,18 @@ module _ (g : Basis) (watch : Watch) (q : TypedRequest) (c : List Instance) (r :
   breaking-all apart None sees told =
       learning-all apart sees (new_parents g q [] (reverse c)) refl told
 
-  following-all : AreApart g q c → (b : Bool) → list_all (is_direct_behind g q) c ≡ b
-      → decided (when b (Ok Pass) ∷ breaks_order g c q ∷ teaches_all g c q ∷ []) ≡ Ok r
+  following-all : AreApart g q c → (b : Bool) → list_all (is_direct_behind g q) (reverse c) ≡ b
+      → decided (when b (Ok Pass) ∷ breaks_order g c q ∷ teaches AllHeld g (reverse c) q ∷ [])
+      ≡ Ok r
       → Says AllHeld g watch q c r
   following-all apart true is told = Passed (sym (same_reply told)) (KnownAll refl is)
   following-all apart false is told = breaking-all apart (find (violates g q) (reverse c)) refl told
 
   doubling-all : (o : Option Instance) → find (has_type_of g q) (reverse c) ≡ o
-      → decided (option_map (doubled g q) o ∷ follows_all g c q ∷ breaks_order g c q
-      ∷ teaches_all g c q ∷ []) ≡ Ok r → Says AllHeld g watch q c r
-  doubling-all None is told = following-all is (list_all (is_direct_behind g q) c) refl told
+      → decided (option_map (doubled g q) o ∷ follows g (reverse c) q ∷ breaks_order g c q
+      ∷ teaches AllHeld g (reverse c) q ∷ []) ≡ Ok r → Says AllHeld g watch q c r
+  doubling-all None is told =
+      following-all is (list_all (is_direct_behind g q) (reverse c)) refl told
   doubling-all (Some i) is told =
       Doubled (record {
         held = i;
@@ -237,17 +244,18 @@ module _ (g : Basis) (watch : Watch) (q : TypedRequest) (c : List Instance) (r :
         reply = told;
       })
 
--- the rules that the profile tells apart, and what they stand with
-abbrev later_rules : Profile → Basis → List Instance → Option Instance → TypedRequest → List Rule
-later_rules profile g c last q =
-    doubles_in profile g c last q ∷ follows_in profile g c last q ∷ breaks_order g c q
-    ∷ teaches_in profile g c last q ∷ []
+-- the rules that compare it with these, and what they stand with
+abbrev later_rules : Profile → Basis → List Instance → List Instance → TypedRequest → List Rule
+later_rules profile g c held q =
+    doubles g held q ∷ follows g held q ∷ breaks_order g c q ∷ teaches profile g held q ∷ []
 
 comparing : (profile : Profile) (g : Basis) (watch : Watch) (q : TypedRequest) (c : List Instance)
     (r : Reply) (last : Instance) → IsBehind q c last
-    → decided (later_rules profile g c (Some last) q) ≡ Ok r → Says profile g watch q c r
+    → decided (later_rules profile g c (compared profile c) q) ≡ Ok r → Says profile g watch q c r
 comparing Plain g watch q c r last behind told =
-    doubling g watch q c r last behind (has_type_of g q last) refl told
+    doubling g watch q c r last behind (has_type_of g q last) refl
+    (ap (λ held. decided (later_rules Plain g c held q)) (sym (newest-one c last behind.is_last))
+    ∙ told)
 comparing AllHeld g watch q c r last behind told =
     doubling-all g watch q c r (find (has_type_of g q) (reverse c)) refl told
 
@@ -255,7 +263,7 @@ module _ (profile : Profile) (g : Basis) (watch : Watch) (q : TypedRequest) (c :
     (r : Reply) where
   recurring : (last : Instance) → last_or None c ≡ Some last → (o : Option Instance)
       → find (is_of q.lock.0) c ≡ o
-      → decided (option_map (again q) o ∷ later_rules profile g c (Some last) q) ≡ Ok r
+      → decided (option_map (again q) o ∷ later_rules profile g c (compared profile c) q) ≡ Ok r
       → Says profile g watch q c r
   recurring last is_last (Some i) there told =
       Passed (again_passes q i r told) (Recursion (record { held = i; is_held = there }))
@@ -263,14 +271,14 @@ module _ (profile : Profile) (g : Basis) (watch : Watch) (q : TypedRequest) (c :
       comparing profile g watch q c r last (record { is_last = is_last; free = free }) told
 
   holding : (o : Option Instance) → last_or None c ≡ o
-      → decided (holds_nothing o ∷ holds_it c q ∷ later_rules profile g c o q) ≡ Ok r
-      → Says profile g watch q c r
+      → decided (holds_nothing o ∷ holds_it c q ∷ later_rules profile g c (compared profile c) q)
+      ≡ Ok r → Says profile g watch q c r
   holding None is told = Passed (sym (same_reply told)) (Empty is)
   holding (Some last) is told = recurring last is (find (is_of q.lock.0) c) refl told
 
   sleeping : (spin : List Instance) (b : Bool)
       → decided (when b (Err SleepUnderSpin) ∷ holds_nothing (last_or None c) ∷ holds_it c q
-      ∷ later_rules profile g c (last_or None c) q) ≡ Ok r
+      ∷ later_rules profile g c (compared profile c) q) ≡ Ok r
       → Says profile g watch q c r
   sleeping spin true told = (cc)
   sleeping spin false told = holding (last_or None c) refl told
@@ -278,7 +286,7 @@ module _ (profile : Profile) (g : Basis) (watch : Watch) (q : TypedRequest) (c :
   watching : (spin : List Instance) (b : Bool) → is_on watch ≡ b
       → decided (when (not b) (Ok Pass) ∷ sleeps_under_spin g spin q
       ∷ holds_nothing (last_or None c) ∷ holds_it c q
-      ∷ later_rules profile g c (last_or None c) q) ≡ Ok r → Says profile g watch q c r
+      ∷ later_rules profile g c (compared profile c) q) ≡ Ok r → Says profile g watch q c r
   watching spin false is told = Passed (sym (same_reply told)) (Unwatched is)
   watching spin true is told =
       sleeping spin (not (is_spin (class_of q.type_no.0 g.types))

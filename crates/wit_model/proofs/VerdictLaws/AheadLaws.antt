@@ -25,7 +25,7 @@ use Rattle.wit_model.specs.Rules.History.{watch_of}
 use Rattle.wit_model.specs.Rules.State.{Start, Seat, known_of, state_of, seat_at, orders_of}
 use Rattle.wit_model.specs.Rules.Start.{start_fault}
 use Rattle.wit_model.specs.Rules.Verdict.{Basis, is_of, decided, holds_nothing, holds_it}
-use Rattle.wit_model.specs.Rules.Verdict.{doubles_in, follows_in, breaks_order, teaches_in, when}
+use Rattle.wit_model.specs.Rules.Verdict.{compared, doubles, follows, breaks_order, teaches, when}
 use Rattle.wit_model.specs.Rules.Verdict.{chain_asked, ruling, basis_of, typed_request}
 use Rattle.wit_model.specs.Rules.Step.{story_after, IsLegal}
 use Rattle.wit_model.specs.Rules.Ahead.{type_of_lock, IsAhead}
@@ -61,10 +61,10 @@ sleep-passes profile g w sleep spin q r on kind ok =
     go : (watched spins some : Bool) → is_some (last_or None spin) ≡ some → watched ≡ true
         → spins ≡ false
         → decided (when (not watched) (Ok Pass) ∷ when (not spins && some) (Err SleepUnderSpin)
-        ∷ holds_nothing (last_or None c) ∷ holds_it c q ∷ doubles_in profile g c
-        (last_or None c) q
-        ∷ follows_in profile g c (last_or None c) q ∷ breaks_order g c q ∷ teaches_in profile g c
-        (last_or None c) q ∷ []) ≡ Ok r → is_some (last_or None spin) ≡ false
+        ∷ holds_nothing (last_or None c) ∷ holds_it c q ∷ doubles g (compared profile c) q
+        ∷ follows g (compared profile c) q ∷ breaks_order g c q
+        ∷ teaches profile g (compared profile c) q ∷ []) ≡ Ok r
+        → is_some (last_or None spin) ≡ false
     go true false true is one two told = (cc)
     go true false false is one two told = is
     go true true some is one two told = absurd (true≢false two)

@@ -217,7 +217,7 @@ module _ (start : Start) (files : List (List ℕ)) (all : start.profile ≡ AllH
   all-first (Passed passes (Recursion r)) = let e' : ◌≡◌ {A = Option Instance} None (Some r.held) =
       sym free-chain ∙ r.is_held in (cc)
   all-first (Passed passes (Known one f)) = absurd (not-plain one)
-  all-first (Passed passes (KnownAll two known)) = known-first passes c known
+  all-first (Passed passes (KnownAll two known)) = back (known-first passes (reverse c) known)
   all-first (Passed passes (Untaught one u)) = absurd (not-plain one)
   all-first (Passed passes (UntaughtAll two u)) =
       back (known-first passes (reverse c)

@@ -1,5 +1,6 @@
 -- A request behind the last held lock by a direct order is judged to pass.
 use Rattle.std.proofs.Common.{◌≡◌, ℕ, Bool, true, false, not, ◌&&◌, is_some, List, [], ◌∷◌, map}
+use Rattle.std.proofs.Common.{take, reverse}
 use Rattle.std.proofs.Common.{find, Option, None, Some, Ok, Err, refl, ap, sym, ◌∙◌, subst}
 use Rattle.std.specs.List.{last_or}
 use Rattle.std.specs.Option.{option_map}
@@ -29,6 +30,7 @@ use Rattle.wit_model.specs.Rules.Ahead.{type_of_lock}
 use Rattle.wit_model.specs.VerdictLaws.{last_of_kind}
 use Rattle.wit_model.proofs.Chains.Found.{if_some, found}
 use Rattle.wit_model.proofs.Histories.Legal.{one_chain, sane_legal}
+use Rattle.wit_model.proofs.Orders.Ends.{newest-one}
 use Rattle.wit_model.proofs.Orders.Paths.{direct-before}
 use Rattle.wit_model.proofs.Orders.Sound.{sound_legal}
 use Rattle.wit_model.proofs.Orders.Learnt.{type-held}
@@ -48,14 +50,16 @@ ruling-passes g w sleep spin q last awake is_last free apart direct =
     go (is_on w) (not (is_spin (class_of q.type_no.0 g.types)) && is_some (last_or None spin))
     (last_or None (chain_asked g sleep spin q))
     (find (is_of q.lock.0) (chain_asked g sleep spin q))
-    awake is_last free
+    (take 1 (reverse (chain_asked g sleep spin q)))
+    awake is_last free (newest-one (chain_asked g sleep spin q) last is_last)
   where
-    go : (on sleeps : Bool) (o f : Option Instance) → sleeps ≡ false → o ≡ Some last → f ≡ None
+    go : (on sleeps : Bool) (o f : Option Instance) (held : List Instance) → sleeps ≡ false
+        → o ≡ Some last → f ≡ None → held ≡ last ∷ []
         → decided (when (not on) (Ok Pass) ∷ when sleeps (Err SleepUnderSpin) ∷ holds_nothing o
-        ∷ option_map (again q) f ∷ doubles g o q ∷ follows g o q
-        ∷ breaks_order g (chain_asked g sleep spin q) q ∷ teaches g o q ∷ []) ≡ Ok Pass
-    go false sleeps o f one two three = refl
-    go true sleeps o f one two three = rw (one, two, three, apart, direct) refl
+        ∷ option_map (again q) f ∷ doubles g held q ∷ follows g held q
+        ∷ breaks_order g (chain_asked g sleep spin q) q ∷ teaches Plain g held q ∷ []) ≡ Ok Pass
+    go false sleeps o f held one two three four = refl
+    go true sleeps o f held one two three four = rw (one, two, three, four, apart, direct) refl
 
 module _ (start : Start) (files : List (List ℕ)) (h : List Entry) (t : ℕ) (q : Request) (last : ℕ)
     (accepted : start_fault start ≡ None) (legal : IsLegal start files h)

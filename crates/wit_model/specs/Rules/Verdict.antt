@@ -2,7 +2,7 @@
 -- comments of witness_checkorder in subr_witness.c). The first rule that applies decides.
 use Rattle.std.specs.Prelude.{ℕ, Bool, true, false, not, ◌&&◌, ◌||◌, ◌==◌, List, [], ◌∷◌, Option}
 use Rattle.std.specs.Prelude.{None, Some, is_some, is_none, unwrap_or, Result, Ok, Err, map}
-use Rattle.std.specs.Prelude.{reverse, find, if◌then◌else◌}
+use Rattle.std.specs.Prelude.{take, reverse, find, if◌then◌else◌}
 use Rattle.std.specs.List.{list_any, list_all, last_or, before_first}
 use Rattle.std.specs.Option.{option_map}
 use Rattle.std.specs.Str.{bytes_eq}
@@ -121,15 +121,23 @@ doubled g q last =
     else if is_found g.found q.type_no.0 q.type_no.0 then Ok (Silent q.type_no q.type_no)
     else Ok (Duplicate (record { last = place_of last; asked = place_asked q }))
 
--- 5: the last held lock is of its type
-abbrev pub doubles : Basis → Option Instance → TypedRequest → Rule
-doubles g None q = None
-doubles g (Some last) q = when (has_type_of g q last) (doubled g q last)
+-- the held locks that a request is compared with by the rules 5, 6 and 9, newest first: the newest
+-- one alone, or all
+abbrev pub compared : Profile → List Instance → List Instance
+compared Plain chain = take 1 (reverse chain)
+compared AllHeld chain = reverse chain
 
--- 6: its order behind the last held lock is a direct one
-abbrev pub follows : Basis → Option Instance → TypedRequest → Rule
-follows g None q = None
-follows g (Some last) q = when (is_direct g.orders (type_held g last).0 q.type_no.0) (Ok Pass)
+-- 5: one of these held locks is of its type; the newest one is told
+abbrev pub doubles : Basis → List Instance → TypedRequest → Rule
+doubles g held q = option_map (doubled g q) (find (has_type_of g q) held)
+
+-- whether the order behind a held lock is a direct one
+abbrev pub is_direct_behind : Basis → TypedRequest → Instance → Bool
+is_direct_behind g q i = is_direct g.orders (type_held g i).0 q.type_no.0
+
+-- 6: its orders behind all of these are direct ones
+abbrev pub follows : Basis → List Instance → TypedRequest → Rule
+follows g held q = when (list_all (is_direct_behind g q) held) (Ok Pass)
 
 -- which order a held lock's type breaks, where a lock of the first type is asked for. Giant is let
 -- go while its holder sleeps: so it may stand before a sleepable lock, and behind one
@@ -174,32 +182,13 @@ reported g q chain i =
 abbrev pub breaks_order : Basis → List Instance → TypedRequest → Rule
 breaks_order g chain q = option_map (reported g q chain) (find (violates g q) (reverse chain))
 
--- whether the order behind the last held lock may be learnt: the request allows it (0x01), it isn't
--- that of a sleepable lock behind Giant, and it turns no order round
+-- whether the order behind a held lock may be learnt: the request allows it (0x01), it isn't that
+-- of a sleepable lock behind Giant, and it turns no order round
 abbrev pub is_learnt : Basis → TypedRequest → Instance → Bool
-is_learnt g q last =
+is_learnt g q i =
     has_flag q.ops.0 0x01
-    && not (is_giant g (type_held g last) && is_sleepable g q.type_no)
-    && not (is_before g.orders q.type_no.0 (type_held g last).0)
-
--- 9: the order behind the last held lock is learnt
-abbrev pub teaches : Basis → Option Instance → TypedRequest → Rule
-teaches g None q = None
-teaches g (Some last) q = when (is_learnt g q last) (Ok (Adopted (type_held g last) q.type_no))
-
--- ---- where all held locks are compared with, three of them are these
-
--- 5: a held lock is of its type; the newest one is told
-abbrev pub doubles_any : Basis → List Instance → TypedRequest → Rule
-doubles_any g chain q = option_map (doubled g q) (find (has_type_of g q) (reverse chain))
-
--- whether the order behind a held lock is a direct one
-abbrev pub is_direct_behind : Basis → TypedRequest → Instance → Bool
-is_direct_behind g q i = is_direct g.orders (type_held g i).0 q.type_no.0
-
--- 6: its orders behind all held locks are direct ones
-abbrev pub follows_all : Basis → List Instance → TypedRequest → Rule
-follows_all g chain q = when (list_all (is_direct_behind g q) chain) (Ok Pass)
+    && not (is_giant g (type_held g i) && is_sleepable g q.type_no)
+    && not (is_before g.orders q.type_no.0 (type_held g i).0)
 
 abbrev pub is_among : ℕ → List TypeNo → Bool
 is_among t types = list_any (λ (x : TypeNo). x.0 == t) types
@@ -219,42 +208,29 @@ new_parents g q before (i ∷ held) =
 abbrev pub orders_behind : TypedRequest → List TypeNo → List (TypeNo × TypeNo)
 orders_behind q parents = map (λ p. (p, q.type_no)) parents
 
--- where there is one at least, they are told
-abbrev pub told_orders : TypedRequest → List TypeNo → Rule
-told_orders q [] = None
-told_orders q (p ∷ parents) = Some (Ok (AdoptedAll (orders_behind q (p ∷ parents))))
+-- the reply that tells the orders behind these types, where there is one at least
+abbrev pub told_orders : Profile → TypedRequest → List TypeNo → Rule
+told_orders profile q [] = None
+told_orders Plain q (p ∷ parents) = Some (Ok (Adopted p q.type_no))
+told_orders AllHeld q (p ∷ parents) = Some (Ok (AdoptedAll (orders_behind q (p ∷ parents))))
 
--- 9: the orders behind all held locks are learnt, that behind the newest one first
-abbrev pub teaches_all : Basis → List Instance → TypedRequest → Rule
-teaches_all g chain q = told_orders q (new_parents g q [] (reverse chain))
+-- 9: the orders behind these held locks are learnt
+abbrev pub teaches : Profile → Basis → List Instance → TypedRequest → Rule
+teaches profile g held q = told_orders profile q (new_parents g q [] held)
 
--- ---- which of the two it is
-
-abbrev pub doubles_in : Profile → Basis → List Instance → Option Instance → TypedRequest → Rule
-doubles_in Plain g chain last q = doubles g last q
-doubles_in AllHeld g chain last q = doubles_any g chain q
-
-abbrev pub follows_in : Profile → Basis → List Instance → Option Instance → TypedRequest → Rule
-follows_in Plain g chain last q = follows g last q
-follows_in AllHeld g chain last q = follows_all g chain q
-
-abbrev pub teaches_in : Profile → Basis → List Instance → Option Instance → TypedRequest → Rule
-teaches_in Plain g chain last q = teaches g last q
-teaches_in AllHeld g chain last q = teaches_all g chain q
-
--- ---- the rules in their order, where these are the spin locks that the seat holds, its locks of
--- the requested kind, oldest first, and the last of these
-abbrev pub rules : Profile → Basis → Watch → List Instance → List Instance → Option Instance
-    → TypedRequest → List Rule
-rules profile g watch spin chain last q =
+-- ---- the rules in their order, where these are the spin locks that the seat holds, and its locks
+-- of the requested kind, oldest first
+abbrev pub rules : Profile → Basis → Watch → List Instance → List Instance → TypedRequest
+    → List Rule
+rules profile g watch spin chain q =
     isnt_watched watch
     ∷ sleeps_under_spin g spin q
-    ∷ holds_nothing last
+    ∷ holds_nothing (last_or None chain)
     ∷ holds_it chain q
-    ∷ doubles_in profile g chain last q
-    ∷ follows_in profile g chain last q
+    ∷ doubles g (compared profile chain) q
+    ∷ follows g (compared profile chain) q
     ∷ breaks_order g chain q
-    ∷ teaches_in profile g chain last q
+    ∷ teaches profile g (compared profile chain) q
     ∷ []
 
 -- the one of a seat's two chains that a request is judged by
@@ -265,8 +241,7 @@ chain_asked g sleep spin q = if is_spin (class_of q.type_no.0 g.types) then spin
 abbrev pub ruling : Profile → Basis → Watch → List Instance → List Instance → TypedRequest
     → Result Reply Fault
 ruling profile g watch sleep spin q =
-    decided (rules profile g watch spin (chain_asked g sleep spin q)
-    (last_or None (chain_asked g sleep spin q)) q)
+    decided (rules profile g watch spin (chain_asked g sleep spin q) q)
 
 -- ---- the verdict is the ruling over what a verifier knows
 

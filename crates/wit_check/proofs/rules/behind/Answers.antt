@@ -46,7 +46,7 @@ pub returns-in-None : goal.returns-in-None
 returns-in-None g c = λ new.
     c.doubled.ensures new
     ∙ double-decides c.args.basis.now (chain_of (g.L.Lists.chunks c.args.lists.now) c.args.list)
-    c.args.last c.args.request
+    c.args.last c.args.request c.requires.last
     (sym (once-found c.args.basis.now c.args.request c.args.request.lock.0
     (chain_of (g.L.Lists.chunks c.args.lists.now) c.args.list) c.requires.chain.once)
     ∙ sym c.held_lock.ensures ∙ c.in-None.is)
@@ -56,7 +56,7 @@ returns-in-None g c = λ new.
 pub returns-in-None-2 : goal.returns-in-None-2
 returns-in-None-2 g c = λ new.
     direct-decides c.args.basis.now (chain_of (g.L.Lists.chunks c.args.lists.now) c.args.list)
-    c.args.last c.args.request
+    c.args.last c.args.request c.requires.last
     (sym (once-found c.args.basis.now c.args.request c.args.request.lock.0
     (chain_of (g.L.Lists.chunks c.args.lists.now) c.args.list) c.requires.chain.once)
     ∙ sym c.held_lock.ensures ∙ c.in-None.is)
@@ -88,7 +88,7 @@ returns-in-None-Some g c = λ new.
     ∙ ap (λ o. older_than c.args.basis.now c.args.request o
     (chain_of (g.L.Lists.chunks c.args.lists.now) c.args.list)) sees)
     ∙ violation-decides c.args.basis.now (chain_of (g.L.Lists.chunks c.args.lists.now) c.args.list)
-    c.args.last c.args.request
+    c.args.last c.args.request c.requires.last
     (sym (ap (λ (s : Seen). s.held) c.look-seen.ensures) ∙ c.in-None-Some.is-0)
     (ap (λ (t : TypeNo). eqb t.0 c.args.request.type_no.0) (sym c.type_held-parent.ensures.value)
     ∙ ne_eqb c.type_held-parent.result.0 c.args.request.type_no.0 c.if-is_double.false)
@@ -100,7 +100,7 @@ pub returns-in-None-None : goal.returns-in-None-None
 returns-in-None-None g c = λ new.
     c.learnt.ensures new
     ∙ learning-decides c.args.basis.now (chain_of (g.L.Lists.chunks c.args.lists.now) c.args.list)
-    c.args.last c.args.request
+    c.args.last c.args.request c.requires.last
     (sym (ap (λ (s : Seen). s.held) c.look-seen.ensures) ∙ c.in-None-None.is-0)
     (ap (λ (t : TypeNo). eqb t.0 c.args.request.type_no.0) (sym c.type_held-parent.ensures.value)
     ∙ ne_eqb c.type_held-parent.result.0 c.args.request.type_no.0 c.if-is_double.false)

@@ -61,7 +61,7 @@ returns-in-Some g c =
     ∙ c.judge.ensures
     ∙ ap (λ (e : List Instance).
     decided (over c.args.profile
-    (basis c.args.types.now c.args.matrix.now c.args.chains.lock_types.now) e c.in-Some.last
+    (basis c.args.types.now c.args.matrix.now c.args.chains.lock_types.now) e
     c.args.request)) chain
     ∙ chain-decides c.args.profile
     (basis c.args.types.now c.args.matrix.now c.args.chains.lock_types.now) c.args.watch
