@@ -1,5 +1,6 @@
 pub mod Chains
 pub mod Classes
+pub mod Endings
 pub mod Gates
 pub mod Histories
 pub mod Lists

@@ -15,7 +15,7 @@ use Rattle.wit_model.specs.Trace.Moving.{read_to, moving_reached, moving_opened,
 use Rattle.wit_model.specs.Trace.Moving.{moving_from, moving_outcome, moving_ends}
 use Rattle.wit_model.specs.Trace.Moving as moving
 use Rattle.wit_model.specs.Trace.Moving.{moving_ends_bad, moving_read_as, lines_before}
-use Rattle.wit_model.specs.Trace.Output.{Unstarted, Opening, BadLine, EndsBad, bad_text, summed}
+use Rattle.wit_model.specs.Trace.Output.{Unstarted, Opening, BadLine, bad_text, summed}
 use Rattle.wit_model.specs.Trace.Reading.{line_of}
 use Rattle.wit_model.specs.World.Scenes.{RawLock}
 use Rattle.wit_trace.specs.Machine.{BreaksAt, first_of}
@@ -136,7 +136,7 @@ broken-answer old q n cause bytes told None at found (Ok a) reaches is sums none
 broken-answer old q n cause bytes told (Some bad) at found (Ok a) reaches is sums none texts same =
     λ lines tail h.
     let ended : moving_from old n lines tail
-    ≡ record { lines = reaches.0.lines; ending = EndsBad (Opening reaches.0.prelude) bad }
+    ≡ record { lines = reaches.0.lines; reached = Opening reaches.0.prelude; bad = Some bad }
     = from-first old n lines tail
     ∙ (first-reached old n cause bytes lines tail (comes n lines tail) h
     ∙ reaches.0.is (comes n lines tail)) in

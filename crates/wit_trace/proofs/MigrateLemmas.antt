@@ -23,8 +23,8 @@ use Rattle.wit_model.specs.Trace.Moving.{moves, moving_from, moving_outcome, mov
 use Rattle.wit_model.specs.Trace.Moving as moving
 use Rattle.wit_model.specs.Trace.Moving.{lines_before, moving_ends_bad}
 use Rattle.wit_model.specs.Trace.Output.{Prelude, Progress, Unstarted, Opening, Reading, Stepping}
-use Rattle.wit_model.specs.Trace.Output.{BadLine, EndsBad, AllRead, bad_text, call_of, is_prelude}
-use Rattle.wit_model.specs.Trace.Output.{is_profile, summed, total_of}
+use Rattle.wit_model.specs.Trace.Output.{BadLine, bad_text, call_of, is_prelude}
+use Rattle.wit_model.specs.Trace.Output.{is_profile, summed}
 use Rattle.wit_model.specs.Trace.Output as output
 use Rattle.wit_model.specs.Trace.Reading.{line_of}
 use Rattle.wit_model.specs.World.Scenes.{RawLock}
@@ -97,7 +97,7 @@ opens p kept n line s text over made told = record {
 
 abbrev refused_at : Prelude → List (Vec ℕ) → BadLine → Written
 refused_at p kept bad =
-    record { lines = take (bad.0 - 2) (kept_bytes kept); ending = EndsBad (Opening p) bad }
+    record { lines = take (bad.0 - 2) (kept_bytes kept); reached = Opening p; bad = Some bad }
 
 pub refuses : (p : Prelude) (kept : List (Vec ℕ)) (n : ℕ) (line : List ℕ) (bad : BadLine)
     (text : List ℕ)
@@ -120,8 +120,8 @@ pub behind : (lines : List (List ℕ)) (w : Written) (text more : List ℕ) (sum
     → IsMigrated (lines_before lines w) (text ++ more) summary
 behind lines w text more summary is h = record {
   written = ap₂ (λ a b. a ++ b) is h.written
-      ∙ sym (append_assoc (with_feeds lines) (with_feeds w.lines) (last_text w.ending))
-      ∙ ap (λ t. t ++ last_text w.ending) (sym (feeds-append lines w.lines));
+      ∙ sym (append_assoc (with_feeds lines) (with_feeds w.lines) (last_text w.bad))
+      ∙ ap (λ t. t ++ last_text w.bad) (sym (feeds-append lines w.lines));
   summed = h.summed;
   none = h.none;
 }
@@ -156,7 +156,7 @@ pub refused-migrated : (p : Prelude) (lines : List (List ℕ)) (bad : BadLine)
     → told ≡ with_feeds lines → text ≡ told ++ bad_text bad.0 bad.1
     → total found ≡ summed Unstarted None
     → found.circle ≡ false → summary ≡ record found { bad = Some bad }
-    → IsMigrated (record { lines = lines; ending = EndsBad (Opening p) bad }) text summary
+    → IsMigrated (record { lines = lines; reached = Opening p; bad = Some bad }) text summary
 refused-migrated p lines bad found summary told text wrote is sums none same = record {
   written = is ∙ ap (λ t. t ++ bad_text bad.0 bad.1) wrote;
   summed = ap total same ∙ summed-bad Unstarted found bad sums;

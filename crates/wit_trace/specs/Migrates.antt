@@ -24,7 +24,7 @@ use Rattle.wit_model.specs.Trace.Moving.{Moving, Written, MovingOutcome, with_fe
 use Rattle.wit_model.specs.Trace.Moving.{lines_before}
 use Rattle.wit_model.specs.Trace.Moving.{kept_lines, moving_from, moving_reached}
 use Rattle.wit_model.specs.Trace.Output as output
-use Rattle.wit_model.specs.Trace.Output.{BadLine, total_of}
+use Rattle.wit_model.specs.Trace.Output.{BadLine}
 use Rattle.wit_model.specs.Trace.Spelling.{spelling}
 use Rattle.wit_grammar.specs.declared.errors.LineError.{LineError}
 use Rattle.wit_grammar.specs.declared.errors.LineError.TheVariants.{Bad, Memory}
@@ -75,7 +75,7 @@ weighed m = 0
 -- these lines are written, and the summary goes with the ending
 pub record IsMigrated (w : Written) (text : List ℕ) (summary : Summary) : Type 0 where
   pub written : text ≡ moved_text w
-  pub summed : total summary ≡ total_of w.ending
+  pub summed : total summary ≡ output.summed w.reached w.bad
   pub none : summary.circle ≡ false
 
 abbrev pub migrated : Migrating → ℕ → List (List ℕ) → List ℕ → List ℕ → Summary → Type 0
@@ -88,7 +88,7 @@ abbrev pub some_migration : (w : Written)
 some_migration w = (
   moved_text w,
   (
-    summary_of (total_of w.ending) false,
+    summary_of (output.summed w.reached w.bad) false,
     record { written = refl; summed = refl; none = refl },
   ),
 )
@@ -136,7 +136,7 @@ pub record IsRefusedAt (m : Moving) (n : ℕ) (line text : List ℕ) (bad : BadL
   pub written : text ≡ with_feeds lines
   pub is : (next : Moving → Written)
       → moving_reached m n line next
-      ≡ record { lines = lines; ending = output.EndsBad (output.Opening prelude) bad }
+      ≡ record { lines = lines; reached = output.Opening prelude; bad = Some bad }
 
 abbrev pub ReachesLine : Moving → ℕ → List ℕ → Moving → List ℕ → Option BadLine → Type 0
 ReachesLine m n line new text None = GoesOver m n line new text

@@ -1,5 +1,5 @@
 -- For every view there is something to write of every trace.
-use Rattle.std.specs.Prelude.{Bool, false, ℕ, List, [], ◌++◌, Option, is_some, refl}
+use Rattle.std.specs.Prelude.{Bool, false, ℕ, List, [], ◌++◌, Option, None, Some, is_some, refl}
 use Rattle.wit_model.specs.declared.lines.View.{View}
 use Rattle.wit_model.specs.declared.lines.View.TheVariants.{Reports, Graph, Locks, Circle}
 use Rattle.wit_model.specs.Rules.Circles.{Waits, TellsCircle}
@@ -7,6 +7,7 @@ use Rattle.wit_model.specs.Rules.State.{Story, state_of}
 use Rattle.wit_model.specs.Trace.Output as output
 use Rattle.wit_model.specs.Trace.Views.{graph_text, all_locks_text, circle_text}
 use Rattle.wit_model.specs.World.Shown.{WaitsIn}
+use Rattle.wit_model.proofs.Endings.{IsEnd, course-ends}
 use Rattle.wit_model.proofs.Waits.{circle_told}
 use Rattle.wit_model.proofs.World.SceneCircles.{scene_circle_told}
 use Rattle.wit_trace.specs.Replays.{IsWritten}
@@ -22,13 +23,15 @@ some_view Locks s waits told = (all_locks_text s, (false, (refl, refl)))
 some_view Circle s waits told =
     (circle_text (state_of s) told.0, (is_some told.0, (told.0, told.1, refl, refl)))
 
-abbrev pub some_last : (view : View) (ending : output.Ending) → (text : List ℕ)
-    × ((circle : Bool) × output.IsLast view ending text circle)
-some_last view (output.AllRead s m) =
+abbrev pub some_last : (view : View) (p : output.Progress) (bad : Option output.BadLine)
+    → IsEnd p bad → (text : List ℕ) × ((circle : Bool) × output.IsLast view p bad text circle)
+some_last view p (Some bad) end = (output.bad_text bad.0 bad.1, (false, (refl, refl)))
+some_last view (output.Reading s m) None end =
     some_view view s (Waits (state_of s)) (circle_told (state_of s))
-some_last view (output.AllStepped s m) =
+some_last view (output.Stepping s m) None end =
     some_view view s.story (WaitsIn s) (scene_circle_told s)
-some_last view (output.EndsBad p bad) = (output.bad_text bad.0 bad.1, (false, (refl, refl)))
+some_last view output.Unstarted None end = absurd end
+some_last view (output.Opening o) None end = absurd end
 
 -- a summary with these figures
 abbrev pub summary_of : output.Total → Bool → Summary
@@ -39,10 +42,10 @@ abbrev pub some_output : (view : View) (p : output.Progress) (n : ℕ) (lines : 
     × ((summary : Summary) × IsWritten view (output.course_from p n lines tail) text summary)
 some_output view p n lines tail =
     let c = output.course_from p n lines tail in
-    let last = some_last view c.ending in (
+    let last = some_last view c.reached c.bad (course-ends p n lines tail) in (
       output.shown_by view c.text ++ last.0,
       (
-        summary_of (output.total_of c.ending) last.1.0,
+        summary_of (output.summed c.reached c.bad) last.1.0,
         record {
           is_shown = record { last = last.0; parts = refl; ends = last.1.1 };
           summed = refl;

@@ -53,7 +53,7 @@ total s = record { calls = s.calls; reports = s.reports; bad = s.bad }
 pub record IsWritten (view : View) (c : output.Course) (bytes : List ℕ)
     (summary : Summary) : Type 0 where
   pub is_shown : output.IsShown view c bytes summary.circle
-  pub summed : total summary ≡ output.total_of c.ending
+  pub summed : total summary ≡ output.summed c.reached c.bad
 
 -- what the view shows of the rest of a trace, of which the first line has this number
 abbrev pub ShowsFrom : View → output.Progress → ℕ → List ℕ → List ℕ → Summary → Type 0

@@ -1,6 +1,6 @@
 -- Behind the prelude each line and what is written of it tell the same.
 use Rattle.std.proofs.Common.{◌≡◌, ℕ, ◌+◌, ◌^◌, ◌<◌, List, [], ◌∷◌, ◌++◌, Option, Result, Ok, Err}
-use Rattle.std.proofs.Common.{refl, ap, ap₂, sym, ◌∙◌, subst}
+use Rattle.std.proofs.Common.{None, refl, ap, ap₂, sym, ◌∙◌, subst}
 use Rattle.wit_model.specs.declared.assertions.AssertAnswer.{AssertAnswer}
 use Rattle.wit_model.specs.declared.faults.Fault.{Fault}
 use Rattle.wit_model.specs.declared.flags.LockAssert.{LockAssert}
@@ -21,7 +21,7 @@ use Rattle.wit_model.specs.Trace.Moving.{Moving, Moved, answered, answered_at, l
 use Rattle.wit_model.specs.Trace.Moving.{moving_after, moving_from}
 use Rattle.wit_model.specs.Trace.Moving as moving
 use Rattle.wit_model.specs.Trace.Moving.{MovingOutcome, moving_outcome}
-use Rattle.wit_model.specs.Trace.Output.{Course, Reading, Stepping, AllRead, LineCall, Logs, LogsAt}
+use Rattle.wit_model.specs.Trace.Output.{Course, Reading, Stepping, LineCall, Logs, LogsAt}
 use Rattle.wit_model.specs.Trace.Output.{Asserts, Warns, Steps, NoCall, reply_text, called, makes}
 use Rattle.wit_model.specs.Trace.Output.{at_file, with_file_in, makes_in, at_file_in, in_scene}
 use Rattle.wit_model.specs.Trace.Output.{asserts, warns, call_of, calls, calls_in, text_before}
@@ -33,10 +33,10 @@ use Rattle.wit_model.proofs.Moved.Tells.{all_stepped, Tells, line-tells, call-te
 use Rattle.wit_model.proofs.Spelling.Laws.{line_takes}
 use Rattle.wit_model.proofs.World.Beside.{Fits, DoesStep, Does}
 use Rattle.wit_model.proofs.World.MovedAll.{does, naming-fits}
-use Rattle.wit_model.proofs.Moved.GoneOn.{gone-on, was-read, was-answered}
+use Rattle.wit_model.proofs.Moved.GoneOn.{IsRead, gone-on, was-read, was-answered}
 
 abbrev pub all_read : List ℕ → Story → ℕ → Course
-all_read text s m = record { text = text; ending = AllRead s m }
+all_read text s m = record { text = text; reached = Reading s m; bad = None }
 
 -- ---- a line's call
 
@@ -237,19 +237,19 @@ pub record Agrees (s : Story) (m n : ℕ) (lines : List (List ℕ)) (tail : List
 
 pub calls-agree : (lines : List (List ℕ)) (x : Scene) → Fits x
     → (m n : ℕ) (tail : List ℕ) (story : Story) (count : ℕ)
-    → (moving_from (Moved x.story x.raw m) n lines tail).ending ≡ AllRead story count
+    → IsRead (moving_from (Moved x.story x.raw m) n lines tail) story count
     → Agrees x.story m n lines tail x
     (moving_from (Moved x.story x.raw m) n lines tail).lines story count
 calls-agree [] x fits m n [] story count ends =
-    let same : ◌≡◌ {A = output.Ending} (AllRead x.story m) (AllRead story count) = ends in
+    let same : Reading x.story m ≡ Reading story count = ends.0 in
     let counts : m ≡ count = cc in
     record {
       text = [];
       none = refl;
-      was = ap (λ e. record { text = []; ending = e }) same;
+      was = ap (λ e. record { text = []; reached = e; bad = None }) same;
       now = record { scene = x; same = cc; ends = λ k. ap (λ c. all_stepped [] x c) counts };
     }
-calls-agree [] x fits m n (b ∷ tail) story count ends = (cc)
+calls-agree [] x fits m n (b ∷ tail) story count ends = let none = ends.1 in (cc)
 calls-agree (bytes ∷ lines) x fits m n tail story count ends =
     let q = Moved x.story x.raw m in
     let o = moving_outcome q n bytes in
@@ -261,7 +261,7 @@ calls-agree (bytes ∷ lines) x fits m n tail story count ends =
     (λ z k. read-short (Stepping z m) k bytes r.line r.short r.spelled) r.enters in
     let rest =
     calls-agree lines a.scene a.fits a.count (n + 1) tail story count
-    (ap (λ p. (moving_from p (n + 1) lines tail).ending) (sym a.next) ∙ g.ends) in
+    (subst (λ p. IsRead (moving_from p (n + 1) lines tail) story count) a.next g.ends) in
     let written : (moving_from q n (bytes ∷ lines) tail).lines ≡ g.lines
     ++ (moving_from (Moved a.scene.story a.scene.raw a.count) (n + 1) lines tail).lines
     = ap (λ p. (moving_after q n p (λ r. moving_from r (n + 1) lines tail)).lines) g.is

@@ -16,21 +16,25 @@ use Rattle.wit_model.specs.Trace.Moving.{Moving, Moved, Written, step_line, answ
 use Rattle.wit_model.specs.Trace.Moving as moving
 use Rattle.wit_model.specs.Trace.Moving.{MovingOutcome, moving_entered, moving_outcome}
 use Rattle.wit_model.specs.Trace.Moving.{moving_read_as}
-use Rattle.wit_model.specs.Trace.Output.{AllRead, longest_line}
+use Rattle.wit_model.specs.Trace.Output.{Reading, longest_line}
 use Rattle.wit_model.specs.Trace.Reading.{line_of}
+
+-- all was read, and this is the story
+abbrev pub IsRead : Written → Story → ℕ → Type 0
+IsRead w s k = (w.reached ≡ Reading s k) × (w.bad ≡ None)
 
 pub record GoneOn (q : Moving) (o : MovingOutcome) (next : Moving
     → Written) (s : Story) (k : ℕ) : Type 0 where
   pub then : Moving
   pub lines : List (List ℕ)
   pub is : o ≡ moving.Goes then lines
-  pub ends : (next then).ending ≡ AllRead s k
+  pub ends : IsRead (next then) s k
 
 pub gone-on : (q : Moving) (n : ℕ) (o : MovingOutcome) (next : Moving → Written) (s : Story) (k : ℕ)
-    → (moving_after q n o next).ending ≡ AllRead s k → GoneOn q o next s k
+    → IsRead (moving_after q n o next) s k → GoneOn q o next s k
 gone-on q n (moving.Goes then lines) next s k ends =
     record { then = then; lines = lines; is = refl; ends = ends }
-gone-on q n (moving.Bad cause) next s k ends = (cc)
+gone-on q n (moving.Bad cause) next s k ends = let none = ends.1 in (cc)
 
 pub record Read (q : Moving) (n : ℕ) (bytes : List ℕ) (then : Moving)
     (lines : List (List ℕ)) : Type 0 where

@@ -1,6 +1,6 @@
 -- The prelude and the header of a migrated trace, and so all of it.
 use Rattle.std.proofs.Common.{◌≡◌, ℕ, ◌+◌, Bool, true, false, cond, List, [], ◌∷◌, ◌++◌, Option}
-use Rattle.std.proofs.Common.{None, Some, Result, Ok, refl, ap, ap₂, sym, ◌∙◌, append_assoc}
+use Rattle.std.proofs.Common.{None, Some, Result, Ok, refl, ap, ap₂, sym, ◌∙◌, subst, append_assoc}
 use Rattle.wit_model.specs.declared.faults.Fault.{Fault}
 use Rattle.wit_model.specs.declared.lines.Line.{Line}
 use Rattle.wit_model.specs.declared.lines.Line.TheVariants.{Header, Order, Bless, OnLock}
@@ -15,14 +15,14 @@ use Rattle.wit_model.specs.Trace.Moving.{Moving, Unmoved, Keeping, Moved, Writte
 use Rattle.wit_model.specs.Trace.Moving.{MigrationsTellTheSame, moving_from, moving_ends}
 use Rattle.wit_model.specs.Trace.Moving.{moving_opened, moving_outcome, moving_entered}
 use Rattle.wit_model.specs.Trace.Moving as moving
-use Rattle.wit_model.specs.Trace.Output.{Prelude, Unstarted, Opening, Stepping, AllRead, BadLine}
+use Rattle.wit_model.specs.Trace.Output.{Prelude, Unstarted, Opening, Stepping, BadLine}
 use Rattle.wit_model.specs.Trace.Output.{empty_prelude, log_limit, text_before, course_at}
 use Rattle.wit_model.specs.Trace.Output.{course_after, course_from}
 use Rattle.wit_model.specs.Trace.Output as output
 use Rattle.wit_model.specs.Trace.Spelling.{spelling, IsSpellable}
 use Rattle.wit_model.proofs.Moved.Agreement.{all_read, calls-agree}
 use Rattle.wit_model.proofs.Moved.FirstLines.{is_opening, moves-start}
-use Rattle.wit_model.proofs.Moved.GoneOn.{gone-on, was-read}
+use Rattle.wit_model.proofs.Moved.GoneOn.{IsRead, gone-on, was-read}
 use Rattle.wit_model.proofs.Moved.Lines.{read-short, read-spelled}
 use Rattle.wit_model.proofs.Moved.Tells.{all_stepped}
 use Rattle.wit_model.proofs.Spelling.Laws.{line_takes}
@@ -48,19 +48,18 @@ end_at p kept n b o =
 -- the input ends with the prelude
 end-agrees : (p : Prelude) (kept : List (List ℕ)) (n : ℕ) (tail : List ℕ) (story : Story)
     (count : ℕ) → p.version ≡ One
-    → (moving_from (Keeping p kept) n [] tail).ending ≡ AllRead story count
+    → IsRead (moving_from (Keeping p kept) n [] tail) story count
     → KeptAgrees p n [] tail kept (moving_from (Keeping p kept) n [] tail).lines story count
 end-agrees p kept n [] story count version ends =
     go (is_opening n []) refl (start_fault p.start) refl ends
   where
     go : (b : Bool) → is_opening n [] ≡ b → (o : Option (ℕ × Fault)) → start_fault p.start ≡ o
-        → (end_at p kept n b o).ending ≡ AllRead story count
+        → IsRead (end_at p kept n b o) story count
         → KeptAgrees p n [] [] kept (end_at p kept n b o).lines story count
-    go true opened o good ends = (cc)
-    go false opened (Some refused) good ends = (cc)
+    go true opened o good ends = let none = ends.1 in (cc)
+    go false opened (Some refused) good ends = let none = ends.1 in (cc)
     go false opened None good ends =
-        let same : ◌≡◌ {A = output.Ending} (AllRead (fresh p.start) 0) (AllRead story count) =
-        ends in
+        let same : output.Reading (fresh p.start) 0 ≡ output.Reading story count = ends.0 in
         let counts : 0 ≡ count = cc in
         record {
           text = [];
@@ -71,7 +70,7 @@ end-agrees p kept n [] story count version ends =
           was =
               ap (λ (r : Result output.Progress BadLine). course_at (Opening p) r
               (λ q. output.ends q n [])) (reached-one p version good n [] opened)
-              ∙ ap (λ e. record { text = []; ending = e }) same;
+              ∙ ap (λ e. record { text = []; reached = e; bad = None }) same;
           now =
               ap (λ (r : Result output.Progress BadLine). course_at (Opening (two p)) r
               (λ q. output.ends q n [])) (reached-two p version good n [] opened)
@@ -82,13 +81,13 @@ end-agrees p kept n (b ∷ tail) story count version ends =
     go (is_opening n (b ∷ tail)) (start_fault p.start) ends
   where
     go : (c : Bool) (o : Option (ℕ × Fault))
-        → (cond c (moving_ends (Keeping p kept) n (b ∷ tail))
-        (moving_opened p kept o (λ q. moving_ends q n (b ∷ tail)))).ending ≡ AllRead story count
+        → IsRead (cond c (moving_ends (Keeping p kept) n (b ∷ tail))
+        (moving_opened p kept o (λ q. moving_ends q n (b ∷ tail)))) story count
         → KeptAgrees p n [] (b ∷ tail) kept
         (moving_from (Keeping p kept) n [] (b ∷ tail)).lines story count
-    go true o ends = (cc)
-    go false (Some refused) ends = (cc)
-    go false None ends = (cc)
+    go true o ends = let none = ends.1 in (cc)
+    go false (Some refused) ends = let none = ends.1 in (cc)
+    go false None ends = let none = ends.1 in (cc)
 
 -- what comes of this line and those behind it, once the prelude is over or not
 abbrev next_of : ℕ → List ℕ → List (List ℕ) → List ℕ → Moving → Written
@@ -102,11 +101,11 @@ line_at p kept next b o = cond b (next (Keeping p kept)) (moving_opened p kept o
 inside : (p : Prelude) (kept : List (List ℕ)) (n : ℕ) (bytes : List ℕ) (lines : List (List ℕ))
     (tail : List ℕ) (story : Story) (count : ℕ) → p.version ≡ One
     → ((p' : Prelude) (kept' : List (List ℕ)) → p'.version ≡ One
-    → (moving_from (Keeping p' kept') (n + 1) lines tail).ending ≡ AllRead story count
+    → IsRead (moving_from (Keeping p' kept') (n + 1) lines tail) story count
     → KeptAgrees p' (n + 1) lines tail kept'
     (moving_from (Keeping p' kept') (n + 1) lines tail).lines story count)
-    → is_opening n bytes ≡ true → (next_of n bytes lines tail (Keeping p kept)).ending
-    ≡ AllRead story count → KeptAgrees p n (bytes ∷ lines) tail kept
+    → is_opening n bytes ≡ true → IsRead (next_of n bytes lines tail (Keeping p kept)) story count
+    → KeptAgrees p n (bytes ∷ lines) tail kept
     (next_of n bytes lines tail (Keeping p kept)).lines story count
 inside p kept n bytes lines tail story count version on opened ends =
     let g =
@@ -116,7 +115,7 @@ inside p kept n bytes lines tail story count version on opened ends =
     let k = kept-on p kept n bytes r.line g.then g.lines version r.enters in
     let ih =
     on k.prelude (kept ++ bytes ∷ []) k.version
-    (ap (λ q. (moving_from q (n + 1) lines tail).ending) (sym k.next) ∙ g.ends) in
+    (subst (λ q. IsRead (moving_from q (n + 1) lines tail) story count) k.next g.ends) in
     record {
       text = ih.text;
       scene = ih.scene;
@@ -150,7 +149,7 @@ inside p kept n bytes lines tail story count version on opened ends =
 behind : (p : Prelude) (kept : List (List ℕ)) (n : ℕ) (bytes : List ℕ) (lines : List (List ℕ))
     (tail : List ℕ) (story : Story) (count : ℕ) → p.version ≡ One
     → is_opening n bytes ≡ false → start_fault p.start ≡ None
-    → (next_of n bytes lines tail (Moved (fresh p.start) [] 0)).ending ≡ AllRead story count
+    → IsRead (next_of n bytes lines tail (Moved (fresh p.start) [] 0)) story count
     → KeptAgrees p n (bytes ∷ lines) tail kept
     (kept ++ (next_of n bytes lines tail (Moved (fresh p.start) [] 0)).lines) story count
 behind p kept n bytes lines tail story count version over good ends =
@@ -186,27 +185,27 @@ behind p kept n bytes lines tail story count version over good ends =
 by-line : (p : Prelude) (kept : List (List ℕ)) (n : ℕ) (bytes : List ℕ) (lines : List (List ℕ))
     (tail : List ℕ) (story : Story) (count : ℕ) → p.version ≡ One
     → ((p' : Prelude) (kept' : List (List ℕ)) → p'.version ≡ One
-    → (moving_from (Keeping p' kept') (n + 1) lines tail).ending ≡ AllRead story count
+    → IsRead (moving_from (Keeping p' kept') (n + 1) lines tail) story count
     → KeptAgrees p' (n + 1) lines tail kept'
     (moving_from (Keeping p' kept') (n + 1) lines tail).lines story count)
-    → (moving_from (Keeping p kept) n (bytes ∷ lines) tail).ending ≡ AllRead story count
+    → IsRead (moving_from (Keeping p kept) n (bytes ∷ lines) tail) story count
     → KeptAgrees p n (bytes ∷ lines) tail kept
     (moving_from (Keeping p kept) n (bytes ∷ lines) tail).lines story count
 by-line p kept n bytes lines tail story count version on ends =
     go (is_opening n bytes) refl (start_fault p.start) refl ends
   where
     go : (b : Bool) → is_opening n bytes ≡ b → (o : Option (ℕ × Fault)) → start_fault p.start ≡ o
-        → (line_at p kept (next_of n bytes lines tail) b o).ending ≡ AllRead story count
+        → IsRead (line_at p kept (next_of n bytes lines tail) b o) story count
         → KeptAgrees p n (bytes ∷ lines) tail kept
         (line_at p kept (next_of n bytes lines tail) b o).lines story count
     go true opened o good ends = inside p kept n bytes lines tail story count version on opened ends
-    go false over (Some refused) good ends = (cc)
+    go false over (Some refused) good ends = let none = ends.1 in (cc)
     go false over None good ends =
         behind p kept n bytes lines tail story count version over good ends
 
 prelude-agrees : (lines : List (List ℕ)) (p : Prelude) (kept : List (List ℕ)) (n : ℕ)
     (tail : List ℕ) (story : Story) (count : ℕ) → p.version ≡ One
-    → (moving_from (Keeping p kept) n lines tail).ending ≡ AllRead story count
+    → IsRead (moving_from (Keeping p kept) n lines tail) story count
     → KeptAgrees p n lines tail kept
     (moving_from (Keeping p kept) n lines tail).lines story count
 prelude-agrees [] p kept n tail story count version ends =
@@ -261,17 +260,17 @@ headed bytes (kind.Define s a b) then lines fits goes = (cc)
 headed bytes (kind.Watch s w) then lines fits goes = (cc)
 
 pub tells-same : MigrationsTellTheSame
-tells-same [] [] story count ends = (cc)
-tells-same [] (b ∷ tail) story count ends = (cc)
-tells-same (bytes ∷ lines) tail story count ends =
+tells-same [] [] story count reached whole = (cc)
+tells-same [] (b ∷ tail) story count reached whole = (cc)
+tells-same (bytes ∷ lines) tail story count reached whole =
     let g =
     gone-on Unmoved 1 (moving_outcome Unmoved 1 bytes)
-    (λ r. moving_from r 2 lines tail) story count ends in
+    (λ r. moving_from r 2 lines tail) story count (reached, whole) in
     let r = was-read Unmoved 1 bytes g.then g.lines g.is in
     let h = headed bytes r.line g.then g.lines (line_takes bytes r.line r.spelled).1 r.enters in
     let a =
     prelude-agrees lines h.prelude [] 2 tail story count h.version
-    (ap (λ q. (moving_from q 2 lines tail).ending) (sym h.next) ∙ g.ends) in
+    (subst (λ q. IsRead (moving_from q 2 lines tail) story count) h.next g.ends) in
     let written : (moving_from Unmoved 1 (bytes ∷ lines) tail).lines ≡ spelling h.header ∷ a.rest
     = ap (λ o. (moving.moving_after Unmoved 1 o (λ r. moving_from r 2 lines tail)).lines) g.is
     ∙ (ap₂ (λ ls q. ls ++ (moving_from q 2 lines tail).lines) h.written h.next

@@ -10,7 +10,7 @@ use Rattle.wit_model.specs.Rules.Step.{grown}
 use Rattle.wit_model.specs.World.Moving.{LockStep, step_before, step_behind}
 use Rattle.wit_model.specs.World.Scenes.{Scene, stage_at, deed_of, is_known, stepped, scene_after}
 use Rattle.wit_model.specs.Trace.Moving.{step_line}
-use Rattle.wit_model.specs.Trace.Output.{Course, Stepping, AllStepped, Goes, reply_text}
+use Rattle.wit_model.specs.Trace.Output.{Course, Stepping, Goes, reply_text}
 use Rattle.wit_model.specs.Trace.Output.{with_file_in, called_in, makes_in, steps, outcome}
 use Rattle.wit_model.specs.Trace.Output.{text_before, course_after, course_from}
 use Rattle.wit_model.proofs.Moved.Lines.{read-spelled, IsSmallStep}
@@ -18,7 +18,7 @@ use Rattle.wit_model.proofs.World.Beside.{DoesStep, Does}
 use Rattle.wit_model.proofs.World.Stepping.{accepted, accepts}
 
 abbrev pub all_stepped : List ℕ → Scene → ℕ → Course
-all_stepped text x m = record { text = text; ending = AllStepped x m }
+all_stepped text x m = record { text = text; reached = Stepping x m; bad = None }
 
 -- from this scene on, whatever number the next line has, these lines tell this text, and end with
 -- this story

@@ -21,7 +21,7 @@ use Rattle.wit_model.specs.Rules.Step.{answer_of, grown}
 use Rattle.wit_model.specs.World.Moving.{LockStep, step_before, step_behind, is_free_beside}
 use Rattle.wit_model.specs.World.Moving.{raw_moved}
 use Rattle.wit_model.specs.World.Scenes.{RawLock, Scene}
-use Rattle.wit_model.specs.Trace.Output.{Prelude, Progress, BadLine, Ending, Course, LineCall, Logs}
+use Rattle.wit_model.specs.Trace.Output.{Prelude, Progress, BadLine, Course, LineCall, Logs}
 use Rattle.wit_model.specs.Trace.Output.{LogsAt, empty_prelude, is_prelude, is_profile}
 use Rattle.wit_model.specs.Trace.Output.{longest_line, log_limit, call_of, calls, bad_text}
 use Rattle.wit_model.specs.Trace.Output.{course_from}
@@ -123,20 +123,21 @@ moving_outcome m n line =
 
 -- ---- the whole trace
 
--- the lines that are written, and how the reading ends
+-- the lines that are written; how far the reading came; and the bad line that ended it
 pub record Written : Type 0 where
   pub lines : List (List ℕ)
-  pub ending : Ending
+  pub reached : Progress
+  pub bad : Option BadLine
 
 abbrev pub lines_before : List (List ℕ) → Written → Written
-lines_before lines w = record { lines = lines ++ w.lines; ending = w.ending }
+lines_before lines w = record w { lines = lines ++ w.lines }
 
 -- at a bad line nothing more is written than what was kept
 abbrev pub moving_ends_bad : Moving → BadLine → Written
-moving_ends_bad m bad = record { lines = kept_lines m; ending = output.EndsBad (read_to m) bad }
+moving_ends_bad m bad = record { lines = kept_lines m; reached = read_to m; bad = Some bad }
 
 abbrev pub moving_ends : Moving → ℕ → List ℕ → Written
-moving_ends (Moved s raw m) n [] = record { lines = []; ending = output.AllRead s m }
+moving_ends (Moved s raw m) n [] = record { lines = []; reached = output.Reading s m; bad = None }
 moving_ends m n [] = moving_ends_bad m (n, why.Cut)
 moving_ends m n (b ∷ tail) =
     moving_ends_bad m (n, if nat_lt longest_line (length (b ∷ tail)) then why.Long else why.Cut)
@@ -182,12 +183,12 @@ with_feeds [] = []
 with_feeds (line ∷ lines) = line ++ 10 ∷ with_feeds lines
 
 -- the text of a bad line comes last
-abbrev pub last_text : Ending → List ℕ
-last_text (output.EndsBad p bad) = bad_text bad.0 bad.1
-last_text _ = []
+abbrev pub last_text : Option BadLine → List ℕ
+last_text (Some bad) = bad_text bad.0 bad.1
+last_text None = []
 
 abbrev pub moved_text : Written → List ℕ
-moved_text w = with_feeds w.lines ++ last_text w.ending
+moved_text w = with_feeds w.lines ++ last_text w.bad
 
 -- ---- the two traces
 
@@ -199,14 +200,15 @@ pub record TellsTheSame (lines moved : List (List ℕ)) : Type 0 where
   pub scene : Scene
   pub count : ℕ
   pub was : course_from output.Unstarted 1 lines []
-      ≡ record { text = text; ending = output.AllRead story count }
+      ≡ record { text = text; reached = output.Reading story count; bad = None }
   pub now : course_from output.Unstarted 1 moved []
-      ≡ record { text = text; ending = output.AllStepped scene count }
+      ≡ record { text = text; reached = output.Stepping scene count; bad = None }
   pub same : scene.story ≡ story
 
 -- where no line is bad, what a migration writes tells the same
 abbrev pub MigrationsTellTheSame : Type 0
 MigrationsTellTheSame =
     (lines : List (List ℕ)) (tail : List ℕ) (story : Story) (count : ℕ)
-    → (moving_from Unmoved 1 lines tail).ending ≡ output.AllRead story count
+    → (moving_from Unmoved 1 lines tail).reached ≡ output.Reading story count
+    → (moving_from Unmoved 1 lines tail).bad ≡ None
     → (tail ≡ []) × TellsTheSame lines (moving_from Unmoved 1 lines tail).lines

@@ -1,6 +1,6 @@
 -- What a replay writes for a trace, and what it sums up.
-use Rattle.std.specs.Prelude.{◌≡◌, ℕ, ◌+◌, Bool, false, nat_lt, List, [], ◌∷◌, ◌++◌, length, Option}
-use Rattle.std.specs.Prelude.{None, Some, is_some, Result, Ok, Err, codes, if◌then◌else◌}
+use Rattle.std.specs.Prelude.{◌≡◌, ℕ, ◌+◌, Bool, false, nat_lt, List, [], ◌∷◌, ◌++◌, length}
+use Rattle.std.specs.Prelude.{Option, None, Some, is_some, Result, Ok, Err, codes, if◌then◌else◌}
 use Rattle.std.specs.Fmt.{decimal}
 use Rattle.wit_model.specs.declared.lines.View as view
 use Rattle.wit_model.specs.declared.lines.View.TheVariants.{Reports, Graph, Locks, Circle}
@@ -38,32 +38,27 @@ cause_text (why.Fault fault) = fault_text fault
 abbrev pub bad_text : ℕ → cause.Cause → List ℕ
 bad_text n cause = texts.line (codes "line " ∷ decimal n ∷ codes ": " ∷ cause_text cause ∷ [])
 
--- how a reading ends: all was read, and this is the story or the scene, with the number of failed
--- assertions and warnings; or a line is bad
-pub data Ending : Type 0 where
-  AllRead : Story → ℕ → Ending
-  AllStepped : Scene → ℕ → Ending
-  EndsBad : Progress → BadLine → Ending
-
--- what a reading comes to: the texts told of its lines, one behind another, and how it ends
+-- what a reading comes to: the texts told of its lines, one behind another; how far it came; and
+-- the bad line that ended it, where not all was read
 pub record Course : Type 0 where
   pub text : List ℕ
-  pub ending : Ending
+  pub reached : Progress
+  pub bad : Option BadLine
 
 -- the reading ends at a bad line
 abbrev pub ends_bad : Progress → BadLine → Course
-ends_bad p bad = record { text = []; ending = EndsBad p bad }
+ends_bad p bad = record { text = []; reached = p; bad = Some bad }
 
 -- or after the last whole line, if the header came
 abbrev pub ends : Progress → ℕ → List ℕ → Course
-ends (Reading s m) n [] = record { text = []; ending = AllRead s m }
-ends (Stepping s m) n [] = record { text = []; ending = AllStepped s m }
+ends (Reading s m) n [] = record { text = []; reached = Reading s m; bad = None }
+ends (Stepping s m) n [] = record { text = []; reached = Stepping s m; bad = None }
 ends p n [] = ends_bad p (n, why.Cut)
 ends p n (b ∷ tail) =
     ends_bad p (n, if nat_lt longest_line (length (b ∷ tail)) then why.Long else why.Cut)
 
 abbrev pub text_before : List ℕ → Course → Course
-text_before text c = record { text = text ++ c.text; ending = c.ending }
+text_before text c = record c { text = text ++ c.text }
 
 -- what follows a line
 abbrev pub course_after : Progress → ℕ → Outcome → (Progress → Course) → Course
@@ -101,17 +96,18 @@ IsViewOf Circle s waits text circle =
     × (text ≡ circle_text (state_of s) seats) × (circle ≡ is_some seats)
 
 -- what is shown at the end: of a bad line its text, whatever the view. Of a scene, circles are of
--- seats that wait for one another's shares
-abbrev pub IsLast : view.View → Ending → List ℕ → Bool → Type 0
-IsLast v (EndsBad p bad) text circle = (text ≡ bad_text bad.0 bad.1) × (circle ≡ false)
-IsLast v (AllRead s m) text circle = IsViewOf v s (Waits (state_of s)) text circle
-IsLast v (AllStepped s m) text circle = IsViewOf v s.story (WaitsIn s) text circle
+-- seats that wait for one another's shares. Nothing that is short of a header is all that was read
+abbrev pub IsLast : view.View → Progress → Option BadLine → List ℕ → Bool → Type 0
+IsLast v p (Some bad) text circle = (text ≡ bad_text bad.0 bad.1) × (circle ≡ false)
+IsLast v (Reading s m) None text circle = IsViewOf v s (Waits (state_of s)) text circle
+IsLast v (Stepping s m) None text circle = IsViewOf v s.story (WaitsIn s) text circle
+IsLast v p None text circle = ⊥
 
 -- the text that a view shows of a reading, and whether it shows a circle
 pub record IsShown (v : view.View) (c : Course) (text : List ℕ) (circle : Bool) : Type 0 where
   pub last : List ℕ
   pub parts : text ≡ shown_by v c.text ++ last
-  pub ends : IsLast v c.ending last circle
+  pub ends : IsLast v c.reached c.bad last circle
 
 -- what a replay sums up: the calls logged; the reports among them, with the failed assertions and
 -- the warnings; and the bad line that ended the reading
@@ -126,8 +122,3 @@ summed (Reading s m) bad =
 summed (Stepping s m) bad =
     record { calls = length s.story.history; reports = reports_of s.story.history + m; bad = bad }
 summed _ bad = record { calls = 0; reports = 0; bad = bad }
-
-abbrev pub total_of : Ending → Total
-total_of (AllRead s m) = summed (Reading s m) None
-total_of (AllStepped s m) = summed (Stepping s m) None
-total_of (EndsBad p bad) = summed p (Some bad)
