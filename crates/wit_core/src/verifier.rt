@@ -1,6 +1,7 @@
 //! The verifier of lock orders.
 
-ghost use Rattle.std.specs.Prelude.{◌≡◌, None, reverse, IfOk, IfErr};
+ghost use Rattle.std.specs.Prelude.{◌≡◌, None, reverse, IfOk, IfErr, IfSome, true};
+ghost use Rattle.wit_model.specs.Rules.Names.{is_file_name};
 ghost use Rattle.wit_model.specs.declared.profiles.Profile.TheVariants.{Plain, AllHeld};
 ghost use Rattle.wit_model.specs.Rules.Clean.{CleanMeansNoCircle};
 ghost use Rattle.wit_model.specs.Rules.Files.{NamesFile};
@@ -163,6 +164,13 @@ impl Verifier {
         ensures { NamesFile self.old name.now result self.new }
     {
         self.known.file(name)
+    }
+
+    /// The name of the file that was named last, which is a file name; `None` before any was.
+    pub fn recent_file(&self) -> Option<&str>
+        ensures { IfSome result (λ name. is_file_name name.now ≡ true) }
+    {
+        self.known.names().recent_file()
     }
 
     /// The log: each accepted call with its seat and reply, oldest first. Each reply is the answer

@@ -3,24 +3,104 @@
 ghost use Rattle.std.specs.Prelude.{◌≡◌, ◌≤◌, ◌<◌, ◌+◌, ◌++◌, [], ◌∷◌, ℕ, List, true, false};
 ghost use Rattle.std.specs.Prelude.{length, is_some, slice_get, IfSome, IfNone, IfOk, IfErr, OnOk};
 ghost use Rattle.std.specs.Prelude.{OnErr, Some, Ok};
-ghost use Rattle.std.specs.List.{All};
+ghost use Rattle.std.specs.List.{All, IsDistinct};
+ghost use Rattle.std.specs.Str.{bytes_eq};
 ghost use Rattle.wit_model.specs.Rules.Names.{is_file_name};
 ghost use Rattle.wit_model.specs.Rules.Files.{is_known_file, file_number, files_after, file_answer};
-ghost use Rattle.wit_model.specs.Rules.Numbers.{IsGiven};
+ghost use Rattle.wit_model.specs.Rules.Numbers.{with_number, IsGiven};
 ghost use Rattle.wit_model.specs.declared.faults.Fault.TheVariants.{OutOfMemory};
 ghost use Rattle.wit_model.specs.Rules.Refusals.{IsRefusal};
+ghost use Rattle.wit_table.specs.Known.{with_file, HasFile};
 ghost use Rattle.wit_table.specs.Rows.{texts};
 
+use crate::table::Table;
 use indexmap::IndexSet;
 use std::alloc::{AllocError, Global};
 use wit_model::{Fault, FileName, FileNo};
 
-/// Enters a file where it is new, and gives its number, which is the recent one from then on:
-/// `Table::file`.
-///
-/// # Errors
-/// In this order: `BadName`, `FilesFull`, `OutOfMemory`; the files are then as before.
-pub fn file_in(
+impl Table {
+    /// How many source files there are. No two of them have one name.
+    pub fn files(&self) -> usize
+        ensures files { result ≡ length self.now.files }
+        ensures distinct { IsDistinct bytes_eq self.now.files }
+        ensures most { result ≤ self.now.most_files }
+        ensures few { self.now.most_files ≤ 65535 }
+    {
+        self.files.len()
+    }
+
+    /// The name of a source file, by its number.
+    pub fn file_name(&self, file: FileNo) -> &str
+        requires { IsGiven self.now.files file.0 }
+        ensures name { with_number self.now.files file.0 ≡ Some result.now }
+        ensures number { file_number result.now self.now.files ≡ file.0 }
+        ensures good { is_file_name result.now ≡ true }
+    {
+        // Called for its clause that no name stands twice.
+        let _files = self.files();
+        file_at(&self.files, file.0 as usize - 1)
+    }
+
+    /// The name of the file that was named last, which most sites repeat; `None` before any was.
+    pub fn recent_file(&self) -> Option<&str>
+        ensures { IfSome result (λ n. is_file_name n.now ≡ true) }
+    {
+        if self.recent.0 == 0 {
+            return None;
+        }
+        if self.recent.0 as usize > self.files() {
+            return None;
+        }
+        Some(self.file_name(self.recent))
+    }
+
+    /// The number of a source file: a known file keeps its number, also where the table is full; a
+    /// new one gets the next.
+    ///
+    /// # Errors
+    /// In this order: `BadName` where the text is no file name; `FilesFull` where it is new and no
+    /// number is left; `OutOfMemory`, only where it is new.
+    pub fn file(&mut self, name: &str) -> Result<FileNo, Fault>
+        ensures ok { IfOk result (λ f. file_answer name.now self.old.most_files self.old.files
+            ≡ Ok f.0) }
+        ensures number { IfOk result (λ f. f.0 ≡ file_number name.now self.old.files) }
+        ensures given { IfOk result (λ f. IsGiven self.new.files f.0) }
+        ensures entered { OnOk result (self.new ≡ with_file self.old name.now) }
+        ensures err { IfErr result (IsRefusal
+            (file_answer name.now self.old.most_files self.old.files)) }
+        ensures absent { IfErr result (λ e. e ≡ OutOfMemory
+            → is_known_file name.now self.old.files ≡ false) }
+        ensures unchanged { OnErr result (self.new ≡ self.old) }
+    {
+        let recent = self.recent;
+        if self.has_name(recent, name) {
+            return Ok(recent);
+        }
+        file_in(
+            self.alloc,
+            &mut self.files,
+            &mut self.recent,
+            self.most_files,
+            name,
+        )
+    }
+
+    // Whether there is a source file with this number, and it has this name.
+    fn has_name(&self, file: FileNo, name: &str) -> bool
+        ensures { result ≡ true → HasFile self.now name.now file.0 }
+    {
+        if file.0 == 0 {
+            return false;
+        }
+        if file.0 as usize > self.files() {
+            return false;
+        }
+        self.file_name(file) == name
+    }
+}
+
+// Enters a file where it is new, and gives its number, which is the recent one from then on.
+fn file_in(
     alloc: Global,
     files: &mut IndexSet<String>,
     recent: &mut FileNo,
@@ -81,8 +161,8 @@ fn add_file(alloc: Global, files: &mut IndexSet<String>, name: &str) -> Result<(
     Ok(())
 }
 
-/// The name of the file at this place.
-pub fn file_at(files: &IndexSet<String>, place: usize) -> &str
+// The name of the file at this place.
+fn file_at(files: &IndexSet<String>, place: usize) -> &str
     requires { place < length (texts files.now.keys) }
     ensures { slice_get (texts files.now.keys) place ≡ Some result.now }
 {

@@ -5,17 +5,15 @@ ghost use Rattle.std.specs.Prelude.{is_some, IfSome, IfOk, IfErr, OnOk, OnErr, S
 ghost use Rattle.std.specs.List.{IsDistinct};
 ghost use Rattle.std.specs.Str.{bytes_eq};
 ghost use Rattle.wit_model.specs.declared.faults.Fault.TheVariants.{OutOfMemory};
-ghost use Rattle.wit_model.specs.Rules.Names.{is_name, is_file_name};
-ghost use Rattle.wit_model.specs.Rules.Numbers.{with_number, IsGiven, IsNumber};
+ghost use Rattle.wit_model.specs.Rules.Names.{is_name};
+ghost use Rattle.wit_model.specs.Rules.Numbers.{IsGiven, IsNumber};
 ghost use Rattle.wit_model.specs.Rules.Types.{is_enrolled, is_otherwise, type_number};
-ghost use Rattle.wit_model.specs.Rules.Files.{is_known_file, file_number, file_answer};
 ghost use Rattle.wit_model.specs.Rules.Refusals.{IsRefusal};
 ghost use Rattle.wit_table.specs.Known.{no_names, type_names, HasName, HasClass, enroll_answer};
-ghost use Rattle.wit_table.specs.Known.{with_type, with_file, live_of, with_live, are_blessed};
-ghost use Rattle.wit_table.specs.Known.{with_blessed, are_names, IsBlessRefusal, HasFile};
+ghost use Rattle.wit_table.specs.Known.{with_type, live_of, with_live, are_blessed};
+ghost use Rattle.wit_table.specs.Known.{with_blessed, are_names, IsBlessRefusal};
 
 use crate::blessed::{add_pair, is_blessed};
-use crate::files::{file_at, file_in};
 use crate::types::{
     TypeRow, class_at, enroll_in, is_otherwise, live_at, name_at, place_of, set_live,
 };
@@ -32,14 +30,14 @@ use wit_model::{Class, Fault, FileNo, Name, TypeNo};
 /// for good. A refused call changes nothing.
 #[derive(Drop)]
 pub struct Table {
-    alloc: Global,
+    pub(crate) alloc: Global,
     types: IndexMap<String, TypeRow>,
-    files: IndexSet<String>,
+    pub(crate) files: IndexSet<String>,
     // The file that was named last, 0 before any was: most sites follow others of their file.
-    recent: FileNo,
+    pub(crate) recent: FileNo,
     blessed: Vec<(Name, Name)>,
     most_types: u32,
-    most_files: u32,
+    pub(crate) most_files: u32,
 }
 
 impl Model for Table {
@@ -155,16 +153,6 @@ impl Table {
         self.types.len()
     }
 
-    /// How many source files there are. No two of them have one name.
-    pub fn files(&self) -> usize
-        ensures files { result ≡ length self.now.files }
-        ensures distinct { IsDistinct bytes_eq self.now.files }
-        ensures most { result ≤ self.now.most_files }
-        ensures few { self.now.most_files ≤ 65535 }
-    {
-        self.files.len()
-    }
-
     /// The name of a type, by its number.
     pub fn name_of(&self, number: TypeNo) -> &str
         requires { IsGiven self.now.types number.0 }
@@ -183,18 +171,6 @@ impl Table {
         ensures { HasClass self.now.types number.0 result }
     {
         class_at(&self.types, number.0 as usize - 1)
-    }
-
-    /// The name of a source file, by its number.
-    pub fn file_name(&self, file: FileNo) -> &str
-        requires { IsGiven self.now.files file.0 }
-        ensures name { with_number self.now.files file.0 ≡ Some result.now }
-        ensures number { file_number result.now self.now.files ≡ file.0 }
-        ensures good { is_file_name result.now ≡ true }
-    {
-        // Called for its clause that no name stands twice.
-        let _files = self.files();
-        file_at(&self.files, file.0 as usize - 1)
     }
 
     /// How many live locks a type has: at most 65,536.
@@ -226,50 +202,6 @@ impl Table {
         let place = number.0 as usize - 1;
         let count = live_at(&self.types, place);
         set_live(&mut self.types, place, count - 1);
-    }
-
-    /// The number of a source file: a known file keeps its number, also where the table is full; a
-    /// new one gets the next.
-    ///
-    /// # Errors
-    /// In this order: `BadName` where the text is no file name; `FilesFull` where it is new and no
-    /// number is left; `OutOfMemory`, only where it is new.
-    pub fn file(&mut self, name: &str) -> Result<FileNo, Fault>
-        ensures ok { IfOk result (λ f. file_answer name.now self.old.most_files self.old.files
-            ≡ Ok f.0) }
-        ensures number { IfOk result (λ f. f.0 ≡ file_number name.now self.old.files) }
-        ensures given { IfOk result (λ f. IsGiven self.new.files f.0) }
-        ensures entered { OnOk result (self.new ≡ with_file self.old name.now) }
-        ensures err { IfErr result (IsRefusal
-            (file_answer name.now self.old.most_files self.old.files)) }
-        ensures absent { IfErr result (λ e. e ≡ OutOfMemory
-            → is_known_file name.now self.old.files ≡ false) }
-        ensures unchanged { OnErr result (self.new ≡ self.old) }
-    {
-        let recent = self.recent;
-        if self.has_name(recent, name) {
-            return Ok(recent);
-        }
-        file_in(
-            self.alloc,
-            &mut self.files,
-            &mut self.recent,
-            self.most_files,
-            name,
-        )
-    }
-
-    // Whether there is a source file with this number, and it has this name.
-    fn has_name(&self, file: FileNo, name: &str) -> bool
-        ensures { result ≡ true → HasFile self.now name.now file.0 }
-    {
-        if file.0 == 0 {
-            return false;
-        }
-        if file.0 as usize > self.files() {
-            return false;
-        }
-        self.file_name(file) == name
     }
 
     /// Blesses a pair of names: their types may be taken in either order. The names needn't be
