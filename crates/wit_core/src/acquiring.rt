@@ -47,6 +47,7 @@ impl Acquisition {
 
 /// A seat acquires a lock of this kind. Where no chunk is free for it, nothing is watched from now
 /// on. It takes no memory.
+#[inline(always)]
 pub fn acquire(
     seats: &mut Seats,
     watch: &mut Watch,

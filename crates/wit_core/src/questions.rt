@@ -120,6 +120,7 @@ impl Verifier {
     }
 
     // The faults of a call that asks for a lock, or tries it.
+    #[inline(always)]
     pub(crate) fn before_acquiring(
         &self,
         seat: SeatNo,

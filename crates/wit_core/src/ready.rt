@@ -1,6 +1,6 @@
 //! A call that is prepared: its answer, and all that it will need.
 
-ghost use Rattle.std.specs.Prelude.{◌≡◌, ◌↔◌, IsTrue, true, Ok};
+ghost use Rattle.std.specs.Prelude.{◌≡◌, ◌↔◌, IsTrue, true, None, Ok};
 ghost use Rattle.wit_model.specs.Rules.Preparing.{IsPrepared, Prepares};
 ghost use Rattle.wit_model.specs.Rules.Step.{answer_of, is_logged};
 ghost use Rattle.wit_core.specs.Plans.{planned_call, entries_for};
@@ -41,6 +41,17 @@ pub struct Ready {
     pub reply: Reply,
     /// Its reply, as the log will keep it.
     pub kept: Reply,
+}
+
+/// No call is prepared any more. Mostly none was: that is tested first, since all parts of one would
+/// be written else.
+#[inline(always)]
+pub fn let_go(ready: &mut Option<Ready>)
+    ensures { ready.new ≡ None }
+{
+    if ready.is_some() {
+        *ready = None;
+    }
 }
 
 impl Verifier {

@@ -3,24 +3,26 @@
 ghost use Rattle.std.specs.Prelude.{◌≡◌, ◌≢◌, true, false, not, find, is_some, slice_get};
 ghost use Rattle.std.specs.Prelude.{replicate, Ok, IfOk, IfErr, None, Some};
 ghost use Rattle.wit_model.specs.declared.faults.Fault.TheVariants.{OutOfMemory};
+ghost use Rattle.wit_model.specs.Rules.Chunks.{IsList, IsPlaced, chain_of};
 ghost use Rattle.wit_model.specs.Rules.Numbers.{is_given, IsGiven, IsNumber};
 ghost use Rattle.wit_model.specs.Rules.Assertions.{assertion};
 ghost use Rattle.wit_model.specs.Rules.Verdict.{is_of};
 ghost use Rattle.wit_model.specs.Rules.Step.{is_for, released};
 ghost use Rattle.wit_model.specs.Rules.Destroying.{uses};
 ghost use Rattle.std.specs.List.{list_any};
-ghost use Rattle.wit_held.specs.Chains.{IsOnce, IsShallow, in_mode};
-ghost use Rattle.wit_held.specs.Marks.{marked};
+ghost use Rattle.wit_held.specs.Chains.{IsOnce, IsShallow, is_unrecorded, after_record};
 ghost use Rattle.wit_held.specs.Releases.{release_reply};
 ghost use Rattle.wit_core.specs.Held.{seat_view};
 ghost use Rattle.wit_core.specs.Seats.{Holdings, idle_seating, seat_in, locks_in, free_in};
-ghost use Rattle.wit_core.specs.Seats.{with_seat, asking, having_released, has_no_room};
+ghost use Rattle.wit_core.specs.Seats.{with_seat, having_released, has_no_room};
 ghost use Rattle.wit_core.specs.Seats.{after_acquired, HoldFor};
-ghost use Rattle.wit_core.specs.Turning.{changed};
+
+mod asking;
+mod turning;
 
 use std::alloc::{AllocError, Global};
 use std::marker::Model;
-use wit_held::{assert_is, held, norelease, record, recursion, release, releaseok, set_mode};
+use wit_held::{assert_is, held, record, record_new, recursion, release};
 use wit_model::chunks::{Lists, list_of};
 use wit_model::{AssertAnswer, Fault, Instance, LockAssert, LockNo, Mode, Request, SeatNo, Watch};
 use wit_pool::Pool;
@@ -34,6 +36,8 @@ pub type Chunked = Pool;
 pub struct Seats {
     lists: Chunked,
     requests: Vec<Option<Request>>,
+    // A list, and a lock that was asked for and that it doesn't hold: it isn't looked for again.
+    unheld: Option<(u16, LockNo)>,
 }
 
 impl Model for Seats {
@@ -63,6 +67,7 @@ impl Seats {
         Ok(Seats {
             lists: Pool::new(alloc, chunks, 2 * seats as u16)?,
             requests: no_requests(alloc, seats)?,
+            unheld: None,
         })
     }
 
@@ -105,7 +110,22 @@ impl Seats {
         requires once { IsOnce lock.0 (locks_in spin (seat_in self.now seat.0)) }
         ensures { result ≡ find (is_of lock.0) (locks_in spin (seat_in self.now seat.0)) }
     {
+        if self.is_unheld(seat, spin, lock) {
+            return None;
+        }
         held(&self.lists, list_of(seat, spin), lock)
+    }
+
+    // Whether a seat is known not to hold a lock of this kind.
+    fn is_unheld(&self, seat: SeatNo, spin: bool, lock: LockNo) -> bool
+        requires { IsGiven self.now.seats seat.0 }
+        ensures { result ≡ true
+            → find (is_of lock.0) (locks_in spin (seat_in self.now seat.0)) ≡ None }
+    {
+        match self.unheld {
+            Some((list, unheld)) => list == list_of(seat, spin) && unheld.0 == lock.0,
+            None => false,
+        }
     }
 
     /// Whether a seat holds a lock or asks for it.
@@ -178,22 +198,6 @@ impl Seats {
 
 /// What changes a seat. Nothing here takes memory.
 impl Seats {
-    /// A seat asks for a lock.
-    pub fn ask(&mut self, seat: SeatNo, request: Request)
-        requires { IsGiven self.old.seats seat.0 }
-        ensures { self.new ≡ with_seat seat.0 (asking (Some request)) self.old }
-    {
-        self.requests[seat.0 as usize - 1] = Some(request);
-    }
-
-    /// A seat asks for nothing any more.
-    pub fn clear(&mut self, seat: SeatNo)
-        requires { IsGiven self.old.seats seat.0 }
-        ensures { self.new ≡ with_seat seat.0 (asking None) self.old }
-    {
-        self.requests[seat.0 as usize - 1] = None;
-    }
-
     /// A seat acquires a lock of this kind: `wit_held::record` in its list. False, and nothing is
     /// changed, where that needs a chunk and none is free.
     pub fn record(&mut self, seat: SeatNo, spin: bool, taken: Instance) -> bool
@@ -203,7 +207,9 @@ impl Seats {
         ensures result { result ≡ not (has_no_room self.old seat.0 spin taken.lock.0) }
         ensures seats { self.new ≡ after_acquired seat.0 spin taken self.old }
     {
-        record(&mut self.lists, list_of(seat, spin), taken)
+        let is_new = self.is_unheld(seat, spin, taken.lock);
+        self.unheld = None;
+        enter(&mut self.lists, list_of(seat, spin), taken, is_new)
     }
 
     /// A seat releases a lock of this kind in this mode: `wit_held::release` in its list, with its
@@ -224,37 +230,28 @@ impl Seats {
             → self.new ≡ with_seat seat.0 (having_released spin lock.0) self.old }
         ensures unchanged { result ≢ Ok true → self.new ≡ self.old }
     {
+        self.unheld = None;
         release(&mut self.lists, list_of(seat, spin), lock, mode, watch)
     }
 }
 
-/// What changes how a seat holds a lock: its place, its count and its site stay.
-impl Seats {
-    /// A lock of this kind is held in another mode: `wit_held::set_mode` in its list.
-    pub fn turn(&mut self, seat: SeatNo, spin: bool, lock: LockNo, mode: Mode)
-        requires seat { IsGiven self.old.seats seat.0 }
-        requires once { IsOnce lock.0 (locks_in spin (seat_in self.old seat.0)) }
-        ensures { self.new ≡ with_seat seat.0 (changed spin lock.0 (in_mode mode)) self.old }
-    {
-        set_mode(&mut self.lists, list_of(seat, spin), lock, mode);
-    }
-
-    /// A lock of this kind must not be released: `wit_held::norelease` in its list.
-    pub fn forbid(&mut self, seat: SeatNo, spin: bool, lock: LockNo)
-        requires seat { IsGiven self.old.seats seat.0 }
-        requires once { IsOnce lock.0 (locks_in spin (seat_in self.old seat.0)) }
-        ensures { self.new ≡ with_seat seat.0 (changed spin lock.0 (marked true)) self.old }
-    {
-        norelease(&mut self.lists, list_of(seat, spin), lock);
-    }
-
-    /// A lock of this kind may be released: `wit_held::releaseok` in its list.
-    pub fn allow(&mut self, seat: SeatNo, spin: bool, lock: LockNo)
-        requires seat { IsGiven self.old.seats seat.0 }
-        requires once { IsOnce lock.0 (locks_in spin (seat_in self.old seat.0)) }
-        ensures { self.new ≡ with_seat seat.0 (changed spin lock.0 (marked false)) self.old }
-    {
-        releaseok(&mut self.lists, list_of(seat, spin), lock);
+// Records an acquisition in a list, which is told where it doesn't hold the lock.
+fn enter<L: Lists>(lists: &mut L, list: u16, taken: Instance, is_new: bool) -> bool
+    requires list { IsList (L.chunks lists.old) list }
+    requires once { IsOnce taken.lock.0 (chain_of (L.chunks lists.old) list) }
+    requires shallow { IsShallow taken.lock.0 (chain_of (L.chunks lists.old) list) }
+    requires new { is_new ≡ true
+        → find (is_of taken.lock.0) (chain_of (L.chunks lists.old) list) ≡ None }
+    ensures result { result ≡ not (is_unrecorded (L.chunks lists.old) list taken.lock.0) }
+    ensures groups { (L.chunks lists.new).groups ≡ after_record (L.chunks lists.old) list taken }
+    ensures size { (L.chunks lists.new).size ≡ (L.chunks lists.old).size }
+    ensures placed { IsPlaced (L.chunks lists.new) }
+    ensures unchanged { result ≡ false → L.chunks lists.new ≡ L.chunks lists.old }
+{
+    if is_new {
+        record_new(lists, list, taken)
+    } else {
+        record(lists, list, taken)
     }
 }
 

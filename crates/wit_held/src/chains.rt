@@ -40,6 +40,19 @@ pub fn record<L: Lists>(lists: &mut L, list: u16, taken: Instance) -> bool
     }
 }
 
+/// As `record`, of a lock that the list doesn't hold, which isn't looked for.
+pub fn record_new<L: Lists>(lists: &mut L, list: u16, taken: Instance) -> bool
+    requires list { IsList (L.chunks lists.old) list }
+    requires new { find (is_of taken.lock.0) (chain_of (L.chunks lists.old) list) ≡ None }
+    ensures result { result ≡ not (is_unrecorded (L.chunks lists.old) list taken.lock.0) }
+    ensures groups { (L.chunks lists.new).groups ≡ after_record (L.chunks lists.old) list taken }
+    ensures size { (L.chunks lists.new).size ≡ (L.chunks lists.old).size }
+    ensures placed { IsPlaced (L.chunks lists.new) }
+    ensures unchanged { result ≡ false → L.chunks lists.new ≡ L.chunks lists.old }
+{
+    lists.push(list, taken)
+}
+
 /// A lock as a list holds it that holds it once at most; `None` where it doesn't. The list is
 /// looked through newest group first.
 pub fn held<L: Lists>(lists: &L, list: u16, lock: LockNo) -> Option<Instance>

@@ -3,7 +3,7 @@
 
 use linked_list_allocator::LocalHeap;
 use std::test::Fail;
-use wit_held::{VecLists, forget, record, recursion};
+use wit_held::{VecLists, forget, record, record_new, recursion};
 use wit_model::chunks::Lists;
 use wit_model::{Fault, FileNo, Instance, LockNo, Mode, Site};
 
@@ -27,11 +27,10 @@ fn acquire(lists: &mut VecLists, list: u16, taken: Instance) -> bool {
     if list == 0 || list as usize > lists.lists() || lists.len(list) > 1 {
         return false;
     }
-    let count = recursion(&*lists, list, taken.lock).unwrap_or(0);
-    if count > 65534 {
-        return false;
+    match recursion(&*lists, list, taken.lock) {
+        None => record_new(lists, list, taken),
+        Some(count) => count <= 65534 && record(lists, list, taken),
     }
-    record(lists, list, taken)
 }
 
 /// Takes a release back in a list of at most one lock.

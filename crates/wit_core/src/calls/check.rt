@@ -1,27 +1,33 @@
 //! `check`: a seat asks for a lock.
 
-ghost use Rattle.std.specs.Prelude.{◌≡◌, true, IsOk, IfOk, IfErr, OnOk, Ok, Err};
+ghost use Rattle.std.specs.Prelude.{◌≡◌, true, IsOk, IfOk, IfErr, IfSome, OnOk, Ok, Err};
 ghost use Rattle.wit_model.specs.declared.calls.Reply.TheVariants.{Pass};
 ghost use Rattle.wit_model.specs.declared.calls.Call.TheVariants.{Check};
 ghost use Rattle.wit_model.specs.declared.faults.Fault.TheVariants.{OutOfMemory};
+ghost use Rattle.wit_model.specs.Rules.Locks.{lock_at};
 ghost use Rattle.wit_model.specs.Rules.Preparing.{IsPrepared, Prepares};
 ghost use Rattle.wit_model.specs.Rules.Refusals.{IsRefusal};
 ghost use Rattle.wit_model.specs.Rules.State.{state_of, seat_at, is_seat, is_live};
 ghost use Rattle.wit_model.specs.Rules.Step.{AnswersOrFails, IsEntered, answer_of, is_logged};
 ghost use Rattle.wit_model.specs.Rules.Step.{logged};
+ghost use Rattle.wit_model.specs.Rules.Types.{is_spin};
 ghost use Rattle.wit_model.specs.Rules.Verdict.{typed_request, verdict};
 ghost use Rattle.wit_check.specs.Answers.{answer_by};
-ghost use Rattle.wit_core.specs.Verdict.{orders_taught, IsToldBy};
+ghost use Rattle.wit_core.specs.Verdict.{orders_taught, tells_new, IsToldBy};
 
 use crate::known::{flags_of_lock, type_of_lock};
-use crate::ready::{Plan, Ready};
+use crate::ready::{Plan, Ready, let_go};
 use crate::verifier::Verifier;
+use bitflags::Flags;
 use std::alloc::AllocError;
 use wit_check::{Chains, Verdict, new_orders, verdict};
 use wit_model::{
-    Boxed, Call, Entry, Fault, LockNo, Mode, NewOrders, OpFlags, Reply, Request, SeatNo, Site,
-    TypedRequest,
+    Boxed, Call, Entry, Fault, LockFlags, LockNo, Mode, NewOrders, OpFlags, Reply, Request, SeatNo,
+    Site, TypedRequest,
 };
+
+// So many locks of each seat, on average, are few.
+const FEW_LOCKS: u32 = 16;
 
 impl Verifier {
     /// Asks whether a lock may be acquired here: WITNESS's `checkorder`. Its request is then
@@ -65,7 +71,8 @@ impl Verifier {
         self.ask(seat, request)
     }
 
-    // The same for a request as a value.
+    // The same for a request as a value. By itself, so that no other call pays for its locals.
+    #[inline(never)]
     pub(crate) fn ask(&mut self, seat: SeatNo, request: Request) -> Result<Reply, Fault>
         ensures answer { AnswersOrFails self.old seat.0 (Check request) result self.new }
         ensures prepared { IsPrepared self.old seat.0 (Check request) → IsOk result }
@@ -108,7 +115,9 @@ impl Verifier {
         self.make_ready(seat, Plan::Check(request), reply)
     }
 
-    // The verdict on a request, where it isn't refused.
+    // The verdict on a request, where it isn't refused. Inlined, since a check that isn't prepared is
+    // by far the most frequent of the two that ask for it.
+    #[inline(always)]
     fn judge(&self, seat: SeatNo, request: Request) -> Result<Verdict, Fault>
         ensures seat { OnOk result (is_seat (state_of self.now) seat.0 ≡ true) }
         ensures lock { OnOk result (is_live (state_of self.now) request.lock.0 ≡ true) }
@@ -231,14 +240,34 @@ impl Verifier {
         reply
     }
 
+    // The kind of a lock that its seat doesn't hold, as a request that passes tells; `None` where
+    // it doesn't tell that. Nor is it asked where seats hold few locks: a look through them then
+    // takes no longer.
+    fn new_in(&self, request: Request) -> Option<bool>
+        ensures { IfSome result (λ spin. (tells_new (state_of self.now) request ≡ true)
+            × (spin ≡ is_spin (lock_at (state_of self.now).known.locks request.lock.0).made.class)) }
+    {
+        if self.log.owed() <= FEW_LOCKS * self.limits.seats() {
+            return None;
+        }
+        if !self.watch.is_on() || !request.mode.is_exclusive() {
+            return None;
+        }
+        if flags_of_lock(self.known.locks(), request.lock).contains(LockFlags::RECURSABLE) {
+            return None;
+        }
+        Some(self.class_of_lock(request.lock).is_spin())
+    }
+
     // Enters a request that passes.
     fn pass(&mut self, seat: SeatNo, request: Request) -> Result<Reply, Fault>
         requires passes { answer_of self.old seat.0 (Check request) ≡ Ok Pass }
         ensures { AnswersOrFails self.old seat.0 (Check request) result self.new }
     {
+        let new_in = self.new_in(request);
         self.log.reserve(3)?;
-        self.ready = None;
-        self.seats.ask(seat, request);
+        let_go(&mut self.ready);
+        self.seats.ask_for(seat, request, new_in);
         let entry = Entry {
             seat,
             call: Call::Check(request),

@@ -7,6 +7,7 @@ ghost use Rattle.wit_model.specs.Rules.Step.{Answers, answer_of, logged, recorde
 ghost use Rattle.wit_core.specs.Acquiring.{reply_to};
 
 use crate::acquiring::{Acquisition, acquire};
+use crate::ready::let_go;
 use crate::verifier::Verifier;
 use wit_model::{Call, Entry, Fault, Instance, LockNo, Reply, Request, SeatNo};
 
@@ -48,7 +49,7 @@ impl Verifier {
             call: Call::Note(lock),
             reply: acquisition.reply(),
         };
-        self.ready = None;
+        let_go(&mut self.ready);
         self.log.push_owed(entry, 1 - acquisition.owed());
         acquisition
     }

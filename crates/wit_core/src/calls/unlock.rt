@@ -7,6 +7,7 @@ ghost use Rattle.wit_model.specs.Rules.Step.{Answers, before_naming};
 ghost use Rattle.wit_held.specs.Releases.{release_reply};
 ghost use Rattle.wit_core.specs.Replies.{Admits};
 
+use crate::ready::let_go;
 use crate::verifier::Verifier;
 use wit_model::{Call, Entry, Fault, LockNo, Mode, Reply, SeatNo};
 
@@ -48,7 +49,7 @@ impl Verifier {
             call: Call::Unlock(lock, mode),
             reply: Reply::Unlocked,
         };
-        self.ready = None;
+        let_go(&mut self.ready);
         self.log.push_owed(entry, 0);
         Ok(true)
     }

@@ -1,10 +1,12 @@
-use Rattle.std.proofs.Common.{None, Ok, ap, ap₂, sym, subst, ◌∙◌, refl, arith}
+use Rattle.std.proofs.Common.{Option, None, Ok, ap, ap₂, sym, subst, ◌∙◌, refl, arith}
 use Rattle.wit_model.specs.Rules.Numbers.{IsGiven}
 use Rattle.wit_model.specs.Rules.Types.{is_spin}
 use Rattle.wit_model.specs.declared.calls.Call.TheVariants.{Note}
 use Rattle.wit_core.specs.Acquiring.{reply_to}
 use Rattle.wit_core.specs.Seats.{Seating, with_seat, asking}
-use Rattle.wit_core.proofs.Keeping.{kept_entered, noted_log}
+use Rattle.wit_core.specs.declared.ready.Ready.{Ready}
+use Rattle.wit_core.specs.Kept.{IsKept}
+use Rattle.wit_core.proofs.Keeping.{with_parts, kept_entered, noted_log}
 use Rattle.wit_core.proofs.Entries.Accepting.{accepted, given}
 use Rattle.wit_core.proofs.Entries.Acquiring.{given-then, reply-logged, reply-told, acquire_once}
 use Rattle.wit_core.proofs.Entries.Acquiring.{note_shallow, note_owed, leaves_note}
@@ -56,6 +58,10 @@ push_owed-requires c =
 
 pub invariant_of-self : goal.invariant_of-self
 invariant_of-self c =
+    subst (λ (o : Option Ready).
+    IsKept (record (with_parts c.self.inside c.self.inside.known c.clear.new.self
+    c.acquire-acquisition.new.watch c.push_owed.new.self) { ready = o }))
+    (sym c.let_go.ensures) (
     kept (
     kept_entered c.self.inside c.args.seat.0 _ _ _ _ _ _ _ _ c.clear.new.self
     c.acquire-acquisition.new.watch c.push_owed.new.self _
@@ -76,4 +82,4 @@ invariant_of-self c =
     (c.requires.accepted ∙ ap (λ r. Ok r)
     (sym (reply-told (seen_as c.self.invariant c.self.view_is) c.args.seat.0 c.args.lock
     c.is_spin-spin.result (c.is_spin-spin.ensures ∙ ap is_spin c.class_of_lock.ensures)
-    c.acquire-acquisition.result c.acquire-acquisition.ensures.result)))))
+    c.acquire-acquisition.result c.acquire-acquisition.ensures.result))))))

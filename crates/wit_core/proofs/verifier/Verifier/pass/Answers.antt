@@ -1,11 +1,14 @@
-use Rattle.std.proofs.Common.{arith, refl}
+use Rattle.std.proofs.Common.{Option, sym, subst, arith, refl}
 use Rattle.wit_model.specs.declared.calls.Call.TheVariants.{Check}
 use Rattle.wit_model.specs.declared.calls.Reply.TheVariants.{Pass}
 use Rattle.wit_model.proofs.Chains.Seats.{entry}
-use Rattle.wit_core.proofs.Keeping.{kept_entered, log_after}
+use Rattle.wit_core.specs.declared.ready.Ready.{Ready}
+use Rattle.wit_core.specs.Kept.{IsKept}
+use Rattle.wit_core.proofs.Keeping.{with_parts, kept_entered, log_after}
 use Rattle.wit_core.proofs.Entries.Accepting.{accepted}
 use Rattle.wit_core.proofs.Entries.Checking.{check_room, leaves_check}
 use Rattle.wit_core.proofs.Seen.{seen_as}
+use Rattle.wit_core.proofs.Unheld.{new-in}
 use Rattle.wit_core.proofs.Whole.{kept, kept_roomy}
 use Rattle.wit_core.proofs.verifier.Verifier.pass.Goals as goal
 
@@ -23,13 +26,22 @@ pub invariant_of-self-2 : goal.invariant_of-self-2
 invariant_of-self-2 c =
     let k = c.self.invariant.tied in
     let now = seen_as c.self.invariant c.self.view_is in
+    subst (λ (o : Option Ready).
+    IsKept (record (with_parts c.self.inside c.self.inside.known c.ask_for.new.self
+    c.self.inside.watch c.push.new.self) { ready = o }))
+    (sym c.let_go.ensures) (
     kept (
     kept_entered c.self.inside c.args.seat.0 (Check c.args.request) Pass _ _ _ _ _
-    c.self.inside.known c.ask.new.self c.self.inside.watch c.push.new.self _
+    c.self.inside.known c.ask_for.new.self c.self.inside.watch c.push.new.self _
     (leaves_check now c.args.seat.0 c.args.request Pass c.requires.passes)
-    refl c.ask.ensures refl
+    refl c.ask_for.ensures refl
     (log_after c.self.inside.log c.reserve.new.self c.push.new.self
     (entry c.args.seat.0 (Check c.args.request) Pass) 2 _
     c.reserve.ensures.same c.push.ensures)
     k refl
-    (accepted now c.args.seat.0 (Check c.args.request) Pass c.requires.passes))
+    (accepted now c.args.seat.0 (Check c.args.request) Pass c.requires.passes)))
+
+pub ask_for-requires-clause-new : goal.ask_for-requires-clause-new
+ask_for-requires-clause-new c =
+    new-in (seen_as c.self.invariant c.self.view_is) c.args.seat.0 c.args.request
+    c.requires.passes c.new_in-new_in.result c.new_in-new_in.ensures

@@ -1,4 +1,4 @@
-use Rattle.std.proofs.Common.{refl, ap, ◌∙◌, Ok}
+use Rattle.std.proofs.Common.{Option, sym, subst, refl, ap, ◌∙◌, Ok}
 use Rattle.std.proofs.lemmas.Result.{err_from_is_err_and}
 use Rattle.wit_model.specs.Rules.Types.{is_spin}
 use Rattle.wit_model.specs.Rules.State.{Story}
@@ -6,7 +6,9 @@ use Rattle.wit_model.specs.Rules.Step.{logged}
 use Rattle.wit_model.specs.declared.calls.Call.TheVariants.{Unlock}
 use Rattle.wit_model.specs.declared.calls.Reply.TheVariants.{Unlocked}
 use Rattle.wit_held.specs.Releases.{release_reply}
-use Rattle.wit_core.proofs.Keeping.{kept_entered}
+use Rattle.wit_core.specs.declared.ready.Ready.{Ready}
+use Rattle.wit_core.specs.Kept.{IsKept}
+use Rattle.wit_core.proofs.Keeping.{with_parts, kept_entered}
 use Rattle.wit_core.proofs.Now.{once-now}
 use Rattle.wit_core.proofs.Entries.Accepting.{accepted}
 use Rattle.wit_core.proofs.Entries.Unlocking.{unlock_owed, leaves_unlock}
@@ -56,6 +58,10 @@ push_owed-requires c =
 
 pub invariant_of-self-2 : goal.invariant_of-self-2
 invariant_of-self-2 c =
+    subst (λ (o : Option Ready).
+    IsKept (record (with_parts c.self.inside c.self.inside.known c.release.new.self
+    c.self.inside.watch c.push_owed.new.self) { ready = o }))
+    (sym c.let_go.ensures) (
     kept (
     let ok =
     release-told (seen_as c.self.invariant c.self.view_is) c.args.seat.0 c.args.lock
@@ -71,7 +77,7 @@ invariant_of-self-2 c =
     refl (c.release.ensures.seats (c.in_ok-release.was ∙ ap Ok c.if-not-branch.false)) refl
     c.push_owed.ensures c.self.invariant.tied refl
     (accepted (seen_as c.self.invariant c.self.view_is) c.args.seat.0
-    (Unlock c.args.lock c.args.mode) Unlocked ok))
+    (Unlock c.args.lock c.args.mode) Unlocked ok)))
 
 pub returns : goal.returns
 returns c = (
@@ -80,6 +86,6 @@ returns c = (
       c.requires.admitted c.args.mode c.watch-watch.result c.watch-watch.ensures c.release.result
       c.release.ensures.result
       ∙ ap release_reply (c.in_ok-release.was ∙ ap Ok c.if-not-branch.false),
-  rw c.push_owed.ensures (ap (λ (s : Story). logged s c.args.seat.0
+  rw (c.let_go.ensures, c.push_owed.ensures) (ap (λ (s : Story). logged s c.args.seat.0
       (Unlock c.args.lock c.args.mode) Unlocked) c.self.view_is),
 )
