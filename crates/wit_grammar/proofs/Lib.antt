@@ -1,4 +1,5 @@
 pub mod Digits
+pub mod FewDigits
 pub mod Found
 pub mod Frequent
 pub mod Leading

@@ -39,3 +39,9 @@ no_file_name bytes h =
     none_accepted is_file_name bytes
     (λ name. h (IsUtf8-from_ascii bytes
     (ascii_from_all is_file_byte file_byte_ascii bytes (and_parts _ _ name).1)))
+
+-- a file name is text
+pub file_utf8 : (bytes : List ℕ) → is_file_name bytes ≡ true → IsUtf8 bytes
+file_utf8 bytes name =
+    IsUtf8-from_ascii bytes
+    (ascii_from_all is_file_byte file_byte_ascii bytes (and_parts _ _ name).1)

@@ -1,7 +1,10 @@
 //! How a line begins: its first word is read once, whatever the line is.
 
-ghost use Rattle.std.specs.Prelude.{◌≡◌, ◌++◌, Option, codes, drop, true};
+ghost use Rattle.std.specs.Prelude.{◌≡◌, ◌++◌, Option, IfSome, Some, codes, drop, true};
+ghost use Rattle.wit_model.specs.Rules.Names.{is_file_name};
+ghost use Rattle.wit_model.specs.declared.lines.Keyword.TheVariants.{Check, Unlock, Plain, Take, Free};
 ghost use Rattle.wit_model.specs.declared.lines.Line.{Line};
+ghost use Rattle.wit_model.specs.declared.lines.Verb.TheVariants.{Note};
 ghost use Rattle.wit_model.specs.Trace.Reading.{fields_of, line_of};
 ghost use Rattle.wit_grammar.specs.Lines.{Gives, GivesIfFound, Begins, as_line};
 
@@ -22,16 +25,71 @@ pub type Begun<'a> = (Keyword, &'a [u8]);
 pub fn begin_line(bytes: &[u8]) -> Option<Begun<'_>>
     ensures { Begins result (line_of bytes.now) }
 {
-    if is_lock(bytes) {
-        return Some((Keyword::Plain(Verb::Note), &bytes[4..]));
+    if let Some(rest) = behind_lock(bytes) {
+        return Some((Keyword::Plain(Verb::Note), rest));
     }
-    if is_unlock(bytes) {
-        return Some((Keyword::Unlock, &bytes[6..]));
+    if let Some(rest) = behind_unlock(bytes) {
+        return Some((Keyword::Unlock, rest));
     }
-    if is_check(bytes) {
-        return Some((Keyword::Check, &bytes[5..]));
+    if let Some(rest) = behind_check(bytes) {
+        return Some((Keyword::Check, rest));
     }
     begin_any(bytes)
+}
+
+/// The bytes behind the word `lock` of a line that begins with it.
+#[inline(always)]
+pub fn behind_lock(bytes: &[u8]) -> Option<&[u8]>
+    ensures { IfSome result (λ rest. Begins (Some (Plain Note, rest)) (line_of bytes.now)) }
+{
+    if !is_lock(bytes) {
+        return None;
+    }
+    Some(&bytes[4..])
+}
+
+/// The same of `unlock`.
+#[inline(always)]
+pub fn behind_unlock(bytes: &[u8]) -> Option<&[u8]>
+    ensures { IfSome result (λ rest. Begins (Some (Unlock, rest)) (line_of bytes.now)) }
+{
+    if !is_unlock(bytes) {
+        return None;
+    }
+    Some(&bytes[6..])
+}
+
+/// The same of `check`.
+#[inline(always)]
+pub fn behind_check(bytes: &[u8]) -> Option<&[u8]>
+    ensures { IfSome result (λ rest. Begins (Some (Check, rest)) (line_of bytes.now)) }
+{
+    if !is_check(bytes) {
+        return None;
+    }
+    Some(&bytes[5..])
+}
+
+/// The same of `take`.
+#[inline(always)]
+pub fn behind_take(bytes: &[u8]) -> Option<&[u8]>
+    ensures { IfSome result (λ rest. Begins (Some (Take, rest)) (line_of bytes.now)) }
+{
+    if !is_take(bytes) {
+        return None;
+    }
+    Some(&bytes[4..])
+}
+
+/// The same of `free`.
+#[inline(always)]
+pub fn behind_free(bytes: &[u8]) -> Option<&[u8]>
+    ensures { IfSome result (λ rest. Begins (Some (Free, rest)) (line_of bytes.now)) }
+{
+    if !is_free(bytes) {
+        return None;
+    }
+    Some(&bytes[4..])
 }
 
 #[inline(always)]
@@ -55,6 +113,20 @@ fn is_check(bytes: &[u8]) -> bool
     matches!(bytes, [b'c', b'h', b'e', b'c', b'k', b' ', ..])
 }
 
+#[inline(always)]
+fn is_take(bytes: &[u8]) -> bool
+    ensures { result ≡ true → bytes.now ≡ codes "take " ++ drop 5 bytes.now }
+{
+    matches!(bytes, [b't', b'a', b'k', b'e', b' ', ..])
+}
+
+#[inline(always)]
+fn is_free(bytes: &[u8]) -> bool
+    ensures { result ≡ true → bytes.now ≡ codes "free " ++ drop 5 bytes.now }
+{
+    matches!(bytes, [b'f', b'r', b'e', b'e', b' ', ..])
+}
+
 // The same of any line.
 #[tactic(auto, unfolding(wit_model::specs::Trace::Reading::line_of))]
 fn begin_any(bytes: &[u8]) -> Option<Begun<'_>>
@@ -68,26 +140,34 @@ fn begin_any(bytes: &[u8]) -> Option<Begun<'_>>
 }
 
 /// The line that begins so, where it is one on a lock, without a copy. `None` says nothing.
+///
+/// The known name is a file name. A line that names that file is read in less time.
 #[inline(always)]
-pub fn lock_line(begun: Option<Begun<'_>>) -> Option<LockLine<&str>>
+pub fn lock_line<'a>(known: Option<&str>, begun: Option<Begun<'a>>) -> Option<LockLine<&'a str>>
+    requires { IfSome known (λ k. is_file_name k.now ≡ true) }
     ensures { (read : Option Line) → Begins begun.entry read → GivesIfFound as_line result read }
 {
     let (keyword, rest) = begun?;
     match keyword {
-        Keyword::Check => check(rest).ok(),
+        Keyword::Check => check(known, rest).ok(),
         Keyword::Unlock => unlock(rest).ok(),
         Keyword::Plain(verb) => plain(verb, rest).ok(),
-        _ => other_lock_line(keyword, rest),
+        _ => other_lock_line(known, keyword, rest),
     }
 }
 
 // The same of the rarer keywords; by itself, so that the others don't pay for its locals.
 #[inline(never)]
-fn other_lock_line(keyword: Keyword, rest: &[u8]) -> Option<LockLine<&str>>
+fn other_lock_line<'a>(
+    known: Option<&str>,
+    keyword: Keyword,
+    rest: &'a [u8],
+) -> Option<LockLine<&'a str>>
+    requires { IfSome known (λ k. is_file_name k.now ≡ true) }
     ensures { GivesIfFound as_line result (fields_of keyword rest.now) }
 {
     match keyword {
-        Keyword::Try => try_lock(rest).ok(),
+        Keyword::Try => try_lock(known, rest).ok(),
         Keyword::Take => step(RawStep::Take, rest).ok(),
         Keyword::Free => step(RawStep::Free, rest).ok(),
         Keyword::TryTake => try_take(rest).ok(),

@@ -2,6 +2,7 @@
 //! value and the bytes after it, or `LineError::SYNTAX` where the bytes begin with none;
 //! `LineError::Memory` where a growth was refused.
 
+ghost use Rattle.std.specs.Prelude.{◌≡◌, true, IfSome};
 ghost use Rattle.wit_model.specs.Rules.Names.{is_name, is_file_name};
 ghost use Rattle.wit_model.specs.Trace.Reading.{parted_at_last, accepted, site_of, field_at};
 ghost use Rattle.wit_model.specs.Trace.Reading.{leading_quoted, optional, leading_type, whole_list};
@@ -39,8 +40,31 @@ fn name_of(alloc: Global, bytes: &[u8]) -> Result<Name, LineError>
     }
 }
 
+// Most sites name the known file, and aren't tested byte by byte.
 #[inline(always)]
-fn file_name_of(bytes: &[u8]) -> Result<&str, LineError>
+fn file_name_of<'a>(known: Option<&str>, bytes: &'a [u8]) -> Result<&'a str, LineError>
+    requires { IfSome known (λ k. is_file_name k.now ≡ true) }
+    ensures { Gives (λ n. n.now) result (accepted is_file_name bytes.now) }
+{
+    if is_known(known, bytes) {
+        // Safety: a file name is ASCII.
+        return Ok(unsafe { str::from_utf8_unchecked(bytes) });
+    }
+    any_file_name(bytes)
+}
+
+#[inline(always)]
+fn is_known(known: Option<&str>, bytes: &[u8]) -> bool
+    requires { IfSome known (λ k. is_file_name k.now ≡ true) }
+    ensures { result ≡ true → is_file_name bytes.now ≡ true }
+{
+    match known {
+        Some(known) => known.as_bytes() == bytes,
+        None => false,
+    }
+}
+
+fn any_file_name(bytes: &[u8]) -> Result<&str, LineError>
     ensures { Gives (λ n. n.now) result (accepted is_file_name bytes.now) }
 {
     let Ok(text) = str::from_utf8(bytes) else {
@@ -103,14 +127,16 @@ pub fn list(alloc: Global, bytes: &[u8]) -> Result<TypeList, LineError>
 }
 
 /// A file and a line, 0 to 4,294,967,295, as `FILE:LINE`: the line stands behind the last colon.
+/// The known name is a file name, that of most sites.
 #[tactic(auto, unfolding(wit_model::specs::Trace::Reading::site_of))]
 #[inline(always)]
-pub fn site(bytes: &[u8]) -> Result<(&str, u32, &[u8]), LineError>
+pub fn site<'a>(known: Option<&str>, bytes: &'a [u8]) -> Result<(&'a str, u32, &'a [u8]), LineError>
+    requires { IfSome known (λ k. is_file_name k.now ≡ true) }
     ensures { Gives (λ x. ((x.0.now, x.1), x.2.now)) result (field_at site_of bytes.now) }
 {
     let (word, rest) = long_word(bytes)?;
     let (file, line) = split_at_last(b':', word)?;
-    let file = file_name_of(file)?;
+    let file = file_name_of(known, file)?;
     let line = number_of(u32::MAX, line)?;
     Ok((file, line, rest))
 }

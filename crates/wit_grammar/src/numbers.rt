@@ -83,7 +83,7 @@ fn leading_number(most: u32, bytes: &[u8]) -> Result<(u32, &[u8]), LineError>
     Ok((number, rest))
 }
 
-// A number behind a space. One of a single digit is read at once.
+// A number behind a space. One of up to three digits is read at once.
 #[inline(always)]
 fn number(most: u32, bytes: &[u8]) -> Result<(u32, &[u8]), LineError>
     ensures value { Gives (λ x. (x.0, x.1.now)) result (field_at (number_of (most + 1)) bytes.now) }
@@ -97,6 +97,30 @@ fn number(most: u32, bytes: &[u8]) -> Result<(u32, &[u8]), LineError>
     if let Some(number) = inner_digit(bytes) {
         if number <= most {
             return Ok((number, &bytes[2..]));
+        }
+    }
+    if let Some((tens, ones)) = inner_two(bytes) {
+        let number = tens * 10 + ones;
+        if number <= most {
+            return Ok((number, &bytes[3..]));
+        }
+    }
+    if let Some((hundreds, tens, ones)) = inner_three(bytes) {
+        let number = (hundreds * 10 + tens) * 10 + ones;
+        if number <= most {
+            return Ok((number, &bytes[4..]));
+        }
+    }
+    if let Some((tens, ones)) = last_two(bytes) {
+        let number = tens * 10 + ones;
+        if number <= most {
+            return Ok((number, &bytes[3..]));
+        }
+    }
+    if let Some((hundreds, tens, ones)) = last_three(bytes) {
+        let number = (hundreds * 10 + tens) * 10 + ones;
+        if number <= most {
+            return Ok((number, &bytes[4..]));
         }
     }
     any_number(most, bytes)
@@ -121,6 +145,80 @@ fn inner_digit(bytes: &[u8]) -> Option<u32>
 {
     match bytes {
         [b' ', digit, b' ', ..] if digit.is_ascii_digit() => Some(u32::from(*digit - b'0')),
+        _ => None,
+    }
+}
+
+// Whether a byte is a digit that a number of several may begin with.
+#[inline(always)]
+fn is_first_digit(byte: u8) -> bool
+    ensures { result ≡ true → (49 ≤ byte) × (byte ≤ 57) }
+{
+    byte >= b'1' && byte <= b'9'
+}
+
+// The two digits of a word before others, the first no zero.
+#[inline(always)]
+fn inner_two(bytes: &[u8]) -> Option<(u32, u32)>
+    ensures { IfSome result (λ d. (1 ≤ d.0) × (d.0 ≤ 9) × (d.1 ≤ 9)
+        × (bytes.now ≡ 32 ∷ (d.0 + 48) ∷ (d.1 + 48) ∷ 32 ∷ drop 4 bytes.now)) }
+{
+    match bytes {
+        [b' ', a, b, b' ', ..] if is_first_digit(*a) && b.is_ascii_digit() => {
+            Some((u32::from(*a - b'0'), u32::from(*b - b'0')))
+        }
+        _ => None,
+    }
+}
+
+// The same of the last word.
+#[inline(always)]
+fn last_two(bytes: &[u8]) -> Option<(u32, u32)>
+    ensures { IfSome result (λ d. (1 ≤ d.0) × (d.0 ≤ 9) × (d.1 ≤ 9)
+        × (bytes.now ≡ 32 ∷ (d.0 + 48) ∷ (d.1 + 48) ∷ [])) }
+{
+    match bytes {
+        [b' ', a, b] if is_first_digit(*a) && b.is_ascii_digit() => {
+            Some((u32::from(*a - b'0'), u32::from(*b - b'0')))
+        }
+        _ => None,
+    }
+}
+
+// The three digits of a word before others, the first no zero.
+#[inline(always)]
+fn inner_three(bytes: &[u8]) -> Option<(u32, u32, u32)>
+    ensures { IfSome result (λ d. (1 ≤ d.0) × (d.0 ≤ 9) × (d.1 ≤ 9) × (d.2 ≤ 9)
+        × (bytes.now
+        ≡ 32 ∷ (d.0 + 48) ∷ (d.1 + 48) ∷ (d.2 + 48) ∷ 32 ∷ drop 5 bytes.now)) }
+{
+    match bytes {
+        [b' ', a, b, c, b' ', ..]
+            if is_first_digit(*a) && b.is_ascii_digit() && c.is_ascii_digit() => {
+            Some((
+                u32::from(*a - b'0'),
+                u32::from(*b - b'0'),
+                u32::from(*c - b'0'),
+            ))
+        }
+        _ => None,
+    }
+}
+
+// The same of the last word.
+#[inline(always)]
+fn last_three(bytes: &[u8]) -> Option<(u32, u32, u32)>
+    ensures { IfSome result (λ d. (1 ≤ d.0) × (d.0 ≤ 9) × (d.1 ≤ 9) × (d.2 ≤ 9)
+        × (bytes.now ≡ 32 ∷ (d.0 + 48) ∷ (d.1 + 48) ∷ (d.2 + 48) ∷ [])) }
+{
+    match bytes {
+        [b' ', a, b, c] if is_first_digit(*a) && b.is_ascii_digit() && c.is_ascii_digit() => {
+            Some((
+                u32::from(*a - b'0'),
+                u32::from(*b - b'0'),
+                u32::from(*c - b'0'),
+            ))
+        }
         _ => None,
     }
 }

@@ -5,9 +5,11 @@ ghost use Rattle.std.specs.Prelude.{◌≡◌, ◌≤◌, ◌<◌, ◌^◌, ◌+
 ghost use Rattle.wit_model.specs.Trace.Reading.{after, byte_place, until, version_named};
 ghost use Rattle.wit_model.specs.Trace.Reading.{class_named, mode_named, level_named, bits_of};
 ghost use Rattle.wit_model.specs.Trace.Reading.{flags_of, leading_word, field_at, fixed_at};
+ghost use Rattle.wit_model.specs.Trace.Spelling.{op_letters};
 ghost use Rattle.wit_grammar.specs.Lines.{Gives};
 
 use crate::errors::LineError;
+use crate::letters;
 use memchr::memchr;
 use wit_model::{Class, Mode, Version, Watch};
 
@@ -186,6 +188,24 @@ fn bits_of(letters: &[u8], word: &[u8]) -> Option<u8>
         }
         ([_, letters @ ..], _) => Some(2 * bits_of(letters, word)?),
     }
+}
+
+/// The flags of a request. The one that most have alone is compared at once.
+#[inline(always)]
+pub fn request_flags(bytes: &[u8]) -> Result<(u8, &[u8]), LineError>
+    ensures { Gives (λ x. (x.0, x.1.now)) result (field_at (flags_of op_letters) bytes.now) }
+{
+    if is_inner_n(bytes) {
+        return Ok((1, &bytes[2..]));
+    }
+    flags(letters::REQUEST, bytes)
+}
+
+#[inline(always)]
+fn is_inner_n(bytes: &[u8]) -> bool
+    ensures { result ≡ true → bytes.now ≡ codes " n " ++ drop 3 bytes.now }
+{
+    matches!(bytes, [b' ', b'n', b' ', ..])
 }
 
 /// Flags: `-` for none, else letters of these in their order, none twice. The first letter is bit

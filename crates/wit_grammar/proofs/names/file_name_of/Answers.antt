@@ -1,6 +1,5 @@
-use Rattle.std.proofs.Common.{refl}
-use Rattle.wit_grammar.proofs.Texts.{no_file_name}
+use Rattle.wit_grammar.proofs.Texts.{file_utf8}
 use Rattle.wit_grammar.proofs.names.file_name_of.Goals as goal
 
-pub returns-in_default : goal.returns-in_default
-returns-in_default c = (refl, no_file_name _ c.in_default.ensures.cases.0)
+pub from_utf8_unchecked-requires : goal.from_utf8_unchecked-requires
+from_utf8_unchecked-requires c = file_utf8 _ (c.is_known.ensures c.if-is_known.true)
