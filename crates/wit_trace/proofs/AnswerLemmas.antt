@@ -86,13 +86,13 @@ all_taken (Some xs) answer shown is end none =
 module _ {M : Type 0} (allows : M → ℕ → List (List ℕ) → List ℕ → List ℕ → Summary
     → Type 0) (old new : M) (number : ℕ) (r r' : Option (List ℕ)) (line line' : List ℕ) where
   -- the rest of a line was taken, and the machine read it
-  pub advances_line : (shown : List ℕ) (len within : ℕ) (step : Step)
+  pub advances_line : (shown : List ℕ) (len within : ℕ) (text : List ℕ) (step : Step)
       → Consumes r r' (take (len + 1) shown) → len < length (take within shown)
       → HasNoFeed (take len (take within shown)) → get_or (take within shown) len 0 ≡ 10
       → HasNoFeed line → length line + len ≤ 4096 → line' ≡ []
-      → Follows allows old new number (line ++ take len shown) step
-      → Advances (OutputFrom allows) old new number r r' line line' (Some step)
-  advances_line shown len within step taken less plain_seen feed plain short none follows =
+      → Follows allows old new number (line ++ take len shown) text step
+      → Advances (OutputFrom allows) old new number r r' line line' text (Some step)
+  advances_line shown len within text step taken less plain_seen feed plain short none follows =
       let few : len ≤ within = omega (arith, less, length-take within shown) in
       let same : take len (take within shown) ≡ take len shown = take-take len within shown few in
       let at : get_or shown len 0 ≡ 10 =
@@ -104,9 +104,9 @@ module _ {M : Type 0} (allows : M → ℕ → List (List ℕ) → List ℕ → L
       (omega (arith, short, length-take len shown)) follows
     where
       go : (rest : List ℕ) (s : Step) → Consumes r r' (rest ++ 10 ∷ []) → HasNoFeed rest
-          → length line + length rest ≤ 4096 → Follows allows old new number (line ++ rest) s
-          → Advances (OutputFrom allows) old new number r r' line line' (Some s)
-      go rest (Goes text) took plain_rest fits h = record {
+          → length line + length rest ≤ 4096 → Follows allows old new number (line ++ rest) text s
+          → Advances (OutputFrom allows) old new number r r' line line' text (Some s)
+      go rest Goes took plain_rest fits h = record {
         rest = rest;
         taken = took;
         plain = plain_rest;
@@ -117,7 +117,7 @@ module _ {M : Type 0} (allows : M → ℕ → List (List ℕ) → List ℕ → L
             (All-append (λ b. b ≢ 10) line rest plain plain_rest))
             (h (text_of input).lines (text_of input).tail more summary more_is);
       }
-      go rest (Ends text summary) took plain_rest fits h =
+      go rest (Ends summary) took plain_rest fits h =
           let all = All-append (λ b. b ≢ 10) line rest plain plain_rest in
           record {
             rest = rest ++ 10 ∷ [];
@@ -133,16 +133,16 @@ module _ {M : Type 0} (allows : M → ℕ → List (List ℕ) → List ℕ → L
             last = inr (λ more.
                 let e : (line ++ (rest ++ 10 ∷ [])) ++ more ≡ (line ++ rest) ++ 10 ∷ more =
                 simp append_assoc in
-                subst (λ l. OutputFrom allows old number l text.items summary) (sym e)
+                subst (λ l. OutputFrom allows old number l text summary) (sym e)
                 (rw (text_of-line (line ++ rest) more all)
                 (h (text_of more).lines (text_of more).tail)));
           }
 
   -- the reader was at its end
-  pub advances_end : (text : Vec ℕ) (summary : Summary) → IsInput r [] → Keeps r r' → HasNoFeed line
-      → length line ≤ 4096
-      → OutputFrom allows old number line text.items summary
-      → Advances (OutputFrom allows) old new number r r' line line' (Some (Ends text summary))
+  pub advances_end : (text : List ℕ) (summary : Summary) → IsInput r [] → Keeps r r'
+      → HasNoFeed line → length line ≤ 4096
+      → OutputFrom allows old number line text summary
+      → Advances (OutputFrom allows) old new number r r' line line' text (Some (Ends summary))
   advances_end text summary all kept plain short h = record {
     rest = [];
     taken = Consumes-kept r r r' [] (Consumes-nil r) kept;
@@ -157,11 +157,11 @@ module _ {M : Type 0} (allows : M → ℕ → List (List ℕ) → List ℕ → L
   }
 
   -- the beginning of a line that is too long was taken
-  pub advances_long : (part : List ℕ) (text : Vec ℕ) (summary : Summary) → Consumes r r' part
+  pub advances_long : (part text : List ℕ) (summary : Summary) → Consumes r r' part
       → HasNoFeed (line ++ part) → length (line ++ part) ≡ 4097
       → ((lines : List (List ℕ)) (tail : List ℕ) → BreaksAt Long (line ++ part) lines tail
-      → allows old number lines tail text.items summary)
-      → Advances (OutputFrom allows) old new number r r' line line' (Some (Ends text summary))
+      → allows old number lines tail text summary)
+      → Advances (OutputFrom allows) old new number r r' line line' text (Some (Ends summary))
   advances_long part text summary taken plain long h = record {
     rest = part;
     taken = taken;
@@ -172,29 +172,29 @@ module _ {M : Type 0} (allows : M → ℕ → List (List ℕ) → List ℕ → L
 -- a machine that shows by the same
 pub shown_so : {V M : Type 0} (allows : V → M → ℕ → List (List ℕ) → List ℕ → List ℕ → Summary
     → Type 0) (v w : V) → v ≡ w → (old new : M) (number : ℕ) (r r' : Option (List ℕ))
-    (line line' : List ℕ) (answer : Option Step)
-    → Advances (OutputFrom (allows v)) old new number r r' line line' answer
-    → Advances (OutputFrom (allows w)) old new number r r' line line' answer
-shown_so allows v w is old new number r r' line line' answer h =
-    subst (λ x. Advances (OutputFrom (allows x)) old new number r r' line line' answer) is h
+    (line line' text : List ℕ) (answer : Option Step)
+    → Advances (OutputFrom (allows v)) old new number r r' line line' text answer
+    → Advances (OutputFrom (allows w)) old new number r r' line line' text answer
+shown_so allows v w is old new number r r' line line' text answer h =
+    subst (λ x. Advances (OutputFrom (allows x)) old new number r r' line line' text answer) is h
 
 module _ {M : Type 0} (output : M → ℕ → List ℕ → List ℕ → Summary → Type 0) (old new : M)
-    (number : ℕ) (r r' : Option (List ℕ)) (line line' : List ℕ) (answer : Option Step) where
+    (number : ℕ) (r r' : Option (List ℕ)) (line line' text : List ℕ) (answer : Option Step) where
   -- the line goes on
-  pub answer_none : Advances output old new number r r' line line' answer → answer ≡ None
-      → TakesPart r r' line line' × (new ≡ old)
-  answer_none h is = subst (Advances output old new number r r' line line') is h
+  pub answer_none : Advances output old new number r r' line line' text answer → answer ≡ None
+      → TakesPart r r' line line' × (new ≡ old) × (text ≡ [])
+  answer_none h is = subst (Advances output old new number r r' line line' text) is h
 
   -- a line's text
-  pub answer_goes : (step : Step) (text : Vec ℕ)
-      → Advances output old new number r r' line line' answer → answer ≡ Some step
-      → step ≡ Goes text → TakesLine output old new number r r' line line' text.items
-  answer_goes step text h is goes =
-      subst (Advances output old new number r r' line line') (is ∙ ap Some goes) h
+  pub answer_goes : (step : Step)
+      → Advances output old new number r r' line line' text answer → answer ≡ Some step
+      → step ≡ Goes → TakesLine output old new number r r' line line' text
+  answer_goes step h is goes =
+      subst (Advances output old new number r r' line line' text) (is ∙ ap Some goes) h
 
   -- the last text
-  pub answer_ends : (step : Step) (text : Vec ℕ) (summary : Summary)
-      → Advances output old new number r r' line line' answer → answer ≡ Some step
-      → step ≡ Ends text summary → TakesLast output old number r r' line text.items summary
-  answer_ends step text summary h is ends =
-      subst (Advances output old new number r r' line line') (is ∙ ap Some ends) h
+  pub answer_ends : (step : Step) (summary : Summary)
+      → Advances output old new number r r' line line' text answer → answer ≡ Some step
+      → step ≡ Ends summary → TakesLast output old number r r' line text summary
+  answer_ends step summary h is ends =
+      subst (Advances output old new number r r' line line' text) (is ∙ ap Some ends) h

@@ -234,13 +234,13 @@ line-writes s raw m n bytes line new text short reads w = record {
 
 -- the step that ends the migration
 pub ends-follow : (old new : Migrating) (n : ℕ) (line text : List ℕ) (summary : Summary)
-    (s : machine.Step)
-    → EndsWith text summary s
+    (written : List ℕ) (s : machine.Step)
+    → EndsWith text summary written s
     → ((lines : List (List ℕ)) (tail : List ℕ)
     → IsMigrated (moving_from (moved_to old) n (line ∷ lines) tail) text summary)
-    → Follows migrated old new n line s
-ends-follow old new n line text summary (step.Goes more) ends is = elim ends [ ]
-ends-follow old new n line text summary (step.Ends last found) ends is = λ lines tail.
+    → Follows migrated old new n line written s
+ends-follow old new n line text summary written step.Goes ends is = elim ends [ ]
+ends-follow old new n line text summary written (step.Ends found) ends is = λ lines tail.
     subst (λ t. IsMigrated (moving_from (moved_to old) n (line ∷ lines) tail) t found) (sym ends.0)
     (subst (λ x. IsMigrated (moving_from (moved_to old) n (line ∷ lines) tail) text x) (sym ends.1)
     (is lines tail))

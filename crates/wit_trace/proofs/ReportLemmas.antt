@@ -79,10 +79,10 @@ module _ (p q : output.Progress) (n : ℕ) (bytes : List ℕ) (r : Result (Vec �
       (passes_one (output.outcome p n bytes) p q r (outcome_one p n bytes) passes)
 
   -- what ended then
-  pub ended_one : (view : View) (e : LineError) (s : Step) → r ≡ Err e → EndsFor view q n e s
-      → reports_told q ≤ reports_told p + 1
-  ended_one view Memory s is ends = elim ends [ ]
-  ended_one view (Bad cause) s is ends = bad_one cause is
+  pub ended_one : (view : View) (e : LineError) (text : List ℕ) (s : Step) → r ≡ Err e
+      → EndsFor view q n e text s → reports_told q ≤ reports_told p + 1
+  ended_one view Memory text s is ends = elim ends [ ]
+  ended_one view (Bad cause) text s is ends = bad_one cause is
 
 abbrev CallsOn : Story → Story → ℕ → Result Reply LineError → Type 0
 CallsOn old new m (Ok reply) = reports_of new.history + m ≤ reports_of old.history + m + 1
@@ -124,8 +124,8 @@ module _ (old new : Story) (m : ℕ) (line : Line) (r : Result Reply LineError)
   refused_one cause is = subst (CallsOn old new m) is one_call
 
   -- what ended then
-  pub call_ended_one : (view : View) (n : ℕ) (e : LineError) (s : Step) → r ≡ Err e
-      → EndsFor view (output.Reading new m) n e s
+  pub call_ended_one : (view : View) (n : ℕ) (e : LineError) (text : List ℕ) (s : Step) → r ≡ Err e
+      → EndsFor view (output.Reading new m) n e text s
       → reports_of new.history + m ≤ reports_of old.history + m + 1
-  call_ended_one view n Memory s is ends = elim ends [ ]
-  call_ended_one view n (Bad cause) s is ends = refused_one cause is
+  call_ended_one view n Memory text s is ends = elim ends [ ]
+  call_ended_one view n (Bad cause) text s is ends = refused_one cause is

@@ -100,14 +100,14 @@ told_after view (output.Goes to said) p q n raw text next more summary goes is w
     })
 
 pub line_told : (view : View) (from p q : output.Progress) (n : ℕ) (line : List ℕ)
-    (r : Result (Vec ℕ) LineError) (raw text : Vec ℕ) → output.reached from n line ≡ Ok p
+    (r : Result (Vec ℕ) LineError) (raw : Vec ℕ) (text : List ℕ) → output.reached from n line ≡ Ok p
     → GoesAsDue (output.outcome p n line) p q r → r ≡ Ok raw
-    → text.items ≡ output.shown_by view raw.items
+    → text ≡ output.shown_by view raw.items
     → (lines : List (List ℕ)) (tail more : List ℕ) (summary : Summary)
     → IsWritten view (output.course_from q (n + 1) lines tail) more summary
-    → IsWritten view (output.course_from from n (line ∷ lines) tail) (text.items ++ more) summary
+    → IsWritten view (output.course_from from n (line ∷ lines) tail) (text ++ more) summary
 line_told view from p q n line r raw text stands passes is shows lines tail more summary written =
-    rw stands (told_after view (output.outcome p n line) p q n raw.items text.items _ more summary
+    rw stands (told_after view (output.outcome p n line) p q n raw.items text _ more summary
     (subst (GoesAsDue (output.outcome p n line) p q) is passes) shows written)
 
 -- the text of a bad line alone
@@ -133,15 +133,16 @@ bad_after view (output.Bad why) p q n cause next text summary bad ends =
 
 -- what becomes of a line that is bad
 pub line_ends : (view : View) (m q : Progress) (p : output.Progress) (n : ℕ) (line : List ℕ)
-    (r : Result (Vec ℕ) LineError) (e : LineError) (s : Step)
+    (r : Result (Vec ℕ) LineError) (e : LineError) (text : List ℕ) (s : Step)
     → output.reached (progress_of m) n line ≡ Ok p
     → GoesAsDue (output.outcome p n line) p (progress_of q) r
-    → r ≡ Err e → EndsFor view (progress_of q) n e s → Follows (allowed_at view) m q n line s
-line_ends view m q p n line r Memory s stands passes is ends = elim ends [ ]
-line_ends view m q p n line r (Bad cause) (step.Goes text) stands passes is ends = elim ends [ ]
-line_ends view m q p n line r (Bad cause) (step.Ends text summary) stands passes is ends =
+    → r ≡ Err e → EndsFor view (progress_of q) n e text s
+    → Follows (allowed_at view) m q n line text s
+line_ends view m q p n line r Memory text s stands passes is ends = elim ends [ ]
+line_ends view m q p n line r (Bad cause) text step.Goes stands passes is ends = elim ends [ ]
+line_ends view m q p n line r (Bad cause) text (step.Ends summary) stands passes is ends =
     λ lines tail.
-    rw stands (bad_after view (output.outcome p n line) p (progress_of q) n cause _ text.items
+    rw stands (bad_after view (output.outcome p n line) p (progress_of q) n cause _ text
     summary (subst (GoesAsDue (output.outcome p n line) p (progress_of q)) is passes) ends)
 
 module _ (view : View) (s new : Story) (m n : ℕ) (bytes : List ℕ) (line : Line)
@@ -165,17 +166,18 @@ module _ (view : View) (s new : Story) (m n : ℕ) (bytes : List ℕ) (line : Li
       (output.Reading new m) n (output.reply_text new reply) text _ more summary
       (rw due (refl, refl)) shows written
 
-  pub call_goes_on : (reply : Reply) (t : Step) → r ≡ Ok reply
-      → GoesWith (output.shown_by view (output.reply_text new reply)) t
-      → Follows (allowed_at view) (Reading s m) (Reading new m) n bytes t
-  call_goes_on reply (step.Goes text) is goes = call_goes reply text.items is goes
-  call_goes_on reply (step.Ends text summary) is goes = elim goes [ ]
+  pub call_goes_on : (reply : Reply) (text : List ℕ) (t : Step) → r ≡ Ok reply
+      → GoesWith (output.shown_by view (output.reply_text new reply)) text t
+      → Follows (allowed_at view) (Reading s m) (Reading new m) n bytes text t
+  call_goes_on reply text step.Goes is goes = call_goes reply text is goes
+  call_goes_on reply text (step.Ends summary) is goes = elim goes [ ]
 
   -- what becomes of a line whose call is refused
-  pub call_ends : (e : LineError) (t : Step) → r ≡ Err e → EndsFor view (output.Reading new m) n e t
-      → Follows (allowed_at view) (Reading s m) (Reading new m) n bytes t
-  call_ends e t is ends =
-      line_ends view (Reading s m) (Reading new m) (output.Reading s m) n bytes (Err e) e t refl
+  pub call_ends : (e : LineError) (text : List ℕ) (t : Step) → r ≡ Err e
+      → EndsFor view (output.Reading new m) n e text t
+      → Follows (allowed_at view) (Reading s m) (Reading new m) n bytes text t
+  call_ends e text t is ends =
+      line_ends view (Reading s m) (Reading new m) (output.Reading s m) n bytes (Err e) e text t refl
       (rw makes_call (subst (Calls (λ m. output.calls s m (output.call_of line)) s new) is
       calls m)) refl ends
 
@@ -200,13 +202,14 @@ refused view p q n line list text summary is keeps texts sums circle lines tail 
 
 -- the step that ends the reading then
 pub refused_step : (view : View) (m q : Progress) (n : ℕ) (line : List ℕ) (list : output.BadLine)
-    (s : Step) → StandsAsDue (output.reached (progress_of m) n line) (progress_of m) (progress_of q)
-    (Some list) → EndsFor view (progress_of q) list.0 (Bad list.1) s
-    → Follows (allowed_at view) m q n line s
-refused_step view m q n line list (step.Goes text) reaches ends = elim ends [ ]
-refused_step view m q n line list (step.Ends text summary) reaches ends =
-    refused view (progress_of m) (progress_of q) n line list text.items summary reaches.0 reaches.1
-    (written_bad view (progress_of q) list text.items summary ends) ends.summed
+    (text : List ℕ) (s : Step)
+    → StandsAsDue (output.reached (progress_of m) n line) (progress_of m) (progress_of q)
+    (Some list) → EndsFor view (progress_of q) list.0 (Bad list.1) text s
+    → Follows (allowed_at view) m q n line text s
+refused_step view m q n line list text step.Goes reaches ends = elim ends [ ]
+refused_step view m q n line list text (step.Ends summary) reaches ends =
+    refused view (progress_of m) (progress_of q) n line list text summary reaches.0 reaches.1
+    (written_bad view (progress_of q) list text summary ends) ends.summed
     ends.is_shown.ends.1
 
 -- or at the end of the input

@@ -12,13 +12,13 @@ use Rattle.wit_grammar.specs.declared.parse.TheConstants.{LONGEST}
 -- the text of the line, and then whatever the new machine may write; or the last text, whatever
 -- follows
 abbrev pub Follows : {M : Type 0} → (M → ℕ → List (List ℕ) → List ℕ → List ℕ → Summary → Type 0) → M
-    → M → ℕ → List ℕ → Step → Type 0
-Follows allows old new number line (Goes text) =
+    → M → ℕ → List ℕ → List ℕ → Step → Type 0
+Follows allows old new number line text Goes =
     (lines : List (List ℕ)) (tail more : List ℕ) (summary : Summary)
     → allows new (number + 1) lines tail more summary
-    → allows old number (line ∷ lines) tail (text.items ++ more) summary
-Follows allows old new number line (Ends text summary) = (lines : List (List ℕ)) (tail : List ℕ)
-    → allows old number (line ∷ lines) tail text.items summary
+    → allows old number (line ∷ lines) tail (text ++ more) summary
+Follows allows old new number line text (Ends summary) = (lines : List (List ℕ)) (tail : List ℕ)
+    → allows old number (line ∷ lines) tail text summary
 
 -- what is still to come begins with this line
 abbrev pub first_of : List (List ℕ) → List ℕ → List ℕ

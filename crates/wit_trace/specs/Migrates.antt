@@ -118,9 +118,9 @@ MovesAsDue due old new (Err (Bad cause)) =
     (due ≡ moving.Bad cause) × (kept_lines new ≡ kept_lines old)
 
 -- the migration ends with this text and this summary
-abbrev pub EndsWith : List ℕ → Summary → Step → Type 0
-EndsWith text summary (step.Goes more) = ⊥
-EndsWith text summary (step.Ends last found) = (last.items ≡ text) × (found ≡ summary)
+abbrev pub EndsWith : List ℕ → Summary → List ℕ → Step → Type 0
+EndsWith text summary written step.Goes = ⊥
+EndsWith text summary written (step.Ends found) = (written ≡ text) × (found ≡ summary)
 
 -- whatever follows a line that is looked at, this is written before it
 pub record GoesOver (m : Moving) (n : ℕ) (line : List ℕ) (new : Moving)

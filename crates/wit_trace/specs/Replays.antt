@@ -1,6 +1,6 @@
 -- What a replay of a trace writes and sums up.
-use Rattle.std.specs.Prelude.{Bool, not, ◌||◌, ℕ, ◌≡◌, List, Option, None, Some, Result, Ok, Err}
-use Rattle.std.specs.Prelude.{false, unwrap_or}
+use Rattle.std.specs.Prelude.{Bool, not, ◌||◌, ℕ, ◌+◌, ◌<◌, ◌≤◌, ◌≡◌, List, [], length, Option}
+use Rattle.std.specs.Prelude.{None, Some, Result, Ok, Err, IfOk, false, unwrap_or}
 use Rattle.std.specs.Global.{Vec}
 use Rattle.wit_model.specs.declared.calls.Reply.{Reply}
 use Rattle.wit_model.specs.declared.lines.Cause.{Cause}
@@ -13,6 +13,8 @@ use Rattle.wit_model.specs.Trace.Output as output
 use Rattle.wit_core.specs.Fresh.{start_of}
 use Rattle.wit_grammar.specs.declared.errors.LineError.{LineError}
 use Rattle.wit_grammar.specs.declared.errors.LineError.TheVariants.{Bad, Memory}
+use Rattle.wit_grammar.specs.declared.parse.TheConstants.{LONGEST}
+use Rattle.wit_trace.specs.Machine.{Follows}
 use Rattle.wit_trace.specs.Text.{text_of}
 use Rattle.wit_trace.specs.declared.replaying.prelude.Prelude.{Prelude}
 use Rattle.wit_trace.specs.declared.replaying.Replaying.{Replaying}
@@ -108,16 +110,16 @@ Remarks s due (Ok text) = (n : ℕ) → due n ≡ output.remarks s n text.items
 Remarks s due (Err e) = (n : ℕ) → FailsFor (due n) (output.Reading s n) (output.Reading s n) e
 
 -- this text is told, and the reading goes on
-abbrev pub GoesWith : List ℕ → Step → Type 0
-GoesWith told (step.Goes text) = text.items ≡ told
-GoesWith told (step.Ends text summary) = ⊥
+abbrev pub GoesWith : List ℕ → List ℕ → Step → Type 0
+GoesWith told text step.Goes = text ≡ told
+GoesWith told text (step.Ends summary) = ⊥
 
 -- the reading ends at a bad line, with its text and this summary; not for want of memory
-abbrev pub EndsFor : View → output.Progress → ℕ → LineError → Step → Type 0
-EndsFor view p number Memory s = ⊥
-EndsFor view p number (Bad cause) (step.Goes text) = ⊥
-EndsFor view p number (Bad cause) (step.Ends text summary) =
-    IsWritten view (output.ends_bad p (number, cause)) text.items summary
+abbrev pub EndsFor : View → output.Progress → ℕ → LineError → List ℕ → Step → Type 0
+EndsFor view p number Memory text s = ⊥
+EndsFor view p number (Bad cause) text step.Goes = ⊥
+EndsFor view p number (Bad cause) text (step.Ends summary) =
+    IsWritten view (output.ends_bad p (number, cause)) text summary
 
 -- what a replay that is so far may write and sum up
 abbrev pub allowed_at : View → Progress → ℕ → List (List ℕ) → List ℕ → List ℕ → Summary → Type 0
@@ -127,6 +129,21 @@ allowed_at view p number lines tail text summary =
 -- what a replay in progress may
 abbrev pub allowed : View → Replaying → ℕ → List (List ℕ) → List ℕ → List ℕ → Summary → Type 0
 allowed view m = allowed_at view m.progress
+
+-- a line may be read: fewer reports were told than its number, it isn't too long, and nothing is
+-- told of it yet
+abbrev pub MayRead : Replaying → ℕ → List ℕ → List ℕ → Type 0
+MayRead m number line text =
+    (reports_told (progress m) < number) × (length line ≤ LONGEST) × (text ≡ [])
+
+-- a line is read: the view stays, this text and what follows are allowed, and it counts for one
+-- report at most
+abbrev pub HasRead : {E : Type 0} → Replaying → ℕ → List ℕ → Replaying → List ℕ → Result Step E
+    → Type 0
+HasRead old number line new text result =
+    (new.view ≡ old.view)
+    × IfOk result (Follows (allowed old.view) old new number line text)
+    × IfOk result (λ s. reports_told (progress new) ≤ reports_told (progress old) + 1)
 
 -- the verifier was made, or a list refused, as it should be
 abbrev pub Opens : Result output.Progress output.BadLine → Result Progress (ℕ × Cause) → Type 0

@@ -74,15 +74,15 @@ pub record TakesLast {M : Type 0} (output : M → ℕ → List ℕ → List ℕ 
   pub last : IsLastText (IsInput old rest)
       (λ more. output before number ((line ++ rest) ++ more) text summary)
 
--- what a look took behind the line begun, and what follows
+-- what a look took behind the line begun, what is told of it, and what follows
 abbrev pub Advances : {M : Type 0} → (M → ℕ → List ℕ → List ℕ → Summary → Type 0) → M → M → ℕ
-    → Option (List ℕ) → Option (List ℕ) → List ℕ → List ℕ → Option Step → Type 0
-Advances output before after number old new line line' None =
-    TakesPart old new line line' × (after ≡ before)
-Advances output before after number old new line line' (Some (Goes text)) =
-    TakesLine output before after number old new line line' text.items
-Advances output before after number old new line line' (Some (Ends text summary)) =
-    TakesLast output before number old new line text.items summary
+    → Option (List ℕ) → Option (List ℕ) → List ℕ → List ℕ → List ℕ → Option Step → Type 0
+Advances output before after number old new line line' text None =
+    TakesPart old new line line' × (after ≡ before) × (text ≡ [])
+Advances output before after number old new line line' text (Some Goes) =
+    TakesLine output before after number old new line line' text
+Advances output before after number old new line line' text (Some (Ends summary)) =
+    TakesLast output before number old new line text summary
 
 -- a text was written that is an output of the input, with the summary
 pub record WritesOutput (output : List ℕ → List ℕ → Summary → Type 0)

@@ -15,6 +15,7 @@ ghost use Rattle.wit_trace.specs.Stream.{ReadsToEnd, WritesFront, WritesLines, W
 
 mod behind;
 mod endings;
+mod frequent_lines;
 mod headers;
 mod preludes;
 mod steps;
@@ -31,7 +32,9 @@ use preludes::Reached;
 use std::alloc::{AllocError, Global};
 use std::io::{BufRead, Write};
 use texts::join;
-use wit_grammar::{Begun, LineError, begin_line, finish_line, lock_line};
+use wit_grammar::{
+    Begun, LineError, begin_line, behind_check, behind_lock, behind_unlock, finish_line,
+};
 use wit_model::{Cause, Line};
 
 /// Reads a trace of the first version, and writes it as one of the second: its own lines, and
@@ -155,12 +158,14 @@ impl Migrating {
         number: u64,
         bytes: &[u8],
         begun: Option<Begun>,
+        text: &mut Vec<u8>,
     ) -> Result<Step, AllocError>
         requires room { moving_reports (moved_to self.old) < number }
         requires few { weighed (moved_to self.old) < number }
         requires short { length bytes.now ≤ LONGEST }
         requires begun { Begins begun (line_of bytes.now) }
-        ensures step { IfOk result (Follows migrated self.old self.new number bytes.now) }
+        ensures step { IfOk result (Follows migrated self.old self.new number bytes.now
+            text.new.items) }
         ensures counted { IfOk result (λ s.
             moving_reports (moved_to self.new) ≤ moving_reports (moved_to self.old) + 1) }
         ensures weighed { IfOk result (λ s.
@@ -169,16 +174,20 @@ impl Migrating {
         let reached = self.reach(alloc, number, bytes)?;
         let found = self.found();
         if let Some((number, cause)) = reached.refused {
-            return self.ended_step(alloc, reached.text, found, number, cause);
+            return self.ended_step(alloc, reached.text, found, number, cause, text);
         }
         match self.read(alloc, number, bytes, begun) {
-            Ok(text) => Ok(Step::Goes(join(reached.text, &text)?)),
+            Ok(more) => {
+                *text = join(reached.text, &more)?;
+                Ok(Step::Goes)
+            }
             Err(LineError::Bad(cause)) => self.ended_step(
                 alloc,
                 reached.text,
                 found,
                 number,
                 cause,
+                text,
             ),
             Err(LineError::Memory) => Err(AllocError),
         }
@@ -200,26 +209,20 @@ impl Machine for Migrating {
         alloc: Global,
         number: u64,
         bytes: &[u8],
-        room: Vec<u8>,
+        text: &mut Vec<u8>,
     ) -> Result<Step, AllocError> {
-        let begun = begin_line(bytes);
-        if let Migrating::Moved(behind) = self {
-            if let Some(line) = lock_line(begun) {
-                let found = behind.summary();
-                return match behind.enter_on_lock(alloc, room, line, bytes) {
-                    Ok(text) => Ok(Step::Goes(text)),
-                    Err(LineError::Bad(cause)) => self.ended_step(
-                        alloc,
-                        Vec::new(alloc),
-                        found,
-                        number,
-                        cause,
-                    ),
-                    Err(LineError::Memory) => Err(AllocError),
-                };
+        if matches!(self, Migrating::Moved(_)) {
+            if let Some(rest) = behind_lock(bytes) {
+                return self.note_line(alloc, number, bytes, rest, text);
+            }
+            if let Some(rest) = behind_unlock(bytes) {
+                return self.unlock_line(alloc, number, bytes, rest, text);
+            }
+            if let Some(rest) = behind_check(bytes) {
+                return self.check_line(alloc, number, bytes, rest, text);
             }
         }
-        self.any_line(alloc, number, bytes, begun)
+        self.other_line(alloc, number, bytes, begin_line(bytes), text)
     }
 
     fn broken(

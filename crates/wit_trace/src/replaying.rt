@@ -1,22 +1,21 @@
 //! The replay of a trace by the verifier.
 
-ghost use Rattle.std.specs.Prelude.{◌≡◌, ◌⊎◌, ◌+◌, ◌<◌, ◌≤◌, ℕ, length, IsTrue, IfOk, OnErr};
+ghost use Rattle.std.specs.Prelude.{◌≡◌, ◌⊎◌, ◌<◌, ℕ, IsTrue, IfOk, OnErr};
 ghost use Rattle.wit_model.specs.Trace.Reading.{line_of};
 ghost use Rattle.wit_model.specs.Trace.Output.{Unstarted};
 ghost use Rattle.wit_grammar.specs.Lines.{Begins};
-ghost use Rattle.wit_trace.specs.Machine.{Follows};
 ghost use Rattle.wit_trace.specs.Outputs.{some_output};
-ghost use Rattle.wit_trace.specs.Replays.{allowed, progress, reports_told};
+ghost use Rattle.wit_trace.specs.Replays.{allowed, progress, reports_told, MayRead, HasRead};
 ghost use Rattle.wit_trace.specs.Replays.{ShowsTrace, ShowsFrom};
 ghost use Rattle.wit_trace.specs.Stream.{IsSpent, ReadsToEnd, WritesFront, WritesLines};
 ghost use Rattle.wit_trace.specs.Stream.{WritesOutput};
-ghost use Rattle.wit_grammar.specs.declared.parse.TheConstants.{LONGEST};
 
 mod bad_lines;
 pub mod calls;
 mod endings;
 mod entering;
 mod frequent_lines;
+mod frequent_steps;
 pub mod line_calls;
 pub mod prelude;
 mod reaching;
@@ -31,12 +30,14 @@ pub use bad_lines::bad_text;
 use prelude::Prelude;
 use std::alloc::{AllocError, Global};
 use std::io::{BufRead, Write};
-use views::{last_text, last_world_text, shown};
+use views::{last_text, last_world_text, show};
 use wit_core::Verifier;
-use wit_grammar::{Begun, LineError, begin_line, lock_line};
-use wit_model::{Cause, Keyword, Verb, View};
+use wit_grammar::{
+    Begun, LineError, begin_line, behind_check, behind_free, behind_lock, behind_take,
+    behind_unlock,
+};
+use wit_model::{Cause, View};
 use wit_world::World;
-use world_lines::step_on_lock;
 
 /// Reads a trace, and writes what the view shows of it: for `Reports` the texts of the reports,
 /// failed assertions and warnings as they come; for each other view its text after the whole trace.
@@ -137,36 +138,6 @@ pub(crate) enum Progress {
 }
 
 impl Replaying {
-    // A line that may be one on a lock in a world. By itself, so that no other pays for its locals.
-    #[inline(never)]
-    pub(crate) fn world_line(
-        &mut self,
-        alloc: Global,
-        number: u64,
-        bytes: &[u8],
-        begun: Option<Begun>,
-    ) -> Result<Step, AllocError>
-        requires room { reports_told (progress self.old) < number }
-        requires short { length bytes.now ≤ LONGEST }
-        requires begun { Begins begun (line_of bytes.now) }
-        ensures step { IfOk result (Follows (allowed self.old.view) self.old self.new
-            number bytes.now) }
-        ensures kept { self.new.view ≡ self.old.view }
-        ensures counted { IfOk result (λ s. reports_told (progress self.new)
-            ≤ reports_told (progress self.old) + 1) }
-    {
-        let view = self.view;
-        if let Progress::Stepping { world, remarks } = &mut self.progress {
-            if let Some(line) = lock_line(begun) {
-                return match step_on_lock(alloc, world, remarks, line) {
-                    Ok(text) => Ok(Step::Goes(shown(alloc, view, text))),
-                    Err(error) => self.progress.ended_step(alloc, number, error),
-                };
-            }
-        }
-        self.any_line(alloc, number, bytes, begun)
-    }
-
     // A line of any kind, in its place; by itself, so that a call on a lock doesn't pay for it.
     #[inline(never)]
     fn any_line(
@@ -175,24 +146,23 @@ impl Replaying {
         number: u64,
         bytes: &[u8],
         begun: Option<Begun>,
+        text: &mut Vec<u8>,
     ) -> Result<Step, AllocError>
-        requires room { reports_told (progress self.old) < number }
-        requires short { length bytes.now ≤ LONGEST }
+        requires ready { MayRead self.old number bytes.now text.old.items }
         requires begun { Begins begun (line_of bytes.now) }
-        ensures step { IfOk result (Follows (allowed self.old.view) self.old self.new
-            number bytes.now) }
-        ensures kept { self.new.view ≡ self.old.view }
-        ensures counted { IfOk result (λ s. reports_told (progress self.new)
-            ≤ reports_told (progress self.old) + 1) }
+        ensures { HasRead self.old number bytes.now self.new text.new.items result }
     {
         if let Some((number, cause)) = self.progress.reach(alloc, number, bytes)? {
             return self
                 .progress
-                .ended_step(alloc, number, LineError::Bad(cause));
+                .ended_step(alloc, number, LineError::Bad(cause), text);
         }
         match self.progress.read(alloc, number, begun) {
-            Ok(text) => Ok(Step::Goes(shown(alloc, self.view, text))),
-            Err(error) => self.progress.ended_step(alloc, number, error),
+            Ok(told) => {
+                show(alloc, self.view, told, text);
+                Ok(Step::Goes)
+            }
+            Err(error) => self.progress.ended_step(alloc, number, error, text),
         }
     }
 }
@@ -211,20 +181,36 @@ impl Machine for Replaying {
         alloc: Global,
         number: u64,
         bytes: &[u8],
-        room: Vec<u8>,
+        text: &mut Vec<u8>,
     ) -> Result<Step, AllocError> {
-        // Hardly a line has a text.
-        drop(room);
-        let begun = begin_line(bytes);
-        if !matches!(self.progress, Progress::Reading { .. }) {
-            return self.world_line(alloc, number, bytes, begun);
+        if matches!(self.progress, Progress::Reading { .. }) {
+            if let Some(rest) = behind_lock(bytes) {
+                return self.note_line(alloc, number, bytes, rest, text);
+            }
+            if let Some(rest) = behind_unlock(bytes) {
+                return self.unlock_line(alloc, number, bytes, rest, text);
+            }
+            if let Some(rest) = behind_check(bytes) {
+                return self.check_line(alloc, number, bytes, rest, text);
+            }
+            return self.other_line(alloc, number, bytes, begin_line(bytes), text);
         }
-        match begun {
-            Some((Keyword::Check, rest)) => self.check_line(alloc, number, bytes, rest),
-            Some((Keyword::Unlock, rest)) => self.unlock_line(alloc, number, bytes, rest),
-            Some((Keyword::Plain(Verb::Note), rest)) => self.note_line(alloc, number, bytes, rest),
-            begun => self.other_line(alloc, number, bytes, begun),
+        if let Some(rest) = behind_take(bytes) {
+            return self.take_line(alloc, number, bytes, rest, text);
         }
+        if let Some(rest) = behind_free(bytes) {
+            return self.free_line(alloc, number, bytes, rest, text);
+        }
+        if let Some(rest) = behind_lock(bytes) {
+            return self.world_note_line(alloc, number, bytes, rest, text);
+        }
+        if let Some(rest) = behind_unlock(bytes) {
+            return self.world_unlock_line(alloc, number, bytes, rest, text);
+        }
+        if let Some(rest) = behind_check(bytes) {
+            return self.world_check_line(alloc, number, bytes, rest, text);
+        }
+        self.other_world_line(alloc, number, bytes, begin_line(bytes), text)
     }
 
     fn broken(

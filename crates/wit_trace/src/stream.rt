@@ -13,7 +13,6 @@ use machine::{Machine, Step};
 use ports::Ports;
 use std::alloc::Global;
 use std::io::{BufRead, Write};
-use std::mem;
 
 /// When a text is written.
 #[derive(Clone, Copy, Debug)]
@@ -64,22 +63,20 @@ pub fn run<R: BufRead, W: Write, P: Ports<R, W>, M: Machine>(
     ensures write { result ≡ Err ReplayError.Write → IsTrue (P.write_failed ports.new) }
 {
     let mut line = Vec::new(alloc);
-    let mut room = Vec::new(alloc);
+    let mut text = Vec::new(alloc);
     let mut told = Vec::new(alloc);
     let mut number = 1;
     let mut left = u64::MAX;
     while left > 0 {
         left -= 1;
-        let empty = mem::replace(&mut room, Vec::new(alloc));
-        match ports.advance(alloc, machine, number, reader, &mut line, empty) {
-            Ok(Some(Step::Goes(text))) => {
+        match ports.advance(alloc, machine, number, reader, &mut line, &mut text) {
+            Ok(Some(Step::Goes)) => {
                 tell(ports, writer, pace, &mut told, &text)?;
-                room = text;
-                room.clear();
+                text.clear();
                 number += 1;
                 left = left.saturating_sub(1);
             }
-            Ok(Some(Step::Ends(text, summary))) => {
+            Ok(Some(Step::Ends(summary))) => {
                 tell_all(ports, writer, &mut told)?;
                 ports.put(writer, &text)?;
                 return Ok(*summary.get());

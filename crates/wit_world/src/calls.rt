@@ -2,6 +2,7 @@
 
 ghost use Rattle.std.specs.Prelude.{◌≡◌, ◌<◌, ◌-◌, ◌^◌, ◌++◌, ◌∷◌, [], nat_lt, true, length, Err};
 ghost use Rattle.std.specs.Prelude.{OnOk, IfErr, if◌then◌else◌};
+ghost use Rattle.wit_model.specs.declared.calls.Call.TheVariants.{Check, Note, Unlock};
 ghost use Rattle.wit_model.specs.Rules.History.{num};
 ghost use Rattle.wit_model.specs.Rules.State.{state_of, is_seat};
 ghost use Rattle.wit_model.specs.Rules.Step.{answer_of, is_logged};
@@ -13,7 +14,7 @@ ghost use Rattle.wit_world.specs.Steps.{AnswersIn, makes_lock, holds_asked};
 use crate::raw::Raw;
 use crate::stages::{Stage, either, stage_passed};
 use crate::world::World;
-use wit_model::{Call, Fault, LockNo, Reply, SeatNo};
+use wit_model::{Call, Fault, LockNo, Mode, Reply, Request, SeatNo};
 
 impl World {
     /// A seat makes a call of the verifier: `Verifier::call`.
@@ -22,7 +23,51 @@ impl World {
     /// In this order: `UnknownSeat`; `UnknownLock`; `StepOrder` where the call isn't the next one
     /// of a sequence; then the call's own, which is `OutOfMemory` only in place of a reply that the
     /// log would keep. Nothing is changed then.
+    ///
+    /// It is inlined, so that a frequent call that is known pays for no other.
+    #[inline(always)]
     pub fn call(&mut self, seat: SeatNo, call: Call) -> Result<Reply, Fault>
+        ensures { AnswersIn self.old seat.0 call result self.new }
+    {
+        match call {
+            Call::Check(request) => self.ask(seat, request),
+            Call::Note(lock) => self.note(seat, lock),
+            Call::Unlock(lock, mode) => self.unlock(seat, lock, mode),
+            call => self.any_call(seat, call),
+        }
+    }
+
+    #[inline(never)]
+    fn ask(&mut self, seat: SeatNo, request: Request) -> Result<Reply, Fault>
+        ensures { AnswersIn self.old seat.0 (Check request) result self.new }
+    {
+        self.make_call(seat, Call::Check(request))
+    }
+
+    #[inline(never)]
+    fn note(&mut self, seat: SeatNo, lock: LockNo) -> Result<Reply, Fault>
+        ensures { AnswersIn self.old seat.0 (Note lock) result self.new }
+    {
+        self.make_call(seat, Call::Note(lock))
+    }
+
+    #[inline(never)]
+    fn unlock(&mut self, seat: SeatNo, lock: LockNo, mode: Mode) -> Result<Reply, Fault>
+        ensures { AnswersIn self.old seat.0 (Unlock lock mode) result self.new }
+    {
+        self.make_call(seat, Call::Unlock(lock, mode))
+    }
+
+    #[inline(never)]
+    fn any_call(&mut self, seat: SeatNo, call: Call) -> Result<Reply, Fault>
+        ensures { AnswersIn self.old seat.0 call result self.new }
+    {
+        self.make_call(seat, call)
+    }
+
+    // It is inlined into each of these, which so know which call it is.
+    #[inline(always)]
+    fn make_call(&mut self, seat: SeatNo, call: Call) -> Result<Reply, Fault>
         ensures { AnswersIn self.old seat.0 call result self.new }
     {
         self.before_call(seat, &call)?;
@@ -39,6 +84,7 @@ impl World {
     }
 
     // The faults of a call that come before its own.
+    #[inline(always)]
     fn before_call(&self, seat: SeatNo, call: &Call) -> Result<(), Fault>
         ensures ok { OnOk result (answer_in self.now seat.0 call.now
             ≡ answer_of self.now.story seat.0 call.now) }
@@ -58,6 +104,7 @@ impl World {
     }
 
     // Whether the locks that a call names are live.
+    #[inline(always)]
     fn names_live(&self, call: &Call) -> bool
         ensures { result ≡ names_live (state_of self.now.story) call.now }
     {
@@ -81,6 +128,7 @@ impl World {
     }
 
     // Whether a call may come next.
+    #[inline(always)]
     fn may_call(&self, seat: SeatNo, call: &Call) -> bool
         requires { is_seat (state_of self.now.story) seat.0 ≡ true }
         ensures { result ≡ may_call self.now seat.0 call.now }
@@ -90,6 +138,7 @@ impl World {
     }
 
     // Whether a seat that stands so holds by the record the lock that it asked for.
+    #[inline(always)]
     fn holds_asked(&self, seat: SeatNo, stage: Stage) -> bool
         requires { is_seat (state_of self.now.story) seat.0 ≡ true }
         ensures { result ≡ holds_asked self.now seat.0 (stage_of stage) }
@@ -101,6 +150,7 @@ impl World {
     }
 
     // Where a seat stands after a call that is logged.
+    #[inline(always)]
     fn stage_called(&self, seat: SeatNo, call: &Call) -> Stage
         requires { is_seat (state_of self.now.story) seat.0 ≡ true }
         ensures { stage_of result ≡ stage_called
@@ -129,6 +179,7 @@ impl World {
 }
 
 // Makes a lock, or doesn't.
+#[inline(always)]
 fn make(raw: &mut Raw, makes: bool)
     requires { length raw.old < 2 ^ 64 - 1 }
     ensures { raw.new ≡ (if makes then raw.old ++ nobodys ∷ [] else raw.old) }
@@ -138,12 +189,14 @@ fn make(raw: &mut Raw, makes: bool)
     }
 }
 
+#[inline(always)]
 fn makes_lock(call: &Call) -> bool
     ensures { result ≡ makes_lock call.now }
 {
     matches!(call, Call::Init(_))
 }
 
+#[inline(always)]
 fn is_logged(reply: &Reply) -> bool
     ensures { result ≡ is_logged reply.now }
 {

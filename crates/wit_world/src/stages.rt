@@ -30,6 +30,7 @@ pub enum Stage {
 
 impl Stage {
     /// Whether the sequence may end here.
+    #[inline(always)]
     pub fn is_over(self) -> bool
         ensures { result ≡ is_over (stage_of self) }
     {
@@ -42,6 +43,7 @@ impl Stage {
     }
 
     /// Whether the seat asked for this lock just now.
+    #[inline(always)]
     pub fn has_asked_for(self, lock: LockNo) -> bool
         ensures { (held : ℕ → Bool) → result ≡ call_follows (GiveUp lock) held (stage_of self) }
     {
@@ -53,6 +55,7 @@ impl Stage {
 
     /// Whether it is to note this lock, where it holds the lock that it asked for by the record, or
     /// doesn't.
+    #[inline(always)]
     pub fn may_note(self, lock: LockNo, holds: bool) -> bool
         ensures { result ≡ call_follows (Note lock) (λ _. holds) (stage_of self) }
     {
@@ -85,6 +88,7 @@ impl Stage {
     }
 
     /// Whether it called unlock for this lock just now.
+    #[inline(always)]
     pub fn has_forgotten(self, lock: LockNo) -> bool
         ensures { result ≡ is_forgotten lock.0 (stage_of self) }
     {
@@ -105,6 +109,7 @@ impl Stage {
     }
 
     /// The mode in which it asked for a lock.
+    #[inline(always)]
     pub fn mode_asked(self) -> Mode
         ensures { result ≡ mode_asked (stage_of self) }
     {
@@ -116,6 +121,7 @@ impl Stage {
 
     /// Whether a call may come next, where the seat holds the lock that it asked for by the record,
     /// or doesn't.
+    #[inline(always)]
     pub fn may_call(self, call: &Call, holds: bool) -> bool
         ensures { result ≡ call_follows call.now (λ _. holds) (stage_of self) }
     {
@@ -130,6 +136,7 @@ impl Stage {
 }
 
 /// Where a seat stands after a call that was passed over.
+#[inline(always)]
 pub fn stage_passed(call: &Call) -> Stage
     ensures { stage_of result ≡ stage_passed call.now }
 {
@@ -141,6 +148,7 @@ pub fn stage_passed(call: &Call) -> Stage
 }
 
 /// The one or the other stage.
+#[inline(always)]
 pub fn either(first: bool, one: Stage, other: Stage) -> Stage
     ensures { stage_of result ≡ (if first then stage_of one else stage_of other) }
 {

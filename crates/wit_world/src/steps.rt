@@ -21,6 +21,9 @@ impl World {
     /// was never made; `StepOrder` where the step isn't the next one of a sequence, or the seat has
     /// no share to free; `RawNotFree` where the lock doesn't admit it. `OutOfMemory` alone where
     /// the seat would get a share. Nothing is changed then.
+    ///
+    /// It is inlined, so that one that is known pays for no other.
+    #[inline(always)]
     pub fn step(&mut self, seat: SeatNo, lock: LockNo, step: RawStep) -> Result<(), Fault>
         ensures { StepsTo self.old seat.0 lock.0 step result self.new }
     {
@@ -32,6 +35,7 @@ impl World {
     }
 
     // The faults of a step; without one it can be done.
+    #[inline(always)]
     fn before_step(&self, seat: SeatNo, lock: LockNo, step: RawStep) -> Result<(), Fault>
         ensures ok { OnOk result (step_raw self.now seat.0 lock.0 step
             ≡ Ok (stepped self.now (deed_of (stage_at self.now seat.0) seat.0 lock.0 step))) }
@@ -57,6 +61,7 @@ impl World {
     }
 
     // Whether a lock is live; where a share is freed, whether it was ever made.
+    #[inline(always)]
     fn is_known(&self, lock: LockNo, step: RawStep) -> bool
         ensures { result ≡ is_known (state_of self.now.story) lock.0 step }
     {
@@ -69,6 +74,7 @@ impl World {
     }
 
     // Whether a step may come next.
+    #[inline(always)]
     fn may_step(&self, seat: SeatNo, lock: LockNo, step: RawStep) -> bool
         requires { is_seat (state_of self.now.story) seat.0 ≡ true }
         ensures { result ≡ may_come self.now
@@ -85,6 +91,7 @@ impl World {
     }
 
     // Whether a lock admits a step.
+    #[inline(always)]
     fn is_free(&self, seat: SeatNo, lock: LockNo, step: RawStep) -> bool
         requires { is_seat (state_of self.now.story) seat.0 ≡ true }
         ensures { result ≡ is_free self.now.raw
@@ -102,6 +109,7 @@ impl World {
 
 // What a step does to the shares of its lock, and where its seat stands then. A lock that is taken
 // is taken in the mode asked for.
+#[inline(always)]
 fn change(
     raw: &mut Raw,
     seat: SeatNo,

@@ -20,6 +20,10 @@ use wit_command::{Command, asked_command};
 use wit_model::View;
 use wit_trace::{ReplayError, Summary, migrate, replay, status_of};
 
+// So much of the input is read at once. A migration looks beyond a line for the end of the next one
+// only where less than a line of the greatest length is left of it.
+const READ_AHEAD: usize = 65_536;
+
 /// What is left to do.
 #[derive(Clone, Copy, Debug, PartialEq, Eq)]
 pub enum Ended {
@@ -118,7 +122,7 @@ fn replay_through_buffer<R: Read + Drop, W: Write>(
     ensures told { result ≡ Err ReplayError.Read → TellsLines view
         (R.remaining input) (W.contents output.old) (W.contents output.new) }
 {
-    match BufReader::new(alloc, input) {
+    match BufReader::with_capacity(alloc, READ_AHEAD, input) {
         Ok(mut reader) => replay(alloc, &mut reader, output, view),
         Err(_) => Err(ReplayError::Memory),
     }
@@ -153,7 +157,7 @@ fn migrate_through_buffer<R: Read + Drop, W: Write>(
     ensures err { OnErr result (IsMigrationCut
         (R.remaining input) (W.contents output.old) (W.contents output.new)) }
 {
-    match BufReader::new(alloc, input) {
+    match BufReader::with_capacity(alloc, READ_AHEAD, input) {
         Ok(mut reader) => migrate(alloc, &mut reader, output),
         Err(_) => Err(ReplayError::Memory),
     }

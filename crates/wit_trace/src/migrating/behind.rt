@@ -1,6 +1,8 @@
 //! What a migration knows behind the prelude.
 
-ghost use Rattle.std.specs.Prelude.{◌≡◌, ◌+◌, ◌-◌, ◌<◌, ◌≤◌, ◌^◌, ◌++◌, ◌∷◌, [], false, None};
+ghost use Rattle.std.specs.Prelude.{◌≡◌, ◌+◌, ◌-◌, ◌<◌, ◌≤◌, ◌^◌, ◌++◌, ◌∷◌, [], true, false, None};
+ghost use Rattle.std.specs.Prelude.{IfSome};
+ghost use Rattle.wit_model.specs.Rules.Names.{is_file_name};
 ghost use Rattle.wit_model.specs.Trace.Moving.{moves, read_to};
 ghost use Rattle.wit_model.specs.Trace.Output.{Logs, call_of, summed};
 ghost use Rattle.wit_grammar.specs.Lines.{as_line};
@@ -11,7 +13,7 @@ ghost use Rattle.wit_trace.specs.Replays.{total};
 
 use crate::migrating::steps::{do_beside, step_beside};
 use crate::migrating::texts::line_in;
-use crate::replaying::calls::{assertion, number_of, quick_call, remark, warning};
+use crate::replaying::calls::{assertion, number_of, remark, warning};
 use crate::replaying::line_calls::{LineCall, call_of, file_of, file_on_lock, lock_call};
 use crate::summary::Summary;
 use std::alloc::Global;
@@ -43,6 +45,14 @@ impl Behind {
         }
     }
 
+    /// The name of the file that was named last.
+    #[inline(always)]
+    pub fn recent_file(&self) -> Option<&str>
+        ensures { IfSome result (λ name. is_file_name name.now ≡ true) }
+    {
+        self.verifier.recent_file()
+    }
+
     /// What was read so far.
     pub fn summary(&self) -> Summary
         requires { moving_reports (standing self.now) < 2 ^ 64 }
@@ -63,6 +73,7 @@ impl Behind {
     /// # Errors
     /// `Bad` where its file gets no number, its call is refused, or the lock doesn't admit the step
     /// that goes with it; `Memory`. The call may have been made then.
+    #[inline(always)]
     pub fn enter_on_lock(
         &mut self,
         alloc: Global,
@@ -142,7 +153,7 @@ impl Behind {
     {
         let step = step_beside(&self.verifier, &self.raw, seat, &call);
         let makes = makes_lock(&call);
-        let _reply = quick_call(&mut self.verifier, seat, call)?;
+        let _reply = self.verifier.call(seat, call)?;
         match step {
             Some(step) => do_beside(room, &mut self.raw, step, bytes),
             None => {

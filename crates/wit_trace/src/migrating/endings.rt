@@ -76,7 +76,7 @@ impl Migrating {
         }
     }
 
-    /// The step of a bad line, which ends there.
+    /// The step of a bad line, which ends there. The last text is put into this one.
     ///
     /// # Errors
     /// Want of memory alone.
@@ -87,13 +87,15 @@ impl Migrating {
         found: Summary,
         number: u64,
         cause: Cause,
+        text: &mut Vec<u8>,
     ) -> Result<Step, AllocError>
         ensures step { IfOk result (EndsWith
             (before.items ++ (with_feeds (kept_lines (moved_to self.old)) ++ bad_text number cause))
-            (record found { bad = Some (number, cause) })) }
+            (record found { bad = Some (number, cause) }) text.new.items) }
         ensures over { OnOk result (moved_to self.new ≡ moving.Unmoved) }
     {
-        let (text, summary) = self.ended(alloc, before, found, number, cause)?;
-        Ok(Step::Ends(text, Boxed::new(alloc, summary)?))
+        let (last, summary) = self.ended(alloc, before, found, number, cause)?;
+        *text = last;
+        Ok(Step::Ends(Boxed::new(alloc, summary)?))
     }
 }

@@ -62,6 +62,7 @@ fn step_at(seat: SeatNo, lock: LockNo, step: RawStep) -> LockStep
 }
 
 // A lock that is asked for is taken, unless it is held by the record.
+#[inline(always)]
 fn take(verifier: &Verifier, seat: SeatNo, lock: LockNo) -> Option<LockStep>
     ensures taken { is_seat (state_of verifier.now) seat.0 ≡ true → result
         ≡ (if is_held seat.0 lock.0 verifier.now.history then None
@@ -92,6 +93,7 @@ fn asked_mode(verifier: &Verifier, seat: SeatNo) -> Mode
 }
 
 // A lock is freed where its seat has a share, and no more is recorded than it has.
+#[inline(always)]
 fn free(verifier: &Verifier, raw: &Raw, seat: SeatNo, lock: LockNo) -> Option<LockStep>
     ensures freed { is_seat (state_of verifier.now) seat.0 ≡ true → result
         ≡ (if is_kept verifier.now.history raw.now seat.0 lock.0 then None
@@ -134,6 +136,7 @@ fn turn(raw: &Raw, seat: SeatNo, lock: LockNo) -> Option<LockStep>
 ///
 /// # Errors
 /// `Bad` where the lock doesn't admit the step; `Memory`.
+#[inline(always)]
 pub fn do_beside(
     room: Vec<u8>,
     raw: &mut Raw,
@@ -154,6 +157,7 @@ pub fn do_beside(
 }
 
 // Whether the lock itself admits the step.
+#[inline(always)]
 fn admits(raw: &Raw, step: LockStep) -> bool
     ensures { result ≡ is_free raw.now (deed step) }
 {
@@ -167,6 +171,7 @@ fn admits(raw: &Raw, step: LockStep) -> bool
 }
 
 // Does the step.
+#[inline(always)]
 fn do_step(raw: &mut Raw, step: LockStep) -> Result<(), AllocError>
     requires few { weight raw.old < 2 ^ 64 - 1 }
     requires free { is_free raw.old (deed step) ≡ true }
@@ -197,6 +202,7 @@ fn gain(raw: &mut Raw, seat: SeatNo, lock: LockNo, mode: Mode) -> Result<(), All
 }
 
 // A line, and the one of the step that goes with it.
+#[inline(always)]
 fn both_lines(room: Vec<u8>, step: LockStep, bytes: &[u8]) -> Result<Vec<u8>, AllocError>
     requires { room.items ≡ [] }
     ensures { IfOk result (λ text. text.items ≡ with_feeds (line_and_step step bytes.now)) }

@@ -1,8 +1,7 @@
 //! The calls that lines make.
 
-ghost use Rattle.std.specs.Prelude.{◌≡◌, ◌+◌, ◌-◌, ◌<◌, ◌^◌, IfOk, OnErr};
+ghost use Rattle.std.specs.Prelude.{◌≡◌, ◌+◌, ◌-◌, ◌<◌, ◌^◌, [], IfOk, OnErr};
 ghost use Rattle.std.specs.Option.{option_copied};
-ghost use Rattle.wit_model.specs.Rules.Step.{AnswersOrFails};
 ghost use Rattle.wit_model.specs.Trace.Output.{Reading, Asserts, Warns, call_of, calls, said};
 ghost use Rattle.wit_model.specs.Trace.Output.{shown_by, reply_text};
 ghost use Rattle.wit_grammar.specs.Lines.{as_line};
@@ -10,13 +9,13 @@ ghost use Rattle.wit_trace.specs.LineCalls.{NumbersFile, as_call};
 ghost use Rattle.wit_trace.specs.Replays.{Calls, GoesWith, GoesAsDue, Remarks};
 
 use crate::replaying::line_calls::{LineCall, call_of, file_of, file_on_lock, lock_call};
-use crate::replaying::views::shown;
+use crate::replaying::views::show;
 use crate::stream::machine::Step;
 use std::alloc::{AllocError, Global};
 use wit_core::Verifier;
 use wit_grammar::LineError;
 use wit_model::{
-    Call, Fault, FileNo, Line, LockAssert, LockLine, LockNo, Reply, SeatNo, View, WarnFlags,
+    Fault, FileNo, Line, LockAssert, LockLine, LockNo, Reply, SeatNo, View, WarnFlags,
 };
 use wit_report::{assert_text, report_text, warn_text};
 
@@ -69,7 +68,7 @@ fn make_call(
     }
 }
 
-/// What becomes of a line by the reply to its call.
+/// What becomes of a line by the reply to its call, of which the text is put into this one.
 ///
 /// # Errors
 /// Want of memory alone.
@@ -79,16 +78,20 @@ pub fn reply_step(
     view: View,
     verifier: &Verifier,
     reply: Reply,
+    text: &mut Vec<u8>,
 ) -> Result<Step, AllocError>
-    ensures { IfOk result (GoesWith (shown_by view (reply_text verifier.now reply))) }
+    requires { text.old.items ≡ [] }
+    ensures { IfOk result
+        (GoesWith (shown_by view (reply_text verifier.now reply)) text.new.items) }
 {
     match reply {
         // Nothing else has a text.
         Reply::Reversal(_) | Reply::Duplicate(_) | Reply::Exhausted => {
-            let text = reply_text(alloc, verifier, &reply)?;
-            Ok(Step::Goes(shown(alloc, view, text)))
+            let told = reply_text(alloc, verifier, &reply)?;
+            show(alloc, view, told, text);
+            Ok(Step::Goes)
         }
-        _ => Ok(Step::Goes(Vec::new(alloc))),
+        _ => Ok(Step::Goes),
     }
 }
 
@@ -171,24 +174,11 @@ pub fn call_on_lock(verifier: &mut Verifier, line: LockLine<&str>) -> Result<Rep
 {
     let file = number_of(verifier, file_on_lock(&line))?;
     match lock_call(line, file) {
-        LineCall::Logs(seat, call) => Ok(quick_call(verifier, seat, call)?),
+        LineCall::Logs(seat, call) => Ok(verifier.call(seat, call)?),
         // The first version has no step of a lock itself. Lines on locks do nothing else.
         LineCall::Steps(..) | LineCall::Asserts(..) | LineCall::Warns(..) | LineCall::NoCall => {
             Err(LineError::SYNTAX)
         }
-    }
-}
-
-/// As `Verifier::call`, with its errors. Two calls in three note a lock or release it, and would
-/// pay there for the locals of a check: 3 in 100 of a line.
-#[inline(always)]
-pub fn quick_call(verifier: &mut Verifier, seat: SeatNo, call: Call) -> Result<Reply, Fault>
-    ensures { AnswersOrFails verifier.old seat.0 call result verifier.new }
-{
-    match call {
-        Call::Note(lock) => verifier.note(seat, lock),
-        Call::Unlock(lock, mode) => verifier.unlock(seat, lock, mode),
-        call => verifier.call(seat, call),
     }
 }
 

@@ -41,7 +41,7 @@ impl Progress {
         }
     }
 
-    /// What becomes of a line that is bad, or found no memory.
+    /// What becomes of a line that is bad, or found no memory. The last text is put into this one.
     ///
     /// # Errors
     /// Want of memory alone.
@@ -52,15 +52,18 @@ impl Progress {
         alloc: Global,
         number: u64,
         error: LineError,
+        text: &mut Vec<u8>,
     ) -> Result<Step, AllocError>
         requires { (cause : Cause) → error ≡ Bad cause
             → reports_told (progress_of self.now) < 2 ^ 64 }
-        ensures { (view : View) → IfOk result (EndsFor view (progress_of self.now) number error) }
+        ensures { (view : View) → IfOk result
+            (EndsFor view (progress_of self.now) number error text.new.items) }
     {
         match error {
             LineError::Bad(cause) => {
-                let (text, summary) = self.ended(alloc, number, cause)?;
-                Ok(Step::Ends(text, Boxed::new(alloc, summary)?))
+                let (last, summary) = self.ended(alloc, number, cause)?;
+                *text = last;
+                Ok(Step::Ends(Boxed::new(alloc, summary)?))
             }
             LineError::Memory => Err(AllocError),
         }

@@ -1,27 +1,24 @@
-//! Lines by their first word. Each of the three frequent ones has a function of its own: where the
-//! keyword is known nothing asks again what it is, and a line pays for no other's locals.
+//! Lines of the first version by their first word. Each of the frequent ones has a function of its
+//! own: nothing asks again what it is, and a line pays for no other's locals.
 
-ghost use Rattle.std.specs.Prelude.{◌≡◌, ◌+◌, ◌<◌, ◌≤◌, Some, length, IfOk};
+ghost use Rattle.std.specs.Prelude.{◌≡◌, true, IfSome, Some};
+ghost use Rattle.wit_model.specs.Rules.Names.{is_file_name};
 ghost use Rattle.wit_model.specs.declared.lines.Keyword.TheVariants.{Check, Unlock, Plain};
 ghost use Rattle.wit_model.specs.declared.lines.Verb.TheVariants.{Note};
 ghost use Rattle.wit_model.specs.Trace.Reading.{line_of};
-ghost use Rattle.wit_grammar.specs.Lines.{Begins};
-ghost use Rattle.wit_grammar.specs.declared.parse.TheConstants.{LONGEST};
-ghost use Rattle.wit_trace.specs.Machine.{Follows};
-ghost use Rattle.wit_trace.specs.Replays.{allowed, progress, reports_told};
+ghost use Rattle.wit_grammar.specs.Lines.{Begins, as_line};
+ghost use Rattle.wit_trace.specs.Replays.{MayRead, HasRead};
 
 use crate::replaying::calls::{call_on_lock, reply_step};
 use crate::replaying::{Progress, Replaying};
 use crate::stream::machine::Step;
 use std::alloc::{AllocError, Global};
-use wit_grammar::{Begun, lock_line};
-use wit_model::{Keyword, Verb};
+use wit_grammar::{Begun, begin_line, lock_line, note_fields, unlock_fields};
+use wit_model::{Keyword, LockLine, Verb};
 
+/// Lines in their place. Each fails for want of memory alone.
 impl Replaying {
     /// A line that begins with `check`.
-    ///
-    /// # Errors
-    /// Want of memory alone.
     #[inline(never)]
     pub fn check_line(
         &mut self,
@@ -29,23 +26,20 @@ impl Replaying {
         number: u64,
         bytes: &[u8],
         rest: &[u8],
+        text: &mut Vec<u8>,
     ) -> Result<Step, AllocError>
-        requires room { reports_told (progress self.old) < number }
-        requires short { length bytes.now ≤ LONGEST }
+        requires ready { MayRead self.old number bytes.now text.old.items }
         requires begun { Begins (Some (Check, rest)) (line_of bytes.now) }
-        ensures step { IfOk result (Follows (allowed self.old.view) self.old self.new
-            number bytes.now) }
-        ensures kept { self.new.view ≡ self.old.view }
-        ensures counted { IfOk result (λ s. reports_told (progress self.new)
-            ≤ reports_told (progress self.old) + 1) }
+        ensures { HasRead self.old number bytes.now self.new text.new.items result }
     {
-        self.begun_line(alloc, number, bytes, Some((Keyword::Check, rest)))
+        let begun = Some((Keyword::Check, rest));
+        match lock_line(self.known_file(), begun) {
+            Some(line) => self.call_line(alloc, number, bytes, line, text),
+            None => self.any_line(alloc, number, bytes, begun, text),
+        }
     }
 
     /// A line that begins with `unlock`.
-    ///
-    /// # Errors
-    /// Want of memory alone.
     #[inline(never)]
     pub fn unlock_line(
         &mut self,
@@ -53,23 +47,20 @@ impl Replaying {
         number: u64,
         bytes: &[u8],
         rest: &[u8],
+        text: &mut Vec<u8>,
     ) -> Result<Step, AllocError>
-        requires room { reports_told (progress self.old) < number }
-        requires short { length bytes.now ≤ LONGEST }
+        requires ready { MayRead self.old number bytes.now text.old.items }
         requires begun { Begins (Some (Unlock, rest)) (line_of bytes.now) }
-        ensures step { IfOk result (Follows (allowed self.old.view) self.old self.new
-            number bytes.now) }
-        ensures kept { self.new.view ≡ self.old.view }
-        ensures counted { IfOk result (λ s. reports_told (progress self.new)
-            ≤ reports_told (progress self.old) + 1) }
+        ensures { HasRead self.old number bytes.now self.new text.new.items result }
     {
-        self.begun_line(alloc, number, bytes, Some((Keyword::Unlock, rest)))
+        let Some((seat, lock, mode)) = unlock_fields(rest) else {
+            return self.any_line(alloc, number, bytes, Some((Keyword::Unlock, rest)), text);
+        };
+        let line = LockLine::Unlock { seat, lock, mode };
+        self.call_line(alloc, number, bytes, line, text)
     }
 
     /// A line that begins with `lock`.
-    ///
-    /// # Errors
-    /// Want of memory alone.
     #[inline(never)]
     pub fn note_line(
         &mut self,
@@ -77,28 +68,27 @@ impl Replaying {
         number: u64,
         bytes: &[u8],
         rest: &[u8],
+        text: &mut Vec<u8>,
     ) -> Result<Step, AllocError>
-        requires room { reports_told (progress self.old) < number }
-        requires short { length bytes.now ≤ LONGEST }
+        requires ready { MayRead self.old number bytes.now text.old.items }
         requires begun { Begins (Some (Plain Note, rest)) (line_of bytes.now) }
-        ensures step { IfOk result (Follows (allowed self.old.view) self.old self.new
-            number bytes.now) }
-        ensures kept { self.new.view ≡ self.old.view }
-        ensures counted { IfOk result (λ s. reports_told (progress self.new)
-            ≤ reports_told (progress self.old) + 1) }
+        ensures { HasRead self.old number bytes.now self.new text.new.items result }
     {
-        self.begun_line(
-            alloc,
-            number,
-            bytes,
-            Some((Keyword::Plain(Verb::Note), rest)),
-        )
+        let verb = Verb::Note;
+        let Some((seat, lock)) = note_fields(rest) else {
+            return self.any_line(
+                alloc,
+                number,
+                bytes,
+                Some((Keyword::Plain(verb), rest)),
+                text,
+            );
+        };
+        let line = LockLine::Plain { verb, seat, lock };
+        self.call_line(alloc, number, bytes, line, text)
     }
 
     /// Any other line.
-    ///
-    /// # Errors
-    /// Want of memory alone.
     #[inline(never)]
     pub fn other_line(
         &mut self,
@@ -106,47 +96,51 @@ impl Replaying {
         number: u64,
         bytes: &[u8],
         begun: Option<Begun>,
+        text: &mut Vec<u8>,
     ) -> Result<Step, AllocError>
-        requires room { reports_told (progress self.old) < number }
-        requires short { length bytes.now ≤ LONGEST }
+        requires ready { MayRead self.old number bytes.now text.old.items }
         requires begun { Begins begun (line_of bytes.now) }
-        ensures step { IfOk result (Follows (allowed self.old.view) self.old self.new
-            number bytes.now) }
-        ensures kept { self.new.view ≡ self.old.view }
-        ensures counted { IfOk result (λ s. reports_told (progress self.new)
-            ≤ reports_told (progress self.old) + 1) }
+        ensures { HasRead self.old number bytes.now self.new text.new.items result }
     {
-        self.begun_line(alloc, number, bytes, begun)
+        match lock_line(None, begun) {
+            Some(line) => self.call_line(alloc, number, bytes, line, text),
+            None => self.any_line(alloc, number, bytes, begun, text),
+        }
     }
 
-    // A line of which the first word was read: one on a lock makes its call at once where there is
-    // a verifier and no world.
+    // A line on a lock makes its call at once where there is a verifier and no world.
     #[inline(always)]
-    fn begun_line(
+    fn call_line(
         &mut self,
         alloc: Global,
         number: u64,
         bytes: &[u8],
-        begun: Option<Begun>,
+        line: LockLine<&str>,
+        text: &mut Vec<u8>,
     ) -> Result<Step, AllocError>
-        requires room { reports_told (progress self.old) < number }
-        requires short { length bytes.now ≤ LONGEST }
-        requires begun { Begins begun (line_of bytes.now) }
-        ensures step { IfOk result (Follows (allowed self.old.view) self.old self.new
-            number bytes.now) }
-        ensures kept { self.new.view ≡ self.old.view }
-        ensures counted { IfOk result (λ s. reports_told (progress self.new)
-            ≤ reports_told (progress self.old) + 1) }
+        requires ready { MayRead self.old number bytes.now text.old.items }
+        requires found { line_of bytes.now ≡ Some (as_line line) }
+        ensures { HasRead self.old number bytes.now self.new text.new.items result }
     {
         let view = self.view;
         if let Progress::Reading { verifier, .. } = &mut self.progress {
-            if let Some(line) = lock_line(begun) {
-                return match call_on_lock(verifier, line) {
-                    Ok(reply) => reply_step(alloc, view, verifier, reply),
-                    Err(error) => self.progress.ended_step(alloc, number, error),
-                };
-            }
+            return match call_on_lock(verifier, line) {
+                Ok(reply) => reply_step(alloc, view, verifier, reply, text),
+                Err(error) => self.progress.ended_step(alloc, number, error, text),
+            };
         }
-        self.world_line(alloc, number, bytes, begun)
+        self.any_line(alloc, number, bytes, begin_line(bytes), text)
+    }
+
+    /// The name of the file that was named last, which most sites name.
+    #[inline(always)]
+    pub fn known_file(&self) -> Option<&str>
+        ensures { IfSome result (λ name. is_file_name name.now ≡ true) }
+    {
+        match &self.progress {
+            Progress::Reading { verifier, .. } => verifier.recent_file(),
+            Progress::Stepping { world, .. } => world.verifier().recent_file(),
+            _ => None,
+        }
     }
 }

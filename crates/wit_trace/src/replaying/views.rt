@@ -1,6 +1,6 @@
 //! What a view shows.
 
-ghost use Rattle.std.specs.Prelude.{◌≡◌, IfOk, IfErr};
+ghost use Rattle.std.specs.Prelude.{◌≡◌, [], IfOk, IfErr};
 ghost use Rattle.wit_model.specs.Trace.Output.{shown_by, IsViewOf};
 ghost use Rattle.wit_model.specs.Rules.Circles.{Waits};
 ghost use Rattle.wit_model.specs.Rules.State.{state_of};
@@ -22,6 +22,19 @@ pub fn shown(alloc: Global, view: View, told: Vec<u8>) -> Vec<u8>
         View::Reports => told,
         View::Graph | View::Locks | View::Circle => Vec::new(alloc),
     }
+}
+
+/// Puts what is shown of that into a text that has nothing.
+#[inline(always)]
+pub fn show(alloc: Global, view: View, told: Vec<u8>, text: &mut Vec<u8>)
+    requires { text.old.items ≡ [] }
+    ensures { text.new.items ≡ shown_by view told.items }
+{
+    // So it is of most lines.
+    if told.is_empty() {
+        return;
+    }
+    *text = shown(alloc, view, told);
 }
 
 /// What is shown after the whole trace, and whether that is a circle.

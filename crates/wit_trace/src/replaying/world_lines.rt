@@ -41,6 +41,7 @@ pub fn enter_world_line(
 ///
 /// # Errors
 /// As those of `enter_world_line`.
+#[inline(always)]
 pub fn step_on_lock(
     alloc: Global,
     world: &mut World,
@@ -56,10 +57,14 @@ pub fn step_on_lock(
         return step_in(alloc, world, seat, lock, step);
     }
     let file = number_in(world, file_on_lock(&line))?;
-    make_call_in(alloc, world, remarks, lock_call(line, file))
+    match lock_call(line, file) {
+        LineCall::Logs(seat, call) => call_in(alloc, world, seat, call),
+        call => make_call_in(alloc, world, remarks, call),
+    }
 }
 
 // The number of the file that a line names; of one that names none, no file's.
+#[inline(always)]
 fn number_in(world: &mut World, file: Option<&str>) -> Result<FileNo, Fault>
     ensures story { NumbersFile world.old.story (option_copied file.entry) result world.new.story }
     ensures rest { world.new ≡ record world.old { story = world.new.story } }
@@ -70,6 +75,7 @@ fn number_in(world: &mut World, file: Option<&str>) -> Result<FileNo, Fault>
     }
 }
 
+#[inline(never)]
 fn make_call_in(
     alloc: Global,
     world: &mut World,
@@ -96,6 +102,7 @@ fn make_call_in(
 }
 
 // A step has no text.
+#[inline(always)]
 fn step_in(
     alloc: Global,
     world: &mut World,
@@ -110,6 +117,7 @@ fn step_in(
     Ok(Vec::new(alloc))
 }
 
+#[inline(always)]
 fn call_in(alloc: Global, world: &mut World, seat: SeatNo, call: Call) -> Result<Vec<u8>, LineError>
     ensures { (n : ℕ) → GoesAsDue (makes_in world.old n seat.0 call)
         (Stepping world.old n) (Stepping world.new n) result }
@@ -118,6 +126,7 @@ fn call_in(alloc: Global, world: &mut World, seat: SeatNo, call: Call) -> Result
     Ok(text_of_reply(alloc, world.verifier(), reply)?)
 }
 
+#[inline(always)]
 fn text_of_reply(alloc: Global, verifier: &Verifier, reply: Reply) -> Result<Vec<u8>, AllocError>
     ensures { IfOk result (λ text. text.items ≡ reply_text verifier.now reply) }
 {

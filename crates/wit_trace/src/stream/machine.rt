@@ -10,13 +10,14 @@ use crate::summary::Summary;
 use std::alloc::{AllocError, Global};
 use wit_model::{Boxed, Cause};
 
-/// What becomes of a whole line. It is passed on for each, and so is small.
+/// What becomes of a whole line, once its text is written. It is passed on for each, and so is
+/// small.
 #[derive(Drop)]
 pub enum Step {
-    /// This text is written, and the next line is read.
-    Goes(Vec<u8>),
-    /// This text is written, and the reading ends.
-    Ends(Vec<u8>, Boxed<Summary>),
+    /// The next line is read.
+    Goes,
+    /// The reading ends.
+    Ends(Boxed<Summary>),
 }
 
 /// Reads lines one at a time, writes texts, and ends with a summary.
@@ -36,8 +37,8 @@ pub trait Machine {
 
     ghost reports: { Self → ℕ };
 
-    /// Reads a whole line of at most 4,096 bytes, without its line feed. Lines count from 1. The
-    /// room is that of an earlier text, for this one: so not each line takes memory.
+    /// Reads a whole line of at most 4,096 bytes, without its line feed, and puts what is to be
+    /// written of it into the text. Lines count from 1.
     ///
     /// # Errors
     /// Want of memory alone; nothing is promised then.
@@ -46,14 +47,14 @@ pub trait Machine {
         alloc: Global,
         number: u64,
         bytes: &[u8],
-        room: Vec<u8>,
+        text: &mut Vec<u8>,
     ) -> Result<Step, AllocError>
         requires room { reports self.old < number }
-        requires empty { room.items ≡ [] }
+        requires empty { text.old.items ≡ [] }
         requires short { length bytes.now ≤ LONGEST }
         requires plain { HasNoFeed bytes.now }
         ensures step { IfOk result (Follows (allows (shows_by self.old)) self.old self.new
-            number bytes.now) }
+            number bytes.now text.new.items) }
         ensures kept { IfOk result (λ s. shows_by self.new ≡ shows_by self.old) }
         ensures counted { IfOk result (λ s. reports self.new ≤ reports self.old + 1) };
 

@@ -2,20 +2,18 @@
 
 ghost use Rattle.std.specs.Prelude.{◌≡◌, ◌≢◌, ℕ, ◌+◌, ◌-◌, ◌^◌, ◌<◌, ◌≤◌, Bool, [], length, Ok};
 ghost use Rattle.std.specs.Prelude.{Some, IsTrue, IfOk, OnOk, OnErr};
-ghost use Rattle.std.specs.Global.{Vec};
 ghost use Rattle.std.specs.Io.KnownBytes.{Appends, Keeps};
 ghost use Rattle.wit_trace.specs.Text.{HasNoFeed};
 ghost use Rattle.wit_trace.specs.declared.stream.machine.Step.TheVariants.{Goes};
 ghost use Rattle.wit_trace.specs.Stream.{Advances, AppendsFront, OutputFrom, has_read_failed};
 ghost use Rattle.wit_trace.specs.Stream.{has_write_failed, no_failure};
 
-use crate::stream::lines::{at_end, feed_in, may_wait, whole_line};
+use crate::stream::lines::{at_end, at_long, feed_in, may_wait, whole_line};
 use crate::stream::machine::{Machine, Step};
 use crate::summary::ReplayError;
 use std::alloc::Global;
 use std::io::{BufRead, Write};
 use wit_grammar::LONGEST;
-use wit_model::{Boxed, Cause};
 
 /// The only ways to look at a reader and to write, with the evidence of what failed.
 ///
@@ -31,7 +29,7 @@ pub trait Ports<R: BufRead, W: Write> {
 
     /// Looks at the reader once, and takes what it shows of a line, behind what was begun of it:
     /// `None` where the line goes on. A line that the reader shows whole goes to the machine
-    /// without a copy.
+    /// without a copy. What is to be written of it is put into the text.
     ///
     /// # Errors
     /// `Read` where the reader failed, of which nothing is taken then; `Memory` where the machine
@@ -43,21 +41,22 @@ pub trait Ports<R: BufRead, W: Write> {
         number: u64,
         reader: &mut R,
         begun: &mut Vec<u8>,
-        room: Vec<u8>,
+        text: &mut Vec<u8>,
     ) -> Result<Option<Step>, ReplayError>
         requires room { looks self.old < 2 ^ 64 - 1 }
-        requires empty { room.items ≡ [] }
+        requires empty { text.old.items ≡ [] }
         requires counts { M.reports machine.old < number }
         requires plain { HasNoFeed begun.old.items }
         requires short { length begun.old.items ≤ LONGEST }
         ensures ok { IfOk result (Advances (OutputFrom (M.allows (M.shows_by machine.old)))
             machine.old machine.new number
-            (R.remaining reader.old) (R.remaining reader.new) begun.old.items begun.new.items) }
+            (R.remaining reader.old) (R.remaining reader.new) begun.old.items begun.new.items
+            text.new.items) }
         ensures kept { result ≡ Err ReplayError.Read
             → Keeps (R.remaining reader.old) (R.remaining reader.new) }
-        ensures reported { (text : Vec ℕ) → result ≡ Ok (Some (Goes text))
+        ensures reported { result ≡ Ok (Some Goes)
             → M.reports machine.new ≤ M.reports machine.old + 1 }
-        ensures shown { (text : Vec ℕ) → result ≡ Ok (Some (Goes text))
+        ensures shown { result ≡ Ok (Some Goes)
             → M.shows_by machine.new ≡ M.shows_by machine.old }
         ensures counted { looks self.new ≡ looks self.old + 1 }
         ensures failed { result ≡ Err ReplayError.Read → IsTrue (read_failed self.new) }
@@ -138,7 +137,7 @@ impl<R: BufRead, W: Write> Ports<R, W> for Failures {
         number: u64,
         reader: &mut R,
         begun: &mut Vec<u8>,
-        room: Vec<u8>,
+        text: &mut Vec<u8>,
     ) -> Result<Option<Step>, ReplayError> {
         let most = LONGEST + 1 - begun.len();
         self.looks += 1;
@@ -147,13 +146,13 @@ impl<R: BufRead, W: Write> Ports<R, W> for Failures {
             return Err(ReplayError::Read);
         };
         if shown.is_empty() {
-            let (text, summary) = at_end(alloc, machine, number, begun)?;
-            return Ok(Some(Step::Ends(text, Boxed::new(alloc, summary)?)));
+            let summary = at_end(alloc, machine, number, begun, text)?;
+            return Ok(Some(Step::Ends(summary)));
         }
         let len = shown.len().min(most);
         if let Some(len) = feed_in(&shown[..len]) {
-            let step = whole_line(alloc, machine, number, begun, &shown[..len], room)?;
-            self.waits = may_wait(self.waits, &step, &shown[len + 1..]);
+            let step = whole_line(alloc, machine, number, begun, &shown[..len], text)?;
+            self.waits = may_wait(self.waits, &step, text, &shown[len + 1..]);
             reader.consume(len + 1);
             return Ok(Some(step));
         }
@@ -162,8 +161,8 @@ impl<R: BufRead, W: Write> Ports<R, W> for Failures {
         if begun.len() <= LONGEST {
             return Ok(None);
         }
-        let (text, summary) = machine.broken(alloc, number, begun, Cause::Long)?;
-        Ok(Some(Step::Ends(text, Boxed::new(alloc, summary)?)))
+        let summary = at_long(alloc, machine, number, begun, text)?;
+        Ok(Some(Step::Ends(summary)))
     }
 
     fn put(&mut self, writer: &mut W, bytes: &[u8]) -> Result<(), ReplayError> {

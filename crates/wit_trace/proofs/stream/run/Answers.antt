@@ -20,7 +20,7 @@ returns-in_err-tell-in-Ok-Some-Goes-clause-err g c =
     c.loop-left.machine c.advance.new.machine c.loop-left.number
     (g.R.Read.remaining c.loop-left.reader) (g.R.Read.remaining c.advance.new.reader)
     c.loop-left.line.items c.advance.new.begun.items _ _ _
-    (shown_so g.M.Machine.allows _ _ c.loop-left.invariant.shown _ _ _ _ _ _ _ _
+    (shown_so g.M.Machine.allows _ _ c.loop-left.invariant.shown _ _ _ _ _ _ _ _ _
     c.in-Ok-Some-Goes.ensures.ok) c.in-Ok-Some-Goes.field-0-is
     c.in-Ok-Some-Goes.field-0-0-is in
     on_err _ (going_kept_front _ _ _ (going_line _ _ _ _ _ _ c.loop-left.invariant.going line)
@@ -36,7 +36,7 @@ loop-left-preserved-in-Ok-Some-Goes g c =
     c.loop-left.machine c.advance.new.machine c.loop-left.number
     (g.R.Read.remaining c.loop-left.reader) (g.R.Read.remaining c.advance.new.reader)
     c.loop-left.line.items c.advance.new.begun.items _ _ _
-    (shown_so g.M.Machine.allows _ _ c.loop-left.invariant.shown _ _ _ _ _ _ _ _
+    (shown_so g.M.Machine.allows _ _ c.loop-left.invariant.shown _ _ _ _ _ _ _ _ _
     c.in-Ok-Some-Goes.ensures.ok) c.in-Ok-Some-Goes.field-0-is
     c.in-Ok-Some-Goes.field-0-0-is in
     let counted = c.in-Ok-Some-Goes.ensures.counted in
@@ -48,7 +48,7 @@ loop-left-preserved-in-Ok-Some-Goes g c =
           c.tell.new.told.items) c.deref.ensures.value
           c.in_ok-tell-in-Ok-Some-Goes.ensures.ok);
       shown =
-          c.in-Ok-Some-Goes.ensures.shown c.in-Ok-Some-Goes.text
+          c.in-Ok-Some-Goes.ensures.shown
           (ap (λ s. Ok s) (c.in-Ok-Some-Goes.field-0-is
           ∙ ap (λ s. Some s) c.in-Ok-Some-Goes.field-0-0-is)) ∙ c.loop-left.invariant.shown;
       none = c.clear.ensures.items;
@@ -59,7 +59,7 @@ loop-left-preserved-in-Ok-Some-Goes g c =
       told =
           omega (
             arith,
-            c.in-Ok-Some-Goes.ensures.reported c.in-Ok-Some-Goes.text
+            c.in-Ok-Some-Goes.ensures.reported
                 (ap (λ s. Ok s) (c.in-Ok-Some-Goes.field-0-is
                 ∙ ap (λ s. Some s) c.in-Ok-Some-Goes.field-0-0-is)),
             c.loop-left.invariant.told,
@@ -86,7 +86,7 @@ returns-in_err-put-in-Ok-Some-Ends-clause-err g c =
     c.loop-left.machine c.advance.new.machine c.loop-left.number
     (g.R.Read.remaining c.loop-left.reader) (g.R.Read.remaining c.advance.new.reader)
     c.loop-left.line.items c.advance.new.begun.items _ _ _ _
-    (shown_so g.M.Machine.allows _ _ c.loop-left.invariant.shown _ _ _ _ _ _ _ _
+    (shown_so g.M.Machine.allows _ _ c.loop-left.invariant.shown _ _ _ _ _ _ _ _ _
     c.in-Ok-Some-Ends.ensures.ok) c.in-Ok-Some-Ends.field-0-is
     c.in-Ok-Some-Ends.field-0-0-is in
     on_err _ (going_last_front _ _ _ _ _
@@ -102,7 +102,7 @@ returns-in-Ok-Some-Ends-clause-ok g c =
     c.loop-left.machine c.advance.new.machine c.loop-left.number
     (g.R.Read.remaining c.loop-left.reader) (g.R.Read.remaining c.advance.new.reader)
     c.loop-left.line.items c.advance.new.begun.items _ _ _ _
-    (shown_so g.M.Machine.allows _ _ c.loop-left.invariant.shown _ _ _ _ _ _ _ _
+    (shown_so g.M.Machine.allows _ _ c.loop-left.invariant.shown _ _ _ _ _ _ _ _ _
     c.in-Ok-Some-Ends.ensures.ok) c.in-Ok-Some-Ends.field-0-is
     c.in-Ok-Some-Ends.field-0-0-is in
     rw c.get.ensures (going_last _ _ _ _ _
@@ -118,7 +118,7 @@ returns-in-Ok-Some-Ends-clause-taken g c =
     c.loop-left.machine c.advance.new.machine c.loop-left.number
     (g.R.Read.remaining c.loop-left.reader) (g.R.Read.remaining c.advance.new.reader)
     c.loop-left.line.items c.advance.new.begun.items _ _ _ _
-    (shown_so g.M.Machine.allows _ _ c.loop-left.invariant.shown _ _ _ _ _ _ _ _
+    (shown_so g.M.Machine.allows _ _ c.loop-left.invariant.shown _ _ _ _ _ _ _ _ _
     c.in-Ok-Some-Ends.ensures.ok) c.in-Ok-Some-Ends.field-0-is
     c.in-Ok-Some-Ends.field-0-0-is in
     rw c.get.ensures (going_end _ _ _ _ _
@@ -133,8 +133,8 @@ loop-left-preserved g c =
     answer_none (OutputFrom (g.M.Machine.allows (g.M.Machine.shows_by c.args.machine.now)))
     c.loop-left.machine c.advance.new.machine c.loop-left.number
     (g.R.Read.remaining c.loop-left.reader) (g.R.Read.remaining c.advance.new.reader)
-    c.loop-left.line.items c.advance.new.begun.items _
-    (shown_so g.M.Machine.allows _ _ c.loop-left.invariant.shown _ _ _ _ _ _ _ _
+    c.loop-left.line.items c.advance.new.begun.items _ _
+    (shown_so g.M.Machine.allows _ _ c.loop-left.invariant.shown _ _ _ _ _ _ _ _ _
     c.in-Ok-None.ensures.ok) c.in-Ok-None.field-0-is in
     let counted = c.in-Ok-None.ensures.counted in
     let same = c.in_ok-tell_all-in-Ok-None.ensures.counted in
@@ -144,7 +144,7 @@ loop-left-preserved g c =
           (going_told _ _ _ _ (going_part _ _ _ _ _ c.loop-left.invariant.going part.0 part.1)
           c.in_ok-tell_all-in-Ok-None.ensures.ok);
       shown = rw part.1 c.loop-left.invariant.shown;
-      none = search rules;
+      none = part.2;
       short = part.0.short;
       fewer = omega (arith, counted, same, c.loop-left.invariant.fewer);
       enough = omega (arith, counted, same, c.loop-left.invariant.enough);

@@ -11,7 +11,7 @@ invariant-loop-left g l = record {
       (g.W.Write.contents l.fn.writer) (g.W.Write.contents l.writer) l.number
       l.line.items l.told.items;
   shown : g.M.Machine.shows_by l.machine ≡ g.M.Machine.shows_by l.fn.machine;
-  none : l.room.items ≡ [];
+  none : l.text.items ≡ [];
   short : length l.line.items ≤ 4096;
   fewer : l.number ≤ g.P.Ports.looks l.ports + 1;
   enough : 2 ^ 64 ≤ l.left + g.P.Ports.looks l.ports + l.number;

@@ -11,22 +11,22 @@ returns-in_err-file c =
     c.from_residual.result (rw c.file_on_lock.ensures at c.in_err-file.ensures)
     c.from_residual.ensures.1
 
-pub returns-in_err-quick_call-in-Logs : goal.returns-in_err-quick_call-in-Logs
-returns-in_err-quick_call-in-Logs c =
+pub returns-in_err-call-in-Logs : goal.returns-in_err-call-in-Logs
+returns-in_err-call-in-Logs c =
     call_numbered c.args.verifier.now c.number_of.new.verifier (call_of (as_line c.args.line))
     (Logs c.in-Logs.seat.0 c.in-Logs.call)
     c.in_ok-file.file (rw c.file_on_lock.ensures at c.in_ok-file.ensures) c.in-Logs.ensures
-    c.quick_call.new.verifier c.from_residual-in_err-quick_call-in-Logs.result
-    (call_refused c.number_of.new.verifier c.quick_call.new.verifier c.in-Logs.seat.0 c.in-Logs.call
-    c.in_err-quick_call-in-Logs.field-0.0
-    c.from_residual-in_err-quick_call-in-Logs.result c.in_err-quick_call-in-Logs.ensures
-    c.from_residual-in_err-quick_call-in-Logs.ensures.1)
+    c.call.new.self c.from_residual-in_err-call-in-Logs.result
+    (call_refused c.number_of.new.verifier c.call.new.self c.in-Logs.seat.0 c.in-Logs.call
+    c.in_err-call-in-Logs.field-0.0
+    c.from_residual-in_err-call-in-Logs.result c.in_err-call-in-Logs.ensures.answer
+    c.from_residual-in_err-call-in-Logs.ensures.1)
 
-pub returns-in_ok-quick_call-in-Logs : goal.returns-in_ok-quick_call-in-Logs
-returns-in_ok-quick_call-in-Logs c =
+pub returns-in_ok-call-in-Logs : goal.returns-in_ok-call-in-Logs
+returns-in_ok-call-in-Logs c =
     call_numbered c.args.verifier.now c.number_of.new.verifier (call_of (as_line c.args.line))
     (Logs c.in-Logs.seat.0 c.in-Logs.call)
     c.in_ok-file.file (rw c.file_on_lock.ensures at c.in_ok-file.ensures) c.in-Logs.ensures
-    c.quick_call.new.verifier (Ok c.in_ok-quick_call-in-Logs.field-0)
-    (call_made c.number_of.new.verifier c.quick_call.new.verifier c.in-Logs.seat.0 c.in-Logs.call
-    c.in_ok-quick_call-in-Logs.field-0 c.in_ok-quick_call-in-Logs.ensures)
+    c.call.new.self (Ok c.in_ok-call-in-Logs.field-0)
+    (call_made c.number_of.new.verifier c.call.new.self c.in-Logs.seat.0 c.in-Logs.call
+    c.in_ok-call-in-Logs.field-0 c.in_ok-call-in-Logs.ensures.answer)

@@ -14,8 +14,17 @@ returns-in_err-file c =
     c.from_residual.result (rw c.file_on_lock.ensures at c.in_err-file.ensures.story)
     c.in_err-file.ensures.rest c.from_residual.ensures.1
 
-pub returns : goal.returns
-returns c =
+pub returns-in-Logs : goal.returns-in-Logs
+returns-in-Logs c =
+    line_numbered_in c.args.world.now c.number_in.new.world (call_of (as_line c.args.line))
+    (as_call c.lock_call.result) c.in_ok-file.file
+    c.args.remarks.now (Stepping c.call_in.new.world c.args.remarks.now)
+    c.call_in.result
+    (rw c.file_on_lock.ensures at c.in_ok-file.ensures.story) c.in_ok-file.ensures.rest
+    c.lock_call.ensures (rw c.in-Logs.is (c.call_in.ensures c.args.remarks.now))
+
+pub returns-in_default-lock_call : goal.returns-in_default-lock_call
+returns-in_default-lock_call c =
     line_numbered_in c.args.world.now c.number_in.new.world (call_of (as_line c.args.line))
     (as_call c.lock_call.result) c.in_ok-file.file
     c.args.remarks.now (Stepping c.make_call_in.new.world c.make_call_in.new.remarks)

@@ -12,15 +12,14 @@ use Rattle.wit_trace.proofs.stream.ports.FailuresPorts.advance.Goals as goal
 
 pub returns-then-is_empty-clause-ok : goal.returns-then-is_empty-clause-ok
 returns-then-is_empty-clause-ok g c =
-    rw c.in_ok-new.ensures
     (advances_end (g.M.Machine.allows (g.M.Machine.shows_by c.args.machine.now)) c.args.machine.now
     c.at_end.new.machine c.args.number _ _ c.args.begun.now.items c.args.begun.now.items
-    c.in_ok-text.text c.in_ok-text.summary
+    c.at_end.new.text.items c.in_ok-summary.summary
     (all_taken _ _ _ c.in-Ok.is c.fill_buf.ensures.end (grind arith))
     c.fill_buf.follows.holds-at-none.0 c.requires.plain c.requires.short
     (subst (λ l. OutputFrom (g.M.Machine.allows (g.M.Machine.shows_by c.args.machine.now))
-    c.args.machine.now c.args.number l c.in_ok-text.text.items c.in_ok-text.summary)
-    c.deref.ensures.value c.in_ok-text.ensures))
+    c.args.machine.now c.args.number l c.at_end.new.text.items c.in_ok-summary.summary)
+    c.deref.ensures.value c.in_ok-summary.ensures))
 
 pub whole_line-requires-clause-plain : goal.whole_line-requires-clause-plain
 whole_line-requires-clause-plain g c =
@@ -36,7 +35,7 @@ returns-in-Some-clause-ok g c =
     let len = c.in-Some.len in
     advances_line (g.M.Machine.allows (g.M.Machine.shows_by c.args.machine.now)) c.args.machine.now
     c.whole_line.new.machine c.args.number _ _ c.args.begun.now.items _ shown len
-    c.min-len.result c.in_ok-step.step
+    c.min-len.result c.whole_line.new.text.items c.in_ok-step.step
     (consumed _ _ _ _ _ _ c.in-Ok.is c.fill_buf.ensures.front c.fill_buf.follows.holds-at-none
     (len + 1) (omega (arith, c.in-Some.ensures.0, length-take c.min-len.result shown))
     c.consume.ensures.bytes)
@@ -59,16 +58,16 @@ returns-then-len-le-LONGEST-clause-ok g c =
         short = omega arith;
       },
       refl,
+      c.requires.empty,
     )
 
 pub returns-clause-ok : goal.returns-clause-ok
 returns-clause-ok g c =
     let shown = c.in-Ok.shown.now in
     let part = take c.min-len.result shown in
-    rw c.in_ok-new-2.ensures
     (advances_long (g.M.Machine.allows (g.M.Machine.shows_by c.args.machine.now)) c.args.machine.now
     c.args.machine.now c.args.number _ _ c.args.begun.now.items c.args.begun.now.items part
-    c.in_ok-text-2.text c.in_ok-text-2.summary
+    c.at_long.new.text.items c.in_ok-summary-2.summary
     (consumed _ _ _ _ _ _ c.in-Ok.is c.fill_buf.ensures.front c.fill_buf.follows.holds-at-none
     c.min-len.result (omega arith) c.consume-2.ensures.bytes)
     (All-append (λ b. b ≢ 10) c.args.begun.now.items part c.requires.plain
@@ -81,5 +80,5 @@ returns-clause-ok g c =
     ))
     (subst (λ l. (lines : List (List ℕ)) (tail : List ℕ) → BreaksAt Long l lines tail
     → g.M.Machine.allows (g.M.Machine.shows_by c.args.machine.now) c.args.machine.now
-    c.args.number lines tail c.in_ok-text-2.text.items c.in_ok-text-2.summary)
-    (c.deref-2.ensures.value ∙ c.in_ok-extend_from_slice.ensures.items) c.in_ok-text-2.ensures))
+    c.args.number lines tail c.at_long.new.text.items c.in_ok-summary-2.summary)
+    (c.deref-2.ensures.value ∙ c.in_ok-extend_from_slice.ensures.items) c.in_ok-summary-2.ensures))

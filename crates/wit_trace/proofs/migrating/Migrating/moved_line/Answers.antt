@@ -6,7 +6,7 @@ use Rattle.wit_trace.specs.Migrates.{moving_reports, standing, weighed, weight}
 use Rattle.wit_trace.proofs.MigrateLemmas.{line-goes, line-writes}
 use Rattle.wit_trace.proofs.MigrateReports.{moved_one}
 use Rattle.wit_trace.proofs.Weights.{both_one, moved_weighs}
-use Rattle.wit_trace.proofs.migrating.MigratingMachine.line.Goals as goal
+use Rattle.wit_trace.proofs.migrating.Migrating.moved_line.Goals as goal
 
 pub returns-in-Ok-clause-step : goal.returns-in-Ok-clause-step
 returns-in-Ok-clause-step c =
@@ -15,20 +15,23 @@ returns-in-Ok-clause-step c =
     rw c.in-Moved.is
     (line-goes (standing b) (standing b) c.args.number c.args.bytes.now []
     (record { lines = []; written = refl; on = λ next. refl })
-    (standing new) c.in-Ok.text.items
-    (line-writes b.verifier b.raw b.remarks c.args.number c.args.bytes.now (as_line c.in-Some.line)
-    (standing new) c.in-Ok.text.items
+    (standing new) c.in-Ok.told.items
+    (line-writes b.verifier b.raw b.remarks c.args.number c.args.bytes.now (as_line c.args.line)
+    (standing new) c.in-Ok.told.items
     c.requires.short
-    (c.in-Some.ensures (line_of c.args.bytes.now) c.begin_line-begun.ensures)
+    c.requires.found
     c.in-Ok.ensures))
 
 pub returns-in-Ok-clause-counted : goal.returns-in-Ok-clause-counted
 returns-in-Ok-clause-counted c =
     let b = c.in-Moved.behind in
-    let new = standing c.enter_on_lock.new.self in
-    let call = call_of (as_line c.in-Some.line) in
-    let text = c.in-Ok.text.items in
     rw c.in-Moved.is
-    (both_one (moving_reports (standing b)) (weight b.raw) (moving_reports new) (weighed new)
-    (moved_one b.verifier b.raw b.remarks new c.args.bytes.now text call c.in-Ok.ensures)
-    (moved_weighs b.verifier b.raw b.remarks new c.args.bytes.now text call c.in-Ok.ensures))
+    (moved_one b.verifier b.raw b.remarks (standing c.enter_on_lock.new.self) c.args.bytes.now
+    c.in-Ok.told.items (call_of (as_line c.args.line)) c.in-Ok.ensures)
+
+pub returns-in-Ok-clause-weighed : goal.returns-in-Ok-clause-weighed
+returns-in-Ok-clause-weighed c =
+    let b = c.in-Moved.behind in
+    rw c.in-Moved.is
+    (moved_weighs b.verifier b.raw b.remarks (standing c.enter_on_lock.new.self) c.args.bytes.now
+    c.in-Ok.told.items (call_of (as_line c.args.line)) c.in-Ok.ensures)

@@ -11,8 +11,8 @@ use Rattle.wit_world.specs.Stages.{stage_of}
 use Rattle.wit_world.proofs.Keeping.{seat-within, kept-called}
 use Rattle.wit_world.proofs.Ladder.{and-then, and-else}
 use Rattle.wit_world.proofs.Stepped.{raw-few, called-now}
-use Rattle.wit_world.proofs.world.World.call.Goals as goal
-use Rattle.wit_world.proofs.world.World.call.Goals.{then-makes, else-makes}
+use Rattle.wit_world.proofs.world.World.make_call.Goals as goal
+use Rattle.wit_world.proofs.world.World.make_call.Goals.{then-makes, else-makes}
 
 pub make-requires : goal.make-requires
 make-requires c =

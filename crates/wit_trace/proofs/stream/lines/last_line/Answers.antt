@@ -1,6 +1,6 @@
 use Rattle.std.proofs.Common.{arith}
 use Rattle.wit_trace.proofs.AnswerLemmas.{cut_output}
-use Rattle.wit_trace.proofs.stream.lines.at_end.Goals as goal
+use Rattle.wit_trace.proofs.stream.lines.last_line.Goals as goal
 
 pub returns-else-is_empty : goal.returns-else-is_empty
 returns-else-is_empty g c =
