@@ -16,11 +16,11 @@ use Rattle.wit_model.specs.Rules.State.{State, Known, known_of, types_of, orders
 use Rattle.wit_model.proofs.Orders.Among.{orders-among}
 use Rattle.wit_matrix.specs.Relation.{OrdersAmong, LeadsBy}
 use Rattle.wit_core.specs.declared.verifier.Verifier.TheInside.{Inside}
-use Rattle.wit_core.specs.Kept.{IsTied, start_in, history_in}
+use Rattle.wit_core.specs.Kept.{IsTied, start_in, history_in, known_in}
 use Rattle.wit_core.proofs.Keeping.{types_few}
 
 module _ (v : Inside) (k : IsTied v) where
-  pub known-is : v.known.known ≡ known_of (start_in v) (history_in v)
+  pub known-is : known_in v ≡ known_of (start_in v) (history_in v)
   known-is = ap (λ (s : State). s.known) k.state
 
   -- a known type's number is one of the matrix's

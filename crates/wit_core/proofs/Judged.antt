@@ -20,7 +20,7 @@ use Rattle.wit_model.specs.Rules.History.{chain, is_held}
 use Rattle.wit_model.specs.Rules.Locks.{locks_of, lock_at, unknown_lock}
 use Rattle.wit_model.specs.Rules.Numbers.{is_given, IsGiven, IsNumber}
 use Rattle.wit_model.specs.Rules.State.{Story, State, Seat, Known, state_of, typed_locks, seat_at}
-use Rattle.wit_model.specs.Rules.State.{chain_in, is_seat}
+use Rattle.wit_model.specs.Rules.State.{chain_in, is_seat, found_of}
 use Rattle.wit_model.specs.Rules.Verdict.{Basis, ruling, basis_of, typed_request, chain_asked}
 use Rattle.wit_model.specs.Rules.Verdict.{orders_behind, verdict}
 use Rattle.wit_model.proofs.Chains.Held.{made_sane}
@@ -44,7 +44,7 @@ use Rattle.wit_check.specs.Bases.{basis, AreTypes}
 use Rattle.wit_check.specs.Answers.{new_orders}
 use Rattle.wit_check.specs.Held.{sleep_chain, spin_chain, IsJudgeable}
 use Rattle.wit_core.specs.declared.verifier.Verifier.TheInside.{Inside}
-use Rattle.wit_core.specs.Kept.{start_in, history_in, story_in}
+use Rattle.wit_core.specs.Kept.{start_in, history_in, story_in, known_in}
 use Rattle.wit_core.specs.Seats.{seat_in, locks_in, HoldFor}
 use Rattle.wit_core.specs.Verdict.{orders_taught}
 use Rattle.wit_core.proofs.Apt.{known-is}
@@ -78,7 +78,7 @@ module _ {v : Inside} {s : Story} (this : IsSeenAs v s) where
         types = ts;
         lock_types = ls;
         orders = v.known.known.orders;
-        found = v.known.known.found;
+        found = found_of (start_in v) (history_in v);
         blessed = bs;
       }
 
@@ -206,11 +206,11 @@ module _ {v : Inside} {s : Story} (this : IsSeenAs v s) where
         same_types same_blessed
         ∙ ap₂ (λ ls w. F (with_names v.known.known.types ls v.known.known.blessed) w
         (sleep_chain c t) (spin_chain c t) asked) are watches
-        ∙ ap₂ (λ sl sp. F (basis_of v.known.known) v.watch sl sp asked) (chain-of-list false)
+        ∙ ap₂ (λ sl sp. F (basis_of (known_in v)) v.watch sl sp asked) (chain-of-list false)
         (chain-of-list true)
-        ∙ ap (F (basis_of v.known.known) v.watch (locks_in false (seat_in v.seats t))
+        ∙ ap (F (basis_of (known_in v)) v.watch (locks_in false (seat_in v.seats t))
         (locks_in true (seat_in v.seats t))) is
-        ∙ ap (λ (x : Seat). F (basis_of v.known.known) v.watch x.sleep x.spin
+        ∙ ap (λ (x : Seat). F (basis_of (known_in v)) v.watch x.sleep x.spin
         (typed_request (state_of s).known q)) (sym (view-is v.seats t))
         ∙ ap (λ (x : State). F (basis_of x.known) x.watch (seat_at x t).sleep (seat_at x t).spin
         (typed_request (state_of s).known q)) (now this)
@@ -222,6 +222,9 @@ module _ {v : Inside} {s : Story} (this : IsSeenAs v s) where
         (pairs : HasSameFound relation.found v.known.known.found)
         (are : types ≡ map (λ (l : Lock). l.type_no) v.known.known.locks)
         (is_asked : asked ≡ typed_request (state_of s).known q) where
+      pairs-told : HasSameFound relation.found (found_of (start_in v) (history_in v))
+      pairs-told i j = pairs i j ∙ this.tied.found i j
+
       -- the ruling over the table and the matrix is the rules' verdict
       pub verdict-told : (profile : Profile) (watch : Watch) → profile ≡ v.profile → watch ≡ v.watch
           → ruling profile (basis names relation types) watch (sleep_chain c t)
@@ -229,8 +232,9 @@ module _ {v : Inside} {s : Story} (this : IsSeenAs v s) where
           ≡ verdict (state_of s).profile (state_of s).known (state_of s).watch
           (seat_at (state_of s) t) q
       verdict-told profile watch profile_is watches =
-          same-ruling (basis names relation types) v.known.known.orders v.known.known.found direct
-          (same_before relation.orders v.known.known.orders direct) pairs
+          same-ruling (basis names relation types) v.known.known.orders
+          (found_of (start_in v) (history_in v)) direct
+          (same_before relation.orders v.known.known.orders direct) pairs-told
           profile watch (sleep_chain c t) (spin_chain c t) asked
           ∙ told-now (ruling profile) names types watch q asked same_types same_blessed are
           watches is_asked
@@ -243,8 +247,9 @@ module _ {v : Inside} {s : Story} (this : IsSeenAs v s) where
           ≡ orders_taught (state_of s) t q
       orders-told =
           ap (orders_behind asked)
-          (parents-same (basis names relation types) v.known.known.orders v.known.known.found direct
-          (same_before relation.orders v.known.known.orders direct) pairs
+          (parents-same (basis names relation types) v.known.known.orders
+          (found_of (start_in v) (history_in v)) direct
+          (same_before relation.orders v.known.known.orders direct) pairs-told
           asked [] (reverse (chain_asked (basis names relation types) (sleep_chain c t)
           (spin_chain c t) asked)))
           ∙ told-now (λ g w sleep spin a. new_orders g (chain_asked g sleep spin a) a) names types

@@ -4,8 +4,10 @@ use Rattle.std.proofs.Common.{sum_by, sym, ap, ◌∙◌, subst, arith, Bool, ap
 use Rattle.wit_model.specs.declared.calls.Call.{Call}
 use Rattle.wit_model.specs.declared.calls.Reply.{Reply}
 use Rattle.wit_model.specs.declared.calls.Entry.{Entry}
+use Rattle.wit_model.specs.declared.locks.TypeNo.{TypeNo}
 use Rattle.wit_model.specs.declared.locks.Watch.{Watch}
 use Rattle.wit_model.specs.Rules.State.{Start, Story, State, Known, state_of, owed_by, orders_of}
+use Rattle.wit_model.specs.Rules.State.{found_of}
 use Rattle.wit_model.specs.Rules.Step.{answer_of, story_after, logged, is_logged, IsLegal}
 use Rattle.wit_model.proofs.Chains.Seats.{entry}
 use Rattle.wit_model.proofs.Orders.Among.{orders-among}
@@ -15,15 +17,15 @@ use Rattle.wit_model.proofs.Orders.Once.{distinct_legal}
 use Rattle.wit_model.proofs.Orders.Sound.{sound_legal}
 use Rattle.wit_model.proofs.Orders.Started.{sound_started, types_started}
 use Rattle.wit_model.specs.Rules.Start.{start_fault}
-use Rattle.wit_model.specs.Rules.Orders.{AreDistinct, IsSound}
-use Rattle.wit_matrix.specs.Relation.{OrdersAmong}
+use Rattle.wit_model.specs.Rules.Orders.{AreDistinct, IsSound, is_found}
+use Rattle.wit_matrix.specs.Relation.{OrdersAmong, HasSameFound}
 use Rattle.wit_core.specs.declared.verifier.Verifier.TheInside.{Inside}
 use Rattle.wit_core.specs.Known.{Facts}
 use Rattle.wit_core.specs.Held.{seat_view}
 use Rattle.wit_core.specs.Seats.{Seating}
 use Rattle.wit_core.proofs.Steps.{state, same_state}
 use Rattle.wit_core.specs.Journal.{Journal}
-use Rattle.wit_core.specs.Kept.{IsTied, start_in, history_in, story_in, state_in}
+use Rattle.wit_core.specs.Kept.{IsTied, start_in, history_in, story_in, known_in, state_in}
 use Rattle.wit_model.specs.Rules.Locks.{destroyed_of}
 use Rattle.wit_core.specs.Live.{live_flags}
 
@@ -100,9 +102,13 @@ same_story s s' f f' h h' es ef eh =
 
 module _ (v : Inside) (t : ℕ) (call : Call) (reply : Reply) (known : Known) (live : List Bool)
     (seating : Seating) (watch : Watch) (owes : ℕ) (new_known : Facts) (new_seats : Seating)
-    (new_watch : Watch) (new_log : Journal) (spare : ℕ) {room : ℕ}
+    (new_watch : Watch) (new_log : Journal) (spare : ℕ) {room : ℕ} {pairs : List (TypeNo × TypeNo)}
     (left : Leaves v t call reply known live seating watch owes)
-    (knows : new_known ≡ record v.known { known = known; live = live; spare = room })
+    (knows : new_known ≡ record v.known {
+      known = record known { found = pairs };
+      live = live;
+      spare = room;
+    })
     (rows : new_seats ≡ seating) (watches : new_watch ≡ watch)
     (log : new_log ≡ record v.log {
       history = entry t call reply ∷ v.log.history;
@@ -118,19 +124,31 @@ module _ (v : Inside) (t : ℕ) (call : Call) (reply : Reply) (known : Known) (l
       (ap (λ (f : Facts). f.known.blessed) knows ∙ ap (λ (s : State). s.known.blessed) left.state))
       (ap (λ (f : Facts). f.files) knows) (ap (λ (l : Journal). l.history) log)
 
+  abbrev entered : Inside
+  entered = with_parts v new_known new_seats new_watch new_log
+
+  found_entered : found_of (start_in entered) (history_in entered) ≡ known.found
+  found_entered =
+      ap (λ (s : Story). found_of s.start s.history) story_entered
+      ∙ sym (ap (λ (s : State). s.known.found) left.state)
+
+  known_entered : known_in entered ≡ known
+  known_entered =
+      ap₂ (λ (f : Facts) (fs : List (TypeNo × TypeNo)). record f.known { found = fs }) knows
+      found_entered
+
   -- and keeps its invariant
-  pub kept_entered : IsTied v → is_logged reply ≡ true → answer_of (story_in v) t call ≡ Ok reply
-      → IsTied (with_parts v new_known new_seats new_watch new_log)
-  kept_entered k kept ok =
+  pub kept_entered : HasSameFound pairs known.found → IsTied v → is_logged reply ≡ true
+      → answer_of (story_in v) t call ≡ Ok reply → IsTied entered
+  kept_entered finds k kept ok =
       let same = story_entered in
       let seats : map seat_view new_seats.seats ≡ map seat_view seating.seats =
       ap (λ (r : Seating). map seat_view r.seats) rows in
-      let here : state_in (with_parts v new_known new_seats new_watch new_log)
-      ≡ state v.limits v.profile (length v.known.files) known
+      let here : state_in entered ≡ state v.limits v.profile (length v.known.files) known
       (destroyed_of (entry t call reply ∷ history_in v)) (map seat_view seating.seats) watch
       (length (history_in v) + 1) =
       same_state v.limits v.profile _ _ _ _ _ _ _ _ _ _ _ _
-      (ap (λ (f : Facts). length f.files) knows) (ap (λ (f : Facts). f.known) knows)
+      (ap (λ (f : Facts). length f.files) knows) known_entered
       (ap (λ (l : Journal). destroyed_of l.history) log) seats watches
       (ap (λ (l : Journal). length l.history) log ∙ omega arith) in
       record {
@@ -138,6 +156,9 @@ module _ (v : Inside) (t : ℕ) (call : Call) (reply : Reply) (known : Known) (l
         legal =
             subst (λ (s : Story). IsLegal s.start s.files s.history) (sym same) (ok, kept, k.legal);
         state = here ∙ left.state ∙ ap state_of (sym same);
+        found = λ a b.
+            ap (λ (f : Facts). is_found f.known.found a b) knows ∙ finds a b
+            ∙ ap (λ fs. is_found fs a b) (sym found_entered);
         live = ap (λ (f : Facts). f.live) knows ∙ left.flags
             ∙ ap₂ (λ (f : Facts) (l : Journal). live_flags (length f.known.locks)
             (destroyed_of l.history)) (sym knows) (sym log);

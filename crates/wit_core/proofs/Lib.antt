@@ -28,6 +28,7 @@ pub mod Taught
 pub mod Told
 pub mod Turning
 pub mod Turns
+pub mod TypedLocks
 pub mod Unheld
 pub mod WaitTables
 pub mod Waits

@@ -124,23 +124,21 @@ module _ (old new : List ((TypeNo × TypeNo) × ℕ)) (os : List Adoption) (orde
 -- what is kept once one more order is adopted
 pub related-adopted : (old new : Inside) (order : Adoption) → IsRelated old
     → CanFollow old.matrix.size (reverse old.adopted.items) order.parent.0 order.child.0
-    → new.adopted.items ≡ old.adopted.items ++ order ∷ [] → new.found ≡ old.found
+    → new.adopted.items ≡ old.adopted.items ++ order ∷ []
     → Adopts old.matrix order.parent.0 order.child.0 new.matrix
     → ((p : TypeNo × TypeNo) → lookup (is_pair p) new.places.entries
     ≡ cond (is_pair (order.parent, order.child) p) (Some (length old.adopted.items))
     (lookup (is_pair p) old.places.entries)) → IsRelated new
-related-adopted old new order k follows pushed found adopts entered =
+related-adopted old new order k follows pushed adopts entered =
     let newest : reverse new.adopted.items ≡ order ∷ reverse old.adopted.items =
     ap reverse pushed ∙ reverse-append old.adopted.items (order ∷ []) in
     record {
       orders =
           rw newest (adopted_by old.matrix.orders (reverse old.adopted.items) new.matrix.orders
           order k.orders adopts.orders);
-      found = rw found (λ a b. adopts.found a b ∙ k.found a b);
       orders_among =
           rw (newest, adopts.size) (among-adopted old.matrix.size
           (reverse old.adopted.items) order k.orders_among follows.parent follows.child);
-      found_among = rw (found, adopts.size) k.found_among;
       places =
           rw pushed (places-adopted old.places.entries new.places.entries old.adopted.items order
           k.places entered);

@@ -2,7 +2,7 @@
 use Rattle.std.proofs.Common.{◌≡◌, ℕ, Bool, true, false, cond, eqb, ◌||◌, List, [], ◌∷◌, Ok, Err}
 use Rattle.std.proofs.Common.{length, refl, sym, ap, ◌∙◌, subst}
 use Rattle.std.specs.List.{AllByRecursion, list_all}
-use Rattle.std.proofs.lemmas.Bool.{and_parts}
+use Rattle.std.proofs.lemmas.Bool.{and_parts, true≢false, false≢true}
 use Rattle.wit_model.specs.declared.locks.Lock.{Lock}
 use Rattle.wit_model.specs.declared.calls.Adoption.{Adoption}
 use Rattle.wit_model.specs.declared.calls.TypedRequest.{TypedRequest}
@@ -13,12 +13,14 @@ use Rattle.wit_model.specs.declared.calls.Reply.TheVariants.{Adopted, AdoptedAll
 use Rattle.wit_model.specs.declared.calls.Reply.TheVariants.{Reversal}
 use Rattle.wit_model.specs.Rules.Locks.{lock_at}
 use Rattle.wit_model.specs.Rules.Numbers.{is_number, IsNumber}
-use Rattle.wit_model.specs.Rules.Orders.{is_before, is_direct, taught_at}
+use Rattle.wit_model.specs.Rules.Orders.{is_before, is_direct, taught_at, is_pair_of, is_found}
+use Rattle.wit_model.specs.Rules.Orders.{found_once}
 use Rattle.wit_model.specs.Rules.Defining.{are_of_two_kinds}
 use Rattle.wit_model.specs.declared.faults.Fault.TheVariants.{KindMismatch, SameType, WrongOrder}
 use Rattle.wit_model.specs.declared.locks.TypeNo.{TypeNo}
 use Rattle.wit_model.specs.declared.calls.Reply.TheVariants as reply
 use Rattle.wit_model.specs.Rules.State.{Known, state_of, known_of, types_of, typed_locks, orders_of}
+use Rattle.wit_model.specs.Rules.State.{found_of, found_after}
 use Rattle.wit_model.specs.Rules.Verdict.{typed_request, orders_behind}
 use Rattle.wit_model.specs.Rules.Step.{answer_of, is_logged}
 use Rattle.wit_model.proofs.Histories.Accepted.{same_reply, check_accepted}
@@ -28,6 +30,7 @@ use Rattle.wit_model.proofs.Orders.Orderly.{adopted-orderly, defined-orderly, si
 use Rattle.wit_model.proofs.Orders.Orderly.{duplicate-known, reversal-known, lock-type, number-from}
 use Rattle.wit_model.proofs.Orders.Orderly.{parents-known}
 use Rattle.wit_model.proofs.Orders.Sound.{taught-all}
+use Rattle.wit_matrix.specs.Relation.{HasSameFound}
 use Rattle.wit_core.specs.declared.verifier.Verifier.TheInside.{Inside}
 use Rattle.wit_core.specs.Following.{CanFollow, CanAllFollow}
 use Rattle.wit_core.specs.Known.{IsApt}
@@ -74,7 +77,42 @@ all-can-follow q n base child (p ∷ ps) os grown free all = (
     first true b none = none
     first false b none = refl
 
+-- ---- pairs that are found
+
+found-once : (a b : TypeNo) (fs gs : List (TypeNo × TypeNo)) → HasSameFound fs gs
+    → HasSameFound (found_once a b fs) (found_once a b gs)
+found-once a b fs gs same i j =
+    go (is_found fs a.0 b.0) (is_found gs a.0 b.0) (same a.0 b.0)
+  where
+    go : (x y : Bool) → x ≡ y → is_found (cond x fs ((a, b) ∷ fs)) i j
+        ≡ is_found (cond y gs ((a, b) ∷ gs)) i j
+    go true true e = same i j
+    go false false e = ap (λ t. is_pair_of i j (a, b) || t) (same i j)
+    go true false e = absurd (true≢false e)
+    go false true e = absurd (false≢true e)
+
+-- a reply adds the same pairs to the same
+same-found : (locks : List Lock) (r : Reply) (fs gs : List (TypeNo × TypeNo)) → HasSameFound fs gs
+    → HasSameFound (found_after locks r fs) (found_after locks r gs)
+same-found locks (Silent a b) fs gs same = found-once a b fs gs same
+same-found locks (Reversal c) fs gs same =
+    found-once (lock_at locks c.held.lock.0).type_no (lock_at locks c.asked.lock.0).type_no fs gs
+    same
+same-found locks (Duplicate d) fs gs same =
+    found-once (lock_at locks d.asked.lock.0).type_no (lock_at locks d.asked.lock.0).type_no fs gs
+    same
+same-found locks r fs gs same = same
+
 module _ (v : Inside) (k : IsTied v) where
+  -- the pairs once a reply is learnt are the rules'
+  pub found-told : (r : Reply) (fs : List (TypeNo × TypeNo))
+      → HasSameFound fs (found_after v.known.known.locks r v.known.known.found)
+      → HasSameFound fs
+      (found_after v.known.known.locks r (found_of (start_in v) (history_in v)))
+  found-told r fs finds i j =
+      finds i j ∙ same-found v.known.known.locks r v.known.known.found
+      (found_of (start_in v) (history_in v)) k.found i j
+
   all-numbers : (ps : List TypeNo)
       → list_all (λ (p : TypeNo). is_number (length (types_of (start_in v) (history_in v))) p.0) ps
       ≡ true

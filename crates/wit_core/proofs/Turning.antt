@@ -30,7 +30,7 @@ use Rattle.wit_held.specs.Marks.{marked}
 use Rattle.wit_core.specs.declared.verifier.Verifier.TheInside.{Inside}
 use Rattle.wit_core.specs.Held.{numbers, seat_view}
 use Rattle.wit_core.specs.Journal.{Journal}
-use Rattle.wit_core.specs.Kept.{start_in, history_in, story_in}
+use Rattle.wit_core.specs.Kept.{start_in, history_in, story_in, known_in}
 use Rattle.wit_core.specs.Live.{live_flags}
 use Rattle.wit_core.specs.Seats.{Holdings, with_seat}
 use Rattle.wit_core.specs.Turning.{changed, turn_call, mark_call}
@@ -97,7 +97,7 @@ module _ {v : Inside} {s : Story} (this : IsSeenAs v s) (t : ℕ) (l : LockNo) w
         → known_of (start_in v) h ≡ known_of (start_in v) (entry t call Done ∷ h)
         → destroyed_of h ≡ destroyed_of (entry t call Done ∷ h)
         → watch_of h ≡ watch_of (entry t call Done ∷ h)
-        → Leaves v t call Done v.known.known v.known.live
+        → Leaves v t call Done (known_in v) v.known.live
         (with_seat t (changed spin l.0 f) v.seats) v.watch (v.log.owed + 0)
     leaves-changed call f keeps ok plain seat knows lives watches =
         let sane = sane_next this t call Done ok in
@@ -115,7 +115,7 @@ module _ {v : Inside} {s : Story} (this : IsSeenAs v s) (t : ℕ) (l : LockNo) w
         (watch-now this ∙ watches) (omega (arith, same, owed_now this)) refl
 
     pub leaves_turn : (m : Mode) → answer_of s t (turn_call m l) ≡ Ok Done
-        → Leaves v t (turn_call m l) Done v.known.known v.known.live
+        → Leaves v t (turn_call m l) Done (known_in v) v.known.live
         (with_seat t (changed spin l.0 (in_mode m)) v.seats) v.watch (v.log.owed + 0)
     leaves_turn Exclusive ok =
         leaves-changed (Upgrade l) (in_mode Exclusive) (λ i. refl) ok refl
@@ -127,7 +127,7 @@ module _ {v : Inside} {s : Story} (this : IsSeenAs v s) (t : ℕ) (l : LockNo) w
         (known-same (start_in v) h t (Downgrade l) Done refl refl refl refl) refl refl
 
     pub leaves_mark : (b : Bool) → answer_of s t (mark_call b l) ≡ Ok Done
-        → Leaves v t (mark_call b l) Done v.known.known v.known.live
+        → Leaves v t (mark_call b l) Done (known_in v) v.known.live
         (with_seat t (changed spin l.0 (marked b)) v.seats) v.watch (v.log.owed + 0)
     leaves_mark true ok =
         leaves-changed (NoRelease l) (marked true) (λ i. refl) ok refl

@@ -24,6 +24,7 @@ use Rattle.wit_matrix.specs.Relation.{Relation}
 use Rattle.wit_check.specs.Bases.{basis}
 use Rattle.wit_check.specs.Held.{sleep_chain, spin_chain}
 use Rattle.wit_core.specs.declared.verifier.Verifier.TheInside.{Inside}
+use Rattle.wit_core.specs.Kept.{known_in}
 use Rattle.wit_core.specs.Seats.{HoldFor}
 use Rattle.wit_core.proofs.Judged.{chain-of-list}
 use Rattle.wit_core.proofs.Now.{now, view-is}
@@ -61,11 +62,11 @@ never-allowed k named flags i none =
     || (has_flag flags.0 0x02 && is_sleepable (basis_of k) t)) (sym typeless)
 
 -- a lock that was made has one
-pub given-by : (locks : List Lock) (types : List TypeNo) (l : ℕ) (r : Option (Bor Lock))
+pub given-by : (locks : List Lock) (types : List TypeNo) (l : ℕ) (r : Option TypeNo)
     → types ≡ map (λ (x : Lock). x.type_no) locks
-    → option_copied r ≡ with_number locks l → is_some r ≡ true → IsGiven types l
-given-by locks types l None are same some = absurd (true≢false (sym some))
-given-by locks types l (Some x) are same some =
+    → r ≡ option_map (λ (x : Lock). x.type_no) (with_number locks l) → is_some r ≡ true
+    → IsGiven types l
+given-by locks types l r are is some =
     subst (λ (ts : List TypeNo). IsGiven ts l) (sym are) (go (is_given locks l) refl)
   where
     go : (b : Bool) → is_given locks l ≡ b → IsGiven (map (λ (y : Lock). y.type_no) locks) l
@@ -76,8 +77,14 @@ given-by locks types l (Some x) are same some =
               (arith, leb-true l (length locks) parts.1, length-map locks (λ (y : Lock). y.type_no)),
         )
     go false e =
-        absurd (true≢false (ap (λ (o : Option Lock). is_some o)
-        (same ∙ with_number-none locks l e)))
+        absurd (true≢false (sym some ∙ ap is_some (is
+        ∙ ap (option_map (λ (x : Lock). x.type_no)) (with_number-none locks l e))))
+
+-- and one without a type wasn't made
+pub none-by : (o : Option Lock) (r : Option TypeNo) → r ≡ option_map (λ (x : Lock). x.type_no) o
+    → is_some r ≡ false → o ≡ None
+none-by None r is none = refl
+none-by (Some x) r is none = absurd (true≢false (sym (ap is_some is) ∙ none))
 
 module _ {v : Inside} {s : Story} (this : IsSeenAs v s) where
   pub allowed-told : (names : Names) (relation : Relation) (types : List TypeNo)
@@ -108,9 +115,9 @@ module _ {v : Inside} {s : Story} (this : IsSeenAs v s) (t : ℕ) (is : is_seat 
   warned-told names relation types named flags same are =
       ap₂ (λ ts ls. length (warning (with_types names relation ts ls) v.watch named flags
       (sleep_chain c t) (spin_chain c t))) same are
-      ∙ ap₂ (λ sl sp. length (warning (basis_of v.known.known) v.watch named flags sl sp))
+      ∙ ap₂ (λ sl sp. length (warning (basis_of (known_in v)) v.watch named flags sl sp))
       (chain-of-list this t is c holds false) (chain-of-list this t is c holds true)
       ∙ ap (λ (r : model.Seat). length
-      (warning (basis_of v.known.known) v.watch named flags r.sleep r.spin))
+      (warning (basis_of (known_in v)) v.watch named flags r.sleep r.spin))
       (sym (view-is v.seats t))
       ∙ ap (λ (x : State). length (warned x t named flags)) (now this)

@@ -2,15 +2,15 @@
 use Rattle.std.proofs.Common.{◌≡◌, ℕ, ◌≤◌, Option, None, Some, IfSome, Ok, true, ap, sym, subst}
 use Rattle.std.proofs.Common.{refl, arith}
 use Rattle.wit_model.specs.declared.calls.Reply.{Reply}
-use Rattle.wit_model.specs.declared.calls.Reply.TheVariants.{Adopted, AdoptedAll, Silent, Duplicate}
-use Rattle.wit_model.specs.declared.calls.Reply.TheVariants.{Reversal}
-use Rattle.wit_model.specs.Rules.Orders.{IsSound, cell}
-use Rattle.wit_model.specs.Rules.State.{Known}
+use Rattle.wit_model.specs.declared.calls.Reply.TheVariants.{Adopted, AdoptedAll}
+use Rattle.wit_model.specs.Rules.Orders.{IsSound, is_direct}
+use Rattle.wit_model.specs.Rules.State.{Known, orders_of, found_of}
 use Rattle.wit_model.specs.Rules.Step.{answer_of, is_logged}
+use Rattle.wit_matrix.proofs.Settled.{same_cell}
 use Rattle.wit_core.specs.declared.verifier.Verifier.TheInside.{Inside}
 use Rattle.wit_core.specs.Journal.{Journal}
 use Rattle.wit_core.specs.declared.ready.Ready.{Ready}
-use Rattle.wit_core.specs.Kept.{IsReady, IsTied, IsKept, story_in}
+use Rattle.wit_core.specs.Kept.{IsReady, IsTied, IsKept, story_in, start_in, history_in}
 use Rattle.wit_core.specs.Known.{Facts, IsRoomFor}
 use Rattle.wit_core.specs.Plans.{planned_call, entries_for}
 use Rattle.wit_core.proofs.Apart.{apart_kept}
@@ -23,14 +23,14 @@ use Rattle.wit_core.proofs.Seen.{as_itself}
 room_more : (r : Reply) (n m : ℕ) → n ≤ m → IsRoomFor r n → IsRoomFor r m
 room_more (Adopted p c) n m le room = omega arith
 room_more (AdoptedAll pairs) n m le room = omega arith
-room_more (Silent a b) n m le room = omega arith
-room_more (Duplicate d) n m le room = omega arith
-room_more (Reversal x) n m le room = omega arith
 room_more r n m le room = tt
 
 pub kept : {v : Inside} → IsTied v → IsKept v
 kept {v} k = record {
-  cells = λ a b. ap (λ (x : Known). cell x.orders x.found a b) (known-is v k);
+  cells = λ a b.
+      same_cell v.known.known.orders (orders_of (start_in v) (history_in v)) v.known.known.found
+      (found_of (start_in v) (history_in v))
+      (λ i j. ap (λ (x : Known). is_direct x.orders i j) (known-is v k)) k.found a b;
   sound = subst IsSound (sym (ap (λ (x : Known). x.orders) (known-is v k))) (sound_kept v k);
   chains = λ t spin given. chain-held v k t spin given;
   chunks = λ c holds. holds-all (as_itself k) c holds;
@@ -68,6 +68,7 @@ kept_ready v known log ready k knows logs =
       started = k.tied.started;
       legal = k.tied.legal;
       state = k.tied.state;
+      found = k.tied.found;
       live = k.tied.live;
       owed = k.tied.owed;
       limit = k.tied.limit;

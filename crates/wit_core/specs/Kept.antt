@@ -7,10 +7,12 @@ use Rattle.wit_model.specs.Rules.Clean.{CleanMeansNoCircle}
 use Rattle.wit_model.specs.Rules.History.{chain}
 use Rattle.wit_model.specs.Rules.Numbers.{IsNumber}
 use Rattle.wit_model.specs.Rules.Orders.{IsSound, cell}
-use Rattle.wit_model.specs.Rules.State.{Start, Story, State, state_of, orders_of, found_of, owed}
+use Rattle.wit_model.specs.Rules.State.{Start, Story, State, Known, state_of, orders_of, found_of}
+use Rattle.wit_model.specs.Rules.State.{owed}
 use Rattle.wit_model.specs.Rules.Start.{start_fault}
 use Rattle.wit_model.specs.Rules.Step.{answer_of, is_logged, IsLegal}
 use Rattle.wit_model.specs.Rules.Locks.{destroyed_of}
+use Rattle.wit_matrix.specs.Relation.{HasSameFound}
 use Rattle.wit_core.specs.Live.{live_flags}
 use Rattle.wit_core.specs.declared.ready.Ready.{Ready}
 use Rattle.wit_core.specs.declared.verifier.Verifier.TheInside.{Inside}
@@ -41,12 +43,16 @@ story_in v =
       ready = option_map planned v.ready;
     }
 
+-- what is known, with the pairs found in violation as the rules have them
+abbrev pub known_in : Inside → Known
+known_in v = record v.known.known { found = found_of (start_in v) (history_in v) }
+
 abbrev pub state_in : Inside → State
 state_in v = record {
   sizes = v.limits;
   profile = v.profile;
   files = length v.known.files;
-  known = v.known.known;
+  known = known_in v;
   destroyed = destroyed_of (history_in v);
   seats = map seat_view v.seats.seats;
   watch = v.watch;
@@ -62,13 +68,14 @@ pub record IsReady (v : Inside) (r : Ready) : Type 0 where
   pub log : entries_for (planned_call r.plan) ≤ v.log.spare
   pub known : IsRoomFor r.reply v.known.spare
 
--- the start is accepted, the log is a legal history, the parts are its state, the locks that
--- weren't destroyed are live, the log owes what the rules say, the limits of the log, of types and
--- of chunks are the start's, and what is prepared is ready
+-- the start is accepted, the log is a legal history, the parts are its state, the same pairs are
+-- found in violation, the locks that weren't destroyed are live, the log owes what the rules say,
+-- the limits of the log, of types and of chunks are the start's, and what is prepared is ready
 pub record IsTied (v : Inside) : Type 0 where
   pub started : start_fault (start_in v) ≡ None
   pub legal : IsLegal (start_in v) v.known.files (history_in v)
   pub state : state_in v ≡ state_of (story_in v)
+  pub found : HasSameFound v.known.known.found (found_of (start_in v) (history_in v))
   pub live : v.known.live ≡ live_flags (length v.known.known.locks) (destroyed_of (history_in v))
   pub owed : v.log.owed ≡ owed (state_in v)
   pub limit : v.log.limit ≡ v.limits.log

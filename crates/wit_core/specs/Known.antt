@@ -14,8 +14,9 @@ use Rattle.wit_model.specs.Rules.Numbers.{IsNumber}
 use Rattle.wit_table.specs.Known.{enroll_answer}
 use Rattle.wit_core.specs.Following.{CanFollow, CanAllFollow}
 
--- what is known, whether each lock is live, the files that were named, how many types there may be,
--- and for how many more orders, and pairs found in violation, there is memory
+-- what is known, where the pairs found in violation are those of the rules in any order; whether
+-- each lock is live, the files that were named, how many types there may be, and for how many more
+-- orders there is memory
 pub record Facts : Type 0 where
   pub known : Known
   pub live : List Bool
@@ -40,13 +41,10 @@ IsApt n k (Reversal c) = IsNumber n (lock_at k.locks c.held.lock.0).type_no.0
     × IsNumber n (lock_at k.locks c.asked.lock.0).type_no.0
 IsApt n k _ = Unit {0}
 
--- memory for n more orders and pairs is enough for what a reply teaches
+-- memory for n more orders is enough for those that a reply teaches
 abbrev pub IsRoomFor : Reply → ℕ → Type 0
 IsRoomFor (Adopted p c) n = 0 < n
 IsRoomFor (AdoptedAll pairs) n = length pairs ≤ n
-IsRoomFor (Silent a b) n = 0 < n
-IsRoomFor (Duplicate d) n = 0 < n
-IsRoomFor (Reversal c) n = 0 < n
 IsRoomFor _ n = Unit {0}
 
 -- what is known once a request was answered so

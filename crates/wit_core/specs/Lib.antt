@@ -9,6 +9,7 @@ pub mod Known
 pub mod Listed
 pub mod Live
 pub mod Logged
+pub mod MadeLocks
 pub mod Numbered
 pub mod Ordering
 pub mod Plans
@@ -19,4 +20,5 @@ pub mod Searching
 pub mod Seated
 pub mod Seats
 pub mod Turning
+pub mod TypedLocks
 pub mod Verdict

@@ -6,22 +6,20 @@ use Rattle.std.specs.Map.{lookup}
 use Rattle.wit_model.specs.declared.calls.Adoption.{Adoption}
 use Rattle.wit_model.specs.declared.locks.TypeNo.{TypeNo}
 use Rattle.wit_model.specs.Rules.Orders.{is_adoption_of}
-use Rattle.wit_matrix.specs.Relation.{HasSameOrders, HasSameFound, OrdersAmong, FoundAmong}
+use Rattle.wit_matrix.specs.Relation.{HasSameOrders, OrdersAmong}
 use Rattle.indexmap.specs.IndexMap.{spare}
 use Rattle.wit_core.specs.declared.orders.Orders.TheInside.{Inside}
 use Rattle.wit_core.specs.Ordering.{Ordering}
 
--- for how many orders more, with their places, and for how many pairs there is memory
+-- for how many orders more, with their places, there is memory
 abbrev pub room_in : Inside → ℕ
-room_in o =
-    min (vec_capacity o.adopted - vec_len o.adopted)
-    (min (spare o.places) (vec_capacity o.found - vec_len o.found))
+room_in o = min (vec_capacity o.adopted - vec_len o.adopted) (spare o.places)
 
 abbrev pub ordering_in : Inside → Ordering
 ordering_in o = record {
   size = o.matrix.size;
   orders = reverse o.adopted.items;
-  found = reverse o.found.items;
+  found = o.matrix.found;
   spare = room_in o;
 }
 
@@ -41,11 +39,9 @@ pub record HavePlaces (places : List ((TypeNo × TypeNo) × ℕ))
   pub tells : (a b : TypeNo) → order_at orders (lookup (is_pair (a, b)) places)
       ≡ find (is_adoption_of a.0 b.0) (reverse orders)
 
--- the matrix holds the same orders and pairs, all are between its types, and the places are those
--- of the orders
+-- the matrix holds the same orders, all are between its types, and the places are those of the
+-- orders
 pub record IsRelated (o : Inside) : Type 0 where
   pub orders : HasSameOrders o.matrix.orders (reverse o.adopted.items)
-  pub found : HasSameFound o.matrix.found (reverse o.found.items)
   pub orders_among : OrdersAmong o.matrix.size (reverse o.adopted.items)
-  pub found_among : FoundAmong o.matrix.size (reverse o.found.items)
   pub places : HavePlaces o.places.entries o.adopted.items

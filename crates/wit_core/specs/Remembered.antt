@@ -1,6 +1,5 @@
 -- What is known as its callers see it.
-use Rattle.std.specs.Prelude.{ℕ, ◌≡◌, map, length}
-use Rattle.wit_model.specs.declared.locks.Lock.{Lock}
+use Rattle.std.specs.Prelude.{ℕ, ◌≡◌, length}
 use Rattle.wit_table.specs.Known.{live_of}
 use Rattle.wit_core.specs.Known.{Facts}
 use Rattle.wit_core.specs.Live.{live_count}
@@ -10,7 +9,7 @@ abbrev pub facts_in : Inside → Facts
 facts_in k = record {
   known = record {
     types = k.names.types;
-    locks = k.locks.items;
+    locks = k.locks.locks;
     orders = k.orders.orders;
     found = k.orders.found;
     blessed = k.names.blessed;
@@ -23,13 +22,12 @@ facts_in k = record {
 
 -- how many live locks each type has is how many of the locks are live and of it
 abbrev pub AreCounted : Inside → Type 0
-AreCounted k = (t : ℕ) → live_of k.names t ≡ live_count k.locks.items k.live.items t
+AreCounted k = (t : ℕ) → live_of k.names t ≡ live_count k.locks.locks k.live.items t
 
--- there may be orders between all types that there may be, and all numbers of files; the types of
--- the locks are theirs; and each lock is live or not, which the counts of live locks know
+-- there may be orders between all types that there may be, and all numbers of files; and each lock
+-- is live or not, which the counts of live locks know
 pub record IsSized (k : Inside) : Type 0 where
   pub orders : k.orders.size ≡ k.names.most_types
   pub files : k.names.most_files ≡ 65535
-  pub typed : k.lock_types.items ≡ map (λ (l : Lock). l.type_no) k.locks.items
-  pub live : length k.live.items ≡ length k.locks.items
+  pub live : length k.live.items ≡ length k.locks.locks
   pub counts : AreCounted k

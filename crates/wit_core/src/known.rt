@@ -2,23 +2,24 @@
 
 ghost use Rattle.std.specs.Prelude.{◌≡◌, ◌<◌, ◌≤◌, ◌++◌, [], ◌∷◌, true, false, map, length, Ok};
 ghost use Rattle.std.specs.Prelude.{OnOk, OnErr, IfOk, IfErr};
-ghost use Rattle.std.specs.Option.{option_copied};
 ghost use Rattle.wit_model.specs.declared.faults.Fault.TheVariants.{OutOfMemory};
 ghost use Rattle.wit_model.specs.declared.locks.Lock.{Lock};
 ghost use Rattle.wit_model.specs.Rules.Files.{is_known_file, file_answer, files_after};
 ghost use Rattle.wit_model.specs.Rules.Locks.{lock_at};
-ghost use Rattle.wit_model.specs.Rules.Numbers.{with_number, with_changed, IsGiven};
+ghost use Rattle.wit_model.specs.Rules.Numbers.{with_changed, IsGiven};
 ghost use Rattle.wit_model.specs.Rules.Refusals.{IsRefusal};
+ghost use Rattle.wit_model.specs.Rules.State.{found_after};
+ghost use Rattle.wit_matrix.specs.Relation.{HasSameFound};
 ghost use Rattle.wit_core.specs.Live.{is_flagged, live_count};
 ghost use Rattle.wit_core.specs.Known.{nothing_known, learnt, with_lock, IsApt, IsRoomFor};
 ghost use Rattle.wit_core.specs.Known.{IsAdmitted};
 
+use crate::locks::Locks;
 use crate::orders::Orders;
 use std::alloc::{AllocError, Global};
 use std::marker::Model;
 use wit_model::{
-    Adoption, Class, Fault, FileNo, Limits, Lock, LockFlags, LockNo, NewLock, Origin, Reply,
-    Request, TypeNo,
+    Adoption, Fault, FileNo, Limits, Lock, LockNo, NewLock, Origin, Reply, Request, TypeNo,
 };
 use wit_table::Table;
 
@@ -27,10 +28,8 @@ use wit_table::Table;
 pub struct Known {
     /// The types, the source files, and the pairs of type names that may be taken in either order.
     pub names: Table,
-    /// The locks, in the order of their numbers.
-    pub locks: Vec<Lock>,
-    /// The type of each lock, in the order of the locks.
-    pub lock_types: Vec<TypeNo>,
+    /// The locks that were made.
+    pub locks: Locks,
     /// Whether each lock is live, in the order of the locks: no more once it is destroyed.
     pub live: Vec<bool>,
     /// The orders and the pairs found in violation.
@@ -69,8 +68,7 @@ impl Known {
     {
         Ok(Known {
             names: Table::new(alloc, types, Limits::MOST_FILES)?,
-            locks: Vec::new(alloc),
-            lock_types: Vec::new(alloc),
+            locks: Locks::new(alloc),
             live: Vec::new(alloc),
             orders: Orders::new(alloc, types)?,
         })
@@ -85,9 +83,9 @@ impl Known {
         &self.names
     }
 
-    /// The locks, in the order of their numbers.
-    pub fn locks(&self) -> &[Lock]
-        ensures { result.now ≡ self.now.known.locks }
+    /// The locks that were made.
+    pub fn locks(&self) -> &Locks
+        ensures { result.now.locks ≡ self.now.known.locks }
     {
         &self.locks
     }
@@ -96,7 +94,7 @@ impl Known {
     pub fn lock_types(&self) -> &[TypeNo]
         ensures { result.now ≡ map (λ (l : Lock). l.type_no) self.now.known.locks }
     {
-        &self.lock_types
+        self.locks.types()
     }
 
     /// Whether a lock is live.
@@ -147,7 +145,7 @@ impl Known {
         self.names.file(name)
     }
 
-    /// Makes room for what a reply tells, where it tells of orders or of a pair.
+    /// Makes room for what a reply tells, where it tells of orders.
     ///
     /// # Errors
     /// Want of memory alone.
@@ -157,8 +155,7 @@ impl Known {
         ensures ok { OnOk result (IsRoomFor reply.now self.new.spare) }
     {
         match reply {
-            Reply::Adopted(_, _) | Reply::Silent(_, _) | Reply::Duplicate(_) | Reply::Reversal(_) =>
-                self.orders.make_room(1),
+            Reply::Adopted(_, _) => self.orders.make_room(1),
             Reply::AdoptedAll(orders) => self.orders.make_room(orders.get().pairs().len()),
             _ => Ok(()),
         }
@@ -169,8 +166,12 @@ impl Known {
     pub fn learn(&mut self, request: Request, reply: &Reply)
         requires apt { IsApt self.old.most_types self.old.known reply.now }
         requires room { IsRoomFor reply.now self.old.spare }
-        ensures { self.new ≡ record self.old {
-          known = learnt self.old.known request reply.now;
+        ensures found { HasSameFound self.new.known.found
+            (found_after self.old.known.locks reply.now self.old.known.found) }
+        ensures rest { self.new ≡ record self.old {
+          known = record (learnt self.old.known request reply.now) {
+            found = self.new.known.found;
+          };
           spare = self.new.spare;
         } }
     {
@@ -183,13 +184,13 @@ impl Known {
             Reply::AdoptedAll(orders) => self.orders.adopt_all(orders.get().pairs(), request.site),
             Reply::Silent(held, asked) => self.orders.find(*held, *asked),
             Reply::Duplicate(doubling) => {
-                let asked = type_of_lock(&self.locks, doubling.get().asked.lock);
+                let asked = self.locks.type_of(doubling.get().asked.lock);
                 self.orders.find(asked, asked);
             }
             Reply::Reversal(conflict) => {
                 let conflict = conflict.get();
-                let held = type_of_lock(&self.locks, conflict.held.lock);
-                let asked = type_of_lock(&self.locks, conflict.asked.lock);
+                let held = self.locks.type_of(conflict.held.lock);
+                let asked = self.locks.type_of(conflict.asked.lock);
                 self.orders.find(held, asked);
             }
             _ => {}
@@ -212,12 +213,10 @@ impl Known {
         ensures err { OnErr result (self.new ≡ self.old) }
         ensures memory { IfErr result (λ e. e ≡ OutOfMemory) }
     {
-        self.locks.reserve(1)?;
-        self.lock_types.reserve(1)?;
+        self.locks.make_room()?;
         self.live.reserve(1)?;
         let type_no = self.names.enroll_name(made.type_name(), made.class)?;
-        self.locks.push_reserved(Lock { type_no, made });
-        self.lock_types.push_reserved(type_no);
+        self.locks.push(Lock { type_no, made });
         self.live.push_reserved(true);
         // Called for its clause that each type has a count.
         let _types = self.names.len();
@@ -232,50 +231,10 @@ impl Known {
             (lock_at self.old.known.locks lock.0).type_no.0 }
         ensures { self.new ≡ record self.old { live = with_changed self.old.live lock.0 false } }
     {
-        let type_no = type_of_lock(&self.locks, lock);
+        let type_no = self.locks.type_of(lock);
         // Called for its clause that each type has a count.
         let _types = self.names.len();
         self.names.release(type_no);
         self.live[lock.0 as usize - 1] = false;
-    }
-}
-
-/// The lock with this number; `None` for one that was never made.
-pub fn lock_with(locks: &[Lock], lock: LockNo) -> Option<&Lock>
-    ensures { option_copied result ≡ with_number locks.now lock.0 }
-{
-    if lock.0 == 0 {
-        return None;
-    }
-    locks.get(lock.0 as usize - 1)
-}
-
-/// The type of a lock, by its number; 0 for a lock that was never made.
-pub fn type_of_lock(locks: &[Lock], lock: LockNo) -> TypeNo
-    ensures { result ≡ (lock_at locks.now lock.0).type_no }
-{
-    match lock_with(locks, lock) {
-        Some(lock) => lock.type_no,
-        None => TypeNo(0),
-    }
-}
-
-/// What a lock allows; nothing for a lock that was never made.
-pub fn flags_of_lock(locks: &[Lock], lock: LockNo) -> LockFlags
-    ensures { result ≡ (lock_at locks.now lock.0).made.flags }
-{
-    match lock_with(locks, lock) {
-        Some(lock) => lock.made.flags,
-        None => LockFlags(0),
-    }
-}
-
-/// The class of a lock; that of a sleep mutex for a lock that was never made.
-pub fn class_of_lock(locks: &[Lock], lock: LockNo) -> Class
-    ensures { result ≡ (lock_at locks.now lock.0).made.class }
-{
-    match lock_with(locks, lock) {
-        Some(lock) => lock.made.class,
-        None => Class::SleepMutex,
     }
 }

@@ -7,6 +7,7 @@ mod circle;
 mod defining;
 mod known;
 mod list_faults;
+mod locks;
 mod log;
 mod names;
 mod orders;

@@ -3,7 +3,7 @@
 ghost use Rattle.std.specs.Prelude.{◌≡◌, ◌<◌, ◌≤◌, ◌+◌, ◌&&◌, ◌∷◌, ◌++◌, ℕ, true, [], IfSome, OnOk};
 ghost use Rattle.std.specs.Prelude.{IfOk, IfErr, length, map, reverse};
 ghost use Rattle.wit_model.specs.declared.faults.Fault.TheVariants.{OutOfMemory};
-ghost use Rattle.wit_model.specs.Rules.Orders.{is_direct, is_before, is_found, found_once};
+ghost use Rattle.wit_model.specs.Rules.Orders.{is_direct, is_before, found_once};
 ghost use Rattle.wit_model.specs.Rules.Orders.{origin_of, cell, taught_at};
 ghost use Rattle.wit_model.specs.Rules.Numbers.{IsNumber, is_number};
 ghost use Rattle.wit_model.specs.Trace.Paths.{path, path_numbers};
@@ -21,8 +21,8 @@ use wit_model::{Adoption, Fault, Origin, Site, TypeNo};
 #[derive(Drop)]
 pub struct Orders {
     adopted: Vec<Adoption>,
-    found: Vec<(TypeNo, TypeNo)>,
-    /// The same, as a relation of each type to each, which answers every question but one.
+    /// The same, as a relation of each type to each, and the pairs: it answers every question but
+    /// one.
     matrix: Matrix,
     /// The place of each pair's order among them.
     places: IndexMap<(TypeNo, TypeNo), usize>,
@@ -54,16 +54,15 @@ impl Orders {
     {
         Ok(Orders {
             adopted: Vec::new(alloc),
-            found: Vec::new(alloc),
             matrix: Matrix::new(alloc, types as u16)?,
             places: IndexMap::new(alloc),
         })
     }
 
-    /// The same orders and pairs as a matrix, which may have them in another order.
+    /// The same pairs as a matrix, and the same orders, which it may have in another order.
     pub fn matrix(&self) -> &Matrix
         ensures orders { HasSameOrders result.now.orders self.now.orders }
-        ensures found { HasSameFound result.now.found self.now.found }
+        ensures found { result.now.found ≡ self.now.found }
         ensures size { result.now.size ≡ self.now.size }
     {
         &self.matrix
@@ -99,13 +98,6 @@ impl Orders {
         ensures { result ≡ is_before self.now.orders a.0 b.0 }
     {
         self.covers(a, b) && self.matrix.before(a, b)
-    }
-
-    /// Whether the unordered pair of a and b was found in violation.
-    pub fn is_found(&self, a: TypeNo, b: TypeNo) -> bool
-        ensures { result ≡ is_found self.now.found a.0 b.0 }
-    {
-        self.covers(a, b) && self.matrix.reversed(a, b)
     }
 
     /// The relation of a to b, in the bits of `wit_matrix`.
@@ -148,7 +140,7 @@ impl Orders {
         &self.adopted
     }
 
-    /// Makes room for this many orders more, and for as many pairs found in violation.
+    /// Makes room for this many orders more.
     ///
     /// # Errors
     /// Want of memory alone.
@@ -159,7 +151,6 @@ impl Orders {
     {
         self.adopted.reserve(more)?;
         self.places.reserve(more)?;
-        self.found.reserve(more)?;
         Ok(())
     }
 
@@ -203,17 +194,10 @@ impl Orders {
     pub fn find(&mut self, a: TypeNo, b: TypeNo)
         requires a { IsNumber self.old.size a.0 }
         requires b { IsNumber self.old.size b.0 }
-        requires room { 0 < self.old.spare }
-        ensures found { self.new ≡ record self.old {
-          found = found_once a b self.old.found;
-          spare = self.new.spare;
-        } }
-        ensures room { self.old.spare ≤ self.new.spare + 1 }
+        ensures found { HasSameFound self.new.found (found_once a b self.old.found) }
+        ensures rest { self.new ≡ record self.old { found = self.new.found } }
     {
-        if !self.is_found(a, b) {
-            self.found.push_reserved((a, b));
-            self.matrix.set_reversal(a, b);
-        }
+        self.matrix.set_reversal(a, b);
     }
 }
 

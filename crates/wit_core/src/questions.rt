@@ -11,7 +11,6 @@ ghost use Rattle.wit_model.specs.Rules.Destroying.{is_used};
 ghost use Rattle.wit_model.specs.Rules.Types.{is_otherwise, is_enrolled};
 ghost use Rattle.wit_core.specs.Replies.{Admits, Refuses};
 
-use crate::known::class_of_lock;
 use crate::names::is_enrolled;
 use crate::verifier::Verifier;
 use wit_model::{Class, Fault, FileNo, Instance, Limits, LockNo, Mode, Request, SeatNo, Site};
@@ -40,7 +39,7 @@ impl Verifier {
     pub(crate) fn class_of_lock(&self, lock: LockNo) -> Class
         ensures { result ≡ (lock_at (state_of self.now).known.locks lock.0).made.class }
     {
-        class_of_lock(self.known.locks(), lock)
+        self.known.locks().class_of(lock)
     }
 
     // Whether a file was named under this number.

@@ -16,7 +16,6 @@ ghost use Rattle.wit_core.specs.Held.{HoldAll};
 ghost use Rattle.wit_core.specs.Live.{live_told};
 ghost use Rattle.wit_core.specs.Numbered.{lock_name, lock_type, type_name, type_class, relation};
 
-use crate::known::lock_with;
 use crate::names::is_type;
 use crate::seats::Chunked;
 use crate::verifier::Verifier;
@@ -99,8 +98,8 @@ impl Verifier {
         ensures { option_copied result
             ≡ lock_name (typed_locks self.now.start self.now.history) lock.0 }
     {
-        let named = lock_with(self.known.locks(), lock)?;
-        Some(named.made.name.as_str())
+        let made = self.known.locks().made_as(lock)?;
+        Some(made.name.as_str())
     }
 
     /// Whether a lock was made under this number and isn't destroyed.
@@ -114,8 +113,7 @@ impl Verifier {
     pub fn type_of(&self, lock: LockNo) -> Option<TypeNo>
         ensures { result ≡ lock_type (typed_locks self.now.start self.now.history) lock.0 }
     {
-        let typed = lock_with(self.known.locks(), lock)?;
-        Some(typed.type_no)
+        self.known.locks().type_with(lock)
     }
 
     /// The name of a type.

@@ -121,7 +121,7 @@ module _ (n : ℕ) (direct before after found d1 b1 a1 : List ℕ) (p c : ℕ)
   adopted_adopts = record {
     size = refl;
     orders = λ a b. orders_more a b ∙ adopted_again p c (orders_in n direct) a b;
-    found = λ a b. refl;
+    found = refl;
   }
 
 pub found_again : (a b : TypeNo) (fs : List (TypeNo × TypeNo))

@@ -34,7 +34,7 @@ FoundAmong n fs = (a b : ℕ) → is_found fs a b ≡ true → IsNumber n a × I
 pub record Adopts (old : Relation) (p c : ℕ) (new : Relation) : Type 0 where
   pub size : new.size ≡ old.size
   pub orders : HasSameOrders new.orders (adopted_once p c Listed old.orders)
-  pub found : HasSameFound new.found old.found
+  pub found : new.found ≡ old.found
 
 -- the unordered pair of a and b is found, and nothing else changes
 pub record Finds (old : Relation) (a b : TypeNo) (new : Relation) : Type 0 where

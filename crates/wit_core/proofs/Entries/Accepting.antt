@@ -21,7 +21,7 @@ use Rattle.wit_model.proofs.Orders.TypedLocks.{spin_at}
 use Rattle.wit_core.specs.declared.verifier.Verifier.TheInside.{Inside}
 use Rattle.wit_core.specs.Held.{seat_view}
 use Rattle.wit_core.specs.Journal.{Journal}
-use Rattle.wit_core.specs.Kept.{start_in, history_in, story_in}
+use Rattle.wit_core.specs.Kept.{start_in, history_in, story_in, known_in}
 use Rattle.wit_core.specs.Seats.{Seating}
 use Rattle.wit_core.proofs.Keeping.{seat_in_range, Leaves}
 use Rattle.wit_core.proofs.Now.{seat-given}
@@ -58,7 +58,7 @@ module _ {v : Inside} {s : Story} (this : IsSeenAs v s) where
       → IsGiven v.seats.seats t
   given t call reply ok = seat-given this t (seat_accepted (state_of s) t call reply ok)
 
-  pub known-now : v.known.known ≡ known_of (start_in v) (history_in v)
+  pub known-now : known_in v ≡ known_of (start_in v) (history_in v)
   known-now = ap (λ (x : State). x.known) this.tied.state
 
   pub seats-now : map seat_view v.seats.seats ≡ seats_of v.limits.seats (history_in v)

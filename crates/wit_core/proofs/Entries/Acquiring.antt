@@ -31,7 +31,7 @@ use Rattle.wit_core.specs.Acquiring.{reply_to, owed_after, acquisition, watch_th
 use Rattle.wit_core.specs.Acquiring.{taken}
 use Rattle.wit_core.specs.Held.{seat_view}
 use Rattle.wit_core.specs.Journal.{Journal}
-use Rattle.wit_core.specs.Kept.{start_in, history_in, story_in}
+use Rattle.wit_core.specs.Kept.{start_in, history_in, story_in, known_in}
 use Rattle.wit_core.specs.Seats.{Seating, no_holdings, seat_in, locks_in, with_seat, asking}
 use Rattle.wit_core.specs.Seats.{having_acquired}
 use Rattle.wit_core.proofs.Keeping.{Leaves}
@@ -142,7 +142,7 @@ module _ {v : Inside} {s : Story} (this : IsSeenAs v s) where
               omega (arith, less, owed_now this)
 
       pub leaves_note : (a : Acquisition) → answer_of s t (Note l) ≡ Ok (reply_to a)
-          → Leaves v t (Note l) (reply_to a) v.known.known v.known.live
+          → Leaves v t (Note l) (reply_to a) (known_in v) v.known.live
           (with_seat t (asking None) (seating_then a t spin (taken l q.mode q.site) v.seats))
           (watch_then a v.watch)
           (v.log.owed - (1 - owed_after a + 1))
@@ -193,7 +193,7 @@ module _ {v : Inside} {s : Story} (this : IsSeenAs v s) where
 
     pub leaves_try : (m : Mode) (site : Site) (a : Acquisition)
         → answer_of s t (NoteTry l m site) ≡ Ok (reply_to a)
-        → Leaves v t (NoteTry l m site) (reply_to a) v.known.known v.known.live
+        → Leaves v t (NoteTry l m site) (reply_to a) (known_in v) v.known.live
         (seating_then a t spin (taken l m site) v.seats) (watch_then a v.watch)
         (v.log.owed + owed_after a)
     leaves_try m site Recorded ok =

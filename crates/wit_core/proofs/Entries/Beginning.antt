@@ -6,11 +6,14 @@ use Rattle.std.specs.List.{range_with_len}
 use Rattle.std.specs.Option.{option_map}
 use Rattle.std.specs.Global.{Vec, Global}
 use Rattle.wit_model.specs.declared.locks.Class.{Class}
+use Rattle.wit_model.specs.declared.locks.TypeNo.{TypeNo}
 use Rattle.wit_model.specs.declared.locks.Watch.TheVariants.{On}
 use Rattle.wit_model.specs.Rules.Sizes.{Sizes}
 use Rattle.wit_model.specs.Rules.Locks.{destroyed_of}
 use Rattle.wit_model.specs.Rules.Start.{start_fault}
+use Rattle.wit_model.specs.Rules.Orders.{is_found}
 use Rattle.wit_model.specs.Rules.State.{Start, Story, fresh, Known, state_of, seat_of, owed}
+use Rattle.wit_model.specs.Rules.State.{found_of}
 use Rattle.wit_model.specs.Rules.Step.{IsLegal}
 use Rattle.wit_model.proofs.Chains.Regrouping.{seat_groups-nil}
 use Rattle.wit_model.proofs.Chains.Owed.{owed_to-nil}
@@ -20,8 +23,10 @@ use Rattle.wit_core.specs.Held.{seat_view}
 use Rattle.wit_core.specs.Journal.{Journal}
 use Rattle.wit_core.specs.Plans.{planned}
 use Rattle.wit_core.specs.declared.ready.Ready.{Ready}
-use Rattle.wit_core.specs.Kept.{IsReady, IsTied, start_in, history_in, story_in, state_in}
-use Rattle.wit_core.specs.Listed.{all_listed, pairs_of}
+use Rattle.wit_core.specs.Kept.{IsReady, IsTied, start_in, history_in, story_in, known_in}
+use Rattle.wit_core.specs.Kept.{state_in}
+use Rattle.wit_core.specs.Known.{nothing_known}
+use Rattle.wit_core.specs.Listed.{all_listed, pairs_of, lists_entered}
 use Rattle.wit_core.specs.Seats.{Seating, no_holdings, idle_seating}
 use Rattle.wit_core.proofs.Entering.{IsBegun}
 use Rattle.wit_core.proofs.Keeping.{same_story}
@@ -73,11 +78,20 @@ module _ (v : Inside) (sizes : Sizes) (lists : List (Vec (Class × String Global
       ap (λ (o : Option Ready). record (story_in v) { ready = option_map planned o }) unready
       ∙ same_story _ _ _ _ _ _ start_begun no_files no_history
 
+  none_found : found_of (start_in v) (history_in v) ≡ []
+  none_found = ap (found_of (start_in v)) no_history
+
+  known_begun : known_in v
+      ≡ lists_entered (record nothing_known { blessed = pairs_of blessed }) (all_listed lists)
+  known_begun =
+      ap₂ (λ (x : Known) (fs : List (TypeNo × TypeNo)). record x { found = fs }) begun.known
+      none_found
+
   state_begun : state_in v ≡ state_of (fresh (start_of v.profile sizes lists blessed))
   state_begun =
       ap (λ (x : Sizes). record (state_in v) { sizes = x }) limits
       ∙ same_state sizes v.profile _ _ _ _ _ _ _ _ _ _ _ _
-      (ap (λ (l : List (List ℕ)). length l) no_files) (begun.known) (ap destroyed_of no_history)
+      (ap (λ (l : List (List ℕ)). length l) no_files) known_begun (ap destroyed_of no_history)
       (ap (λ (r : Seating). map seat_view r.seats) seats ∙ seats-idle 1 sizes.seats) watch
       (ap (λ (l : Journal). length l.history) log)
 
@@ -88,6 +102,9 @@ module _ (v : Inside) (sizes : Sizes) (lists : List (Vec (Class × String Global
         started = subst (λ (s : Start). start_fault s ≡ None) (sym start_begun) accepted;
         legal = subst (λ (s : Story). IsLegal s.start s.files s.history) (sym story_begun) tt;
         state = state_begun ∙ ap state_of (sym story_begun);
+        found = λ a b.
+            ap (λ (x : Known). is_found x.found a b) begun.known
+            ∙ ap (λ fs. is_found fs a b) (sym none_found);
         live =
             begun.live ∙ sym (ap₂ (λ (x : Known) h. live_flags (length x.locks) (destroyed_of h))
             begun.known no_history);

@@ -17,7 +17,7 @@ use Rattle.wit_model.proofs.Histories.Exhaustion.{check-told}
 use Rattle.wit_model.proofs.Histories.Legal.{pending-state}
 use Rattle.wit_core.specs.declared.verifier.Verifier.TheInside.{Inside}
 use Rattle.wit_core.specs.Journal.{Journal}
-use Rattle.wit_core.specs.Kept.{start_in, history_in, story_in}
+use Rattle.wit_core.specs.Kept.{start_in, history_in, story_in, known_in}
 use Rattle.wit_core.specs.Known.{learnt}
 use Rattle.wit_core.specs.Seats.{with_seat, asking}
 use Rattle.wit_core.proofs.Keeping.{Leaves}
@@ -45,7 +45,7 @@ module _ {v : Inside} {s : Story} (this : IsSeenAs v s) where
       (accepted this t (Check q) r ok)).room same
 
   pub leaves_check : (t : ℕ) (q : Request) (r : Reply) → answer_of s t (Check q) ≡ Ok r
-      → Leaves v t (Check q) r (learnt v.known.known q r) v.known.live
+      → Leaves v t (Check q) r (learnt (known_in v) q r) v.known.live
       (with_seat t (asking (Some q)) v.seats) v.watch (v.log.owed + 2)
   leaves_check t q r ok =
       let sane = sane_next this t (Check q) r ok in

@@ -9,7 +9,7 @@ use Rattle.wit_model.specs.Rules.Step.{answer_of}
 use Rattle.wit_model.proofs.Chains.Owed.{owed-same}
 use Rattle.wit_core.specs.declared.verifier.Verifier.TheInside.{Inside}
 use Rattle.wit_core.specs.Defining.{with_defined, IsDefined}
-use Rattle.wit_core.specs.Kept.{start_in, history_in}
+use Rattle.wit_core.specs.Kept.{start_in, history_in, known_in}
 use Rattle.wit_core.proofs.Keeping.{Leaves}
 use Rattle.wit_core.proofs.Seen.{IsSeenAs}
 use Rattle.wit_core.proofs.Steps.{same_locks, known-same, seats-same}
@@ -19,7 +19,7 @@ use Rattle.wit_core.proofs.Entries.Accepting.{watch-now, within}
 module _ {v : Inside} {s : Story} (this : IsSeenAs v s) where
   pub leaves_define : (t : ℕ) (a b : LockNo) (r : Reply)
       → answer_of s t (DefineOrder a b) ≡ Ok r → IsDefined r
-      → Leaves v t (DefineOrder a b) r (with_defined v.known.known r) v.known.live v.seats v.watch
+      → Leaves v t (DefineOrder a b) r (with_defined (known_in v) r) v.known.live v.seats v.watch
       (v.log.owed + 0)
   leaves_define t a b reply.Known ok one =
       let sane = sane_next this t (DefineOrder a b) reply.Known ok in

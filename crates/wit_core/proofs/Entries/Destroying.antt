@@ -10,7 +10,7 @@ use Rattle.wit_model.specs.Rules.Step.{answer_of}
 use Rattle.wit_model.proofs.Chains.Owed.{owed-same}
 use Rattle.wit_model.proofs.Histories.AcceptedLocks.{destroy_accepted}
 use Rattle.wit_core.specs.declared.verifier.Verifier.TheInside.{Inside}
-use Rattle.wit_core.specs.Kept.{start_in, history_in}
+use Rattle.wit_core.specs.Kept.{start_in, history_in, known_in}
 use Rattle.wit_core.proofs.Keeping.{Leaves}
 use Rattle.wit_core.proofs.Now.{live-now}
 use Rattle.wit_core.proofs.Seen.{IsSeenAs}
@@ -32,7 +32,7 @@ module _ {v : Inside} {s : Story} (this : IsSeenAs v s) where
   destroyed_typed t l ok = asked-given this l.0 (destroy_accepted (state_of s) t l.0 Done ok).lock
 
   pub leaves_destroy : (t : ℕ) (l : LockNo) → answer_of s t (Destroy l) ≡ Ok Done
-      → Leaves v t (Destroy l) Done v.known.known (with_changed v.known.live l.0 false) v.seats
+      → Leaves v t (Destroy l) Done (known_in v) (with_changed v.known.live l.0 false) v.seats
       v.watch (v.log.owed + 0)
   leaves_destroy t l ok =
       let sane = sane_next this t (Destroy l) Done ok in

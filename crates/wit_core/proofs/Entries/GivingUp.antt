@@ -11,7 +11,7 @@ use Rattle.wit_model.proofs.Chains.Owed.{owed-give_up}
 use Rattle.wit_model.proofs.Histories.Accepted.{asked-lock, give_up_accepted}
 use Rattle.wit_model.proofs.Histories.Legal.{pending-state}
 use Rattle.wit_core.specs.declared.verifier.Verifier.TheInside.{Inside}
-use Rattle.wit_core.specs.Kept.{start_in, history_in, story_in}
+use Rattle.wit_core.specs.Kept.{start_in, history_in, story_in, known_in}
 use Rattle.wit_core.specs.Seats.{with_seat, asking}
 use Rattle.wit_core.proofs.Keeping.{Leaves}
 use Rattle.wit_core.proofs.Seen.{IsSeenAs}
@@ -42,7 +42,7 @@ module _ {v : Inside} {s : Story} (this : IsSeenAs v s) where
       omega (arith, less, owed_now this)
 
   pub leaves_give_up : (t : ℕ) (l : LockNo) → answer_of s t (GiveUp l) ≡ Ok Done
-      → Leaves v t (GiveUp l) Done v.known.known v.known.live
+      → Leaves v t (GiveUp l) Done (known_in v) v.known.live
       (with_seat t (asking None) v.seats) v.watch (v.log.owed - (1 + 1))
   leaves_give_up t l ok =
       let sane = sane_next this t (GiveUp l) Done ok in

@@ -17,7 +17,7 @@ use Rattle.wit_model.proofs.Histories.AcceptedLocks.{init_accepted}
 use Rattle.wit_table.specs.Known.{enroll_answer}
 use Rattle.wit_core.specs.declared.verifier.Verifier.TheInside.{Inside}
 use Rattle.wit_core.specs.Journal.{Journal}
-use Rattle.wit_core.specs.Kept.{start_in, history_in, story_in}
+use Rattle.wit_core.specs.Kept.{start_in, history_in, story_in, known_in}
 use Rattle.wit_core.specs.Known.{with_lock, IsAdmitted}
 use Rattle.wit_core.proofs.Keeping.{Leaves}
 use Rattle.wit_core.proofs.Seen.{IsSeenAs}
@@ -82,7 +82,7 @@ module _ {v : Inside} {s : Story} (this : IsSeenAs v s) where
 
   pub leaves_init : (t : ℕ) (lock : NewLock) (number : LockNo)
       → answer_of s t (Init lock) ≡ Ok (Made number)
-      → Leaves v t (Init lock) (Made number) (with_lock v.known.known lock)
+      → Leaves v t (Init lock) (Made number) (with_lock (known_in v) lock)
       (v.known.live ++ true ∷ []) v.seats v.watch (v.log.owed + 0)
   leaves_init t lock number ok =
       let sane = sane_next this t (Init lock) (Made number) ok in

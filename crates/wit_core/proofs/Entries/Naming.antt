@@ -74,6 +74,7 @@ kept_file v name (Ok f) new k entered same =
       legal = files_legal (start_in v) (history_in v) v.known.files name k.legal;
       state =
           ap (λ (s : State). record s { files = length (files_after name v.known.files) }) k.state;
+      found = k.found;
       live = k.live;
       owed = k.owed;
       limit = k.limit;

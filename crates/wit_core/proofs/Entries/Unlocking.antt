@@ -13,7 +13,7 @@ use Rattle.wit_model.proofs.Chains.Owed.{owed-unlock}
 use Rattle.wit_model.proofs.Histories.Accepted.{unlock_accepted}
 use Rattle.wit_model.proofs.Histories.Legal.{unlock-held}
 use Rattle.wit_core.specs.declared.verifier.Verifier.TheInside.{Inside}
-use Rattle.wit_core.specs.Kept.{start_in, history_in, story_in}
+use Rattle.wit_core.specs.Kept.{start_in, history_in, story_in, known_in}
 use Rattle.wit_core.specs.Seats.{with_seat, having_released}
 use Rattle.wit_core.proofs.Keeping.{Leaves}
 use Rattle.wit_core.proofs.Seen.{IsSeenAs}
@@ -41,7 +41,7 @@ module _ {v : Inside} {s : Story} (this : IsSeenAs v s) where
         omega (arith, less, owed_now this)
 
     pub leaves_unlock : (m : Mode) → answer_of s t (Unlock l m) ≡ Ok Unlocked
-        → Leaves v t (Unlock l m) Unlocked v.known.known v.known.live
+        → Leaves v t (Unlock l m) Unlocked (known_in v) v.known.live
         (with_seat t (having_released spin l.0) v.seats) v.watch (v.log.owed - (0 + 1))
     leaves_unlock m ok =
         let sane = sane_next this t (Unlock l m) Unlocked ok in

@@ -9,7 +9,7 @@ use Rattle.wit_model.proofs.Chains.Owed.{owed-same}
 use Rattle.wit_model.proofs.Histories.AcceptedLocks.{watch_accepted}
 use Rattle.wit_core.specs.declared.verifier.Verifier.TheInside.{Inside}
 use Rattle.wit_core.specs.Journal.{Journal}
-use Rattle.wit_core.specs.Kept.{start_in, history_in, story_in}
+use Rattle.wit_core.specs.Kept.{start_in, history_in, story_in, known_in}
 use Rattle.wit_core.proofs.Keeping.{Leaves}
 use Rattle.wit_core.proofs.Seen.{IsSeenAs}
 use Rattle.wit_core.proofs.Steps.{known-same, seats-same}
@@ -25,7 +25,7 @@ module _ {v : Inside} {s : Story} (this : IsSeenAs v s) where
       (accepted this t (SetWatch w) Done ok)).room same
 
   pub leaves_watch : (t : ℕ) (w : Watch) → answer_of s t (SetWatch w) ≡ Ok Done
-      → Leaves v t (SetWatch w) Done v.known.known v.known.live v.seats w (v.log.owed + 0)
+      → Leaves v t (SetWatch w) Done (known_in v) v.known.live v.seats w (v.log.owed + 0)
   leaves_watch t w ok =
       let sane = sane_next this t (SetWatch w) Done ok in
       let in_row = within this t (SetWatch w) Done ok in

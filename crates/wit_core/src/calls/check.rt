@@ -15,7 +15,6 @@ ghost use Rattle.wit_model.specs.Rules.Verdict.{typed_request, verdict};
 ghost use Rattle.wit_check.specs.Answers.{answer_by};
 ghost use Rattle.wit_core.specs.Verdict.{orders_taught, tells_new, IsToldBy};
 
-use crate::known::{flags_of_lock, type_of_lock};
 use crate::ready::{Plan, Ready, let_go};
 use crate::verifier::Verifier;
 use bitflags::Flags;
@@ -188,8 +187,8 @@ impl Verifier {
         let locks = self.known.locks();
         TypedRequest {
             lock: request.lock,
-            type_no: type_of_lock(locks, request.lock),
-            flags: flags_of_lock(locks, request.lock),
+            type_no: locks.type_of(request.lock),
+            flags: locks.flags_of(request.lock),
             mode: request.mode,
             ops: request.ops,
             site: request.site,
@@ -253,7 +252,8 @@ impl Verifier {
         if !self.watch.is_on() || !request.mode.is_exclusive() {
             return None;
         }
-        if flags_of_lock(self.known.locks(), request.lock).contains(LockFlags::RECURSABLE) {
+        let flags = self.known.locks().flags_of(request.lock);
+        if flags.contains(LockFlags::RECURSABLE) {
             return None;
         }
         Some(self.class_of_lock(request.lock).is_spin())

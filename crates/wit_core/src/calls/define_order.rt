@@ -8,7 +8,6 @@ ghost use Rattle.wit_model.specs.Rules.State.{state_of, is_live};
 ghost use Rattle.wit_model.specs.Rules.Step.{AnswersOrFails, answer_of, is_logged, logged};
 
 use crate::defining::defined;
-use crate::known::type_of_lock;
 use crate::log::is_logged;
 use crate::ready::{Plan, Ready};
 use crate::verifier::Verifier;
@@ -81,8 +80,8 @@ impl Verifier {
         ensures { result ≡ define (state_of self.now).known first.0 second.0 }
     {
         let known = &self.known;
-        let parent = type_of_lock(known.locks(), first);
-        let child = type_of_lock(known.locks(), second);
+        let parent = known.locks().type_of(first);
+        let child = known.locks().type_of(second);
         let verdict = define(known.names(), known.orders().matrix(), parent, child);
         defined(verdict)
     }

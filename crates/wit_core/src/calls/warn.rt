@@ -5,7 +5,6 @@ ghost use Rattle.wit_model.specs.Rules.State.{state_of, is_seat};
 ghost use Rattle.wit_model.specs.Rules.Verdict.{basis_of};
 ghost use Rattle.wit_model.specs.Rules.Warnings.{is_allowed, is_nameable, warned, step_warn};
 
-use crate::known::lock_with;
 use crate::verifier::Verifier;
 use wit_check::Basis;
 use wit_held::{is_allowed, is_named, warn_count};
@@ -70,7 +69,7 @@ impl Verifier {
         ensures { result ≡ is_allowed (basis_of (state_of self.now).known) named flags held }
     {
         let known = &self.known;
-        if lock_with(known.locks(), held.lock).is_none() {
+        if known.locks().type_with(held.lock).is_none() {
             return is_named(named, held);
         }
         let basis = Basis {

@@ -1,5 +1,4 @@
-use Rattle.std.proofs.Common.{◌≡◌, ◌<◌, ◌-◌, true, false, List, ap, sym, subst, ◌∙◌, arith}
-use Rattle.wit_model.specs.declared.locks.Lock.{Lock}
+use Rattle.std.proofs.Common.{◌≡◌, ◌<◌, ◌-◌, true, false, ap, sym, subst, ◌∙◌, arith}
 use Rattle.wit_model.specs.declared.locks.TypeNo.{TypeNo}
 use Rattle.wit_model.specs.Rules.Locks.{lock_at}
 use Rattle.wit_model.specs.Rules.Numbers.{IsGiven}
@@ -16,11 +15,9 @@ release-requires-clause-live c =
     let live =
     subst (λ (f : Facts). is_flagged f.live c.args.lock.0 ≡ true)
     (sym c.self.view_is) c.requires.live in
-    let of =
-    ap (λ (n : TypeNo). n.0) c.type_of_lock-type_no.ensures
-    ∙ ap (λ (ls : List Lock). (lock_at ls c.args.lock.0).type_no.0) c.deref.ensures.value in
+    let of = ap (λ (n : TypeNo). n.0) c.type_of-type_no.ensures in
     subst (λ m. 0 < live_of c.self.inside.names m) (sym of)
-    (counted-live c.self.inside.names c.self.inside.locks.items c.self.inside.live.items
+    (counted-live c.self.inside.names c.self.inside.locks.locks c.self.inside.live.items
     c.args.lock.0 c.self.invariant.live live c.self.invariant.counts)
 
 pub index_mut-requires : goal.index_mut-requires
@@ -36,25 +33,23 @@ invariant_of-self c =
     let live =
     subst (λ (f : Facts). is_flagged f.live c.args.lock.0 ≡ true)
     (sym c.self.view_is) c.requires.live in
-    let of : c.type_of_lock-type_no.result.0
-    ≡ (lock_at c.self.inside.locks.items c.args.lock.0).type_no.0 =
-    ap (λ (n : TypeNo). n.0) c.type_of_lock-type_no.ensures
-    ∙ ap (λ (ls : List Lock). (lock_at ls c.args.lock.0).type_no.0) c.deref.ensures.value in
+    let of : c.type_of-type_no.result.0
+    ≡ (lock_at c.self.inside.locks.locks c.args.lock.0).type_no.0 =
+    ap (λ (n : TypeNo). n.0) c.type_of-type_no.ensures in
     let typed =
     subst (λ (f : Facts). IsGiven f.known.types (lock_at f.known.locks c.args.lock.0).type_no.0)
     (sym c.self.view_is) c.requires.typed in
     record {
       orders = c.self.invariant.orders ∙ sym (ap (λ (n : Names). n.most_types) c.release.ensures);
       files = ap (λ (n : Names). n.most_files) c.release.ensures ∙ c.self.invariant.files;
-      typed = c.self.invariant.typed;
       live = length-set c.self.inside.live.items (c.args.lock.0 - 1) false ∙ c.self.invariant.live;
       counts =
           counted-destroyed c.self.inside.names c.release.new.self c.args.lock.0
-          c.self.inside.locks.items c.self.inside.live.items c.self.invariant.live live
+          c.self.inside.locks.locks c.self.inside.live.items c.self.invariant.live live
           (c.release.ensures ∙ ap (λ m. with_live c.self.inside.names m
           (live_of c.self.inside.names m - 1)) of)
           (given-count c.self.inside.names c.len-types.result
-          (lock_at c.self.inside.locks.items c.args.lock.0).type_no.0 c.len-types.ensures.types
+          (lock_at c.self.inside.locks.locks c.args.lock.0).type_no.0 c.len-types.ensures.types
           c.len-types.ensures.live typed)
           c.self.invariant.counts;
     }

@@ -1,4 +1,4 @@
-use Rattle.std.proofs.Common.{◌≡◌, length, refl, sym, ◌∙◌, subst, arith}
+use Rattle.std.proofs.Common.{◌≡◌, length, sym, ◌∙◌, subst, arith}
 use Rattle.wit_core.specs.Ordering.{Ordering}
 use Rattle.wit_core.specs.Following.{CanFollow}
 use Rattle.wit_core.proofs.Relating.{before-by, related-adopted}
@@ -15,11 +15,10 @@ invariant_of-self c =
     omega (arith, c.len-place.ensures, c.self.inside.adopted.ok.0) in
     related-adopted c.self.inside (record {
       adopted = c.push_reserved.new.self;
-      found = c.self.inside.found;
       matrix = c.adopt.new.self;
       places = c.insert.new.self;
     }) c.args.order c.self.invariant
     (subst (λ (r : Ordering). CanFollow r.size r.orders c.args.order.parent.0 c.args.order.child.0)
     (sym c.self.view_is) c.requires.follows)
-    c.push_reserved.ensures.items refl c.adopt.ensures.adopted
+    c.push_reserved.ensures.items c.adopt.ensures.adopted
     (rw (c.unwrap-new.ensures, count) at c.insert.ensures.updates).0

@@ -12,18 +12,18 @@ use Rattle.wit_core.proofs.verifier.Verifier.definition.Goals as goal
 
 pub define-verdict-requires-clause-first : goal.define-verdict-requires-clause-first
 define-verdict-requires-clause-first c =
-    subst (λ ts. IsGiven ts c.type_of_lock-parent.result.0) (sym c.names.ensures.types)
+    subst (λ ts. IsGiven ts c.type_of-parent.result.0) (sym c.names.ensures.types)
     (subst (λ (n : TypeNo). IsGiven c.self.inside.known.known.types n.0)
-    (sym (c.type_of_lock-parent.ensures
+    (sym (c.type_of-parent.ensures
     ∙ ap (λ (ls : List Lock). (lock_at ls c.args.first.0).type_no) c.locks.ensures))
     (asked-given (seen_as c.self.invariant c.self.view_is) c.args.first.0
     (live-given (state_of c.args.self.now) c.args.first.0 c.requires.first)))
 
 pub define-verdict-requires-clause-second : goal.define-verdict-requires-clause-second
 define-verdict-requires-clause-second c =
-    subst (λ ts. IsGiven ts c.type_of_lock-child.result.0) (sym c.names.ensures.types)
+    subst (λ ts. IsGiven ts c.type_of-child.result.0) (sym c.names.ensures.types)
     (subst (λ (n : TypeNo). IsGiven c.self.inside.known.known.types n.0)
-    (sym (c.type_of_lock-child.ensures
+    (sym (c.type_of-child.ensures
     ∙ ap (λ (ls : List Lock). (lock_at ls c.args.second.0).type_no) c.locks-2.ensures))
     (asked-given (seen_as c.self.invariant c.self.view_is) c.args.second.0
     (live-given (state_of c.args.self.now) c.args.second.0 c.requires.second)))
@@ -39,9 +39,9 @@ returns c =
     c.defined.ensures ∙ c.define-verdict.ensures.answer
     ∙ definition-told (seen_as c.self.invariant c.self.view_is) c.names.result.now
     c.matrix.result.now c.args.first.0 c.args.second.0
-    c.type_of_lock-parent.result c.type_of_lock-child.result c.names.ensures.types
+    c.type_of-parent.result c.type_of-child.result c.names.ensures.types
     (λ a b. c.matrix.ensures.orders a b ∙ ap (λ os. is_direct os a b) c.orders.ensures.orders)
-    (c.type_of_lock-parent.ensures ∙ ap (λ (ls : List Lock). (lock_at ls c.args.first.0).type_no)
+    (c.type_of-parent.ensures ∙ ap (λ (ls : List Lock). (lock_at ls c.args.first.0).type_no)
     c.locks.ensures)
-    (c.type_of_lock-child.ensures ∙ ap (λ (ls : List Lock). (lock_at ls c.args.second.0).type_no)
+    (c.type_of-child.ensures ∙ ap (λ (ls : List Lock). (lock_at ls c.args.second.0).type_no)
     c.locks-2.ensures)

@@ -8,7 +8,7 @@ use Rattle.wit_core.proofs.Entries.Accepting.{accepted}
 use Rattle.wit_core.proofs.Entries.Checking.{check_room, leaves_check}
 use Rattle.wit_core.proofs.Readying.{is_ready, ready_answer}
 use Rattle.wit_core.proofs.Seen.{seen_as}
-use Rattle.wit_core.proofs.Taught.{apt}
+use Rattle.wit_core.proofs.Taught.{apt, found-told}
 use Rattle.wit_core.proofs.Whole.{kept}
 use Rattle.wit_core.proofs.verifier.Verifier.enter_check.Goals as goal
 
@@ -47,11 +47,12 @@ invariant_of-self c =
     kept_entered c.self.inside c.args.seat.0 (Check c.args.request) r.reply _ _ _ _ _
     c.learn.new.self c.ask.new.self c.self.inside.watch c.push.new.self _
     (leaves_check now c.args.seat.0 c.args.request r.reply ok)
-    c.learn.ensures c.ask.ensures refl
+    c.learn.ensures.rest c.ask.ensures refl
     (subst (λ x. c.push.new.self ≡ record c.self.inside.log {
       history = entry c.args.seat.0 (Check c.args.request) x ∷ c.self.inside.log.history;
       owed = c.self.inside.log.owed + 2;
       spare = c.self.inside.log.spare - 3;
     }) is.kept c.push.ensures)
-    k is.logged
+    (found-told c.self.inside k r.reply c.learn.new.self.known.found c.learn.ensures.found) k
+    is.logged
     (accepted now c.args.seat.0 (Check c.args.request) r.reply ok)))

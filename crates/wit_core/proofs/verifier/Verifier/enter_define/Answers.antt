@@ -65,7 +65,7 @@ invariant_of-self c =
       owed = c.self.inside.log.owed + 0;
       spare = c.self.inside.log.spare - 1;
     }) is.kept c.push.ensures)
-    k is.logged ok))
+    k.found k is.logged ok))
 
 pub returns-clause-answer : goal.returns-clause-answer
 returns-clause-answer c =

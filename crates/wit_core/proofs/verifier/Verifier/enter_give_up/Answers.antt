@@ -23,6 +23,7 @@ invariant_of-self c =
     kept_entered c.self.inside c.args.seat.0 _ _ _ _ _ _ _ _ c.clear.new.self _
     c.push_owed.new.self _
     (leaves_give_up (seen_as c.self.invariant c.self.view_is) c.args.seat.0 c.args.lock c.requires)
-    refl c.clear.ensures refl c.push_owed.ensures c.self.invariant.tied refl
+    refl c.clear.ensures refl c.push_owed.ensures c.self.invariant.tied.found
+    c.self.invariant.tied refl
     (accepted (seen_as c.self.invariant c.self.view_is) c.args.seat.0
     (GiveUp c.args.lock) Done c.requires))

@@ -76,7 +76,7 @@ invariant_of-self c =
     c.acquire-acquisition.ensures.seats) c.acquire-acquisition.ensures.watch
     (c.push_owed.ensures ∙ ap₂ (noted_log c.self.inside.log c.args.seat.0 (Note c.args.lock))
     c.reply.ensures c.owed.ensures)
-    c.self.invariant.tied (reply-logged c.acquire-acquisition.result)
+    c.self.invariant.tied.found c.self.invariant.tied (reply-logged c.acquire-acquisition.result)
     (accepted (seen_as c.self.invariant c.self.view_is) c.args.seat.0 (Note c.args.lock)
     (reply_to c.acquire-acquisition.result)
     (c.requires.accepted ∙ ap (λ r. Ok r)

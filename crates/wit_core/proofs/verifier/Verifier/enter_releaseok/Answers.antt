@@ -35,7 +35,8 @@ invariant_of-self-2 c =
     false c.requires)
     refl c.allow.ensures refl (log_after c.self.inside.log c.reserve.new.self c.push.new.self _ 0 _
     c.reserve.ensures.same c.push.ensures)
-    c.self.invariant.tied refl (accepted (seen_as c.self.invariant c.self.view_is) c.args.seat.0
+    c.self.invariant.tied.found c.self.invariant.tied refl
+    (accepted (seen_as c.self.invariant c.self.view_is) c.args.seat.0
     (ReleaseOk c.args.lock) Done c.requires))
 
 pub invariant_of-self : goal.invariant_of-self

@@ -66,7 +66,7 @@ invariant_of-self-2 c =
     c.push.ensures
     ∙ ap₂ (tried_log c.self.inside.log c.reserve.new.self.spare c.args.seat.0
     (NoteTry c.args.lock c.args.mode c.args.site)) c.reply.ensures c.owed.ensures)
-    c.self.invariant.tied (reply-logged c.acquire-acquisition.result)
+    c.self.invariant.tied.found c.self.invariant.tied (reply-logged c.acquire-acquisition.result)
     (accepted (seen_as c.self.invariant c.self.view_is) c.args.seat.0
     (NoteTry c.args.lock c.args.mode c.args.site) (reply_to c.acquire-acquisition.result)
     (c.requires ∙ ap (λ r. Ok r)

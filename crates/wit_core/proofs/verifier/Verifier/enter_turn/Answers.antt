@@ -37,7 +37,8 @@ invariant_of-self-2 c =
     c.reserve.ensures.same c.push.ensures
     ∙ ap (λ call. tried_log c.self.inside.log c.reserve.new.self.spare c.args.seat.0 call Done 0)
     c.turn_call.ensures)
-    c.self.invariant.tied refl (accepted (seen_as c.self.invariant c.self.view_is) c.args.seat.0
+    c.self.invariant.tied.found c.self.invariant.tied refl
+    (accepted (seen_as c.self.invariant c.self.view_is) c.args.seat.0
     (turn_call c.args.mode c.args.lock) Done c.requires))
 
 pub invariant_of-self : goal.invariant_of-self

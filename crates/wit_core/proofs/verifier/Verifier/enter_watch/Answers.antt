@@ -20,7 +20,8 @@ invariant_of-self-2 c =
     (leaves_watch (seen_as c.self.invariant c.self.view_is) c.args.seat.0 c.args.watch c.requires)
     refl refl refl (log_after c.self.inside.log c.reserve.new.self c.push.new.self _ 0 _
     c.reserve.ensures.same c.push.ensures)
-    c.self.invariant.tied refl (accepted (seen_as c.self.invariant c.self.view_is) c.args.seat.0
+    c.self.invariant.tied.found c.self.invariant.tied refl
+    (accepted (seen_as c.self.invariant c.self.view_is) c.args.seat.0
     (SetWatch c.args.watch) Done c.requires))
 
 pub invariant_of-self : goal.invariant_of-self

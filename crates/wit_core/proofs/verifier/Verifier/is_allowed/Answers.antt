@@ -17,8 +17,8 @@ invariant_of-basis c = record {
 pub is_allowed-requires : goal.is_allowed-requires
 is_allowed-requires c =
     given-by c.self.inside.known.known.locks c.lock_types.result.now c.args.held.lock.0
-    c.lock_with.result c.lock_types.ensures
-    (rw c.locks.ensures at c.lock_with.ensures) (c.is_none.ensures ∙ ap not c.if-is_none.false)
+    c.type_with.result c.lock_types.ensures
+    (rw c.locks.ensures at c.type_with.ensures) (c.is_none.ensures ∙ ap not c.if-is_none.false)
 
 pub returns : goal.returns
 returns c =

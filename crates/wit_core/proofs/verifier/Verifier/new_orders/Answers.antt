@@ -54,6 +54,6 @@ returns c =
     c.names.result.now c.matrix.result.now c.lock_types.result.now c.args.request
     c.typed_request.result c.names.ensures.types c.names.ensures.blessed
     (λ a b. c.matrix.ensures.orders a b ∙ ap (λ os. is_direct os a b) c.orders.ensures.orders)
-    (λ a b. c.matrix.ensures.found a b ∙ ap (λ fs. is_found fs a b) c.orders.ensures.found)
+    (λ a b. ap (λ fs. is_found fs a b) (c.matrix.ensures.found ∙ c.orders.ensures.found))
     c.lock_types.ensures c.typed_request.ensures)
     c.new_orders.ensures

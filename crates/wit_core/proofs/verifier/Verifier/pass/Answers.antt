@@ -38,7 +38,7 @@ invariant_of-self-2 c =
     (log_after c.self.inside.log c.reserve.new.self c.push.new.self
     (entry c.args.seat.0 (Check c.args.request) Pass) 2 _
     c.reserve.ensures.same c.push.ensures)
-    k refl
+    k.found k refl
     (accepted now c.args.seat.0 (Check c.args.request) Pass c.requires.passes)))
 
 pub ask_for-requires-clause-new : goal.ask_for-requires-clause-new

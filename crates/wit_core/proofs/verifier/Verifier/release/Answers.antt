@@ -75,7 +75,7 @@ invariant_of-self-2 c =
     c.is_spin-spin.result (c.is_spin-spin.ensures ∙ ap is_spin c.class_of_lock.ensures)
     c.args.mode ok)
     refl (c.release.ensures.seats (c.in_ok-release.was ∙ ap Ok c.if-not-branch.false)) refl
-    c.push_owed.ensures c.self.invariant.tied refl
+    c.push_owed.ensures c.self.invariant.tied.found c.self.invariant.tied refl
     (accepted (seen_as c.self.invariant c.self.view_is) c.args.seat.0
     (Unlock c.args.lock c.args.mode) Unlocked ok)))
 

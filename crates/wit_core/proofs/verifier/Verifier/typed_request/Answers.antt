@@ -19,9 +19,9 @@ returns c =
       ops = c.args.request.ops;
       site = c.args.request.site;
     })
-    (c.type_of_lock.ensures ∙ ap (λ (ls : List Lock). (lock_at ls c.args.request.lock.0).type_no)
+    (c.type_of.ensures ∙ ap (λ (ls : List Lock). (lock_at ls c.args.request.lock.0).type_no)
     c.locks-locks.ensures)
-    (c.flags_of_lock.ensures ∙ ap
+    (c.flags_of.ensures ∙ ap
     (λ (ls : List Lock). (lock_at ls c.args.request.lock.0).made.flags) c.locks-locks.ensures)
     ∙ ap (λ (x : State). typed_request x.known c.args.request)
     (now (seen_as c.self.invariant c.self.view_is))

@@ -53,7 +53,7 @@ returns c =
     c.names.result.now c.matrix.result.now c.lock_types.result.now c.args.request
     c.typed_request.result c.names.ensures.types c.names.ensures.blessed
     (λ a b. c.matrix.ensures.orders a b ∙ ap (λ os. is_direct os a b) c.orders.ensures.orders)
-    (λ a b. c.matrix.ensures.found a b ∙ ap (λ fs. is_found fs a b) c.orders.ensures.found)
+    (λ a b. ap (λ fs. is_found fs a b) (c.matrix.ensures.found ∙ c.orders.ensures.found))
     c.lock_types.ensures c.typed_request.ensures))
     ∙ c.verdict.ensures
     ∙ verdict-told (seen_as c.self.invariant c.self.view_is) c.args.seat.0 c.requires.seat
@@ -61,5 +61,5 @@ returns c =
     c.names.result.now c.matrix.result.now c.lock_types.result.now c.args.request
     c.typed_request.result c.names.ensures.types c.names.ensures.blessed
     (λ a b. c.matrix.ensures.orders a b ∙ ap (λ os. is_direct os a b) c.orders.ensures.orders)
-    (λ a b. c.matrix.ensures.found a b ∙ ap (λ fs. is_found fs a b) c.orders.ensures.found)
+    (λ a b. ap (λ fs. is_found fs a b) (c.matrix.ensures.found ∙ c.orders.ensures.found))
     c.lock_types.ensures c.typed_request.ensures c.self.inside.profile c.self.inside.watch refl refl
