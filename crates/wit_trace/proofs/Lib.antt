@@ -11,6 +11,7 @@ pub mod NumberedLemmas
 pub mod Recorded
 pub mod ReplayLemmas
 pub mod ReportLemmas
+pub mod StepLineLemmas
 pub mod StreamInputs
 pub mod StreamLemmas
 pub mod TextLemmas

@@ -10,11 +10,15 @@ use Rattle.wit_model.specs.declared.locks.Mode.TheVariants.{Exclusive}
 use Rattle.wit_model.specs.declared.faults.Fault.TheVariants.{RawNotFree}
 use Rattle.wit_model.specs.declared.lines.Cause.TheVariants.{Fault}
 use Rattle.wit_model.specs.declared.lines.Line.TheVariants.{OnLock}
+use Rattle.wit_model.specs.declared.calls.Call.TheVariants.{Note, Unlock}
 use Rattle.wit_model.specs.declared.lines.LockLine.TheVariants as lock_line
+use Rattle.wit_model.specs.declared.lines.Verb.TheVariants as verb
+use Rattle.wit_model.specs.declared.locks.Mode.{Mode}
 use Rattle.wit_model.specs.declared.raw_steps.RawStep.{RawStep}
 use Rattle.wit_model.specs.declared.raw_steps.RawStep.TheVariants as raw_step
 use Rattle.wit_model.specs.Rules.History.{pending}
 use Rattle.wit_model.specs.Rules.State.{Story, state_of, is_seat}
+use Rattle.wit_model.specs.Trace.LineCalls.{LineCall, Logs}
 use Rattle.wit_model.specs.World.Deeds.{Deed}
 use Rattle.wit_model.specs.World.Moving as model
 use Rattle.wit_model.specs.World.Moving.{step_before, step_behind, deed_beside, stage_asked}
@@ -193,6 +197,31 @@ pub record IsBeside (h : List Entry) (raw : List RawLock) (t : ℕ) (call : Call
 -- it goes with a call, if a seat makes it
 abbrev pub GoesWithCall : Story → List RawLock → ℕ → Call → Option LockStep → Type 0
 GoesWithCall s raw t call k = is_seat (state_of s) t ≡ true → IsBeside s.history raw t call k
+
+-- ---- the lines of a call and of its step
+
+-- the bytes are the line of a call beside which a lock is taken or freed; of others nothing is said
+abbrev pub IsLineOf : LineCall → List ℕ → Type 0
+IsLineOf (Logs t (Note lock)) bytes =
+    bytes ≡ spelling (OnLock (lock_line.Plain verb.Note (record { 0 = t }) lock))
+IsLineOf (Logs t (Unlock lock mode)) bytes =
+    bytes ≡ spelling (OnLock (lock_line.Unlock (record { 0 = t }) lock mode))
+IsLineOf call bytes = Unit {0}
+
+-- the same by the step
+abbrev pub IsLineBeside : SeatNo → LockNo → RawStep → List ℕ → Type 0
+IsLineBeside seat lock raw_step.Take bytes =
+    bytes ≡ spelling (OnLock (lock_line.Plain verb.Note seat lock))
+IsLineBeside seat lock raw_step.Free bytes =
+    (mode : Mode) × (bytes ≡ spelling (OnLock (lock_line.Unlock seat lock mode)))
+IsLineBeside seat lock step bytes = Unit {0}
+
+abbrev pub StandsBeside : List ℕ → LockStep → Type 0
+StandsBeside bytes k = IsLineBeside k.seat k.lock k.step bytes
+
+-- the step is this one
+abbrev pub Does : SeatNo → LockNo → RawStep → LockStep → Type 0
+Does seat lock step k = (k.seat ≡ seat) × (k.lock ≡ lock) × (k.step ≡ step)
 
 -- the line of a step
 abbrev pub line_of_step : LockStep → List ℕ

@@ -1,7 +1,7 @@
 //! The migration of a trace from the first version of the format to the second.
 
 ghost use Rattle.std.specs.Prelude.{◌≡◌, ◌+◌, ◌-◌, ◌<◌, ◌≤◌, ◌^◌, ℕ, List, length, max};
-ghost use Rattle.std.specs.Prelude.{Err, IfOk, OnErr};
+ghost use Rattle.std.specs.Prelude.{Err, Some, IfOk, OnErr};
 ghost use Rattle.wit_grammar.specs.Lines.{Begins};
 ghost use Rattle.wit_grammar.specs.declared.parse.TheConstants.{LONGEST};
 ghost use Rattle.wit_model.specs.Trace.Reading.{line_of};
@@ -18,6 +18,7 @@ mod endings;
 mod frequent_lines;
 mod headers;
 mod preludes;
+mod step_lines;
 mod steps;
 mod texts;
 
@@ -138,6 +139,7 @@ impl Migrating {
     ) -> Result<Vec<u8>, LineError>
         requires room { moving_reports (moved_to self.old) < 2 ^ 64 - 1 }
         requires few { weighed (moved_to self.old) < 2 ^ 64 - 1 }
+        requires found { line_of bytes.now ≡ Some line }
         ensures { MovesAsDue (moving_entered (moved_to self.old) number bytes.now line)
             (moved_to self.old) (moved_to self.new) result }
     {

@@ -1,14 +1,15 @@
 //! What a migration knows behind the prelude.
 
-ghost use Rattle.std.specs.Prelude.{◌≡◌, ◌+◌, ◌-◌, ◌<◌, ◌≤◌, ◌^◌, ◌++◌, ◌∷◌, [], true, false, None};
+ghost use Rattle.std.specs.Prelude.{◌≡◌, ◌+◌, ◌-◌, ◌<◌, ◌≤◌, ◌^◌, ◌++◌, ◌∷◌, [], true, false, None, Some};
 ghost use Rattle.std.specs.Prelude.{IfSome};
 ghost use Rattle.wit_model.specs.Rules.Names.{is_file_name};
 ghost use Rattle.wit_model.specs.Trace.Moving.{moves, read_to};
 ghost use Rattle.wit_model.specs.Trace.Output.{Logs, call_of, summed};
+ghost use Rattle.wit_model.specs.Trace.Reading.{line_of};
 ghost use Rattle.wit_grammar.specs.Lines.{as_line};
 ghost use Rattle.wit_world.specs.Steps.{makes_lock};
 ghost use Rattle.wit_trace.specs.LineCalls.{as_call};
-ghost use Rattle.wit_trace.specs.Migrates.{MovesAsDue, moving_reports, standing, weight};
+ghost use Rattle.wit_trace.specs.Migrates.{IsLineOf, MovesAsDue, moving_reports, standing, weight};
 ghost use Rattle.wit_trace.specs.Replays.{total};
 
 use crate::migrating::steps::{do_beside, step_beside};
@@ -84,6 +85,7 @@ impl Behind {
         requires counted { self.old.remarks < 2 ^ 64 - 1 }
         requires few { weight self.old.raw < 2 ^ 64 - 1 }
         requires room { room.items ≡ [] }
+        requires found { line_of bytes.now ≡ Some (as_line line) }
         ensures { MovesAsDue (moves self.old.verifier self.old.raw self.old.remarks bytes.now
             (call_of (as_line line.entry))) (standing self.old) (standing self.new) result }
     {
@@ -98,6 +100,7 @@ impl Behind {
     pub fn enter(&mut self, alloc: Global, line: Line, bytes: &[u8]) -> Result<Vec<u8>, LineError>
         requires counted { self.old.remarks < 2 ^ 64 - 1 }
         requires few { weight self.old.raw < 2 ^ 64 - 1 }
+        requires found { line_of bytes.now ≡ Some line }
         ensures { MovesAsDue (moves self.old.verifier self.old.raw self.old.remarks bytes.now
             (call_of line)) (standing self.old) (standing self.new) result }
     {
@@ -118,6 +121,7 @@ impl Behind {
         requires counted { self.old.remarks < 2 ^ 64 - 1 }
         requires few { weight self.old.raw < 2 ^ 64 - 1 }
         requires room { room.items ≡ [] }
+        requires line { IsLineOf (as_call call) bytes.now }
         ensures { MovesAsDue (moves self.old.verifier self.old.raw self.old.remarks bytes.now
             (as_call call)) (standing self.old) (standing self.new) result }
     {
@@ -148,6 +152,7 @@ impl Behind {
     ) -> Result<Vec<u8>, LineError>
         requires few { weight self.old.raw < 2 ^ 64 - 1 }
         requires room { room.items ≡ [] }
+        requires line { IsLineOf (Logs seat.0 call) bytes.now }
         ensures { MovesAsDue (moves self.old.verifier self.old.raw self.old.remarks bytes.now
             (Logs seat.0 call)) (standing self.old) (standing self.new) result }
     {

@@ -1,25 +1,24 @@
 //! The steps of locks themselves that go with calls.
 
 ghost use Rattle.std.specs.Prelude.{◌≡◌, ◌<◌, ◌-◌, ◌^◌, ◌++◌, ◌∷◌, [], true, false, None, Some};
-ghost use Rattle.std.specs.Prelude.{if◌then◌else◌};
+ghost use Rattle.std.specs.Prelude.{ℕ, List, if◌then◌else◌};
 ghost use Rattle.std.specs.Prelude.{IfOk, IfSome, OnOk, OnErr};
 ghost use Rattle.wit_model.specs.Rules.History.{is_held, num, pending};
 ghost use Rattle.wit_model.specs.Rules.State.{state_of, is_seat};
-ghost use Rattle.wit_model.specs.Trace.Moving.{with_feeds};
+ghost use Rattle.wit_model.specs.Trace.LineCalls.{Logs};
 ghost use Rattle.wit_model.specs.World.Deeds.{RawDown};
 ghost use Rattle.wit_model.specs.World.Moving.{is_kept, stage_asked};
 ghost use Rattle.wit_model.specs.World.Scenes.{got, has_share, is_free, mode_asked, raw_after};
 ghost use Rattle.wit_model.specs.World.Scenes.{shares_of};
 ghost use Rattle.wit_model.specs.declared.raw_steps.RawStep.TheVariants.{Take, Free, Down};
 ghost use Rattle.wit_world.specs.Steps.{makes_lock};
-ghost use Rattle.wit_trace.specs.Migrates.{DoesBeside, GoesWithCall};
-ghost use Rattle.wit_trace.specs.Migrates.{line_and_step, deed, line_of_step, step_asked, step_at};
-ghost use Rattle.wit_trace.specs.Migrates.{weight};
+ghost use Rattle.wit_trace.specs.Migrates.{Does, DoesBeside, GoesWithCall, IsLineOf, StandsBeside};
+ghost use Rattle.wit_trace.specs.Migrates.{deed, step_asked, step_at, weight};
 
-use crate::migrating::texts::put_line;
+use crate::migrating::step_lines::both_lines;
 use std::alloc::AllocError;
 use wit_core::Verifier;
-use wit_grammar::{LineError, put_step};
+use wit_grammar::LineError;
 use wit_model::{Call, Cause, Fault, LockNo, Mode, RawStep, SeatNo};
 use wit_world::Raw;
 
@@ -39,6 +38,8 @@ pub fn step_beside(verifier: &Verifier, raw: &Raw, seat: SeatNo, call: &Call) ->
     ensures goes { GoesWithCall verifier.now raw.now seat.0 call.now result }
     ensures share { IfSome result (λ k. has_share raw.now (deed k) ≡ true) }
     ensures makes { IfSome result (λ k. makes_lock call.now ≡ false) }
+    ensures line { (bytes : List ℕ) → IsLineOf (Logs seat.0 call.now) bytes
+        → IfSome result (StandsBeside bytes) }
 {
     match call {
         Call::Note(lock) => take(verifier, seat, *lock),
@@ -67,7 +68,7 @@ fn take(verifier: &Verifier, seat: SeatNo, lock: LockNo) -> Option<LockStep>
     ensures taken { is_seat (state_of verifier.now) seat.0 ≡ true → result
         ≡ (if is_held seat.0 lock.0 verifier.now.history then None
         else Some (step_asked verifier.now.history seat lock)) }
-    ensures step { IfSome result (λ k. k.step ≡ Take) }
+    ensures does { IfSome result (Does seat lock Take) }
 {
     if 0 < acquisitions(verifier, seat, lock) {
         return None;
@@ -98,6 +99,7 @@ fn free(verifier: &Verifier, raw: &Raw, seat: SeatNo, lock: LockNo) -> Option<Lo
     ensures freed { is_seat (state_of verifier.now) seat.0 ≡ true → result
         ≡ (if is_kept verifier.now.history raw.now seat.0 lock.0 then None
         else Some (step_at seat lock Free)) }
+    ensures does { IfSome result (Does seat lock Free) }
     ensures share { IfSome result (λ k. has_share raw.now (deed k) ≡ true) }
 {
     let shares = raw.shares(seat, lock);
@@ -146,6 +148,7 @@ pub fn do_beside(
     requires room { room.items ≡ [] }
     requires few { weight raw.old < 2 ^ 64 - 1 }
     requires share { has_share raw.old (deed step) ≡ true }
+    requires line { StandsBeside bytes.now step }
     ensures { DoesBeside step bytes.now raw.old raw.new result }
 {
     if !admits(raw, step) {
@@ -199,33 +202,4 @@ fn gain(raw: &mut Raw, seat: SeatNo, lock: LockNo, mode: Mode) -> Result<(), All
         return Ok(());
     }
     raw.take(seat, lock, mode)
-}
-
-// A line, and the one of the step that goes with it.
-#[inline(always)]
-fn both_lines(room: Vec<u8>, step: LockStep, bytes: &[u8]) -> Result<Vec<u8>, AllocError>
-    requires { room.items ≡ [] }
-    ensures { IfOk result (λ text. text.items ≡ with_feeds (line_and_step step bytes.now)) }
-{
-    let mut text = room;
-    match step.step {
-        RawStep::Take | RawStep::TryTake(_) | RawStep::Up => {
-            put_step_line(&mut text, step)?;
-            put_line(&mut text, bytes)?;
-        }
-        RawStep::Free | RawStep::Down => {
-            put_line(&mut text, bytes)?;
-            put_step_line(&mut text, step)?;
-        }
-    }
-    Ok(text)
-}
-
-// The line of a step.
-fn put_step_line(text: &mut Vec<u8>, step: LockStep) -> Result<(), AllocError>
-    ensures { OnOk result (text.new.items ≡ text.old.items ++ (line_of_step step ++ 10 ∷ [])) }
-{
-    put_step(text, step.seat, step.lock, step.step)?;
-    text.push(b'\n')?;
-    Ok(())
 }

@@ -1,11 +1,10 @@
 use Rattle.std.proofs.Common.{[], refl}
 use Rattle.wit_model.specs.Trace.Output.{call_of}
-use Rattle.wit_model.specs.Trace.Reading.{line_of}
 use Rattle.wit_grammar.specs.Lines.{as_line}
-use Rattle.wit_trace.specs.Migrates.{moving_reports, standing, weighed, weight}
+use Rattle.wit_trace.specs.Migrates.{standing}
 use Rattle.wit_trace.proofs.MigrateLemmas.{line-goes, line-writes}
 use Rattle.wit_trace.proofs.MigrateReports.{moved_one}
-use Rattle.wit_trace.proofs.Weights.{both_one, moved_weighs}
+use Rattle.wit_trace.proofs.Weights.{moved_weighs}
 use Rattle.wit_trace.proofs.migrating.Migrating.moved_line.Goals as goal
 
 pub returns-in-Ok-clause-step : goal.returns-in-Ok-clause-step

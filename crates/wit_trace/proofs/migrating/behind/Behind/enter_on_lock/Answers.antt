@@ -1,7 +1,9 @@
+use Rattle.std.proofs.Common.{subst, sym}
 use Rattle.wit_model.specs.Trace.Output.{call_of}
 use Rattle.wit_grammar.specs.Lines.{as_line}
 use Rattle.wit_trace.specs.LineCalls.{as_call}
-use Rattle.wit_trace.specs.Migrates.{standing}
+use Rattle.wit_trace.specs.Migrates.{IsLineOf, standing}
+use Rattle.wit_trace.proofs.StepLineLemmas.{read_call}
 use Rattle.wit_trace.proofs.NumberedLemmas.{line-numbered, not-numbered}
 use Rattle.wit_trace.proofs.migrating.behind.Behind.enter_on_lock.Goals as goal
 
@@ -20,3 +22,8 @@ returns c =
     (as_call c.lock_call.result) c.in_ok-file.file
     (standing c.make_call.new.self) c.make_call.result
     (rw c.file_on_lock.ensures at c.in_ok-file.ensures) c.lock_call.ensures c.make_call.ensures
+
+pub make_call-requires-clause-line : goal.make_call-requires-clause-line
+make_call-requires-clause-line c =
+    subst (λ made. IsLineOf made c.args.bytes.now) (sym c.lock_call.ensures)
+    (read_call c.args.bytes.now (as_line c.args.line) c.in_ok-file.file.0 c.requires.found)
