@@ -1,6 +1,7 @@
 -- What a migration of a trace writes and sums up.
-use Rattle.std.specs.Prelude.{◌≡◌, ℕ, ◌+◌, Bool, true, false, List, [], ◌∷◌, map, sum_by}
-use Rattle.std.specs.Prelude.{Option, None, Some, Result, Ok, Err, refl, if◌then◌else◌}
+use Rattle.std.specs.Prelude.{◌≡◌, ℕ, ◌+◌, ◌<◌, ◌≤◌, Bool, true, false, List, [], ◌∷◌, map, sum_by}
+use Rattle.std.specs.Prelude.{length, Option, None, Some, Result, Ok, Err, IfOk, refl}
+use Rattle.std.specs.Prelude.{if◌then◌else◌}
 use Rattle.std.specs.Global.{Vec}
 use Rattle.wit_model.specs.declared.calls.Call.{Call}
 use Rattle.wit_model.specs.declared.calls.Entry.{Entry}
@@ -32,7 +33,9 @@ use Rattle.wit_model.specs.Trace.Output.{BadLine}
 use Rattle.wit_model.specs.Trace.Spelling.{spelling}
 use Rattle.wit_grammar.specs.declared.errors.LineError.{LineError}
 use Rattle.wit_grammar.specs.declared.errors.LineError.TheVariants.{Bad, Memory}
+use Rattle.wit_grammar.specs.declared.parse.TheConstants.{LONGEST}
 use Rattle.wit_world.specs.Steps.{deed_in}
+use Rattle.wit_trace.specs.Machine.{Follows}
 use Rattle.wit_trace.specs.Outputs.{summary_of}
 use Rattle.wit_trace.specs.Replays.{prelude_of, total}
 use Rattle.wit_trace.specs.Text.{text_of}
@@ -120,6 +123,22 @@ MovesAsDue due old new (Ok text) = Writes due new text.items
 MovesAsDue due old new (Err Memory) = Unit {0}
 MovesAsDue due old new (Err (Bad cause)) =
     (due ≡ moving.Bad cause) × (kept_lines new ≡ kept_lines old)
+
+-- a line may be moved: fewer reports were told than its number, and the locks weigh less; it isn't
+-- too long, and nothing is written of it yet
+abbrev pub MayMove : Migrating → ℕ → List ℕ → List ℕ → Type 0
+MayMove m number line text =
+    (moving_reports (moved_to m) < number) × (weighed (moved_to m) < number)
+    × (length line ≤ LONGEST) × (text ≡ [])
+
+-- a line is moved: this text is written, and what follows; it counts for one report at most, and
+-- weighs one at most
+abbrev pub HasMoved : {E : Type 0} → Migrating → ℕ → List ℕ → Migrating → List ℕ → Result Step E
+    → Type 0
+HasMoved old number line new text result =
+    IfOk result (Follows migrated old new number line text)
+    × IfOk result (λ s. moving_reports (moved_to new) ≤ moving_reports (moved_to old) + 1)
+    × IfOk result (λ s. weighed (moved_to new) ≤ weighed (moved_to old) + 1)
 
 -- the migration ends with this text and this summary
 abbrev pub EndsWith : List ℕ → Summary → List ℕ → Step → Type 0

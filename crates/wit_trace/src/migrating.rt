@@ -1,16 +1,15 @@
 //! The migration of a trace from the first version of the format to the second.
 
-ghost use Rattle.std.specs.Prelude.{◌≡◌, ◌+◌, ◌-◌, ◌<◌, ◌≤◌, ◌^◌, ℕ, List, length, max};
+ghost use Rattle.std.specs.Prelude.{◌≡◌, ◌-◌, ◌<◌, ◌≤◌, ◌^◌, length, max};
 ghost use Rattle.std.specs.Prelude.{Err, Some, IfOk, OnErr};
 ghost use Rattle.wit_grammar.specs.Lines.{Begins};
 ghost use Rattle.wit_grammar.specs.declared.parse.TheConstants.{LONGEST};
 ghost use Rattle.wit_model.specs.Trace.Reading.{line_of};
 ghost use Rattle.wit_model.specs.Trace.Moving.{moving_from, moving_outcome, moving_entered};
 ghost use Rattle.wit_model.specs.Trace.Moving as moving;
-ghost use Rattle.wit_trace.specs.Machine.{Follows};
-ghost use Rattle.wit_trace.specs.Migrates.{MovesAsDue, Migrates, MigratesFrom, ReachesLine};
-ghost use Rattle.wit_trace.specs.Migrates.{migrated, moved_to, moving_reports, some_migration};
-ghost use Rattle.wit_trace.specs.Migrates.{weighed};
+ghost use Rattle.wit_trace.specs.Migrates.{MayMove, HasMoved, MovesAsDue, Migrates, MigratesFrom};
+ghost use Rattle.wit_trace.specs.Migrates.{ReachesLine, migrated, moved_to, moving_reports};
+ghost use Rattle.wit_trace.specs.Migrates.{some_migration, weighed};
 ghost use Rattle.wit_trace.specs.Stream.{ReadsToEnd, WritesFront, WritesLines, WritesOutput};
 
 mod behind;
@@ -162,16 +161,9 @@ impl Migrating {
         begun: Option<Begun>,
         text: &mut Vec<u8>,
     ) -> Result<Step, AllocError>
-        requires room { moving_reports (moved_to self.old) < number }
-        requires few { weighed (moved_to self.old) < number }
-        requires short { length bytes.now ≤ LONGEST }
+        requires ready { MayMove self.old number bytes.now text.old.items }
         requires begun { Begins begun (line_of bytes.now) }
-        ensures step { IfOk result (Follows migrated self.old self.new number bytes.now
-            text.new.items) }
-        ensures counted { IfOk result (λ s.
-            moving_reports (moved_to self.new) ≤ moving_reports (moved_to self.old) + 1) }
-        ensures weighed { IfOk result (λ s.
-            weighed (moved_to self.new) ≤ weighed (moved_to self.old) + 1) }
+        ensures { HasMoved self.old number bytes.now self.new text.new.items result }
     {
         let reached = self.reach(alloc, number, bytes)?;
         let found = self.found();

@@ -1,14 +1,12 @@
 //! Lines by their first word, as those of a replay (`replaying/frequent_lines.rt`).
 
-ghost use Rattle.std.specs.Prelude.{◌≡◌, ◌+◌, ◌<◌, ◌≤◌, [], true, Some, IfOk, IfSome, length};
+ghost use Rattle.std.specs.Prelude.{◌≡◌, true, IfSome, Some};
 ghost use Rattle.wit_model.specs.Rules.Names.{is_file_name};
 ghost use Rattle.wit_model.specs.declared.lines.Keyword.TheVariants.{Check, Unlock, Plain};
 ghost use Rattle.wit_model.specs.declared.lines.Verb.TheVariants.{Note};
 ghost use Rattle.wit_model.specs.Trace.Reading.{line_of};
 ghost use Rattle.wit_grammar.specs.Lines.{Begins, as_line};
-ghost use Rattle.wit_grammar.specs.declared.parse.TheConstants.{LONGEST};
-ghost use Rattle.wit_trace.specs.Machine.{Follows};
-ghost use Rattle.wit_trace.specs.Migrates.{migrated, moved_to, moving_reports, weighed};
+ghost use Rattle.wit_trace.specs.Migrates.{MayMove, HasMoved};
 
 use crate::migrating::Migrating;
 use crate::stream::machine::Step;
@@ -29,17 +27,9 @@ impl Migrating {
         rest: &[u8],
         text: &mut Vec<u8>,
     ) -> Result<Step, AllocError>
-        requires room { moving_reports (moved_to self.old) < number }
-        requires few { weighed (moved_to self.old) < number }
-        requires short { length bytes.now ≤ LONGEST }
-        requires empty { text.old.items ≡ [] }
+        requires ready { MayMove self.old number bytes.now text.old.items }
         requires begun { Begins (Some (Check, rest)) (line_of bytes.now) }
-        ensures step { IfOk result (Follows migrated self.old self.new number bytes.now
-            text.new.items) }
-        ensures counted { IfOk result (λ s.
-            moving_reports (moved_to self.new) ≤ moving_reports (moved_to self.old) + 1) }
-        ensures weighed { IfOk result (λ s.
-            weighed (moved_to self.new) ≤ weighed (moved_to self.old) + 1) }
+        ensures { HasMoved self.old number bytes.now self.new text.new.items result }
     {
         let begun = Some((Keyword::Check, rest));
         match lock_line(self.known_file(), begun) {
@@ -58,17 +48,9 @@ impl Migrating {
         rest: &[u8],
         text: &mut Vec<u8>,
     ) -> Result<Step, AllocError>
-        requires room { moving_reports (moved_to self.old) < number }
-        requires few { weighed (moved_to self.old) < number }
-        requires short { length bytes.now ≤ LONGEST }
-        requires empty { text.old.items ≡ [] }
+        requires ready { MayMove self.old number bytes.now text.old.items }
         requires begun { Begins (Some (Unlock, rest)) (line_of bytes.now) }
-        ensures step { IfOk result (Follows migrated self.old self.new number bytes.now
-            text.new.items) }
-        ensures counted { IfOk result (λ s.
-            moving_reports (moved_to self.new) ≤ moving_reports (moved_to self.old) + 1) }
-        ensures weighed { IfOk result (λ s.
-            weighed (moved_to self.new) ≤ weighed (moved_to self.old) + 1) }
+        ensures { HasMoved self.old number bytes.now self.new text.new.items result }
     {
         let Some((seat, lock, mode)) = unlock_fields(rest) else {
             return self.any_line(alloc, number, bytes, Some((Keyword::Unlock, rest)), text);
@@ -87,17 +69,9 @@ impl Migrating {
         rest: &[u8],
         text: &mut Vec<u8>,
     ) -> Result<Step, AllocError>
-        requires room { moving_reports (moved_to self.old) < number }
-        requires few { weighed (moved_to self.old) < number }
-        requires short { length bytes.now ≤ LONGEST }
-        requires empty { text.old.items ≡ [] }
+        requires ready { MayMove self.old number bytes.now text.old.items }
         requires begun { Begins (Some (Plain Note, rest)) (line_of bytes.now) }
-        ensures step { IfOk result (Follows migrated self.old self.new number bytes.now
-            text.new.items) }
-        ensures counted { IfOk result (λ s.
-            moving_reports (moved_to self.new) ≤ moving_reports (moved_to self.old) + 1) }
-        ensures weighed { IfOk result (λ s.
-            weighed (moved_to self.new) ≤ weighed (moved_to self.old) + 1) }
+        ensures { HasMoved self.old number bytes.now self.new text.new.items result }
     {
         let verb = Verb::Note;
         let Some((seat, lock)) = note_fields(rest) else {
@@ -123,17 +97,9 @@ impl Migrating {
         begun: Option<Begun>,
         text: &mut Vec<u8>,
     ) -> Result<Step, AllocError>
-        requires room { moving_reports (moved_to self.old) < number }
-        requires few { weighed (moved_to self.old) < number }
-        requires short { length bytes.now ≤ LONGEST }
-        requires empty { text.old.items ≡ [] }
+        requires ready { MayMove self.old number bytes.now text.old.items }
         requires begun { Begins begun (line_of bytes.now) }
-        ensures step { IfOk result (Follows migrated self.old self.new number bytes.now
-            text.new.items) }
-        ensures counted { IfOk result (λ s.
-            moving_reports (moved_to self.new) ≤ moving_reports (moved_to self.old) + 1) }
-        ensures weighed { IfOk result (λ s.
-            weighed (moved_to self.new) ≤ weighed (moved_to self.old) + 1) }
+        ensures { HasMoved self.old number bytes.now self.new text.new.items result }
     {
         match lock_line(None, begun) {
             Some(line) => self.moved_line(alloc, number, bytes, line, text),
@@ -151,17 +117,9 @@ impl Migrating {
         line: LockLine<&str>,
         text: &mut Vec<u8>,
     ) -> Result<Step, AllocError>
-        requires room { moving_reports (moved_to self.old) < number }
-        requires few { weighed (moved_to self.old) < number }
-        requires short { length bytes.now ≤ LONGEST }
-        requires empty { text.old.items ≡ [] }
+        requires ready { MayMove self.old number bytes.now text.old.items }
         requires found { line_of bytes.now ≡ Some (as_line line) }
-        ensures step { IfOk result (Follows migrated self.old self.new number bytes.now
-            text.new.items) }
-        ensures counted { IfOk result (λ s.
-            moving_reports (moved_to self.new) ≤ moving_reports (moved_to self.old) + 1) }
-        ensures weighed { IfOk result (λ s.
-            weighed (moved_to self.new) ≤ weighed (moved_to self.old) + 1) }
+        ensures { HasMoved self.old number bytes.now self.new text.new.items result }
     {
         if let Migrating::Moved(behind) = self {
             let found = behind.summary();
