@@ -22,6 +22,7 @@ pub fn join(text: Vec<u8>, more: &[u8]) -> Result<Vec<u8>, AllocError>
 ///
 /// # Errors
 /// Want of memory alone.
+#[inline(always)]
 pub fn put_line(text: &mut Vec<u8>, line: &[u8]) -> Result<(), AllocError>
     ensures { OnOk result (text.new.items ≡ text.old.items ++ (line.now ++ 10 ∷ [])) }
 {
@@ -44,6 +45,7 @@ pub fn one_line(alloc: Global, line: &[u8]) -> Result<Vec<u8>, AllocError>
 ///
 /// # Errors
 /// Want of memory alone.
+#[inline(always)]
 pub fn line_in(room: Vec<u8>, line: &[u8]) -> Result<Vec<u8>, AllocError>
     requires { room.items ≡ [] }
     ensures { IfOk result (λ text. text.items ≡ with_feeds (line.now ∷ [])) }
