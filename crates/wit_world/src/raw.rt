@@ -125,6 +125,7 @@ impl Raw {
     }
 
     /// A seat has one share of a lock fewer. It takes no memory.
+    #[inline(always)]
     pub fn free(&mut self, seat: SeatNo, lock: LockNo)
         requires { 0 < shares_of self.old seat.0 lock.0 }
         ensures { self.new ≡ freed seat.0 lock.0 self.old }

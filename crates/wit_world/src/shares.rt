@@ -1,7 +1,7 @@
 //! The shares of one lock.
 
-ghost use Rattle.std.specs.Prelude.{◌≡◌, ◌<◌, ◌^◌, ◌-◌, OnOk, OnErr};
-ghost use Rattle.std.specs.List.{list_all, position};
+ghost use Rattle.std.specs.Prelude.{◌≡◌, ◌<◌, ◌^◌, ◌-◌, length, OnOk, OnErr};
+ghost use Rattle.std.specs.List.{list_all, position, remove};
 ghost use Rattle.wit_model.specs.World.Scenes.{nobodys, shares_among, is_admitted, is_only};
 ghost use Rattle.wit_model.specs.World.Scenes.{one_more, one_fewer};
 ghost use Rattle.wit_world.specs.Holders.{all_had, is_holder};
@@ -140,8 +140,31 @@ fn remove_one(holders: &mut Vec<Holder>, seat: SeatNo)
     if 1 < holders[place].count {
         holders[place].count -= 1;
     } else {
-        let _last = holders.remove(place);
+        leave_out(holders, place);
     }
+}
+
+// One of these goes, and the others keep their order. The last one, as the only one is, leaves
+// nothing to be moved.
+#[inline(always)]
+fn leave_out(holders: &mut Vec<Holder>, place: usize)
+    requires { place < length holders.old.items }
+    ensures { holders.new.items ≡ remove holders.old.items place }
+{
+    if place + 1 == holders.len() {
+        let _last = holders.pop();
+    } else {
+        move_up(holders, place);
+    }
+}
+
+// By itself, so that one who alone has a lock doesn't pay for it.
+#[inline(never)]
+fn move_up(holders: &mut Vec<Holder>, place: usize)
+    requires { place < length holders.old.items }
+    ensures { holders.new.items ≡ remove holders.old.items place }
+{
+    let _gone = holders.remove(place);
 }
 
 // Whether all of these are of a seat.

@@ -45,5 +45,5 @@ returns-else-index-gt1 c =
     ∙ ap (position (is_holder t)) c.deref.ensures.value) ∙ c.in-Some.is) in
     let here = ap (λ h. h.count) c.index.ensures in
     let few = c.if-index-gt1.false in
-    ap all_had c.remove-last.ensures.items ∙ gone-at t xs i d at
+    ap all_had c.leave_out.ensures ∙ gone-at t xs i d at
     (le-ltb 1 (get_or xs i d).count (omega (arith, few, here)))
