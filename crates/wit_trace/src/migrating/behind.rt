@@ -1,7 +1,7 @@
 //! What a migration knows behind the prelude.
 
-ghost use Rattle.std.specs.Prelude.{◌≡◌, ◌+◌, ◌-◌, ◌<◌, ◌≤◌, ◌^◌, ◌++◌, ◌∷◌, [], true, false, None, Some};
-ghost use Rattle.std.specs.Prelude.{IfSome};
+ghost use Rattle.std.specs.Prelude.{◌≡◌, ◌+◌, ◌-◌, ◌<◌, ◌≤◌, ◌^◌, ◌++◌, ◌∷◌, [], true, false, None};
+ghost use Rattle.std.specs.Prelude.{Some, IfSome};
 ghost use Rattle.wit_model.specs.Rules.Names.{is_file_name};
 ghost use Rattle.wit_model.specs.Trace.Moving.{moves, read_to};
 ghost use Rattle.wit_model.specs.Trace.Output.{Logs, call_of, summed};
