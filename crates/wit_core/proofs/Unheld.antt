@@ -1,5 +1,6 @@
 -- A request that passes may tell that its seat doesn't hold the lock.
-use Rattle.std.proofs.Common.{◌≡◌, ◌≢◌, ℕ, Bool, true, false, not, ◌&&◌, cond, List, [], ◌∷◌, Option}
+use Rattle.std.proofs.Common.{◌≡◌, ◌≢◌, ℕ, Bool, true, false, not, ◌&&◌, cond, List, [], ◌∷◌}
+use Rattle.std.proofs.Common.{Option}
 use Rattle.std.proofs.Common.{None, Some, IfSome, Ok, Err, is_none, find, refl, sym, ap, ◌∙◌, subst}
 use Rattle.std.specs.List.{last_or}
 use Rattle.std.specs.Option.{option_map}

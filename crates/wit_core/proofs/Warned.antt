@@ -73,8 +73,11 @@ given-by locks types l r are is some =
     go true e =
         let parts = and_parts (nat_lt 0 l) (nat_le l (length locks)) e in (
           ltb-true 0 l parts.0,
-          omega
-              (arith, leb-true l (length locks) parts.1, length-map locks (λ (y : Lock). y.type_no)),
+          omega (
+            arith,
+            leb-true l (length locks) parts.1,
+            length-map locks (λ (y : Lock). y.type_no),
+          ),
         )
     go false e =
         absurd (true≢false (sym some ∙ ap is_some (is

@@ -43,8 +43,8 @@ pub struct Ready {
     pub kept: Reply,
 }
 
-/// No call is prepared any more. Mostly none was: that is tested first, since all parts of one would
-/// be written else.
+/// No call is prepared any more. Mostly none was: that is tested first, since all parts of one
+/// would be written else.
 #[inline(always)]
 pub fn let_go(ready: &mut Option<Ready>)
     ensures { ready.new ≡ None }

@@ -2,7 +2,8 @@
 
 ghost use Rattle.std.specs.Prelude.{◌≡◌, ◌++◌, Option, IfSome, Some, codes, drop, true};
 ghost use Rattle.wit_model.specs.Rules.Names.{is_file_name};
-ghost use Rattle.wit_model.specs.declared.lines.Keyword.TheVariants.{Check, Unlock, Plain, Take, Free};
+ghost use Rattle.wit_model.specs.declared.lines.Keyword.TheVariants.{Check, Unlock, Plain, Take};
+ghost use Rattle.wit_model.specs.declared.lines.Keyword.TheVariants.{Free};
 ghost use Rattle.wit_model.specs.declared.lines.Line.{Line};
 ghost use Rattle.wit_model.specs.declared.lines.Verb.TheVariants.{Note};
 ghost use Rattle.wit_model.specs.Trace.Reading.{fields_of, line_of};

@@ -177,8 +177,8 @@ module _ (view : View) (s new : Story) (m n : ℕ) (bytes : List ℕ) (line : Li
       → EndsFor view (output.Reading new m) n e text t
       → Follows (allowed_at view) (Reading s m) (Reading new m) n bytes text t
   call_ends e text t is ends =
-      line_ends view (Reading s m) (Reading new m) (output.Reading s m) n bytes (Err e) e text t refl
-      (rw makes_call (subst (Calls (λ m. output.calls s m (output.call_of line)) s new) is
+      line_ends view (Reading s m) (Reading new m) (output.Reading s m) n bytes (Err e) e text t
+      refl (rw makes_call (subst (Calls (λ m. output.calls s m (output.call_of line)) s new) is
       calls m)) refl ends
 
 -- the text and the summary at a list that is refused

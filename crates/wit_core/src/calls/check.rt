@@ -114,8 +114,8 @@ impl Verifier {
         self.make_ready(seat, Plan::Check(request), reply)
     }
 
-    // The verdict on a request, where it isn't refused. Inlined, since a check that isn't prepared is
-    // by far the most frequent of the two that ask for it.
+    // The verdict on a request, where it isn't refused. Inlined, since a check that isn't prepared
+    // is by far the most frequent of the two that ask for it.
     #[inline(always)]
     fn judge(&self, seat: SeatNo, request: Request) -> Result<Verdict, Fault>
         ensures seat { OnOk result (is_seat (state_of self.now) seat.0 ≡ true) }
@@ -243,8 +243,8 @@ impl Verifier {
     // it doesn't tell that. Nor is it asked where seats hold few locks: a look through them then
     // takes no longer.
     fn new_in(&self, request: Request) -> Option<bool>
-        ensures { IfSome result (λ spin. (tells_new (state_of self.now) request ≡ true)
-            × (spin ≡ is_spin (lock_at (state_of self.now).known.locks request.lock.0).made.class)) }
+        ensures { IfSome result (λ spin. (tells_new (state_of self.now) request ≡ true) × (spin
+            ≡ is_spin (lock_at (state_of self.now).known.locks request.lock.0).made.class)) }
     {
         if self.log.owed() <= FEW_LOCKS * self.limits.seats() {
             return None;

@@ -23,25 +23,41 @@ returns-then-number-most-3-clause-value c =
     inner_two c.args.most c.in-Some-inner_two.tens c.in-Some-inner_two.ones
     c.in-Some-inner_two.ensures.0 c.in-Some-inner_two.ensures.1 c.in-Some-inner_two.ensures.2
     c.if-number-most-3.true c.args.bytes.now _ c.in-Some-inner_two.ensures.3
-    ∙ ap (λ (rest : List ℕ). Some (c.in-Some-inner_two.tens * 10 + c.in-Some-inner_two.ones, rest)) (sym (take_rest c.args.bytes.now 3))
+    ∙ ap (λ (rest : List ℕ). Some (
+      c.in-Some-inner_two.tens * 10 + c.in-Some-inner_two.ones,
+      rest,
+    )) (sym (take_rest c.args.bytes.now 3))
 
 pub returns-then-number-most-4-clause-value : goal.returns-then-number-most-4-clause-value
 returns-then-number-most-4-clause-value c =
-    inner_three c.args.most c.in-Some-inner_three.hundreds c.in-Some-inner_three.tens c.in-Some-inner_three.ones
-    c.in-Some-inner_three.ensures.0 c.in-Some-inner_three.ensures.1 c.in-Some-inner_three.ensures.2 c.in-Some-inner_three.ensures.3
+    inner_three c.args.most c.in-Some-inner_three.hundreds c.in-Some-inner_three.tens
+    c.in-Some-inner_three.ones c.in-Some-inner_three.ensures.0 c.in-Some-inner_three.ensures.1
+    c.in-Some-inner_three.ensures.2 c.in-Some-inner_three.ensures.3
     c.if-number-most-4.true c.args.bytes.now _ c.in-Some-inner_three.ensures.4
-    ∙ ap (λ (rest : List ℕ). Some ((c.in-Some-inner_three.hundreds * 10 + c.in-Some-inner_three.tens) * 10 + c.in-Some-inner_three.ones, rest)) (sym (take_rest c.args.bytes.now 4))
+    ∙ ap (λ (rest : List ℕ). Some (
+      (c.in-Some-inner_three.hundreds * 10 + c.in-Some-inner_three.tens) * 10
+          + c.in-Some-inner_three.ones,
+      rest,
+    )) (sym (take_rest c.args.bytes.now 4))
 
 pub returns-then-number-most-5-clause-value : goal.returns-then-number-most-5-clause-value
 returns-then-number-most-5-clause-value c =
     last_two c.args.most c.in-Some-last_two.tens c.in-Some-last_two.ones
     c.in-Some-last_two.ensures.0 c.in-Some-last_two.ensures.1 c.in-Some-last_two.ensures.2
     c.if-number-most-5.true c.args.bytes.now c.in-Some-last_two.ensures.3
-    ∙ ap (λ (rest : List ℕ). Some (c.in-Some-last_two.tens * 10 + c.in-Some-last_two.ones, rest)) (sym (take_rest c.args.bytes.now 3))
+    ∙ ap (λ (rest : List ℕ). Some (
+      c.in-Some-last_two.tens * 10 + c.in-Some-last_two.ones,
+      rest,
+    )) (sym (take_rest c.args.bytes.now 3))
 
 pub returns-then-number-most-6-clause-value : goal.returns-then-number-most-6-clause-value
 returns-then-number-most-6-clause-value c =
-    last_three c.args.most c.in-Some-last_three.hundreds c.in-Some-last_three.tens c.in-Some-last_three.ones
-    c.in-Some-last_three.ensures.0 c.in-Some-last_three.ensures.1 c.in-Some-last_three.ensures.2 c.in-Some-last_three.ensures.3
+    last_three c.args.most c.in-Some-last_three.hundreds c.in-Some-last_three.tens
+    c.in-Some-last_three.ones c.in-Some-last_three.ensures.0 c.in-Some-last_three.ensures.1
+    c.in-Some-last_three.ensures.2 c.in-Some-last_three.ensures.3
     c.if-number-most-6.true c.args.bytes.now c.in-Some-last_three.ensures.4
-    ∙ ap (λ (rest : List ℕ). Some ((c.in-Some-last_three.hundreds * 10 + c.in-Some-last_three.tens) * 10 + c.in-Some-last_three.ones, rest)) (sym (take_rest c.args.bytes.now 4))
+    ∙ ap (λ (rest : List ℕ). Some (
+      (c.in-Some-last_three.hundreds * 10 + c.in-Some-last_three.tens) * 10
+          + c.in-Some-last_three.ones,
+      rest,
+    )) (sym (take_rest c.args.bytes.now 4))

@@ -5,7 +5,8 @@ use Rattle.wit_trace.specs.Machine.{Follows}
 use Rattle.wit_trace.specs.Replays.{allowed_at, progress_of, reports_told, EndsFor, StandsAsDue}
 use Rattle.wit_grammar.specs.declared.errors.LineError.TheVariants.{Bad}
 use Rattle.wit_trace.proofs.ReportLemmas.{bad_one, ended_one, told_one}
-use Rattle.wit_trace.proofs.WrittenLemmas.{at_ok, if_ok, line_told, line_ends, refused_step, short_line}
+use Rattle.wit_trace.proofs.WrittenLemmas.{at_ok, if_ok, line_told, line_ends, refused_step}
+use Rattle.wit_trace.proofs.WrittenLemmas.{short_line}
 use Rattle.wit_trace.proofs.replaying.Replaying.any_line.Goals as goal
 
 pub returns-in-Some : goal.returns-in-Some
@@ -19,7 +20,8 @@ returns-in-Some c = (
       if_ok (EndsFor c.args.self.now.view (progress_of c.reach.new.self) c.in-Some.number
       (Bad c.in-Some.cause) c.ended_step.new.text.items)
       (Follows (allowed_at c.args.self.now.view) c.args.self.now.progress
-      c.reach.new.self c.args.number c.args.bytes.now c.ended_step.new.text.items) c.ended_step.result
+      c.reach.new.self c.args.number c.args.bytes.now c.ended_step.new.text.items)
+      c.ended_step.result
       (λ s ends. refused_step c.args.self.now.view c.args.self.now.progress c.reach.new.self
       c.args.number c.args.bytes.now list c.ended_step.new.text.items s refused ends)
       (c.ended_step.ensures c.args.self.now.view),

@@ -43,7 +43,8 @@ returns-in-Err c = (
   let new = c.call_on_lock.new.verifier in
       let remarks = c.in-Reading.remarks in
       rw c.in-Reading.is (if_ok (EndsFor c.args.self.now.view
-      (progress_of (Reading new remarks)) c.args.number c.in-Err.error c.ended_step.new.text.items) _ c.ended_step.result
+      (progress_of (Reading new remarks)) c.args.number c.in-Err.error
+      c.ended_step.new.text.items) _ c.ended_step.result
       (λ s ends. call_ended_one c.in-Reading.verifier new remarks
       (as_line c.args.line) c.call_on_lock.result c.call_on_lock.ensures c.args.self.now.view
       c.args.number c.in-Err.error c.ended_step.new.text.items s c.in-Err.is ends)

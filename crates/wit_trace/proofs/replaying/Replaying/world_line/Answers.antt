@@ -44,7 +44,8 @@ returns-in-Ok c = (
       c.requires.found
       c.step_on_lock.ensures in
       rw c.in-Stepping.is (line_told c.args.self.now.view old old new c.args.number c.args.bytes.now
-      c.step_on_lock.result c.in-Ok.told c.show.new.text.items refl passes c.in-Ok.is c.show.ensures),
+      c.step_on_lock.result c.in-Ok.told c.show.new.text.items refl passes c.in-Ok.is
+      c.show.ensures),
   let m = c.in-Stepping.remarks in
       let old = output.Stepping c.in-Stepping.world m in
       let new = output.Stepping c.step_on_lock.new.world c.step_on_lock.new.remarks in
@@ -74,7 +75,8 @@ returns-in-Err c = (
       c.ended_step.new.text.items)
       c.ended_step.result
       (λ s ends. line_ends c.args.self.now.view old new (progress_of old) c.args.number
-      c.args.bytes.now c.step_on_lock.result c.in-Err.error c.ended_step.new.text.items s refl passes c.in-Err.is ends)
+      c.args.bytes.now c.step_on_lock.result c.in-Err.error c.ended_step.new.text.items s refl
+      passes c.in-Err.is ends)
       (c.ended_step.ensures c.args.self.now.view)),
   let m = c.in-Stepping.remarks in
       let old = output.Stepping c.in-Stepping.world m in
