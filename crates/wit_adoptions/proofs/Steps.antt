@@ -97,7 +97,8 @@ ends_moves seen ask cells links kept begins away =
     let n = still (cell cells 0).0 in
     let home : (k : ℕ) → IsUsedUp cells k
     → IsUsedUp (slice_set cells 0 (n, true) ++ (0, false) ∷ []) k =
-    λ k h. home_longer (slice_set cells 0 (n, true)) ((0, false) ∷ []) k (home_set cells 0 k n h) in (
+    λ k h. home_longer (slice_set cells 0 (n, true)) ((0, false) ∷ []) k
+    (home_set cells 0 k n h) in (
       is_there cells 0 kept.head,
       kept.head,
       (

@@ -32,7 +32,8 @@ module _ (p : Prelude) (version : p.version ≡ One) (good : start_fault p.start
       ap (λ b. cond b (Ok (Opening p)) (output.opened p (start_fault p.start))) ends
       ∙ (ap (λ o. output.opened p o) good ∙ ap (λ q. Ok q) (two-goes p version))
 
-  pub reached-two : output.reached (Opening (two p)) n first ≡ Ok (Stepping (opening (fresh p.start)) 0)
+  pub reached-two : output.reached (Opening (two p)) n first
+      ≡ Ok (Stepping (opening (fresh p.start)) 0)
   reached-two =
       ap (λ b. cond b (Ok (Opening (two p))) (output.opened (two p) (start_fault p.start))) ends
       ∙ ap (λ o. output.opened (two p) o) good

@@ -73,7 +73,8 @@ put-requires-in-Some-pop-clause-place g c =
       open-within c.self.inside c.args.self.now c.self.view_is c.self.invariant
           c.args.list c.requires.list c.deref.result.now c.deref-2.result.now
           (the-places c.self.inside c.args.self.now c.self.view_is c.self.invariant c.args.list
-          c.requires.list c.index.result.now c.deref.result.now c.index.ensures c.deref.ensures.value)
+          c.requires.list c.index.result.now c.deref.result.now c.index.ensures
+          c.deref.ensures.value)
           c.deref-2.ensures.value c.pop.new.self.items c.in-Some-pop.chunk
           c.in-Some-pop.ensures.items,
       c.self.inside.chunks.ok.0,
