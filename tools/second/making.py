@@ -8,13 +8,11 @@ from traces import parsed
 NAMES = ["A", "B", "C", "D", "E", "Giant", "a b", "x:y", "Z" * 63, "'", "\\", "~"]
 FILES = ["f", "g", "a:b", ":", "f/g.c", "z" * 255]
 NUMBERS = [0, 1, 2, 3, 7, 12, 123, 1234, 99_999, 4_294_967_295]
-ASSERTED = ["u", "l", "s", "x", "lr", "ln", "sr", "sn", "xr", "xn", "-", "ul", "r", "rn", "ulsxrn", "lx"]
-ODD_WORDS = [
-    "", "0", "1", "00", "01", "-1", "256", "257", "1023", "1024", "65535", "65536", "65537", "4294967295", "4294967296",
-    "99999999999999999999", "x", "s", "X", "-", "n", "nd", "dn", "ndf", "nn", "r", "rd", "dr", "ul", "lu", "gs", "sg", "f:01",
-    "f:", ":1", "a:b:2", "f" * 255 + ":1", "f" * 256 + ":1", '"a"', '""', '"' + "n" * 64 + '"', '"a', "mtx", "sx", "spin", "lock",
-    "order", "bless", "profile", "z" * 4096, "z" * 4097, "take", "free", "\x7f",
-]
+ASSERTED = "u l s x lr ln sr sn xr xn - ul r rn ulsxrn lx".split()
+ODD_WORDS = (
+    "0 1 00 01 -1 256 257 1023 1024 65535 65536 65537 4294967295 4294967296 99999999999999999999 x s X - n nd dn ndf nn"
+    ' r rd dr ul lu gs sg f:01 f: :1 a:b:2 "a" "" "a mtx sx spin lock order bless profile take free \x7f'
+).split() + ["", "f" * 255 + ":1", "f" * 256 + ":1", '"' + "n" * 64 + '"', "z" * 4096, "z" * 4097]
 TRIES = 30
 
 
@@ -128,7 +126,8 @@ class Maker:
     def any_line(self):
         random, verifier = self.random, self.verifier
         seats = verifier.seats
-        seat = random.randint(1, min(seats, 6)) if random.random() < 0.99 else random.choice([0, seats, seats + 1, 65_535])
+        odd = random.random() < 0.01
+        seat = random.choice([0, seats, seats + 1, 65_535]) if odd else random.randint(1, min(seats, 6))
         begun = self.behind(seat)
         if begun and random.random() < 0.85:
             return begun
@@ -149,7 +148,8 @@ class Maker:
         begun = self.verifier.open.get(seat)
         if not begun:
             return None
-        verb = {"asked": random.choice(["take"] * 6 + ["giveup"]), "asked again": random.choice(["lock"] * 6 + ["giveup"]),
+        gives_up = random.random() < 0.15
+        verb = {"asked": "giveup" if gives_up else "take", "asked again": "giveup" if gives_up else "lock",
                 "taken": "lock", "tried": "try", "raised": "upgrade"}.get(begun.step)
         if verb == "try":
             return f"try {seat} {begun.lock} {begun.mode} {self.site()}"
@@ -161,7 +161,9 @@ class Maker:
 
     def lock(self):
         count = len(self.verifier.locks)
-        return self.random.randint(1, count) if self.random.random() < 0.99 else self.random.choice([0, count + 1, 4_294_967_295])
+        if self.random.random() < 0.01 or not count:
+            return self.random.choice([0, count + 1, 4_294_967_295])
+        return self.random.randint(1, count)
 
     def init(self, seat):
         random = self.random

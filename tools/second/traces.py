@@ -9,6 +9,7 @@ from shares import Shares, World, awaits, times_held
 LONGEST = 4096
 LIMITS = (256, 1023, 65_536, 65_536)
 LAST = 2**32 - 1
+NUMBERS = ("seat", "lock", "level")
 MOST = {"seat": 65_535, "lock": LAST, "site": LAST}
 DIGITS = r"(?:0|[1-9][0-9]*)"
 NUMBER = rf"({DIGITS})"
@@ -32,8 +33,13 @@ LINES = [
     ("take", "take", "seat lock", 2), ("trytake", "trytake", "seat lock mode", 2),
     ("free", "free", "seat lock", 2), ("rawup", "rawup", "seat lock", 2), ("rawdown", "rawdown", "seat lock", 2),
 ]
-FORMS = [(re.compile(" ".join([verb] + [FIELDS[field] for field in fields.split()])), verb, call, fields.split(), version)
-         for verb, call, fields, version in LINES]
+
+
+def form(verb, fields):
+    return re.compile(" ".join([verb] + [FIELDS[field] for field in fields]))
+
+
+FORMS = [(form(verb, fields.split()), verb, call, fields.split(), version) for verb, call, fields, version in LINES]
 HEADER = re.compile(rf"witness-trace ([12]) seats {NUMBER} types {NUMBER} locks {NUMBER} chunks {NUMBER}")
 ORDER = re.compile(rf"order(?: {CLASS} {NAME})+")
 BLESS = re.compile(rf"bless {NAME} {NAME}")
@@ -62,10 +68,10 @@ def parsed(line, version):
     for form, verb, call, fields, since in FORMS:
         found = since <= version and form.fullmatch(line)
         if found:
-            values = list(zip(fields, found.groups()))
-            fits = all(int(text.rpartition(":")[2]) <= MOST[field] for field, text in values if field in MOST)
-            numbers = ("seat", "lock", "level")
-            return (verb, call, [int(text) if field in numbers else text for field, text in values]) if fits else None
+            named = list(zip(fields, found.groups()))
+            if any(int(text.rpartition(":")[2]) > MOST[field] for field, text in named if field in MOST):
+                return None
+            return verb, call, [int(text) if field in NUMBERS else text for field, text in named]
     return None
 
 
@@ -157,11 +163,15 @@ def shown(word, text, told):
     if word == "replay":
         return "".join(texts), min(verifier.reports, 1)
     if word == "graph":
-        names = [type.name for type in verifier.types]
-        return "".join(f'"{names[one - 1]}","{names[other - 1]}"\n' for one, other in sorted(verifier.orders.origins)), 0
+        return graph(verifier), 0
     if word == "locks":
         return locks(verifier), 0
     return (told, int(told != "no circle\n")) if is_circle(verifier, told) else ("another circle, or none", 0)
+
+
+def graph(verifier):
+    names = [f'"{type.name}"' for type in verifier.types]
+    return "".join(f"{names[one - 1]},{names[other - 1]}\n" for one, other in sorted(verifier.orders.origins))
 
 
 def locks(verifier):
@@ -178,7 +188,8 @@ def is_circle(verifier, text):
     if text == "no circle\n":
         return not has_circle(verifier)
     steps = re.findall(r' seat (\d+) waits for "(.*)" held by seat (\d+)\n', text)
-    if text != "circle:\n" + "".join(f' seat {one} waits for "{name}" held by seat {other}\n' for one, name, other in steps):
+    spelled = (f' seat {one} waits for "{name}" held by seat {other}\n' for one, name, other in steps)
+    if text != "circle:\n" + "".join(spelled):
         return False
     seats = [int(seat) for seat, _, _ in steps]
     others = [int(other) for _, _, other in steps]
