@@ -8,7 +8,7 @@ use Rattle.wit_model.specs.Rules.History.{reports_of}
 use Rattle.wit_model.specs.Rules.Sizes.{sizes_of}
 use Rattle.wit_model.specs.Rules.State.{Start, Story}
 use Rattle.wit_model.specs.Rules.Step.{IsLegal}
-use Rattle.wit_trace.specs.declared.summary.Summary.{Summary}
+use Rattle.wit_stream.specs.declared.summary.Summary.{Summary}
 
 -- six seats, two locks of a type each, and a log of 4,096 calls
 abbrev pub demo_start : Start

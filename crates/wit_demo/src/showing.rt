@@ -13,7 +13,7 @@ use std::thread::Threads;
 use wit_core::Verifier;
 use wit_model::{Cause, Fault, Limits};
 use wit_shared::{Opened, Reason};
-use wit_trace::{ReplayError, Summary};
+use wit_stream::{ReplayError, Summary};
 
 /// Shows what the verifier does for threads: four of them take a mutex `A` and then a mutex `B` a
 /// hundred times, and when they have ended one seat takes `B` and then `A`. Then the reports are

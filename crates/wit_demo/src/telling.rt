@@ -9,7 +9,7 @@ use std::io::Write;
 use wit_core::Verifier;
 use wit_model::Fault;
 use wit_report::report_text;
-use wit_trace::{ReplayError, Summary};
+use wit_stream::{ReplayError, Summary};
 
 /// Writes the reports of a log, and how many calls, orders and reports there were.
 ///

@@ -8,9 +8,10 @@ use Rattle.wit_model.specs.declared.lines.Cause.TheVariants.{Fault}
 use Rattle.wit_model.specs.Trace.Spelling.{Spells}
 use Rattle.wit_model.specs.Trace.Reading.{line_of}
 use Rattle.wit_model.proofs.Spelling.Laws.{line_takes, spelled_again}
-use Rattle.wit_grammar.specs.declared.errors.LineError.{LineError}
-use Rattle.wit_grammar.specs.declared.errors.LineError.TheVariants.{Bad, Memory}
-use Rattle.wit_grammar.specs.Lines.{Gives, IsWhy}
+use Rattle.wit_fields.specs.declared.errors.LineError.{LineError}
+use Rattle.wit_fields.specs.declared.errors.LineError.TheVariants.{Bad, Memory}
+use Rattle.wit_fields.specs.Fields.{Gives}
+use Rattle.wit_grammar.specs.Lines.{IsWhy}
 
 abbrev Reads : List ℕ → Result Line LineError → Type 0
 Reads bytes r = Gives (λ l. l) r (line_of bytes)

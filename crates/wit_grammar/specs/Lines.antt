@@ -1,9 +1,6 @@
 -- What the reader of a line answers.
-use Rattle.std.specs.Prelude.{◌≡◌, ◌≢◌, ◌<◌, ◌≤◌, ℕ, List, [], ◌∷◌, length, Option, Some, None}
-use Rattle.std.specs.Prelude.{Result, Ok, Err}
+use Rattle.std.specs.Prelude.{◌≡◌, ◌<◌, ◌≤◌, ℕ, List, [], ◌∷◌, length, Option, Some, None}
 use Rattle.std.specs.Borrow.{Bor}
-use Rattle.wit_model.specs.declared.faults.Fault.{Fault}
-use Rattle.wit_model.specs.declared.faults.Fault.TheVariants.{OutOfMemory}
 use Rattle.wit_model.specs.declared.lines.Line.{Line}
 use Rattle.wit_model.specs.declared.lines.Line.TheVariants.{Header, Profile, Order, Bless, OnLock}
 use Rattle.wit_model.specs.declared.lines.LockLine.{LockLine}
@@ -13,31 +10,16 @@ use Rattle.wit_model.specs.declared.lines.Keyword.TheVariants as keyword
 use Rattle.wit_model.specs.declared.lines.Cause.{Cause}
 use Rattle.wit_model.specs.declared.lines.Cause.TheVariants.{Long, Syntax, Cut, Version, Limit}
 use Rattle.wit_model.specs.declared.lines.Cause.TheVariants as why
-use Rattle.wit_model.specs.Trace.Reading.{◌>>=◌, named, number_of, until, fields_of}
+use Rattle.wit_model.specs.Trace.Reading.{named, fields_of}
 use Rattle.wit_model.specs.Trace.Spelling.{Spells, IsSpellable, keyword_text, spelling}
-use Rattle.wit_grammar.specs.declared.errors.LineError.{LineError}
-use Rattle.wit_grammar.specs.declared.errors.LineError.TheVariants.{Bad, Memory}
+use Rattle.wit_fields.specs.declared.errors.LineError.{LineError}
+use Rattle.wit_fields.specs.declared.errors.LineError.TheVariants.{Bad, Memory}
 use Rattle.wit_grammar.specs.declared.parse.TheConstants.{LONGEST}
-
--- `Bad` where nothing is there to read, and with no cause but `Syntax`
-abbrev pub Fails : {Y : Type 0} → LineError → Option Y → Type 0
-Fails Memory read = Unit {0}
-Fails (Bad cause) read = (cause ≡ Syntax) × (read ≡ None)
-
--- the value, seen by view, is what is read, unless memory ran out
-abbrev pub Gives : {X Y : Type 0} → (X → Y) → Result X LineError → Option Y → Type 0
-Gives view (Ok x) read = read ≡ Some (view x)
-Gives view (Err e) read = Fails e read
 
 -- a value that was found, seen by view, is what is read
 abbrev pub GivesIfFound : {X Y : Type 0} → (X → Y) → Option X → Option Y → Type 0
 GivesIfFound view (Some x) read = read ≡ Some (view x)
 GivesIfFound view None read = Unit {0}
-
--- the number that stands up to the next space, and what follows it
-abbrev pub leading_number : ℕ → List ℕ → Option (ℕ × List ℕ)
-leading_number bound bytes =
-    number_of bound (until 32 bytes).0 >>= λ number. Some (number, (until 32 bytes).1)
 
 -- the keyword of the header, where the word is that
 abbrev pub header_keyword : List ℕ → Option Keyword
@@ -84,8 +66,3 @@ IsPrelude _ = ⊥
 -- the line has a spelling, of at most 4,096 bytes
 abbrev pub IsSpelled : Line → Type 0
 IsSpelled line = IsSpellable line × (length (spelling line) ≤ LONGEST)
-
--- a refused call makes its line bad, unless it was for want of memory
-abbrev pub RefusesLine : Fault → LineError → Type 0
-RefusesLine fault Memory = fault ≡ OutOfMemory
-RefusesLine fault (Bad cause) = (cause ≡ why.Fault fault) × (fault ≢ OutOfMemory)

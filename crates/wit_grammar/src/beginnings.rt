@@ -7,14 +7,14 @@ ghost use Rattle.wit_model.specs.declared.lines.Keyword.TheVariants.{Free};
 ghost use Rattle.wit_model.specs.declared.lines.Line.{Line};
 ghost use Rattle.wit_model.specs.declared.lines.Verb.TheVariants.{Note};
 ghost use Rattle.wit_model.specs.Trace.Reading.{fields_of, line_of};
-ghost use Rattle.wit_grammar.specs.Lines.{Gives, GivesIfFound, Begins, as_line};
+ghost use Rattle.wit_fields.specs.Fields.{Gives};
+ghost use Rattle.wit_grammar.specs.Lines.{GivesIfFound, Begins, as_line};
 
-use crate::errors::LineError;
 use crate::keywords::keyword_of;
 use crate::lock_lines::{check, plain, step, try_lock, try_take, unlock};
 use crate::parse::fields;
-use crate::words;
 use std::alloc::Global;
+use wit_fields::{LineError, words};
 use wit_model::{Keyword, Line, LockLine, RawStep, Verb};
 
 /// The keyword that a line begins with, and the bytes behind it.

@@ -2,12 +2,8 @@
 #![tactic(auto)]
 
 mod beginnings;
-mod errors;
 mod keywords;
-mod letters;
 mod lock_lines;
-mod names;
-mod numbers;
 mod parse;
 mod plain_lines;
 mod print;
@@ -15,16 +11,15 @@ mod print_lock_lines;
 mod put;
 mod short_lines;
 mod spellable;
-mod words;
 
 pub use beginnings::{
     Begun, begin_line, behind_check, behind_free, behind_lock, behind_take, behind_unlock,
     finish_line, lock_line,
 };
-pub use errors::LineError;
 pub use lock_lines::borrowed;
 pub use parse::{LONGEST, parse_line};
 pub use print::print_line;
 pub use print_lock_lines::put_step;
 pub use short_lines::{free_fields, note_fields, take_fields, unlock_fields};
 pub use spellable::spelled;
+pub use wit_fields::LineError;

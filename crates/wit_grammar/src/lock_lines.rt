@@ -5,11 +5,11 @@ ghost use Rattle.wit_model.specs.Rules.Names.{is_file_name};
 ghost use Rattle.wit_model.specs.Trace.Reading.{check_of, try_of, unlock_of, plain_of, step_of};
 ghost use Rattle.wit_model.specs.Trace.Reading.{try_take_of};
 ghost use Rattle.wit_model.specs.declared.lines.Line.TheVariants.{OnLock};
-ghost use Rattle.wit_grammar.specs.Lines.{Gives, as_line};
+ghost use Rattle.wit_fields.specs.Fields.{Gives};
+ghost use Rattle.wit_grammar.specs.Lines.{as_line};
 
-use crate::errors::LineError;
-use crate::{names, numbers, words};
 use std::alloc::{AllocError, Global};
+use wit_fields::{LineError, names, numbers, words};
 use wit_model::{FileName, Line, LockLine, OpFlags, RawStep, Verb};
 
 /// The line by itself.

@@ -6,15 +6,15 @@ ghost use Rattle.wit_model.specs.declared.lines.Cause.TheVariants.{Long};
 ghost use Rattle.wit_model.specs.Trace.Spelling.{Spells};
 ghost use Rattle.wit_model.specs.Trace.Reading.{header_of, profile_of, order_of, bless_of, init_of};
 ghost use Rattle.wit_model.specs.Trace.Reading.{fields_of, line_of};
-ghost use Rattle.wit_grammar.specs.declared.errors.LineError.TheVariants.{Bad};
-ghost use Rattle.wit_grammar.specs.Lines.{Gives, IsWhy};
+ghost use Rattle.wit_fields.specs.declared.errors.LineError.TheVariants.{Bad};
+ghost use Rattle.wit_fields.specs.Fields.{Gives};
+ghost use Rattle.wit_grammar.specs.Lines.{IsWhy};
 
 use crate::beginnings::{begin_line, finish_line};
-use crate::errors::LineError;
 use crate::lock_lines::{check, owned, plain, step, try_lock, try_take, unlock};
 use crate::plain_lines::{assert_lock, define, warn, watch};
-use crate::{letters, names, numbers, words};
 use std::alloc::Global;
+use wit_fields::{LineError, letters, names, numbers, words};
 use wit_model::{Cause, Keyword, Line, LockFlags, NewLock, RawStep};
 
 /// The greatest number of bytes in a line; its line feed isn't among them.

@@ -4,10 +4,9 @@
 ghost use Rattle.std.specs.Prelude.{◌≡◌};
 ghost use Rattle.wit_model.specs.Trace.Reading.{lock_if_any, assert_of, warn_of, define_of};
 ghost use Rattle.wit_model.specs.Trace.Reading.{watch_line};
-ghost use Rattle.wit_grammar.specs.Lines.{Gives};
+ghost use Rattle.wit_fields.specs.Fields.{Gives};
 
-use crate::errors::LineError;
-use crate::{letters, numbers, words};
+use wit_fields::{LineError, letters, numbers, words};
 use wit_model::{Line, LockAssert, LockNo, WarnFlags};
 
 /// What stands behind `assert`.

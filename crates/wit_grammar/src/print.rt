@@ -10,13 +10,13 @@ ghost use Rattle.wit_grammar.specs.Lines.{IsPrelude, IsSpelled};
 ghost use Rattle.wit_model.specs.declared.faults.Fault.TheVariants.{OutOfMemory};
 
 use crate::keywords::keyword_text;
-use crate::letters;
 use crate::print_lock_lines::spell_on_lock;
 use crate::put::{
     level_text, put_call, put_count, put_flags, put_lock, put_name, put_number, put_types,
     put_word, version_text,
 };
 use std::alloc::{AllocError, Global};
+use wit_fields::letters;
 use wit_model::{
     Fault, Keyword, Line, LockAssert, LockNo, Name, NewLock, SeatNo, TypeList, Version, WarnFlags,
     Watch,

@@ -7,10 +7,10 @@ ghost use Rattle.wit_model.specs.declared.lines.LockLine.TheVariants.{Check, Try
 ghost use Rattle.wit_model.specs.declared.lines.LockLine.TheVariants as lock_lines;
 ghost use Rattle.wit_model.specs.declared.raw_steps.RawStep.TheVariants as raw_step;
 
-use crate::letters;
 use crate::print::call_on_lock;
 use crate::put::{mode_text, put_call, put_flags, put_site, put_word};
 use std::alloc::{AllocError, Global};
+use wit_fields::letters;
 use wit_model::{FileName, Keyword, LockLine, LockNo, Mode, OpFlags, RawStep, SeatNo, Verb};
 
 /// A line of one lock.

@@ -7,8 +7,8 @@ ghost use Rattle.wit_model.specs.Trace.Spelling.{level_text, chosen_letters, fla
 ghost use Rattle.wit_model.specs.Trace.Spelling.{site_text, spaced, lock_fields, list_fields};
 
 use crate::keywords::keyword_text;
-use crate::letters;
 use std::alloc::AllocError;
+use wit_fields::letters;
 use wit_model::{Class, FileName, Keyword, LockNo, Mode, Name, NewLock, SeatNo, Version, Watch};
 
 /// A word.

@@ -10,7 +10,7 @@ ghost use Rattle.wit_model.specs.declared.raw_steps.RawStep.TheVariants.{Take, F
 ghost use Rattle.wit_model.specs.Trace.Reading.{fields_of};
 ghost use Rattle.wit_grammar.specs.Lines.{GivesIfFound};
 
-use crate::{numbers, words};
+use wit_fields::{numbers, words};
 use wit_model::{LockNo, Mode, SeatNo};
 
 /// What stands behind the word `unlock`.

@@ -13,15 +13,15 @@ use Rattle.wit_model.specs.declared.lines.Cause.{Cause}
 use Rattle.wit_model.specs.declared.lines.Cause.TheVariants as why
 use Rattle.wit_model.specs.Rules.Start.{start_fault}
 use Rattle.wit_model.specs.Trace.Output as output
-use Rattle.wit_trace.specs.Machine.{BreaksAt, first_of}
+use Rattle.wit_stream.specs.Machine.{BreaksAt, first_of}
 use Rattle.wit_trace.specs.Replays.{KeepsTotal, StandsAsDue, IsWritten, ShowsFrom, progress}
 use Rattle.wit_trace.specs.Replays.{progress_of, total}
-use Rattle.wit_trace.specs.Stream.{ReadingGoesOn, OutputFrom, ReadsToEnd, WritesLines}
+use Rattle.wit_stream.specs.Stream.{ReadingGoesOn, OutputFrom, ReadsToEnd, WritesLines}
 use Rattle.wit_model.specs.declared.lines.View.{View}
 use Rattle.wit_trace.specs.declared.replaying.Replaying.{Replaying}
 use Rattle.wit_trace.specs.declared.replaying.Progress.{Progress}
 use Rattle.wit_trace.specs.declared.replaying.Progress.TheVariants.{Unstarted}
-use Rattle.wit_trace.specs.declared.summary.Summary.{Summary}
+use Rattle.wit_stream.specs.declared.summary.Summary.{Summary}
 use Rattle.wit_trace.proofs.WrittenLemmas.{bad_written, refused, refused_at_end}
 
 -- the beginning of a long line decides whether it ends the prelude

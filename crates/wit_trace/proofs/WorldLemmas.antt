@@ -13,9 +13,9 @@ use Rattle.wit_model.specs.Rules.State.{Story}
 use Rattle.wit_model.specs.Trace.Output as output
 use Rattle.wit_model.specs.Trace.Reading.{line_of}
 use Rattle.wit_model.specs.World.Scenes.{Scene}
-use Rattle.wit_grammar.specs.declared.errors.LineError.{LineError}
-use Rattle.wit_grammar.specs.declared.errors.LineError.TheVariants.{Bad, Memory}
-use Rattle.wit_grammar.specs.Lines.{RefusesLine}
+use Rattle.wit_fields.specs.declared.errors.LineError.{LineError}
+use Rattle.wit_fields.specs.declared.errors.LineError.TheVariants.{Bad, Memory}
+use Rattle.wit_fields.specs.Fields.{RefusesLine}
 use Rattle.wit_trace.specs.LineCalls.{NumbersFile, at_number, file_named}
 use Rattle.wit_trace.specs.Replays.{FailsFor, IsBadFor, GoesAsDue, Remarks}
 use Rattle.wit_trace.proofs.CallLemmas.{numbered_history}

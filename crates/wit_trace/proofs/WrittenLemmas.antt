@@ -9,9 +9,9 @@ use Rattle.wit_model.specs.declared.lines.Cause.{Cause}
 use Rattle.wit_model.specs.Rules.State.{Story}
 use Rattle.wit_model.specs.Trace.Output as output
 use Rattle.wit_model.specs.Trace.Reading.{line_of}
-use Rattle.wit_grammar.specs.declared.errors.LineError.{LineError}
-use Rattle.wit_grammar.specs.declared.errors.LineError.TheVariants.{Bad, Memory}
-use Rattle.wit_trace.specs.Machine.{Follows}
+use Rattle.wit_fields.specs.declared.errors.LineError.{LineError}
+use Rattle.wit_fields.specs.declared.errors.LineError.TheVariants.{Bad, Memory}
+use Rattle.wit_stream.specs.Machine.{Follows}
 use Rattle.wit_trace.specs.Replays.{Calls, EndsFor, GoesOnWith, GoesWith, IsBadFor, allowed_at}
 use Rattle.wit_trace.specs.Replays.{GoesAsDue, KeepsTotal, StandsAsDue, IsWritten, progress_of}
 use Rattle.wit_trace.specs.Replays.{total}
@@ -19,9 +19,9 @@ use Rattle.wit_model.specs.declared.lines.View.{View}
 use Rattle.wit_model.specs.declared.lines.View.TheVariants.{Reports, Graph, Locks, Circle}
 use Rattle.wit_trace.specs.declared.replaying.Progress.{Progress}
 use Rattle.wit_trace.specs.declared.replaying.Progress.TheVariants.{Reading}
-use Rattle.wit_trace.specs.declared.stream.machine.Step.{Step}
-use Rattle.wit_trace.specs.declared.stream.machine.Step.TheVariants as step
-use Rattle.wit_trace.specs.declared.summary.Summary.{Summary}
+use Rattle.wit_stream.specs.declared.machine.Step.{Step}
+use Rattle.wit_stream.specs.declared.machine.Step.TheVariants as step
+use Rattle.wit_stream.specs.declared.summary.Summary.{Summary}
 
 -- what holds anyway holds at an answer
 pub at_ok : {T E : Type 0} (P : Type 0) (r : Result T E) → P → IfOk r (λ x. P)

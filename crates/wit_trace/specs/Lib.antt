@@ -1,8 +1,4 @@
 pub mod LineCalls
-pub mod Machine
-pub mod Migrates
 pub mod Outputs
 pub mod Replays
 pub mod Status
-pub mod Stream
-pub mod Text

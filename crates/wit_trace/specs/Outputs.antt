@@ -11,7 +11,7 @@ use Rattle.wit_model.proofs.Endings.{IsEnd, course-ends}
 use Rattle.wit_model.proofs.Waits.{circle_told}
 use Rattle.wit_model.proofs.World.SceneCircles.{scene_circle_told}
 use Rattle.wit_trace.specs.Replays.{IsWritten}
-use Rattle.wit_trace.specs.declared.summary.Summary.{Summary}
+use Rattle.wit_stream.specs.declared.summary.Summary.{Summary}
 
 -- what a view shows of a story, where this is told of circles
 abbrev pub some_view : (view : View) (s : Story) (waits : ℕ → ℕ → Type 0)

@@ -11,19 +11,19 @@ use Rattle.wit_model.specs.Rules.Numbers.{with_number}
 use Rattle.wit_model.specs.Rules.State.{Story, fresh}
 use Rattle.wit_model.specs.Trace.Output as output
 use Rattle.wit_core.specs.Fresh.{start_of}
-use Rattle.wit_grammar.specs.declared.errors.LineError.{LineError}
-use Rattle.wit_grammar.specs.declared.errors.LineError.TheVariants.{Bad, Memory}
+use Rattle.wit_fields.specs.declared.errors.LineError.{LineError}
+use Rattle.wit_fields.specs.declared.errors.LineError.TheVariants.{Bad, Memory}
 use Rattle.wit_grammar.specs.declared.parse.TheConstants.{LONGEST}
-use Rattle.wit_trace.specs.Machine.{Follows}
-use Rattle.wit_trace.specs.Text.{text_of}
+use Rattle.wit_stream.specs.Machine.{Follows}
+use Rattle.wit_stream.specs.Text.{text_of}
 use Rattle.wit_trace.specs.declared.replaying.prelude.Prelude.{Prelude}
 use Rattle.wit_trace.specs.declared.replaying.Replaying.{Replaying}
 use Rattle.wit_trace.specs.declared.replaying.Progress.{Progress}
 use Rattle.wit_trace.specs.declared.replaying.Progress.TheVariants.{Unstarted, Opening, Reading}
 use Rattle.wit_trace.specs.declared.replaying.Progress.TheVariants.{Stepping}
-use Rattle.wit_trace.specs.declared.stream.machine.Step.{Step}
-use Rattle.wit_trace.specs.declared.stream.machine.Step.TheVariants as step
-use Rattle.wit_trace.specs.declared.summary.Summary.{Summary}
+use Rattle.wit_stream.specs.declared.machine.Step.{Step}
+use Rattle.wit_stream.specs.declared.machine.Step.TheVariants as step
+use Rattle.wit_stream.specs.declared.summary.Summary.{Summary}
 
 -- what was read of a prelude
 abbrev pub prelude_of : Prelude → output.Prelude

@@ -2,8 +2,8 @@
 use Rattle.std.specs.Prelude.{ℕ, Bool, false, nat_lt, is_some, if◌then◌else◌, Result, Ok, Err}
 use Rattle.wit_model.specs.declared.lines.View.{View}
 use Rattle.wit_model.specs.declared.lines.View.TheVariants.{Reports, Graph, Locks, Circle}
-use Rattle.wit_trace.specs.declared.summary.Summary.{Summary}
-use Rattle.wit_trace.specs.declared.summary.ReplayError.{ReplayError}
+use Rattle.wit_stream.specs.declared.summary.Summary.{Summary}
+use Rattle.wit_stream.specs.declared.summary.ReplayError.{ReplayError}
 
 -- whether a view had something to report: a report, or a circle; an order or a held lock isn't one
 abbrev pub is_reported : View → Summary → Bool

@@ -1,15 +1,13 @@
-//! Traces of a lock order verifier: their lines as bytes, and the replay of a stream of them.
+//! The replay of a trace of a lock order verifier, and what one makes of a trace's lines.
 #![tactic(auto)]
 
-mod migrating;
 mod replaying;
 mod status;
-mod stream;
-mod summary;
 
-pub use migrating::migrate;
-pub use replaying::{replay, replay_through};
+pub use replaying::calls::{assertion, number_of, remark, warning};
+pub use replaying::line_calls::{LineCall, call_of, file_of, file_on_lock, lock_call};
+pub use replaying::prelude::{Prelude, add_line, is_prelude, new_prelude, verifier_of};
+pub use replaying::{bad_text, replay, replay_through};
 pub use status::{BAD_TRACE, FAILED, NOTHING_REPORTED, REPORTED, status_of};
-pub use stream::ports::{Failures, Ports};
-pub use summary::{ReplayError, Summary};
 pub use wit_grammar::{LineError, parse_line, print_line, spelled};
+pub use wit_stream::{Failures, Ports, ReplayError, Summary};

@@ -7,8 +7,8 @@ ghost use Rattle.wit_grammar.specs.Lines.{Begins};
 ghost use Rattle.wit_trace.specs.Outputs.{some_output};
 ghost use Rattle.wit_trace.specs.Replays.{allowed, progress, reports_told, MayRead, HasRead};
 ghost use Rattle.wit_trace.specs.Replays.{ShowsTrace, ShowsFrom};
-ghost use Rattle.wit_trace.specs.Stream.{IsSpent, ReadsToEnd, WritesFront, WritesLines};
-ghost use Rattle.wit_trace.specs.Stream.{WritesOutput};
+ghost use Rattle.wit_stream.specs.Stream.{IsSpent, ReadsToEnd, WritesFront, WritesLines};
+ghost use Rattle.wit_stream.specs.Stream.{WritesOutput};
 
 mod bad_lines;
 pub mod calls;
@@ -22,10 +22,6 @@ mod reaching;
 mod views;
 mod world_lines;
 
-use crate::stream::machine::{Machine, Step};
-use crate::stream::ports::{Failures, Ports};
-use crate::stream::{Pace, run};
-use crate::summary::{ReplayError, Summary};
 pub use bad_lines::bad_text;
 use prelude::Prelude;
 use std::alloc::{AllocError, Global};
@@ -37,6 +33,7 @@ use wit_grammar::{
     behind_unlock,
 };
 use wit_model::{Cause, View};
+use wit_stream::{Failures, Machine, Pace, Ports, ReplayError, Step, Summary, run};
 use wit_world::World;
 
 /// Reads a trace, and writes what the view shows of it: for `Reports` the texts of the reports,

@@ -3,8 +3,8 @@
 ghost use Rattle.std.specs.Prelude.{◌≡◌};
 ghost use Rattle.wit_trace.specs.Status.{exit_status, is_reported};
 
-use crate::summary::{ReplayError, Summary};
 use wit_model::View;
+use wit_stream::{ReplayError, Summary};
 
 /// The exit status where the view shows nothing to act upon: no report of `Reports`, no circle of
 /// `Circle`; and of `Graph` and `Locks`.

@@ -4,11 +4,11 @@ use Rattle.std.specs.Io.KnownBytes.{Keeps}
 use Rattle.wit_model.specs.declared.lines.View.{View}
 use Rattle.wit_model.specs.declared.lines.View.TheVariants.{Graph}
 use Rattle.wit_model.specs.Trace.Output.{Unstarted}
-use Rattle.wit_trace.specs.Migrates.{Migrates}
+use Rattle.wit_migrate.specs.Migrates.{Migrates}
 use Rattle.wit_trace.specs.Replays.{ShowsTrace, ShowsFrom}
 use Rattle.wit_trace.specs.Status.{exit_status}
-use Rattle.wit_trace.specs.Stream.{WritesOutput, WritesFront, WritesLines}
-use Rattle.wit_trace.specs.declared.summary.Summary.{Summary}
+use Rattle.wit_stream.specs.Stream.{WritesOutput, WritesFront, WritesLines}
+use Rattle.wit_stream.specs.declared.summary.Summary.{Summary}
 use Rattle.witness.specs.declared.program.Ended.{Ended}
 use Rattle.witness.specs.declared.program.Ended.TheVariants.{Exits, ShowsThreads}
 

@@ -3,7 +3,8 @@
 ghost use Rattle.std.specs.Prelude.{◌≡◌};
 
 use std::io::Write;
-use wit_trace::{FAILED, ReplayError};
+use wit_stream::ReplayError;
+use wit_trace::FAILED;
 
 /// The exit status where the command line is no use of the program.
 pub const BAD_USAGE: u8 = 2;

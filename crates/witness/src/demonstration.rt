@@ -6,7 +6,8 @@ use std::sync::Wait;
 use std::thread::Threads;
 use wit_demo::demo;
 use wit_model::View;
-use wit_trace::{ReplayError, status_of};
+use wit_stream::ReplayError;
+use wit_trace::status_of;
 
 /// Runs the demonstration, and gives the exit status: that of a replay that reports what was
 /// reported.

@@ -12,7 +12,7 @@ use crate::demonstration::demonstrate;
 use crate::program::{Ended, run};
 use crate::words::words_of;
 use std::process::ExitCode;
-use wit_trace::ReplayError;
+use wit_stream::ReplayError;
 
 fn main(rt: HostRuntime) -> ExitCode {
     let (mut output, mut complaints) = (rt.stdout(), rt.stderr());

@@ -2,12 +2,12 @@
 
 ghost use Rattle.std.specs.Prelude.{◌≡◌, ◌≢◌, ◌⊎◌, Ok, Err, IfOk, OnErr, None, Some};
 ghost use Rattle.std.specs.Io.KnownBytes.{Keeps};
-ghost use Rattle.wit_trace.specs.Migrates.{Migrates};
+ghost use Rattle.wit_migrate.specs.Migrates.{Migrates};
 ghost use Rattle.wit_trace.specs.Replays.{ShowsTrace};
-ghost use Rattle.wit_trace.specs.Stream.{WritesOutput};
+ghost use Rattle.wit_stream.specs.Stream.{WritesOutput};
 ghost use Rattle.wit_command.specs.CommandLine.{asked, bytes_of};
-ghost use Rattle.wit_trace.specs.declared.summary.ReplayError.TheVariants as ReplayError;
-ghost use Rattle.wit_trace.specs.declared.summary.ReplayError.TheVariants.{Memory};
+ghost use Rattle.wit_stream.specs.declared.summary.ReplayError.TheVariants as ReplayError;
+ghost use Rattle.wit_stream.specs.declared.summary.ReplayError.TheVariants.{Memory};
 ghost use Rattle.wit_command.specs.declared.command.Command.TheVariants.{Demo, Migrate, Show};
 ghost use Rattle.witness.specs.declared.program.Ended.TheVariants.{Exits, ShowsThreads};
 ghost use Rattle.witness.specs.Program.{IsCutShort, IsMigratedAndExits, IsMigrationCut};
@@ -17,8 +17,10 @@ use crate::complaints::refuse;
 use std::alloc::Global;
 use std::io::{BufReader, Read, Write};
 use wit_command::{Command, asked_command};
+use wit_migrate::migrate;
 use wit_model::View;
-use wit_trace::{ReplayError, Summary, migrate, replay, status_of};
+use wit_stream::{ReplayError, Summary};
+use wit_trace::{replay, status_of};
 
 // So much of the input is read at once. A migration looks beyond a line for the end of the next one
 // only where less than a line of the greatest length is left of it.

@@ -10,7 +10,6 @@ ghost use Rattle.wit_trace.specs.Replays.{Calls, GoesWith, GoesAsDue, Remarks};
 
 use crate::replaying::line_calls::{LineCall, call_of, file_of, file_on_lock, lock_call};
 use crate::replaying::views::show;
-use crate::stream::machine::Step;
 use std::alloc::{AllocError, Global};
 use wit_core::Verifier;
 use wit_grammar::LineError;
@@ -18,6 +17,7 @@ use wit_model::{
     Fault, FileNo, Line, LockAssert, LockLine, LockNo, Reply, SeatNo, View, WarnFlags,
 };
 use wit_report::{assert_text, report_text, warn_text};
+use wit_stream::Step;
 
 /// A line behind the prelude makes its call, and tells of it; one with a site enters its file
 /// first.

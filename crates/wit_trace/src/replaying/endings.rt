@@ -4,16 +4,15 @@ ghost use Rattle.std.specs.Prelude.{◌≡◌, ◌<◌, ◌^◌, false, Some, If
 ghost use Rattle.wit_model.specs.declared.lines.Cause.{Cause};
 ghost use Rattle.wit_model.specs.declared.lines.View.{View};
 ghost use Rattle.wit_model.specs.Trace.Output.{bad_text, summed};
-ghost use Rattle.wit_grammar.specs.declared.errors.LineError.TheVariants.{Bad};
+ghost use Rattle.wit_fields.specs.declared.errors.LineError.TheVariants.{Bad};
 ghost use Rattle.wit_trace.specs.Replays.{progress_of, reports_told, total, EndsFor};
 
 use crate::replaying::Progress;
 use crate::replaying::bad_lines::bad_text;
-use crate::stream::machine::Step;
-use crate::summary::Summary;
 use std::alloc::{AllocError, Global};
 use wit_grammar::LineError;
 use wit_model::{Boxed, Cause};
+use wit_stream::{Step, Summary};
 
 impl Progress {
     /// What the replay found so far.

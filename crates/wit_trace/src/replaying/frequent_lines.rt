@@ -11,10 +11,10 @@ ghost use Rattle.wit_trace.specs.Replays.{MayRead, HasRead};
 
 use crate::replaying::calls::{call_on_lock, reply_step};
 use crate::replaying::{Progress, Replaying};
-use crate::stream::machine::Step;
 use std::alloc::{AllocError, Global};
 use wit_grammar::{Begun, begin_line, lock_line, note_fields, unlock_fields};
 use wit_model::{Keyword, LockLine, Verb};
+use wit_stream::Step;
 
 /// Lines in their place. Each fails for want of memory alone.
 impl Replaying {

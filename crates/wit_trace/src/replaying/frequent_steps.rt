@@ -11,12 +11,12 @@ ghost use Rattle.wit_trace.specs.Replays.{MayRead, HasRead};
 use crate::replaying::views::show;
 use crate::replaying::world_lines::step_on_lock;
 use crate::replaying::{Progress, Replaying};
-use crate::stream::machine::Step;
 use std::alloc::{AllocError, Global};
 use wit_grammar::{
     Begun, begin_line, free_fields, lock_line, note_fields, take_fields, unlock_fields,
 };
 use wit_model::{Keyword, LockLine, RawStep, Verb};
+use wit_stream::Step;
 
 /// Lines in their place. Each fails for want of memory alone.
 impl Replaying {

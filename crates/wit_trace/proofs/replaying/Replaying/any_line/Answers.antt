@@ -1,9 +1,9 @@
 use Rattle.std.proofs.Common.{refl, ◌+◌, ◌≤◌, Err, ap, subst, ◌∙◌, arith}
 use Rattle.wit_model.specs.Trace.Output.{reached, BadLine}
 use Rattle.wit_model.specs.Trace.Reading.{line_of}
-use Rattle.wit_trace.specs.Machine.{Follows}
+use Rattle.wit_stream.specs.Machine.{Follows}
 use Rattle.wit_trace.specs.Replays.{allowed_at, progress_of, reports_told, EndsFor, StandsAsDue}
-use Rattle.wit_grammar.specs.declared.errors.LineError.TheVariants.{Bad}
+use Rattle.wit_fields.specs.declared.errors.LineError.TheVariants.{Bad}
 use Rattle.wit_trace.proofs.ReportLemmas.{bad_one, ended_one, told_one}
 use Rattle.wit_trace.proofs.WrittenLemmas.{at_ok, if_ok, line_told, line_ends, refused_step}
 use Rattle.wit_trace.proofs.WrittenLemmas.{short_line}

@@ -1,15 +1,13 @@
-use Rattle.std.proofs.Common.{refl, ◌<◌, Err, ap, subst, ◌∙◌, arith, ◌≡◌, IfOk, sym}
+use Rattle.std.proofs.Common.{refl, ◌<◌, Err, ap, subst, ◌∙◌, arith}
 use Rattle.wit_model.specs.Trace.Output as output
-use Rattle.wit_model.specs.Trace.Reading.{line_of}
 use Rattle.wit_model.specs.Trace.Output.{shown_by}
-use Rattle.wit_trace.specs.Machine.{Follows}
-use Rattle.wit_trace.specs.Replays.{allowed_at, progress_of, reports_told, EndsFor, HasRead}
+use Rattle.wit_stream.specs.Machine.{Follows}
+use Rattle.wit_trace.specs.Replays.{allowed_at, progress_of, reports_told, EndsFor}
 use Rattle.wit_trace.specs.Replays.{GoesWith}
 use Rattle.wit_trace.proofs.ReportLemmas.{call_ended_one, made_one, refused_one}
 use Rattle.wit_trace.specs.declared.replaying.Progress.TheVariants.{Reading}
 use Rattle.wit_grammar.specs.Lines.{as_line}
 use Rattle.wit_trace.proofs.WrittenLemmas.{at_ok, if_ok, call_ends, call_goes_on}
-use Rattle.wit_trace.specs.declared.replaying.Replaying.{Replaying}
 use Rattle.wit_trace.proofs.replaying.Replaying.call_line.Goals as goal
 
 pub ended_step-requires : goal.ended_step-requires

@@ -1,14 +1,12 @@
-use Rattle.std.proofs.Common.{◌+◌, ◌<◌, ◌≤◌, Err, refl, ap, subst, ◌∙◌, arith, ◌≡◌, IfOk, sym}
+use Rattle.std.proofs.Common.{◌+◌, ◌<◌, ◌≤◌, Err, refl, ap, subst, ◌∙◌, arith}
 use Rattle.wit_model.specs.Trace.Output as output
-use Rattle.wit_model.specs.Trace.Reading.{line_of}
 use Rattle.wit_grammar.specs.Lines.{as_line}
-use Rattle.wit_trace.specs.Machine.{Follows}
-use Rattle.wit_trace.specs.Replays.{allowed_at, progress_of, reports_told, EndsFor, HasRead}
+use Rattle.wit_stream.specs.Machine.{Follows}
+use Rattle.wit_trace.specs.Replays.{allowed_at, progress_of, reports_told, EndsFor}
 use Rattle.wit_trace.specs.declared.replaying.Progress.TheVariants.{Stepping}
 use Rattle.wit_trace.proofs.ReportLemmas.{bad_one, ended_one, told_one}
 use Rattle.wit_trace.proofs.WrittenLemmas.{if_ok, line_told, line_ends}
 use Rattle.wit_trace.proofs.WorldLemmas.{world_line}
-use Rattle.wit_trace.specs.declared.replaying.Replaying.{Replaying}
 use Rattle.wit_trace.proofs.replaying.Replaying.world_line.Goals as goal
 
 pub ended_step-requires : goal.ended_step-requires

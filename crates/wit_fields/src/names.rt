@@ -1,0 +1,142 @@
+//! The names of a line, with or without quotation marks, and lists of them. Each reader gives a
+//! value and the bytes after it, or `LineError::SYNTAX` where the bytes begin with none;
+//! `LineError::Memory` where a growth was refused.
+
+ghost use Rattle.std.specs.Prelude.{◌≡◌, true, IfSome};
+ghost use Rattle.wit_model.specs.Rules.Names.{is_name, is_file_name};
+ghost use Rattle.wit_model.specs.Trace.Reading.{parted_at_last, accepted, site_of, field_at};
+ghost use Rattle.wit_model.specs.Trace.Reading.{leading_quoted, optional, leading_type, whole_list};
+ghost use Rattle.wit_fields.specs.Fields.{Gives};
+
+use crate::errors::LineError;
+use crate::numbers::number_of;
+use crate::words::{class, long_word, skip, split_before};
+use std::alloc::Global;
+use std::str;
+use wit_model::{Class, FileName, Name, TypeList};
+
+/// The bytes before a byte's last place, and those after it.
+#[inline(always)]
+fn split_at_last(byte: u8, word: &[u8]) -> Result<(&[u8], &[u8]), LineError>
+    ensures { Gives (λ x. (x.0.now, x.1.now)) result (parted_at_last byte word.now) }
+{
+    for i in (0..word.len()).rev() {
+        if word[i] == byte {
+            return Ok((&word[..i], &word[i + 1..]));
+        }
+    }
+    Err(LineError::SYNTAX)
+}
+
+fn name_of(alloc: Global, bytes: &[u8]) -> Result<Name, LineError>
+    ensures { Gives (λ n. n) result (accepted is_name bytes.now) }
+{
+    let Ok(text) = str::from_utf8(bytes) else {
+        return Err(LineError::SYNTAX);
+    };
+    match Name::new(alloc, text)? {
+        Some(name) => Ok(name),
+        None => Err(LineError::SYNTAX),
+    }
+}
+
+// Most sites name the known file, and aren't tested byte by byte.
+#[inline(always)]
+fn file_name_of<'a>(known: Option<&str>, bytes: &'a [u8]) -> Result<&'a str, LineError>
+    requires { IfSome known (λ k. is_file_name k.now ≡ true) }
+    ensures { Gives (λ n. n.now) result (accepted is_file_name bytes.now) }
+{
+    if is_known(known, bytes) {
+        // Safety: a file name is ASCII.
+        return Ok(unsafe { str::from_utf8_unchecked(bytes) });
+    }
+    any_file_name(bytes)
+}
+
+#[inline(always)]
+fn is_known(known: Option<&str>, bytes: &[u8]) -> bool
+    requires { IfSome known (λ k. is_file_name k.now ≡ true) }
+    ensures { result ≡ true → is_file_name bytes.now ≡ true }
+{
+    match known {
+        Some(known) => known.as_bytes() == bytes,
+        None => false,
+    }
+}
+
+fn any_file_name(bytes: &[u8]) -> Result<&str, LineError>
+    ensures { Gives (λ n. n.now) result (accepted is_file_name bytes.now) }
+{
+    let Ok(text) = str::from_utf8(bytes) else {
+        return Err(LineError::SYNTAX);
+    };
+    if !FileName::accepts(text) {
+        return Err(LineError::SYNTAX);
+    }
+    Ok(text)
+}
+
+/// A name between quotation marks.
+#[tactic(auto, unfolding(wit_model::specs::Trace::Reading::leading_quoted))]
+pub fn name(alloc: Global, bytes: &[u8]) -> Result<(Name, &[u8]), LineError>
+    ensures { Gives (λ x. (x.0, x.1.now)) result (leading_quoted bytes.now) }
+{
+    let opened = skip(b' ', bytes)?;
+    let inside = skip(b'"', opened)?;
+    let (text, rest) = split_before(b'"', inside);
+    let name = name_of(alloc, text)?;
+    let rest = skip(b'"', rest)?;
+    Ok((name, rest))
+}
+
+/// A name, or none at the end of the line.
+pub fn name_if_any(alloc: Global, bytes: &[u8]) -> Result<(Option<Name>, &[u8]), LineError>
+    ensures { Gives (λ x. (x.0, x.1.now)) result (optional leading_quoted bytes.now) }
+{
+    if bytes.is_empty() {
+        return Ok((None, bytes));
+    }
+    let (name, rest) = name(alloc, bytes)?;
+    Ok((Some(name), rest))
+}
+
+/// A type by its class and its name.
+#[tactic(auto, unfolding(wit_model::specs::Trace::Reading::leading_type))]
+fn listed_type(alloc: Global, bytes: &[u8]) -> Result<(Class, Name, &[u8]), LineError>
+    ensures { Gives (λ x. ((x.0, x.1), x.2.now)) result (leading_type bytes.now) }
+{
+    let (class, rest) = class(bytes)?;
+    let (name, rest) = name(alloc, rest)?;
+    Ok((class, name, rest))
+}
+
+/// One type or more, up to the end of the line.
+#[tactic(auto, using(crate::proofs::ListReading::no_first, crate::proofs::ListReading::reads_first, crate::proofs::ListReading::reads_next, crate::proofs::ListReading::reads_none, crate::proofs::ListReading::reads_end, wit_model::proofs::Spelling::Kinds::type_shorter))]
+pub fn list(alloc: Global, bytes: &[u8]) -> Result<TypeList, LineError>
+    ensures { Gives (λ l. l) result (whole_list bytes.now) }
+{
+    let mut list = TypeList::new(alloc);
+    let (class, name, mut rest) = listed_type(alloc, bytes)?;
+    list.push(class, name)?;
+    while !rest.is_empty() {
+        let (class, name, others) = listed_type(alloc, rest)?;
+        list.push(class, name)?;
+        rest = others;
+    }
+    Ok(list)
+}
+
+/// A file and a line, 0 to 4,294,967,295, as `FILE:LINE`: the line stands behind the last colon.
+/// The known name is a file name, that of most sites.
+#[tactic(auto, unfolding(wit_model::specs::Trace::Reading::site_of))]
+#[inline(always)]
+pub fn site<'a>(known: Option<&str>, bytes: &'a [u8]) -> Result<(&'a str, u32, &'a [u8]), LineError>
+    requires { IfSome known (λ k. is_file_name k.now ≡ true) }
+    ensures { Gives (λ x. ((x.0.now, x.1), x.2.now)) result (field_at site_of bytes.now) }
+{
+    let (word, rest) = long_word(bytes)?;
+    let (file, line) = split_at_last(b':', word)?;
+    let file = file_name_of(known, file)?;
+    let line = number_of(u32::MAX, line)?;
+    Ok((file, line, rest))
+}

@@ -1,5 +1,0 @@
-use Rattle.wit_grammar.proofs.Texts.{file_utf8}
-use Rattle.wit_grammar.proofs.names.file_name_of.Goals as goal
-
-pub from_utf8_unchecked-requires : goal.from_utf8_unchecked-requires
-from_utf8_unchecked-requires c = file_utf8 _ (c.is_known.ensures c.if-is_known.true)

@@ -1,0 +1,9 @@
+pub mod AloneLemmas
+pub mod BesideLemmas
+pub mod MigrateEnds
+pub mod MigrateLemmas
+pub mod MigrateReports
+pub mod NumberedLemmas
+pub mod Recorded
+pub mod StepLineLemmas
+pub mod Weights

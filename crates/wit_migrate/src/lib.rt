@@ -1,0 +1,14 @@
+//! The migration of a trace of version 1 to version 2 of the format, as it is read.
+#![tactic(auto)]
+
+mod behind;
+mod endings;
+mod frequent_lines;
+mod headers;
+mod migrating;
+mod preludes;
+mod step_lines;
+mod steps;
+mod texts;
+
+pub use migrating::migrate;

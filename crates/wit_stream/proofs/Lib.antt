@@ -1,0 +1,4 @@
+pub mod AnswerLemmas
+pub mod StreamInputs
+pub mod StreamLemmas
+pub mod TextLemmas

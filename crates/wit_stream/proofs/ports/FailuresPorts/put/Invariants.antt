@@ -1,0 +1,15 @@
+use Rattle.std.proofs.Common.{◌≡◌, ◌-◌, ◌≤◌, length, take}
+use Rattle.std.specs.Io.KnownBytes.{Appends}
+use Rattle.wit_stream.proofs.ports.FailuresPorts.put.Given as goal
+
+abbrev pub invariant-loop-done : goal.invariant-loop-done
+invariant-loop-done g l = record {
+  within : l.done ≤ length l.bytes;
+  written : Appends (g.W.Write.contents l.fn.writer) (g.W.Write.contents l.writer)
+      (take l.done l.bytes);
+  looks : l.self.looks ≡ l.fn.self.looks;
+  read : l.self.read ≡ l.fn.self.read;
+}
+
+abbrev pub decreases-loop-done : goal.decreases-loop-done
+decreases-loop-done g l = length l.bytes - l.done

@@ -1,4 +1,0 @@
-use Rattle.wit_trace.proofs.migrating.Migrating.enter.Goals as goal
-
-pub returns-in-Unmoved : goal.returns-in-Unmoved
-returns-in-Unmoved c = rw c.in-Unmoved.is (c.start.ensures c.args.number c.args.bytes.now)
