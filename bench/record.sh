@@ -31,7 +31,8 @@ once() {
     held) RECORDER_HELD=1 RECORDER_FRAMES=8 recorded condensed "$folder/pairs" "$2" "$3" 400000 ;;
     full) recorded full "$folder/pairs" "$2" "$3" 100000 ;;
     helgrind | drd) valgrind -q --tool="$1" "$folder/pairs" "$2" "$3" 20000 2>/dev/null ;;
-    tsan) "$folder/pairs-tsan" "$2" "$3" 100000 ;;
+    # Threads that nobody joins would be told of, and the status be 66.
+    tsan) TSAN_OPTIONS=report_thread_leaks=0 "$folder/pairs-tsan" "$2" "$3" 100000 ;;
     esac
 }
 
@@ -40,7 +41,7 @@ if command -v valgrind >/dev/null; then
     ways="$ways helgrind drd"
 fi
 if cc -O2 -g -fsanitize=thread -pthread -o "$folder/pairs-tsan" "$here/../recorder/test/pairs.c" 2>/dev/null &&
-    "$folder/pairs-tsan" 1 1 1 >/dev/null 2>&1; then
+    TSAN_OPTIONS=report_thread_leaks=0 "$folder/pairs-tsan" 1 1 1 >/dev/null 2>&1; then
     ways="$ways tsan"
 fi
 echo "nanoseconds a pair, and the ratio to plain"
