@@ -13,7 +13,7 @@ struct object {
 static pthread_mutex_t pool = PTHREAD_MUTEX_INITIALIZER;
 static pthread_mutex_t journal = PTHREAD_MUTEX_INITIALIZER;
 static pthread_mutex_t cache = PTHREAD_MUTEX_INITIALIZER;
-static struct object *one, *other;
+static struct object *objects[2];
 static int shared;
 
 static struct object *make_object(void)
@@ -58,19 +58,19 @@ static void *cache_then_pool(void *unused)
 
 static void *in_order(void *unused)
 {
-    take(&one->first, &one->second);
+    take(&objects[0]->first, &objects[0]->second);
     return unused;
 }
 
 static void *out_of_order(void *unused)
 {
-    take(&other->second, &other->first);
+    take(&objects[1]->second, &objects[1]->first);
     return unused;
 }
 
 static void *two_of_a_type(void *unused)
 {
-    take(&one->first, &other->first);
+    take(&objects[0]->first, &objects[1]->first);
     return unused;
 }
 
@@ -140,8 +140,8 @@ static void run_at_once(void *(*const *threads)(void *))
 
 int main(int count, char **words)
 {
-    one = make_object();
-    other = make_object();
+    for (int i = 0; i < 2; i++)
+        objects[i] = make_object();
     for (size_t i = 0; count == 2 && i < sizeof acts / sizeof *acts; i++) {
         if (strcmp(words[1], acts[i].what) != 0)
             continue;

@@ -1,8 +1,9 @@
 #!/bin/sh
 # Tells which tools report what of small programs (sees.c): the recorder, helgrind and drd where valgrind is installed,
 # and ThreadSanitizer where a program can be built for it. A line for each thing that the threads do, with the number of
-# reports of each tool. A deadlock is possible after `reversal`, `cycle`, `objects` and, taken the other way round,
-# `type`; none after `guarded` and `tried`; `race` has no lock. WITNESS names the program that replays.
+# reports of each tool. A deadlock is possible after `reversal`, `cycle`, `objects` (two objects made in one place, whose
+# locks are taken in opposite orders) and, taken the other way round, `type`; none after `guarded` and `tried`; `race`
+# has no lock. WITNESS names the program that replays.
 set -eu
 here=$(dirname "$(readlink -f "$0")")
 folder=$(mktemp -d)
