@@ -1,0 +1,9 @@
+pub mod Agreed
+pub mod Behind
+pub mod Circles
+pub mod Condensed
+pub mod Reordered
+pub mod Shorter
+pub mod Told
+pub mod Turned
+pub mod Unreported
