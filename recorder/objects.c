@@ -124,6 +124,7 @@ static void add_object(uintptr_t from, uint64_t offset, const char *path)
     struct image image = image_of(path);
     if (!image.bytes)
         return;
+    status_object(path);
     const ElfW(Ehdr) *header = (const void *)image.bytes;
     const ElfW(Phdr) *segments = part(image, header->e_phoff, (uint64_t)header->e_phnum * sizeof *segments);
     uintptr_t least = UINTPTR_MAX, most = 0, bias = 0;
@@ -218,7 +219,7 @@ static bool read_maps(void (*each)(const char *line))
     return got == 0;
 }
 
-/* Before the program runs, which may later be kept from opening what is mapped now. */
+/* Before the program runs, which may later be kept from opening what is mapped now; and before it opens a library. */
 void objects_begin(void)
 {
     read_maps(read_map);
