@@ -101,3 +101,47 @@ if wanted leaving; then
     tell leaving "what goes on and isn't recorded" $?
     kill "$(cat sleep.pid)"
 fi
+
+# For machines that build and test: where nothing was recorded at all, a run isn't a good one.
+if wanted blind; then
+    compile reversal
+    compile begun
+    echo 'int main(void) { return 0; }' >main.c
+    "${CC:-cc}" -static -o static main.c && recorded_by "$record" --error-exitcode 9 -- ./static
+    said 9 '^record: nothing is known of static: it is linked statically$'
+    tell blind "a status for a program that is linked statically" $?
+    for words in "env -i ./reversal" "./begun SELF" "./begun SPAWN"; do
+        recorded_by "$record" --error-exitcode 9 -- $words
+        said 9 '^record: nothing in what was recorded$'
+        tell blind "a status for $words" $?
+    done
+    recorded_by "$record" --error-exitcode 9 -- ./none
+    said 9 'nothing is known of none: it wasn.t started'
+    tell blind "a status for a program that isn't there" $?
+    printf '#!/bin/sh\n[ "$(head -c 1)" != w ] || exit 4\n' >broken && chmod +x broken
+    WITNESS="$work/broken" recorded_by "$record" --error-exitcode 9 -- ./reversal
+    said 9 'the trace isn.t accepted, by status 4'
+    drop_kept
+    tell blind "a status for a replay that failed" $?
+    # What is known in part has its reports alone to fail by.
+    compile trysecond
+    recorded_by "$record" --error-exitcode 9 -- sh -c './trysecond; ./static; exit 4'
+    said 4 '^record: nothing in what was recorded$'
+    tell blind "the program's own status where something was recorded" $?
+    recorded_by "$record" --error-exitcode 9 -- sh -c 'exit 4'
+    said 4 '^record: nothing to report: no thread asked for a lock while it held another$'
+    tell blind "the program's own status where there was nothing to record" $?
+fi
+
+# What ends the room is told by its own cause: the disks are in the tests `middle` and `full`.
+if wanted causes; then
+    compile spent
+    recorded_by "$record" -- ./spent
+    said 0 '^record: spent (process [0-9]*): not recorded: [0-9]* lines (no file descriptor was left)$' &&
+        last_is 'record: nothing in what was recorded'
+    tell causes "no file descriptor" $?
+    compile reversal
+    (ulimit -S -f 512 && recorded_by "$record" -- ./reversal && cp recorded.err limited.err) &&
+        grep -q '^record: there was little room for the recording: a limit on the size of files$' limited.err
+    tell causes "a limit on the size of files from the start" $?
+fi
