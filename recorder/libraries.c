@@ -5,6 +5,10 @@
  */
 #include "quick.h"
 
+#include <string.h>
+
+static bool unknown; /* the last one was asked for without its folder */
+
 static COLD void library_opens(const char *name, uintptr_t stack)
 {
     if (!name || !goes_far_inside(stack))
@@ -12,9 +16,16 @@ static COLD void library_opens(const char *name, uintptr_t stack)
     if (recorder_enters()) {
         objects_begin();
         status_object(name);
+        unknown = !strchr(name, '/');
         recorder_leaves();
     }
     goes_outside(&self);
+}
+
+void libraries_end(void)
+{
+    if (unknown)
+        objects_begin();
 }
 
 /* The real function goes by who has called it, so it is come to by a jump. */

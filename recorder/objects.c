@@ -219,7 +219,10 @@ static bool read_maps(void (*each)(const char *line))
     return got == 0;
 }
 
-/* Before the program runs, which may later be kept from opening what is mapped now; and before it opens a library. */
+/*
+ * Before the program runs, which may later be kept from opening what is mapped now; before it opens a library; and when it
+ * ends, where the last one that it opened isn't known.
+ */
 void objects_begin(void)
 {
     read_maps(read_map);

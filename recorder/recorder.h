@@ -399,6 +399,9 @@ const char *object_symbol_file(uint32_t object, uintptr_t address);
 void objects_begin(void);
 void objects_closed(void (*gone)(uintptr_t from, uintptr_t to));
 
+/* libraries.c */
+void libraries_end(void);
+
 /* stacks.c */
 extern uint32_t frames_shown; /* how many frames a stack has at most; with 1 there are no stacks */
 extern bool stacks_all;       /* what is held has its stack, too */

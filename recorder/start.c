@@ -332,6 +332,7 @@ __attribute__((destructor)) static void ended(void)
 {
     if (!atomic_load(&recording) || self.state > OPEN || !recorder_enters())
         return;
+    libraries_end();
     streams_end();
     recorder_leaves();
 }

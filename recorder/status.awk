@@ -2,7 +2,9 @@
 #   missed PROCESS NAME missed COUNTS..  what failed in a process
 #   loaded PROCESS                       it has the recorder
 #   bare TIMES PROCESS NAME              so many programs of that name were started and haven't loaded it, one as that process
+#   object NAME                          it was loaded, or opened by that name
 # Variables: first and program, the number and the name of the process that has to be among them, where there is one.
+/^object / { print; next }
 !/^P[0-9][0-9][0-9][0-9][0-9][0-9][0-9] / { next }
 {
     process = substr($1, 2) + 0

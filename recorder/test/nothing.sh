@@ -145,3 +145,150 @@ if wanted causes; then
         grep -q '^record: there was little room for the recording: a limit on the size of files$' limited.err
     tell causes "a limit on the size of files from the start" $?
 fi
+
+# Where locks aren't seen the last line names them: not_seen WHAT WORDS.. runs the words.
+not_seen() {
+    what=$1
+    shift
+    recorded_by "$record" -- "$@"
+    last_is "record: nothing in what was recorded; not seen: $what (see record(1))"
+    tell unseen "$what ($*)" $?
+}
+
+# A library of that name, with that text in it.
+stand_in_library() {
+    printf 'const char *const text = "%s";\n' "$2" >library.c && "${CC:-cc}" -shared -fPIC -o "$1" library.c
+}
+
+if wanted unseen; then
+    # Two locks in opposite orders, each in the other's language.
+    cat >hang.rs <<'END'
+use std::sync::{Arc, Mutex};
+use std::thread;
+fn main() {
+    let locks = Arc::new((Mutex::new(0), Mutex::new(0)));
+    let own = locks.clone();
+    thread::spawn(move || { let _held = own.0.lock().unwrap(); *own.1.lock().unwrap() += 1; }).join().unwrap();
+    let own = locks.clone();
+    thread::spawn(move || { let _held = own.1.lock().unwrap(); *own.0.lock().unwrap() += 1; }).join().unwrap();
+}
+END
+    if command -v rustc >/dev/null 2>&1; then
+        rustc -g -o hang hang.rs && not_seen "locks of Rust's std" ./hang
+        rustc -O -C strip=symbols -o hang hang.rs && not_seen "locks of Rust's std" ./hang
+        rustc -C prefer-dynamic -o hang hang.rs &&
+            not_seen "locks of Rust's std" env LD_LIBRARY_PATH="$(dirname "$(find "$(rustc --print sysroot)" -name 'libstd-*.so' | tail -n 1)")" ./hang
+    else
+        echo "left out  unseen: there is no rustc"
+    fi
+    cat >hang.py <<'END'
+import threading
+one, other = threading.Lock(), threading.Lock()
+def both(first, second):
+    with first:
+        with second:
+            pass
+for order in ((one, other), (other, one)):
+    thread = threading.Thread(target=both, args=order)
+    thread.start()
+    thread.join()
+END
+    if python3 -c '' 2>/dev/null; then
+        not_seen "locks of Python" "$(python3 -c 'import sys; print(sys.executable)')" hang.py
+    else
+        echo "left out  unseen: there is no python3"
+    fi
+    cat >Hang.java <<'END'
+public class Hang {
+    static void both(Object first, Object second) { synchronized (first) { synchronized (second) { } } }
+    public static void main(String[] words) throws Exception {
+        Object one = new Object(), other = new Object();
+        Thread thread = new Thread(() -> both(one, other));
+        thread.start();
+        thread.join();
+        both(other, one);
+    }
+}
+END
+    if command -v javac >/dev/null 2>&1 && javac Hang.java 2>/dev/null; then
+        not_seen "locks of Java" java -cp . Hang
+    else
+        echo "left out  unseen: there is no javac"
+    fi
+    cat >hang.c <<'END'
+#include <omp.h>
+static omp_lock_t one, other;
+static void both(omp_lock_t *first, omp_lock_t *second)
+{
+    omp_set_lock(first);
+    omp_set_lock(second);
+    omp_unset_lock(second);
+    omp_unset_lock(first);
+}
+int main(void)
+{
+    omp_init_lock(&one);
+    omp_init_lock(&other);
+    both(&one, &other);
+    both(&other, &one);
+    return 0;
+}
+END
+    if "${CC:-cc}" -fopenmp -o hang hang.c 2>/dev/null; then
+        not_seen "locks of OpenMP" ./hang
+    else
+        echo "left out  unseen: there is no OpenMP"
+    fi
+    cat >hang.cc <<'END'
+#include <semaphore>
+#include <thread>
+static std::counting_semaphore<1> one(1), other(1);
+static void both(std::counting_semaphore<1> &first, std::counting_semaphore<1> &second)
+{
+    first.acquire();
+    second.acquire();
+    second.release();
+    first.release();
+}
+int main()
+{
+    std::thread([] { both(one, other); }).join();
+    std::thread([] { both(other, one); }).join();
+}
+END
+    for flags in -O0 -O2; do
+        if c++ -std=c++20 $flags -pthread -o hang hang.cc 2>/dev/null; then
+            not_seen "semaphores of C++20" ./hang
+        else
+            echo "left out  unseen: there is no C++20"
+        fi
+    done
+    flags=
+    # Stand-ins for what a machine needn't have: by a library's name, and by what stands in a file.
+    compile opens -Wl,-rpath,"$work/standing"
+    mkdir -p standing
+    for line in "locks of Ruby:libruby-3.1.so.3.1:" "locks of folly:libfolly.so.0.58.0:" "QMutex:libQt6Core.so.6:" \
+        "GMutex:libglib-2.0.so.0:" "absl::Mutex:libabsl_synchronization.so.20220623:" "locks of Java:libjvm.so:" \
+        "locks of Go:libone.so:Go buildinf:" "absl::Mutex:libtwo.so:AbslInternalPerThreadSemWait_lts_20220623" \
+        "QMutex:libthree.so:_ZN6QMutex4lockEv" "locks of folly:libfour.so:_ZN5folly6detail13futexWaitImplEv" \
+        "locks of Rust's std:libfive.so:/rustc/f00/library/std/src/sync/poison.rs"; do
+        what=${line%%:lib*}
+        file=${line#"$what:"}
+        stand_in_library "standing/${file%%:*}" "${file#*:}"
+        not_seen "$what" ./opens "$work/standing/${file%%:*}"
+    done
+    # The last one that is opened and one before it, by their names alone.
+    not_seen "locks of Go, QMutex" ./opens libone.so libQt6Core.so.6
+    not_seen "locks of Rust's std, locks of Ruby" ./opens libruby-3.1.so.3.1 libfive.so libm.so.6
+    stand_in_library standing/libplain.so "nothing of that kind"
+    recorded_by "$record" -- ./opens libplain.so
+    last_is 'record: nothing to report: no thread asked for a lock while it held another' && [ ! -s recorded.out ]
+    tell unseen "a library without such locks" $?
+    recorded_by "$record" --error-exitcode 9 -- ./opens libone.so
+    said 9 'not seen: locks of Go'
+    tell unseen "a status where nothing was recorded and not all seen" $?
+    compile reversal -Wl,--no-as-needed "$work/standing/libruby-3.1.so.3.1"
+    recorded_by "$record" -- ./reversal
+    diff "$here/reversal.want" recorded.err
+    tell unseen "a report isn't changed by it" $?
+fi
