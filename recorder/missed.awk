@@ -10,7 +10,7 @@ function said(what) {
     if (what == "files") return "lines (no file descriptor was left)"
     if (what == "open") return "lines (its file could not be opened)"
     if (what == "bare") return "shells that were started without the recorder"
-    if (what == "forked") return "process that came about by a bare call of the kernel, not by fork()"
+    if (what == "forked") return "process whose fork was not seen (a bare call of the kernel, or fork() in a handler of signals)"
     if (what == "jumped") return "calls of a lock that were left by a jump or a cancellation"
     if (what == "handlers") return "calls (by handlers of signals that interrupted a call)"
     return what

@@ -199,7 +199,7 @@ enum missed {
 
 /*
  * What failed outside the streams: lines for which the file couldn't be opened, the disk had no room, a limit on the size
- * of files was met, or there was no file descriptor; calls that were left; a fork that fork's handlers saw nothing of; and
+ * of files was met, or there was no file descriptor; calls that were left; a fork that wasn't seen; and
  * programs that were begun without what loads the recorder.
  */
 enum failure { FAILED_OPEN, FAILED_ROOM, FAILED_LIMIT, FAILED_FILES, FAILED_JUMPED, FAILED_FORKED, FAILED_BARE, FAILURES };

@@ -195,10 +195,12 @@ bool goes_far_inside(uintptr_t stack)
     return true;
 }
 
-/* A child that came about without fork's handlers has no trace, and the tables may be half changed: that is counted. */
+/* A child whose fork wasn't seen has no trace, and the tables may be half changed. That is counted once. */
 static void stops_in_child(void)
 {
-    if (!atomic_exchange(&recording, false))
+    static _Atomic bool counted;
+    atomic_store(&recording, false);
+    if (atomic_exchange(&counted, true))
         return;
     status_forked();
     count_failure(FAILED_FORKED);

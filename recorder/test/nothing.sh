@@ -33,7 +33,7 @@ if wanted begun; then
     tell begun "a shell with a clean environment" $?
     for way in clone bare; do
         recorded_by "$record" -- ./begun $way
-        said 0 'not recorded: 1 process that came about by a bare call of the kernel' &&
+        said 0 'not recorded: 1 process whose fork was not seen (a bare call of the kernel' &&
             last_is 'record: nothing in what was recorded'
         tell begun "a child by a bare call of the kernel ($way)" $?
     done
