@@ -14,7 +14,7 @@ static COLD void library_opens(const char *name, uintptr_t stack)
     if (!name || !goes_far_inside(stack))
         return;
     if (recorder_enters()) {
-        objects_begin();
+        objects_noted();
         status_object(name);
         unknown = !strchr(name, '/');
         recorder_leaves();
@@ -22,10 +22,11 @@ static COLD void library_opens(const char *name, uintptr_t stack)
     goes_outside(&self);
 }
 
+/* The program ends: only now is it known which one that was. */
 void libraries_end(void)
 {
     if (unknown)
-        objects_begin();
+        objects_noted();
 }
 
 /* The real function goes by who has called it, so it is come to by a jump. */

@@ -397,6 +397,7 @@ struct marks *object_marks(uint32_t object);
 const char *object_symbol(uint32_t object, uintptr_t address, bool function, uintptr_t *from, uint64_t *size);
 const char *object_symbol_file(uint32_t object, uintptr_t address);
 void objects_begin(void);
+void objects_noted(void);
 void objects_closed(void (*gone)(uintptr_t from, uintptr_t to));
 
 /* libraries.c */

@@ -123,6 +123,24 @@ static int goes_on(const sigset_t *set)
     }
 }
 
+/* Becomes the command of that many words, with what there is to say of the program's end. */
+static void become_command(char **words, int count, const char *how, pid_t program, int status, const char *left)
+{
+    char number[16], process[16];
+    char **next = calloc((size_t)count + 5, sizeof *next);
+    if (!next)
+        fail("calloc");
+    snprintf(process, sizeof process, "%d", (int)program);
+    snprintf(number, sizeof number, "%d", WIFSIGNALED(status) ? WTERMSIG(status) : WEXITSTATUS(status));
+    memcpy(next, words, (size_t)count * sizeof *next);
+    next[count] = (char *)how;
+    next[count + 1] = number;
+    next[count + 2] = process;
+    next[count + 3] = (char *)left;
+    execv(next[0], next);
+    fail(next[0]);
+}
+
 int main(int count, char **words)
 {
     int told[2], show = count > 2 ? atoi(words[2]) : 0;
@@ -149,23 +167,12 @@ int main(int count, char **words)
     }
     close(told[1]);
     int status = wait_for(program, &set);
-    char number[16], process[16];
-    snprintf(process, sizeof process, "%d", (int)program);
     const char *how = is_unstarted(told[0]) ? "unstarted" : WIFSIGNALED(status) ? "signal" : "exit";
-    snprintf(number, sizeof number, "%d", WIFSIGNALED(status) ? WTERMSIG(status) : WEXITSTATUS(status));
-    char **next = calloc((size_t)show + 5, sizeof *next);
-    if (!next)
-        fail("calloc");
-    memcpy(next, words + 3, (size_t)show * sizeof *next);
-    next[show] = (char *)how;
-    next[show + 1] = number;
-    next[show + 2] = process;
-    next[show + 3] = goes_on(&set) ? "1" : "0";
+    const char *left = goes_on(&set) ? "1" : "0";
     prctl(PR_SET_CHILD_SUBREAPER, 0);
     /* What `timeout` sends to all of them may come late: the program's end is told all the same. */
     signal(SIGTERM, SIG_IGN);
     signal(SIGHUP, SIG_IGN);
     sigprocmask(SIG_SETMASK, &before, NULL);
-    execv(next[0], next);
-    fail(next[0]);
+    become_command(words + 3, show, how, program, status, left);
 }
