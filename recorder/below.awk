@@ -1,6 +1,6 @@
-# Writes the reports of a process with what is to stand below each of them. It reads the notes of resolve.awk
-# (kind=notes), then the reports (kind=told). Variables:
-#   frames=N           so many frames of a stack are shown
+# Writes the reports of a process with what is to stand below each of them: of each place the thread that was there, and
+# its frames. It reads the notes of resolve.awk (kind=notes), then the reports (kind=told). threads.awk has `label`. Variables:
+#   frames=N           so many frames of a stack are shown; with 1 nothing is told of places
 #   suppressions=yes   the line for the ignore file that would silence the report
 
 kind == "notes" {
@@ -9,11 +9,24 @@ kind == "notes" {
         alias[quoted[2]] = quoted[4]
     } else if ($1 == "site") {
         site["@:" $2] = $3
+        frames_of["@:" $2] = $4
+        thread_of["@:" $2] = $5
     } else if ($1 == "frame") {
-        depth["@:" $2]++
-        stack["@:" $2] = stack["@:" $2] "  " $3 " (" $4 ")\n"
+        stack[$2] = stack[$2] "  " $3 " (" $4 ")\n"
+    } else if ($1 == "thread") {
+        whole[$6] = label($3, $4, $5)
+        named[$6] = $3 == "-" ? "" : " (" $3 ")"
     }
     next
+}
+
+# The thread of a place; where the report names it first, with its name and who made it, further on with its name.
+function thread(number,   text) {
+    if (!(number in whole))
+        return ""
+    text = ", thread " number (number in is_named ? named[number] : whole[number])
+    is_named[number] = 1
+    return text
 }
 
 # The stacks of the report's places, then the last two locks of a reversal, whose types are at odds.
@@ -23,6 +36,8 @@ function ends_report() {
     if (suppressions != "" && last != "")
         print (duplicate || before == "" ? "" : stable(before) " ") stable(last)
     stacks = before = last = ""
+    for (number in is_named)
+        delete is_named[number]
 }
 
 # A type by what doesn't change with the lines of its source.
@@ -53,8 +68,11 @@ function heading(text) {
 }
 /^ / && ($NF in site) {
     place = $NF
-    if (frames > 1 && depth[place] > 1)
-        stacks = stacks heading($0) ":\n" stack[place]
+    if (frames > 1) {
+        below = stack[frames_of[place]]
+        # The lines of a circle have their threads themselves.
+        stacks = stacks heading($0) (/^ ([0-9]|")/ ? thread(thread_of[place]) : "") (below == "" ? "" : ":") "\n" below
+    }
     $0 = substr($0, 1, length($0) - length(place)) site[place]
 }
 { print }

@@ -173,12 +173,29 @@ static uint64_t hexadecimal(const char **at)
     }
 }
 
-/* A line of the maps: FROM-TO RIGHTS OFFSET DEVICE INODE PATH. */
+/* An object's file as it was mapped here stands in the maps, too. */
+static bool is_image(uintptr_t address)
+{
+    for (uint32_t i = 1; i <= objects_met; i++)
+        if (address - (uintptr_t)objects[i].image.bytes < objects[i].image.size)
+            return true;
+    return false;
+}
+
+/* A line of the maps: FROM-TO RIGHTS OFFSET DEVICE INODE PATH. What may be executed is noted as loaded. */
+static void note_map(const char *line)
+{
+    const char *rights = strchr(line, ' '), *path = strchr(line, '/');
+    if (rights && path && rights[3] == 'x')
+        status_object(path);
+}
+
 static void read_map(const char *line)
 {
     const char *at = line, *path = strchr(line, '/');
     uint64_t from = hexadecimal(&at);
-    if (!path || *at != '-' || known(from))
+    note_map(line);
+    if (!path || *at != '-' || known(from) || is_image(from))
         return;
     at = strchr(at, ' ');
     at = at ? strchr(at + 1, ' ') : NULL;
@@ -222,6 +239,12 @@ static bool read_maps(void (*each)(const char *line))
 void objects_begin(void)
 {
     read_maps(read_map);
+}
+
+/* Notes what is loaded by now, and maps nothing for it. Under the mutex. */
+void objects_noted(void)
+{
+    read_maps(note_map);
 }
 
 /* A line of the maps, where it shows that a closed object is mapped still. */

@@ -5,6 +5,7 @@
  *   calls.c     the interposed calls of pthread, C11 and the C library
  *   annotations.c  what a program tells of its own locks by witness.h
  *   threads.c   who made each thread
+ *   programs.c  the programs that a process starts; libraries.c, the libraries that it opens
  *   asked.c     which mutexes are held, where `record --show` asks
  *   start.c     the real functions behind them, the start, fork
  *   chains.c    what each thread holds, and the tree of chains of types; quick.h, where nothing is to be written
@@ -14,7 +15,7 @@
  *   seats.c     seats, and the numbers of types, locks and places in a stream
  *   write.c     the lines, and why they are a legal history
  *   stream.c    the files that the lines stand in
- *   status.c    what fails, counted where it outlives the process
+ *   status.c    which programs were started, what failed and which objects were loaded, where it outlives the process
  *
  * All that threads share is changed under the recorder's one mutex (recorder_enters, recorder_leaves), and nearly
  * all of it is read without. Nothing here takes memory but by mmap, and no lock of the C library is waited for
@@ -28,7 +29,10 @@
 #include <stdatomic.h>
 #include <stdbool.h>
 #include <stddef.h>
+#include <spawn.h>
 #include <stdint.h>
+#include <stdio.h>
+#include <sys/types.h>
 #include <threads.h>
 #include <time.h>
 
@@ -193,8 +197,12 @@ enum missed {
     MISSES
 };
 
-/* What failed outside the streams. */
-enum failure { FAILED_OPEN, FAILED_ROOM, FAILED_JUMPED, FAILURES };
+/*
+ * What failed outside the streams: lines for which the file couldn't be opened, the disk had no room, a limit on the size
+ * of files was met, or there was no file descriptor; calls that were left; a fork that wasn't seen; and
+ * programs that were begun without what loads the recorder.
+ */
+enum failure { FAILED_OPEN, FAILED_ROOM, FAILED_LIMIT, FAILED_FILES, FAILED_JUMPED, FAILED_FORKED, FAILED_BARE, FAILURES };
 
 /* start.c */
 typedef void handler(int);
@@ -229,6 +237,17 @@ struct real {
     int (*create)(pthread_t *, const pthread_attr_t *, void *(*)(void *), void *);
     int (*c11_create)(thrd_t *, thrd_start_t, void *);
     int (*dlclose)(void *);
+    void *(*dlopen)(const char *, int);
+    int (*system)(const char *);
+    FILE *(*popen)(const char *, const char *);
+    int (*execve)(const char *, char *const[], char *const[]);
+    int (*execvpe)(const char *, char *const[], char *const[]);
+    int (*fexecve)(int, char *const[], char *const[]);
+    int (*execveat)(int, const char *, char *const[], char *const[], int);
+    int (*spawn)(pid_t *, const char *, const posix_spawn_file_actions_t *, const posix_spawnattr_t *, char *const[],
+        char *const[]);
+    int (*spawnp)(pid_t *, const char *, const posix_spawn_file_actions_t *, const posix_spawnattr_t *, char *const[],
+        char *const[]);
     int (*sigaction)(int, const struct sigaction *, struct sigaction *);
     handler *(*signal)(int, handler *);
     handler *(*sysv_signal)(int, handler *);
@@ -378,7 +397,11 @@ struct marks *object_marks(uint32_t object);
 const char *object_symbol(uint32_t object, uintptr_t address, bool function, uintptr_t *from, uint64_t *size);
 const char *object_symbol_file(uint32_t object, uintptr_t address);
 void objects_begin(void);
+void objects_noted(void);
 void objects_closed(void (*gone)(uintptr_t from, uintptr_t to));
+
+/* libraries.c */
+void libraries_end(void);
 
 /* stacks.c */
 extern uint32_t frames_shown; /* how many frames a stack has at most; with 1 there are no stacks */
@@ -441,6 +464,10 @@ void streams_end(void);
 /* status.c */
 void status_made(void);
 void status_forked(void);
+void status_starts(const char *program);
+void status_starts_not(void);
+void status_started(pid_t process, const char *program);
+void status_object(const char *path);
 void count_digits(char *digits);
 void count_failure(enum failure what);
 

@@ -12,10 +12,11 @@
 #   answer                  it was asked which mutexes are held: below it, until the next one, stand
 #   holder THREAD NAME      those that are, each with its thread as the kernel counts them
 #   alias "TYPE" "FUNCTIONS"  what the type is called in the ignore file by the functions of its places: no lines are in it
-#   thread SEAT NAME FUNCTION SITE   from here on the seat is that thread's: its name, - where it was given none, and where
-#                           it was made, - where that isn't known
-#   site NUMBER SITE        what `@:NUMBER` stands for as a place of the trace; such places are written where the recorder
-#   frame NUMBER FUNCTION SITE   has written stacks and there are notes: below it are the frames of that place's stack
+#   thread SEAT NAME FUNCTION SITE NUMBER   from here on the seat is that thread's: its name, - where it was given none,
+#                           where it was made, - where that isn't known, and its number as the kernel counts threads
+#   site NUMBER SITE FRAMES THREAD   what `@:NUMBER` stands for as a place of the trace, and the thread that was there; such
+#                           places are written where stacks are shown and there are notes
+#   frame FRAMES FUNCTION SITE   a frame of such a place, innermost first: of its stack, or where it has none its own
 # RECORDER_SKIP has the patterns of functions that say nothing about a call, by colons, and RECORDER_FRAMES how many frames
 # of a stack are wanted. The directory in RECORD_DIRECTORY is left out at the head of the names of source files. With `all` in
 # RECORD_PROFILE the trace is one of the all-held profile.
@@ -25,6 +26,7 @@ BEGIN {
     taken["Giant"] = 1
     directory = ENVIRON["RECORD_DIRECTORY"]
     most_frames = ENVIRON["RECORDER_FRAMES"] + 0
+    with_sites = most_frames > 1 && notes != "/dev/null"
     patterns = split(ENVIRON["RECORDER_SKIP"], pattern, ":")
     for (i = 1; i <= patterns; i++) {
         gsub(/[^A-Za-z0-9_*?]/, "[&]", pattern[i])
@@ -382,24 +384,30 @@ function tell_progress() {
 }
 
 # A call's line with its place, which is the field of that number; behind it may be a stack.
-function placed(field,   place, head) {
+function placed(field,   place, stack, tail) {
     place = $field
-    if (NF == field)
-        return substr($0, 1, length($0) - length(place)) (with_stacks ? site_number(place, 0) : \
-            (place in site_of) ? site_of[place] : site(place))
-    head = substr($0, 1, length($0) - length(place) - length($NF) - 1)
-    return head (with_stacks ? site_number(place, $NF) : site(place))
+    if (!with_sites && NF == field)
+        return substr($0, 1, length($0) - length(place)) ((place in site_of) ? site_of[place] : site(place))
+    stack = NF == field ? 0 : $NF
+    tail = length(place) + (NF == field ? 0 : length($NF) + 1)
+    return substr($0, 1, length($0) - tail) (with_sites ? site_number(place, stack, sitter[$2] + 0) : site(place))
 }
 
-# The place as a number, under which the notes have its site and its stack.
-function site_number(place, stack) {
-    if (!((place, stack) in number_of_site)) {
-        number_of_site[place, stack] = ++sites
-        print "site", sites, site(place) >notes
-        if (stack)
-            note_frames(sites, stack)
+# The place as a number, under which the notes have its site, its frames and its thread.
+function site_number(place, stack, thread) {
+    if (!((place, stack, thread) in number_of_site)) {
+        number_of_site[place, stack, thread] = ++sites
+        print "site", sites, site(place), frames_number(place, stack), thread >notes
     }
-    return "@:" number_of_site[place, stack]
+    return "@:" number_of_site[place, stack, thread]
+}
+
+function frames_number(place, stack) {
+    if (!((place, stack) in number_of_frames)) {
+        number_of_frames[place, stack] = ++framed
+        note_frames(framed, stack ? stack_line[stack] : "stack 0 " place)
+    }
+    return number_of_frames[place, stack]
 }
 
 # Where a thread begins.
@@ -407,9 +415,11 @@ function is_end(name) {
     return name ~ /^(_start|__libc_start_.*|start_thread|clone3?|__clone3?)$/
 }
 
-function note_frames(id, stack,   part, count, i, key, number, noted) {
-    count = split(stack_line[stack], part, " ")
+function note_frames(id, line,   part, count, i, key, number, noted) {
+    count = split(line, part, " ")
     for (i = 3; i <= count && noted < most_frames; i++) {
+        if (!(part[i] in object_of))
+            continue
         key = key_of(part[i])
         if (is_end(function_name(part[i])))
             return
@@ -443,8 +453,10 @@ kind == "record" {
         print init_line()
     else if (word == "again")
         print "again", $2, $3, site($4) >notes
-    else if (word == "thread")
-        print "thread", $2, $3, maker($4) >notes
+    else if (word == "thread") {
+        sitter[$2] = $5
+        print "thread", $2, $3, maker($4), $5 + 0 >notes
+    }
     else if (word == "answer")
         print "answer" >notes
     else if (word == "holder")
@@ -489,7 +501,7 @@ kind == "lines" {
 kind == "names" { if (split($0, pair, "\t") == 2) demangled[pair[1]] = pair[2]; next }
 
 $1 == "object" { path_of[$2] = substr($0, length($2) + 9); next }
-$1 == "stack" { stack_line[$2] = $0; with_stacks = notes != "/dev/null"; next }
+$1 == "stack" { stack_line[$2] = $0; next }
 $1 == "place" { object_of[$2] = $3; offset_of[$2] = $4; function_of[$2] = $5; within_of[$2] = $6; next }
 $1 == "type" {
     type_line[$2] = $0

@@ -64,6 +64,15 @@ static const struct {
     {offsetof(struct real, create), "pthread_create", NULL},
     {offsetof(struct real, c11_create), "thrd_create", NULL},
     {offsetof(struct real, dlclose), "dlclose", NULL},
+    {offsetof(struct real, dlopen), "dlopen", NULL},
+    {offsetof(struct real, system), "system", NULL},
+    {offsetof(struct real, popen), "popen", NULL},
+    {offsetof(struct real, execve), "execve", NULL},
+    {offsetof(struct real, execvpe), "execvpe", NULL},
+    {offsetof(struct real, fexecve), "fexecve", NULL},
+    {offsetof(struct real, execveat), "execveat", NULL},
+    {offsetof(struct real, spawn), "posix_spawn", "GLIBC_2.15"},
+    {offsetof(struct real, spawnp), "posix_spawnp", "GLIBC_2.15"},
     {offsetof(struct real, sigaction), "sigaction", NULL},
     {offsetof(struct real, signal), "signal", NULL},
     {offsetof(struct real, sysv_signal), "__sysv_signal", NULL},
@@ -186,6 +195,17 @@ bool goes_far_inside(uintptr_t stack)
     return true;
 }
 
+/* A child whose fork wasn't seen has no trace, and the tables may be half changed. That is counted once. */
+static void stops_in_child(void)
+{
+    static _Atomic bool counted;
+    atomic_store(&recording, false);
+    if (atomic_exchange(&counted, true))
+        return;
+    status_forked();
+    count_failure(FAILED_FORKED);
+}
+
 /*
  * False where this process records no more: then nothing may be touched. Inside, a thread isn't cancelled, no handler
  * of the program runs in it (it may leave by a jump, or wait for another thread), and the program's errno is kept.
@@ -194,7 +214,7 @@ bool recorder_enters(void)
 {
     int before = errno;
     if (!*alive)
-        atomic_store(&recording, false);
+        stops_in_child();
     if (!atomic_load(&recording))
         return false;
     int cancellation;
@@ -314,6 +334,7 @@ __attribute__((destructor)) static void ended(void)
 {
     if (!atomic_load(&recording) || self.state > OPEN || !recorder_enters())
         return;
+    libraries_end();
     streams_end();
     recorder_leaves();
 }

@@ -1,7 +1,9 @@
 /*
- * What fails in a process, counted in a file that all processes share: `status` in the folder of the streams. It is
- * mapped when the program is loaded, so that nothing has to be opened when something fails. Each process has a line in
- * it, in a slot of its own; one that executes another program goes on in the same slot.
+ * What outlives a process, in a file that all processes share: `status` in the folder of the streams. It is mapped when
+ * the program is loaded, so that nothing has to be opened later. Each process has a slot in it, a line: which program it
+ * is, whether that has loaded the recorder, and what failed. One that executes another program goes on in the same slot,
+ * and there it says beforehand which program it starts: a slot whose program hasn't loaded the recorder is one of which
+ * nothing is known. Below the slots stand the objects that processes had loaded, each once.
  */
 #include "recorder.h"
 
@@ -14,9 +16,17 @@
 #include <sys/stat.h>
 #include <unistd.h>
 
-enum { STATUS_BYTES = 1 << 20, SLOT_BYTES = 256, SLOTS = STATUS_BYTES / SLOT_BYTES, NAME_MOST = 64, DIGITS = 10 };
+enum { STATUS_BYTES = 1 << 20, SLOT_BYTES = 256, SLOTS = 3072, DIGITS = 10 };
+/*
+ * Where a slot has its parts; what isn't written is zeros. Its first bytes are the process's number, by which it is
+ * found and taken at once.
+ */
+enum { NAME_AT = 8, STARTED_AT = 56, LOADED_AT = 104, COUNTS_AT = 116, NAME_BYTES = STARTED_AT - NAME_AT };
+/* The names of objects, and before them their hashes. */
+enum { HASHES_AT = SLOTS * SLOT_BYTES, HASHES = 1 << 13, OBJECTS_AT = HASHES_AT + HASHES * 8 };
 
-static const char *const failure_names[FAILURES] = {"open", "room", "jumped"};
+static const char *const failure_names[FAILURES] = {"open", "room", "limit", "files", "jumped", "forked", "bare"};
+static const char loaded[] = " loaded 1", not_loaded[] = " loaded 0";
 static char *status;
 static char *counts[FAILURES]; /* where the process's line has each count; NULL where it has no line */
 
@@ -34,47 +44,68 @@ static bool has_size(int file)
     return posix_fallocate(file, 0, STATUS_BYTES) == 0;
 }
 
-static void write_slot(char *slot)
+/*
+ * The slot of the process of that number, or a free one for it; NULL where there is none. Slots aren't given back, so
+ * that two who look for one number find one slot.
+ */
+static char *slot_of(pid_t process)
 {
-    extern char *program_invocation_short_name;
-    char line[SLOT_BYTES], name[NAME_MOST];
-    snprintf(name, sizeof name, "%s", program_invocation_short_name);
-    for (char *at = name; *at; at++)
-        if (*at <= ' ' || *at > '~')
-            *at = '_';
-    int length = snprintf(line, sizeof line, "process %d %s missed", (int)getpid(), *name ? name : "?");
-    for (int what = 0; what < FAILURES; what++) {
-        length += snprintf(line + length, sizeof line - (size_t)length, " %s ", failure_names[what]);
-        counts[what] = slot + length;
-        length += snprintf(line + length, sizeof line - (size_t)length, "%0*d", DIGITS, 0);
+    char text[8] = {'P'};
+    uint64_t mark, number = (uint64_t)process;
+    for (size_t i = sizeof text - 1; i > 0; i--, number /= 10)
+        text[i] = "0123456789"[number % 10];
+    memcpy(&mark, text, sizeof mark);
+    for (uint32_t i = 0; status && i < SLOTS; i++) {
+        char *slot = status + ((uint32_t)process + i) % SLOTS * SLOT_BYTES;
+        uint64_t found = 0;
+        if (__atomic_compare_exchange_n((uint64_t *)(void *)slot, &found, mark, false, __ATOMIC_SEQ_CST,
+                __ATOMIC_SEQ_CST)
+            || found == mark) {
+            slot[SLOT_BYTES - 1] = '\n';
+            return slot;
+        }
     }
-    line[length++] = '\n';
-    memcpy(slot, line, (size_t)length);
+    return NULL;
 }
 
-/* Takes the slot of this process's number, or a free one. */
+/* A word and a name behind it, in as many bytes as a name has. */
+static void write_name(char *to, const char *word, const char *name)
+{
+    char text[NAME_BYTES] = "";
+    size_t length = strlen(word);
+    memcpy(text, word, length);
+    if (*name == '\0')
+        text[length++] = '?';
+    for (; *name && length < sizeof text; name++)
+        text[length++] = *name <= ' ' || *name > '~' ? '_' : *name;
+    memcpy(to, text, sizeof text);
+}
+
+/* The counts of the slot, which begin with nothing where it hasn't any. */
+static void take_counts(char *slot)
+{
+    char text[SLOT_BYTES - COUNTS_AT];
+    int length = snprintf(text, sizeof text, " missed");
+    for (int what = 0; what < FAILURES; what++) {
+        length += snprintf(text + length, sizeof text - (size_t)length, " %s ", failure_names[what]);
+        counts[what] = slot + COUNTS_AT + length;
+        length += snprintf(text + length, sizeof text - (size_t)length, "%0*d", DIGITS, 0);
+    }
+    if (slot[COUNTS_AT] == '\0')
+        memcpy(slot + COUNTS_AT, text, (size_t)length);
+}
+
+/* This process's slot, as one that has the recorder. */
 static void take_slot(void)
 {
-    static const char mark[] = "process ";
-    uint64_t taken;
-    memcpy(&taken, mark, sizeof taken);
-    uint32_t first = (uint32_t)getpid() % SLOTS;
-    for (uint32_t i = 0; i < SLOTS; i++) {
-        char *slot = status + (first + i) % SLOTS * SLOT_BYTES;
-        uint64_t found = 0;
-        if (__atomic_compare_exchange_n((uint64_t *)(void *)slot, &found, taken, false, __ATOMIC_SEQ_CST,
-                __ATOMIC_SEQ_CST)) {
-            write_slot(slot);
-            return;
-        }
-        if (found == taken && atoi(slot + sizeof taken) == (int)getpid()) {
-            for (int what = 0; what < FAILURES; what++) {
-                char *at = strstr(slot, failure_names[what]);
-                counts[what] = at ? at + strlen(failure_names[what]) + 1 : NULL;
-            }
-            return;
-        }
-    }
+    extern char *program_invocation_short_name;
+    char *slot = slot_of(getpid());
+    memset(counts, 0, sizeof counts);
+    if (!slot)
+        return;
+    write_name(slot + NAME_AT, " name ", program_invocation_short_name);
+    take_counts(slot);
+    memcpy(slot + LOADED_AT, loaded, sizeof loaded - 1);
 }
 
 void status_made(void)
@@ -98,9 +129,70 @@ void status_made(void)
 
 void status_forked(void)
 {
-    memset(counts, 0, sizeof counts);
-    if (status)
-        take_slot();
+    take_slot();
+}
+
+static const char *base_of(const char *path)
+{
+    const char *slash = strrchr(path, '/');
+    return slash && slash[1] ? slash + 1 : path;
+}
+
+/*
+ * The process is about to become that program. A child of vfork comes here too: nothing may be written but what the
+ * processes share.
+ */
+void status_starts(const char *program)
+{
+    char *slot = slot_of(getpid());
+    if (!slot)
+        return;
+    write_name(slot + STARTED_AT, " started ", base_of(program));
+    memcpy(slot + LOADED_AT, not_loaded, sizeof not_loaded - 1);
+}
+
+/* It didn't become it. */
+void status_starts_not(void)
+{
+    char *slot = slot_of(getpid());
+    if (slot)
+        memcpy(slot + LOADED_AT, loaded, sizeof loaded - 1);
+}
+
+/* A new process was begun with that program, which may have loaded the recorder by now. */
+void status_started(pid_t process, const char *program)
+{
+    char *slot = slot_of(process);
+    if (slot)
+        write_name(slot + STARTED_AT, " started ", base_of(program));
+}
+
+/* Notes an object that is loaded, where no process has noted it. Under the mutex. */
+void status_object(const char *path)
+{
+    static const char word[] = "\nobject ";
+    uint64_t hash = 0xcbf29ce484222325u;
+    size_t length = strlen(path), room = STATUS_BYTES - OBJECTS_AT;
+    for (const char *at = path; *at; at++)
+        hash = (hash ^ (unsigned char)*at) * 0x100000001b3u;
+    hash |= 1;
+    uint64_t *hashes = status ? (void *)(status + HASHES_AT) : NULL;
+    for (uint32_t i = 0; hashes && i < HASHES; i++) {
+        uint64_t found = 0;
+        if (__atomic_compare_exchange_n(&hashes[(hash + i) % HASHES], &found, hash, false, __ATOMIC_SEQ_CST,
+                __ATOMIC_SEQ_CST)) {
+            uint64_t *used = (void *)(status + OBJECTS_AT);
+            size_t whole = sizeof word + length, at = __atomic_fetch_add(used, whole, __ATOMIC_SEQ_CST) + sizeof *used;
+            if (at + whole > room)
+                return;
+            memcpy(status + OBJECTS_AT + at, word, sizeof word - 1);
+            memcpy(status + OBJECTS_AT + at + sizeof word - 1, path, length);
+            status[OBJECTS_AT + at + whole - 1] = '\n';
+            return;
+        }
+        if (found == hash)
+            return;
+    }
 }
 
 /* Adds one to a number in decimal digits. */

@@ -36,6 +36,7 @@ static struct stream {
     uint32_t attempts;    /* that failed to make the file */
     bool begun;           /* its first line is written */
     bool ended;
+    enum failure cause; /* why it has ended, or the file wasn't made */
     char line[LINE_MOST];
     size_t length;
 } streams[STREAMS] = {
@@ -129,11 +130,30 @@ static bool window_opens(struct stream *stream, int flags)
 static bool piece_is_given(struct stream *stream)
 {
     int file = open(stream->path, O_RDWR | O_CLOEXEC);
-    bool given = file >= 0
-        && posix_fallocate(file, (off_t)stream->offset - (stream->end - stream->ready), PIECE) == 0;
-    if (file >= 0)
-        close(file);
-    return given;
+    if (file < 0)
+        return false;
+    int error = posix_fallocate(file, (off_t)stream->offset - (stream->end - stream->ready), PIECE);
+    close(file);
+    errno = error;
+    return error == 0;
+}
+
+static enum failure cause_of(int error)
+{
+    switch (error) {
+    case EFBIG:
+        return FAILED_LIMIT;
+    case ENOSPC:
+    case EDQUOT:
+    case EFAULT: /* of madvise */
+        return FAILED_ROOM;
+    case EMFILE:
+    case ENFILE:
+    case EBADF:
+        return FAILED_FILES;
+    default:
+        return FAILED_OPEN;
+    }
 }
 
 /* Room for a further piece of the file. False where there is none, and the stream has ended. */
@@ -144,6 +164,8 @@ static bool grows(struct stream *stream)
         given = errno == EINVAL && piece_is_given(stream);
     if (given)
         stream->ready += PIECE;
+    else
+        stream->cause = cause_of(errno);
     stream->ended = !given;
     return given;
 }
@@ -162,7 +184,7 @@ void stream_append(int number, bool is_entry)
         from += now;
         left -= now;
         if (left > 0 && !grows(stream))
-            count_failure(FAILED_ROOM);
+            count_failure(stream->cause);
     }
     stream->length = 0;
     stream->entries += is_entry;
@@ -220,17 +242,17 @@ bool stream_opens(int number)
     if (LIKELY(stream->begun && !stream->ended))
         return true;
     if (stream->ended) {
-        count_failure(FAILED_ROOM);
+        count_failure(stream->cause);
         return false;
     }
     if (!stream->first && (stream->attempts >= ATTEMPTS_MOST || !file_opens(number))) {
-        bool full = stream->attempts < ATTEMPTS_MOST && (errno == ENOSPC || errno == EFBIG || errno == EDQUOT);
-        stream->attempts++;
-        count_failure(full ? FAILED_ROOM : FAILED_OPEN);
+        if (stream->attempts++ < ATTEMPTS_MOST)
+            stream->cause = cause_of(errno);
+        count_failure(stream->cause);
         return false;
     }
     if (!grows(stream)) {
-        count_failure(FAILED_ROOM);
+        count_failure(stream->cause);
         return false;
     }
     begin(number);

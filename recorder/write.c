@@ -36,11 +36,16 @@
 
 #include <string.h>
 #include <sys/prctl.h>
+#include <sys/syscall.h>
+#include <unistd.h>
 
 /* What the seats may owe the log at most: all locks that they hold, and a request for each seat. */
 #define OWED_MOST (SEATS * (HELD_MOST + 2))
 
-/* `thread SEAT NAME PLACE`: its name, `-` where it has its program's, and where it was made, 0 where that isn't known. */
+/*
+ * `thread SEAT NAME PLACE NUMBER`: its name, `-` where it has its program's; where it was made, 0 where that isn't known;
+ * and its number as the kernel counts threads. It is the thread that writes.
+ */
 void write_thread(int stream, const struct thread *thread)
 {
     extern char *program_invocation_short_name;
@@ -55,6 +60,7 @@ void write_thread(int stream, const struct thread *thread)
     put_number(stream, thread->seat[stream]);
     put_name(stream, name);
     put_number(stream, made);
+    put_number(stream, (uint64_t)syscall(SYS_gettid));
     put_text(stream, "\n");
     stream_append(stream, false);
 }

@@ -75,6 +75,23 @@ if wanted helper; then
     tell helper "two frames, and a trace with its places" $?
 fi
 
+# Each place has its function, where it has no caller too, and its thread: with the number that the thread itself has told.
+if wanted writers; then
+    compile writers
+    for stream in "" --full; do
+        "$record" $stream --frames 8 -- ./writers >recorded.out 2>recorded.err
+        for name in reader writer other; do
+            number=$(sed -n "s/^$name //p" recorded.out)
+            echo "s/, thread $number\\>/, thread $(echo $name | tr a-z A-Z)/"
+        done >numbers
+        sed -f numbers recorded.err | diff "$here/writers.want" -
+        tell writers "the functions and threads of a report's places $stream" $?
+    done
+    "$record" --frames 1 -- ./writers >recorded.out 2>recorded.err
+    sed '/^callers:/,/^  collect/d' "$here/writers.want" | diff - recorded.err
+    tell writers "none with one frame" $?
+fi
+
 # Locks of the program's own, annotated.
 for flags in -O0 -O2; do
     example futex "locks on futexes"

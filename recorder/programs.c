@@ -1,0 +1,162 @@
+/*
+ * The programs that a process starts. Whether such a program loads the recorder is known once it has: it may be linked
+ * statically, run as another user, or be given an environment without LD_PRELOAD. So its slot of the status says first
+ * that it is started, and the program itself says that it is loaded. A program that is started by a bare call of the
+ * kernel isn't seen here.
+ *
+ * A child of vfork shares its parent's memory: nothing of that is written to.
+ */
+#include "quick.h"
+
+#include <errno.h>
+#include <stdarg.h>
+#include <string.h>
+#include <unistd.h>
+
+extern char **environ;
+
+static void begins(const char *program)
+{
+    start();
+    status_starts(program);
+}
+
+/* Where a call comes back, no program was started by it. */
+static int comes_back(int answer)
+{
+    int before = errno;
+    status_starts_not();
+    errno = before;
+    return answer;
+}
+
+/* `words` becomes the words of the call: FIRST and what stands behind it up to NULL. */
+#define WORDS(first)                                                                                       \
+    va_list list;                                                                                          \
+    size_t count = 1;                                                                                      \
+    va_start(list, first);                                                                                 \
+    while (va_arg(list, const char *))                                                                     \
+        count++;                                                                                           \
+    va_end(list);                                                                                          \
+    char *words[count + 1];                                                                                \
+    words[0] = (char *)(first);                                                                            \
+    va_start(list, first);                                                                                 \
+    for (size_t i = 1; i <= count; i++)                                                                    \
+        words[i] = va_arg(list, char *)
+
+EXPORT int execve(const char *path, char *const words[], char *const environment[])
+{
+    begins(path);
+    return comes_back(real.execve(path, words, environment));
+}
+
+EXPORT int execv(const char *path, char *const words[])
+{
+    begins(path);
+    return comes_back(real.execve(path, words, environ));
+}
+
+EXPORT int execvp(const char *file, char *const words[])
+{
+    begins(file);
+    return comes_back(real.execvpe(file, words, environ));
+}
+
+EXPORT int execvpe(const char *file, char *const words[], char *const environment[])
+{
+    begins(file);
+    return comes_back(real.execvpe(file, words, environment));
+}
+
+EXPORT int execl(const char *path, const char *word, ...)
+{
+    WORDS(word);
+    va_end(list);
+    begins(path);
+    return comes_back(real.execve(path, words, environ));
+}
+
+EXPORT int execlp(const char *file, const char *word, ...)
+{
+    WORDS(word);
+    va_end(list);
+    begins(file);
+    return comes_back(real.execvpe(file, words, environ));
+}
+
+EXPORT int execle(const char *path, const char *word, ...)
+{
+    WORDS(word);
+    char **environment = va_arg(list, char **);
+    va_end(list);
+    begins(path);
+    return comes_back(real.execve(path, words, environment));
+}
+
+EXPORT int fexecve(int file, char *const words[], char *const environment[])
+{
+    begins(words[0] ? words[0] : "?");
+    return comes_back(real.fexecve(file, words, environment));
+}
+
+EXPORT int execveat(int folder, const char *path, char *const words[], char *const environment[], int flags)
+{
+    begins(*path ? path : "?");
+    return comes_back(real.execveat(folder, path, words, environment, flags));
+}
+
+EXPORT int posix_spawn(pid_t *process, const char *path, const posix_spawn_file_actions_t *actions,
+    const posix_spawnattr_t *attributes, char *const words[], char *const environment[])
+{
+    pid_t own;
+    start();
+    int answer = real.spawn(process ? process : &own, path, actions, attributes, words, environment);
+    if (answer == 0)
+        status_started(process ? *process : own, path);
+    return answer;
+}
+
+EXPORT int posix_spawnp(pid_t *process, const char *file, const posix_spawn_file_actions_t *actions,
+    const posix_spawnattr_t *attributes, char *const words[], char *const environment[])
+{
+    pid_t own;
+    start();
+    int answer = real.spawnp(process ? process : &own, file, actions, attributes, words, environment);
+    if (answer == 0)
+        status_started(process ? *process : own, file);
+    return answer;
+}
+
+static bool has_word(const char *word)
+{
+    for (char **each = environ; each && *each; each++)
+        if (strncmp(*each, word, strlen(word)) == 0)
+            return true;
+    return false;
+}
+
+/* The C library starts a shell, which loads the recorder where the environment says so. */
+static COLD void shell_begins(uintptr_t stack)
+{
+    start();
+    if ((has_word("LD_PRELOAD=") && has_word("RECORDER_DIRECTORY=")) || !goes_far_inside(stack))
+        return;
+    if (recorder_enters()) {
+        count_failure(FAILED_BARE);
+        recorder_leaves();
+    }
+    goes_outside(&self);
+}
+
+EXPORT int system(const char *command)
+{
+    if (command)
+        shell_begins(HERE);
+    return real.system(command);
+}
+
+EXPORT FILE *popen(const char *command, const char *how)
+{
+    shell_begins(HERE);
+    return real.popen(command, how);
+}
