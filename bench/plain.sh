@@ -10,7 +10,7 @@ set -e
 here=$(dirname "$(readlink -f "$0")")
 program=${WITNESS:-$here/../crates/witness/out/witness}
 if [ ! -x "$program" ]; then
-    echo "bench: there is no program yet: run ./witness once" >&2
+    echo "bench: there is no program yet: run make" >&2
     exit 1
 fi
 folder=$(mktemp -d)

@@ -1,9 +1,10 @@
 #!/bin/sh
 # Measures what the recorder costs: the nanoseconds of processor time that a pair of lock and unlock takes in a loop
-# that does nothing else, plain, recorded, recorded with --held-callers, with --full, and under helgrind (where valgrind is
-# installed), and each as a ratio to the plain one. Then what taking and freeing a block costs while a mutex stands in the heap, the
-# processor time of node under work, and how long a recorder's file takes to become a trace. The least of RUNS runs each
-# (5), in turn, so that all meet the same machine. RECORDER names another recorder's folder, to compare with.
+# that does nothing else, and its ratio to the plain loop. The loop runs plain, recorded, recorded with --held-callers
+# and with --full; under helgrind and drd where valgrind is installed; and built by the compiler for ThreadSanitizer
+# where that can be linked. Then it measures what taking and freeing a block costs while a mutex stands in the heap, the
+# processor time of node under work, and how long a recorder's file takes to become a trace. Of RUNS runs (5) the least
+# counts; the ways take turns, so that all meet the same machine. RECORDER names another recorder's folder, to compare.
 set -eu
 here=$(dirname "$(readlink -f "$0")")
 recorder=${RECORDER:-$here/../recorder}
@@ -29,13 +30,19 @@ once() {
     recorded) recorded condensed "$folder/pairs" "$2" "$3" 400000 ;;
     held) RECORDER_HELD=1 RECORDER_FRAMES=8 recorded condensed "$folder/pairs" "$2" "$3" 400000 ;;
     full) recorded full "$folder/pairs" "$2" "$3" 100000 ;;
-    helgrind) valgrind -q --tool=helgrind "$folder/pairs" "$2" "$3" 20000 2>/dev/null ;;
+    helgrind | drd) valgrind -q --tool="$1" "$folder/pairs" "$2" "$3" 20000 2>/dev/null ;;
+    # Threads that nobody joins would be told of, and the status be 66.
+    tsan) TSAN_OPTIONS=report_thread_leaks=0 "$folder/pairs-tsan" "$2" "$3" 100000 ;;
     esac
 }
 
 ways="plain recorded held full"
 if command -v valgrind >/dev/null; then
-    ways="$ways helgrind"
+    ways="$ways helgrind drd"
+fi
+if cc -O2 -g -fsanitize=thread -pthread -o "$folder/pairs-tsan" "$here/../recorder/test/pairs.c" 2>/dev/null &&
+    TSAN_OPTIONS=report_thread_leaks=0 "$folder/pairs-tsan" 1 1 1 >/dev/null 2>&1; then
+    ways="$ways tsan"
 fi
 echo "nanoseconds a pair, and the ratio to plain"
 for shape in "1 1" "2 1" "1 4" "2 4"; do

@@ -5,9 +5,9 @@
  *
  *   witness_made(lock, how)      when the lock is made (may be left out: then the place of its first use names its type)
  *   witness_asked(lock, how)     before a call that may block
- *   witness_acquired(lock)       behind it, where the lock was got
- *   witness_gave_up(lock)        behind it, where it wasn't
- *   witness_tried(lock, how)     behind a try that got the lock
+ *   witness_acquired(lock)       after it, where the lock was got
+ *   witness_gave_up(lock)        after it, where it wasn't
+ *   witness_tried(lock, how)     after a try that got the lock
  *   witness_released(lock)       before the lock is released
  *   witness_destroyed(lock)      before its memory is used for something else
  *

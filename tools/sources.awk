@@ -57,7 +57,7 @@ function look_at_import(import) {
     if (import ~ /(Fault|LineError|ReplayError|ErrorKind)::/ && import ~ /[^A-Za-z](OutOfMemory|Memory)[^A-Za-z]/) tell("memory")
     if (import ~ /ReplayError::/ && import ~ /[^A-Za-z](Read|Write)[^A-Za-z]/) tell("evidence")
     if (import ~ /mem::/ && import ~ /forget|ManuallyDrop/) tell("forget")
-    if (import ~ /NonNull|std::ptr/ && !may_point) tell("pointer")
+    if (import ~ /NonNull|std::ptr/) tell(pointer)
 }
 
 # Of an implementation only what stands before its brace.
@@ -73,15 +73,15 @@ function look(code,    value) {
     if (code ~ /[.](read|write) *[|&^]?=([^=]|$)/ || code ~ /(^|[^A-Za-z0-9_])(read|write):/ && code !~ /: bool,/ ||
         code ~ /&mut [a-z_.]*[.](read|write)([^a-z_(]|$)/ || code ~ /(ReplayError|Self)::(Read|Write)/) tell("evidence")
     if (code ~ /macro_rules!/) tell("impl")
-    if (!may_point && code ~ /[*](const|mut) |NonNull|addr_of|unsafe|as_ptr|as_mut_ptr|from_raw/) tell("pointer")
+    if (code ~ /[*](const|mut) |NonNull|addr_of|unsafe|as_ptr|as_mut_ptr|from_raw/) tell(pointer)
     if (code ~ /mem::forget|ManuallyDrop|[.:]leak[(]|into_raw/) tell("forget")
 }
 
 FNR == 1 {
     place = import = head = ""
     in_text = in_ghost = 0
-    # The one crate whose matter pointers are.
-    may_point = FILENAME ~ /(^|\/)wit_pool\//
+    # The one crate whose matter pointers are has a kind of its own for them, which isn't listed.
+    pointer = FILENAME ~ /(^|\/)wit_pool\// ? "pool" : "pointer"
 }
 {
     code = seen(bare($0))

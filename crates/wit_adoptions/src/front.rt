@@ -47,7 +47,7 @@ impl<J: Naming> Front<J> {
         }
     }
 
-    /// The same orders under no name.
+    /// Its orders as a page, whose type names no list.
     pub fn page(&self) -> Page
         ensures of { IsOf J.list result }
         ensures same { orders_on J.list result ≡ self.now }

@@ -25,7 +25,7 @@ answer_by new (verdict.Duplicate d) = Ok (reply.Duplicate d)
 answer_by new (verdict.Reversal c) = Ok (reply.Reversal c)
 answer_by new (verdict.Fault fault) = Err fault
 
--- the same where an order is defined: nothing is to be said of one that is known
+-- the answer where an order is defined: nothing is to be said of one that is known
 abbrev pub definition_of : Verdict → Result Reply Fault
 definition_of verdict.Pass = Ok reply.Known
 definition_of (verdict.Adopt p c) = Ok (reply.Adopted p c)

@@ -17,7 +17,7 @@ is_marked marks t = unwrap_or (with_number marks t) false
 abbrev pub waiting : (ℕ → ℕ → Bool) → ℕ → ℕ → List Bool
 waiting waits n u = map (λ t. waits t u) (range_with_len 1 n)
 
--- the same for each of the first n seats
+-- for each of the first n seats, those that wait for it
 abbrev pub all_waiting : (ℕ → ℕ → Bool) → ℕ → List (List Bool)
 all_waiting waits n = map (waiting waits n) (range_with_len 1 n)
 

@@ -21,8 +21,8 @@ use wit_model::{Adoption, Fault, Origin, Site, TypeNo};
 #[derive(Drop)]
 pub struct Orders {
     adopted: Vec<Adoption>,
-    /// The same, as a relation of each type to each, and the pairs: it answers every question but
-    /// one.
+    /// The adopted orders as a relation of each type to each, and the pairs: it answers every
+    /// question but one.
     matrix: Matrix,
     /// The place of each pair's order among them.
     places: IndexMap<(TypeNo, TypeNo), usize>,
@@ -59,7 +59,7 @@ impl Orders {
         })
     }
 
-    /// The same pairs as a matrix, and the same orders, which it may have in another order.
+    /// The matrix: it has these pairs, and these orders, though maybe in another sequence.
     pub fn matrix(&self) -> &Matrix
         ensures orders { HasSameOrders result.now.orders self.now.orders }
         ensures found { result.now.found ≡ self.now.found }

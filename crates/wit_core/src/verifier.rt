@@ -101,9 +101,9 @@ impl Verifier {
         Verifier::start(alloc, Profile::Plain, limits, lists, blessed)
     }
 
-    /// The same, of the profile in which a request is compared with all locks of its kind that its
-    /// seat holds, and not with the last one alone: what `new` says of its arguments, its errors
-    /// and what it makes holds here too. It is for programs that try locks.
+    /// A verifier that compares a request with all locks of its kind that its seat holds, and not
+    /// with the last one alone: what `new` says of its arguments, its errors and what it makes
+    /// holds here too. It is for programs that try locks.
     ///
     /// # Errors
     /// Those of `new`.

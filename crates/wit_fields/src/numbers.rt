@@ -137,7 +137,7 @@ fn last_digit(bytes: &[u8]) -> Option<u32>
     }
 }
 
-// The same of a word before others.
+// The number that a word before others is, where it has a single digit.
 #[inline(always)]
 fn inner_digit(bytes: &[u8]) -> Option<u32>
     ensures { IfSome result (λ n. (n ≤ 9)
@@ -171,7 +171,7 @@ fn inner_two(bytes: &[u8]) -> Option<(u32, u32)>
     }
 }
 
-// The same of the last word.
+// The two digits of the last word, the first no zero.
 #[inline(always)]
 fn last_two(bytes: &[u8]) -> Option<(u32, u32)>
     ensures { IfSome result (λ d. (1 ≤ d.0) × (d.0 ≤ 9) × (d.1 ≤ 9)
@@ -205,7 +205,7 @@ fn inner_three(bytes: &[u8]) -> Option<(u32, u32, u32)>
     }
 }
 
-// The same of the last word.
+// The three digits of the last word, the first no zero.
 #[inline(always)]
 fn last_three(bytes: &[u8]) -> Option<(u32, u32, u32)>
     ensures { IfSome result (λ d. (1 ≤ d.0) × (d.0 ≤ 9) × (d.1 ≤ 9) × (d.2 ≤ 9)

@@ -132,7 +132,7 @@ fn is_inner_x(bytes: &[u8]) -> bool
     matches!(bytes, [b' ', b'x', b' ', ..])
 }
 
-// The same of either.
+// A mode, whichever it is and wherever its word ends.
 #[tactic(auto, unfolding(wit_model::specs::Trace::Reading::mode_named))]
 fn any_mode(bytes: &[u8]) -> Result<(Mode, &[u8]), LineError>
     ensures { Gives (λ x. (x.0, x.1.now)) result (field_at mode_named bytes.now) }

@@ -38,7 +38,7 @@ pub fn begin_line(bytes: &[u8]) -> Option<Begun<'_>>
     begin_any(bytes)
 }
 
-/// The bytes behind the word `lock` of a line that begins with it.
+/// The bytes after the word `lock` of a line that begins with it.
 #[inline(always)]
 pub fn behind_lock(bytes: &[u8]) -> Option<&[u8]>
     ensures { IfSome result (λ rest. Begins (Some (Plain Note, rest)) (line_of bytes.now)) }
@@ -49,7 +49,7 @@ pub fn behind_lock(bytes: &[u8]) -> Option<&[u8]>
     Some(&bytes[4..])
 }
 
-/// The same of `unlock`.
+/// The bytes after the word `unlock` of a line that begins with it.
 #[inline(always)]
 pub fn behind_unlock(bytes: &[u8]) -> Option<&[u8]>
     ensures { IfSome result (λ rest. Begins (Some (Unlock, rest)) (line_of bytes.now)) }
@@ -60,7 +60,7 @@ pub fn behind_unlock(bytes: &[u8]) -> Option<&[u8]>
     Some(&bytes[6..])
 }
 
-/// The same of `check`.
+/// The bytes after the word `check` of a line that begins with it.
 #[inline(always)]
 pub fn behind_check(bytes: &[u8]) -> Option<&[u8]>
     ensures { IfSome result (λ rest. Begins (Some (Check, rest)) (line_of bytes.now)) }
@@ -71,7 +71,7 @@ pub fn behind_check(bytes: &[u8]) -> Option<&[u8]>
     Some(&bytes[5..])
 }
 
-/// The same of `take`.
+/// The bytes after the word `take` of a line that begins with it.
 #[inline(always)]
 pub fn behind_take(bytes: &[u8]) -> Option<&[u8]>
     ensures { IfSome result (λ rest. Begins (Some (Take, rest)) (line_of bytes.now)) }
@@ -82,7 +82,7 @@ pub fn behind_take(bytes: &[u8]) -> Option<&[u8]>
     Some(&bytes[4..])
 }
 
-/// The same of `free`.
+/// The bytes after the word `free` of a line that begins with it.
 #[inline(always)]
 pub fn behind_free(bytes: &[u8]) -> Option<&[u8]>
     ensures { IfSome result (λ rest. Begins (Some (Free, rest)) (line_of bytes.now)) }
@@ -128,7 +128,7 @@ fn is_free(bytes: &[u8]) -> bool
     matches!(bytes, [b'f', b'r', b'e', b'e', b' ', ..])
 }
 
-// The same of any line.
+// The keyword of any line, and the bytes after it.
 #[tactic(auto, unfolding(wit_model::specs::Trace::Reading::line_of))]
 fn begin_any(bytes: &[u8]) -> Option<Begun<'_>>
     ensures { Begins result (line_of bytes.now) }
@@ -157,7 +157,8 @@ pub fn lock_line<'a>(known: Option<&str>, begun: Option<Begun<'a>>) -> Option<Lo
     }
 }
 
-// The same of the rarer keywords; by itself, so that the others don't pay for its locals.
+// The line on a lock that begins with a rarer keyword. By itself, so that the others don't pay for
+// its locals.
 #[inline(never)]
 fn other_lock_line<'a>(
     known: Option<&str>,

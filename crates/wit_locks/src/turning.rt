@@ -56,7 +56,7 @@ impl<J: Room, G: Gate, K: Kind> Lock<J, G, K> {
         }
     }
 
-    // The same of a shared token.
+    // Upgrades a shared token: the gate is asked first, and only then the verifier.
     fn upgrade_share<R: Wait>(
         &self,
         rt: &R,

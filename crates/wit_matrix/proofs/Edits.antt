@@ -271,7 +271,7 @@ blank n direct found d f =
     let pairs : found_in n found ≡ [] = blank_found n found f in
     rw (orders, pairs) refl
 
--- the same of squares that are equal
+-- squares that are equal are kept alike
 pub kept_as : (n : ℕ) (d b a found direct before after : List ℕ) → direct ≡ d → before ≡ b
     → after ≡ a → IsKept n d b a found → IsKept n direct before after found
 kept_as n d b a found direct before after direct_is before_is after_is kept =

@@ -227,7 +227,7 @@ IsLineOf (Logs t (Unlock lock mode)) bytes =
     bytes ≡ spelling (OnLock (lock_line.Unlock (record { 0 = t }) lock mode))
 IsLineOf call bytes = Unit {0}
 
--- the same by the step
+-- the bytes are the line of a call beside which this step is done; of others nothing is said
 abbrev pub IsLineBeside : SeatNo → LockNo → RawStep → List ℕ → Type 0
 IsLineBeside seat lock raw_step.Take bytes =
     bytes ≡ spelling (OnLock (lock_line.Plain verb.Note seat lock))

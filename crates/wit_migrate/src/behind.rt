@@ -95,7 +95,7 @@ impl Behind {
         self.make_call(alloc, room, lock_call(line, file), bytes)
     }
 
-    /// The same of a line of any kind.
+    /// A line of any kind makes its call, and is written with the step that goes with it.
     ///
     /// # Errors
     /// Those of `enter_on_lock`; and `Bad` where the line makes no call.

@@ -42,7 +42,7 @@ tells_among n (Check q) = is_number n q.site.file.0
 tells_among n (NoteTry l mode site) = is_number n site.file.0
 tells_among n _ = true
 
--- the same of all calls of a history
+-- whether all calls of a history tell of the first n files alone
 abbrev pub all_tell_among : ℕ → List Entry → Bool
 all_tell_among n h = list_all (λ (e : Entry). tells_among n e.call) h
 

@@ -34,7 +34,7 @@ impl<T> Boxed<T> {
         })
     }
 
-    /// The same value once more, where it lies.
+    /// A second box of the value, which stays where it lies.
     ///
     /// # Errors
     /// Want of memory alone, where nothing more can be counted: no heap is asked.

@@ -34,7 +34,7 @@ impl NewLock {
         }
     }
 
-    /// The same once more.
+    /// A second lock with these names, class and flags.
     ///
     /// # Errors
     /// Want of memory alone.
@@ -198,7 +198,7 @@ pub enum Reply {
 }
 
 impl Reply {
-    /// The same once more; what a report is about isn't copied.
+    /// A second reply equal to this one. What a report is about isn't copied.
     ///
     /// # Errors
     /// Want of memory alone.

@@ -65,7 +65,7 @@ impl Name {
         self.text.as_str()
     }
 
-    /// The same name once more.
+    /// A second name with the text of this one.
     ///
     /// # Errors
     /// Want of memory alone.

@@ -10,7 +10,7 @@ use wit_core::Verifier;
 use wit_model::FileNo;
 use wit_seats::{Keeper, Room, Seat, Step};
 
-// The same for each step that left this verifier.
+// Follows any step that left this verifier.
 fn follow_as<J: Room, E: Step>(keeper: &mut Keeper<J>, verifier: &Verifier, seat: &mut Seat<J>)
     requires after { E.after ≡ verifier.now }
     requires start { verifier.now.start ≡ J.start }
@@ -36,7 +36,7 @@ pub(crate) fn follow<J: Room>(keeper: &mut Keeper<J>, verifier: &Verifier, seat:
     follow_as::<J, Brand>(keeper, verifier, seat);
 }
 
-// The same for a step that gave this file.
+// Follows any step that left this verifier and gave its seat this file.
 fn follow_file_as<J: Room, E: Step>(
     keeper: &mut Keeper<J>,
     verifier: &Verifier,
@@ -75,7 +75,7 @@ pub(crate) fn follow_file<J: Room>(
     follow_file_as::<J, Brand>(keeper, verifier, seat, file, name.as_bytes());
 }
 
-// The same for each step that left this verifier.
+// Follows any step that left this verifier and made no entry.
 fn look_as<J: Room, E: Step>(keeper: &mut Keeper<J>, verifier: &Verifier)
     requires after { E.after ≡ verifier.now }
     requires none { E.given ≡ [] }

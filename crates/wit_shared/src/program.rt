@@ -42,7 +42,7 @@ pub trait Program<R> {
         ensures { done self result };
 }
 
-// The same under a name.
+// Runs a program with a verifier that this type names.
 fn run_as<J: Room + Send + Sync, R: Wait, S: Program<R>>(
     rt: &R,
     opened: Opened,

@@ -123,9 +123,10 @@ pub fn at_long<M: Machine>(
     Boxed::new(alloc, summary)
 }
 
-/// Whether the next look may have to wait, where these bytes were shown behind a line. Where it
-/// might have had to before, nothing is kept that is to be written; if the line tells nothing
-/// either, the answer serves nobody, and nothing is looked for.
+/// Whether the next look may have to wait for the reader, where these bytes are shown after a line.
+/// It need not where they have the end of a line, or more bytes than a line may have. If the look
+/// before might have had to wait, nothing is kept that is to be written. If the line tells nothing
+/// either, the answer serves nobody: then it is yes, and nothing is looked for.
 pub fn may_wait(waited: bool, step: &Step, text: &[u8], shown: &[u8]) -> bool
     ensures { result ≡ false → HasNoFeed shown.now → LONGEST < length shown.now }
 {

@@ -77,7 +77,7 @@ pub trait Ports<R: BufRead, W: Write> {
         ensures failed { OnErr result (IsTrue (write_failed self.new)) }
         ensures only_write { OnErr result (result ≡ Err ReplayError.Write) };
 
-    /// Whether the next look may have to wait, since the last one showed no whole line behind the
+    /// Whether the next look may have to wait, since the last one showed no whole line after the
     /// one that it took. What is told is to be written before it then.
     fn may_wait(&self) -> bool
         ensures { result ≡ waits self.now };

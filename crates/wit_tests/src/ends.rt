@@ -250,7 +250,8 @@ fn unlogged_reports(rt: HostRuntime) -> Result<(), Fail> {
     Ok(())
 }
 
-/// Run with each allocation refused in turn, it still ends, and what was written is a beginning.
+/// With ample memory the whole report is written. Where the machine refuses some, what was written
+/// is a beginning of it.
 #[test]
 fn refused_memory(rt: HostRuntime) -> Result<(), Fail> {
     let alloc = rt.alloc();

@@ -45,7 +45,7 @@ call_refused s new t c fault (Err (Bad cause)) answers refuses = λ n. go n answ
         )
     go n (inr none) = absurd (refuses.1 none.0)
 
--- the same of a line that tells of it
+-- a call that is refused goes as is due, where its line tells of the fault
 pub refused_passes : (s new : Story) (t n : ℕ) (c : Call) (fault : Fault)
     (r : Result (Vec ℕ) LineError) → AnswersOrFails s t c (Err fault) new
     → IsErrAnd r (RefusesLine fault)

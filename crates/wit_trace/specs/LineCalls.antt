@@ -22,7 +22,7 @@ abbrev pub file_named : model.LineCall → Option (List ℕ)
 file_named (model.LogsAt t file call) = Some file
 file_named _ = None
 
--- the same where that file has this number
+-- what a line makes, once the file that it names has this number
 abbrev pub at_number : model.LineCall → ℕ → model.LineCall
 at_number (model.LogsAt t file call) f = model.Logs t (call f)
 at_number call f = call

@@ -127,7 +127,7 @@ pub(crate) enum Progress {
         /// Failed assertions and warnings: no log holds them.
         remarks: u64,
     },
-    /// The same in the second version.
+    /// The prelude of a trace of the second version is over.
     Stepping {
         world: World,
         remarks: u64,

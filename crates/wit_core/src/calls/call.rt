@@ -28,7 +28,7 @@ impl Verifier {
         }
     }
 
-    // The same of all calls.
+    // Makes a call of any kind.
     #[inline(never)]
     fn any_call(&mut self, seat: SeatNo, call: Call) -> Result<Reply, Fault>
         ensures answer { AnswersOrFails self.old seat.0 call result self.new }

@@ -70,7 +70,7 @@ impl Verifier {
         self.ask(seat, request)
     }
 
-    // The same for a request as a value. By itself, so that no other call pays for its locals.
+    // Checks a request as a value. By itself, so that no other call pays for its locals.
     #[inline(never)]
     pub(crate) fn ask(&mut self, seat: SeatNo, request: Request) -> Result<Reply, Fault>
         ensures answer { AnswersOrFails self.old seat.0 (Check request) result self.new }
@@ -239,9 +239,9 @@ impl Verifier {
         reply
     }
 
-    // The kind of a lock that its seat doesn't hold, as a request that passes tells; `None` where
-    // it doesn't tell that. Nor is it asked where seats hold few locks: a look through them then
-    // takes no longer.
+    // A request that passes may show that its seat doesn't hold the lock: then this is the lock's
+    // kind, and else `None`. It is `None` too where seats hold few locks, since a look through them
+    // takes no longer then.
     fn new_in(&self, request: Request) -> Option<bool>
         ensures { IfSome result (λ spin. (tells_new (state_of self.now) request ≡ true) × (spin
             ≡ is_spin (lock_at (state_of self.now).known.locks request.lock.0).made.class)) }

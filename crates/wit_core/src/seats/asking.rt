@@ -18,7 +18,7 @@ impl Seats {
         self.requests[seat.0 as usize - 1] = Some(request);
     }
 
-    /// The same. Where the seat holds no such lock of this kind, that is kept.
+    /// A seat asks for a lock. Where it is known to hold no such lock of this kind, that is kept.
     pub fn ask_for(&mut self, seat: SeatNo, request: Request, new_in: Option<bool>)
         requires seat { IsGiven self.old.seats seat.0 }
         requires new { IfSome new_in (λ spin.

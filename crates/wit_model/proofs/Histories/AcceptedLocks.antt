@@ -1,4 +1,4 @@
--- The same of a call that makes or destroys a lock, or sets the watch.
+-- What the acceptance says of a call that makes or destroys a lock, or sets the watch.
 use Rattle.std.proofs.Common.{◌≡◌, ℕ, ◌+◌, true, false, not, ◌&&◌, nat_le, length, Ok, sym}
 use Rattle.wit_model.specs.declared.locks.Watch.{Watch}
 use Rattle.wit_model.specs.declared.calls.NewLock.{NewLock}

@@ -90,7 +90,7 @@ learnt profile g watch sleep spin q a b ok =
       child = (let e : b ≡ q.type_no = (let same = l.reply in cc) in sym e);
     }
 
--- the same of orders behind all held locks
+-- the orders that are learnt from all held locks
 pub record IsLearntAll (g : Basis) (q : TypedRequest) (c : List Instance)
     (ps : List (TypeNo × TypeNo)) : Type 0 where
   pub apart : AreApart g q c

@@ -91,7 +91,7 @@ pub record Forgoes (g : Basis) (q : TypedRequest) (c : List Instance) : Type 0 w
   pub orderly : find (violates g q) (reverse c) ≡ None
   pub barred : is_learnt g q last ≡ false
 
--- the same, of all held locks
+-- no order is violated, and of all held locks none is to be learnt
 pub record ForgoesAll (g : Basis) (q : TypedRequest) (c : List Instance) : Type 0 where
   pub apart : AreApart g q c
   pub orderly : find (violates g q) (reverse c) ≡ None

@@ -30,7 +30,7 @@ defining types orders a b =
     else if is_direct orders a.0 b.0 then Ok reply.Known
     else Ok (reply.Adopted a b)
 
--- the same for two locks
+-- the answer for the types of two locks
 abbrev pub define : Known → ℕ → ℕ → Result Reply Fault
 define k a b = defining k.types k.orders (lock_at k.locks a).type_no (lock_at k.locks b).type_no
 

@@ -181,8 +181,8 @@ abbrev pub IsEntered : Result Reply Fault → Type 0
 IsEntered (Ok reply) = is_logged reply ≡ true
 IsEntered (Err fault) = ⊥
 
--- the same, where a growth may be refused in place of an acceptance that is logged: then too
--- nothing changes
+-- the answer to a call that takes memory: a growth may be refused in place of an acceptance that
+-- is logged, and then too nothing changes
 abbrev pub AnswersOrFails : Story → ℕ → Call → Result Reply Fault → Story → Type 0
 AnswersOrFails old t call (Ok reply) new =
     (answer_of old t call ≡ Ok reply) × (new ≡ grown old t call reply)

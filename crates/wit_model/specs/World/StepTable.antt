@@ -37,7 +37,7 @@ standing_at w at = record {
 abbrev unheld : Stage → Scene
 unheld at = standing_at lock_made at
 
--- the same where it holds the lock by the record
+-- a thread that holds the lock by the record
 abbrev holding : Stage → Scene
 holding at =
     standing_at (by 1 (Note first) Recorded ∷ by 1 (Check (request 1 1)) Pass ∷ lock_made) at

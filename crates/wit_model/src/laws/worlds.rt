@@ -39,8 +39,9 @@ pub fn law_no_circle()
     ensures { CleanRunsNeverDeadlock Plain }
 {}
 
-/// The same where requests are compared with all held locks, though locks are acquired by a try:
-/// the orders behind such a lock are learnt as those behind any other, whatever is held beside it.
+/// No reordering of a clean run reaches a circle where requests are compared with all held locks,
+/// though locks are acquired by a try: the orders after such a lock are learnt as those after any
+/// other, whatever is held beside it.
 pub fn law_no_circle_all_held()
     ensures { CleanRunsNeverDeadlock AllHeld }
 {}

@@ -39,7 +39,7 @@ pub fn file_of(line: &Line) -> Option<&str>
     }
 }
 
-/// The same of a line on a lock.
+/// The file that a line on a lock names, if it names one.
 #[inline(always)]
 pub fn file_on_lock<'a>(line: &LockLine<&'a str>) -> Option<&'a str>
     ensures { option_copied result ≡ file_named (call_of (as_line line.now)) }
@@ -81,7 +81,7 @@ pub fn call_of(alloc: Global, line: Line, file: FileNo) -> Result<LineCall, Allo
     }
 }
 
-/// The same of a line on a lock.
+/// What a line on a lock has a verifier do, where the file that it names has this number.
 #[inline(always)]
 pub fn lock_call(line: LockLine<&str>, file: FileNo) -> LineCall
     ensures { as_call result ≡ at_number (call_of (as_line line.entry)) file.0 }

@@ -64,7 +64,8 @@ fn last_circle(alloc: Global, verifier: &Verifier) -> Result<(Vec<u8>, bool), Fa
     Ok((text.into_bytes(), circle.is_some()))
 }
 
-/// The same of a world: a circle is one of seats that wait for one another's shares.
+/// What is shown of a world after the whole trace, and whether that is a circle: one of seats that
+/// wait for one another's shares.
 ///
 /// # Errors
 /// `OutOfMemory` alone.

@@ -37,7 +37,7 @@ pub fn enter_world_line(
     make_call_in(alloc, world, remarks, call)
 }
 
-/// The same of a line on a lock.
+/// A line on a lock makes its call, or its step, and tells of it.
 ///
 /// # Errors
 /// As those of `enter_world_line`.

@@ -1,0 +1,53 @@
+# Tests that the condensed stream tells of what the program asks for: read by `run`, whose functions it uses. Laws carry
+# what is promised of a clean recording to the run: see docs/PROOFS.md. What they rest on is that the run asks for nothing
+# but what its recording tells of, and that is what is tested here, of both streams of one run.
+
+# tells_all WORDS..: of each process of the program both streams tell of the same pairs of types, and there are some.
+tells_all() {
+    rm -rf records && mkdir records
+    env RECORDER_DIRECTORY="$work/records" RECORDER_STREAMS=both RECORDER_FRAMES=1 LD_PRELOAD="$object" \
+        timeout -s KILL 3 "$@" >/dev/null 2>&1
+    any=
+    for full in records/*.full; do
+        [ -n "$(head -c 1 "$full" | tr -d '\000')" ] || continue
+        "$recorder/resolve" "$full" 2>/dev/null | awk -f "$here/pairs.awk" | sort -u >full.pairs
+        "$recorder/resolve" "${full%.full}" 2>/dev/null | awk -f "$here/pairs.awk" | sort -u >condensed.pairs
+        [ ! -s full.pairs ] || any=yes
+        diff condensed.pairs full.pairs || return 1
+    done
+    [ -n "$any" ]
+}
+
+if wanted tells; then
+    "$record" -- true 2>/dev/null
+    object=$recorder/out/recorder.so
+    for line in anew between c11 cancel condition contend crew cycle deadlock "dropped 2" "ending 0" forking forks futex guards \
+        handover helper inlined "jump 0" kinds late madeup condhang long named odd "pairs 4 2 1000" philosophers recursive \
+        reused reversal rwlock signals started threads tryfirst trysecond trythen varying varyings with; do
+        [ -f "$here/${line%% *}.c" ] || [ -f "$here/${line%% *}.cc" ] || continue
+        compile ${line%% *}
+        tells_all ./$line
+        tell tells "$line" $?
+    done
+    compile random -O1
+    missing=
+    seed=1
+    while [ $seed -le 50 ]; do
+        for kind in clean mixed; do
+            tells_all ./random $seed $kind || missing="$missing $kind $seed"
+        done
+        seed=$((seed + 1))
+    done
+    [ -z "$missing" ]
+    tell tells "a hundred random runs${missing:+: not$missing}" $?
+    # One that doesn't write a request behind just two held locks.
+    copy_recorder omitting
+    sed 's/if (nested && (request->patient || !node_is_requested(request->node))) {/if (nested \&\& thread->count != 2 \&\& (request->patient || !node_is_requested(request->node))) {/' \
+        "$recorder/write.c" >omitting/write.c
+    ! cmp -s "$recorder/write.c" omitting/write.c && omitting/record -- true 2>/dev/null
+    planted=$?
+    object=$work/omitting/out/recorder.so
+    [ $planted -eq 0 ] && tells_all ./pairs 4 2 1000 >/dev/null && ! tells_all ./random 1 clean >/dev/null
+    tell tells "a recorder that leaves a request out is caught" $?
+    object=$recorder/out/recorder.so
+fi
