@@ -72,7 +72,7 @@ static char *slot_of(pid_t process)
     return NULL;
 }
 
-/* A word and a name behind it, in as many bytes as a name has. */
+/* A word, and after it a name, in as many bytes as a name has. */
 static void write_name(char *to, const char *word, const char *name)
 {
     char text[NAME_BYTES] = "";
