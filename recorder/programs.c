@@ -30,7 +30,7 @@ static int comes_back(int answer)
     return answer;
 }
 
-/* `words` becomes the words of the call: FIRST and what stands behind it up to NULL. */
+/* `words` becomes the words of the call: FIRST, and those after it up to NULL. */
 #define WORDS(first)                                                                                       \
     va_list list;                                                                                          \
     size_t count = 1;                                                                                      \

@@ -2,9 +2,10 @@
 #   missed PROCESS NAME missed COUNTS..  what failed in a process
 #   loaded PROCESS                       it has the recorder
 #   bare TIMES PROCESS NAME              so many programs of that name were started and haven't loaded it, one as that process
-#   object NAME                          it was loaded, or opened by that name
+#   object NAME                          it was loaded, or opened by that name; ? where there were too many
+#   full                                 there were too many processes
 # Variables: first and program, the number and the name of the process that has to be among them, where there is one.
-/^object / { print; next }
+/^object / || /^full$/ { print; next }
 !/^P[0-9][0-9][0-9][0-9][0-9][0-9][0-9] / { next }
 {
     process = substr($1, 2) + 0

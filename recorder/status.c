@@ -22,8 +22,10 @@ enum { STATUS_BYTES = 1 << 20, SLOT_BYTES = 256, SLOTS = 3072, DIGITS = 10 };
  * found and taken at once.
  */
 enum { NAME_AT = 8, STARTED_AT = 56, LOADED_AT = 104, COUNTS_AT = 116, NAME_BYTES = STARTED_AT - NAME_AT };
-/* The names of objects, and before them their hashes. */
+/* The names of objects, and before them their hashes. Last stands what says that slots, or names, were too many. */
 enum { HASHES_AT = SLOTS * SLOT_BYTES, HASHES = 1 << 13, OBJECTS_AT = HASHES_AT + HASHES * 8 };
+enum { FULL_AT = STATUS_BYTES - 32, FULL_OBJECTS_AT = STATUS_BYTES - 16 };
+static const char full[] = "\nfull\n", full_objects[] = "\nobject ?\n";
 
 static const char *const failure_names[FAILURES] = {"open", "room", "limit", "files", "jumped", "forked", "bare"};
 static const char loaded[] = " loaded 1", not_loaded[] = " loaded 0";
@@ -65,10 +67,12 @@ static char *slot_of(pid_t process)
             return slot;
         }
     }
+    if (status)
+        memcpy(status + FULL_AT, full, sizeof full - 1);
     return NULL;
 }
 
-/* A word and a name behind it, in as many bytes as a name has. */
+/* A word, and after it a name, in as many bytes as a name has. */
 static void write_name(char *to, const char *word, const char *name)
 {
     char text[NAME_BYTES] = "";
@@ -167,32 +171,46 @@ void status_started(pid_t process, const char *program)
         write_name(slot + STARTED_AT, " started ", base_of(program));
 }
 
-/* Notes an object that is loaded, where no process has noted it. Under the mutex. */
+static uint64_t hash_of(const char *text)
+{
+    uint64_t hash = 0xcbf29ce484222325u;
+    for (; *text; text++)
+        hash = (hash ^ (unsigned char)*text) * 0x100000001b3u;
+    return hash | 1;
+}
+
+/* Whether no process has noted the object. With too many of them, none is new. */
+static bool is_new(const char *path)
+{
+    uint64_t hash = hash_of(path), *hashes = (void *)(status + HASHES_AT);
+    for (uint32_t i = 0; i < HASHES; i++) {
+        uint64_t found = 0;
+        if (__atomic_compare_exchange_n(&hashes[(hash + i) % HASHES], &found, hash, false, __ATOMIC_SEQ_CST,
+                __ATOMIC_SEQ_CST))
+            return true;
+        if (found == hash)
+            return false;
+    }
+    memcpy(status + FULL_OBJECTS_AT, full_objects, sizeof full_objects - 1);
+    return false;
+}
+
+/* Notes an object that is loaded, once. Under the mutex. */
 void status_object(const char *path)
 {
     static const char word[] = "\nobject ";
-    uint64_t hash = 0xcbf29ce484222325u;
-    size_t length = strlen(path), room = STATUS_BYTES - OBJECTS_AT;
-    for (const char *at = path; *at; at++)
-        hash = (hash ^ (unsigned char)*at) * 0x100000001b3u;
-    hash |= 1;
-    uint64_t *hashes = status ? (void *)(status + HASHES_AT) : NULL;
-    for (uint32_t i = 0; hashes && i < HASHES; i++) {
-        uint64_t found = 0;
-        if (__atomic_compare_exchange_n(&hashes[(hash + i) % HASHES], &found, hash, false, __ATOMIC_SEQ_CST,
-                __ATOMIC_SEQ_CST)) {
-            uint64_t *used = (void *)(status + OBJECTS_AT);
-            size_t whole = sizeof word + length, at = __atomic_fetch_add(used, whole, __ATOMIC_SEQ_CST) + sizeof *used;
-            if (at + whole > room)
-                return;
-            memcpy(status + OBJECTS_AT + at, word, sizeof word - 1);
-            memcpy(status + OBJECTS_AT + at + sizeof word - 1, path, length);
-            status[OBJECTS_AT + at + whole - 1] = '\n';
-            return;
-        }
-        if (found == hash)
-            return;
+    if (!status || !is_new(path))
+        return;
+    uint64_t *used = (void *)(status + OBJECTS_AT);
+    size_t length = strlen(path), head = sizeof word - 1, whole = head + length + 1;
+    size_t at = OBJECTS_AT + sizeof *used + __atomic_fetch_add(used, whole, __ATOMIC_SEQ_CST);
+    if (at + whole > FULL_AT) {
+        memcpy(status + FULL_OBJECTS_AT, full_objects, sizeof full_objects - 1);
+        return;
     }
+    memcpy(status + at, word, head);
+    memcpy(status + at + head, path, length);
+    status[at + whole - 1] = '\n';
 }
 
 /* Adds one to a number in decimal digits. */

@@ -17,6 +17,8 @@ BEGIN {
     add("locks of folly", "^libfolly\\.so", "5folly6detail13futexWaitImpl|5folly15SharedMutexImpl")
     add("QMutex", "^libQt[0-9]Core[a-z]*\\.so", "6QMutex4lockEv|11QBasicMutex12lockInternalEv")
     add("GMutex", "^libglib-2\\.0\\.so", "g_mutex_lock_slowpath")
+    known[++kinds] = "more objects than there is room for"
+    file_of[kinds] = "^\\?$"
     if (mode == "patterns")
         for (i = 1; i <= patterns; i++)
             print pattern[i]

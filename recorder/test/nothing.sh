@@ -56,6 +56,24 @@ if wanted begun; then
     else
         echo "left out  begun: no program can be made to run as another user here"
     fi
+    cat >many.c <<'END'
+#include <sys/wait.h>
+#include <unistd.h>
+int main(void)
+{
+    for (int i = 0; i < 3100; i++) {
+        if (vfork() == 0) {
+            execl("./none", "none", NULL);
+            _exit(0);
+        }
+        wait(NULL);
+    }
+    return 0;
+}
+END
+    "${CC:-cc}" -o many many.c && recorded_by "$record" -- ./many
+    said 0 '^record: there were more than 3,072 processes: ' && last_is 'record: nothing in what was recorded'
+    tell begun "more processes than there is room for" $?
     # The program itself is one that nothing is known of, its child is another.
     printf '#include <stdlib.h>\nint main(void) { return system("./begun execl"); }\n' >outer.c
     "${CC:-cc}" -static -o outer outer.c && recorded_by "$record" -- ./outer
@@ -287,6 +305,20 @@ END
     recorded_by "$record" --error-exitcode 9 -- ./opens libone.so
     said 9 'not seen: locks of Go'
     tell unseen "a status where nothing was recorded and not all seen" $?
+    cat >many.c <<'END'
+#include <dlfcn.h>
+#include <stdio.h>
+int main(void)
+{
+    char name[128];
+    for (int i = 0; i < 3000; i++) {
+        snprintf(name, sizeof name, "./none-%090d", i);
+        dlopen(name, RTLD_NOW);
+    }
+    return 0;
+}
+END
+    "${CC:-cc}" -o many many.c && not_seen "more objects than there is room for" ./many
     compile reversal -Wl,--no-as-needed "$work/standing/libruby-3.1.so.3.1"
     recorded_by "$record" -- ./reversal
     diff "$here/reversal.want" recorded.err
