@@ -136,7 +136,7 @@ struct held {
     uint32_t place;
     uint32_t node;    /* of the chain up to this lock; 0 where it wasn't looked for */
     uint32_t count;   /* acquisitions not yet released */
-    uint8_t mode : 7, tried : 1;
+    uint8_t mode : 6, tried : 1, after_try : 1; /* after_try: an order between what is held up to it may not be known */
     uint8_t written;  /* a bit for each stream */
     uint16_t stack;   /* of the acquisition; 0 where it has none */
     uint32_t number[STREAMS];
@@ -279,9 +279,9 @@ bool request_begins(struct request *request, const void *address, enum class cla
 void request_ends(struct request *request, bool got);
 void request_waits(struct request *request);
 void release_begins(const void *address, struct caller caller);
-bool wait_begins(struct request *request, const void *address, struct caller caller);
+bool wait_begins(struct request *request, const void *address, bool asks_again, struct caller caller);
 void wait_ends(struct request *request, int answer);
-void node_set_requested(uint32_t node);
+void node_set_requested(uint32_t node, bool whole); /* whole: the stream has all of the chain */
 uint32_t node_made(uint32_t parent, uint32_t type);
 void chains_forked(void);
 
@@ -400,6 +400,7 @@ void threads_forked(void);
 bool seat_taken(int stream, struct thread *thread);
 void seat_given_back(int stream, struct thread *thread);
 uint32_t lock_number(int stream, struct thread *thread, struct lock *lock);
+bool type_fits(int stream, struct type *type);
 void number_stands(int stream, uint32_t number);
 void number_stands_no_more(int stream, uint32_t number);
 uint32_t place_number(int stream, uint32_t place);

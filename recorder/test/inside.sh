@@ -96,3 +96,20 @@ if wanted jump; then
         done
     done
 fi
+
+# The duty of the condensed stream: each request behind held locks is written, or one like it was.
+if wanted duty; then
+    compile condhang
+    for stream in "" --full; do
+        "$record" $stream -- timeout -s KILL 2 ./condhang 2>&1 | diff "$here/condhang.want" -
+        tell duty "a wait for a condition whose mutex never comes back $stream" $?
+    done
+    compile madeup
+    "$record" -o kept -- ./madeup 2>/dev/null
+    [ "$(grep -c '^check' kept)" -eq 6 ] && ! grep '^try' kept
+    tell duty "no try that wasn't" $?
+    compile unnumbered
+    echo '"shelves"' >list
+    "$record" --ignore list -- ./unnumbered 2>&1 | grep -v 'not recorded: 5 locks' | diff "$here/unnumbered.want" -
+    tell duty "a chain with a lock that has no number" $?
+fi
