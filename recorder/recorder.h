@@ -71,7 +71,7 @@ struct caller {
 
 /* A return address that was met. */
 struct place {
-    _Atomic uintptr_t pc; /* or the one below */
+    _Atomic uintptr_t pc; /* or PC_CLOSED; of a place that stands for two (places.c) no address */
     uintptr_t closed;  /* the address, while its object is closed */
     int32_t step;      /* from the caller's stack pointer to that of its own caller; or one of the three below */
     uint16_t object;   /* the number of the object, 0 where there is none */
@@ -79,6 +79,7 @@ struct place {
     uint64_t offset;   /* the address as the object's file counts it */
     const char *name;  /* of the function, or empty */
     uint64_t within;   /* the address as the function counts it */
+    uint32_t library, rest; /* the two places that it stands for; 0 of most places */
     struct marks marks;
     struct marks releases; /* set where a release by another thread than the holder was written */
 };
@@ -86,10 +87,11 @@ struct place {
 enum { STEP_LAST = 0, STEP_VARIES = -1, STEP_FRAME = -2 };
 #define PC_CLOSED ((uintptr_t)1)
 /*
- * DETOUR_WRAPPER: the function's only work is to lock. Else so many acquisitions more are to have their stacks:
+ * DETOUR_WRAPPER: the function's only work is to lock. DETOUR_LIBRARY: it is of the C++ library, and may have a function
+ * of the program in it. Else so many acquisitions more are to have their stacks:
  * DETOUR_STACKS from when the place is met, or one of them was new (stacks.c).
  */
-enum { DETOUR_STACKS = 16, DETOUR_WRAPPER = 255 };
+enum { DETOUR_NONE = 0, DETOUR_STACKS = 16, DETOUR_LIBRARY = 254, DETOUR_WRAPPER = 255 };
 
 struct type {
     uint32_t number;
@@ -349,9 +351,10 @@ static inline uint8_t detour_at(uint32_t number)
     return atomic_load_explicit(&place_at(number)->detour, memory_order_relaxed);
 }
 
+/* Whether its callers are wanted, instead of it or with it. */
 static inline bool is_wrapper_at(uint32_t number)
 {
-    return detour_at(number) == DETOUR_WRAPPER;
+    return detour_at(number) >= DETOUR_LIBRARY;
 }
 
 uint32_t first_caller(struct caller caller);

@@ -427,10 +427,28 @@ static void write_object(int stream, uint32_t object)
     stream_append(stream, false);
 }
 
+/* `either NUMBER PLACE PLACE`: the first one is in the library, and the second one counts where it says nothing. */
+static void write_either(int stream, uint32_t place)
+{
+    const struct place *written = place_at(place);
+    place_number(stream, written->library);
+    place_number(stream, written->rest);
+    put_text(stream, "either");
+    put_number(stream, place);
+    put_number(stream, written->library);
+    put_number(stream, written->rest);
+    put_text(stream, "\n");
+    stream_append(stream, false);
+}
+
 /* `place NUMBER OBJECT OFFSET FUNCTION OFFSET-IN-FUNCTION`: of the call's last byte, not of the return address. */
 void write_place(int stream, uint32_t place)
 {
     const struct place *written = place_at(place);
+    if (written->library) {
+        write_either(stream, place);
+        return;
+    }
     write_object(stream, written->object);
     put_text(stream, "place");
     put_number(stream, place);

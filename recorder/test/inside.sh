@@ -113,3 +113,21 @@ if wanted duty; then
     "$record" --ignore list -- ./unnumbered 2>&1 | grep -v 'not recorded: 5 locks' | diff "$here/unnumbered.want" -
     tell duty "a chain with a lock that has no number" $?
 fi
+
+# The functions of the C++ library that have one of the program's in them say its lines, whatever the compiler inlined.
+if wanted callbacks; then
+    cp "$here/callbacks.cc" .
+    for compiler in g++ clang++ "clang++ -stdlib=libc++"; do
+        for level in -O0 -O1 -O2 -O3; do
+            if ! $compiler -g $level -pthread -o callbacks callbacks.cc 2>/dev/null; then
+                echo "left out  callbacks: $compiler isn't there"
+                break
+            fi
+            "$record" -- ./callbacks 2>clean.err
+            "$record" -- ./callbacks twice 2>recorded.err
+            sed -E 's/"[^"]*"/T/g; s/\([^(]*, sleep/(T, sleep/' recorded.err | diff "$here/callbacks.want" - &&
+                echo 'record: nothing to report' | diff - clean.err
+            tell callbacks "functions that were inlined into the library ($compiler $level)" $?
+        done
+    done
+fi
