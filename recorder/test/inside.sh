@@ -35,6 +35,11 @@ elif wanted dropped; then
     echo "left out  dropped: only root changes root and user"
 fi
 words=
+if [ "$(id -u)" -eq 0 ]; then
+    example changed "another user, and more than a window of calls after that" --full
+elif wanted changed; then
+    echo "left out  changed: only root changes its user"
+fi
 
 # What other threads held at a fork is held by nobody in the child: its trace has those locks free.
 example orphans "locks that other threads hold at a fork"
