@@ -270,6 +270,12 @@ EXPORT int pthread_spin_unlock(pthread_spinlock_t *lock)
     return real.spin_unlock(lock);
 }
 
+/* A wait until any other time is refused. */
+static bool is_time(const struct timespec *limit)
+{
+    return limit && limit->tv_nsec >= 0 && limit->tv_nsec < 1000000000;
+}
+
 /* A wait for a condition: it may end by the thread's cancellation, and has the mutex again then too. */
 struct wait {
     struct request request;
@@ -284,11 +290,11 @@ static void end_wait(void *wait_over)
         wait_ends(&wait->request, wait->answer);
 }
 
-#define WAIT(mutex, call, answered)                                                                        \
+#define WAIT(mutex, asks_again, call, answered)                                                                     \
     do {                                                                                                   \
         struct wait wait = {.answer = 0};                                                                  \
         start();                                                                                           \
-        wait.recorded = wait_begins(&wait.request, mutex, CALLER);                                         \
+        wait.recorded = wait_begins(&wait.request, mutex, asks_again, CALLER);                             \
         pthread_cleanup_push(end_wait, &wait);                                                             \
         wait.answer = (call);                                                                              \
         pthread_cleanup_pop(1);                                                                            \
@@ -297,18 +303,18 @@ static void end_wait(void *wait_over)
 
 EXPORT int pthread_cond_wait(pthread_cond_t *condition, pthread_mutex_t *mutex)
 {
-    WAIT(mutex, real.cond_wait(condition, mutex), posix);
+    WAIT(mutex, true, real.cond_wait(condition, mutex), posix);
 }
 
 EXPORT int pthread_cond_timedwait(pthread_cond_t *condition, pthread_mutex_t *mutex, const struct timespec *limit)
 {
-    WAIT(mutex, real.cond_timedwait(condition, mutex, limit), posix);
+    WAIT(mutex, is_time(limit), real.cond_timedwait(condition, mutex, limit), posix);
 }
 
 EXPORT int pthread_cond_clockwait(pthread_cond_t *condition, pthread_mutex_t *mutex, clockid_t clock,
     const struct timespec *limit)
 {
-    WAIT(mutex, real.cond_clockwait(condition, mutex, clock, limit), posix);
+    WAIT(mutex, is_time(limit), real.cond_clockwait(condition, mutex, clock, limit), posix);
 }
 
 EXPORT int mtx_lock(mtx_t *mutex)
@@ -346,12 +352,12 @@ EXPORT void mtx_destroy(mtx_t *mutex)
 
 EXPORT int cnd_wait(cnd_t *condition, mtx_t *mutex)
 {
-    WAIT(mutex, real.cond_wait((pthread_cond_t *)condition, (pthread_mutex_t *)mutex), c11);
+    WAIT(mutex, true, real.cond_wait((pthread_cond_t *)condition, (pthread_mutex_t *)mutex), c11);
 }
 
 EXPORT int cnd_timedwait(cnd_t *restrict condition, mtx_t *restrict mutex, const struct timespec *restrict limit)
 {
-    WAIT(mutex, real.cond_timedwait((pthread_cond_t *)condition, (pthread_mutex_t *)mutex, limit), c11);
+    WAIT(mutex, is_time(limit), real.cond_timedwait((pthread_cond_t *)condition, (pthread_mutex_t *)mutex, limit), c11);
 }
 
 /* As long as the program has no handlers of signals, none is kept out of the recorder. */

@@ -29,10 +29,10 @@ bool chains_made(void)
     return nodes != NULL;
 }
 
-void node_set_requested(uint32_t node)
+void node_set_requested(uint32_t node, bool whole)
 {
     if (node != NODE_UNKNOWN)
-        atomic_store_explicit(&nodes[node - 1].requested, 1, memory_order_release);
+        atomic_store_explicit(&nodes[node - 1].requested, whole ? REQUESTED : HALF_REQUESTED, memory_order_release);
 }
 
 /* As node_of, and makes the node; under the mutex. */
@@ -239,6 +239,8 @@ static inline void add_held(struct request *request)
     }
     struct held *held = held_filled(thread, request->lock, request->place, request->node, request->mode);
     held->tried = request->tried;
+    if (request->tried && thread->count != 0)
+        held->after_try = 1;
     held->stack = (uint16_t)request->stack;
     if (request->pending || (writes_all && request->tried))
         write_acquired(request, held);
@@ -302,8 +304,11 @@ void release_begins(const void *address, struct caller caller)
     goes_outside(thread);
 }
 
-/* The thread is about to wait for a condition, and gives up the mutex. False where it isn't known to hold it. */
-bool wait_begins(struct request *request, const void *address, struct caller caller)
+/*
+ * The thread is about to wait for a condition, and gives up the mutex. ASKS_AGAIN where the call isn't one that is
+ * refused: then it asks for the mutex again. False where it isn't known to hold it.
+ */
+bool wait_begins(struct request *request, const void *address, bool asks_again, struct caller caller)
 {
     struct thread *thread = &self;
     if (UNLIKELY(!opens(thread, caller.stack)))
@@ -321,6 +326,14 @@ bool wait_begins(struct request *request, const void *address, struct caller cal
     request->stack = stack_of_held(request->place, caller);
     request->mode = EXCLUSIVE;
     released(thread, held);
+    /* That it asks for the mutex again is written now, since the wait may never end. */
+    request->again = held_of(thread, request->lock);
+    if (asks_again && !request->again && thread->count != 0) {
+        consider(request);
+        if (request->pending)
+            write_given_up(request);
+        request->patient = false;
+    }
     return true;
 }
 

@@ -2,7 +2,11 @@
  * Where calls come from: return addresses, and the callers behind them.
  *
  * A function whose only work is to lock (std::mutex::lock, uv_mutex_lock) says nothing about its call, so its caller is
- * wanted. To unwind the stack at each call would take too long. But at one return address a function's frame is found
+ * wanted. Another function of the C++ library says nothing either, unless a function of the program was inlined there (a
+ * lambda in std::sort). That can't be told here. So the two, it and the caller after it, are one place together, and
+ * resolve.awk takes the one that says something, by their files.
+ *
+ * To unwind the stack at each call would take too long. But at one return address a function's frame is found
  * always in the same way: it lies at a distance from the stack pointer that is always the same, or at the frame
  * pointer, which a function has that takes memory from the stack. So the unwinder is asked once for each return
  * address, and from then on the callers are read from the stack. Where neither is so, or the frame pointer isn't
@@ -15,7 +19,7 @@
 #include <strings.h>
 #include <unwind.h>
 
-enum { FRAMES = 24, WRAPPER_BYTES = 256, WORD_MOST = 64 };
+enum { FRAMES = 24, WRAPPER_BYTES = 256, WORD_MOST = 64, LIBRARY_MOST = 8 };
 
 /* The stack pointer and the frame pointer are those that the function has once the call has returned. */
 struct frame {
@@ -97,23 +101,44 @@ static bool is_passed_over(const char *name)
     return false;
 }
 
-/* By the name of a function and its size: C++'s own, or one that does something with a lock and little else. */
+/* Whether the function is the C++ library's, by its name; *rest becomes what follows the namespace there. */
+static bool is_library(const char *name, const char **rest)
+{
+    static const char *const own[] = {"_ZNSt3__1", "_ZNKSt3__1", "_ZNSt", "_ZNKSt", "_ZSt"};
+    for (size_t i = 0; i < sizeof own / sizeof *own; i++)
+        if (strncmp(name, own[i], strlen(own[i])) == 0) {
+            *rest = name + strlen(own[i]);
+            return true;
+        }
+    return false;
+}
+
+/* What kind of a function of the C++ library begins so, after the namespace. */
+static uint8_t library_detour(const char *name)
+{
+    /* A thread's way to its function, which is often inlined there: behind it there is nothing of the program. */
+    static const char *const runs[] = {"6thread11_State_impl", "14__thread_proxy"};
+    static const char *const locks[] = {"5mutex", "10lock_guard", "11unique_lock", "11scoped_lock", "11shared_lock",
+        "11timed_mutex", "12shared_mutex", "12__mutex_base", "15recursive_mutex", "18shared_timed_mutex",
+        "21recursive_timed_mutex", "22__shared_mutex_pthread"};
+    for (size_t i = 0; i < sizeof runs / sizeof *runs; i++)
+        if (strncmp(name, runs[i], strlen(runs[i])) == 0)
+            return DETOUR_NONE;
+    for (size_t i = 0; i < sizeof locks / sizeof *locks; i++)
+        if (strncmp(name, locks[i], strlen(locks[i])) == 0)
+            return DETOUR_WRAPPER;
+    return DETOUR_LIBRARY;
+}
+
+/* By the name of a function and its size: whether it does something with a lock and little else. */
 static bool is_wrapper(const char *name, uint64_t size)
 {
-    static const char *const own[] = {"_ZNSt", "_ZNKSt", "_ZSt"};
-    static const char *const within[] = {"__gthread_", "__glibcxx_rwlock", "__gnu_cxx"};
+    static const char *const within[] = {"__gthread_", "__glibcxx_rwlock"};
     static const char *const others[] = {"unlock", "clock", "block"};
     static const char *const ends[] = {"lock", "mutex", "monitor", "mutex_enter", "mutexenter", "mutex_acquire",
         "lock_acquire", "mutex_init", "lock_init", "mutexinit", "lockinit", "mutex_create", "mutex_new", "mutex_alloc",
         "cond_wait", "condwait", "cond_timedwait"};
-    /* std::thread's way to its function, which is often inlined there: behind it there is nothing of the program. */
-    static const char thread_run[] = "_ZNSt6thread11_State_impl";
     char word[WORD_MOST];
-    if (strncmp(name, thread_run, sizeof thread_run - 1) == 0)
-        return false;
-    for (size_t i = 0; i < sizeof own / sizeof *own; i++)
-        if (strncmp(name, own[i], strlen(own[i])) == 0)
-            return true;
     for (size_t i = 0; i < sizeof within / sizeof *within; i++)
         if (strstr(name, within[i]))
             return true;
@@ -125,6 +150,18 @@ static bool is_wrapper(const char *name, uint64_t size)
         if (ends_with(word, ends[i]))
             return size <= WRAPPER_BYTES;
     return false;
+}
+
+static uint8_t detour_of(const char *name, uint64_t size)
+{
+    const char *rest;
+    if (is_passed_over(name))
+        return DETOUR_WRAPPER;
+    if (is_library(name, &rest))
+        return library_detour(rest);
+    if (strncmp(name, "_ZN9__gnu_cxx", 13) == 0 || strncmp(name, "_ZNK9__gnu_cxx", 14) == 0)
+        return DETOUR_LIBRARY;
+    return is_wrapper(name, size) ? DETOUR_WRAPPER : DETOUR_NONE;
 }
 
 static void add(uintptr_t pc, int32_t step)
@@ -151,15 +188,16 @@ static void add(uintptr_t pc, int32_t step)
     uint64_t size = 0;
     place->step = step;
     place->name = "";
-    place->detour = frames_shown > 1 ? DETOUR_STACKS : 0;
+    place->detour = frames_shown > 1 ? DETOUR_STACKS : DETOUR_NONE;
     place->object = (uint16_t)object;
     if (place->object) {
         place->offset = object_offset(place->object, pc);
         place->name = object_symbol(place->object, pc - 1, true, &from, &size);
         if (*place->name) {
             place->within = pc - from;
-            if (is_wrapper(place->name, size) || is_passed_over(place->name))
-                place->detour = DETOUR_WRAPPER;
+            uint8_t detour = detour_of(place->name, size);
+            if (detour != DETOUR_NONE)
+                place->detour = detour;
         }
     }
     places_met++;
@@ -252,19 +290,73 @@ static bool climb(struct frame *frame, int32_t step)
     return true;
 }
 
+/* What was found of the callers that are wanted. */
+struct search {
+    uint32_t wanted, count, *found;
+    uint32_t library[LIBRARY_MOST]; /* the library's functions since the last one that was found */
+    uint32_t libraries;
+};
+
+/* No address has the first bit, so a place that stands for two has this for its return address. */
+static uintptr_t pair_pc(uint32_t library, uint32_t rest)
+{
+    return (uintptr_t)1 << 63 | (uintptr_t)library << 32 | rest;
+}
+
+/* Makes the place that stands for the two. Without room for it, the second one. */
+COLD static uint32_t pair_made(uint32_t library, uint32_t rest)
+{
+    uintptr_t pc = pair_pc(library, rest);
+    if (!recorder_enters())
+        return rest;
+    uint32_t number = place_at_pc(pc);
+    if (number == 0 && places_met < PLACES / 4 * 3) {
+        uint32_t slot = place_slot(pc);
+        while (atomic_load_explicit(&places[slot].pc, memory_order_relaxed) != 0)
+            slot = (slot + 1) % PLACES;
+        struct place *place = &places[slot];
+        place->name = "";
+        place->detour = frames_shown > 1 ? DETOUR_STACKS : DETOUR_NONE;
+        place->library = library;
+        place->rest = rest;
+        places_met++;
+        atomic_store_explicit(&place->pc, pc, memory_order_release);
+        number = slot + 1;
+    }
+    recorder_leaves();
+    return number ? number : rest;
+}
+
+/* A further caller: one of the library is joined to the first one after it that isn't. */
+static void take(struct search *search, uint32_t number)
+{
+    uint8_t detour = detour_at(number);
+    if (detour == DETOUR_WRAPPER)
+        return;
+    if (detour == DETOUR_LIBRARY) {
+        if (search->libraries < LIBRARY_MOST)
+            search->library[search->libraries++] = number;
+        return;
+    }
+    while (search->libraries > 0) {
+        uint32_t library = search->library[--search->libraries];
+        uint32_t pair = place_at_pc(pair_pc(library, number));
+        number = pair ? pair : pair_made(library, number);
+    }
+    search->found[search->count++] = number;
+}
+
 /* Follows the steps that are known. False where one isn't, or isn't always the same. */
-static bool follow(struct caller caller, uint32_t wanted, uint32_t *found, uint32_t *count)
+static bool follow(struct caller caller, struct search *search)
 {
     struct frame frame = {caller.pc, caller.stack, caller.base, true};
-    *count = 0;
     for (uint32_t frames = 0; frames < FRAMES - 1; frames++) {
         uint32_t number = place_at_pc(frame.pc);
         if (!number)
             return false;
         const struct place *place = place_at(number);
-        if (!is_wrapper_at(number))
-            found[(*count)++] = number;
-        if (*count == wanted || place->step == STEP_LAST)
+        take(search, number);
+        if (search->count == search->wanted || place->step == STEP_LAST)
             return true;
         if (!climb(&frame, place->step))
             return false;
@@ -275,20 +367,20 @@ static bool follow(struct caller caller, uint32_t wanted, uint32_t *found, uint3
 /* The first callers that aren't wrappers, at most as many as wanted; where all are, the first of all. */
 uint32_t callers(struct caller caller, uint32_t wanted, uint32_t *found)
 {
-    uint32_t count;
-    if (!follow(caller, wanted, found, &count)) {
+    struct search search = {.wanted = wanted, .found = found};
+    if (!follow(caller, &search)) {
         struct stack stack;
         unwind(caller, &stack);
-        count = 0;
-        for (uint32_t i = 0; i < stack.count && count < wanted; i++) {
+        search.count = search.libraries = 0;
+        for (uint32_t i = 0; i < stack.count && search.count < wanted; i++) {
             uint32_t number = place_at_pc(stack.frames[i].pc);
-            if (number && !is_wrapper_at(number))
-                found[count++] = number;
+            if (number)
+                take(&search, number);
         }
     }
-    if (count == 0)
-        found[count++] = place_at_pc(caller.pc);
-    return count;
+    if (search.count == 0)
+        found[search.count++] = search.libraries ? search.library[0] : place_at_pc(caller.pc);
+    return search.count;
 }
 
 uint32_t first_caller(struct caller caller)
@@ -302,15 +394,15 @@ uint32_t first_caller(struct caller caller)
 uint32_t place_passed(struct caller caller)
 {
     uint32_t number = first_caller(caller);
-    uint8_t detour = number ? detour_at(number) : 0;
-    return detour == 0 || detour == DETOUR_WRAPPER ? number : 0;
+    uint8_t detour = number ? detour_at(number) : DETOUR_NONE;
+    return detour == DETOUR_NONE || detour >= DETOUR_LIBRARY ? number : 0;
 }
 
 /* The recorder's own bytes in memory. */
 extern const char __ehdr_start[] __attribute__((visibility("hidden")));
 extern const char _end[] __attribute__((visibility("hidden")));
 
-struct search {
+struct look {
     uintptr_t stack; /* of the caller that is looked for */
     bool is_inside;  /* the function that was seen last is the recorder's */
     bool is_left;
@@ -318,13 +410,13 @@ struct search {
 
 static _Unwind_Reason_Code look_at(struct _Unwind_Context *context, void *argument)
 {
-    struct search *search = argument;
+    struct look *look = argument;
     uintptr_t stack = _Unwind_GetCFA(context), pc = _Unwind_GetIP(context);
-    if (stack < search->stack) {
-        search->is_inside = pc >= (uintptr_t)__ehdr_start && pc < (uintptr_t)_end;
+    if (stack < look->stack) {
+        look->is_inside = pc >= (uintptr_t)__ehdr_start && pc < (uintptr_t)_end;
         return _URC_NO_REASON;
     }
-    search->is_left = stack > search->stack || !search->is_inside;
+    look->is_left = stack > look->stack || !look->is_inside;
     return _URC_END_OF_STACK;
 }
 
@@ -334,9 +426,9 @@ static _Unwind_Reason_Code look_at(struct _Unwind_Context *context, void *argume
  */
 COLD bool call_goes_on(uintptr_t stack)
 {
-    struct search search = {.stack = stack};
-    _Unwind_Backtrace(look_at, &search);
-    return !search.is_left;
+    struct look look = {.stack = stack};
+    _Unwind_Backtrace(look_at, &look);
+    return !look.is_left;
 }
 
 /* As many callers as name a type. */

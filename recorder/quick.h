@@ -9,8 +9,10 @@
 
 struct node {
     _Atomic uint64_t key; /* parent and type; 0 where there is no node */
-    _Atomic uint32_t requested;
+    _Atomic uint32_t requested; /* one of these, or 0 */
 };
+/* HALF_REQUESTED: as requested, but a lock of the chain had no number. */
+enum { REQUESTED = 1, HALF_REQUESTED = 2 };
 
 /* The chain that no node stands for, since the tree is full. What is asked for behind it is always new. */
 #define NODE_UNKNOWN UINT32_MAX
@@ -44,7 +46,14 @@ static inline uint32_t node_of(uint32_t parent, uint32_t type)
 
 static inline bool node_is_requested(uint32_t node)
 {
-    return node != NODE_UNKNOWN && atomic_load_explicit(&nodes[node - 1].requested, memory_order_acquire);
+    return node != NODE_UNKNOWN
+        && atomic_load_explicit(&nodes[node - 1].requested, memory_order_acquire) == REQUESTED;
+}
+
+static inline bool node_is_half_requested(uint32_t node)
+{
+    return node != NODE_UNKNOWN
+        && atomic_load_explicit(&nodes[node - 1].requested, memory_order_acquire) == HALF_REQUESTED;
 }
 
 static inline struct held *held_of(struct thread *thread, const struct lock *lock)
@@ -66,8 +75,9 @@ static inline struct held *held_filled(struct thread *thread, struct lock *lock,
     held->place = place;
     held->node = node;
     held->count = 1;
-    held->mode = mode & 0x7f;
+    held->mode = mode & 0x3f;
     held->tried = held->written = 0;
+    held->after_try = thread->count != 0 && held[-1].after_try;
     held->stack = 0;
     return held;
 }

@@ -75,7 +75,7 @@ struct caller {
 
 /* A return address that was met. */
 struct place {
-    _Atomic uintptr_t pc; /* or the one below */
+    _Atomic uintptr_t pc; /* or PC_CLOSED; of a place that stands for two (places.c) no address */
     uintptr_t closed;  /* the address, while its object is closed */
     int32_t step;      /* from the caller's stack pointer to that of its own caller; or one of the three below */
     uint16_t object;   /* the number of the object, 0 where there is none */
@@ -83,6 +83,7 @@ struct place {
     uint64_t offset;   /* the address as the object's file counts it */
     const char *name;  /* of the function, or empty */
     uint64_t within;   /* the address as the function counts it */
+    uint32_t library, rest; /* the two places that it stands for; 0 of most places */
     struct marks marks;
     struct marks releases; /* set where a release by another thread than the holder was written */
 };
@@ -90,10 +91,11 @@ struct place {
 enum { STEP_LAST = 0, STEP_VARIES = -1, STEP_FRAME = -2 };
 #define PC_CLOSED ((uintptr_t)1)
 /*
- * DETOUR_WRAPPER: the function's only work is to lock. Else so many acquisitions more are to have their stacks:
+ * DETOUR_WRAPPER: the function's only work is to lock. DETOUR_LIBRARY: it is of the C++ library, and may have a function
+ * of the program in it. Else so many acquisitions more are to have their stacks:
  * DETOUR_STACKS from when the place is met, or one of them was new (stacks.c).
  */
-enum { DETOUR_STACKS = 16, DETOUR_WRAPPER = 255 };
+enum { DETOUR_NONE = 0, DETOUR_STACKS = 16, DETOUR_LIBRARY = 254, DETOUR_WRAPPER = 255 };
 
 struct type {
     uint32_t number;
@@ -140,7 +142,7 @@ struct held {
     uint32_t place;
     uint32_t node;    /* of the chain up to this lock; 0 where it wasn't looked for */
     uint32_t count;   /* acquisitions not yet released */
-    uint8_t mode : 7, tried : 1;
+    uint8_t mode : 6, tried : 1, after_try : 1; /* after_try: an order between what is held up to it may not be known */
     uint8_t written;  /* a bit for each stream */
     uint16_t stack;   /* of the acquisition; 0 where it has none */
     uint32_t number[STREAMS];
@@ -298,9 +300,9 @@ bool request_begins(struct request *request, const void *address, enum class cla
 void request_ends(struct request *request, bool got);
 void request_waits(struct request *request);
 void release_begins(const void *address, struct caller caller);
-bool wait_begins(struct request *request, const void *address, struct caller caller);
+bool wait_begins(struct request *request, const void *address, bool asks_again, struct caller caller);
 void wait_ends(struct request *request, int answer);
-void node_set_requested(uint32_t node);
+void node_set_requested(uint32_t node, bool whole); /* whole: the stream has all of the chain */
 uint32_t node_made(uint32_t parent, uint32_t type);
 void chains_forked(void);
 
@@ -368,9 +370,10 @@ static inline uint8_t detour_at(uint32_t number)
     return atomic_load_explicit(&place_at(number)->detour, memory_order_relaxed);
 }
 
+/* Whether its callers are wanted, instead of it or with it. */
 static inline bool is_wrapper_at(uint32_t number)
 {
-    return detour_at(number) == DETOUR_WRAPPER;
+    return detour_at(number) >= DETOUR_LIBRARY;
 }
 
 uint32_t first_caller(struct caller caller);
@@ -423,6 +426,7 @@ void threads_forked(void);
 bool seat_taken(int stream, struct thread *thread);
 void seat_given_back(int stream, struct thread *thread);
 uint32_t lock_number(int stream, struct thread *thread, struct lock *lock);
+bool type_fits(int stream, struct type *type);
 void number_stands(int stream, uint32_t number);
 void number_stands_no_more(int stream, uint32_t number);
 uint32_t place_number(int stream, uint32_t place);

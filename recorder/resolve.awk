@@ -52,10 +52,15 @@ function cut(text, tail) {
     return substr(text, 1, 63 - length(tail)) tail
 }
 
-# What stands in the C++ library and does nothing but lock.
+# Whether the file is one of C++'s library, or of Rust's.
 function is_library(name, file) {
-    return file ~ /\/c\+\+\/[0-9]/ || name ~ /^([A-Za-z_ ]+ )?(std|__gnu_cxx)::/ || name ~ /^__gthread/ \
-        || name ~ /^__glibcxx_rwlock/
+    return file ~ /\/include\/([^\/]+\/)?c\+\+\/(v1|[0-9.]+)\// || file ~ /\/(libstdc\+\+-v3|libcxx)\// \
+        || file ~ /^\/rustc\/[^\/]*\/library\// || name ~ /^__gthread/ || name ~ /^__glibcxx_rwlock/
+}
+
+# Whether a function of C++'s library, by its mangled name, was made for a function of the program: that one may be inlined.
+function is_callback(name) {
+    return name ~ /[$]_|Ul(vE|R|T|P)|PFv|PF|_Function_handler|__function6__func|_M_invoke|__invoke/
 }
 
 # An inlined function that has the name of one whose only work is to lock: places.c goes by the same names.
@@ -69,10 +74,45 @@ function is_wrapper(name,   i) {
         && name ~ /(lock|mutex|monitor|mutex_?enter|(mutex|lock)_acquire|(mutex|lock)_?init|mutex_(create|new|alloc)|cond_?wait|cond_timedwait)$/
 }
 
+# A name of Rust's without the hash at its end, or in it.
+function hashless(name) {
+    if (match(name, /::h[0-9a-f]+$/) && RLENGTH == 19)
+        name = substr(name, 1, RSTART - 1)
+    gsub(/[[][0-9a-f]+[]]/, "", name)
+    return name
+}
+
+# As short, of a name with an operator: the last one, whose own brackets and arrows stay.
+function short_operator(name,   head) {
+    gsub(/operator<=>/, "operator\001=\002", name)
+    gsub(/operator<</, "operator\001\001", name)
+    gsub(/operator>>/, "operator\002\002", name)
+    gsub(/operator->/, "operator-\002", name)
+    gsub(/operator</, "operator\001", name)
+    gsub(/operator>/, "operator\002", name)
+    while (gsub(/<[^<>]*>/, "", name))
+        ;
+    while (match(name, /(^|[^A-Za-z0-9_])operator[^A-Za-z0-9_]/)) {
+        head = head substr(name, 1, RSTART + RLENGTH - 2)
+        name = substr(name, RSTART + RLENGTH - 1)
+    }
+    if (head != "" && name ~ /^\(\)/)
+        name = "()"
+    else
+        sub(/\(.*/, "", name)
+    gsub(/ const::/, "::", head)
+    name = head name
+    gsub(/\001/, "<", name)
+    gsub(/\002/, ">", name)
+    return name
+}
+
 # A function's name without what it takes, and without what a template was made for.
 function short(name) {
-    if (name ~ /operator/)
-        return name
+    name = hashless(name)
+    gsub(/\(anonymous namespace\)/, "{anonymous}", name)
+    if (name ~ /(^|[^A-Za-z0-9_])operator[^A-Za-z0-9_]/)
+        return short_operator(name)
     while (gsub(/<[^<>]*>/, "", name))
         ;
     sub(/\(.*/, "", name)
@@ -110,6 +150,21 @@ function escaped(text) {
     return clean(text)
 }
 
+# Whether a place of the library says something. In the library's own object nothing of the program is inlined.
+function says(place,   key) {
+    if (base(path_of[object_of[place]]) ~ /^lib(stdc\+\+|c\+\+|c\+\+abi)\.so/)
+        return 0
+    key = key_of(place)
+    return frames[key] > 0 ? telling(key, 1) > 0 : is_callback(function_of[place])
+}
+
+# Of a place that stands for two, the one that says something.
+function chosen(place) {
+    while (place in rest_of)
+        place = says(library_of[place]) ? library_of[place] : rest_of[place]
+    return place
+}
+
 function key_of(place) {
     return object_of[place] " " offset_of[place]
 }
@@ -120,9 +175,11 @@ function shown(text) {
 }
 
 # FILE:LINE of a place as it stands in a trace; where nothing is known of it, OBJECT+OFFSET(FUNCTION) and line 0.
-function site(place,   text, key, line, number) {
+function site(place,   text, key, line, number, named) {
     if (place in site_of)
         return site_of[place]
+    named = place
+    place = chosen(place)
     if (!(place in object_of))
         return "?:0"
     key = key_of(place)
@@ -138,7 +195,7 @@ function site(place,   text, key, line, number) {
     sub(/:[0-9]*$/, "", text)
     if (length(text) > 255)
         text = substr(text, length(text) - 254)
-    return site_of[place] = text ":" line
+    return site_of[named] = text ":" line
 }
 
 # The function of a place, as the source names it where addr2line knows it.
@@ -149,6 +206,7 @@ function function_name(place,   key) {
 
 # The function that made a thread, and where.
 function maker(place,   key, number) {
+    place = chosen(place)
     if (!(place in object_of))
         return "- -"
     key = key_of(place)
@@ -189,6 +247,9 @@ function step(type, identity, name, called) {
 }
 
 function steps_of(type, place,   key, number, any) {
+    for (; place in rest_of; place = rest_of[place])
+        if (says(library_of[place]))
+            steps_of(type, library_of[place])
     key = key_of(place)
     for (number = 1; (number = telling(key, number)) > 0; number++) {
         step(type, frame_line[key, number], base(frame_line[key, number]), frame_name[key, number])
@@ -415,25 +476,33 @@ function is_end(name) {
     return name ~ /^(_start|__libc_start_.*|start_thread|clone3?|__clone3?)$/
 }
 
-function note_frames(id, line,   part, count, i, key, number, noted) {
-    count = split(line, part, " ")
-    for (i = 3; i <= count && noted < most_frames; i++) {
-        if (!(part[i] in object_of))
-            continue
-        key = key_of(part[i])
-        if (is_end(function_name(part[i])))
-            return
-        if (frames[key] == 0 && function_of[part[i]] != "-") {
-            print "frame " id " " escaped(function_name(part[i])) " " escaped(unknown(part[i])) >notes
-            noted++
-        }
-        for (number = 1; (number = telling(key, number)) > 0 && noted < most_frames; number++) {
-            print "frame " id " " escaped(frame_name[key, number]) " " escaped(shown(frame_line[key, number])) >notes
-            noted++
-        }
-        if (function_name(part[i]) == "main")
-            return
+# The frames of one place of a stack. True where no further place is wanted.
+function note_place(id, place,   key, number) {
+    for (; place in rest_of; place = rest_of[place])
+        if (says(library_of[place]) && note_place(id, library_of[place]))
+            return 1
+    if (!(place in object_of))
+        return 0
+    key = key_of(place)
+    if (is_end(function_name(place)))
+        return 1
+    if (frames[key] == 0 && function_of[place] != "-") {
+        print "frame " id " " escaped(function_name(place)) " " escaped(unknown(place)) >notes
+        noted++
     }
+    for (number = 1; (number = telling(key, number)) > 0 && noted < most_frames; number++) {
+        print "frame " id " " escaped(frame_name[key, number]) " " escaped(shown(frame_line[key, number])) >notes
+        noted++
+    }
+    return noted >= most_frames || function_name(place) == "main"
+}
+
+function note_frames(id, line,   part, count, i) {
+    count = split(line, part, " ")
+    noted = 0
+    for (i = 3; i <= count; i++)
+        if (note_place(id, part[i]))
+            return
 }
 
 kind == "record" {
@@ -498,11 +567,12 @@ kind == "lines" {
     next
 }
 
-kind == "names" { if (split($0, pair, "\t") == 2) demangled[pair[1]] = pair[2]; next }
+kind == "names" { if (split($0, pair, "\t") == 2) demangled[pair[1]] = hashless(pair[2]); next }
 
 $1 == "object" { path_of[$2] = substr($0, length($2) + 9); next }
 $1 == "stack" { stack_line[$2] = $0; next }
 $1 == "place" { object_of[$2] = $3; offset_of[$2] = $4; function_of[$2] = $5; within_of[$2] = $6; next }
+$1 == "either" { library_of[$2] = $3; rest_of[$2] = $4; next }
 $1 == "type" {
     type_line[$2] = $0
     types = $2

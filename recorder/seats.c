@@ -78,6 +78,12 @@ static bool type_is_numbered(int stream, struct type *type)
     return *number != NUMBER_NONE;
 }
 
+/* False of a type that was met when the stream had room for no further one. */
+bool type_fits(int stream, struct type *type)
+{
+    return *mark(&type->marks, stream) != NUMBER_NONE;
+}
+
 /*
  * The number of the lock, 0 where it has none in this stream. The thread has a seat and nothing pending. A lock that is
  * gone may still be held in the stream: then its number isn't used again.

@@ -84,10 +84,10 @@ COLD uint32_t stack_of(struct caller caller)
 /* As stack_of, of an acquisition at the place; 0 where those there have none any more. */
 COLD uint32_t stack_of_held(uint32_t place, struct caller caller)
 {
-    uint8_t left = place ? detour_at(place) : 0;
+    uint8_t left = place ? detour_at(place) : DETOUR_NONE;
     if (stacks_all)
         return stack_of(caller);
-    if (left == 0 || left == DETOUR_WRAPPER)
+    if (left == DETOUR_NONE || left >= DETOUR_LIBRARY)
         return 0;
     bool is_new = false;
     uint32_t number = stack_found(caller, &is_new);

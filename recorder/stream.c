@@ -14,6 +14,7 @@
 #include <string.h>
 #include <sys/mman.h>
 #include <sys/resource.h>
+#include <sys/stat.h>
 #include <unistd.h>
 
 enum { PATH_MOST = 512, LINE_MOST = 1024, PIECE = 1 << 16, ATTEMPTS_MOST = 100 };
@@ -101,6 +102,20 @@ static bool is_allowed(uint64_t size)
     return true;
 }
 
+/*
+ * A program of root's may give its rights up, and opens the file by its name again. Other users can't find that name:
+ * they may not read the folder, which is in one of a name that was drawn by lot.
+ */
+static void opens_to_all(const struct stream *stream, int file)
+{
+    struct stat folder;
+    char name[PATH_MOST];
+    memcpy(name, stream->path, name_at);
+    name[name_at] = '\0';
+    if (geteuid() == 0 && stat(name, &folder) == 0 && (folder.st_mode & (S_IROTH | S_ISVTX)) == S_ISVTX)
+        fchmod(file, 0666);
+}
+
 /* Maps the file's next window. False where there is none. */
 static bool window_opens(struct stream *stream, int flags)
 {
@@ -109,6 +124,8 @@ static bool window_opens(struct stream *stream, int flags)
     int file = is_allowed(size) ? open(stream->path, O_RDWR | O_CLOEXEC | flags, 0600) : -1;
     if (file < 0)
         return false;
+    if (flags & O_CREAT)
+        opens_to_all(stream, file);
     if (ftruncate(file, (off_t)size) == 0)
         window = mmap(NULL, stream->window, PROT_READ | PROT_WRITE, MAP_SHARED, file, (off_t)stream->offset);
     if (window != MAP_FAILED && stream->offset == 0 && !all_slow)

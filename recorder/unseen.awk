@@ -40,8 +40,8 @@ function base(path) {
     return path
 }
 
-# The C library's own, the compiler's and the recorder have none that count.
-mode == "files" && /\// && base($0) !~ /^(ld-linux-x86-64|lib(c|m|dl|rt|pthread|resolv|gcc_s|stdc\+\+)|recorder)\.so/ { print }
+# The C library's own, C++'s, the compiler's and the recorder have none that count.
+mode == "files" && /\// && base($0) !~ /^(ld-linux-x86-64|lib(c|m|dl|rt|pthread|resolv|gcc_s|stdc\+\+|c\+\+|c\+\+abi)|recorder)\.so/ { print }
 
 mode == "names" {
     if ($0 in meaning)

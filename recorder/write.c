@@ -10,27 +10,30 @@
  * the next. What a trace would end at isn't written: asking anew for a mutex that isn't recursive, unlocking what the
  * thread doesn't hold, a lock in a mode other than the one it is held in.
  *
- * Why the condensed stream of a clean run is clean exactly where the full one is. It leaves out
- *   - a request of a thread that holds nothing: it passes and adopts nothing (docs/RULES.md, Acquiring);
- *   - a request behind a chain of held types behind which the same type was asked for before;
- *   - acquiring again what the thread holds: so does that;
- * and it writes what a thread holds, in the order of its chain, before the first request that it does write. By
- * induction over the requests of the full stream: as long as nothing was reported, both have adopted the same orders
- * in the same order. Take the next request.
- *   - Was it left out as one asked for before behind the same chain, then that one was written, and passed or taught
- *     its order. By the law of the verdict PassedPassesOn (crates/wit_model/specs/VerdictLaws.antt) whoever asks for
- *     that type behind the same last type passes from then on: so this request passes, and adopts nothing. (Two locks
- *     of a type whose duplicates are all right pass each time, too, and adopt nothing.)
- *   - Was it written, then it stands behind the same chain and the same orders in both. So both have the same answer:
- *     it passes, adopts the same order, or is the first report in both.
- * PassedPassesOn is a law of the plain profile. In the all-held one the locks below the last one teach orders too, so there
- * `record` writes the full stream alone.
- * A held lock that is written late adopts nothing: either its type was asked for before behind the chain that it is
- * written behind, and the same law holds, or it is written as a try, which isn't judged.
+ * The one duty of the condensed stream. A request of a thread that holds locks is written, after all that the thread
+ * holds; or a request for a lock of that type was written before, after a chain of the same types. (A chain is what a
+ * thread holds, oldest first.) All else may be left out: what a thread asks for that holds nothing, what it acquires
+ * again, and what it holds when it asks for nothing.
  *
- * After the first report this is so but for one thing: a request that was a reversal adopts nothing and is one again
- * behind the same chain, but by orders adopted since then it may be one of another pair of types. So the condensed
- * stream may lack later reports, never the first.
+ * Why that is enough. A trace tells of a pair of types where a thread asks for a lock of the one type while it holds one
+ * of the other. Whether a trace without tries is clean depends on the set of its pairs alone, and by that duty the
+ * condensed stream and the full one tell of the same pairs. So one of them is clean exactly where the other one is.
+ *   - With tries it is so too in the plain profile: as long as nothing was reported, both streams have adopted the same
+ *     orders. By the law of the verdict PassedPassesOn (crates/wit_model/specs/VerdictLaws.antt) a request that is left
+ *     out passes and adopts nothing. PassedPassesOn is a law of that profile alone, so for the all-held one `record`
+ *     writes the full stream.
+ *   - A held lock is written late as a request, like any other. All that is written before it was held when it was asked
+ *     for, so it tells of no pair that the program didn't make. But behind what was tried, plain WITNESS may not know
+ *     those orders. So a lock that was acquired behind a try is written as a try, which isn't judged, unless its type was
+ *     asked for behind that chain before.
+ *   - A wait for a condition releases its mutex and asks for it again. That may never come to its end, so the request is
+ *     written when the wait begins, and as given up: the thread waits for the condition first.
+ *   - A trace has a limit of locks. A chain with a lock that has no number there is written without it, once. It counts
+ *     as written only where that lock's type has no number either, since no trace can tell of that type.
+ *
+ * After the first report the two streams may differ: a request that was a reversal adopts nothing and is one again behind
+ * the same chain, but by orders adopted since then it may be one of another pair of types. So the condensed stream may
+ * lack later reports. The first report is the same but for one place: that of a recursive mutex, which is acquired again.
  */
 #include "quick.h"
 
@@ -163,10 +166,13 @@ static void write_once_more(int stream, const struct thread *thread, const struc
     write_lock(stream, thread, held->number[stream]);
 }
 
-/*
- * Writes what the thread holds and the stream doesn't have yet, oldest first. The thread has a seat. What isn't known
- * to be asked for behind this chain, since a lock before it is released by now, is written as after a try.
- */
+/* Whether its lines may differ from what it did: an order that it has to its chain may not be known. */
+static bool is_as_tried(int stream, const struct held *held)
+{
+    return held->tried || (held->after_try && (stream == FULL || !node_is_requested(held->node)));
+}
+
+/* Writes what the thread holds and the stream doesn't have yet, oldest first. The thread has a seat. */
 static void write_chain(int stream, struct thread *thread)
 {
     for (uint32_t i = 0; i < thread->count; i++) {
@@ -179,7 +185,7 @@ static void write_chain(int stream, struct thread *thread)
         held->number[stream] = number;
         held->written |= bit(stream);
         stands(stream, thread, number);
-        if (held->tried || (i > 0 && (stream == FULL || !node_is_requested(held->node)))) {
+        if (is_as_tried(stream, held)) {
             write_try(stream, thread, held);
         } else {
             write_check(stream, thread, number, held->mode, held->place, held->stack);
@@ -190,15 +196,24 @@ static void write_chain(int stream, struct thread *thread)
     }
 }
 
+/* Whether the stream has all that the thread holds, but for types that no trace has room for. It has a seat. */
+static bool is_whole(int stream, struct thread *thread)
+{
+    for (uint32_t i = 0; i < thread->count; i++)
+        if (lock_number(stream, thread, thread->held[i].lock) == 0 && type_fits(stream, thread->held[i].lock->type))
+            return false;
+    return true;
+}
+
 /* Writes the request behind what the thread holds. False where it doesn't fit. */
 static bool write_behind_chain(int stream, struct request *request)
 {
     struct thread *thread = request->thread;
     if (!stream_has_room(stream) || !seat_taken(stream, thread))
         return false;
-    write_chain(stream, thread);
     uint32_t number = lock_number(stream, thread, request->lock);
     if (number != 0) {
+        write_chain(stream, thread);
         write_check(stream, thread, number, request->mode, request->place, request->stack);
         request->number[stream] = thread->asked[stream] = number;
         request->pending |= bit(stream);
@@ -206,6 +221,26 @@ static bool write_behind_chain(int stream, struct request *request)
     }
     seat_given_back(stream, thread);
     return number != 0;
+}
+
+/* The condensed stream's request. What was written without a lock of its chain isn't written so again. */
+static void write_condensed(struct request *request)
+{
+    struct thread *thread = request->thread;
+    if (!stream_has_room(CONDENSED) || !seat_taken(CONDENSED, thread))
+        return;
+    bool whole = is_whole(CONDENSED, thread);
+    if (!whole && !request->patient && node_is_half_requested(request->node)) {
+        seat_given_back(CONDENSED, thread);
+        request->patient = true;
+        return;
+    }
+    if (!write_behind_chain(CONDENSED, request))
+        return;
+    node_set_requested(request->node, whole);
+    /* It may have got its name since it was given the seat. */
+    if (request->patient)
+        write_thread(CONDENSED, thread);
 }
 
 /* Before the real call. The condensed stream has it where it is new, or waits for long. */
@@ -217,21 +252,15 @@ COLD void write_request(struct request *request)
     bool nested = thread->count != 0;
     request->node = node_made(request->parent, request->lock->type->number);
     if (writes[CONDENSED]) {
-        if (nested && (request->patient || !node_is_requested(request->node))) {
-            if (write_behind_chain(CONDENSED, request)) {
-                node_set_requested(request->node);
-                /* It may have got its name since it was given the seat. */
-                if (request->patient)
-                    write_thread(CONDENSED, thread);
-            }
-        } else {
+        if (nested && (request->patient || !node_is_requested(request->node)))
+            write_condensed(request);
+        else
             request->patient = nested;
-        }
     }
     if (writes[FULL] && !(request->pending & bit(FULL))) {
         write_behind_chain(FULL, request);
         if (!writes[CONDENSED])
-            node_set_requested(request->node);
+            node_set_requested(request->node, true);
     }
     recorder_leaves();
 }
@@ -404,10 +433,28 @@ static void write_object(int stream, uint32_t object)
     stream_append(stream, false);
 }
 
+/* `either NUMBER PLACE PLACE`: the first one is in the library, and the second one counts where it says nothing. */
+static void write_either(int stream, uint32_t place)
+{
+    const struct place *written = place_at(place);
+    place_number(stream, written->library);
+    place_number(stream, written->rest);
+    put_text(stream, "either");
+    put_number(stream, place);
+    put_number(stream, written->library);
+    put_number(stream, written->rest);
+    put_text(stream, "\n");
+    stream_append(stream, false);
+}
+
 /* `place NUMBER OBJECT OFFSET FUNCTION OFFSET-IN-FUNCTION`: of the call's last byte, not of the return address. */
 void write_place(int stream, uint32_t place)
 {
     const struct place *written = place_at(place);
+    if (written->library) {
+        write_either(stream, place);
+        return;
+    }
     write_object(stream, written->object);
     put_text(stream, "place");
     put_number(stream, place);

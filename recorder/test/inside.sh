@@ -35,6 +35,11 @@ elif wanted dropped; then
     echo "left out  dropped: only root changes root and user"
 fi
 words=
+if [ "$(id -u)" -eq 0 ]; then
+    example changed "another user, and more than a window of calls after that" --full
+elif wanted changed; then
+    echo "left out  changed: only root changes its user"
+fi
 
 # What other threads held at a fork is held by nobody in the child: its trace has those locks free.
 example orphans "locks that other threads hold at a fork"
@@ -110,6 +115,41 @@ if wanted jump; then
             timeout -s KILL 20 "$record" $stream -- ./jump $way 2>recorded.err
             sed 's/process [0-9]*/process N/' recorded.err | diff "$here/jump.want" -
             tell jump "a call that is left, way $way $stream" $?
+        done
+    done
+fi
+
+# The duty of the condensed stream: each request behind held locks is written, or one like it was.
+if wanted duty; then
+    compile condhang
+    for stream in "" --full; do
+        "$record" $stream -- timeout -s KILL 2 ./condhang 2>&1 | diff "$here/condhang.want" -
+        tell duty "a wait for a condition whose mutex never comes back $stream" $?
+    done
+    compile madeup
+    "$record" -o kept -- ./madeup 2>/dev/null
+    [ "$(grep -c '^check' kept)" -eq 6 ] && ! grep '^try' kept
+    tell duty "no try that wasn't" $?
+    compile unnumbered
+    echo '"shelves"' >list
+    "$record" --ignore list -- ./unnumbered 2>&1 | grep -v 'not recorded: 5 locks' | diff "$here/unnumbered.want" -
+    tell duty "a chain with a lock that has no number" $?
+fi
+
+# The functions of the C++ library that have one of the program's in them say its lines, whatever the compiler inlined.
+if wanted callbacks; then
+    cp "$here/callbacks.cc" .
+    for compiler in g++ clang++ "clang++ -stdlib=libc++"; do
+        for level in -O0 -O1 -O2 -O3; do
+            if ! $compiler -g $level -pthread -o callbacks callbacks.cc 2>/dev/null; then
+                echo "left out  callbacks: $compiler isn't there"
+                break
+            fi
+            "$record" -- ./callbacks 2>clean.err
+            "$record" -- ./callbacks twice 2>recorded.err
+            sed -E 's/"[^"]*"/T/g; s/\([^(]*, sleep/(T, sleep/' recorded.err | diff "$here/callbacks.want" - &&
+                echo 'record: nothing to report' | diff - clean.err
+            tell callbacks "functions that were inlined into the library ($compiler $level)" $?
         done
     done
 fi

@@ -42,7 +42,7 @@ if wanted tells; then
     tell tells "a hundred random runs${missing:+: not$missing}" $?
     # One that doesn't write a request behind just two held locks.
     copy_recorder omitting
-    sed 's/if (nested && (request->patient || !node_is_requested(request->node))) {/if (nested \&\& thread->count != 2 \&\& (request->patient || !node_is_requested(request->node))) {/' \
+    sed 's/if (nested && (request->patient || !node_is_requested(request->node)))$/if (nested \&\& thread->count != 2 \&\& (request->patient || !node_is_requested(request->node)))/' \
         "$recorder/write.c" >omitting/write.c
     ! cmp -s "$recorder/write.c" omitting/write.c && omitting/record -- true 2>/dev/null
     planted=$?
