@@ -38,6 +38,10 @@ function base(path) {
     return path
 }
 
+function object_name(object) {
+    return object in called_of ? called_of[object] : base(path_of[object])
+}
+
 # Only the bytes that a name of a trace may have.
 function clean(text) {
     gsub(/"/, "'", text)
@@ -211,13 +215,13 @@ function maker(place,   key, number) {
 }
 
 function unknown(place,   text) {
-    text = base(path_of[object_of[place]]) "+0x" offset_of[place]
+    text = object_name(object_of[place]) "+0x" offset_of[place]
     return function_of[place] == "-" ? text : text "(" function_name(place) ")"
 }
 
 function variable(object, offset, name, within, file) {
     if (name == "-")
-        return base(path_of[object]) "+0x" offset
+        return object_name(object) "+0x" offset
     if (name in demangled)
         name = demangled[name]
     return clean((within == "0" ? name : name "+0x" within) (file == "-" ? "" : " (" file ")"))
@@ -296,7 +300,7 @@ function part_names(   type, name) {
         name = plain[type]
         if (sub(/\)$/, ", ", name) == 0)
             name = name " ("
-        plain[type] = cut(substr(name, 1, 40), base(path_of[object_at[type]]) ")")
+        plain[type] = cut(substr(name, 1, 40), object_name(object_at[type]) ")")
     }
     for (name in claimants)
         delete claimants[name]
@@ -556,6 +560,7 @@ kind == "lines" {
 kind == "names" { if (split($0, pair, "\t") == 2) demangled[pair[1]] = hashless(pair[2]); next }
 
 $1 == "object" { path_of[$2] = substr($0, length($2) + 9); next }
+$1 == "called" { called_of[$2] = substr($0, length($2) + 9); next }
 $1 == "stack" { stack_line[$2] = $0; with_stacks = notes != "/dev/null"; next }
 $1 == "place" { object_of[$2] = $3; offset_of[$2] = $4; function_of[$2] = $5; within_of[$2] = $6; next }
 $1 == "either" { library_of[$2] = $3; rest_of[$2] = $4; next }

@@ -414,6 +414,7 @@ COLD void write_released_by_another(struct thread *thread, struct lock *lock, ui
     recorder_leaves();
 }
 
+/* `object NUMBER PATH`; then `called NUMBER NAME` where it is told by another name. */
 static void write_object(int stream, uint32_t object)
 {
     uint32_t *written = object ? mark(object_marks(object), stream) : NULL;
@@ -423,6 +424,13 @@ static void write_object(int stream, uint32_t object)
     put_text(stream, "object");
     put_number(stream, object);
     put_name(stream, object_path(object));
+    put_text(stream, "\n");
+    stream_append(stream, false);
+    if (!object_called(object))
+        return;
+    put_text(stream, "called");
+    put_number(stream, object);
+    put_name(stream, object_called(object));
     put_text(stream, "\n");
     stream_append(stream, false);
 }
