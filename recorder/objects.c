@@ -52,6 +52,8 @@ struct object {
     const char *strings;
     uint64_t strings_size;
     bool is_read; /* the two below are */
+    bool ends_stacks;
+    struct marks ends;
     struct index index[KINDS];
     struct marks marks;
 };
@@ -295,6 +297,16 @@ const char *object_path(uint32_t object)
 const char *object_called(uint32_t object)
 {
     return objects[object].called;
+}
+
+void object_ends_stacks(uint32_t object)
+{
+    objects[object].ends_stacks = object != 0;
+}
+
+struct marks *object_end_marks(uint32_t object)
+{
+    return objects[object].ends_stacks ? &objects[object].ends : NULL;
 }
 
 struct marks *object_marks(uint32_t object)

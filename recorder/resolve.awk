@@ -5,6 +5,7 @@
 #   kind=declared  what count.awk left: objects, places, types and locks, and how much there is of all
 #   kind=record    the recorder's file
 # Variables: progress, which is 1 where somebody sits at a terminal, and notes, the file for what isn't part of a trace:
+#   blind NAME              stacks end in that object, whose functions can't be unwound
 #   matched LINE            a line of the user's file that names types of this trace
 #   pending N               so many requests never ended
 #   again SEAT LOCK SITE    the seat waited for a lock that it held
@@ -435,6 +436,8 @@ function header(   chunks, i) {
         bless(i)
     if (waiting > 0)
         print "pending " waiting >notes
+    for (i in blind)
+        print "blind " object_name(i) >notes
 }
 
 function tell_progress() {
@@ -560,6 +563,7 @@ kind == "lines" {
 kind == "names" { if (split($0, pair, "\t") == 2) demangled[pair[1]] = hashless(pair[2]); next }
 
 $1 == "object" { path_of[$2] = substr($0, length($2) + 9); next }
+$1 == "blind" { blind[$2] = 1; next }
 $1 == "called" { called_of[$2] = substr($0, length($2) + 9); next }
 $1 == "stack" { stack_line[$2] = $0; with_stacks = notes != "/dev/null"; next }
 $1 == "place" { object_of[$2] = $3; offset_of[$2] = $4; function_of[$2] = $5; within_of[$2] = $6; next }

@@ -435,6 +435,20 @@ static void write_object(int stream, uint32_t object)
     stream_append(stream, false);
 }
 
+/* `blind OBJECT`: a stack has ended in the object, since its functions can't be unwound. */
+static void write_blind(int stream, uint32_t object)
+{
+    struct marks *marks = object_end_marks(object);
+    uint32_t *written = marks ? mark(marks, stream) : NULL;
+    if (!written || *written)
+        return;
+    *written = 1;
+    put_text(stream, "blind");
+    put_number(stream, object);
+    put_text(stream, "\n");
+    stream_append(stream, false);
+}
+
 /* `either NUMBER PLACE PLACE`: the first one is in the library, and the second one counts where it says nothing. */
 static void write_either(int stream, uint32_t place)
 {
@@ -458,6 +472,7 @@ void write_place(int stream, uint32_t place)
         return;
     }
     write_object(stream, written->object);
+    write_blind(stream, written->object);
     put_text(stream, "place");
     put_number(stream, place);
     put_number(stream, written->object);

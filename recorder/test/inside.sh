@@ -188,3 +188,15 @@ if wanted link; then
     grep -q '@ file+0x' recorded.err
     tell link "the program's own name" $?
 fi
+
+# An object without unwind tables is named, once.
+if wanted blind; then
+    cp "$here/helper.c" . && cc -g -O1 -fno-asynchronous-unwind-tables -fno-unwind-tables -pthread -o blind helper.c
+    "$record" -- sh -c './blind; ./blind' 2>recorded.err
+    [ "$(grep -c '^record: blind has no unwind tables' recorded.err)" -eq 1 ]
+    tell blind "an object without unwind tables" $?
+    cc -g -O1 -pthread -o blind helper.c
+    "$record" -- ./blind 2>recorded.err
+    ! grep -q 'unwind tables' recorded.err
+    tell blind "an object with them" $?
+fi
