@@ -10,6 +10,7 @@
 #include <fcntl.h>
 #include <link.h>
 #include <string.h>
+#include <sys/auxv.h>
 #include <sys/mman.h>
 #include <sys/stat.h>
 #include <unistd.h>
@@ -44,12 +45,15 @@ struct object {
     uintptr_t from, to;
     uintptr_t bias; /* from addresses as the file counts them to those in memory */
     const char *path;
+    const char *called; /* of the program, where it was started by a link of another name; else NULL */
     struct image image;
     const ElfW(Sym) *table;
     uint64_t table_count;
     const char *strings;
     uint64_t strings_size;
     bool is_read; /* the two below are */
+    bool ends_stacks;
+    struct marks ends;
     struct index index[KINDS];
     struct marks marks;
 };
@@ -235,10 +239,26 @@ static bool read_maps(void (*each)(const char *line))
     return got == 0;
 }
 
+/* The program's own object is called by the name that it was started by, if that is a link to its file. */
+static void name_program(void)
+{
+    const char *started = (const char *)getauxval(AT_EXECFN);
+    uint32_t program = known(getauxval(AT_PHDR));
+    struct stat status;
+    if (!started || !program || stat(started, &status) != 0)
+        return;
+    struct object *object = &objects[program];
+    const char *name = strrchr(started, '/'), *own = strrchr(object->path, '/');
+    name = name ? name + 1 : started;
+    if (status.st_dev == object->image.device && status.st_ino == object->image.inode && own && strcmp(name, own + 1) != 0)
+        object->called = keep_text(name, strlen(name));
+}
+
 /* Before the program runs, which may later be kept from opening what is mapped now. */
 void objects_begin(void)
 {
     read_maps(read_map);
+    name_program();
 }
 
 /* Notes what is loaded by now, and maps nothing for it. Under the mutex. */
@@ -295,6 +315,21 @@ uint64_t object_offset(uint32_t object, uintptr_t address)
 const char *object_path(uint32_t object)
 {
     return objects[object].path;
+}
+
+const char *object_called(uint32_t object)
+{
+    return objects[object].called;
+}
+
+void object_ends_stacks(uint32_t object)
+{
+    objects[object].ends_stacks = object != 0;
+}
+
+struct marks *object_end_marks(uint32_t object)
+{
+    return objects[object].ends_stacks ? &objects[object].ends : NULL;
 }
 
 struct marks *object_marks(uint32_t object)

@@ -229,6 +229,18 @@ static _Unwind_Reason_Code keep_frame(struct _Unwind_Context *context, void *arg
     return stack->count == FRAMES ? _URC_END_OF_STACK : _URC_NO_REASON;
 }
 
+/* Of the unwinder: what the object has to unwind the function at that address by, NULL for nothing. */
+struct dwarf_eh_bases {
+    void *text, *data, *function;
+};
+extern const void *_Unwind_Find_FDE(void *pc, struct dwarf_eh_bases *bases);
+
+static bool is_blind(uintptr_t pc)
+{
+    struct dwarf_eh_bases bases;
+    return _Unwind_Find_FDE((void *)(pc - 1), &bases) == NULL;
+}
+
 static uintptr_t word_at(uintptr_t address)
 {
     uintptr_t word;
@@ -268,8 +280,12 @@ COLD static void unwind(struct caller caller, struct stack *stack)
     _Unwind_Backtrace(keep_frame, stack);
     if (stack->count == 0)
         stack->frames[stack->count++] = (struct frame){caller.pc, caller.stack, 0, false};
+    uintptr_t last = stack->frames[stack->count - 1].pc;
+    bool blind = stack->count < FRAMES && is_blind(last);
     if (!recorder_enters())
         return;
+    if (blind)
+        object_ends_stacks(object_of(last - 1, true));
     for (uint32_t i = 0; i + 1 < stack->count; i++)
         add(stack->frames[i].pc, step_between(&stack->frames[i], &stack->frames[i + 1]));
     if (stack->count < FRAMES)

@@ -395,7 +395,11 @@ void places_closed(uintptr_t from, uintptr_t to);
 uint32_t object_of(uintptr_t address, bool look); /* 0 for none; looks for new objects where it is told to */
 uint64_t object_offset(uint32_t object, uintptr_t address);
 const char *object_path(uint32_t object);
+const char *object_called(uint32_t object); /* the name that is told in place of its file's, NULL where there is none */
 struct marks *object_marks(uint32_t object);
+/* The object's functions can't be unwound: a stack has ended there. */
+void object_ends_stacks(uint32_t object);
+struct marks *object_end_marks(uint32_t object); /* NULL where none has */
 /* The name of the function or variable there, or an empty one; *from is where it begins, and *size how long it is. */
 const char *object_symbol(uint32_t object, uintptr_t address, bool function, uintptr_t *from, uint64_t *size);
 const char *object_symbol_file(uint32_t object, uintptr_t address);

@@ -5,6 +5,7 @@
 #   kind=declared  what count.awk left: objects, places, types and locks, and how much there is of all
 #   kind=record    the recorder's file
 # Variables: progress, which is 1 where somebody sits at a terminal, and notes, the file for what isn't part of a trace:
+#   blind NAME              stacks end in that object, whose functions can't be unwound
 #   matched LINE            a line of the user's file that names types of this trace
 #   pending N               so many requests never ended
 #   again SEAT LOCK SITE    the seat waited for a lock that it held
@@ -38,6 +39,10 @@ BEGIN {
 function base(path) {
     sub(/.*\//, "", path)
     return path
+}
+
+function object_name(object) {
+    return object in called_of ? called_of[object] : base(path_of[object])
 }
 
 # Only the bytes that a name of a trace may have.
@@ -215,13 +220,13 @@ function maker(place,   key, number) {
 }
 
 function unknown(place,   text) {
-    text = base(path_of[object_of[place]]) "+0x" offset_of[place]
+    text = object_name(object_of[place]) "+0x" offset_of[place]
     return function_of[place] == "-" ? text : text "(" function_name(place) ")"
 }
 
 function variable(object, offset, name, within, file) {
     if (name == "-")
-        return base(path_of[object]) "+0x" offset
+        return object_name(object) "+0x" offset
     if (name in demangled)
         name = demangled[name]
     return clean((within == "0" ? name : name "+0x" within) (file == "-" ? "" : " (" file ")"))
@@ -300,7 +305,7 @@ function part_names(   type, name) {
         name = plain[type]
         if (sub(/\)$/, ", ", name) == 0)
             name = name " ("
-        plain[type] = cut(substr(name, 1, 40), base(path_of[object_at[type]]) ")")
+        plain[type] = cut(substr(name, 1, 40), object_name(object_at[type]) ")")
     }
     for (name in claimants)
         delete claimants[name]
@@ -435,6 +440,8 @@ function header(   chunks, i) {
         bless(i)
     if (waiting > 0)
         print "pending " waiting >notes
+    for (i in blind)
+        print "blind " object_name(i) >notes
 }
 
 function tell_progress() {
@@ -570,6 +577,8 @@ kind == "lines" {
 kind == "names" { if (split($0, pair, "\t") == 2) demangled[pair[1]] = hashless(pair[2]); next }
 
 $1 == "object" { path_of[$2] = substr($0, length($2) + 9); next }
+$1 == "blind" { blind[$2] = 1; next }
+$1 == "called" { called_of[$2] = substr($0, length($2) + 9); next }
 $1 == "stack" { stack_line[$2] = $0; next }
 $1 == "place" { object_of[$2] = $3; offset_of[$2] = $4; function_of[$2] = $5; within_of[$2] = $6; next }
 $1 == "either" { library_of[$2] = $3; rest_of[$2] = $4; next }

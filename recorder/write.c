@@ -420,6 +420,7 @@ COLD void write_released_by_another(struct thread *thread, struct lock *lock, ui
     recorder_leaves();
 }
 
+/* `object NUMBER PATH`; then `called NUMBER NAME` where it is told by another name. */
 static void write_object(int stream, uint32_t object)
 {
     uint32_t *written = object ? mark(object_marks(object), stream) : NULL;
@@ -429,6 +430,27 @@ static void write_object(int stream, uint32_t object)
     put_text(stream, "object");
     put_number(stream, object);
     put_name(stream, object_path(object));
+    put_text(stream, "\n");
+    stream_append(stream, false);
+    if (!object_called(object))
+        return;
+    put_text(stream, "called");
+    put_number(stream, object);
+    put_name(stream, object_called(object));
+    put_text(stream, "\n");
+    stream_append(stream, false);
+}
+
+/* `blind OBJECT`: a stack has ended in the object, since its functions can't be unwound. */
+static void write_blind(int stream, uint32_t object)
+{
+    struct marks *marks = object_end_marks(object);
+    uint32_t *written = marks ? mark(marks, stream) : NULL;
+    if (!written || *written)
+        return;
+    *written = 1;
+    put_text(stream, "blind");
+    put_number(stream, object);
     put_text(stream, "\n");
     stream_append(stream, false);
 }
@@ -456,6 +478,7 @@ void write_place(int stream, uint32_t place)
         return;
     }
     write_object(stream, written->object);
+    write_blind(stream, written->object);
     put_text(stream, "place");
     put_number(stream, place);
     put_number(stream, written->object);

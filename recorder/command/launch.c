@@ -32,17 +32,17 @@ static void fail(const char *what)
     exit(126);
 }
 
-/* What is ignored from the start stays so, here and in the program. */
+/*
+ * Those that are ignored, too: the program is born with them ignored, and may have a handler for them later. A signal that
+ * is blocked waits here, ignored or not.
+ */
 static sigset_t awaited(void)
 {
     sigset_t set;
     sigemptyset(&set);
     sigaddset(&set, SIGCHLD);
-    for (size_t i = 0; i < sizeof passed_on / sizeof *passed_on; i++) {
-        struct sigaction action;
-        if (sigaction(passed_on[i], NULL, &action) == 0 && action.sa_handler != SIG_IGN)
-            sigaddset(&set, passed_on[i]);
-    }
+    for (size_t i = 0; i < sizeof passed_on / sizeof *passed_on; i++)
+        sigaddset(&set, passed_on[i]);
     return set;
 }
 

@@ -153,3 +153,67 @@ if wanted callbacks; then
         done
     done
 fi
+
+# A program that is started with INT ignored, as in the background of a shell, and has a handler for it later.
+if wanted ignored; then
+    cat >handles.c <<'END'
+#include <signal.h>
+#include <stdio.h>
+#include <unistd.h>
+static volatile sig_atomic_t came;
+static void handle(int number) { came = number; }
+int main(void)
+{
+    signal(SIGINT, handle);
+    puts("ready");
+    fflush(stdout);
+    for (int i = 0; i < 100 && !came; i++)
+        usleep(100000);
+    puts(came ? "it came" : "nothing came");
+}
+END
+    cc -o handles handles.c
+    "$record" -- true 2>/dev/null
+    : >ignored.out
+    "$record" -- ./handles >ignored.out 2>/dev/null &
+    for look in 1 2 3 4 5 6 7 8 9 10 11 12 13 14 15 16 17 18 19 20; do
+        ! grep -q ready ignored.out || break
+        sleep 0.2
+    done
+    kill -INT $!
+    wait $!
+    grep -qx 'it came' ignored.out
+    tell ignored "INT that was ignored at the start is passed on" $?
+    "$record" -- sh -c 'echo ready; sleep 2; echo went on' >ignored.out 2>/dev/null &
+    for look in 1 2 3 4 5 6 7 8 9 10 11 12 13 14 15 16 17 18 19 20; do
+        ! grep -q ready ignored.out || break
+        sleep 0.1
+    done
+    kill -INT $!
+    wait $!
+    grep -qx 'went on' ignored.out
+    tell ignored "and is ignored by a program that has no handler for it" $?
+fi
+
+# A program that is started by a link is told by that name.
+if wanted link; then
+    mkdir -p linked && cp "$here/reversal.c" . && cc -pthread -s -o linked/file reversal.c && ln -sf file linked/alias
+    "$record" -- linked/alias 2>recorded.err
+    grep -q '@ alias+0x' recorded.err && ! grep -q 'file+0x' recorded.err
+    tell link "the program's own name, by a link" $?
+    "$record" -- linked/file 2>recorded.err
+    grep -q '@ file+0x' recorded.err
+    tell link "the program's own name" $?
+fi
+
+# An object without unwind tables is named, once.
+if wanted blind; then
+    cp "$here/helper.c" . && cc -g -O1 -fno-asynchronous-unwind-tables -fno-unwind-tables -pthread -o blind helper.c
+    "$record" -- sh -c './blind; ./blind' 2>recorded.err
+    [ "$(grep -c '^record: blind has no unwind tables' recorded.err)" -eq 1 ]
+    tell blind "an object without unwind tables" $?
+    cc -g -O1 -pthread -o blind helper.c
+    "$record" -- ./blind 2>recorded.err
+    ! grep -q 'unwind tables' recorded.err
+    tell blind "an object with them" $?
+fi
