@@ -138,9 +138,12 @@ static void tell_all(void)
     CALL(WIT_UNLOCKED, release(&place, 2, 2));
 }
 
+/* Numbers are gathered with or without the room that is asked for first: so that refusal isn't told. */
+enum { NUMBERS_GATHERED = 2 };
+
 void try_growths(void)
 {
-    long number = 0;
+    long number = 0, untold = 0;
 
     do {
         refused_growth = ++number;
@@ -149,9 +152,13 @@ void try_growths(void)
         take_all();
         tell_all();
         wit_free(&place);
-        IS(growths >= number, told);
+        HOLDS(told <= 1);
         IS(0, blocks_out);
-    } while (told != 0 && number < 10000);
-    HOLDS(number > 50);
+        if (growths >= number)
+            untold += 1 - told;
+    } while (growths >= number && number < 10000);
+    HOLDS(growths < number && number > 50);
+    HOLDS(untold <= NUMBERS_GATHERED);
+    IS(0, told);
     refused_growth = 0;
 }

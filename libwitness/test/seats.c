@@ -130,10 +130,10 @@ static void try_watch(void)
     IS(WIT_WATCH_ON, wit_watch(&place));
     IS(WIT_DONE, wit_set_watch(&place, 1, WIT_WATCH_QUIET));
     IS(WIT_WATCH_QUIET, wit_watch(&place));
-    IS(WIT_IGNORED, wit_define_order(&place, 1, 1, 1));
     IS(WIT_DONE, wit_set_watch(&place, 1, WIT_WATCH_ON));
     IS(WIT_DONE, wit_set_watch(&place, 1, WIT_WATCH_OFF));
     IS(WIT_WATCH_OFF, wit_watch(&place));
+    IS(WIT_IGNORED, wit_define_order(&place, 1, 1, 1));
     wit_free(&place);
 }
 
