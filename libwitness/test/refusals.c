@@ -75,8 +75,8 @@ static void try_sizes(void)
     IS(WIT_EMPTY, wit_reports(&place));
 }
 
-/* Numbers and names that nothing has. */
-static void try_numbers(void)
+/* Classes that there aren't, and bytes that are no name. */
+static void try_names(void)
 {
     static const char long_name[65] = "0123456789012345678901234567890123456789012345678901234567890123";
 
@@ -96,6 +96,14 @@ static void try_numbers(void)
     IS(-29, wit_file(&place, "a b", 3));
     IS(2, wit_file(&place, "g", 1));
     IS(1, wit_file(&place, "f", 1));
+    wit_free(&place);
+}
+
+/* Seats, locks and files that there aren't, and calls that don't fit together. */
+static void try_numbers(void)
+{
+    IS(0, begin(&place));
+    IS(1, lock_of(&place, WIT_RW, "a", 0));
     for (int seat = 0; seat <= 3; seat += 3) {
         IS(-1, check(&place, (uint16_t)seat, 1, true, 1));
         IS(-1, wit_note(&place, (uint16_t)seat, 1));
@@ -107,7 +115,7 @@ static void try_numbers(void)
     IS(-2, wit_note_try(&place, 1, 2, true, 1, 1));
     IS(-2, wit_assert(&place, 1, 4294967295U, WIT_LA_LOCKED));
     IS(-2, wit_warn(&place, 1, 2, 0));
-    IS(-33, wit_check(&place, 1, 1, true, 0, 3, 1));
+    IS(-33, wit_check(&place, 1, 1, true, 0, 2, 1));
     IS(-33, wit_check(&place, 1, 1, true, 0, 0, 1));
     IS(-11, release(&place, 1, 1));
     IS(-25, wit_note(&place, 1, 1));
@@ -163,6 +171,7 @@ void try_refusals(void)
 {
     try_empty();
     try_sizes();
+    try_names();
     try_numbers();
     try_rooms();
     try_log();
