@@ -1,5 +1,5 @@
 -- Want of memory may stand in place of any start.
-use Rattle.std.proofs.Common.{ℕ, zero, suc, ◌≤◌, length, Option, None, Some, refl, inl, inr, arith}
+use Rattle.std.proofs.Common.{ℕ, zero, suc, Option, None, Some, refl, inl, inr, arith}
 use Rattle.wit_model.specs.declared.faults.Fault.{Fault}
 use Rattle.wit_model.specs.declared.faults.Fault.TheVariants.{OutOfMemory}
 use Rattle.wit_model.specs.Rules.Start.{start_fault, IsAcceptedTo, IsRefused}

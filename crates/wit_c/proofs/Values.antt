@@ -1,20 +1,15 @@
 -- The machine values of a handle and of a box's parts.
-use Rattle.std.proofs.Common.{◌≡◌, ℕ, List, [], ◌∷◌, ◌++◌, refl, subst}
-use Rattle.std.specs.Prelude.{Option, None, Some}
+use Rattle.std.proofs.Common.{◌≡◌, List, [], ◌∷◌, ◌++◌, refl, subst}
 use seplogic.Ra.Ura.{Ura}
-use mir.Raw.{raw as bare}
 use lib.Dec.{T, lit<}
 use mir.Syntax.{ty_ptr}
-use mir.Val.{Val, vptr, vstruct, vcons, vnil, of_list, has_ty, WT}
-use base.Fml.{ftrue}
-use base.Logic.{never, fst∗}
-use types.Logic.{Logic, sem}
+use mir.Val.{Val, vstruct, of_list, has_ty, WT}
+use types.Logic.{Logic}
 use types.Kit.{Item, Goal, Seq, Step, step, ‵, ◌$◌, move, drop, fsplit, fjoin, fpick, fpack, rewrite, feq_i, feq_l}
 use denote.RattleType.{RattleType, Valss}
 use denote.Builtin.{RawPtr}
 use denote.Laws.{Is, shows}
-use denote.Memory.{lone}
-use denote.RawPtr.{Ptr, block_ptr, null_ptr, ptr_val, in_a_block}
+use denote.RawPtr.{Ptr, block_ptr, null_ptr, ptr_val}
 use denote.Steps.{nothing, peeks}
 use denote.Param.{layout}
 use denote.Struct.Struct.{within}

@@ -1,7 +1,6 @@
 -- What a call does to the verifier in a place.
-use Rattle.std.specs.Prelude.{ℕ, ℤ, ◌≡◌, ◌⊎◌, List, Option, None, Some, Result, Ok, Err}
+use Rattle.std.specs.Prelude.{ℕ, ℤ, ◌≡◌, List, Option, None, Some, Result}
 use Rattle.wit_model.specs.declared.calls.Call.{Call}
-use Rattle.wit_model.specs.declared.calls.Reply.{Reply}
 use Rattle.wit_model.specs.declared.faults.Fault.{Fault}
 use Rattle.wit_model.specs.Rules.State.{Story}
 use Rattle.wit_model.specs.Rules.Step.{Answers, AnswersOrFails}

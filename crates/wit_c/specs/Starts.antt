@@ -1,5 +1,5 @@
 -- How C has a verifier begin.
-use Rattle.std.specs.Prelude.{ℕ, ℤ, pos, ◌≡◌, Bool, true, false, ◌&&◌, List, map, Option, None, Some}
+use Rattle.std.specs.Prelude.{ℕ, ℤ, pos, ◌≡◌, Bool, true, false, List, map, Option, None, Some}
 use Rattle.std.specs.Prelude.{is_some, unwrap_or}
 use Rattle.std.specs.Borrow.{Bor}
 use Rattle.std.specs.List.{list_all}
@@ -7,7 +7,7 @@ use Rattle.wit_model.specs.declared.faults.Fault.{Fault}
 use Rattle.wit_model.specs.declared.locks.Class.{Class}
 use Rattle.wit_model.specs.declared.locks.Class.TheVariants.{SleepMutex}
 use Rattle.wit_model.specs.declared.profiles.Profile.{Profile}
-use Rattle.wit_model.specs.Rules.Sizes.{Sizes, are_within_limits}
+use Rattle.wit_model.specs.Rules.Sizes.{Sizes}
 use Rattle.wit_model.specs.Rules.Start.{start_fault, IsRefused}
 use Rattle.wit_model.specs.Rules.State.{Start, fresh}
 use Rattle.wit_c.specs.Numbers.{full_place, no_such, fault_number, class_in}

@@ -4,7 +4,7 @@ use mir.Raw.{raw}
 use base.Shift.{Keyless}
 use denote.Memory.{lone}
 use denote.RawPtr.{Ptr}
-use denote.Param.Send.{IsSend, Frees, owning_send, sendable}
+use denote.Param.Send.{IsSend, owning_send, sendable}
 use Rattle.std_alloc.proofs.SendSync.{lies}
 use Rattle.std_heap.specs.declared.Global.{Global}
 use Rattle.std_heap.specs.contracts.GlobalAllocator.TheImpl.{ghosts}

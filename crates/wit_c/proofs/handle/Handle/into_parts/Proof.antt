@@ -1,33 +1,28 @@
 -- `into_parts` moves what the handle owns into the parts.
-use Rattle.std.proofs.Common.{◌≡◌, ℕ, List, [], ◌∷◌, ◌++◌, refl, sym, subst}
+use Rattle.std.proofs.Common.{◌≡◌, List, [], ◌∷◌, ◌++◌, refl, sym, subst}
 use Rattle.std.specs.Prelude.{Option, None, Some, IsSome, IfSome}
 use Rattle.wit_c.specs.Owned.{owned}
-use seplogic.Ra.Ura.{Ura}
-use mir.Val.{Val, vptr, has_ty, WT}
+use mir.Val.{Val}
 use base.Logic.{SProp, ent, emp, id⊢}
 use base.Fml.{ftrue}
 use lib.Dec.{T}
 use prog.Wp.{WpFn}
-use types.Logic.{sem}
-use types.Kit.{‵, raw, ◌⊛◌, ◌$◌, ◌∵◌, !, qed, by, move, keep, drop, split, join, fsplit, fjoin, suffices, use0, use1, rewrite}
+use types.Kit.{‵, raw, ◌⊛◌, ◌$◌, ◌∵◌, !, qed, by, move, keep, split, fsplit, fjoin, suffices, use0, rewrite}
 use types.Run.{stop, fld, of_opd, no_more, and_then, returns, enter}
 use types.ByLocal.{alloc_all, pass_all, free_all, look_at, get, get_in, sets}
 use types.Part.{agg, sub, whole}
 use contract.Monad.{fact, fact_i}
 use contract.Running.{tables}
 use denote.Exit.{yes}
-use denote.RattleType.{RattleType, owns}
+use denote.RattleType.{owns}
 use denote.Signature.{types_at, plain}
-use denote.RawPtr.{Ptr, block_ptr, null_ptr, ptr_val}
-use denote.Steps.{nothing, only, heard}
+use denote.Steps.{nothing, heard}
 use denote.Triple.Walked.{Stays, stay_dropped, walk_of}
 use Rattle.core.proofs.alloc.Calls.{Goes-blank}
 use Rattle.std.proofs.raw_atomic.Walks.{proved_at, leaves}
-use Rattle.std_heap.proofs.Handle.{heap_val, heap_Tells}
 use Rattle.std_heap.specs.contracts.GlobalAllocator.TheImpl.{ghosts}
-use Rattle.std_alloc.specs.Box.Ownership.{box_owns}
 use Rattle.wit_c.specs.contracts.judge.Judge.{the_row as R}
-use Rattle.wit_c.proofs.Values.{Global, Parts, Handle, both, parts_out, parts_in, handle_out, handle_in, heap_good, ptr_good, parts_good, handle_good}
+use Rattle.wit_c.proofs.Values.{Parts, Handle, both, parts_in, handle_out, heap_good, ptr_good, parts_good, handle_good}
 use Rattle.wit_c.specs.contracts.handle.Handle.into_parts.{ended, clauses}
 use Rattle.wit_c.specs.contracts.handle.Handle.into_parts.Key.{name as #self}
 use Rattle.wit_c.proofs.handle.Handle.into_parts.Statement.{statement}
