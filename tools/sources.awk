@@ -73,6 +73,8 @@ function look(code,    value) {
     if (code ~ /[.](read|write) *[|&^]?=([^=]|$)/ || code ~ /(^|[^A-Za-z0-9_])(read|write):/ && code !~ /: bool,/ ||
         code ~ /&mut [a-z_.]*[.](read|write)([^a-z_(]|$)/ || code ~ /(ReplayError|Self)::(Read|Write)/) tell("evidence")
     if (code ~ /macro_rules!/) tell("impl")
+    # An export's own name: tools/try-c looks at those of the built library.
+    gsub(/#\[unsafe\(no_mangle\)\]/, "", code)
     if (code ~ /[*](const|mut) |NonNull|addr_of|unsafe|as_ptr|as_mut_ptr|from_raw/) tell(pointer)
     if (code ~ /mem::forget|ManuallyDrop|[.:]leak[(]|into_raw/) tell("forget")
 }

@@ -20,14 +20,14 @@ pub fn is_clean(profile: Profile, log: &[Entry]) -> bool
     log.iter().all(|entry| is_clean_entry(profile, entry))
 }
 
-/// Whether an entry leaves a log clean.
-pub fn is_clean_entry(profile: Profile, entry: &Entry) -> bool
+fn is_clean_entry(profile: Profile, entry: &Entry) -> bool
     ensures { result ≡ is_clean_entry profile entry.now }
 {
     is_clean_call(profile, &entry.call) && !is_report(&entry.reply)
 }
 
-fn is_clean_call(profile: Profile, call: &Call) -> bool
+/// Whether a call leaves a log clean, if it isn't answered by a report.
+pub fn is_clean_call(profile: Profile, call: &Call) -> bool
     ensures { result ≡ is_clean_call profile call.now }
 {
     match call {

@@ -52,8 +52,9 @@ pub fn law_pairs_decide()
 
 /// A recorder may leave out a request where a lock of that type was asked for before behind locks
 /// of the same types, in the same order, and each request behind no lock. What it keeps tells of
-/// all that the run asked for; where that is clean, no reordering of the run reaches a deadlock.
-/// Such a recording of a run is there.
+/// all pairs that the run's log tells of. Where it is clean, no reordering of the run reaches a
+/// deadlock, if a report is all that could keep the run's own log from being clean. Such a
+/// recording of a run is there.
 pub fn law_condensed()
     ensures tells { CondensedTellsOfAll }
     ensures run { RunsCondensedNeverDeadlock }

@@ -5,4 +5,4 @@
 mod clean;
 pub mod laws;
 
-pub use clean::{is_clean, is_clean_entry};
+pub use clean::{is_clean, is_clean_call};

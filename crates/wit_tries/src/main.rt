@@ -2,15 +2,18 @@
 //! memory: it then tells whether the verifier shows what it showed before. It reads the file
 //! `trace`; `tools/try-growths` refuses each growth in turn. With the word `prepare` checks and
 //! defined orders are prepared first. With the word `release` it goes on from a refusal by the
-//! release of all that is held.
+//! release of all that is held. With the word `clean` it makes the calls once, and tells whether
+//! they leave a clean log: `tools/try-clean` compares that.
 #![tactic(auto)]
 
 mod acts;
+mod cleanness;
 mod lines;
 mod start;
 mod sums;
 mod tries;
 
+use crate::cleanness::tell_clean;
 use crate::start::start;
 use crate::tries::{Tries, say};
 use std::alloc::Global;
@@ -36,6 +39,7 @@ fn main(rt: HostRuntime) {
         return;
     };
     match started(alloc, &mut output, &text) {
+        Ok(verifier) if word == Some(b'c') => tell_clean(alloc, verifier, &mut output, &text),
         Ok(verifier) => {
             let mut tries = Tries {
                 alloc,

@@ -1,0 +1,4 @@
+pub mod Circles
+pub mod Names
+pub mod Refusing
+pub mod Values

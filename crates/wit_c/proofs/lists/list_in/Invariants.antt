@@ -1,0 +1,7 @@
+use Rattle.std.proofs.Common.{◌≡◌, map, take}
+use Rattle.wit_core.specs.Listed.{listed}
+use Rattle.wit_c.specs.Starts.{type_in}
+use Rattle.wit_c.proofs.lists.list_in.Given as goal
+
+abbrev pub invariant-loop-listed : goal.invariant-loop-listed
+invariant-loop-listed l = listed l.all.items ≡ map type_in (take l.listed-index l.types)

@@ -1,0 +1,6 @@
+pub mod Numbers
+pub mod Owned
+pub mod Places
+pub mod Starts
+pub mod Texts
+pub mod Views

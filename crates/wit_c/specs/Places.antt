@@ -1,0 +1,52 @@
+-- What a call does to the verifier in a place.
+use Rattle.std.specs.Prelude.{ℕ, ℤ, ◌≡◌, List, Option, None, Some, Result}
+use Rattle.wit_model.specs.declared.calls.Call.{Call}
+use Rattle.wit_model.specs.declared.faults.Fault.{Fault}
+use Rattle.wit_model.specs.Rules.State.{Story}
+use Rattle.wit_model.specs.Rules.Step.{Answers, AnswersOrFails}
+use Rattle.wit_model.specs.declared.locks.FileNo.{FileNo}
+use Rattle.wit_model.specs.Rules.Files.{NamesFile}
+use Rattle.wit_c.specs.Numbers.{empty_place, answer_number, file_number}
+use Rattle.wit_c.specs.Texts.{IsToldOrFails}
+use Rattle.wit_c.specs.declared.judge.Judge.{Judge}
+
+-- an empty place stays so, and that is the answer; a full one stays full, and the rest says what
+-- its verifier has done
+abbrev pub InPlace : (Judge → ℤ → Judge → Type 0) → Option Judge → ℤ → Option Judge → Type 0
+InPlace does None n new = (n ≡ empty_place) × (new ≡ None)
+InPlace does (Some old) n None = ⊥
+InPlace does (Some old) n (Some new) = does old n new
+
+-- the verifier is asked, and stays
+abbrev pub Asks : (Story → ℤ → Type 0) → Option Judge → ℤ → Option Judge → Type 0
+Asks says = InPlace (λ old n new. says old.verifier n × (new ≡ old))
+
+-- a file is named to it
+abbrev pub Names : List ℕ → Option Judge → ℤ → Option Judge → Type 0
+Names name = InPlace (λ old n new. (answer : Result FileNo Fault)
+    × ((NamesFile old.verifier name answer new.verifier × (n ≡ file_number answer))
+    × (new.last ≡ old.last)))
+
+-- the seat's call is answered as by the verifier's own, the answer is kept, and its number told
+abbrev pub Calls : ℕ → Call → Option Judge → ℤ → Option Judge → Type 0
+Calls seat call = InPlace (λ old n new.
+    AnswersOrFails old.verifier seat call new.last new.verifier × (n ≡ answer_number new.last))
+
+-- the same of a call that takes no memory, and so is never refused for want of it
+abbrev pub CallsSurely : ℕ → Call → Option Judge → ℤ → Option Judge → Type 0
+CallsSurely seat call = InPlace (λ old n new.
+    Answers old.verifier seat call new.last new.verifier × (n ≡ answer_number new.last))
+
+-- the verifier tells something in a buffer, and stays; of an empty place the buffer stays too
+abbrev pub Tells : {X : Type 0} → (Judge → List X → ℤ → List X → Type 0) → List X → List X
+    → Option Judge → ℤ → Option Judge → Type 0
+Tells says old_buffer new_buffer None n new =
+    (n ≡ empty_place) × ((new ≡ None) × (new_buffer ≡ old_buffer))
+Tells says old_buffer new_buffer (Some old) n None = ⊥
+Tells says old_buffer new_buffer (Some old) n (Some new) =
+    says old old_buffer n new_buffer × (new ≡ old)
+
+-- what it tells is a text or a list, or there was no memory for that
+abbrev pub TellsAll : {X : Type 0} → (Judge → List X) → List X → List X
+    → Option Judge → ℤ → Option Judge → Type 0
+TellsAll all = Tells (λ judge old n new. IsToldOrFails (all judge) old n new)
