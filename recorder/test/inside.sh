@@ -216,3 +216,8 @@ if wanted small; then
     grep -q '^  handle (small.c:18)$' recorded.err && grep -q '^  main (small.c:32)$' recorded.err
     tell small "its callers" $?
 fi
+
+if wanted names; then
+    awk -f "$recorder/resolve.awk" -f "$here/names.awk" </dev/null | diff - "$here/names.want"
+    tell names "functions as their sources name them, and files of libraries" $?
+fi
