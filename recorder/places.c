@@ -348,7 +348,7 @@ COLD static uint32_t pair_made(uint32_t library, uint32_t rest)
  * A further caller: one of the library is joined to the first one after it that isn't. False where a place that stands for
  * two would have to be made and isn't to be.
  */
-static bool take(struct search *search, uint32_t number, bool makes)
+static inline bool take(struct search *search, uint32_t number, bool makes)
 {
     uint8_t detour = detour_at(number);
     if (detour == DETOUR_WRAPPER)
@@ -405,7 +405,11 @@ COLD static void look_far(void *argument)
 /* The first callers that aren't wrappers, at most as many as wanted; where all are, the first of all. */
 uint32_t callers(struct caller caller, uint32_t wanted, uint32_t *found)
 {
-    struct search search = {.caller = caller, .wanted = wanted, .found = found};
+    struct search search; /* the way goes by here often: the library's functions aren't set before they are counted */
+    search.caller = caller;
+    search.wanted = wanted;
+    search.found = found;
+    search.count = search.libraries = 0;
     if (!follow(caller, &search)) {
         if (may_be_on_small_stack())
             aside(look_far, &search);
