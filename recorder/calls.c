@@ -371,6 +371,8 @@ static void handler_comes(handler *given)
 EXPORT int sigaction(int number, const struct sigaction *restrict action, struct sigaction *restrict before)
 {
     handler_comes(action ? action->sa_handler : SIG_DFL);
+    if (action && (action->sa_flags & SA_ONSTACK))
+        atomic_store(&has_small_stacks, true);
     return real.sigaction(number, action, before);
 }
 

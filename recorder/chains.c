@@ -188,8 +188,8 @@ static void consider(struct request *request)
     write_request(request);
 }
 
-bool request_begins(struct request *request, const void *address, enum class class, enum mode mode,
-    struct caller caller, bool tried)
+static __attribute__((noinline)) bool begins(struct request *request, const void *address, enum class class,
+    enum mode mode, struct caller caller, bool tried)
 {
     struct thread *thread = &self;
     if (UNLIKELY(!opens(thread, caller.stack)))
@@ -217,14 +217,48 @@ bool request_begins(struct request *request, const void *address, enum class cla
     return true;
 }
 
-/* A patient request has waited for a second: now it is written, so that the trace shows a circle where there is one. */
-COLD void request_waits(struct request *request)
+struct beginning {
+    struct request *request;
+    const void *address;
+    struct caller caller;
+    enum class class;
+    enum mode mode;
+    bool tried, begun;
+};
+
+static void begin_aside(void *argument)
 {
+    struct beginning *it = argument;
+    it->begun = begins(it->request, it->address, it->class, it->mode, it->caller, it->tried);
+}
+
+bool request_begins(struct request *request, const void *address, enum class class, enum mode mode,
+    struct caller caller, bool tried)
+{
+    if (!may_be_on_small_stack())
+        return begins(request, address, class, mode, caller, tried);
+    struct beginning it = {request, address, caller, class, mode, tried, false};
+    aside(begin_aside, &it);
+    return it.begun;
+}
+
+/* A patient request has waited for a second: now it is written, so that the trace shows a circle where there is one. */
+static void waits_aside(void *argument)
+{
+    struct request *request = argument;
     request->stack = stack_of(request->caller);
     if (request->again_refused)
         write_waits_for_itself(request);
     else if (!request->again)
         write_request(request);
+}
+
+COLD void request_waits(struct request *request)
+{
+    if (!may_be_on_small_stack())
+        waits_aside(request);
+    else
+        aside(waits_aside, request);
 }
 
 static inline void add_held(struct request *request)
@@ -247,8 +281,7 @@ static inline void add_held(struct request *request)
     thread->count++;
 }
 
-/* The call has returned, with the lock or without. */
-void request_ends(struct request *request, bool got)
+static __attribute__((noinline)) void ends(struct request *request, bool got)
 {
     struct thread *thread = request->thread;
     if (UNLIKELY(request->again != NULL) && got && request->again_refused) {
@@ -273,6 +306,25 @@ void request_ends(struct request *request, bool got)
     goes_outside(thread);
 }
 
+static void got_aside(void *request)
+{
+    ends(request, true);
+}
+
+static void refused_aside(void *request)
+{
+    ends(request, false);
+}
+
+/* The call has returned, with the lock or without. */
+void request_ends(struct request *request, bool got)
+{
+    if (!may_be_on_small_stack())
+        ends(request, got);
+    else
+        aside(got ? got_aside : refused_aside, request);
+}
+
 static void released(struct thread *thread, struct held *held)
 {
     bool whole = held->count == 1;
@@ -284,8 +336,7 @@ static void released(struct thread *thread, struct held *held)
         held->count--;
 }
 
-/* The thread is about to release the lock, whichever call it uses. */
-void release_begins(const void *address, struct caller caller)
+static __attribute__((noinline)) void release(const void *address, struct caller caller)
 {
     struct thread *thread = &self;
     if (UNLIKELY(!opens(thread, caller.stack)))
@@ -302,6 +353,28 @@ void release_begins(const void *address, struct caller caller)
             lock_given_up(lock);
     }
     goes_outside(thread);
+}
+
+struct release {
+    const void *address;
+    struct caller caller;
+};
+
+static void release_aside(void *argument)
+{
+    const struct release *it = argument;
+    release(it->address, it->caller);
+}
+
+/* The thread is about to release the lock, whichever call it uses. */
+void release_begins(const void *address, struct caller caller)
+{
+    if (!may_be_on_small_stack()) {
+        release(address, caller);
+        return;
+    }
+    struct release it = {address, caller};
+    aside(release_aside, &it);
 }
 
 /*

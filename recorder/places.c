@@ -308,6 +308,7 @@ static bool climb(struct frame *frame, int32_t step)
 
 /* What was found of the callers that are wanted. */
 struct search {
+    struct caller caller;
     uint32_t wanted, count, *found;
     uint32_t library[LIBRARY_MOST]; /* the library's functions since the last one that was found */
     uint32_t libraries;
@@ -343,23 +344,29 @@ COLD static uint32_t pair_made(uint32_t library, uint32_t rest)
     return number ? number : rest;
 }
 
-/* A further caller: one of the library is joined to the first one after it that isn't. */
-static void take(struct search *search, uint32_t number)
+/*
+ * A further caller: one of the library is joined to the first one after it that isn't. False where a place that stands for
+ * two would have to be made and isn't to be.
+ */
+static inline bool take(struct search *search, uint32_t number, bool makes)
 {
     uint8_t detour = detour_at(number);
     if (detour == DETOUR_WRAPPER)
-        return;
+        return true;
     if (detour == DETOUR_LIBRARY) {
         if (search->libraries < LIBRARY_MOST)
             search->library[search->libraries++] = number;
-        return;
+        return true;
     }
     while (search->libraries > 0) {
         uint32_t library = search->library[--search->libraries];
         uint32_t pair = place_at_pc(pair_pc(library, number));
+        if (!pair && !makes)
+            return false;
         number = pair ? pair : pair_made(library, number);
     }
     search->found[search->count++] = number;
+    return true;
 }
 
 /* Follows the steps that are known. False where one isn't, or isn't always the same. */
@@ -371,7 +378,8 @@ static bool follow(struct caller caller, struct search *search)
         if (!number)
             return false;
         const struct place *place = place_at(number);
-        take(search, number);
+        if (!take(search, number, false))
+            return false;
         if (search->count == search->wanted || place->step == STEP_LAST)
             return true;
         if (!climb(&frame, place->step))
@@ -380,19 +388,33 @@ static bool follow(struct caller caller, struct search *search)
     return true;
 }
 
+/* Asks the unwinder. */
+COLD static void look_far(void *argument)
+{
+    struct search *search = argument;
+    struct stack stack;
+    unwind(search->caller, &stack);
+    search->count = search->libraries = 0;
+    for (uint32_t i = 0; i < stack.count && search->count < search->wanted; i++) {
+        uint32_t number = place_at_pc(stack.frames[i].pc);
+        if (number)
+            take(search, number, true);
+    }
+}
+
 /* The first callers that aren't wrappers, at most as many as wanted; where all are, the first of all. */
 uint32_t callers(struct caller caller, uint32_t wanted, uint32_t *found)
 {
-    struct search search = {.wanted = wanted, .found = found};
+    struct search search; /* the way goes by here often: the library's functions aren't set before they are counted */
+    search.caller = caller;
+    search.wanted = wanted;
+    search.found = found;
+    search.count = search.libraries = 0;
     if (!follow(caller, &search)) {
-        struct stack stack;
-        unwind(caller, &stack);
-        search.count = search.libraries = 0;
-        for (uint32_t i = 0; i < stack.count && search.count < wanted; i++) {
-            uint32_t number = place_at_pc(stack.frames[i].pc);
-            if (number)
-                take(&search, number);
-        }
+        if (may_be_on_small_stack())
+            aside(look_far, &search);
+        else
+            look_far(&search);
     }
     if (search.count == 0)
         found[search.count++] = search.libraries ? search.library[0] : place_at_pc(caller.pc);

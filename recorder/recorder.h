@@ -10,6 +10,7 @@
  *   start.c     the real functions behind them, the start, fork
  *   chains.c    what each thread holds, and the tree of chains of types; quick.h, where nothing is to be written
  *   locks.c     the locks at their addresses, and their types
+ *   aside.c     a stack of the recorder's own, for handlers that have a small one
  *   places.c    the callers of a call; objects.c finds their object and name
  *   stacks.c    the callers of what is written
  *   seats.c     seats, and the numbers of types, locks and places in a stream
@@ -166,6 +167,7 @@ struct thread {
     uint32_t written[STREAMS];   /* locks in the chain, and requests, that stand in the stream */
     uint32_t asked[STREAMS];     /* the number of the lock whose request is pending there, 0 for none */
     struct held few[HELD_FEW];
+    bool is_aside; /* on a stack of the recorder's own */
     uint32_t made; /* the place where the thread was made; 0 of the first one, or where that isn't known */
 };
 
@@ -282,6 +284,18 @@ extern uint32_t depth;  /* how many callers name a type */
 extern uint32_t life;   /* how many forks lie between the recorded program's start and this process */
 extern bool watches_free;
 extern _Atomic bool has_handlers; /* the program was given a handler of signals */
+extern _Atomic bool has_small_stacks; /* and one that has a stack of its own */
+
+/*
+ * aside.c: calls the function with the argument, on a stack of the recorder's own where this thread is on a small one.
+ * Where no handler has one, it is called at once.
+ */
+void aside(void (*function)(void *), void *argument);
+
+static inline bool may_be_on_small_stack(void)
+{
+    return UNLIKELY(atomic_load_explicit(&has_small_stacks, memory_order_relaxed));
+}
 
 void start(void);
 void fork_is_watched(void);

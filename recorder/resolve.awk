@@ -105,8 +105,9 @@ function short_operator(name,   head) {
         name = "()"
     else
         sub(/\(.*/, "", name)
-    gsub(/ const::/, "::", head)
+    gsub(/operator\(\)\([^()]*\)( const)?::/, "operator()::", head)
     name = head name
+    sub(/ +$/, "", name)
     gsub(/\001/, "<", name)
     gsub(/\002/, ">", name)
     return name

@@ -159,7 +159,7 @@ void start(void)
 static bool has_left(const struct thread *thread, uintptr_t stack)
 {
     stack_t other;
-    if (thread->state == STARTING || (sigaltstack(NULL, &other) == 0 && (other.ss_flags & SS_ONSTACK)))
+    if (thread->state == STARTING || thread->is_aside || (sigaltstack(NULL, &other) == 0 && (other.ss_flags & SS_ONSTACK)))
         return false;
     return stack > thread->state || !call_goes_on(thread->state);
 }

@@ -217,3 +217,24 @@ if wanted blind; then
     ! grep -q 'unwind tables' recorded.err
     tell blind "an object with them" $?
 fi
+
+# A handler of signals on a small stack: 512 bytes more are enough than without the recorder.
+if wanted small; then
+    compile small
+    size=2048
+    while [ $size -lt 65536 ] && ! ./small $size 2>/dev/null; do
+        size=$((size + 64))
+    done
+    "$record" -- ./small $((size + 512)) 2>&1 | diff "$here/small.want" -
+    tell small "a handler on a small stack" $?
+    "$record" --full -- ./small $((size + 512)) 2>&1 | diff "$here/small.want" -
+    tell small "a handler on a small stack (--full)" $?
+    "$record" --frames 8 -- ./small $((size + 512)) 2>recorded.err
+    grep -q '^  handle (small.c:18)$' recorded.err && grep -q '^  main (small.c:32)$' recorded.err
+    tell small "its callers" $?
+fi
+
+if wanted names; then
+    awk -f "$recorder/resolve.awk" -f "$here/names.awk" </dev/null | diff - "$here/names.want"
+    tell names "functions as their sources name them, and files of libraries" $?
+fi

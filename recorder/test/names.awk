@@ -1,0 +1,21 @@
+# Prints what resolve.awk makes of some names of functions, and which files it takes for a library's.
+BEGIN {
+    print short("main::{lambda()#1}::operator()() const")
+    print short("main::{lambda()#1}::operator()() const::{lambda(int)#2}::operator()(int) const")
+    print short("main::$_0::operator()(int, std::vector<int>) const")
+    print short("Matrix<int>::operator<<(int) const")
+    print short("bool operator< <int>(int, Matrix<int>)")
+    print short("Matrix<int>::operator->() const")
+    print short("Matrix<int>::operator[](unsigned long)")
+    print short("std::vector<int, std::allocator<int> >::push_back(int const&)")
+    print short("(anonymous namespace)::take(int)")
+    print short("my_operator_table(int)")
+    print short("pool::Pool::run::h0123456789abcdef")
+    print short("pool[8a3c1f2e5d6b7a90]::main")
+    print is_library("", "/rustc/9fc6b43126469e3858e2fe86cafb4f0fd5068869/library/core/src/ops/function.rs:250")
+    print is_library("", "/usr/include/c++/12/bits/std_mutex.h:100")
+    print is_library("", "/usr/lib/llvm-14/bin/../include/c++/v1/__mutex_base:91")
+    print is_library("", "/usr/include/x86_64-linux-gnu/c++/12/bits/gthr-default.h:749")
+    print is_library("", "/home/user/c++/2024/main.cc:9")
+    print is_library("std::hash<Key>::operator()(Key const&) const", "/home/user/key.cc:9")
+}
