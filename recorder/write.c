@@ -16,12 +16,12 @@
  * again, and what it holds when it asks for nothing.
  *
  * Why that is enough. A trace tells of a pair of types where a thread asks for a lock of the one type while it holds one
- * of the other. Whether a trace without tries is clean depends on the set of its pairs alone, and by that duty the
- * condensed stream and the full one tell of the same pairs. So one of them is clean exactly where the other one is.
- *   - With tries it is so too in the plain profile: as long as nothing was reported, both streams have adopted the same
- *     orders. By the law of the verdict PassedPassesOn (crates/wit_model/specs/VerdictLaws.antt) a request that is left
- *     out passes and adopts nothing. PassedPassesOn is a law of that profile alone, so for the all-held one `record`
- *     writes the full stream.
+ * of the other. Whether a trace is clean depends on the set of its pairs alone (law_pairs_decide of
+ * crates/wit_recordings), and by that duty the condensed stream and the full one tell of the same pairs. So one of them is
+ * clean exactly where the other one is. In the plain profile a clean trace has no tries, in the all-held one it may.
+ *   - With tries the plain profile reports the same in both streams: as long as nothing was reported, both have adopted
+ *     the same orders. By the law of the verdict PassedPassesOn (crates/wit_model/specs/VerdictLaws.antt) a request that is
+ *     left out passes and adopts nothing.
  *   - A held lock is written late as a request, like any other. All that is written before it was held when it was asked
  *     for, so it tells of no pair that the program didn't make. But behind what was tried, plain WITNESS may not know
  *     those orders. So a lock that was acquired behind a try is written as a try, which isn't judged, unless its type was

@@ -148,7 +148,7 @@ if wanted callbacks; then
             "$record" -- ./callbacks 2>clean.err
             "$record" -- ./callbacks twice 2>recorded.err
             sed -E 's/"[^"]*"/T/g; s/\([^(]*, sleep/(T, sleep/' recorded.err | diff "$here/callbacks.want" - &&
-                echo 'record: nothing to report' | diff - clean.err
+                printf '%s\n' "$clean" 'record: nothing to report' | diff - clean.err
             tell callbacks "functions that were inlined into the library ($compiler $level)" $?
         done
     done

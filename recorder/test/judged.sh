@@ -63,6 +63,7 @@ if wanted judged; then
 fi
 
 # What is asked for behind a try has an order behind each held lock in this profile alone.
-want=recursive example between "three locks, one by a try, in the plain profile" --full
+want=between.plain example between "three locks, one by a try, in the plain profile" --full
 example between "three locks, one by a try, in the all-held profile" --full --profile all
+example between "three locks, one by a try, in the all-held profile" --profile all
 example philosophers "five philosophers" --full --profile all

@@ -35,7 +35,8 @@ if wanted live; then
         ! grep -q '^held now:' recorded.err || break
         sleep 0.2
     done
-    printf '%s\n' 'held now:' ' thread N (slow writer) holds "table"' 'record: so far: nothing to report' >wanted.err
+    printf '%s\n' 'held now:' ' thread N (slow writer) holds "table"' "record: so far: ${clean#record: }" \
+        'record: so far: nothing to report' >wanted.err
     sed 's/thread [0-9]* /thread N /' recorded.err | diff wanted.err - && kill "$(cat slow.pid)" && wait $! ; [ $? -eq 143 ]
     tell live "a mutex that a thread holds behind which it asked for nothing" $?
     for words in "$$" 4194305 none; do
@@ -70,11 +71,9 @@ END
 if wanted profile; then
     stand_in
     compile reversal
-    for words in "--profile all" "--profile odd --full"; do
-        recorded_by "$record" $words -- echo ran
-        said 2 'profile' && [ ! -s recorded.out ]
-        tell profile "record $words is refused" $?
-    done
+    recorded_by "$record" --profile odd -- echo ran
+    said 2 'profile' && [ ! -s recorded.out ]
+    tell profile "a profile that isn't there is refused" $?
     WITNESS="$work/ignorant" recorded_by "$record" --full --profile all -- echo ran
     said 126 "doesn't know --profile" && [ ! -s recorded.out ]
     tell profile "a program that doesn't know it" $?
