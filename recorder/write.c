@@ -166,7 +166,7 @@ static void write_once_more(int stream, const struct thread *thread, const struc
     write_lock(stream, thread, held->number[stream]);
 }
 
-/* Whether its lines may differ from what it did: an order that it has to its chain may not be known. */
+/* Whether it is written as a try: plain WITNESS may not know an order between its chain and it. */
 static bool is_as_tried(int stream, const struct held *held)
 {
     return held->tried || (held->after_try && (stream == FULL || !node_is_requested(held->node)));

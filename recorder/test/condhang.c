@@ -24,8 +24,8 @@ int main(void)
 {
     pthread_t thread;
     pthread_create(&thread, NULL, wake, NULL);
-    pthread_mutex_lock(&outer);
     pthread_mutex_lock(&inner);
+    pthread_mutex_lock(&outer);
     pthread_cond_wait(&woken, &inner);
     pthread_mutex_unlock(&inner);
     pthread_mutex_unlock(&outer);
