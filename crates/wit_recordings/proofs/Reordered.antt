@@ -1,5 +1,5 @@
 -- A thread that goes some way of its run asks for what it asked for there, and has what it had: so
--- what tells of the runs tells of the threads together.
+-- the pairs that the runs keep to are those that the threads keep to together.
 use Rattle.std.proofs.Common.{◌≡◌, ℕ, ◌<◌, false, nat_lt, List, [], ◌∷◌, ◌++◌, map, refl, ap}
 use Rattle.std.proofs.Common.{sym, ◌∙◌, subst, inl, inr, append_assoc}
 use Rattle.std.proofs.lemmas.Bool.{eq-eqb}
@@ -12,7 +12,7 @@ use Rattle.wit_model.specs.Rules.History.{num, is_held}
 use Rattle.wit_model.specs.World.Deeds.{Deed, Logged, PassedOver, Take, TryTake, Free, RawUp}
 use Rattle.wit_model.specs.World.Deeds.{RawDown, thread_of, own, log_of, shares}
 use Rattle.wit_model.specs.World.Reordering.{kept}
-use Rattle.wit_recordings.specs.Recordings.{TellsOf, TellsOfDeed, TellsOfDeeds, GoAsInRuns}
+use Rattle.wit_recordings.specs.Recordings.{AsksWithin, AllAskWithin, GoAsInRuns}
 use Rattle.wit_model.proofs.World.Own.{own-mine, own-other, shares-own, shares-kept, num-own}
 use Rattle.wit_model.proofs.World.Own.{num-kept, kept-check}
 
@@ -40,11 +40,11 @@ same-held t l w o same =
     ap (λ n. nat_lt 0 n) (sym (num-kept t l o) ∙ (ap (λ x. num t l (log_of x)) (sym same)
     ∙ (num-kept t l (own t w) ∙ num-own t l w)))
 
-module _ (h : List Entry) (named : ℕ → Class × List ℕ) where
+module _ (Pairs : Class × List ℕ → Class × List ℕ → Type 0) (named : ℕ → Class × List ℕ) where
   asked-then : (d : Deed) (w : List Deed) (x : Entry) (q : Request) (l : ℕ) → d ≡ Logged x
-      → x.call ≡ Check q → TellsOfDeed h named d w
+      → x.call ≡ Check q → AsksWithin Pairs named d w
       → is_held (thread_of d) q.lock.0 (log_of w) ≡ false → 0 < shares (thread_of d) l w
-      → TellsOf h (named l) (named q.lock.0)
+      → Pairs (named l) (named q.lock.0)
   asked-then (Logged f) w x q l is asks told unheld some =
       let same : f ≡ x = cc in
       told q l (ap (λ (y : Entry). y.call) same ∙ asks) unheld some
@@ -57,9 +57,9 @@ module _ (h : List Entry) (named : ℕ → Class × List ℕ) where
 
   module _ (t : ℕ) (q : Request) (l : ℕ) (e : Entry) (o : List Deed) (asks : e.call ≡ Check q)
       (unheld : is_held t q.lock.0 (log_of o) ≡ false) (some : 0 < shares t l o) where
-    now : (d : Deed) (w : List Deed) → thread_of d ≡ t → TellsOfDeed h named d w
+    now : (d : Deed) (w : List Deed) → thread_of d ≡ t → AsksWithin Pairs named d w
         → kept d ≡ kept (Logged e) → map kept (own t w) ≡ map kept o
-        → TellsOf h (named l) (named q.lock.0)
+        → Pairs (named l) (named q.lock.0)
     now d w mine told head tail =
         let check = kept-check d e q head asks in
         asked-then d w check.0 q l check.1 check.2 told
@@ -68,9 +68,9 @@ module _ (h : List Entry) (named : ℕ → Class × List ℕ) where
         (subst (λ k. 0 < shares k l w) (sym mine)
         (subst (λ n. 0 < n) (same-shares t l w o tail) some))
 
-    in-run : (w : List Deed) → TellsOfDeeds h named w → (later : List Deed)
+    in-run : (w : List Deed) → AllAskWithin Pairs named w → (later : List Deed)
         → map kept (own t w) ≡ later ++ (kept (Logged e) ∷ map kept o)
-        → TellsOf h (named l) (named q.lock.0)
+        → Pairs (named l) (named q.lock.0)
     in-run [] told later same =
         absurd (none-longer later (kept (Logged e)) (map kept o) same)
     in-run (d ∷ w) told later same =
@@ -84,8 +84,8 @@ module _ (h : List Entry) (named : ℕ → Class × List ℕ) where
         last : thread_of d ≡ t → (xs : List Deed)
             → kept d ∷ map kept (own t w) ≡ xs ++ (kept (Logged e) ∷ map kept o)
             → ((ys : List Deed) → map kept (own t w) ≡ ys ++ (kept (Logged e) ∷ map kept o)
-            → TellsOf h (named l) (named q.lock.0))
-            → TellsOf h (named l) (named q.lock.0)
+            → Pairs (named l) (named q.lock.0))
+            → Pairs (named l) (named q.lock.0)
         last mine [] is past =
             now d w mine told.0
             (head-of (kept d) (kept (Logged e)) (map kept (own t w)) (map kept o) is)
@@ -94,7 +94,7 @@ module _ (h : List Entry) (named : ℕ → Class × List ℕ) where
             past xs
             (tail-of (kept d) x (map kept (own t w)) (xs ++ (kept (Logged e) ∷ map kept o)) is)
 
-  module _ (runs : ℕ → List Deed) (told : (t : ℕ) → TellsOfDeeds h named (runs t)) where
+  module _ (runs : ℕ → List Deed) (told : (t : ℕ) → AllAskWithin Pairs named (runs t)) where
     earlier : (d : Deed) (v : List Deed) → GoAsInRuns runs (d ∷ v) → GoAsInRuns runs v
     earlier d v begins = λ t.
         elim (eqb_tells (thread_of d) t) [
@@ -110,7 +110,7 @@ module _ (h : List Entry) (named : ℕ → Class × List ℕ) where
           )
         ]
 
-    deed-told : (d : Deed) (v : List Deed) → GoAsInRuns runs (d ∷ v) → TellsOfDeed h named d v
+    deed-told : (d : Deed) (v : List Deed) → GoAsInRuns runs (d ∷ v) → AsksWithin Pairs named d v
     deed-told (Logged e) v begins = λ q l asks unheld some.
         in-run e.seat.0 q l e (own e.seat.0 v) asks
         (ap (λ n. nat_lt 0 n) (num-own e.seat.0 q.lock.0 v) ∙ unheld)
@@ -125,7 +125,7 @@ module _ (h : List Entry) (named : ℕ → Class × List ℕ) where
     deed-told (RawUp u m) v begins = tt
     deed-told (RawDown u m) v begins = tt
 
-    pub told-played : (v : List Deed) → GoAsInRuns runs v → TellsOfDeeds h named v
+    pub told-played : (v : List Deed) → GoAsInRuns runs v → AllAskWithin Pairs named v
     told-played [] begins = tt
     told-played (d ∷ v) begins =
         (deed-told d v begins, told-played v (earlier d v begins))

@@ -14,7 +14,7 @@ use Rattle.wit_model.specs.Rules.Step.{IsLegal}
 use Rattle.wit_model.specs.World.Deeds.{Deed, Logged, PassedOver, Take, TryTake, Free, RawUp}
 use Rattle.wit_model.specs.World.Deeds.{RawDown, log_of, shares}
 use Rattle.wit_model.specs.World.Examples.{small, files, request, agreed, in_turn, crossed}
-use Rattle.wit_recordings.specs.Recordings.{TellsOf, TellsOfDeed, TellsOfDeeds, types_in, recorded_once}
+use Rattle.wit_recordings.specs.Recordings.{TellsOf, AsksWithin, AllAskWithin, TellsOfDeeds, types_in, recorded_once}
 use Rattle.wit_model.proofs.World.Covering.{legal_world}
 use Rattle.wit_model.proofs.World.Runs.{is_world}
 
@@ -22,31 +22,31 @@ abbrev pub is_check : Call → Bool
 is_check (Check q) = true
 is_check _ = false
 
-module _ (h : List Entry) (named : ℕ → Class × List ℕ) where
+module _ (Pairs : Class × List ℕ → Class × List ℕ → Type 0) (named : ℕ → Class × List ℕ) where
   -- what is to be shown of a request, and of what came before it
-  abbrev needed : Call → ℕ → List Deed → Type 0 → Type 0
+  abbrev pub needed : Call → ℕ → List Deed → Type 0 → Type 0
   needed (Check q) t v rest =
-      ((l : ℕ) → 0 < shares t l v → TellsOf h (named l) (named q.lock.0)) × rest
+      ((l : ℕ) → 0 < shares t l v → Pairs (named l) (named q.lock.0)) × rest
   needed _ t v rest = rest
 
-  abbrev Needs : List Deed → Type 0
+  abbrev pub Needs : List Deed → Type 0
   Needs [] = Unit {0}
   Needs (Logged e ∷ v) = needed e.call e.seat.0 v (Needs v)
   Needs (d ∷ v) = Needs v
 
   request-told : (e : Entry) (v : List Deed) (rest : Type 0) (c : Call) → e.call ≡ c
-      → needed c e.seat.0 v rest → TellsOfDeed h named (Logged e) v × rest
+      → needed c e.seat.0 v rest → AsksWithin Pairs named (Logged e) v × rest
   request-told e v rest (Check p) is need = (
     (λ q l asks unheld some.
         let same : ◌≡◌ {A = Call} (Check p) (Check q) = sym is ∙ asks in
         let request : p ≡ q = cc in
-        subst (λ (r : Request). TellsOf h (named l) (named r.lock.0)) request (need.0 l some)),
+        subst (λ (r : Request). Pairs (named l) (named r.lock.0)) request (need.0 l some)),
     need.1,
   )
   request-told e v rest c is need =
       ((λ q l asks unheld some. absurd (true≢false (sym (ap is_check (sym is ∙ asks))))), need)
 
-  told-all : (w : List Deed) → Needs w → TellsOfDeeds h named w
+  pub told-all : (w : List Deed) → Needs w → AllAskWithin Pairs named w
   told-all [] need = tt
   told-all (Logged e ∷ w) need =
       let both = request-told e w (Needs w) e.call refl need in (both.0, told-all w both.1)
@@ -57,7 +57,7 @@ module _ (h : List Entry) (named : ℕ → Class × List ℕ) where
   told-all (RawUp u m ∷ w) need = (tt, told-all w need)
   told-all (RawDown u m ∷ w) need = (tt, told-all w need)
 
-nothing : (A : Type 0) → 0 < 0 → A
+pub nothing : (A : Type 0) → 0 < 0 → A
 nothing A is = absurd (omega (arith, is))
 
 pair : TellsOf (log_of recorded_once) (types_in agreed 1) (types_in agreed 2)
@@ -90,7 +90,7 @@ shorter-legal = legal_world small files recorded_once (is_world small files reco
 -- two of the run's four requests come behind a held lock
 pub shorter-told : TellsOfDeeds (log_of recorded_once) (types_in agreed) agreed
 shorter-told =
-    told-all (log_of recorded_once) (types_in agreed) agreed (
+    told-all (TellsOf (log_of recorded_once)) (types_in agreed) agreed (
       pair-told,
       ((λ l some. nothing _ some), (pair-told, ((λ l some. nothing _ some), tt))),
     )
@@ -134,7 +134,7 @@ told-of n m l told some =
 
 pub crossed-told : TellsOfDeeds (log_of in_turn) (types_in in_turn) crossed
 crossed-told =
-    told-all (log_of in_turn) (types_in in_turn) crossed (
+    told-all (TellsOf (log_of in_turn)) (types_in in_turn) crossed (
       (λ l some. told-of 1 2 l A-first some),
       (
         (λ l some. told-of 2 1 l B-first some),

@@ -25,7 +25,7 @@ use Rattle.wit_model.specs.World.Deeds.{Deed, Logged, PassedOver, Take, TryTake,
 use Rattle.wit_model.specs.World.Deeds.{RawDown, thread_of, own, log_of, shares}
 use Rattle.wit_model.specs.World.Stages.{Stage, Asked, stage}
 use Rattle.wit_model.specs.World.Waiting.{IsWaiting, IsDeadlock}
-use Rattle.wit_recordings.specs.Recordings.{named_type, AsksWhileHolding, TellsOf, TellsOfDeed, TellsOfDeeds}
+use Rattle.wit_recordings.specs.Recordings.{named_type, AsksWhileHolding, TellsOf, AsksWithin, AllAskWithin, TellsOfDeeds}
 use Rattle.wit_model.proofs.Numbered.{with_number-stays}
 use Rattle.wit_model.proofs.Chains.Held.{made_sane}
 use Rattle.wit_model.proofs.Chains.HeldLocks.{num-of_held, num-of_free}
@@ -180,11 +180,11 @@ held-other t l d v other =
     ap (λ n. nat_lt 0 n) (sym (num-own t l (d ∷ v))
     ∙ (ap (λ o. num t l (log_of o)) (own-other t d v other) ∙ num-own t l v))
 
-module _ (h : List Entry) (named : ℕ → Class × List ℕ) where
+module _ (Pairs : Class × List ℕ → Class × List ℕ → Type 0) (named : ℕ → Class × List ℕ) where
   asked-now : (d : Deed) (v : List Deed) (q : Request) (l : ℕ) (e : Entry) → d ≡ Logged e
-      → e.call ≡ Check q → TellsOfDeed h named d v
+      → e.call ≡ Check q → AsksWithin Pairs named d v
       → is_held (thread_of d) q.lock.0 (log_of (d ∷ v)) ≡ false
-      → 0 < shares (thread_of d) l (d ∷ v) → TellsOf h (named l) (named q.lock.0)
+      → 0 < shares (thread_of d) l (d ∷ v) → Pairs (named l) (named q.lock.0)
   asked-now (Logged f) v q l e is asks told unheld some =
       let same : f ≡ e = cc in
       let call : f.call ≡ Check q = ap (λ (x : Entry). x.call) same ∙ asks in
@@ -202,8 +202,8 @@ module _ (h : List Entry) (named : ℕ → Class × List ℕ) where
   head-of d e v w is = (cc)
 
   asked-told : (t : ℕ) (q : Request) (l : ℕ) (v : List Deed) → stage t (own t v) ≡ Asked q
-      → is_held t q.lock.0 (log_of v) ≡ false → 0 < shares t l v → TellsOfDeeds h named v
-      → TellsOf h (named l) (named q.lock.0)
+      → is_held t q.lock.0 (log_of v) ≡ false → 0 < shares t l v → AllAskWithin Pairs named v
+      → Pairs (named l) (named q.lock.0)
   asked-told t q l [] asks unheld some told = (cc)
   asked-told t q l (d ∷ v) asks unheld some told =
       elim (eqb_tells (thread_of d) t) [
@@ -227,35 +227,47 @@ abbrev lock_asked : Stage → ℕ
 lock_asked (Asked q) = q.lock.0
 lock_asked _ = 0
 
-module _ (start : Start) (files : List (List ℕ)) (h : List Entry) (named : ℕ → Class × List ℕ)
-    (v : List Deed) (accepted : start_fault start ≡ None) (unblessed : start.blessed ≡ [])
-    (legal : IsLegal start files h) (clean : is_clean start.profile h ≡ true)
-    (told : TellsOfDeeds h named v) where
+-- where each pair leads, a circle of threads that keep to the pairs leads some type to itself
+module _ (Pairs Leading : Class × List ℕ → Class × List ℕ → Type 0) (named : ℕ → Class × List ℕ)
+    (v : List Deed) (lead : (a b : Class × List ℕ) → Pairs a b → Leading a b)
+    (join : (a b c : Class × List ℕ) → Leading a b → Leading b c → Leading a c)
+    (told : AllAskWithin Pairs named v) where
   abbrev wanted : ℕ → Class × List ℕ
   wanted t = named (lock_asked (stage t (own t v)))
 
-  link : (t u x : ℕ) → IsWaiting v t u → IsWaiting v u x → Leads start h (wanted t) (wanted u)
+  link : (t u x : ℕ) → IsWaiting v t u → IsWaiting v u x → Leading (wanted t) (wanted u)
   link t u x one two =
       let leads =
-      told-leads start files unblessed h (named one.request.lock.0) (named two.request.lock.0) legal
-      clean
-      (asked-told h named u two.request one.request.lock.0 v two.asks two.unheld one.taken told) in
-      subst (λ a. Leads start h (named a) (wanted u)) (sym (ap lock_asked one.asks))
-      (subst (λ b. Leads start h (named one.request.lock.0) (named b))
-      (sym (ap lock_asked two.asks)) leads)
+      lead (named one.request.lock.0) (named two.request.lock.0)
+      (asked-told Pairs named u two.request one.request.lock.0 v two.asks two.unheld one.taken told)
+      in
+      subst (λ a. Leading (named a) (wanted u)) (sym (ap lock_asked one.asks))
+      (subst (λ b. Leading (named one.request.lock.0) (named b)) (sym (ap lock_asked two.asks))
+      leads)
 
-  pub no_told_circle : (threads : List ℕ) → IsDeadlock v threads → ⊥
-  no_told_circle threads circle =
+  pub circle-leads : (threads : List ℕ) → IsDeadlock v threads → (a : Class × List ℕ) × Leading a a
+  circle-leads threads circle =
       let back =
-      round (IsWaiting v) (λ t u. Leads start h (wanted t) (wanted u)) link
-      (λ t u x. leads-trans start h (wanted t) (wanted u) (wanted x)) threads circle in
-      leads-sound start files h (wanted back.0) accepted legal back.1
+      round (IsWaiting v) (λ t u. Leading (wanted t) (wanted u)) link
+      (λ t u x. join (wanted t) (wanted u) (wanted x)) threads circle in
+      (wanted back.0, back.1)
+
+pub no_told_circle : (start : Start) (files : List (List ℕ)) (h : List Entry)
+    (named : ℕ → Class × List ℕ) (v : List Deed) → start_fault start ≡ None → start.blessed ≡ []
+    → IsLegal start files h → is_clean start.profile h ≡ true → TellsOfDeeds h named v
+    → (threads : List ℕ) → IsDeadlock v threads → ⊥
+no_told_circle start files h named v accepted unblessed legal clean told threads circle =
+    let back =
+    circle-leads (TellsOf h) (Leads start h) named v
+    (λ a b. told-leads start files unblessed h a b legal clean) (leads-trans start h) told threads
+    circle in
+    leads-sound start files h back.0 accepted legal back.1
 
 -- ---- more pairs tell more
 
 deed-more : (h g : List Entry) (named : ℕ → Class × List ℕ)
     → ((a b : Class × List ℕ) → TellsOf h a b → TellsOf g a b) → (d : Deed) (v : List Deed)
-    → TellsOfDeed h named d v → TellsOfDeed g named d v
+    → AsksWithin (TellsOf h) named d v → AsksWithin (TellsOf g) named d v
 deed-more h g named all (Logged e) v told = λ q l asks unheld some.
     all (named l) (named q.lock.0) (told q l asks unheld some)
 deed-more h g named all (Take u m mode) v told = tt

@@ -62,18 +62,23 @@ PairsLead h a (c ∷ over) b = TellsOf h a c × PairsLead h c over b
 
 -- ---- the threads that a history tells of
 
--- where a thread asks for a lock that it doesn't hold by the record, the history h tells of the
--- pair of each lock that the thread has a share of and the one asked for
-abbrev pub TellsOfDeed : List Entry → (ℕ → NamedType) → Deed → List Deed → Type 0
-TellsOfDeed h types (Logged e) v =
+-- a thread asks within these pairs of types where, if it asks for a lock that it doesn't hold by the
+-- record, each lock that it has a share of makes a pair with that one
+abbrev pub AsksWithin : (NamedType → NamedType → Type 0) → (ℕ → NamedType) → Deed → List Deed
+    → Type 0
+AsksWithin Pairs types (Logged e) v =
     (q : Request) (l : ℕ) → e.call ≡ Check q → is_held e.seat.0 q.lock.0 (log_of v) ≡ false
-    → 0 < shares e.seat.0 l v → TellsOf h (types l) (types q.lock.0)
-TellsOfDeed h types _ v = Unit {0}
+    → 0 < shares e.seat.0 l v → Pairs (types l) (types q.lock.0)
+AsksWithin Pairs types _ v = Unit {0}
 
--- so it does of each of these deeds, whose locks are of these types
+-- so it is by each of these deeds, whose locks are of these types
+abbrev pub AllAskWithin : (NamedType → NamedType → Type 0) → (ℕ → NamedType) → List Deed → Type 0
+AllAskWithin Pairs types [] = Unit {0}
+AllAskWithin Pairs types (d ∷ v) = AsksWithin Pairs types d v × AllAskWithin Pairs types v
+
+-- the history h tells of these deeds
 abbrev pub TellsOfDeeds : List Entry → (ℕ → NamedType) → List Deed → Type 0
-TellsOfDeeds h types [] = Unit {0}
-TellsOfDeeds h types (d ∷ v) = TellsOfDeed h types d v × TellsOfDeeds h types v
+TellsOfDeeds h types v = AllAskWithin (TellsOf h) types v
 
 -- threads of which a clean history tells never deadlock. Nothing else is asked of them: they need
 -- keep to no rules, and may be answered anything
