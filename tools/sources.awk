@@ -77,6 +77,8 @@ function look(code,    value) {
     gsub(/#\[unsafe\(no_mangle\)\]/, "", code)
     if (code ~ /[*](const|mut) |NonNull|addr_of|unsafe|as_ptr|as_mut_ptr|from_raw/) tell(pointer)
     if (code ~ /mem::forget|ManuallyDrop|[.:]leak[(]|into_raw/) tell("forget")
+    # Tickets of gates: their programs may give up, the gates and locks themselves not.
+    if (FILENAME ~ /wit_(gates|locks)\/src\// && FILENAME !~ /tests[.]rt$/ && code ~ /[.:]abandon *[(]/) tell("forget")
 }
 
 FNR == 1 {

@@ -14,8 +14,9 @@ use Rattle.wit_model.specs.declared.locks.Mode.TheVariants.{Shared, Exclusive}
 use Rattle.wit_model.specs.Gates.{AddsUp}
 use Rattle.wit_model.proofs.Gates.{adds_up, from_sum}
 use Rattle.wit_gates.specs.declared.claim.Claim.{Claim}
-use Rattle.wit_gates.specs.Claims.{claim, nothing, claim_of, mode_of, both_claims, less_one}
-use Rattle.wit_gates.specs.Claims.{shares_claimed, exclusives_claimed, IsOfClaims, IsCounted}
+use Rattle.wit_gates.specs.Claims.{claim, nothing, unmatched, share_met, claim_of, mode_of}
+use Rattle.wit_gates.specs.Claims.{both_claims, less_one}
+use Rattle.wit_gates.specs.Claims.{shares_claimed, exclusives_claimed, IsCounted}
 use Rattle.wit_gates.specs.Plays.{Stand}
 use Rattle.wit_gates.proofs.Sums.{sum-set, part-le-sum}
 
@@ -83,18 +84,27 @@ sets slots id me c d f is turns =
 stays : (c : Claim) (n : ℕ) → Turns c c n n
 stays c n s e s' e' p q l m g = omega arith
 
--- what a step that may change the word comes to, where the test of what it found is this
+-- what was met is no claim
+pub idles : (met n : ℕ) → Turns (unmatched met) (unmatched n) n n
+idles met n s e s' e' p q l m g = omega arith
+
+pub keeps_share : (n : ℕ) → Turns (claim 1 0) (share_met n) n n
+keeps_share n s e s' e' p q l m g = omega arith
+
+-- what a step that may change the word comes to, where the test of what it found is this: a claim d
+-- where it is yes, and else e
 abbrev Came : Board → ℕ → Claim → Claim → ℕ → Bool → Type 0
-Came s id c d new found = (x : Claim) × (a : Act (Unit {0})) × Valid s.homes [] a
+Came s id d e new found = (x : Claim) × (a : Act (Unit {0})) × Valid s.homes [] a
     × Rule (stepped s 0 (either found new (slice_index s.words 0)) id [] x a)
     × MatchBool found (Is (x, carried_after [] a) (claims d))
-    (Is (x, carried_after [] a) (claims c))
+    (Is (x, carried_after [] a) (claims e))
 
-came : (s : Board) (id : ℕ) (c d : Claim) (old new : ℕ) → Turns c d old new → Rule s
+came : (s : Board) (id : ℕ) (c d e : Claim) (old new : ℕ) → Turns c d old new
+    → Turns c e (slice_index s.words 0) (slice_index s.words 0) → Rule s
     → get_elem? s.views id ≡ some c → Dec (slice_index s.words 0 ≡ old)
-    → Came s id c d new (eqb (slice_index s.words 0) old)
-came s id c d old new turns rule there (yes same) =
-    subst (Came s id c d new) (sym (eq-eqb (slice_index s.words 0) old same)) (
+    → Came s id d e new (eqb (slice_index s.words 0) old)
+came s id c d e old new turns rests rule there (yes same) =
+    subst (Came s id d e new) (sym (eq-eqb (slice_index s.words 0) old same)) (
       d,
       keeps,
       tt,
@@ -102,35 +112,36 @@ came s id c d old new turns rule there (yes same) =
           (subst (λ (n : ℕ). Turns c d n new) (sym same) turns) rule,
       refl,
     )
-came s id c d old new turns rule there (no other) =
-    subst (Came s id c d new) (sym (ne_eqb (slice_index s.words 0) old other)) (
-      c,
+came s id c d e old new turns rests rule there (no other) =
+    subst (Came s id d e new) (sym (ne_eqb (slice_index s.words 0) old other)) (
+      e,
       keeps,
       tt,
-      moved s.words s.views id c c (slice_index s.words 0) there
-          (stays c (slice_index s.words 0)) rule,
+      moved s.words s.views id c e (slice_index s.words 0) there rests rule,
       refl,
     )
 
--- a step that writes only where it finds what is expected
-pub tries : (slots id old new : ℕ) (me : Stand) (c d : Claim) → Is me (claims c) → Turns c d old new
+-- a step that writes only where it finds what is expected, and else tells what it found
+pub tries : (slots id old new : ℕ) (me : Stand) (c d : Claim) (e : ℕ → Claim) → Is me (claims c)
+    → Turns c d old new → ((n : ℕ) → Turns c (e n) n n)
     → Allows Rule slots id me 0 (λ n. either (eqb n old) new n)
-    (λ n m. MatchBool (eqb n old) (Is m (claims d)) (Is m me))
-tries slots id old new me c d is turns =
+    (λ n m. MatchBool (eqb n old) (Is m (claims d)) (Is m (claims (e n))))
+tries slots id old new me c d e is turns rests =
     subst (λ (me : Stand). Allows Rule slots id me 0 (λ n. either (eqb n old) new n)
-    (λ n m. MatchBool (eqb n old) (Is m (claims d)) (Is m me))) (sym is)
-    (λ s rule sized there fits. came s id c d old new turns rule there
-    (ℕ_discrete (slice_index s.words 0) old))
+    (λ n m. MatchBool (eqb n old) (Is m (claims d)) (Is m (claims (e n))))) (sym is)
+    (λ s rule sized there fits. let found = slice_index s.words 0 in
+    came s id c d (e found) old new turns (rests found) rule there (ℕ_discrete found old))
 
--- who comes claims nothing
-pub enters : (slots : ℕ) → Enters Rule slots 0 (λ n c. Is (claims c) (claims nothing))
-enters slots s rule sized fits = (
-  nothing,
-  same_sums s.words s.views (s.views ++ nothing ∷ [])
-      (omega (arith, sum_by_push (λ (c : Claim). c.shares) s.views nothing))
-      (omega (arith, sum_by_push (λ (c : Claim). c.exclusives) s.views nothing)) rule,
-  refl,
-)
+-- who comes claims nothing, and knows what it found
+pub enters : (slots : ℕ) → Enters Rule slots 0 (λ n c. Is (claims c) (claims (unmatched n)))
+enters slots s rule sized fits =
+    let none = unmatched (slice_index s.words 0) in (
+      none,
+      same_sums s.words s.views (s.views ++ none ∷ [])
+          (omega (arith, sum_by_push (λ (c : Claim). c.shares) s.views none))
+          (omega (arith, sum_by_push (λ (c : Claim). c.exclusives) s.views none)) rule,
+      refl,
+    )
 
 alone : (c : Claim) (word s e : ℕ) → 2 ≤ c.shares + c.exclusives → c.shares ≤ s → c.exclusives ≤ e
     → AddsUp word s e → c.exclusives ≡ 0
@@ -191,13 +202,36 @@ splits id c shared s rule there =
     ))
     rule
 
+tells_at : (id met : ℕ) → Splits Rule id (share_met met) (claim 1 0) (unmatched met)
+tells_at id met s rule there =
+    let left = set s.views id (claim 1 0) in
+    same_sums s.words s.views (left ++ unmatched met ∷ [])
+    (omega (
+      arith,
+      sum-set (λ (c : Claim). c.shares) s.views id (share_met met) (claim 1 0) there,
+      sum_by_push (λ (c : Claim). c.shares) left (unmatched met),
+    ))
+    (omega (
+      arith,
+      sum-set (λ (c : Claim). c.exclusives) s.views id (share_met met) (claim 1 0) there,
+      sum_by_push (λ (c : Claim). c.exclusives) left (unmatched met),
+    ))
+    rule
+
+-- what was met is taken off a share
+pub tells : (id met : ℕ) (me : Stand) → Is me (claims (share_met met))
+    → Splits Rule id me.0 (claim 1 0) (unmatched me.0.met)
+tells id met me is =
+    subst (λ (me : Stand). Splits Rule id me.0 (claim 1 0) (unmatched me.0.met)) (sym is)
+    (tells_at id met)
+
 -- one more shares
-pub one_more : (n : ℕ) → n < 4294967294 → Turns nothing (claim 1 0) n (n + 1)
-one_more n few s e s' e' p q l m sum = omega arith
+pub one_more : (met n : ℕ) → n < 4294967294 → Turns (unmatched met) (claim 1 0) n (n + 1)
+one_more met n few s e s' e' p q l m sum = omega arith
 
 -- of nobody's gate one has all
-pub takes_all : Turns nothing (claim 0 1) 0 4294967295
-takes_all s e s' e' p q l m sum = omega arith
+pub takes_all : (met : ℕ) → Turns (unmatched met) (claim 0 1) 0 4294967295
+takes_all met s e s' e' p q l m sum = omega arith
 
 -- one shares no more
 pub one_less : (n : ℕ) → Turns (claim 1 0) nothing n
@@ -260,12 +294,8 @@ read_back s words word (last, only, fits) same read =
 
 -- the word at the end
 pub ended : (s : Board) (words : List ℕ) (word : ℕ) → Rule s → s.words ≡ words
-    → get_elem? words 0 ≡ some word → IsOfClaims word
-ended s words word rule same read = (
-  s.views,
-  from_sum word (shares_claimed s.views) (exclusives_claimed s.views)
-      (read_back s words word rule same read),
-)
+    → get_elem? words 0 ≡ some word → word ≤ 4294967295
+ended s words word rule same read = (read_back s words word rule same read).2
 
 -- the word at the end, with a claim that is still out
 pub ended_alone : (s : Board) (words : List ℕ) (word id : ℕ) (c : Claim) → Rule s → s.words ≡ words

@@ -6,11 +6,19 @@ use Rattle.wit_model.specs.Gates.{IsGateWord}
 use Rattle.wit_gates.specs.declared.claim.Claim.{Claim}
 
 abbrev pub claim : ℕ → ℕ → Claim
-claim shares exclusives = record { shares = shares; exclusives = exclusives }
+claim shares exclusives = record { shares = shares; exclusives = exclusives; met = 0 }
 
 -- what is claimed by whom no gate let in
 abbrev pub nothing : Claim
 nothing = claim 0 0
+
+-- what is claimed by who isn't let in, and met this word
+abbrev pub unmatched : ℕ → Claim
+unmatched met = record { shares = 0; exclusives = 0; met = met }
+
+-- what is claimed by who has a share, and met this word
+abbrev pub share_met : ℕ → Claim
+share_met met = record { shares = 1; exclusives = 0; met = met }
 
 -- what a ticket in this mode claims
 abbrev pub claim_of : Mode → Claim
@@ -36,11 +44,6 @@ shares_claimed claims = sum_by (λ (c : Claim). c.shares) claims
 -- how many exclusive holds are claimed in all
 abbrev pub exclusives_claimed : List Claim → ℕ
 exclusives_claimed claims = sum_by (λ (c : Claim). c.exclusives) claims
-
--- some claims add up to this word
-abbrev pub IsOfClaims : ℕ → Type 0
-IsOfClaims word =
-    (claims : List Claim) × IsGateWord word (shares_claimed claims) (exclusives_claimed claims)
 
 -- the only word is that of a gate of which just this is out
 abbrev pub IsCounted : List ℕ → List Claim → Type 0

@@ -2,6 +2,7 @@
 use Rattle.std.specs.Prelude.{ℕ, ◌≡◌, ◌==◌, [], MatchBool}
 use Rattle.atomic_table.specs.Table.{Me, Step}
 use Rattle.wit_gates.specs.declared.claim.Claim.{Claim}
+use Rattle.wit_gates.specs.Claims.{claim, unmatched, share_met}
 
 -- a seat of the word: what it claims (and no slots, of which there are none)
 abbrev pub Stand : Type 0
@@ -11,7 +12,14 @@ Stand = Me (Unit {0}) Claim
 abbrev pub HasClaim : Claim → Stand → Type 0
 HasClaim c after = after ≡ (c, [])
 
--- it claims this from then on where the word was the one expected, and else what it did
-abbrev pub Wins : Claim → Step (Unit {0}) → Stand → ℕ → Stand → Type 0
-Wins c step before found after =
-    MatchBool (found == step.first) (HasClaim c after) (after ≡ before)
+-- it claims this from then on where the word was the one expected, and else nothing, with the word
+-- that it met
+abbrev pub Comes : Claim → Step (Unit {0}) → Stand → ℕ → Stand → Type 0
+Comes c step before found after =
+    MatchBool (found == step.first) (HasClaim c after) (HasClaim (unmatched found) after)
+
+-- it has the exclusive hold from then on where the word was the one expected, and else its share,
+-- with the word that it met
+abbrev pub Rises : Step (Unit {0}) → Stand → ℕ → Stand → Type 0
+Rises step before found after =
+    MatchBool (found == step.first) (HasClaim (claim 0 1) after) (HasClaim (share_met found) after)

@@ -1,8 +1,9 @@
 //! What somebody claims of a gate's word.
 
-/// So many shares and so many exclusive holds; a ticket's is one of the one or of the other. No
-/// value of it is made.
+/// So many shares and so many exclusive holds; a ticket's is one of the one or of the other. Who
+/// claims nothing may know the word that its latest step met. No value of it is made.
 pub struct Claim {
     pub shares: u64,
     pub exclusives: u64,
+    pub met: u64,
 }

@@ -4,6 +4,7 @@ ghost use Rattle.std.specs.Prelude.{◌≡◌};
 ghost use Rattle.atomic_table.specs.Seated.{TableId};
 
 use crate::gate::Gate;
+use crate::met::Met;
 use crate::ticket::Ticket;
 use crate::word::Word;
 use std::alloc::Global;
@@ -31,9 +32,10 @@ impl Model for CondGate {
 }
 
 impl CondGate {
-    ghost use Rattle.std.specs.Prelude.{IfSome, IfErr};
+    ghost use Rattle.std.specs.Prelude.{IfErr, MatchResult};
     ghost use Rattle.wit_model.specs.declared.faults.Fault.TheVariants.{OutOfMemory};
-    ghost use Rattle.wit_gates.specs.Tickets.{pass};
+    ghost use Rattle.wit_model.specs.declared.locks.Mode.TheVariants.{Shared, Exclusive};
+    ghost use Rattle.wit_gates.specs.Tickets.{IsFull, pass};
 
     /// A gate that nobody has.
     ///
@@ -49,61 +51,107 @@ impl CondGate {
         })
     }
 
-    // Sleeps until the gate lets one in so. None only where as many share it as can.
-    pub(crate) fn enter<R: Wait>(&self, rt: &R, mode: Mode) -> Option<Ticket>
-        ensures { IfSome result (λ t. t ≡ pass self.now mode) }
+    // Sleeps until the gate lets one in so, and refuses only where as many share it as can.
+    pub(crate) fn enter<R: Wait>(&self, rt: &R, mode: Mode) -> Result<Ticket, Met>
+        ensures { MatchResult result (λ t. t ≡ pass self.now mode) (IsFull self.now mode) }
     {
-        let turn = self.turn.lock(rt);
         match mode {
-            Mode::Shared => {
-                let _turn = self
-                    .freed
-                    .wait_while(rt, turn, |_| self.word.is_exclusive());
-                self.word.try_share()
-            }
-            Mode::Exclusive => {
-                let _turn = self.freed.wait_while(rt, turn, |_| !self.word.is_free());
-                self.word.try_exclusive()
+            Mode::Shared => self.enter_shared(rt),
+            Mode::Exclusive => Ok(self.enter_alone(rt)),
+        }
+    }
+
+    fn enter_shared<R: Wait>(&self, rt: &R) -> Result<Ticket, Met>
+        ensures { MatchResult result (λ t. t ≡ pass self.now Shared) (IsFull self.now Shared) }
+    {
+        let mut turn = self.turn.lock(rt);
+        for _ in rt.forever() {
+            turn = self
+                .freed
+                .wait_while(rt, turn, |_| self.word.is_exclusive());
+            match self.word.try_share(rt, &turn) {
+                Ok(ticket) => return Ok(ticket),
+                Err(met) => {
+                    if met.is_full() {
+                        return Err(met);
+                    }
+                }
             }
         }
+        unreachable!()
+    }
+
+    fn enter_alone<R: Wait>(&self, rt: &R) -> Ticket
+        ensures { result ≡ pass self.now Exclusive }
+    {
+        let mut turn = self.turn.lock(rt);
+        for _ in rt.forever() {
+            turn = self.freed.wait_while(rt, turn, |_| !self.word.is_free());
+            if let Ok(ticket) = self.word.try_exclusive(&turn) {
+                return ticket;
+            }
+        }
+        unreachable!()
+    }
+
+    /// Of two tickets that are out together neither is exclusive: who has the gate alone is alone.
+    /// Both come back.
+    pub fn pair(&self, one: Ticket, other: Ticket) -> (Ticket, Ticket)
+        requires { (one.word ≡ self.now) × (other.word ≡ self.now) }
+        ensures shares { (one.mode ≡ Shared) × (other.mode ≡ Shared) }
+        ensures same { result ≡ (one, other) }
+    {
+        self.word.pair(one, other)
     }
 }
 
 impl Gate for CondGate {
-    ghost use Rattle.wit_gates.specs.Tickets.{pass};
+    ghost use Rattle.wit_gates.specs.Tickets.{IsBarred, IsCrowded, IsFull, pass};
 
     type Ticket = Ticket;
 
+    type Met = Met;
+
     ghost admits = { λ gate mode ticket. ticket ≡ pass gate mode };
 
-    fn acquire<J: Room, R: Wait>(&self, rt: &R, seat: &Seat<J>, mode: Mode) -> Option<Ticket> {
+    ghost bars = { IsBarred };
+
+    ghost refuses = { IsFull };
+
+    ghost crowds = { IsCrowded };
+
+    fn acquire<J: Room, R: Wait>(&self, rt: &R, seat: &Seat<J>, mode: Mode) -> Result<Ticket, Met> {
         let _ = seat;
         self.enter(rt, mode)
     }
 
-    fn try_acquire<R: Wait>(&self, rt: &R, mode: Mode) -> Option<Ticket> {
-        let _turn = self.turn.lock(rt);
+    fn try_acquire<R: Wait>(&self, rt: &R, mode: Mode) -> Result<Ticket, Met> {
+        let turn = self.turn.lock(rt);
         match mode {
-            Mode::Shared => self.word.try_share(),
-            Mode::Exclusive => self.word.try_exclusive(),
+            Mode::Shared => self.word.try_share(rt, &turn),
+            Mode::Exclusive => self.word.try_exclusive(&turn),
         }
     }
 
     fn release<R: Wait>(&self, rt: &R, mode: Mode, ticket: Ticket) {
-        let _turn = self.turn.lock(rt);
-        self.word.free(mode, ticket);
+        let turn = self.turn.lock(rt);
+        self.word.free(&turn, mode, ticket);
         self.freed.notify_all();
     }
 
-    fn try_upgrade<R: Wait>(&self, rt: &R, ticket: Ticket) -> Result<Ticket, Ticket> {
-        let _turn = self.turn.lock(rt);
-        self.word.try_upgrade(ticket)
+    fn try_upgrade<R: Wait>(&self, rt: &R, ticket: Ticket) -> Result<Ticket, (Ticket, Met)> {
+        let turn = self.turn.lock(rt);
+        self.word.try_upgrade(&turn, ticket)
     }
 
     fn downgrade<R: Wait>(&self, rt: &R, ticket: Ticket) -> Ticket {
-        let _turn = self.turn.lock(rt);
-        let share = self.word.downgrade(ticket);
+        let turn = self.turn.lock(rt);
+        let share = self.word.downgrade(&turn, ticket);
         self.freed.notify_all();
         share
+    }
+
+    fn abandon(ticket: Ticket) {
+        ticket.abandon();
     }
 }

@@ -5,6 +5,7 @@
 mod claim;
 mod cond_gate;
 mod gate;
+mod met;
 mod rule;
 mod spin_gate;
 mod ticket;
@@ -13,6 +14,7 @@ mod word;
 pub use claim::Claim;
 pub use cond_gate::CondGate;
 pub use gate::Gate;
+pub use met::Met;
 pub use rule::Counts;
 pub use spin_gate::SpinGate;
 pub use ticket::Ticket;

@@ -1,8 +1,9 @@
 //! What always holds of a gate's word, and what each step on it tells.
 
 ghost use Rattle.std.specs.Prelude.{◌≡◌};
-ghost use Rattle.wit_gates.specs.Claims.{IsCounted, claim, nothing, both_claims, less_one};
-ghost use Rattle.wit_gates.specs.Plays.{HasClaim, Wins};
+ghost use Rattle.wit_gates.specs.Claims.{IsCounted, claim, nothing, unmatched};
+ghost use Rattle.wit_gates.specs.Claims.{both_claims, less_one};
+ghost use Rattle.wit_gates.specs.Plays.{Comes, HasClaim, Rises};
 
 use crate::claim::Claim;
 use atomic_table::{Join, Play, Split, TableRule};
@@ -23,6 +24,13 @@ impl Play<(), Claim> for Ends {
     ghost then = { λ step before found after. HasClaim nothing after };
 }
 
+/// Who steps knows the word that it met.
+pub struct Meets;
+
+impl Play<(), Claim> for Meets {
+    ghost then = { λ step before found after. HasClaim (unmatched found) after };
+}
+
 /// Who steps has a share from then on.
 pub struct Shares;
 
@@ -30,18 +38,27 @@ impl Play<(), Claim> for Shares {
     ghost then = { λ step before found after. HasClaim (claim 1 0) after };
 }
 
-/// Who steps has a share where the word was the one expected.
+/// Who steps has a share where the word was the one expected, and else knows the word that it met.
 pub struct TriesShare;
 
 impl Play<(), Claim> for TriesShare {
-    ghost then = { Wins (claim 1 0) };
+    ghost then = { Comes (claim 1 0) };
 }
 
-/// Who steps has the exclusive hold where the word was the one expected.
+/// Who steps has the exclusive hold where the word was the one expected, and else knows the word
+/// that it met.
 pub struct TriesExclusive;
 
 impl Play<(), Claim> for TriesExclusive {
-    ghost then = { Wins (claim 0 1) };
+    ghost then = { Comes (claim 0 1) };
+}
+
+/// Who steps has the exclusive hold for its share where the word was the one expected, and else
+/// knows the word that it met.
+pub struct TriesUpgrade;
+
+impl Play<(), Claim> for TriesUpgrade {
+    ghost then = { Rises };
 }
 
 /// Who claims two things learns that neither is the exclusive hold.
@@ -67,4 +84,13 @@ impl Split<Claim> for Parted {
     ghost left = { λ _. claim 1 0 };
 
     ghost right = { less_one };
+}
+
+/// What was met is taken off a share.
+pub struct Told;
+
+impl Split<Claim> for Told {
+    ghost left = { λ _. claim 1 0 };
+
+    ghost right = { λ v. unmatched v.met };
 }

@@ -4,6 +4,7 @@ ghost use Rattle.std.specs.Prelude.{◌≡◌};
 ghost use Rattle.atomic_table.specs.Seated.{TableId};
 
 use crate::gate::Gate;
+use crate::met::Met;
 use crate::ticket::Ticket;
 use crate::word::Word;
 use crossbeam_utils::Backoff;
@@ -31,19 +32,11 @@ impl Model for SpinGate {
     ghost view = { λ g. g.word };
 }
 
-// Why a try let nobody in.
-#[derive(Clone, Copy, PartialEq, Eq)]
-enum Shut {
-    // As many share the gate as can.
-    Full,
-    // Another try may do better.
-    Busy,
-}
-
 impl SpinGate {
-    ghost use Rattle.std.specs.Prelude.{IfSome, IfOk, IfErr};
+    ghost use Rattle.std.specs.Prelude.{IfErr, MatchResult};
     ghost use Rattle.wit_model.specs.declared.faults.Fault.TheVariants.{OutOfMemory};
-    ghost use Rattle.wit_gates.specs.Tickets.{pass};
+    ghost use Rattle.wit_model.specs.declared.locks.Mode.TheVariants.{Shared};
+    ghost use Rattle.wit_gates.specs.Tickets.{IsBarred, IsFull, pass};
 
     /// A gate that nobody has.
     ///
@@ -58,68 +51,87 @@ impl SpinGate {
         })
     }
 
-    // One try, and why it let nobody in.
-    fn try_enter<R: Wait>(&self, rt: &R, mode: Mode) -> Result<Ticket, Shut>
-        ensures { IfOk result (λ t. t ≡ pass self.now mode) }
+    // One try.
+    fn try_enter<R: Wait>(&self, rt: &R, mode: Mode) -> Result<Ticket, Met>
+        ensures { MatchResult result (λ t. t ≡ pass self.now mode) (IsBarred self.now mode) }
     {
-        let _turn = self.turn.lock(rt);
-        let entered = match mode {
-            Mode::Shared => self.word.try_share(),
-            Mode::Exclusive => self.word.try_exclusive(),
-        };
-        match entered {
-            Some(ticket) => Ok(ticket),
-            None => Err(match mode {
-                Mode::Shared if self.word.is_full() => Shut::Full,
-                _ => Shut::Busy,
-            }),
+        let turn = self.turn.lock(rt);
+        match mode {
+            Mode::Shared => self.word.try_share(rt, &turn),
+            Mode::Exclusive => self.word.try_exclusive(&turn),
         }
     }
 
-    // Tries until the gate lets one in so. None only where as many share it as can.
-    pub(crate) fn enter<R: Wait>(&self, rt: &R, mode: Mode) -> Option<Ticket>
-        ensures { IfSome result (λ t. t ≡ pass self.now mode) }
+    // Tries until the gate lets one in so, and refuses only where as many share it as can.
+    pub(crate) fn enter<R: Wait>(&self, rt: &R, mode: Mode) -> Result<Ticket, Met>
+        ensures { MatchResult result (λ t. t ≡ pass self.now mode) (IsFull self.now mode) }
     {
         let backoff = Backoff::new();
         for _ in rt.forever() {
             match self.try_enter(rt, mode) {
-                Ok(ticket) => return Some(ticket),
-                Err(Shut::Full) => return None,
-                Err(Shut::Busy) => backoff.snooze(),
+                Ok(ticket) => return Ok(ticket),
+                Err(met) => {
+                    if matches!(mode, Mode::Shared) && met.is_full() {
+                        return Err(met);
+                    }
+                    backoff.snooze();
+                }
             }
         }
         unreachable!()
     }
+
+    /// Of two tickets that are out together neither is exclusive: who has the gate alone is alone.
+    /// Both come back.
+    pub fn pair(&self, one: Ticket, other: Ticket) -> (Ticket, Ticket)
+        requires { (one.word ≡ self.now) × (other.word ≡ self.now) }
+        ensures shares { (one.mode ≡ Shared) × (other.mode ≡ Shared) }
+        ensures same { result ≡ (one, other) }
+    {
+        self.word.pair(one, other)
+    }
 }
 
 impl Gate for SpinGate {
-    ghost use Rattle.wit_gates.specs.Tickets.{pass};
+    ghost use Rattle.wit_gates.specs.Tickets.{IsBarred, IsCrowded, IsFull, pass};
 
     type Ticket = Ticket;
 
+    type Met = Met;
+
     ghost admits = { λ gate mode ticket. ticket ≡ pass gate mode };
 
-    fn acquire<J: Room, R: Wait>(&self, rt: &R, seat: &Seat<J>, mode: Mode) -> Option<Ticket> {
+    ghost bars = { IsBarred };
+
+    ghost refuses = { IsFull };
+
+    ghost crowds = { IsCrowded };
+
+    fn acquire<J: Room, R: Wait>(&self, rt: &R, seat: &Seat<J>, mode: Mode) -> Result<Ticket, Met> {
         let _ = seat;
         self.enter(rt, mode)
     }
 
-    fn try_acquire<R: Wait>(&self, rt: &R, mode: Mode) -> Option<Ticket> {
-        self.try_enter(rt, mode).ok()
+    fn try_acquire<R: Wait>(&self, rt: &R, mode: Mode) -> Result<Ticket, Met> {
+        self.try_enter(rt, mode)
     }
 
     fn release<R: Wait>(&self, rt: &R, mode: Mode, ticket: Ticket) {
-        let _turn = self.turn.lock(rt);
-        self.word.free(mode, ticket);
+        let turn = self.turn.lock(rt);
+        self.word.free(&turn, mode, ticket);
     }
 
-    fn try_upgrade<R: Wait>(&self, rt: &R, ticket: Ticket) -> Result<Ticket, Ticket> {
-        let _turn = self.turn.lock(rt);
-        self.word.try_upgrade(ticket)
+    fn try_upgrade<R: Wait>(&self, rt: &R, ticket: Ticket) -> Result<Ticket, (Ticket, Met)> {
+        let turn = self.turn.lock(rt);
+        self.word.try_upgrade(&turn, ticket)
     }
 
     fn downgrade<R: Wait>(&self, rt: &R, ticket: Ticket) -> Ticket {
-        let _turn = self.turn.lock(rt);
-        self.word.downgrade(ticket)
+        let turn = self.turn.lock(rt);
+        self.word.downgrade(&turn, ticket)
+    }
+
+    fn abandon(ticket: Ticket) {
+        ticket.abandon();
     }
 }

@@ -1,62 +1,68 @@
 //! What no contract says: that gates let in whom they should, take back what was out, and wake who
 //! sleeps.
 
-ghost use Rattle.wit_model.specs.declared.locks.Mode.TheVariants.{Exclusive};
+ghost use Rattle.std.specs.Prelude.{◌≡◌};
+ghost use Rattle.wit_model.specs.declared.locks.Mode.TheVariants.{Shared, Exclusive};
+ghost use Rattle.wit_gates.specs.Tickets.{pass};
 
-use crate::{CondGate, Gate, SpinGate, Word};
+use crate::{CondGate, Gate, SpinGate, Ticket, Word};
 use std::process::Abort;
 use std::rt::Clock;
-use std::sync::Wait;
 use std::sync::atomic::{AtomicBool, AtomicU64, Ordering};
+use std::sync::{Mutex, MutexGuard, Wait};
 use std::test::Fail;
 use std::thread;
 use std::thread::{Threads, join};
 use std::time::Duration;
 use wit_model::Mode;
 
-/// What one thread is answered.
-fn answers<G: Gate, R: Wait + Abort>(rt: &R, gate: &G)
-where
-    G::Ticket: Drop,
+/// Is let in by a try.
+fn tries<G: Gate, R: Wait + Abort>(rt: &R, gate: &G, mode: Mode, what: &str) -> G::Ticket
+    ensures { G.admits gate.now mode result }
 {
-    let first = gate.try_acquire(rt, Mode::Shared).expect(rt, "a share");
-    let second = gate
-        .try_acquire(rt, Mode::Shared)
-        .expect(rt, "a share beside one");
-    assert!(rt;
-        gate.try_acquire(rt, Mode::Exclusive).is_none(),
-        "alone beside shares"
-    );
+    match gate.try_acquire(rt, mode) {
+        Ok(ticket) => ticket,
+        Err(_met) => panic!(rt; "not let in: {what}"),
+    }
+}
+
+/// Is let in by no try.
+fn is_shut<G: Gate, R: Wait + Abort>(rt: &R, gate: &G, mode: Mode, what: &str) {
+    if let Ok(ticket) = gate.try_acquire(rt, mode) {
+        G::abandon(ticket);
+        panic!(rt; "let in: {what}")
+    }
+}
+
+/// What one thread is answered.
+fn answers<G: Gate, R: Wait + Abort>(rt: &R, gate: &G) {
+    let first = tries(rt, gate, Mode::Shared, "a share");
+    let second = tries(rt, gate, Mode::Shared, "a share beside one");
+    is_shut(rt, gate, Mode::Exclusive, "alone beside shares");
     let first = match gate.try_upgrade(rt, first) {
-        Ok(_) => panic!(rt; "the upgrade of one of two shares"),
-        Err(share) => share,
+        Ok(alone) => {
+            G::abandon(alone);
+            panic!(rt; "the upgrade of one of two shares")
+        }
+        Err((share, _met)) => share,
     };
     gate.release(rt, Mode::Shared, second);
-    let alone = gate
-        .try_upgrade(rt, first)
-        .ok()
-        .expect(rt, "the upgrade of the only share");
-    assert!(rt;
-        gate.try_acquire(rt, Mode::Shared).is_none(),
-        "a share beside who is alone"
-    );
-    assert!(rt;
-        gate.try_acquire(rt, Mode::Exclusive).is_none(),
-        "alone beside who is alone"
-    );
+    let alone = match gate.try_upgrade(rt, first) {
+        Ok(alone) => alone,
+        Err((share, _met)) => {
+            G::abandon(share);
+            panic!(rt; "no upgrade of the only share")
+        }
+    };
+    is_shut(rt, gate, Mode::Shared, "a share beside who is alone");
+    is_shut(rt, gate, Mode::Exclusive, "alone beside who is alone");
     let first = gate.downgrade(rt, alone);
-    let second = gate
-        .try_acquire(rt, Mode::Shared)
-        .expect(rt, "a share beside a downgraded one");
+    let second = tries(rt, gate, Mode::Shared, "a share beside a downgraded one");
     gate.release(rt, Mode::Shared, first);
     gate.release(rt, Mode::Shared, second);
-    let alone = gate
-        .try_acquire(rt, Mode::Exclusive)
-        .expect(rt, "alone at a free gate");
+    let alone = tries(rt, gate, Mode::Exclusive, "alone at a free gate");
     gate.release(rt, Mode::Exclusive, alone);
-    let last = gate
-        .try_acquire(rt, Mode::Shared)
-        .expect(rt, "a share after who was alone");
+    let last = tries(rt, gate, Mode::Shared, "a share after who was alone");
     gate.release(rt, Mode::Shared, last);
 }
 
@@ -69,22 +75,77 @@ fn gates_let_in_whom_they_should(rt: HostRuntime) -> Result<(), Fail> {
     Ok(())
 }
 
+/// A share of a word.
+fn share_of<R: Wait + Abort>(rt: &R, word: &Word, turn: &MutexGuard<'_, ()>) -> Ticket
+    ensures { result ≡ pass word.now Shared }
+{
+    match word.try_share(rt, turn) {
+        Ok(share) => share,
+        Err(_met) => panic!(rt; "no share"),
+    }
+}
+
+/// The exclusive hold of a word.
+fn hold_of<R: Wait + Abort>(rt: &R, word: &Word, turn: &MutexGuard<'_, ()>) -> Ticket
+    ensures { result ≡ pass word.now Exclusive }
+{
+    match word.try_exclusive(turn) {
+        Ok(alone) => alone,
+        Err(_met) => panic!(rt; "not alone at a free word"),
+    }
+}
+
 #[test]
 fn words_tell_what_is_out(rt: HostRuntime) -> Result<(), Fail> {
+    let turns = Mutex::new(());
+    let turn = turns.lock(&rt);
     let word = Word::new(rt.alloc())?;
     assert!(rt; word.is_free() && !word.is_exclusive() && !word.is_full());
-    let alone = word.try_exclusive().expect(&rt, "alone at a free word");
+    let alone = hold_of(&rt, &word, &turn);
     assert!(rt; !word.is_free() && word.is_exclusive() && !word.is_full());
-    let one = word.downgrade(alone);
-    let other = word.try_share().expect(&rt, "a second share");
+    let one = word.downgrade(&turn, alone);
+    let other = share_of(&rt, &word, &turn);
     let (one, other) = word.pair(one, other);
     assert!(rt; !word.is_free() && !word.is_exclusive() && !word.is_full());
-    word.free(Mode::Shared, one);
-    drop(other);
-    assert_eq!(rt; word.into_word(), 1, "a dropped ticket counts as still out");
+    word.free(&turn, Mode::Shared, one);
+    other.abandon();
+    assert_eq!(rt;
+        word.into_word(),
+        1,
+        "an abandoned ticket counts as still out"
+    );
     let word = Word::new(rt.alloc())?;
-    let alone = word.try_exclusive().expect(&rt, "alone at a free word");
+    let alone = hold_of(&rt, &word, &turn);
     assert_eq!(rt; word.into_word_with(alone), 4_294_967_295);
+    Ok(())
+}
+
+/// Has so many shares more, each by a try. Nobody is let in alone meanwhile.
+fn shares_by_tries<G: Gate, R: Wait + Abort>(rt: &R, gate: &G, count: u32) {
+    if count == 0 {
+        return;
+    }
+    let share = tries(rt, gate, Mode::Shared, "a share beside others");
+    shares_by_tries(rt, gate, count - 1);
+    is_shut(rt, gate, Mode::Exclusive, "alone beside shares");
+    gate.release(rt, Mode::Shared, share);
+}
+
+/// Once all shares are back, somebody is let in alone.
+fn is_shared_by<G: Gate, R: Wait + Abort>(rt: &R, gate: &G, count: u32) {
+    shares_by_tries(rt, gate, count);
+    let alone = tries(rt, gate, Mode::Exclusive, "alone where all have left");
+    gate.release(rt, Mode::Exclusive, alone);
+}
+
+#[test]
+fn three_and_eight_share(rt: HostRuntime) -> Result<(), Fail> {
+    let sleeping = CondGate::new(rt.alloc()).ok().expect(&rt, "memory");
+    is_shared_by(&rt, &sleeping, 3);
+    is_shared_by(&rt, &sleeping, 8);
+    let spinning = SpinGate::new(rt.alloc()).ok().expect(&rt, "memory");
+    is_shared_by(&rt, &spinning, 3);
+    is_shared_by(&rt, &spinning, 8);
     Ok(())
 }
 
@@ -106,21 +167,48 @@ impl Visits {
     }
 }
 
+/// Looks whether something has come about, for up to 10 seconds.
+fn comes_about<R: Clock>(rt: &R, count: &AtomicU64, wanted: u64) -> bool {
+    for _ in 0..1000 {
+        if count.load(Ordering::SeqCst) >= wanted {
+            return true;
+        }
+        thread::sleep(rt, Duration::from_millis(10));
+    }
+    false
+}
+
 /// A gate that can be waited for with no seat.
 trait Visited {
     /// Has the gate alone for a visit. False where somebody else was in, or nobody was let in.
     fn visit_alone<R: Wait>(&self, rt: &R, visits: &Visits) -> bool;
+
+    /// Shares the gate until so many do, which are counted. False where they don't come, or nobody
+    /// was let in.
+    fn meet<R: Wait + Clock>(&self, rt: &R, inside: &AtomicU64, count: u64) -> bool;
 }
 
 impl Visited for CondGate {
     fn visit_alone<R: Wait>(&self, rt: &R, visits: &Visits) -> bool {
         match self.enter(rt, Mode::Exclusive) {
-            Some(ticket) => {
+            Ok(ticket) => {
                 let alone = visits.visit();
                 self.release(rt, Mode::Exclusive, ticket);
                 alone
             }
-            None => false,
+            Err(_met) => false,
+        }
+    }
+
+    fn meet<R: Wait + Clock>(&self, rt: &R, inside: &AtomicU64, count: u64) -> bool {
+        match self.enter(rt, Mode::Shared) {
+            Ok(share) => {
+                inside.fetch_add(1, Ordering::SeqCst);
+                let met = comes_about(rt, inside, count);
+                self.release(rt, Mode::Shared, share);
+                met
+            }
+            Err(_met) => false,
         }
     }
 }
@@ -128,12 +216,24 @@ impl Visited for CondGate {
 impl Visited for SpinGate {
     fn visit_alone<R: Wait>(&self, rt: &R, visits: &Visits) -> bool {
         match self.enter(rt, Mode::Exclusive) {
-            Some(ticket) => {
+            Ok(ticket) => {
                 let alone = visits.visit();
                 self.release(rt, Mode::Exclusive, ticket);
                 alone
             }
-            None => false,
+            Err(_met) => false,
+        }
+    }
+
+    fn meet<R: Wait + Clock>(&self, rt: &R, inside: &AtomicU64, count: u64) -> bool {
+        match self.enter(rt, Mode::Shared) {
+            Ok(share) => {
+                inside.fetch_add(1, Ordering::SeqCst);
+                let met = comes_about(rt, inside, count);
+                self.release(rt, Mode::Shared, share);
+                met
+            }
+            Err(_met) => false,
         }
     }
 }
@@ -180,55 +280,200 @@ fn threads_take_turns(rt: HostRuntime) -> Result<(), Fail> {
     Ok(())
 }
 
-/// Waits for a share, tells that it was let in, and gives the share back.
-fn shares_once<R: Wait>(rt: &R, gate: &CondGate, entered: &AtomicBool) -> bool {
-    match gate.enter(rt, Mode::Shared) {
-        Some(share) => {
-            entered.store(true, Ordering::SeqCst);
-            gate.release(rt, Mode::Shared, share);
-            true
-        }
-        None => false,
-    }
-}
-
-/// Lets the other thread fall asleep, downgrades, and looks whether that lets it in, for up to 10
-/// seconds.
+/// Has a gate alone, lets another thread ask for a share, and downgrades: whether that lets the
+/// other one in, which wasn't before.
 fn downgrades<G: Gate, R: Wait + Clock>(
     rt: &R,
     gate: &G,
-    alone: G::Ticket,
-    entered: &AtomicBool,
-) -> bool
-    requires { G.admits gate.now Exclusive alone }
-{
-    thread::sleep(rt, Duration::from_millis(50));
-    let early = entered.load(Ordering::SeqCst);
-    let share = gate.downgrade(rt, alone);
-    for _ in 0..1000 {
-        if entered.load(Ordering::SeqCst) {
-            break;
+    asks: &AtomicU64,
+    inside: &AtomicU64,
+) -> bool {
+    match gate.try_acquire(rt, Mode::Exclusive) {
+        Ok(alone) => {
+            asks.store(1, Ordering::SeqCst);
+            thread::sleep(rt, Duration::from_millis(50));
+            let early = inside.load(Ordering::SeqCst);
+            let share = gate.downgrade(rt, alone);
+            let woken = comes_about(rt, inside, 1);
+            gate.release(rt, Mode::Shared, share);
+            woken && early == 0
         }
-        thread::sleep(rt, Duration::from_millis(10));
+        Err(_met) => false,
     }
-    let woken = entered.load(Ordering::SeqCst);
-    gate.release(rt, Mode::Shared, share);
-    woken && !early
+}
+
+/// A reader waits for a writer, which then shares with it.
+fn downgrade_lets_in<G: Gate + Visited + Sync, R: Threads + Wait + Clock + Abort + Sync>(
+    rt: &R,
+    gate: &G,
+) {
+    let (asks, inside) = (AtomicU64::new(0), AtomicU64::new(0));
+    let (asks, inside) = (&asks, &inside);
+    let (shared, woken) = join(
+        rt,
+        || comes_about(rt, asks, 1) && gate.meet(rt, inside, 1),
+        || downgrades(rt, gate, asks, inside),
+    );
+    assert!(rt; shared && woken);
 }
 
 #[test]
 fn downgrade_wakes_sleepers(rt: HostRuntime) -> Result<(), Fail> {
-    let gate = CondGate::new(rt.alloc()).ok().expect(&rt, "memory");
-    let alone = gate
-        .try_acquire(&rt, Mode::Exclusive)
-        .expect(&rt, "alone at a free gate");
-    let entered = AtomicBool::new(false);
-    let (gate, flag) = (&gate, &entered);
-    let (shared, woken) = join(
-        &rt,
-        || shares_once(&rt, gate, flag),
-        move || downgrades(&rt, gate, alone, flag),
+    let sleeping = CondGate::new(rt.alloc()).ok().expect(&rt, "memory");
+    downgrade_lets_in(&rt, &sleeping);
+    let spinning = SpinGate::new(rt.alloc()).ok().expect(&rt, "memory");
+    downgrade_lets_in(&rt, &spinning);
+    Ok(())
+}
+
+/// Has a gate alone, and leaves it once others have had time to ask for shares. False where one was
+/// let in before.
+fn leaves_alone<G: Gate, R: Wait + Clock>(
+    rt: &R,
+    gate: &G,
+    asks: &AtomicU64,
+    inside: &AtomicU64,
+) -> bool {
+    match gate.try_acquire(rt, Mode::Exclusive) {
+        Ok(alone) => {
+            asks.store(1, Ordering::SeqCst);
+            thread::sleep(rt, Duration::from_millis(50));
+            let early = inside.load(Ordering::SeqCst);
+            gate.release(rt, Mode::Exclusive, alone);
+            early == 0
+        }
+        Err(_met) => false,
+    }
+}
+
+/// Waits until it may ask, and meets two others.
+fn meets<G: Visited, R: Wait + Clock>(
+    rt: &R,
+    gate: &G,
+    asks: &AtomicU64,
+    inside: &AtomicU64,
+) -> bool {
+    comes_about(rt, asks, 1) && gate.meet(rt, inside, 3)
+}
+
+/// Three readers wait for a writer to leave, and are then in together.
+fn readers_wait<G: Gate + Visited + Sync, R: Threads + Wait + Clock + Abort + Sync>(
+    rt: &R,
+    gate: &G,
+) {
+    let (asks, inside) = (AtomicU64::new(0), AtomicU64::new(0));
+    let (asks, inside) = (&asks, &inside);
+    let ((a, b), (c, kept)) = join(
+        rt,
+        || join(
+            rt,
+            || meets(rt, gate, asks, inside),
+            || meets(rt, gate, asks, inside),
+        ),
+        || join(
+            rt,
+            || meets(rt, gate, asks, inside),
+            || leaves_alone(rt, gate, asks, inside),
+        ),
     );
-    assert!(rt; shared && woken);
+    assert!(rt; kept, "a share beside who is alone");
+    assert!(rt; a && b && c, "three that wait don't all come in");
+}
+
+#[test]
+fn readers_wait_behind_a_writer(rt: HostRuntime) -> Result<(), Fail> {
+    let sleeping = CondGate::new(rt.alloc()).ok().expect(&rt, "memory");
+    readers_wait(&rt, &sleeping);
+    let spinning = SpinGate::new(rt.alloc()).ok().expect(&rt, "memory");
+    readers_wait(&rt, &spinning);
+    Ok(())
+}
+
+/// Has so many shares more, lets a writer ask once it has all of them, and gives them back. False
+/// where a share isn't had, or the writer is in beside one.
+fn holds_back<G: Gate, R: Wait + Clock>(
+    rt: &R,
+    gate: &G,
+    count: u32,
+    asks: &AtomicU64,
+    inside: &AtomicU64,
+) -> bool {
+    if count == 0 {
+        asks.store(1, Ordering::SeqCst);
+        thread::sleep(rt, Duration::from_millis(50));
+        return inside.load(Ordering::SeqCst) == 0;
+    }
+    match gate.try_acquire(rt, Mode::Shared) {
+        Ok(share) => {
+            let kept = holds_back(rt, gate, count - 1, asks, inside);
+            let early = inside.load(Ordering::SeqCst);
+            gate.release(rt, Mode::Shared, share);
+            kept && early == 0
+        }
+        Err(_met) => false,
+    }
+}
+
+/// Waits until it may ask, and has the gate alone then.
+fn comes_in<G: Visited, R: Wait + Clock>(
+    rt: &R,
+    gate: &G,
+    asks: &AtomicU64,
+    inside: &AtomicU64,
+) -> bool {
+    let asked = comes_about(rt, asks, 1);
+    let visits = Visits {
+        taken: AtomicBool::new(false),
+        done: AtomicU64::new(0),
+    };
+    let alone = gate.visit_alone(rt, &visits);
+    inside.store(1, Ordering::SeqCst);
+    asked && alone
+}
+
+/// A writer waits for so many readers to leave, and is then in.
+fn writer_waits<G: Gate + Visited + Sync, R: Threads + Wait + Clock + Abort + Sync>(
+    rt: &R,
+    gate: &G,
+    count: u32,
+) {
+    let (asks, inside) = (AtomicU64::new(0), AtomicU64::new(0));
+    let (asks, inside) = (&asks, &inside);
+    let (came, kept) = join(
+        rt,
+        || comes_in(rt, gate, asks, inside),
+        || holds_back(rt, gate, count, asks, inside),
+    );
+    assert!(rt; kept, "alone beside shares");
+    assert!(rt; came, "a writer that waits doesn't come in");
+}
+
+#[test]
+fn a_writer_waits_behind_readers(rt: HostRuntime) -> Result<(), Fail> {
+    let sleeping = CondGate::new(rt.alloc()).ok().expect(&rt, "memory");
+    writer_waits(&rt, &sleeping, 3);
+    writer_waits(&rt, &sleeping, 8);
+    let spinning = SpinGate::new(rt.alloc()).ok().expect(&rt, "memory");
+    writer_waits(&rt, &spinning, 3);
+    writer_waits(&rt, &spinning, 8);
+    Ok(())
+}
+
+#[test]
+fn two_shares_stand_beside_each_other(rt: HostRuntime) -> Result<(), Fail> {
+    let sleeping = CondGate::new(rt.alloc()).ok().expect(&rt, "memory");
+    let one = tries(&rt, &sleeping, Mode::Shared, "a share");
+    let other = tries(&rt, &sleeping, Mode::Shared, "another share");
+    let (one, other) = sleeping.pair(one, other);
+    sleeping.release(&rt, Mode::Shared, one);
+    sleeping.release(&rt, Mode::Shared, other);
+    is_shared_by(&rt, &sleeping, 1);
+    let spinning = SpinGate::new(rt.alloc()).ok().expect(&rt, "memory");
+    let one = tries(&rt, &spinning, Mode::Shared, "a share");
+    let other = tries(&rt, &spinning, Mode::Shared, "another share");
+    let (one, other) = spinning.pair(one, other);
+    spinning.release(&rt, Mode::Shared, one);
+    spinning.release(&rt, Mode::Shared, other);
+    is_shared_by(&rt, &spinning, 1);
     Ok(())
 }

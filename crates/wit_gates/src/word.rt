@@ -4,11 +4,16 @@ ghost use Rattle.atomic_table.specs.Seated.{TableId};
 ghost use Rattle.wit_gates.specs.Tickets.{HasOneWord};
 
 use crate::claim::Claim;
-use crate::rule::{Counts, Ends, Joined, Looks, Parted, Shares, TriesExclusive, TriesShare};
+use crate::met::Met;
+use crate::rule::{
+    Counts, Ends, Joined, Looks, Meets, Parted, Shares, Told, TriesExclusive, TriesShare,
+    TriesUpgrade,
+};
 use crate::ticket::Ticket;
 use atomic_table::Table;
 use std::alloc::{AllocError, Global};
 use std::marker::Model;
+use std::sync::{MutexGuard, Wait};
 use wit_model::Mode;
 
 // How many can share a gate.
@@ -21,7 +26,8 @@ const EXCLUSIVE: u64 = 4_294_967_295;
 /// share it, which is up to 4,294,967,294.
 ///
 /// The tickets that are out add up to it at every moment. It is changed through a `&`, by single
-/// steps that need no lock. Contracts see which word it is.
+/// steps. Each takes what shows that a mutex is held, which the gate has for its turns: so no step
+/// comes between what a waiter looks at and its sleep. Contracts see which word it is.
 #[derive(Drop)]
 pub struct Word {
     table: Table<(), Claim, (), Counts, Global>,
@@ -36,11 +42,10 @@ impl Model for Word {
 }
 
 impl Word {
-    ghost use Rattle.std.specs.Prelude.{◌≡◌, ◌≤◌, IfSome, MatchResult};
+    ghost use Rattle.std.specs.Prelude.{◌≡◌, ◌≤◌, MatchResult};
     ghost use Rattle.wit_model.specs.declared.locks.Mode.TheVariants.{Shared, Exclusive};
     ghost use Rattle.wit_model.specs.Gates.{exclusive_word, most_shares};
-    ghost use Rattle.wit_gates.specs.Claims.{IsOfClaims};
-    ghost use Rattle.wit_gates.specs.Tickets.{pass};
+    ghost use Rattle.wit_gates.specs.Tickets.{IsBarred, IsCrowded, pass};
 
     /// The word of a gate that nobody has.
     ///
@@ -66,36 +71,42 @@ impl Word {
         self.table.shared.peek(0) == EXCLUSIVE
     }
 
-    /// A share, where nobody has the gate alone and one more can share it. None also where another
-    /// thread's step comes between.
-    pub fn try_share(&self) -> Option<Ticket>
-        ensures { IfSome result (λ t. t ≡ pass self.now Shared) }
+    /// A share, where nobody has the gate alone and one more can share it. Else the word as it was
+    /// met, which lets nobody in so.
+    pub fn try_share<R: Wait>(&self, rt: &R, _turn: &MutexGuard<'_, ()>) -> Result<Ticket, Met>
+        ensures { MatchResult result (λ t. t ≡ pass self.now Shared) (IsBarred self.now Shared) }
     {
         let shared = &self.table.shared;
-        let (found, mut seat) = shared.load_new_seat::<Ends>(0);
-        if found >= MOST_SHARES {
-            return None;
+        let (mut found, mut seat) = shared.load_new_seat::<Meets>(0);
+        for _ in rt.forever() {
+            if found >= MOST_SHARES {
+                return Err(Met { seat, found });
+            }
+            let now = shared.compare_exchange::<TriesShare>(&mut seat, 0, found, found + 1);
+            if now == found {
+                return Ok(Ticket { seat });
+            }
+            found = now;
         }
-        if shared.compare_exchange::<TriesShare>(&mut seat, 0, found, found + 1) != found {
-            return None;
-        }
-        Some(Ticket { seat })
+        unreachable!()
     }
 
-    /// The exclusive hold, where nobody has the gate.
-    pub fn try_exclusive(&self) -> Option<Ticket>
-        ensures { IfSome result (λ t. t ≡ pass self.now Exclusive) }
+    /// The exclusive hold, where nobody has the gate. Else the word as it was met.
+    pub fn try_exclusive(&self, _turn: &MutexGuard<'_, ()>) -> Result<Ticket, Met>
+        ensures { MatchResult result (λ t. t ≡ pass self.now Exclusive)
+            (IsBarred self.now Exclusive) }
     {
         let shared = &self.table.shared;
-        let (_, mut seat) = shared.load_new_seat::<Ends>(0);
-        if shared.compare_exchange::<TriesExclusive>(&mut seat, 0, 0, EXCLUSIVE) != 0 {
-            return None;
+        let (_, mut seat) = shared.load_new_seat::<Meets>(0);
+        let found = shared.compare_exchange::<TriesExclusive>(&mut seat, 0, 0, EXCLUSIVE);
+        if found != 0 {
+            return Err(Met { seat, found });
         }
-        Some(Ticket { seat })
+        Ok(Ticket { seat })
     }
 
     /// Takes a ticket back. It never fails.
-    pub fn free(&self, mode: Mode, ticket: Ticket)
+    pub fn free(&self, _turn: &MutexGuard<'_, ()>, mode: Mode, ticket: Ticket)
         requires { ticket ≡ pass self.now mode }
     {
         let Ticket { mut seat } = ticket;
@@ -107,21 +118,29 @@ impl Word {
         }
     }
 
-    /// The exclusive hold for a share, where that is the only one. Else the share comes back.
-    pub fn try_upgrade(&self, ticket: Ticket) -> Result<Ticket, Ticket>
+    /// The exclusive hold for a share, where that is the only one. Else the share comes back, with
+    /// the word as it was met.
+    pub fn try_upgrade(
+        &self,
+        _turn: &MutexGuard<'_, ()>,
+        ticket: Ticket,
+    ) -> Result<Ticket, (Ticket, Met)>
         requires { ticket ≡ pass self.now Shared }
-        ensures { MatchResult result (λ t. t ≡ pass self.now Exclusive) (λ t. t ≡ ticket) }
+        ensures { MatchResult result (λ t. t ≡ pass self.now Exclusive)
+            (λ e. (e.0 ≡ ticket) × IsCrowded self.now e.1) }
     {
         let Ticket { mut seat } = ticket;
         let shared = &self.table.shared;
-        if shared.compare_exchange::<TriesExclusive>(&mut seat, 0, 1, EXCLUSIVE) != 1 {
-            return Err(Ticket { seat });
+        let found = shared.compare_exchange::<TriesUpgrade>(&mut seat, 0, 1, EXCLUSIVE);
+        if found != 1 {
+            let met = shared.split_seat::<Told>(&mut seat);
+            return Err((Ticket { seat }, Met { seat: met, found }));
         }
         Ok(Ticket { seat })
     }
 
     /// A share for the exclusive hold. It never fails.
-    pub fn downgrade(&self, ticket: Ticket) -> Ticket
+    pub fn downgrade(&self, _turn: &MutexGuard<'_, ()>, ticket: Ticket) -> Ticket
         requires { ticket ≡ pass self.now Exclusive }
         ensures { result ≡ pass self.now Shared }
     {
@@ -146,9 +165,9 @@ impl Word {
         (Ticket { seat }, Ticket { seat: second })
     }
 
-    /// The word at the end. Tickets that never came back, as those that were dropped, still count.
+    /// The word at the end. Tickets that never came back, as those that were abandoned, still count.
     pub fn into_word(self) -> u64
-        ensures { IsOfClaims result }
+        ensures { result ≤ exclusive_word }
     {
         let Word { table } = self;
         let closed = table.close();

@@ -1,6 +1,6 @@
 //! How a lock of any class is acquired.
 
-ghost use Rattle.std.specs.Prelude.{◌≡◌, Err, Ok, IfOk, IfSome, IfErr, MatchOption};
+ghost use Rattle.std.specs.Prelude.{◌≡◌, Err, None, Ok, IfOk, IfSome, IfErr, MatchOption};
 ghost use Rattle.wit_model.specs.declared.calls.Call.TheVariants.{NoteTry};
 ghost use Rattle.wit_model.specs.Rules.Step.{AnswersOrFails};
 ghost use Rattle.wit_shared.specs.Own.{Leaves};
@@ -39,7 +39,7 @@ impl<J: Room, G: Gate, K: Kind> Lock<J, G, K> {
     {
         let asked = shared.check(rt, seat, self.number, mode, FIRST_REQUEST, site)?;
         match self.gate.acquire(rt, seat, mode) {
-            Some(ticket) => match shared.note(rt, seat, self.number) {
+            Ok(ticket) => match shared.note(rt, seat, self.number) {
                 Ok(noted) => Ok(Held {
                     hold: Hold {
                         lock: self.number,
@@ -53,7 +53,7 @@ impl<J: Room, G: Gate, K: Kind> Lock<J, G, K> {
                 }),
                 Err(_) => unreachable!(),
             },
-            None => match shared.give_up(rt, seat, self.number) {
+            Err(_met) => match shared.give_up(rt, seat, self.number) {
                 Ok(_) => Err(Fault::GateRefused),
                 Err(_) => unreachable!(),
             },
@@ -77,10 +77,10 @@ impl<J: Room, G: Gate, K: Kind> Lock<J, G, K> {
             (Err fault) seat.old seat.new) }
         ensures held { IfOk result (λ o. IfSome o (λ h. G.admits self.now.gate mode h.ticket
             × (h.hold.lock ≡ self.now.number) × (h.hold.seat.0 ≡ seat.old.seat)
-            × (h.hold.mode ≡ mode) × (h.hold.depth ≡ 0))) }
+            × (h.hold.mode ≡ mode) × (h.hold.depth ≡ 0) × (h.hold.asked ≡ None))) }
         ensures seat { (seat.new.seat ≡ seat.old.seat) × (seat.new.given ≡ seat.old.given) }
     {
-        let Some(ticket) = self.gate.try_acquire(rt, mode) else {
+        let Ok(ticket) = self.gate.try_acquire(rt, mode) else {
             return Ok(None);
         };
         match shared.note_try(rt, seat, self.number, mode, site) {

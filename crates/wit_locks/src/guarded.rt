@@ -97,11 +97,11 @@ impl<J: Room, T, G: Gate, K: Kind> Guarded<J, T, G, K> {
         ensures task { (w : W) → (fault : Fault) → result ≡ Err (NotAcquired w fault) → (w ≡ task)
             × FailsToAcquire J.start (first_request self.now.lock.number Exclusive site) fault
             seat.old seat.new }
-        ensures refused { (out : W.Out) → (held : Held G G.Ticket) → (fault : Fault)
+        ensures refused { (out : W.Out) → (held : Held G G.Ticket G.Met) → (fault : Fault)
             → result ≡ Err (NotReleased out held fault)
             → Stays J.start (first_request self.now.lock.number Exclusive site) fault
             seat.old seat.new }
-        ensures held { (out : W.Out) → (held : Held G G.Ticket) → (fault : Fault)
+        ensures held { (out : W.Out) → (held : Held G G.Ticket G.Met) → (fault : Fault)
             → result ≡ Err (NotReleased out held fault)
             → G.admits self.now.lock.gate Exclusive held.ticket
             × (held.hold.lock ≡ self.now.lock.number) × (held.hold.seat.0 ≡ seat.new.seat)

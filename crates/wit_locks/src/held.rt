@@ -74,9 +74,7 @@ impl<G: Gate> Held<G> {
 
 /// Gives up a token whose release is refused. The gate and the verifier's record stay as they are:
 /// the lock counts as held for good.
-pub fn abandon<G: Gate>(held: Held<G>)
-where
-    G::Ticket: Drop,
-{
-    let Held { hold: _, ticket: _ } = held;
+pub fn abandon<G: Gate>(held: Held<G>) {
+    let Held { hold: _, ticket } = held;
+    G::abandon(ticket);
 }

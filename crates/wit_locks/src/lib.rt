@@ -8,6 +8,7 @@ mod held;
 mod kinds;
 mod lock;
 mod mutexes;
+mod pairing;
 mod releasing;
 mod shareable;
 mod turning;

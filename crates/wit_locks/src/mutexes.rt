@@ -64,7 +64,7 @@ impl<J: Room, G: Gate> Lock<J, G, SleepMutexKind> {
             (Err fault) seat.old seat.new) }
         ensures held { IfOk result (λ o. IfSome o (λ h. G.admits self.now.gate Exclusive h.ticket
             × (h.hold.lock ≡ self.now.number) × (h.hold.seat.0 ≡ seat.old.seat)
-            × (h.hold.mode ≡ Exclusive) × (h.hold.depth ≡ 0))) }
+            × (h.hold.mode ≡ Exclusive) × (h.hold.depth ≡ 0) × (h.hold.asked ≡ None))) }
         ensures seat { (seat.new.seat ≡ seat.old.seat) × (seat.new.given ≡ seat.old.given) }
     {
         self.try_acquire(rt, shared, seat, Mode::Exclusive, site)
@@ -120,7 +120,7 @@ impl<J: Room, G: Gate> Lock<J, G, SpinMutexKind> {
             (Err fault) seat.old seat.new) }
         ensures held { IfOk result (λ o. IfSome o (λ h. G.admits self.now.gate Exclusive h.ticket
             × (h.hold.lock ≡ self.now.number) × (h.hold.seat.0 ≡ seat.old.seat)
-            × (h.hold.mode ≡ Exclusive) × (h.hold.depth ≡ 0))) }
+            × (h.hold.mode ≡ Exclusive) × (h.hold.depth ≡ 0) × (h.hold.asked ≡ None))) }
         ensures seat { (seat.new.seat ≡ seat.old.seat) × (seat.new.given ≡ seat.old.given) }
     {
         self.try_acquire(rt, shared, seat, Mode::Exclusive, site)

@@ -64,7 +64,7 @@ impl<J: Room, G: Gate> Lock<J, G, RwKind> {
             (Err fault) seat.old seat.new) }
         ensures held { IfOk result (λ o. IfSome o (λ h. G.admits self.now.gate mode h.ticket
             × (h.hold.lock ≡ self.now.number) × (h.hold.seat.0 ≡ seat.old.seat)
-            × (h.hold.mode ≡ mode) × (h.hold.depth ≡ 0))) }
+            × (h.hold.mode ≡ mode) × (h.hold.depth ≡ 0) × (h.hold.asked ≡ None))) }
         ensures seat { (seat.new.seat ≡ seat.old.seat) × (seat.new.given ≡ seat.old.given) }
     {
         self.try_acquire(rt, shared, seat, mode, site)
@@ -121,7 +121,7 @@ impl<J: Room, G: Gate> Lock<J, G, SxKind> {
             (Err fault) seat.old seat.new) }
         ensures held { IfOk result (λ o. IfSome o (λ h. G.admits self.now.gate mode h.ticket
             × (h.hold.lock ≡ self.now.number) × (h.hold.seat.0 ≡ seat.old.seat)
-            × (h.hold.mode ≡ mode) × (h.hold.depth ≡ 0))) }
+            × (h.hold.mode ≡ mode) × (h.hold.depth ≡ 0) × (h.hold.asked ≡ None))) }
         ensures seat { (seat.new.seat ≡ seat.old.seat) × (seat.new.given ≡ seat.old.given) }
     {
         self.try_acquire(rt, shared, seat, mode, site)

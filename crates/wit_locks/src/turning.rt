@@ -81,7 +81,7 @@ impl<J: Room, G: Gate, K: Kind> Lock<J, G, K> {
         let Held { hold, ticket } = held;
         let ticket = match self.gate.try_upgrade(rt, ticket) {
             Ok(ticket) => ticket,
-            Err(ticket) => return Err((Held { hold, ticket }, Fault::GateRefused)),
+            Err((ticket, _met)) => return Err((Held { hold, ticket }, Fault::GateRefused)),
         };
         if let Err(fault) = shared.upgrade(rt, seat, self.number) {
             let share = self.gate.downgrade(rt, ticket);

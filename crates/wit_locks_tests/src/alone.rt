@@ -1,8 +1,12 @@
 //! What the calls of a lock ask of its gate, by one thread.
 
 use crate::fakes::{Counted, Counts, Shut};
-use crate::tokens::{granted, kept, let_go, not_granted, not_released, refused, shut, taken};
-use crate::verifiers::{a_mutex, a_seat, a_site, closed, closed_by_all, pair_of, run_with};
+use crate::tokens::{
+    granted, kept, let_go, not_granted, not_released, refused, shut, taken, tried,
+};
+use crate::verifiers::{
+    a_mutex, a_seat, a_site, closed, closed_by_all, pair_of, run_with, run_within,
+};
 use bitflags::Flags;
 use std::alloc::Global;
 use std::process::Abort;
@@ -11,7 +15,7 @@ use std::test::Fail;
 use wit_core::Verifier;
 use wit_gates::{CondGate, Gate, SpinGate};
 use wit_locks::{Mtx, Rw, abandon};
-use wit_model::{Call, Entry, Fault, LockFlags, Mode, Site};
+use wit_model::{Call, Entry, Fault, Limits, LockFlags, Mode, Site};
 use wit_shared::{Observer, Program, Room, Seat, Shared};
 
 /// A mutex that is held is asked for again: how many entries the log has then.
@@ -21,11 +25,10 @@ struct TakenTwice<'a, G: Gate> {
     gate: Counted<'a, G>,
 }
 
-impl<R: Wait + Abort, G: Gate + Drop> Program<R> for TakenTwice<'_, G>
-where
-    G::Ticket: Drop,
-{
+impl<R: Wait + Abort, G: Gate + Drop> Program<R> for TakenTwice<'_, G> {
     type Out = usize;
+
+    ghost suits = { λ program start observers. Unit {0} };
 
     ghost done = { λ program out. Unit {0} };
 
@@ -50,10 +53,7 @@ where
     }
 }
 
-fn takes_twice<R: Wait + Abort, G: Gate + Drop>(rt: &R, alloc: Global, inner: G)
-where
-    G::Ticket: Drop,
-{
+fn takes_twice<R: Wait + Abort, G: Gate + Drop>(rt: &R, alloc: Global, inner: G) {
     let counts = Counts::new();
     let gate = Counted {
         inner,
@@ -79,6 +79,8 @@ struct ShutOut {
 
 impl<R: Wait + Abort> Program<R> for ShutOut {
     type Out = Verifier;
+
+    ghost suits = { λ program start observers. Unit {0} };
 
     ghost done = { λ program out. Unit {0} };
 
@@ -135,10 +137,7 @@ fn take<R: Wait, J: Room, G: Gate>(
     seat: &mut Seat<J>,
     mutex: &Mtx<J, G>,
     site: Site,
-) -> Result<(), Fault>
-where
-    G::Ticket: Drop,
-{
+) -> Result<(), Fault> {
     let held = mutex.lock(rt, shared, seat, site)?;
     match mutex.unlock(rt, shared, seat, held) {
         Ok(left) => match left {
@@ -164,6 +163,8 @@ struct Marked<'a> {
 
 impl<R: Wait + Abort> Program<R> for Marked<'_> {
     type Out = ();
+
+    ghost suits = { λ program start observers. Unit {0} };
 
     ghost done = { λ program out. Unit {0} };
 
@@ -213,6 +214,8 @@ struct HeldTwice<'a> {
 impl<R: Wait + Abort> Program<R> for HeldTwice<'_> {
     type Out = ();
 
+    ghost suits = { λ program start observers. Unit {0} };
+
     ghost done = { λ program out. Unit {0} };
 
     fn run<J: Room + Send + Sync>(self, rt: &R, shared: Shared<J>, _observers: Vec<Observer<J>>) {
@@ -257,6 +260,8 @@ struct Crowded<'a> {
 impl<R: Wait + Abort> Program<R> for Crowded<'_> {
     type Out = ();
 
+    ghost suits = { λ program start observers. Unit {0} };
+
     ghost done = { λ program out. Unit {0} };
 
     fn run<J: Room + Send + Sync>(self, rt: &R, shared: Shared<J>, _observers: Vec<Observer<J>>) {
@@ -288,5 +293,44 @@ fn a_full_log_enters_no_gate(rt: HostRuntime) -> Result<(), Fail> {
     };
     run_with(&rt, rt.alloc(), 256, 5, Crowded { gate });
     assert_eq!(rt; counts.all(), [1, 0, 1, 0, 0]);
+    Ok(())
+}
+
+/// A mutex after 120 others, had by a try and then by a request.
+#[derive(Drop)]
+struct Late {
+    alloc: Global,
+}
+
+impl<R: Wait + Abort> Program<R> for Late {
+    type Out = ();
+
+    ghost suits = { λ program start observers. Unit {0} };
+
+    ghost done = { λ program out. Unit {0} };
+
+    fn run<J: Room + Send + Sync>(self, rt: &R, shared: Shared<J>, _observers: Vec<Observer<J>>) {
+        let alloc = self.alloc;
+        let mut seat = a_seat(rt, &shared);
+        let site = a_site(rt, &shared, &mut seat);
+        for _ in 0..120 {
+            let gate = CondGate::new(alloc).ok().expect(rt, "memory");
+            let _mutex = a_mutex(rt, &shared, &mut seat, "m", gate);
+        }
+        let gate = CondGate::new(alloc).ok().expect(rt, "memory");
+        let mutex = a_mutex(rt, &shared, &mut seat, "m", gate);
+        assert_eq!(rt; mutex.number().0, 121);
+        let held = tried(rt, mutex.try_lock(rt, &shared, &mut seat, site));
+        assert!(rt; held.asked().is_none(), "a try asks for nothing");
+        let_go(rt, &shared, &mut seat, &mutex, held);
+        assert_eq!(rt; take(rt, &shared, &mut seat, &mutex, site), Ok(()));
+        closed(rt, alloc, shared, seat);
+    }
+}
+
+#[test]
+fn a_lock_with_a_large_number(rt: HostRuntime) -> Result<(), Fail> {
+    let alloc = rt.alloc();
+    run_within(&rt, alloc, Limits::new(1, 8, 200, 32, 200), Late { alloc });
     Ok(())
 }

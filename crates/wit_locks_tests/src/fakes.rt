@@ -52,14 +52,27 @@ pub(crate) struct Counted<'a, G: Gate> {
 impl<G: Gate> Gate for Counted<'_, G> {
     type Ticket = G::Ticket;
 
+    type Met = G::Met;
+
     ghost admits = { λ gate. G.admits gate.inner };
 
-    fn acquire<J: Room, R: Wait>(&self, rt: &R, seat: &Seat<J>, mode: Mode) -> Option<G::Ticket> {
+    ghost bars = { λ gate. G.bars gate.inner };
+
+    ghost refuses = { λ gate. G.refuses gate.inner };
+
+    ghost crowds = { λ gate. G.crowds gate.inner };
+
+    fn acquire<J: Room, R: Wait>(
+        &self,
+        rt: &R,
+        seat: &Seat<J>,
+        mode: Mode,
+    ) -> Result<G::Ticket, G::Met> {
         self.counts.acquires.fetch_add(1, Ordering::SeqCst);
         self.inner.acquire(rt, seat, mode)
     }
 
-    fn try_acquire<R: Wait>(&self, rt: &R, mode: Mode) -> Option<G::Ticket> {
+    fn try_acquire<R: Wait>(&self, rt: &R, mode: Mode) -> Result<G::Ticket, G::Met> {
         self.counts.tries.fetch_add(1, Ordering::SeqCst);
         self.inner.try_acquire(rt, mode)
     }
@@ -69,7 +82,11 @@ impl<G: Gate> Gate for Counted<'_, G> {
         self.inner.release(rt, mode, ticket)
     }
 
-    fn try_upgrade<R: Wait>(&self, rt: &R, ticket: G::Ticket) -> Result<G::Ticket, G::Ticket> {
+    fn try_upgrade<R: Wait>(
+        &self,
+        rt: &R,
+        ticket: G::Ticket,
+    ) -> Result<G::Ticket, (G::Ticket, G::Met)> {
         self.counts.upgrades.fetch_add(1, Ordering::SeqCst);
         self.inner.try_upgrade(rt, ticket)
     }
@@ -77,6 +94,10 @@ impl<G: Gate> Gate for Counted<'_, G> {
     fn downgrade<R: Wait>(&self, rt: &R, ticket: G::Ticket) -> G::Ticket {
         self.counts.downgrades.fetch_add(1, Ordering::SeqCst);
         self.inner.downgrade(rt, ticket)
+    }
+
+    fn abandon(ticket: G::Ticket) {
+        G::abandon(ticket);
     }
 }
 
@@ -89,23 +110,33 @@ pub(crate) struct Shut {
 impl Gate for Shut {
     type Ticket = ();
 
+    type Met = ();
+
     ghost admits = { λ gate mode ticket. Unit {0} };
 
-    fn acquire<J: Room, R: Wait>(&self, _rt: &R, _seat: &Seat<J>, _mode: Mode) -> Option<()> {
-        None
+    ghost bars = { λ gate mode met. Unit {0} };
+
+    ghost refuses = { λ gate mode met. Unit {0} };
+
+    ghost crowds = { λ gate met. Unit {0} };
+
+    fn acquire<J: Room, R: Wait>(&self, _rt: &R, _seat: &Seat<J>, _mode: Mode) -> Result<(), ()> {
+        Err(())
     }
 
-    fn try_acquire<R: Wait>(&self, _rt: &R, _mode: Mode) -> Option<()> {
-        None
+    fn try_acquire<R: Wait>(&self, _rt: &R, _mode: Mode) -> Result<(), ()> {
+        Err(())
     }
 
     fn release<R: Wait>(&self, _rt: &R, _mode: Mode, _ticket: ()) {}
 
-    fn try_upgrade<R: Wait>(&self, _rt: &R, ticket: ()) -> Result<(), ()> {
-        Err(ticket)
+    fn try_upgrade<R: Wait>(&self, _rt: &R, ticket: ()) -> Result<(), ((), ())> {
+        Err((ticket, ()))
     }
 
     fn downgrade<R: Wait>(&self, _rt: &R, ticket: ()) {
         ticket
     }
+
+    fn abandon(_ticket: ()) {}
 }

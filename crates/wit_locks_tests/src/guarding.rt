@@ -55,10 +55,7 @@ fn added<R: Wait + Abort, J: Room>(
 }
 
 /// Why the lock wasn't acquired.
-fn fault_of<R: Abort, W: Drop, G: Gate>(rt: &R, unfinished: Unfinished<W, u32, G>) -> Fault
-where
-    G::Ticket: Drop,
-{
+fn fault_of<R: Abort, W: Drop, G: Gate>(rt: &R, unfinished: Unfinished<W, u32, G>) -> Fault {
     match unfinished {
         Unfinished::NotAcquired(_task, fault) => fault,
         Unfinished::NotReleased(_sum, held, fault) => {
@@ -76,6 +73,8 @@ struct Summed {
 
 impl<R: Wait + Abort> Program<R> for Summed {
     type Out = usize;
+
+    ghost suits = { λ program start observers. Unit {0} };
 
     ghost done = { λ program out. Unit {0} };
 

@@ -18,11 +18,10 @@ struct SharedByTwo<G> {
     gate: G,
 }
 
-impl<R: Wait + Abort, G: Gate + Drop> Program<R> for SharedByTwo<G>
-where
-    G::Ticket: Drop,
-{
+impl<R: Wait + Abort, G: Gate + Drop> Program<R> for SharedByTwo<G> {
     type Out = usize;
+
+    ghost suits = { λ program start observers. Unit {0} };
 
     ghost done = { λ program out. Unit {0} };
 
@@ -53,13 +52,11 @@ fn share_and_have_alone<R: Wait + Abort, J: Room, G: Gate>(
     two: &mut Seat<J>,
     lock: &Rw<J, G>,
     site: Site,
-)
-where
-    G::Ticket: Drop,
-{
+) {
     let first = granted(rt, lock.lock(rt, shared, one, Mode::Shared, site));
     shut(rt, lock.try_lock(rt, shared, two, Mode::Exclusive, site));
     let second = tried(rt, lock.try_lock(rt, shared, two, Mode::Shared, site));
+    assert!(rt; second.asked().is_none(), "a try asks for nothing");
     let first = refused(
         rt,
         lock.try_upgrade(rt, shared, one, first),
@@ -88,5 +85,83 @@ fn two_seats_share_over_both_gates(rt: HostRuntime) -> Result<(), Fail> {
         run_with(&rt, alloc, 2, 64, SharedByTwo { alloc, gate }),
         11
     );
+    Ok(())
+}
+
+/// Two seats share a lock over each gate. Their tokens stand beside each other.
+#[derive(Drop)]
+struct Paired {
+    alloc: Global,
+}
+
+impl<R: Wait + Abort> Program<R> for Paired {
+    type Out = usize;
+
+    ghost suits = { λ program start observers. Unit {0} };
+
+    ghost done = { λ program out. Unit {0} };
+
+    fn run<J: Room + Send + Sync>(
+        self,
+        rt: &R,
+        shared: Shared<J>,
+        _observers: Vec<Observer<J>>,
+    ) -> usize {
+        let alloc = self.alloc;
+        let mut one = a_seat(rt, &shared);
+        let mut two = a_seat(rt, &shared);
+        let site = a_site(rt, &shared, &mut one);
+        let flags = LockFlags::RECURSABLE;
+        let gate = CondGate::new(alloc).ok().expect(rt, "memory");
+        match Rw::new(rt, &shared, &mut one, "rw", None, flags, gate) {
+            Ok(lock) => pair_sleeping(rt, &shared, &mut one, &mut two, &lock, site),
+            Err((_, fault)) => panic!(rt; "no lock: {fault}"),
+        }
+        let gate = SpinGate::new(alloc).ok().expect(rt, "memory");
+        match Rw::new(rt, &shared, &mut one, "rw", None, flags, gate) {
+            Ok(lock) => pair_spinning(rt, &shared, &mut one, &mut two, &lock, site),
+            Err((_, fault)) => panic!(rt; "no lock: {fault}"),
+        }
+        closed_by_all(rt, shared, pair_of(rt, alloc, one, two))
+            .history()
+            .len()
+    }
+}
+
+fn pair_sleeping<R: Wait + Abort, J: Room>(
+    rt: &R,
+    shared: &Shared<J>,
+    one: &mut Seat<J>,
+    two: &mut Seat<J>,
+    lock: &Rw<J, CondGate>,
+    site: Site,
+) {
+    let first = granted(rt, lock.lock(rt, shared, one, Mode::Shared, site));
+    let second = granted(rt, lock.lock(rt, shared, two, Mode::Shared, site));
+    let (first, second) = lock.pair(first, second);
+    released(rt, lock.unlock(rt, shared, one, first));
+    released(rt, lock.unlock(rt, shared, two, second));
+}
+
+fn pair_spinning<R: Wait + Abort, J: Room>(
+    rt: &R,
+    shared: &Shared<J>,
+    one: &mut Seat<J>,
+    two: &mut Seat<J>,
+    lock: &Rw<J, SpinGate>,
+    site: Site,
+) {
+    let first = granted(rt, lock.lock(rt, shared, one, Mode::Shared, site));
+    let second = granted(rt, lock.lock(rt, shared, two, Mode::Shared, site));
+    let (first, second) = lock.pair(first, second);
+    released(rt, lock.unlock(rt, shared, one, first));
+    released(rt, lock.unlock(rt, shared, two, second));
+}
+
+#[test]
+fn tokens_of_two_seats_are_shares(rt: HostRuntime) -> Result<(), Fail> {
+    let alloc = rt.alloc();
+    // Each lock is made, and taken twice with a check, a note and an unlock.
+    assert_eq!(rt; run_with(&rt, alloc, 2, 64, Paired { alloc }), 14);
     Ok(())
 }

@@ -12,7 +12,7 @@ use std::sync::Wait;
 use std::sync::atomic::{AtomicBool, Ordering};
 use std::test::Fail;
 use std::thread::{self, Threads, join};
-use wit_gates::{CondGate, Gate};
+use wit_gates::{CondGate, Gate, Met};
 use wit_locks::Mtx;
 use wit_model::{Fault, Mode, Site};
 use wit_shared::{Opened, Room, Seat, Shared};
@@ -50,23 +50,32 @@ struct Patient<'a> {
 impl Gate for Patient<'_> {
     type Ticket = wit_gates::Ticket;
 
+    // None: the other thread doesn't come.
+    type Met = Option<Met>;
+
     ghost admits = { λ gate mode ticket. ticket ≡ pass gate.inner mode };
+
+    ghost bars = { λ gate mode met. Unit {0} };
+
+    ghost refuses = { λ gate mode met. Unit {0} };
+
+    ghost crowds = { λ gate met. Unit {0} };
 
     fn acquire<J: Room, R: Wait>(
         &self,
         rt: &R,
         seat: &Seat<J>,
         mode: Mode,
-    ) -> Option<wit_gates::Ticket> {
+    ) -> Result<wit_gates::Ticket, Option<Met>> {
         self.signals.begin.store(true, Ordering::SeqCst);
         if !Signals::is_given(&self.signals.finished) {
-            return None;
+            return Err(None);
         }
-        self.inner.acquire(rt, seat, mode)
+        self.inner.acquire(rt, seat, mode).map_err(Some)
     }
 
-    fn try_acquire<R: Wait>(&self, rt: &R, mode: Mode) -> Option<wit_gates::Ticket> {
-        self.inner.try_acquire(rt, mode)
+    fn try_acquire<R: Wait>(&self, rt: &R, mode: Mode) -> Result<wit_gates::Ticket, Option<Met>> {
+        self.inner.try_acquire(rt, mode).map_err(Some)
     }
 
     fn release<R: Wait>(&self, rt: &R, mode: Mode, ticket: wit_gates::Ticket) {
@@ -77,12 +86,19 @@ impl Gate for Patient<'_> {
         &self,
         rt: &R,
         ticket: wit_gates::Ticket,
-    ) -> Result<wit_gates::Ticket, wit_gates::Ticket> {
-        self.inner.try_upgrade(rt, ticket)
+    ) -> Result<wit_gates::Ticket, (wit_gates::Ticket, Option<Met>)> {
+        match self.inner.try_upgrade(rt, ticket) {
+            Ok(ticket) => Ok(ticket),
+            Err((ticket, met)) => Err((ticket, Some(met))),
+        }
     }
 
     fn downgrade<R: Wait>(&self, rt: &R, ticket: wit_gates::Ticket) -> wit_gates::Ticket {
         self.inner.downgrade(rt, ticket)
+    }
+
+    fn abandon(ticket: wit_gates::Ticket) {
+        ticket.abandon();
     }
 }
 
@@ -93,10 +109,7 @@ fn take<J: Room, G: Gate, R: Wait + Abort>(
     seat: &mut Seat<J>,
     mutex: &Mtx<J, G>,
     site: Site,
-)
-where
-    G::Ticket: Drop,
-{
+) {
     let held = taken(rt, shared, seat, mutex, site);
     let_go(rt, shared, seat, mutex, held);
 }

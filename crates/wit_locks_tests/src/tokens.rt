@@ -19,8 +19,6 @@ pub(crate) fn taken<R: Wait + Abort, J: Room, G: Gate>(
     mutex: &Mtx<J, G>,
     site: Site,
 ) -> Held<G>
-where
-    G::Ticket: Drop,
     ensures gate { G.admits mutex.now.gate Exclusive result.ticket
         × (result.hold.mode ≡ Exclusive) }
     ensures held { (result.hold.lock ≡ mutex.now.number) × (result.hold.seat.0 ≡ seat.old.seat) }
@@ -37,8 +35,6 @@ pub(crate) fn let_go<R: Wait + Abort, J: Room, G: Gate>(
     mutex: &Mtx<J, G>,
     held: Held<G>,
 )
-where
-    G::Ticket: Drop,
     requires gate { G.admits mutex.now.gate Exclusive held.ticket × (held.hold.mode ≡ Exclusive) }
     requires held { (held.hold.lock ≡ mutex.now.number) × (held.hold.seat.0 ≡ seat.old.seat) }
     ensures { seat.new.seat ≡ seat.old.seat }
@@ -48,8 +44,6 @@ where
 
 /// The token.
 pub(crate) fn granted<R: Abort, G: Gate>(rt: &R, answer: Result<Held<G>, Fault>) -> Held<G>
-where
-    G::Ticket: Drop,
     ensures { answer ≡ Ok result }
 {
     match answer {
@@ -59,10 +53,11 @@ where
 }
 
 /// None: the lock isn't had, for this fault.
-pub(crate) fn not_granted<R: Abort, G: Gate>(rt: &R, answer: Result<Held<G>, Fault>, wanted: Fault)
-where
-    G::Ticket: Drop,
-{
+pub(crate) fn not_granted<R: Abort, G: Gate>(
+    rt: &R,
+    answer: Result<Held<G>, Fault>,
+    wanted: Fault,
+) {
     match answer {
         Ok(held) => {
             abandon(held);
@@ -74,8 +69,6 @@ where
 
 /// The token of a try.
 pub(crate) fn tried<R: Abort, G: Gate>(rt: &R, answer: Result<Option<Held<G>>, Fault>) -> Held<G>
-where
-    G::Ticket: Drop,
     ensures { answer ≡ Ok (Some result) }
 {
     match answer {
@@ -88,10 +81,7 @@ where
 }
 
 /// None: the try came in vain.
-pub(crate) fn shut<R: Abort, G: Gate>(rt: &R, answer: Result<Option<Held<G>>, Fault>)
-where
-    G::Ticket: Drop,
-{
+pub(crate) fn shut<R: Abort, G: Gate>(rt: &R, answer: Result<Option<Held<G>>, Fault>) {
     match answer {
         Ok(held) => match held {
             Some(held) => {
@@ -106,8 +96,6 @@ where
 
 /// The token that a call takes and gives.
 pub(crate) fn kept<R: Abort, G: Gate>(rt: &R, answer: Result<Held<G>, (Held<G>, Fault)>) -> Held<G>
-where
-    G::Ticket: Drop,
     ensures { answer ≡ Ok result }
 {
     match answer {
@@ -125,8 +113,6 @@ pub(crate) fn refused<R: Abort, G: Gate>(
     answer: Result<Held<G>, (Held<G>, Fault)>,
     wanted: Fault,
 ) -> Held<G>
-where
-    G::Ticket: Drop,
     ensures { (fault : Fault) × (answer ≡ Err (result, fault)) }
 {
     match answer {
@@ -149,8 +135,6 @@ pub(crate) fn left<R: Abort, G: Gate>(
     rt: &R,
     answer: Result<Option<Held<G>>, (Held<G>, Fault)>,
 ) -> Held<G>
-where
-    G::Ticket: Drop,
     ensures { answer ≡ Ok (Some result) }
 {
     match answer {
@@ -166,10 +150,10 @@ where
 }
 
 /// The last release.
-pub(crate) fn released<R: Abort, G: Gate>(rt: &R, answer: Result<Option<Held<G>>, (Held<G>, Fault)>)
-where
-    G::Ticket: Drop,
-{
+pub(crate) fn released<R: Abort, G: Gate>(
+    rt: &R,
+    answer: Result<Option<Held<G>>, (Held<G>, Fault)>,
+) {
     match answer {
         Ok(held) => match held {
             None => {}
@@ -191,8 +175,6 @@ pub(crate) fn not_released<R: Abort, G: Gate>(
     answer: Result<Option<Held<G>>, (Held<G>, Fault)>,
     wanted: Fault,
 ) -> Held<G>
-where
-    G::Ticket: Drop,
     ensures { (fault : Fault) × (answer ≡ Err (result, fault)) }
 {
     match answer {

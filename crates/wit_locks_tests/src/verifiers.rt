@@ -1,6 +1,7 @@
 //! Verifiers that are shared.
 
 ghost use Rattle.std.specs.Prelude.{◌≡◌};
+ghost use Rattle.wit_model.specs.Rules.State.{Start};
 
 use bitflags::Flags;
 use std::alloc::Global;
@@ -30,8 +31,22 @@ pub(crate) fn run_with<R: Wait + Abort, S: Program<R> + Drop>(
     seats: u32,
     log: u32,
     program: S,
-) -> S::Out {
-    let verifier = verifier_within(rt, alloc, limits(rt, seats, log));
+) -> S::Out
+    requires { (start : Start) → S.suits program start 0 }
+{
+    run_within(rt, alloc, Limits::new(seats, 8, 16, 32, log), program)
+}
+
+/// Runs a program with a new verifier within these limits.
+pub(crate) fn run_within<R: Wait + Abort, S: Program<R> + Drop>(
+    rt: &R,
+    alloc: Global,
+    limits: Option<Limits>,
+    program: S,
+) -> S::Out
+    requires { (start : Start) → S.suits program start 0 }
+{
+    let verifier = verifier_within(rt, alloc, limits.expect(rt, "limits"));
     share(alloc, rt, verifier, 0, program)
         .ok()
         .expect(rt, "memory")

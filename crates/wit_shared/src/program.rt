@@ -1,8 +1,10 @@
 //! The way in: a program that is run with a shared verifier.
 
-ghost use Rattle.std.specs.Prelude.{◌≡◌, ◌≤◌, IfOk, IfErr};
+ghost use Rattle.std.specs.Prelude.{◌≡◌, ℕ, ◌≤◌, [], IfOk, IfErr, length, replicate};
+ghost use Rattle.wit_model.specs.Rules.State.{Start};
 ghost use Rattle.wit_shared.specs.declared.opening.Reason.TheVariants.{OutOfMemory};
 ghost use Rattle.wit_shared.specs.Opening.{why_refused};
+ghost use Rattle.wit_shared.specs.Publishing.{adoptions};
 
 use crate::opening::{Opened, Reason, Unopened};
 use crate::shared::Shared;
@@ -29,16 +31,23 @@ pub trait Program<R> {
     /// What it comes to.
     type Out;
 
-    // What is known of that.
+    // Whether it is for a verifier that began so, and for so many observers.
+    ghost suits: { Self → Start → ℕ → Type 0 };
+
+    // What is known of what it comes to.
     ghost done: { Self → Self.Out → Type 0 };
 
-    /// Runs it. In the end it closes the verifier or abandons it.
+    /// Runs it with a shared verifier and observers that suit it. Each of these knows the listed
+    /// orders. In the end it closes the verifier or abandons it.
     fn run<J: Room + Send + Sync>(
         self,
         rt: &R,
         shared: Shared<J>,
         observers: Vec<Observer<J>>,
     ) -> Self::Out
+        requires suits { suits self J.start (length observers.items) }
+        requires listed { observers.items
+            ≡ replicate (length observers.items) (adoptions J.start []) }
         ensures { done self result };
 }
 
@@ -52,6 +61,7 @@ fn run_as<J: Room + Send + Sync, R: Wait, S: Program<R>>(
     requires name { (opened.story.start ≡ J.start) × (opened.table ≡ J.table)
         × (opened.list ≡ J.list) }
     requires few { observers ≤ 256 }
+    requires suits { S.suits program opened.story.start observers }
     ensures ok { IfOk result (λ out. S.done program out) }
     ensures err { IfErr result (λ r. (r.verifier ≡ opened.story) × (r.program ≡ program)
         × (r.reason ≡ OutOfMemory)) }
@@ -67,7 +77,7 @@ fn run_as<J: Room + Send + Sync, R: Wait, S: Program<R>>(
 }
 
 /// Runs a program with a verifier that has logged nothing, shared, and with this many observers,
-/// 256 at most.
+/// 256 at most, both of which suit it.
 ///
 /// # Errors
 /// `HasEntries` where it has, else `OutOfMemory`; the verifier and the program come back.
@@ -78,7 +88,8 @@ pub fn share<R: Wait, S: Program<R>>(
     observers: u16,
     program: S,
 ) -> Result<S::Out, Refused<S>>
-    requires { observers ≤ 256 }
+    requires few { observers ≤ 256 }
+    requires suits { S.suits program verifier.start observers }
     ensures ok { IfOk result (λ out. S.done program out) }
     ensures err { IfErr result (λ r. (r.verifier ≡ verifier) × (r.program ≡ program)
         × (r.reason ≡ why_refused verifier.history)) }

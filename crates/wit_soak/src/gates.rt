@@ -5,8 +5,8 @@ ghost use Rattle.wit_gates.specs.Tickets.{pass};
 
 use std::alloc::Global;
 use std::sync::Wait;
-use std::sync::atomic::{AtomicU64, Ordering};
-use wit_gates::{CondGate, Gate, Ticket};
+use std::sync::atomic::{AtomicBool, AtomicU64, Ordering};
+use wit_gates::{CondGate, Gate, Met, Ticket};
 use wit_model::{Fault, Mode};
 use wit_shared::{Room, Seat};
 
@@ -18,6 +18,8 @@ const UNLUCKY: u64 = 41;
 pub(crate) struct Fickle {
     inner: CondGate,
     asked: AtomicU64,
+    // Whether the gate within let somebody down by itself.
+    wronged: AtomicBool,
 }
 
 impl Fickle {
@@ -29,35 +31,72 @@ impl Fickle {
         Ok(Fickle {
             inner: CondGate::new(alloc)?,
             asked: AtomicU64::new(0),
+            wronged: AtomicBool::new(false),
         })
+    }
+
+    /// Whether nobody was let down but by its turn.
+    pub(crate) fn is_right(&self) -> bool {
+        !self.wronged.load(Ordering::SeqCst)
     }
 }
 
 impl Gate for Fickle {
     type Ticket = Ticket;
 
+    // None: whoever asked is let down by its turn.
+    type Met = Option<Met>;
+
     ghost admits = { λ gate mode ticket. ticket ≡ pass gate.inner mode };
 
-    fn acquire<J: Room, R: Wait>(&self, rt: &R, seat: &Seat<J>, mode: Mode) -> Option<Ticket> {
+    ghost bars = { λ gate mode met. Unit {0} };
+
+    ghost refuses = { λ gate mode met. Unit {0} };
+
+    ghost crowds = { λ gate met. Unit {0} };
+
+    fn acquire<J: Room, R: Wait>(
+        &self,
+        rt: &R,
+        seat: &Seat<J>,
+        mode: Mode,
+    ) -> Result<Ticket, Option<Met>> {
         if self.asked.fetch_add(1, Ordering::Relaxed) % UNLUCKY == UNLUCKY - 1 {
-            return None;
+            return Err(None);
         }
-        self.inner.acquire(rt, seat, mode)
+        match self.inner.acquire(rt, seat, mode) {
+            Ok(ticket) => Ok(ticket),
+            Err(met) => {
+                self.wronged.store(true, Ordering::SeqCst);
+                Err(Some(met))
+            }
+        }
     }
 
-    fn try_acquire<R: Wait>(&self, rt: &R, mode: Mode) -> Option<Ticket> {
-        self.inner.try_acquire(rt, mode)
+    fn try_acquire<R: Wait>(&self, rt: &R, mode: Mode) -> Result<Ticket, Option<Met>> {
+        self.inner.try_acquire(rt, mode).map_err(Some)
     }
 
     fn release<R: Wait>(&self, rt: &R, mode: Mode, ticket: Ticket) {
         self.inner.release(rt, mode, ticket)
     }
 
-    fn try_upgrade<R: Wait>(&self, rt: &R, ticket: Ticket) -> Result<Ticket, Ticket> {
-        self.inner.try_upgrade(rt, ticket)
+    fn try_upgrade<R: Wait>(
+        &self,
+        rt: &R,
+        ticket: Ticket,
+    ) -> Result<Ticket, (Ticket, Option<Met>)> {
+        match self.inner.try_upgrade(rt, ticket) {
+            Ok(ticket) => Ok(ticket),
+            Err((ticket, met)) => Err((ticket, Some(met))),
+        }
     }
 
     fn downgrade<R: Wait>(&self, rt: &R, ticket: Ticket) -> Ticket {
         self.inner.downgrade(rt, ticket)
+    }
+
+    fn abandon(ticket: Ticket) {
+        ticket.abandon();
     }
 }

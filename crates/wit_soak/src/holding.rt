@@ -3,7 +3,7 @@
 ghost use Rattle.std.specs.Prelude.{◌≡◌, IfSome};
 
 use crate::observing::learn;
-use crate::worker::{Place, Worker};
+use crate::worker::{Made, Place, Worker};
 use std::sync::Wait;
 use wit_gates::Gate;
 use wit_locks::{Held, Kind, Lock, abandon};
@@ -60,7 +60,8 @@ fn recurse<J: Room, R: Wait, G: Gate, K: Kind>(
     let site = worker.site();
     match lock.recurse(place.rt, place.shared, &mut worker.seat, site, held) {
         Ok(held) => {
-            worker.tally.add(2);
+            worker.tally.add(Made::Check, lock.number());
+            worker.tally.add(Made::Note, lock.number());
             held
         }
         Err((held, fault)) => {
@@ -149,8 +150,6 @@ pub(crate) fn let_go<J: Room, R: Wait, G: Gate, K: Kind>(
     lock: &Lock<J, G, K>,
     held: Held<G>,
 )
-where
-    G::Ticket: Drop,
     requires gate { G.admits lock.now.gate held.hold.mode held.ticket }
     requires held { (held.hold.lock ≡ lock.now.number) × (held.hold.seat.0 ≡ worker.old.seat.seat) }
     ensures seat { worker.new.seat.seat ≡ worker.old.seat.seat }
@@ -183,7 +182,7 @@ fn unlock<J: Room, R: Wait, G: Gate, K: Kind>(
 {
     match lock.unlock(place.rt, place.shared, &mut worker.seat, held) {
         Ok(left) => {
-            worker.tally.add(1);
+            worker.tally.add(Made::Unlock, lock.number());
             left
         }
         Err((held, _)) => {

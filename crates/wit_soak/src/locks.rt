@@ -109,29 +109,29 @@ impl<J: Room> Watched<J> {
         }
     }
 
-    /// Takes the lock apart. Nobody has it.
+    /// Takes the lock apart, which nobody has, and tells whether its gate let in whom it should.
     pub(crate) fn destroy<R: Wait>(
         self,
         rt: &R,
         shared: &Shared<J>,
         seat: &mut Seat<J>,
-    ) -> Result<(), Fault> {
+    ) -> Result<bool, Fault> {
         match self {
             Watched::Mutex(lock) => lock
                 .destroy(rt, shared, seat)
-                .map(|_gate| ())
+                .map(|gate| gate.is_right())
                 .map_err(|refused| refused.1),
             Watched::Spin(lock) => lock
                 .destroy(rt, shared, seat)
-                .map(|_gate| ())
+                .map(|_gate| true)
                 .map_err(|refused| refused.1),
             Watched::Rw(lock) => lock
                 .destroy(rt, shared, seat)
-                .map(|_gate| ())
+                .map(|gate| gate.is_right())
                 .map_err(|refused| refused.1),
             Watched::Sx(lock) => lock
                 .destroy(rt, shared, seat)
-                .map(|_gate| ())
+                .map(|_gate| true)
                 .map_err(|refused| refused.1),
         }
     }

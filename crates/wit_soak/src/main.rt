@@ -1,7 +1,7 @@
 //! Threads that take locks of all classes at random, with gates that refuse now and then, watch
 //! levels that are turned, orders that are defined, locks that are made and destroyed, and
 //! observers that learn and ask. Each makes all calls of the shared verifier once before. When they
-//! have ended, the log is compared with what each thread counted.
+//! have ended, each seat's list is compared with what its thread did.
 //!
 //! With the words `THREADS LOCKS ROUNDS SEED` it writes the log as a trace, and its reports to
 //! standard error: `tools/try-soak` has the trace replayed, which must tell the same, and counts

@@ -2,26 +2,36 @@
 
 ghost use Rattle.std.specs.Prelude.{◌≡◌, Ok, Some, IfSome};
 
-use crate::worker::{Place, Tally, Worker};
+use crate::worker::{Made, Place, Tally, Worker};
 use std::sync::Wait;
 use wit_gates::Gate;
 use wit_locks::{Held, Mtx, Rw, Spin, Sx};
-use wit_model::{Fault, Mode};
+use wit_model::{Fault, LockNo, Mode};
 use wit_shared::Room;
 
-// The token of a lock that was waited for.
-fn waited<G: Gate>(tally: &mut Tally, answer: Result<Held<G>, Fault>) -> Option<Held<G>>
+// The token of a lock that was waited for, and whose gate may be fickle, or else refuses nobody.
+fn waited<G: Gate>(
+    tally: &mut Tally,
+    lock: LockNo,
+    fickle: bool,
+    answer: Result<Held<G>, Fault>,
+) -> Option<Held<G>>
     ensures { IfSome result (λ held. answer ≡ Ok held) }
 {
     match answer {
         Ok(held) => {
-            tally.add(2);
+            tally.add(Made::Check, lock);
+            tally.add(Made::Note, lock);
             Some(held)
         }
         Err(fault) => {
             // It was checked and given up.
             if fault == Fault::GateRefused {
-                tally.add(2);
+                tally.add(Made::Check, lock);
+                tally.add(Made::GiveUp, lock);
+                if !fickle {
+                    tally.blame("a gate lets nobody in");
+                }
             }
             tally.refuse(fault);
             None
@@ -30,13 +40,17 @@ fn waited<G: Gate>(tally: &mut Tally, answer: Result<Held<G>, Fault>) -> Option<
 }
 
 // The token of a lock that was tried.
-fn tried<G: Gate>(tally: &mut Tally, answer: Result<Option<Held<G>>, Fault>) -> Option<Held<G>>
+fn tried<G: Gate>(
+    tally: &mut Tally,
+    lock: LockNo,
+    answer: Result<Option<Held<G>>, Fault>,
+) -> Option<Held<G>>
     ensures { IfSome result (λ held. answer ≡ Ok (Some held)) }
 {
     match answer {
         Ok(held) => {
             if held.is_some() {
-                tally.add(1);
+                tally.add(Made::Try, lock);
             }
             held
         }
@@ -47,7 +61,7 @@ fn tried<G: Gate>(tally: &mut Tally, answer: Result<Option<Held<G>>, Fault>) -> 
     }
 }
 
-/// Takes a mutex, or tries to.
+/// Takes a mutex, whose gate may be fickle, or tries to.
 pub(crate) fn take_mutex<J: Room, R: Wait, G: Gate>(
     place: &Place<J, R>,
     worker: &mut Worker<J>,
@@ -62,14 +76,14 @@ pub(crate) fn take_mutex<J: Room, R: Wait, G: Gate>(
     let site = worker.site();
     if waits {
         let answer = lock.lock(place.rt, place.shared, &mut worker.seat, site);
-        waited(&mut worker.tally, answer)
+        waited(&mut worker.tally, lock.number(), true, answer)
     } else {
         let answer = lock.try_lock(place.rt, place.shared, &mut worker.seat, site);
-        tried(&mut worker.tally, answer)
+        tried(&mut worker.tally, lock.number(), answer)
     }
 }
 
-/// Takes a spin mutex, or tries to.
+/// Takes a spin mutex, whose gate refuses nobody, or tries to.
 pub(crate) fn take_spin<J: Room, R: Wait, G: Gate>(
     place: &Place<J, R>,
     worker: &mut Worker<J>,
@@ -84,10 +98,10 @@ pub(crate) fn take_spin<J: Room, R: Wait, G: Gate>(
     let site = worker.site();
     if waits {
         let answer = lock.lock(place.rt, place.shared, &mut worker.seat, site);
-        waited(&mut worker.tally, answer)
+        waited(&mut worker.tally, lock.number(), false, answer)
     } else {
         let answer = lock.try_lock(place.rt, place.shared, &mut worker.seat, site);
-        tried(&mut worker.tally, answer)
+        tried(&mut worker.tally, lock.number(), answer)
     }
 }
 
@@ -102,7 +116,7 @@ fn any_mode<J: Room>(worker: &mut Worker<J>) -> Mode
     }
 }
 
-/// Takes a reader/writer lock in either mode, or tries to.
+/// Takes a reader/writer lock, whose gate may be fickle, in either mode, or tries to.
 pub(crate) fn take_rw<J: Room, R: Wait, G: Gate>(
     place: &Place<J, R>,
     worker: &mut Worker<J>,
@@ -117,14 +131,14 @@ pub(crate) fn take_rw<J: Room, R: Wait, G: Gate>(
     let (site, mode) = (worker.site(), any_mode(worker));
     if waits {
         let answer = lock.lock(place.rt, place.shared, &mut worker.seat, mode, site);
-        waited(&mut worker.tally, answer)
+        waited(&mut worker.tally, lock.number(), true, answer)
     } else {
         let answer = lock.try_lock(place.rt, place.shared, &mut worker.seat, mode, site);
-        tried(&mut worker.tally, answer)
+        tried(&mut worker.tally, lock.number(), answer)
     }
 }
 
-/// Takes a shared/exclusive lock in either mode, or tries to.
+/// Takes a shared/exclusive lock, whose gate refuses nobody, in either mode, or tries to.
 pub(crate) fn take_sx<J: Room, R: Wait, G: Gate>(
     place: &Place<J, R>,
     worker: &mut Worker<J>,
@@ -139,9 +153,9 @@ pub(crate) fn take_sx<J: Room, R: Wait, G: Gate>(
     let (site, mode) = (worker.site(), any_mode(worker));
     if waits {
         let answer = lock.lock(place.rt, place.shared, &mut worker.seat, mode, site);
-        waited(&mut worker.tally, answer)
+        waited(&mut worker.tally, lock.number(), false, answer)
     } else {
         let answer = lock.try_lock(place.rt, place.shared, &mut worker.seat, mode, site);
-        tried(&mut worker.tally, answer)
+        tried(&mut worker.tally, lock.number(), answer)
     }
 }

@@ -3,7 +3,7 @@
 use crate::plan::Plan;
 use crate::print::{header, print_history};
 use crate::threads::Soaked;
-use crate::worker::Tally;
+use crate::worker::{List, Made, Tally};
 use crate::{CHUNKS, LOCKS, TYPES};
 use std::alloc::Global;
 use std::io::Write;
@@ -48,11 +48,15 @@ pub(crate) fn tell<W: Write, E: Write>(
             good = false;
             let _ = writeln!(complaints, "seat {}: {wrong}", seat.0);
         }
-        let logged = entries_of(verifier, *seat);
-        if logged != tally.calls {
+        let logged = list_of(verifier, *seat);
+        if logged != tally.list {
             good = false;
-            let calls = tally.calls;
-            let _ = writeln!(complaints, "seat {}: {logged} entries, of {calls}", seat.0);
+            let (found, made) = (logged.calls, tally.list.calls);
+            let _ = writeln!(
+                complaints,
+                "seat {}: {found} entries of {made}, or others",
+                seat.0
+            );
         }
     }
     if plan.traces {
@@ -77,18 +81,22 @@ fn tell_questions<E: Write>(tallies: &[(SeatNo, Tally)], complaints: &mut E) {
     }
 }
 
-// The entries of a seat that each of its threads counts.
-fn entries_of(verifier: &Verifier, seat: SeatNo) -> u64 {
-    let counts = |call: &Call| {
-        matches!(
-            call,
-            Call::Check(_) | Call::Note(_) | Call::NoteTry(..) | Call::GiveUp(_) | Call::Unlock(..)
-        )
-    };
-    let entries = verifier.history().iter();
-    entries
-        .filter(|entry| entry.seat == seat && counts(&entry.call))
-        .count() as u64
+// Those of a seat's entries that its thread counts.
+fn list_of(verifier: &Verifier, seat: SeatNo) -> List {
+    let mut list = List::default();
+    for entry in verifier.history() {
+        if entry.seat == seat {
+            match &entry.call {
+                Call::Check(request) => list.add(Made::Check, request.lock),
+                Call::Note(lock) => list.add(Made::Note, *lock),
+                Call::NoteTry(lock, ..) => list.add(Made::Try, *lock),
+                Call::GiveUp(lock) => list.add(Made::GiveUp, *lock),
+                Call::Unlock(lock, _) => list.add(Made::Unlock, *lock),
+                _ => {}
+            }
+        }
+    }
+    list
 }
 
 /// The status: 0 where nothing was wrong, 1 where something was, 4 where memory ran out.

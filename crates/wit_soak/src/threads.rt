@@ -139,8 +139,15 @@ fn soak<J: Room + Send + Sync, R: Threads + Wait + Sync>(
         let locks = locks.as_slice();
         soak_all(rt, alloc, shared, locks, &mut workers, plan, part);
     }
+    let mut right = true;
     for lock in locks {
-        if let Err(_fault) = lock.destroy(rt, shared, &mut first) {}
+        // One that is refused, for want of memory, is right as far as is seen.
+        if let Ok(false) = lock.destroy(rt, shared, &mut first) {
+            right = false;
+        }
+    }
+    if !right && let Some(worker) = workers.first_mut() {
+        worker.tally.blame("a gate lets nobody in");
     }
     Ok(dismiss(alloc, first, workers)?)
 }

@@ -2,7 +2,7 @@
 //! knows.
 
 use crate::observing::{circle, learn, look, name_file};
-use crate::worker::{Place, Worker, count};
+use crate::worker::{Made, Place, Worker, count};
 use bitflags::Flags;
 use std::sync::Wait;
 use wit_core::Verifier;
@@ -144,12 +144,15 @@ fn make<J: Room, R: Wait>(
         Step::Destroy(lock) => shared.destroy(rt, seat, lock),
         Step::Turn(watch) => shared.set_watch(rt, seat, watch),
     };
-    let counts = matches!(
-        step,
-        Step::Check(..) | Step::Note(_) | Step::Try(..) | Step::GiveUp(_) | Step::Unlock(..)
-    );
-    if counts && answer.is_ok() {
-        worker.tally.add(1);
+    if answer.is_ok() {
+        match step {
+            Step::Check(lock, ..) => worker.tally.add(Made::Check, lock),
+            Step::Note(lock) => worker.tally.add(Made::Note, lock),
+            Step::Try(lock, ..) => worker.tally.add(Made::Try, lock),
+            Step::GiveUp(lock) => worker.tally.add(Made::GiveUp, lock),
+            Step::Unlock(lock, _) => worker.tally.add(Made::Unlock, lock),
+            _ => {}
+        }
     }
     answer
 }

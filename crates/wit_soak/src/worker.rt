@@ -5,7 +5,7 @@ ghost use Rattle.std.specs.Prelude.{◌≡◌};
 use crate::locks::Watched;
 use crate::random::Random;
 use std::alloc::Global;
-use wit_model::{Fault, FileNo, Site};
+use wit_model::{Fault, FileNo, LockNo, Site};
 use wit_shared::{Observer, Room, Seat, Shared};
 
 /// Where the threads are.
@@ -65,12 +65,47 @@ pub(crate) fn count(answers: &mut u32) {
     *answers = (*answers).saturating_add(1);
 }
 
+/// An accepted call that the log always has.
+#[derive(Clone, Copy)]
+pub(crate) enum Made {
+    Check,
+    Note,
+    Try,
+    GiveUp,
+    Unlock,
+}
+
+/// Such calls of a seat, one after the other.
+#[derive(Clone, Copy, Debug, Default, PartialEq, Eq)]
+pub(crate) struct List {
+    /// How many there are.
+    pub(crate) calls: u64,
+    /// What tells two lists apart: a number that each call and its lock change, in their turn.
+    pub(crate) mark: u64,
+}
+
+impl List {
+    /// One more.
+    pub(crate) fn add(&mut self, made: Made, lock: LockNo) {
+        let call = match made {
+            Made::Check => 1,
+            Made::Note => 2,
+            Made::Try => 3,
+            Made::GiveUp => 4,
+            Made::Unlock => 5,
+        };
+        let entry = u64::from(lock.0) * 8 + call;
+        self.calls = self.calls.saturating_add(1);
+        self.mark = self.mark.wrapping_mul(6_364_136_223_846_793_005);
+        self.mark = self.mark.wrapping_add(entry);
+    }
+}
+
 /// What a thread counts.
 #[derive(Clone, Copy, Debug)]
 pub(crate) struct Tally {
-    /// Accepted calls of `check`, `note`, `note_try`, `give_up` and `unlock`, which the log always
-    /// has.
-    pub(crate) calls: u64,
+    /// Its accepted calls of those kinds.
+    pub(crate) list: List,
     /// Calls that were refused.
     pub(crate) refused: u64,
     /// Those of them for which there was no memory.
@@ -89,7 +124,7 @@ impl Tally {
     /// Nothing yet.
     pub(crate) fn new() -> Tally {
         Tally {
-            calls: 0,
+            list: List::default(),
             refused: 0,
             memory: 0,
             unanswered: 0,
@@ -99,9 +134,9 @@ impl Tally {
         }
     }
 
-    /// So many accepted calls more.
-    pub(crate) fn add(&mut self, calls: u64) {
-        self.calls = self.calls.saturating_add(calls);
+    /// An accepted call more.
+    pub(crate) fn add(&mut self, made: Made, lock: LockNo) {
+        self.list.add(made, lock);
     }
 
     /// A refused call more. Some faults no call here can meet.

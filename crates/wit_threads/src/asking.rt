@@ -68,6 +68,8 @@ struct Crossed {
 impl<R: Wait + Abort> Program<R> for Crossed {
     type Out = ();
 
+    ghost suits = { λ program start observers. Unit {0} };
+
     ghost done = { λ program out. Unit {0} };
 
     fn run<J: Room + Send + Sync>(self, rt: &R, shared: Shared<J>, _observers: Vec<Observer<J>>) {

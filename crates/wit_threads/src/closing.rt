@@ -101,3 +101,33 @@ fn two_threads_log_and_all_seats_come_back(rt: HostRuntime) -> Result<(), Fail> 
     assert_eq!(rt; entries_of(&verifier, SeatNo(3)), 150);
     Ok(())
 }
+
+/// One of three seats logs nothing. The verifier could have more.
+fn leave_seats<J: Room, R: Wait + Abort>(rt: &R, alloc: Global, opened: Opened) -> Verifier
+    requires { (opened.story.start ≡ J.start) × (opened.table ≡ J.table) × (opened.list ≡ J.list) }
+{
+    let (shared, _observers) = match opened.named::<J, R>(rt, 0) {
+        Ok(named) => named,
+        Err(_) => panic!(rt; "no memory to share it"),
+    };
+    let mut one = shared.seat(rt).ok().expect(rt, "a seat");
+    let two = shared.seat(rt).ok().expect(rt, "a seat");
+    let three = shared.seat(rt).ok().expect(rt, "a seat");
+    let file = shared.file(rt, &mut one, "f").ok().expect(rt, "a file");
+    let lock = mutex(rt, &shared, &mut one, "a");
+    let two = take_50_times(rt, &shared, two, lock, Site { file, line: 1 });
+    let mut seats = Vec::with_capacity(alloc, 3).ok().expect(rt, "memory");
+    seats.push_reserved(one);
+    seats.push_reserved(two);
+    close_twice(rt, shared, seats, three)
+}
+
+#[test]
+fn a_seat_that_logs_nothing_is_missed_and_no_other_one_is(rt: HostRuntime) -> Result<(), Fail> {
+    let alloc = rt.alloc();
+    let verifier = leave_seats::<Brand, HostRuntime>(&rt, alloc, opened(&rt, alloc, 8));
+    assert_eq!(rt; verifier.history().len(), 151);
+    assert_eq!(rt; entries_of(&verifier, SeatNo(1)), 1);
+    assert_eq!(rt; entries_of(&verifier, SeatNo(2)), 150);
+    Ok(())
+}

@@ -8,6 +8,8 @@ mod asking;
 #[cfg(test)]
 mod closing;
 #[cfg(test)]
+mod crossing;
+#[cfg(test)]
 mod observing;
 #[cfg(test)]
 mod verifiers;

@@ -1,5 +1,7 @@
 //! Observers answer of what is adopted, as long as the verifier is shared.
 
+ghost use Rattle.std.specs.Prelude.{◌≡◌};
+
 use crate::verifiers::mutex;
 use bitflags::Flags;
 use std::alloc::Global;
@@ -8,7 +10,7 @@ use std::sync::Wait;
 use std::test::Fail;
 use wit_core::Verifier;
 use wit_model::{Class, Limits, LockNo, Mode, OpFlags, Reply, Site, TypeNo};
-use wit_shared::{Observer, Program, Room, Seat, Shared, share};
+use wit_shared::{News, Observer, Program, Room, Seat, Shared, share};
 
 const A: TypeNo = TypeNo(1);
 
@@ -41,6 +43,20 @@ fn close<J: Room, R: Wait + Abort>(rt: &R, alloc: Global, shared: Shared<J>, sea
     }
 }
 
+/// News that nobody has learnt yet.
+fn some_news<J: Room, R: Wait + Abort>(
+    rt: &R,
+    alloc: Global,
+    shared: &Shared<J>,
+    seat: &mut Seat<J>,
+) -> Vec<News<J>> {
+    let mut news = Vec::with_capacity(alloc, 60).ok().expect(rt, "memory");
+    for _ in 0..60 {
+        news.push(shared.news(rt, seat)).ok().expect(rt, "memory");
+    }
+    news
+}
+
 /// One seat adopts the order from A to B. One observer learns of it, and the other looks.
 #[derive(Drop)]
 struct Adopted {
@@ -49,6 +65,8 @@ struct Adopted {
 
 impl<R: Wait + Abort> Program<R> for Adopted {
     type Out = ();
+
+    ghost suits = { λ program start observers. observers ≡ 2 };
 
     ghost done = { λ program out. Unit {0} };
 
@@ -68,7 +86,9 @@ impl<R: Wait + Abort> Program<R> for Adopted {
         take(rt, &shared, &mut seat, a, Site { file, line: 1 });
         let told = take(rt, &shared, &mut seat, b, Site { file, line: 2 });
         assert!(rt; matches!(told, Reply::Adopted(..)), "adopted");
+        let unlearnt = some_news(rt, self.alloc, &shared, &mut seat);
         learns.learn(shared.news(rt, &mut seat));
+        drop(unlearnt);
         shared.covers(rt, &mut seat, &learns);
         assert_eq!(rt; learns.known(A, B), Some(true));
         assert_eq!(rt; learns.known(B, A), Some(false));
@@ -98,6 +118,8 @@ struct Listed;
 
 impl<R: Wait + Abort> Program<R> for Listed {
     type Out = ();
+
+    ghost suits = { λ program start observers. observers ≡ 1 };
 
     ghost done = { λ program out. Unit {0} };
 
@@ -132,5 +154,72 @@ fn listed_orders_are_seen(rt: HostRuntime) -> Result<(), Fail> {
         .ok()
         .expect(&rt, "memory for a verifier");
     assert!(rt; share(alloc, &rt, verifier, 1, Listed).is_ok());
+    Ok(())
+}
+
+// How many mutexes there are, each of a type of its own, and each ordered behind the one before.
+const MANY: u16 = 1_020;
+
+/// Whether an observer answers of each of those orders, and turned round of none.
+fn knows_each<J: Room>(observer: &mut Observer<J>) -> bool {
+    for number in 1..MANY {
+        let (before, after) = (TypeNo(number), TypeNo(number + 1));
+        if observer.known(before, after) != Some(true)
+            || observer.known(after, before) != Some(false)
+        {
+            return false;
+        }
+    }
+    observer.orders_seen() == Some(u32::from(MANY) - 1)
+}
+
+/// One seat defines many orders. One observer learns of them, and the other looks.
+#[derive(Drop)]
+struct Many {
+    alloc: Global,
+}
+
+impl<R: Wait + Abort> Program<R> for Many {
+    type Out = ();
+
+    ghost suits = { λ program start observers. observers ≡ 2 };
+
+    ghost done = { λ program out. Unit {0} };
+
+    fn run<J: Room + Send + Sync>(
+        self,
+        rt: &R,
+        shared: Shared<J>,
+        mut observers: Vec<Observer<J>>,
+    ) {
+        let mut looks = observers.pop().expect(rt, "an observer");
+        let mut learns = observers.pop().expect(rt, "another observer");
+        let mut seat = shared.seat(rt).ok().expect(rt, "a seat");
+        let mut last = mutex(rt, &shared, &mut seat, "1");
+        for number in 2..=MANY {
+            let name = format!(in self.alloc; "{number}").ok().expect(rt, "memory");
+            let next = mutex(rt, &shared, &mut seat, name.as_str());
+            match shared.define_order(rt, &mut seat, last, next) {
+                Ok(Reply::Adopted(..)) => {}
+                _ => panic!(rt; "not adopted"),
+            }
+            last = next;
+        }
+        learns.learn(shared.news(rt, &mut seat));
+        assert!(rt; knows_each(&mut learns), "what was learnt");
+        assert!(rt; knows_each(&mut looks), "what is seen");
+        close(rt, self.alloc, shared, seat);
+    }
+}
+
+#[test]
+fn observers_answer_of_a_thousand_orders(rt: HostRuntime) -> Result<(), Fail> {
+    let alloc = rt.alloc();
+    let limits = Limits::new(1, 1_023, 1_100, 16, 4_096).expect(&rt, "limits");
+    let verifier = Verifier::new(alloc, limits, Vec::new(alloc), Vec::new(alloc))
+        .ok()
+        .expect(&rt, "memory for a verifier");
+    let ran = share(alloc, &rt, verifier, 2, Many { alloc });
+    assert!(rt; ran.is_ok(), "memory to share it");
     Ok(())
 }

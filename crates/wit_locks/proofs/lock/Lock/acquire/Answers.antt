@@ -20,10 +20,10 @@ acquire-requires g c =
 
 pub unreachable-requires : goal.unreachable-requires
 unreachable-requires g c =
-    unrefused c.note.result c.in-Err.field-0
+    unrefused c.note.result c.in-Err-note.field-0
     (c.note.ensures.asked (asks_for g.J.Room.start
     (first_request c.args.self.now.number c.args.mode c.args.site) c.in_ok-asked.asked
-    c.args.seat.now c.check.new.seat c.in_ok-asked.ensures.told)) c.in-Err.is
+    c.args.seat.now c.check.new.seat c.in_ok-asked.ensures.told)) c.in-Err-note.is
 
 pub unreachable-requires-in-Err-give_up : goal.unreachable-requires-in-Err-give_up
 unreachable-requires-in-Err-give_up g c =
@@ -32,11 +32,11 @@ unreachable-requires-in-Err-give_up g c =
     (first_request c.args.self.now.number c.args.mode c.args.site) c.in_ok-asked.asked
     c.args.seat.now c.check.new.seat c.in_ok-asked.ensures.told)) c.in-Err-give_up.is
 
-pub returns-in-Ok-clause-calls : goal.returns-in-Ok-clause-calls
-returns-in-Ok-clause-calls g c =
+pub returns-in-Ok-note-clause-calls : goal.returns-in-Ok-note-clause-calls
+returns-in-Ok-note-clause-calls g c =
     acquires g.J.Room.start (first_request c.args.self.now.number c.args.mode c.args.site)
-    c.in_ok-asked.asked c.in-Ok.noted
-    c.args.seat.now c.check.new.seat c.note.new.seat c.in_ok-asked.ensures.told c.in-Ok.ensures.told
+    c.in_ok-asked.asked c.in-Ok-note.noted
+    c.args.seat.now c.check.new.seat c.note.new.seat c.in_ok-asked.ensures.told c.in-Ok-note.ensures.told
 
 pub returns-in-Ok-give_up-clause-failed : goal.returns-in-Ok-give_up-clause-failed
 returns-in-Ok-give_up-clause-failed g c =

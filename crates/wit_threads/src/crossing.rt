@@ -1,0 +1,76 @@
+//! News of the adopted orders goes from one thread to another.
+
+ghost use Rattle.std.specs.Prelude.{◌≡◌};
+
+use crate::verifiers::{mutex, opened};
+use std::marker::Brand;
+use std::process::Abort;
+use std::sync::Wait;
+use std::test::Fail;
+use std::thread::{Threads, join};
+use wit_model::{LockNo, Reply, TypeNo};
+use wit_shared::{News, Observer, Opened, Room, Seat, Shared};
+
+/// Defines the order from one mutex to another, and has news of it.
+fn adopt<J: Room, R: Wait + Abort>(
+    rt: &R,
+    shared: &Shared<J>,
+    mut seat: Seat<J>,
+    first: LockNo,
+    second: LockNo,
+) -> (Seat<J>, News<J>) {
+    match shared.define_order(rt, &mut seat, first, second) {
+        Ok(Reply::Adopted(..)) => {}
+        _ => panic!(rt; "not adopted"),
+    }
+    let news = shared.news(rt, &mut seat);
+    (seat, news)
+}
+
+/// What an observer knows of the first two types, both ways, and how many orders it sees.
+type Answers = (Option<bool>, Option<bool>, Option<u32>);
+
+fn ask<J: Room>(mut observer: Observer<J>) -> Answers {
+    let (there, back) = (TypeNo(1), TypeNo(2));
+    (
+        observer.known(there, back),
+        observer.known(back, there),
+        observer.orders_seen(),
+    )
+}
+
+fn learn_and_ask<J: Room>(mut observer: Observer<J>, news: News<J>) -> Answers {
+    observer.learn(news);
+    ask(observer)
+}
+
+/// One thread adopts, two others ask: an observer that learns the news, and one that looks.
+fn cross<J: Room + Send + Sync, R: Threads + Wait + Abort + Sync>(
+    rt: &R,
+    opened: Opened,
+) -> (Answers, Answers)
+    requires { (opened.story.start ≡ J.start) × (opened.table ≡ J.table) × (opened.list ≡ J.list) }
+{
+    let (shared, mut observers) = match opened.named::<J, R>(rt, 2) {
+        Ok(named) => named,
+        Err(_) => panic!(rt; "no memory to share it"),
+    };
+    let learns = observers.pop().expect(rt, "an observer");
+    let looks = observers.pop().expect(rt, "another observer");
+    let mut seat = shared.seat(rt).ok().expect(rt, "a seat");
+    let first = mutex(rt, &shared, &mut seat, "A");
+    let second = mutex(rt, &shared, &mut seat, "B");
+    let watched = &shared;
+    let ((_seat, news), ()) = join(rt, move || adopt(rt, watched, seat, first, second), || ());
+    let answers = join(rt, move || learn_and_ask(learns, news), move || ask(looks));
+    shared.abandon(rt);
+    answers
+}
+
+#[test]
+fn news_cross_to_another_thread(rt: HostRuntime) -> Result<(), Fail> {
+    let (learnt, seen) = cross::<Brand, HostRuntime>(&rt, opened(&rt, rt.alloc(), 1));
+    assert_eq!(rt; learnt, (Some(true), Some(false), Some(1)));
+    assert_eq!(rt; seen, (Some(true), Some(false), Some(1)));
+    Ok(())
+}
