@@ -1,8 +1,8 @@
 #!/bin/sh
 # Measures what the recorder costs: the nanoseconds of processor time that a pair of lock and unlock takes in a loop
 # that does nothing else, and its ratio to the plain loop. The loop runs plain, recorded, recorded with --held-callers
-# and with --full; under helgrind and drd where valgrind is installed; and built by the compiler for ThreadSanitizer
-# where that can be linked. Then it measures what taking and freeing a block costs while a mutex stands in the heap, the
+# and with --full; with libwitness, awake and asleep, where its verifier stands built; under helgrind and drd where
+# valgrind is installed; and built by the compiler for ThreadSanitizer where that can be linked. Then it measures what taking and freeing a block costs while a mutex stands in the heap, the
 # processor time of node under work, and how long a recorder's file takes to become a trace. Of RUNS runs (5) the least
 # counts; the ways take turns, so that all meet the same machine. RECORDER names another recorder's folder, to compare.
 set -eu
@@ -30,6 +30,8 @@ once() {
     recorded) recorded condensed "$folder/pairs" "$2" "$3" 400000 ;;
     held) RECORDER_HELD=1 RECORDER_FRAMES=8 recorded condensed "$folder/pairs" "$2" "$3" 400000 ;;
     full) recorded full "$folder/pairs" "$2" "$3" 100000 ;;
+    watched) WITNESS=1 WITNESS_LOG="$folder/log" LD_PRELOAD="$folder/libwitness/libwitness.so" "$folder/pairs" "$2" "$3" 400000 ;;
+    asleep) LD_PRELOAD="$folder/libwitness/libwitness.so" "$folder/pairs" "$2" "$3" 400000 ;;
     helgrind | drd) valgrind -q --tool="$1" "$folder/pairs" "$2" "$3" 20000 2>/dev/null ;;
     # Threads that nobody joins would be told of, and the status be 66.
     tsan) TSAN_OPTIONS=report_thread_leaks=0 "$folder/pairs-tsan" "$2" "$3" 100000 ;;
@@ -37,6 +39,9 @@ once() {
 }
 
 ways="plain recorded held full"
+if "$here/../libwitness/build" "$folder/libwitness"; then
+    ways="$ways watched asleep"
+fi
 if command -v valgrind >/dev/null; then
     ways="$ways helgrind drd"
 fi
@@ -112,6 +117,6 @@ for rounds in 138000 1380000; do
     recorded full "$folder/pairs" 4 1 "$rounds" >/dev/null
     file=$(echo "$folder"/records/*.full)
     begin=$(date +%s)
-    "$recorder/resolve" "$file" >"$folder/trace"
+    "$recorder/record" --trace "$file" >"$folder/trace"
     echo "resolving $(wc -l <"$folder/trace") lines: $(($(date +%s) - begin)) s"
 done

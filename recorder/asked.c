@@ -11,12 +11,17 @@
 #include <sys/uio.h>
 #include <unistd.h>
 
+bool mutex_read(uintptr_t address, pthread_mutex_t *mutex)
+{
+    struct iovec here = {mutex, sizeof *mutex}, there = {(void *)address, sizeof *mutex};
+    return process_vm_readv(getpid(), &here, 1, &there, 1, 0) == (ssize_t)sizeof *mutex;
+}
+
 /* The number of the thread that holds the mutex, as the kernel counts threads; 0 where nobody does, or it can't be read. */
 int32_t mutex_holder(uintptr_t address)
 {
     pthread_mutex_t mutex;
-    struct iovec here = {&mutex, sizeof mutex}, there = {(void *)address, sizeof mutex};
-    if (process_vm_readv(getpid(), &here, 1, &there, 1, 0) != (ssize_t)sizeof mutex)
+    if (!mutex_read(address, &mutex))
         return 0;
     return mutex.__data.__lock == 0 ? 0 : mutex.__data.__owner;
 }
@@ -26,14 +31,14 @@ static void write_answer(int stream, struct thread *thread)
     int32_t holder;
     if (!stream_has_room(stream) || !seat_taken(stream, thread))
         return;
-    put_text(stream, "answer\n");
+    put_text(stream, WORD_ANSWER "\n");
     stream_append(stream, false);
     for (uint32_t at = 0; at < LOCKS_ALIVE; at++) {
         struct lock *lock = lock_held_from(&at, &holder);
         uint32_t number = lock ? lock_number(stream, thread, lock) : 0;
         if (number == 0)
             continue;
-        put_text(stream, "holder");
+        put_text(stream, WORD_HOLDER);
         put_number(stream, number);
         put_number(stream, (uint64_t)holder);
         put_text(stream, "\n");

@@ -1,86 +1,7 @@
 /*
- * The interposed calls. Each makes the real call once and answers what it answers.
- *
- * A request that is written before it blocks, and one by a thread that holds nothing, goes straight to the real call.
- * Any other that doesn't get its lock at once waits for a second by the call with a time limit; then it is written as
- * pending, and goes on to the real call. So a program that hangs has its circle in the trace.
+ * The interposed calls of pthread, C11 and the C library. ways.h has what they share.
  */
-#include "quick.h"
-
-#include <errno.h>
-
-/* The three ways to ask for a lock. */
-struct way {
-    enum class class;
-    enum mode mode;
-    int (*lock)(void *);
-    int (*try)(void *);
-    int (*timed)(void *, const struct timespec *);
-};
-
-static bool is_got(int answer)
-{
-    return answer == 0 || answer == EOWNERDEAD;
-}
-
-static struct timespec a_second_from_now(void)
-{
-    struct timespec now;
-    clock_gettime(CLOCK_REALTIME, &now);
-    now.tv_sec++;
-    return now;
-}
-
-COLD static int wait_patiently(struct request *request, const struct way *way, void *address)
-{
-    struct timespec limit = a_second_from_now();
-    int answer = way->timed(address, &limit);
-    if (answer != ETIMEDOUT)
-        return answer;
-    request_waits(request);
-    return way->lock(address);
-}
-
-static int acquire_slowly(const struct way *way, void *address, struct caller caller)
-{
-    struct request request;
-    if (UNLIKELY(!request_begins(&request, address, way->class, way->mode, caller, false)))
-        return way->lock(address);
-    int answer = request.patient ? way->try(address) : way->lock(address);
-    if (UNLIKELY(request.patient && answer == EBUSY))
-        answer = wait_patiently(&request, way, address);
-    request_ends(&request, is_got(answer));
-    return answer;
-}
-
-QUICK int acquire(const struct way *way, void *address, struct caller caller)
-{
-    struct quick quick;
-    if (UNLIKELY(!quick_begins(&quick, address, caller)))
-        return acquire_slowly(way, address, caller);
-    bool nested = quick.thread->count != 0;
-    int answer = nested ? way->try(address) : way->lock(address);
-    if (LIKELY(is_got(answer)))
-        quick_got(&quick, way->mode);
-    goes_outside(quick.thread);
-    return UNLIKELY(nested && answer == EBUSY) ? acquire_slowly(way, address, caller) : answer;
-}
-
-QUICK void release(const void *address, struct caller caller)
-{
-    if (UNLIKELY(!quick_released(address, caller.stack)))
-        release_begins(address, caller);
-}
-
-static inline int acquire_at_once(const struct way *way, void *address, struct caller caller)
-{
-    struct request request;
-    if (UNLIKELY(!request_begins(&request, address, way->class, way->mode, caller, true)))
-        return way->try(address);
-    int answer = way->try(address);
-    request_ends(&request, is_got(answer));
-    return answer;
-}
+#include "ways.h"
 
 static int mutex_lock(void *mutex) { return real.mutex_lock(mutex); }
 static int mutex_try(void *mutex) { return real.mutex_trylock(mutex); }
@@ -135,7 +56,7 @@ static int c11(int answer)
 #define ACQUIRE_TIMED(way, address, call, answered)                                                        \
     do {                                                                                                   \
         struct request request;                                                                            \
-        bool begun = request_begins(&request, address, (way).class, (way).mode, CALLER, false);            \
+        bool begun = request_begins(&request, address, (way).class, (way).mode, CALLER, ASKS_FOR_A_TIME);  \
         int answer = (call);                                                                               \
         if (begun)                                                                                         \
             request_ends(&request, is_got(answer));                                                        \
@@ -154,12 +75,19 @@ static int c11(int answer)
 
 EXPORT int pthread_mutex_init(pthread_mutex_t *mutex, const pthread_mutexattr_t *attributes)
 {
+    error_if_held(ERROR_REMADE, mutex, CALLER);
     AFTER_SUCCESS(real.mutex_init(mutex, attributes), lock_made(mutex, MUTEX, CALLER));
 }
 
 EXPORT int pthread_mutex_destroy(pthread_mutex_t *mutex)
 {
-    AFTER_SUCCESS(real.mutex_destroy(mutex), lock_gone(mutex));
+    start();
+    int answer = real.mutex_destroy(mutex);
+    if (answer == 0)
+        lock_gone(mutex);
+    else if (answer == EBUSY)
+        error_at(ERROR_DESTROYED, mutex, CALLER);
+    return answer;
 }
 
 EXPORT int pthread_mutex_lock(pthread_mutex_t *mutex)
@@ -190,11 +118,13 @@ EXPORT int pthread_mutex_unlock(pthread_mutex_t *mutex)
 
 EXPORT int pthread_rwlock_init(pthread_rwlock_t *lock, const pthread_rwlockattr_t *attributes)
 {
+    error_if_held(ERROR_REMADE, lock, CALLER);
     AFTER_SUCCESS(real.rwlock_init(lock, attributes), lock_made(lock, RWLOCK, CALLER));
 }
 
 EXPORT int pthread_rwlock_destroy(pthread_rwlock_t *lock)
 {
+    error_if_held(ERROR_DESTROYED, lock, CALLER);
     AFTER_SUCCESS(real.rwlock_destroy(lock), lock_gone(lock));
 }
 
@@ -295,6 +225,8 @@ static void end_wait(void *wait_over)
         struct wait wait = {.answer = 0};                                                                  \
         start();                                                                                           \
         wait.recorded = wait_begins(&wait.request, mutex, asks_again, CALLER);                             \
+        if (!wait.recorded)                                                                                \
+            error_of_wait((const pthread_mutex_t *)(mutex), CALLER);                                       \
         pthread_cleanup_push(end_wait, &wait);                                                             \
         wait.answer = (call);                                                                              \
         pthread_cleanup_pop(1);                                                                            \

@@ -8,6 +8,8 @@
  */
 #include "quick.h"
 
+#include "judge.h"
+
 #include <errno.h>
 #include <string.h>
 #include <sys/mman.h>
@@ -32,7 +34,7 @@ bool chains_made(void)
 void node_set_requested(uint32_t node, bool whole)
 {
     if (node != NODE_UNKNOWN)
-        atomic_store_explicit(&nodes[node - 1].requested, whole ? REQUESTED : HALF_REQUESTED, memory_order_release);
+        atomic_fetch_or_explicit(&nodes[node - 1].requested, whole ? REQUESTED : HALF_REQUESTED, memory_order_release);
 }
 
 /* As node_of, and makes the node; under the mutex. */
@@ -125,8 +127,11 @@ static void take_out(struct thread *thread, struct held *held)
     thread->count--;
     if (UNLIKELY(at != thread->count)) {
         memmove(held, held + 1, (thread->count - at) * sizeof *held);
-        for (uint32_t i = at; i < thread->count; i++)
-            thread->held[i].node = 0;
+        for (uint32_t i = at; i < thread->count; i++) {
+            struct held *left = &thread->held[i];
+            left->node = 0;
+            left->locks = locks_with(i ? left[-1].locks : 0, left->lock, left->mode);
+        }
     }
     if (UNLIKELY(thread->count == 0) && UNLIKELY(thread->room == HELD_MOST))
         give_room_back(thread);
@@ -158,6 +163,11 @@ static inline bool opens(struct thread *thread, uintptr_t stack)
     return true;
 }
 
+bool chain_opens(uintptr_t stack)
+{
+    return opens(&self, stack);
+}
+
 /* A lock that is held may be asked for again: a recursive mutex, and a rwlock that is held shared, shared. */
 static bool may_recur(const struct held *held, const struct request *request)
 {
@@ -178,18 +188,18 @@ static void consider(struct request *request)
     request->parent = last_node(request->thread);
     request->node = node_of(request->parent, request->lock->type->number);
     bool known = request->node != 0 && node_is_requested(request->node);
-    if (!writes_all) {
-        request->patient = known;
-        if (LIKELY(known))
-            return;
-    }
     if (!known)
         request->stack = stack_of(request->caller);
-    write_request(request);
+    if (!known || writes_all)
+        write_request(request);
+    else
+        request->patient = true;
+    if (request->node && request->thread->count != 0)
+        order_noted(request);
 }
 
 static __attribute__((noinline)) bool begins(struct request *request, const void *address, enum class class,
-    enum mode mode, struct caller caller, bool tried)
+    enum mode mode, struct caller caller, enum asking asking)
 {
     struct thread *thread = &self;
     if (UNLIKELY(!opens(thread, caller.stack)))
@@ -209,10 +219,11 @@ static __attribute__((noinline)) bool begins(struct request *request, const void
     request->stack = stack_of_held(request->place, caller);
     request->node = 0;
     request->mode = mode;
-    request->tried = tried;
+    request->tried = asking == TRIES;
+    request->timed = asking == ASKS_FOR_A_TIME;
     request->patient = request->again_refused = false;
     request->pending = 0;
-    if (!tried && (thread->count != 0 || writes_all))
+    if (!request->tried && (thread->count != 0 || writes_all))
         consider(request);
     return true;
 }
@@ -223,21 +234,22 @@ struct beginning {
     struct caller caller;
     enum class class;
     enum mode mode;
-    bool tried, begun;
+    enum asking asking;
+    bool begun;
 };
 
 static void begin_aside(void *argument)
 {
     struct beginning *it = argument;
-    it->begun = begins(it->request, it->address, it->class, it->mode, it->caller, it->tried);
+    it->begun = begins(it->request, it->address, it->class, it->mode, it->caller, it->asking);
 }
 
 bool request_begins(struct request *request, const void *address, enum class class, enum mode mode,
-    struct caller caller, bool tried)
+    struct caller caller, enum asking asking)
 {
     if (!may_be_on_small_stack())
-        return begins(request, address, class, mode, caller, tried);
-    struct beginning it = {request, address, caller, class, mode, tried, false};
+        return begins(request, address, class, mode, caller, asking);
+    struct beginning it = {request, address, caller, class, mode, asking, false};
     aside(begin_aside, &it);
     return it.begun;
 }
@@ -249,8 +261,9 @@ static void waits_aside(void *argument)
     request->stack = stack_of(request->caller);
     if (request->again_refused)
         write_waits_for_itself(request);
-    else if (!request->again)
+    else if (!request->again && (streams_have_files() || judge_watches_waits()))
         write_request(request);
+    judge_waits(request);
 }
 
 COLD void request_waits(struct request *request)
@@ -336,6 +349,13 @@ static void released(struct thread *thread, struct held *held)
         held->count--;
 }
 
+static COLD void released_by_another(struct thread *thread, struct lock *lock, struct caller caller)
+{
+    write_released_by_another(thread, lock, place_of(caller));
+    if (lock && lock->loses)
+        lock_given_up(lock);
+}
+
 static __attribute__((noinline)) void release(const void *address, struct caller caller)
 {
     struct thread *thread = &self;
@@ -348,9 +368,8 @@ static __attribute__((noinline)) void release(const void *address, struct caller
         thread->unseen--;
     } else {
         struct lock *lock = lock_at(address);
-        write_released_by_another(thread, lock, place_of(caller));
-        if (lock && lock->loses)
-            lock_given_up(lock);
+        if (!release_was_told(lock))
+            released_by_another(thread, lock, caller);
     }
     goes_outside(thread);
 }

@@ -54,6 +54,12 @@ static inline _Atomic uint32_t *in_region(int level, uintptr_t address)
     return &in_regions[level][(region ^ region >> 15) % REGIONS];
 }
 
+/* A lock in an object goes with that, and one that has no address (annotations.c) is in no memory. */
+static bool is_in_memory(const struct lock *lock)
+{
+    return !lock->type->anchor && !(atomic_load(&lock->address) & HANDLE);
+}
+
 /* Between these lie all locks in memory that ever were. */
 static _Atomic uintptr_t lowest = UINTPTR_MAX, highest;
 
@@ -92,13 +98,13 @@ static inline uintptr_t pass_over(uintptr_t at, uintptr_t end)
 
 static struct type *type_of(const struct type *wanted)
 {
-    uint64_t hash = wanted->anchor + wanted->class;
+    uint64_t hash = (wanted->anchor + wanted->class) ^ (uintptr_t)wanted->label;
     for (uint32_t i = 0; i < DEPTH_MOST; i++)
         hash = (hash ^ wanted->places[i]) * 0x9e3779b97f4a7c15u;
     struct type **bucket = &type_buckets[(hash >> 40) % TYPE_BUCKETS];
     for (struct type *type = *bucket; type; type = type->next)
         if (type->anchor == wanted->anchor && type->class == wanted->class && type->object == wanted->object
-            && memcmp(type->places, wanted->places, sizeof type->places) == 0)
+            && type->label == wanted->label && memcmp(type->places, wanted->places, sizeof type->places) == 0)
             return type;
     if (types_met == TYPES_MET)
         return NULL;
@@ -176,7 +182,7 @@ static void forget(struct lock *lock, bool nobody_holds)
     while (atomic_load(link) != lock)
         link = &atomic_load(link)->next;
     atomic_store(link, atomic_load(&lock->next));
-    if (!lock->type->anchor)
+    if (is_in_memory(lock))
         count_in_memory(atomic_load(&lock->address), false);
     atomic_store(&lock->address, 0);
     give_name_back(lock->type, lock->name);
@@ -186,12 +192,15 @@ static void forget(struct lock *lock, bool nobody_holds)
     free_locks = lock;
 }
 
+/* How many locks there ever were. */
+static uint32_t serials;
+
 static void read_kind(struct lock *lock, const void *address, enum class class)
 {
     int kind = class == MUTEX ? ((const pthread_mutex_t *)address)->__data.__kind : 0;
     bool robust = kind & 16;
     lock->recursive = class == MUTEX && (kind & 3) == PTHREAD_MUTEX_RECURSIVE_NP;
-    lock->loses = class == SPIN
+    lock->loses = class == SPIN || class == SEMAPHORE
         || (class == MUTEX && !robust
             && ((kind & 3) == PTHREAD_MUTEX_TIMED_NP || (kind & 3) == PTHREAD_MUTEX_ADAPTIVE_NP));
 }
@@ -217,14 +226,46 @@ static struct lock *add(const void *address, const struct type *wanted)
     else
         locks_taken++;
     lock->type = type;
+    lock->serial = ++serials;
+    atomic_store(&lock->left_alone, false);
     memset(&lock->marks, 0, sizeof lock->marks);
-    if (!type->anchor)
-        count_in_memory((uintptr_t)address, true);
     _Atomic(struct lock *) *bucket = lock_bucket((uintptr_t)address);
     atomic_store(&lock->next, atomic_load(bucket));
     atomic_store(&lock->address, (uintptr_t)address);
+    if (is_in_memory(lock))
+        count_in_memory((uintptr_t)address, true);
     atomic_store_explicit(bucket, lock, memory_order_release);
     return lock;
+}
+
+/*
+ * Variables that have more locks than this are arrays of locks: these are one type, by the variable. Which variable a lock
+ * is in is only looked for in objects that have so many locks.
+ */
+enum { FEW_LOCKS = 16, ARRAYS = 1 << 12 };
+
+static struct array {
+    uintptr_t from;
+    uint32_t object, locks;
+} arrays[ARRAYS], in_objects[ARRAYS];
+
+/* How many locks were counted there by now, with this one. */
+static uint32_t counted(struct array *table, uintptr_t from, uint32_t object)
+{
+    struct array *array = &table[(uint32_t)((from + object) * 0x9e3779b97f4a7c15u >> 52) % ARRAYS];
+    if (array->from != from || array->object != object)
+        *array = (struct array){from, object, 0};
+    return ++array->locks;
+}
+
+/* What the type of a lock goes by that no init call has made: the lock itself, or the array that it is in. */
+static uintptr_t anchor_of_met(uint32_t object, uintptr_t address)
+{
+    uintptr_t from;
+    uint64_t size;
+    if (counted(in_objects, 0, object) <= FEW_LOCKS || !*object_symbol(object, address, false, &from, &size))
+        return address;
+    return counted(arrays, from, object) <= FEW_LOCKS ? address : from;
 }
 
 /* A lock at its first use: its record, or NULL where it can't be recorded. */
@@ -240,7 +281,7 @@ COLD struct lock *lock_met(const void *address, enum class class, struct caller 
     if (!lock) {
         wanted.object = object_of((uintptr_t)address, false);
         if (wanted.object)
-            wanted.anchor = (uintptr_t)address;
+            wanted.anchor = anchor_of_met(wanted.object, (uintptr_t)address);
         else
             memcpy(wanted.places, places, sizeof places);
         lock = add(address, &wanted);
@@ -267,6 +308,12 @@ static uintptr_t anchor_of(uintptr_t address)
 /* An init call has made a lock there. */
 void lock_made(const void *address, enum class class, struct caller caller)
 {
+    lock_made_as(address, class, caller, NULL);
+}
+
+/* As lock_made, of a type of that name; NULL where it is to be told by variable and callers. */
+void lock_made_as(const void *address, enum class class, struct caller caller, const char *type)
+{
     if (!goes_far_inside(caller.stack))
         return;
     struct type wanted = {.class = class, .address = (uintptr_t)address};
@@ -275,8 +322,11 @@ void lock_made(const void *address, enum class class, struct caller caller)
         struct lock *before = lock_at(address);
         if (before)
             forget(before, false);
-        wanted.object = object_of((uintptr_t)address, false);
-        wanted.anchor = anchor_of((uintptr_t)address);
+        wanted.label = type_label(type);
+        if (!wanted.label) {
+            wanted.object = object_of((uintptr_t)address, false);
+            wanted.anchor = anchor_of((uintptr_t)address);
+        }
         add(address, &wanted);
         recorder_leaves();
     }
@@ -337,8 +387,10 @@ void locks_freed(const void *block)
         return;
     if (recorder_enters()) {
         struct lock *lock;
-        while ((lock = lock_in(&at, end)) != NULL)
+        while ((lock = lock_in(&at, end)) != NULL) {
+            error_of_freed(lock);
             forget(lock, is_free(lock));
+        }
         recorder_leaves();
     }
     self.state = OPEN;

@@ -2,9 +2,9 @@
  * Where calls come from: return addresses, and the callers behind them.
  *
  * A function whose only work is to lock (std::mutex::lock, uv_mutex_lock) says nothing about its call, so its caller is
- * wanted. Another function of the C++ library says nothing either, unless a function of the program was inlined there (a
- * lambda in std::sort). That can't be told here. So the two, it and the caller after it, are one place together, and
- * resolve.awk takes the one that says something, by their files.
+ * wanted. Another function of the C++ library, or of Rust's, says nothing either, unless a function of the program was
+ * inlined there (a lambda in std::sort). That can't be told here. So the two, it and the caller after it, are one place
+ * together, and `record` takes the one that says something, by their files.
  *
  * To unwind the stack at each call would take too long. But at one return address a function's frame is found
  * always in the same way: it lies at a distance from the stack pointer that is always the same, or at the frame
@@ -130,14 +130,15 @@ static uint8_t library_detour(const char *name)
     return DETOUR_LIBRARY;
 }
 
-/* By the name of a function and its size: whether it does something with a lock and little else. */
+/*
+ * By the name of a function and its size: whether it does something with a lock and little else. What stands in for one of
+ * pthread's, as ThreadSanitizer does, may do more.
+ */
 static bool is_wrapper(const char *name, uint64_t size)
 {
-    static const char *const within[] = {"__gthread_", "__glibcxx_rwlock"};
-    static const char *const others[] = {"unlock", "clock", "block"};
-    static const char *const ends[] = {"lock", "mutex", "monitor", "mutex_enter", "mutexenter", "mutex_acquire",
-        "lock_acquire", "mutex_init", "lock_init", "mutexinit", "lockinit", "mutex_create", "mutex_new", "mutex_alloc",
-        "cond_wait", "condwait", "cond_timedwait"};
+    static const char *const within[] = {LIBRARY_WRAPPERS};
+    static const char *const others[] = {NO_WRAPPER_ENDS};
+    static const char *const ends[] = {WRAPPER_ENDS};
     char word[WORD_MOST];
     for (size_t i = 0; i < sizeof within / sizeof *within; i++)
         if (strstr(name, within[i]))
@@ -148,7 +149,27 @@ static bool is_wrapper(const char *name, uint64_t size)
             return false;
     for (size_t i = 0; i < sizeof ends / sizeof *ends; i++)
         if (ends_with(word, ends[i]))
-            return size <= WRAPPER_BYTES;
+            return size <= WRAPPER_BYTES || strncmp(word, "pthread_", 8) == 0;
+    return false;
+}
+
+/* Whether the function is one of Rust's own libraries, or of the crate that annotates locks, by its mangled name. */
+static bool is_of_rust(const char *name)
+{
+    static const char *const crates[] = {"3std", "4core", "5alloc", "7witness"};
+    if (strcmp(name, "__rust_try") == 0)
+        return true;
+    const char *crate = strncmp(name, "_R", 2) == 0 ? strstr(name, "Cs") : NULL;
+    crate = crate ? strchr(crate, '_') : NULL;
+    size_t length = strlen(name);
+    if (strncmp(name, "_ZN", 3) == 0 && length > 20 && strncmp(name + length - 20, "17h", 3) == 0)
+        crate = name + 2;
+    /* A trait's function: `66_$LT$witness..recorder..Recorder$u20$as$u20$..`. */
+    const char *trait = crate ? strstr(crate, "_$LT$") : NULL;
+    bool is_trait = trait && strspn(crate + 1, "0123456789") == (size_t)(trait - crate - 1);
+    for (size_t i = 0; crate && i < sizeof crates / sizeof *crates; i++)
+        if (strncmp(is_trait ? trait + 5 : crate + 1, crates[i] + is_trait, strlen(crates[i]) - is_trait) == 0)
+            return true;
     return false;
 }
 
@@ -157,6 +178,8 @@ static uint8_t detour_of(const char *name, uint64_t size)
     const char *rest;
     if (is_passed_over(name))
         return DETOUR_WRAPPER;
+    if (is_of_rust(name))
+        return DETOUR_LIBRARY;
     if (is_library(name, &rest))
         return library_detour(rest);
     if (strncmp(name, "_ZN9__gnu_cxx", 13) == 0 || strncmp(name, "_ZNK9__gnu_cxx", 14) == 0)
@@ -202,6 +225,24 @@ static void add(uintptr_t pc, int32_t step)
     }
     places_met++;
     atomic_store_explicit(&place->pc, pc, memory_order_release);
+}
+
+uint32_t place_named(uintptr_t pc, const char *file, unsigned line, const char *function)
+{
+    uint32_t number = place_at_pc(pc), slot = place_slot(pc);
+    if (number || places_met >= PLACES / 4 * 3)
+        return number;
+    while (atomic_load_explicit(&places[slot].pc, memory_order_relaxed) != 0)
+        slot = (slot + 1) % PLACES;
+    struct place *place = &places[slot];
+    place->step = STEP_LAST;
+    place->detour = frames_shown > 1 ? DETOUR_STACKS : DETOUR_NONE;
+    place->name = function;
+    place->offset = line;
+    place->file = file;
+    places_met++;
+    atomic_store_explicit(&place->pc, pc, memory_order_release);
+    return slot + 1;
 }
 
 /* The object is mapped no longer: at its addresses there may be another. Its places stay, with their numbers. */
@@ -402,9 +443,21 @@ COLD static void look_far(void *argument)
     }
 }
 
+/* Those of a place by name: they begin with it. */
+static uint32_t site_with_callers(struct caller caller, uint32_t wanted, uint32_t *found)
+{
+    found[0] = place_at_pc(caller.pc);
+    uint32_t count = 1 + site_callers(wanted - 1, found + 1);
+    if (count > 1 || wanted == 1 || *place_at(found[0])->name)
+        return count;
+    return 1 + callers(site_told_from(caller), wanted - 1, found + 1);
+}
+
 /* The first callers that aren't wrappers, at most as many as wanted; where all are, the first of all. */
 uint32_t callers(struct caller caller, uint32_t wanted, uint32_t *found)
 {
+    if (is_site(caller))
+        return site_with_callers(caller, wanted, found);
     struct search search; /* the way goes by here often: the library's functions aren't set before they are counted */
     search.caller = caller;
     search.wanted = wanted;
@@ -436,9 +489,16 @@ uint32_t place_passed(struct caller caller)
     return detour == DETOUR_NONE || detour >= DETOUR_LIBRARY ? number : 0;
 }
 
-/* The recorder's own bytes in memory. */
-extern const char __ehdr_start[] __attribute__((visibility("hidden")));
-extern const char _end[] __attribute__((visibility("hidden")));
+/* The recorder's own functions in memory: those of its object, and in libwitness those of a section. */
+#ifdef LIBWITNESS
+#define OWN_BEGIN __start_witness_text
+#define OWN_END __stop_witness_text
+#else
+#define OWN_BEGIN __ehdr_start
+#define OWN_END _end
+#endif
+extern const char OWN_BEGIN[] __attribute__((visibility("hidden")));
+extern const char OWN_END[] __attribute__((visibility("hidden")));
 
 struct look {
     uintptr_t stack; /* of the caller that is looked for */
@@ -451,7 +511,7 @@ static _Unwind_Reason_Code look_at(struct _Unwind_Context *context, void *argume
     struct look *look = argument;
     uintptr_t stack = _Unwind_GetCFA(context), pc = _Unwind_GetIP(context);
     if (stack < look->stack) {
-        look->is_inside = pc >= (uintptr_t)__ehdr_start && pc < (uintptr_t)_end;
+        look->is_inside = pc >= (uintptr_t)OWN_BEGIN && pc < (uintptr_t)OWN_END;
         return _URC_NO_REASON;
     }
     look->is_left = stack > look->stack || !look->is_inside;
@@ -472,5 +532,5 @@ COLD bool call_goes_on(uintptr_t stack)
 /* As many callers as name a type. */
 uint32_t places_of(struct caller caller, uint32_t found[DEPTH_MOST])
 {
-    return callers(caller, depth, found);
+    return callers(caller, is_site(caller) ? 1 : depth, found);
 }

@@ -9,10 +9,11 @@
 
 struct node {
     _Atomic uint64_t key; /* parent and type; 0 where there is no node */
-    _Atomic uint32_t requested; /* one of these, or 0 */
+    _Atomic uint32_t requested; /* bits of these */
+    uint32_t orders;      /* how many orders of single locks are kept */
 };
-/* HALF_REQUESTED: as requested, but a lock of the chain had no number. */
-enum { REQUESTED = 1, HALF_REQUESTED = 2 };
+/* HALF_REQUESTED: as requested, but a lock of the chain had no number. MANY_ORDERS: no more orders are kept. */
+enum { REQUESTED = 1, HALF_REQUESTED = 2, MANY_ORDERS = 4 };
 
 /* The chain that no node stands for, since the tree is full. What is asked for behind it is always new. */
 #define NODE_UNKNOWN UINT32_MAX
@@ -47,13 +48,14 @@ static inline uint32_t node_of(uint32_t parent, uint32_t type)
 static inline bool node_is_requested(uint32_t node)
 {
     return node != NODE_UNKNOWN
-        && atomic_load_explicit(&nodes[node - 1].requested, memory_order_acquire) == REQUESTED;
+        && (atomic_load_explicit(&nodes[node - 1].requested, memory_order_acquire) & REQUESTED);
 }
 
 static inline bool node_is_half_requested(uint32_t node)
 {
     return node != NODE_UNKNOWN
-        && atomic_load_explicit(&nodes[node - 1].requested, memory_order_acquire) == HALF_REQUESTED;
+        && (atomic_load_explicit(&nodes[node - 1].requested, memory_order_acquire) & (HALF_REQUESTED | REQUESTED))
+            == HALF_REQUESTED;
 }
 
 static inline struct held *held_of(struct thread *thread, const struct lock *lock)
@@ -64,11 +66,47 @@ static inline struct held *held_of(struct thread *thread, const struct lock *loc
     return NULL;
 }
 
+/*
+ * The orders of single locks that stand in the stream: a chain of locks, with the one that was asked for last, and the
+ * thread. THREADS: a second thread has asked so, too; then it isn't told of others.
+ */
+struct order {
+    _Atomic uint64_t locks;
+    _Atomic uint32_t thread;
+};
+enum { ORDERS = 1 << 16, ORDER_TRIES = 4, THREADS = UINT32_MAX };
+
+extern struct order *single_orders;
+
+/* What stands for a chain and a lock of that mode after it. */
+static inline uint64_t locks_with(uint64_t chain, const struct lock *lock, enum mode mode)
+{
+    uint64_t mixed = (chain ^ ((uint64_t)lock->serial << 1 | (mode == SHARED))) * 0x9e3779b97f4a7c15u;
+    return mixed ^ mixed >> 32;
+}
+
+static inline uint64_t locks_held(const struct thread *thread)
+{
+    return thread->count ? thread->held[thread->count - 1].locks : 0;
+}
+
+static inline bool order_is_known(uint64_t locks, uint32_t thread)
+{
+    for (uint32_t tries = 0, slot = (uint32_t)(locks >> 48); tries < ORDER_TRIES; tries++, slot = (slot + 1) % ORDERS) {
+        if (LIKELY(atomic_load_explicit(&single_orders[slot].locks, memory_order_relaxed) == locks)) {
+            uint32_t known = atomic_load_explicit(&single_orders[slot].thread, memory_order_relaxed);
+            return LIKELY(known == thread || known == THREADS);
+        }
+    }
+    return false;
+}
+
 /* The place behind the chain, for which there is room, with the lock in it; the chain isn't longer yet. */
 static inline struct held *held_filled(struct thread *thread, struct lock *lock, uint32_t place, uint32_t node,
     enum mode mode)
 {
     struct held *held = &thread->held[thread->count];
+    held->locks = locks_with(locks_held(thread), lock, mode);
     held->lock = lock;
     held->lost = atomic_load_explicit(&lock->lost, memory_order_relaxed);
     held->type = lock->type->number;
@@ -112,7 +150,16 @@ struct quick {
     uint32_t node;
 };
 
-QUICK bool quick_is_known(struct quick *quick, const void *address, struct caller caller)
+/* Whether the chain and the type were asked for so, and these very locks, or so many that no more are kept. */
+QUICK bool quick_order_is_known(const struct quick *quick, enum mode mode)
+{
+    uint32_t requested = atomic_load_explicit(&nodes[quick->node - 1].requested, memory_order_acquire);
+    return LIKELY(requested & REQUESTED)
+        && ((requested & MANY_ORDERS)
+            || LIKELY(order_is_known(locks_with(locks_held(quick->thread), quick->lock, mode), quick->thread->serial)));
+}
+
+QUICK bool quick_is_known(struct quick *quick, const void *address, enum mode mode, struct caller caller)
 {
     struct thread *thread = quick->thread;
     quick->lock = lock_at(address);
@@ -129,16 +176,16 @@ QUICK bool quick_is_known(struct quick *quick, const void *address, struct calle
     if (UNLIKELY(parent == 0 || held_of(thread, quick->lock)))
         return false;
     quick->node = node_of(parent, quick->lock->type->number);
-    return LIKELY(quick->node != 0) && LIKELY(node_is_requested(quick->node));
+    return LIKELY(quick->node != 0) && LIKELY(quick->node != NODE_UNKNOWN) && LIKELY(quick_order_is_known(quick, mode));
 }
 
 /* False where the call takes the long way. Else the thread is inside the recorder until the request ends. */
-QUICK bool quick_begins(struct quick *quick, const void *address, struct caller caller)
+QUICK bool quick_begins(struct quick *quick, const void *address, enum mode mode, struct caller caller)
 {
     quick->thread = &self;
     if (UNLIKELY(takes_long_way()) || !goes_inside(quick->thread, caller.stack))
         return false;
-    if (LIKELY(quick_is_known(quick, address, caller)))
+    if (LIKELY(quick_is_known(quick, address, mode, caller)))
         return true;
     goes_outside(quick->thread);
     return false;

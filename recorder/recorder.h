@@ -1,9 +1,13 @@
 /*
  * The recorder: an object for LD_PRELOAD that writes what a program does with its locks, in lines from which
- * `recorder/resolve` makes a trace. This file has what its parts share:
+ * `record` makes a trace (command/). This file has what its parts share:
  *
- *   calls.c     the interposed calls of pthread, C11 and the C library
+ *   calls.c     the interposed calls of pthread, C11 and the C library; ways.h, what they share
+ *   others.c    those of GLib and OpenMP
+ *   singles.c   the orders of single locks
+ *   errors.c    errors in the use of locks that aren't orders
  *   annotations.c  what a program tells of its own locks by witness.h
+ *   semaphores.c  the semaphores that are locks
  *   threads.c   who made each thread
  *   programs.c  the programs that a process starts; libraries.c, the libraries that it opens
  *   asked.c     which mutexes are held, where `record --show` asks
@@ -11,12 +15,14 @@
  *   chains.c    what each thread holds, and the tree of chains of types; quick.h, where nothing is to be written
  *   locks.c     the locks at their addresses, and their types
  *   aside.c     a stack of the recorder's own, for handlers that have a small one
- *   places.c    the callers of a call; objects.c finds their object and name
+ *   places.c    the callers of a call; objects.c finds their object and name; sites.c, places by name
  *   stacks.c    the callers of what is written
  *   seats.c     seats, and the numbers of types, locks and places in a stream
+ *   pairs.c     the pairs of types that the condensed stream tells of
  *   write.c     the lines, and why they are a legal history
  *   stream.c    the files that the lines stand in
  *   status.c    which programs were started, what failed and which objects were loaded, where it outlives the process
+ *   judge.h     who judges the lines, where these files are part of libwitness
  *
  * All that threads share is changed under the recorder's one mutex (recorder_enters, recorder_leaves), and nearly
  * all of it is read without. Nothing here takes memory but by mmap, and no lock of the C library is waited for
@@ -25,7 +31,10 @@
 #ifndef RECORDER_H
 #define RECORDER_H
 
+#include "format.h"
+
 #include <pthread.h>
+#include <semaphore.h>
 #include <signal.h>
 #include <stdatomic.h>
 #include <stdbool.h>
@@ -57,8 +66,9 @@ enum { SEATS = 256, TYPES = 1023, LOCKS = 65536 };
 #define HELD_FEW 8u
 #define DEPTH_MOST 4u
 #define FRAMES_MOST 16u
+#define ORDER_LONGEST 24u /* locks of an order of single ones; of a longer chain it isn't told */
 
-enum class { MUTEX, RWLOCK, SPIN };
+enum class { MUTEX, RWLOCK, SPIN, SEMAPHORE };
 enum mode { SHARED, EXCLUSIVE };
 
 /* The number of a thing in each stream, 0 before it has one. A forked child begins a life with none. */
@@ -67,7 +77,10 @@ struct marks {
     uint32_t number[STREAMS];
 };
 
-/* Where a call comes from: its return address, and the stack pointer and frame pointer of the caller. */
+/*
+ * Where a call comes from: its return address, or what stands for one of a place by name (sites.c); and the stack pointer
+ * and frame pointer of the caller.
+ */
 struct caller {
     uintptr_t pc;
     uintptr_t stack;
@@ -85,6 +98,7 @@ struct place {
     const char *name;  /* of the function, or empty */
     uint64_t within;   /* the address as the function counts it */
     uint32_t library, rest; /* the two places that it stands for; 0 of most places */
+    const char *file; /* of a place by name, whose line is `offset`; NULL of any other */
     struct marks marks;
     struct marks releases; /* set where a release by another thread than the holder was written */
 };
@@ -103,6 +117,7 @@ struct type {
     enum class class;
     uintptr_t anchor;  /* of a lock that stands in an object: the lock, or the variable that it is in; else 0 */
     uint32_t object;   /* in which the anchor is; two may have been at one address, one after the other */
+    const char *label; /* the name that the program gives it, a word of sites.c; NULL of most types */
     uintptr_t address; /* of the first lock of the type */
     uint32_t places[DEPTH_MOST];
     struct type *next; /* in its bucket */
@@ -130,14 +145,17 @@ struct lock {
     struct type *type;
     struct name *name;
     _Atomic uint32_t lost;     /* how often it was given up by other means than an unlock of its holder */
+    uint32_t serial;           /* no other lock of this process has it, before or after */
     bool recursive;
     bool loses;                /* an unlock by another thread than the holder succeeds */
+    _Atomic bool left_alone;   /* a semaphore that was made as a lock is, and isn't one */
     struct marks marks;
 };
 
 /* A lock that a thread holds. */
 struct held {
     struct lock *lock;
+    uint64_t locks;   /* stands for the single locks of the chain up to this one, and their modes */
     uint32_t lost;    /* the lock's count when it was acquired */
     uint32_t type;
     uint32_t place;
@@ -168,7 +186,11 @@ struct thread {
     uint32_t asked[STREAMS];     /* the number of the lock whose request is pending there, 0 for none */
     struct held few[HELD_FEW];
     bool is_aside; /* on a stack of the recorder's own */
+    uint32_t serial; /* no other thread of this process has it */
     uint32_t made; /* the place where the thread was made; 0 of the first one, or where that isn't known */
+    uint32_t maker;   /* the thread that made it, as the kernel counts; 0 of the first one, or where that isn't known */
+    uint32_t made_at; /* how many threads had been made and joined before */
+    bool has_orders;  /* that stand in a stream */
 };
 
 /* A request from its check to its end. */
@@ -182,7 +204,7 @@ struct request {
     uint32_t parent;    /* the node of what is held */
     uint32_t node;      /* of the chain with the lock; 0 where it wasn't looked for */
     uint8_t mode;
-    bool tried;
+    bool tried, timed;
     bool patient;       /* not written though it may block: to be written after a second */
     bool again_refused; /* the thread holds the lock, and it isn't one to be acquired again */
     uint8_t pending;    /* a bit for each stream */
@@ -190,23 +212,18 @@ struct request {
 };
 
 /* What didn't fit, or can't be written: counted in the first line of each stream. */
-enum missed {
-    MISSED_SEATS,
-    MISSED_TYPES,
-    MISSED_LOCKS,
-    MISSED_HELD,
-    MISSED_LOG,
-    MISSED_RELEASES,
-    MISSED_AGAIN,
-    MISSES
-};
+#define NUMBER_OF(number, name) number,
+enum missed { EACH_MISSED(NUMBER_OF) MISSES };
 
-/*
- * What failed outside the streams: lines for which the file couldn't be opened, the disk had no room, a limit on the size
- * of files was met, or there was no file descriptor; calls that were left; a fork that wasn't seen; and
- * programs that were begun without what loads the recorder.
- */
-enum failure { FAILED_OPEN, FAILED_ROOM, FAILED_LIMIT, FAILED_FILES, FAILED_JUMPED, FAILED_FORKED, FAILED_BARE, FAILURES };
+/* What failed outside the streams. */
+enum failure { EACH_FAILURE(NUMBER_OF) FAILURES };
+
+/* Errors in the use of locks: what was done to a held one, or without it. */
+enum lock_error {
+#define NUMBERED(error, word) error,
+    EACH_ERROR(NUMBERED)
+#undef NUMBERED
+};
 
 /* start.c */
 typedef void handler(int);
@@ -238,8 +255,17 @@ struct real {
     int (*cond_timedwait)(pthread_cond_t *, pthread_mutex_t *, const struct timespec *);
     int (*cond_clockwait)(pthread_cond_t *, pthread_mutex_t *, clockid_t, const struct timespec *);
     int (*c11_init)(mtx_t *, int);
+    int (*sem_init)(sem_t *, int, unsigned);
+    int (*sem_destroy)(sem_t *);
+    int (*sem_wait)(sem_t *);
+    int (*sem_trywait)(sem_t *);
+    int (*sem_timedwait)(sem_t *, const struct timespec *);
+    int (*sem_clockwait)(sem_t *, clockid_t, const struct timespec *);
+    int (*sem_post)(sem_t *);
     int (*create)(pthread_t *, const pthread_attr_t *, void *(*)(void *), void *);
     int (*c11_create)(thrd_t *, thrd_start_t, void *);
+    int (*join)(pthread_t, void **);
+    int (*c11_join)(thrd_t, int *);
     int (*dlclose)(void *);
     void *(*dlopen)(const char *, int);
     int (*system)(const char *);
@@ -271,7 +297,7 @@ extern bool writes[STREAMS];
 extern bool writes_all; /* a line for every call: the full stream is written */
 extern bool all_slow;   /* every call takes the long way */
 /* The first page of the stream, as long as not every call takes the long way in any case. */
-enum { PAGE_BYTES = 4096, ASKED_AT = 6 };
+enum { PAGE_BYTES = 4096 };
 extern char asked_page[PAGE_BYTES];
 
 /* Whether every call does, or something is asked: then the byte there is '3' or '1', and else '0', or none yet. */
@@ -297,7 +323,16 @@ static inline bool may_be_on_small_stack(void)
     return UNLIKELY(atomic_load_explicit(&has_small_stacks, memory_order_relaxed));
 }
 
+/* Nothing is recorded, and may never be: calls are passed on at once. */
+extern _Atomic bool asleep;
+
+static inline bool is_asleep(void)
+{
+    return atomic_load_explicit(&asleep, memory_order_relaxed);
+}
+
 void start(void);
+bool recorder_wakes(void); /* by the program's wish, after it began without; false where it can't */
 void fork_is_watched(void);
 bool thread_opens(struct thread *thread, uintptr_t stack);
 bool goes_far_inside(uintptr_t stack);
@@ -305,12 +340,17 @@ bool recorder_enters(void);
 void recorder_leaves(void);
 void *table(size_t bytes);
 
+/* How a lock is asked for: by a call that may block, by one that doesn't, or by one that blocks for a time. */
+enum asking { ASKS, TRIES, ASKS_FOR_A_TIME };
+
 /* chains.c */
 extern _Atomic uint32_t lost_total;
 
 bool chains_made(void);
+/* False where this call isn't recorded. Else the thread is inside the recorder, and its chain has nothing that it has lost. */
+bool chain_opens(uintptr_t stack);
 bool request_begins(struct request *request, const void *address, enum class class, enum mode mode,
-    struct caller caller, bool tried);
+    struct caller caller, enum asking asking);
 void request_ends(struct request *request, bool got);
 void request_waits(struct request *request);
 void release_begins(const void *address, struct caller caller);
@@ -321,6 +361,8 @@ uint32_t node_made(uint32_t parent, uint32_t type);
 void chains_forked(void);
 
 /* locks.c */
+/* The bit by which the handle of a lock that may move is told from an address (annotations.c). */
+#define HANDLE ((uintptr_t)1 << 63)
 bool locks_made(void);
 /*
  * Locks are chained by the piece of memory that they are in. Pieces that are neighbours have buckets that are
@@ -346,6 +388,7 @@ static inline struct lock *lock_at(const void *address)
 struct lock *lock_met(const void *address, enum class class, struct caller caller);
 void locks_forked(void);
 void lock_made(const void *address, enum class class, struct caller caller);
+void lock_made_as(const void *address, enum class class, struct caller caller, const char *type);
 void lock_gone(const void *address);
 void locks_freed(const void *block);
 void library_closed(void);
@@ -404,6 +447,21 @@ uint32_t places_of(struct caller caller, uint32_t places[DEPTH_MOST]);
 uint32_t callers(struct caller caller, uint32_t wanted, uint32_t *found);
 bool call_goes_on(uintptr_t stack);
 void places_closed(uintptr_t from, uintptr_t to);
+/* The place of that name, under that address; 0 where there is no room. Under the mutex. */
+uint32_t place_named(uintptr_t pc, const char *file, unsigned line, const char *function);
+
+/* sites.c */
+bool sites_made(void);
+/* The caller, at the place by name of that number where there is one. */
+struct caller site_or(unsigned number, struct caller caller);
+bool is_site(struct caller caller);
+/* The callers of a place by name that this thread has told, at most so many. */
+uint32_t site_callers(uint32_t most, uint32_t *found);
+/* The caller, at the address from which the place was told. */
+struct caller site_told_from(struct caller caller);
+void site_callers_end(void);
+/* The word for a type's name, NULL for none, or where there is no room. Under the mutex. */
+const char *type_label(const char *name);
 
 /* objects.c */
 uint32_t object_of(uintptr_t address, bool look); /* 0 for none; looks for new objects where it is told to */
@@ -434,22 +492,52 @@ uint32_t stack_of_held(uint32_t place, struct caller caller);
 void stack_stands(int stream, uint32_t number);
 
 /* asked.c */
+bool mutex_read(uintptr_t address, pthread_mutex_t *mutex); /* false where its memory is gone */
 int32_t mutex_holder(uintptr_t address);
 void answer(struct thread *thread);
 
+/* annotations.c */
+/* Whether the release is the real one of a lock whose release was told before it. */
+bool release_was_told(const struct lock *lock);
+
+/* semaphores.c */
+extern bool semaphores_are_locks;
+
 /* threads.c */
+extern _Atomic uint32_t threads_made_and_joined;
+
 void threads_forked(void);
+
+/* singles.c */
+bool singles_made(void);
+void singles_forked(void);
+void order_noted(struct request *request); /* before the real call, of a thread that holds something */
+void order_of_joined(pthread_t joined);    /* this thread has joined it */
+
+/* errors.c */
+void errors_begin(void);
+void errors_of_thread(void); /* its end is noticed */
+void error_at(enum lock_error error, const void *address, struct caller caller);
+void error_if_held(enum lock_error error, const void *address, struct caller caller); /* by this thread */
+void error_of_freed(struct lock *lock); /* inside, before its record is given back */
+void error_of_wait(const pthread_mutex_t *mutex, struct caller caller); /* where this thread isn't known to hold it */
 
 /* seats.c */
 bool seat_taken(int stream, struct thread *thread);
 void seat_given_back(int stream, struct thread *thread);
 uint32_t lock_number(int stream, struct thread *thread, struct lock *lock);
+uint32_t lock_number_for_order(int stream, struct thread *thread, struct lock *lock);
 bool type_fits(int stream, struct type *type);
 void number_stands(int stream, uint32_t number);
 void number_stands_no_more(int stream, uint32_t number);
 uint32_t place_number(int stream, uint32_t place);
 uint32_t *mark(struct marks *marks, int stream);
 void seats_forked(void);
+
+/* pairs.c */
+void pairs_written(const struct thread *thread, struct type *type);
+bool pairs_are_written(const struct thread *thread, struct type *type);
+void pairs_forked(void);
 
 /* write.c */
 void write_request(struct request *request);
@@ -460,6 +548,10 @@ void write_left(struct thread *thread);
 void write_unlock(struct thread *thread, struct held *held, bool whole);
 void write_waits_for_itself(struct request *request);
 void write_released_by_another(struct thread *thread, struct lock *lock, uint32_t place);
+void write_error(struct thread *thread, enum lock_error error, struct lock *lock, uint32_t place); /* inside */
+void write_order(struct request *request, bool many); /* inside, as the next two */
+void write_life(struct thread *thread);
+void write_joined(uint32_t joined, uint32_t at);
 bool stream_has_room(int stream);
 void write_thread(int stream, const struct thread *thread);
 void write_place(int stream, uint32_t place);
@@ -471,10 +563,12 @@ void put_text(int stream, const char *text);
 void put_number(int stream, uint64_t number);      /* behind a space, as the next two */
 void put_hexadecimal(int stream, uint64_t number);
 void put_name(int stream, const char *name);
+void put_word(int stream, const char *word); /* as put_name, with %XX for a byte that would end the field, and for % */
 void stream_append(int stream, bool is_entry);
 bool stream_opens(int stream);
 bool stream_is_asked(int stream);
 void stream_is_answered(int stream);
+bool streams_have_files(void); /* else their lines are judged alone */
 uint32_t stream_entries(int stream);
 void count_missed(int stream, enum missed what);
 void count_missed_all(enum missed what);

@@ -108,6 +108,15 @@ uint32_t lock_number(int stream, struct thread *thread, struct lock *lock)
     return *number == NUMBER_NONE ? 0 : *number;
 }
 
+/* As lock_number, for an order of single locks: it takes none of the numbers that may be needed for the trace. */
+uint32_t lock_number_for_order(int stream, struct thread *thread, struct lock *lock)
+{
+    uint32_t number = *mark(&lock->marks, stream);
+    if (number == 0 && locks_numbered[stream] < LOCKS / 2)
+        return lock_number(stream, thread, lock);
+    return number == NUMBER_NONE ? 0 : number;
+}
+
 /* The stream has the lock of that number held, or asked for. */
 void number_stands(int stream, uint32_t number)
 {

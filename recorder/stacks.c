@@ -108,7 +108,7 @@ void stack_stands(int stream, uint32_t number)
     *written = 1;
     for (uint32_t i = 0; i < stack->count; i++)
         place_number(stream, stack->places[i]);
-    put_text(stream, "stack");
+    put_text(stream, WORD_STACK);
     put_number(stream, number);
     for (uint32_t i = 0; i < stack->count; i++)
         put_number(stream, stack->places[i]);

@@ -5,7 +5,7 @@
  * of all starts it, whichever it is. A call that comes while its thread is inside the recorder (from a signal handler,
  * or from the C library on the recorder's behalf) is passed on and not recorded.
  */
-#include "recorder.h"
+#include "judge.h"
 
 #include <dlfcn.h>
 #include <errno.h>
@@ -26,6 +26,7 @@ uint32_t depth = 2;
 uint32_t life = 1;
 bool watches_free;
 _Atomic bool has_handlers;
+_Atomic bool asleep;
 
 static const struct {
     size_t offset;
@@ -61,8 +62,17 @@ static const struct {
     {offsetof(struct real, cond_timedwait), "pthread_cond_timedwait", "GLIBC_2.3.2"},
     {offsetof(struct real, cond_clockwait), "pthread_cond_clockwait", NULL},
     {offsetof(struct real, c11_init), "mtx_init", NULL},
+    {offsetof(struct real, sem_init), "sem_init", NULL},
+    {offsetof(struct real, sem_destroy), "sem_destroy", NULL},
+    {offsetof(struct real, sem_wait), "sem_wait", NULL},
+    {offsetof(struct real, sem_trywait), "sem_trywait", NULL},
+    {offsetof(struct real, sem_timedwait), "sem_timedwait", NULL},
+    {offsetof(struct real, sem_clockwait), "sem_clockwait", NULL},
+    {offsetof(struct real, sem_post), "sem_post", NULL},
     {offsetof(struct real, create), "pthread_create", NULL},
     {offsetof(struct real, c11_create), "thrd_create", NULL},
+    {offsetof(struct real, join), "pthread_join", NULL},
+    {offsetof(struct real, c11_join), "thrd_join", NULL},
     {offsetof(struct real, dlclose), "dlclose", NULL},
     {offsetof(struct real, dlopen), "dlopen", NULL},
     {offsetof(struct real, system), "system", NULL},
@@ -85,6 +95,9 @@ static _Atomic bool recording;
 static int errno_outside, cancellation_outside;
 static sigset_t signals_outside;
 static bool signals_wait;
+/* By its name the first of several recorders in a process is found; by the other name each finds itself. */
+EXPORT const char witness_recorder = 1;
+extern const char own_recorder __attribute__((alias("witness_recorder"), visibility("hidden")));
 /* A byte that is 1 here and 0 in a child that came about without fork's handlers. */
 static volatile char *alive;
 static __thread bool forks;
@@ -112,7 +125,7 @@ static bool settings_read(void)
 {
     const char *streams = getenv("RECORDER_STREAMS");
     const char *frames = getenv("RECORDER_DEPTH");
-    if (!getenv("RECORDER_DIRECTORY"))
+    if (!secure_getenv("RECORDER_DIRECTORY") && !judge_is_wanted())
         return false;
     writes[FULL] = streams && (strcmp(streams, "full") == 0 || strcmp(streams, "both") == 0);
     writes[CONDENSED] = !streams || strcmp(streams, "full") != 0;
@@ -125,10 +138,37 @@ static bool settings_read(void)
     if (skip)
         skipped = skip;
     stacks_all = frames_shown > 1 && getenv("RECORDER_HELD") != NULL;
+    semaphores_are_locks = getenv("RECORDER_SEMAPHORES") != NULL;
     all_slow = writes_all || stacks_all;
     if (all_slow)
-        asked_page[ASKED_AT] = '3';
+        asked_page[ASKED_AT] = ASKED_ALWAYS;
     return true;
+}
+
+/* Whether an object that comes before this one records, as where `record` runs a program that is linked to libwitness. */
+static bool is_second(void)
+{
+    const void *first = dlsym(RTLD_DEFAULT, "witness_recorder");
+    return first && first != &own_recorder;
+}
+
+/* Makes all that recording needs, where the environment or the program wants it, and begins. Once in a process. */
+static void awake(void)
+{
+    static _Atomic bool made;
+    if (is_second() || !settings_read() || atomic_exchange(&made, true))
+        return;
+    status_made();
+    if (locks_made() && places_made() && sites_made() && stacks_made() && chains_made() && singles_made()
+        && streams_made()) {
+        alive = table(4096);
+        if (alive) {
+            *alive = 1;
+            madvise((void *)alive, 4096, MADV_WIPEONFORK);
+            judge_begins();
+            atomic_store(&recording, true);
+        }
+    }
 }
 
 void start(void)
@@ -139,15 +179,8 @@ void start(void)
         return;
     self.state = STARTING;
     find_real_functions();
-    status_made();
-    if (settings_read() && locks_made() && places_made() && stacks_made() && chains_made() && streams_made()) {
-        alive = table(4096);
-        if (alive) {
-            *alive = 1;
-            madvise((void *)alive, 4096, MADV_WIPEONFORK);
-            atomic_store(&recording, true);
-        }
-    }
+    awake();
+    atomic_store(&asleep, !atomic_load(&recording));
     self.state = UNREADY;
     errno = before;
 }
@@ -161,7 +194,7 @@ static bool has_left(const struct thread *thread, uintptr_t stack)
     stack_t other;
     if (thread->state == STARTING || thread->is_aside || (sigaltstack(NULL, &other) == 0 && (other.ss_flags & SS_ONSTACK)))
         return false;
-    return stack > thread->state || !call_goes_on(thread->state);
+    return stack >= thread->state || !call_goes_on(thread->state);
 }
 
 /*
@@ -179,8 +212,10 @@ COLD bool thread_opens(struct thread *thread, uintptr_t stack)
     if (!atomic_load(&recording))
         return false;
     if (!thread->held) {
+        static _Atomic uint32_t serials;
         thread->held = thread->few;
         thread->room = HELD_FEW;
+        thread->serial = atomic_fetch_add(&serials, 1) + 1;
     }
     thread->state = OPEN;
     return true;
@@ -245,6 +280,7 @@ void recorder_leaves(void)
     pthread_setcancelstate(cancellation, NULL);
     if (wait)
         pthread_sigmask(SIG_SETMASK, &signals, NULL);
+    judge_looks();
     errno = before;
 }
 
@@ -273,11 +309,14 @@ static void fork_ends_in_child(void)
     *alive = 1;
     life++;
     seats_forked();
+    pairs_forked();
     status_forked();
     streams_forked();
     locks_forked();
     chains_forked();
+    singles_forked();
     threads_forked();
+    judge_forked();
     recorder_leaves();
 }
 
@@ -288,7 +327,7 @@ static void fork_ends_in_child(void)
 void fork_is_watched(void)
 {
     static _Atomic bool watched;
-    if (atomic_load(&recording) && !atomic_exchange(&watched, true))
+    if ((atomic_load(&recording) || judge_is_there()) && !atomic_exchange(&watched, true))
         real.register_atfork(fork_begins, fork_ends_in_parent, fork_ends_in_child, NULL);
 }
 
@@ -296,8 +335,8 @@ void fork_is_watched(void)
 static void say_started(void)
 {
     char path[512];
-    const char *directory = getenv("RECORDER_DIRECTORY");
-    if (snprintf(path, sizeof path, "%s/started", directory) < (int)sizeof path) {
+    const char *directory = secure_getenv("RECORDER_DIRECTORY");
+    if (directory && snprintf(path, sizeof path, "%s/started", directory) < (int)sizeof path) {
         int file = open(path, O_WRONLY | O_CREAT | O_CLOEXEC, 0600);
         if (file >= 0)
             close(file);
@@ -314,11 +353,9 @@ static bool sizes_are_known(void)
         && of_size.dli_fbase == of_free.dli_fbase;
 }
 
-__attribute__((constructor)) static void loaded(void)
+/* What is to be known of the process before it goes on. */
+static void look_round(void)
 {
-    start();
-    if (!atomic_load(&recording))
-        return;
     self.state = STARTING;
     say_started();
     if (recorder_enters()) {
@@ -326,8 +363,34 @@ __attribute__((constructor)) static void loaded(void)
         recorder_leaves();
     }
     watches_free = sizes_are_known();
-    fork_is_watched();
+    errors_begin();
     self.state = UNREADY;
+}
+
+bool recorder_wakes(void)
+{
+    start();
+    if (!atomic_load(&recording) && self.state == UNREADY) {
+        self.state = STARTING;
+        awake();
+        if (atomic_load(&recording)) {
+            look_round();
+            atomic_store(&asleep, false);
+        }
+        self.state = UNREADY;
+    }
+    return atomic_load(&recording);
+}
+
+/* The first call of all may have come before the environment was there: a sanitizer makes it while it is loaded. */
+__attribute__((constructor)) static void loaded(void)
+{
+    start();
+    if (atomic_load(&recording))
+        look_round();
+    else
+        recorder_wakes();
+    fork_is_watched();
 }
 
 __attribute__((destructor)) static void ended(void)
@@ -337,4 +400,5 @@ __attribute__((destructor)) static void ended(void)
     libraries_end();
     streams_end();
     recorder_leaves();
+    judge_ends();
 }

@@ -16,7 +16,7 @@
 #include <sys/stat.h>
 #include <unistd.h>
 
-enum { STATUS_BYTES = 1 << 20, SLOT_BYTES = 256, SLOTS = 3072, DIGITS = 10 };
+enum { SLOT_BYTES = 256, SLOTS = 3072, DIGITS = 10 };
 /*
  * Where a slot has its parts; what isn't written is zeros. Its first bytes are the process's number, by which it is
  * found and taken at once.
@@ -25,10 +25,11 @@ enum { NAME_AT = 8, STARTED_AT = 56, LOADED_AT = 104, COUNTS_AT = 116, NAME_BYTE
 /* The names of objects, and before them their hashes. Last stands what says that slots, or names, were too many. */
 enum { HASHES_AT = SLOTS * SLOT_BYTES, HASHES = 1 << 13, OBJECTS_AT = HASHES_AT + HASHES * 8 };
 enum { FULL_AT = STATUS_BYTES - 32, FULL_OBJECTS_AT = STATUS_BYTES - 16 };
-static const char full[] = "\nfull\n", full_objects[] = "\nobject ?\n";
+static const char full[] = "\n" STATUS_FULL "\n", full_objects[] = "\n" WORD_OBJECT " " STATUS_MORE_OBJECTS "\n";
 
-static const char *const failure_names[FAILURES] = {"open", "room", "limit", "files", "jumped", "forked", "bare"};
-static const char loaded[] = " loaded 1", not_loaded[] = " loaded 0";
+#define NAME_OF(number, name) name,
+static const char *const failure_names[FAILURES] = {EACH_FAILURE(NAME_OF)};
+static const char loaded[] = " " STATUS_LOADED " 1", not_loaded[] = " " STATUS_LOADED " 0";
 static char *status;
 static char *counts[FAILURES]; /* where the process's line has each count; NULL where it has no line */
 
@@ -52,7 +53,7 @@ static bool has_size(int file)
  */
 static char *slot_of(pid_t process)
 {
-    char text[8] = {'P'};
+    char text[1 + STATUS_DIGITS] = {STATUS_PROCESS};
     uint64_t mark, number = (uint64_t)process;
     for (size_t i = sizeof text - 1; i > 0; i--, number /= 10)
         text[i] = "0123456789"[number % 10];
@@ -89,7 +90,7 @@ static void write_name(char *to, const char *word, const char *name)
 static void take_counts(char *slot)
 {
     char text[SLOT_BYTES - COUNTS_AT];
-    int length = snprintf(text, sizeof text, " missed");
+    int length = snprintf(text, sizeof text, " " WORD_MISSED);
     for (int what = 0; what < FAILURES; what++) {
         length += snprintf(text + length, sizeof text - (size_t)length, " %s ", failure_names[what]);
         counts[what] = slot + COUNTS_AT + length;
@@ -107,7 +108,7 @@ static void take_slot(void)
     memset(counts, 0, sizeof counts);
     if (!slot)
         return;
-    write_name(slot + NAME_AT, " name ", program_invocation_short_name);
+    write_name(slot + NAME_AT, " " STATUS_NAME " ", program_invocation_short_name);
     take_counts(slot);
     memcpy(slot + LOADED_AT, loaded, sizeof loaded - 1);
 }
@@ -115,7 +116,7 @@ static void take_slot(void)
 void status_made(void)
 {
     char path[512];
-    const char *directory = getenv("RECORDER_DIRECTORY");
+    const char *directory = secure_getenv("RECORDER_DIRECTORY");
     if (!directory || snprintf(path, sizeof path, "%s/status", directory) >= (int)sizeof path)
         return;
     int file = open(path, O_RDWR | O_CREAT | O_CLOEXEC, 0666);
@@ -151,7 +152,7 @@ void status_starts(const char *program)
     char *slot = slot_of(getpid());
     if (!slot)
         return;
-    write_name(slot + STARTED_AT, " started ", base_of(program));
+    write_name(slot + STARTED_AT, " " STATUS_STARTED " ", base_of(program));
     memcpy(slot + LOADED_AT, not_loaded, sizeof not_loaded - 1);
 }
 
@@ -168,7 +169,7 @@ void status_started(pid_t process, const char *program)
 {
     char *slot = slot_of(process);
     if (slot)
-        write_name(slot + STARTED_AT, " started ", base_of(program));
+        write_name(slot + STARTED_AT, " " STATUS_STARTED " ", base_of(program));
 }
 
 static uint64_t hash_of(const char *text)
@@ -198,7 +199,7 @@ static bool is_new(const char *path)
 /* Notes an object that is loaded, once. Under the mutex. */
 void status_object(const char *path)
 {
-    static const char word[] = "\nobject ";
+    static const char word[] = "\n" WORD_OBJECT " ";
     if (!status || !is_new(path))
         return;
     uint64_t *used = (void *)(status + OBJECTS_AT);

@@ -6,7 +6,7 @@
  * descriptor left; it has no bytes but zeros before the first line, and takes no room on the disk. Room is asked for
  * piece by piece beforehand, so that a full disk ends the stream and not the program.
  */
-#include "recorder.h"
+#include "judge.h"
 
 #include <errno.h>
 #include <fcntl.h>
@@ -46,9 +46,8 @@ static struct stream {
 };
 __attribute__((aligned(4096))) char asked_page[PAGE_BYTES];
 static size_t name_at; /* where the file's name begins in its path */
-static const char *const missed_names[MISSES] = {
-    " seats ", " types ", " locks ", " held ", " log ", " releases ", " again ",
-};
+#define NAME_OF(number, name) " " name " ",
+static const char *const missed_names[MISSES] = {EACH_MISSED(NAME_OF)};
 
 static void put(struct stream *stream, const char *from, size_t length)
 {
@@ -88,7 +87,21 @@ void put_hexadecimal(int stream, uint64_t number)
 void put_name(int stream, const char *name)
 {
     put_text(stream, " ");
-    put_text(stream, *name ? name : "-");
+    put_text(stream, *name ? name : NO_NAME);
+}
+
+void put_word(int stream, const char *word)
+{
+    bool is_dash = strcmp(word, NO_NAME) == 0;
+    put_text(stream, *word ? " " : " " NO_NAME);
+    for (; *word; word++) {
+        unsigned char byte = (unsigned char)*word;
+        char escape[] = {ESCAPE, "0123456789abcdef"[byte >> 4], "0123456789abcdef"[byte & 15]};
+        if (byte > ' ' && byte != ESCAPE && byte != 127 && !is_dash)
+            put(&streams[stream], word, 1);
+        else
+            put(&streams[stream], escape, sizeof escape);
+    }
 }
 
 /* A file that grows over this limit ends the program. */
@@ -192,7 +205,7 @@ void stream_append(int number, bool is_entry)
 {
     struct stream *stream = &streams[number];
     const char *from = stream->line;
-    size_t left = stream->length;
+    size_t left = name_at ? stream->length : 0;
     while (left > 0 && !stream->ended) {
         size_t room = (size_t)(stream->ready - stream->at);
         size_t now = left < room ? left : room;
@@ -205,6 +218,11 @@ void stream_append(int number, bool is_entry)
     }
     stream->length = 0;
     stream->entries += is_entry;
+}
+
+bool streams_have_files(void)
+{
+    return name_at != 0;
 }
 
 uint32_t stream_entries(int stream)
@@ -240,23 +258,28 @@ static void begin(int number)
     extern char *program_invocation_short_name;
     struct stream *stream = &streams[number];
     stream->begun = true;
-    put_text(number, "asked 0 missed");
+    put_text(number, WORD_ASKED " 0 " WORD_VERSION);
+    put_number(number, FORMAT_VERSION);
+    put_text(number, " " WORD_MISSED);
     for (int what = 0; what < MISSES; what++) {
         put_text(number, missed_names[what]);
         stream->counts[what] = stream->at + stream->length;
         put_text(number, "0000000000");
     }
-    put_text(number, "\nprogram ");
+    put_text(number, "\n" WORD_PROGRAM " ");
     put_text(number, program_invocation_short_name);
     put_text(number, "\n");
     stream_append(number, false);
 }
 
-/* Whether the stream takes lines. What it doesn't take is counted outside it. */
+/*
+ * Whether the stream takes lines. What it doesn't take is counted outside it. Without a folder (name_at is 0) no file has
+ * them, and they are judged alone.
+ */
 bool stream_opens(int number)
 {
     struct stream *stream = &streams[number];
-    if (LIKELY(stream->begun && !stream->ended))
+    if (LIKELY(stream->begun && !stream->ended) || name_at == 0)
         return true;
     if (stream->ended) {
         count_failure(stream->cause);
@@ -280,27 +303,29 @@ bool stream_opens(int number)
 bool stream_is_asked(int number)
 {
     const struct stream *stream = &streams[number];
-    return writes[number] && stream->first && *(const volatile char *)&stream->first[ASKED_AT] == '1';
+    return writes[number] && stream->first && *(const volatile char *)&stream->first[ASKED_AT] == ASKED_NOW;
 }
 
 void stream_is_answered(int number)
 {
-    streams[number].first[ASKED_AT] = '0';
+    streams[number].first[ASKED_AT] = ASKED_NOT;
 }
 
 /* Makes the files. Where that fails, it is tried again when there is something to write. */
 static void files_open(void)
 {
     for (int i = 0; i < STREAMS; i++)
-        if (writes[i])
+        if (writes[i] && name_at)
             file_opens(i);
 }
 
 bool streams_made(void)
 {
-    const char *directory = getenv("RECORDER_DIRECTORY");
+    const char *directory = secure_getenv("RECORDER_DIRECTORY");
     name_at = directory ? strlen(directory) : 0;
-    if (name_at == 0 || name_at > PATH_MOST - 64)
+    if (name_at == 0)
+        return judge_is_wanted();
+    if (name_at > PATH_MOST - 64)
         return false;
     for (int i = 0; i < STREAMS; i++)
         memcpy(streams[i].path, directory, name_at + 1);
@@ -313,7 +338,9 @@ void count_missed(int number, enum missed what)
 {
     if (!writes[number] || !stream_opens(number))
         return;
-    count_digits(streams[number].counts[what]);
+    if (name_at)
+        count_digits(streams[number].counts[what]);
+    judge_missed(what);
 }
 
 void count_missed_all(enum missed what)

@@ -6,12 +6,20 @@
  */
 #include "quick.h"
 
+#include <sys/syscall.h>
+#include <unistd.h>
+
+#include "witness.h"
+
+/* In their order: so it is known which thread was joined before another one was made. */
+_Atomic uint32_t threads_made_and_joined;
+
 /* Threads that are made and haven't begun. Where all of these are taken, a thread's maker isn't known. */
 enum { BEGINNINGS = 1024 };
 
 static struct beginning {
     _Atomic bool taken;
-    uint32_t place;
+    uint32_t place, maker, at;
     union {
         void *(*posix)(void *);
         thrd_start_t c11;
@@ -19,19 +27,35 @@ static struct beginning {
     void *argument;
 } beginnings[BEGINNINGS];
 
+/* The place that the next thread of this one's is made at, where it was told (witness.h). */
+static __thread unsigned makes_at __attribute__((tls_model("initial-exec")));
+
+EXPORT void witness_recorder_makes_at(unsigned place)
+{
+    makes_at = place;
+}
+
+/* The thread begins: what its maker has left for it. */
+static struct beginning begun(struct beginning *given)
+{
+    struct beginning beginning = *given;
+    atomic_store(&given->taken, false);
+    self.made = beginning.place;
+    self.maker = beginning.maker;
+    self.made_at = beginning.at;
+    errors_of_thread();
+    return beginning;
+}
+
 static void *begin_posix(void *given)
 {
-    struct beginning beginning = *(struct beginning *)given;
-    self.made = beginning.place;
-    atomic_store(&((struct beginning *)given)->taken, false);
+    struct beginning beginning = begun(given);
     return beginning.routine.posix(beginning.argument);
 }
 
 static int begin_c11(void *given)
 {
-    struct beginning beginning = *(struct beginning *)given;
-    self.made = beginning.place;
-    atomic_store(&((struct beginning *)given)->taken, false);
+    struct beginning beginning = begun(given);
     return beginning.routine.c11(beginning.argument);
 }
 
@@ -46,9 +70,12 @@ static struct beginning *taken_by(struct caller caller, void *argument)
             && !atomic_exchange(&beginnings[i].taken, true))
             found = &beginnings[i];
     if (found) {
-        found->place = place_of(caller);
+        found->place = place_of(site_or(makes_at, caller));
+        found->maker = (uint32_t)syscall(SYS_gettid);
+        found->at = atomic_fetch_add(&threads_made_and_joined, 1);
         found->argument = argument;
     }
+    makes_at = 0;
     goes_outside(&self);
     return found;
 }
@@ -77,6 +104,24 @@ EXPORT int thrd_create(thrd_t *thread, thrd_start_t routine, void *argument)
     int answer = real.c11_create(thread, begin_c11, beginning);
     if (answer != thrd_success)
         atomic_store(&beginning->taken, false);
+    return answer;
+}
+
+EXPORT int pthread_join(pthread_t thread, void **answered)
+{
+    start();
+    int answer = real.join(thread, answered);
+    if (answer == 0)
+        order_of_joined(thread);
+    return answer;
+}
+
+EXPORT int thrd_join(thrd_t thread, int *answered)
+{
+    start();
+    int answer = real.c11_join(thread, answered);
+    if (answer == thrd_success)
+        order_of_joined(thread);
     return answer;
 }
 

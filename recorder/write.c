@@ -11,9 +11,9 @@
  * thread doesn't hold, a lock in a mode other than the one it is held in.
  *
  * The one duty of the condensed stream. A request of a thread that holds locks is written, after all that the thread
- * holds; or a request for a lock of that type was written before, after a chain of the same types. (A chain is what a
- * thread holds, oldest first.) All else may be left out: what a thread asks for that holds nothing, what it acquires
- * again, and what it holds when it asks for nothing.
+ * holds; or a request for a lock of that type was written before, after a chain of the same types; or each of its pairs
+ * was told before. (A chain is what a thread holds, oldest first.) All else may be left out: what a thread asks for that
+ * holds nothing, what it acquires again, and what it holds when it asks for nothing.
  *
  * Why that is enough. A trace tells of a pair of types where a thread asks for a lock of the one type while it holds one
  * of the other. Whether a trace is clean depends on the set of its pairs alone (law_pairs_decide of
@@ -28,6 +28,8 @@
  *     asked for behind that chain before.
  *   - A wait for a condition releases its mutex and asks for it again. That may never come to its end, so the request is
  *     written when the wait begins, and as given up: the thread waits for the condition first.
+ *   - Where the tree of chains has no room left, it isn't known what was asked for behind a chain. Then a request is left out
+ *     that tells of no new pair, and whose order with the type taken last was asked for directly (pairs.c). So it passes.
  *   - A trace has a limit of locks. A chain with a lock that has no number there is written without it, once. It counts
  *     as written only where that lock's type has no number either, since no trace can tell of that type.
  *
@@ -36,6 +38,8 @@
  * lack later reports. The first report is the same but for one place: that of a recursive mutex, which is acquired again.
  */
 #include "quick.h"
+
+#include "judge.h"
 
 #include <string.h>
 #include <sys/prctl.h>
@@ -59,7 +63,7 @@ void write_thread(int stream, const struct thread *thread)
         if (*at <= ' ' || *at > '~' || *at == '&' || *at == '\\')
             *at = '_';
     uint32_t made = place_number(stream, thread->made);
-    put_text(stream, "thread");
+    put_text(stream, WORD_THREAD);
     put_number(stream, thread->seat[stream]);
     put_name(stream, name);
     put_number(stream, made);
@@ -130,17 +134,19 @@ static void write_check(
     uint32_t site = place_number(stream, place);
     if (stack)
         stack_stands(stream, stack);
-    write_call(stream, "check", thread, lock);
+    write_call(stream, WORD_CHECK, thread, lock);
     put_mode(stream, mode);
     put_text(stream, " n");
     put_site(stream, site, stack);
     end_call(stream);
+    judge_asked(stream, thread, lock, mode, place);
 }
 
 static void write_lock(int stream, const struct thread *thread, uint32_t lock)
 {
-    write_call(stream, "lock", thread, lock);
+    write_call(stream, WORD_LOCK, thread, lock);
     end_call(stream);
+    judge_got(stream, thread, lock);
 }
 
 static void write_try(int stream, const struct thread *thread, const struct held *held)
@@ -148,10 +154,11 @@ static void write_try(int stream, const struct thread *thread, const struct held
     uint32_t site = place_number(stream, held->place), stack = held->stack;
     if (stack)
         stack_stands(stream, stack);
-    write_call(stream, "try", thread, held->number[stream]);
+    write_call(stream, WORD_TRY, thread, held->number[stream]);
     put_mode(stream, held->mode);
     put_site(stream, site, stack);
     end_call(stream);
+    judge_tried(stream, thread, held->number[stream], held->mode, held->place);
 }
 
 /*
@@ -227,6 +234,10 @@ static bool write_behind_chain(int stream, struct request *request)
 static void write_condensed(struct request *request)
 {
     struct thread *thread = request->thread;
+    if (request->node == NODE_UNKNOWN && !request->patient && pairs_are_written(thread, request->lock->type)) {
+        request->patient = true;
+        return;
+    }
     if (!stream_has_room(CONDENSED) || !seat_taken(CONDENSED, thread))
         return;
     bool whole = is_whole(CONDENSED, thread);
@@ -237,6 +248,7 @@ static void write_condensed(struct request *request)
     }
     if (!write_behind_chain(CONDENSED, request))
         return;
+    pairs_written(thread, request->lock->type);
     node_set_requested(request->node, whole);
     /* It may have got its name since it was given the seat. */
     if (request->patient)
@@ -251,7 +263,7 @@ COLD void write_request(struct request *request)
         return;
     bool nested = thread->count != 0;
     request->node = node_made(request->parent, request->lock->type->number);
-    if (writes[CONDENSED]) {
+    if (writes[CONDENSED] && !(request->pending & bit(CONDENSED))) {
         if (nested && (request->patient || !node_is_requested(request->node)))
             write_condensed(request);
         else
@@ -262,7 +274,11 @@ COLD void write_request(struct request *request)
         if (!writes[CONDENSED])
             node_set_requested(request->node, true);
     }
+    /* It waits for a second by a call with a time limit, so that it can be looked at once more. */
+    if (judge_sees_circle(request))
+        request->patient = true;
     recorder_leaves();
+    judge_tells(request->caller);
 }
 
 /* Before the real call, where the thread holds the lock already: the full stream alone has it. */
@@ -327,8 +343,9 @@ static void give_up(struct thread *thread)
         if (number == 0)
             continue;
         thread->asked[stream] = 0;
-        write_call(stream, "giveup", thread, number);
+        write_call(stream, WORD_GIVEUP, thread, number);
         end_call(stream);
+        judge_gave_up(stream, thread, number);
         stands_no_more(stream, thread, number);
     }
 }
@@ -363,9 +380,10 @@ COLD void write_unlock(struct thread *thread, struct held *held, bool whole)
             continue;
         uint32_t lines = stream == FULL ? (whole ? held->count : 1) : whole;
         for (; lines > 0; lines--) {
-            write_call(stream, "unlock", thread, held->number[stream]);
+            write_call(stream, WORD_UNLOCK, thread, held->number[stream]);
             put_mode(stream, held->mode);
             end_call(stream);
+            judge_released(stream, thread, held->number[stream], held->mode);
         }
         if (whole)
             stands_no_more(stream, thread, held->number[stream]);
@@ -386,7 +404,7 @@ COLD void write_waits_for_itself(struct request *request)
         write_chain(stream, thread);
         if (request->again->written & bit(stream)) {
             uint32_t site = place_number(stream, request->place);
-            write_call(stream, "again", thread, request->again->number[stream]);
+            write_call(stream, WORD_AGAIN, thread, request->again->number[stream]);
             put_number(stream, site);
             put_text(stream, "\n");
             stream_append(stream, false);
@@ -394,6 +412,7 @@ COLD void write_waits_for_itself(struct request *request)
         seat_given_back(stream, thread);
     }
     recorder_leaves();
+    judge_tells(request->caller);
 }
 
 /* `foreign SEAT LOCK PLACE`: the thread releases what it doesn't hold. One line for each place; all are counted. */
@@ -410,7 +429,7 @@ COLD void write_released_by_another(struct thread *thread, struct lock *lock, ui
         if (number != 0) {
             uint32_t site = place_number(stream, place);
             *known = 1;
-            write_call(stream, "foreign", thread, number);
+            write_call(stream, WORD_FOREIGN, thread, number);
             put_number(stream, site);
             put_text(stream, "\n");
             stream_append(stream, false);
@@ -420,6 +439,90 @@ COLD void write_released_by_another(struct thread *thread, struct lock *lock, ui
     recorder_leaves();
 }
 
+/* A lock as an order has it (singles.c). */
+static void put_lock(int stream, struct thread *thread, struct lock *lock, uint8_t mode, const char *how)
+{
+    put_number(stream, lock_number_for_order(stream, thread, lock));
+    put_number(stream, lock->serial);
+    put_mode(stream, mode);
+    put_text(stream, how);
+}
+
+void write_order(struct request *request, bool many)
+{
+    struct thread *thread = request->thread;
+    uint32_t first = thread->count < ORDER_LONGEST ? 0 : thread->count - ORDER_LONGEST + 1;
+    for (int stream = 0; stream < STREAMS; stream++) {
+        if (!stream_has_room(stream) || !seat_taken(stream, thread))
+            continue;
+        for (uint32_t i = first; i < thread->count; i++)
+            lock_number_for_order(stream, thread, thread->held[i].lock);
+        lock_number_for_order(stream, thread, request->lock);
+        put_text(stream, many ? WORD_MANY : WORD_ORDER);
+        put_number(stream, thread->seat[stream]);
+        if (!many) {
+            put_number(stream, (uint64_t)syscall(SYS_gettid));
+            put_number(stream, atomic_load(&threads_made_and_joined));
+        }
+        for (uint32_t i = first; i < thread->count; i++)
+            put_lock(stream, thread, thread->held[i].lock, thread->held[i].mode, thread->held[i].tried ? "t" : "");
+        put_lock(stream, thread, request->lock, request->mode, request->timed ? "l\n" : "\n");
+        stream_append(stream, false);
+        seat_given_back(stream, thread);
+    }
+}
+
+void write_life(struct thread *thread)
+{
+    for (int stream = 0; stream < STREAMS; stream++) {
+        if (!stream_has_room(stream))
+            continue;
+        put_text(stream, WORD_LIFE);
+        put_number(stream, (uint64_t)syscall(SYS_gettid));
+        put_number(stream, thread->maker);
+        put_number(stream, thread->made_at);
+        put_text(stream, "\n");
+        stream_append(stream, false);
+    }
+}
+
+void write_joined(uint32_t joined, uint32_t at)
+{
+    for (int stream = 0; stream < STREAMS; stream++) {
+        if (!stream_has_room(stream))
+            continue;
+        put_text(stream, WORD_JOINED);
+        put_number(stream, joined);
+        put_number(stream, (uint64_t)syscall(SYS_gettid));
+        put_number(stream, at);
+        put_text(stream, "\n");
+        stream_append(stream, false);
+    }
+}
+
+/* `error WORD SEAT LOCK PLACE`: the words are those of errors, in their order. */
+void write_error(struct thread *thread, enum lock_error error, struct lock *lock, uint32_t place)
+{
+    static const char *const words[] = {
+#define WORD(error, word) [error] = WORD_ERROR " " word,
+        EACH_ERROR(WORD)
+#undef WORD
+    };
+    for (int stream = 0; stream < STREAMS; stream++) {
+        if (!stream_has_room(stream) || !seat_taken(stream, thread))
+            continue;
+        uint32_t number = lock_number(stream, thread, lock);
+        if (number != 0) {
+            uint32_t site = place_number(stream, place);
+            write_call(stream, words[error], thread, number);
+            put_number(stream, site);
+            put_text(stream, "\n");
+            stream_append(stream, false);
+        }
+        seat_given_back(stream, thread);
+    }
+}
+
 /* `object NUMBER PATH`; then `called NUMBER NAME` where it is told by another name. */
 static void write_object(int stream, uint32_t object)
 {
@@ -427,14 +530,14 @@ static void write_object(int stream, uint32_t object)
     if (!written || *written)
         return;
     *written = 1;
-    put_text(stream, "object");
+    put_text(stream, WORD_OBJECT);
     put_number(stream, object);
     put_name(stream, object_path(object));
     put_text(stream, "\n");
     stream_append(stream, false);
     if (!object_called(object))
         return;
-    put_text(stream, "called");
+    put_text(stream, WORD_CALLED);
     put_number(stream, object);
     put_name(stream, object_called(object));
     put_text(stream, "\n");
@@ -449,7 +552,7 @@ static void write_blind(int stream, uint32_t object)
     if (!written || *written)
         return;
     *written = 1;
-    put_text(stream, "blind");
+    put_text(stream, WORD_BLIND);
     put_number(stream, object);
     put_text(stream, "\n");
     stream_append(stream, false);
@@ -461,10 +564,23 @@ static void write_either(int stream, uint32_t place)
     const struct place *written = place_at(place);
     place_number(stream, written->library);
     place_number(stream, written->rest);
-    put_text(stream, "either");
+    put_text(stream, WORD_EITHER);
     put_number(stream, place);
     put_number(stream, written->library);
     put_number(stream, written->rest);
+    put_text(stream, "\n");
+    stream_append(stream, false);
+}
+
+/* `site NUMBER FILE LINE FUNCTION`: a place by name. */
+static void write_site(int stream, uint32_t place)
+{
+    const struct place *written = place_at(place);
+    put_text(stream, WORD_SITE);
+    put_number(stream, place);
+    put_word(stream, written->file);
+    put_number(stream, written->offset);
+    put_word(stream, written->name);
     put_text(stream, "\n");
     stream_append(stream, false);
 }
@@ -477,9 +593,13 @@ void write_place(int stream, uint32_t place)
         write_either(stream, place);
         return;
     }
+    if (written->file) {
+        write_site(stream, place);
+        return;
+    }
     write_object(stream, written->object);
     write_blind(stream, written->object);
-    put_text(stream, "place");
+    put_text(stream, WORD_PLACE);
     put_number(stream, place);
     put_number(stream, written->object);
     put_hexadecimal(stream, (written->object ? written->offset : written->pc) - 1);
@@ -505,16 +625,21 @@ static void put_variable(int stream, uint32_t object, uintptr_t address)
     put_name(stream, object_symbol_file(object, address));
 }
 
-/* `type NUMBER variable` and the variable of its first lock, or `type NUMBER made`; then the places that name it. */
+/*
+ * `type NUMBER variable` and the variable of its first lock, `type NUMBER named NAME`, or `type NUMBER made`; then the
+ * places that it comes from.
+ */
 void write_type(int stream, struct type *type)
 {
     uint32_t object = type->object;
     write_object(stream, object);
     for (uint32_t i = 0; i < DEPTH_MOST; i++)
         place_number(stream, type->places[i]);
-    put_text(stream, "type");
+    put_text(stream, WORD_TYPE);
     put_number(stream, *mark(&type->marks, stream));
-    put_text(stream, object ? " variable" : " made");
+    put_text(stream, type->label ? " " WORD_NAMED : object ? " " WORD_VARIABLE : " " WORD_MADE);
+    if (type->label)
+        put_word(stream, type->label);
     if (object)
         put_variable(stream, object, type->address);
     for (uint32_t i = 0; i < DEPTH_MOST && type->places[i]; i++)
@@ -529,7 +654,7 @@ void write_init(int stream, struct thread *thread, struct lock *lock)
     struct type *type = lock->type;
     uintptr_t address = atomic_load(&lock->address);
     uint32_t object = type->object;
-    put_text(stream, "init");
+    put_text(stream, WORD_INIT);
     put_number(stream, thread->seat[stream]);
     put_text(stream, type->class == RWLOCK ? " rw " : " mtx ");
     put_text(stream, lock->recursive ? "r" : "-");
@@ -538,4 +663,5 @@ void write_init(int stream, struct thread *thread, struct lock *lock)
     if (object)
         put_variable(stream, object, address);
     end_call(stream);
+    judge_made(stream, thread, lock);
 }

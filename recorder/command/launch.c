@@ -1,15 +1,12 @@
 /*
- * launch PRELOAD COUNT WORD.. PROGRAM ARGS..: runs the program with PRELOAD before its objects (none where the word is
- * empty), passes on the signals that it is sent itself, and when the program has ended becomes the command of COUNT
- * words, to which it adds how: `exit STATUS`, `signal NUMBER`, or `unstarted STATUS`; the program's process number; and
- * 1 where processes that the program has begun go on, else 0.
- *
  * What the program leaves running becomes a child of this process, so that it is known. For what ends soon it waits a
  * moment; a server isn't waited for.
  *
- * A shell can't do this: what it runs in the background doesn't get the signals of the terminal, and while it runs
- * something in the foreground it takes none itself.
+ * Signals are blocked and waited for: the program gets those that are sent to `record`, and `record` outlives them, to
+ * tell of the program. Those that came before the program began end `record`.
  */
+#include "launch.h"
+
 #include <errno.h>
 #include <fcntl.h>
 #include <signal.h>
@@ -21,16 +18,18 @@
 #include <time.h>
 #include <unistd.h>
 
+#include "interrupts.h"
+#include "memory.h"
+#include "tool.h"
+#include "usage.h"
+
 /* How many milliseconds what the program has left running is waited for. */
 enum { MOMENT = 1000 };
 
-static const int passed_on[] = {SIGTERM, SIGHUP, SIGINT, SIGQUIT, SIGUSR1, SIGUSR2};
+/* How many nanoseconds lie between two looks at what the program does. */
+enum { LOOK = 20000000 };
 
-static void fail(const char *what)
-{
-    fprintf(stderr, "record: %s: %s\n", what, strerror(errno));
-    exit(126);
-}
+static const int passed_on[] = {SIGTERM, SIGHUP, SIGINT, SIGQUIT, SIGUSR1, SIGUSR2};
 
 /*
  * Those that are ignored, too: the program is born with them ignored, and may have a handler for them later. A signal that
@@ -46,14 +45,11 @@ static sigset_t awaited(void)
     return set;
 }
 
-static void become_program(const char *preload, char **words, int told)
+static _Noreturn void become_program(const char *preload, char **words, int told)
 {
     const char *before = getenv("LD_PRELOAD");
-    char *both = malloc(strlen(preload) + (before ? strlen(before) : 0) + 2);
-    if (*preload && both) {
-        sprintf(both, "%s%s%s", preload, before && *before ? ":" : "", before ? before : "");
-        setenv("LD_PRELOAD", both, 1);
-    }
+    if (preload)
+        setenv("LD_PRELOAD", before && *before ? say_text("%s:%s", preload, before) : preload, 1);
     execvp(words[0], words);
     int status = errno == ENOENT ? 127 : 126;
     fprintf(stderr, "record: %s: %s\n", words[0], strerror(errno));
@@ -63,7 +59,7 @@ static void become_program(const char *preload, char **words, int told)
 }
 
 /* Whether the program was never there: then it has told so by a byte before it ended. */
-static int is_unstarted(int told)
+static bool is_unstarted(int told)
 {
     char byte;
     ssize_t got = read(told, &byte, 1);
@@ -72,29 +68,34 @@ static int is_unstarted(int told)
 }
 
 /* Collects all that has ended. Whether the program is among it. */
-static int has_ended(pid_t program, int *status)
+static bool has_ended(pid_t program, int *status)
 {
     pid_t child;
-    int each, found = 0;
+    int each;
+    bool found = false;
     while ((child = waitpid(-1, &each, WNOHANG)) > 0) {
+        tool_was_reaped(child);
         if (child == program) {
             *status = each;
-            found = 1;
+            found = true;
         }
     }
     return found;
 }
 
 /* A signal of the terminal goes to all processes there, the program among them: it isn't passed on once more. */
-static int wait_for(pid_t program, const sigset_t *set)
+static int wait_for(pid_t program, const sigset_t *set, struct run *run, bool follows)
 {
+    const struct timespec look = {0, LOOK};
     for (;;) {
         siginfo_t info;
-        int status = 0, number = sigwaitinfo(set, &info);
+        int status = 0, number = follows ? sigtimedwait(set, &info, &look) : sigwaitinfo(set, &info);
         if (number == SIGCHLD && has_ended(program, &status))
             return status;
         if (number > 0 && number != SIGCHLD && info.si_code <= 0)
             kill(program, number);
+        if (follows)
+            show_goes_on(run, program);
     }
 }
 
@@ -106,7 +107,7 @@ static long milliseconds(void)
 }
 
 /* Waits a moment for what the program has left running, or until a signal comes. Whether something goes on. */
-static int goes_on(const sigset_t *set)
+static bool goes_on(const sigset_t *set)
 {
     long end = milliseconds() + MOMENT;
     for (;;) {
@@ -114,65 +115,61 @@ static int goes_on(const sigset_t *set)
         while ((child = waitpid(-1, NULL, WNOHANG)) > 0)
             ;
         if (child < 0)
-            return 0;
+            return false;
         long left = end - milliseconds();
         struct timespec time = {left / 1000, left % 1000 * 1000000};
         int number = left > 0 ? sigtimedwait(set, NULL, &time) : 0;
         if (left <= 0 || (number > 0 && number != SIGCHLD))
-            return 1;
+            return true;
     }
 }
 
-/* Becomes the command of that many words, with what there is to say of the program's end. */
-static void become_command(char **words, int count, const char *how, pid_t program, int status, const char *left)
+static struct ending ending_of(pid_t program, int status, int told)
 {
-    char number[16], process[16];
-    char **next = calloc((size_t)count + 5, sizeof *next);
-    if (!next)
-        fail("calloc");
-    snprintf(process, sizeof process, "%d", (int)program);
-    snprintf(number, sizeof number, "%d", WIFSIGNALED(status) ? WTERMSIG(status) : WEXITSTATUS(status));
-    memcpy(next, words, (size_t)count * sizeof *next);
-    next[count] = (char *)how;
-    next[count + 1] = number;
-    next[count + 2] = process;
-    next[count + 3] = (char *)left;
-    execv(next[0], next);
-    fail(next[0]);
+    struct ending ending = {.process = program};
+    ending.how = is_unstarted(told) ? HOW_UNSTARTED : WIFSIGNALED(status) ? HOW_SIGNAL : HOW_EXIT;
+    ending.number = WIFSIGNALED(status) ? WTERMSIG(status) : WEXITSTATUS(status);
+    return ending;
 }
 
-int main(int count, char **words)
+/* Begins the program with the signals as they were before `record`; it tells by the pipe where it can't. */
+static pid_t begin(const char *preload, char **words, int *told, const sigset_t *before)
 {
-    int told[2], show = count > 2 ? atoi(words[2]) : 0;
-    sigset_t before, set = awaited();
     struct sigaction children = {.sa_handler = SIG_DFL}, children_before;
-    if (show < 1 || count < show + 4) {
-        fputs("record: launch is no command of its own\n", stderr);
-        return 2;
-    }
+    int ends[2];
     sigaction(SIGCHLD, &children, &children_before);
-    sigprocmask(SIG_BLOCK, &set, &before);
-    prctl(PR_SET_CHILD_SUBREAPER, 1);
-    if (pipe(told) != 0)
-        fail("pipe");
-    fcntl(told[0], F_SETFD, FD_CLOEXEC);
-    fcntl(told[1], F_SETFD, FD_CLOEXEC);
+    if (pipe2(ends, O_CLOEXEC) != 0)
+        fail("pipe: %s", strerror(errno));
     pid_t program = fork();
     if (program < 0)
-        fail("fork");
+        fail("fork: %s", strerror(errno));
     if (program == 0) {
         sigaction(SIGCHLD, &children_before, NULL);
-        sigprocmask(SIG_SETMASK, &before, NULL);
-        become_program(words[1], words + show + 3, told[1]);
+        interrupts_restore();
+        sigprocmask(SIG_SETMASK, before, NULL);
+        become_program(preload, words, ends[1]);
     }
-    close(told[1]);
-    int status = wait_for(program, &set);
-    const char *how = is_unstarted(told[0]) ? "unstarted" : WIFSIGNALED(status) ? "signal" : "exit";
-    const char *left = goes_on(&set) ? "1" : "0";
+    close(ends[1]);
+    *told = ends[0];
+    return program;
+}
+
+struct ending launch(const char *preload, char **words, struct run *run, bool follows)
+{
+    int told;
+    sigset_t before, set = awaited();
+    sigprocmask(SIG_BLOCK, &set, &before);
+    interrupts_leave();
+    prctl(PR_SET_CHILD_SUBREAPER, 1);
+    pid_t program = begin(preload, words, &told, &before);
+    int status = wait_for(program, &set, run, follows);
+    struct ending ending = ending_of(program, status, told);
+    show_rests(run);
+    ending.left = goes_on(&set);
     prctl(PR_SET_CHILD_SUBREAPER, 0);
     /* What `timeout` sends to all of them may come late: the program's end is told all the same. */
     signal(SIGTERM, SIG_IGN);
     signal(SIGHUP, SIG_IGN);
     sigprocmask(SIG_SETMASK, &before, NULL);
-    become_command(words + 3, show, how, program, status, left);
+    return ending;
 }

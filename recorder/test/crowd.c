@@ -1,10 +1,10 @@
 /* Three hundred threads that hold locks at once, and eleven hundred types behind one another. */
 #include <pthread.h>
 #include <stdlib.h>
+#include "test/many.h"
 
 enum { THREADS = 300, LOCKS = 1100 };
 static pthread_mutex_t first = PTHREAD_MUTEX_INITIALIZER;
-static pthread_mutex_t many[LOCKS];
 static pthread_mutex_t own[THREADS][2];
 static pthread_barrier_t meeting;
 
@@ -36,13 +36,13 @@ int main(void)
         pthread_join(threads[i], NULL);
     for (int i = 0; i < LOCKS; i++) {
         pthread_mutex_lock(&first);
-        pthread_mutex_lock(&many[i]);
-        pthread_mutex_unlock(&many[i]);
+        pthread_mutex_lock(many[i]);
+        pthread_mutex_unlock(many[i]);
         pthread_mutex_unlock(&first);
     }
-    pthread_mutex_lock(&many[0]);
+    pthread_mutex_lock(many[0]);
     pthread_mutex_lock(&first);
     pthread_mutex_unlock(&first);
-    pthread_mutex_unlock(&many[0]);
+    pthread_mutex_unlock(many[0]);
     return 0;
 }

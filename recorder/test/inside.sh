@@ -50,7 +50,7 @@ if wanted orphans; then
         "$record" $stream -o kept -- ./orphans 2>/dev/null
         bad=0
         for trace in kept kept.1; do
-            awk -f "$here/judge.awk" $trace && "$WITNESS" locks <$trace >left && ! grep -q '^seat\|^ ' left || bad=1
+            python3 "$here/judge.py" $trace && "$WITNESS" locks <$trace >left && ! grep -q '^seat\|^ ' left || bad=1
         done
         [ "$bad" -eq 0 ]
         tell orphans "nothing is left held in either trace $stream" $?
@@ -88,12 +88,13 @@ if wanted writers; then
         for name in reader writer other; do
             number=$(sed -n "s/^$name //p" recorded.out)
             echo "s/, thread $number\\>/, thread $(echo $name | tr a-z A-Z)/"
+            echo "/^single/s/\\<$number\\>/$(echo $name | tr a-z A-Z)/"
         done >numbers
         sed -f numbers recorded.err | diff "$here/writers.want" -
         tell writers "the functions and threads of a report's places $stream" $?
     done
     "$record" --frames 1 -- ./writers >recorded.out 2>recorded.err
-    sed '/^callers:/,/^  collect/d' "$here/writers.want" | diff - recorded.err
+    sed '/^callers:/,/^  collect/d; /^single/d' "$here/writers.want" | diff - recorded.err
     tell writers "none with one frame" $?
 fi
 
@@ -110,10 +111,11 @@ flags=
 if wanted jump; then
     "$record" -- true 2>/dev/null
     compile jump
-    for way in 0 1 2; do
+    for way in 0 1 2 3; do
         for stream in "" --full; do
             timeout -s KILL 20 "$record" $stream -- ./jump $way 2>recorded.err
-            sed 's/process [0-9]*/process N/' recorded.err | diff "$here/jump.want" -
+            # The third way has the order in another line.
+            sed 's/process [0-9]*/process N/; s/ @ jump.c:54$/ @ jump.c:23/' recorded.err | diff "$here/jump.want" -
             tell jump "a call that is left, way $way $stream" $?
         done
     done
@@ -167,7 +169,7 @@ int main(void)
     signal(SIGINT, handle);
     puts("ready");
     fflush(stdout);
-    for (int i = 0; i < 100 && !came; i++)
+    for (int i = 0; i < 300 && !came; i++)
         usleep(100000);
     puts(came ? "it came" : "nothing came");
 }
@@ -176,7 +178,7 @@ END
     "$record" -- true 2>/dev/null
     : >ignored.out
     "$record" -- ./handles >ignored.out 2>/dev/null &
-    for look in 1 2 3 4 5 6 7 8 9 10 11 12 13 14 15 16 17 18 19 20; do
+    for look in 1 2 3 4 5 6 7 8 9 10 11 12 13 14 15 16 17 18 19 20 21 22 23 24 25 26 27 28 29 30 31 32 33 34 35 36 37 38 39 40; do
         ! grep -q ready ignored.out || break
         sleep 0.2
     done
@@ -184,10 +186,10 @@ END
     wait $!
     grep -qx 'it came' ignored.out
     tell ignored "INT that was ignored at the start is passed on" $?
-    "$record" -- sh -c 'echo ready; sleep 2; echo went on' >ignored.out 2>/dev/null &
-    for look in 1 2 3 4 5 6 7 8 9 10 11 12 13 14 15 16 17 18 19 20; do
+    "$record" -- sh -c 'echo ready; sleep 4; echo went on' >ignored.out 2>/dev/null &
+    for look in 1 2 3 4 5 6 7 8 9 10 11 12 13 14 15 16 17 18 19 20 21 22 23 24 25 26 27 28 29 30 31 32 33 34 35 36 37 38 39 40; do
         ! grep -q ready ignored.out || break
-        sleep 0.1
+        sleep 0.3
     done
     kill -INT $!
     wait $!
@@ -232,9 +234,4 @@ if wanted small; then
     "$record" --frames 8 -- ./small $((size + 512)) 2>recorded.err
     grep -q '^  handle (small.c:18)$' recorded.err && grep -q '^  main (small.c:32)$' recorded.err
     tell small "its callers" $?
-fi
-
-if wanted names; then
-    awk -f "$recorder/resolve.awk" -f "$here/names.awk" </dev/null | diff - "$here/names.want"
-    tell names "functions as their sources name them, and files of libraries" $?
 fi

@@ -1,7 +1,8 @@
 /*
- * A thread leaves a call that waits for a lock, and goes on: by a jump out of a handler of signals (0, and 1 where it
- * goes on from deeper in its stack), or by a cancellation at any time (2), in whose cleanup it goes on. It still holds
- * what it held; what it does then is recorded as before. The main thread takes the lock that was waited for.
+ * A thread leaves a call that waits for a lock, and goes on: by a jump out of a handler of signals (0, 1 where it goes on
+ * from deeper in its stack, 3 where that is in the function that made the call), or by a cancellation at any time (2), in
+ * whose cleanup it goes on. It still holds what it held; what it does then is recorded as before. The main thread takes
+ * the lock that was waited for.
  */
 #include <pthread.h>
 #include <setjmp.h>
@@ -33,8 +34,10 @@ static void go_on(void *argument)
 {
     char room[way == 1 ? 100000 : 16];
     room[way] = 1;
-    pthread_mutex_unlock(argument);
-    nested(&journal, &accounts);
+    if (way != 3) {
+        pthread_mutex_unlock(argument);
+        nested(&journal, &accounts);
+    }
     nested(&accounts, &journal);
 }
 
@@ -43,8 +46,15 @@ static void *wait_for_it(void *argument)
     pthread_setcanceltype(PTHREAD_CANCEL_ASYNCHRONOUS, NULL);
     pthread_mutex_lock(argument);
     pthread_cleanup_push(go_on, argument);
-    if (sigsetjmp(behind, 1) == 0)
+    if (sigsetjmp(behind, 1) == 0) {
         pthread_mutex_lock(&busy);
+    } else if (way == 3) {
+        pthread_mutex_unlock(argument);
+        pthread_mutex_lock(&journal);
+        pthread_mutex_lock(&accounts);
+        pthread_mutex_unlock(&accounts);
+        pthread_mutex_unlock(&journal);
+    }
     pthread_cleanup_pop(1);
     return NULL;
 }

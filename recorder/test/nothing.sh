@@ -168,7 +168,7 @@ fi
 not_seen() {
     what=$1
     shift
-    recorded_by "$record" -- "$@"
+    recorded_by "$record" --errors no -- "$@"
     last_is "record: nothing in what was recorded; not seen: $what (see record(1))"
     tell unseen "$what ($*)" $?
 }
@@ -233,30 +233,6 @@ END
     else
         echo "left out  unseen: there is no javac"
     fi
-    cat >hang.c <<'END'
-#include <omp.h>
-static omp_lock_t one, other;
-static void both(omp_lock_t *first, omp_lock_t *second)
-{
-    omp_set_lock(first);
-    omp_set_lock(second);
-    omp_unset_lock(second);
-    omp_unset_lock(first);
-}
-int main(void)
-{
-    omp_init_lock(&one);
-    omp_init_lock(&other);
-    both(&one, &other);
-    both(&other, &one);
-    return 0;
-}
-END
-    if "${CC:-cc}" -fopenmp -o hang hang.c 2>/dev/null; then
-        not_seen "locks of OpenMP" ./hang
-    else
-        echo "left out  unseen: there is no OpenMP"
-    fi
     cat >hang.cc <<'END'
 #include <semaphore>
 #include <thread>
@@ -286,9 +262,9 @@ END
     compile opens -Wl,-rpath,"$work/standing"
     mkdir -p standing
     for line in "locks of Ruby:libruby-3.1.so.3.1:" "locks of folly:libfolly.so.0.58.0:" "QMutex:libQt6Core.so.6:" \
-        "GMutex:libglib-2.0.so.0:" "absl::Mutex:libabsl_synchronization.so.20220623:" "locks of Java:libjvm.so:" \
+        "locks of GAsyncQueue:libsix.so:g_async_queue_lock" "absl::Mutex:libabsl_synchronization.so.20220623:" "locks of Java:libjvm.so:" \
         "locks of Go:libone.so:Go buildinf:" "absl::Mutex:libtwo.so:AbslInternalPerThreadSemWait_lts_20220623" \
-        "QMutex:libthree.so:_ZN6QMutex4lockEv" "locks of folly:libfour.so:_ZN5folly6detail13futexWaitImplEv" \
+        "critical sections of clang's OpenMP:libseven.so:__kmpc_critical" "QMutex:libthree.so:_ZN6QMutex4lockEv" "locks of folly:libfour.so:_ZN5folly6detail13futexWaitImplEv" \
         "locks of Rust's std:libfive.so:/rustc/f00/library/std/src/sync/poison.rs"; do
         what=${line%%:lib*}
         file=${line#"$what:"}

@@ -10,8 +10,8 @@ tells_all() {
     any=
     for full in records/*.full; do
         [ -n "$(head -c 1 "$full" | tr -d '\000')" ] || continue
-        "$recorder/resolve" "$full" 2>/dev/null | awk -f "$here/pairs.awk" | sort -u >full.pairs
-        "$recorder/resolve" "${full%.full}" 2>/dev/null | awk -f "$here/pairs.awk" | sort -u >condensed.pairs
+        "$record" --trace "$full" 2>/dev/null | python3 "$here/pairs.py" | sort -u >full.pairs
+        "$record" --trace "${full%.full}" 2>/dev/null | python3 "$here/pairs.py" | sort -u >condensed.pairs
         [ ! -s full.pairs ] || any=yes
         diff condensed.pairs full.pairs || return 1
     done
@@ -49,5 +49,33 @@ if wanted tells; then
     object=$work/omitting/out/recorder.so
     [ $planted -eq 0 ] && tells_all ./pairs 4 2 1000 >/dev/null && ! tells_all ./random 1 clean >/dev/null
     tell tells "a recorder that leaves a request out is caught" $?
+    object=$recorder/out/recorder.so
+fi
+
+# A tree of chains that is full at once: the same pairs are told, a clean run has the same orders and a mixed one the same
+# first report, and what is asked for again adds nothing.
+if wanted full_tree; then
+    copy_recorder small
+    sed 's/^#define NODES (1u << 18)$/#define NODES (1u << 5)/' "$recorder/recorder.h" >small/recorder.h
+    ! cmp -s "$recorder/recorder.h" small/recorder.h && small/record -- true 2>/dev/null
+    tell full_tree "a small tree is built" $?
+    object=$work/small/out/recorder.so
+    compile random -O1
+    missing=
+    for seed in 1 2 3 4 5 6 7 8 9 10 11 12; do
+        for kind in clean mixed; do
+            rm -f condensed.first full.first
+            tells_all ./random $seed $kind && record_both ./random $seed $kind && { both_agree || [ $kind = mixed ]; } >differ &&
+                cmp condensed.first full.first || missing="$missing $kind $seed"
+        done
+    done
+    [ -z "$missing" ]
+    tell full_tree "random runs${missing:+: not$missing}" $?
+    compile triples
+    for rounds in 1 5; do
+        record_both ./triples $rounds && both_agree && grep -c '' condensed.trace
+    done >lines
+    [ "$(wc -l <lines)" -eq 2 ] && [ "$(sort -u lines | wc -l)" -eq 1 ] || { cat lines; false; }
+    tell full_tree "what is asked for again adds nothing" $?
     object=$recorder/out/recorder.so
 fi

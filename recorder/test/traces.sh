@@ -105,3 +105,26 @@ if wanted judge; then
     tell judge "it is kept, and can be shown" $?
     [ -z "$place" ] || rm -rf "$(dirname "$place")"
 fi
+
+# A recorder's file of another version is told, and not read as one of this.
+if wanted version; then
+    stand_in
+    compile reversal
+    : >misjudges
+    WITNESS="$work/knows" recorded_by "$record" --judge -- ./reversal
+    place=$(sed -n 's/^record: the recording is kept: //p' recorded.err)
+    file=$(ls "$place"/[0-9]*.0)
+    for first in 's/ version [0-9]* / version 0 /' 's/ version [0-9]* / /'; do
+        sed -i "1$first" "$file" && recorded_by "$record" --show "$file"
+        said 2 "^record: $file is of a recorder of another version, whose files this one can't read$" &&
+            [ "$(wc -l <recorded.err)" -eq 1 ]
+        tell version "a recorder's file of another version ($first)" $?
+    done
+    [ -z "$place" ] || rm -rf "$(dirname "$place")"
+    recorded_by "$record" --quiet --error-exitcode 9 -- \
+        sh -c './reversal; sed -i "1s/ version [0-9]* / version 0 /" "$RECORDER_DIRECTORY"/[0-9]*.0'
+    said 9 '^record: process [0-9]*: nothing is known of it: .* is of a recorder of another version$' &&
+        ! grep -q '^lock order reversal' recorded.err
+    tell version "one of a run" $?
+    drop_kept
+fi

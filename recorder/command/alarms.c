@@ -1,0 +1,349 @@
+#include "alarms.h"
+
+#include <stdio.h>
+#include <string.h>
+
+#include "memory.h"
+
+/* A circle of types: a lock of the last one is held where one of the first is asked for. It is looked for among locks. */
+enum { TYPES_MOST = 16, STEPS_MOST = 200000 };
+
+struct search {
+    const struct single *single;
+    const struct lock_name *lock;
+    size_t locks;
+    const char *type[TYPES_MOST]; /* that was asked for, and those of the established order from there on */
+    size_t types;
+    const struct single_order *order[TYPES_MOST]; /* the orders so far, that of the report first */
+    uint32_t serial[TYPES_MOST];                  /* the locks: serial[k] is of type[k] */
+    struct alarm best;
+    unsigned long steps;
+};
+
+static const char *type_of(const struct search *search, const struct single_lock *lock)
+{
+    return lock->number > 0 && lock->number <= search->locks ? search->lock[lock->number - 1].type : NULL;
+}
+
+static bool is_of(const struct search *search, const struct single_lock *lock, const char *type)
+{
+    const char *own = type_of(search, lock);
+    return own && strcmp(own, type) == 0;
+}
+
+static const struct single_lock *asked(const struct single_order *order)
+{
+    return &order->lock[order->locks - 1];
+}
+
+/* The lock among those that the order's thread held. */
+static const struct single_lock *held(const struct single_order *order, uint32_t serial)
+{
+    for (size_t i = 0; i + 1 < order->locks; i++)
+        if (order->lock[i].serial == serial)
+            return &order->lock[i];
+    return NULL;
+}
+
+static bool is_in_circle(const struct search *search, uint32_t serial)
+{
+    for (size_t i = 0; i < search->types; i++)
+        if (search->serial[i] == serial)
+            return true;
+    return false;
+}
+
+/* A lock besides those of the circle that both orders' threads held, one of them not as a reader. */
+static const char *gate_of(const struct search *search, const struct single_order *one, const struct single_order *other)
+{
+    for (size_t i = 0; i + 1 < one->locks; i++) {
+        const struct single_lock *lock = &one->lock[i], *same = held(other, lock->serial);
+        if (same && !(lock->shared && same->shared) && !is_in_circle(search, lock->serial))
+            return lock->number > 0 && lock->number <= search->locks ? search->lock[lock->number - 1].name : "?";
+    }
+    return NULL;
+}
+
+static bool is_alike(const struct single_order *one, const struct single_order *other)
+{
+    if (one->locks != other->locks)
+        return false;
+    for (size_t i = 0; i < one->locks; i++)
+        if (one->lock[i].serial != other->lock[i].serial || one->lock[i].shared != other->lock[i].shared
+            || one->lock[i].timed != other->lock[i].timed)
+            return false;
+    return true;
+}
+
+/* Of an order that two threads have made it isn't known who else has. */
+static bool is_by_one_thread(const struct search *search, const struct single_order *order)
+{
+    for (size_t i = 0; i < search->single->orders; i++)
+        if (search->single->order[i].thread != order->thread && is_alike(&search->single->order[i], order))
+            return false;
+    return true;
+}
+
+static bool are_apart(const struct search *search, const struct single_order *one, const struct single_order *other)
+{
+    return (single_is_before(search->single, one, other) || single_is_before(search->single, other, one))
+        && is_by_one_thread(search, one) && is_by_one_thread(search, other);
+}
+
+/* What keeps two of the circle's orders from meeting. */
+static void look_at_pair(const struct search *search, struct alarm *alarm, const struct single_order *one,
+    const struct single_order *other)
+{
+    const char *gate = gate_of(search, one, other);
+    if (gate)
+        alarm->gate = gate;
+    if (one->thread != other->thread)
+        alarm->grade = GRADE_THREADS;
+    alarm->apart |= are_apart(search, one, other);
+}
+
+/* The circle is closed: order k asks for serial[k], which the next one holds. */
+static struct alarm alarm_of_circle(const struct search *search)
+{
+    struct alarm alarm = {.grade = GRADE_ONE_THREAD, .orders = search->types};
+    for (size_t k = 0; k < search->types; k++) {
+        const struct single_order *order = search->order[k];
+        const struct single_lock *waits = asked(order), *holds = held(search->order[(k + 1) % search->types], waits->serial);
+        alarm.order[k] = order;
+        alarm.timed |= waits->timed;
+        alarm.readers |= waits->shared && holds && holds->shared;
+        for (size_t other = 0; other < k; other++)
+            look_at_pair(search, &alarm, search->order[other], order);
+    }
+    return alarm;
+}
+
+static int mildness(const struct alarm *alarm)
+{
+    return 4 * (alarm->grade != GRADE_THREADS) + (alarm->gate != NULL) + alarm->readers + alarm->timed + alarm->apart;
+}
+
+/* What isn't known may be the worst of what it stands for. */
+int alarm_mildness(const struct alarm *alarm)
+{
+    static const int steps[] = {
+        [GRADE_THREADS] = 0, [GRADE_UNKNOWN] = 1, [GRADE_NONE] = 2, [GRADE_ONE_THREAD] = 3, [GRADE_TYPES] = 4};
+    return 8 * steps[alarm->grade] + (alarm->gate != NULL) + alarm->readers + alarm->timed + alarm->apart;
+}
+
+static void keep_if_worse(struct search *search)
+{
+    struct alarm alarm = alarm_of_circle(search);
+    if (search->best.grade < GRADE_ONE_THREAD || mildness(&alarm) < mildness(&search->best))
+        search->best = alarm;
+}
+
+/*
+ * The orders from k on: order k is made by a thread that holds serial[k - 1] and asks for a lock of type[k]. The last one
+ * has to ask for the lock that the first order's thread held.
+ */
+static void go_on(struct search *search, size_t k)
+{
+    for (size_t i = 0; i < search->single->orders && ++search->steps < STEPS_MOST; i++) {
+        const struct single_order *order = &search->single->order[i];
+        const struct single_lock *next = asked(order);
+        if (!is_of(search, next, search->type[k]) || !held(order, search->serial[k - 1]))
+            continue;
+        if (k + 1 == search->types ? next->serial != search->serial[k] : is_in_circle(search, next->serial))
+            continue;
+        search->order[k] = order;
+        if (k + 1 == search->types) {
+            keep_if_worse(search);
+        } else {
+            search->serial[k] = next->serial;
+            go_on(search, k + 1);
+            search->serial[k] = 0;
+        }
+    }
+}
+
+/* The report's own order: its thread holds a lock of the last type and asks for one of the first. */
+static void begin(struct search *search)
+{
+    size_t last = search->types - 1;
+    for (size_t i = 0; i < search->single->orders; i++) {
+        const struct single_order *order = &search->single->order[i];
+        if (!is_of(search, asked(order), search->type[0]))
+            continue;
+        for (size_t held_at = 0; held_at + 1 < order->locks; held_at++) {
+            const struct single_lock *lock = &order->lock[held_at];
+            if (!is_of(search, lock, search->type[last]) || lock->serial == asked(order)->serial)
+                continue;
+            memset(search->serial, 0, sizeof search->serial);
+            search->order[0] = order;
+            search->serial[0] = asked(order)->serial;
+            search->serial[last] = lock->serial;
+            go_on(search, 1);
+        }
+    }
+}
+
+/* Whether a lock of the order has no number in the trace, so that its type isn't known. */
+static bool is_unknown(const struct single_order *order)
+{
+    for (size_t i = 0; i < order->locks; i++)
+        if (order->lock[i].number == 0)
+            return true;
+    return false;
+}
+
+/* Whether there may be orders of such locks that aren't kept. */
+static bool has_many(const struct search *search)
+{
+    for (size_t i = 0; i < search->single->orders; i++)
+        if (is_unknown(&search->single->order[i]))
+            return true;
+    for (size_t i = 0; i < search->single->manys; i++) {
+        const struct single_order *many = &search->single->many[i];
+        if (is_unknown(many))
+            return true;
+        for (size_t k = 0; k < search->types; k++) {
+            if (!is_of(search, asked(many), search->type[k]))
+                continue;
+            for (size_t at = 0; at + 1 < many->locks; at++)
+                if (is_of(search, &many->lock[at], search->type[(k + search->types - 1) % search->types]))
+                    return true;
+        }
+    }
+    return false;
+}
+
+/* The types of the report's circle. False where it has none, or one that is too long. */
+static bool read_types(struct search *search, const struct report *report)
+{
+    if (!report->first || !report->last)
+        return false;
+    search->type[search->types++] = report->line[report->last].type;
+    if (report->kind == REPORT_DUPLICATE)
+        search->type[search->types++] = report->line[report->first].type;
+    for (size_t i = report->last + 1; i < report->lines && search->types < TYPES_MOST; i++)
+        if (report->line[i].kind == LINE_STEP)
+            search->type[search->types++] = report->line[i].other;
+    return search->types > 1 && search->types < TYPES_MOST;
+}
+
+struct alarm alarm_of(const struct report *report, const struct notes *notes)
+{
+    struct search search = {.single = &notes->single, .lock = notes->lock, .locks = notes->locks};
+    if ((report->kind != REPORT_REVERSAL && report->kind != REPORT_DUPLICATE) || notes->single.orders == 0
+        || !read_types(&search, report))
+        return search.best;
+    begin(&search);
+    if (search.best.grade == GRADE_NONE)
+        search.best.grade = search.steps >= STEPS_MOST || has_many(&search) ? GRADE_UNKNOWN : GRADE_TYPES;
+    return search.best;
+}
+
+/* The threads of the orders, each once. */
+static void write_threads(FILE *to, const struct alarm *alarm)
+{
+    long thread[TYPES_MOST];
+    size_t count = 0;
+    for (size_t i = alarm->orders; i-- > 0;) {
+        size_t at = 0;
+        while (at < count && thread[at] != alarm->order[i]->thread)
+            at++;
+        if (at == count)
+            thread[count++] = alarm->order[i]->thread;
+    }
+    for (size_t i = 0; i < count; i++)
+        fprintf(to, "%s%ld", i == 0 ? " " : i + 1 < count ? ", " : " and ", thread[i]);
+}
+
+/* What keeps the orders that are closest to a deadlock from it. */
+static void write_mildness(FILE *to, const struct alarm *alarm)
+{
+    if (alarm->gate)
+        fprintf(to, "; gate: each time \"%s\" was held", alarm->gate);
+    if (alarm->readers)
+        fputs("; readers: one waits for readers as a reader", to);
+    if (alarm->timed)
+        fputs("; timed: one was asked for with a time limit", to);
+    if (alarm->apart)
+        fputs("; apart: one thread was joined before the other did so", to);
+}
+
+static void write_alarm(FILE *to, const struct alarm *alarm)
+{
+    const char *orders = alarm->orders > 2 ? "all orders of the circle" : "both orders";
+    switch (alarm->grade) {
+    case GRADE_NONE: return;
+    case GRADE_UNKNOWN:
+        fputs("single locks: not known, there were more orders of such locks than are kept", to);
+        return;
+    case GRADE_TYPES: fputs("single locks: one order only for any two locks: types alone", to); return;
+    case GRADE_ONE_THREAD:
+        fprintf(to, "single locks: %s, the same locks, thread %ld alone", orders, alarm->order[0]->thread);
+        break;
+    case GRADE_THREADS:
+        fprintf(to, "single locks: %s, the same locks, threads", orders);
+        write_threads(to, alarm);
+        break;
+    }
+    write_mildness(to, alarm);
+}
+
+char *alarm_text(const struct alarm *alarm)
+{
+    char *text = NULL;
+    size_t length = 0;
+    FILE *to = open_memstream(&text, &length);
+    if (!to)
+        return copy("");
+    write_alarm(to, alarm);
+    fclose(to);
+    return text;
+}
+
+static bool is_word(const char *at, size_t length, const char *word)
+{
+    return length == strlen(word) && memcmp(at, word, length) == 0;
+}
+
+static bool take_word(const char *at, size_t length, struct alarms_wanted *wanted)
+{
+    if (is_word(at, length, "all"))
+        wanted->least = wanted->least_of_duplicates = GRADE_NONE;
+    else if (is_word(at, length, "locks"))
+        wanted->least = wanted->least_of_duplicates = GRADE_ONE_THREAD;
+    else if (is_word(at, length, "threads"))
+        wanted->least = wanted->least_of_duplicates = GRADE_THREADS;
+    else if (is_word(at, length, "gate"))
+        wanted->not_gated = true;
+    else if (is_word(at, length, "readers"))
+        wanted->not_readers = true;
+    else if (is_word(at, length, "timed"))
+        wanted->not_timed = true;
+    else if (is_word(at, length, "apart"))
+        wanted->not_apart = true;
+    else
+        return false;
+    return true;
+}
+
+bool alarms_words(const char *words, struct alarms_wanted *wanted)
+{
+    for (;;) {
+        size_t length = strcspn(words, ",");
+        if (!take_word(words, length, wanted))
+            return false;
+        if (!words[length])
+            return true;
+        words += length + 1;
+    }
+}
+
+/* What isn't known counts. */
+bool alarm_counts(const struct alarms_wanted *wanted, const struct report *report, const struct alarm *alarm)
+{
+    enum grade least = report->kind == REPORT_DUPLICATE ? wanted->least_of_duplicates : wanted->least;
+    if (alarm->grade <= GRADE_UNKNOWN)
+        return true;
+    return alarm->grade >= least && !(wanted->not_gated && alarm->gate) && !(wanted->not_readers && alarm->readers)
+        && !(wanted->not_timed && alarm->timed) && !(wanted->not_apart && alarm->apart);
+}

@@ -1,0 +1,49 @@
+/*
+ * How much a report is to be feared: the verifier speaks of types, and here it is looked at whether single locks of these
+ * types were taken both ways, by which threads, and whether something kept them apart.
+ */
+#ifndef RECORD_ALARMS_H
+#define RECORD_ALARMS_H
+
+#include <stdbool.h>
+#include <stddef.h>
+
+#include "notes.h"
+#include "report.h"
+
+struct alarm {
+    enum grade {
+        GRADE_NONE,       /* the file tells of no single locks, or it is no report of an order */
+        GRADE_UNKNOWN,    /* there were more orders of such locks than are kept */
+        GRADE_TYPES,      /* no single locks were taken both ways */
+        GRADE_ONE_THREAD, /* single locks were, by one thread alone */
+        GRADE_THREADS,    /* single locks were, by several threads */
+    } grade;
+    /* What the orders that are closest to a deadlock have in common, and what keeps it away. */
+    const struct single_order *order[16];
+    size_t orders;
+    const char *gate; /* a lock that two of them held besides; NULL where there is none */
+    bool readers;     /* one waits for readers alone, as a reader */
+    bool timed;       /* one was asked for with a time limit */
+    bool apart;       /* one thread was joined before another was made */
+};
+
+struct alarm alarm_of(const struct report *report, const struct notes *notes);
+
+/* The less, the more it is to be feared. */
+int alarm_mildness(const struct alarm *alarm);
+
+/* What is said of it below the report, without a newline; an empty text where there is nothing. */
+char *alarm_text(const struct alarm *alarm);
+
+/* What counts for the status: the words of --alarms. */
+struct alarms_wanted {
+    enum grade least, least_of_duplicates; /* GRADE_NONE: every report counts */
+    bool not_gated, not_readers, not_timed, not_apart;
+};
+
+/* False where one of the words, which are parted by commas, isn't known. */
+bool alarms_words(const char *words, struct alarms_wanted *wanted);
+bool alarm_counts(const struct alarms_wanted *wanted, const struct report *report, const struct alarm *alarm);
+
+#endif

@@ -1,0 +1,150 @@
+#include "circle.h"
+
+#include <stdlib.h>
+#include <string.h>
+
+#include "holdings.h"
+#include "memory.h"
+#include "replay.h"
+#include "thread_label.h"
+#include "verdict.h"
+
+/* What is told of circles: the trace at its end. */
+struct scene {
+    struct process *process;
+    struct trace trace;
+    struct holdings holdings;
+};
+
+static bool waits_for_itself(const struct notes *notes)
+{
+    for (size_t i = 0; i < notes->events; i++)
+        if (notes->event[i].kind == EVENT_AGAIN)
+            return true;
+    return false;
+}
+
+/* The thread that has the seat when so many events have come; NULL where none has had it. */
+static const struct event *thread_of(const struct notes *notes, unsigned seat, size_t events)
+{
+    for (size_t i = events; i > 0; i--)
+        if (notes->event[i - 1].kind == EVENT_THREAD && notes->event[i - 1].seat == seat)
+            return &notes->event[i - 1];
+    return NULL;
+}
+
+/* A line of the last report, of a seat and a lock. The heading is let go. */
+static struct report_line *add_line(
+    struct scene *scene, enum line_kind kind, unsigned seat, struct piece lock, char *heading, struct piece place)
+{
+    char *at = copy_bytes(place.at ? place.at : "", (size_t)place.length);
+    struct report_line *line = reports_add_line(&scene->process->reports, kind, heading, at);
+    line->seat = seat;
+    line->name = copy_bytes(lock.at, (size_t)lock.length);
+    free(at);
+    free(heading);
+    return line;
+}
+
+static bool is_first(const struct seat *seat, size_t number)
+{
+    for (size_t i = 0; i < number; i++)
+        if (seat->held[i].lock == seat->held[number].lock)
+            return false;
+    return true;
+}
+
+/* What the seat holds, a line for each lock. */
+static void add_held(struct scene *scene, unsigned seat, const struct event *thread)
+{
+    const struct seat *held = &scene->holdings.seat[seat];
+    char *name = thread_name(thread);
+    for (size_t i = 0; i < held->count; i++) {
+        if (!is_first(held, i))
+            continue;
+        struct piece lock = trace_lock(&scene->trace, held->held[i].lock)->name;
+        char *heading = say_text(" seat %u%s holds \"%.*s\"", seat, name, lock.length, lock.at);
+        add_line(scene, LINE_HOLDS, seat, lock, heading, held->held[i].place);
+    }
+    free(name);
+}
+
+/* ` seat N waits for "NAME" held by seat N`, as the verifier tells it. */
+static void add_wait(struct scene *scene, const char *told)
+{
+    const struct notes *notes = &scene->process->notes;
+    const char *open = strchr(told, '"'), *close = strrchr(told, '"'), *last = strrchr(told, ' ');
+    unsigned seat = 0, next = last ? (unsigned)strtoul(last + 1, NULL, 10) : 0;
+    int length = 0;
+    if (sscanf(told, " seat %u%n", &seat, &length) != 1 || seat > SEATS_MOST || !open || open == close)
+        return;
+    const struct event *thread = thread_of(notes, seat, notes->events);
+    char *label = thread_label(thread), *name = thread_name(thread_of(notes, next, notes->events));
+    char *heading = say_text(" seat %u%s%s%s", seat, label, told + length, name);
+    struct piece lock = {open + 1, (int)(close - open - 1)};
+    add_line(scene, LINE_WAITS, seat, lock, heading, scene->holdings.seat[seat].asked_at)->next = next;
+    add_held(scene, seat, thread);
+    free(label);
+    free(name);
+}
+
+/* A circle of threads that wait for one another, where the verifier finds one. */
+static void add_circle(struct scene *scene)
+{
+    static const char head[] = "circle:";
+    struct process *process = scene->process;
+    char *told = NULL, *rest;
+    size_t length = 0;
+    FILE *to = open_memstream(&told, &length);
+    if (!to)
+        return;
+    verdict_on(process->run->settings.witness, "circle", process->trace, to);
+    fclose(to);
+    char *line = strtok_r(told, "\n", &rest);
+    if (line && strcmp(line, head) == 0) {
+        reports_add(&process->reports, REPORT_CIRCLE, head);
+        while ((line = strtok_r(NULL, "\n", &rest)) != NULL)
+            add_wait(scene, line);
+    }
+    free(told);
+}
+
+/* A seat that waited for a lock that it held, by the note of that number. */
+static void add_again(struct scene *scene, size_t number)
+{
+    const struct notes *notes = &scene->process->notes;
+    const struct event *again = &notes->event[number];
+    const struct event *thread = thread_of(notes, again->seat, number);
+    const char *site = again->site ? again->site : "?:0";
+    struct piece lock = trace_lock(&scene->trace, again->lock)->name;
+    if (again->seat > SEATS_MOST)
+        return;
+    char *label = thread_label(thread);
+    reports_add(&scene->process->reports, REPORT_SELF, "a thread waited for a lock that it held itself:");
+    char *heading = say_text(" seat %u%s waited for \"%.*s\"", again->seat, label, lock.length, lock.at);
+    add_line(scene, LINE_WAITS, again->seat, lock, heading, (struct piece){site, (int)strlen(site)});
+    add_held(scene, again->seat, thread);
+    free(label);
+}
+
+void add_circles(struct process *process)
+{
+    const struct notes *notes = &process->notes;
+    struct trace_line line;
+    if (!notes->pending && !waits_for_itself(notes))
+        return;
+    struct scene *scene = take(sizeof *scene);
+    scene->process = process;
+    if (trace_is_there(process, "a circle can't be shown") && trace_open(&scene->trace, process->trace)) {
+        while (trace_next(&scene->trace, &line))
+            holdings_read(&scene->holdings, &line);
+        if (notes->pending)
+            add_circle(scene);
+        for (size_t i = 0; i < notes->events; i++)
+            if (notes->event[i].kind == EVENT_AGAIN)
+                add_again(scene, i);
+        trace_close(&scene->trace);
+    }
+    holdings_end(&scene->holdings);
+    free(scene);
+}

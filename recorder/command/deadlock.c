@@ -1,0 +1,128 @@
+#include "deadlock.h"
+
+#include <signal.h>
+#include <stdio.h>
+#include <stdlib.h>
+#include <string.h>
+#include <unistd.h>
+
+#include "circle.h"
+#include "follow.h"
+#include "memory.h"
+#include "report_text.h"
+
+enum { SECOND = 1000000, STATUS_MOST = 255 };
+
+bool deadlock_is_due(const struct deadlock *deadlock, long long now)
+{
+    return deadlock->circle && !deadlock->is_told && now - deadlock->since >= SECOND;
+}
+
+void deadlock_end(struct deadlock *deadlock)
+{
+    free(deadlock->circle);
+    *deadlock = (struct deadlock){0};
+}
+
+/* The circles of the process as they are told, a text of one's own; NULL where there is none. */
+static char *circles_of(struct process *process)
+{
+    char *text = NULL;
+    size_t length = 0;
+    FILE *to = open_memstream(&text, &length);
+    process->trace = say_text("%s/trace.now", process->run->work);
+    add_circles(process);
+    unlink(process->trace);
+    for (size_t i = 0; to && i < process->reports.count; i++)
+        if (process->reports.report[i].kind == REPORT_CIRCLE)
+            report_write(to, &process->reports.report[i], process->run->settings.frames > 1, false);
+    if (to)
+        fclose(to);
+    if (length > 0)
+        return text;
+    free(text);
+    return NULL;
+}
+
+/* Whether a thread of a circle may wait for the lock with a time limit. */
+static bool waits_for_a_time(const struct process *process, const struct report_line *line)
+{
+    const struct notes *notes = &process->notes;
+    for (size_t i = 0; i < notes->single.orders; i++) {
+        const struct single_order *order = &notes->single.order[i];
+        const struct single_lock *lock = &order->lock[order->locks - 1];
+        if (lock->timed && (lock->number == 0 || lock->number > notes->locks
+                || strcmp(notes->lock[lock->number - 1].name, line->name) == 0))
+            return true;
+    }
+    return false;
+}
+
+/* Such a circle ends by itself. */
+static bool may_end(const struct process *process)
+{
+    for (size_t i = 0; i < process->reports.count; i++) {
+        const struct report *report = &process->reports.report[i];
+        for (size_t at = 0; report->kind == REPORT_CIRCLE && at < report->lines; at++)
+            if (report->line[at].kind == LINE_WAITS && waits_for_a_time(process, &report->line[at]))
+                return true;
+    }
+    return false;
+}
+
+static void act(struct process *process)
+{
+    struct run *run = process->run;
+    const char *word = run->settings.on_deadlock;
+    int status = 0;
+    if (!word || !deadlock_word(word, &status) || strcmp(word, "tell") == 0 || may_end(process))
+        return;
+    say(&run->output, "%s (process %ld) is ended: its threads wait for one another", process->name,
+        process->recording->process);
+    if (status)
+        run->deadlock_status = status;
+    kill((pid_t)process->recording->process, SIGKILL);
+}
+
+static void tell_circle(struct process *process, const char *text)
+{
+    struct run *run = process->run;
+    run_has_word(run, process->recording->process);
+    tell_report(&run->output, text, strlen(text));
+    for (size_t i = 0; i < process->reports.count; i++)
+        if (process->reports.report[i].kind == REPORT_CIRCLE)
+            follow_keeps(run, process->recording->name, report_lines(&process->reports.report[i]), copy(""));
+    act(process);
+}
+
+void deadlock_look(struct process *process, struct deadlock *deadlock, long long now)
+{
+    char *circle = process->resolved && process->notes.pending > 0 ? circles_of(process) : NULL;
+    if (!circle) {
+        deadlock_end(deadlock);
+        return;
+    }
+    if (!deadlock->circle || strcmp(deadlock->circle, circle) != 0) {
+        deadlock_end(deadlock);
+        *deadlock = (struct deadlock){circle, now, false};
+        return;
+    }
+    if (deadlock_is_due(deadlock, now)) {
+        deadlock->is_told = true;
+        tell_circle(process, circle);
+    }
+    free(circle);
+}
+
+bool deadlock_word(const char *word, int *status)
+{
+    char *end;
+    *status = 0;
+    if (strcmp(word, "tell") == 0 || strcmp(word, "kill") == 0)
+        return true;
+    if (strncmp(word, "exit=", 5) != 0 || word[5] < '1' || word[5] > '9')
+        return false;
+    long number = strtol(word + 5, &end, 10);
+    *status = (int)number;
+    return *end == '\0' && number <= STATUS_MOST;
+}

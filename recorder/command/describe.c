@@ -1,0 +1,195 @@
+#include "describe.h"
+
+#include <ctype.h>
+#include <stdio.h>
+#include <stdlib.h>
+#include <string.h>
+
+#include "memory.h"
+
+const struct kind kinds[KINDS] = {
+    [REPORT_REVERSAL] = {
+        "reversal", "lock-order-reversal", "Lock order reversal", "Locks of two types are taken in both orders.",
+        "A thread asks for a lock while it holds another one, and the opposite order of their types is established. If "
+        "both orders can run in two threads at once, each may come to wait for the other for good. Take the locks in "
+        "the established order, or release the held one before the other is asked for.",
+    },
+    [REPORT_DUPLICATE] = {
+        "duplicate", "duplicate-lock-type", "Two locks of one type",
+        "A thread takes two locks of one type, and nothing says in which order.",
+        "A thread asks for a lock while it holds another one of the same type. A second thread may take the two the "
+        "other way round, and no order of types would show that. Take them in an order of their own, by their "
+        "addresses say, or have them made in two places, which gives them two types.",
+    },
+    [REPORT_CIRCLE] = {
+        "circle", "deadlock", "Threads that wait for one another", "Threads wait for one another's locks in a circle.",
+        "Each thread of the circle waits for a lock that the next one holds. Let one of them take its locks in the "
+        "order of the others, or release what it holds before it asks for more.",
+    },
+    [REPORT_SELF] = {
+        "self", "self-deadlock", "A thread that waits for itself", "A thread waits for a lock that it holds itself.",
+        "A thread asks for a lock that it has, and that can't be taken twice. Release the lock before the call, or "
+        "part the function into one that locks and one that expects the lock to be held.",
+    },
+    [REPORT_ERROR] = {
+        "error", "lock-error", "An error in the use of a lock", "A lock is used as it may not be.",
+        "A thread ends with a lock that it holds, a lock is destroyed, freed or made anew while it is held, or a "
+        "condition is waited for without its mutex. Nobody may ever get such a lock again, or what it guards isn't "
+        "guarded.",
+    },
+    [REPORT_OTHER] = {
+        "other", "recording", "The recording", "Something is said of the recording itself.",
+        "The verifier could not go on with the recording: what came after isn't known.",
+    },
+};
+
+int is_request(const struct report *report, const struct report_line *line)
+{
+    return line->kind == LINE_LOCK && line == &report->line[report->last];
+}
+
+/* The type of the report's lock with that number of a line; empty where there is none. */
+static const char *type_at(const struct report *report, size_t number)
+{
+    const char *type = number > 0 && number < report->lines ? report->line[number].type : NULL;
+    return type ? type : "";
+}
+
+static size_t count_lines(const struct report *report, enum line_kind kind)
+{
+    size_t count = 0;
+    for (size_t i = 0; i < report->lines; i++)
+        count += report->line[i].kind == kind;
+    return count;
+}
+
+/* The name of the first lock that a line of that kind has. */
+static const char *named(const struct report *report, enum line_kind kind)
+{
+    for (size_t i = 0; i < report->lines; i++)
+        if (report->line[i].kind == kind && report->line[i].name)
+            return report->line[i].name;
+    return "a lock";
+}
+
+char *describe(const struct report *report)
+{
+    switch (report->kind) {
+    case REPORT_REVERSAL:
+        return say_text("\"%s\" is held, \"%s\" is asked for", type_at(report, report->first),
+                        type_at(report, report->last));
+    case REPORT_DUPLICATE:
+        return say_text("One \"%s\" is held, another is asked for", type_at(report, report->last));
+    case REPORT_CIRCLE:
+        return say_text("%zu threads wait for one another", count_lines(report, LINE_WAITS));
+    case REPORT_SELF:
+        return say_text("A thread waits for \"%s\", which it holds", named(report, LINE_WAITS));
+    case REPORT_ERROR:
+        return say_text("%c%s \"%s\"", toupper((unsigned char)*report->line[0].text), report->line[0].text + 1,
+                        named(report, LINE_HOLDS));
+    default:
+        return copy(report->lines > 0 && *report->line[0].text ? report->line[0].text : kinds[report->kind].name);
+    }
+}
+
+static char *advice_on_reversal(const char *first, const char *last, size_t number)
+{
+    if (number == 0)
+        return copy("Ask first whether these places can run in two threads at once: if they can, each thread may come "
+                    "to wait for the other for good.");
+    if (number == 1)
+        return say_text("Then change one of them: take \"%s\" before \"%s\" here too, or release \"%s\" before \"%s\" "
+                        "is asked for.",
+                        last, first, first, last);
+    return copy("If they never run at once, or a third lock is always held around both, put the line below into the "
+                "file of --ignore.");
+}
+
+static char *advice_on_duplicate(const char *type, size_t number)
+{
+    if (number == 0)
+        return say_text("Ask first in which order another thread may take two locks of \"%s\": the other way round is a "
+                        "deadlock, and no order of types shows it.",
+                        type);
+    if (number == 1)
+        return copy("If nothing rules that, take them in an order of their own, by their addresses say, or make them in "
+                    "two places, which gives them two types.");
+    return copy("If there is such a rule, put the line below into the file of --ignore.");
+}
+
+static char *advice_on_circle(size_t number)
+{
+    if (number == 0)
+        return copy("Unless one of them waits for a limited time, none goes on: this is a deadlock that has happened, "
+                    "not one that may.");
+    if (number == 1)
+        return copy(
+            "Let one of them take its locks in the order of the others, or release what it holds before it asks "
+            "for the next.");
+    return copy("Begin with the reports that name the same locks: they say where each order comes from.");
+}
+
+static char *advice_on_self(const char *lock, size_t number)
+{
+    if (number == 0)
+        return say_text("The thread holds \"%s\" and asks for it again: unless its wait is limited, it never ends.",
+                        lock);
+    if (number == 1)
+        return copy(
+            "Release it before the call, or part the function into one that locks and one that expects the lock "
+            "to be held.");
+    return copy("If the second acquisition is meant, make the mutex a recursive one.");
+}
+
+static char *advice_on_error(const char *lock, size_t number)
+{
+    if (number == 0)
+        return say_text("Nobody may ever get \"%s\" again, or what it guards isn't guarded.", lock);
+    if (number == 1)
+        return copy("Release a lock before its thread ends, and before it is destroyed, freed or made anew; hold the "
+                    "mutex of a condition where that is waited for.");
+    return copy("If it is meant, --errors no tells nothing of such.");
+}
+
+char *advice(const struct report *report, size_t number)
+{
+    switch (report->kind) {
+    case REPORT_REVERSAL:
+        return advice_on_reversal(type_at(report, report->first), type_at(report, report->last), number);
+    case REPORT_DUPLICATE:
+        return advice_on_duplicate(type_at(report, report->last), number);
+    case REPORT_CIRCLE:
+        return advice_on_circle(number);
+    case REPORT_SELF:
+        return advice_on_self(named(report, LINE_WAITS), number);
+    case REPORT_ERROR:
+        return advice_on_error(named(report, LINE_HOLDS), number);
+    default:
+        return NULL;
+    }
+}
+
+static size_t add_type(const char **type, size_t count, size_t room, const char *name)
+{
+    for (size_t i = 0; i < count; i++)
+        if (strcmp(type[i], name) == 0)
+            return count;
+    if (count < room && name && *name)
+        type[count++] = name;
+    return count;
+}
+
+size_t report_types(const struct report *report, const char **type, size_t room)
+{
+    size_t count = 0;
+    for (size_t i = 0; i < report->lines; i++) {
+        const struct report_line *line = &report->line[i];
+        if (line->kind == LINE_LOCK || line->kind == LINE_STEP)
+            count = add_type(type, count, room, line->type);
+        if (line->kind == LINE_STEP)
+            count = add_type(type, count, room, line->other);
+        if ((line->kind == LINE_WAITS || line->kind == LINE_HOLDS) && line->name)
+            count = add_type(type, count, room, line->name);
+    }
+    return count;
+}

@@ -1,0 +1,36 @@
+/*
+ * What a report is called, and what to do about it.
+ */
+#ifndef RECORD_DESCRIBE_H
+#define RECORD_DESCRIBE_H
+
+#include <stddef.h>
+
+#include "report.h"
+
+/* Of each kind of report, by its number. */
+struct kind {
+    const char *word;    /* for machines */
+    const char *rule;    /* the identifier of its rule */
+    const char *name;    /* in a heading */
+    const char *meaning; /* in a sentence */
+    const char *help;    /* in some */
+};
+
+enum { KINDS = REPORT_OTHER + 1, ADVICES = 3 };
+
+extern const struct kind kinds[KINDS];
+
+/* In one line, as a text of one's own: `"journal" is held, "pool" is asked for`. */
+char *describe(const struct report *report);
+
+/* What to do about it: ADVICES sentences, texts of one's own; NULL of what is no matter of the program's. */
+char *advice(const struct report *report, size_t number);
+
+/* The types that the report is of, each once, in their order. The answer is how many there are, at most `room`. */
+size_t report_types(const struct report *report, const char **type, size_t room);
+
+/* Whether the line is of the lock that was asked for: the last one of a report. */
+int is_request(const struct report *report, const struct report_line *line);
+
+#endif

@@ -1,0 +1,88 @@
+#include "files.h"
+
+#include <fcntl.h>
+#include <ftw.h>
+#include <stdio.h>
+#include <stdlib.h>
+#include <string.h>
+#include <sys/stat.h>
+#include <unistd.h>
+
+#include "memory.h"
+
+const char *file_base(const char *path)
+{
+    const char *slash = strrchr(path, '/');
+    return slash ? slash + 1 : path;
+}
+
+char *file_folder(const char *path)
+{
+    const char *slash = strrchr(path, '/');
+    if (!slash)
+        return copy(".");
+    return slash == path ? copy("/") : copy_bytes(path, (size_t)(slash - path));
+}
+
+static bool is_program(const char *path)
+{
+    struct stat found;
+    return stat(path, &found) == 0 && S_ISREG(found.st_mode) && access(path, X_OK) == 0;
+}
+
+char *file_of(const char *program)
+{
+    if (strchr(program, '/'))
+        return copy(program);
+    const char *at = getenv("PATH");
+    while (at && *program) {
+        size_t length = strcspn(at, ":");
+        char *path = say_text("%.*s%s/%s", (int)length, at, length ? "" : ".", program);
+        if (is_program(path))
+            return path;
+        free(path);
+        at = at[length] ? at + length + 1 : NULL;
+    }
+    return NULL;
+}
+
+bool file_is_command(const char *program)
+{
+    char *path = file_of(program);
+    bool is = path && is_program(path);
+    free(path);
+    return is;
+}
+
+const char *file_temporary(void)
+{
+    const char *folder = getenv("TMPDIR");
+    return folder && *folder ? folder : "/tmp";
+}
+
+bool file_fill(const char *path, size_t bytes)
+{
+    static const char zeroes[1 << 16];
+    int file = open(path, O_WRONLY | O_CREAT | O_TRUNC | O_CLOEXEC, 0666);
+    if (file < 0)
+        return false;
+    while (bytes > 0) {
+        ssize_t written = write(file, zeroes, bytes < sizeof zeroes ? bytes : sizeof zeroes);
+        if (written <= 0)
+            break;
+        bytes -= (size_t)written;
+    }
+    return close(file) == 0 && bytes == 0;
+}
+
+static int remove_one(const char *path, const struct stat *found, int kind, struct FTW *at)
+{
+    (void)found, (void)kind, (void)at;
+    remove(path);
+    return 0;
+}
+
+void folder_remove(const char *path)
+{
+    nftw(path, remove_one, 16, FTW_DEPTH | FTW_PHYS);
+}

@@ -1,0 +1,136 @@
+#include "findings_run.h"
+
+#include <stdio.h>
+#include <stdlib.h>
+#include <string.h>
+
+#include "errors.h"
+#include "html.h"
+#include "json.h"
+#include "memory.h"
+#include "replay.h"
+#include "sarif.h"
+
+bool findings_are_wanted(const struct settings *settings)
+{
+    return is_asked(settings->html) || is_asked(settings->sarif) || is_asked(settings->json);
+}
+
+/* Lines that are told, each by itself. */
+static void hear(void *by, long speaker, const char *text, size_t length)
+{
+    struct findings *findings = by;
+    const char *end = text + length;
+    while (text < end) {
+        const char *after = memchr(text, '\n', (size_t)(end - text));
+        char *line = copy_bytes(text, (size_t)((after ? after : end) - text));
+        findings_tell(findings, speaker, line);
+        free(line);
+        text = after ? after + 1 : end;
+    }
+}
+
+void findings_begin(struct run *run)
+{
+    if (!findings_are_wanted(&run->settings))
+        return;
+    run->findings.program = run->settings.program;
+    run->findings.directory = is_asked(run->settings.directory) ? run->settings.directory : NULL;
+    run->findings.ignore = run->settings.ignore;
+    run->findings.built = run->settings.built;
+    run->findings.alarms = run->alarms_wanted;
+    run->output.hear = hear;
+    run->output.by = &run->findings;
+}
+
+static bool is_equal(const struct report *one, const struct report *other)
+{
+    return one->kind == other->kind && one->silence && other->silence && strcmp(one->silence, other->silence) == 0;
+}
+
+static bool is_among(const struct reports *reports, const struct report *report)
+{
+    for (size_t i = 0; i < reports->count; i++)
+        if (is_equal(&reports->report[i], report))
+            return true;
+    return false;
+}
+
+/* What is reported without the ignore file and not with it. */
+static void take_silenced(struct process *process, struct found *found)
+{
+    struct reports all = {0};
+    if (found->notes.matches == 0)
+        return;
+    replay_without_ignore(process->run, process->recording, &all, &found->silenced_notes);
+    for (size_t i = 0; i < all.count; i++) {
+        struct report *report = &all.report[i];
+        if (!report->silence || is_among(&found->reports, report))
+            continue;
+        ADD(found->silenced.report, found->silenced.count, found->silenced.room) = *report;
+        *report = (struct report){0};
+    }
+    reports_end(&all);
+}
+
+/* Errors in the use of locks are reports with one place. */
+static void take_errors(struct found *found)
+{
+    struct reports *reports = &found->reports;
+    reports->notes = &found->notes;
+    for (size_t i = 0; i < found->notes.events; i++) {
+        const struct event *event = &found->notes.event[i];
+        const char *text = error_text(event), *name = event->name ? event->name : "";
+        if (!text)
+            continue;
+        char *heading = say_text(" \"%s\"", name);
+        reports_add(reports, REPORT_ERROR, text);
+        reports_add_line(reports, LINE_HOLDS, heading, event->site ? event->site : "?:0")->name = copy(name);
+        free(heading);
+    }
+}
+
+void findings_take(struct process *process)
+{
+    struct run *run = process->run;
+    if (!findings_are_wanted(&run->settings))
+        return;
+    struct found *found = findings_add(&run->findings, process->name, process->recording->process);
+    if (process->resolved && trace_is_there(process, "its orders aren't known"))
+        orders_read(process, &found->orders);
+    found->notes = process->notes;
+    found->reports = process->reports;
+    process->notes = (struct notes){0};
+    process->reports = (struct reports){0};
+    if (!run->settings.no_errors)
+        take_errors(found);
+    take_silenced(process, found);
+}
+
+static void write_file(struct run *run, const char *path, void (*write)(FILE *to, const struct findings *findings))
+{
+    if (!is_asked(path))
+        return;
+    FILE *to = fopen(path, "we");
+    if (to)
+        write(to, &run->findings);
+    bool is_written = to && !ferror(to);
+    if (to && fclose(to) != 0)
+        is_written = false;
+    if (!is_written)
+        say(&run->output, "%s can't be written", path);
+}
+
+void findings_finish(struct run *run)
+{
+    if (!findings_are_wanted(&run->settings))
+        return;
+    run->output.hear = NULL;
+    run->findings.ended = time(NULL);
+    run->findings.has_failed = run->unknown;
+    findings_gather(&run->findings);
+    write_file(run, run->settings.html, html_write);
+    write_file(run, run->settings.sarif, sarif_write);
+    write_file(run, run->settings.json, json_write);
+    findings_end(&run->findings);
+}

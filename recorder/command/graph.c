@@ -1,0 +1,89 @@
+#include "graph.h"
+
+#include <fcntl.h>
+#include <signal.h>
+#include <spawn.h>
+#include <stdlib.h>
+#include <string.h>
+#include <sys/wait.h>
+#include <unistd.h>
+
+#include "memory.h"
+#include "orders.h"
+#include "replay.h"
+
+extern char **environ;
+
+static void write_escaped(FILE *to, const char *text)
+{
+    for (; *text; text++) {
+        if (*text == '\\')
+            putc('\\', to);
+        putc(*text, to);
+    }
+}
+
+static void write_order(FILE *to, const struct order *order)
+{
+    fputs("    \"", to);
+    write_escaped(to, order->from);
+    fputs("\" -> \"", to);
+    write_escaped(to, order->to);
+    fputs("\" [label=\" ", to);
+    write_escaped(to, order->site ? order->site : "");
+    fprintf(to, "\"%s%s]\n", order->is_reversal || order->is_broken ? ", color=red" : "",
+        order->is_reversal ? ", style=dashed" : "");
+}
+
+/* The text for dot. False where it can't be written. */
+static bool write_dot(struct process *process, const char *path)
+{
+    struct order_list orders = {0};
+    FILE *to = fopen(path, "we");
+    bool is_good = to && orders_read(process, &orders);
+    if (is_good) {
+        fputs("digraph orders {\n    node [shape=box]\n    edge [fontsize=10]\n", to);
+        /* Two locks of one type are no order. */
+        for (size_t i = 0; i < orders.count; i++)
+            if (strcmp(orders.order[i].from, orders.order[i].to) != 0)
+                write_order(to, &orders.order[i]);
+        fputs("}\n", to);
+    }
+    orders_end(&orders);
+    is_good = to && !ferror(to) && is_good;
+    return to && fclose(to) == 0 && is_good;
+}
+
+/* Runs dot on the text, and what it writes goes to the file. */
+static bool run_dot(const char *text, const char *file)
+{
+    char *words[] = {"dot", "-Tsvg", (char *)text, NULL};
+    posix_spawn_file_actions_t files;
+    pid_t process;
+    int status = 1;
+    posix_spawn_file_actions_init(&files);
+    posix_spawn_file_actions_addopen(&files, STDOUT_FILENO, file, O_WRONLY | O_CREAT | O_TRUNC, 0666);
+    bool is_begun = posix_spawnp(&process, words[0], &files, NULL, words, environ) == 0;
+    posix_spawn_file_actions_destroy(&files);
+    return is_begun && waitpid(process, &status, 0) == process && status == 0;
+}
+
+void draw(struct process *process)
+{
+    struct run *run = process->run;
+    const char *graph = run->settings.graph;
+    if (!is_asked(graph) || !trace_is_there(process, "its orders aren't drawn"))
+        return;
+    const char *dot = strrchr(graph, '.');
+    char *file = copy(graph), *text = say_text("%s/dot", run->work);
+    if (run->shown > 0 && dot) {
+        free(file);
+        file = say_text("%.*s.%zu%s", (int)(dot - graph), graph, run->shown, dot);
+    }
+    bool is_text = dot && strcmp(dot, ".dot") == 0;
+    bool is_drawn = is_text ? write_dot(process, file) : write_dot(process, text) && run_dot(text, file);
+    if (!is_drawn)
+        say(&run->output, "%s: the orders aren't drawn", file);
+    free(file);
+    free(text);
+}

@@ -1,0 +1,191 @@
+#include "held.h"
+
+#include <dirent.h>
+#include <stdlib.h>
+#include <string.h>
+
+#include "holdings.h"
+#include "memory.h"
+#include "replay.h"
+#include "thread_label.h"
+#include "verdict.h"
+
+/* What is told of each seat, and which locks that names. */
+struct scene {
+    struct process *process;
+    char *text[SEATS_MOST + 1]; /* NULL where there is nothing */
+    char **name;
+    size_t names, room;
+};
+
+/* What is known of a seat's thread. */
+static char *label_of(const struct notes *notes, unsigned seat)
+{
+    for (size_t i = notes->events; i > 0; i--)
+        if (notes->event[i - 1].kind == EVENT_THREAD && notes->event[i - 1].seat == seat)
+            return thread_label(&notes->event[i - 1]);
+    return copy("");
+}
+
+/* A line of the seat. The first one says which thread it is. */
+static void add(struct scene *scene, unsigned seat, const char *what, const char *place)
+{
+    const struct notes *notes = &scene->process->notes;
+    char *before = scene->text[seat];
+    char *label = before ? copy("") : label_of(notes, seat);
+    scene->text[seat] =
+        say_text("%s seat %u%s %s @ %s\n", before ? before : "", seat, label, what, notes_site(notes, place));
+    free(label);
+    free(before);
+}
+
+/* `exclusive sleep mutex "NAME" (TYPE) r = 0 @ PLACE`, as the verifier tells what a seat holds. */
+static void read_lock(struct scene *scene, unsigned seat, const char *line)
+{
+    const char *open = strchr(line, '"'), *close = open ? strchr(open + 1, '"') : NULL, *last = strrchr(line, ' ');
+    if (!close || !last)
+        return;
+    char *name = copy_bytes(open + 1, (size_t)(close - open - 1));
+    char *what = say_text("holds \"%s\"%s", name, *line == 's' ? " (shared)" : "");
+    ADD(scene->name, scene->names, scene->room) = name;
+    add(scene, seat, what, last + 1);
+    free(what);
+}
+
+static void read_locks(struct scene *scene)
+{
+    struct process *process = scene->process;
+    char *told = NULL, *rest;
+    size_t length = 0;
+    unsigned seat = 0;
+    FILE *to = open_memstream(&told, &length);
+    if (!to)
+        return;
+    verdict_on(process->run->settings.witness, "locks", process->trace, to);
+    fclose(to);
+    for (char *line = strtok_r(told, "\n", &rest); line; line = strtok_r(NULL, "\n", &rest)) {
+        if (strncmp(line, "seat ", 5) == 0)
+            seat = (unsigned)strtoul(line + 5, NULL, 10);
+        else if ((strncmp(line, "exclusive ", 10) == 0 || strncmp(line, "shared ", 7) == 0) && seat <= SEATS_MOST)
+            read_lock(scene, seat, line);
+    }
+    free(told);
+}
+
+/* What seats ask for. */
+static void read_requests(struct scene *scene)
+{
+    struct trace trace;
+    struct trace_line line;
+    struct holdings *holdings = take(sizeof *holdings);
+    if (trace_open(&trace, scene->process->trace)) {
+        while (trace_next(&trace, &line))
+            holdings_read(holdings, &line);
+        for (unsigned seat = 1; seat <= SEATS_MOST; seat++) {
+            const struct seat *asks = &holdings->seat[seat];
+            if (!asks->asked)
+                continue;
+            struct piece lock = trace_lock(&trace, asks->asked)->name;
+            char *what = say_text("waits for \"%.*s\"", lock.length, lock.at);
+            char *place = copy_bytes(asks->asked_at.at, (size_t)asks->asked_at.length);
+            add(scene, seat, what, place);
+            free(what);
+            free(place);
+        }
+        trace_close(&trace);
+    }
+    holdings_end(holdings);
+    free(holdings);
+}
+
+/* The name that the thread has now; NULL where the process has no such thread. */
+static char *task_name(long process, long thread)
+{
+    char name[64] = "";
+    char *path = say_text("/proc/%ld/task/%ld/comm", process, thread);
+    FILE *from = fopen(path, "re");
+    free(path);
+    if (!from)
+        return NULL;
+    if (!fgets(name, sizeof name, from))
+        name[0] = '\0';
+    fclose(from);
+    name[strcspn(name, "\n")] = '\0';
+    return copy(name);
+}
+
+static bool is_told(const struct scene *scene, const char *name)
+{
+    for (size_t i = 0; i < scene->names; i++)
+        if (strcmp(scene->name[i], name) == 0)
+            return true;
+    return false;
+}
+
+/*
+ * What the program has answered of mutexes, as far as the trace doesn't have it and the thread is one of the process: after
+ * a fork a mutex may be held by one of the parent.
+ */
+static void write_answer(FILE *to, const struct scene *scene)
+{
+    const struct notes *notes = &scene->process->notes;
+    size_t from = 0;
+    for (size_t i = 0; i < notes->events; i++)
+        if (notes->event[i].kind == EVENT_ANSWER)
+            from = i;
+    for (size_t i = from; i < notes->events; i++) {
+        const struct event *holder = &notes->event[i];
+        if (holder->kind != EVENT_HOLDER || is_told(scene, holder->name ? holder->name : ""))
+            continue;
+        char *task = task_name(scene->process->recording->process, holder->thread);
+        if (task)
+            fprintf(to, " thread %ld (%s) holds \"%s\"\n", holder->thread, task, holder->name ? holder->name : "");
+        free(task);
+    }
+}
+
+static void end_scene(struct scene *scene)
+{
+    for (size_t i = 0; i <= SEATS_MOST; i++)
+        free(scene->text[i]);
+    for (size_t i = 0; i < scene->names; i++)
+        free(scene->name[i]);
+    free(scene->name);
+    free(scene);
+}
+
+static void tell_scene(const struct scene *scene)
+{
+    static const char head[] = "held now:\n";
+    const struct process *process = scene->process;
+    char *text = NULL;
+    size_t length = 0;
+    FILE *to = open_memstream(&text, &length);
+    if (!to)
+        return;
+    fputs(head, to);
+    for (size_t i = 0; i <= SEATS_MOST; i++)
+        if (scene->text[i])
+            fputs(scene->text[i], to);
+    if (process->stream.answered)
+        write_answer(to, scene);
+    fclose(to);
+    if (length > sizeof head - 1)
+        tell(&process->run->output, text, length);
+    free(text);
+}
+
+void tell_held(struct process *process)
+{
+    if (process->run->ending->how != HOW_RUNNING || !trace_is_there(process, "what is held can't be shown"))
+        return;
+    struct scene *scene = take(sizeof *scene);
+    scene->process = process;
+    read_locks(scene);
+    read_requests(scene);
+    tell_scene(scene);
+    end_scene(scene);
+    if (!process->stream.answered)
+        say(&process->run->output,
+            "%s: no thread asked for a lock meanwhile, so of what is held only what the trace has is told", process->name);
+}

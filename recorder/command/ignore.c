@@ -1,0 +1,173 @@
+#include "ignore.h"
+
+#include "memory.h"
+#include "texts.h"
+
+#include <stdio.h>
+#include <stdlib.h>
+#include <string.h>
+
+/* The words of a file, each with the names that it stands for: its type, or the functions of several types' places. */
+struct called {
+    struct map words; /* a word's number in `list`, from 1 on */
+    struct names {
+        const char **name;
+        size_t count, room;
+    } *list;
+    size_t lists, list_room;
+};
+
+/* A word in quotes at *at, which becomes what follows. NULL where there is none. */
+static char *quoted(const char **at)
+{
+    const char *from = *at + 1, *end = **at == '"' ? strchr(from, '"') : NULL;
+    if (!end || end == from)
+        return NULL;
+    *at = end + 1;
+    return copy_bytes(from, (size_t)(end - from));
+}
+
+static void read_line(struct ignore *ignore, const char *line, unsigned long number)
+{
+    char *first = quoted(&line), *second = NULL;
+    size_t blanks = first ? strspn(line, " \t") : 0;
+    line += blanks;
+    if (blanks > 0)
+        second = quoted(&line);
+    if (second) {
+        ADD(ignore->pair, ignore->pairs, ignore->pair_room) = (struct ignored_pair){first, second, number};
+        return;
+    }
+    if (first)
+        *map_add_text(&ignore->single, first) = number;
+    free(first);
+}
+
+void ignore_read(struct ignore *ignore, const char *path)
+{
+    *ignore = (struct ignore){0};
+    char *line = NULL;
+    size_t room = 0;
+    FILE *file = fopen(path, "re");
+    if (!file) {
+        ignore->is_unread = true;
+        return;
+    }
+    for (unsigned long number = 1; getline(&line, &room, file) >= 0; number++) {
+        line[strcspn(line, "\n")] = '\0';
+        read_line(ignore, line, number);
+    }
+    ignore->is_unread = ferror(file) != 0;
+    free(line);
+    fclose(file);
+}
+
+void ignore_end(struct ignore *ignore)
+{
+    for (size_t i = 0; i < ignore->pairs; i++) {
+        free(ignore->pair[i].first);
+        free(ignore->pair[i].second);
+    }
+    free(ignore->pair);
+    map_end(&ignore->single);
+    *ignore = (struct ignore){0};
+}
+
+static void note_match(struct notes *notes, unsigned long line)
+{
+    for (size_t i = 0; notes && i < notes->matches; i++)
+        if (notes->matched[i] == line)
+            return;
+    if (notes)
+        ADD(notes->matched, notes->matches, notes->matched_room) = line;
+}
+
+/* The word stands for the name, too. */
+static void call(struct called *called, struct peace *peace, const struct ignore *ignore, struct notes *notes,
+    const char *word, const char *name)
+{
+    size_t *number = map_add_text(&called->words, word), line = map_find_text(&ignore->single, word);
+    if (*number == 0) {
+        ADD(called->list, called->lists, called->list_room) = (struct names){0};
+        *number = called->lists;
+    }
+    struct names *names = &called->list[*number - 1];
+    ADD(names->name, names->count, names->room) = name;
+    if (line == 0)
+        return;
+    *map_add_text(&peace->names, name) = 1;
+    note_match(notes, line);
+}
+
+static const struct names *names_of(const struct called *called, const char *word)
+{
+    size_t number = map_find_text(&called->words, word);
+    return number ? &called->list[number - 1] : NULL;
+}
+
+/* The pair is new in either order. */
+static bool is_new(struct map *blessed, const char *first, const char *second)
+{
+    char *either = strcmp(first, second) < 0 ? say_text("%s\n%s", first, second) : say_text("%s\n%s", second, first);
+    size_t *number = map_add_text(blessed, either);
+    free(either);
+    return (*number)++ == 0;
+}
+
+/* All pairs of types that the two words of a line stand for. */
+static void bless(struct peace *peace, const struct called *called, struct map *blessed,
+    const struct ignored_pair *pair, struct notes *notes)
+{
+    const struct names *first = names_of(called, pair->first), *second = names_of(called, pair->second);
+    if (!first || !second)
+        return;
+    note_match(notes, pair->line);
+    for (size_t i = 0; i < first->count; i++)
+        for (size_t j = 0; j < second->count; j++)
+            if (strcmp(first->name[i], second->name[j]) != 0 && is_new(blessed, first->name[i], second->name[j]))
+                ADD(peace->pair, peace->pairs, peace->pair_room) =
+                    (struct name_pair){first->name[i], second->name[j]};
+}
+
+static void note_alias(struct notes *notes, const struct named_type *type)
+{
+    if (!notes)
+        return;
+    const char *name = texts_copy(notes->texts, type->name, strlen(type->name));
+    const char *functions = texts_copy(notes->texts, type->functions, strlen(type->functions));
+    ADD(notes->alias, notes->aliases, notes->alias_room) = (struct alias){name, functions};
+}
+
+void peace_begin(struct peace *peace, const struct ignore *ignore, const struct types *types, struct notes *notes)
+{
+    static const struct ignore nothing;
+    struct called called = {0};
+    struct map blessed = {0};
+    *peace = (struct peace){0};
+    if (!ignore)
+        ignore = &nothing;
+    for (uint32_t number = 1; number < types->count; number++) {
+        const struct named_type *type = &types->type[number];
+        if (type->first != number)
+            continue;
+        call(&called, peace, ignore, notes, type->name, type->name);
+        if (type->functions && strcmp(type->functions, type->name) != 0) {
+            call(&called, peace, ignore, notes, type->functions, type->name);
+            note_alias(notes, type);
+        }
+    }
+    for (size_t i = 0; i < ignore->pairs; i++)
+        bless(peace, &called, &blessed, &ignore->pair[i], notes);
+    for (size_t i = 0; i < called.lists; i++)
+        free(called.list[i].name);
+    free(called.list);
+    map_end(&called.words);
+    map_end(&blessed);
+}
+
+void peace_end(struct peace *peace)
+{
+    map_end(&peace->names);
+    free(peace->pair);
+    *peace = (struct peace){0};
+}

@@ -1,0 +1,262 @@
+#include "json.h"
+
+#include <stdlib.h>
+
+#include "describe.h"
+#include "memory.h"
+#include "objects.h"
+#include "place.h"
+
+enum { VERSION = 1, TYPES_SHOWN = 64 };
+
+/* The place with its file and its line, each null where it isn't known. */
+static void write_site(struct objects *to, const char *site)
+{
+    struct place place;
+    bool is_place = place_read(&place, site);
+    char *file = is_place && place.line > 0 ? copy_bytes(place.file, place.length) : NULL;
+    object_text(to, "site", site);
+    object_text(to, "file", file);
+    if (file)
+        object_number(to, "line", place.line);
+    else
+        object_text(to, "line", NULL);
+    free(file);
+}
+
+static void write_thread(struct objects *to, const char *name, long number, const struct event *known)
+{
+    if (number == 0) {
+        object_text(to, name, NULL);
+        return;
+    }
+    object_open(to, name, '{');
+    object_number(to, "number", number);
+    object_text(to, "name", known ? known->name : NULL);
+    object_text(to, "maker", known ? known->maker : NULL);
+    object_text(to, "made", known ? known->site : NULL);
+    object_close(to, '{');
+}
+
+static void write_callers(struct objects *to, const struct frames *frames)
+{
+    object_open(to, "callers", '[');
+    for (size_t i = 0; frames && i < frames->count; i++) {
+        object_open(to, NULL, '{');
+        object_text(to, "function", frames->frame[i].function);
+        write_site(to, frames->frame[i].site);
+        object_close(to, '{');
+    }
+    object_close(to, '[');
+}
+
+static void write_where(struct objects *to, const struct report_line *line)
+{
+    write_site(to, line->site);
+    write_thread(to, "thread", line->thread, line->known);
+    write_callers(to, line->frames);
+}
+
+static void write_lock(struct objects *to, const char *name, const struct report_line *line)
+{
+    object_open(to, name, '{');
+    object_text(to, "lock", line->name);
+    object_text(to, "type", line->type);
+    object_text(to, "class", line->class);
+    write_where(to, line);
+    object_close(to, '{');
+}
+
+static void write_locks(struct objects *to, const struct report *report)
+{
+    const struct report_line *asked = NULL;
+    object_open(to, "held", '[');
+    for (size_t i = 0; i < report->lines; i++) {
+        if (is_request(report, &report->line[i]))
+            asked = &report->line[i];
+        else if (report->line[i].kind == LINE_LOCK)
+            write_lock(to, NULL, &report->line[i]);
+    }
+    object_close(to, '[');
+    if (asked)
+        write_lock(to, "asked", asked);
+    else
+        object_text(to, "asked", NULL);
+}
+
+static void write_steps(struct objects *to, const struct report *report)
+{
+    object_open(to, "established", '[');
+    for (size_t i = 0; i < report->lines; i++) {
+        const struct report_line *line = &report->line[i];
+        if (line->kind != LINE_STEP)
+            continue;
+        object_open(to, NULL, '{');
+        object_text(to, "from", line->type);
+        object_text(to, "to", line->other);
+        write_where(to, line);
+        object_close(to, '{');
+    }
+    object_close(to, '[');
+}
+
+/* The lock of an error, and where that is. */
+static void write_error(struct objects *to, const struct report *report)
+{
+    const struct report_line *line = report->kind == REPORT_ERROR && report->lines > 1 ? &report->line[1] : NULL;
+    if (!line) {
+        object_text(to, "error", NULL);
+        return;
+    }
+    object_open(to, "error", '{');
+    object_text(to, "lock", line->name);
+    write_where(to, line);
+    object_close(to, '{');
+}
+
+static void write_waits(struct objects *to, const struct report *report)
+{
+    object_open(to, "waits", '[');
+    for (size_t i = 0; i < report->lines && report->kind != REPORT_ERROR; i++) {
+        const struct report_line *line = &report->line[i];
+        if (line->kind != LINE_WAITS && line->kind != LINE_HOLDS)
+            continue;
+        object_open(to, NULL, '{');
+        object_number(to, "seat", line->seat);
+        object_text(to, "does", line->kind == LINE_WAITS ? "waits" : "holds");
+        object_text(to, "lock", line->name);
+        if (line->kind == LINE_WAITS && line->next > 0)
+            object_number(to, "holder", line->next);
+        else
+            object_text(to, "holder", NULL);
+        write_where(to, line);
+        object_close(to, '{');
+    }
+    object_close(to, '[');
+}
+
+static void write_words(struct objects *to, const struct report *report)
+{
+    char *words = describe(report);
+    object_text(to, "description", words);
+    free(words);
+    object_open(to, "text", '[');
+    for (size_t i = 0; i < report->lines; i++)
+        object_text(to, NULL, report->line[i].text);
+    object_close(to, '[');
+    object_open(to, "advice", '[');
+    for (size_t i = 0; i < ADVICES; i++) {
+        char *sentence = advice(report, i);
+        if (sentence)
+            object_text(to, NULL, sentence);
+        free(sentence);
+    }
+    object_close(to, '[');
+}
+
+/* What is known of the single locks of the types. */
+static void write_single(struct objects *to, const struct finding *finding)
+{
+    static const char *const grades[] = {[GRADE_UNKNOWN] = "unknown",
+                                         [GRADE_TYPES] = "types",
+                                         [GRADE_ONE_THREAD] = "thread",
+                                         [GRADE_THREADS] = "threads"};
+    const struct alarm *alarm = &finding->alarm;
+    if (alarm->grade == GRADE_NONE) {
+        object_text(to, "single", NULL);
+        return;
+    }
+    object_open(to, "single", '{');
+    object_text(to, "grade", grades[alarm->grade]);
+    object_text(to, "gate", alarm->gate);
+    object_truth(to, "readers", alarm->readers);
+    object_truth(to, "timed", alarm->timed);
+    object_truth(to, "apart", alarm->apart);
+    object_text(to, "text", finding->single);
+    object_close(to, '{');
+}
+
+static void write_report(struct objects *to, const struct finding *finding)
+{
+    const char *type[TYPES_SHOWN];
+    size_t types = report_types(finding->report, type, TYPES_SHOWN);
+    object_open(to, NULL, '{');
+    object_text(to, "kind", kinds[finding->report->kind].word);
+    object_text(to, "fingerprint", finding->fingerprint);
+    object_text(to, "program", finding->found->program);
+    object_open(to, "processes", '[');
+    for (size_t i = 0; i < finding->processes; i++)
+        object_number(to, NULL, finding->process[i]);
+    object_close(to, '[');
+    object_truth(to, "silenced", finding->is_silenced);
+    object_text(to, "silence", finding->report->silence);
+    object_truth(to, "counts", finding->counts);
+    write_single(to, finding);
+    object_open(to, "types", '[');
+    for (size_t i = 0; i < types; i++)
+        object_text(to, NULL, type[i]);
+    object_close(to, '[');
+    write_locks(to, finding->report);
+    write_steps(to, finding->report);
+    write_waits(to, finding->report);
+    write_error(to, finding->report);
+    write_words(to, finding->report);
+    object_close(to, '{');
+}
+
+static void write_orders(struct objects *to, const struct order_list *orders)
+{
+    object_open(to, "orders", '[');
+    for (size_t i = 0; i < orders->count; i++) {
+        const struct order *order = &orders->order[i];
+        object_open(to, NULL, '{');
+        object_text(to, "from", order->from);
+        object_text(to, "to", order->to);
+        write_site(to, order->site);
+        object_truth(to, "reversal", order->is_reversal);
+        object_truth(to, "broken", order->is_broken);
+        object_close(to, '{');
+    }
+    object_close(to, '[');
+}
+
+static void write_process(struct objects *to, const struct found *found)
+{
+    size_t count;
+    const struct event **thread = found_threads(found, &count);
+    object_open(to, NULL, '{');
+    object_number(to, "process", found->process);
+    object_text(to, "program", found->program);
+    object_open(to, "threads", '[');
+    for (size_t i = 0; i < count; i++)
+        write_thread(to, NULL, thread[i]->thread, thread[i]);
+    object_close(to, '[');
+    free(thread);
+    write_orders(to, &found->orders);
+    object_close(to, '{');
+}
+
+void json_write(FILE *file, const struct findings *findings)
+{
+    struct objects to = {.to = file};
+    object_open(&to, NULL, '{');
+    object_text(&to, "format", "record-findings");
+    object_number(&to, "version", VERSION);
+    object_text(&to, "record", findings->version);
+    object_text(&to, "program", findings->program);
+    object_text(&to, "directory", findings->directory);
+    object_text(&to, "summary", findings->summary);
+    object_open(&to, "told", '[');
+    for (size_t i = 0; i < findings->tolds; i++)
+        object_text(&to, NULL, findings->told[i]);
+    object_close(&to, '[');
+    object_open(&to, "reports", '[');
+    for (size_t i = 0; i < findings->findings; i++)
+        write_report(&to, &findings->finding[i]);
+    object_close(&to, '[');
+    object_open(&to, "processes", '[');
+    for (size_t i = 0; i < findings->count; i++)
+        write_process(&to, &findings->found[i]);
+    object_close(&to, '[');
+    object_close(&to, '{');
+}

@@ -1,0 +1,148 @@
+#include <stdio.h>
+#include <stdlib.h>
+#include <string.h>
+
+#include "going.h"
+#include "memory.h"
+#include "replay.h"
+#include "unseen.h"
+#include "whole_run.h"
+
+enum { TIMEOUT_STATUS = 124, BY_SIGNAL = 128 };
+
+static const char clean[] =
+    "clean: no order of these threads' steps can make them wait for one another in a circle, for the locks that were seen "
+    "(docs/PROOFS.md)";
+
+/* So many of them, as a text of one's own. */
+static char *counted(unsigned long number, const char *what, const char *many)
+{
+    return say_text("%lu %s%s", number, what, number == 1 ? "" : many);
+}
+
+/* How the program ended, where that may have kept it from doing more; else an empty text. */
+static char *end_of_program(const struct run *run)
+{
+    const struct ending *ending = run->ending;
+    const char *program = run->settings.program ? run->settings.program : "";
+    if (ending->how == HOW_SIGNAL)
+        return say_text("%s was ended by signal %d", program, ending->number);
+    if (ending->how == HOW_EXIT && ending->number == TIMEOUT_STATUS && strcmp(program, "timeout") == 0)
+        return copy("the program was ended after its time");
+    return copy("");
+}
+
+/* The reports that there would be without the ignore file, where there is none with it. */
+static char *silenced(struct run *run)
+{
+    unsigned long count = 0;
+    for (size_t i = 0; run->matches > 0 && i < run->recordings; i++)
+        count += reports_without_ignore(run, &run->recording[i]);
+    if (count == 0)
+        return copy("");
+    char *reports = counted(count, "report", "s");
+    char *text = say_text(": %s silences %s", run->settings.ignore, reports);
+    free(reports);
+    return text;
+}
+
+/* Where locks weren't seen, the end of the last line; else an empty text. */
+static char *not_seen(const struct run *run)
+{
+    size_t count = 0;
+    char **objects = objects_of_run(run, &count);
+    char *locks = unseen_locks((const char *const *)objects, count);
+    char *text = *locks ? say_text("; not seen: %s (see record(1))", locks) : copy("");
+    for (size_t i = 0; i < count; i++)
+        free(objects[i]);
+    free(objects);
+    free(locks);
+    return text;
+}
+
+static void tell_reported(struct run *run, const char *so_far, const char *end)
+{
+    char *reports = counted(run->reports, "report", "s"), *circles = counted(run->circles, "circle", "s");
+    char *processes = counted(run->shown, "process", "es"), *errors = counted(run->errors, "error", "s");
+    if (*end)
+        say(&run->output, "%s", end);
+    if (run->errors)
+        say(&run->output, "%s%s, %s, %s, %s", so_far, reports, circles, errors, processes);
+    else
+        say(&run->output, "%s%s, %s, %s", so_far, reports, circles, processes);
+    free(reports);
+    free(circles);
+    free(processes);
+    free(errors);
+}
+
+/* Errors in the use of locks, where nothing else is reported; else an empty text. */
+static char *but_errors(const struct run *run)
+{
+    char *errors = counted(run->errors, "error", "s");
+    char *text = run->errors ? say_text(" but %s", errors) : copy("");
+    free(errors);
+    return text;
+}
+
+/* Where nothing is reported. Whether not all was seen. */
+static bool tell_nothing(struct run *run, const char *so_far, const char *end)
+{
+    const struct output *output = &run->output;
+    char *unseen = not_seen(run), *errors = but_errors(run);
+    bool is_unseen = *unseen;
+    if (run->partly || *end || is_unseen) {
+        char *without = silenced(run);
+        say(output, "%snothing in what was recorded%s%s%s%s%s", so_far, errors, *end ? ": " : "", end, without, unseen);
+        free(without);
+    } else if (run->shown == 0) {
+        say(output, "%snothing to report%s: no thread asked for a lock while it held another", so_far, errors);
+    } else {
+        char *without = silenced(run);
+        if (run->unclean)
+            say(output, "%snot clean: %s", so_far, run->unclean);
+        else
+            say(output, "%s%s", so_far, clean);
+        say(output, "%snothing to report%s%s", so_far, errors, without);
+        free(without);
+    }
+    free(unseen);
+    free(errors);
+    return is_unseen;
+}
+
+/* The status of `record`: that of its program, unless another was asked for and there is a reason. */
+static int status_of(const struct run *run)
+{
+    const struct ending *ending = run->ending;
+    if (run->deadlock_status)
+        return run->deadlock_status;
+    if (run->settings.error && (run->alarms || run->circles || run->errors || run->misjudged || run->unknown))
+        return run->settings.error;
+    return ending->how == HOW_SIGNAL ? BY_SIGNAL + ending->number : ending->number;
+}
+
+int tell_end(struct run *run)
+{
+    const char *program = run->settings.program ? run->settings.program : "";
+    const char *so_far = run->ending->how == HOW_RUNNING || run->goings > 0 ? "so far: " : "";
+    char *end = end_of_program(run);
+    bool is_nothing_known = false, is_unseen = false;
+    if (run->ending->how == HOW_UNSTARTED) {
+        is_nothing_known = true;
+        say(&run->output, "nothing is known of %s: it wasn't started", program);
+    } else if (!run->has_started) {
+        is_nothing_known = true;
+        say(&run->output, "nothing is known of %s: %s", program,
+            is_asked(run->settings.misfit) ? run->settings.misfit : no_recorder);
+    } else if (run->unknown || run->reported) {
+        tell_reported(run, so_far, end);
+    } else {
+        is_unseen = tell_nothing(run, so_far, end);
+    }
+    free(end);
+    /* A machine that builds and tests takes no run for a good one of which nothing is known. */
+    if (run->shown == 0 && (is_nothing_known || run->partly || is_unseen))
+        run->unknown = true;
+    return status_of(run);
+}

@@ -1,0 +1,140 @@
+/*
+ * record FOLDER WORDS..: runs a program and watches what it does with its locks. FOLDER is that of the recorder's sources,
+ * and WORDS are those of the command line; recorder/record builds this and becomes it. The recorder's own object stands
+ * beside this program.
+ */
+#include <errno.h>
+#include <fcntl.h>
+#include <stdio.h>
+#include <stdlib.h>
+#include <string.h>
+#include <sys/file.h>
+#include <sys/stat.h>
+#include <unistd.h>
+
+#include "clean.h"
+#include "files.h"
+#include "inside.h"
+#include "interrupts.h"
+#include "kept.h"
+#include "launch.h"
+#include "look.h"
+#include "memory.h"
+#include "misfit.h"
+#include "options.h"
+#include "prepare.h"
+#include "print_trace.h"
+#include "replayer.h"
+#include "show.h"
+#include "usage.h"
+
+/* One at a time: what replays may have to be built first. Where the folder is another user's, there is no waiting. */
+static int lock(const char *built)
+{
+    char *path = say_text("%s/lock", built);
+    int file = open(path, O_WRONLY | O_APPEND | O_CREAT | O_CLOEXEC, 0666);
+    free(path);
+    while (file >= 0 && flock(file, LOCK_EX) != 0 && errno == EINTR)
+        interrupts_heed();
+    return file;
+}
+
+static void check_replayer(struct settings *settings, const char *built)
+{
+    int file = built ? lock(built) : -1;
+    replayer_check(settings);
+    if (file >= 0)
+        close(file);
+    interrupts_heed();
+}
+
+/* When the program's file was last changed; 0 where that isn't known. */
+static time_t changed_at(const char *program)
+{
+    struct stat found;
+    char *file = file_of(program);
+    time_t time = file && stat(file, &found) == 0 ? found.st_mtime : 0;
+    free(file);
+    return time;
+}
+
+/* Runs the program, and tells of it. */
+static int run(struct options *options, const char *built, const char *work)
+{
+    struct settings *settings = &options->settings;
+    check_replayer(settings, built);
+    char *records = prepare_records(settings, work);
+    struct misfit misfit = misfit_of(*options->program);
+    settings->misfit = misfit.why;
+    settings->built = changed_at(*options->program);
+    prepare_environment(options, records);
+    if (!kept_write(settings, work))
+        fail("there is no room for a recording in %s", file_temporary());
+    char *preload = NULL;
+    char **words = options->program;
+    if (inside_is_wanted(options) && !misfit.unloadable) {
+        preload = inside_library(options->here);
+        inside_environment(options);
+    } else if (!misfit.unloadable) {
+        preload = say_text("%s/recorder.so", built);
+    }
+    if (options->gdb)
+        words = inside_debugger(options->here, preload ? preload : "", words);
+    struct run *telling = show_begins(settings, work, records);
+    struct ending ending = launch(options->gdb ? NULL : preload, words, telling, !settings->quiet);
+    free(preload);
+    prepare_lets_go();
+    prepare_hands_over();
+    int status = show_ends(telling, &ending);
+    free(records);
+    return status;
+}
+
+/* Where the recorder was built for this run alone, its folder has this file; all of the run is there then. */
+static bool is_for_once(const char *built)
+{
+    char *mark = say_text("%s/once", built);
+    bool is = access(mark, F_OK) == 0;
+    free(mark);
+    return is;
+}
+
+static const char *witness_of(const char *here)
+{
+    const char *named = getenv("WITNESS");
+    if (named && *named)
+        return named;
+    char *top = file_folder(here), *witness = say_text("%s/witness", top);
+    free(top);
+    return witness;
+}
+
+int main(int count, char **words)
+{
+    /* All that is asked for lasts to the end. */
+    static struct options options;
+    static char *built, *work;
+    if (count < 2 || *words[1] != '/') {
+        fputs("record: this is begun by the script recorder/record\n", stderr);
+        return 2;
+    }
+    built = file_folder(words[0]);
+    if (is_for_once(built))
+        prepare_removes(work = built);
+    options_read(&options, words[1], words + 2);
+    options.settings.witness = witness_of(words[1]);
+    prepare_files(&options.settings);
+    if (options.trace) {
+        print_trace(&options.settings, options.trace);
+        return 0;
+    }
+    if (options.clean)
+        return clean_tell(options.settings.witness, options.clean);
+    interrupts_catch();
+    if (!work)
+        work = prepare_work();
+    if (!options.target)
+        return run(&options, built, work);
+    check_replayer(&options.settings, NULL);
+    return look(&options, work);
+}

@@ -1,0 +1,51 @@
+#include "memory.h"
+
+#include <stdarg.h>
+#include <stdio.h>
+#include <stdlib.h>
+#include <string.h>
+#include <unistd.h>
+
+/* At once: what is done at an orderly end would remove the recording. */
+static void *there(void *memory)
+{
+    static const char told[] = "record: there is no memory left: the recording is kept\n";
+    if (memory)
+        return memory;
+    if (write(STDERR_FILENO, told, sizeof told - 1) < 0)
+        _exit(126);
+    _exit(126);
+}
+
+void *take(size_t bytes)
+{
+    return there(calloc(1, bytes ? bytes : 1));
+}
+
+void *grow(void *old, size_t count, size_t size)
+{
+    return there(reallocarray(old, count ? count : 1, size));
+}
+
+char *copy_bytes(const char *bytes, size_t length)
+{
+    char *text = take(length + 1);
+    if (length > 0)
+        memcpy(text, bytes, length);
+    return text;
+}
+
+char *copy(const char *text)
+{
+    return copy_bytes(text, strlen(text));
+}
+
+char *say_text(const char *format, ...)
+{
+    va_list words;
+    char *text = NULL;
+    va_start(words, format);
+    int length = vasprintf(&text, format, words);
+    va_end(words);
+    return there(length < 0 ? NULL : text);
+}

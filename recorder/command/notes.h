@@ -1,0 +1,87 @@
+/*
+ * What the resolving of a recorder's file leaves beside the trace. All texts are the notes' own, and end with them.
+ */
+#ifndef RECORD_NOTES_H
+#define RECORD_NOTES_H
+
+#include <stddef.h>
+#include <stdint.h>
+
+#include "single.h"
+
+/* A function and its FILE:LINE, of a stack. */
+struct frame {
+    const char *function; /* NULL where it isn't known */
+    const char *site;
+};
+
+/* A stack, innermost frame first. */
+struct frames {
+    struct frame *frame;
+    size_t count;
+};
+
+/* What `@:NUMBER` stands for as a place of the trace; numbers are from 1 on. Such places are written where stacks are shown. */
+struct spot {
+    const char *site;
+    uint32_t frames; /* a number of notes.frames, from 1 on */
+    long thread;     /* as the kernel counts threads; 0 where it isn't known */
+};
+
+/* What was read beside calls, in the order of the file. */
+struct event {
+    enum event_kind {
+        EVENT_THREAD,  /* from here on the seat is that thread's */
+        EVENT_AGAIN,   /* the seat waited for a lock that it held */
+        EVENT_FOREIGN, /* the lock was released by a thread that didn't hold it */
+        EVENT_ANSWER,  /* it was asked which mutexes are held: up to the next answer follow */
+        EVENT_HOLDER,  /* those that are */
+        EVENT_ERROR,   /* in the use of the lock: `what` says which */
+    } kind;
+    unsigned seat, lock; /* the lock's number in the trace */
+    long thread;         /* of a thread or a holder, as the kernel counts */
+    const char *what;    /* of an error, the word of format.h */
+    const char *name;    /* of the thread, or of the lock; NULL where there is none */
+    const char *maker;   /* the function that made the thread; NULL where that isn't known */
+    const char *site;    /* where; NULL where that isn't known */
+};
+
+/* What a type is called in the ignore file by the functions of its places: no lines are in it. */
+struct alias {
+    const char *type;
+    const char *functions;
+};
+
+/* The single lock of a number in the trace. */
+struct lock_name {
+    const char *name, *type;
+};
+
+struct notes {
+    struct spot *spot; /* spot[N - 1] is that of number N */
+    size_t spots, spot_room;
+    struct frames *frames;
+    size_t framed, frames_room;
+    struct event *event;
+    size_t events, event_room;
+    struct alias *alias;
+    size_t aliases, alias_room;
+    unsigned long *matched; /* lines of the ignore file that named types of this trace, each once */
+    size_t matches, matched_room;
+    const char **blind;     /* objects in which stacks end */
+    size_t blinds, blind_room;
+    struct lock_name *lock; /* lock[N - 1] is that of number N */
+    size_t locks, lock_room;
+    struct single single;   /* the orders of single locks */
+    unsigned long pending;  /* requests that never ended */
+    void *texts;            /* what the texts stand in */
+};
+
+void notes_end(struct notes *notes);
+
+/* The site of a place as it stands in a trace: of `@:NUMBER` the spot's, else the place itself. */
+const char *notes_site(const struct notes *notes, const char *place);
+/* The spot of such a place, NULL where it is none. */
+const struct spot *notes_spot(const struct notes *notes, const char *place);
+
+#endif

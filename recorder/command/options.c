@@ -1,0 +1,280 @@
+#include "options.h"
+
+#include <stdio.h>
+#include <stdlib.h>
+#include <string.h>
+#include <unistd.h>
+
+#include "alarms.h"
+#include "deadlock.h"
+#include "files.h"
+#include "inside.h"
+#include "memory.h"
+#include "usage.h"
+
+/* The number that the word is, without a sign or zeroes before it; -1 where it isn't one from 1 to `most`. */
+static int number_up_to(const char *word, int most)
+{
+    int number = 0;
+    for (const char *at = word; *at; at++) {
+        if (*at < '0' || *at > '9' || at - word > 3)
+            return -1;
+        number = number * 10 + (*at - '0');
+    }
+    return *word == '0' || number < 1 || number > most ? -1 : number;
+}
+
+static void take_keep(struct options *options, const char *word)
+{
+    options->settings.keep = word;
+}
+
+static void take_full(struct options *options, const char *word)
+{
+    (void)word;
+    options->full = true;
+}
+
+static void take_depth(struct options *options, const char *word)
+{
+    options->depth = number_up_to(word, 4);
+    if (options->depth < 0)
+        refuse("--depth is 1 to 4, not %s", word);
+}
+
+static void take_frames(struct options *options, const char *word)
+{
+    options->settings.frames = number_up_to(word, 16);
+    if (options->settings.frames < 0)
+        refuse("--frames is 1 to 16, not %s", word);
+}
+
+static void take_held(struct options *options, const char *word)
+{
+    (void)word;
+    options->held = true;
+}
+
+static void take_semaphores(struct options *options, const char *word)
+{
+    (void)word;
+    options->semaphores = true;
+}
+
+static void take_skip(struct options *options, const char *word)
+{
+    static const char letters[] = "ABCDEFGHIJKLMNOPQRSTUVWXYZabcdefghijklmnopqrstuvwxyz0123456789_*?";
+    static char *skip; /* all of them */
+    char *before = skip;
+    if (*word == '\0' || word[strspn(word, letters)])
+        refuse("--skip takes a function's name without class, namespace or what it is called with, not %s", word);
+    options->settings.skip = skip = before ? say_text("%s:%s", before, word) : copy(word);
+    free(before);
+}
+
+static void take_ignore(struct options *options, const char *word)
+{
+    options->settings.ignore = word;
+}
+
+static void take_error(struct options *options, const char *word)
+{
+    options->settings.error = number_up_to(word, 255);
+    if (options->settings.error < 0)
+        refuse("--error-exitcode is 1 to 255, not %s", word);
+}
+
+static void take_graph(struct options *options, const char *word)
+{
+    size_t length = strlen(word);
+    const char *ending = length < 4 ? "" : word + length - 4;
+    if (strcmp(ending, ".dot") != 0 && strcmp(ending, ".svg") != 0)
+        refuse("--graph takes FILE.svg or FILE.dot, not %s", word);
+    if (strcmp(ending, ".svg") == 0 && !file_is_command("dot"))
+        refuse("--graph %s needs dot (Graphviz), which isn't there; FILE.dot doesn't", word);
+    options->settings.graph = word;
+}
+
+static void take_html(struct options *options, const char *word)
+{
+    options->settings.html = word;
+}
+
+static void take_sarif(struct options *options, const char *word)
+{
+    options->settings.sarif = word;
+}
+
+static void take_json(struct options *options, const char *word)
+{
+    options->settings.json = word;
+}
+
+static void take_log(struct options *options, const char *word)
+{
+    options->settings.log = word;
+}
+
+static void take_suppressions(struct options *options, const char *word)
+{
+    (void)word;
+    options->settings.suppressions = true;
+}
+
+static void take_profile(struct options *options, const char *word)
+{
+    if (strcmp(word, "all") != 0 && strcmp(word, "plain") != 0)
+        refuse("--profile is all or plain, not %s", word);
+    options->settings.all_held = strcmp(word, "all") == 0;
+}
+
+static void take_judge(struct options *options, const char *word)
+{
+    (void)word;
+    options->settings.judge = true;
+}
+
+static void take_alarms(struct options *options, const char *word)
+{
+    struct alarms_wanted wanted = {0};
+    if (!alarms_words(word, &wanted))
+        refuse("--alarms takes all, locks or threads, and gate, readers, timed and apart, by commas, not %s", word);
+    options->settings.alarms = word;
+}
+
+static void take_deadlock(struct options *options, const char *word)
+{
+    int status;
+    if (!deadlock_word(word, &status))
+        refuse("--on-deadlock is tell, kill or exit=N, where N is 1 to 255, not %s", word);
+    options->settings.on_deadlock = word;
+}
+
+static void take_on_report(struct options *options, const char *word)
+{
+    if (!inside_word(word))
+        refuse("--on-report is tell, stop, trap, abort or exit=N, where N is 1 to 255, not %s", word);
+    options->on_report = word;
+}
+
+static void take_gdb(struct options *options, const char *word)
+{
+    (void)word;
+    options->gdb = options->settings.in_debugger = true;
+}
+
+static void take_errors(struct options *options, const char *word)
+{
+    if (strcmp(word, "no") != 0 && strcmp(word, "yes") != 0)
+        refuse("--errors is yes or no, not %s", word);
+    options->settings.no_errors = strcmp(word, "no") == 0;
+}
+
+static void take_quiet(struct options *options, const char *word)
+{
+    (void)word;
+    options->settings.quiet = true;
+}
+
+static void take_target(struct options *options, const char *word)
+{
+    options->target = *word ? word : NULL;
+}
+
+static void take_trace(struct options *options, const char *word)
+{
+    options->trace = *word ? word : NULL;
+}
+
+static void take_clean(struct options *options, const char *word)
+{
+    options->clean = *word ? word : NULL;
+}
+
+static void take_help(struct options *options, const char *word)
+{
+    (void)word;
+    usage(options->here);
+    exit(0);
+}
+
+static const struct option {
+    const char *name;
+    bool has_word;
+    void (*take)(struct options *options, const char *word);
+} known[] = {
+    {"-o", true, take_keep},
+    {"--full", false, take_full},
+    {"--depth", true, take_depth},
+    {"--frames", true, take_frames},
+    {"--semaphores", false, take_semaphores},
+    {"--held-callers", false, take_held},
+    {"--skip", true, take_skip},
+    {"--ignore", true, take_ignore},
+    {"--error-exitcode", true, take_error},
+    {"--graph", true, take_graph},
+    {"--html", true, take_html},
+    {"--sarif", true, take_sarif},
+    {"--json", true, take_json},
+    {"--log-file", true, take_log},
+    {"--gen-suppressions", false, take_suppressions},
+    {"--profile", true, take_profile},
+    {"--judge", false, take_judge},
+    {"--alarms", true, take_alarms},
+    {"--errors", true, take_errors},
+    {"--on-deadlock", true, take_deadlock},
+    {"--on-report", true, take_on_report},
+    {"--gdb", false, take_gdb},
+    {"--quiet", false, take_quiet},
+    {"--show", true, take_target},
+    {"--trace", true, take_trace},
+    {"--clean", true, take_clean},
+    {"--help", false, take_help},
+};
+
+static const struct option *option_of(const char *word)
+{
+    for (size_t i = 0; i < sizeof known / sizeof *known; i++)
+        if (strcmp(known[i].name, word) == 0)
+            return &known[i];
+    refuse("there is no option %s", word);
+}
+
+/* Reads the options. The answer is the first word that is none. */
+static char **read_options(struct options *options, char **words)
+{
+    for (; *words && **words == '-'; words++) {
+        if (strcmp(*words, "--") == 0)
+            return words + 1;
+        const struct option *option = option_of(*words);
+        if (!option->has_word) {
+            option->take(options, NULL);
+            continue;
+        }
+        if (!words[1])
+            refuse("%s needs a word behind it", *words);
+        option->take(options, *++words);
+    }
+    return words;
+}
+
+void options_read(struct options *options, const char *here, char **words)
+{
+    static char *volatile directory; /* lasts to the end, also where the settings come to name another one */
+    const char *frames = getenv("RECORD_FRAMES");
+    directory = get_current_dir_name();
+    if (!frames || *frames == '\0')
+        frames = "8";
+    *options = (struct options){.here = here, .depth = 2};
+    options->settings.directory = directory ? directory : "";
+    options->settings.frames = number_up_to(frames, 16);
+    if (options->settings.frames < 0)
+        refuse("RECORD_FRAMES is 1 to 16, not %s", frames);
+    options->program = read_options(options, words);
+    const char *other = options->target ? "--show" : options->trace ? "--trace" : options->clean ? "--clean" : NULL;
+    if (other && *options->program)
+        refuse("%s runs no program, so %s means nothing", other, *options->program);
+    if (!other && !*options->program)
+        refuse("no program is named");
+    options->settings.program = other ? "" : file_base(*options->program);
+}

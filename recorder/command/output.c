@@ -1,0 +1,114 @@
+#include "output.h"
+
+#include <fcntl.h>
+#include <stdarg.h>
+#include <stdio.h>
+#include <stdlib.h>
+#include <string.h>
+#include <unistd.h>
+
+#include "memory.h"
+#include "write_all.h"
+
+/* The log's name with the process's number for each %p. */
+static char *log_name(const char *log, long process)
+{
+    char *name = NULL;
+    size_t length = 0;
+    FILE *to = open_memstream(&name, &length);
+    if (!to)
+        return copy(log);
+    for (const char *at = log; *at; at++) {
+        if (at[0] == '%' && at[1] == 'p') {
+            fprintf(to, "%ld", process);
+            at++;
+        } else {
+            fputc(*at, to);
+        }
+    }
+    fclose(to);
+    return name;
+}
+
+/* What can't be written to the log stays on standard error. The children of this process write to the log, too. */
+static void open_log(const char *log, long process, int flags)
+{
+    char *name = log_name(log, process);
+    int file = open(name, O_WRONLY | O_CREAT | O_APPEND | O_CLOEXEC | flags, 0666);
+    if (file >= 0) {
+        dup2(file, STDERR_FILENO);
+        close(file);
+    }
+    free(name);
+}
+
+bool output_is_parted(const struct output *output)
+{
+    return output->log && strstr(output->log, "%p");
+}
+
+void output_begin(struct output *output, const char *log, long process)
+{
+    *output = (struct output){.log = log && *log ? log : NULL};
+    if (output->log)
+        open_log(output->log, process, output_is_parted(output) ? 0 : O_TRUNC);
+}
+
+void output_turns_to(struct output *output, long speaker, long process)
+{
+    output->speaker = speaker;
+    if (output_is_parted(output))
+        open_log(output->log, speaker ? speaker : process, 0);
+}
+
+/* The lines, each after the number of its process. */
+static char *with_numbers(long speaker, const char *text, size_t length, size_t *made)
+{
+    char *lines = NULL;
+    FILE *to = open_memstream(&lines, made);
+    const char *end = text + length;
+    if (!to)
+        return NULL;
+    while (text < end) {
+        const char *after = memchr(text, '\n', (size_t)(end - text));
+        after = after ? after + 1 : end;
+        fprintf(to, "==%ld== ", speaker);
+        fwrite(text, 1, (size_t)(after - text), to);
+        text = after;
+    }
+    return fclose(to) == 0 ? lines : NULL;
+}
+
+void tell_report(const struct output *output, const char *text, size_t length)
+{
+    size_t made = 0;
+    bool is_numbered = output->speaker && output->several;
+    char *lines = is_numbered ? with_numbers(output->speaker, text, length, &made) : NULL;
+    write_all(STDERR_FILENO, lines ? lines : text, lines ? made : length);
+    free(lines);
+}
+
+void tell(const struct output *output, const char *text, size_t length)
+{
+    if (output->hear)
+        output->hear(output->by, output->several ? output->speaker : 0, text, length);
+    tell_report(output, text, length);
+}
+
+void say(const struct output *output, const char *format, ...)
+{
+    va_list words;
+    char *text = NULL;
+    size_t length = 0;
+    FILE *to = open_memstream(&text, &length);
+    if (!to)
+        return;
+    fputs("record: ", to);
+    va_start(words, format);
+    vfprintf(to, format, words);
+    va_end(words);
+    fputc('\n', to);
+    if (fclose(to) == 0)
+        tell(output, text, length);
+    free(text);
+}

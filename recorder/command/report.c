@@ -1,0 +1,256 @@
+#include "report.h"
+
+#include <stdlib.h>
+#include <string.h>
+
+#include "memory.h"
+
+static const char reversal[] = "lock order reversal", duplicate[] = "acquiring duplicate lock";
+static const char established[] = "established order:";
+static const char *const classes[] = {"sleep mutex", "rw", "spin mutex", "sx", "rm", "lockmgr"};
+
+static bool begins(const char *text, const char *with)
+{
+    return strncmp(text, with, strlen(with)) == 0;
+}
+
+struct report *reports_add(struct reports *reports, enum report_kind kind, const char *head)
+{
+    struct report *report = &ADD(reports->report, reports->count, reports->room);
+    *report = (struct report){.kind = kind};
+    ADD(report->line, report->lines, report->room) = (struct report_line){.text = copy(head)};
+    return report;
+}
+
+/* What is known of the thread: the last note of it. */
+static const struct event *known_of(const struct notes *notes, long thread)
+{
+    for (size_t i = notes->events; thread && i > 0; i--)
+        if (notes->event[i - 1].kind == EVENT_THREAD && notes->event[i - 1].thread == thread)
+            return &notes->event[i - 1];
+    return NULL;
+}
+
+/* What the line tells of the place, where it is one of the notes'. */
+static void add_spot(struct report_line *line, const struct notes *notes, const char *place)
+{
+    const struct spot *spot = notes_spot(notes, place);
+    if (!spot)
+        return;
+    line->is_spot = true;
+    line->site = spot->site;
+    line->thread = spot->thread;
+    line->known = known_of(notes, spot->thread);
+    if (spot->frames > 0 && spot->frames <= notes->framed)
+        line->frames = &notes->frames[spot->frames - 1];
+}
+
+struct report_line *reports_add_line(struct reports *reports, enum line_kind kind, const char *heading, const char *place)
+{
+    struct report *report = &reports->report[reports->count - 1];
+    struct report_line *line = &ADD(report->line, report->lines, report->room);
+    *line = (struct report_line){.kind = kind, .heading = copy(heading)};
+    add_spot(line, reports->notes, place);
+    line->text = say_text("%s @ %s", heading, line->site ? line->site : place);
+    if (!line->site)
+        line->site = line->text + strlen(heading) + 3;
+    return line;
+}
+
+/* The number that a lock's line begins with, ` 1st "`; NULL where it begins with none. Else what comes after the quote. */
+static const char *after_number(const char *line)
+{
+    if (*line++ != ' ')
+        return NULL;
+    line += strspn(line, "0123456789");
+    if (!begins(line, "st \"") && !begins(line, "nd \"") && !begins(line, "rd \""))
+        return NULL;
+    return line + 4;
+}
+
+/* Where the class of a lock's line stands, after its type: `, CLASS) @ `. */
+static const char *class_in(const char *at, const char **class)
+{
+    for (; (at = strstr(at, ", ")) != NULL; at += 2)
+        for (size_t i = 0; i < sizeof classes / sizeof *classes; i++) {
+            size_t length = strlen(classes[i]);
+            if (begins(at + 2, classes[i]) && begins(at + 2 + length, ") @ ")) {
+                *class = classes[i];
+                return at;
+            }
+        }
+    return NULL;
+}
+
+/* ` 1st "NAME" (TYPE, CLASS) @ PLACE` */
+static bool read_lock(struct report_line *line, const char *text)
+{
+    const char *name = after_number(text), *class = NULL;
+    const char *quote = name ? strchr(name, '"') : NULL;
+    const char *after = quote && begins(quote, "\" (") ? class_in(quote + 3, &class) : NULL;
+    if (!after)
+        return false;
+    line->kind = LINE_LOCK;
+    line->name = copy_bytes(name, (size_t)(quote - name));
+    line->type = copy_bytes(quote + 3, (size_t)(after - quote - 3));
+    line->class = copy(class);
+    line->heading = copy_bytes(text, (size_t)(quote + 1 - text));
+    return true;
+}
+
+/* ` "TYPE" -> "OTHER" @ PLACE` */
+static bool read_step(struct report_line *line, const char *text)
+{
+    const char *type = begins(text, " \"") ? text + 2 : NULL;
+    const char *quote = type ? strchr(type, '"') : NULL;
+    const char *other = quote && begins(quote, "\" -> \"") ? quote + 6 : NULL;
+    const char *end = other ? strchr(other, '"') : NULL;
+    if (!end || !begins(end, "\" @ "))
+        return false;
+    line->kind = LINE_STEP;
+    line->type = copy_bytes(type, (size_t)(quote - type));
+    line->other = copy_bytes(other, (size_t)(end - other));
+    line->heading = copy_bytes(text, (size_t)(end + 1 - text));
+    return true;
+}
+
+/* What a line of another kind says of its place. */
+static char *heading_of(const char *text, const char *place)
+{
+    size_t length = (size_t)(place - text);
+    return copy_bytes(text, length >= 3 && memcmp(place - 3, " @ ", 3) == 0 ? length - 3 : strlen(text));
+}
+
+/* A line of the verifier's, of the last report. */
+static void add_line(struct reports *reports, const char *text)
+{
+    struct report *report = &reports->report[reports->count - 1];
+    struct report_line *line = &ADD(report->line, report->lines, report->room);
+    const char *blank = strrchr(text, ' '), *place = blank ? blank + 1 : text;
+    *line = (struct report_line){.kind = LINE_PLAIN};
+    bool is_read = read_lock(line, text) || read_step(line, text);
+    if (*text == ' ')
+        add_spot(line, reports->notes, place);
+    line->text = say_text("%.*s%s", (int)(place - text), text, line->site ? line->site : place);
+    if (is_read && !line->site)
+        line->site = line->text + (place - text);
+    if (line->is_spot && !is_read)
+        line->heading = heading_of(text, place);
+    if (line->kind == LINE_LOCK) {
+        report->first = report->last;
+        report->last = report->lines - 1;
+    }
+}
+
+static enum report_kind kind_of(const char *line)
+{
+    if (begins(line, reversal))
+        return REPORT_REVERSAL;
+    return begins(line, duplicate) ? REPORT_DUPLICATE : REPORT_OTHER;
+}
+
+/* A type by what doesn't change with the lines of its source. */
+static const char *stable(const struct notes *notes, const char *type)
+{
+    for (size_t i = notes->aliases; i > 0; i--)
+        if (strcmp(notes->alias[i - 1].type, type) == 0)
+            return notes->alias[i - 1].functions;
+    return type;
+}
+
+/* The last two locks of a reversal are those whose types are at odds. */
+static void end_report(struct reports *reports)
+{
+    struct report *report = reports->count > 0 ? &reports->report[reports->count - 1] : NULL;
+    if (!report || report->last == 0 || report->silence)
+        return;
+    const char *last = stable(reports->notes, report->line[report->last].type);
+    if (report->kind == REPORT_DUPLICATE || report->first == 0)
+        report->silence = say_text("\"%s\"", last);
+    else
+        report->silence = say_text("\"%s\" \"%s\"", stable(reports->notes, report->line[report->first].type), last);
+}
+
+static void read_line(struct reports *reports, const char *text)
+{
+    bool is_head = *text && *text != ' ' && !begins(text, established);
+    if (is_head || reports->count == 0) {
+        end_report(reports);
+        reports_add(reports, kind_of(text), text);
+    } else {
+        add_line(reports, text);
+    }
+}
+
+void reports_read(struct reports *reports, const char *told, size_t length)
+{
+    const char *end = told + length;
+    while (told < end) {
+        const char *after = memchr(told, '\n', (size_t)(end - told));
+        char *text = copy_bytes(told, (size_t)((after ? after : end) - told));
+        read_line(reports, text);
+        free(text);
+        told = after ? after + 1 : end;
+    }
+    end_report(reports);
+}
+
+unsigned long reports_counted(const struct reports *reports)
+{
+    unsigned long count = 0;
+    for (size_t i = 0; i < reports->count; i++)
+        count += reports->report[i].kind == REPORT_REVERSAL || reports->report[i].kind == REPORT_DUPLICATE;
+    return count;
+}
+
+unsigned long reports_circles(const struct reports *reports)
+{
+    unsigned long count = 0;
+    for (size_t i = 0; i < reports->count; i++)
+        count += reports->report[i].kind == REPORT_CIRCLE || reports->report[i].kind == REPORT_SELF;
+    return count;
+}
+
+static void free_line(struct report_line *line)
+{
+    free(line->text);
+    free(line->heading);
+    free(line->name);
+    free(line->type);
+    free(line->class);
+    free(line->other);
+}
+
+void reports_end(struct reports *reports)
+{
+    for (size_t i = 0; i < reports->count; i++) {
+        struct report *report = &reports->report[i];
+        for (size_t j = 0; j < report->lines; j++)
+            free_line(&report->line[j]);
+        free(report->line);
+        free(report->silence);
+    }
+    free(reports->report);
+    *reports = (struct reports){0};
+}
+
+char *report_about(const struct report *report)
+{
+    const struct report_line *first = &report->line[report->first], *last = &report->line[report->last];
+    if (report->first && report->last)
+        return say_text("\"%s\" and \"%s\" @ %s", first->name, last->name, last->site);
+    return say_text("\"%s\"", report->line[0].text);
+}
+
+char *report_lines(const struct report *report)
+{
+    char *text = NULL;
+    size_t length = 0;
+    FILE *to = open_memstream(&text, &length);
+    if (!to)
+        return copy("");
+    for (size_t i = 0; i < report->lines; i++)
+        fprintf(to, "%s\n", report->line[i].text);
+    fclose(to);
+    return text;
+}

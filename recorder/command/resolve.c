@@ -1,0 +1,77 @@
+#include "resolve.h"
+
+#include "declared.h"
+#include "ignore.h"
+#include "memory.h"
+#include "sites.h"
+#include "symbols.h"
+#include "texts.h"
+#include "trace.h"
+#include "types.h"
+
+#include <stdlib.h>
+
+struct resolver {
+    const struct settings *settings;
+    struct symbols *symbols;
+    struct ignore ignore;
+};
+
+struct resolver *resolver_new(const struct settings *settings)
+{
+    struct resolver *resolver = take(sizeof *resolver);
+    resolver->settings = settings;
+    resolver->symbols = symbols_new(settings->skip);
+    if (settings->ignore && *settings->ignore)
+        ignore_read(&resolver->ignore, settings->ignore);
+    return resolver;
+}
+
+void resolver_end(struct resolver *resolver)
+{
+    if (!resolver)
+        return;
+    symbols_end(resolver->symbols);
+    ignore_end(&resolver->ignore);
+    free(resolver);
+}
+
+void resolver_rests(struct resolver *resolver)
+{
+    symbols_rest(resolver->symbols);
+}
+
+bool resolve(struct resolver *resolver, const struct stream *stream, bool silence, FILE *trace, struct notes *notes)
+{
+    const struct settings *settings = resolver->settings;
+    struct declared declared;
+    struct types types;
+    struct peace peace;
+    struct sites sites;
+    if (notes)
+        *notes = (struct notes){.texts = texts_new()};
+    if (silence && resolver->ignore.is_unread)
+        return false;
+    declared_read(&declared, stream, resolver->symbols, settings->progress);
+    sites_begin(&sites, &declared, settings->directory, notes ? notes->texts : declared.texts);
+    types_begin(&types, &declared);
+    peace_begin(&peace, silence ? &resolver->ignore : NULL, &types, notes);
+    struct making making = {
+        .stream = stream,
+        .declared = &declared,
+        .types = &types,
+        .peace = &peace,
+        .sites = &sites,
+        .notes = notes,
+        .frames = settings->frames > 1 ? (size_t)settings->frames : 1,
+        .all_held = settings->all_held,
+        .progress = settings->progress,
+        .trace = trace,
+    };
+    bool written = trace_write(&making) && !declared.is_odd;
+    peace_end(&peace);
+    types_end(&types);
+    sites_end(&sites);
+    declared_end(&declared);
+    return written;
+}

@@ -1,0 +1,33 @@
+/*
+ * From a recorder's file to a trace with names and source lines.
+ */
+#ifndef RECORD_RESOLVE_H
+#define RECORD_RESOLVE_H
+
+#include <stdbool.h>
+#include <stdio.h>
+
+#include "notes.h"
+#include "settings.h"
+#include "stream.h"
+
+/* Holds the symbol tools' children, one for each object, and what they answered: for all files of a run. */
+struct resolver;
+
+struct resolver *resolver_new(const struct settings *settings);
+void resolver_end(struct resolver *resolver);
+
+/* The symbol tools end; what they answered is kept, and they are started again where more is to be known. */
+void resolver_rests(struct resolver *resolver);
+
+/* The symbol tools end; what they answered is kept, and they are started again where more is to be known. */
+void resolver_rests(struct resolver *resolver);
+
+/*
+ * Writes the stream's trace, and the notes, which are the caller's to end in any case. Where they are NULL none are made, and
+ * places stand in the trace themselves. With `silence` the user's ignore file counts. False where the trace can't be written,
+ * the ignore file can't be read, or the stream has numbers that no recorder writes: what could be made is there.
+ */
+bool resolve(struct resolver *resolver, const struct stream *stream, bool silence, FILE *trace, struct notes *notes);
+
+#endif

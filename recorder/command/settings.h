@@ -1,0 +1,36 @@
+/*
+ * What was asked of `record`. An empty word or NULL is: nothing was asked.
+ */
+#ifndef RECORD_SETTINGS_H
+#define RECORD_SETTINGS_H
+
+#include <stdbool.h>
+#include <time.h>
+
+struct settings {
+    const char *keep;      /* -o FILE */
+    const char *ignore;    /* --ignore FILE */
+    const char *log;       /* --log-file FILE */
+    const char *graph;     /* --graph FILE */
+    const char *html;      /* --html FILE */
+    const char *sarif;     /* --sarif FILE */
+    const char *json;      /* --json FILE */
+    const char *witness;   /* the program that replays */
+    const char *program;   /* the program's name, as it is told */
+    const char *misfit;    /* why the program can't be recorded, where that is known */
+    const char *little;    /* why there was little room */
+    const char *skip;      /* --skip: patterns, by colons */
+    const char *directory; /* left out at the head of the names of source files */
+    time_t built;          /* when the program was last changed, 0 where that isn't known */
+    int error;             /* --error-exitcode, 0 where there is none */
+    int frames;            /* --frames */
+    const char *on_deadlock; /* --on-deadlock: tell, kill, exit=N; NULL is tell */
+    const char *alarms;    /* --alarms: which reports count for the status */
+    bool suppressions, all_held, judge;
+    bool no_errors;        /* errors in the use of locks aren't told */
+    bool in_debugger;      /* the program's process is a debugger's child */
+    bool quiet;            /* nothing is told before the program has ended */
+    bool progress;         /* somebody sits at a terminal */
+};
+
+#endif

@@ -1,0 +1,57 @@
+/*
+ * The orders of single locks that a recorder's file has (recorder/singles.c): which thread asked for which lock while it
+ * held which others; and which thread was made or joined when.
+ */
+#ifndef RECORD_SINGLE_H
+#define RECORD_SINGLE_H
+
+#include <stdbool.h>
+#include <stddef.h>
+#include <stdint.h>
+
+/* A lock of an order. Its serial number is no other lock's; its number in the trace may be one that another had before. */
+struct single_lock {
+    uint32_t number, serial;
+    bool shared, timed;
+};
+
+/* The last lock was asked for by the thread while it held the others, oldest first. */
+struct single_order {
+    long thread; /* as the kernel counts */
+    unsigned long at; /* when it did so first */
+    const struct single_lock *lock;
+    size_t locks;
+};
+
+struct single_life {
+    long thread, maker; /* 0 where that isn't known */
+    unsigned long made_at;
+};
+
+struct single_join {
+    long thread, by;
+    unsigned long at;
+};
+
+struct single {
+    struct single_order *order;
+    size_t orders, order_room;
+    struct single_life *life;
+    size_t lives, life_room;
+    struct single_join *join;
+    size_t joins, join_room;
+    struct single_order *many; /* after chains of these types further orders aren't known; of no thread */
+    size_t manys, many_room;
+};
+
+/* Takes in a line, if it is one of these words; a malformed one is passed over. */
+void single_read(struct single *single, const char *line, size_t length);
+void single_end(struct single *single);
+
+/*
+ * Whether the thread of the one order was joined before the other's was made, or one that made that in turn, by the thread
+ * that joined; or by the other's thread itself, before it first did so.
+ */
+bool single_is_before(const struct single *single, const struct single_order *one, const struct single_order *other);
+
+#endif

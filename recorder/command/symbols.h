@@ -1,0 +1,50 @@
+/*
+ * What symbol tools know: of an object's addresses the functions and source lines, by addr2line; of mangled names of
+ * variables those in the source, by c++filt. Each is asked for once, and the tools stay open. Where a tool isn't there, ends,
+ * says nothing for too long or talks nonsense, nothing is known.
+ */
+#ifndef RECORD_SYMBOLS_H
+#define RECORD_SYMBOLS_H
+
+#include <stdbool.h>
+#include <stddef.h>
+#include <stdint.h>
+
+/* A function at an address. All but the last one of them were inlined. */
+struct inlined {
+    const char *function; /* without what it takes; NULL of a place by name that has none */
+    const char *site;     /* FILE:LINE */
+    bool is_skipped;      /* it says nothing about a call */
+};
+
+/* What is known of an address. */
+struct code {
+    const char *function; /* NULL where there is none */
+    size_t count;
+    const struct inlined *frame; /* innermost first */
+};
+
+struct symbols;
+struct binary;
+
+/* The patterns are those of --skip, parted by colons. */
+struct symbols *symbols_new(const char *patterns);
+void symbols_end(struct symbols *symbols);
+/* The tools end, until more is asked for. */
+void symbols_rest(struct symbols *symbols);
+
+/* Of the file of that name; it ends with the symbols. */
+struct binary *symbols_binary(struct symbols *symbols, const char *path);
+
+/* The address, or the mangled name, is to be asked for. */
+void binary_wants(struct binary *binary, uint64_t offset);
+void symbols_want(struct symbols *symbols, const char *mangled);
+/* Asks for all that is wanted and wasn't asked for before. */
+void symbols_ask(struct symbols *symbols);
+
+/* Never NULL. */
+const struct code *binary_code(const struct binary *binary, uint64_t offset);
+/* The name in the source, else the name itself. */
+const char *symbols_name(const struct symbols *symbols, const char *mangled);
+
+#endif

@@ -1,0 +1,20 @@
+/*
+ * Small things that end together: texts, and what is as short-lived as they.
+ */
+#ifndef RECORD_TEXTS_H
+#define RECORD_TEXTS_H
+
+#include <stddef.h>
+
+struct texts;
+
+struct texts *texts_new(void);
+void texts_end(struct texts *texts); /* NULL is nothing */
+
+/* Room for so many bytes, all zeroes, for anything that isn't aligned more than a pointer. */
+void *texts_room(struct texts *texts, size_t bytes);
+/* The bytes as a text. */
+const char *texts_copy(struct texts *texts, const char *bytes, size_t length);
+const char *texts_say(struct texts *texts, const char *format, ...) __attribute__((format(printf, 2, 3)));
+
+#endif

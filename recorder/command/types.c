@@ -1,0 +1,380 @@
+#include "types.h"
+
+#include "map.h"
+#include "memory.h"
+#include "names.h"
+#include "sites.h"
+#include "texts.h"
+
+#include <inttypes.h>
+#include <stdio.h>
+#include <stdlib.h>
+#include <string.h>
+
+/*
+ * What a trace has room for, and what is kept of a name that its object follows; and how many types a variable may
+ * be: of more it is an array, and one type.
+ */
+enum { NAME_MOST = 63, NAME_KEPT = 40, FEW_TYPES = 16 };
+
+/* A text that grows. */
+struct text {
+    char *bytes;
+    size_t length, room;
+};
+
+/* A type as it is named. */
+struct naming {
+    struct text source, plain, functions;
+    const char *claim; /* the name that it would have */
+};
+
+struct namer {
+    const struct declared *declared;
+    struct types *types;
+    struct naming *naming;
+    struct map taken;
+    struct map variables; /* how many types each variable is */
+    size_t steps; /* of the type that is being named */
+};
+
+static void add(struct text *text, const char *more)
+{
+    size_t length = strlen(more);
+    if (text->length + length + 1 > text->room) {
+        text->room = 2 * (text->length + length + 1);
+        text->bytes = grow(text->bytes, text->room, 1);
+    }
+    memcpy(text->bytes + text->length, more, length + 1);
+    text->length += length;
+}
+
+static const char *bytes_of(const struct text *text)
+{
+    return text->bytes ? text->bytes : "";
+}
+
+const char *cut_name(struct texts *texts, const char *text, const char *tail)
+{
+    size_t kept = strlen(tail) < NAME_MOST ? NAME_MOST - strlen(tail) : 0;
+    return texts_say(texts, "%.*s%.*s", (int)kept, text, NAME_MOST, tail);
+}
+
+/* One caller more of the type: so many as it has places, whether they were inlined or not. */
+static void step(struct namer *namer, uint32_t number, const char *identity, const char *name, const char *function)
+{
+    struct naming *naming = &namer->naming[number];
+    if (namer->steps == namer->declared->deepest)
+        return;
+    add(&naming->source, " < ");
+    add(&naming->source, identity);
+    if (!namer->declared->type[number].has_variable) {
+        char *clean = copy(function ? function : name);
+        clean_name(clean);
+        add(&naming->plain, namer->steps ? "<" : "");
+        add(&naming->plain, name);
+        add(&naming->functions, namer->steps ? "<" : "");
+        add(&naming->functions, clean);
+        add(&naming->functions, function ? "()" : "");
+        free(clean);
+    }
+    namer->steps++;
+}
+
+static void step_to_frame(struct namer *namer, uint32_t number, const struct inlined *frame)
+{
+    step(namer, number, frame->site, base_of(frame->site), frame->function);
+}
+
+/* A place of which the symbols know no line. */
+static void step_to_unknown(struct namer *namer, uint32_t number, const struct place *place)
+{
+    const char *path = object_of(namer->declared, place->object)->path;
+    const char *function = function_of(namer->declared, place);
+    char *identity = say_text("%s+%" PRIx64, path ? path : "", place->offset);
+    char *unknown = unknown_place(namer->declared, place);
+    char *name = say_text("%s+0x%" PRIx64, function ? function : "", place->within);
+    if (place->function)
+        step(namer, number, identity, name, function);
+    else
+        step(namer, number, identity, unknown, unknown);
+    free(name);
+    free(unknown);
+    free(identity);
+}
+
+/* Whether the place is in C++'s library alone, as that is from which a thread's function is called. */
+static bool is_of_library_alone(const struct declared *declared, const struct place *place, const struct code *code)
+{
+    const char *path = object_of(declared, place->object)->path;
+    if (path && is_library_object(path))
+        return true;
+    return code->count > 0 && telling_frame(code, 0) == code->count;
+}
+
+static void step_to_place(struct namer *namer, uint32_t number, const struct place *place)
+{
+    const struct declared *declared = namer->declared;
+    for (; place->kind == PLACE_PAIR; place = place_of(declared, place->rest)) {
+        const struct place *library = place_of(declared, place->library);
+        if (place_says(declared, library))
+            step_to_place(namer, number, library);
+    }
+    const struct code *code = code_of(declared, place);
+    if (place->kind == PLACE_NONE || (namer->steps > 0 && is_of_library_alone(declared, place, code)))
+        return;
+    size_t frame = telling_frame(code, 0);
+    if (frame == code->count && code->count > 0)
+        step_to_frame(namer, number, &code->frame[code->count - 1]);
+    else if (frame == code->count)
+        step_to_unknown(namer, number, place);
+    for (; frame < code->count; frame = telling_frame(code, frame + 1))
+        step_to_frame(namer, number, &code->frame[frame]);
+}
+
+/* The variable that a lock of the type stands in, as a text of one's own; NULL where no lock of it was met in one. */
+static char *variable_of(const struct declared *declared, const struct type *type)
+{
+    const struct variable *variable = &type->variable;
+    const char *path = object_of(declared, variable->object)->path;
+    if (!type->has_variable || type->count > 0 || !variable->name)
+        return NULL;
+    return say_text("%s %s %" PRId64, type->class ? type->class : "", path ? path : "",
+        (int64_t)(variable->offset - variable->within));
+}
+
+static void count_variables(struct namer *namer)
+{
+    for (uint32_t number = 1; number < namer->types->count; number++) {
+        char *variable = variable_of(namer->declared, &namer->declared->type[number]);
+        if (variable)
+            ++*map_add_text(&namer->variables, variable);
+        free(variable);
+    }
+}
+
+/* A type that is an array, or a part of one. */
+static bool read_array(struct namer *namer, uint32_t number)
+{
+    const struct type *type = &namer->declared->type[number];
+    char *variable = variable_of(namer->declared, type);
+    bool is_array = variable && map_find_text(&namer->variables, variable) > FEW_TYPES;
+    if (is_array) {
+        struct variable whole = type->variable;
+        whole.within = 0;
+        add(&namer->naming[number].source, variable);
+        add(&namer->naming[number].plain, variable_name(namer->declared, &whole));
+        add(&namer->naming[number].plain, "[]");
+    }
+    free(variable);
+    return is_array;
+}
+
+static void read_variable_type(struct namer *namer, uint32_t number)
+{
+    const struct type *type = &namer->declared->type[number];
+    const struct variable *variable = &type->variable;
+    struct naming *naming = &namer->naming[number];
+    const char *path = object_of(namer->declared, variable->object)->path;
+    char *identity = say_text(" %s %" PRId64, path ? path : "",
+        (int64_t)(variable->offset - (type->count > 0 ? variable->within : 0)));
+    const char *name = variable_name(namer->declared, variable);
+    namer->types->type[number].variable = name;
+    add(&naming->source, identity);
+    add(&naming->plain, name);
+    free(identity);
+}
+
+/* The line at the end of a label, `(FILE:LINE)`, goes with the file's changes: it is left out, in place. */
+static void leave_line_out(char *label)
+{
+    size_t length = strlen(label), end = length > 0 && label[length - 1] == ')' ? length - 1 : 0, at = end;
+    while (at > 0 && label[at - 1] >= '0' && label[at - 1] <= '9')
+        at--;
+    if (at > 0 && at < end && label[at - 1] == ':')
+        memmove(label + at - 1, label + end, length - end + 1);
+}
+
+/* A type that the program names: the place where it was made is its source, and no part of its name. */
+static void read_label(struct namer *namer, uint32_t number)
+{
+    const struct type *type = &namer->declared->type[number];
+    struct naming *naming = &namer->naming[number];
+    char *label = copy(type->label);
+    char *made = type->count > 0 ? source_of(namer->declared, place_of(namer->declared, type->place[0])) : copy("");
+    clean_name(label);
+    add(&naming->source, " ");
+    add(&naming->source, label);
+    add(&naming->source, " ");
+    add(&naming->source, made);
+    add(&naming->plain, label);
+    leave_line_out(label);
+    add(&naming->functions, label);
+    free(made);
+    free(label);
+}
+
+/* Where a type comes from, and what it would be called. */
+static void read_type(struct namer *namer, uint32_t number)
+{
+    const struct type *type = &namer->declared->type[number];
+    struct naming *naming = &namer->naming[number];
+    if (read_array(namer, number))
+        return;
+    add(&naming->source, type->class ? type->class : "");
+    if (type->has_variable)
+        read_variable_type(namer, number);
+    if (type->label)
+        read_label(namer, number);
+    namer->steps = 0;
+    for (size_t i = 0; i < type->count && !type->label; i++)
+        step_to_place(namer, number, place_of(namer->declared, type->place[i]));
+    if (naming->plain.length == 0)
+        add(&naming->plain, "?");
+    clean_name(naming->plain.bytes);
+}
+
+static bool is_first(const struct namer *namer, uint32_t number)
+{
+    return namer->types->type[number].first == number;
+}
+
+/* Types that come from the same source are one, whatever the compiler made of it. */
+static void find_first(struct namer *namer)
+{
+    struct map first = {0};
+    struct named_type *type = namer->types->type;
+    for (uint32_t number = 1; number < namer->types->count; number++) {
+        read_type(namer, number);
+        size_t *found = map_add_text(&first, bytes_of(&namer->naming[number].source));
+        if (*found == 0) {
+            *found = number;
+            namer->types->different++;
+        }
+        type[number].first = (uint32_t)*found;
+        type[*found].merged++;
+    }
+    map_end(&first);
+}
+
+/* Counts the types that would have a name. */
+static void claim_names(struct namer *namer, struct map *claims)
+{
+    for (uint32_t number = 1; number < namer->types->count; number++) {
+        struct naming *naming = &namer->naming[number];
+        if (!is_first(namer, number))
+            continue;
+        naming->claim = cut_name(namer->declared->texts, bytes_of(&naming->plain), "");
+        ++*map_add_text(claims, naming->claim);
+    }
+}
+
+/* Where several types have one name, variables say their object. */
+static void part_variables(struct namer *namer)
+{
+    struct map claims = {0};
+    struct texts *texts = namer->declared->texts;
+    claim_names(namer, &claims);
+    for (uint32_t number = 1; number < namer->types->count; number++) {
+        const struct type *type = &namer->declared->type[number];
+        struct text *plain = &namer->naming[number].plain;
+        if (!is_first(namer, number) || !type->has_variable ||
+            map_find_text(&claims, namer->naming[number].claim) < 2)
+            continue;
+        char *object = say_text("%s)", object_name(namer->declared, type->variable.object));
+        bool closes = plain->bytes[plain->length - 1] == ')';
+        const char *head =
+            texts_say(texts, "%.*s%s", (int)(plain->length - closes), plain->bytes, closes ? ", " : " (");
+        clean_name(object);
+        const char *parted = cut_name(texts, texts_say(texts, "%.*s", NAME_KEPT, head), object);
+        plain->length = 0;
+        add(plain, parted);
+        free(object);
+    }
+    map_end(&claims);
+}
+
+/* A name that no other type has. */
+static const char *single(struct namer *namer, const char *name)
+{
+    char tail[24];
+    const char *tried = name;
+    for (unsigned long n = 2; map_has_text(&namer->taken, tried); n++) {
+        snprintf(tail, sizeof tail, "#%lu", n);
+        tried = cut_name(namer->declared->texts, name, tail);
+    }
+    *map_add_text(&namer->taken, tried) = 1;
+    return tried;
+}
+
+/* A type that claims a name. */
+struct claimant {
+    const char *source;
+    uint32_t number;
+};
+
+static int by_source(const void *left, const void *right)
+{
+    const struct claimant *one = left, *other = right;
+    int order = strcmp(one->source, other->source);
+    return order ? order : (one->number > other->number) - (one->number < other->number);
+}
+
+/* All that claim the name of that type get theirs, in the order of their sources. */
+static void name_claimants(struct namer *namer, uint32_t from)
+{
+    struct claimant *claimant = NULL;
+    size_t claimants = 0, room = 0;
+    const char *name = namer->naming[from].claim;
+    for (uint32_t number = from; number < namer->types->count; number++)
+        if (is_first(namer, number) && strcmp(namer->naming[number].claim, name) == 0)
+            ADD(claimant, claimants, room) = (struct claimant){bytes_of(&namer->naming[number].source), number};
+    qsort(claimant, claimants, sizeof *claimant, by_source);
+    for (size_t i = 0; i < claimants; i++)
+        namer->types->type[claimant[i].number].name = single(namer, name);
+    free(claimant);
+}
+
+/* What is called equal still is numbered. Giant is the kernel's own lock, with rules that no program's has. */
+static void give_names(struct namer *namer)
+{
+    struct map claims = {0};
+    struct named_type *type = namer->types->type;
+    *map_add_text(&namer->taken, "Giant") = 1;
+    claim_names(namer, &claims);
+    map_end(&claims);
+    for (uint32_t number = 1; number < namer->types->count; number++) {
+        const struct text *functions = &namer->naming[number].functions;
+        if (is_first(namer, number) && !type[number].name)
+            name_claimants(namer, number);
+        type[number].name = type[type[number].first].name;
+        if (functions->bytes)
+            type[number].functions = texts_copy(namer->declared->texts, functions->bytes, functions->length);
+    }
+    map_end(&namer->taken);
+    map_end(&namer->variables);
+}
+
+void types_begin(struct types *types, const struct declared *declared)
+{
+    struct namer namer = {.declared = declared, .types = types};
+    *types = (struct types){.count = declared->types};
+    types->type = take(types->count * sizeof *types->type);
+    namer.naming = take(types->count * sizeof *namer.naming);
+    count_variables(&namer);
+    find_first(&namer);
+    part_variables(&namer);
+    give_names(&namer);
+    for (size_t i = 0; i < types->count; i++) {
+        free(namer.naming[i].source.bytes);
+        free(namer.naming[i].plain.bytes);
+        free(namer.naming[i].functions.bytes);
+    }
+    free(namer.naming);
+}
+
+void types_end(struct types *types)
+{
+    free(types->type);
+    *types = (struct types){0};
+}

@@ -1,0 +1,34 @@
+/*
+ * The types of a trace: which of a stream's are one, and what they are called.
+ */
+#ifndef RECORD_TYPES_H
+#define RECORD_TYPES_H
+
+#include <stddef.h>
+#include <stdint.h>
+
+#include "declared.h"
+
+/* A stream's type. Those that come from the same source are one: the first of them, whose names they have. */
+struct named_type {
+    uint32_t first;
+    const char *name;      /* at most 63 bytes; no other type has it */
+    const char *functions; /* the functions of its places; NULL where its name is that of a variable */
+    const char *variable;  /* the type's own variable; NULL where it has none */
+    size_t merged;         /* of a first one: how many types it is */
+    size_t made;           /* how many locks of it were named by now */
+};
+
+struct types {
+    struct named_type *type; /* by the stream's numbers, from 1 on */
+    size_t count;            /* one more than the highest number */
+    size_t different;
+};
+
+void types_begin(struct types *types, const struct declared *declared);
+void types_end(struct types *types);
+
+/* The text as a name of at most 63 bytes, of which the tail isn't cut. */
+const char *cut_name(struct texts *texts, const char *text, const char *tail);
+
+#endif

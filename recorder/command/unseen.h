@@ -1,0 +1,14 @@
+/*
+ * Which locks aren't seen, by the objects that a run had loaded. Libraries with such locks are known by their names. Others
+ * are known by what such locks leave in the files of programs and libraries: names of functions, and where those are
+ * stripped, the names of sources that messages have.
+ */
+#ifndef RECORD_UNSEEN_H
+#define RECORD_UNSEEN_H
+
+#include <stddef.h>
+
+/* The kinds of locks that the objects of these names have, by commas: a text of one's own, empty where there are none. */
+char *unseen_locks(const char *const *object, size_t objects);
+
+#endif

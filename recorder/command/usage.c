@@ -1,0 +1,79 @@
+#include "usage.h"
+
+#include <stdarg.h>
+#include <stdio.h>
+#include <stdlib.h>
+
+enum { REFUSED = 2, FAILED = 126 };
+
+static const char text[] =
+    "recorder/record [OPTIONS] [--] PROGRAM [ARGS..]\n"
+    "recorder/record [OPTIONS] --show PID|FILE\n"
+    "Runs the program, records its pthread and C11 locks, and shows the lock order reversals on standard error. Its status\n"
+    "is the program's own.\n"
+    "  -o FILE        keep the trace; of further processes as FILE.1, FILE.2 ..\n"
+    "  --full         write every call in place of those that can tell something new\n"
+    "  --depth N      so many callers of a lock's initialisation name its type: 1 to 4, else 2\n"
+    "  --frames N     a stack has at most so many frames: 1 to 16, else RECORD_FRAMES or 8; 1 shows neither stacks nor threads\n"
+    "  --semaphores   those made with 1 that their waiters post are locks, too\n"
+    "  --held-callers stacks of all that was held, not of the first at each place; each lock takes longer\n"
+    "  --skip PATTERN functions of that name (* and ? as in names of files) count as part of the lock's own call\n"
+    "  --ignore FILE  lines \"TYPE\": its duplicates are all right; lines \"TYPE\" \"TYPE\": either order is all right\n"
+    "  --error-exitcode N   the status, 1 to 255, where there is a report, a circle or an error, or nothing was recorded at all\n"
+    "  --log-file FILE      in place of standard error; %p is the process's number, and each process has a file then\n"
+    "  --gen-suppressions   below each report the line for the ignore file that would silence it\n"
+    "  --graph FILE   a picture of the orders, reversals red: FILE.svg where dot is there, or FILE.dot\n"
+    "  --html FILE    a page with the reports, their sources and the picture of the orders\n"
+    "  --sarif FILE   the reports as SARIF 2.1.0, for code scanning\n"
+    "  --json FILE    the reports as JSON, for programs\n"
+    "  --profile all  for programs that try locks: the trace is replayed in the all-held profile\n"
+    "  --judge        look whether the trace's lines stand in an order that locks can have had\n"
+    "  --alarms WORDS which reports count for that status, by commas: all, or those of the same locks (locks), or of such\n"
+    "                 by two threads (threads); without those kept apart by a gate, readers, timed, apart\n"
+    "  --errors no    tell nothing of errors in the use of locks: a thread that ends with one held, and its like\n"
+    "  --on-deadlock WORD   where threads have waited for one another for a second: tell, kill the process, or exit=N, which\n"
+    "                 kills it and is the status\n"
+    "  --on-report WORD     what the program does at a report, before it asks for the lock: stop, for a debugger, trap, abort or\n"
+    "                 exit=N; libwitness is inside it then\n"
+    "  --gdb          run it in gdb, which stands there\n"
+    "  --quiet        tell nothing before the program has ended\n"
+    "  --show PID|FILE      what there is so far of a recorded program that goes on, or of a recorder's file\n"
+    "  --trace FILE   run nothing, and write the trace of a recorder's file to standard output\n"
+    "  --clean FILE   run nothing, and write whether a trace is clean: which line stands against it, if any\n"
+    "  --help         this text\n"
+    "Locks that aren't pthread's (futexes, atomics) are recorded where the program tells of them by the macros of\n";
+
+void usage(const char *here)
+{
+    fputs(text, stdout);
+    printf("%s/witness.h, a header for C and C++ with no library to link.\n", here);
+}
+
+static _Noreturn void leave(int status, const char *format, va_list words, const char *after)
+{
+    fputs("record: ", stderr);
+    vfprintf(stderr, format, words);
+    fputs(after, stderr);
+    exit(status);
+}
+
+void refuse(const char *format, ...)
+{
+    va_list words;
+    va_start(words, format);
+    leave(REFUSED, format, words, "; record --help tells how it is used\n");
+}
+
+void refuse_target(const char *format, ...)
+{
+    va_list words;
+    va_start(words, format);
+    leave(REFUSED, format, words, "\n");
+}
+
+void fail(const char *format, ...)
+{
+    va_list words;
+    va_start(words, format);
+    leave(FAILED, format, words, "\n");
+}

@@ -1,0 +1,19 @@
+/*
+ * How `record` is used, and how it ends before anything was run.
+ */
+#ifndef RECORD_USAGE_H
+#define RECORD_USAGE_H
+
+/* Tells on standard output how it is used; `here` is the folder of the recorder's sources. */
+void usage(const char *here);
+
+/* The command line is wrong: a line that says why, and the status 2. */
+_Noreturn void refuse(const char *format, ...) __attribute__((format(printf, 1, 2)));
+
+/* There is nothing to be looked at: a line that says why, and the status 2. */
+_Noreturn void refuse_target(const char *format, ...) __attribute__((format(printf, 1, 2)));
+
+/* What keeps the program from being run at all: a line that says it, and the status 126. */
+_Noreturn void fail(const char *format, ...) __attribute__((format(printf, 1, 2)));
+
+#endif

@@ -1,0 +1,133 @@
+#include "verdict.h"
+
+#include <errno.h>
+#include <fcntl.h>
+#include <poll.h>
+#include <signal.h>
+#include <spawn.h>
+#include <sys/wait.h>
+#include <unistd.h>
+
+enum { PIPE_BYTES = 1 << 20, READ_BYTES = 1 << 16 };
+
+extern char **environ;
+
+/* Its standard input and output are these files. This process ignores the loss of a reader, its children don't. */
+static void spawn(struct verdict *verdict, const char *witness, const char *word, int in, int out, bool quiet)
+{
+    posix_spawn_file_actions_t files;
+    posix_spawnattr_t how;
+    sigset_t broken;
+    char *words[] = {(char *)witness, (char *)word, NULL};
+    sigemptyset(&broken);
+    sigaddset(&broken, SIGPIPE);
+    posix_spawnattr_init(&how);
+    posix_spawnattr_setsigdefault(&how, &broken);
+    posix_spawnattr_setflags(&how, POSIX_SPAWN_SETSIGDEF);
+    posix_spawn_file_actions_init(&files);
+    posix_spawn_file_actions_adddup2(&files, in, STDIN_FILENO);
+    posix_spawn_file_actions_adddup2(&files, out, STDOUT_FILENO);
+    if (quiet)
+        posix_spawn_file_actions_addopen(&files, STDERR_FILENO, "/dev/null", O_WRONLY, 0);
+    int error = posix_spawnp(&verdict->process, witness, &files, &how, words, environ);
+    posix_spawn_file_actions_destroy(&files);
+    posix_spawnattr_destroy(&how);
+    if (error) {
+        verdict->process = 0;
+        verdict->status = error == ENOENT ? 127 : 126;
+    }
+}
+
+/* Begins it with that file for its input, or with a pipe. */
+static void begin(struct verdict *verdict, const char *witness, const char *word, int trace, FILE *told)
+{
+    int in[2] = {trace, -1}, out[2];
+    *verdict = (struct verdict){.told = told, .status = 126, .in = -1, .out = -1};
+    if (trace < 0 && pipe2(in, O_CLOEXEC) != 0)
+        return;
+    if (pipe2(out, O_CLOEXEC) != 0) {
+        if (trace < 0) {
+            close(in[0]);
+            close(in[1]);
+        }
+        return;
+    }
+    spawn(verdict, witness, word, in[0], out[1], trace >= 0);
+    close(out[1]);
+    verdict->out = out[0];
+    if (trace >= 0)
+        return;
+    close(in[0]);
+    verdict->in = in[1];
+    fcntl(in[1], F_SETFL, O_NONBLOCK);
+    fcntl(in[1], F_SETPIPE_SZ, PIPE_BYTES);
+}
+
+void verdict_begin(struct verdict *verdict, const char *witness, const char *word, FILE *told)
+{
+    begin(verdict, witness, word, -1, told);
+}
+
+static void close_file(int *file)
+{
+    if (*file >= 0)
+        close(*file);
+    *file = -1;
+}
+
+/* Takes what it has told. */
+static void take_output(struct verdict *verdict)
+{
+    char bytes[READ_BYTES];
+    ssize_t length = read(verdict->out, bytes, sizeof bytes);
+    if (length > 0)
+        fwrite(bytes, 1, (size_t)length, verdict->told);
+    else if (length == 0 || errno != EINTR)
+        close_file(&verdict->out);
+}
+
+/* What it tells is taken between, so that neither waits for the other. */
+void verdict_feed(struct verdict *verdict, const char *bytes, size_t length)
+{
+    while (length > 0 && verdict->in >= 0) {
+        struct pollfd files[] = {{.fd = verdict->in, .events = POLLOUT}, {.fd = verdict->out, .events = POLLIN}};
+        if (poll(files, 2, -1) < 0 && errno != EINTR)
+            return;
+        if (files[1].revents)
+            take_output(verdict);
+        if (!files[0].revents)
+            continue;
+        ssize_t done = write(verdict->in, bytes, length);
+        if (done > 0) {
+            bytes += done;
+            length -= (size_t)done;
+        } else if (done < 0 && errno != EAGAIN && errno != EINTR) {
+            close_file(&verdict->in);
+        }
+    }
+}
+
+int verdict_end(struct verdict *verdict)
+{
+    int status = 0;
+    close_file(&verdict->in);
+    while (verdict->out >= 0)
+        take_output(verdict);
+    if (verdict->process == 0)
+        return verdict->status;
+    while (waitpid(verdict->process, &status, 0) < 0)
+        if (errno != EINTR)
+            return 126;
+    return WIFSIGNALED(status) ? 128 + WTERMSIG(status) : WEXITSTATUS(status);
+}
+
+int verdict_on(const char *witness, const char *word, const char *trace, FILE *told)
+{
+    struct verdict verdict;
+    int file = open(trace, O_RDONLY | O_CLOEXEC);
+    if (file < 0)
+        return 126;
+    begin(&verdict, witness, word, file, told);
+    close(file);
+    return verdict_end(&verdict);
+}

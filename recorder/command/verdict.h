@@ -1,0 +1,31 @@
+/*
+ * `witness WORD`, run on a trace: a program of its own, over pipes.
+ */
+#ifndef RECORD_VERDICT_H
+#define RECORD_VERDICT_H
+
+#include <stdbool.h>
+#include <stddef.h>
+#include <stdio.h>
+#include <sys/types.h>
+
+struct verdict {
+    FILE *told;    /* where its output goes, as it comes */
+    pid_t process; /* 0 where it wasn't begun */
+    int status;    /* where it wasn't begun: why, as a shell says it */
+    int in, out;   /* -1 where closed */
+};
+
+/* Begins it. The trace comes by `verdict_feed`. What it complains of is on standard error. */
+void verdict_begin(struct verdict *verdict, const char *witness, const char *word, FILE *told);
+
+/* Where it has ended before, nothing is done. */
+void verdict_feed(struct verdict *verdict, const char *bytes, size_t length);
+
+/* No more of the trace comes. Its status, as a shell says it. */
+int verdict_end(struct verdict *verdict);
+
+/* All of it, on the trace in a file; it complains to nobody. */
+int verdict_on(const char *witness, const char *word, const char *trace, FILE *told);
+
+#endif

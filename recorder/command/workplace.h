@@ -1,0 +1,15 @@
+/*
+ * The folder in which `record` works: it is removed when all is told, or when INT comes, unless it is to be kept.
+ */
+#ifndef RECORD_WORKPLACE_H
+#define RECORD_WORKPLACE_H
+
+/* From here on INT removes it and ends with 130; where INT is ignored, it stays so. */
+void workplace_begin(const char *folder);
+
+/* It isn't removed any more. */
+void workplace_keep(void);
+
+void workplace_end(void);
+
+#endif

@@ -1,0 +1,134 @@
+/*
+ * Errors in the use of locks that aren't orders. Each is written once for a place: where the call was made, or of a lock
+ * that is still held when its thread ends or its memory is freed, where it was taken.
+ */
+#include "quick.h"
+
+#include <limits.h>
+#include <sys/syscall.h>
+#include <unistd.h>
+
+/* Errors that were written, by their kind and place, so that none is written twice. What finds no room isn't written. */
+enum { ERRORS_MOST = 1024 };
+
+static uint64_t known[ERRORS_MOST];
+
+/* The key of which each thread has a value, so that its end is noticed. */
+static pthread_key_t key;
+static bool has_key;
+
+/* Keys from here on take memory of the program's for their values. */
+enum { KEYS_WITHOUT_MEMORY = 32 };
+
+static bool is_new(enum lock_error error, uint32_t place)
+{
+    uint64_t wanted = (uint64_t)life << 40 | (uint64_t)place << 8 | (uint64_t)error | 0x80;
+    for (uint32_t tries = 0, slot = (uint32_t)(wanted * 0x9e3779b97f4a7c15u >> 54); tries < ERRORS_MOST; tries++) {
+        if (known[slot] == wanted)
+            return false;
+        if (known[slot] == 0) {
+            known[slot] = wanted;
+            return true;
+        }
+        slot = (slot + 1) % ERRORS_MOST;
+    }
+    return false;
+}
+
+/* A robust mutex is meant for it that its holder ends. Its memory may be gone. */
+static bool is_robust(const struct lock *lock)
+{
+    pthread_mutex_t mutex;
+    return lock->type->class == MUTEX && mutex_read(atomic_load(&lock->address), &mutex) && (mutex.__data.__kind & 16);
+}
+
+/* The thread holds the lock still. */
+static bool stands_for_lock(const struct held *held)
+{
+    return held->lost == atomic_load(&held->lock->lost) && atomic_load(&held->lock->address) != 0;
+}
+
+static struct held *held_by(struct thread *thread, const struct lock *lock)
+{
+    for (uint32_t i = thread->count; i-- > 0;)
+        if (thread->held[i].lock == lock && stands_for_lock(&thread->held[i]))
+            return &thread->held[i];
+    return NULL;
+}
+
+static COLD void tell(enum lock_error error, struct lock *lock, uint32_t place)
+{
+    if (is_new(error, place))
+        write_error(&self, error, lock, place);
+}
+
+void error_at(enum lock_error error, const void *address, struct caller caller)
+{
+    if (!goes_far_inside(caller.stack))
+        return;
+    uint32_t place = place_of(caller);
+    if (recorder_enters()) {
+        struct lock *lock = lock_at(address);
+        if (lock)
+            tell(error, lock, place);
+        recorder_leaves();
+    }
+    goes_outside(&self);
+}
+
+void error_if_held(enum lock_error error, const void *address, struct caller caller)
+{
+    struct lock *lock = self.count ? lock_at(address) : NULL;
+    if (lock && held_by(&self, lock))
+        error_at(error, address, caller);
+}
+
+void error_of_freed(struct lock *lock)
+{
+    struct held *held = held_by(&self, lock);
+    if (held)
+        tell(ERROR_FREED, lock, held->place);
+}
+
+void error_of_wait(const pthread_mutex_t *mutex, struct caller caller)
+{
+    if (mutex->__data.__lock == 0 || ((mutex->__data.__kind & 3) != PTHREAD_MUTEX_ADAPTIVE_NP && mutex->__data.__owner != 0
+            && mutex->__data.__owner != (int)syscall(SYS_gettid)))
+        error_at(ERROR_WAITED, mutex, caller);
+}
+
+/*
+ * The thread ends. It may have held the lock up to here for what its other values need, so only the last round of
+ * destructors counts.
+ */
+static void thread_ends(void *round)
+{
+    if ((uintptr_t)round < PTHREAD_DESTRUCTOR_ITERATIONS) {
+        pthread_setspecific(key, (void *)((uintptr_t)round + 1));
+        return;
+    }
+    if (self.count == 0 || !goes_far_inside(HERE))
+        return;
+    if (recorder_enters()) {
+        for (uint32_t i = 0; i < self.count; i++)
+            if (stands_for_lock(&self.held[i]) && !is_robust(self.held[i].lock))
+                tell(ERROR_ENDED, self.held[i].lock, self.held[i].place);
+        recorder_leaves();
+    }
+    goes_outside(&self);
+}
+
+void errors_begin(void)
+{
+    has_key = pthread_key_create(&key, thread_ends) == 0;
+    if (has_key && key >= KEYS_WITHOUT_MEMORY) {
+        pthread_key_delete(key);
+        has_key = false;
+    }
+}
+
+void errors_of_thread(void)
+{
+    if (has_key)
+        pthread_setspecific(key, (void *)1);
+}

@@ -1,0 +1,117 @@
+/*
+ * What the recorder writes and `record` reads, said once for both: the words of a stream, and those of the status that all
+ * processes of a run share. docs/RECORDER.md tells what the lines mean. What changes here, or in what a line means, takes
+ * the next version: a stream of another one is told, and never misread.
+ */
+#ifndef RECORDER_FORMAT_H
+#define RECORDER_FORMAT_H
+
+/* The first line of a stream is `asked 0 version N missed`, then the names of the counts, each with its count. */
+#define FORMAT_VERSION 1
+#define WORD_ASKED "asked"
+#define WORD_VERSION "version"
+#define WORD_MISSED "missed"
+/* The second one. */
+#define WORD_PROGRAM "program"
+
+/*
+ * Where the first line has the byte by which `record --show` asks: nothing is asked, or it is. The third one stands in the
+ * recorder's own memory: all calls take the way on which that is looked for.
+ */
+enum { ASKED_AT = 6, ASKED_NOT = '0', ASKED_NOW = '1', ASKED_ALWAYS = '3' };
+
+/* What lines declare: objects, places and stacks of the code, types of locks, locks, and the threads of seats. */
+#define WORD_OBJECT "object"
+#define WORD_CALLED "called"
+#define WORD_BLIND "blind"
+#define WORD_PLACE "place"
+#define WORD_EITHER "either"
+#define WORD_SITE "site"
+#define WORD_STACK "stack"
+#define WORD_TYPE "type"
+#define WORD_VARIABLE "variable"
+#define WORD_MADE "made"
+#define WORD_NAMED "named"
+#define WORD_INIT "init"
+#define WORD_THREAD "thread"
+/* What stands where there is no name. */
+#define NO_NAME "-"
+/* In a word of the program's own a byte that would end it is this and two hexadecimal digits, as is this one itself. */
+#define ESCAPE '%'
+
+/* Calls of the trace. */
+#define WORD_CHECK "check"
+#define WORD_LOCK "lock"
+#define WORD_UNLOCK "unlock"
+#define WORD_TRY "try"
+#define WORD_GIVEUP "giveup"
+
+/* What a trace has no line for. */
+#define WORD_AGAIN "again"
+#define WORD_FOREIGN "foreign"
+#define WORD_ANSWER "answer"
+#define WORD_HOLDER "holder"
+
+/* Errors in the use of locks: this word, then what was done to a held lock, or without it. */
+#define WORD_ERROR "error"
+#define EACH_ERROR(EACH)                                                                                               \
+    EACH(ERROR_ENDED, "ended")                                                                                         \
+    EACH(ERROR_DESTROYED, "destroyed")                                                                                 \
+    EACH(ERROR_FREED, "freed")                                                                                         \
+    EACH(ERROR_REMADE, "remade")                                                                                       \
+    EACH(ERROR_WAITED, "waited")
+
+/* The orders of single locks, and when threads were made and joined (singles.c). */
+#define WORD_ORDER "order"
+#define WORD_MANY "many"
+#define WORD_LIFE "life"
+#define WORD_JOINED "joined"
+
+/* The counts of a stream: calls that it lacks, and two of which it has a line for each place alone. */
+#define EACH_MISSED(EACH)                                                                                              \
+    EACH(MISSED_SEATS, "seats")                                                                                        \
+    EACH(MISSED_TYPES, "types")                                                                                        \
+    EACH(MISSED_LOCKS, "locks")                                                                                        \
+    EACH(MISSED_HELD, "held")                                                                                          \
+    EACH(MISSED_LOG, "log")                                                                                            \
+    EACH(MISSED_RELEASES, "releases")                                                                                  \
+    EACH(MISSED_AGAIN, "again")
+
+/*
+ * The counts of a process, in the status. What failed outside the streams: lines for which the file couldn't be opened,
+ * the disk had no room, a limit on the size of files was met, or there was no file descriptor; calls that were left; a
+ * fork that wasn't seen; and programs that were begun without what loads the recorder.
+ */
+#define EACH_FAILURE(EACH)                                                                                             \
+    EACH(FAILED_OPEN, "open")                                                                                          \
+    EACH(FAILED_ROOM, "room")                                                                                          \
+    EACH(FAILED_LIMIT, "limit")                                                                                        \
+    EACH(FAILED_FILES, "files")                                                                                        \
+    EACH(FAILED_JUMPED, "jumped")                                                                                      \
+    EACH(FAILED_FORKED, "forked")                                                                                      \
+    EACH(FAILED_BARE, "bare")
+
+/* The status: a process's line is its number after this letter, then its name, what it starts, and its counts. */
+#define STATUS_PROCESS 'P'
+#define STATUS_NAME "name"
+#define STATUS_STARTED "started"
+#define STATUS_LOADED "loaded"
+/* There were too many processes for it. */
+#define STATUS_FULL "full"
+/* Objects stand there too; this is one where there were too many. */
+#define STATUS_MORE_OBJECTS "?"
+enum { STATUS_BYTES = 1 << 20, STATUS_DIGITS = 7 };
+
+/*
+ * Functions whose only work is to lock, by the ends of their last word in small letters, and those that only seem so. The
+ * recorder passes such callers over, and `record` those that were inlined.
+ */
+#define WRAPPER_ENDS                                                                                                   \
+    "lock", "mutex", "monitor", "mutex_enter", "mutexenter", "mutex_acquire", "lock_acquire", "mutex_init",            \
+        "lock_init", "mutexinit", "lockinit", "mutex_create", "mutex_new", "mutex_alloc", "cond_wait", "condwait",     \
+        "cond_timedwait"
+#define NO_WRAPPER_ENDS "unlock", "clock", "block"
+/* Of the C++ library's. */
+#define LIBRARY_WRAPPERS "__gthread_", "__glibcxx_rwlock"
+
+#endif

@@ -1,0 +1,122 @@
+/*
+ * Semaphores that are locks, where `record --semaphores` asks for them: one that sem_init makes with 1 is recorded from then
+ * on. It counts as a lock as long as each thread that posts it is the one that has waited for it, and no thread waits for
+ * what it has. Once that isn't so it is left alone, as all others are; its record stays, since others may wait for it.
+ */
+#include "quick.h"
+
+#include <errno.h>
+
+bool semaphores_are_locks;
+
+/* The semaphore's record, NULL where it isn't a lock. */
+static struct lock *lock_of(const sem_t *semaphore)
+{
+    struct lock *lock = semaphores_are_locks ? lock_at(semaphore) : NULL;
+    return lock && lock->type->class == SEMAPHORE && !atomic_load(&lock->left_alone) ? lock : NULL;
+}
+
+/* Who holds it finds out at its next call. */
+static void leave_alone(struct lock *lock)
+{
+    atomic_store(&lock->left_alone, true);
+    lock_given_up(lock);
+}
+
+static bool begins(struct request *request, sem_t *semaphore, enum asking asking, struct caller caller)
+{
+    start();
+    struct lock *lock = lock_of(semaphore);
+    if (lock && asking != TRIES && held_of(&self, lock)) {
+        leave_alone(lock);
+        return false;
+    }
+    return lock && request_begins(request, semaphore, SEMAPHORE, EXCLUSIVE, caller, asking);
+}
+
+static int ends(struct request *request, sem_t *semaphore, int answer)
+{
+    request_ends(request, answer == 0);
+    /* It may be no lock since the thread began to wait. */
+    if (answer == 0 && !lock_of(semaphore))
+        release_begins(semaphore, request->caller);
+    return answer;
+}
+
+/* As a lock's call does: a request that isn't written yet waits for a second first. */
+static int wait_patiently(struct request *request, sem_t *semaphore)
+{
+    struct timespec limit;
+    if (real.sem_trywait(semaphore) == 0)
+        return 0;
+    clock_gettime(CLOCK_REALTIME, &limit);
+    limit.tv_sec++;
+    int answer = real.sem_timedwait(semaphore, &limit);
+    if (answer == 0 || errno != ETIMEDOUT)
+        return answer;
+    request_waits(request);
+    return real.sem_wait(semaphore);
+}
+
+EXPORT int sem_init(sem_t *semaphore, int shared, unsigned value)
+{
+    start();
+    int answer = real.sem_init(semaphore, shared, value);
+    if (answer == 0 && semaphores_are_locks && value == 1)
+        lock_made(semaphore, SEMAPHORE, CALLER);
+    else if (answer == 0 && lock_of(semaphore))
+        lock_gone(semaphore);
+    return answer;
+}
+
+EXPORT int sem_destroy(sem_t *semaphore)
+{
+    start();
+    if (lock_of(semaphore))
+        lock_gone(semaphore);
+    return real.sem_destroy(semaphore);
+}
+
+EXPORT int sem_wait(sem_t *semaphore)
+{
+    struct request request;
+    if (!begins(&request, semaphore, ASKS, CALLER))
+        return real.sem_wait(semaphore);
+    int answer = request.patient ? wait_patiently(&request, semaphore) : real.sem_wait(semaphore);
+    return ends(&request, semaphore, answer);
+}
+
+EXPORT int sem_trywait(sem_t *semaphore)
+{
+    struct request request;
+    bool begun = begins(&request, semaphore, TRIES, CALLER);
+    int answer = real.sem_trywait(semaphore);
+    return begun ? ends(&request, semaphore, answer) : answer;
+}
+
+EXPORT int sem_timedwait(sem_t *restrict semaphore, const struct timespec *restrict limit)
+{
+    struct request request;
+    bool begun = begins(&request, semaphore, ASKS_FOR_A_TIME, CALLER);
+    int answer = real.sem_timedwait(semaphore, limit);
+    return begun ? ends(&request, semaphore, answer) : answer;
+}
+
+EXPORT int sem_clockwait(sem_t *restrict semaphore, clockid_t clock, const struct timespec *restrict limit)
+{
+    struct request request;
+    bool begun = begins(&request, semaphore, ASKS_FOR_A_TIME, CALLER);
+    int answer = real.sem_clockwait(semaphore, clock, limit);
+    return begun ? ends(&request, semaphore, answer) : answer;
+}
+
+EXPORT int sem_post(sem_t *semaphore)
+{
+    start();
+    struct lock *lock = lock_of(semaphore);
+    if (lock && held_of(&self, lock))
+        release_begins(semaphore, CALLER);
+    else if (lock)
+        leave_alone(lock);
+    return real.sem_post(semaphore);
+}

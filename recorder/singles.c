@@ -1,0 +1,136 @@
+/*
+ * The orders of single locks. A trace tells of types; whether these very locks were taken both ways, by which threads, and
+ * what else was held meanwhile, is told by lines of their own:
+ *
+ *   order SEAT THREAD AT LOCK..  the thread, as the kernel counts, asked for the last of these locks while it held the
+ *                             others, oldest first, for the first time
+ *   life THREAD MAKER AT      before its first order: who made the thread, 0 where that isn't known, and when
+ *   joined THREAD BY AT       it was joined by that one, and when
+ *   many SEAT LOCK..          as many orders are known of locks of these types as are kept: there may be others
+ *
+ * When something was is told by how many threads had been made and joined before. A lock is three words: its number in
+ * the trace, 0 where it has none; its serial number, which no other lock has; and its mode, with a `t` where it was tried,
+ * and an `l` where it is asked for with a time limit.
+ *
+ * A chain of locks is told of when it is first asked for, and when a second thread does so. All that is kept of it is a
+ * number of 64 bits, which stands for the locks and their modes.
+ */
+#include "quick.h"
+
+#include <sys/mman.h>
+#include <sys/syscall.h>
+#include <unistd.h>
+
+/* So many chains of locks are told of for one chain of types. */
+enum { ORDERS_OF_NODE = 32 };
+
+/* Threads whose end is told of, if they are joined. */
+enum { LIVES = 256 };
+
+/* What parts the orders by requests with a time limit from those without. */
+#define FOR_A_TIME 0x5bd1e9955bd1e995u
+
+struct order *single_orders;
+static struct life {
+    pthread_t handle;
+    uint32_t thread; /* 0 where it isn't taken */
+} lives[LIVES];
+static _Atomic uint32_t lives_kept;
+
+bool singles_made(void)
+{
+    single_orders = table(ORDERS * sizeof *single_orders);
+    return single_orders != NULL;
+}
+
+/* The child's streams have none of them yet. */
+void singles_forked(void)
+{
+    madvise(single_orders, ORDERS * sizeof *single_orders, MADV_DONTNEED);
+    for (uint32_t i = 0; i < LIVES; i++)
+        lives[i].thread = 0;
+    atomic_store(&lives_kept, 0);
+    self.has_orders = false;
+    self.maker = 0;
+}
+
+/* The order's slot, or a free one for it; NULL where there is none near. */
+static struct order *slot_of(uint64_t locks)
+{
+    for (uint32_t tries = 0, slot = (uint32_t)(locks >> 48); tries < ORDER_TRIES; tries++, slot = (slot + 1) % ORDERS) {
+        uint64_t found = atomic_load_explicit(&single_orders[slot].locks, memory_order_relaxed);
+        if (found == locks || found == 0)
+            return &single_orders[slot];
+    }
+    return NULL;
+}
+
+/* Whether there is room for the order, or it stands there by one thread. */
+static bool is_kept(struct node *node, struct order *order, const struct thread *thread, uint64_t locks)
+{
+    if (node->orders == ORDERS_OF_NODE || !order || thread->count >= ORDER_LONGEST)
+        return false;
+    node->orders++;
+    bool first = atomic_load_explicit(&order->locks, memory_order_relaxed) == 0;
+    atomic_store_explicit(&order->thread, first ? thread->serial : THREADS, memory_order_relaxed);
+    atomic_store_explicit(&order->locks, locks, memory_order_release);
+    return true;
+}
+
+/* Before the first order of a thread. */
+static void begin_life(struct thread *thread)
+{
+    thread->has_orders = true;
+    write_life(thread);
+    for (uint32_t i = 0; i < LIVES; i++) {
+        if (lives[i].thread == 0) {
+            lives[i] = (struct life){pthread_self(), (uint32_t)syscall(SYS_gettid)};
+            atomic_fetch_add(&lives_kept, 1);
+            return;
+        }
+    }
+}
+
+void order_of_joined(pthread_t joined)
+{
+    uint32_t at = atomic_fetch_add(&threads_made_and_joined, 1);
+    if (LIKELY(atomic_load(&lives_kept) == 0) || !goes_far_inside(HERE))
+        return;
+    if (recorder_enters()) {
+        for (uint32_t i = 0; i < LIVES; i++) {
+            if (lives[i].thread != 0 && pthread_equal(lives[i].handle, joined)) {
+                write_joined(lives[i].thread, at);
+                lives[i].thread = 0;
+                atomic_fetch_sub(&lives_kept, 1);
+            }
+        }
+        recorder_leaves();
+    }
+    goes_outside(&self);
+}
+
+static COLD void note(struct request *request, uint64_t locks)
+{
+    struct thread *thread = request->thread;
+    if (request->node == NODE_UNKNOWN || !recorder_enters())
+        return;
+    struct node *node = &nodes[request->node - 1];
+    if (!(atomic_load(&node->requested) & MANY_ORDERS) && !order_is_known(locks, thread->serial)) {
+        bool kept = is_kept(node, slot_of(locks), thread, locks);
+        if (kept && !thread->has_orders)
+            begin_life(thread);
+        if (!kept)
+            atomic_fetch_or(&node->requested, MANY_ORDERS);
+        write_order(request, !kept);
+    }
+    recorder_leaves();
+}
+
+void order_noted(struct request *request)
+{
+    uint64_t locks = locks_with(locks_held(request->thread), request->lock, request->mode);
+    if (request->timed)
+        locks ^= FOR_A_TIME;
+    if (!order_is_known(locks, request->thread->serial))
+        note(request, locks);
+}

@@ -1,0 +1,113 @@
+# Whether single locks were taken both ways, and errors of locks. recorder/test/run has the functions.
+
+# alarm HOW WANTED: what stands below the report of `single HOW`, with N and M for the numbers of threads.
+alarm() {
+    RECORD_FRAMES=8 "$record" --quiet --depth 1 -- ./single "$1" 2>recorded.err
+    sed -n 's/thread [0-9][0-9]*/thread N/; s/threads \([0-9]*, \)*[0-9]* and [0-9]*/threads N and M/; /^single locks: /p' recorded.err >below
+    echo "single locks: $2" | diff - below
+    tell alarms "of $1" $?
+}
+
+# counts STATUS HOW WORDS: the status of `single HOW` with --alarms WORDS.
+counts() {
+    "$record" --error-exitcode 9 --depth 1 ${3:+--alarms "$3"} -- ./single "$2" 2>recorded.err
+    [ $? -eq "$1" ]
+    tell alarms "the status of $2${3:+ with --alarms $3}" $?
+}
+
+if wanted alarms; then
+    compile single
+    alarm locks 'both orders, the same locks, threads N and M'
+    alarm types 'one order only for any two locks: types alone'
+    alarm one 'both orders, the same locks, thread N alone'
+    alarm gate 'both orders, the same locks, threads N and M; gate: each time "single.c:40" was held'
+    alarm timed 'both orders, the same locks, threads N and M; timed: one was asked for with a time limit'
+    alarm readers 'both orders, the same locks, threads N and M; readers: one waits for readers as a reader'
+    alarm apart 'both orders, the same locks, threads N and M; apart: one thread was joined before the other did so'
+    alarm many 'not known, there were more orders of such locks than are kept'
+    alarm three 'all orders of the circle, the same locks, threads N and M'
+    alarm twins 'both orders, the same locks, threads N and M'
+    alarm row 'one order only for any two locks: types alone'
+    counts 9 locks ''
+    counts 9 types ''
+    counts 0 types locks
+    counts 9 locks threads
+    counts 9 one locks
+    counts 0 one threads
+    counts 9 gate all
+    counts 0 gate locks,gate
+    counts 0 timed all,timed
+    counts 0 readers threads,readers
+    counts 0 apart threads,apart
+    counts 9 many threads
+    counts 9 twins ''
+    counts 0 row ''
+    counts 9 row all
+    # What a third thread does isn't told, nor what one does later that has asked with a time limit.
+    compile third
+    for how in third timed; do
+        RECORD_FRAMES=8 "$record" --quiet --alarms all,apart,timed --error-exitcode 9 -- ./third $how 2>recorded.err
+        [ $? -eq 9 ] && grep -q '^single locks: both orders, the same locks, threads [0-9]* and [0-9]*$' recorded.err
+        tell alarms "of a $how request" $?
+    done
+    # The duplicate is told when the second order isn't known yet.
+    rm -f held-open && mkfifo held-open
+    RECORD_FRAMES=8 "$record" --depth 1 -- ./single asked 2>recorded.err <held-open &
+    exec 8>held-open
+    within grep -q '^single locks: one order only' recorded.err
+    before=$?
+    echo >&8
+    exec 8>&-
+    wait $!
+    [ $before -eq 0 ] &&
+        grep -q '^record: by now, of "single.c:26" and "single.c:26/2" @ single.c:57: single locks: both orders, ' recorded.err
+    tell alarms "what comes to be known of a report that was told" $?
+    "$record" --alarms sometimes -- ./single locks 2>recorded.err
+    [ $? -eq 2 ] && grep -q '^record: --alarms takes ' recorded.err
+    tell alarms "a word that isn't known" $?
+fi
+
+# misused WHAT LINE: what `misuse WHAT` is told of.
+misused() {
+    "$record" --error-exitcode 9 -- ./misuse "$1" 2>recorded.err
+    status=$?
+    printf 'record: misuse: %s\nrecord: nothing to report but 1 error\n' "$2" >wanted.err
+    grep -v '^record: clean: ' recorded.err | diff wanted.err - && [ $status -eq 9 ]
+    tell misuse "$1" $?
+}
+
+if wanted misuse; then
+    compile misuse
+    misused ends 'a thread ended that held a lock, taken here: "journal" @ misuse.c:19'
+    misused exits 'a thread ended that held a lock, taken here: "table" @ misuse.c:25'
+    misused destroys 'a lock was destroyed while it was held: "misuse.c:58<misuse.c:96" @ misuse.c:97'
+    misused frees 'the memory of a lock was freed while it was held, taken here: "misuse.c:58<misuse.c:101" @ misuse.c:59'
+    misused remakes 'a lock was made anew while it was held: "misuse.c:58<misuse.c:103" @ misuse.c:103'
+    misused waits 'a condition was waited for without its mutex: "queue" @ misuse.c:68'
+    "$record" --error-exitcode 9 -- ./misuse right 2>recorded.err && ! grep -q error recorded.err &&
+        [ "$(tail -n 1 recorded.err)" = "record: nothing to report: no thread asked for a lock while it held another" ]
+    tell misuse "what is allowed" $?
+    "$record" --error-exitcode 9 --errors no -- ./misuse ends frees 2>recorded.err && ! grep -q 'held a lock' recorded.err
+    tell misuse "--errors no" $?
+fi
+
+# Of more than 16 locks of a variable, each of them has the variable's type. Of as many each has its own.
+if wanted stripes; then
+    compile stripes
+    for count in 16 8000; do
+        "$record" -o kept -- ./stripes $count 2>recorded.err
+        diff "$here/stripes.want" recorded.err
+        tell stripes "a table of $count mutexes" $?
+        types=$(sed -n 's/^init [0-9]* mtx - "table[^"]*"\( "\(table[^"]*\)"\)\{0,1\}$/\2/p' kept | sort | uniq -c | sed 's/^ *//')
+        if [ $count -eq 16 ]; then [ "$types" = "16 " ]; else [ "${types#* }" = "table[]" ]; fi
+        tell stripes "its types" $?
+    done
+fi
+
+# What is told while the program runs may have other types in the end.
+if wanted later; then
+    compile later
+    "$record" -- ./later 2>recorded.err >recorded.out
+    grep -q '^ "front" -> "back" @ later.c:17$' recorded.err && grep -q '"table+0x28"' recorded.err
+    tell later "a report that follows those whose types have changed" $?
+fi

@@ -1,0 +1,126 @@
+# What is told while the program runs. recorder/test/run has the functions.
+
+# within COMMAND..: whether it becomes true within ten seconds, in which a busy machine gets all done.
+within() {
+    for tenth in 0 1 2 3 4 5 6 7 8 9; do
+        for hundredth in 0 1 2 3 4 5 6 7 8 9; do
+            ! "$@" || return 0
+            sleep 0.1
+        done
+    done
+    return 1
+}
+
+# begin_live WORDS OF RECORD..: runs it with `held-open`, a pipe that stays open until `end_live`. It has done its work when
+# this returns.
+begin_live() {
+    rm -f held-open && mkfifo held-open
+    "$record" "$@" >recorded.out 2>recorded.err <held-open &
+    recorder_process=$!
+    exec 8>held-open
+    within grep -q '^done' recorded.out
+}
+
+comes() {
+    within grep -q "$1" recorded.err
+}
+
+logged() {
+    cat told.* 2>/dev/null | grep -q '^lock order reversal'
+}
+
+end_live() {
+    exec 8>&-
+    wait "$recorder_process"
+}
+
+if wanted follows; then
+    compile live
+    "$record" -- true 2>/dev/null
+    begin_live -- ./live 0
+    comes '^ "pool" -> "journal" @ live.c:17$' && ! grep -q '^record: ' recorded.err
+    before=$?
+    end_live && [ $before -eq 0 ] && [ "$(grep -c '^lock order reversal' recorded.err)" -eq 1 ] &&
+        [ "$(tail -n 1 recorded.err)" = "record: 1 report, 0 circles, 1 process" ]
+    tell follows "a report of a program that goes on" $?
+    RECORD_FRAMES=8 begin_live -- ./live 0
+    comes '^  both (live.c:17)$'
+    before=$?
+    end_live && [ $before -eq 0 ]
+    tell follows "its callers" $?
+    begin_live --full -- ./live 0
+    comes '^lock order reversal'
+    before=$?
+    end_live && [ $before -eq 0 ]
+    tell follows "of a full recording" $?
+    begin_live --log-file told.%p -- ./live 0
+    within logged && [ ! -s recorded.err ]
+    before=$?
+    end_live && [ $before -eq 0 ] && [ "$(cat told.* | grep -c '^lock order reversal')" -eq 1 ]
+    tell follows "in the log" $?
+    begin_live --quiet -- ./live 0
+    sleep 1
+    [ ! -s recorded.err ]
+    before=$?
+    end_live && [ $before -eq 0 ] && grep -q '^lock order reversal' recorded.err
+    tell follows "nothing with --quiet before the program has ended" $?
+    begin_live -- ./live 1
+    comes '^ "pool" -> "journal" @ live.c:17$'
+    before=$?
+    end_live && [ $before -eq 0 ]
+    tell follows "a report of a child that has ended" $?
+fi
+
+# Each process has the report: it is told of one of them.
+if wanted equal; then
+    compile live
+    "$record" -- ./live 3 >recorded.out 2>recorded.err </dev/null
+    [ "$(grep -c 'lock order reversal' recorded.err)" -eq 1 ] &&
+        grep -q '^record: the report of "journal" and "pool" @ live.c:17 of process [0-9]* is one of 2 more: [0-9]*, [0-9]*$' \
+            recorded.err && [ "$(tail -n 1 recorded.err)" = "record: 3 reports, 0 circles, 3 processes" ]
+    tell equal "a report of three processes is told once" $?
+    rm -f told.*
+    "$record" --log-file told.%p -- ./live 3 >recorded.out 2>recorded.err </dev/null
+    [ "$(cat told.* | grep -c 'lock order reversal')" -eq 3 ]
+    tell equal "each log has it" $?
+    "$record" -- ./live 20 >recorded.out 2>recorded.err </dev/null
+    grep -q ' is one of 19 more: \([0-9]*, \)\{7\}[0-9]* and 11 others$' recorded.err
+    tell equal "of many processes eight are named" $?
+fi
+
+# Threads that wait for one another are told of while they do, and what is wanted is done.
+if wanted hangs; then
+    compile deadlock
+    # Where a source is newer, this builds what is needed.
+    "$record" -- true 2>/dev/null
+    "$record" -- ./deadlock >recorded.out 2>recorded.err &
+    recorder_process=$!
+    comes '^circle:$' && comes '^ seat [12] .* waits for "pool" held by seat [12] @ deadlock.c:24$' &&
+        ! grep -q '^record: ' recorded.err
+    before=$?
+    kill "$recorder_process"
+    wait "$recorder_process"
+    [ $before -eq 0 ] && [ "$(grep -c '^circle:$' recorded.err)" -eq 1 ] &&
+        grep -q '^record: 1 report, 1 circle, 1 process$' recorded.err
+    tell hangs "a circle while the program goes on, once" $?
+    timeout 60 "$record" --on-deadlock exit=7 -- ./deadlock 2>recorded.err
+    [ $? -eq 7 ] && [ "$(grep -c '^circle:$' recorded.err)" -eq 1 ] &&
+        grep -q '^record: deadlock (process [0-9]*) is ended: its threads wait for one another$' recorded.err
+    tell hangs "--on-deadlock exit=7" $?
+    timeout 60 "$record" --on-deadlock kill -- sh -c './deadlock; echo went on; exit 3' >recorded.out 2>recorded.err
+    [ $? -eq 3 ] && grep -q '^went on$' recorded.out
+    tell hangs "--on-deadlock kill ends the process that hangs alone" $?
+    for word in exit= exit=0 exit=256 exit=7x stop; do
+        "$record" --on-deadlock $word -- true 2>recorded.err
+        [ $? -eq 2 ] && grep -q '^record: --on-deadlock is tell, kill or exit=N' recorded.err
+        tell hangs "--on-deadlock $word" $?
+    done
+    compile slow
+    timeout 60 "$record" --on-deadlock exit=7 -- ./slow >recorded.out 2>recorded.err
+    [ $? -ne 7 ] && ! grep -q '^circle:$' recorded.err
+    tell hangs "a wait of some seconds that ends" $?
+    compile patient
+    timeout 60 "$record" --on-deadlock exit=7 -- ./patient >recorded.out 2>recorded.err
+    [ $? -eq 0 ] && grep -q '^both went on$' recorded.out
+    tell hangs "a circle of which one gives up is left alone" $?
+fi

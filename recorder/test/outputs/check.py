@@ -1,0 +1,320 @@
+#!/usr/bin/env python3
+"""check.py WHAT FILES..: looks whether what `record` writes of its findings is right. Each fault is a line; with one the status is 1.
+
+  schema SCHEMA FILE     JSON that meets the schema; status 77 where there is no jsonschema
+  json FILE, sarif FILE  what kinds.case has, by hand
+  same FILE FILE         the reports of both have the same fingerprints, and no two of one file
+  odd PAGE JSON SARIF    the texts of odd.case, as texts
+  page FILE              the page is whole: its elements, names, references; nothing comes from outside
+  shown FILE             that, and what kinds.case has
+  picture FILE           boxes and labels lie apart and within the picture; arrows go from box to box
+  is FILE PATH VALUE     what stands in JSON at a path as reports.0.kind; `#` at its end is a number of things
+  contrast CSS           each colour of a text is far enough from its ground, in the light and in the dark
+"""
+import html.parser
+import json
+import re
+import sys
+
+faults = []
+
+
+def want(what, got, wanted):
+    if got != wanted:
+        faults.append(f"{what}: {got!r} in place of {wanted!r}")
+
+
+def load(path):
+    with open(path, "rb") as file:
+        return json.loads(file.read().decode("utf-8", "strict"))
+
+
+def schema(schema_path, path):
+    try:
+        import jsonschema
+    except ImportError:
+        sys.exit(77)
+    validator = jsonschema.Draft7Validator(load(schema_path), format_checker=jsonschema.FormatChecker())
+    for error in validator.iter_errors(load(path)):
+        faults.append(f"{'/'.join(map(str, error.absolute_path))}: {error.message[:200]}")
+
+
+def findings(path):
+    run = load(path)
+    want("summary", run["summary"], "4 reports, 2 circles, 2 processes")
+    want("told", run["told"][0], "bank: not recorded: 80 types (a trace has room for 1,023)")
+    kinds = [(each["kind"], each["processes"], each["silenced"]) for each in run["reports"]]
+    want("kinds", kinds, [
+        ("reversal", [4711, 4720], False), ("duplicate", [4711], False), ("reversal", [4711], False),
+        ("circle", [4711], False), ("self", [4711], False), ("other", [4720], False), ("reversal", [4711], True)])
+    first, double, third, circle, itself, other, silenced = run["reports"]
+    want("held", [(each["lock"], each["type"], each["class"], each["site"]) for each in first["held"]],
+         [("journal", "journal", "sleep mutex", "reversal.c:18")])
+    asked = first["asked"]
+    want("asked", (asked["lock"], asked["file"], asked["line"]), ("pool", "reversal.c", 19))
+    want("thread", asked["thread"], {"number": 4713, "name": None, "maker": "main", "made": "reversal.c:30"})
+    want("callers", [(each["function"], each["line"]) for each in asked["callers"]],
+         [("checkpoint", 19), ("audit", 29), ("main", 42)])
+    want("established", [(each["from"], each["to"], each["site"], each["thread"]["name"]) for each in first["established"]],
+         [("pool", "journal", "reversal.c:10", "writer")])
+    want("silence", first["silence"], '"journal" "pool"')
+    want("silence by functions", double["silence"], '"make()<main()"')
+    want("the second lock", double["asked"]["lock"], "kinds.c:8<kinds.c:24/2")
+    want("three locks", [each["lock"] for each in third["held"]] + [third["asked"]["lock"]], ["disk", "inode", "disk/2"])
+    want("a place without a line", [third["established"][1][name] for name in ("site", "file", "line")],
+         ["libx.so+0x1a2f(flush):0", None, None])
+    want("waits", [(each["seat"], each["does"], each["lock"], each["holder"], each["line"]) for each in circle["waits"]],
+         [(1, "waits", "journal", 2, 13), (1, "holds", "pool", None, 10),
+          (2, "waits", "pool", 1, 24), (2, "holds", "journal", None, 21)])
+    want("itself", [(each["does"], each["lock"], each["holder"]) for each in itself["waits"]],
+         [("waits", "queue", None), ("holds", "queue", None)])
+    want("other", other["text"], ["witness exhausted"])
+    want("no place", [silenced["established"][0][name] for name in ("site", "file", "line")], ["listed", None, None])
+    for each in (first, double, third, circle, itself):
+        want("sentences for " + each["kind"], len(each["advice"]), 3)
+    want("orders", sum(each["broken"] for each in run["processes"][0]["orders"]), 3)
+    want("threads", [each["number"] for each in run["processes"][0]["threads"]], [4711, 4712, 4713])
+
+
+def sarif(path):
+    run = load(path)["runs"][0]
+    rules = [each["id"] for each in run["tool"]["driver"]["rules"]]
+    want("rules", rules, ["lock-order-reversal", "duplicate-lock-type", "deadlock", "self-deadlock", "lock-error"])
+    results = run["results"]
+    want("results", [(each["ruleId"], each["level"], each["occurrenceCount"], "suppressions" in each) for each in results], [
+        ("lock-order-reversal", "warning", 2, False), ("duplicate-lock-type", "warning", 1, False),
+        ("lock-order-reversal", "warning", 1, False), ("deadlock", "error", 1, False),
+        ("self-deadlock", "error", 1, False), ("lock-order-reversal", "warning", 1, True)])
+    for each in results:
+        want("rule of " + each["ruleId"], rules[each["ruleIndex"]], each["ruleId"])
+        numbers = {place["id"] for place in each["relatedLocations"]}
+        links = {int(number) for number in re.findall(r"\]\((\d+)\)", each["message"]["text"])}
+        want("links", links, numbers)
+        want("places", len(each["locations"]), 1)
+    place = results[0]["locations"][0]["physicalLocation"]
+    want("place", (place["artifactLocation"], place["region"]),
+         ({"uri": "reversal.c", "uriBaseId": "%SRCROOT%"}, {"startLine": 19}))
+    flows = results[0]["codeFlows"][0]["threadFlows"]
+    lines = [[step["location"]["physicalLocation"]["region"]["startLine"] for step in flow["locations"]] for flow in flows]
+    want("ways", lines, [[42, 28, 18, 42, 29, 19], [28, 10]])
+    important = [step["importance"] for step in flows[0]["locations"]]
+    want("importance", important, ["unimportant", "unimportant", "essential"] * 2)
+    circle = results[3]["codeFlows"][0]["threadFlows"]
+    lines = [[step["location"]["physicalLocation"]["region"]["startLine"] for step in flow["locations"]] for flow in circle]
+    want("what is held comes before what is waited for", lines, [[10, 13], [21, 24]])
+    bare = results[2]["relatedLocations"][-1]["physicalLocation"]
+    want("an object", bare, {"address": {"relativeAddress": 0x1a2f}, "artifactLocation": {"uri": "libx.so"}})
+    place = results[5]["locations"][0]["physicalLocation"]
+    want("a place with a line", place["region"], {"startLine": 15})
+    want("suppression", results[5]["suppressions"], [{"kind": "external", "justification": "a line of known allows it"}])
+    notes = run["invocations"][0]["toolExecutionNotifications"]
+    want("notifications", [(each["level"], each["message"]["text"]) for each in notes], [
+        ("note", "bank: not recorded: 80 types (a trace has room for 1,023)"),
+        ("note", "4 reports, 2 circles, 2 processes"), ("error", "witness exhausted")])
+
+
+def fingerprints(path):
+    run = load(path)
+    if "runs" in run:
+        return [each["partialFingerprints"] for each in run["runs"][0]["results"]]
+    return [each["fingerprint"] for each in run["reports"]]
+
+
+def same(one, other):
+    want("fingerprints", fingerprints(other), fingerprints(one))
+    prints = [json.dumps(each) for each in fingerprints(one)]
+    want("equal ones", len(prints) - len(set(prints)), 0)
+
+
+class Page(html.parser.HTMLParser):
+    """The elements of a page, each as its name, its attributes, and its text."""
+    void = {"meta", "link", "input", "br", "rect", "path"}
+
+    def __init__(self, path):
+        super().__init__(convert_charrefs=True)
+        self.elements, self.open = [], []
+        with open(path, encoding="utf-8", errors="strict") as file:
+            self.source = file.read()
+        self.feed(self.source)
+        self.close()
+        want("open elements", [each[0] for each in self.open], [])
+
+    def handle_starttag(self, tag, attributes):
+        names = [name for name, _ in attributes]
+        want(f"attributes of {tag}", sorted(names), sorted(set(names)))
+        element = [tag, dict(attributes), ""]
+        self.elements.append(element)
+        if tag not in self.void:
+            self.open.append(element)
+
+    def handle_startendtag(self, tag, attributes):
+        self.elements.append([tag, dict(attributes), ""])
+
+    def handle_endtag(self, tag):
+        if not self.open or self.open[-1][0] != tag:
+            faults.append(f"line {self.getpos()[0]}: </{tag}> ends {self.open[-1][0] if self.open else 'nothing'}")
+        else:
+            self.open.pop()
+
+    def handle_data(self, data):
+        for each in self.open:
+            each[2] += data
+
+    def all(self, tag, **attributes):
+        return [each for each in self.elements
+                if each[0] == tag and all(each[1].get(name.strip("_")) == value for name, value in attributes.items())]
+
+
+def page(path):
+    found = Page(path)
+    names = {each[0] for each in found.elements}
+    known = set("""html head meta title link style body a header h1 h2 h3 h4 p nav ul ol li main form label input select option
+        section article div code pre span mark details summary button table thead tbody tr th td svg g rect path text b footer
+        script""".split())
+    want("unknown elements", names - known, set())
+    ids = [each[1]["id"] for each in found.elements if "id" in each[1]]
+    want("equal ids", sorted(ids), sorted(set(ids)))
+    for tag, attributes, text in found.elements:
+        for name in attributes:
+            want(f"{name} of <{tag}>", name.startswith("on") or name in ("style", "src", "srcdoc", "action"), False)
+        for name in ("aria-labelledby", "for"):
+            want(f"{name} of <{tag}>", attributes.get(name, ids[0]) in ids, True)
+        if tag == "a":
+            want("a link", attributes["href"][0] == "#" and attributes["href"][1:] in ids, True)
+        if tag in ("input", "select"):
+            want(f"id of <{tag}>", "id" in attributes, True)
+        if tag == "svg":
+            want("role of the picture", (attributes.get("role"), "aria-labelledby" in attributes), ("img", True))
+        if tag in ("script", "style"):
+            want(f"nonce of <{tag}>", re.fullmatch("[0-9a-f]{32}", attributes.get("nonce", "")) is not None, True)
+    for tag in ("script", "style", "link", "h1"):
+        want(f"number of <{tag}>", len(found.all(tag)), 1)
+    policy = [each[1]["content"] for each in found.all("meta") if each[1].get("http-equiv") == "Content-Security-Policy"]
+    want("policy", policy and policy[0].startswith("default-src 'none';"), True)
+    want("language", found.all("html")[0][1].get("lang"), "en")
+    before = 1
+    for tag, _, text in found.elements:
+        if re.fullmatch("h[1-6]", tag):
+            want(f"level of the heading {text.strip()[:40]}", int(tag[1]) <= before + 1 and text.strip() != "", True)
+            before = int(tag[1])
+    outside = re.sub(r"<script.*?</script>|<style.*?</style>", "", found.source, flags=re.S)
+    want("names of the net", re.findall(r"(?:href|src)=.?(?:https?:|//)", outside), [])
+    return found
+
+
+def shown(path):
+    """What kinds.case has, as the page shows it."""
+    found = page(path)
+    cards = found.all("article")
+    want("cards", [each[1]["data-kind"] for each in cards],
+         ["circle", "self", "reversal", "duplicate", "reversal", "other", "reversal"])
+    card = next(each for each in cards if each[1]["data-kind"] == "reversal")
+    text = re.sub(r"\s+", " ", card[2])
+    for words in ('"journal" is held, "pool" is asked for', "2 processes: 4711, 4720", "at reversal.c:18 in checkpoint, by thread 4713",
+                  "Callers (2)", "audit at helper.c:29", "pool was held, journal was asked for", "thread 4712 (writer), made by main",
+                  'take "pool" before "journal" here too', '"journal" "pool"'):
+        want(words, words in text, True)
+    marked = [each[2].strip() for each in found.all("mark")]
+    for line in ("pthread_mutex_lock(&journal);", "pthread_mutex_lock(&pool);"):
+        want("a marked line", line in marked, True)
+    lines = [each[1]["data-line"] for each in found.all("mark")]
+    want("its number", "18" in lines and "19" in lines and "10" in lines, True)
+    rows = [each for each in found.all("span") + found.all("mark") if each[1].get("class") == "row"]
+    want("lines around a place", max(len(each[2].splitlines()) for each in found.all("pre")), 7)
+    want("rows", len(rows) >= 7 * 6, True)
+    for kind in ("circle", "self", "reversal", "duplicate"):
+        each = next(card for card in cards if card[1]["data-kind"] == kind)
+        advice = re.search(r"What to do(.*?)(The line for|$)", re.sub(r"\s+", " ", each[2])).group(1)
+        want(f"sentences for {kind}", len(re.findall(r"[.](?: |$)", advice.strip())), 3)
+    want("pictures", len(found.all("svg")), 1)
+
+
+def odd(page_path, json_path, sarif_path):
+    found = page(page_path)
+    want("scripts", len(found.all("script")), 1)
+    want("heading", found.all("h1")[0][2].strip(), "Lock orders of <script>alert(\"1\")</script>\u2401\ufffd'&amp;")
+    text = "".join(each[2] for each in found.all("article"))
+    for words in ("a<b>&'\u2402\ufffd", "</script><svg onload=alert(5)>{0}[x](1)", 'dir with space/<odd>&"file".c:12',
+                  "operator<</**/<int, \"x\">(){lambda()#1}[]\\\\", "\u241b[31m\u2421", "main<a>&\u00e9[U+202E]"):
+        want(words, words in text, True)
+    run = load(json_path)
+    want("program", run["program"], "<script>alert(\"1\")</script>\x01\ufffd'&amp;")
+    want("type", run["reports"][0]["held"][0]["type"], "a<b>&'\x02\ufffd")
+    want("thread", run["reports"][0]["held"][0]["thread"]["name"], '</code><b onclick="alert(4)">\x1b[31m\x7f')
+    result = load(sarif_path)["runs"][0]["results"][0]
+    want("a text that is no link", "{{0}}\\[x\\](1)" in result["message"]["text"], True)
+    want("links", re.findall(r"(?<!\\)\]\((\d+)\)", result["message"]["text"]), ["1", "2", "4"])
+    want("a file", result["relatedLocations"][0]["physicalLocation"]["artifactLocation"]["uri"],
+         "dir%20with%20space/%3Codd%3E%26%22file%22.c")
+
+
+def numbers(text):
+    return [float(each) for each in re.findall(r"-?\d+(?:\.\d+)?", text)]
+
+
+def picture(path):
+    found = Page(path)
+    pictures = [number for number, each in enumerate(found.elements) if each[0] == "svg"] + [len(found.elements)]
+    drawing, found.elements = found.elements[pictures[0]], found.elements[pictures[0]:pictures[1]]
+    width, height = float(drawing[1]["width"]), float(drawing[1]["height"])
+    boxes = []
+    for _, at, _ in found.all("rect"):
+        boxes.append(tuple(float(at[name]) for name in ("x", "y", "width", "height")))
+    areas = list(boxes)
+    for _, at, _ in found.all("text"):
+        if "label" in at.get("class", ""):
+            areas.append((float(at["x"]), float(at["y"]) - 9, float(at["textlength"]), 12))
+    for i, (x, y, w, h) in enumerate(areas):
+        want("within the picture", x >= 0 and y >= 0 and x + w <= width and y + h <= height, True)
+        for x2, y2, w2, h2 in areas[:i]:
+            apart = x + w <= x2 or x2 + w2 <= x or y + h <= y2 or y2 + h2 <= y
+            want(f"apart: {(x, y, w, h)} and {(x2, y2, w2, h2)}", apart, True)
+    arrows = [at for _, at, _ in found.all("path") if at["class"].startswith("arrow")]
+    tips = [at for _, at, _ in found.all("path") if at["class"].startswith("tip")]
+    want("tips", len(tips), len(arrows))
+    for arrow, tip in zip(arrows, tips):
+        begin, end = numbers(arrow["d"])[:2], numbers(tip["d"])[:2]
+        for x, y in (begin, end):
+            at_box = [1 for x2, y2, w2, h2 in boxes if x2 <= x <= x2 + w2 and min(abs(y - y2), abs(y - y2 - h2)) < 0.2]
+            want(f"a box at {x}, {y}", len(at_box), 1)
+        want("an order goes down, and what goes against it up", end[1] > begin[1], "reversal" not in arrow["class"])
+    return len(boxes), len(arrows)
+
+
+def value(path, way, wanted):
+    at = load(path)
+    for step in way.split("."):
+        at = len(at) if step == "#" else at[int(step)] if isinstance(at, list) else at[step]
+    want(f"{path}, {way}", at, json.loads(wanted))
+
+
+def light(colour):
+    parts = [int(colour[i:i + 2], 16) / 255 for i in (1, 3, 5)]
+    parts = [part / 12.92 if part <= 0.03928 else ((part + 0.055) / 1.055) ** 2.4 for part in parts]
+    return 0.2126 * parts[0] + 0.7152 * parts[1] + 0.0722 * parts[2]
+
+
+def contrast(path):
+    with open(path, encoding="utf-8") as file:
+        css = file.read()
+    schemes = [dict(re.findall(r"--([\w-]+):\s*(#[0-9a-f]{6})", each)) for each in re.findall(r":root \{(.*?)\}", css, re.S)]
+    want("schemes", len(schemes), 3)
+    for scheme in schemes:
+        for ink, ground in (("ink", "paper"), ("ink", "ground"), ("ink", "code"), ("ink", "mark"), ("faint", "paper"),
+                            ("faint", "ground"), ("faint", "code"), ("held", "paper"), ("asked", "paper"),
+                            ("step", "paper"), ("bad", "paper"), ("bad", "ground"), ("accent", "paper"), ("accent", "ground"),
+                            ("good", "good-ground")):
+            one, other = sorted((light(scheme[ink]), light(scheme[ground])), reverse=True)
+            want(f"{ink} on {ground}, {(one + 0.05) / (other + 0.05):.2f}", (one + 0.05) / (other + 0.05) >= 4.5, True)
+
+
+def main():
+    what = {"schema": schema, "json": findings, "sarif": sarif, "same": same, "page": page, "shown": shown, "odd": odd, "is": value,
+            "picture": picture, "contrast": contrast}[sys.argv[1]]
+    what(*sys.argv[2:])
+    for fault in faults:
+        print(fault)
+    sys.exit(1 if faults else 0)
+
+
+main()

@@ -1,0 +1,201 @@
+/*
+ * driver html|json|sarif CASE: writes the findings of a case as a page, as JSON or as SARIF on standard output.
+ *
+ * A case has a line for each thing, in which fields are parted by tabs, and \xHH is that byte. An empty field is: not known.
+ *   program NAME, directory NAME, ignore NAME, version NAME, built SECONDS   of the whole run
+ *   say TEXT                          a line that was told
+ *   process NUMBER NAME               a further process; what follows is of it
+ *   thread NUMBER NAME MAKER SITE
+ *   frames FUNCTION SITE ..           a stack; stacks have numbers from 1 on; a function `-` isn't known
+ *   spot SITE FRAMES THREAD           a place of the trace, @:1 and so on
+ *   alias TYPE FUNCTIONS
+ *   told LINE, silenced LINE          of the verifier, where an ignore file is followed, and where it isn't
+ *   waits HEAD, wait SEAT HOLDER LOCK TEXT PLACE, hold SEAT LOCK TEXT PLACE   a circle, a line of it (HOLDER 0: the thread itself)
+ *   order FROM TO SITE, reversal FROM TO SITE, broken FROM TO SITE
+ */
+#include <stdio.h>
+#include <stdlib.h>
+#include <string.h>
+
+#include "findings.h"
+#include "html.h"
+#include "json.h"
+#include "memory.h"
+#include "sarif.h"
+
+enum { FIELDS = 40 };
+
+static struct findings findings;
+static char *told[2];
+static size_t told_length[2];
+static FILE *telling[2];
+
+/* \xHH as its byte, in place. */
+static char *unescape(char *text)
+{
+    char *to = text, hex[3] = "";
+    for (char *at = text; *at; at++) {
+        if (at[0] == '\\' && at[1] == 'x' && at[2] && at[3]) {
+            memcpy(hex, at + 2, 2);
+            *to++ = (char)strtol(hex, NULL, 16);
+            at += 3;
+        } else {
+            *to++ = *at;
+        }
+    }
+    *to = '\0';
+    return text;
+}
+
+static const char *known(const char *field)
+{
+    return field && *field ? copy(field) : NULL;
+}
+
+static struct found *last(void)
+{
+    return &findings.found[findings.count - 1];
+}
+
+/* The reports of the process that ends here, as the verifier told them. */
+static void end_process(void)
+{
+    for (int i = 0; i < 2; i++) {
+        if (!telling[i])
+            continue;
+        struct reports *reports = i == 0 ? &last()->reports : &last()->silenced;
+        fclose(telling[i]);
+        telling[i] = NULL;
+        reports->notes = i == 0 ? &last()->notes : &last()->silenced_notes;
+        struct reports circles = *reports;
+        *reports = (struct reports){.notes = reports->notes};
+        reports_read(reports, told[i], told_length[i]);
+        for (size_t j = 0; j < circles.count; j++)
+            ADD(reports->report, reports->count, reports->room) = circles.report[j];
+        free(circles.report);
+        free(told[i]);
+    }
+}
+
+static void tell_line(int which, const char *line)
+{
+    if (!telling[which])
+        telling[which] = open_memstream(&told[which], &told_length[which]);
+    fprintf(telling[which], "%s\n", line);
+}
+
+static void add_frames(struct notes *notes, char **field, size_t fields)
+{
+    struct frames *frames = &ADD(notes->frames, notes->framed, notes->frames_room);
+    *frames = (struct frames){take(fields * sizeof *frames->frame), fields / 2};
+    for (size_t i = 0; i + 1 < fields; i += 2)
+        frames->frame[i / 2] = (struct frame){strcmp(field[i], "-") == 0 ? NULL : copy(field[i]), copy(field[i + 1])};
+}
+
+static void add_line(struct reports *reports, enum line_kind kind, char **field)
+{
+    bool waits = kind == LINE_WAITS;
+    struct report_line *line = reports_add_line(reports, kind, field[waits ? 3 : 2], field[waits ? 4 : 3]);
+    line->seat = (unsigned)atoi(field[0]);
+    line->next = waits ? (unsigned)atoi(field[1]) : 0;
+    line->name = copy(field[waits ? 2 : 1]);
+}
+
+static void add_order(struct order_list *orders, char **field, bool is_reversal, bool is_broken)
+{
+    ADD(orders->order, orders->count, orders->room) =
+        (struct order){copy(field[0]), copy(field[1]), *field[2] ? copy(field[2]) : NULL, is_reversal, is_broken};
+}
+
+/* A line of a process. False where it is none. */
+static bool read_of_process(const char *word, char **field, size_t fields)
+{
+    struct notes *notes = &last()->notes;
+    struct reports *reports = &last()->reports;
+    reports->notes = notes;
+    if (!strcmp(word, "thread"))
+        ADD(notes->event, notes->events, notes->event_room) = (struct event){.kind = EVENT_THREAD,
+                                                                             .thread = atol(field[0]),
+                                                                             .name = known(field[1]),
+                                                                             .maker = known(field[2]),
+                                                                             .site = known(field[3])};
+    else if (!strcmp(word, "frames"))
+        add_frames(notes, field, fields);
+    else if (!strcmp(word, "spot"))
+        ADD(notes->spot, notes->spots, notes->spot_room) =
+            (struct spot){known(field[0]), (uint32_t)atoi(field[1]), atol(field[2])};
+    else if (!strcmp(word, "alias"))
+        ADD(notes->alias, notes->aliases, notes->alias_room) = (struct alias){copy(field[0]), copy(field[1])};
+    else if (!strcmp(word, "told") || !strcmp(word, "silenced"))
+        tell_line(*word == 's', field[0]);
+    else if (!strcmp(word, "waits"))
+        reports_add(reports, *field[0] == 'c' ? REPORT_CIRCLE : REPORT_SELF, field[0]);
+    else if (!strcmp(word, "wait") || !strcmp(word, "hold"))
+        add_line(reports, *word == 'w' ? LINE_WAITS : LINE_HOLDS, field);
+    else if (!strcmp(word, "order") || !strcmp(word, "reversal") || !strcmp(word, "broken"))
+        add_order(&last()->orders, field, *word == 'r', *word == 'b');
+    else
+        return false;
+    return true;
+}
+
+static bool read_line(const char *word, char **field, size_t fields)
+{
+    if (!strcmp(word, "program"))
+        findings.program = copy(field[0]);
+    else if (!strcmp(word, "directory"))
+        findings.directory = copy(field[0]);
+    else if (!strcmp(word, "ignore"))
+        findings.ignore = copy(field[0]);
+    else if (!strcmp(word, "version"))
+        findings.version = copy(field[0]);
+    else if (!strcmp(word, "built"))
+        findings.built = atol(field[0]);
+    else if (!strcmp(word, "say"))
+        findings_tell(&findings, 0, field[0]);
+    else if (!strcmp(word, "process")) {
+        end_process();
+        findings_add(&findings, field[1], atol(field[0]));
+    } else
+        return findings.count > 0 && read_of_process(word, field, fields);
+    return true;
+}
+
+static bool read_case(FILE *from)
+{
+    char *line = NULL;
+    size_t room = 0;
+    while (getline(&line, &room, from) >= 0) {
+        char *field[FIELDS], *rest = line, *word = strsep(&rest, " \n");
+        size_t fields = 0;
+        for (size_t i = 0; i < FIELDS; i++)
+            field[i] = "";
+        if (rest)
+            rest[strcspn(rest, "\n")] = '\0';
+        for (char *each; fields < FIELDS && (each = strsep(&rest, "\t")) != NULL;)
+            field[fields++] = unescape(each);
+        if (*word && *word != '#' && !read_line(word, field, fields)) {
+            fprintf(stderr, "driver: no line of a case: %s\n", word);
+            return false;
+        }
+    }
+    free(line);
+    end_process();
+    findings_gather(&findings);
+    return true;
+}
+
+int main(int count, char **words)
+{
+    FILE *from = count == 3 ? fopen(words[2], "r") : NULL;
+    if (!from || !read_case(from))
+        return 2;
+    fclose(from);
+    if (!strcmp(words[1], "html"))
+        html_write(stdout, &findings);
+    else if (!strcmp(words[1], "json"))
+        json_write(stdout, &findings);
+    else
+        sarif_write(stdout, &findings);
+    return 0;
+}

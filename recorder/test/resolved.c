@@ -1,0 +1,47 @@
+/*
+ * resolved FRAMES FILE..: prints the traces of recorder's files, of which one resolver makes them, with their notes where
+ * there are frames. The status is 4 where a file is none, or has what no recorder writes.
+ */
+#include <stdio.h>
+#include <stdlib.h>
+
+#include "resolve.h"
+
+static void print_notes(const struct notes *notes)
+{
+    for (size_t i = 0; i < notes->spots; i++) {
+        const struct spot *spot = &notes->spot[i];
+        const struct frames *frames = &notes->frames[spot->frames - 1];
+        printf("@:%zu is %s\n", i + 1, spot->site);
+        for (size_t j = 0; j < frames->count; j++)
+            printf("  %s (%s)\n", frames->frame[j].function ? frames->frame[j].function : "-", frames->frame[j].site);
+    }
+    for (size_t i = 0; i < notes->events; i++)
+        printf("event %d name %s\n", (int)notes->event[i].kind, notes->event[i].name ? notes->event[i].name : "-");
+}
+
+static bool print_trace(struct resolver *resolver, const char *path, bool has_notes)
+{
+    struct stream stream;
+    struct notes notes;
+    if (!stream_open(&stream, path, false))
+        return false;
+    bool good = resolve(resolver, &stream, true, stdout, has_notes ? &notes : NULL);
+    if (has_notes) {
+        print_notes(&notes);
+        notes_end(&notes);
+    }
+    stream_close(&stream);
+    return good;
+}
+
+int main(int count, char **words)
+{
+    struct settings settings = {.frames = count > 1 ? atoi(words[1]) : 1};
+    struct resolver *resolver = resolver_new(&settings);
+    bool good = count > 2;
+    for (int i = 2; i < count; i++)
+        good = print_trace(resolver, words[i], settings.frames > 1) && good;
+    resolver_end(resolver);
+    return good ? 0 : 4;
+}

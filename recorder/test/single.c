@@ -1,0 +1,171 @@
+/*
+ * single HOW..: orders of locks of a few types, by single locks of them. Threads go on until all have done their part, but
+ * with `apart`.
+ */
+#include <pthread.h>
+#include <semaphore.h>
+#include <stdio.h>
+#include <stdlib.h>
+#include <string.h>
+#include <time.h>
+
+enum { MANY = 40 };
+
+struct both {
+    void *first, *second, *gate;
+};
+
+static pthread_barrier_t done;
+static sem_t took; /* a thread has taken its locks, and released them */
+static int alone;
+
+/* Each is a type, by the place where its locks are made. */
+static pthread_mutex_t *account(void)
+{
+    pthread_mutex_t *mutex = malloc(sizeof *mutex);
+    pthread_mutex_init(mutex, NULL);
+    return mutex;
+}
+
+static pthread_mutex_t *branch(void)
+{
+    pthread_mutex_t *mutex = malloc(sizeof *mutex);
+    pthread_mutex_init(mutex, NULL);
+    return mutex;
+}
+
+static pthread_mutex_t *bank(void)
+{
+    pthread_mutex_t *mutex = malloc(sizeof *mutex);
+    pthread_mutex_init(mutex, NULL);
+    return mutex;
+}
+
+static void wait_for_all(void)
+{
+    sem_post(&took);
+    if (!alone)
+        pthread_barrier_wait(&done);
+}
+
+static void *take_both(void *argument)
+{
+    struct both *both = argument;
+    if (both->gate)
+        pthread_mutex_lock(both->gate);
+    pthread_mutex_lock(both->first);
+    pthread_mutex_lock(both->second);
+    pthread_mutex_unlock(both->second);
+    pthread_mutex_unlock(both->first);
+    if (both->gate)
+        pthread_mutex_unlock(both->gate);
+    wait_for_all();
+    return NULL;
+}
+
+static void *take_for_a_time(void *argument)
+{
+    struct both *both = argument;
+    struct timespec soon;
+    clock_gettime(CLOCK_REALTIME, &soon);
+    soon.tv_sec += 5;
+    pthread_mutex_lock(both->first);
+    if (pthread_mutex_timedlock(both->second, &soon) == 0)
+        pthread_mutex_unlock(both->second);
+    pthread_mutex_unlock(both->first);
+    wait_for_all();
+    return NULL;
+}
+
+static void *read_both(void *argument)
+{
+    struct both *both = argument;
+    pthread_rwlock_rdlock(both->first);
+    pthread_rwlock_rdlock(both->second);
+    pthread_rwlock_unlock(both->second);
+    pthread_rwlock_unlock(both->first);
+    wait_for_all();
+    return NULL;
+}
+
+/* One thread after the other takes its locks, and all of them end after that. */
+static void run(void *(*function[])(void *), struct both *both, int count)
+{
+    pthread_t thread[MANY + 1];
+    pthread_barrier_init(&done, NULL, (unsigned)count + 1);
+    for (int i = 0; i < count; i++) {
+        pthread_create(&thread[i], NULL, function[i], &both[i]);
+        sem_wait(&took);
+        if (alone)
+            pthread_join(thread[i], NULL);
+    }
+    wait_for_all();
+    for (int i = 0; i < count && !alone; i++)
+        pthread_join(thread[i], NULL);
+}
+
+static void run_two(void *(*one)(void *), void *(*other)(void *), struct both first, struct both second)
+{
+    run((void *(*[])(void *)){one, other}, (struct both[]){first, second}, 2);
+}
+
+static void try_many(void)
+{
+    alone = 1;
+    for (int i = 0; i < MANY; i++)
+        take_both(&(struct both){account(), branch(), NULL});
+    take_both(&(struct both){branch(), account(), NULL});
+}
+
+static void try_three(void)
+{
+    pthread_mutex_t *a = account(), *b = branch(), *c = bank();
+    run((void *(*[])(void *)){take_both, take_both, take_both}, (struct both[]){{a, b, NULL}, {b, c, NULL}, {c, a, NULL}}, 3);
+}
+
+static void try_readers(void)
+{
+    static pthread_rwlock_t table = PTHREAD_RWLOCK_INITIALIZER, index = PTHREAD_RWLOCK_INITIALIZER;
+    run_two(read_both, read_both, (struct both){&table, &index, NULL}, (struct both){&index, &table, NULL});
+}
+
+int main(int count, char **words)
+{
+    const char *how = count > 1 ? words[1] : "";
+    sem_init(&took, 0, 0);
+    pthread_mutex_t *a = account(), *b = branch(), *other = account();
+    struct both there = {a, b, NULL}, back = {b, a, NULL}, elsewhere = {branch(), account(), NULL};
+    alone = strcmp(how, "apart") == 0 || strcmp(how, "one") == 0;
+    if (strcmp(how, "locks") == 0 || strcmp(how, "apart") == 0)
+        run_two(take_both, take_both, there, back);
+    if (strcmp(how, "types") == 0)
+        run_two(take_both, take_both, there, elsewhere);
+    if (strcmp(how, "one") == 0) {
+        take_both(&there);
+        take_both(&back);
+    }
+    if (strcmp(how, "gate") == 0) {
+        there.gate = back.gate = bank();
+        run_two(take_both, take_both, there, back);
+    }
+    if (strcmp(how, "timed") == 0)
+        run_two(take_both, take_for_a_time, there, back);
+    if (strcmp(how, "readers") == 0)
+        try_readers();
+    if (strcmp(how, "many") == 0)
+        try_many();
+    if (strcmp(how, "three") == 0)
+        try_three();
+    if (strcmp(how, "twins") == 0)
+        run_two(take_both, take_both, (struct both){a, other, NULL}, (struct both){other, a, NULL});
+    /* The second order comes when it is asked for. */
+    if (strcmp(how, "asked") == 0) {
+        alone = 1;
+        run((void *(*[])(void *)){take_both}, (struct both[]){{a, other, NULL}}, 1);
+        getchar();
+        run((void *(*[])(void *)){take_both}, (struct both[]){{other, a, NULL}}, 1);
+    }
+    if (strcmp(how, "row") == 0)
+        run_two(take_both, take_both, (struct both){a, other, NULL}, (struct both){a, other, NULL});
+    return 0;
+}
