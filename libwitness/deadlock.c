@@ -1,0 +1,129 @@
+/*
+ * A deadlock that happens, told while it hangs (WITNESS_ON_DEADLOCK). There is no thread of the library's own for that:
+ * the one whose request closes the circle waits for a second by a call with a time limit, and then looks again. A
+ * request of a known order is written when it has waited for a second, and is looked at then. So each of the circle has
+ * waited for a second, and the last one tells. It goes by the verifier's circle.
+ */
+#include "judge.h"
+#include "judged.h"
+#include "names.h"
+#include "report.h"
+
+#include <stdlib.h>
+#include <string.h>
+#include <sys/syscall.h>
+#include <unistd.h>
+
+enum { CIRCLE_ROOM = 1 << 16 };
+
+static enum { UNWATCHED, TELLS, KILLS, EXITS } action;
+static int exit_status;
+
+/* Who asked last in each seat, and where. */
+static struct asked {
+    long thread;
+    uint32_t place;
+} asked[SEATS + 1];
+
+void deadlock_begins(void)
+{
+    const char *word = secure_getenv("WITNESS_ON_DEADLOCK");
+    if (!word || !*word)
+        return;
+    exit_status = status_in(word);
+    if (exit_status >= 0)
+        action = EXITS;
+    else if (strcmp(word, "kill") == 0)
+        action = KILLS;
+    else
+        action = TELLS;
+    if (action == TELLS && strcmp(word, "tell") != 0)
+        tell_line("WITNESS_ON_DEADLOCK is tell, kill or exit=N up to 255, not %s: a deadlock is told", word);
+}
+
+bool judge_watches_waits(void)
+{
+    return action != UNWATCHED;
+}
+
+void deadlock_asked(uint32_t seat, uint32_t place)
+{
+    if (action != UNWATCHED)
+        asked[seat] = (struct asked){syscall(SYS_gettid), place};
+}
+
+/* The seats of a circle that the thread's own seat is in; 0 where it is in none. */
+static int64_t circle_of(const struct thread *thread, uint16_t seats[SEATS])
+{
+    struct wit_place *place = judged_place();
+    int64_t count = place ? wit_circle(place, seats, SEATS) : 0;
+    for (int64_t i = 0; i < count; i++)
+        if (seats[i] == thread->seat[judged_stream()])
+            return count;
+    return 0;
+}
+
+bool judge_sees_circle(const struct request *request)
+{
+    uint16_t seats[SEATS];
+    return action != UNWATCHED && request->pending >> judged_stream() & 1 && circle_of(request->thread, seats) > 0;
+}
+
+static size_t put_waits(char *to, size_t room, struct wit_place *place, uint16_t seat)
+{
+    char at[FILE_ROOM];
+    name_file(at, asked[seat].place);
+    int length = snprintf(to, room, "seat %u, thread %ld, waits @ %s:%u and holds:\n", seat, asked[seat].thread, at,
+        place_line(asked[seat].place));
+    if (length < 0 || (size_t)length >= room)
+        return 0;
+    int64_t held = wit_locks_text(place, seat, to + length, room - (size_t)length);
+    return held < 0 || (size_t)(length + held) > room ? 0 : (size_t)(length + held);
+}
+
+/* The verifier's words, and then where each of the circle waits and took what it holds. */
+static void keep_circle(const uint16_t *seats, int64_t count)
+{
+    static char text[CIRCLE_ROOM];
+    struct wit_place *place = judged_place();
+    int64_t length = wit_circle_text(place, text, sizeof text);
+    if (length < 0 || (size_t)length > sizeof text)
+        return;
+    for (int64_t i = 0; i < count; i++)
+        length += (int64_t)put_waits(text + length, sizeof text - (size_t)length, place, seats[i]);
+    char *kept = report_kept(WITNESS_DEADLOCK, (size_t)length);
+    if (kept)
+        memcpy(kept, text, (size_t)length);
+}
+
+static void keep_itself(const struct request *request)
+{
+    char name[NAME_ROOM], of[NAME_ROOM], text[2 * NAME_ROOM];
+    name_any(name, of, request->lock, judged_stream());
+    int length = snprintf(text, sizeof text, "circle:\n a thread waits for \"%s\" that it holds itself\n", name);
+    char *kept = report_kept(WITNESS_DEADLOCK, (size_t)length);
+    if (kept)
+        memcpy(kept, text, (size_t)length);
+}
+
+void judge_waits(const struct request *request)
+{
+    uint16_t seats[SEATS];
+    if (action == UNWATCHED || !recorder_enters())
+        return;
+    int64_t count = request->again ? 0 : circle_of(request->thread, seats);
+    if (request->again_refused)
+        keep_itself(request);
+    else if (count > 0)
+        keep_circle(seats, count);
+    recorder_leaves();
+    judge_tells(request->caller);
+}
+
+void deadlock_acts(void)
+{
+    if (action == KILLS)
+        kill(getpid(), SIGKILL);
+    if (action == EXITS)
+        _exit(exit_status);
+}

@@ -1,0 +1,276 @@
+/*
+ * Gives the verifier each line of a stream while it is written, under the recorder's mutex: the condensed stream's, or
+ * the full one's where that is the only one. Locks and seats have the stream's numbers: both count the lines of `init`.
+ * The head of recorder/write.c says why the lines are a legal history.
+ *
+ * The verifier is made at the first line. So a program, or a child of fork, that never asks for a second lock has none.
+ */
+#include "judge.h"
+
+#include "judged.h"
+#include "names.h"
+#include "report.h"
+
+#include <stdlib.h>
+#include <string.h>
+
+/*
+ * Chunks: as many as the recorder's threads can ever fill. The log: of 48 bytes an entry, for a program with more
+ * chains of locks than the recorder knows.
+ */
+enum { CHUNKS = SEATS * (HELD_MOST / 5 + 1), JUDGED_LOG = 1 << 22 };
+
+static struct wit_place place;
+static enum { UNBORN, JUDGES, OVER } state;
+static int judged; /* the stream */
+static bool all_held;
+/* The file's number of each place, 0 where it has none yet. */
+static uint16_t files[PLACES + 1];
+
+/* News: what the stream has no room for, each told once and counted; and those of enum news. */
+_Atomic uint32_t judge_news;
+static _Atomic uint32_t told;
+static uint64_t missed_count[MISSES];
+static int64_t fault, refused_for;
+static uint64_t refused_list;
+
+static bool is_wanted;
+
+void judge_wants(void)
+{
+    is_wanted = true;
+}
+
+bool judge_is_wanted(void)
+{
+    const char *asked = secure_getenv("WITNESS");
+    return is_wanted || (asked && strcmp(asked, "1") == 0);
+}
+
+void judge_begins(void)
+{
+    const char *profile = secure_getenv("WITNESS_PROFILE");
+    tell_begins();
+    reports_begin();
+    lists_begin();
+    deadlock_begins();
+    judged = writes[CONDENSED] ? CONDENSED : FULL;
+    all_held = profile && strcmp(profile, "all") == 0;
+    if (profile && *profile && !all_held && strcmp(profile, "plain") != 0)
+        tell_line("WITNESS_PROFILE is all or plain, not %s: it is plain", profile);
+}
+
+void judge_has_news(enum news what)
+{
+    if (!(atomic_load(&told) >> what & 1))
+        atomic_fetch_or(&judge_news, 1u << what);
+}
+
+/* Nothing is judged from here on: the verifier has refused a line. Its memory goes back. */
+static void ends(int64_t answer)
+{
+    wit_free(&place);
+    state = OVER;
+    fault = answer;
+    judge_has_news(NEWS_OVER);
+}
+
+/* Makes the verifier. Where a static list is refused, one without lists. */
+static int64_t made_with(const struct lists *lists)
+{
+    static const struct wit_sizes sizes = {SEATS, TYPES, LOCKS, CHUNKS, JUDGED_LOG};
+    uint64_t refused = 0;
+    int64_t answer = wit_new(&place, &sizes, all_held, lists->lists, lists->lists_count, lists->pairs, lists->pairs_count,
+        &refused);
+    if (answer >= 0 || refused == 0 || answer == WIT_OUT_OF_MEMORY)
+        return answer;
+    refused_list = refused;
+    refused_for = answer;
+    judge_has_news(NEWS_LISTS);
+    return wit_new(&place, &sizes, all_held, lists->lists, 0, lists->pairs, lists->pairs_count, &refused);
+}
+
+static bool is_judged(int stream)
+{
+    if (stream != judged || state == OVER)
+        return false;
+    if (state == UNBORN) {
+        int64_t answer = made_with(lists_named());
+        if (answer < 0)
+            ends(answer);
+        else
+            state = JUDGES;
+    }
+    return state == JUDGES;
+}
+
+int judged_stream(void)
+{
+    return judged;
+}
+
+struct wit_place *judged_place(void)
+{
+    return is_judged(judged) ? &place : NULL;
+}
+
+/* The child's streams begin anew, and so does what is known. */
+void judge_forked(void)
+{
+    atomic_store(&told, 0);
+    atomic_store(&judge_news, 0);
+    memset(missed_count, 0, sizeof missed_count);
+    reports_forked();
+    if (state == UNBORN)
+        return;
+    wit_free(&place);
+    memset(files, 0, sizeof files);
+    names_forgotten();
+    orders_forked();
+    state = UNBORN;
+}
+
+/* The text of the report that the verifier's last call was answered. */
+static void keep_report(int64_t answer)
+{
+    char none[1];
+    int64_t length = wit_report_text(&place, none, 0);
+    enum witness_kind kind = answer == WIT_REVERSAL ? WITNESS_REVERSAL : WITNESS_DUPLICATE;
+    char *text = length > 0 ? report_kept(kind, (size_t)length) : NULL;
+    if (text && wit_report_text(&place, text, (size_t)length) == length)
+        return;
+    if (text)
+        report_dropped();
+    ends(WIT_OUT_OF_MEMORY);
+}
+
+static void took(int64_t answer)
+{
+    if (UNLIKELY(answer < 0))
+        ends(answer);
+    else if (UNLIKELY(answer == WIT_REVERSAL || answer == WIT_DUPLICATE))
+        keep_report(answer);
+}
+
+void judge_made(int stream, const struct thread *thread, const struct lock *lock)
+{
+    char name[NAME_ROOM];
+    if (!is_judged(stream))
+        return;
+    uint32_t type = *mark(&lock->type->marks, stream);
+    const char *of = *type_name(type) ? type_name(type) : name_type(lock->type, type);
+    name_lock(name, lock, of);
+    int64_t made = wit_init(&place, (uint16_t)thread->seat[stream], name, strlen(name), of, strlen(of),
+        lock->type->class == RWLOCK ? WIT_RW : WIT_SLEEP_MUTEX,
+        (uint8_t)((lock->recursive ? WIT_LOCK_RECURSABLE : 0) | (is_doubled(of) ? WIT_LOCK_DUPOK : 0)));
+    if (made < 0)
+        ends(made);
+    else
+        orders_made(thread, atomic_load(&lock->address), (uint32_t)made);
+}
+
+/* The number of the place as a file, 0 where it can't have one. A place of the code is told by its file's name alone. */
+static uint16_t file_of(uint32_t at)
+{
+    char name[FILE_ROOM];
+    if (files[at] == 0) {
+        name_file(name, at);
+        int64_t number = wit_file(&place, name, strlen(name));
+        if (number < 0) {
+            ends(number);
+            return 0;
+        }
+        files[at] = (uint16_t)number;
+    }
+    return files[at];
+}
+
+void judge_asked(int stream, const struct thread *thread, uint32_t lock, uint8_t mode, uint32_t at)
+{
+    uint16_t file = is_judged(stream) ? file_of(at) : 0;
+    if (!file)
+        return;
+    deadlock_asked(thread->seat[stream], at);
+    took(wit_check(&place, (uint16_t)thread->seat[stream], lock, mode == EXCLUSIVE, WIT_OP_NEWORDER, file,
+        place_line(at)));
+}
+
+void judge_tried(int stream, const struct thread *thread, uint32_t lock, uint8_t mode, uint32_t at)
+{
+    uint16_t file = is_judged(stream) ? file_of(at) : 0;
+    if (file)
+        took(wit_note_try(&place, (uint16_t)thread->seat[stream], lock, mode == EXCLUSIVE, file, place_line(at)));
+}
+
+void judge_got(int stream, const struct thread *thread, uint32_t lock)
+{
+    if (is_judged(stream))
+        took(wit_note(&place, (uint16_t)thread->seat[stream], lock));
+}
+
+void judge_gave_up(int stream, const struct thread *thread, uint32_t lock)
+{
+    if (is_judged(stream))
+        took(wit_give_up(&place, (uint16_t)thread->seat[stream], lock));
+}
+
+void judge_released(int stream, const struct thread *thread, uint32_t lock, uint8_t mode)
+{
+    if (is_judged(stream))
+        took(wit_unlock(&place, (uint16_t)thread->seat[stream], lock, mode == EXCLUSIVE));
+}
+
+void judge_missed(enum missed what)
+{
+    missed_count[what]++;
+    judge_has_news((enum news)what);
+}
+
+/* What the library has no room for, and goes on without. */
+static const char *const limits[MISSES] = {
+    [MISSED_SEATS] = "more than 256 threads hold locks that are judged at once: the requests of others are passed over",
+    [MISSED_TYPES] = "more than 1,023 types of locks: locks of further types are passed over",
+    [MISSED_LOCKS] = "more than 65,536 locks: further ones are passed over",
+    [MISSED_HELD] = "a thread holds more than 512 locks: those beyond are passed over",
+    [MISSED_LOG] = "the log is full: further requests are passed over",
+};
+
+static void tell_end(void)
+{
+    if (fault == WIT_OUT_OF_MEMORY)
+        tell_line("no memory for the verifier: nothing is judged from here on");
+    else if (fault == -26)
+        tell_line("the verifier's log is full: nothing is judged from here on");
+    else
+        tell_line("the verifier has refused a line (F%d): nothing is judged from here on", (int)-fault);
+}
+
+/* Each is told once. */
+void judge_tells_news(void)
+{
+    uint32_t news = atomic_exchange(&judge_news, 0);
+    news &= ~atomic_fetch_or(&told, news);
+    for (uint32_t what = 0; what < MISSES; what++)
+        if (news >> what & 1 && limits[what])
+            tell_line("%s", limits[what]);
+    if (news >> NEWS_OVER & 1)
+        tell_end();
+    if (news >> NEWS_LISTS & 1)
+        tell_line("list %lu of WITNESS_ORDERS is refused (F%d): no list is known", (unsigned long)refused_list,
+            (int)-refused_for);
+    if (news >> NEWS_AGAINST & 1)
+        tell_line("witness_define_order: the second lock is before the first one already: no order is defined");
+    if (news >> NEWS_ONE_TYPE & 1)
+        tell_line("witness_define_order: both locks are of one type: no order is defined");
+    if (news >> NEWS_UNDEFINED & 1)
+        tell_line("witness_define_order: no order can be defined between such locks, or there is no memory for it");
+}
+
+/* How much that was. */
+void judge_ends(void)
+{
+    judge_looks();
+    for (uint32_t what = 0; what < MISSES; what++)
+        if (limits[what] && missed_count[what])
+            tell_line("passed over %lu times: %s", (unsigned long)missed_count[what], limits[what]);
+}

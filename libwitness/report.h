@@ -1,0 +1,34 @@
+/* Reports (report.c), and where the library tells what it has to tell (tell.c). */
+#ifndef WITNESS_REPORT_H
+#define WITNESS_REPORT_H
+
+#include "../recorder/recorder.h"
+#include "libwitness.h"
+
+/* Reads from the environment what is to be done at a report. Once, outside the mutex. */
+void reports_begin(void);
+
+/*
+ * A report of what this thread has asked for, kept until judge_tells: room for a text of that length, and a zero after
+ * it. NULL without memory. Under the mutex.
+ */
+char *report_kept(enum witness_kind kind, size_t length);
+/* The last one that was kept isn't told after all. Under the mutex. */
+void report_dropped(void);
+void reports_forked(void);
+
+/* The status of exit=N, up to 255; -1 of another word. */
+int status_in(const char *word);
+
+/* A deadlock that happens (deadlock.c): what is to be done then; a request in a seat, under the mutex; it was told. */
+void deadlock_begins(void);
+void deadlock_asked(uint32_t seat, uint32_t place);
+void deadlock_acts(void);
+
+/* Tells lines, on standard error or where WITNESS_LOG says. No mutex is held. */
+void tell_begins(void);
+void tell(const char *text, size_t length);
+/* A line of the library's own. */
+void tell_line(const char *format, ...) __attribute__((format(printf, 1, 2)));
+
+#endif

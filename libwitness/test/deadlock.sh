@@ -1,0 +1,46 @@
+# A deadlock that happens: read by `run`, whose functions it uses.
+
+# hangs WORD ACTION: runs `hangs` so, at most for ten seconds.
+hangs() {
+    WITNESS=1 WITNESS_ON_DEADLOCK=$2 sh -c 'timeout -s KILL "$1" ./hangs "$2" >out; exit $?' sh "${3:-10}" "$1" 2>err
+}
+
+# Each seat's line of waiting and those of what it holds; seats and threads are either way round.
+circle() {
+    told <err | sed -n '/^circle:$/,/^asked by/p' | sed 's/[0-9][0-9]* *waits/N waits/; s/seat [12]/seat N/g; s/thread [0-9]*,/thread N,/' |
+        grep -v '^asked by' | LC_ALL=C sort
+}
+
+if wanted deadlock; then
+    compile hangs $linked
+    cat >circle.want <<'END'
+ seat N waits for "journal" held by seat N
+ seat N waits for "pool" held by seat N
+circle:
+exclusive sleep mutex "pool" (pool) r = 0 @ hangs(commit):0
+seat N, thread N, waits @ hangs(checkpoint):0 and holds:
+seat N, thread N, waits @ hangs(commit):0 and holds:
+shared rw "journal" (journal) r = 0 @ hangs(checkpoint):0
+END
+    for word in new known; do
+        hangs $word exit=3
+        [ $? -eq 3 ] && circle | diff circle.want -
+        tell deadlock "threads that wait for one another, orders $word: ended by exit=3, with its reason" $?
+    done
+    hangs known kill
+    [ $? -eq 137 ] && circle | diff circle.want - && [ "$(grep -c '^circle:$' err)" -eq 1 ]
+    tell deadlock "ended by kill" $?
+    hangs new tell 4
+    [ $? -eq 137 ] && circle | diff circle.want - && [ "$(grep -c '^circle:$' err)" -eq 1 ]
+    tell deadlock "told once, and it hangs on" $?
+    hangs self exit=3
+    [ $? -eq 3 ] && grep -q '^ a thread waits for "pool" that it holds itself$' err
+    tell deadlock "a thread that waits for itself" $?
+    hangs short exit=3 && [ "$(cat out)" = ended ] && ! grep -q '^circle:$' err
+    tell deadlock "a wait that ends within a second" $?
+    hangs new "" 3
+    [ $? -eq 137 ] && ! grep -q '^circle:$' err
+    tell deadlock "nothing where it isn't asked for" $?
+    hangs short exut=3 && grep -q '^witness: WITNESS_ON_DEADLOCK is tell, kill or exit=N up to 255, not exut=3: ' err
+    tell deadlock "a wrong word" $?
+fi

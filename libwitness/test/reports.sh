@@ -1,0 +1,78 @@
+# What happens at a report: read by `run`, whose functions it uses.
+
+# acts WORD: runs `stops` so, without a core; the status is the program's. (The shell tells of an end by a signal, too.)
+acts() {
+    WITNESS=1 WITNESS_ON_REPORT=$1 sh -c 'ulimit -c 0; ./stops >out; exit $?' 2>err
+}
+
+if wanted acts; then
+    compile stops $linked
+    for word in tell ""; do
+        acts "$word" && [ "$(cat out)" = "before
+after" ] && grep -q '^lock order reversal:$' err
+        tell acts "goes on (WITNESS_ON_REPORT=$word)" $?
+    done
+    for case in abort:134 trap:133 exit=7:7 exit=0:0; do
+        acts "${case%:*}"
+        [ $? -eq "${case#*:}" ] && [ "$(cat out)" = before ] && grep -q '^lock order reversal:$' err
+        tell acts "${case%:*} ends it before the lock is asked for" $?
+    done
+    for word in exit=256 exit= exit=7x stopp; do
+        acts "$word" && grep -q "^witness: WITNESS_ON_REPORT is .*, not $word: reports are told$" err &&
+            grep -q '^lock order reversal:$' err
+        tell acts "a wrong word is told: $word" $?
+    done
+    WITNESS=1 WITNESS_ON_REPORT=stop ./stops >out 2>err &
+    number=$!
+    state=
+    for look in 1 2 3 4 5 6 7 8 9 10 11 12 13 14 15 16 17 18 19 20; do
+        state=$(sed 's/.*) //; s/ .*//' "/proc/$number/stat")
+        [ "$state" != T ] || break
+        sleep 0.1
+    done
+    [ "$state" = T ] && [ "$(cat out)" = before ] && grep -q "^witness: process $number stops here: gdb -p $number " err
+    tell acts "stops, and says how to go on" $?
+    kill -CONT "$number"
+    wait "$number" && [ "$(cat out)" = "before
+after" ]
+    tell acts "goes on after that" $?
+fi
+
+# The text goes to standard error, as long as that is what it was, or to a file.
+if wanted tells; then
+    compile closes $linked
+    WITNESS=1 ./closes file >out 2>err && [ "$(cat out)" = done ] && [ ! -s precious ] && [ ! -s err ]
+    tell tells "nothing to a file that the program has in place of standard error" $?
+    WITNESS=1 sh -c './closes 2>&1 >out; echo $? >status' | true
+    [ "$(cat status)" = 0 ] && [ "$(cat out)" = done ]
+    tell tells "standard error that nobody reads" $?
+    (ulimit -f 0 && WITNESS=1 ./closes 2>err | grep -q '^done$')
+    tell tells "a limit on the size of files" $?
+    WITNESS=1 WITNESS_LOG=log.%p ./closes >out 2>err &
+    number=$!
+    wait $number && [ ! -s err ] && grep -q '^lock order reversal:$' "log.$number"
+    tell tells "a file that WITNESS_LOG names" $?
+    WITNESS=1 WITNESS_LOG=none/log ./closes >out 2>err && grep -q '^lock order reversal:$' err
+    tell tells "a file that can't be written: standard error" $?
+fi
+
+# A debugger stands where the program asks.
+if wanted debugger; then
+    if command -v gdb >gdb.out; then
+        compile stops $linked
+        WITNESS=1 gdb -nx -batch -ex 'set breakpoint pending on' -ex 'break witness_reported' -ex run -ex bt ./stops \
+            >out 2>err </dev/null
+        grep -q 'both (first=.*, second=.*) at stops.c:11' out
+        tell debugger "gdb stands at the line by a breakpoint" $?
+        cp "$here/bank.cc" .
+        for library in "$linked" "$lib/libwitness.a"; do
+            "${CXX:-c++}" -g -Wall -Wextra -pthread -o bank bank.cc $library
+            WITNESS=1 timeout 60 gdb -nx -batch -x "$top/libwitness/stand.py" -ex run -ex 'print money' -ex 'info line' \
+                --args ./bank >out 2>err </dev/null
+            grep -q '^\$1 = 20$' out && tail -n 1 out | grep -q '^Line 15 of "bank.cc"'
+            tell debugger "gdb stands in the function that asks (${library##*/})" $?
+        done
+    else
+        echo "left out  debugger: there is no gdb"
+    fi
+fi
