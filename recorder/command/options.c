@@ -252,7 +252,7 @@ static char **read_options(struct options *options, char **words)
             continue;
         }
         if (!words[1])
-            refuse("%s needs a word behind it", *words);
+            refuse("%s needs a word after it", *words);
         option->take(options, *++words);
     }
     return words;
