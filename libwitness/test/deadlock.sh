@@ -1,8 +1,8 @@
 # A deadlock that happens: read by `run`, whose functions it uses.
 
-# hangs WORD ACTION: runs `hangs` so, at most for ten seconds.
+# hangs WORD ACTION: runs `hangs` so, at most for a hundred seconds.
 hangs() {
-    WITNESS=1 WITNESS_ON_DEADLOCK=$2 sh -c 'timeout -s KILL "$1" ./hangs "$2" >out; exit $?' sh "${3:-10}" "$1" 2>err
+    WITNESS=1 WITNESS_ON_DEADLOCK=$2 sh -c 'timeout -s KILL "$1" ./hangs "$2" >out; exit $?' sh "${3:-100}" "$1" 2>err
 }
 
 # Each seat's line of waiting and those of what it holds; seats and threads are either way round.
@@ -30,7 +30,7 @@ END
     hangs known kill
     [ $? -eq 137 ] && circle | diff circle.want - && [ "$(grep -c '^circle:$' err)" -eq 1 ]
     tell deadlock "ended by kill" $?
-    hangs new tell 4
+    hangs new tell 8
     [ $? -eq 137 ] && circle | diff circle.want - && [ "$(grep -c '^circle:$' err)" -eq 1 ]
     tell deadlock "told once, and it hangs on" $?
     hangs self exit=3

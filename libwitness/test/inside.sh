@@ -1,7 +1,7 @@
 # What the library does inside a program: read by `run`, whose functions it uses.
 
 if wanted malloc; then
-    compile own_malloc $linked && WITNESS=1 timeout 20 ./own_malloc >out 2>err
+    compile own_malloc $linked && WITNESS=1 timeout 100 ./own_malloc >out 2>err
     [ $? -eq 0 ] && [ "$(cat out)" = reversal ]
     tell malloc "locks inside the program's malloc" $?
 fi

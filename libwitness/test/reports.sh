@@ -24,13 +24,12 @@ after" ] && grep -q '^lock order reversal:$' err
     done
     WITNESS=1 WITNESS_ON_REPORT=stop ./stops >out 2>err &
     number=$!
-    state=
-    for look in 1 2 3 4 5 6 7 8 9 10 11 12 13 14 15 16 17 18 19 20; do
-        state=$(sed 's/.*) //; s/ .*//' "/proc/$number/stat")
-        [ "$state" != T ] || break
+    looks=600
+    until grep -q ') T ' "/proc/$number/stat" || [ $looks -eq 0 ]; do
+        looks=$((looks - 1))
         sleep 0.1
     done
-    [ "$state" = T ] && [ "$(cat out)" = before ] && grep -q "^witness: process $number stops here: gdb -p $number " err
+    grep -q ') T ' "/proc/$number/stat" && [ "$(cat out)" = before ] && grep -q "^witness: process $number stops here: gdb -p $number " err
     tell acts "stops, and says how to go on" $?
     kill -CONT "$number"
     wait "$number" && [ "$(cat out)" = "before
@@ -67,7 +66,7 @@ if wanted debugger; then
         cp "$here/bank.cc" .
         for library in "$linked" "$lib/libwitness.a"; do
             "${CXX:-c++}" -g -Wall -Wextra -pthread -o bank bank.cc $library
-            WITNESS=1 timeout 60 gdb -nx -batch -x "$top/libwitness/stand.py" -ex run -ex 'print money' -ex 'info line' \
+            WITNESS=1 timeout 300 gdb -nx -batch -x "$top/libwitness/stand.py" -ex run -ex 'print money' -ex 'info line' \
                 --args ./bank >out 2>err </dev/null
             grep -q '^\$1 = 20$' out && tail -n 1 out | grep -q '^Line 15 of "bank.cc"'
             tell debugger "gdb stands in the function that asks (${library##*/})" $?

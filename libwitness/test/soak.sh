@@ -29,7 +29,7 @@ if wanted sanitized; then
     compile hook $by_sanitized && ./hook >out 2>err
     diff "$here/hook.want" out
     tell sanitized "a report" $?
-    compile hangs $by_sanitized && WITNESS=1 WITNESS_ON_DEADLOCK=exit=3 timeout 20 ./hangs new >out 2>err
+    compile hangs $by_sanitized && WITNESS=1 WITNESS_ON_DEADLOCK=exit=3 timeout 100 ./hangs new >out 2>err
     [ $? -eq 3 ] && grep -q '^circle:$' err
     tell sanitized "a deadlock" $?
     compile soak $by_sanitized && ./soak 2 >out 2>err

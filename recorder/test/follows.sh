@@ -1,16 +1,5 @@
 # What is told while the program runs. recorder/test/run has the functions.
 
-# within COMMAND..: whether it becomes true within ten seconds, in which a busy machine gets all done.
-within() {
-    for tenth in 0 1 2 3 4 5 6 7 8 9; do
-        for hundredth in 0 1 2 3 4 5 6 7 8 9; do
-            ! "$@" || return 0
-            sleep 0.1
-        done
-    done
-    return 1
-}
-
 # begin_live WORDS OF RECORD..: runs it with `held-open`, a pipe that stays open until `end_live`. It has done its work when
 # this returns.
 begin_live() {
@@ -103,11 +92,11 @@ if wanted hangs; then
     [ $before -eq 0 ] && [ "$(grep -c '^circle:$' recorded.err)" -eq 1 ] &&
         grep -q '^record: 1 report, 1 circle, 1 process$' recorded.err
     tell hangs "a circle while the program goes on, once" $?
-    timeout 60 "$record" --on-deadlock exit=7 -- ./deadlock 2>recorded.err
+    timeout 300 "$record" --on-deadlock exit=7 -- ./deadlock 2>recorded.err
     [ $? -eq 7 ] && [ "$(grep -c '^circle:$' recorded.err)" -eq 1 ] &&
         grep -q '^record: deadlock (process [0-9]*) is ended: its threads wait for one another$' recorded.err
     tell hangs "--on-deadlock exit=7" $?
-    timeout 60 "$record" --on-deadlock kill -- sh -c './deadlock; echo went on; exit 3' >recorded.out 2>recorded.err
+    timeout 300 "$record" --on-deadlock kill -- sh -c './deadlock; echo went on; exit 3' >recorded.out 2>recorded.err
     [ $? -eq 3 ] && grep -q '^went on$' recorded.out
     tell hangs "--on-deadlock kill ends the process that hangs alone" $?
     for word in exit= exit=0 exit=256 exit=7x stop; do
@@ -116,11 +105,11 @@ if wanted hangs; then
         tell hangs "--on-deadlock $word" $?
     done
     compile slow
-    timeout 60 "$record" --on-deadlock exit=7 -- ./slow >recorded.out 2>recorded.err
+    timeout 300 "$record" --on-deadlock exit=7 -- ./slow >recorded.out 2>recorded.err
     [ $? -ne 7 ] && ! grep -q '^circle:$' recorded.err
     tell hangs "a wait of some seconds that ends" $?
     compile patient
-    timeout 60 "$record" --on-deadlock exit=7 -- ./patient >recorded.out 2>recorded.err
+    timeout 300 "$record" --on-deadlock exit=7 -- ./patient >recorded.out 2>recorded.err
     [ $? -eq 0 ] && grep -q '^both went on$' recorded.out
     tell hangs "a circle of which one gives up is left alone" $?
 fi

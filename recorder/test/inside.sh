@@ -9,7 +9,7 @@ compile_atfork() {
 if wanted atfork; then
     compile_atfork
     for forks in 1 12; do
-        timeout -s KILL 60 "$record" -- ./atfork $forks >recorded.out 2>recorded.err
+        timeout -s KILL 300 "$record" -- ./atfork $forks >recorded.out 2>recorded.err
         [ $? -eq 0 ] && [ "$(cat recorded.out)" = forked ] && sed 's/^==[0-9]*== //; /^record: /d' recorded.err | diff "$here/atfork.want" -
         tell atfork "$forks forks in a library's handlers" $?
     done
@@ -113,7 +113,7 @@ if wanted jump; then
     compile jump
     for way in 0 1 2 3; do
         for stream in "" --full; do
-            timeout -s KILL 20 "$record" $stream -- ./jump $way 2>recorded.err
+            timeout -s KILL 100 "$record" $stream -- ./jump $way 2>recorded.err
             # The third way has the order in another line.
             sed 's/process [0-9]*/process N/; s/ @ jump.c:54$/ @ jump.c:23/' recorded.err | diff "$here/jump.want" -
             tell jump "a call that is left, way $way $stream" $?
@@ -125,7 +125,7 @@ fi
 if wanted duty; then
     compile condhang
     for stream in "" --full; do
-        "$record" $stream -- timeout -s KILL 2 ./condhang 2>&1 | diff "$here/condhang.want" -
+        "$record" $stream -- timeout -s KILL 4 ./condhang 2>&1 | diff "$here/condhang.want" -
         tell duty "a wait for a condition whose mutex never comes back $stream" $?
     done
     compile madeup
@@ -178,19 +178,14 @@ END
     "$record" -- true 2>/dev/null
     : >ignored.out
     "$record" -- ./handles >ignored.out 2>/dev/null &
-    for look in 1 2 3 4 5 6 7 8 9 10 11 12 13 14 15 16 17 18 19 20 21 22 23 24 25 26 27 28 29 30 31 32 33 34 35 36 37 38 39 40; do
-        ! grep -q ready ignored.out || break
-        sleep 0.2
-    done
+    within grep -q ready ignored.out
     kill -INT $!
     wait $!
     grep -qx 'it came' ignored.out
     tell ignored "INT that was ignored at the start is passed on" $?
+    : >ignored.out
     "$record" -- sh -c 'echo ready; sleep 4; echo went on' >ignored.out 2>/dev/null &
-    for look in 1 2 3 4 5 6 7 8 9 10 11 12 13 14 15 16 17 18 19 20 21 22 23 24 25 26 27 28 29 30 31 32 33 34 35 36 37 38 39 40; do
-        ! grep -q ready ignored.out || break
-        sleep 0.3
-    done
+    within grep -q ready ignored.out
     kill -INT $!
     wait $!
     grep -qx 'went on' ignored.out

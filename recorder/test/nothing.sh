@@ -88,14 +88,11 @@ if wanted leaving; then
     last_is 'record: 1 report, 0 circles, 1 process' && ! grep -q kept recorded.err
     tell leaving "what ends soon is waited for" $?
     rm -f left
-    recorded_by "$record" -- ./leaving 1500
+    recorded_by "$record" -- ./leaving 4000
     pid=$(sed -n 's/^record: leaving (process \([0-9]*\)) goes on: record --show \1 tells of it$/\1/p' recorded.err)
     [ -n "$pid" ] && is_kept && last_is 'record: so far: nothing to report: no thread asked for a lock while it held another'
     tell leaving "what goes on is told, and its recording is kept" $?
-    for _ in 1 2 3 4 5 6 7 8 9 10 11 12 13 14 15 16 17 18 19 20; do
-        [ ! -e left ] || break
-        sleep 0.3
-    done
+    within [ -e left ]
     recorded_by "$record" --show "${pid:-0}"
     said 0 '^lock order reversal:$' && last_is 'record: so far: 1 report, 0 circles, 1 process'
     tell leaving "it is looked at by its number, though it has overwritten its environment" $?

@@ -49,7 +49,7 @@ make_many() {
 # opened PAGE[#WORDS]: what a browser makes of the page is in `opened`, and what its console says in `console`.
 opened() {
     rm -rf profile
-    timeout 60 "$browser" --headless --no-sandbox --disable-gpu --no-first-run --user-data-dir="$work/profile" \
+    timeout 300 "$browser" --headless --no-sandbox --disable-gpu --no-first-run --user-data-dir="$work/profile" \
         --enable-logging=stderr --v=0 --dump-dom "file://$work/$1" >opened 2>opened.err
     opened=$?
     LC_ALL=C grep -a CONSOLE opened.err >console
@@ -136,7 +136,7 @@ test_runs() {
         mv reversal.c away.c && recorded_to run -- ./moved && grep -q "Its source isn't here" run.html
     tell outputs "sources that are newer, or gone" $?
     mv away.c reversal.c && mkfifo pipe.c && sed 's/reversal.c:1/pipe.c:1/' kinds.case >pipe.case &&
-        timeout 20 built/driver html pipe.case | grep -q "Its source isn't here"
+        timeout 100 built/driver html pipe.case | grep -q "Its source isn't here"
     tell outputs "a source that is a pipe by now isn't waited for" $?
     for line in "--html" "--json . true" "--sarif /nowhere/x true"; do
         recorded_by "$record" $line
@@ -212,7 +212,7 @@ if wanted outputs; then
         sed 's|</main>|<script>document.title = "foreign"</script><img src="http://127.0.0.1:9/x">&|' kinds.html >foreign.html
         opened foreign.html && [ "$(grep -c 'Content Security Policy' console)" -eq 2 ] && ! grep -q '<title>foreign' opened
         tell outputs "it runs no script but its own, and fetches nothing" $?
-        timeout 60 "$browser" --headless --no-sandbox --disable-gpu --user-data-dir="$work/profile" --no-pdf-header-footer \
+        timeout 300 "$browser" --headless --no-sandbox --disable-gpu --user-data-dir="$work/profile" --no-pdf-header-footer \
             --print-to-pdf="$work/kinds.pdf" "file://$work/kinds.html" >/dev/null 2>&1
         [ "$(head -c 5 kinds.pdf)" = %PDF- ]
         tell outputs "it can be printed" $?

@@ -43,7 +43,7 @@ if wanted symbols; then
     tell symbols "no tool" $?
     while read -r what body; do
         printf '#!/bin/sh\n%s\n' "$body" | tool addr2line
-        PATH="$work/tools:$PATH" timeout 100 ./resolved 1 stream >faulty.trace && cmp bare.trace faulty.trace
+        PATH="$work/tools:$PATH" timeout 300 ./resolved 1 stream >faulty.trace && cmp bare.trace faulty.trace
         tell symbols "a tool that ${what%%:*}" $?
     done <<'END'
 ends: exit 1

@@ -1,17 +1,17 @@
 # Tests of what is done with a trace beside telling its reports, read by `run`: it is looked at while the program goes on,
 # replayed in the other profile, and judged.
 
+# shows PROGRAM PATTERN: whether `record --show` tells such a line of it by now.
+shows() {
+    [ -s "$1.pid" ] && recorded_by "$record" --show "$(cat "$1.pid")" && grep -q "$2" recorded.err
+}
+
 # A program that goes on: what there is so far, by its number and by that of `record`. It takes USR1 as ever.
 if wanted live; then
     compile crew
     "$record" -- sh -c 'echo $$ >crew.pid; exec ./crew' >/dev/null 2>ended.err &
     recorder_pid=$!
-    : >recorded.err
-    for look in 1 2 3 4 5 6 7 8 9 10 11 12 13 14 15 16 17 18 19 20; do
-        [ ! -s crew.pid ] || recorded_by "$record" --show "$(cat crew.pid)"
-        ! grep -q '^circle:' recorded.err || break
-        sleep 0.3
-    done
+    within shows crew '^circle:'
     sed -n '/^held now:/,$d; s/seat [12]/seat N/gp' recorded.err | sort | diff "$here/crew.want" -
     tell live "a circle of a program that goes on" $?
     sed -n '/^held now:/,$p' recorded.err | sed 's/seat [12] ([^)]*)/seat N/; s/seat [12]/seat N/' | sort >held
@@ -29,12 +29,7 @@ if wanted live; then
     tell live "it was left in peace, and USR1 ends it" $?
     compile slow
     "$record" -- sh -c 'echo $$ >slow.pid; exec ./slow' 2>ended.err &
-    : >recorded.err
-    for look in 1 2 3 4 5 6 7 8 9 10 11 12 13 14 15 16 17 18 19 20; do
-        [ ! -s slow.pid ] || recorded_by "$record" --show "$(cat slow.pid)"
-        ! grep -q '^held now:' recorded.err || break
-        sleep 0.2
-    done
+    within shows slow '^held now:'
     printf '%s\n' 'held now:' ' thread N (slow writer) holds "table"' "record: so far: ${clean#record: }" \
         'record: so far: nothing to report' >wanted.err
     sed 's/thread [0-9]* /thread N /' recorded.err | diff wanted.err - && kill "$(cat slow.pid)" && wait $! ; [ $? -eq 143 ]
