@@ -55,9 +55,9 @@ static char *without_numbers(const char *name)
 /* Where a type has a name by functions, that is mixed in. */
 static uint64_t mix_type(uint64_t hash, const struct notes *notes, const char *type)
 {
-    for (size_t i = notes->aliases; i > 0; i--)
-        if (strcmp(notes->alias[i - 1].type, type) == 0)
-            return mix(hash, notes->alias[i - 1].functions);
+    const struct alias *alias = notes_alias(notes, type);
+    if (alias && alias->functions)
+        return mix(hash, alias->functions);
     char *plain = without_numbers(type);
     hash = mix(hash, plain);
     free(plain);

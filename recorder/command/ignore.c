@@ -129,32 +129,50 @@ static void bless(struct peace *peace, const struct called *called, struct map *
                     (struct name_pair){first->name[i], second->name[j]};
 }
 
-static void note_alias(struct notes *notes, const struct named_type *type)
+static const char *noted(struct notes *notes, const char *text)
+{
+    return text ? texts_copy(notes->texts, text, strlen(text)) : NULL;
+}
+
+static void note_alias(struct notes *notes, const struct named_type *type, const struct lasting *lasting)
 {
     if (!notes)
         return;
-    const char *name = texts_copy(notes->texts, type->name, strlen(type->name));
-    const char *functions = texts_copy(notes->texts, type->functions, strlen(type->functions));
-    ADD(notes->alias, notes->aliases, notes->alias_room) = (struct alias){name, functions};
+    struct lasting kept = {noted(notes, lasting->name), lasting->lasts, noted(notes, lasting->build_id)};
+    bool has_functions = type->functions && strcmp(type->functions, type->name) != 0;
+    ADD(notes->alias, notes->aliases, notes->alias_room) =
+        (struct alias){noted(notes, type->name), has_functions ? noted(notes, type->functions) : NULL, kept};
 }
 
-void peace_begin(struct peace *peace, const struct ignore *ignore, const struct types *types, struct notes *notes)
+/* All that the user may call the type: its name, the functions of its places, and its lasting name. */
+static void call_type(struct called *called, struct peace *peace, const struct ignore *ignore, struct notes *notes,
+    const struct named_type *type, const struct lasting *lasting)
+{
+    call(called, peace, ignore, notes, type->name, type->name);
+    if (type->functions && strcmp(type->functions, type->name) != 0)
+        call(called, peace, ignore, notes, type->functions, type->name);
+    if (strcmp(lasting->name, type->name) != 0)
+        call(called, peace, ignore, notes, lasting->name, type->name);
+    note_alias(notes, type, lasting);
+}
+
+void peace_begin(struct peace *peace, const struct ignore *ignore, const struct declared *declared,
+    const struct types *types, struct notes *notes)
 {
     static const struct ignore nothing;
     struct called called = {0};
     struct map blessed = {0};
     *peace = (struct peace){0};
+    if (!ignore && !notes)
+        return;
     if (!ignore)
         ignore = &nothing;
     for (uint32_t number = 1; number < types->count; number++) {
         const struct named_type *type = &types->type[number];
         if (type->first != number)
             continue;
-        call(&called, peace, ignore, notes, type->name, type->name);
-        if (type->functions && strcmp(type->functions, type->name) != 0) {
-            call(&called, peace, ignore, notes, type->functions, type->name);
-            note_alias(notes, type);
-        }
+        struct lasting lasting = lasting_of(declared, types, number);
+        call_type(&called, peace, ignore, notes, type, &lasting);
     }
     for (size_t i = 0; i < ignore->pairs; i++)
         bless(peace, &called, &blessed, &ignore->pair[i], notes);

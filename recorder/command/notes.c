@@ -19,6 +19,14 @@ void notes_end(struct notes *notes)
     *notes = (struct notes){0};
 }
 
+const struct alias *notes_alias(const struct notes *notes, const char *type)
+{
+    for (size_t i = notes->aliases; i > 0; i--)
+        if (strcmp(notes->alias[i - 1].type, type) == 0)
+            return &notes->alias[i - 1];
+    return NULL;
+}
+
 const struct spot *notes_spot(const struct notes *notes, const char *place)
 {
     char *end;

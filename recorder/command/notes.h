@@ -7,6 +7,7 @@
 #include <stddef.h>
 #include <stdint.h>
 
+#include "lasting.h"
 #include "single.h"
 
 /* A function and its FILE:LINE, of a stack. */
@@ -46,10 +47,11 @@ struct event {
     const char *site;    /* where; NULL where that isn't known */
 };
 
-/* What a type is called in the ignore file by the functions of its places: no lines are in it. */
+/* What a type is called besides. No lines are in it. */
 struct alias {
-    const char *type;
-    const char *functions;
+    const char *type;       /* its name in the trace */
+    const char *functions;  /* the functions of its places; NULL where its name is that of a variable */
+    struct lasting lasting;
 };
 
 /* The single lock of a number in the trace. */
@@ -64,7 +66,7 @@ struct notes {
     size_t framed, frames_room;
     struct event *event;
     size_t events, event_room;
-    struct alias *alias;
+    struct alias *alias;    /* one for each type of the trace */
     size_t aliases, alias_room;
     unsigned long *matched; /* lines of the ignore file that named types of this trace, each once */
     size_t matches, matched_room;
@@ -79,6 +81,8 @@ struct notes {
 
 void notes_end(struct notes *notes);
 
+/* What the type of that name in the trace is called besides; NULL where there is no such type. */
+const struct alias *notes_alias(const struct notes *notes, const char *type);
 /* The site of a place as it stands in a trace: of `@:NUMBER` the spot's, else the place itself. */
 const char *notes_site(const struct notes *notes, const char *place);
 /* The spot of such a place, NULL where it is none. */

@@ -152,10 +152,8 @@ static enum report_kind kind_of(const char *line)
 /* A type by what doesn't change with the lines of its source. */
 static const char *stable(const struct notes *notes, const char *type)
 {
-    for (size_t i = notes->aliases; i > 0; i--)
-        if (strcmp(notes->alias[i - 1].type, type) == 0)
-            return notes->alias[i - 1].functions;
-    return type;
+    const struct alias *alias = notes_alias(notes, type);
+    return alias && alias->functions ? alias->functions : type;
 }
 
 /* The last two locks of a reversal are those whose types are at odds. */

@@ -55,7 +55,7 @@ bool resolve(struct resolver *resolver, const struct stream *stream, bool silenc
     declared_read(&declared, stream, resolver->symbols, settings->progress);
     sites_begin(&sites, &declared, settings->directory, notes ? notes->texts : declared.texts);
     types_begin(&types, &declared);
-    peace_begin(&peace, silence ? &resolver->ignore : NULL, &types, notes);
+    peace_begin(&peace, silence ? &resolver->ignore : NULL, &declared, &types, notes);
     struct making making = {
         .stream = stream,
         .declared = &declared,

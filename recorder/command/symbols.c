@@ -32,6 +32,8 @@ struct binary {
     struct tool tool;
     bool is_mute; /* its tool has failed */
     unsigned long used;
+    struct object_file file;
+    bool has_file; /* it was read */
 };
 
 struct symbols {
@@ -47,6 +49,7 @@ struct symbols {
     size_t asked;     /* of the names */
     struct tool demangler;
     bool demangler_is_mute;
+    struct source_lines *lines;
 };
 
 struct symbols *symbols_new(const char *patterns)
@@ -54,6 +57,7 @@ struct symbols *symbols_new(const char *patterns)
     struct symbols *symbols = take(sizeof *symbols);
     symbols->patterns = patterns ? patterns : "";
     symbols->texts = texts_new();
+    symbols->lines = source_lines_new();
     return symbols;
 }
 
@@ -83,6 +87,7 @@ void symbols_end(struct symbols *symbols)
     map_end(&symbols->by_path);
     free(symbols->name);
     map_end(&symbols->names);
+    source_lines_end(symbols->lines);
     texts_end(symbols->texts);
     free(symbols);
 }
@@ -115,6 +120,19 @@ const struct code *binary_code(const struct binary *binary, uint64_t offset)
     static const struct code nothing;
     size_t number = binary ? map_find(&binary->known, &offset, sizeof offset) : 0;
     return number ? &binary->code[number - 1] : &nothing;
+}
+
+const struct object_file *binary_file(struct binary *binary)
+{
+    if (!binary->has_file)
+        binary->file = object_file_read(binary->path, binary->symbols->texts);
+    binary->has_file = true;
+    return &binary->file;
+}
+
+struct source_lines *symbols_lines(const struct symbols *symbols)
+{
+    return symbols->lines;
 }
 
 /* The reader of binutils misses what clang inlined in several pieces. */

@@ -10,6 +10,9 @@
 #include <stddef.h>
 #include <stdint.h>
 
+#include "object_file.h"
+#include "source_lines.h"
+
 /* A function at an address. All but the last one of them were inlined. */
 struct inlined {
     const char *function; /* without what it takes; NULL of a place by name that has none */
@@ -44,6 +47,10 @@ void symbols_ask(struct symbols *symbols);
 
 /* Never NULL. */
 const struct code *binary_code(const struct binary *binary, uint64_t offset);
+/* What the object's file says of itself, and when it was last changed; 0 where it isn't there. */
+const struct object_file *binary_file(struct binary *binary);
+/* The lines of sources: they end with the symbols. */
+struct source_lines *symbols_lines(const struct symbols *symbols);
 /* The name in the source, else the name itself. */
 const char *symbols_name(const struct symbols *symbols, const char *mangled);
 

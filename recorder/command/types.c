@@ -4,6 +4,7 @@
 #include "memory.h"
 #include "names.h"
 #include "sites.h"
+#include "steps.h"
 #include "texts.h"
 
 #include <inttypes.h>
@@ -35,7 +36,6 @@ struct namer {
     struct naming *naming;
     struct map taken;
     struct map variables; /* how many types each variable is */
-    size_t steps; /* of the type that is being named */
 };
 
 static void add(struct text *text, const char *more)
@@ -60,76 +60,31 @@ const char *cut_name(struct texts *texts, const char *text, const char *tail)
     return texts_say(texts, "%.*s%.*s", (int)kept, text, NAME_MOST, tail);
 }
 
-/* One caller more of the type: so many as it has places, whether they were inlined or not. */
-static void step(struct namer *namer, uint32_t number, const char *identity, const char *name, const char *function)
+/* One caller more of the type. */
+static void add_step(struct namer *namer, uint32_t number, const struct step *step, bool is_first_step)
 {
     struct naming *naming = &namer->naming[number];
-    if (namer->steps == namer->declared->deepest)
-        return;
     add(&naming->source, " < ");
-    add(&naming->source, identity);
-    if (!namer->declared->type[number].has_variable) {
-        char *clean = copy(function ? function : name);
-        clean_name(clean);
-        add(&naming->plain, namer->steps ? "<" : "");
-        add(&naming->plain, name);
-        add(&naming->functions, namer->steps ? "<" : "");
-        add(&naming->functions, clean);
-        add(&naming->functions, function ? "()" : "");
-        free(clean);
-    }
-    namer->steps++;
-}
-
-static void step_to_frame(struct namer *namer, uint32_t number, const struct inlined *frame)
-{
-    step(namer, number, frame->site, base_of(frame->site), frame->function);
-}
-
-/* A place of which the symbols know no line. */
-static void step_to_unknown(struct namer *namer, uint32_t number, const struct place *place)
-{
-    const char *path = object_of(namer->declared, place->object)->path;
-    const char *function = function_of(namer->declared, place);
-    char *identity = say_text("%s+%" PRIx64, path ? path : "", place->offset);
-    char *unknown = unknown_place(namer->declared, place);
-    char *name = say_text("%s+0x%" PRIx64, function ? function : "", place->within);
-    if (place->function)
-        step(namer, number, identity, name, function);
-    else
-        step(namer, number, identity, unknown, unknown);
-    free(name);
-    free(unknown);
-    free(identity);
-}
-
-/* Whether the place is in C++'s library alone, as that is from which a thread's function is called. */
-static bool is_of_library_alone(const struct declared *declared, const struct place *place, const struct code *code)
-{
-    const char *path = object_of(declared, place->object)->path;
-    if (path && is_library_object(path))
-        return true;
-    return code->count > 0 && telling_frame(code, 0) == code->count;
-}
-
-static void step_to_place(struct namer *namer, uint32_t number, const struct place *place)
-{
-    const struct declared *declared = namer->declared;
-    for (; place->kind == PLACE_PAIR; place = place_of(declared, place->rest)) {
-        const struct place *library = place_of(declared, place->library);
-        if (place_says(declared, library))
-            step_to_place(namer, number, library);
-    }
-    const struct code *code = code_of(declared, place);
-    if (place->kind == PLACE_NONE || (namer->steps > 0 && is_of_library_alone(declared, place, code)))
+    add(&naming->source, step->identity);
+    if (namer->declared->type[number].has_variable)
         return;
-    size_t frame = telling_frame(code, 0);
-    if (frame == code->count && code->count > 0)
-        step_to_frame(namer, number, &code->frame[code->count - 1]);
-    else if (frame == code->count)
-        step_to_unknown(namer, number, place);
-    for (; frame < code->count; frame = telling_frame(code, frame + 1))
-        step_to_frame(namer, number, &code->frame[frame]);
+    char *clean = copy(step->function ? step->function : step->name);
+    clean_name(clean);
+    add(&naming->plain, is_first_step ? "" : "<");
+    add(&naming->plain, step->name);
+    add(&naming->functions, is_first_step ? "" : "<");
+    add(&naming->functions, clean);
+    add(&naming->functions, step->function ? "()" : "");
+    free(clean);
+}
+
+static void read_steps(struct namer *namer, uint32_t number)
+{
+    struct steps steps;
+    steps_begin(&steps, namer->declared, &namer->declared->type[number]);
+    for (size_t i = 0; i < steps.count; i++)
+        add_step(namer, number, &steps.step[i], i == 0);
+    steps_end(&steps);
 }
 
 /* The variable that a lock of the type stands in, as a text of one's own; NULL where no lock of it was met in one. */
@@ -159,6 +114,7 @@ static bool read_array(struct namer *namer, uint32_t number)
     const struct type *type = &namer->declared->type[number];
     char *variable = variable_of(namer->declared, type);
     bool is_array = variable && map_find_text(&namer->variables, variable) > FEW_TYPES;
+    namer->types->type[number].is_array = is_array;
     if (is_array) {
         struct variable whole = type->variable;
         whole.within = 0;
@@ -226,9 +182,8 @@ static void read_type(struct namer *namer, uint32_t number)
         read_variable_type(namer, number);
     if (type->label)
         read_label(namer, number);
-    namer->steps = 0;
-    for (size_t i = 0; i < type->count && !type->label; i++)
-        step_to_place(namer, number, place_of(namer->declared, type->place[i]));
+    if (!type->label)
+        read_steps(namer, number);
     if (naming->plain.length == 0)
         add(&naming->plain, "?");
     clean_name(naming->plain.bytes);

@@ -4,6 +4,7 @@
 #ifndef RECORD_TYPES_H
 #define RECORD_TYPES_H
 
+#include <stdbool.h>
 #include <stddef.h>
 #include <stdint.h>
 
@@ -15,6 +16,7 @@ struct named_type {
     const char *name;      /* at most 63 bytes; no other type has it */
     const char *functions; /* the functions of its places; NULL where its name is that of a variable */
     const char *variable;  /* the type's own variable; NULL where it has none */
+    bool is_array;         /* it is all locks of a variable that has many */
     size_t merged;         /* of a first one: how many types it is */
     size_t made;           /* how many locks of it were named by now */
 };

@@ -1,9 +1,11 @@
 /*
  * resolved FRAMES FILE..: prints the traces of recorder's files, of which one resolver makes them, with their notes where
- * there are frames. The status is 4 where a file is none, or has what no recorder writes.
+ * there are frames. With `types` for FRAMES it prints the types alone: each one's lasting name, its build-id where it
+ * doesn't last, and after a tab its name in the trace. The status is 4 where a file is none, or has what no recorder writes.
  */
 #include <stdio.h>
 #include <stdlib.h>
+#include <string.h>
 
 #include "resolve.h"
 
@@ -18,6 +20,30 @@ static void print_notes(const struct notes *notes)
     }
     for (size_t i = 0; i < notes->events; i++)
         printf("event %d name %s\n", (int)notes->event[i].kind, notes->event[i].name ? notes->event[i].name : "-");
+}
+
+static void print_types(const struct notes *notes)
+{
+    for (size_t i = 0; i < notes->aliases; i++) {
+        const struct lasting *lasting = &notes->alias[i].lasting;
+        printf("%s%s%s\t%s\n", lasting->name, lasting->lasts ? "" : " of ", lasting->lasts ? "" : lasting->build_id,
+            notes->alias[i].type);
+    }
+}
+
+static bool print_names(struct resolver *resolver, const char *path)
+{
+    struct stream stream;
+    struct notes notes;
+    FILE *nowhere = fopen("/dev/null", "w");
+    if (!nowhere || !stream_open(&stream, path, false))
+        return false;
+    bool good = resolve(resolver, &stream, true, nowhere, &notes);
+    print_types(&notes);
+    notes_end(&notes);
+    stream_close(&stream);
+    fclose(nowhere);
+    return good;
 }
 
 static bool print_trace(struct resolver *resolver, const char *path, bool has_notes)
@@ -40,8 +66,9 @@ int main(int count, char **words)
     struct settings settings = {.frames = count > 1 ? atoi(words[1]) : 1};
     struct resolver *resolver = resolver_new(&settings);
     bool good = count > 2;
+    bool names = good && strcmp(words[1], "types") == 0;
     for (int i = 2; i < count; i++)
-        good = print_trace(resolver, words[i], settings.frames > 1) && good;
+        good = (names ? print_names(resolver, words[i]) : print_trace(resolver, words[i], settings.frames > 1)) && good;
     resolver_end(resolver);
     return good ? 0 : 4;
 }

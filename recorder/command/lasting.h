@@ -1,0 +1,23 @@
+/*
+ * What a type of locks is called in each run, also after lines of its source have moved: by functions, variables and
+ * members, and its object by the name by which others ask for it, else by the one that was executed.
+ */
+#ifndef RECORD_LASTING_H
+#define RECORD_LASTING_H
+
+#include <stdbool.h>
+#include <stdint.h>
+
+struct declared;
+struct types;
+
+struct lasting {
+    const char *name;     /* of any length; bytes from ' ' to '~' but no double quote */
+    bool lasts;           /* else it holds under that build of its objects alone */
+    const char *build_id; /* where it doesn't last: theirs, parted by `+`, with `-` for one that isn't known. Else NULL */
+};
+
+/* That of the stream's type of that number. Its texts end with those of `declared`. */
+struct lasting lasting_of(const struct declared *declared, const struct types *types, uint32_t number);
+
+#endif

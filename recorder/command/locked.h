@@ -1,0 +1,24 @@
+/*
+ * Which lock a source line asks for, or makes: the expression that names it, as it stands in the line's text.
+ */
+#ifndef RECORD_LOCKED_H
+#define RECORD_LOCKED_H
+
+#include <stddef.h>
+
+enum { EXPRESSIONS_MOST = 8 };
+
+/* The expressions that may be that lock, each once, as texts of one's own. */
+struct locked {
+    char *expression[EXPRESSIONS_MOST];
+    size_t count;
+};
+
+/*
+ * Reads the text of a line, and of those after it up to the end of its statement. An expression is a path: names, parted by
+ * `.`, `->` and `::`, with `[..]` and `(..)` after them; `&`, casts and blanks are left out, as is `this->` at its head.
+ */
+void locked_read(struct locked *locked, const char *text);
+void locked_end(struct locked *locked);
+
+#endif

@@ -1,0 +1,141 @@
+#include "source_lines.h"
+
+#include "map.h"
+#include "memory.h"
+#include "place.h"
+#include "texts.h"
+
+#include <fcntl.h>
+#include <stdio.h>
+#include <stdlib.h>
+#include <string.h>
+#include <sys/stat.h>
+#include <unistd.h>
+
+/* A longer file is no source that somebody reads; and a statement of more lines isn't read to its end. */
+enum { FILE_MOST = 64 << 20, LINES_MOST = 6 };
+
+/* A file as a whole: many of its lines may be asked for. */
+struct source {
+    char *bytes; /* NULL where it can't be read */
+    size_t length;
+    time_t changed;
+};
+
+struct source_lines {
+    struct map by_file, by_site; /* numbers in the lists, from 1 on */
+    struct source *source;
+    size_t sources, source_room;
+    const struct statement **statement;
+    size_t statements, statement_room;
+    struct texts *texts;
+};
+
+struct source_lines *source_lines_new(void)
+{
+    struct source_lines *lines = take(sizeof *lines);
+    lines->texts = texts_new();
+    return lines;
+}
+
+void source_lines_end(struct source_lines *lines)
+{
+    for (size_t i = 0; i < lines->sources; i++)
+        free(lines->source[i].bytes);
+    free(lines->source);
+    free(lines->statement);
+    map_end(&lines->by_file);
+    map_end(&lines->by_site);
+    texts_end(lines->texts);
+    free(lines);
+}
+
+static size_t read_bytes(int file, char *bytes, size_t length)
+{
+    size_t got = 0;
+    for (ssize_t more; got < length && (more = read(file, bytes + got, length - got)) > 0;)
+        got += (size_t)more;
+    return got;
+}
+
+/* Its name may be that of anything by now: nothing is waited for, and only a plain file is read. */
+static struct source read_source(const char *path)
+{
+    struct source source = {0};
+    struct stat status;
+    int file = open(path, O_RDONLY | O_NONBLOCK | O_NOCTTY | O_CLOEXEC);
+    if (file < 0)
+        return source;
+    if (fstat(file, &status) == 0 && S_ISREG(status.st_mode) && status.st_size <= FILE_MOST) {
+        source.bytes = take((size_t)status.st_size + 1);
+        source.length = read_bytes(file, source.bytes, (size_t)status.st_size);
+        source.changed = status.st_mtime;
+    }
+    close(file);
+    return source;
+}
+
+static const struct source *source_at(struct source_lines *lines, const struct place *place)
+{
+    size_t *number = map_add(&lines->by_file, place->file, place->length);
+    if (*number == 0) {
+        char *path = copy_bytes(place->file, place->length);
+        struct source source = read_source(path);
+        ADD(lines->source, lines->sources, lines->source_room) = source;
+        *number = lines->sources;
+        free(path);
+    }
+    return &lines->source[*number - 1];
+}
+
+/* Whether the statement that begins there has come to its end: its brackets are closed, and it isn't cut before them. */
+static bool is_whole(const char *text, size_t length)
+{
+    long open = 0;
+    bool has_bracket = memchr(text, '(', length) || memchr(text, '{', length);
+    for (size_t i = 0; i < length; i++)
+        open += (text[i] == '(' || text[i] == '[') - (text[i] == ')' || text[i] == ']');
+    return (has_bracket && open <= 0) || memchr(text, ';', length);
+}
+
+static const char *statement_in(struct texts *texts, const struct source *source, long line)
+{
+    const char *at = source->bytes, *end = at + source->length, *newline;
+    for (long number = 1; number < line; number++) {
+        newline = memchr(at, '\n', (size_t)(end - at));
+        if (!newline)
+            return NULL;
+        at = newline + 1;
+    }
+    size_t length = 0;
+    for (unsigned lines = 0; lines < LINES_MOST && at + length < end; lines++) {
+        newline = memchr(at + length, '\n', (size_t)(end - at) - length);
+        length = newline ? (size_t)(newline + 1 - at) : (size_t)(end - at);
+        if (is_whole(at, length))
+            break;
+    }
+    return length > 0 ? texts_copy(texts, at, length) : NULL;
+}
+
+static const struct statement *read_statement(struct source_lines *lines, const char *site)
+{
+    struct statement *statement = texts_room(lines->texts, sizeof *statement);
+    struct place place;
+    if (!place_read(&place, site) || place.line < 1)
+        return statement;
+    const struct source *source = source_at(lines, &place);
+    statement->changed = source->changed;
+    if (source->bytes)
+        statement->text = statement_in(lines->texts, source, place.line);
+    return statement;
+}
+
+const struct statement *source_lines_at(struct source_lines *lines, const char *site)
+{
+    size_t *number = map_add_text(&lines->by_site, site);
+    if (*number == 0) {
+        ADD(lines->statement, lines->statements, lines->statement_room) = read_statement(lines, site);
+        *number = lines->statements;
+    }
+    return lines->statement[*number - 1];
+}
