@@ -7,7 +7,7 @@
 #define RECORDER_FORMAT_H
 
 /* The first line of a stream is `asked 0 version N missed`, then the names of the counts, each with its count. */
-#define FORMAT_VERSION 1
+#define FORMAT_VERSION 2
 #define WORD_ASKED "asked"
 #define WORD_VERSION "version"
 #define WORD_MISSED "missed"
@@ -31,6 +31,7 @@ enum { ASKED_AT = 6, ASKED_NOT = '0', ASKED_NOW = '1', ASKED_ALWAYS = '3' };
 #define WORD_TYPE "type"
 #define WORD_VARIABLE "variable"
 #define WORD_MADE "made"
+#define WORD_MET "met"
 #define WORD_NAMED "named"
 #define WORD_INIT "init"
 #define WORD_THREAD "thread"

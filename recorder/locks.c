@@ -104,7 +104,7 @@ static struct type *type_of(const struct type *wanted)
     struct type **bucket = &type_buckets[(hash >> 40) % TYPE_BUCKETS];
     for (struct type *type = *bucket; type; type = type->next)
         if (type->anchor == wanted->anchor && type->class == wanted->class && type->object == wanted->object
-            && type->label == wanted->label && memcmp(type->places, wanted->places, sizeof type->places) == 0)
+            && type->label == wanted->label && type->met == wanted->met && memcmp(type->places, wanted->places, sizeof type->places) == 0)
             return type;
     if (types_met == TYPES_MET)
         return NULL;
@@ -271,7 +271,7 @@ static uintptr_t anchor_of_met(uint32_t object, uintptr_t address)
 /* A lock at its first use: its record, or NULL where it can't be recorded. */
 COLD struct lock *lock_met(const void *address, enum class class, struct caller caller)
 {
-    struct type wanted = {.class = class, .address = (uintptr_t)address};
+    struct type wanted = {.class = class, .met = true, .address = (uintptr_t)address};
     uint32_t places[DEPTH_MOST] = {0};
     /* This comes before the search for the lock's object, since it looks for objects that are new. */
     places_of(caller, places);

@@ -118,6 +118,7 @@ struct type {
     uintptr_t anchor;  /* of a lock that stands in an object: the lock, or the variable that it is in; else 0 */
     uint32_t object;   /* in which the anchor is; two may have been at one address, one after the other */
     const char *label; /* the name that the program gives it, a word of sites.c; NULL of most types */
+    bool met;          /* no call has made its locks: the places are those of a first use */
     uintptr_t address; /* of the first lock of the type */
     uint32_t places[DEPTH_MOST];
     struct type *next; /* in its bucket */

@@ -637,7 +637,7 @@ void write_type(int stream, struct type *type)
         place_number(stream, type->places[i]);
     put_text(stream, WORD_TYPE);
     put_number(stream, *mark(&type->marks, stream));
-    put_text(stream, type->label ? " " WORD_NAMED : object ? " " WORD_VARIABLE : " " WORD_MADE);
+    put_text(stream, type->label ? " " WORD_NAMED : object ? " " WORD_VARIABLE : type->met ? " " WORD_MET : " " WORD_MADE);
     if (type->label)
         put_word(stream, type->label);
     if (object)

@@ -221,6 +221,7 @@ static void read_type(struct declared *declared, const struct line *line)
     type->is_declared = true;
     type->has_variable = has_variable;
     type->variable = variable;
+    type->is_met = field_is(line, 2, WORD_MET);
     type->label = has_label ? word_at(declared, line, 3) : NULL;
     type->count = read_places(declared, line, has_variable ? 8 : has_label ? 4 : 3, &type->place);
     if (!has_label && type->count > declared->deepest)

@@ -56,6 +56,7 @@ struct variable {
 
 struct type {
     bool is_declared, has_variable;
+    bool is_met; /* no call has made its locks: its places are those of a first use */
     struct variable variable;
     const char *label; /* the name that the program gives it; NULL of most types */
     const char *class; /* of its first lock; NULL where there is none */

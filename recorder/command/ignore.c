@@ -138,22 +138,26 @@ static void note_alias(struct notes *notes, const struct named_type *type, const
 {
     if (!notes)
         return;
-    struct lasting kept = {noted(notes, lasting->name), lasting->lasts, noted(notes, lasting->build_id)};
+    struct lasting kept = *lasting;
+    kept.name = noted(notes, lasting->name);
+    kept.bare = kept.name + (lasting->bare - lasting->name);
+    kept.build_id = noted(notes, lasting->build_id);
     bool has_functions = type->functions && strcmp(type->functions, type->name) != 0;
     ADD(notes->alias, notes->aliases, notes->alias_room) =
         (struct alias){noted(notes, type->name), has_functions ? noted(notes, type->functions) : NULL, kept};
 }
 
-/* All that the user may call the type: its name, the functions of its places, and its lasting name. */
+/*
+ * All that the user may call the type: its name, and the functions of its places. Of types that are one each has its own,
+ * and all stand for the first of them.
+ */
 static void call_type(struct called *called, struct peace *peace, const struct ignore *ignore, struct notes *notes,
-    const struct named_type *type, const struct lasting *lasting)
+    const struct named_type *type)
 {
-    call(called, peace, ignore, notes, type->name, type->name);
+    if (type->alone)
+        call(called, peace, ignore, notes, type->alone, type->name);
     if (type->functions && strcmp(type->functions, type->name) != 0)
         call(called, peace, ignore, notes, type->functions, type->name);
-    if (strcmp(lasting->name, type->name) != 0)
-        call(called, peace, ignore, notes, lasting->name, type->name);
-    note_alias(notes, type, lasting);
 }
 
 void peace_begin(struct peace *peace, const struct ignore *ignore, const struct declared *declared,
@@ -169,10 +173,16 @@ void peace_begin(struct peace *peace, const struct ignore *ignore, const struct 
         ignore = &nothing;
     for (uint32_t number = 1; number < types->count; number++) {
         const struct named_type *type = &types->type[number];
+        call_type(&called, peace, ignore, notes, type);
         if (type->first != number)
             continue;
         struct lasting lasting = lasting_of(declared, types, number);
-        call_type(&called, peace, ignore, notes, type, &lasting);
+        call(&called, peace, ignore, notes, type->name, type->name);
+        if (strcmp(lasting.name, type->name) != 0)
+            call(&called, peace, ignore, notes, lasting.name, type->name);
+        if (strcmp(lasting.bare, type->name) != 0)
+            call(&called, peace, ignore, notes, lasting.bare, type->name);
+        note_alias(notes, type, &lasting);
     }
     for (size_t i = 0; i < ignore->pairs; i++)
         bless(peace, &called, &blessed, &ignore->pair[i], notes);

@@ -1,13 +1,14 @@
 #include "lasting.h"
 
 #include "declared.h"
-#include "locked.h"
+#include "lock_names.h"
 #include "memory.h"
 #include "names.h"
 #include "sites.h"
 #include "steps.h"
 #include "texts.h"
 #include "types.h"
+#include "variables.h"
 
 #include <stdlib.h>
 #include <string.h>
@@ -18,6 +19,7 @@ struct making_name {
     const struct type *type;
     struct steps steps;
     char *text;
+    size_t head; /* so much of it is the object */
     bool lasts;
 };
 
@@ -42,84 +44,111 @@ static const char *lasting_object(const struct declared *declared, uint32_t obje
     return soname ? soname : object_name(declared, object);
 }
 
-/* What stands between brackets of an index differs from one lock of an array to the next. */
-static void leave_indices_out(char *path)
+/* The name of a function without what it gives, which templates have. */
+static const char *bare_function(const char *function)
 {
-    char *to = path;
+    const char *last = function;
     unsigned open = 0;
-    for (const char *from = path; *from; from++) {
-        open -= *from == ']' && open > 0;
-        if (open == 0)
-            *to++ = *from;
-        open += *from == '[';
+    for (const char *at = function; *at && strncmp(at, "operator", 8) != 0; at++) {
+        open += *at == '(' || *at == '{' || *at == '[';
+        open -= (*at == ')' || *at == '}' || *at == ']') && open > 0;
+        if (*at == ' ' && open == 0 && at[1] && at[1] != ' ')
+            last = at + 1;
     }
-    *to = '\0';
+    return last;
+}
+
+/* Compilers number lambdas, and call them by names of their own: one is told by the function that it stands in. In place. */
+static void name_lambda(char *function)
+{
+    static const char *const begins[] = {"{lambda", "<lambda", "'lambda", "$_", "?::operator()"}, instead[] = "{lambda}";
+    char *first = NULL;
+    for (size_t i = 0; i < sizeof begins / sizeof *begins; i++) {
+        char *at = strstr(function, begins[i]);
+        if (at && (!first || at < first))
+            first = at;
+    }
+    if (!first)
+        return;
+    /* A function that is inside one: `main::{lambda()#1}::operator()()::own`. */
+    if (strlen(first) >= sizeof instead - 1)
+        strcpy(first, instead);
+}
+
+/* The step's function, and how many lines the step is below its first one: a text of one's own. */
+static char *function_in(const struct making_name *name, const struct step *step, long *lines)
+{
+    char *other = function_name_at(name->declared, step, lines);
+    char *function = other ? other : copy(step->function ? bare_function(step->function) : "?");
+    name_lambda(function);
+    return function;
 }
 
 /*
- * The expression that the step's source line locks, or makes: a text of one's own; NULL where there isn't one. A source that
- * was changed after the object may have other lines by now.
+ * The function that asked for the lock, or made it, with the member or else the words that it names the lock by. Where
+ * neither is known it is how many lines below the function's first one that is; else the name doesn't last.
  */
-static char *expression_of(const struct declared *declared, const struct step *step)
+static char *innermost(struct making_name *name, const struct step *step)
 {
-    if (!step->site)
-        return NULL;
-    const struct statement *statement = source_lines_at(symbols_lines(declared->symbols), step->site);
-    struct binary *binary = binary_of(declared, step->place->object);
-    if (!statement->text || (binary && statement->changed > binary_file(binary)->changed))
-        return NULL;
-    struct locked locked;
-    locked_read(&locked, statement->text);
-    char *expression = locked.count == 1 ? copy(locked.expression[0]) : NULL;
-    locked_end(&locked);
-    if (expression)
-        leave_indices_out(expression);
-    return expression;
-}
-
-/* The function that asked for the lock, or made it, with what it names the lock by. Without that, its line is said. */
-static void say_innermost(struct making_name *name, const struct step *step)
-{
-    char *expression = expression_of(name->declared, step);
-    if (!step->site || (!expression && step->place->kind == PLACE_CALL))
+    const struct lock_name_in_source *lock = lock_name_at(name->declared, step);
+    const char *word = lock->member ? lock->member : lock->expression;
+    long lines;
+    char *function = function_in(name, step, &lines), *said;
+    if (word) {
+        said = say_text("%s(%s)", function, word);
+    } else if (step->site && step->place->kind != PLACE_CALL) {
+        said = say_text("%s()", function);
+    } else if (lines >= 0) {
+        said = say_text("%s(+%ld)", function, lines);
+    } else {
         name->lasts = false;
-    char *said = expression ? say_text("%s(%s)", step->function ? step->function : "?", expression)
-        : !name->lasts      ? say_text("%s%s%s%s", step->site && step->function ? step->function : "", step->site ? "(" : "",
-                                step->name, step->site ? ")" : "")
-                            : say_text("%s()", step->function ? step->function : "?");
-    say(name, said);
-    free(said);
-    free(expression);
+        said = step->site ? say_text("%s(%s)", function, step->name) : copy(step->name);
+    }
+    free(function);
+    return said;
 }
 
-/* A caller. */
-static void say_step(struct making_name *name, const struct step *step)
+/* A caller, by what tells its call from others. */
+static char *caller(const struct making_name *name, const struct step *step, const struct step *called)
 {
     const struct place *place = step->place;
-    say(name, "<");
-    if (!name->lasts) {
-        say(name, step->name);
-    } else if (place->kind == PLACE_CALL && !step->site && !place->function) {
-        say(name, lasting_object(name->declared, place->object));
-    } else {
-        say(name, step->function ? step->function : "?");
-        say(name, "()");
-    }
+    long lines;
+    if (!name->lasts)
+        return copy(step->name);
+    if (place->kind == PLACE_CALL && !step->site && !place->function)
+        return copy(lasting_object(name->declared, place->object));
+    char *callee = function_in(name, called, &lines), *function = function_in(name, step, &lines);
+    char *word = call_name_at(name->declared, step, callee);
+    char *said = say_text("%s(%s)", function, word ? word : "");
+    free(callee);
+    free(function);
+    free(word);
+    return said;
+}
+
+/* The C library's functions, as that which calls `main`, are known where its debug information is there, or aren't. */
+static bool is_of_c_library(const struct declared *declared, const struct step *step)
+{
+    const char *path = object_of(declared, step->place->object)->path;
+    return step->place->kind == PLACE_CALL && path && strncmp(base_of(path), "libc.so.", 8) == 0;
 }
 
 static void say_steps(struct making_name *name)
 {
-    for (size_t i = 0; i < name->steps.count; i++)
-        if (i == 0)
-            say_innermost(name, &name->steps.step[i]);
-        else
-            say_step(name, &name->steps.step[i]);
+    const struct step *step = name->steps.step;
+    for (size_t i = 0; i < name->steps.count && (i == 0 || !is_of_c_library(name->declared, &step[i])); i++) {
+        char *said = i == 0 ? innermost(name, &step[i]) : caller(name, &step[i], &step[i - 1]);
+        say(name, i == 0 ? "" : "<");
+        say(name, said);
+        free(said);
+    }
 }
 
 static void say_object(struct making_name *name, uint32_t object)
 {
     say(name, lasting_object(name->declared, object));
     say(name, ":");
+    name->head = strlen(name->text);
 }
 
 /* Whether the expression begins with the variable of that name, whatever it is a part of. */
@@ -135,33 +164,91 @@ static bool is_of_variable(const char *expression, const char *variable)
     return strncmp(expression, last, length) == 0 && (expression[length] == '\0' || strchr(".[", expression[length]));
 }
 
-/* A lock in a variable: with its offset, or as the call that made it names it. */
-static void say_variable(struct making_name *name, bool is_array)
+/* Without the number that a compiler puts after a dot to a variable that is a function's own. */
+static size_t length_without_number(const char *symbol)
+{
+    size_t length = strlen(symbol), digits = 0;
+    while (digits < length && symbol[length - digits - 1] >= '0' && symbol[length - digits - 1] <= '9')
+        digits++;
+    return digits > 0 && digits < length && symbol[length - digits - 1] == '.' ? length - digits - 1 : length;
+}
+
+/*
+ * The variable, as its symbol says it in C++, and else debug information: clang's lacks the function of some that are a
+ * function's own, which its symbol has (`function.variable`).
+ */
+static void say_variable_name(struct making_name *name, const char *by_debug)
+{
+    const char *symbol = name->type->variable.name;
+    const char *said = symbol ? symbols_name(name->declared->symbols, symbol) : by_debug;
+    if (symbol && strcmp(said, symbol) == 0 && strncmp(by_debug, "?::", 3) != 0)
+        said = by_debug;
+    size_t length = symbol && said == symbol ? length_without_number(said) : strlen(said);
+    char *kept = copy_bytes(said, length), *dot = said == symbol ? strchr(kept, '.') : NULL;
+    if (dot) {
+        *dot = '\0';
+        char *parted = say_text("%s::%s", kept, dot + 1);
+        free(kept);
+        kept = parted;
+    }
+    say(name, kept);
+    free(kept);
+}
+
+/* As debug information has it. False where there is none, or the variable is many locks of one type in this run. */
+static bool say_part(struct making_name *name, bool is_array)
+{
+    enum { FEW_ELEMENTS = 16 };
+    const struct variable *variable = &name->type->variable;
+    struct binary *binary = binary_of(name->declared, variable->object);
+    struct debug_info *info = binary ? binary_debug(binary) : NULL;
+    struct part_of_variable part = {0};
+    if (info)
+        part = part_of_variable(info, variable->offset, FEW_ELEMENTS, is_array || name->steps.count > 0);
+    bool is_said = part.variable && (!is_array || strchr(part.path, '['));
+    if (is_said) {
+        say_variable_name(name, part.variable);
+        say(name, part.path);
+    }
+    part_of_variable_end(&part);
+    return is_said;
+}
+
+/* As the symbol has it: of a lock that a call has made the call's own word for it is part of the name. */
+static void say_symbol(struct making_name *name, bool is_array)
 {
     const struct variable *variable = &name->type->variable;
     struct variable whole = *variable;
+    const char *symbol = variable->name ? symbols_name(name->declared->symbols, variable->name) : NULL;
     bool is_made = name->steps.count > 0;
-    char *expression = is_made ? expression_of(name->declared, &name->steps.step[0]) : NULL;
-    say_object(name, variable->object);
+    const char *expression = is_made ? lock_name_at(name->declared, name->steps.step)->expression : NULL;
     if (is_made || is_array)
         whole.within = 0;
-    const char *said = variable_name(name->declared, &whole);
-    if (!variable->name) {
-        name->lasts = false;
+    if (!symbol)
         whole.offset -= is_made ? variable->within : 0;
-        said = variable_name(name->declared, &whole);
-    }
-    if (expression && variable->name && is_of_variable(expression, symbols_name(name->declared->symbols, variable->name))) {
+    name->lasts = symbol && length_without_number(symbol) == strlen(symbol);
+    if (expression && symbol && is_of_variable(expression, symbol)) {
         say(name, expression);
-        say(name, variable->file ? " (" : "");
-        say(name, variable->file ? variable->file : "");
-        say(name, variable->file ? ")" : "");
-    } else {
-        say(name, said);
-        say(name, is_array ? "[]" : is_made ? "<" : "");
-        say_steps(name);
+        return;
     }
-    free(expression);
+    whole.file = NULL;
+    say(name, variable_name(name->declared, &whole));
+    say(name, is_array ? "[]" : is_made ? "<" : "");
+    say_steps(name);
+}
+
+/* A lock in a variable. Where others have the variable's name it is told of which file this one is. */
+static void say_variable(struct making_name *name, bool is_array)
+{
+    const struct variable *variable = &name->type->variable;
+    say_object(name, variable->object);
+    if (!say_part(name, is_array))
+        say_symbol(name, is_array);
+    if (variable->file) {
+        say(name, " (");
+        say(name, variable->file);
+        say(name, ")");
+    }
 }
 
 /* The line at the end of a label, `(FILE:LINE)`, is left out: in place. */
@@ -222,16 +309,21 @@ struct lasting lasting_of(const struct declared *declared, const struct types *t
         say_variable(&name, types->type[named->first].is_array);
     } else if (name.steps.count > 0) {
         const struct place *place = name.steps.step[0].place;
+        const struct lock_name_in_source *lock = lock_name_at(declared, name.steps.step);
         if (place->kind == PLACE_CALL)
             say_object(&name, place->object);
-        say_steps(&name);
+        /* Of a lock that no call has made the place of its first use says nothing. */
+        if (name.type->is_met && lock->member)
+            say(&name, lock->member);
+        else
+            say_steps(&name);
     } else {
         say(&name, "?");
         name.lasts = false;
     }
     clean_name(name.text);
-    struct lasting lasting = {texts_copy(declared->texts, name.text, strlen(name.text)), name.lasts,
-        name.lasts ? NULL : build_ids(&name)};
+    const char *kept = texts_copy(declared->texts, name.text, strlen(name.text));
+    struct lasting lasting = {kept, kept + name.head, name.lasts, name.lasts ? NULL : build_ids(&name)};
     steps_end(&name.steps);
     free(name.text);
     return lasting;

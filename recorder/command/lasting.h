@@ -13,6 +13,7 @@ struct types;
 
 struct lasting {
     const char *name;     /* of any length; bytes from ' ' to '~' but no double quote */
+    const char *bare;     /* the name without its object */
     bool lasts;           /* else it holds under that build of its objects alone */
     const char *build_id; /* where it doesn't last: theirs, parted by `+`, with `-` for one that isn't known. Else NULL */
 };

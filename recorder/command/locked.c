@@ -152,10 +152,10 @@ static bool is_path(struct span span)
         (is_word_byte(span.end[-1]) || span.end[-1] == ']' || span.end[-1] == ')');
 }
 
-/* A path without blanks, and without `this->`. */
+/* A path without blanks, and without `this->`. There is room for an arrow after it. */
 static char *normal(struct span span)
 {
-    char *text = take((size_t)(span.end - span.at) + 1), *to = text;
+    char *text = take((size_t)(span.end - span.at) + sizeof "->"), *to = text;
     for (const char *at = span.at; at < span.end; at++)
         if (!isspace((unsigned char)*at))
             *to++ = *at;
@@ -176,17 +176,19 @@ static bool is_word_of(const char *text, const char *const *words, size_t count)
 static bool is_no_lock(const char *text)
 {
     static const char *const words[] = {"std::adopt_lock", "std::defer_lock", "std::try_to_lock", "adopt_lock", "defer_lock",
-        "try_to_lock", "NULL", "nullptr", "true", "false", "this", "sizeof", "return"};
+        "try_to_lock", "void", "NULL", "nullptr", "true", "false", "this", "sizeof", "return"};
     return is_word_of(text, words, sizeof words / sizeof *words);
 }
 
-static void add(struct locked *locked, struct span span)
+static void add(struct locked *locked, struct span span, bool is_arrow)
 {
     span = bared(span);
     if (!is_path(span))
         return;
     char *text = normal(span);
     bool is_new = !is_no_lock(text);
+    if (is_arrow)
+        strcat(text, "->");
     for (size_t i = 0; i < locked->count; i++)
         is_new = is_new && strcmp(locked->expression[i], text) != 0;
     if (is_new && locked->count < EXPRESSIONS_MOST)
@@ -203,7 +205,7 @@ static void add_arguments(struct locked *locked, struct span inside, bool all)
     const char *from = inside.at;
     for (const char *at = inside.at; at <= inside.end && (all || locked->count == before); at++) {
         if (at == inside.end || (*at == ',' && open == 0)) {
-            add(locked, (struct span){from, at});
+            add(locked, (struct span){from, at}, false);
             from = at + 1;
         } else {
             open += *at == '(' || *at == '[' || *at == '{';
@@ -275,9 +277,10 @@ static void read_call(struct locked *locked, const char *text, const char *brack
         const char *arrow = word.at;
         while (isspace((unsigned char)arrow[-1]))
             arrow--;
-        arrow -= arrow[-1] == '.' ? 1 : 2;
+        bool is_arrow = arrow[-1] == '>';
+        arrow -= is_arrow ? 2 : 1;
         if (is_of_locks(word))
-            add(locked, (struct span){path_begin(text, arrow), arrow});
+            add(locked, (struct span){path_begin(text, arrow), arrow}, is_arrow);
         return;
     }
     struct span type = word_before(text, word.at);
@@ -304,4 +307,76 @@ void locked_end(struct locked *locked)
     for (size_t i = 0; i < locked->count; i++)
         free(locked->expression[i]);
     *locked = (struct locked){0};
+}
+
+void leave_indices_out(char *path)
+{
+    char *to = path;
+    unsigned open = 0;
+    for (const char *from = path; *from; from++) {
+        open -= *from == ']' && open > 0;
+        if (open == 0)
+            *to++ = *from;
+        open += *from == '[';
+    }
+    *to = '\0';
+}
+
+/* What follows a word and blanks around it. */
+static const char *after_word(const char *at)
+{
+    at += strspn(at, " \t\n");
+    while (is_word_byte(*at))
+        at++;
+    return at + strspn(at, " \t\n");
+}
+
+/* Where what the function is given begins, with its bracket; NULL where it isn't called there. `Guard name(..)` calls Guard. */
+static const char *call_of(const char *text, const char *function)
+{
+    const char *last = function;
+    for (const char *at = strstr(last, "::"); at; at = strstr(last, "::"))
+        last = at + 2;
+    size_t length = strcspn(last, "<( ");
+    for (const char *at = strstr(text, last); length > 0 && at; at = strstr(at + 1, last)) {
+        const char *after = at + length;
+        if ((at > text && is_word_byte(at[-1])) || is_word_byte(*after))
+            continue;
+        after += strspn(after, " \t\n");
+        if (begins_word(*after))
+            after = after_word(after);
+        if (*after == '(' || *after == '{')
+            return after;
+    }
+    return NULL;
+}
+
+/* The path before a lone `=`; a list without one where there is none before `end`. */
+static struct locked assigned_before(const char *text, const char *end)
+{
+    struct locked found = {0};
+    for (const char *at = text; at < end && found.count == 0; at++) {
+        bool is_lone = *at == '=' && at[1] != '=' && at > text && !strchr("=!<>+-*/%&|^", at[-1]);
+        if (is_lone)
+            add(&found, (struct span){path_begin(text, at), at}, false);
+    }
+    return found;
+}
+
+char *call_word(const char *text, const char *function)
+{
+    char *plain = copy(text);
+    blank_out(plain);
+    const char *call = call_of(plain, function), *end = plain + strlen(plain);
+    struct locked found = assigned_before(plain, call ? call : end);
+    if (found.count == 0 && call) {
+        const char *after = after_bracket(call, end);
+        add_arguments(&found, (struct span){call + 1, after ? after - 1 : end}, false);
+    }
+    char *word = found.count > 0 ? copy(found.expression[0]) : NULL;
+    locked_end(&found);
+    free(plain);
+    if (word)
+        leave_indices_out(word);
+    return word;
 }

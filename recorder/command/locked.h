@@ -16,9 +16,19 @@ struct locked {
 
 /*
  * Reads the text of a line, and of those after it up to the end of its statement. An expression is a path: names, parted by
- * `.`, `->` and `::`, with `[..]` and `(..)` after them; `&`, casts and blanks are left out, as is `this->` at its head.
+ * `.`, `->` and `::`, with `[..]` and `(..)` after them; `&`, casts and blanks are left out, as is `this->` at its head. Of
+ * `path->lock()` it is `path->`: what is locked is the object that it leads to.
  */
 void locked_read(struct locked *locked, const char *text);
 void locked_end(struct locked *locked);
+
+/*
+ * What tells a call of the function in that text from others: the path that its answer is put in, else the first path that
+ * it is given. A text of one's own; NULL where there is neither.
+ */
+char *call_word(const char *text, const char *function);
+
+/* The path without what stands between brackets of an index, which differs from one element to the next: in place. */
+void leave_indices_out(char *path);
 
 #endif

@@ -153,7 +153,13 @@ static enum report_kind kind_of(const char *line)
 static const char *stable(const struct notes *notes, const char *type)
 {
     const struct alias *alias = notes_alias(notes, type);
-    return alias && alias->functions ? alias->functions : type;
+    if (!alias || !alias->lasting.lasts)
+        return alias && alias->functions ? alias->functions : type;
+    const char *bare = alias->lasting.bare;
+    for (size_t i = 0; i < notes->aliases; i++)
+        if (&notes->alias[i] != alias && strcmp(notes->alias[i].lasting.bare, bare) == 0)
+            return alias->lasting.name;
+    return bare;
 }
 
 /* The last two locks of a reversal are those whose types are at odds. */

@@ -20,9 +20,10 @@ static void add(struct walk *walk, struct step step)
         ADD(steps->step, steps->count, steps->room) = step;
 }
 
-static void add_frame(struct walk *walk, const struct place *place, const struct inlined *frame)
+static void add_frame(struct walk *walk, const struct place *place, const struct code *code, size_t number)
 {
-    add(walk, (struct step){place, frame->site, base_of(frame->site), frame->function, frame->site});
+    const struct inlined *frame = &code->frame[number];
+    add(walk, (struct step){place, frame->site, base_of(frame->site), frame->function, frame->site, number});
 }
 
 /* A place of which the symbols know no line. */
@@ -34,12 +35,12 @@ static void add_unknown(struct walk *walk, const struct place *place)
     const char *identity = texts_say(texts, "%s+%" PRIx64, path ? path : "", place->offset);
     if (place->function) {
         const char *name = texts_say(texts, "%s+0x%" PRIx64, function ? function : "", place->within);
-        add(walk, (struct step){place, identity, name, function, NULL});
+        add(walk, (struct step){place, identity, name, function, NULL, 0});
     } else {
         char *unknown = unknown_place(walk->declared, place);
         const char *name = texts_say(texts, "%s", unknown);
         free(unknown);
-        add(walk, (struct step){place, identity, name, name, NULL});
+        add(walk, (struct step){place, identity, name, name, NULL, 0});
     }
 }
 
@@ -65,11 +66,11 @@ static void add_place(struct walk *walk, const struct place *place)
         return;
     size_t frame = telling_frame(code, 0);
     if (frame == code->count && code->count > 0)
-        add_frame(walk, place, &code->frame[code->count - 1]);
+        add_frame(walk, place, code, code->count - 1);
     else if (frame == code->count)
         add_unknown(walk, place);
     for (; frame < code->count; frame = telling_frame(code, frame + 1))
-        add_frame(walk, place, &code->frame[frame]);
+        add_frame(walk, place, code, frame);
 }
 
 void steps_begin(struct steps *steps, const struct declared *declared, const struct type *type)

@@ -15,6 +15,7 @@ struct step {
     const char *name;          /* FILE:LINE without folders; where no line is known FUNCTION+OFFSET */
     const char *function;      /* NULL where it has no name */
     const char *site;          /* FILE:LINE; NULL where no line is known */
+    size_t frame;              /* which of the functions at the place it is: the innermost one is 0 */
 };
 
 struct steps {

@@ -34,6 +34,8 @@ struct binary {
     unsigned long used;
     struct object_file file;
     bool has_file; /* it was read */
+    struct debug_info *debug;
+    bool has_debug; /* it was looked for */
 };
 
 struct symbols {
@@ -50,6 +52,7 @@ struct symbols {
     struct tool demangler;
     bool demangler_is_mute;
     struct source_lines *lines;
+    struct lock_names *lock_names;
 };
 
 struct symbols *symbols_new(const char *patterns)
@@ -58,12 +61,14 @@ struct symbols *symbols_new(const char *patterns)
     symbols->patterns = patterns ? patterns : "";
     symbols->texts = texts_new();
     symbols->lines = source_lines_new();
+    symbols->lock_names = lock_names_new();
     return symbols;
 }
 
 static void binary_end(struct binary *binary)
 {
     tool_ends(&binary->tool);
+    debug_info_end(binary->debug);
     map_end(&binary->known);
     free(binary->path);
     free(binary->code);
@@ -88,6 +93,7 @@ void symbols_end(struct symbols *symbols)
     free(symbols->name);
     map_end(&symbols->names);
     source_lines_end(symbols->lines);
+    lock_names_end(symbols->lock_names);
     texts_end(symbols->texts);
     free(symbols);
 }
@@ -128,6 +134,19 @@ const struct object_file *binary_file(struct binary *binary)
         binary->file = object_file_read(binary->path, binary->symbols->texts);
     binary->has_file = true;
     return &binary->file;
+}
+
+struct debug_info *binary_debug(struct binary *binary)
+{
+    if (!binary->has_debug)
+        binary->debug = debug_info_open(binary->path, binary_file(binary)->build_id);
+    binary->has_debug = true;
+    return binary->debug;
+}
+
+struct lock_names *symbols_lock_names(const struct symbols *symbols)
+{
+    return symbols->lock_names;
 }
 
 struct source_lines *symbols_lines(const struct symbols *symbols)

@@ -10,6 +10,8 @@
 #include <stddef.h>
 #include <stdint.h>
 
+#include "debug_info.h"
+#include "lock_names.h"
 #include "object_file.h"
 #include "source_lines.h"
 
@@ -49,8 +51,11 @@ void symbols_ask(struct symbols *symbols);
 const struct code *binary_code(const struct binary *binary, uint64_t offset);
 /* What the object's file says of itself, and when it was last changed; 0 where it isn't there. */
 const struct object_file *binary_file(struct binary *binary);
-/* The lines of sources: they end with the symbols. */
+/* Its debug information, NULL where there is none. */
+struct debug_info *binary_debug(struct binary *binary);
+/* The lines of sources, and what they name locks by: they end with the symbols. */
 struct source_lines *symbols_lines(const struct symbols *symbols);
+struct lock_names *symbols_lock_names(const struct symbols *symbols);
 /* The name in the source, else the name itself. */
 const char *symbols_name(const struct symbols *symbols, const char *mangled);
 

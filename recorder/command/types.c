@@ -1,5 +1,6 @@
 #include "types.h"
 
+#include "lock_names.h"
 #include "map.h"
 #include "memory.h"
 #include "names.h"
@@ -170,6 +171,36 @@ static void read_label(struct namer *namer, uint32_t number)
     free(label);
 }
 
+/* Whether the step's source line names a member that a lock of the class can be. What is too small only leads to one. */
+static bool has_member(const struct namer *namer, const struct type *type, const struct step *step)
+{
+    enum { MUTEX_BYTES = 40, RWLOCK_BYTES = 56 };
+    const struct lock_name_in_source *lock = lock_name_at(namer->declared, step);
+    bool is_mutex = type->class && strcmp(type->class, "mtx") == 0;
+    return lock->identity && lock->size >= (is_mutex ? MUTEX_BYTES : RWLOCK_BYTES);
+}
+
+/*
+ * Locks in memory that no call has made have the place of their first use, whichever that is. Where its line names the
+ * member of a class, the locks of that member are one type, wherever they are first used.
+ */
+static void read_member(struct namer *namer, uint32_t number)
+{
+    const struct type *type = &namer->declared->type[number];
+    struct text *source = &namer->naming[number].source;
+    struct steps steps;
+    steps_begin(&steps, namer->declared, type);
+    if (steps.count > 0 && has_member(namer, type, &steps.step[0])) {
+        source->length = 0;
+        add(source, type->class);
+        add(source, " ");
+        add(source, lock_name_at(namer->declared, &steps.step[0])->identity);
+        add(source, " of ");
+        add(source, object_of(namer->declared, steps.step[0].place->object)->path);
+    }
+    steps_end(&steps);
+}
+
 /* Where a type comes from, and what it would be called. */
 static void read_type(struct namer *namer, uint32_t number)
 {
@@ -184,6 +215,8 @@ static void read_type(struct namer *namer, uint32_t number)
         read_label(namer, number);
     if (!type->label)
         read_steps(namer, number);
+    if (type->is_met)
+        read_member(namer, number);
     if (naming->plain.length == 0)
         add(&naming->plain, "?");
     clean_name(naming->plain.bytes);
@@ -303,6 +336,8 @@ static void give_names(struct namer *namer)
         if (is_first(namer, number) && !type[number].name)
             name_claimants(namer, number);
         type[number].name = type[type[number].first].name;
+        const char *alone = cut_name(namer->declared->texts, bytes_of(&namer->naming[number].plain), "");
+        type[number].alone = is_first(namer, number) || map_has_text(&namer->taken, alone) ? NULL : alone;
         if (functions->bytes)
             type[number].functions = texts_copy(namer->declared->texts, functions->bytes, functions->length);
     }

@@ -14,6 +14,7 @@
 struct named_type {
     uint32_t first;
     const char *name;      /* at most 63 bytes; no other type has it */
+    const char *alone;     /* what it would be called if it weren't one with the first; NULL where that is a type's name */
     const char *functions; /* the functions of its places; NULL where its name is that of a variable */
     const char *variable;  /* the type's own variable; NULL where it has none */
     bool is_array;         /* it is all locks of a variable that has many */

@@ -1,0 +1,92 @@
+/*
+ * The debug information of an object's file, as a tree of entries: functions, variables, types and their members. It is read
+ * by elfutils' libdw, which is loaded where it is there; else, and of a file that has none, nothing is known.
+ */
+#ifndef RECORD_DEBUG_INFO_H
+#define RECORD_DEBUG_INFO_H
+
+#include <stdbool.h>
+#include <stddef.h>
+#include <stdint.h>
+
+struct debug_info;
+
+/* As libdw has it: it is copied, and never looked into. */
+struct entry {
+    void *address, *unit, *abbreviation;
+    long padding;
+};
+
+/* What an entry is, as DWARF numbers it. */
+enum entry_kind {
+    ENTRY_ARRAY = 0x01,
+    ENTRY_CLASS = 0x02,
+    ENTRY_PARAMETER = 0x05,
+    ENTRY_BLOCK = 0x0b,
+    ENTRY_MEMBER = 0x0d,
+    ENTRY_POINTER = 0x0f,
+    ENTRY_REFERENCE = 0x10,
+    ENTRY_STRUCTURE = 0x13,
+    ENTRY_TYPEDEF = 0x16,
+    ENTRY_UNION = 0x17,
+    ENTRY_BASE_CLASS = 0x1c,
+    ENTRY_INLINED = 0x1d,
+    ENTRY_RANGE = 0x21,
+    ENTRY_CONST = 0x26,
+    ENTRY_FUNCTION = 0x2e,
+    ENTRY_VARIABLE = 0x34,
+    ENTRY_VOLATILE = 0x35,
+    ENTRY_RESTRICT = 0x37,
+    ENTRY_NAMESPACE = 0x39,
+    ENTRY_RIGHT_REFERENCE = 0x42,
+    ENTRY_ATOMIC = 0x47,
+};
+
+/* NULL where there is none. The build-id, of which it is NULL where there is none, says where it may stand by itself. */
+struct debug_info *debug_info_open(const char *path, const char *build_id);
+void debug_info_end(struct debug_info *info); /* NULL is nothing */
+
+enum entry_kind entry_kind(const struct entry *entry);
+const char *entry_name(const struct entry *entry); /* NULL where it has none */
+/* The first entry inside it, and the next one beside it. False where there is none. */
+bool entry_first(const struct entry *entry, struct entry *inside);
+bool entry_next(const struct entry *entry, struct entry *next);
+/* Whether the address is in its code. */
+bool entry_has_code_at(const struct entry *entry, uint64_t address);
+bool entry_has_code(const struct entry *entry);
+/* Whether it is only said that there is one, and how it is made stands elsewhere. */
+bool entry_is_declaration(const struct entry *entry);
+/* The type of a variable, a member or what a function gives; what a pointer points to. */
+bool entry_type(const struct entry *entry, struct entry *type);
+/* What was said of it before it was inlined, or put elsewhere. */
+bool entry_origin(const struct entry *entry, struct entry *origin);
+/* Its size in bytes, or how many elements an array has; 0 where that isn't known. */
+uint64_t entry_size(const struct entry *entry);
+uint64_t entry_elements(const struct entry *entry);
+/* How far from the beginning of its class a member is. */
+uint64_t entry_offset_in_class(const struct entry *entry);
+/* Where a variable stands that is always at the same address. False of any other one. */
+bool entry_address(const struct entry *entry, uint64_t *address);
+/* The file and the line in which it is declared: NULL and 0 where that isn't known. */
+const char *entry_file(const struct entry *entry);
+int entry_line(const struct entry *entry);
+/* The name with those of the classes and namespaces around it, as a text of one's own. */
+char *entry_whole_name(const struct entry *entry, const char *own);
+
+/* A type without its other names and qualities; the last of those names. */
+struct plain_type {
+    struct entry entry, other_name;
+    bool has_other_name;
+};
+bool type_plain(struct entry type, struct plain_type *found);
+bool type_is_class(const struct entry *type); /* or a structure, or a union */
+uint64_t type_size(struct entry type);        /* in bytes; 0 where that isn't known */
+
+/* The unit of compilation that has the address in its code. */
+bool debug_info_unit(struct debug_info *info, uint64_t address, struct entry *unit);
+/* The functions of a unit that have code: a list that ends with the debug information. */
+const struct entry *debug_info_functions(struct debug_info *info, const struct entry *unit, size_t *count);
+/* The variable that stands at the address, and in it the address may be. */
+bool debug_info_variable(struct debug_info *info, uint64_t address, struct entry *variable, uint64_t *begin);
+
+#endif

@@ -1,0 +1,165 @@
+#include "lock_names.h"
+
+#include "declared.h"
+#include "locked.h"
+#include "map.h"
+#include "members.h"
+#include "memory.h"
+#include "steps.h"
+#include "texts.h"
+
+#include <stdlib.h>
+#include <string.h>
+
+struct lock_names {
+    struct map by_step; /* numbers in the list, from 1 on */
+    const struct lock_name_in_source **name;
+    size_t names, room;
+    struct texts *texts;
+};
+
+struct lock_names *lock_names_new(void)
+{
+    struct lock_names *names = take(sizeof *names);
+    names->texts = texts_new();
+    return names;
+}
+
+void lock_names_end(struct lock_names *names)
+{
+    free(names->name);
+    map_end(&names->by_step);
+    texts_end(names->texts);
+    free(names);
+}
+
+static const char *kept(struct lock_names *names, const char *text)
+{
+    return text ? texts_copy(names->texts, text, strlen(text)) : NULL;
+}
+
+/* The member that all of them name but those that are variables: no lock that is in memory is one. */
+static struct member member_of_all(const struct locked *locked, struct debug_info *info, const struct spot_of_code *spot)
+{
+    struct member all = {0};
+    for (size_t i = 0; i < locked->count; i++) {
+        struct member member = member_of(info, spot, locked->expression[i]);
+        bool is_equal = member.is_variable ||
+            (member.identity && (!all.identity || strcmp(all.identity, member.identity) == 0));
+        if (is_equal && !all.identity && !member.is_variable)
+            all = member;
+        else
+            member_end(&member);
+        if (!is_equal) {
+            member_end(&all);
+            break;
+        }
+    }
+    return all;
+}
+
+/* The spot of a step that has a line. What is given is the file's name: a text of one's own. */
+static char *spot_at(const struct step *step, struct spot_of_code *spot)
+{
+    const char *colon = strrchr(step->site, ':');
+    char *file = copy_bytes(step->site, (size_t)(colon - step->site));
+    *spot = (struct spot_of_code){step->place->offset, file, strtol(colon + 1, NULL, 10), step->function};
+    return file;
+}
+
+static void find_member(struct lock_names *names, const struct declared *declared, const struct step *step,
+    const struct locked *locked, struct lock_name_in_source *name)
+{
+    struct binary *binary = object_of(declared, step->place->object)->binary;
+    struct debug_info *info = binary && step->place->kind == PLACE_CALL && locked->count > 0 ? binary_debug(binary) : NULL;
+    if (!info)
+        return;
+    struct spot_of_code spot;
+    char *file = spot_at(step, &spot);
+    struct member member = member_of_all(locked, info, &spot);
+    free(file);
+    name->member = kept(names, member.name);
+    name->identity = kept(names, member.identity);
+    name->size = member.size;
+    member_end(&member);
+}
+
+/* A source that was changed after the object may have other lines by now. What debug information knows of it is right. */
+static void find_expression(struct lock_names *names, const struct locked *locked, bool is_old,
+    struct lock_name_in_source *name)
+{
+    if (locked->count != 1 || (!is_old && !name->member))
+        return;
+    char *expression = copy(locked->expression[0]);
+    size_t length = strlen(expression);
+    if (length > 2 && strcmp(expression + length - 2, "->") == 0)
+        expression[length - 2] = '\0';
+    leave_indices_out(expression);
+    name->expression = kept(names, expression);
+    free(expression);
+}
+
+/* The text of the step's line. Of a source that was changed after the object it may be another one by now. */
+static const char *text_at(const struct declared *declared, const struct step *step)
+{
+    const struct statement *statement =
+        step->site ? source_lines_at(symbols_lines(declared->symbols), step->site) : NULL;
+    struct binary *binary = object_of(declared, step->place->object)->binary;
+    return statement && (!binary || statement->changed <= binary_file(binary)->changed) ? statement->text : NULL;
+}
+
+static const struct lock_name_in_source *find(struct lock_names *names, const struct declared *declared,
+    const struct step *step)
+{
+    struct lock_name_in_source *name = texts_room(names->texts, sizeof *name);
+    const struct statement *statement =
+        step->site ? source_lines_at(symbols_lines(declared->symbols), step->site) : NULL;
+    if (!statement || !statement->text)
+        return name;
+    struct locked locked;
+    locked_read(&locked, statement->text);
+    find_member(names, declared, step, &locked, name);
+    find_expression(names, &locked, text_at(declared, step) != NULL, name);
+    locked_end(&locked);
+    return name;
+}
+
+char *call_name_at(const struct declared *declared, const struct step *step, const char *function)
+{
+    const char *text = text_at(declared, step);
+    return text && function ? call_word(text, function) : NULL;
+}
+
+char *function_name_at(const struct declared *declared, const struct step *step, long *lines)
+{
+    struct binary *binary = object_of(declared, step->place->object)->binary;
+    struct debug_info *info = binary && step->place->kind == PLACE_CALL && step->site ? binary_debug(binary) : NULL;
+    struct spot_of_code spot;
+    *lines = -1;
+    if (!info)
+        return NULL;
+    char *file = spot_at(step, &spot), *name = function_at(info, &spot, lines);
+    *lines = name ? spot.line - *lines : -1;
+    free(file);
+    bool is_bare = step->function && strcmp(step->function, "operator()") == 0;
+    if (name && (!step->function || is_bare || !is_name_of_function(step->function, name)))
+        return name;
+    free(name);
+    return NULL;
+}
+
+const struct lock_name_in_source *lock_name_at(const struct declared *declared, const struct step *step)
+{
+    struct lock_names *names = symbols_lock_names(declared->symbols);
+    const char *path = object_of(declared, step->place->object)->path;
+    char *key = say_text("%s+%llx %zu %s", path ? path : "", (unsigned long long)step->place->offset, step->frame,
+        step->site ? step->site : "");
+    size_t *number = map_add_text(&names->by_step, key);
+    if (*number == 0) {
+        const struct lock_name_in_source *found = find(names, declared, step);
+        ADD(names->name, names->names, names->room) = found;
+        *number = names->names;
+    }
+    free(key);
+    return names->name[*number - 1];
+}

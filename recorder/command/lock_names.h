@@ -1,0 +1,38 @@
+/*
+ * What a source line names the lock by that it asks for, or makes: by the line's text, and by debug information.
+ */
+#ifndef RECORD_LOCK_NAMES_H
+#define RECORD_LOCK_NAMES_H
+
+#include <stdint.h>
+
+struct declared;
+struct step;
+struct lock_names;
+
+struct lock_name_in_source {
+    /* The one expression that it can be; NULL where there isn't one, or the source was changed after the object. */
+    const char *expression;
+    /* The member that all expressions name which it can be (members.h); NULL where that isn't known. */
+    const char *member, *identity;
+    uint64_t size; /* of the member, in bytes */
+};
+
+struct lock_names *lock_names_new(void);
+void lock_names_end(struct lock_names *names);
+
+/*
+ * What tells the step's call of that function from others in its own function: a text of one's own, NULL where nothing does.
+ */
+char *call_name_at(const struct declared *declared, const struct step *step, const char *function);
+
+/*
+ * The name of the step's function by debug information where symbol tools tell another one's: a text of one's own, else NULL.
+ * *lines becomes how many lines the step is below the one that declares it; negative where that isn't known.
+ */
+char *function_name_at(const struct declared *declared, const struct step *step, long *lines);
+
+/* That of the step. Never NULL; it is looked for once, and ends with the symbols. */
+const struct lock_name_in_source *lock_name_at(const struct declared *declared, const struct step *step);
+
+#endif

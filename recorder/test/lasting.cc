@@ -1,0 +1,157 @@
+/*
+ * lasting SEED: locks of many kinds, first used in an order that the seed decides. What they are called is the same for each
+ * order, however the program is compiled, and where its lines stand.
+ */
+#include <pthread.h>
+
+#include <algorithm>
+#include <cstdint>
+#include <cstdlib>
+#include <functional>
+#include <map>
+#include <memory>
+#include <mutex>
+#include <shared_mutex>
+#include <vector>
+
+namespace bank
+{
+class Account {
+    long balance = 0;
+
+public:
+    std::mutex mutex;
+
+    void deposit(long amount)
+    {
+        std::lock_guard<std::mutex> guard(mutex);
+        balance += amount;
+    }
+};
+
+template <class Value> struct Channel {
+    std::mutex mutex;
+    Value value{};
+
+    Value take()
+    {
+        std::unique_lock<std::mutex> guard(this->mutex);
+        return value;
+    }
+};
+} // namespace bank
+
+struct Audit {
+    std::shared_mutex readers;
+    std::mutex lines;
+};
+
+/* One that a call makes, and that of the other kind beside it. */
+struct Cache {
+    pthread_mutex_t lock;
+    pthread_rwlock_t readers;
+};
+
+struct Server {
+    pthread_mutex_t accept, close;
+    std::mutex few[3];
+};
+
+static Server server = {PTHREAD_MUTEX_INITIALIZER, PTHREAD_MUTEX_INITIALIZER, {}};
+static std::mutex table[100], all;
+static pthread_mutex_t made[8];
+static std::unique_ptr<Audit> journal;
+
+static void transfer(bank::Account &from, bank::Account &to)
+{
+    std::scoped_lock both(from.mutex, to.mutex);
+}
+
+static void check(std::vector<std::unique_ptr<bank::Account>> &accounts, size_t number)
+{
+    accounts[number]->mutex.lock();
+    accounts.at(number)->mutex.unlock();
+}
+
+static void write_line(Audit *audit)
+{
+    std::lock_guard<std::shared_mutex> outer(audit->readers);
+    std::lock_guard<std::mutex> inner(audit->lines);
+}
+
+static void write_journal()
+{
+    std::lock_guard<std::mutex> guard(journal->lines);
+}
+
+static Cache *make_cache()
+{
+    Cache *cache = static_cast<Cache *>(std::malloc(sizeof(Cache)));
+    pthread_mutex_init(&cache->lock, nullptr);
+    pthread_rwlock_init(&cache->readers, nullptr);
+    return cache;
+}
+
+static void use_cache(Cache *cache)
+{
+    pthread_mutex_lock(&cache->lock);
+    pthread_rwlock_rdlock(&cache->readers);
+    pthread_rwlock_unlock(&cache->readers);
+    pthread_mutex_unlock(&cache->lock);
+}
+
+static void own_lock()
+{
+    static std::mutex own;
+    std::lock_guard<std::mutex> guard(own);
+}
+
+static void shuffle(std::vector<std::function<void()>> &steps, uint64_t seed)
+{
+    for (size_t i = steps.size(); i > 1; i--) {
+        seed = seed * 6364136223846793005u + 1442695040888963407u;
+        std::swap(steps[i - 1], steps[(seed >> 33) % i]);
+    }
+}
+
+int main(int, char **words)
+{
+    std::vector<std::unique_ptr<bank::Account>> accounts;
+    for (int i = 0; i < 4; i++)
+        accounts.push_back(std::make_unique<bank::Account>());
+    auto numbers = std::make_unique<bank::Channel<int>>();
+    auto names = std::make_unique<bank::Channel<char>>();
+    auto audit = std::make_unique<Audit>();
+    std::map<int, Audit> audits;
+    journal = std::make_unique<Audit>();
+    Cache *pages = make_cache();
+    Cache *files = make_cache();
+    for (pthread_mutex_t &each : made)
+        pthread_mutex_init(&each, nullptr);
+    std::vector<std::function<void()>> steps = {
+        [&] { accounts[0]->deposit(1); },
+        [&] { transfer(*accounts[1], *accounts[2]); },
+        [&] { check(accounts, 3); },
+        [&] { numbers->take(); },
+        [&] { names->take(); },
+        [&] { write_line(audit.get()); },
+        [&] { write_line(&audits[1]); },
+        [&] { std::lock_guard<std::mutex> guard(audits[2].lines); },
+        [&] { write_journal(); },
+        [&] { use_cache(pages); },
+        [&] { use_cache(files); },
+        [&] { own_lock(); },
+        [&] { pthread_mutex_lock(&server.accept), pthread_mutex_unlock(&server.accept); },
+        [&] { pthread_mutex_lock(&server.close), pthread_mutex_unlock(&server.close); },
+        [&] { std::lock_guard<std::mutex> guard(server.few[1]); },
+    };
+    for (int i = 0; i < 30; i++)
+        steps.push_back([i] { std::lock_guard<std::mutex> guard(table[3 * i]); });
+    for (pthread_mutex_t &each : made)
+        steps.push_back([&each] { pthread_mutex_lock(&each), pthread_mutex_unlock(&each); });
+    shuffle(steps, std::strtoull(words[1], nullptr, 10));
+    for (auto &step : steps) {
+        std::lock_guard<std::mutex> guard(all);
+        step();
+    }
+}
