@@ -108,7 +108,7 @@ static char *innermost(struct making_name *name, const struct step *step)
     return said;
 }
 
-/* A caller, by what tells its call from others. */
+/* A caller, by what tells its call from others: the call's own words, or where its line isn't known that line's number. */
 static char *caller(const struct making_name *name, const struct step *step, const struct step *called)
 {
     const struct place *place = step->place;
@@ -119,6 +119,8 @@ static char *caller(const struct making_name *name, const struct step *step, con
         return copy(lasting_object(name->declared, place->object));
     char *callee = function_in(name, called, &lines), *function = function_in(name, step, &lines);
     char *word = call_name_at(name->declared, step, callee);
+    if (!word && lines >= 0 && !has_text_at(name->declared, step))
+        word = say_text("+%ld", lines);
     char *said = say_text("%s(%s)", function, word ? word : "");
     free(callee);
     free(function);
@@ -126,17 +128,10 @@ static char *caller(const struct making_name *name, const struct step *step, con
     return said;
 }
 
-/* The C library's functions, as that which calls `main`, are known where its debug information is there, or aren't. */
-static bool is_of_c_library(const struct declared *declared, const struct step *step)
-{
-    const char *path = object_of(declared, step->place->object)->path;
-    return step->place->kind == PLACE_CALL && path && strncmp(base_of(path), "libc.so.", 8) == 0;
-}
-
 static void say_steps(struct making_name *name)
 {
     const struct step *step = name->steps.step;
-    for (size_t i = 0; i < name->steps.count && (i == 0 || !is_of_c_library(name->declared, &step[i])); i++) {
+    for (size_t i = 0; i < name->steps.count; i++) {
         char *said = i == 0 ? innermost(name, &step[i]) : caller(name, &step[i], &step[i - 1]);
         say(name, i == 0 ? "" : "<");
         say(name, said);
@@ -297,12 +292,29 @@ static const char *build_ids(const struct making_name *name)
     return kept;
 }
 
+/* The C library's functions, as that which calls `main`, are known where its debug information is there, or aren't. */
+static bool is_of_c_library(const struct declared *declared, const struct step *step)
+{
+    const char *path = object_of(declared, step->place->object)->path;
+    return step->place->kind == PLACE_CALL && path && strncmp(base_of(path), "libc.so.", 8) == 0;
+}
+
+/* The callers up to the C library. */
+static void begin_steps(struct making_name *name)
+{
+    struct steps *steps = &name->steps;
+    steps_begin(steps, name->declared, name->type);
+    for (size_t i = 1; i < steps->count; i++)
+        if (is_of_c_library(name->declared, &steps->step[i]))
+            steps->count = i;
+}
+
 struct lasting lasting_of(const struct declared *declared, const struct types *types, uint32_t number)
 {
     const struct named_type *named = &types->type[number];
     struct making_name name = {
         .declared = declared, .type = &declared->type[named->first], .text = copy(""), .lasts = true};
-    steps_begin(&name.steps, declared, name.type);
+    begin_steps(&name);
     if (name.type->label) {
         say_label(&name);
     } else if (name.type->has_variable) {

@@ -124,6 +124,11 @@ static const struct lock_name_in_source *find(struct lock_names *names, const st
     return name;
 }
 
+bool has_text_at(const struct declared *declared, const struct step *step)
+{
+    return text_at(declared, step) != NULL;
+}
+
 char *call_name_at(const struct declared *declared, const struct step *step, const char *function)
 {
     const char *text = text_at(declared, step);

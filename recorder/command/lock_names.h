@@ -4,6 +4,7 @@
 #ifndef RECORD_LOCK_NAMES_H
 #define RECORD_LOCK_NAMES_H
 
+#include <stdbool.h>
 #include <stdint.h>
 
 struct declared;
@@ -25,6 +26,9 @@ void lock_names_end(struct lock_names *names);
  * What tells the step's call of that function from others in its own function: a text of one's own, NULL where nothing does.
  */
 char *call_name_at(const struct declared *declared, const struct step *step, const char *function);
+
+/* Whether the text of the step's line is known. */
+bool has_text_at(const struct declared *declared, const struct step *step);
 
 /*
  * The name of the step's function by debug information where symbol tools tell another one's: a text of one's own, else NULL.

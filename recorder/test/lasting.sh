@@ -26,11 +26,12 @@ if wanted lasting; then
     done
     # The places stand in functions still, but what their lines say isn't known.
     rm lasting.cc && lasting_names ./lasting 7 >away && grep -qx 'lasting:server.few\[1\]' away &&
-        grep -qx 'lasting:make_cache(+2)<main()' away && lasting_names ./lasting 8 | diff away -
+        grep -qx 'lasting:make_cache(+3)<main(+10)' away && lasting_names ./lasting 8 | diff away -
     tell lasting "without the sources" $?
-    cp "$here/lasting.cc" . && g++ -std=c++17 -O0 -pthread -Wl,--build-id=0x5eed -o lasting lasting.cc && same=0
-    lasting_names ./lasting 1 >bare && grep -qx 'lasting:all' bare && grep -q '^lasting:make_cache()+0x[0-9a-f]*<main+0x[0-9a-f]* of 5eed$' bare &&
-        ! grep -q 'make_cache()$' bare
+    cp "$here/lasting.cc" . && g++ -std=c++17 -O0 -pthread -Wl,--build-id=0x5eed -o lasting lasting.cc
+    lasting_names ./lasting 1 >bare && grep -qx 'lasting:all' bare && grep make_cache bare >made &&
+        grep -q '^lasting:make_cache+0x[0-9a-f]*<main+0x[0-9a-f]* of 5eed$' made &&
+        lasting_names ./lasting 2 | grep make_cache | diff made -
     tell lasting "without debug information names hold for one build" $?
     cat >shelf.c <<'ANY'
 #include <pthread.h>
