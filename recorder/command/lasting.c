@@ -321,12 +321,10 @@ struct lasting lasting_of(const struct declared *declared, const struct types *t
         say_variable(&name, types->type[named->first].is_array);
     } else if (name.steps.count > 0) {
         const struct place *place = name.steps.step[0].place;
-        const struct lock_name_in_source *lock = lock_name_at(declared, name.steps.step);
         if (place->kind == PLACE_CALL)
             say_object(&name, place->object);
-        /* Of a lock that no call has made the place of its first use says nothing. */
-        if (name.type->is_met && lock->member)
-            say(&name, lock->member);
+        if (types->type[named->first].is_member)
+            say(&name, lock_name_at(declared, name.steps.step)->member);
         else
             say_steps(&name);
     } else {

@@ -11,6 +11,9 @@
 #include <stdlib.h>
 #include <string.h>
 
+/* No lock that is found by a member is smaller: a mutex has so many bytes. */
+enum { LOCK_BYTES = 40 };
+
 struct lock_names {
     struct map by_step; /* numbers in the list, from 1 on */
     const struct lock_name_in_source **name;
@@ -38,15 +41,18 @@ static const char *kept(struct lock_names *names, const char *text)
     return text ? texts_copy(names->texts, text, strlen(text)) : NULL;
 }
 
-/* The member that all of them name but those that are variables: no lock that is in memory is one. */
+/*
+ * The member that all of them name, but those that are no lock in memory: variables, and what is too small for one. (An
+ * attribute, or a flag, that a call is given beside the lock.)
+ */
 static struct member member_of_all(const struct locked *locked, struct debug_info *info, const struct spot_of_code *spot)
 {
     struct member all = {0};
     for (size_t i = 0; i < locked->count; i++) {
         struct member member = member_of(info, spot, locked->expression[i]);
-        bool is_equal = member.is_variable ||
-            (member.identity && (!all.identity || strcmp(all.identity, member.identity) == 0));
-        if (is_equal && !all.identity && !member.is_variable)
+        bool is_none = member.is_variable || (member.size > 0 && member.size < LOCK_BYTES);
+        bool is_equal = is_none || (member.identity && (!all.identity || strcmp(all.identity, member.identity) == 0));
+        if (is_equal && !all.identity && !is_none)
             all = member;
         else
             member_end(&member);
@@ -67,6 +73,19 @@ static char *spot_at(const struct step *step, struct spot_of_code *spot)
     return file;
 }
 
+/* Whether the function there lets a lock go before it returns, by its text. */
+static bool is_let_go(const struct declared *declared, struct debug_info *info, const struct spot_of_code *spot)
+{
+    long line = 0;
+    char *function = function_at(info, spot, &line);
+    char *site = say_text("%s:%ld", spot->file, line);
+    const char *text = function ? source_lines_from(symbols_lines(declared->symbols), site) : NULL;
+    bool is_told = text && lets_go(text);
+    free(site);
+    free(function);
+    return is_told;
+}
+
 static void find_member(struct lock_names *names, const struct declared *declared, const struct step *step,
     const struct locked *locked, struct lock_name_in_source *name)
 {
@@ -77,11 +96,12 @@ static void find_member(struct lock_names *names, const struct declared *declare
     struct spot_of_code spot;
     char *file = spot_at(step, &spot);
     struct member member = member_of_all(locked, info, &spot);
-    free(file);
     name->member = kept(names, member.name);
     name->identity = kept(names, member.identity);
     name->size = member.size;
+    name->is_kept = locked->is_bare && member.identity && !is_let_go(declared, info, &spot);
     member_end(&member);
+    free(file);
 }
 
 /* A source that was changed after the object may have other lines by now. What debug information knows of it is right. */

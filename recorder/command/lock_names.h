@@ -17,6 +17,7 @@ struct lock_name_in_source {
     /* The member that all expressions name which it can be (members.h); NULL where that isn't known. */
     const char *member, *identity;
     uint64_t size; /* of the member, in bytes */
+    bool is_kept;  /* the function may keep it when it returns: neither a guard nor a call lets the lock go */
 };
 
 struct lock_names *lock_names_new(void);

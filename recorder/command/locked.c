@@ -265,6 +265,22 @@ static bool follows_arrow(const char *from, const char *at)
     return at > from && (at[-1] == '.' || (at - from >= 2 && at[-1] == '>' && at[-2] == '-'));
 }
 
+static bool is_word(struct span span, const char *word)
+{
+    size_t length = strlen(word);
+    return (size_t)(span.end - span.at) == length && memcmp(span.at, word, length) == 0;
+}
+
+/* Whether the function is one of a library's whose first argument is the lock. Any other may take several. */
+static bool takes_lock_first(struct span word)
+{
+    static const char *const begins[] = {"pthread_", "mtx_", "g_mutex_", "g_rec_mutex_", "g_rw_lock_", "omp_", "uv_", "witness_"};
+    for (size_t i = 0; i < sizeof begins / sizeof *begins; i++)
+        if ((size_t)(word.end - word.at) >= strlen(begins[i]) && strncmp(word.at, begins[i], strlen(begins[i])) == 0)
+            return true;
+    return false;
+}
+
 /* A call, or a guard that is made, whose bracket opens there. */
 static void read_call(struct locked *locked, const char *text, const char *bracket, const char *end)
 {
@@ -279,15 +295,18 @@ static void read_call(struct locked *locked, const char *text, const char *brack
             arrow--;
         bool is_arrow = arrow[-1] == '>';
         arrow -= is_arrow ? 2 : 1;
-        if (is_of_locks(word))
+        if (is_of_locks(word)) {
             add(locked, (struct span){path_begin(text, arrow), arrow}, is_arrow);
+            locked->is_bare = true;
+        }
         return;
     }
     struct span type = word_before(text, word.at);
-    bool is_guard = type.at < type.end && is_of_locks(type);
-    if (is_guard || is_of_locks(word))
-        add_arguments(locked, inside, is_guard || *bracket == '{' || has_part(word, "guard") || has_part(word, "scoped") ||
-                (word.end - word.at == 4 && has_part(word, "lock")));
+    bool is_guard = type.at < type.end && is_of_locks(type), is_given = is_word(type, "return");
+    if (!is_guard && !is_of_locks(word))
+        return;
+    add_arguments(locked, inside, is_guard || !takes_lock_first(word));
+    locked->is_bare |= is_given || (!is_guard && !has_part(word, "guard") && !has_part(word, "scoped"));
 }
 
 void locked_read(struct locked *locked, const char *text)
@@ -309,17 +328,42 @@ void locked_end(struct locked *locked)
     *locked = (struct locked){0};
 }
 
+/* Whether what stands between the brackets is the same for each lock: a number, or a constant's name. */
+static bool is_constant(const char *at, size_t length)
+{
+    for (size_t i = 0; i < length; i++)
+        if (!is_word_byte(at[i]) || islower((unsigned char)at[i]))
+            return false;
+    return length > 0;
+}
+
 void leave_indices_out(char *path)
 {
     char *to = path;
-    unsigned open = 0;
-    for (const char *from = path; *from; from++) {
-        open -= *from == ']' && open > 0;
-        if (open == 0)
-            *to++ = *from;
-        open += *from == '[';
+    for (const char *from = path; *from;) {
+        const char *after = *from == '[' ? after_bracket(from, from + strlen(from)) : NULL;
+        if (!after || is_constant(from + 1, (size_t)(after - from) - 2)) {
+            *to++ = *from++;
+        } else {
+            *to++ = '[';
+            *to++ = ']';
+            from = after;
+        }
     }
     *to = '\0';
+}
+
+bool lets_go(const char *text)
+{
+    static const char *const words[] = {"unlock", "release", "leave", "exit"};
+    char *plain = copy(text);
+    blank_out(plain);
+    const char *body = strchr(plain, '{'), *end = plain + strlen(plain), *after = body ? after_bracket(body, end) : NULL;
+    bool found = false;
+    for (size_t i = 0; after && i < sizeof words / sizeof *words; i++)
+        found |= has_part((struct span){body, after}, words[i]);
+    free(plain);
+    return found;
 }
 
 /* What follows a word and blanks around it. */

@@ -4,6 +4,7 @@
 #ifndef RECORD_LOCKED_H
 #define RECORD_LOCKED_H
 
+#include <stdbool.h>
 #include <stddef.h>
 
 enum { EXPRESSIONS_MOST = 8 };
@@ -12,6 +13,7 @@ enum { EXPRESSIONS_MOST = 8 };
 struct locked {
     char *expression[EXPRESSIONS_MOST];
     size_t count;
+    bool is_bare; /* one of them is locked by a call, or given to the caller: no guard lets it go at the block's end */
 };
 
 /*
@@ -28,7 +30,13 @@ void locked_end(struct locked *locked);
  */
 char *call_word(const char *text, const char *function);
 
-/* The path without what stands between brackets of an index, which differs from one element to the next: in place. */
+/*
+ * The path without what stands between brackets of an index, which differs from one element to the next: in place. Numbers
+ * stay, and names without small letters, which are constants.
+ */
 void leave_indices_out(char *path);
+
+/* Whether the function that begins with the text lets a lock go again, as far as its words say. */
+bool lets_go(const char *text);
 
 #endif

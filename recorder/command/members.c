@@ -1,5 +1,6 @@
 #include "members.h"
 
+#include "locked.h"
 #include "memory.h"
 #include "names.h"
 
@@ -244,14 +245,14 @@ static bool select_member(struct value *value, const char *name)
     return append(value, value->path[0] ? "." : "", name) && entry_type(&member, &value->type);
 }
 
-/* `[..]` */
-static bool select_element(struct value *value)
+/* `[..]`, as it is told: `[]`, but for constants. */
+static bool select_element(struct value *value, const char *told)
 {
     struct plain_type type;
     if (!pass_references(value, &type))
         return false;
     if (entry_kind(&type.entry) == ENTRY_ARRAY)
-        return (!value->path[0] || append(value, "", "[]")) && entry_type(&type.entry, &value->type);
+        return (!value->path[0] || append(value, "", told)) && entry_type(&type.entry, &value->type);
     value->is_element = true;
     return dereference(value, "operator[]");
 }
@@ -386,8 +387,13 @@ static bool read_head(const struct context *context, const char **at, struct val
 static bool read_tail(const char **at, struct value *value)
 {
     if (**at == '[') {
-        *at = after_bracket(*at);
-        return *at && select_element(value);
+        const char *after = after_bracket(*at);
+        char *told = copy_bytes(*at, after ? (size_t)(after - *at) : 0);
+        leave_indices_out(told);
+        bool is_read = after && select_element(value, told);
+        free(told);
+        *at = after;
+        return is_read;
     }
     bool is_arrow = (*at)[0] == '-' && (*at)[1] == '>';
     if (!is_arrow && **at != '.')
@@ -472,10 +478,10 @@ struct member member_of(struct debug_info *info, const struct spot_of_code *spot
     if (!debug_info_unit(info, spot->address, &context.unit) || !find_around(&context) ||
         !read_expression(&context, expression, &value, 0) || !type_plain(value.type, &type) || is_pointer(&type.entry))
         return member;
+    member.size = type_size(type.entry);
     member.is_variable = value.is_fixed && value.hops == 0;
     if (!value.path[0] || member.is_variable)
         return member;
-    member.size = entry_size(&type.entry);
     if (value.is_fixed && value.hops == 1 && !value.is_element)
         name_of_variable(&value, &member);
     else

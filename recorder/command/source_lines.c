@@ -98,18 +98,25 @@ static bool is_whole(const char *text, size_t length)
     return (has_bracket && open <= 0) || memchr(text, ';', length);
 }
 
-static const char *statement_in(struct texts *texts, const struct source *source, long line)
+/* Where the line begins; NULL where there are fewer. */
+static const char *line_in(const struct source *source, long line)
 {
-    const char *at = source->bytes, *end = at + source->length, *newline;
+    const char *at = source->bytes, *end = at + source->length;
     for (long number = 1; number < line; number++) {
-        newline = memchr(at, '\n', (size_t)(end - at));
+        const char *newline = memchr(at, '\n', (size_t)(end - at));
         if (!newline)
             return NULL;
         at = newline + 1;
     }
+    return at;
+}
+
+static const char *statement_in(struct texts *texts, const struct source *source, long line)
+{
+    const char *at = line_in(source, line), *end = source->bytes + source->length;
     size_t length = 0;
-    for (unsigned lines = 0; lines < LINES_MOST && at + length < end; lines++) {
-        newline = memchr(at + length, '\n', (size_t)(end - at) - length);
+    for (unsigned lines = 0; at && lines < LINES_MOST && at + length < end; lines++) {
+        const char *newline = memchr(at + length, '\n', (size_t)(end - at) - length);
         length = newline ? (size_t)(newline + 1 - at) : (size_t)(end - at);
         if (is_whole(at, length))
             break;
@@ -138,4 +145,13 @@ const struct statement *source_lines_at(struct source_lines *lines, const char *
         *number = lines->statements;
     }
     return lines->statement[*number - 1];
+}
+
+const char *source_lines_from(struct source_lines *lines, const char *site)
+{
+    struct place place;
+    if (!place_read(&place, site) || place.line < 1)
+        return NULL;
+    const struct source *source = source_at(lines, &place);
+    return source->bytes ? line_in(source, place.line) : NULL;
 }

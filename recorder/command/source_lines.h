@@ -21,4 +21,7 @@ void source_lines_end(struct source_lines *lines);
 /* That of FILE:LINE. Never NULL; it ends with the lines. */
 const struct statement *source_lines_at(struct source_lines *lines, const char *site);
 
+/* The source from that line on; NULL where it isn't there. */
+const char *source_lines_from(struct source_lines *lines, const char *site);
+
 #endif

@@ -171,13 +171,16 @@ static void read_label(struct namer *namer, uint32_t number)
     free(label);
 }
 
-/* Whether the step's source line names a member that a lock of the class can be. What is too small only leads to one. */
+/*
+ * Whether the step's source line names a member that is a lock of the class. What is too small for one only leads to it, and
+ * what has room for two may be either. A function that keeps the lock when it returns may lock for many others.
+ */
 static bool has_member(const struct namer *namer, const struct type *type, const struct step *step)
 {
     enum { MUTEX_BYTES = 40, RWLOCK_BYTES = 56 };
     const struct lock_name_in_source *lock = lock_name_at(namer->declared, step);
-    bool is_mutex = type->class && strcmp(type->class, "mtx") == 0;
-    return lock->identity && lock->size >= (is_mutex ? MUTEX_BYTES : RWLOCK_BYTES);
+    uint64_t bytes = type->class && strcmp(type->class, "mtx") == 0 ? MUTEX_BYTES : RWLOCK_BYTES;
+    return lock->identity && !lock->is_kept && lock->size >= bytes && lock->size < 2 * bytes;
 }
 
 /*
@@ -191,6 +194,7 @@ static void read_member(struct namer *namer, uint32_t number)
     struct steps steps;
     steps_begin(&steps, namer->declared, type);
     if (steps.count > 0 && has_member(namer, type, &steps.step[0])) {
+        namer->types->type[number].is_member = true;
         source->length = 0;
         add(source, type->class);
         add(source, " ");

@@ -18,6 +18,7 @@ struct named_type {
     const char *functions; /* the functions of its places; NULL where its name is that of a variable */
     const char *variable;  /* the type's own variable; NULL where it has none */
     bool is_array;         /* it is all locks of a variable that has many */
+    bool is_member;        /* it is all locks of a member that no call has made */
     size_t merged;         /* of a first one: how many types it is */
     size_t made;           /* how many locks of it were named by now */
 };

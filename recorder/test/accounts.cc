@@ -3,8 +3,9 @@
  *
  * `both`: one function locks an account and then an audit, another an audit and then another account. No two objects are
  * locked both ways, but those of their classes are: a reversal.
- * `members`, `classes`, `globals`, `guards`: what is locked both ways are other members, members of one name of other
- * classes, locks that variables name, and locks that an object only refers to: nothing.
+ * `members`, `classes`, `globals`, `guards`, `elements`, `lockers`: what is locked both ways are other members, members of one
+ * name of other classes, locks that variables name, locks that an object only refers to, elements of an array that have
+ * constants for their numbers, and locks of a class that others lock by: nothing.
  */
 #include <cstring>
 #include <memory>
@@ -44,6 +45,27 @@ public:
     {
         mutex.unlock();
     }
+};
+
+/* A lock for others to use. */
+class Gate {
+    std::recursive_mutex mutex;
+
+public:
+    void enter()
+    {
+        mutex.lock();
+    }
+    void leave()
+    {
+        mutex.unlock();
+    }
+};
+
+enum { READ, WRITE };
+
+struct Pipe {
+    std::mutex ends[2];
 };
 
 static std::unique_ptr<Account> cash, credit;
@@ -117,6 +139,26 @@ static void hold_again(std::mutex &one, std::mutex &other)
     Holder second(other);
 }
 
+static void read_first(Pipe &pipe, Audit &audit)
+{
+    std::lock_guard<std::mutex> outer(pipe.ends[READ]);
+    std::lock_guard<std::mutex> inner(audit.mutex);
+}
+
+static void write_last(Pipe &pipe, Audit &audit)
+{
+    std::lock_guard<std::mutex> outer(audit.mutex);
+    std::lock_guard<std::mutex> inner(pipe.ends[WRITE]);
+}
+
+static void enter_both(Gate &outer, Gate &inner)
+{
+    outer.enter();
+    inner.enter();
+    inner.leave();
+    outer.leave();
+}
+
 int main(int, char **words)
 {
     auto account = std::make_unique<Account>();
@@ -141,6 +183,13 @@ int main(int, char **words)
         cash_first();
         cash = std::make_unique<Account>();
         cash_first_again();
+    } else if (std::strcmp(words[1], "elements") == 0) {
+        auto pipe = std::make_unique<Pipe>();
+        read_first(*pipe, *audit);
+        write_last(*pipe, *other);
+    } else if (std::strcmp(words[1], "lockers") == 0) {
+        auto registry = std::make_unique<Gate>(), entry = std::make_unique<Gate>();
+        enter_both(*registry, *entry);
     } else {
         hold_first(account->mutex, audit->mutex);
         hold_again(other->mutex, outer->mutex);

@@ -75,7 +75,7 @@ if wanted accounts; then
             "$record" -- ./accounts both 2>recorded.err
             sed 's/<accounts.cc:[0-9]*//g' recorded.err | diff "$here/accounts.want" -
             tell accounts "an account and the audit, the audit and another account ($compiler $level)" $?
-            for case in members classes globals guards; do
+            for case in members classes globals guards elements lockers; do
                 "$record" -- ./accounts $case 2>recorded.err
                 tail -n 1 recorded.err | grep -qx 'record: nothing to report'
                 tell accounts "no order of other locks: $case ($compiler $level)" $?
@@ -85,7 +85,7 @@ if wanted accounts; then
     # The names of types that are one with others are understood, too.
     g++ -g -pthread -o accounts accounts.cc
     for line in '"Audit::mutex" "Account::mutex"' '"accounts:Account::mutex" "accounts:Audit::mutex"' \
-        '"accounts.cc:60<accounts.cc:130" "accounts.cc:53<accounts.cc:129"' '"report()<main()" "deposit()<main()"'; do
+        '"accounts.cc:82<accounts.cc:172" "accounts.cc:75<accounts.cc:171"' '"report()<main()" "deposit()<main()"'; do
         echo "$line" >list
         "$record" --ignore list -- ./accounts both 2>recorded.err
         tail -n 1 recorded.err | grep -qx 'record: nothing to report: list silences 1 report'
