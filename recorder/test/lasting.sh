@@ -66,6 +66,13 @@ ANY
     tell lasting "a library by its own name" $same
 fi
 
+if wanted locked; then
+    "${CC:-cc}" -std=c11 -D_GNU_SOURCE -g -O1 -fsanitize=address,undefined -fno-sanitize-recover=undefined -Wall -Wextra -Werror \
+        -I"$recorder/command" -o locked "$here/locked.c" "$recorder/command/locked.c" "$recorder/command/memory.c" &&
+        grep -v '^  ' "$here/locked.want" | ./locked | diff "$here/locked.want" -
+    tell locked "the lock that a source line names" $?
+fi
+
 # Locks of one member of a class are one type, wherever they are first used; and others aren't.
 if wanted accounts; then
     for compiler in g++ clang++; do

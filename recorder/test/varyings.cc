@@ -1,4 +1,5 @@
-// A std::mutex that is first used in a function whose frame is of varying size, through the library's wrappers.
+// A std::mutex that is first used in a function whose frame is of varying size, through the library's wrappers. Wherever that
+// is, all of the class are one type: two of them are held at once.
 #include <alloca.h>
 #include <cstdio>
 #include <cstring>
