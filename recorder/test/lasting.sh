@@ -8,7 +8,14 @@ lasting_names() {
     ./resolved types "$(echo records/*.0.full)" >types && cut -f 1 types | LC_ALL=C sort -u
 }
 
-if wanted lasting; then
+# has_libdw NAME: whether members are known. That the test is left out is told.
+has_libdw() {
+    echo 'int main(void) { return 0; }' | "${CC:-cc}" -x c -o probe - -l:libdw.so.1 2>/dev/null && return 0
+    echo "left out  $1: libdw isn't there"
+    return 1
+}
+
+if wanted lasting && has_libdw lasting; then
     "$record" -- true 2>/dev/null
     compile_resolved
     for compiler in g++ clang++; do
@@ -74,7 +81,7 @@ if wanted locked; then
 fi
 
 # Locks of one member of a class are one type, wherever they are first used; and others aren't.
-if wanted accounts; then
+if wanted accounts && has_libdw accounts; then
     for compiler in g++ clang++; do
         command -v $compiler >/dev/null || continue
         for level in -O0 -O2; do
