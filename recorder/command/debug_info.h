@@ -73,15 +73,6 @@ int entry_line(const struct entry *entry);
 /* The name with those of the classes and namespaces around it, as a text of one's own. */
 char *entry_whole_name(const struct entry *entry, const char *own);
 
-/* A type without its other names and qualities; the last of those names. */
-struct plain_type {
-    struct entry entry, other_name;
-    bool has_other_name;
-};
-bool type_plain(struct entry type, struct plain_type *found);
-bool type_is_class(const struct entry *type); /* or a structure, or a union */
-uint64_t type_size(struct entry type);        /* in bytes; 0 where that isn't known */
-
 /* The unit of compilation that has the address in its code. */
 bool debug_info_unit(struct debug_info *info, uint64_t address, struct entry *unit);
 /* The functions of a unit that have code: a list that ends with the debug information. */

@@ -1,5 +1,6 @@
 #include "lock_names.h"
 
+#include "call_words.h"
 #include "declared.h"
 #include "locked.h"
 #include "map.h"

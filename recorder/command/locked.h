@@ -7,6 +7,8 @@
 #include <stdbool.h>
 #include <stddef.h>
 
+#include "source_text.h"
+
 enum { EXPRESSIONS_MOST = 8 };
 
 /* The expressions that may be that lock, each once, as texts of one's own. */
@@ -24,19 +26,8 @@ struct locked {
 void locked_read(struct locked *locked, const char *text);
 void locked_end(struct locked *locked);
 
-/*
- * What tells a call of the function in that text from others: the path that its answer is put in, else the first path that
- * it is given. A text of one's own; NULL where there is neither.
- */
-char *call_word(const char *text, const char *function);
-
-/*
- * The path without what stands between brackets of an index, which differs from one element to the next: in place. Numbers
- * stay, and names without small letters, which are constants.
- */
-void leave_indices_out(char *path);
-
-/* Whether the function that begins with the text lets a lock go again, as far as its words say. */
-bool lets_go(const char *text);
+/* Adds the path, if it is one; or of what stands between brackets, parted by commas, all of them or the first that is one. */
+void locked_add(struct locked *locked, struct span span);
+void locked_add_arguments(struct locked *locked, struct span inside, bool all);
 
 #endif

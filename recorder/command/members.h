@@ -5,21 +5,9 @@
 #define RECORD_MEMBERS_H
 
 #include <stdbool.h>
-#include <stddef.h>
 #include <stdint.h>
 
-#include "debug_info.h"
-
-/*
- * Where an expression stands: the code at an address, and its source. Several functions may have the address, one inlined in
- * the other: the line is in the last of them that is declared above it, in its file; or in a lambda, which isn't declared.
- */
-struct spot_of_code {
-    uint64_t address;
-    const char *file; /* with its folders */
-    long line;
-    const char *function; /* as symbol tools tell it; NULL where they don't */
-};
+#include "scopes.h"
 
 struct member {
     char *name;     /* `Account::m`; of what a variable points to `journal->m`: a text of one's own. NULL where it isn't known */
@@ -35,10 +23,5 @@ struct member {
  */
 struct member member_of(struct debug_info *info, const struct spot_of_code *spot, const char *expression);
 void member_end(struct member *member);
-
-/* The function's name there: a text of one's own, NULL where it isn't known; and on which line it is declared. */
-char *function_at(struct debug_info *info, const struct spot_of_code *spot, long *line);
-/* Whether a function's short name, as it is told, is for one of that whole name. */
-bool is_name_of_function(const char *told, const char *whole);
 
 #endif

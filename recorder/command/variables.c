@@ -1,5 +1,6 @@
 #include "variables.h"
 
+#include "debug_types.h"
 #include "memory.h"
 #include "names.h"
 

@@ -6,6 +6,7 @@
 #include <stdlib.h>
 #include <string.h>
 
+#include "call_words.h"
 #include "locked.h"
 
 static void print_locked(const char *text)

@@ -1,0 +1,51 @@
+#include "libdw.h"
+
+#include <dlfcn.h>
+#include <string.h>
+
+struct libdw libdw;
+
+static const struct {
+    const char *name;
+    void *function; /* a pointer to one of libdw's functions */
+} functions[] = {
+    {"dwarf_begin", &libdw.begin},
+    {"dwarf_end", &libdw.end},
+    {"dwarf_nextcu", &libdw.next_unit},
+    {"dwarf_offdie", &libdw.entry_at},
+    {"dwarf_addrdie", &libdw.unit_at},
+    {"dwarf_haspc", &libdw.has_pc},
+    {"dwarf_child", &libdw.child},
+    {"dwarf_siblingof", &libdw.sibling},
+    {"dwarf_tag", &libdw.tag},
+    {"dwarf_diename", &libdw.name},
+    {"dwarf_attr", &libdw.attribute},
+    {"dwarf_attr_integrate", &libdw.any_attribute},
+    {"dwarf_formref_die", &libdw.reference},
+    {"dwarf_formudata", &libdw.number},
+    {"dwarf_formflag", &libdw.flag},
+    {"dwarf_getlocation", &libdw.location},
+    {"dwarf_getlocation_attr", &libdw.location_attribute},
+    {"dwarf_formaddr", &libdw.address},
+    {"dwarf_getscopes_die", &libdw.scopes},
+    {"dwarf_decl_file", &libdw.file},
+    {"dwarf_decl_line", &libdw.line},
+    {"dwarf_dieoffset", &libdw.offset},
+    {"dwarf_diecu", &libdw.unit},
+};
+
+bool libdw_loads(void)
+{
+    if (libdw.is_looked_for)
+        return libdw.library != NULL;
+    libdw.is_looked_for = true;
+    void *library = dlopen("libdw.so.1", RTLD_NOW | RTLD_LOCAL);
+    for (size_t i = 0; library && i < sizeof functions / sizeof *functions; i++) {
+        void *found = dlsym(library, functions[i].name);
+        if (!found)
+            return false;
+        memcpy(functions[i].function, &found, sizeof found);
+    }
+    libdw.library = library;
+    return library != NULL;
+}
