@@ -15,7 +15,7 @@ if wanted judged; then
         philosophers recursive reused reversal rwlock signals started threads tryfirst trysecond \
         trythen varying varyings with; do
         compile ${line%% *}
-        recorded_by "$record" --full --judge -- timeout -s KILL 3 ./$line
+        recorded_by "$record" --full --judge -- timeout -s KILL "$(limit_of $line)" ./$line
         is_accepted
         tell judged "$line" $?
     done
@@ -24,7 +24,7 @@ if wanted judged; then
     compile closed
     for line in "atfork 12" "clash both" closed "closed back" "crash 2" crew slow; do
         [ -x "${line%% *}" ] || compile ${line%% *}
-        recorded_by "$record" --full --judge -- timeout -s KILL 3 ./$line
+        recorded_by "$record" --full --judge -- timeout -s KILL "$(limit_of $line)" ./$line
         is_accepted
         tell judged "$line" $?
     done
@@ -50,10 +50,10 @@ if wanted judged; then
             tell judged "a $kind run, seed $seed" $?
         done
     done
-    # Whether its threads meet is a matter of luck: one run of ten is enough.
+    # Whether its threads meet is a matter of luck, and of how busy the machine is: one run of sixty is enough.
     compile contend -O1
     caught=1
-    plant overlapping && for run in 1 2 3 4 5 6 7 8 9 10; do
+    plant overlapping && for run in $(seq 60); do
         recorded_by overlapping/record --full --judge -- ./contend
         drop_kept
         grep -q 'judged: line [0-9]*: F35 RawNotFree: seat [0-9]* gets ' recorded.err &&

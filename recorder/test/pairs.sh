@@ -6,7 +6,7 @@
 tells_all() {
     rm -rf records && mkdir records
     env RECORDER_DIRECTORY="$work/records" RECORDER_STREAMS=both RECORDER_FRAMES=1 LD_PRELOAD="$object" \
-        timeout -s KILL 3 "$@" >/dev/null 2>&1
+        timeout -s KILL "$(limit_of "${1#./}")" "$@" >/dev/null 2>&1
     any=
     for full in records/*.full; do
         [ -n "$(head -c 1 "$full" | tr -d '\000')" ] || continue
