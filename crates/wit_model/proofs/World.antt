@@ -18,6 +18,7 @@ pub mod MovedCalls
 pub mod MovedReleases
 pub mod Moves
 pub mod NoCircle
+pub mod Noted
 pub mod Opening
 pub mod Own
 pub mod Placed

@@ -3,7 +3,12 @@
 use Rattle.std.specs.Prelude.{ℕ, ◌<◌, ◌≡◌, true, false, List, [], ◌∷◌, ◌++◌, None}
 use Rattle.wit_model.specs.declared.profiles.Profile.{Profile}
 use Rattle.wit_model.specs.declared.profiles.Profile.TheVariants.{Plain, AllHeld}
+use Rattle.wit_model.specs.declared.locks.Mode.{Mode}
+use Rattle.wit_model.specs.declared.locks.Mode.TheVariants.{Shared}
+use Rattle.wit_model.specs.declared.locks.Site.{Site}
 use Rattle.wit_model.specs.declared.calls.Request.{Request}
+use Rattle.wit_model.specs.declared.calls.Call.TheVariants.{NoteTry}
+use Rattle.wit_model.specs.declared.calls.Reply.{Reply}
 use Rattle.wit_model.specs.declared.calls.Entry.{Entry}
 use Rattle.wit_model.specs.Rules.History.{is_held, own_entries}
 use Rattle.wit_model.specs.Rules.State.{Start}
@@ -11,12 +16,12 @@ use Rattle.wit_model.specs.Rules.Start.{start_fault}
 use Rattle.wit_model.specs.Rules.Verdict.{is_exclusive}
 use Rattle.wit_model.specs.Rules.Step.{story_after, IsLegal}
 use Rattle.wit_model.specs.Rules.Clean.{is_clean, CleanMeansNoCircle}
-use Rattle.wit_model.specs.World.Deeds.{Deed, own, log_of, shares, raw_mode}
+use Rattle.wit_model.specs.World.Deeds.{Deed, RawUp, own, log_of, shares, raw_mode}
 use Rattle.wit_model.specs.World.Stages.{Asked, stage}
 use Rattle.wit_model.specs.World.Steps.{admits, IsWorld}
 use Rattle.wit_model.specs.World.Waiting.{IsWaiting, IsDeadlock}
 use Rattle.wit_model.specs.World.Reordering.{IsReordering}
-use Rattle.wit_model.specs.World.Examples.{small, files, in_turn, crossed, agreed, defined}
+use Rattle.wit_model.specs.World.Examples.{small, files, by, in_turn, crossed, agreed, defined}
 use Rattle.wit_model.specs.World.Examples.{defined_before}
 use Rattle.wit_model.specs.World.Tried.{small_all_held, tried, tried_in_turn, tried_crossed}
 use Rattle.wit_model.specs.World.Sequences.{varied, scarce, exhausted}
@@ -91,6 +96,19 @@ ExclusiveIsAlone =
     (start : Start) (files : List (List ℕ)) (w : List Deed) (t u l : ℕ)
     → IsWorld start files w → (u ≡ t → ⊥) → 0 < shares t l w → 0 < shares u l w
     → is_exclusive (raw_mode t l w) ≡ false
+
+-- who tells of a try has a share of the lock, in the mode that it tells
+abbrev pub TriesAreNotedAsHad : Type 0
+TriesAreNotedAsHad =
+    (start : Start) (files : List (List ℕ)) (w : List Deed) (t l : ℕ) (mode : Mode) (site : Site)
+    (reply : Reply) → IsWorld start files (by t (NoteTry (record { 0 = l }) mode site) reply ∷ w)
+    → (0 < shares t l w) × (raw_mode t l w ≡ mode)
+
+-- who turns a lock exclusive has one share of it, a shared one
+abbrev pub OnlySharedIsRaised : Type 0
+OnlySharedIsRaised =
+    (start : Start) (files : List (List ℕ)) (w : List Deed) (t l : ℕ)
+    → IsWorld start files (RawUp t l ∷ w) → (shares t l w ≡ 1) × (raw_mode t l w ≡ Shared)
 
 -- who waits for another can't have the lock
 abbrev pub WaitersAreBarred : Type 0

@@ -12,7 +12,7 @@ ghost use Rattle.wit_model.specs.SceneLaws.{
   WaitsAreShown,
   CirclesAreDeadlocks,
 };
-ghost use Rattle.wit_model.specs.World.StepTable.{LinesFollow, OtherLocksDont};
+ghost use Rattle.wit_model.specs.World.StepTable.{LinesFollow, LocksAdmit, OtherLocksDont};
 
 /// Each accepted step of a lock, and each accepted call, is a deed of its thread: where a scene
 /// shows a world, the next scene shows that world with the deed. So what is accepted from the
@@ -45,9 +45,10 @@ pub fn law_circles_are_deadlocks()
     ensures circles { CirclesAreDeadlocks }
 {}
 
-/// What may come next at each stage of a sequence, as a table; and nothing of a sequence may come
-/// for another lock than its own.
+/// What may come next at each stage of a sequence, as a table; nothing of a sequence may come for
+/// another lock than its own; and which steps a lock admits, by how it is had.
 pub fn law_step_table()
     ensures lines { LinesFollow }
     ensures others { OtherLocksDont }
+    ensures admits { LocksAdmit }
 {}

@@ -20,6 +20,8 @@ ghost use Rattle.wit_model.specs.WorldLaws.{
   VariedIsWorld,
   ExhaustedIsWorld,
   ExclusiveIsAlone,
+  TriesAreNotedAsHad,
+  OnlySharedIsRaised,
   WaitersAreBarred,
   BarredOnesWait,
   DeadlocksTakeTwo,
@@ -97,6 +99,13 @@ pub fn law_sequences_run()
 /// rwlock(9) or sx(9).
 pub fn law_exclusive_alone()
     ensures { ExclusiveIsAlone }
+{}
+
+/// Of how a thread has a lock the world tells no lie: who tells of a try has the lock in that mode,
+/// and who turns a lock exclusive had it shared, and once.
+pub fn law_modes_are_had()
+    ensures noted { TriesAreNotedAsHad }
+    ensures raised { OnlySharedIsRaised }
 {}
 
 /// To wait is to be barred from a lock by another thread's share of it: who waits can't have the
