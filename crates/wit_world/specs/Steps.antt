@@ -27,6 +27,12 @@ AnswersIn old t call (Err fault) new =
     ((answer_in old t call ≡ Err fault)
     ⊎ ((fault ≡ OutOfMemory) × IsEntered (answer_in old t call))) × (new ≡ old)
 
+-- so too, but that no growth is refused: the call takes no memory
+abbrev pub AnswersSurelyIn : Scene → ℕ → Call → Result Reply Fault → Scene → Type 0
+AnswersSurelyIn old t call (Ok reply) new =
+    (answer_in old t call ≡ Ok reply) × (new ≡ scene_after old t call reply)
+AnswersSurelyIn old t call (Err fault) new = (answer_in old t call ≡ Err fault) × (new ≡ old)
+
 -- whether a thread gets a share by it
 abbrev pub takes_share : RawStep → Bool
 takes_share raw_step.Take = true

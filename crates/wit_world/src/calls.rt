@@ -5,11 +5,11 @@ ghost use Rattle.std.specs.Prelude.{OnOk, IfErr, if◌then◌else◌};
 ghost use Rattle.wit_model.specs.declared.calls.Call.TheVariants.{Check, Note, Unlock};
 ghost use Rattle.wit_model.specs.Rules.History.{num};
 ghost use Rattle.wit_model.specs.Rules.State.{state_of, is_seat};
-ghost use Rattle.wit_model.specs.Rules.Step.{answer_of, is_logged};
+ghost use Rattle.wit_model.specs.Rules.Step.{TakesNoMemory, answer_of, is_logged};
 ghost use Rattle.wit_model.specs.World.Scenes.{nobodys, shares_of, names_live, may_call, answer_in};
 ghost use Rattle.wit_model.specs.World.Stages.{stage_called};
 ghost use Rattle.wit_world.specs.Stages.{stage_of};
-ghost use Rattle.wit_world.specs.Steps.{AnswersIn, makes_lock, holds_asked};
+ghost use Rattle.wit_world.specs.Steps.{AnswersIn, AnswersSurelyIn, makes_lock, holds_asked};
 
 use crate::raw::Raw;
 use crate::stages::{Stage, either, stage_passed};
@@ -22,12 +22,15 @@ impl World {
     /// # Errors
     /// In this order: `UnknownSeat`; `UnknownLock`; `StepOrder` where the call isn't the next one
     /// of a sequence; then the call's own, which is `OutOfMemory` only in place of a reply that the
-    /// log would keep. Nothing is changed then.
+    /// log would keep, and never of a note, a request given up or an unlock. Nothing is changed
+    /// then.
     ///
     /// It is inlined, so that a frequent call that is known pays for no other.
     #[inline(always)]
     pub fn call(&mut self, seat: SeatNo, call: Call) -> Result<Reply, Fault>
-        ensures { AnswersIn self.old seat.0 call result self.new }
+        ensures answer { AnswersIn self.old seat.0 call result self.new }
+        ensures surely { TakesNoMemory call
+            → AnswersSurelyIn self.old seat.0 call result self.new }
     {
         match call {
             Call::Check(request) => self.ask(seat, request),
@@ -46,21 +49,23 @@ impl World {
 
     #[inline(never)]
     fn note(&mut self, seat: SeatNo, lock: LockNo) -> Result<Reply, Fault>
-        ensures { AnswersIn self.old seat.0 (Note lock) result self.new }
+        ensures { AnswersSurelyIn self.old seat.0 (Note lock) result self.new }
     {
         self.make_call(seat, Call::Note(lock))
     }
 
     #[inline(never)]
     fn unlock(&mut self, seat: SeatNo, lock: LockNo, mode: Mode) -> Result<Reply, Fault>
-        ensures { AnswersIn self.old seat.0 (Unlock lock mode) result self.new }
+        ensures { AnswersSurelyIn self.old seat.0 (Unlock lock mode) result self.new }
     {
         self.make_call(seat, Call::Unlock(lock, mode))
     }
 
     #[inline(never)]
     fn any_call(&mut self, seat: SeatNo, call: Call) -> Result<Reply, Fault>
-        ensures { AnswersIn self.old seat.0 call result self.new }
+        ensures answer { AnswersIn self.old seat.0 call result self.new }
+        ensures surely { TakesNoMemory call
+            → AnswersSurelyIn self.old seat.0 call result self.new }
     {
         self.make_call(seat, call)
     }
@@ -68,7 +73,9 @@ impl World {
     // It is inlined into each of these, which so know which call it is.
     #[inline(always)]
     fn make_call(&mut self, seat: SeatNo, call: Call) -> Result<Reply, Fault>
-        ensures { AnswersIn self.old seat.0 call result self.new }
+        ensures answer { AnswersIn self.old seat.0 call result self.new }
+        ensures surely { TakesNoMemory call
+            → AnswersSurelyIn self.old seat.0 call result self.new }
     {
         self.before_call(seat, &call)?;
         let logged = self.stage_called(seat, &call);

@@ -3,7 +3,7 @@
 ghost use Rattle.std.specs.Prelude.{IsOk};
 ghost use Rattle.wit_model.specs.declared.calls.Call.TheVariants.{Init};
 ghost use Rattle.wit_model.specs.Rules.Preparing.{IsPreparable, IsPrepared};
-ghost use Rattle.wit_model.specs.Rules.Step.{AnswersOrFails};
+ghost use Rattle.wit_model.specs.Rules.Step.{Answers, AnswersOrFails, TakesNoMemory};
 
 use crate::verifier::Verifier;
 use wit_model::{Boxed, Call, Fault, NewLock, Reply, SeatNo};
@@ -14,10 +14,12 @@ impl Verifier {
     /// It is inlined, so that a frequent call that is known pays for no other.
     ///
     /// # Errors
-    /// Those of the call's method; not `OutOfMemory` where the call is prepared.
+    /// Those of the call's method; not `OutOfMemory` where the call is prepared, nor of a note, a
+    /// request given up or an unlock, which take no memory.
     #[inline(always)]
     pub fn call(&mut self, seat: SeatNo, call: Call) -> Result<Reply, Fault>
         ensures answer { AnswersOrFails self.old seat.0 call result self.new }
+        ensures surely { TakesNoMemory call → Answers self.old seat.0 call result self.new }
         ensures prepared { IsPreparable call → IsPrepared self.old seat.0 call → IsOk result }
     {
         match call {
@@ -32,6 +34,7 @@ impl Verifier {
     #[inline(never)]
     fn any_call(&mut self, seat: SeatNo, call: Call) -> Result<Reply, Fault>
         ensures answer { AnswersOrFails self.old seat.0 call result self.new }
+        ensures surely { TakesNoMemory call → Answers self.old seat.0 call result self.new }
         ensures prepared { IsPreparable call → IsPrepared self.old seat.0 call → IsOk result }
     {
         match call {

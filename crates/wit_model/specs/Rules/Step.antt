@@ -189,3 +189,10 @@ AnswersOrFails old t call (Ok reply) new =
 AnswersOrFails old t call (Err fault) new =
     ((answer_of old t call ≡ Err fault)
     ⊎ ((fault ≡ OutOfMemory) × IsEntered (answer_of old t call))) × (new ≡ old)
+
+-- the calls that take no memory: what they need was set aside before
+abbrev pub TakesNoMemory : Call → Type 0
+TakesNoMemory (Note l) = Unit {0}
+TakesNoMemory (GiveUp l) = Unit {0}
+TakesNoMemory (Unlock l mode) = Unit {0}
+TakesNoMemory _ = ⊥

@@ -72,8 +72,8 @@ invariant_of-self-2 c =
     subst IsKept (sym now) (kept-called v c.self.invariant t call r
     (same ∙ c.in_ok-reply.ensures.answer.0))
 
-pub returns : goal.returns
-returns c =
+pub returns-clause-answer : goal.returns-clause-answer
+returns-clause-answer c =
     let v = scene_in c.self.inside in
     let t = c.args.seat.0 in
     let call = c.args.call in
@@ -109,3 +109,6 @@ returns c =
           (same ∙ c.in_ok-reply.ensures.answer.0),
       now ∙ ap (λ (s : Scene). scene_after s t call r) c.self.view_is,
     )
+
+pub returns-clause-surely : goal.returns-clause-surely
+returns-clause-surely c = λ few. returns-clause-answer c
