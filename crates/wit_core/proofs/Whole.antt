@@ -1,6 +1,7 @@
 -- What a verifier keeps follows from what ties its parts to its history.
 use Rattle.std.proofs.Common.{◌≡◌, ℕ, ◌≤◌, Option, None, Some, IfSome, Ok, true, ap, sym, subst}
 use Rattle.std.proofs.Common.{refl, arith}
+use Rattle.wit_model.specs.declared.locks.Watch.{Watch}
 use Rattle.wit_model.specs.declared.calls.Reply.{Reply}
 use Rattle.wit_model.specs.declared.calls.Reply.TheVariants.{Adopted, AdoptedAll}
 use Rattle.wit_model.specs.Rules.Orders.{IsSound, is_direct}
@@ -13,10 +14,11 @@ use Rattle.wit_core.specs.declared.ready.Ready.{Ready}
 use Rattle.wit_core.specs.Kept.{IsReady, IsTied, IsKept, story_in, start_in, history_in}
 use Rattle.wit_core.specs.Known.{Facts, IsRoomFor}
 use Rattle.wit_core.specs.Plans.{planned_call, entries_for}
+use Rattle.wit_core.specs.Seats.{Seating}
 use Rattle.wit_core.proofs.Apart.{apart_kept}
 use Rattle.wit_core.proofs.Apt.{known-is}
 use Rattle.wit_core.proofs.Holding.{chain-held, holds-all}
-use Rattle.wit_core.proofs.Keeping.{sound_kept}
+use Rattle.wit_core.proofs.Keeping.{sound_kept, with_parts}
 use Rattle.wit_core.proofs.Seen.{as_itself}
 
 -- room for what a reply teaches
@@ -37,6 +39,14 @@ kept {v} k = record {
   apart = apart_kept v k;
   tied = k;
 }
+
+-- a call that was prepared is let go
+pub kept_let_go : (v : Inside) (known : Facts) (seats : Seating) (watch : Watch) (log : Journal)
+    (o : Option Ready) → o ≡ None → IsKept (with_parts v known seats watch log)
+    → IsKept (record (with_parts v known seats watch log) { ready = o })
+kept_let_go v known seats watch log o none k =
+    subst (λ (x : Option Ready).
+    IsKept (record (with_parts v known seats watch log) { ready = x })) (sym none) k
 
 -- a verifier with this known and this log, and this call prepared
 abbrev pub with_ready : Inside → Facts → Journal → Option Ready → Inside

@@ -5,6 +5,7 @@ ghost use Rattle.wit_model.specs.declared.calls.Call.TheVariants.{Destroy};
 ghost use Rattle.wit_model.specs.declared.calls.Reply.TheVariants.{Done};
 ghost use Rattle.wit_model.specs.Rules.Step.{AnswersOrFails, answer_of, logged};
 
+use crate::ready::let_go;
 use crate::verifier::Verifier;
 use std::alloc::AllocError;
 use wit_model::{Call, Entry, Fault, LockNo, Reply, SeatNo};
@@ -51,7 +52,7 @@ impl Verifier {
             call: Call::Destroy(lock),
             reply: Reply::Done,
         };
-        self.ready = None;
+        let_go(&mut self.ready);
         self.log.push(entry, 0);
         Ok(())
     }

@@ -5,6 +5,7 @@ ghost use Rattle.wit_model.specs.declared.calls.Call.TheVariants.{GiveUp};
 ghost use Rattle.wit_model.specs.declared.calls.Reply.TheVariants.{Done};
 ghost use Rattle.wit_model.specs.Rules.Step.{Answers, answer_of, logged};
 
+use crate::ready::let_go;
 use crate::verifier::Verifier;
 use wit_model::{Call, Entry, Fault, LockNo, Reply, SeatNo};
 
@@ -33,7 +34,7 @@ impl Verifier {
             call: Call::GiveUp(lock),
             reply: Reply::Done,
         };
-        self.ready = None;
+        let_go(&mut self.ready);
         self.log.push_owed(entry, 1);
     }
 }

@@ -11,6 +11,7 @@ ghost use Rattle.wit_model.specs.Rules.Step.{AnswersOrFails, answer_of, logged, 
 ghost use Rattle.wit_model.specs.Rules.Step.{is_good_name};
 ghost use Rattle.wit_core.specs.Replies.{new_lock, made_reply};
 
+use crate::ready::let_go;
 use crate::verifier::Verifier;
 use std::alloc::{AllocError, Global};
 use wit_model::{
@@ -134,7 +135,7 @@ impl Verifier {
             call: Call::Init(made),
             reply: Reply::Made(number),
         };
-        self.ready = None;
+        let_go(&mut self.ready);
         self.log.push(entry, 0);
         Ok(())
     }

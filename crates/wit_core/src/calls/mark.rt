@@ -9,6 +9,7 @@ ghost use Rattle.wit_model.specs.Rules.Turning.{step_mark};
 
 use crate::calls::turn::unless_held;
 use crate::log::is_logged;
+use crate::ready::let_go;
 use crate::verifier::Verifier;
 use std::alloc::AllocError;
 use wit_model::{Call, Entry, Fault, LockNo, Reply, SeatNo};
@@ -76,7 +77,7 @@ impl Verifier {
             call: Call::NoRelease(lock),
             reply: Reply::Done,
         };
-        self.ready = None;
+        let_go(&mut self.ready);
         self.log.push(entry, 0);
         Ok(())
     }
@@ -94,7 +95,7 @@ impl Verifier {
             call: Call::ReleaseOk(lock),
             reply: Reply::Done,
         };
-        self.ready = None;
+        let_go(&mut self.ready);
         self.log.push(entry, 0);
         Ok(())
     }

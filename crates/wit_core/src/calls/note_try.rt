@@ -7,6 +7,7 @@ ghost use Rattle.wit_model.specs.Rules.Step.{AnswersOrFails, answer_of, logged, 
 ghost use Rattle.wit_core.specs.Acquiring.{reply_to};
 
 use crate::acquiring::{Acquisition, acquire};
+use crate::ready::let_go;
 use crate::verifier::Verifier;
 use std::alloc::AllocError;
 use wit_model::{Call, Entry, Fault, Instance, LockNo, Mode, Reply, SeatNo, Site};
@@ -78,7 +79,7 @@ impl Verifier {
             call: Call::NoteTry(lock, mode, site),
             reply: acquisition.reply(),
         };
-        self.ready = None;
+        let_go(&mut self.ready);
         self.log.push(entry, acquisition.owed());
         Ok(acquisition)
     }

@@ -5,6 +5,7 @@ ghost use Rattle.wit_model.specs.declared.calls.Call.TheVariants.{SetWatch};
 ghost use Rattle.wit_model.specs.declared.calls.Reply.TheVariants.{Done};
 ghost use Rattle.wit_model.specs.Rules.Step.{AnswersOrFails, answer_of, logged};
 
+use crate::ready::let_go;
 use crate::verifier::Verifier;
 use std::alloc::AllocError;
 use wit_model::{Call, Entry, Fault, Reply, SeatNo, Watch};
@@ -52,7 +53,7 @@ impl Verifier {
             call: Call::SetWatch(watch),
             reply: Reply::Done,
         };
-        self.ready = None;
+        let_go(&mut self.ready);
         self.log.push(entry, 0);
         Ok(())
     }

@@ -11,6 +11,7 @@ ghost use Rattle.wit_model.specs.Rules.Turning.{step_turn};
 ghost use Rattle.wit_core.specs.Turning.{turn_call, turn_answer};
 
 use crate::log::is_logged;
+use crate::ready::let_go;
 use crate::verifier::Verifier;
 use std::alloc::AllocError;
 use wit_model::{Call, Entry, Fault, Instance, LockNo, Mode, Reply, SeatNo, Watch};
@@ -90,7 +91,7 @@ impl Verifier {
             call: turn_call(lock, mode),
             reply: Reply::Done,
         };
-        self.ready = None;
+        let_go(&mut self.ready);
         self.log.push(entry, 0);
         Ok(())
     }

@@ -6,7 +6,7 @@ use Rattle.wit_core.proofs.Entries.Accepting.{accepted}
 use Rattle.wit_core.proofs.Entries.Destroying.{destroyed_live, destroyed_typed, leaves_destroy}
 use Rattle.wit_core.proofs.Entries.Plain.{plain_room}
 use Rattle.wit_core.proofs.Seen.{seen_as}
-use Rattle.wit_core.proofs.Whole.{kept, kept_roomy}
+use Rattle.wit_core.proofs.Whole.{kept, kept_let_go, kept_roomy}
 use Rattle.wit_core.proofs.verifier.Verifier.enter_destroy.Goals as goal
 
 pub destroy-requires-clause-live : goal.destroy-requires-clause-live
@@ -24,7 +24,8 @@ push-requires-clause-room c =
 
 pub invariant_of-self-2 : goal.invariant_of-self-2
 invariant_of-self-2 c =
-    kept (
+    kept_let_go c.self.inside c.destroy.new.self c.self.inside.seats c.self.inside.watch c.push.new.self _
+    c.let_go.ensures (kept (
     kept_entered c.self.inside c.args.seat.0 _ _ _ _ _ _ _ _ c.self.inside.seats c.self.inside.watch
     c.push.new.self _
     (leaves_destroy (seen_as c.self.invariant c.self.view_is) c.args.seat.0 c.args.lock c.requires)
@@ -32,7 +33,7 @@ invariant_of-self-2 c =
     _ c.reserve.ensures.same c.push.ensures)
     c.self.invariant.tied.found c.self.invariant.tied refl
     (accepted (seen_as c.self.invariant c.self.view_is) c.args.seat.0
-    (Destroy c.args.lock) Done c.requires))
+    (Destroy c.args.lock) Done c.requires)))
 
 pub invariant_of-self : goal.invariant_of-self
 invariant_of-self c =

@@ -7,7 +7,7 @@ use Rattle.wit_core.proofs.Keeping.{kept_entered, log_after}
 use Rattle.wit_core.proofs.Entries.Accepting.{accepted}
 use Rattle.wit_core.proofs.Entries.Making.{admitted, init_few, init_room, leaves_init}
 use Rattle.wit_core.proofs.Seen.{seen_as}
-use Rattle.wit_core.proofs.Whole.{kept, kept_roomy}
+use Rattle.wit_core.proofs.Whole.{kept, kept_let_go, kept_roomy}
 use Rattle.wit_core.proofs.verifier.Verifier.enter_init.Goals as goal
 
 pub add_lock-requires-clause-few : goal.add_lock-requires-clause-few
@@ -30,7 +30,8 @@ push-requires-clause-room c =
 
 pub invariant_of-self-2 : goal.invariant_of-self-2
 invariant_of-self-2 c =
-    kept (
+    kept_let_go c.self.inside c.add_lock.new.self c.self.inside.seats c.self.inside.watch c.push.new.self _
+    c.let_go.ensures (kept (
     kept_entered c.self.inside c.args.seat.0 _ _ _ _ _ _ _ c.add_lock.new.self c.self.inside.seats
     c.self.inside.watch c.push.new.self _
     (leaves_init (seen_as c.self.invariant c.self.view_is) c.args.seat.0 c.args.made
@@ -46,7 +47,7 @@ invariant_of-self-2 c =
     c.push.ensures)
     c.self.invariant.tied.found c.self.invariant.tied refl
     (accepted (seen_as c.self.invariant c.self.view_is) c.args.seat.0
-    (Init c.args.made) (Made c.args.number) c.requires))
+    (Init c.args.made) (Made c.args.number) c.requires)))
 
 pub invariant_of-self : goal.invariant_of-self
 invariant_of-self c =

@@ -4,14 +4,13 @@ use Rattle.wit_model.specs.Rules.Types.{is_spin}
 use Rattle.wit_model.specs.declared.calls.Call.TheVariants.{Note}
 use Rattle.wit_core.specs.Acquiring.{reply_to}
 use Rattle.wit_core.specs.Seats.{Seating, with_seat, asking}
-use Rattle.wit_core.specs.declared.ready.Ready.{Ready}
 use Rattle.wit_core.specs.Kept.{IsKept}
 use Rattle.wit_core.proofs.Keeping.{with_parts, kept_entered, noted_log}
 use Rattle.wit_core.proofs.Entries.Accepting.{accepted, given}
 use Rattle.wit_core.proofs.Entries.Acquiring.{given-then, reply-logged, reply-told, acquire_once}
 use Rattle.wit_core.proofs.Entries.Acquiring.{note_shallow, note_owed, leaves_note}
 use Rattle.wit_core.proofs.Seen.{seen_as}
-use Rattle.wit_core.proofs.Whole.{kept}
+use Rattle.wit_core.proofs.Whole.{kept, kept_let_go}
 use Rattle.wit_core.proofs.verifier.Verifier.enter_note.Goals as goal
 
 pub acquire-acquisition-requires-clause-seat : goal.acquire-acquisition-requires-clause-seat
@@ -58,11 +57,8 @@ push_owed-requires c =
 
 pub invariant_of-self : goal.invariant_of-self
 invariant_of-self c =
-    subst (λ (o : Option Ready).
-    IsKept (record (with_parts c.self.inside c.self.inside.known c.clear.new.self
-    c.acquire-acquisition.new.watch c.push_owed.new.self) { ready = o }))
-    (sym c.let_go.ensures) (
-    kept (
+    kept_let_go c.self.inside c.self.inside.known c.clear.new.self c.acquire-acquisition.new.watch c.push_owed.new.self _
+    c.let_go.ensures (kept (
     kept_entered c.self.inside c.args.seat.0 _ _ _ _ _ _ _ _ c.clear.new.self
     c.acquire-acquisition.new.watch c.push_owed.new.self _
     (leaves_note (seen_as c.self.invariant c.self.view_is) c.args.seat.0 c.args.lock

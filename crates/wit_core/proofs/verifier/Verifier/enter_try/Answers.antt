@@ -7,7 +7,7 @@ use Rattle.wit_core.proofs.Entries.Accepting.{accepted, given}
 use Rattle.wit_core.proofs.Entries.Acquiring.{owed-few, reply-logged, reply-told, acquire_once}
 use Rattle.wit_core.proofs.Entries.Acquiring.{try_shallow, try_room, leaves_try}
 use Rattle.wit_core.proofs.Seen.{seen_as}
-use Rattle.wit_core.proofs.Whole.{kept, kept_roomy}
+use Rattle.wit_core.proofs.Whole.{kept, kept_let_go, kept_roomy}
 use Rattle.wit_core.proofs.verifier.Verifier.enter_try.Goals as goal
 
 pub acquire-acquisition-requires-clause-seat : goal.acquire-acquisition-requires-clause-seat
@@ -51,7 +51,8 @@ returns-clause-result c =
 
 pub invariant_of-self-2 : goal.invariant_of-self-2
 invariant_of-self-2 c =
-    kept (
+    kept_let_go c.self.inside c.self.inside.known c.acquire-acquisition.new.seats c.acquire-acquisition.new.watch c.push.new.self _
+    c.let_go.ensures (kept (
     kept_entered c.self.inside c.args.seat.0 _ _ _ _ _ _ _ _ c.acquire-acquisition.new.seats
     c.acquire-acquisition.new.watch c.push.new.self _
     (leaves_try (seen_as c.self.invariant c.self.view_is) c.args.seat.0 c.args.lock
@@ -72,7 +73,7 @@ invariant_of-self-2 c =
     (c.requires ∙ ap (λ r. Ok r)
     (sym (reply-told (seen_as c.self.invariant c.self.view_is) c.args.seat.0 c.args.lock
     c.is_spin-spin.result (c.is_spin-spin.ensures ∙ ap is_spin c.class_of_lock.ensures)
-    c.acquire-acquisition.result c.acquire-acquisition.ensures.result)))))
+    c.acquire-acquisition.result c.acquire-acquisition.ensures.result))))))
 
 pub invariant_of-self : goal.invariant_of-self
 invariant_of-self c =

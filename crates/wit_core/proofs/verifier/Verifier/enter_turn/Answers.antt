@@ -7,7 +7,7 @@ use Rattle.wit_core.proofs.Entries.Accepting.{accepted, given}
 use Rattle.wit_core.proofs.Entries.Acquiring.{acquire_once}
 use Rattle.wit_core.proofs.Seen.{seen_as}
 use Rattle.wit_core.proofs.Turning.{turn_room, leaves_turn}
-use Rattle.wit_core.proofs.Whole.{kept, kept_roomy}
+use Rattle.wit_core.proofs.Whole.{kept, kept_let_go, kept_roomy}
 use Rattle.wit_core.proofs.verifier.Verifier.enter_turn.Goals as goal
 
 pub turn-requires-clause-seat : goal.turn-requires-clause-seat
@@ -28,7 +28,8 @@ push-requires-clause-room c =
 
 pub invariant_of-self-2 : goal.invariant_of-self-2
 invariant_of-self-2 c =
-    kept (
+    kept_let_go c.self.inside c.self.inside.known c.turn.new.self c.self.inside.watch c.push.new.self _
+    c.let_go.ensures (kept (
     kept_entered c.self.inside c.args.seat.0 _ _ _ _ _ _ _ _ c.turn.new.self _ c.push.new.self _
     (leaves_turn (seen_as c.self.invariant c.self.view_is) c.args.seat.0 c.args.lock
     c.is_spin-spin.result (c.is_spin-spin.ensures ∙ ap is_spin c.class_of_lock.ensures)
@@ -39,7 +40,7 @@ invariant_of-self-2 c =
     c.turn_call.ensures)
     c.self.invariant.tied.found c.self.invariant.tied refl
     (accepted (seen_as c.self.invariant c.self.view_is) c.args.seat.0
-    (turn_call c.args.mode c.args.lock) Done c.requires))
+    (turn_call c.args.mode c.args.lock) Done c.requires)))
 
 pub invariant_of-self : goal.invariant_of-self
 invariant_of-self c =

@@ -5,7 +5,7 @@ use Rattle.wit_core.proofs.Keeping.{kept_entered, log_after}
 use Rattle.wit_core.proofs.Entries.Accepting.{accepted}
 use Rattle.wit_core.proofs.Entries.Watching.{watch_room, leaves_watch}
 use Rattle.wit_core.proofs.Seen.{seen_as}
-use Rattle.wit_core.proofs.Whole.{kept, kept_roomy}
+use Rattle.wit_core.proofs.Whole.{kept, kept_let_go, kept_roomy}
 use Rattle.wit_core.proofs.verifier.Verifier.enter_watch.Goals as goal
 
 pub push-requires-clause-room : goal.push-requires-clause-room
@@ -15,14 +15,15 @@ push-requires-clause-room c =
 
 pub invariant_of-self-2 : goal.invariant_of-self-2
 invariant_of-self-2 c =
-    kept (
+    kept_let_go c.self.inside c.self.inside.known c.self.inside.seats c.args.watch c.push.new.self _
+    c.let_go.ensures (kept (
     kept_entered c.self.inside c.args.seat.0 _ _ _ _ _ _ _ _ _ _ c.push.new.self _
     (leaves_watch (seen_as c.self.invariant c.self.view_is) c.args.seat.0 c.args.watch c.requires)
     refl refl refl (log_after c.self.inside.log c.reserve.new.self c.push.new.self _ 0 _
     c.reserve.ensures.same c.push.ensures)
     c.self.invariant.tied.found c.self.invariant.tied refl
     (accepted (seen_as c.self.invariant c.self.view_is) c.args.seat.0
-    (SetWatch c.args.watch) Done c.requires))
+    (SetWatch c.args.watch) Done c.requires)))
 
 pub invariant_of-self : goal.invariant_of-self
 invariant_of-self c =

@@ -2,14 +2,13 @@ use Rattle.std.proofs.Common.{Option, sym, subst, arith, refl}
 use Rattle.wit_model.specs.declared.calls.Call.TheVariants.{Check}
 use Rattle.wit_model.specs.declared.calls.Reply.TheVariants.{Pass}
 use Rattle.wit_model.proofs.Chains.Seats.{entry}
-use Rattle.wit_core.specs.declared.ready.Ready.{Ready}
 use Rattle.wit_core.specs.Kept.{IsKept}
 use Rattle.wit_core.proofs.Keeping.{with_parts, kept_entered, log_after}
 use Rattle.wit_core.proofs.Entries.Accepting.{accepted}
 use Rattle.wit_core.proofs.Entries.Checking.{check_room, leaves_check}
 use Rattle.wit_core.proofs.Seen.{seen_as}
 use Rattle.wit_core.proofs.Unheld.{new-in}
-use Rattle.wit_core.proofs.Whole.{kept, kept_roomy}
+use Rattle.wit_core.proofs.Whole.{kept, kept_let_go, kept_roomy}
 use Rattle.wit_core.proofs.verifier.Verifier.pass.Goals as goal
 
 pub invariant_of-self : goal.invariant_of-self
@@ -26,11 +25,8 @@ pub invariant_of-self-2 : goal.invariant_of-self-2
 invariant_of-self-2 c =
     let k = c.self.invariant.tied in
     let now = seen_as c.self.invariant c.self.view_is in
-    subst (λ (o : Option Ready).
-    IsKept (record (with_parts c.self.inside c.self.inside.known c.ask_for.new.self
-    c.self.inside.watch c.push.new.self) { ready = o }))
-    (sym c.let_go.ensures) (
-    kept (
+    kept_let_go c.self.inside c.self.inside.known c.ask_for.new.self c.self.inside.watch c.push.new.self _
+    c.let_go.ensures (kept (
     kept_entered c.self.inside c.args.seat.0 (Check c.args.request) Pass _ _ _ _ _
     c.self.inside.known c.ask_for.new.self c.self.inside.watch c.push.new.self _
     (leaves_check now c.args.seat.0 c.args.request Pass c.requires.passes)

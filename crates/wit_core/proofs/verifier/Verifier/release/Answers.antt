@@ -6,7 +6,6 @@ use Rattle.wit_model.specs.Rules.Step.{logged}
 use Rattle.wit_model.specs.declared.calls.Call.TheVariants.{Unlock}
 use Rattle.wit_model.specs.declared.calls.Reply.TheVariants.{Unlocked}
 use Rattle.wit_held.specs.Releases.{release_reply}
-use Rattle.wit_core.specs.declared.ready.Ready.{Ready}
 use Rattle.wit_core.specs.Kept.{IsKept}
 use Rattle.wit_core.proofs.Keeping.{with_parts, kept_entered}
 use Rattle.wit_core.proofs.Now.{once-now}
@@ -14,7 +13,7 @@ use Rattle.wit_core.proofs.Entries.Accepting.{accepted}
 use Rattle.wit_core.proofs.Entries.Unlocking.{unlock_owed, leaves_unlock}
 use Rattle.wit_core.proofs.Releasing.{release-told}
 use Rattle.wit_core.proofs.Seen.{seen_as}
-use Rattle.wit_core.proofs.Whole.{kept}
+use Rattle.wit_core.proofs.Whole.{kept, kept_let_go}
 use Rattle.wit_core.proofs.verifier.Verifier.release.Goals as goal
 
 pub release-requires-clause-once : goal.release-requires-clause-once
@@ -58,11 +57,8 @@ push_owed-requires c =
 
 pub invariant_of-self-2 : goal.invariant_of-self-2
 invariant_of-self-2 c =
-    subst (λ (o : Option Ready).
-    IsKept (record (with_parts c.self.inside c.self.inside.known c.release.new.self
-    c.self.inside.watch c.push_owed.new.self) { ready = o }))
-    (sym c.let_go.ensures) (
-    kept (
+    kept_let_go c.self.inside c.self.inside.known c.release.new.self c.self.inside.watch c.push_owed.new.self _
+    c.let_go.ensures (kept (
     let ok =
     release-told (seen_as c.self.invariant c.self.view_is) c.args.seat.0 c.args.lock
     c.is_spin-spin.result (c.is_spin-spin.ensures ∙ ap is_spin c.class_of_lock.ensures)
