@@ -5,7 +5,6 @@ use Rattle.std.proofs.Common.{Result, Ok, Err, IfSome, IfOk, IfErr, refl, ap, sy
 use Rattle.std.proofs.Common.{⊎_elim, arith, length-append}
 use Rattle.std.specs.Global.{Vec}
 use Rattle.std.specs.Map.{lookup}
-use Rattle.std.specs.Option.{option_map}
 use Rattle.std.proofs.lemmas.List.{reverse-append}
 use Rattle.std.proofs.lemmas.Bool.{and_from, and_parts, or_cases, eqb-true, le-leb, lt-ltb}
 use Rattle.std.proofs.lemmas.Bool.{true≢false}

@@ -1,8 +1,8 @@
 -- That what is counted over the table is what the rules count, and what is allowed what they allow.
 use Rattle.std.proofs.Common.{◌≡◌, ℕ, Bool, true, false, ◌&&◌, ◌||◌, nat_lt, nat_le, List, length}
-use Rattle.std.proofs.Common.{map, Bor, Option, None, Some, is_some, unwrap_or, refl, ap, ap₂, ◌∙◌}
+use Rattle.std.proofs.Common.{map, Option, None, Some, is_some, unwrap_or, refl, ap, ap₂, ◌∙◌}
 use Rattle.std.proofs.Common.{sym, subst, arith}
-use Rattle.std.specs.Option.{option_copied, option_map}
+use Rattle.std.specs.Option.{option_map}
 use Rattle.std.proofs.lemmas.Bool.{and_parts, leb-true, ltb-true, true≢false}
 use Rattle.std.proofs.lemmas.List.{length-map}
 use Rattle.wit_model.specs.declared.flags.WarnFlags.{WarnFlags}

@@ -1,5 +1,5 @@
 -- The locks that were made, as they are kept: what each was made as, and beside it its type.
-use Rattle.std.specs.Prelude.{ℕ, ◌≡◌, ◌-◌, List, [], ◌∷◌, length, min, vec_len}
+use Rattle.std.specs.Prelude.{◌≡◌, ◌-◌, List, [], ◌∷◌, length, min, vec_len}
 use Rattle.std.specs.Vec.{vec_capacity}
 use Rattle.wit_model.specs.declared.calls.NewLock.{NewLock}
 use Rattle.wit_model.specs.declared.locks.Lock.{Lock}

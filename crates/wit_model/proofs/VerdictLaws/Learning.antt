@@ -18,7 +18,6 @@ use Rattle.wit_model.specs.Rules.Orders.{is_before, is_found}
 use Rattle.wit_model.specs.Rules.Verdict.{Basis, type_held, is_sleepable, is_giant, place_of}
 use Rattle.wit_model.specs.Rules.Verdict.{place_asked, doubled, violates, is_blessed, conflict}
 use Rattle.wit_model.specs.Rules.Verdict.{reported, is_learnt}
-use Rattle.wit_model.proofs.Chains.Found.{found}
 use Rattle.wit_model.proofs.Orders.Ends.{last_whole}
 
 pub not-all : Plain ≡ AllHeld → ⊥

@@ -1,6 +1,6 @@
 -- Whatever a log tells, its calls are done with the steps beside them; so a scene goes on as a log
 -- does.
-use Rattle.std.proofs.Common.{◌≡◌, ℕ, Bool, true, false, ◌&&◌, cond, eqb, List, [], ◌∷◌, ◌++◌, inl}
+use Rattle.std.proofs.Common.{◌≡◌, ℕ, Bool, true, false, cond, eqb, List, [], ◌∷◌, ◌++◌, inl}
 use Rattle.std.proofs.Common.{inr, arith, None, Ok, refl, ap, sym, ◌∙◌, subst}
 use Rattle.std.proofs.lemmas.Bool.{eq-eqb, cases_Bool, true≢false}
 use Rattle.wit_model.specs.declared.locks.LockNo.{LockNo}
@@ -13,7 +13,7 @@ use Rattle.wit_model.specs.declared.calls.Reply.{Reply}
 use Rattle.wit_model.specs.Rules.Files.{is_known_file, files_after}
 use Rattle.wit_model.specs.Rules.History.{act, act_by, pending, pending_after}
 use Rattle.wit_model.specs.Rules.State.{State, Story, state_of, is_seat, is_live}
-use Rattle.wit_model.specs.Rules.Step.{answer_of, story_after, is_for, is_pending, is_logged}
+use Rattle.wit_model.specs.Rules.Step.{answer_of, story_after, is_for, is_logged}
 use Rattle.wit_model.specs.World.Deeds.{Deed, log_of, own}
 use Rattle.wit_model.specs.World.Moving.{step_before, step_behind, is_free_beside}
 use Rattle.wit_model.specs.World.Scenes.{Scene, opening, stage_at, may_call}

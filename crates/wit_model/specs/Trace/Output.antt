@@ -10,7 +10,6 @@ use Rattle.wit_model.specs.Rules.Faults.{fault_text}
 use Rattle.wit_model.specs.Rules.History.{reports_of}
 use Rattle.wit_model.specs.Rules.Circles.{Waits, TellsCircle}
 use Rattle.wit_model.specs.Rules.State.{Story, state_of}
-use Rattle.wit_model.specs.World.Scenes.{Scene}
 use Rattle.wit_model.specs.World.Shown.{WaitsIn}
 use Rattle.wit_model.specs.Trace.Texts as texts
 use Rattle.wit_model.specs.Trace.Views.{graph_text, all_locks_text, circle_text}

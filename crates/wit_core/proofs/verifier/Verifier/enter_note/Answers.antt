@@ -1,11 +1,10 @@
-use Rattle.std.proofs.Common.{Option, None, Ok, ap, ap₂, sym, subst, ◌∙◌, refl, arith}
+use Rattle.std.proofs.Common.{None, Ok, ap, ap₂, sym, subst, ◌∙◌, refl, arith}
 use Rattle.wit_model.specs.Rules.Numbers.{IsGiven}
 use Rattle.wit_model.specs.Rules.Types.{is_spin}
 use Rattle.wit_model.specs.declared.calls.Call.TheVariants.{Note}
 use Rattle.wit_core.specs.Acquiring.{reply_to}
 use Rattle.wit_core.specs.Seats.{Seating, with_seat, asking}
-use Rattle.wit_core.specs.Kept.{IsKept}
-use Rattle.wit_core.proofs.Keeping.{with_parts, kept_entered, noted_log}
+use Rattle.wit_core.proofs.Keeping.{kept_entered, noted_log}
 use Rattle.wit_core.proofs.Entries.Accepting.{accepted, given}
 use Rattle.wit_core.proofs.Entries.Acquiring.{given-then, reply-logged, reply-told, acquire_once}
 use Rattle.wit_core.proofs.Entries.Acquiring.{note_shallow, note_owed, leaves_note}

@@ -1,4 +1,4 @@
-use Rattle.std.proofs.Common.{◌≤◌, true, not, is_some, length, ap, subst, sym, ◌∙◌}
+use Rattle.std.proofs.Common.{◌≤◌, not, length, ap, subst, sym, ◌∙◌}
 use Rattle.wit_core.proofs.Judged.{types-given, matrix-sized}
 use Rattle.wit_core.proofs.Seen.{seen_as}
 use Rattle.wit_core.proofs.Warned.{allowed-told, given-by}

@@ -1,9 +1,8 @@
-use Rattle.std.proofs.Common.{Option, sym, subst, arith, refl}
+use Rattle.std.proofs.Common.{arith, refl}
 use Rattle.wit_model.specs.declared.calls.Call.TheVariants.{Check}
 use Rattle.wit_model.specs.declared.calls.Reply.TheVariants.{Pass}
 use Rattle.wit_model.proofs.Chains.Seats.{entry}
-use Rattle.wit_core.specs.Kept.{IsKept}
-use Rattle.wit_core.proofs.Keeping.{with_parts, kept_entered, log_after}
+use Rattle.wit_core.proofs.Keeping.{kept_entered, log_after}
 use Rattle.wit_core.proofs.Entries.Accepting.{accepted}
 use Rattle.wit_core.proofs.Entries.Checking.{check_room, leaves_check}
 use Rattle.wit_core.proofs.Seen.{seen_as}

@@ -1,4 +1,4 @@
-use Rattle.std.proofs.Common.{Option, sym, subst, refl, ap, ◌∙◌, Ok}
+use Rattle.std.proofs.Common.{refl, ap, ◌∙◌, Ok}
 use Rattle.std.proofs.lemmas.Result.{err_from_is_err_and}
 use Rattle.wit_model.specs.Rules.Types.{is_spin}
 use Rattle.wit_model.specs.Rules.State.{Story}
@@ -6,8 +6,7 @@ use Rattle.wit_model.specs.Rules.Step.{logged}
 use Rattle.wit_model.specs.declared.calls.Call.TheVariants.{Unlock}
 use Rattle.wit_model.specs.declared.calls.Reply.TheVariants.{Unlocked}
 use Rattle.wit_held.specs.Releases.{release_reply}
-use Rattle.wit_core.specs.Kept.{IsKept}
-use Rattle.wit_core.proofs.Keeping.{with_parts, kept_entered}
+use Rattle.wit_core.proofs.Keeping.{kept_entered}
 use Rattle.wit_core.proofs.Now.{once-now}
 use Rattle.wit_core.proofs.Entries.Accepting.{accepted}
 use Rattle.wit_core.proofs.Entries.Unlocking.{unlock_owed, leaves_unlock}
