@@ -11,4 +11,4 @@ mod step_lines;
 mod steps;
 mod texts;
 
-pub use migrating::migrate;
+pub use migrating::{migrate, migrate_through};

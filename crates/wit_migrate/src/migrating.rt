@@ -1,7 +1,7 @@
 //! The migration of a trace from the first version of the format to the second.
 
-ghost use Rattle.std.specs.Prelude.{◌≡◌, ◌-◌, ◌<◌, ◌≤◌, ◌^◌, length, max};
-ghost use Rattle.std.specs.Prelude.{Err, Some, IfOk, OnErr};
+ghost use Rattle.std.specs.Prelude.{◌≡◌, ◌⊎◌, ◌-◌, ◌<◌, ◌≤◌, ◌^◌, length, max};
+ghost use Rattle.std.specs.Prelude.{Err, Some, IsTrue, IfOk, OnErr};
 ghost use Rattle.wit_grammar.specs.Lines.{Begins};
 ghost use Rattle.wit_grammar.specs.declared.parse.TheConstants.{LONGEST};
 ghost use Rattle.wit_model.specs.Trace.Reading.{line_of};
@@ -10,7 +10,8 @@ ghost use Rattle.wit_model.specs.Trace.Moving as moving;
 ghost use Rattle.wit_migrate.specs.Migrates.{MayMove, HasMoved, MovesAsDue, Migrates, MigratesFrom};
 ghost use Rattle.wit_migrate.specs.Migrates.{ReachesLine, migrated, moved_to, moving_reports};
 ghost use Rattle.wit_migrate.specs.Migrates.{some_migration, weighed};
-ghost use Rattle.wit_stream.specs.Stream.{ReadsToEnd, WritesFront, WritesLines, WritesOutput};
+ghost use Rattle.wit_stream.specs.Stream.{IsSpent, ReadsToEnd, WritesFront, WritesLines};
+ghost use Rattle.wit_stream.specs.Stream.{WritesOutput};
 
 use crate::behind::Behind;
 use crate::headers::start;
@@ -22,7 +23,7 @@ use wit_grammar::{
     Begun, LineError, begin_line, behind_check, behind_lock, behind_unlock, finish_line,
 };
 use wit_model::{Cause, Line};
-use wit_stream::{Failures, Machine, Pace, ReplayError, Step, Summary, run};
+use wit_stream::{Failures, Machine, Pace, Ports, ReplayError, Step, Summary, run};
 use wit_trace::Prelude;
 
 /// Reads a trace of the first version, and writes it as one of the second: its own lines, and
@@ -38,8 +39,9 @@ use wit_trace::Prelude;
 /// whole one more, and flushed before it may have to wait for one.
 ///
 /// # Errors
-/// `Read` where the reader failed, `Write` where the writer failed, took no byte or didn't flush,
-/// `Memory` where a growth was refused. What was written is then a beginning of an output.
+/// `Read` where the reader failed: what was written is then the text of every whole line that was
+/// taken. `Write` where the writer failed, took no byte or didn't flush, `Memory` where a growth
+/// was refused: what was written is then a beginning of an output.
 pub fn migrate<R: BufRead, W: Write>(
     alloc: Global,
     input: &mut R,
@@ -56,15 +58,37 @@ pub fn migrate<R: BufRead, W: Write>(
         (R.remaining input.old) (R.remaining input.new)
         (W.contents output.old) (W.contents output.new) }
 {
+    migrate_through(alloc, &mut Failures::new(), input, output)
+}
+
+/// A migration as `migrate` makes it, through unused ports that keep the evidence of failures.
+///
+/// # Errors
+/// As those of `migrate`. `Read` comes only where the ports have seen the reader fail, or where the
+/// looks and the lines are spent; `Write` only where they have seen the writer fail.
+pub fn migrate_through<R: BufRead, W: Write, P: Ports<R, W>>(
+    alloc: Global,
+    ports: &mut P,
+    input: &mut R,
+    output: &mut W,
+) -> Result<Summary, ReplayError>
+    requires { P.looks ports.old ≡ 0 }
+    ensures ok { IfOk result (WritesOutput Migrates
+        (R.remaining input.old) (W.contents output.old) (W.contents output.new)) }
+    ensures err { OnErr result (WritesFront Migrates
+        (R.remaining input.old) (W.contents output.old) (W.contents output.new)) }
+    ensures taken { IfOk result (ReadsToEnd MigratesFrom moving.Unmoved
+        (R.remaining input.old) (R.remaining input.new)
+        (W.contents output.old) (W.contents output.new)) }
+    ensures told { result ≡ Err ReplayError.Read → WritesLines MigratesFrom moving.Unmoved
+        (R.remaining input.old) (R.remaining input.new)
+        (W.contents output.old) (W.contents output.new) }
+    ensures read { result ≡ Err ReplayError.Read → IsTrue (P.read_failed ports.new)
+        ⊎ IsSpent (R.remaining input.old) (R.remaining input.new) (P.looks ports.new) }
+    ensures write { result ≡ Err ReplayError.Write → IsTrue (P.write_failed ports.new) }
+{
     let mut machine = Migrating::Unmoved;
-    run(
-        alloc,
-        &mut Failures::new(),
-        &mut machine,
-        Pace::Gathered,
-        input,
-        output,
-    )
+    run(alloc, ports, &mut machine, Pace::Gathered, input, output)
 }
 
 /// A migration in progress.

@@ -1,5 +1,5 @@
 use Rattle.wit_migrate.proofs.MigrateEnds.{moved_end, moved_lines}
-use Rattle.wit_migrate.proofs.migrating.migrate.Goals as goal
+use Rattle.wit_migrate.proofs.migrating.migrate_through.Goals as goal
 
 pub returns-clause-taken : goal.returns-clause-taken
 returns-clause-taken g c = moved_end _ _ _ _ _ c.run.ensures.taken
