@@ -1,9 +1,12 @@
+pub mod AddedLines
+pub mod Again
 pub mod AloneLemmas
 pub mod BesideLemmas
 pub mod MigrateEnds
 pub mod MigrateLemmas
 pub mod MigrateReports
 pub mod NumberedLemmas
+pub mod PlainLines
 pub mod Recorded
 pub mod StepLineLemmas
 pub mod Weights

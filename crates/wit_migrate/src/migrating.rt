@@ -1,12 +1,13 @@
 //! The migration of a trace from the first version of the format to the second.
 
 ghost use Rattle.std.specs.Prelude.{◌≡◌, ◌⊎◌, ◌-◌, ◌<◌, ◌≤◌, ◌^◌, length, max};
-ghost use Rattle.std.specs.Prelude.{Err, Some, IsTrue, IfOk, OnErr};
+ghost use Rattle.std.specs.Prelude.{Err, None, Some, IsTrue, IfOk, OnErr};
 ghost use Rattle.wit_grammar.specs.Lines.{Begins};
 ghost use Rattle.wit_grammar.specs.declared.parse.TheConstants.{LONGEST};
 ghost use Rattle.wit_model.specs.Trace.Reading.{line_of};
 ghost use Rattle.wit_model.specs.Trace.Moving.{moving_from, moving_outcome, moving_entered};
 ghost use Rattle.wit_model.specs.Trace.Moving as moving;
+ghost use Rattle.wit_migrate.specs.Again.{WritesTheSame};
 ghost use Rattle.wit_migrate.specs.Migrates.{MayMove, HasMoved, MovesAsDue, Migrates, MigratesFrom};
 ghost use Rattle.wit_migrate.specs.Migrates.{ReachesLine, migrated, moved_to, moving_reports};
 ghost use Rattle.wit_migrate.specs.Migrates.{some_migration, weighed};
@@ -57,6 +58,8 @@ pub fn migrate<R: BufRead, W: Write>(
     ensures told { result ≡ Err ReplayError.Read → WritesLines MigratesFrom moving.Unmoved
         (R.remaining input.old) (R.remaining input.new)
         (W.contents output.old) (W.contents output.new) }
+    ensures same { IfOk result (λ s. s.bad ≡ None → WritesTheSame
+        (R.remaining input.old) (W.contents output.old) (W.contents output.new)) }
 {
     migrate_through(alloc, &mut Failures::new(), input, output)
 }
@@ -83,6 +86,8 @@ pub fn migrate_through<R: BufRead, W: Write, P: Ports<R, W>>(
     ensures told { result ≡ Err ReplayError.Read → WritesLines MigratesFrom moving.Unmoved
         (R.remaining input.old) (R.remaining input.new)
         (W.contents output.old) (W.contents output.new) }
+    ensures same { IfOk result (λ s. s.bad ≡ None → WritesTheSame
+        (R.remaining input.old) (W.contents output.old) (W.contents output.new)) }
     ensures read { result ≡ Err ReplayError.Read → IsTrue (P.read_failed ports.new)
         ⊎ IsSpent (R.remaining input.old) (R.remaining input.new) (P.looks ports.new) }
     ensures write { result ≡ Err ReplayError.Write → IsTrue (P.write_failed ports.new) }
