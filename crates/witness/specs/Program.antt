@@ -1,10 +1,12 @@
 -- What the program does with its words and its input.
-use Rattle.std.specs.Prelude.{ℕ, ◌≡◌, ◌⊎◌, List, Option, Ok}
+use Rattle.std.specs.Prelude.{ℕ, ◌≡◌, ◌⊎◌, List, Option, None, Ok}
 use Rattle.std.specs.Io.KnownBytes.{Keeps}
 use Rattle.wit_model.specs.declared.lines.View.{View}
 use Rattle.wit_model.specs.declared.lines.View.TheVariants.{Graph}
 use Rattle.wit_model.specs.Trace.Output.{Unstarted}
-use Rattle.wit_migrate.specs.Migrates.{Migrates}
+use Rattle.wit_model.specs.Trace.Moving.{Unmoved}
+use Rattle.wit_migrate.specs.Again.{WritesTheSame}
+use Rattle.wit_migrate.specs.Migrates.{Migrates, MigratesFrom}
 use Rattle.wit_trace.specs.Replays.{ShowsTrace, ShowsFrom}
 use Rattle.wit_trace.specs.Status.{exit_status}
 use Rattle.wit_stream.specs.Stream.{WritesOutput, WritesFront, WritesLines}
@@ -38,12 +40,13 @@ pub record TellsLines (view : View) (read written_old written_new : Option (List
   pub told : WritesLines (ShowsFrom view) Unstarted read left written_old written_new
 
 -- what a migration makes of the input was written, and this is its status, as where nothing is
--- reported
+-- reported; where no line was bad, that says the same as the input
 pub record IsMigratedWhole (read written_old written_new : Option (List ℕ))
     (ended : ℕ) : Type 0 where
   pub summary : Summary
   pub written : WritesOutput Migrates read written_old written_new summary
   pub status : ended ≡ exit_status Graph (Ok summary)
+  pub same : summary.bad ≡ None → WritesTheSame read written_old written_new
 
 -- and that is what is left to do
 abbrev pub IsMigratedAndExits : Option (List ℕ) → Option (List ℕ) → Option (List ℕ) → Ended → Type 0
@@ -55,3 +58,8 @@ IsMigratedAndExits read written_old written_new ShowsThreads = ⊥
 abbrev pub IsMigrationCut : Option (List ℕ) → Option (List ℕ) → Option (List ℕ) → Type 0
 IsMigrationCut read written_old written_new =
     Keeps written_old written_new ⊎ WritesFront Migrates read written_old written_new
+
+-- so too of a migration: it is the lines that it writes of every whole line that was taken
+pub record TellsMovedLines (read written_old written_new : Option (List ℕ)) : Type 0 where
+  pub left : Option (List ℕ)
+  pub told : WritesLines MigratesFrom Unmoved read left written_old written_new

@@ -2,6 +2,7 @@
 
 ghost use Rattle.std.specs.Prelude.{◌≡◌, ◌≢◌, ◌⊎◌, Ok, Err, IfOk, OnErr, None, Some};
 ghost use Rattle.std.specs.Io.KnownBytes.{Keeps};
+ghost use Rattle.wit_migrate.specs.Again.{WritesTheSame};
 ghost use Rattle.wit_migrate.specs.Migrates.{Migrates};
 ghost use Rattle.wit_trace.specs.Replays.{ShowsTrace};
 ghost use Rattle.wit_stream.specs.Stream.{WritesOutput};
@@ -11,7 +12,7 @@ ghost use Rattle.wit_stream.specs.declared.summary.ReplayError.TheVariants.{Memo
 ghost use Rattle.wit_command.specs.declared.command.Command.TheVariants.{Demo, Migrate, Show};
 ghost use Rattle.witness.specs.declared.program.Ended.TheVariants.{Exits, ShowsThreads};
 ghost use Rattle.witness.specs.Program.{IsCutShort, IsMigratedAndExits, IsMigrationCut};
-ghost use Rattle.witness.specs.Program.{IsShownAndExits, TellsLines};
+ghost use Rattle.witness.specs.Program.{IsShownAndExits, TellsLines, TellsMovedLines};
 
 use crate::complaints::refuse;
 use std::alloc::Global;
@@ -76,6 +77,9 @@ pub fn run<R: Read + Drop, W: Write, E: Write>(
     ensures migration_cut { asked (bytes_of words.now) ≡ Some Migrate
         → OnErr result (IsMigrationCut (R.remaining input) (W.contents output.old)
         (W.contents output.new)) }
+    ensures migration_told { asked (bytes_of words.now) ≡ Some Migrate
+        → result ≡ Err ReplayError.Read
+        → TellsMovedLines (R.remaining input) (W.contents output.old) (W.contents output.new) }
     ensures quiet { result ≢ Ok (Exits 2)
         → Keeps (E.contents complaints.old) (E.contents complaints.new) }
 {
@@ -140,6 +144,8 @@ fn move_on<R: Read + Drop, W: Write>(
         (IsMigratedAndExits (R.remaining input) (W.contents output.old) (W.contents output.new)) }
     ensures migration_cut { OnErr result (IsMigrationCut
         (R.remaining input) (W.contents output.old) (W.contents output.new)) }
+    ensures told { result ≡ Err ReplayError.Read → TellsMovedLines
+        (R.remaining input) (W.contents output.old) (W.contents output.new) }
 {
     let outcome = migrate_through_buffer(alloc, input, output);
     // A migration reports nothing, as a graph.
@@ -157,6 +163,10 @@ fn migrate_through_buffer<R: Read + Drop, W: Write>(
     ensures ok { IfOk result (WritesOutput Migrates
         (R.remaining input) (W.contents output.old) (W.contents output.new)) }
     ensures err { OnErr result (IsMigrationCut
+        (R.remaining input) (W.contents output.old) (W.contents output.new)) }
+    ensures told { result ≡ Err ReplayError.Read → TellsMovedLines
+        (R.remaining input) (W.contents output.old) (W.contents output.new) }
+    ensures same { IfOk result (λ s. s.bad ≡ None → WritesTheSame
         (R.remaining input) (W.contents output.old) (W.contents output.new)) }
 {
     match BufReader::with_capacity(alloc, READ_AHEAD, input) {
