@@ -1,34 +1,75 @@
-//! The classes of locks, as types.
+//! The kinds of locks, as types: mutexes and locks that can be shared, each of one of their classes.
 
 ghost use Rattle.std.specs.Prelude.{◌≡◌};
 ghost use Rattle.wit_model.specs.declared.locks.Class.{Class};
 ghost use Rattle.wit_model.specs.declared.locks.Class.TheVariants.{SleepMutex, SpinMutex, Rw, Sx};
 
+use std::marker::PhantomData;
 use wit_model::Class;
 
-/// A class of locks.
+/// A kind of locks, of one class.
 pub trait Kind {
-    // The class that it stands for.
+    // Its class.
     ghost class: { Class };
 
-    /// The class that it stands for.
+    /// Its class.
     fn class() -> Class
         ensures { result ≡ class };
 }
 
-/// That of default mutexes of mutex(9).
-pub struct SleepMutexKind;
+/// A class of mutexes.
+pub trait MutexClass: Kind {}
+
+/// A class of locks that can be shared.
+pub trait ShareableClass: Kind {}
+
+/// Mutexes of a class: who has one has it alone.
+pub struct Mutex<C> {
+    class: PhantomData<C>,
+}
+
+/// Locks of a class that are had alone or shared.
+pub struct Shareable<C> {
+    class: PhantomData<C>,
+}
+
+impl<C: MutexClass> Kind for Mutex<C> {
+    ghost class = { C.class };
+
+    fn class() -> Class {
+        C::class()
+    }
+}
+
+impl<C: ShareableClass> Kind for Shareable<C> {
+    ghost class = { C.class };
+
+    fn class() -> Class {
+        C::class()
+    }
+}
+
+/// The class of default mutexes of mutex(9).
+pub struct SleepClass;
 
 /// That of spin mutexes of mutex(9).
-pub struct SpinMutexKind;
+pub struct SpinClass;
 
 /// That of reader/writer locks of rwlock(9).
-pub struct RwKind;
+pub struct RwClass;
 
 /// That of shared/exclusive locks of sx(9).
-pub struct SxKind;
+pub struct SxClass;
 
-impl Kind for SleepMutexKind {
+impl MutexClass for SleepClass {}
+
+impl MutexClass for SpinClass {}
+
+impl ShareableClass for RwClass {}
+
+impl ShareableClass for SxClass {}
+
+impl Kind for SleepClass {
     ghost class = { SleepMutex };
 
     fn class() -> Class {
@@ -36,7 +77,7 @@ impl Kind for SleepMutexKind {
     }
 }
 
-impl Kind for SpinMutexKind {
+impl Kind for SpinClass {
     ghost class = { SpinMutex };
 
     fn class() -> Class {
@@ -44,7 +85,7 @@ impl Kind for SpinMutexKind {
     }
 }
 
-impl Kind for RwKind {
+impl Kind for RwClass {
     ghost class = { Rw };
 
     fn class() -> Class {
@@ -52,7 +93,7 @@ impl Kind for RwKind {
     }
 }
 
-impl Kind for SxKind {
+impl Kind for SxClass {
     ghost class = { Sx };
 
     fn class() -> Class {

@@ -15,5 +15,7 @@ mod turning;
 
 pub use guarded::{Guarded, Task, Unfinished};
 pub use held::{Held, abandon};
-pub use kinds::{Kind, RwKind, SleepMutexKind, SpinMutexKind, SxKind};
+pub use kinds::{
+    Kind, Mutex, MutexClass, RwClass, Shareable, ShareableClass, SleepClass, SpinClass, SxClass,
+};
 pub use lock::{Lock, Mtx, Rw, Spin, Sx};

@@ -9,14 +9,14 @@ ghost use Rattle.wit_core.specs.Replies.{new_lock};
 ghost use Rattle.wit_shared.specs.Own.{Leaves};
 ghost use Rattle.wit_locks.specs.Locking.{Enters, IsMade};
 
-use crate::kinds::{Kind, RwKind, SleepMutexKind, SpinMutexKind, SxKind};
+use crate::kinds::{Kind, Mutex, RwClass, Shareable, SleepClass, SpinClass, SxClass};
 use std::marker::PhantomData;
 use std::sync::Wait;
 use wit_gates::Gate;
 use wit_model::{Fault, LockFlags, LockNo};
 use wit_shared::{Room, Seat, Shared};
 
-/// A lock of this class over any gate, which a shared verifier watches. It guards no data.
+/// A lock of this kind over any gate, which a shared verifier watches. It guards no data.
 ///
 /// Each call takes the verifier with which the lock was made and a seat of it, which the type says
 /// by its `J`. It calls the verifier as the thread of that seat, and never enters the gate under
@@ -41,16 +41,16 @@ impl<J: Room, G: Gate + Drop, K: Kind> Drop for Lock<J, G, K> {
 }
 
 /// A default mutex, as of mutex(9).
-pub type Mtx<J, G> = Lock<J, G, SleepMutexKind>;
+pub type Mtx<J, G> = Lock<J, G, Mutex<SleepClass>>;
 
 /// A spin mutex, as of mutex(9).
-pub type Spin<J, G> = Lock<J, G, SpinMutexKind>;
+pub type Spin<J, G> = Lock<J, G, Mutex<SpinClass>>;
 
 /// A reader/writer lock, as of rwlock(9).
-pub type Rw<J, G> = Lock<J, G, RwKind>;
+pub type Rw<J, G> = Lock<J, G, Shareable<RwClass>>;
 
 /// A shared/exclusive lock, as of sx(9).
-pub type Sx<J, G> = Lock<J, G, SxKind>;
+pub type Sx<J, G> = Lock<J, G, Shareable<SxClass>>;
 
 impl<J: Room, G: Gate, K: Kind> Lock<J, G, K> {
     /// Makes a lock over a gate that nobody has. Its type is that of `type_name`, or of its own

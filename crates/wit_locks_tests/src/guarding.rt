@@ -10,7 +10,7 @@ use std::process::Abort;
 use std::sync::Wait;
 use std::test::Fail;
 use wit_gates::{CondGate, Gate};
-use wit_locks::{Guarded, SleepMutexKind, Task, Unfinished, abandon};
+use wit_locks::{Guarded, Mutex, SleepClass, Task, Unfinished, abandon};
 use wit_model::{Fault, Reply, Site};
 use wit_shared::{Observer, Program, Room, Seat, Shared};
 
@@ -41,7 +41,7 @@ fn added<R: Wait + Abort, J: Room>(
     rt: &R,
     shared: &Shared<J>,
     seat: &mut Seat<J>,
-    number: &Guarded<J, u32, Counted<'_, CondGate>, SleepMutexKind>,
+    number: &Guarded<J, u32, Counted<'_, CondGate>, Mutex<SleepClass>>,
     counts: &Counts,
     site: Site,
     more: u32,

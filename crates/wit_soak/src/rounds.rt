@@ -6,7 +6,7 @@ use crate::gates::Fickle;
 use crate::holding::{let_go, play};
 use crate::locks::Watched;
 use crate::observing::{circle, learn, look, name_file};
-use crate::taking::{take_mutex, take_rw, take_spin, take_sx};
+use crate::taking::{take_mutex, take_shareable};
 use crate::walking::walk;
 use crate::worker::{Place, Worker};
 use bitflags::Flags;
@@ -58,28 +58,28 @@ fn nest<J: Room, R: Wait>(place: &Place<J, R>, worker: &mut Worker<J>, floor: u3
     match place.locks.get(number as usize) {
         None => {}
         Some(Watched::Mutex(lock)) => {
-            if let Some(held) = take_mutex(place, worker, lock, waits) {
+            if let Some(held) = take_mutex(place, worker, lock, true, waits) {
                 let held = play(place, worker, lock, held);
                 nest(place, worker, next, deeper - 1);
                 let_go(place, worker, lock, held);
             }
         }
         Some(Watched::Spin(lock)) => {
-            if let Some(held) = take_spin(place, worker, lock, waits) {
+            if let Some(held) = take_mutex(place, worker, lock, false, waits) {
                 let held = play(place, worker, lock, held);
                 nest(place, worker, next, deeper - 1);
                 let_go(place, worker, lock, held);
             }
         }
         Some(Watched::Rw(lock)) => {
-            if let Some(held) = take_rw(place, worker, lock, waits) {
+            if let Some(held) = take_shareable(place, worker, lock, true, waits) {
                 let held = play(place, worker, lock, held);
                 nest(place, worker, next, deeper - 1);
                 let_go(place, worker, lock, held);
             }
         }
         Some(Watched::Sx(lock)) => {
-            if let Some(held) = take_sx(place, worker, lock, waits) {
+            if let Some(held) = take_shareable(place, worker, lock, false, waits) {
                 let held = play(place, worker, lock, held);
                 nest(place, worker, next, deeper - 1);
                 let_go(place, worker, lock, held);
@@ -99,8 +99,8 @@ fn crossed<J: Room, R: Wait>(place: &Place<J, R>, worker: &mut Worker<J>) {
         place.locks.get(number),
         place.locks.get(number + 1),
     ) {
-        if let Some(held) = take_rw(place, worker, first, true) {
-            match take_sx(place, worker, second, true) {
+        if let Some(held) = take_shareable(place, worker, first, true, true) {
+            match take_shareable(place, worker, second, false, true) {
                 Some(other) => {
                     let_go(place, worker, first, held);
                     let_go(place, worker, second, other);
@@ -124,7 +124,7 @@ fn fresh<J: Room, R: Wait>(place: &Place<J, R>, worker: &mut Worker<J>) {
     let flags = LockFlags::empty();
     match Mtx::new(rt, shared, &mut worker.seat, "fresh", None, flags, gate) {
         Ok(lock) => {
-            if let Some(held) = take_mutex(place, worker, &lock, true) {
+            if let Some(held) = take_mutex(place, worker, &lock, true, true) {
                 let_go(place, worker, &lock, held);
             }
             if let Err((_lock, fault)) = lock.destroy(rt, shared, &mut worker.seat) {

@@ -1,11 +1,11 @@
-//! How a lock of each class is taken.
+//! How a lock of each kind is taken.
 
 ghost use Rattle.std.specs.Prelude.{◌≡◌, Ok, Some, IfSome};
 
 use crate::worker::{Made, Place, Tally, Worker};
 use std::sync::Wait;
 use wit_gates::Gate;
-use wit_locks::{Held, Mtx, Rw, Spin, Sx};
+use wit_locks::{Held, Lock, Mutex, MutexClass, Shareable, ShareableClass};
 use wit_model::{Fault, LockNo, Mode};
 use wit_shared::Room;
 
@@ -62,10 +62,11 @@ fn tried<G: Gate>(
 }
 
 /// Takes a mutex, whose gate may be fickle, or tries to.
-pub(crate) fn take_mutex<J: Room, R: Wait, G: Gate>(
+pub(crate) fn take_mutex<J: Room, R: Wait, G: Gate, C: MutexClass>(
     place: &Place<J, R>,
     worker: &mut Worker<J>,
-    lock: &Mtx<J, G>,
+    lock: &Lock<J, G, Mutex<C>>,
+    fickle: bool,
     waits: bool,
 ) -> Option<Held<G>>
     ensures gate { IfSome result (λ h. G.admits lock.now.gate h.hold.mode h.ticket) }
@@ -76,29 +77,7 @@ pub(crate) fn take_mutex<J: Room, R: Wait, G: Gate>(
     let site = worker.site();
     if waits {
         let answer = lock.lock(place.rt, place.shared, &mut worker.seat, site);
-        waited(&mut worker.tally, lock.number(), true, answer)
-    } else {
-        let answer = lock.try_lock(place.rt, place.shared, &mut worker.seat, site);
-        tried(&mut worker.tally, lock.number(), answer)
-    }
-}
-
-/// Takes a spin mutex, whose gate refuses nobody, or tries to.
-pub(crate) fn take_spin<J: Room, R: Wait, G: Gate>(
-    place: &Place<J, R>,
-    worker: &mut Worker<J>,
-    lock: &Spin<J, G>,
-    waits: bool,
-) -> Option<Held<G>>
-    ensures gate { IfSome result (λ h. G.admits lock.now.gate h.hold.mode h.ticket) }
-    ensures held { IfSome result (λ h. (h.hold.lock ≡ lock.now.number)
-        × (h.hold.seat.0 ≡ worker.old.seat.seat)) }
-    ensures seat { worker.new.seat.seat ≡ worker.old.seat.seat }
-{
-    let site = worker.site();
-    if waits {
-        let answer = lock.lock(place.rt, place.shared, &mut worker.seat, site);
-        waited(&mut worker.tally, lock.number(), false, answer)
+        waited(&mut worker.tally, lock.number(), fickle, answer)
     } else {
         let answer = lock.try_lock(place.rt, place.shared, &mut worker.seat, site);
         tried(&mut worker.tally, lock.number(), answer)
@@ -116,11 +95,12 @@ fn any_mode<J: Room>(worker: &mut Worker<J>) -> Mode
     }
 }
 
-/// Takes a reader/writer lock, whose gate may be fickle, in either mode, or tries to.
-pub(crate) fn take_rw<J: Room, R: Wait, G: Gate>(
+/// Takes a lock that can be shared, in either mode, or tries to. Its gate may be fickle.
+pub(crate) fn take_shareable<J: Room, R: Wait, G: Gate, C: ShareableClass>(
     place: &Place<J, R>,
     worker: &mut Worker<J>,
-    lock: &Rw<J, G>,
+    lock: &Lock<J, G, Shareable<C>>,
+    fickle: bool,
     waits: bool,
 ) -> Option<Held<G>>
     ensures gate { IfSome result (λ h. G.admits lock.now.gate h.hold.mode h.ticket) }
@@ -131,29 +111,7 @@ pub(crate) fn take_rw<J: Room, R: Wait, G: Gate>(
     let (site, mode) = (worker.site(), any_mode(worker));
     if waits {
         let answer = lock.lock(place.rt, place.shared, &mut worker.seat, mode, site);
-        waited(&mut worker.tally, lock.number(), true, answer)
-    } else {
-        let answer = lock.try_lock(place.rt, place.shared, &mut worker.seat, mode, site);
-        tried(&mut worker.tally, lock.number(), answer)
-    }
-}
-
-/// Takes a shared/exclusive lock, whose gate refuses nobody, in either mode, or tries to.
-pub(crate) fn take_sx<J: Room, R: Wait, G: Gate>(
-    place: &Place<J, R>,
-    worker: &mut Worker<J>,
-    lock: &Sx<J, G>,
-    waits: bool,
-) -> Option<Held<G>>
-    ensures gate { IfSome result (λ h. G.admits lock.now.gate h.hold.mode h.ticket) }
-    ensures held { IfSome result (λ h. (h.hold.lock ≡ lock.now.number)
-        × (h.hold.seat.0 ≡ worker.old.seat.seat)) }
-    ensures seat { worker.new.seat.seat ≡ worker.old.seat.seat }
-{
-    let (site, mode) = (worker.site(), any_mode(worker));
-    if waits {
-        let answer = lock.lock(place.rt, place.shared, &mut worker.seat, mode, site);
-        waited(&mut worker.tally, lock.number(), false, answer)
+        waited(&mut worker.tally, lock.number(), fickle, answer)
     } else {
         let answer = lock.try_lock(place.rt, place.shared, &mut worker.seat, mode, site);
         tried(&mut worker.tally, lock.number(), answer)
