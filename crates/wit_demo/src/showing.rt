@@ -1,7 +1,7 @@
 //! The demonstration as a whole.
 
-ghost use Rattle.std.specs.Prelude.{◌≡◌, ◌⊎◌, IfOk};
-ghost use Rattle.wit_demo.specs.Demonstration.{IsEnded, IsTold, demo_start};
+ghost use Rattle.std.specs.Prelude.{◌≡◌, ◌⊎◌, IfOk, IfErr};
+ghost use Rattle.wit_demo.specs.Demonstration.{IsCutShort, IsEnded, IsTold, demo_start};
 
 use crate::telling::tell;
 use crate::threads::run;
@@ -22,14 +22,17 @@ use wit_stream::{ReplayError, Summary};
 /// A fault of a call ends it as a bad line 0, with nothing written.
 ///
 /// # Errors
-/// `Memory` where memory runs out, and `Write` where the writer fails.
+/// `Memory` where memory runs out, with nothing written, and `Write` where the writer fails, with a
+/// beginning written.
 pub fn demo<R: Threads + Wait + Sync, W: Write>(
     rt: &R,
     alloc: Global,
     output: &mut W,
 ) -> Result<Summary, ReplayError>
-    ensures { IfOk result (λ summary. IsTold summary
+    ensures ok { IfOk result (λ summary.
+        IsTold (W.contents output.old) (W.contents output.new) summary
         ⊎ IsEnded (W.contents output.old) (W.contents output.new) summary) }
+    ensures err { IfErr result (IsCutShort (W.contents output.old) (W.contents output.new)) }
 {
     match show(rt, alloc) {
         Ok(verifier) => tell(alloc, &verifier, output),
