@@ -22,7 +22,8 @@ use wit_model::TypeNo;
 pub struct Observer<J: Naming> {
     front: Front<J>,
     place: Option<Place<J>>,
-    /// Whether its place was told all of its list.
+    /// Whether its place was told all of its list. A look from there tells the place, since a
+    /// publisher renews the page before it gives news: it can't be that less is shown than was learnt.
     told: bool,
 }
 

@@ -135,7 +135,31 @@ impl<J: Naming> Publisher<J> {
     ///
     /// # Errors
     /// Want of memory alone.
-    pub fn new(
+    pub fn new<R: Wait>(
+        rt: &R,
+        alloc: Global,
+        keeper: Keeper<J>,
+        size: u16,
+        readers: usize,
+    ) -> Result<Publisher<J>, AllocError>
+        requires none { keeper ≡ [] }
+        requires readers { (0 < readers) × (readers < 2 ^ 32) }
+        ensures { IfOk result (λ p. p ≡ record { orders = []; size = size }) }
+    {
+        let mut publisher = Publisher::blank(alloc, keeper, size, readers)?;
+        // It stays in the log of changes until the next one. So there is room for two from then on,
+        // as many as a publish makes: none is refused its second one.
+        match publisher.publish(rt, &[]) {
+            Ok(()) => Ok(publisher),
+            Err(refused) => {
+                publisher.end(rt);
+                Err(refused)
+            }
+        }
+    }
+
+    // One that has shown nothing.
+    fn blank(
         alloc: Global,
         keeper: Keeper<J>,
         size: u16,
@@ -171,8 +195,7 @@ impl<J: Naming> Publisher<J> {
         let more = change(&self.keeper, Vec::from_slice(self.alloc, orders)?);
         show_change(rt, &mut self.writer, more)?;
         self.keeper.add(orders);
-        // With the page renewed, who hasn't heard of these orders sees them too. Where there is no
-        // memory for that, only who has learnt of them does.
+        // With the page renewed, who hasn't heard of these orders sees them too.
         let fresh = change(&self.keeper, Vec::new(self.alloc));
         let _ = show_change(rt, &mut self.writer, fresh);
         Ok(())

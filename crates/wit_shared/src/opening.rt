@@ -69,7 +69,7 @@ fn publisher_of<J: Room, R: Wait>(
     ensures { IfOk result (λ p. p ≡ published verifier.now) }
 {
     let size = verifier.most_types();
-    let mut publisher = Publisher::new(alloc, list.named::<J>(), size, readers)?;
+    let mut publisher = Publisher::new(rt, alloc, list.named::<J>(), size, readers)?;
     match publisher.publish(rt, verifier.orders()) {
         Ok(()) => Ok(publisher),
         Err(refused) => {

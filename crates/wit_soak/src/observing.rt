@@ -22,7 +22,7 @@ pub(crate) fn learn<J: Room, R: Wait>(
     match worker.observer.known(parent, child) {
         Some(true) => {}
         Some(false) => worker.tally.blame("an order that was adopted isn't known"),
-        None => worker.tally.miss(),
+        None => worker.tally.blame("an observer doesn't answer"),
     }
 }
 
@@ -37,7 +37,7 @@ pub(crate) fn look<J: Room>(worker: &mut Worker<J>)
             }
             worker.tally.orders = orders;
         }
-        None => worker.tally.miss(),
+        None => worker.tally.blame("an observer doesn't answer"),
     }
 }
 

@@ -39,11 +39,10 @@ pub(crate) fn tell<W: Write, E: Write>(
             "an observer went back, or goes on behind the close"
         );
     }
-    let (mut refused, mut memory, mut unanswered) = (0u64, 0u64, 0u64);
+    let (mut refused, mut memory) = (0u64, 0u64);
     for (seat, tally) in &soaked.tallies {
         refused = refused.saturating_add(tally.refused);
         memory = memory.saturating_add(tally.memory);
-        unanswered = unanswered.saturating_add(tally.unanswered);
         if let Some(wrong) = tally.wrong {
             good = false;
             let _ = writeln!(complaints, "seat {}: {wrong}", seat.0);
@@ -65,7 +64,7 @@ pub(crate) fn tell<W: Write, E: Write>(
         let orders = verifier.orders().len();
         let _ = writeln!(
             complaints,
-            "soak: {entries} entries, {orders} orders, {reports} reports, {refused} refused, {memory} for memory, {unanswered} unanswered"
+            "soak: {entries} entries, {orders} orders, {reports} reports, {refused} refused, {memory} for memory"
         );
     } else {
         let _ = writeln!(output, "soaked");

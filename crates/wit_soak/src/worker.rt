@@ -110,8 +110,6 @@ pub(crate) struct Tally {
     pub(crate) refused: u64,
     /// Those of them for which there was no memory.
     pub(crate) memory: u64,
-    /// Questions that the observer didn't answer.
-    pub(crate) unanswered: u64,
     /// What it asked of the verifier, and was answered.
     pub(crate) questions: Questions,
     /// How many orders the observer saw the last time.
@@ -127,7 +125,6 @@ impl Tally {
             list: List::default(),
             refused: 0,
             memory: 0,
-            unanswered: 0,
             questions: Questions::default(),
             orders: 0,
             wrong: None,
@@ -156,11 +153,6 @@ impl Tally {
             | Fault::UnknownFile => self.blame("a call meets a fault that it can't have"),
             _ => {}
         }
-    }
-
-    /// A question more that had no answer.
-    pub(crate) fn miss(&mut self) {
-        self.unanswered = self.unanswered.saturating_add(1);
     }
 
     /// Says what is wrong, unless something was before.
