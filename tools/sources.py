@@ -21,8 +21,9 @@ KINDS = [
     ("pointer", r"use .*std::ptr|.*(?:\*(?:const|mut) |NonNull|addr_of|unsafe|as_ptr|as_mut_ptr|from_raw)"),
     ("forget", r".*(?:mem::(?:\{.*)?forget|ManuallyDrop|[.:]leak\(|into_raw)"),
 ]
-# Programs may give up a gate's ticket; the gates and locks themselves, but for their tests, may not.
-TICKET_KEEPERS = re.compile(r"wit_(?:gates|locks)/src/(?!.*tests\.rt$)")
+# Programs may give up a gate's ticket and a seat; who hands them out, but for their tests, may not.
+KEEPERS = re.compile(r"wit_(?:gates|locks|seats|shared)/src/(?!.*tests\.rt$)")
+GIVEN_UP = r"(?!pub fn ).*(?:[.:]abandon|abandon_all) *\("
 
 
 def blank(text):
@@ -47,7 +48,7 @@ for file in sys.argv[1:]:
     code = without_ghosts(PASSED.sub(lambda part: blank(part[0]), text))
     # An import and the head of an implementation, each in its last line.
     code = STATEMENT.sub(lambda said: blank(said[0]) + " ".join((said[1] or said[2]).split()), code)
-    kinds = [*KINDS, ("forget", r".*[.:]abandon *\(")] if TICKET_KEEPERS.search(file) else KINDS
+    kinds = [*KINDS, ("forget", GIVEN_UP)] if KEEPERS.search(file) else KINDS
     kinds = [(kind, re.compile(form)) for kind, form in kinds]
     item = "-"
     for line, shown in zip(map(str.strip, code.split("\n")), text.split("\n")):

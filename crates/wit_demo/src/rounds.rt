@@ -11,19 +11,11 @@ use wit_shared::{Room, Seat, Shared};
 // How often each thread takes the two mutexes.
 const ROUNDS: u32 = 100;
 
-/// Takes the first mutex and then the second, 100 times, and lets them go. The seat comes back.
+/// Takes the first mutex and then the second, 100 times, and lets them go.
+///
+/// # Errors
+/// Those of the verifier's calls.
 pub(crate) fn work<J: Room, R: Wait>(
-    rt: &R,
-    shared: &Shared<J>,
-    mut seat: Seat<J>,
-    first: &Mtx<J, CondGate>,
-    second: &Mtx<J, CondGate>,
-) -> (Seat<J>, Result<(), Fault>) {
-    let outcome = take_turns(rt, shared, &mut seat, first, second);
-    (seat, outcome)
-}
-
-fn take_turns<J: Room, R: Wait>(
     rt: &R,
     shared: &Shared<J>,
     seat: &mut Seat<J>,

@@ -266,11 +266,16 @@ impl<R: Wait + Abort> Program<R> for Crowded<'_> {
 
     fn run<J: Room + Send + Sync>(self, rt: &R, shared: Shared<J>, _observers: Vec<Observer<J>>) {
         let mut seat = a_seat(rt, &shared);
-        for _ in 1..256 {
-            assert!(rt; shared.seat(rt).is_ok());
+        for number in 2..=256 {
+            let other = a_seat(rt, &shared);
+            assert_eq!(rt; other.number().0, number);
+            other.abandon();
         }
         match shared.seat(rt) {
-            Ok(_) => panic!(rt; "a seat too many"),
+            Ok(other) => {
+                other.abandon();
+                panic!(rt; "a seat too many")
+            }
             Err(fault) => assert_eq!(rt; fault, Fault::UnknownSeat),
         }
         let site = a_site(rt, &shared, &mut seat);
@@ -280,6 +285,7 @@ impl<R: Wait + Abort> Program<R> for Crowded<'_> {
             take(rt, &shared, &mut seat, &mutex, site),
             Err(Fault::LogFull)
         );
+        seat.abandon();
         shared.abandon(rt);
     }
 }

@@ -67,48 +67,45 @@ fn hold_five<R: Threads + Wait + Abort + Sync, J: Room + Send + Sync>(
     shared: &Shared<J>,
     seat: &mut Seat<J>,
     five: &Five<J>,
-    other: Seat<J>,
+    other: &mut Seat<J>,
     sixth: &Mtx<J, CondGate>,
     site: Site,
-) -> Seat<J> {
+) {
     let (a, b, c, d, e) = &five.mutexes;
     let first = taken(rt, shared, seat, a, site);
     let second = taken(rt, shared, seat, b, site);
     let third = taken(rt, shared, seat, c, site);
     let fourth = taken(rt, shared, seat, d, site);
     let fifth = taken(rt, shared, seat, e, site);
-    let other = meanwhile(rt, shared, other, sixth, site);
+    meanwhile(rt, shared, other, sixth, site);
     let_go(rt, shared, seat, e, fifth);
     let_go(rt, shared, seat, d, fourth);
     let_go(rt, shared, seat, c, third);
     let_go(rt, shared, seat, b, second);
     let_go(rt, shared, seat, a, first);
-    other
 }
 
 fn meanwhile<R: Threads + Wait + Abort + Sync, J: Room + Send + Sync>(
     rt: &R,
     shared: &Shared<J>,
-    seat: Seat<J>,
+    seat: &mut Seat<J>,
     mutex: &Mtx<J, CondGate>,
     site: Site,
-) -> Seat<J> {
-    let (seat, ()) = join(rt, || exhaust(rt, shared, seat, mutex, site), || ());
-    seat
+) {
+    let ((), ()) = join(rt, || exhaust(rt, shared, seat, mutex, site), || ());
 }
 
 /// Takes a mutex for which no instance is left, and lets it go.
 fn exhaust<R: Wait + Abort, J: Room>(
     rt: &R,
     shared: &Shared<J>,
-    mut seat: Seat<J>,
+    seat: &mut Seat<J>,
     mutex: &Mtx<J, CondGate>,
     site: Site,
-) -> Seat<J> {
-    let held = taken(rt, shared, &mut seat, mutex, site);
+) {
+    let held = taken(rt, shared, seat, mutex, site);
     assert!(rt; matches!(held.noted(), Reply::Exhausted));
-    let_go(rt, shared, &mut seat, mutex, held);
-    seat
+    let_go(rt, shared, seat, mutex, held);
 }
 
 /// The chunks run out, and all is given back.
@@ -121,11 +118,11 @@ fn run_out<J: Room + Send + Sync, R: Threads + Wait + Abort + Sync>(
 {
     let shared = named::<R, J>(rt, opened);
     let mut one = a_seat(rt, &shared);
-    let two = a_seat(rt, &shared);
+    let mut two = a_seat(rt, &shared);
     let site = a_site(rt, &shared, &mut one);
     let five = make_five(rt, alloc, &shared, &mut one);
     let sixth = mutex_of(rt, alloc, &shared, &mut one, "m");
-    let two = hold_five(rt, &shared, &mut one, &five, two, &sixth, site);
+    hold_five(rt, &shared, &mut one, &five, &mut two, &sixth, site);
     closed_by_all(rt, shared, pair_of(rt, alloc, one, two))
 }
 

@@ -118,13 +118,13 @@ fn take<J: Room, G: Gate, R: Wait + Abort>(
 fn take_meanwhile<J: Room, R: Wait + Abort>(
     rt: &R,
     shared: &Shared<J>,
-    mut seat: Seat<J>,
+    seat: &mut Seat<J>,
     mutex: &Mtx<J, CondGate>,
     site: Site,
     signals: &Signals,
 ) -> bool {
     let begun = Signals::is_given(&signals.begin);
-    take(rt, shared, &mut seat, mutex, site);
+    take(rt, shared, seat, mutex, site);
     signals.finished.store(true, Ordering::SeqCst);
     begun
 }
@@ -150,21 +150,24 @@ fn wait_with<J: Room + Send + Sync, R: Threads + Wait + Abort + Sync>(
     shared: &Shared<J>,
     signals: &Signals,
 ) -> Result<bool, Fault> {
-    let mut one = a_seat(rt, shared);
-    let two = a_seat(rt, shared);
-    let site = a_site(rt, shared, &mut one);
     let gate = Patient {
         inner: CondGate::new(alloc)?,
         signals,
     };
+    let plain = CondGate::new(alloc)?;
+    let mut one = a_seat(rt, shared);
+    let mut two = a_seat(rt, shared);
+    let site = a_site(rt, shared, &mut one);
     let patient = a_mutex(rt, shared, &mut one, "a", gate);
-    let other = a_mutex(rt, shared, &mut one, "b", CondGate::new(alloc)?);
+    let other = a_mutex(rt, shared, &mut one, "b", plain);
     let (watched, mutex) = (shared, &other);
     let ((), begun) = join(
         rt,
         || take(rt, watched, &mut one, &patient, site),
-        || take_meanwhile(rt, watched, two, mutex, site, signals),
+        || take_meanwhile(rt, watched, &mut two, mutex, site, signals),
     );
+    one.abandon();
+    two.abandon();
     Ok(begun)
 }
 

@@ -10,5 +10,5 @@ mod views;
 
 pub use keeper::{Keeper, Opened};
 pub use room::{Room, Step};
-pub use seat::Seat;
+pub use seat::{Seat, abandon_all};
 pub use views::{Journal, Known};

@@ -12,6 +12,9 @@ use wit_model::SeatNo;
 /// log, the files that it was given, and the log as the seat has seen it, which is a legal history
 /// whose entries of the seat are its own. These lists take no memory: at run time a token is a
 /// number. It can't be copied.
+///
+/// It isn't `Drop`: it has to be given back to `close` of its verifier, or abandoned. So no code
+/// can have a seat for a moment, log by it, and let it go.
 pub struct Seat<J: Room> {
     pub(crate) number: SeatNo,
     pub(crate) card: Card,
@@ -35,8 +38,16 @@ impl<J: Room> Model for Seat<J> {
         × ((known_in s.card.me.0).seat ≡ s.number.0) × IsKnown J.start (known_in s.card.me.0) };
 }
 
-impl<J: Room> Drop for Seat<J> {
-    fn drop(self) {
+impl<J: Room> Seat<J> {
+    /// Its number, from 1.
+    pub fn number(&self) -> SeatNo
+        ensures { result.0 ≡ self.now.seat }
+    {
+        self.number
+    }
+
+    /// Gives it up. Its verifier can then be abandoned, and not closed.
+    pub fn abandon(self) {
         let Seat {
             number: _,
             card: _,
@@ -45,11 +56,10 @@ impl<J: Room> Drop for Seat<J> {
     }
 }
 
-impl<J: Room> Seat<J> {
-    /// Its number, from 1.
-    pub fn number(&self) -> SeatNo
-        ensures { result.0 ≡ self.now.seat }
-    {
-        self.number
+/// Gives up all of these.
+pub fn abandon_all<J: Room>(mut seats: Vec<Seat<J>>) {
+    while let Some(seat) = seats.pop() {
+        seat.abandon();
     }
+    seats.destroy_empty();
 }

@@ -24,11 +24,6 @@ left start keeper v handed k w is e = record {
   files = subst (λ (j : Journal). AreFiles j.files k.given) is e.files;
 }
 
-pub left_more : (v : Story) (ks : List Known) (k : Known) → AreLeft v ks → IsLeft v k
-    → AreLeft v (ks ++ k ∷ [])
-left_more v [] k all one = (one, tt)
-left_more v (x ∷ ks) k all one = (all.0, left_more v ks k all.1 one)
-
 -- a number that isn't among these was never handed out
 never_by : (handed n : ℕ) (seats : List Known) → HasSeatsTo handed seats → has_seat n seats ≡ false
     → n ≤ handed → IsOutside handed n

@@ -12,7 +12,7 @@ use std::marker::Model;
 use std::sync::Wait;
 use wit_core::Verifier;
 use wit_model::SeatNo;
-use wit_seats::{Keeper, Room, Seat};
+use wit_seats::{Keeper, Room, Seat, abandon_all};
 
 /// A shared verifier that wasn't closed, with the seats that were given back, all as they were.
 /// Clauses see the seats, how many were handed out, and the least number of one that is missing. It
@@ -59,9 +59,10 @@ impl<J: Room> Unclosed<J> {
     pub fn abandon<R: Wait>(self, rt: &R) {
         let Unclosed {
             desk,
-            seats: _seats,
+            seats,
             missing: _,
         } = self;
+        abandon_all(seats);
         desk.abandon(rt);
     }
 }
@@ -146,18 +147,19 @@ fn has_seat<J: Room>(seats: &[Seat<J>], number: SeatNo) -> bool
 }
 
 // Settles each seat.
-fn settle_all<J: Room>(keeper: &mut Keeper<J>, verifier: &Verifier, seats: Vec<Seat<J>>)
+fn settle_all<J: Room>(keeper: &mut Keeper<J>, verifier: &Verifier, mut seats: Vec<Seat<J>>)
     requires start { verifier.now.start ≡ J.start }
     requires same { keeper.old ≡ journal verifier.now.history verifier.now.files keeper.old.handed }
     ensures kept { keeper.new ≡ keeper.old }
     ensures left { AreLeft verifier.now seats.items }
 {
-    for seat in seats {
+    while let Some(seat) = seats.pop() {
         settle(keeper, verifier, seat);
     }
+    seats.destroy_empty();
 }
 
-// A seat sees what became of the log.
+// A seat sees what became of the log, and is spent.
 fn settle<J: Room>(keeper: &mut Keeper<J>, verifier: &Verifier, mut seat: Seat<J>)
     requires start { verifier.now.start ≡ J.start }
     requires same { keeper.old ≡ journal verifier.now.history verifier.now.files keeper.old.handed }
@@ -165,4 +167,5 @@ fn settle<J: Room>(keeper: &mut Keeper<J>, verifier: &Verifier, mut seat: Seat<J
     ensures left { IsLeft verifier.now seat }
 {
     follow(keeper, verifier, &mut seat);
+    seat.abandon();
 }

@@ -20,4 +20,4 @@ pub use opening::{Opened, Reason, Unopened};
 pub use program::{Program, Refused, share};
 pub use shared::Shared;
 pub use wit_observers::{News, Observer};
-pub use wit_seats::{Known, Room, Seat};
+pub use wit_seats::{Known, Room, Seat, abandon_all};

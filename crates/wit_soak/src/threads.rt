@@ -13,7 +13,7 @@ use std::sync::Wait;
 use std::thread::{self, Threads};
 use wit_core::Verifier;
 use wit_model::{Fault, FileNo, SeatNo};
-use wit_shared::{Observer, Opened, Room, Seat, Shared, Unclosed};
+use wit_shared::{Observer, Opened, Room, Seat, Shared, Unclosed, abandon_all};
 
 // How often an observer looks, at most.
 const LOOKS: u32 = 1_000_000;
@@ -116,7 +116,7 @@ fn look_on<J: Room>(mut observer: Observer<J>) -> (Observer<J>, bool) {
     (observer, true)
 }
 
-// Makes the locks, runs the threads, and takes the locks apart. All seats come back.
+// Hires the threads, has them take locks, and lets them go. All seats come back.
 fn soak<J: Room + Send + Sync, R: Threads + Wait + Sync>(
     rt: &R,
     alloc: Global,
@@ -125,11 +125,37 @@ fn soak<J: Room + Send + Sync, R: Threads + Wait + Sync>(
     plan: Plan,
 ) -> Result<(Vec<Seat<J>>, Vec<(SeatNo, Tally)>), Fault> {
     let mut first = shared.seat(rt)?;
-    let mut workers = hire(rt, alloc, shared, observers, plan)?;
+    let mut workers = match hire(rt, alloc, shared, observers, plan) {
+        Ok(workers) => workers,
+        Err(fault) => {
+            first.abandon();
+            return Err(fault);
+        }
+    };
+    let soaked = soak_locks(rt, alloc, shared, &mut first, &mut workers, plan);
+    let (seats, tallies) = dismiss(alloc, first, workers)?;
+    match soaked {
+        Ok(()) => Ok((seats, tallies)),
+        Err(fault) => {
+            abandon_all(seats);
+            Err(fault)
+        }
+    }
+}
+
+// Makes the locks, runs the threads, and takes the locks apart.
+fn soak_locks<J: Room + Send + Sync, R: Threads + Wait + Sync>(
+    rt: &R,
+    alloc: Global,
+    shared: &Shared<J>,
+    first: &mut Seat<J>,
+    workers: &mut Vec<Worker<J>>,
+    plan: Plan,
+) -> Result<(), Fault> {
     let mut locks = Vec::new(alloc);
     for number in 0..plan.locks {
         // One that is refused, for want of memory, is left out.
-        if let Ok(lock) = make(rt, alloc, shared, &mut first, number, plan.locks) {
+        if let Ok(lock) = make(rt, alloc, shared, first, number, plan.locks) {
             add(&mut locks, lock)?;
         }
     }
@@ -137,19 +163,19 @@ fn soak<J: Room + Send + Sync, R: Threads + Wait + Sync>(
     // again.
     for part in [Part::Walk, Part::Turn, Part::Rounds(plan.rounds)] {
         let locks = locks.as_slice();
-        soak_all(rt, alloc, shared, locks, &mut workers, plan, part);
+        soak_all(rt, alloc, shared, locks, workers, plan, part);
     }
     let mut right = true;
     for lock in locks {
         // One that is refused, for want of memory, is right as far as is seen.
-        if let Ok(false) = lock.destroy(rt, shared, &mut first) {
+        if let Ok(false) = lock.destroy(rt, shared, first) {
             right = false;
         }
     }
     if !right && let Some(worker) = workers.first_mut() {
         worker.tally.blame("a gate lets nobody in");
     }
-    Ok(dismiss(alloc, first, workers)?)
+    Ok(())
 }
 
 // A worker for each observer.
@@ -162,18 +188,39 @@ fn hire<J: Room, R: Wait>(
 ) -> Result<Vec<Worker<J>>, Fault> {
     let mut workers = Vec::with_capacity(alloc, observers.len())?;
     for observer in observers {
-        let number = u32::try_from(workers.len()).unwrap_or(u32::MAX);
-        let worker = Worker {
-            seat: shared.seat(rt)?,
-            observer,
-            random: Random::new(u64::from(plan.seed) << 16 | u64::from(number)),
-            file: FileNo(0),
-            turns: number == 0,
-            tally: Tally::new(),
-        };
-        add(&mut workers, worker)?;
+        if let Err(fault) = hire_one(rt, shared, &mut workers, observer, plan) {
+            let_all_go(workers);
+            return Err(fault);
+        }
     }
     Ok(workers)
+}
+
+fn hire_one<J: Room, R: Wait>(
+    rt: &R,
+    shared: &Shared<J>,
+    workers: &mut Vec<Worker<J>>,
+    observer: Observer<J>,
+    plan: Plan,
+) -> Result<(), Fault> {
+    let number = u32::try_from(workers.len()).unwrap_or(u32::MAX);
+    workers.reserve(1)?;
+    workers.push_reserved(Worker {
+        seat: shared.seat(rt)?,
+        observer,
+        random: Random::new(u64::from(plan.seed) << 16 | u64::from(number)),
+        file: FileNo(0),
+        turns: number == 0,
+        tally: Tally::new(),
+    });
+    Ok(())
+}
+
+fn let_all_go<J: Room>(mut workers: Vec<Worker<J>>) {
+    while let Some(worker) = workers.pop() {
+        worker.let_go();
+    }
+    workers.destroy_empty();
 }
 
 // A part of it, each worker in a thread of its own, as far as threads can be had.
@@ -220,17 +267,36 @@ fn take_part<J: Room, R: Wait>(place: &Place<J, R>, worker: &mut Worker<J>, part
 fn dismiss<J: Room>(
     alloc: Global,
     first: Seat<J>,
-    workers: Vec<Worker<J>>,
+    mut workers: Vec<Worker<J>>,
 ) -> Result<(Vec<Seat<J>>, Vec<(SeatNo, Tally)>), AllocError> {
     let mut seats = Vec::new(alloc);
     let mut tallies = Vec::new(alloc);
-    add(&mut seats, first)?;
-    for worker in workers {
-        let Worker { seat, tally, .. } = worker;
-        add(&mut tallies, (seat.number(), tally))?;
-        add(&mut seats, seat)?;
+    let mut kept = keep(&mut seats, first);
+    while let Some(worker) = workers.pop() {
+        let (seat, tally) = worker.into_parts();
+        kept = kept.and(add(&mut tallies, (seat.number(), tally)));
+        kept = kept.and(keep(&mut seats, seat));
     }
-    Ok((seats, tallies))
+    workers.destroy_empty();
+    tallies.reverse();
+    match kept {
+        Ok(()) => Ok((seats, tallies)),
+        Err(refused) => {
+            abandon_all(seats);
+            Err(refused)
+        }
+    }
+}
+
+// Puts a seat to these, or gives it up.
+fn keep<J: Room>(seats: &mut Vec<Seat<J>>, seat: Seat<J>) -> Result<(), AllocError> {
+    let room = seats.reserve(1);
+    if room.is_ok() {
+        seats.push_reserved(seat);
+    } else {
+        seat.abandon();
+    }
+    room
 }
 
 fn add<T: Drop>(list: &mut Vec<T>, item: T) -> Result<(), AllocError> {

@@ -162,7 +162,10 @@ fn ask<J: Room, R: Wait>(place: &Place<J, R>, worker: &mut Worker<J>, outer: Loc
     let (rt, shared) = (place.rt, place.shared);
     match shared.seat(rt) {
         Err(_) => count(&mut worker.tally.questions.seat),
-        Ok(_seat) => worker.tally.blame("a seat is handed out that isn't there"),
+        Ok(seat) => {
+            seat.abandon();
+            worker.tally.blame("a seat is handed out that isn't there");
+        }
     }
     match shared.assert_lock(rt, &mut worker.seat, outer, LockAssert::XLOCKED) {
         Ok(AssertAnswer::Holds) => count(&mut worker.tally.questions.assert_lock),

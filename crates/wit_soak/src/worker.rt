@@ -28,7 +28,6 @@ impl<J: Room, R> Place<'_, J, R> {
 }
 
 /// A thread's seat, its observer, and what it has seen.
-#[derive(Drop)]
 pub(crate) struct Worker<J: Room> {
     pub(crate) seat: Seat<J>,
     pub(crate) observer: Observer<J>,
@@ -164,6 +163,25 @@ impl Tally {
 }
 
 impl<J: Room> Worker<J> {
+    /// Its seat and what it counted. The rest is let go.
+    pub(crate) fn into_parts(self) -> (Seat<J>, Tally) {
+        let Worker {
+            seat,
+            observer: _,
+            random: _,
+            file: _,
+            turns: _,
+            tally,
+        } = self;
+        (seat, tally)
+    }
+
+    /// Gives its seat up.
+    pub(crate) fn let_go(self) {
+        let (seat, _tally) = self.into_parts();
+        seat.abandon();
+    }
+
     /// A place in the program, which is made up.
     pub(crate) fn site(&mut self) -> Site
         ensures { self.new.seat ≡ self.old.seat }

@@ -91,6 +91,8 @@ impl<R: Wait + Abort> Program<R> for Crossed {
         let reply = &reply;
         let text = shared.look(rt, &mut two, Text { alloc, reply });
         assert_eq!(rt; text.ok().expect(rt, "memory").as_str(), REVERSAL);
+        one.abandon();
+        two.abandon();
         shared.abandon(rt);
     }
 }

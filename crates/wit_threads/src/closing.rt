@@ -13,23 +13,22 @@ use wit_core::Verifier;
 use wit_model::{LockNo, Mode, OpFlags, SeatNo, Site};
 use wit_shared::{Opened, Room, Seat, Shared};
 
-/// Takes a mutex and lets it go, 50 times. The seat comes back.
+/// Takes a mutex and lets it go, 50 times.
 fn take_50_times<J: Room, R: Wait + Abort>(
     rt: &R,
     shared: &Shared<J>,
-    mut seat: Seat<J>,
+    seat: &mut Seat<J>,
     lock: LockNo,
     site: Site,
-) -> Seat<J> {
+) {
     for _ in 0..50 {
         let ops = OpFlags::NEWORDER | OpFlags::FRESH;
-        let asked = shared.check(rt, &mut seat, lock, Mode::Exclusive, ops, site);
+        let asked = shared.check(rt, seat, lock, Mode::Exclusive, ops, site);
         assert!(rt; asked.is_ok(), "asked for");
-        assert!(rt; shared.note(rt, &mut seat, lock).is_ok(), "acquired");
-        let freed = shared.unlock(rt, &mut seat, lock, Mode::Exclusive);
+        assert!(rt; shared.note(rt, seat, lock).is_ok(), "acquired");
+        let freed = shared.unlock(rt, seat, lock, Mode::Exclusive);
         assert!(rt; freed.is_ok(), "released");
     }
-    seat
 }
 
 fn close<J: Room, R: Wait + Abort>(rt: &R, shared: Shared<J>, seats: Vec<Seat<J>>) -> Verifier {
@@ -40,6 +39,14 @@ fn close<J: Room, R: Wait + Abort>(rt: &R, shared: Shared<J>, seats: Vec<Seat<J>
             panic!(rt; "a seat is missing")
         }
     }
+}
+
+/// Two seats in a list.
+fn pair_of<J: Room, R: Abort>(rt: &R, alloc: Global, one: Seat<J>, two: Seat<J>) -> Vec<Seat<J>> {
+    let mut seats = Vec::with_capacity(alloc, 2).ok().expect(rt, "memory");
+    seats.push_reserved(one);
+    seats.push_reserved(two);
+    seats
 }
 
 /// A close without the third seat hands everything back, and one with it gives the verifier.
@@ -55,7 +62,8 @@ fn close_twice<J: Room, R: Wait + Abort>(
             assert_eq!(rt; unclosed.missing(), SeatNo(3));
             let (shared, mut seats) = unclosed.into_parts();
             assert_eq!(rt; seats.len(), 2);
-            seats.push(third).ok().expect(rt, "memory");
+            seats.reserve(1).ok().expect(rt, "memory");
+            seats.push_reserved(third);
             close(rt, shared, seats)
         }
     }
@@ -73,22 +81,19 @@ fn run<J: Room + Send + Sync, R: Threads + Wait + Abort + Sync>(
         Err(_) => panic!(rt; "no memory to share it"),
     };
     let mut one = shared.seat(rt).ok().expect(rt, "a seat");
-    let two = shared.seat(rt).ok().expect(rt, "a seat");
-    let three = shared.seat(rt).ok().expect(rt, "a seat");
+    let mut two = shared.seat(rt).ok().expect(rt, "a seat");
+    let mut three = shared.seat(rt).ok().expect(rt, "a seat");
     let file = shared.file(rt, &mut one, "f").ok().expect(rt, "a file");
     let site = Site { file, line: 1 };
     let first = mutex(rt, &shared, &mut one, "a");
     let second = mutex(rt, &shared, &mut one, "b");
     let watched = &shared;
-    let (two, three) = join(
+    let ((), ()) = join(
         rt,
-        || take_50_times(rt, watched, two, first, site),
-        || take_50_times(rt, watched, three, second, site),
+        || take_50_times(rt, watched, &mut two, first, site),
+        || take_50_times(rt, watched, &mut three, second, site),
     );
-    let mut seats = Vec::with_capacity(alloc, 3).ok().expect(rt, "memory");
-    seats.push_reserved(one);
-    seats.push_reserved(two);
-    close_twice(rt, shared, seats, three)
+    close_twice(rt, shared, pair_of(rt, alloc, one, two), three)
 }
 
 #[test]
@@ -111,15 +116,12 @@ fn leave_seats<J: Room, R: Wait + Abort>(rt: &R, alloc: Global, opened: Opened) 
         Err(_) => panic!(rt; "no memory to share it"),
     };
     let mut one = shared.seat(rt).ok().expect(rt, "a seat");
-    let two = shared.seat(rt).ok().expect(rt, "a seat");
+    let mut two = shared.seat(rt).ok().expect(rt, "a seat");
     let three = shared.seat(rt).ok().expect(rt, "a seat");
     let file = shared.file(rt, &mut one, "f").ok().expect(rt, "a file");
     let lock = mutex(rt, &shared, &mut one, "a");
-    let two = take_50_times(rt, &shared, two, lock, Site { file, line: 1 });
-    let mut seats = Vec::with_capacity(alloc, 3).ok().expect(rt, "memory");
-    seats.push_reserved(one);
-    seats.push_reserved(two);
-    close_twice(rt, shared, seats, three)
+    take_50_times(rt, &shared, &mut two, lock, Site { file, line: 1 });
+    close_twice(rt, shared, pair_of(rt, alloc, one, two), three)
 }
 
 #[test]

@@ -15,16 +15,15 @@ use wit_shared::{News, Observer, Opened, Room, Seat, Shared};
 fn adopt<J: Room, R: Wait + Abort>(
     rt: &R,
     shared: &Shared<J>,
-    mut seat: Seat<J>,
+    seat: &mut Seat<J>,
     first: LockNo,
     second: LockNo,
-) -> (Seat<J>, News<J>) {
-    match shared.define_order(rt, &mut seat, first, second) {
+) -> News<J> {
+    match shared.define_order(rt, seat, first, second) {
         Ok(Reply::Adopted(..)) => {}
         _ => panic!(rt; "not adopted"),
     }
-    let news = shared.news(rt, &mut seat);
-    (seat, news)
+    shared.news(rt, seat)
 }
 
 /// What an observer knows of the first two types, both ways, and how many orders it sees.
@@ -61,8 +60,9 @@ fn cross<J: Room + Send + Sync, R: Threads + Wait + Abort + Sync>(
     let first = mutex(rt, &shared, &mut seat, "A");
     let second = mutex(rt, &shared, &mut seat, "B");
     let watched = &shared;
-    let ((_seat, news), ()) = join(rt, move || adopt(rt, watched, seat, first, second), || ());
+    let (news, ()) = join(rt, || adopt(rt, watched, &mut seat, first, second), || ());
     let answers = join(rt, move || learn_and_ask(learns, news), move || ask(looks));
+    seat.abandon();
     shared.abandon(rt);
     answers
 }
