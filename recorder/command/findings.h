@@ -16,7 +16,7 @@
 /* A process that has a trace. */
 struct found {
     char *program;
-    long process;
+    long process; /* 0 where it stands for many runs */
     struct notes notes;
     struct reports reports;
     struct reports silenced; /* what is reported only without the user's ignore file */
@@ -38,6 +38,7 @@ struct finding {
 };
 
 struct findings {
+    const char *command;   /* that writes the page; NULL is `record` */
     const char *version;   /* of `record`; NULL where that isn't known */
     const char *program;   /* its name */
     const char *directory; /* where names of source files begin that aren't absolute */

@@ -8,11 +8,22 @@
 #include <sys/wait.h>
 #include <unistd.h>
 
+#include "files.h"
 #include "memory.h"
-#include "orders.h"
 #include "replay.h"
+#include "usage.h"
 
 extern char **environ;
+
+void graph_check(const char *file)
+{
+    size_t length = strlen(file);
+    const char *ending = length < 4 ? "" : file + length - 4;
+    if (strcmp(ending, ".dot") != 0 && strcmp(ending, ".svg") != 0)
+        refuse("--graph takes FILE.svg or FILE.dot, not %s", file);
+    if (strcmp(ending, ".svg") == 0 && !file_is_command("dot"))
+        refuse("--graph %s needs dot (Graphviz), which isn't there; FILE.dot doesn't", file);
+}
 
 static void write_escaped(FILE *to, const char *text)
 {
@@ -35,20 +46,24 @@ static void write_order(FILE *to, const struct order *order)
         order->is_reversal ? ", style=dashed" : "");
 }
 
+void graph_write(FILE *to, const struct order_list *orders)
+{
+    fputs("digraph orders {\n    node [shape=box]\n    edge [fontsize=10]\n", to);
+    /* Two locks of one type are no order. */
+    for (size_t i = 0; i < orders->count; i++)
+        if (strcmp(orders->order[i].from, orders->order[i].to) != 0)
+            write_order(to, &orders->order[i]);
+    fputs("}\n", to);
+}
+
 /* The text for dot. False where it can't be written. */
 static bool write_dot(struct process *process, const char *path)
 {
     struct order_list orders = {0};
     FILE *to = fopen(path, "we");
     bool is_good = to && orders_read(process, &orders);
-    if (is_good) {
-        fputs("digraph orders {\n    node [shape=box]\n    edge [fontsize=10]\n", to);
-        /* Two locks of one type are no order. */
-        for (size_t i = 0; i < orders.count; i++)
-            if (strcmp(orders.order[i].from, orders.order[i].to) != 0)
-                write_order(to, &orders.order[i]);
-        fputs("}\n", to);
-    }
+    if (is_good)
+        graph_write(to, &orders);
     orders_end(&orders);
     is_good = to && !ferror(to) && is_good;
     return to && fclose(to) == 0 && is_good;

@@ -5,7 +5,16 @@
 #ifndef RECORD_GRAPH_H
 #define RECORD_GRAPH_H
 
+#include <stdio.h>
+
+#include "orders.h"
 #include "telling.h"
+
+/* Refuses a name of a file in which no picture can be drawn here. */
+void graph_check(const char *file);
+
+/* The text for dot. */
+void graph_write(FILE *to, const struct order_list *orders);
 
 /* Draws it where that was asked for: to FILE.svg, of further processes to FILE.1.svg and so on. */
 void draw(struct process *process);

@@ -190,7 +190,8 @@ static void put_picture(const struct html *html, size_t number)
 {
     const struct found *found = &html->findings->found[number];
     size_t orders = found->orders.count;
-    put(html, "<h3><code>%s</code>, process %l</h3>\n", found->program, found->process);
+    put(html, "<h3><code>%s</code>", found->program);
+    put(html, found->process ? ", process %l</h3>\n" : "</h3>\n", found->process);
     put(html, "<div class='picture' tabindex='0' role='region' aria-label='Picture'>\n");
     size_t drawn = picture_write(html->to, &found->orders, found->program, number + 1);
     put(html, "</div>\n");
@@ -267,10 +268,11 @@ static void put_end(const struct html *html, const char *nonce)
     put(html, "<section id='told'><h2>What was told</h2>\n<ul class='told'>\n");
     for (size_t i = 0; i < findings->tolds; i++)
         put(html, "<li>%s</li>\n", findings->told[i]);
+    const char *command = findings->command ? findings->command : "record";
     put(html,
-        "</ul></section>\n</main>\n<footer><p>Written by record%s%s%s. The page record(1) says what the last line "
+        "</ul></section>\n</main>\n<footer><p>Written by %s%s%s%s. The page %s(1) says what the last line "
         "means.</p></footer>\n",
-        findings->version ? " " : "", findings->version, time);
+        command, findings->version ? " " : "", findings->version, time, command);
     put(html, "<script nonce='%s'>\n", nonce);
     fputs(page_js, html->to);
     put(html, "</script>\n</body>\n</html>\n");

@@ -37,7 +37,13 @@ static void put_types(const struct html *html, const struct report *report)
 
 static void put_facts(const struct html *html, const struct finding *finding)
 {
-    put(html, "<p class='facts'><code>%s</code>, ", finding->found->program);
+    put(html, "<p class='facts'><code>%s</code>", finding->found->program);
+    /* What is of many runs is of no process. */
+    if (finding->found->process == 0) {
+        put(html, "</p>\n");
+        return;
+    }
+    put(html, ", ");
     if (finding->processes > 1)
         put(html, "%z processes: ", finding->processes);
     else

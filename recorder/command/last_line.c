@@ -3,12 +3,13 @@
 #include <string.h>
 
 #include "going.h"
+#include "learn.h"
 #include "memory.h"
 #include "replay.h"
 #include "unseen.h"
 #include "whole_run.h"
 
-enum { TIMEOUT_STATUS = 124, BY_SIGNAL = 128 };
+enum { TIMEOUT_STATUS = 124, BY_SIGNAL = 128, CONTRADICTED = 1 };
 
 static const char clean[] =
     "clean: no order of these threads' steps can make them wait for one another in a circle, for the locks that were seen "
@@ -117,8 +118,13 @@ static int status_of(const struct run *run)
     const struct ending *ending = run->ending;
     if (run->deadlock_status)
         return run->deadlock_status;
-    if (run->settings.error && (run->alarms || run->circles || run->errors || run->misjudged || run->unknown))
+    if (run->settings.error &&
+        (run->alarms || run->circles || run->errors || run->misjudged || run->unknown || run->contradicted))
         return run->settings.error;
+    if (run->contradicted || (run->unknown && learn_is_wanted(&run->settings)))
+        return CONTRADICTED;
+    if (run->has_new && run->settings.new_error && ending->how == HOW_EXIT && ending->number == 0)
+        return run->settings.new_error;
     return ending->how == HOW_SIGNAL ? BY_SIGNAL + ending->number : ending->number;
 }
 

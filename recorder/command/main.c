@@ -1,7 +1,7 @@
 /*
  * record FOLDER WORDS..: runs a program and watches what it does with its locks. FOLDER is that of the recorder's sources,
  * and WORDS are those of the command line; recorder/record builds this and becomes it. The recorder's own object stands
- * beside this program.
+ * beside this program. With --orders for the first of the words it is the command `orders` (recorder/orders).
  */
 #include <errno.h>
 #include <fcntl.h>
@@ -18,10 +18,12 @@
 #include "interrupts.h"
 #include "kept.h"
 #include "launch.h"
+#include "learnt_judge.h"
 #include "look.h"
 #include "memory.h"
 #include "misfit.h"
 #include "options.h"
+#include "orders_command.h"
 #include "prepare.h"
 #include "print_trace.h"
 #include "replayer.h"
@@ -99,16 +101,6 @@ static bool is_for_once(const char *built)
     return is;
 }
 
-static const char *witness_of(const char *here)
-{
-    const char *named = getenv("WITNESS");
-    if (named && *named)
-        return named;
-    char *top = file_folder(here), *witness = say_text("%s/witness", top);
-    free(top);
-    return witness;
-}
-
 int main(int count, char **words)
 {
     /* All that is asked for lasts to the end. */
@@ -121,8 +113,11 @@ int main(int count, char **words)
     built = file_folder(words[0]);
     if (is_for_once(built))
         prepare_removes(work = built);
+    if (words[2] && strcmp(words[2], "--orders") == 0)
+        return orders_command(words[1], words + 3);
     options_read(&options, words[1], words + 2);
-    options.settings.witness = witness_of(words[1]);
+    options.settings.witness = judge_of(words[1], "WITNESS", "witness");
+    options.settings.acyclic = judge_of(words[1], "ACYCLIC", "acyclic");
     prepare_files(&options.settings);
     if (options.trace) {
         print_trace(&options.settings, options.trace);

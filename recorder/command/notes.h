@@ -25,6 +25,7 @@ struct frames {
 /* What `@:NUMBER` stands for as a place of the trace; numbers are from 1 on. Such places are written where stacks are shown. */
 struct spot {
     const char *site;
+    const char *told; /* what a report's text has in its place; NULL where that is the site */
     uint32_t frames; /* a number of notes.frames, from 1 on */
     long thread;     /* as the kernel counts threads; 0 where it isn't known */
 };
@@ -57,6 +58,7 @@ struct alias {
 /* The single lock of a number in the trace. */
 struct lock_name {
     const char *name, *type;
+    const char *class; /* mtx, rw */
 };
 
 struct notes {

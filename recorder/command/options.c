@@ -8,6 +8,7 @@
 #include "alarms.h"
 #include "deadlock.h"
 #include "files.h"
+#include "graph.h"
 #include "inside.h"
 #include "memory.h"
 #include "usage.h"
@@ -84,14 +85,45 @@ static void take_error(struct options *options, const char *word)
         refuse("--error-exitcode is 1 to 255, not %s", word);
 }
 
+static void take_learn(struct options *options, const char *word)
+{
+    options->settings.learn = word;
+}
+
+static void take_known(struct options *options, const char *word)
+{
+    options->settings.known = word;
+}
+
+static void take_new(struct options *options, const char *word)
+{
+    options->settings.new_error = number_up_to(word, 255);
+    if (options->settings.new_error < 0)
+        refuse("--new-exitcode is 1 to 255, not %s", word);
+}
+
+/* A name that may stand in a file of orders. */
+static const char *name_without(const char *option, const char *word, char stop)
+{
+    for (const char *at = word; *at; at++)
+        if ((unsigned char)*at < ' ' || *at == 127 || *at == stop)
+            refuse("%s takes a name without %c and control characters", option, stop);
+    return word;
+}
+
+static void take_run_name(struct options *options, const char *word)
+{
+    options->settings.run_name = name_without("--run-name", word, ',');
+}
+
+static void take_program_name(struct options *options, const char *word)
+{
+    options->settings.program_name = name_without("--program-name", word, '"');
+}
+
 static void take_graph(struct options *options, const char *word)
 {
-    size_t length = strlen(word);
-    const char *ending = length < 4 ? "" : word + length - 4;
-    if (strcmp(ending, ".dot") != 0 && strcmp(ending, ".svg") != 0)
-        refuse("--graph takes FILE.svg or FILE.dot, not %s", word);
-    if (strcmp(ending, ".svg") == 0 && !file_is_command("dot"))
-        refuse("--graph %s needs dot (Graphviz), which isn't there; FILE.dot doesn't", word);
+    graph_check(word);
     options->settings.graph = word;
 }
 
@@ -212,6 +244,11 @@ static const struct option {
     {"--skip", true, take_skip},
     {"--ignore", true, take_ignore},
     {"--error-exitcode", true, take_error},
+    {"--learn", true, take_learn},
+    {"--known", true, take_known},
+    {"--new-exitcode", true, take_new},
+    {"--run-name", true, take_run_name},
+    {"--program-name", true, take_program_name},
     {"--graph", true, take_graph},
     {"--html", true, take_html},
     {"--sarif", true, take_sarif},
@@ -276,5 +313,7 @@ void options_read(struct options *options, const char *here, char **words)
         refuse("%s runs no program, so %s means nothing", other, *options->program);
     if (!other && !*options->program)
         refuse("no program is named");
+    if (options->settings.learn && options->settings.known)
+        refuse("--learn and --known are one or the other");
     options->settings.program = other ? "" : file_base(*options->program);
 }

@@ -13,6 +13,7 @@
 
 #include "../format.h"
 #include "files.h"
+#include "learn.h"
 #include "memory.h"
 #include "usage.h"
 
@@ -21,11 +22,6 @@ enum { RESERVE_BYTES = 1 << 18, MAPPED_BYTES = 4096, LOT = 12 };
 
 static const char *removed; /* when `record` ends */
 static void *mapped = MAP_FAILED;
-
-static bool is_asked(const char *word)
-{
-    return word && *word;
-}
 
 /* After a name in quotes; NULL where there is none. */
 static const char *after_name(const char *at, const char *end)
@@ -121,6 +117,8 @@ void prepare_files(const struct settings *settings)
         check_output(settings->sarif);
     if (is_asked(settings->json))
         check_output(settings->json);
+    if (learn_is_wanted(settings))
+        learn_check(settings);
     if (is_asked(settings->log)) {
         char *name = log_name(settings->log);
         check_output(name);

@@ -7,6 +7,7 @@
 
 #include "clean.h"
 #include "files.h"
+#include "learn.h"
 #include "memory.h"
 #include "replaying.h"
 #include "trace_lines.h"
@@ -51,7 +52,7 @@ static bool wants_file(const struct run *run)
 {
     const struct settings *settings = &run->settings;
     return is_asked(settings->keep) || is_asked(settings->graph) || settings->judge ||
-           is_asked(settings->html) || is_asked(settings->sarif) || is_asked(settings->json) || run->ending->how == HOW_RUNNING;
+           learn_is_wanted(settings) || is_asked(settings->html) || is_asked(settings->sarif) || is_asked(settings->json) || run->ending->how == HOW_RUNNING;
 }
 
 static int open_trace(const struct process *process)

@@ -31,18 +31,19 @@ static const struct event *known_of(const struct notes *notes, long thread)
     return NULL;
 }
 
-/* What the line tells of the place, where it is one of the notes'. */
-static void add_spot(struct report_line *line, const struct notes *notes, const char *place)
+/* What the line tells of the place, where it is one of the notes'. The answer is what its text has there; NULL where it is none. */
+static const char *add_spot(struct report_line *line, const struct notes *notes, const char *place)
 {
     const struct spot *spot = notes_spot(notes, place);
     if (!spot)
-        return;
+        return NULL;
     line->is_spot = true;
     line->site = spot->site;
     line->thread = spot->thread;
     line->known = known_of(notes, spot->thread);
     if (spot->frames > 0 && spot->frames <= notes->framed)
         line->frames = &notes->frames[spot->frames - 1];
+    return spot->told ? spot->told : spot->site;
 }
 
 struct report_line *reports_add_line(struct reports *reports, enum line_kind kind, const char *heading, const char *place)
@@ -50,8 +51,8 @@ struct report_line *reports_add_line(struct reports *reports, enum line_kind kin
     struct report *report = &reports->report[reports->count - 1];
     struct report_line *line = &ADD(report->line, report->lines, report->room);
     *line = (struct report_line){.kind = kind, .heading = copy(heading)};
-    add_spot(line, reports->notes, place);
-    line->text = say_text("%s @ %s", heading, line->site ? line->site : place);
+    const char *told = add_spot(line, reports->notes, place);
+    line->text = say_text("%s @ %s", heading, told ? told : place);
     if (!line->site)
         line->site = line->text + strlen(heading) + 3;
     return line;
@@ -129,9 +130,8 @@ static void add_line(struct reports *reports, const char *text)
     const char *blank = strrchr(text, ' '), *place = blank ? blank + 1 : text;
     *line = (struct report_line){.kind = LINE_PLAIN};
     bool is_read = read_lock(line, text) || read_step(line, text);
-    if (*text == ' ')
-        add_spot(line, reports->notes, place);
-    line->text = say_text("%.*s%s", (int)(place - text), text, line->site ? line->site : place);
+    const char *told = *text == ' ' ? add_spot(line, reports->notes, place) : NULL;
+    line->text = say_text("%.*s%s", (int)(place - text), text, told ? told : place);
     if (is_read && !line->site)
         line->site = line->text + (place - text);
     if (line->is_spot && !is_read)

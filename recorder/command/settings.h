@@ -15,7 +15,12 @@ struct settings {
     const char *html;      /* --html FILE */
     const char *sarif;     /* --sarif FILE */
     const char *json;      /* --json FILE */
+    const char *learn;     /* --learn FILE */
+    const char *known;     /* --known FILE */
+    const char *run_name;  /* --run-name NAME: what the run is called in a file of orders */
+    const char *program_name; /* --program-name NAME: what the program's own object is called there */
     const char *witness;   /* the program that replays */
+    const char *acyclic;   /* the program that checks that orders have no circle */
     const char *program;   /* the program's name, as it is told */
     const char *misfit;    /* why the program can't be recorded, where that is known */
     const char *little;    /* why there was little room */
@@ -23,6 +28,7 @@ struct settings {
     const char *directory; /* left out at the head of the names of source files */
     time_t built;          /* when the program was last changed, 0 where that isn't known */
     int error;             /* --error-exitcode, 0 where there is none */
+    int new_error;         /* --new-exitcode, 0 where there is none */
     int frames;            /* --frames */
     const char *on_deadlock; /* --on-deadlock: tell, kill, exit=N; NULL is tell */
     const char *alarms;    /* --alarms: which reports count for the status */

@@ -14,6 +14,7 @@
 #include "follow.h"
 #include "findings_run.h"
 #include "going.h"
+#include "learn.h"
 #include "memory.h"
 #include "replay.h"
 #include "tell_process.h"
@@ -142,6 +143,7 @@ static int tell_run(struct run *run)
     tell_blind(run);
     tell_unmatched(run);
     tell_going(run);
+    learn_tell(run);
     if (run->is_kept)
         say(&run->output, "the recording is kept: %s", run->records);
     return tell_end(run);
@@ -172,6 +174,7 @@ static void end_run(struct run *run)
     forget_recordings(run);
     follow_end(run);
     equal_end(run);
+    learn_end(run);
     for (size_t i = 0; i < run->blinds; i++)
         free((char *)run->blind[i]);
     free(run->recording);

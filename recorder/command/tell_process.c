@@ -13,6 +13,7 @@
 #include "graph.h"
 #include "held.h"
 #include "judge.h"
+#include "learn.h"
 #include "memory.h"
 #include "missed.h"
 #include "replay.h"
@@ -261,6 +262,8 @@ static void tell_all(struct process *process)
     look_for_premises(process);
     if (is_replayed(process))
         judge(process);
+    if (is_replayed(process))
+        learn_take(process);
     tell_missed(process);
     keep_for_later(process);
     draw(process);

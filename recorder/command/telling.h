@@ -54,6 +54,9 @@ struct run {
     bool partly;    /* not all was recorded */
     bool unknown;   /* of a process that was recorded nothing is known */
     char *unclean;  /* why the run isn't clean, NULL where it is */
+    struct learning *learning; /* the orders of its processes (learn.h); NULL where none were taken */
+    bool contradicted; /* one of them is against those of other runs */
+    bool has_new;      /* one of them is new */
     const char **blind; /* objects in which stacks end */
     size_t blinds, blind_room;
     unsigned long *matched; /* lines of the ignore file that name types */

@@ -100,7 +100,7 @@ static size_t spot_number(struct writing *writing, uint32_t place, uint32_t stac
     if (*number == 0) {
         const char *site = site_of(writing->making->sites, place);
         uint32_t frames = frames_number(writing, place, stack);
-        ADD(notes->spot, notes->spots, notes->spot_room) = (struct spot){site, frames, thread};
+        ADD(notes->spot, notes->spots, notes->spot_room) = (struct spot){.site = site, .frames = frames, .thread = thread};
         *number = notes->spots;
     }
     return *number;
@@ -166,11 +166,14 @@ static const char *lock_name(struct writing *writing, const struct line *line, c
     return cut_name(declared->texts, type->name, tail);
 }
 
-static void keep_lock(struct notes *notes, const char *name, const char *type)
+static void keep_lock(struct notes *notes, const char *name, const char *type, struct field class)
 {
     if (notes)
         ADD(notes->lock, notes->locks, notes->lock_room) = (struct lock_name){
-            texts_copy(notes->texts, name, strlen(name)), texts_copy(notes->texts, type, strlen(type))};
+            .name = texts_copy(notes->texts, name, strlen(name)),
+            .type = texts_copy(notes->texts, type, strlen(type)),
+            .class = texts_copy(notes->texts, class.at, class.length),
+        };
 }
 
 /* `init SEAT CLASS FLAGS TYPE NUMBER-IN-TYPE`, then the variable where the lock stands in one. */
@@ -188,7 +191,7 @@ static void put_init(struct writing *writing, const struct line *line)
         writing->is_odd = true;
     const char *name = lock_name(writing, line, type, own);
     ADD(writing->lock, writing->locks, writing->lock_room) = name;
-    keep_lock(writing->notes, name, type->name);
+    keep_lock(writing->notes, name, type->name, line->count > 2 ? line->field[2] : (struct field){"", 0});
     if (line->count < 4) {
         put_line(writing, line);
         return;
@@ -351,7 +354,7 @@ bool trace_write(const struct making *making)
     writing->making = making;
     writing->trace = making->trace;
     writing->notes = making->notes;
-    writing->has_spots = making->notes && making->frames > 1;
+    writing->has_spots = making->notes && (making->frames > 1 || making->is_learnt);
     write_header(writing);
     if (writing->notes)
         note_whole(writing);

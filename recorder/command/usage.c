@@ -4,7 +4,11 @@
 #include <stdio.h>
 #include <stdlib.h>
 
+#include "memory.h"
+
 enum { REFUSED = 2, FAILED = 126 };
+
+static const char *speaker = "record";
 
 static const char text[] =
     "recorder/record [OPTIONS] [--] PROGRAM [ARGS..]\n"
@@ -22,6 +26,11 @@ static const char text[] =
     "  --error-exitcode N   the status, 1 to 255, where there is a report, a circle or an error, or nothing was recorded at all\n"
     "  --log-file FILE      in place of standard error; %p is the process's number, and each process has a file then\n"
     "  --gen-suppressions   below each report the line for the ignore file that would silence it\n"
+    "  --learn FILE   judge the run with the orders that the file has of other runs, and add those that contradict nothing\n"
+    "  --known FILE   judge the run with them, and tell which it adds: lines + for the file, and ! for what contradicts them\n"
+    "  --new-exitcode N     of --known: the status, 1 to 255, where there are new orders, and the program's is 0\n"
+    "  --run-name NAME      what the run is called in the file; else each process has its program's name\n"
+    "  --program-name NAME  what the program's own object is called there, for tests that are linked from the same sources\n"
     "  --graph FILE   a picture of the orders, reversals red: FILE.svg where dot is there, or FILE.dot\n"
     "  --html FILE    a page with the reports, their sources and the picture of the orders\n"
     "  --sarif FILE   the reports as SARIF 2.1.0, for code scanning\n"
@@ -51,17 +60,23 @@ void usage(const char *here)
 
 static _Noreturn void leave(int status, const char *format, va_list words, const char *after)
 {
-    fputs("record: ", stderr);
+    fprintf(stderr, "%s: ", speaker);
     vfprintf(stderr, format, words);
     fputs(after, stderr);
     exit(status);
+}
+
+void usage_speaks_as(const char *command)
+{
+    speaker = command;
 }
 
 void refuse(const char *format, ...)
 {
     va_list words;
     va_start(words, format);
-    leave(REFUSED, format, words, "; record --help tells how it is used\n");
+    char *after = say_text("; %s --help tells how it is used\n", speaker);
+    leave(REFUSED, format, words, after);
 }
 
 void refuse_target(const char *format, ...)

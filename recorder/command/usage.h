@@ -7,6 +7,9 @@
 /* Tells on standard output how it is used; `here` is the folder of the recorder's sources. */
 void usage(const char *here);
 
+/* From here on lines begin with the name of that command in place of `record`; it lasts to the end. */
+void usage_speaks_as(const char *command);
+
 /* The command line is wrong: a line that says why, and the status 2. */
 _Noreturn void refuse(const char *format, ...) __attribute__((format(printf, 1, 2)));
 

@@ -1,6 +1,8 @@
 # Tests of what `record` writes for people and for machines: a page, JSON and SARIF. Read by `run`, whose functions it uses.
 # outputs/driver.c writes them of a case, of which outputs/check.py says by hand what has to be in them.
 
+check=$here/outputs/check.py
+
 # build_driver COMPILER FOLDER OPTIONS..: from a folder that has none of the sources.
 build_driver() {
     compiler=$1
@@ -149,7 +151,6 @@ test_runs() {
 }
 
 if wanted outputs; then
-    check=$here/outputs/check.py
     for compiler in gcc clang; do
         command -v $compiler >/dev/null || continue
         build_driver $compiler "by $compiler"

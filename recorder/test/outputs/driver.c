@@ -123,7 +123,7 @@ static bool read_of_process(const char *word, char **field, size_t fields)
         add_frames(notes, field, fields);
     else if (!strcmp(word, "spot"))
         ADD(notes->spot, notes->spots, notes->spot_room) =
-            (struct spot){known(field[0]), (uint32_t)atoi(field[1]), atol(field[2])};
+            (struct spot){.site = known(field[0]), .frames = (uint32_t)atoi(field[1]), .thread = atol(field[2])};
     else if (!strcmp(word, "alias"))
         ADD(notes->alias, notes->aliases, notes->alias_room) = (struct alias){.type = copy(field[0]), .functions = copy(field[1])};
     else if (!strcmp(word, "told") || !strcmp(word, "silenced"))

@@ -1,0 +1,66 @@
+#include "order_place.h"
+
+#include <stdio.h>
+#include <stdlib.h>
+#include <string.h>
+
+#include "memory.h"
+#include "place.h"
+
+/* `FUNCTION (FILE)`, or what is known of it; with the line in the file where that is wanted. */
+static void put_place(FILE *to, const struct notes *notes, struct piece piece, bool with_line)
+{
+    struct place place;
+    char *text = copy_bytes(piece.at, (size_t)piece.length);
+    const struct spot *spot = notes_spot(notes, text);
+    const struct frames *frames = spot && spot->frames > 0 ? &notes->frames[spot->frames - 1] : NULL;
+    const char *function = frames && frames->count > 0 ? frames->frame[0].function : NULL;
+    const char *site = notes_site(notes, text);
+    bool is_line = place_read(&place, site) && place.line > 0;
+    const char *bracket = is_line ? NULL : strchr(site, '('), *last = bracket ? strrchr(bracket, ')') : NULL;
+    int file = is_line ? (int)place.length : (int)strcspn(site, "+(:");
+    if (function)
+        fprintf(to, "%s (", function);
+    else if (last)
+        fprintf(to, "%.*s (", (int)(last - bracket - 1), bracket + 1);
+    fprintf(to, "%.*s", file, site);
+    if (is_line && with_line)
+        fprintf(to, ":%ld", place.line);
+    if (function || last)
+        putc(')', to);
+    free(text);
+}
+
+char *plain_text(char *text)
+{
+    for (char *at = text; *at; at++)
+        if ((unsigned char)*at < ' ' || *at == 127)
+            *at = '_';
+    return text;
+}
+
+char *order_place(const struct notes *notes, struct piece piece, bool with_line)
+{
+    char *text = NULL;
+    size_t length = 0;
+    FILE *to = open_memstream(&text, &length);
+    if (!to)
+        return copy("?");
+    put_place(to, notes, piece, with_line);
+    fclose(to);
+    return plain_text(text);
+}
+
+struct here here_of(const struct notes *notes, struct piece piece)
+{
+    char *text = copy_bytes(piece.at, (size_t)piece.length);
+    struct here here = {order_place(notes, piece, true), copy(notes_site(notes, text))};
+    free(text);
+    return here;
+}
+
+void here_end(struct here *here)
+{
+    free((char *)here->place);
+    free((char *)here->site);
+}
