@@ -1,0 +1,3 @@
+void transfer(int amount);
+int report(void);
+void rebuild(void);

@@ -1,0 +1,7 @@
+#include "bank.h"
+
+int main(void)
+{
+    rebuild();
+    return 0;
+}
