@@ -308,6 +308,7 @@ static inline bool takes_long_way(void)
 }
 extern const char *skipped; /* patterns of functions that say nothing about a call, parted by colons */
 extern uint32_t depth;  /* how many callers name a type */
+extern char program_name[64]; /* as it was when the program began */
 extern uint32_t life;   /* how many forks lie between the recorded program's start and this process */
 extern bool watches_free;
 extern _Atomic bool has_handlers; /* the program was given a handler of signals */

@@ -24,6 +24,7 @@ bool all_slow;
 const char *skipped = "";
 uint32_t depth = 2;
 uint32_t life = 1;
+char program_name[64];
 bool watches_free;
 _Atomic bool has_handlers;
 _Atomic bool asleep;
@@ -89,6 +90,7 @@ static const struct {
     {offsetof(struct real, sigset), "sigset", NULL},
 };
 
+extern char *program_invocation_short_name;
 static pthread_mutex_t mutex = PTHREAD_MUTEX_INITIALIZER;
 static _Atomic bool recording;
 /* Of the thread that is inside: what it had outside. */
@@ -189,6 +191,8 @@ void start(void)
  * Whether the call that the thread is inside of was left: by a jump out of a handler of signals, or a cancellation. Not
  * where the thread is on another stack than that call was.
  */
+    /* The words that it was started by may be overwritten later. */
+    snprintf(program_name, sizeof program_name, "%s", program_invocation_short_name);
 static bool has_left(const struct thread *thread, uintptr_t stack)
 {
     stack_t other;

@@ -103,12 +103,11 @@ static void take_counts(char *slot)
 /* This process's slot, as one that has the recorder. */
 static void take_slot(void)
 {
-    extern char *program_invocation_short_name;
     char *slot = slot_of(getpid());
     memset(counts, 0, sizeof counts);
     if (!slot)
         return;
-    write_name(slot + NAME_AT, " " STATUS_NAME " ", program_invocation_short_name);
+    write_name(slot + NAME_AT, " " STATUS_NAME " ", program_name);
     take_counts(slot);
     memcpy(slot + LOADED_AT, loaded, sizeof loaded - 1);
 }

@@ -255,7 +255,6 @@ static bool file_opens(int number)
 /* The stream's first lines. */
 static void begin(int number)
 {
-    extern char *program_invocation_short_name;
     struct stream *stream = &streams[number];
     stream->begun = true;
     put_text(number, WORD_ASKED " 0 " WORD_VERSION);
@@ -267,7 +266,7 @@ static void begin(int number)
         put_text(number, "0000000000");
     }
     put_text(number, "\n" WORD_PROGRAM " ");
-    put_text(number, program_invocation_short_name);
+    put_text(number, program_name);
     put_text(number, "\n");
     stream_append(number, false);
 }

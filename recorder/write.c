@@ -55,9 +55,8 @@
  */
 void write_thread(int stream, const struct thread *thread)
 {
-    extern char *program_invocation_short_name;
     char name[17] = "";
-    if (prctl(PR_GET_NAME, name) != 0 || strncmp(name, program_invocation_short_name, 15) == 0)
+    if (prctl(PR_GET_NAME, name) != 0 || strncmp(name, program_name, 15) == 0)
         name[0] = '\0';
     for (char *at = name; *at; at++)
         if (*at <= ' ' || *at > '~' || *at == '&' || *at == '\\')

@@ -203,6 +203,15 @@ if wanted link; then
     tell link "the program's own name" $?
 fi
 
+# A program that overwrites the words that it was started by, as servers do, keeps its name.
+if wanted renamed; then
+    sed 's/^int main(void)$/int main(int count, char **word)/; s/^    pthread_t .*;$/&\n    for (char *at = word[count - 1]; *at; at++)\n        *at = 110;/' \
+        "$here/reversal.c" >renamed.c && cc -g -pthread -o renamed renamed.c && grep -q 'char \*at' renamed.c &&
+        "$record" --frames 8 -- ./renamed 2>recorded.err
+    grep -q '^ 1st "journal", thread [0-9]* (made by main' recorded.err
+    tell renamed "its threads have no name of their own" $?
+fi
+
 # An object without unwind tables is named, once.
 if wanted blind; then
     cp "$here/helper.c" . && cc -g -O1 -fno-asynchronous-unwind-tables -fno-unwind-tables -pthread -o blind helper.c
