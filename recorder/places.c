@@ -17,6 +17,7 @@
 #include <stdlib.h>
 #include <string.h>
 #include <strings.h>
+#include <sys/auxv.h>
 #include <unwind.h>
 
 enum { FRAMES = 24, WRAPPER_BYTES = 256, WORD_MOST = 64, LIBRARY_MOST = 8 };
@@ -276,10 +277,25 @@ struct dwarf_eh_bases {
 };
 extern const void *_Unwind_Find_FDE(void *pc, struct dwarf_eh_bases *bases);
 
-static bool is_blind(uintptr_t pc)
+static bool has_tables(uintptr_t pc)
 {
     struct dwarf_eh_bases bases;
-    return _Unwind_Find_FDE((void *)(pc - 1), &bases) == NULL;
+    return _Unwind_Find_FDE((void *)(pc - 1), &bases) != NULL;
+}
+
+/*
+ * Whether the stack ends where nobody needs to know more: in the dynamic linker, which begins a process, or in the
+ * function of the compiler's that ends an object. Neither has tables.
+ */
+static bool is_complete(const struct stack *stack)
+{
+    uint32_t linker = object_of(getauxval(AT_BASE), true);
+    if (linker && object_of(stack->frames[stack->count - 1].pc - 1, true) == linker)
+        return true;
+    uintptr_t called = stack->count > 1 ? stack->frames[stack->count - 2].pc - 1 : 0, from;
+    uint32_t object = called ? object_of(called, true) : 0;
+    uint64_t size;
+    return object && strcmp(object_symbol(object, called, true, &from, &size), "__cxa_finalize") == 0;
 }
 
 static uintptr_t word_at(uintptr_t address)
@@ -322,10 +338,10 @@ COLD static void unwind(struct caller caller, struct stack *stack)
     if (stack->count == 0)
         stack->frames[stack->count++] = (struct frame){caller.pc, caller.stack, 0, false};
     uintptr_t last = stack->frames[stack->count - 1].pc;
-    bool blind = stack->count < FRAMES && is_blind(last);
+    bool blind = stack->count < FRAMES && !has_tables(last);
     if (!recorder_enters())
         return;
-    if (blind)
+    if (blind && !is_complete(stack))
         object_ends_stacks(object_of(last - 1, true));
     for (uint32_t i = 0; i + 1 < stack->count; i++)
         add(stack->frames[i].pc, step_between(&stack->frames[i], &stack->frames[i + 1]));

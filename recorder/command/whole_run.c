@@ -67,8 +67,8 @@ void tell_blind(struct run *run)
         qsort(run->blind, run->blinds, sizeof *run->blind, compare_texts);
     for (size_t i = 0; i < run->blinds; i++)
         say(&run->output,
-            "%s has no unwind tables (.eh_frame): who called its functions isn't known, so locks of different use may have "
-            "one type",
+            "%s has functions without unwind tables (.eh_frame): who called them isn't known, so locks of different use may "
+            "have one type",
             run->blind[i]);
 }
 

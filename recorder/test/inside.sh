@@ -216,12 +216,42 @@ fi
 if wanted blind; then
     cp "$here/helper.c" . && cc -g -O1 -fno-asynchronous-unwind-tables -fno-unwind-tables -pthread -o blind helper.c
     "$record" -- sh -c './blind; ./blind' 2>recorded.err
-    [ "$(grep -c '^record: blind has no unwind tables' recorded.err)" -eq 1 ]
+    [ "$(grep -c '^record: blind has functions without unwind tables' recorded.err)" -eq 1 ]
     tell blind "an object without unwind tables" $?
     cc -g -O1 -pthread -o blind helper.c
     "$record" -- ./blind 2>recorded.err
     ! grep -q 'unwind tables' recorded.err
     tell blind "an object with them" $?
+    # What begins a process, and what ends an object, has none in any case, and nobody misses them.
+    cat >library.c <<'END'
+#include <pthread.h>
+#include <stdlib.h>
+static pthread_mutex_t outer = PTHREAD_MUTEX_INITIALIZER, first = PTHREAD_MUTEX_INITIALIZER, last = PTHREAD_MUTEX_INITIALIZER;
+static void under_outer(pthread_mutex_t *inner)
+{
+    pthread_mutex_lock(&outer);
+    pthread_mutex_lock(inner);
+    pthread_mutex_unlock(inner);
+    pthread_mutex_unlock(&outer);
+}
+static void end(void) { under_outer(&last); }
+__attribute__((constructor)) static void begin(void)
+{
+    under_outer(&first);
+    atexit(end);
+}
+END
+    cat >closes.c <<'END'
+#include <dlfcn.h>
+int main(int count, char **word) { return count > 1 && dlclose(dlopen(word[1], RTLD_NOW)); }
+END
+    cc -g -shared -fPIC -pthread -o library.so library.c && cc -o closes closes.c && cc -o linked closes.c -Wl,--no-as-needed ./library.so
+    for words in ./linked "./closes ./library.so"; do
+        "$record" --frames 8 -o kept -- $words 2>recorded.err
+        ! grep -q 'unwind tables' recorded.err && [ "$(grep -c '^check' kept)" -ge 4 ]
+        tell blind "where a process begins, and an object ends ($words)" $?
+    done
+    words=
 fi
 
 # A handler of signals on a small stack: 512 bytes more are enough than without the recorder.
