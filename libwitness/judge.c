@@ -47,6 +47,12 @@ bool judge_is_wanted(void)
     return is_wanted || (asked && strcmp(asked, "1") == 0);
 }
 
+void judge_lacks_memory(void)
+{
+    tell_begins();
+    tell_line("there is no memory for the library: nothing is watched");
+}
+
 void judge_begins(void)
 {
     const char *profile = secure_getenv("WITNESS_PROFILE");

@@ -97,6 +97,10 @@ enum { ASKED_AT = 6, ASKED_NOT = '0', ASKED_NOW = '1', ASKED_ALWAYS = '3' };
 #define STATUS_NAME "name"
 #define STATUS_STARTED "started"
 #define STATUS_LOADED "loaded"
+/* What stands after it: whether the program has loaded the recorder; it has, and there was no memory for that. */
+#define NOT_LOADED "0"
+#define LOADED "1"
+#define LOADED_WITHOUT_MEMORY "2"
 /* There were too many processes for it. */
 #define STATUS_FULL "full"
 /* Objects stand there too; this is one where there were too many. */

@@ -16,7 +16,8 @@ extern _Atomic uint32_t judge_news;
 static inline bool judge_is_there(void) { return true; }
 bool judge_is_wanted(void);
 void judge_wants(void); /* the program's own wish */
-/* The recorder is awake from here on; a child of fork begins anew; the process ends. */
+/* There is no memory for the tables; the recorder is awake from here on; a child of fork begins anew; the process ends. */
+void judge_lacks_memory(void);
 void judge_begins(void);
 void judge_forked(void);
 void judge_ends(void);
@@ -51,6 +52,7 @@ static inline void judge_looks(void)
 
 static inline bool judge_is_there(void) { return false; }
 static inline bool judge_is_wanted(void) { return false; }
+static inline void judge_lacks_memory(void) {}
 static inline void judge_begins(void) {}
 static inline void judge_forked(void) {}
 static inline void judge_ends(void) {}

@@ -15,15 +15,18 @@ enum { TYPE_BUCKETS = 1 << 12, ANCHORS = 1 << 8 };
 /* Memory is counted in regions of 4 kB, 64 kB and 1 MB: a region without locks is passed over as a whole. */
 enum { LEVELS = 3, REGION_SHIFT = 12, LEVEL_SHIFT = 4, REGIONS = 1 << 15 };
 
+/* Records and names are taken a piece at a time. The first one is there from the start, and has all that a trace has room for. */
+enum { PIECE_LOCKS = LOCKS, PIECES = LOCKS_ALIVE / PIECE_LOCKS };
+
 _Atomic(struct lock *) *lock_buckets;
-static struct lock *locks;
+static struct lock *lock_pieces[PIECES];
 static struct lock *free_locks;
 static uint32_t locks_taken;
 static _Atomic uint32_t locks_in_memory; /* those that free has to look for */
 
 static _Atomic uint32_t in_regions[LEVELS][REGIONS]; /* locks in memory, in all regions of that slot */
 
-static struct name *names;
+static struct name *name_pieces[PIECES];
 static uint32_t names_taken;
 
 static struct type *types;
@@ -34,13 +37,32 @@ static struct {
     uintptr_t address, from;
 } anchors[ANCHORS];
 
+/* The record of that number, NULL where there is no room for it. */
+static struct lock *lock_numbered(uint32_t number)
+{
+    if (number == LOCKS_ALIVE)
+        return NULL;
+    struct lock **piece = &lock_pieces[number / PIECE_LOCKS];
+    if (!*piece)
+        *piece = table(PIECE_LOCKS * sizeof **piece);
+    return *piece ? *piece + number % PIECE_LOCKS : NULL;
+}
+
+static struct name *name_numbered(uint32_t number)
+{
+    if (number == LOCKS_ALIVE)
+        return NULL;
+    struct name **piece = &name_pieces[number / PIECE_LOCKS];
+    if (!*piece)
+        *piece = table(PIECE_LOCKS * sizeof **piece);
+    return *piece ? *piece + number % PIECE_LOCKS : NULL;
+}
+
 bool locks_made(void)
 {
     lock_buckets = table(LOCK_BUCKETS * sizeof *lock_buckets);
-    locks = table(LOCKS_ALIVE * sizeof *locks);
-    names = table(LOCKS_ALIVE * sizeof *names);
     types = table((TYPES_MET + 1) * sizeof *types);
-    return lock_buckets && locks && names && types;
+    return lock_buckets && types && lock_numbered(0) && name_numbered(0);
 }
 
 static inline uint32_t region_shift(int level)
@@ -129,9 +151,10 @@ static struct name *name_for(struct type *type, uintptr_t address, bool recursiv
         name = name->next;
     }
     if (!name) {
-        if (names_taken == LOCKS_ALIVE)
+        name = name_numbered(names_taken);
+        if (!name)
             return NULL;
-        name = &names[names_taken++];
+        names_taken++;
         *name = (struct name){.variable = variable, .number = ++type->names_made, .recursive = recursive};
         return name;
     }
@@ -208,13 +231,11 @@ static void read_kind(struct lock *lock, const void *address, enum class class)
 static struct lock *add(const void *address, const struct type *wanted)
 {
     struct type *type = type_of(wanted);
-    struct lock *lock = free_locks;
-    if (!type || (!lock && locks_taken == LOCKS_ALIVE)) {
+    struct lock *lock = free_locks ? free_locks : lock_numbered(locks_taken);
+    if (!type || !lock) {
         count_missed_all(type ? MISSED_LOCKS : MISSED_TYPES);
         return NULL;
     }
-    if (!lock)
-        lock = &locks[locks_taken];
     read_kind(lock, address, wanted->class);
     lock->name = name_for(type, (uintptr_t)address, lock->recursive);
     if (!lock->name) {
@@ -350,7 +371,7 @@ void lock_gone(const void *address)
 struct lock *lock_held_from(uint32_t *at, int32_t *holder)
 {
     for (; *at < locks_taken; (*at)++) {
-        struct lock *lock = &locks[*at];
+        struct lock *lock = lock_numbered(*at);
         uintptr_t address = atomic_load(&lock->address);
         if (address && lock->type->class == MUTEX && (*holder = mutex_holder(address)) != 0)
             return lock;
@@ -400,9 +421,10 @@ void locks_freed(const void *block)
 static void forget_object(uintptr_t from, uintptr_t to)
 {
     for (uint32_t i = 0; i < locks_taken; i++) {
-        uintptr_t address = atomic_load_explicit(&locks[i].address, memory_order_relaxed);
+        struct lock *lock = lock_numbered(i);
+        uintptr_t address = atomic_load_explicit(&lock->address, memory_order_relaxed);
         if (address >= from && address < to)
-            forget(&locks[i], false);
+            forget(lock, false);
     }
     memset(anchors, 0, sizeof anchors);
     places_closed(from, to);

@@ -581,6 +581,7 @@ void streams_end(void);
 
 /* status.c */
 void status_made(void);
+void status_lacks_memory(void); /* the recorder stays off in this process */
 void status_forked(void);
 void status_starts(const char *program);
 void status_starts_not(void);

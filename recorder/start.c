@@ -154,22 +154,56 @@ static bool is_second(void)
     return first && first != &own_recorder;
 }
 
+/* So much has to be there. The tables take a third of it: a program that has a limit needs the rest. */
+enum { ROOM_BYTES = 128 << 20 };
+
+static bool has_room(void)
+{
+    void *room = table(ROOM_BYTES);
+    return room && munmap(room, ROOM_BYTES) == 0;
+}
+
+/* False where there is no memory. Then the recorder stays off. */
+static bool tables_made(void)
+{
+    if (!has_room() || !locks_made() || !places_made() || !sites_made() || !stacks_made() || !chains_made()
+        || !singles_made())
+        return false;
+    alive = table(4096);
+    return alive != NULL;
+}
+
+/* Leaves a file by which record tells a program without nested requests from one that the recorder wasn't in. */
+static void say_started(void)
+{
+    char path[512];
+    const char *directory = secure_getenv("RECORDER_DIRECTORY");
+    if (directory && snprintf(path, sizeof path, "%s/started", directory) < (int)sizeof path) {
+        int file = open(path, O_WRONLY | O_CREAT | O_CLOEXEC, 0600);
+        if (file >= 0)
+            close(file);
+    }
+}
+
 /* Makes all that recording needs, where the environment or the program wants it, and begins. Once in a process. */
 static void awake(void)
 {
     static _Atomic bool made;
     if (is_second() || !settings_read() || atomic_exchange(&made, true))
         return;
+    /* The words that it was started by may be overwritten later. */
+    snprintf(program_name, sizeof program_name, "%s", program_invocation_short_name);
     status_made();
-    if (locks_made() && places_made() && sites_made() && stacks_made() && chains_made() && singles_made()
-        && streams_made()) {
-        alive = table(4096);
-        if (alive) {
-            *alive = 1;
-            madvise((void *)alive, 4096, MADV_WIPEONFORK);
-            judge_begins();
-            atomic_store(&recording, true);
-        }
+    if (!tables_made()) {
+        semaphores_are_locks = false;
+        say_started();
+        status_lacks_memory();
+        judge_lacks_memory();
+    } else if (streams_made()) {
+        *alive = 1;
+        madvise((void *)alive, 4096, MADV_WIPEONFORK);
+        judge_begins();
+        atomic_store(&recording, true);
     }
 }
 
@@ -191,8 +225,6 @@ void start(void)
  * Whether the call that the thread is inside of was left: by a jump out of a handler of signals, or a cancellation. Not
  * where the thread is on another stack than that call was.
  */
-    /* The words that it was started by may be overwritten later. */
-    snprintf(program_name, sizeof program_name, "%s", program_invocation_short_name);
 static bool has_left(const struct thread *thread, uintptr_t stack)
 {
     stack_t other;
@@ -333,18 +365,6 @@ void fork_is_watched(void)
     static _Atomic bool watched;
     if ((atomic_load(&recording) || judge_is_there()) && !atomic_exchange(&watched, true))
         real.register_atfork(fork_begins, fork_ends_in_parent, fork_ends_in_child, NULL);
-}
-
-/* Leaves a file by which record tells a program without nested requests from one that the recorder wasn't in. */
-static void say_started(void)
-{
-    char path[512];
-    const char *directory = secure_getenv("RECORDER_DIRECTORY");
-    if (directory && snprintf(path, sizeof path, "%s/started", directory) < (int)sizeof path) {
-        int file = open(path, O_WRONLY | O_CREAT | O_CLOEXEC, 0600);
-        if (file >= 0)
-            close(file);
-    }
 }
 
 /* That free and malloc_usable_size are of one object: else sizes can't be believed. */

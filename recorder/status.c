@@ -29,7 +29,8 @@ static const char full[] = "\n" STATUS_FULL "\n", full_objects[] = "\n" WORD_OBJ
 
 #define NAME_OF(number, name) name,
 static const char *const failure_names[FAILURES] = {EACH_FAILURE(NAME_OF)};
-static const char loaded[] = " " STATUS_LOADED " 1", not_loaded[] = " " STATUS_LOADED " 0";
+static const char loaded[] = " " STATUS_LOADED " " LOADED, not_loaded[] = " " STATUS_LOADED " " NOT_LOADED;
+static const char without_memory[] = " " STATUS_LOADED " " LOADED_WITHOUT_MEMORY;
 static char *status;
 static char *counts[FAILURES]; /* where the process's line has each count; NULL where it has no line */
 
@@ -129,6 +130,13 @@ void status_made(void)
         }
     }
     close(file);
+}
+
+void status_lacks_memory(void)
+{
+    char *slot = slot_of(getpid());
+    if (slot)
+        memcpy(slot + LOADED_AT, without_memory, sizeof without_memory - 1);
 }
 
 void status_forked(void)

@@ -34,23 +34,22 @@ static char *written(const char *path, size_t *size)
     return bytes;
 }
 
-static void add_bare(struct status *status, long process, const char *name)
+static void add_bare(struct status *status, long process, const char *name, bool lacks_memory)
 {
     for (size_t i = 0; i < status->bares; i++)
-        if (strcmp(status->bare[i].name, name) == 0) {
+        if (strcmp(status->bare[i].name, name) == 0 && status->bare[i].lacks_memory == lacks_memory) {
             status->bare[i].times++;
             status->bare[i].process = process;
             return;
         }
-    ADD(status->bare, status->bares, status->bare_room) = (struct bare){copy(name), 1, process};
+    ADD(status->bare, status->bares, status->bare_room) = (struct bare){copy(name), lacks_memory, 1, process};
 }
 
 /* The parts of a process's line, after its number: words and what they say, then its counts. */
 static void read_parts(struct status *status, long process, char *parts)
 {
-    const char *name = "", *started = "";
+    const char *name = "", *started = "", *loaded = NOT_LOADED;
     char *counts = strstr(parts, " " WORD_MISSED " "), *rest, *word, *value;
-    bool has_loaded = false;
     if (counts)
         *counts++ = '\0';
     word = strtok_r(parts, " \t", &rest);
@@ -60,12 +59,12 @@ static void read_parts(struct status *status, long process, char *parts)
         else if (strcmp(word, STATUS_STARTED) == 0)
             started = value;
         else if (strcmp(word, STATUS_LOADED) == 0)
-            has_loaded = strtol(value, NULL, 10) != 0;
+            loaded = value;
     }
-    if (has_loaded)
+    if (strcmp(loaded, LOADED) == 0)
         ADD(status->loaded, status->loads, status->loaded_room) = process;
     else
-        add_bare(status, process, *started ? started : name);
+        add_bare(status, process, *started ? started : name, strcmp(loaded, LOADED_WITHOUT_MEMORY) == 0);
     if (counts)
         ADD(status->failed, status->failures, status->failed_room) =
             (struct failed){process, copy(name), copy(counts)};
@@ -103,7 +102,7 @@ void status_read(struct status *status, const char *path, long first, const char
         is_known = is_known || (process && process == first);
     }
     if (first && !is_known)
-        add_bare(status, first, program);
+        add_bare(status, first, program, false);
     free(bytes);
 }
 

@@ -14,9 +14,10 @@ struct failed {
     char *counts; /* `missed NAME N ..` */
 };
 
-/* So many programs of that name were started and haven't loaded the recorder, the last one as that process. */
+/* So many programs of that name were started in which the recorder isn't, the last one as that process. */
 struct bare {
     char *name;
+    bool lacks_memory; /* for the recorder; else they haven't loaded it */
     unsigned long times;
     long process;
 };

@@ -159,6 +159,26 @@ if wanted causes; then
     (ulimit -S -f 512 && recorded_by "$record" -- ./reversal && cp recorded.err limited.err) &&
         grep -q '^record: there was little room for the recording: a limit on the size of files$' limited.err
     tell causes "a limit on the size of files from the start" $?
+    # A program that has little memory keeps it, and nothing is known of it. One that gives itself a limit has room left.
+    recorded_by "$record" --error-exitcode 9 -- sh -c 'ulimit -v 60000; ./reversal'
+    said 9 '^record: nothing is known of reversal (process [0-9]*): there was too little memory for the recorder' &&
+        last_is 'record: nothing in what was recorded'
+    tell causes "a limit on memory" $?
+    (ulimit -v 60000 && recorded_by "$record" -- ./reversal && cp recorded.err limited.err) &&
+        [ "$(tail -n 1 limited.err)" = 'record: nothing in what was recorded' ]
+    tell causes "a limit on memory from the start" $?
+    cat >limited.c <<'END'
+#include <sys/mman.h>
+#include <sys/resource.h>
+int main(void)
+{
+    struct rlimit limit = {64 << 20, 64 << 20};
+    setrlimit(RLIMIT_AS, &limit);
+    return mmap(0, 16 << 20, PROT_READ | PROT_WRITE, MAP_PRIVATE | MAP_ANONYMOUS, -1, 0) == MAP_FAILED;
+}
+END
+    "${CC:-cc}" -o limited limited.c && "$record" -- ./limited 2>/dev/null
+    tell causes "a limit that the program gives itself" $?
 fi
 
 # Where locks aren't seen the last line names them: not_seen WHAT WORDS.. runs the words.
