@@ -247,9 +247,26 @@ struct reading {
     size_t count, room;
 };
 
+/*
+ * The reader of binutils names the innermost of several by the object's symbol, where the compiler gave it no name for the
+ * linker. That is the name of the function that it was inlined into. A lambda that the library's function calls has none.
+ */
+static void name_innermost(const struct reading *reading)
+{
+    struct inlined *first = reading->frame;
+    const struct inlined *last = first + reading->count - 1;
+    if (reading->count < 2 || first->is_skipped || !last->is_skipped)
+        return;
+    size_t length = strlen(first->function), own = strlen(last->function);
+    const char *tail = length > own + 2 ? first->function + length - own - 2 : "";
+    if (strncmp(tail, "::", 2) == 0 && strcmp(tail + 2, last->function) == 0)
+        first->function = "operator()";
+}
+
 static void finish(struct symbols *symbols, struct reading *reading)
 {
     if (reading->code) {
+        name_innermost(reading);
         size_t bytes = reading->count * sizeof *reading->frame;
         struct inlined *kept = texts_room(symbols->texts, bytes);
         for (size_t i = 0; i < reading->count; i++) {

@@ -141,3 +141,27 @@ if wanted bank; then
         tell bank "types by the user's functions alone ($level)" $?
     done
 fi
+
+# A lambda that was inlined into the library's function isn't called by that one's name.
+if wanted lambdas; then
+    cat >lambdas.cc <<'END'
+#include <mutex>
+#include <thread>
+static std::mutex journal, pool;
+__attribute__((noinline)) static void take(std::mutex &first, std::mutex &second)
+{
+    std::lock_guard<std::mutex> outer(first);
+    std::lock_guard<std::mutex> inner(second);
+}
+int main()
+{
+    std::thread([] { take(journal, pool); take(journal, pool); }).join();
+    std::thread([] { take(pool, journal); take(pool, journal); }).join();
+}
+END
+    for level in -O0 -O1 -O2 -O3; do
+        c++ -std=c++17 -g $level -pthread -o lambdas lambdas.cc && "$record" --frames 8 --gen-suppressions -- ./lambdas 2>recorded.err
+        grep -q '^  .*operator() (lambdas.cc:1[12])$' recorded.err && ! grep -q _M_run recorded.err
+        tell lambdas "a thread's lambda ($level)" $?
+    done
+fi
