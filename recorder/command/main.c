@@ -101,6 +101,14 @@ static bool is_for_once(const char *built)
     return is;
 }
 
+/* In which folder the file is, from the root on: the program may go to another one. */
+static char *folder_of(const char *file)
+{
+    char *whole = realpath(file, NULL), *folder = file_folder(whole ? whole : file);
+    free(whole);
+    return folder;
+}
+
 int main(int count, char **words)
 {
     /* All that is asked for lasts to the end. */
@@ -110,7 +118,7 @@ int main(int count, char **words)
         fputs("record: this is begun by the script recorder/record\n", stderr);
         return 2;
     }
-    built = file_folder(words[0]);
+    built = folder_of(words[0]);
     if (is_for_once(built))
         prepare_removes(work = built);
     if (words[2] && strcmp(words[2], "--orders") == 0)

@@ -151,10 +151,12 @@ static _Noreturn void fail_for_room(void)
 char *prepare_work(void)
 {
     char *work = say_text("%s/tmp.XXXXXX", file_temporary());
-    if (!mkdtemp(work))
+    char *whole = mkdtemp(work) ? realpath(work, NULL) : NULL;
+    free(work);
+    if (!whole)
         fail_for_room();
-    prepare_removes(work);
-    return work;
+    prepare_removes(whole);
+    return whole;
 }
 
 static void map_status(const char *path)
