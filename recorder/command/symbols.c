@@ -253,9 +253,11 @@ struct reading {
  */
 static void name_innermost(const struct reading *reading)
 {
+    if (reading->count < 2)
+        return;
     struct inlined *first = reading->frame;
     const struct inlined *last = first + reading->count - 1;
-    if (reading->count < 2 || first->is_skipped || !last->is_skipped)
+    if (first->is_skipped || !last->is_skipped)
         return;
     size_t length = strlen(first->function), own = strlen(last->function);
     const char *tail = length > own + 2 ? first->function + length - own - 2 : "";
