@@ -245,8 +245,8 @@ END
 #include <dlfcn.h>
 int main(int count, char **word) { return count > 1 && dlclose(dlopen(word[1], RTLD_NOW)); }
 END
-    cc -g -shared -fPIC -pthread -o library.so library.c && cc -o closes closes.c && cc -o linked closes.c -Wl,--no-as-needed ./library.so
-    for words in ./linked "./closes ./library.so"; do
+    cc -g -shared -fPIC -pthread -o library.so library.c && cc -o closes closes.c && cc -o needs closes.c -Wl,--no-as-needed ./library.so
+    for words in ./needs "./closes ./library.so"; do
         "$record" --frames 8 -o kept -- $words 2>recorded.err
         ! grep -q 'unwind tables' recorded.err && [ "$(grep -c '^check' kept)" -ge 4 ]
         tell blind "where a process begins, and an object ends ($words)" $?
