@@ -454,5 +454,6 @@ void chains_forked(void)
         struct held *held = &thread->held[i];
         held->written = 0;
         held->node = 0;
+        held->before_fork = 1;
     }
 }

@@ -76,10 +76,12 @@ void error_at(enum lock_error error, const void *address, struct caller caller)
     goes_outside(&self);
 }
 
+/* A handler of fork may make the locks anew that it took for the child, as those of allocators do. */
 void error_if_held(enum lock_error error, const void *address, struct caller caller)
 {
     struct lock *lock = self.count ? lock_at(address) : NULL;
-    if (lock && held_by(&self, lock))
+    struct held *held = lock ? held_by(&self, lock) : NULL;
+    if (held && !held->before_fork)
         error_at(error, address, caller);
 }
 

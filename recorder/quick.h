@@ -113,8 +113,8 @@ static inline struct held *held_filled(struct thread *thread, struct lock *lock,
     held->place = place;
     held->node = node;
     held->count = 1;
-    held->mode = mode & 0x3f;
-    held->tried = held->written = 0;
+    held->mode = mode & 0x1f;
+    held->tried = held->before_fork = held->written = 0;
     held->after_try = thread->count != 0 && held[-1].after_try;
     held->stack = 0;
     return held;

@@ -162,7 +162,8 @@ struct held {
     uint32_t place;
     uint32_t node;    /* of the chain up to this lock; 0 where it wasn't looked for */
     uint32_t count;   /* acquisitions not yet released */
-    uint8_t mode : 6, tried : 1, after_try : 1; /* after_try: an order between what is held up to it may not be known */
+    uint8_t mode : 5, tried : 1, after_try : 1; /* after_try: an order between what is held up to it may not be known */
+    uint8_t before_fork : 1;                    /* it was acquired by the parent process */
     uint8_t written;  /* a bit for each stream */
     uint16_t stack;   /* of the acquisition; 0 where it has none */
     uint32_t number[STREAMS];
@@ -520,7 +521,7 @@ void order_of_joined(pthread_t joined);    /* this thread has joined it */
 void errors_begin(void);
 void errors_of_thread(void); /* its end is noticed */
 void error_at(enum lock_error error, const void *address, struct caller caller);
-void error_if_held(enum lock_error error, const void *address, struct caller caller); /* by this thread */
+void error_if_held(enum lock_error error, const void *address, struct caller caller); /* by this thread, since the fork */
 void error_of_freed(struct lock *lock); /* inside, before its record is given back */
 void error_of_wait(const pthread_mutex_t *mutex, struct caller caller); /* where this thread isn't known to hold it */
 

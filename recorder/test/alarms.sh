@@ -78,15 +78,21 @@ misused() {
 
 if wanted misuse; then
     compile misuse
-    misused ends 'a thread ended that held a lock, taken here: "journal" @ misuse.c:19'
-    misused exits 'a thread ended that held a lock, taken here: "table" @ misuse.c:25'
-    misused destroys 'a lock was destroyed while it was held: "misuse.c:58<misuse.c:96" @ misuse.c:97'
-    misused frees 'the memory of a lock was freed while it was held, taken here: "misuse.c:58<misuse.c:101" @ misuse.c:59'
-    misused remakes 'a lock was made anew while it was held: "misuse.c:58<misuse.c:103" @ misuse.c:103'
-    misused waits 'a condition was waited for without its mutex: "queue" @ misuse.c:68'
+    misused ends 'a thread ended that held a lock, taken here: "journal" @ misuse.c:21'
+    misused exits 'a thread ended that held a lock, taken here: "table" @ misuse.c:27'
+    misused destroys 'a lock was destroyed while it was held: "misuse.c:60<misuse.c:135" @ misuse.c:136'
+    misused frees 'the memory of a lock was freed while it was held, taken here: "misuse.c:60<misuse.c:140" @ misuse.c:61'
+    misused remakes 'a lock was made anew while it was held: "misuse.c:60<misuse.c:142" @ misuse.c:142'
+    misused waits 'a condition was waited for without its mutex: "queue" @ misuse.c:70'
     "$record" --error-exitcode 9 -- ./misuse right 2>recorded.err && ! grep -q error recorded.err &&
         [ "$(tail -n 1 recorded.err)" = "record: nothing to report: no thread asked for a lock while it held another" ]
     tell misuse "what is allowed" $?
+    "$record" --error-exitcode 9 -- ./misuse forks 2>recorded.err && ! grep -q error recorded.err
+    tell misuse "handlers of fork that make their locks anew" $?
+    "$record" -- ./misuse child 2>recorded.err
+    grep -q '^==[0-9]*== record: misuse: a lock was made anew while it was held: "arena" @ misuse.c:119$' recorded.err &&
+        [ "$(tail -n 1 recorded.err)" = "record: nothing to report but 1 error" ]
+    tell misuse "a lock that the child has taken, and makes anew" $?
     "$record" --error-exitcode 9 --errors no -- ./misuse ends frees 2>recorded.err && ! grep -q 'held a lock' recorded.err
     tell misuse "--errors no" $?
 fi

@@ -5,7 +5,9 @@
 #include <pthread.h>
 #include <stdlib.h>
 #include <string.h>
+#include <sys/wait.h>
 #include <time.h>
+#include <unistd.h>
 
 static pthread_mutex_t journal = PTHREAD_MUTEX_INITIALIZER, queue = PTHREAD_MUTEX_INITIALIZER;
 static pthread_mutex_t shutdown_lock = PTHREAD_MUTEX_INITIALIZER;
@@ -85,6 +87,43 @@ static void be_right(void)
     pthread_mutex_init(&queue, NULL);
 }
 
+static pthread_mutex_t arena = PTHREAD_MUTEX_INITIALIZER;
+static pthread_rwlock_t extents = PTHREAD_RWLOCK_INITIALIZER;
+
+static void take(void)
+{
+    pthread_mutex_lock(&arena);
+    pthread_rwlock_wrlock(&extents);
+}
+
+static void give_back(void)
+{
+    pthread_rwlock_unlock(&extents);
+    pthread_mutex_unlock(&arena);
+}
+
+static void make_anew(void)
+{
+    pthread_rwlock_init(&extents, NULL);
+    pthread_mutex_init(&arena, NULL);
+}
+
+/* As an allocator's handlers of fork do. What the child takes by itself it has to release as ever. */
+static void fork_with_handlers(int remakes)
+{
+    pthread_atfork(take, give_back, make_anew);
+    pid_t child = fork();
+    if (child == 0) {
+        pthread_mutex_lock(&arena);
+        if (remakes)
+            pthread_mutex_init(&arena, NULL);
+        else
+            pthread_mutex_unlock(&arena);
+        _exit(0);
+    }
+    waitpid(child, NULL, 0);
+}
+
 int main(int count, char **words)
 {
     for (int i = 1; i < count; i++) {
@@ -105,6 +144,8 @@ int main(int count, char **words)
             wait_without();
         if (strcmp(words[i], "right") == 0)
             be_right();
+        if (strcmp(words[i], "forks") == 0 || strcmp(words[i], "child") == 0)
+            fork_with_handlers(words[i][0] == 'c');
     }
     return 0;
 }

@@ -113,11 +113,11 @@ test_runs() {
         is run.sarif runs.0.results.1.level '"error"'
     tell outputs "of a program that hangs" $?
     compile misuse && recorded_to run -- ./misuse ends && whole run && said 0 'nothing to report but 1 error' &&
-        is run.json reports.# 1 reports.0.kind '"error"' reports.0.error.lock '"journal"' reports.0.error.site '"misuse.c:19"' \
+        is run.json reports.# 1 reports.0.kind '"error"' reports.0.error.lock '"journal"' reports.0.error.site '"misuse.c:21"' \
             reports.0.description '"A thread ended that held a lock, taken here: \"journal\""' reports.0.advice.# 3 \
             reports.0.waits.# 0 reports.0.counts true &&
         is run.sarif runs.0.results.0.ruleId '"lock-error"' runs.0.results.0.ruleIndex 4 runs.0.results.0.level '"warning"' \
-            runs.0.results.0.locations.0.physicalLocation.region.startLine 19 &&
+            runs.0.results.0.locations.0.physicalLocation.region.startLine 21 &&
         grep -q '<section id=.errors.>' run.html && ! grep -q "<p class='good'>" run.html &&
         recorded_to run --errors no -- ./misuse ends && is run.json reports.# 0
     tell outputs "of an error in the use of a lock" $?
