@@ -45,20 +45,51 @@ static const struct single_lock *held(const struct single_order *order, uint32_t
     return NULL;
 }
 
-static bool is_in_circle(const struct search *search, uint32_t serial)
+static bool is_among(const uint32_t serial[], size_t locks, uint32_t wanted)
 {
-    for (size_t i = 0; i < search->types; i++)
-        if (search->serial[i] == serial)
+    for (size_t i = 0; i < locks; i++)
+        if (serial[i] == wanted)
             return true;
     return false;
 }
 
+/* A circle of locks: order k asks for serial[k], which the thread of the next order holds. */
+struct circle {
+    const struct single_order *order[TYPES_MOST];
+    uint32_t serial[TYPES_MOST];
+    size_t orders;
+};
+
+/*
+ * The circle that the search has found, without the orders that needn't be in it: where the next order's thread held the
+ * lock before, too, that thread waits for the next one all the same. What is dropped keeps nothing apart.
+ */
+static struct circle shortest(const struct search *search)
+{
+    struct circle circle = {.orders = search->types};
+    memcpy(circle.order, search->order, search->types * sizeof *circle.order);
+    memcpy(circle.serial, search->serial, search->types * sizeof *circle.serial);
+    for (size_t k = 0; k < circle.orders && circle.orders > 2;) {
+        const struct single_order *next = circle.order[(k + 1) % circle.orders];
+        if (!held(next, circle.serial[(k + circle.orders - 1) % circle.orders])) {
+            k++;
+            continue;
+        }
+        size_t rest = --circle.orders - k;
+        memmove(&circle.order[k], &circle.order[k + 1], rest * sizeof *circle.order);
+        memmove(&circle.serial[k], &circle.serial[k + 1], rest * sizeof *circle.serial);
+        k = 0;
+    }
+    return circle;
+}
+
 /* A lock besides those of the circle that both orders' threads held, one of them not as a reader. */
-static const char *gate_of(const struct search *search, const struct single_order *one, const struct single_order *other)
+static const char *gate_of(const struct search *search, const struct circle *circle, const struct single_order *one,
+    const struct single_order *other)
 {
     for (size_t i = 0; i + 1 < one->locks; i++) {
         const struct single_lock *lock = &one->lock[i], *same = held(other, lock->serial);
-        if (same && !(lock->shared && same->shared) && !is_in_circle(search, lock->serial))
+        if (same && !(lock->shared && same->shared) && !is_among(circle->serial, circle->orders, lock->serial))
             return lock->number > 0 && lock->number <= search->locks ? search->lock[lock->number - 1].name : "?";
     }
     return NULL;
@@ -90,37 +121,49 @@ static bool are_apart(const struct search *search, const struct single_order *on
         && is_by_one_thread(search, one) && is_by_one_thread(search, other);
 }
 
-/* What keeps two of the circle's orders from meeting. */
-static void look_at_pair(const struct search *search, struct alarm *alarm, const struct single_order *one,
-    const struct single_order *other)
+/* What keeps two of the circle's orders from meeting. One thread can't wait in two of them. */
+static void look_at_pair(const struct search *search, struct alarm *alarm, const struct circle *circle, size_t k, size_t l)
 {
-    const char *gate = gate_of(search, one, other);
+    const struct single_order *one = circle->order[k], *other = circle->order[l];
+    const char *gate = gate_of(search, circle, one, other);
     if (gate)
         alarm->gate = gate;
-    if (one->thread != other->thread)
-        alarm->grade = GRADE_THREADS;
     alarm->apart |= are_apart(search, one, other);
+    if (one->thread != other->thread)
+        return;
+    alarm->repeated++;
+    if (is_by_one_thread(search, one) && is_by_one_thread(search, other)) {
+        alarm->grade = GRADE_ONE_THREAD;
+        alarm->twice = one->thread;
+    }
 }
 
-/* The circle is closed: order k asks for serial[k], which the next one holds. */
 static struct alarm alarm_of_circle(const struct search *search)
 {
-    struct alarm alarm = {.grade = GRADE_ONE_THREAD, .orders = search->types};
-    for (size_t k = 0; k < search->types; k++) {
-        const struct single_order *order = search->order[k];
-        const struct single_lock *waits = asked(order), *holds = held(search->order[(k + 1) % search->types], waits->serial);
-        alarm.order[k] = order;
+    struct circle circle = shortest(search);
+    struct alarm alarm = {.grade = GRADE_THREADS, .orders = circle.orders, .steps = search->types};
+    memcpy(alarm.order, circle.order, sizeof circle.order);
+    for (size_t k = 0; k < circle.orders; k++) {
+        const struct single_lock *waits = asked(circle.order[k]);
+        const struct single_lock *holds = held(circle.order[(k + 1) % circle.orders], circle.serial[k]);
         alarm.timed |= waits->timed;
         alarm.readers |= waits->shared && holds && holds->shared;
         for (size_t other = 0; other < k; other++)
-            look_at_pair(search, &alarm, search->order[other], order);
+            look_at_pair(search, &alarm, &circle, other, k);
     }
     return alarm;
 }
 
-static int mildness(const struct alarm *alarm)
+static int words(const struct alarm *alarm)
 {
-    return 4 * (alarm->grade != GRADE_THREADS) + (alarm->gate != NULL) + alarm->readers + alarm->timed + alarm->apart;
+    return (alarm->gate != NULL) + alarm->readers + alarm->timed + alarm->apart;
+}
+
+static bool is_milder(const struct alarm *one, const struct alarm *other)
+{
+    if (one->grade != other->grade)
+        return one->grade < other->grade;
+    return words(one) != words(other) ? words(one) > words(other) : one->repeated > other->repeated;
 }
 
 /* What isn't known may be the worst of what it stands for. */
@@ -128,13 +171,13 @@ int alarm_mildness(const struct alarm *alarm)
 {
     static const int steps[] = {
         [GRADE_THREADS] = 0, [GRADE_UNKNOWN] = 1, [GRADE_NONE] = 2, [GRADE_ONE_THREAD] = 3, [GRADE_TYPES] = 4};
-    return 8 * steps[alarm->grade] + (alarm->gate != NULL) + alarm->readers + alarm->timed + alarm->apart;
+    return 8 * steps[alarm->grade] + words(alarm);
 }
 
 static void keep_if_worse(struct search *search)
 {
     struct alarm alarm = alarm_of_circle(search);
-    if (search->best.grade < GRADE_ONE_THREAD || mildness(&alarm) < mildness(&search->best))
+    if (search->best.grade < GRADE_ONE_THREAD || is_milder(&search->best, &alarm))
         search->best = alarm;
 }
 
@@ -149,7 +192,7 @@ static void go_on(struct search *search, size_t k)
         const struct single_lock *next = asked(order);
         if (!is_of(search, next, search->type[k]) || !held(order, search->serial[k - 1]))
             continue;
-        if (k + 1 == search->types ? next->serial != search->serial[k] : is_in_circle(search, next->serial))
+        if (k + 1 == search->types ? next->serial != search->serial[k] : is_among(search->serial, search->types, next->serial))
             continue;
         search->order[k] = order;
         if (k + 1 == search->types) {
@@ -251,8 +294,14 @@ static void write_threads(FILE *to, const struct alarm *alarm)
         if (at == count)
             thread[count++] = alarm->order[i]->thread;
     }
+    if (count == 1) {
+        fprintf(to, "thread %ld alone", thread[0]);
+        return;
+    }
     for (size_t i = 0; i < count; i++)
-        fprintf(to, "%s%ld", i == 0 ? " " : i + 1 < count ? ", " : " and ", thread[i]);
+        fprintf(to, "%s%ld", i == 0 ? "threads " : i + 1 < count ? ", " : " and ", thread[i]);
+    if (alarm->twice)
+        fprintf(to, ", of which %ld took two orders", alarm->twice);
 }
 
 /* What keeps the orders that are closest to a deadlock from it. */
@@ -270,7 +319,6 @@ static void write_mildness(FILE *to, const struct alarm *alarm)
 
 static void write_alarm(FILE *to, const struct alarm *alarm)
 {
-    const char *orders = alarm->orders > 2 ? "all orders of the circle" : "both orders";
     switch (alarm->grade) {
     case GRADE_NONE: return;
     case GRADE_UNKNOWN:
@@ -278,10 +326,8 @@ static void write_alarm(FILE *to, const struct alarm *alarm)
         return;
     case GRADE_TYPES: fputs("single locks: one order only for any two locks: types alone", to); return;
     case GRADE_ONE_THREAD:
-        fprintf(to, "single locks: %s, the same locks, thread %ld alone", orders, alarm->order[0]->thread);
-        break;
     case GRADE_THREADS:
-        fprintf(to, "single locks: %s, the same locks, threads", orders);
+        fprintf(to, "single locks: %s, the same locks, ", alarm->steps > 2 ? "all orders of the circle" : "both orders");
         write_threads(to, alarm);
         break;
     }

@@ -16,12 +16,15 @@ struct alarm {
         GRADE_NONE,       /* the file tells of no single locks, or it is no report of an order */
         GRADE_UNKNOWN,    /* there were more orders of such locks than are kept */
         GRADE_TYPES,      /* no single locks were taken both ways */
-        GRADE_ONE_THREAD, /* single locks were, by one thread alone */
-        GRADE_THREADS,    /* single locks were, by several threads */
+        GRADE_ONE_THREAD, /* single locks were, but two of the orders by one thread alone, which can't wait in both */
+        GRADE_THREADS,    /* single locks were, each order by a thread of its own, as far as it is known */
     } grade;
-    /* What the orders that are closest to a deadlock have in common, and what keeps it away. */
+    /* The orders that are closest to a deadlock, without those that it doesn't need, and what keeps it away. */
     const struct single_order *order[16];
     size_t orders;
+    size_t steps;    /* of the circle of types */
+    size_t repeated; /* pairs of these orders by one thread */
+    long twice;      /* a thread that took two of the orders, and nobody else did; 0 for none */
     const char *gate; /* a lock that two of them held besides; NULL where there is none */
     bool readers;     /* one waits for readers alone, as a reader */
     bool timed;       /* one was asked for with a time limit */

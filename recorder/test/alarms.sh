@@ -3,7 +3,7 @@
 # alarm HOW WANTED: what stands below the report of `single HOW`, with N and M for the numbers of threads.
 alarm() {
     RECORD_FRAMES=8 "$record" --quiet --depth 1 -- ./single "$1" 2>recorded.err
-    sed -n 's/thread [0-9][0-9]*/thread N/; s/threads \([0-9]*, \)*[0-9]* and [0-9]*/threads N and M/; /^single locks: /p' recorded.err >below
+    sed -n 's/thread [0-9][0-9]*/thread N/; s/threads \([0-9]*, \)*[0-9]* and [0-9]*/threads N and M/; s/which [0-9]*/which N/; /^single locks: /p' recorded.err >below
     echo "single locks: $2" | diff - below
     tell alarms "of $1" $?
 }
@@ -26,6 +26,9 @@ if wanted alarms; then
     alarm apart 'both orders, the same locks, threads N and M; apart: one thread was joined before the other did so'
     alarm many 'not known, there were more orders of such locks than are kept'
     alarm three 'all orders of the circle, the same locks, threads N and M'
+    alarm through 'all orders of the circle, the same locks, threads N and M'
+    alarm inner 'all orders of the circle, the same locks, threads N and M; gate: each time "single.c:33/3" was held'
+    alarm twice 'all orders of the circle, the same locks, threads N and M, of which N took two orders'
     alarm twins 'both orders, the same locks, threads N and M'
     alarm row 'one order only for any two locks: types alone'
     counts 9 locks ''
@@ -40,6 +43,9 @@ if wanted alarms; then
     counts 0 readers threads,readers
     counts 0 apart threads,apart
     counts 9 many threads
+    counts 9 through threads,timed
+    counts 9 twice locks
+    counts 0 twice threads
     counts 9 twins ''
     counts 0 row ''
     counts 9 row all

@@ -123,6 +123,49 @@ static void try_three(void)
     run((void *(*[])(void *)){take_both, take_both, take_both}, (struct both[]){{a, b, NULL}, {b, c, NULL}, {c, a, NULL}}, 3);
 }
 
+/* The first thread asks for the last lock while it holds both others: how it came to the second doesn't matter. */
+static void *take_three(void *argument)
+{
+    pthread_mutex_t **mutex = argument;
+    struct timespec soon;
+    clock_gettime(CLOCK_REALTIME, &soon);
+    soon.tv_sec += 60;
+    pthread_mutex_lock(mutex[0]);
+    pthread_mutex_timedlock(mutex[1], &soon);
+    pthread_mutex_lock(mutex[2]);
+    for (int i = 3; i-- > 0;)
+        pthread_mutex_unlock(mutex[i]);
+    wait_for_all();
+    return NULL;
+}
+
+static void *take_both_of_two(void *argument)
+{
+    pthread_mutex_t **mutex = argument;
+    for (int i = 0; i < 2; i++) {
+        pthread_mutex_lock(mutex[i]);
+        pthread_mutex_lock(mutex[i + 1]);
+        pthread_mutex_unlock(mutex[i + 1]);
+        pthread_mutex_unlock(mutex[i]);
+    }
+    wait_for_all();
+    return NULL;
+}
+
+/* One thread takes three locks in a row by the function, and another one the last and the first, under the second or not. */
+static void try_row(void *(*take)(void *), int under)
+{
+    pthread_mutex_t *mutex[] = {account(), branch(), bank()};
+    pthread_t one, other;
+    pthread_barrier_init(&done, NULL, 3);
+    pthread_create(&one, NULL, take, mutex);
+    sem_wait(&took);
+    pthread_create(&other, NULL, take_both, &(struct both){mutex[2], mutex[0], under ? mutex[1] : NULL});
+    wait_for_all();
+    pthread_join(one, NULL);
+    pthread_join(other, NULL);
+}
+
 static void try_readers(void)
 {
     static pthread_rwlock_t table = PTHREAD_RWLOCK_INITIALIZER, index = PTHREAD_RWLOCK_INITIALIZER;
@@ -156,6 +199,12 @@ int main(int count, char **words)
         try_many();
     if (strcmp(how, "three") == 0)
         try_three();
+    if (strcmp(how, "through") == 0)
+        try_row(take_three, 0);
+    if (strcmp(how, "inner") == 0)
+        try_row(take_three, 1);
+    if (strcmp(how, "twice") == 0)
+        try_row(take_both_of_two, 0);
     if (strcmp(how, "twins") == 0)
         run_two(take_both, take_both, (struct both){a, other, NULL}, (struct both){other, a, NULL});
     /* The second order comes when it is asked for. */
