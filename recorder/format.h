@@ -62,7 +62,11 @@ enum { ASKED_AT = 6, ASKED_NOT = '0', ASKED_NOW = '1', ASKED_ALWAYS = '3' };
     EACH(ERROR_REMADE, "remade")                                                                                       \
     EACH(ERROR_WAITED, "waited")
 
-/* The orders of single locks, and when threads were made and joined (singles.c). */
+/*
+ * The orders of single locks, and when threads were made and joined (singles.c). A thread tells of its order again when it
+ * has made another thread; so often it tells of it at most.
+ */
+#define ORDER_TELLINGS 8
 #define WORD_ORDER "order"
 #define WORD_MANY "many"
 #define WORD_LIFE "life"

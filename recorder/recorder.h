@@ -66,6 +66,7 @@ enum { SEATS = 256, TYPES = 1023, LOCKS = 65536 };
 #define HELD_FEW 8u
 #define DEPTH_MOST 4u
 #define FRAMES_MOST 16u
+#define SERIAL_BITS 28
 #define ORDER_LONGEST 24u /* locks of an order of single ones; of a longer chain it isn't told */
 
 enum class { MUTEX, RWLOCK, SPIN, SEMAPHORE };
@@ -188,10 +189,11 @@ struct thread {
     uint32_t asked[STREAMS];     /* the number of the lock whose request is pending there, 0 for none */
     struct held few[HELD_FEW];
     bool is_aside; /* on a stack of the recorder's own */
-    uint32_t serial; /* no other thread of this process has it */
+    uint32_t serial; /* no other thread of this process has it; above SERIAL_BITS, how many threads it has made, 7 at most */
     uint32_t made; /* the place where the thread was made; 0 of the first one, or where that isn't known */
     uint32_t maker;   /* the thread that made it, as the kernel counts; 0 of the first one, or where that isn't known */
     uint32_t made_at; /* how many threads had been made and joined before */
+    uint32_t grand, maker_at; /* the same of its maker: who made that one, and when */
     bool has_orders;  /* that stand in a stream */
 };
 
@@ -552,7 +554,8 @@ void write_unlock(struct thread *thread, struct held *held, bool whole);
 void write_waits_for_itself(struct request *request);
 void write_released_by_another(struct thread *thread, struct lock *lock, uint32_t place);
 void write_error(struct thread *thread, enum lock_error error, struct lock *lock, uint32_t place); /* inside */
-void write_order(struct request *request, bool many); /* inside, as the next two */
+enum order_line { ORDER_NEW, ORDER_AGAIN, ORDER_NOT_KEPT };
+void write_order(struct request *request, enum order_line line); /* inside, as the next two */
 void write_life(struct thread *thread);
 void write_joined(uint32_t joined, uint32_t at);
 bool stream_has_room(int stream);

@@ -12,8 +12,9 @@
  * the trace, 0 where it has none; its serial number, which no other lock has; and its mode, with a `t` where it was tried,
  * and an `l` where it is asked for with a time limit.
  *
- * A chain of locks is told of when it is first asked for, and when a second thread does so. All that is kept of it is a
- * number of 64 bits, which stands for the locks and their modes.
+ * A chain of locks is told of when it is first asked for, and when a second thread does so. As long as one thread has
+ * asked for it alone, it is told of again (`r` after the last mode) when that thread has made another one in between. All
+ * that is kept of it is a number of 64 bits, which stands for the locks and their modes.
  */
 #include "quick.h"
 
@@ -51,7 +52,7 @@ void singles_forked(void)
         lives[i].thread = 0;
     atomic_store(&lives_kept, 0);
     self.has_orders = false;
-    self.maker = 0;
+    self.maker = self.grand = 0;
 }
 
 /* The order's slot, or a free one for it; NULL where there is none near. */
@@ -74,6 +75,18 @@ static bool is_kept(struct node *node, struct order *order, const struct thread 
     bool first = atomic_load_explicit(&order->locks, memory_order_relaxed) == 0;
     atomic_store_explicit(&order->thread, first ? thread->serial : THREADS, memory_order_relaxed);
     atomic_store_explicit(&order->locks, locks, memory_order_release);
+    return true;
+}
+
+/* Whether the thread has told of the order, and made a thread since then. Now it tells of it once more. */
+static bool is_told_again(struct order *order, const struct thread *thread, uint64_t locks)
+{
+    if (!order || atomic_load_explicit(&order->locks, memory_order_relaxed) != locks)
+        return false;
+    uint32_t known = atomic_load_explicit(&order->thread, memory_order_relaxed);
+    if (known == THREADS || (known ^ thread->serial) << (32 - SERIAL_BITS) != 0)
+        return false;
+    atomic_store_explicit(&order->thread, thread->serial, memory_order_relaxed);
     return true;
 }
 
@@ -116,12 +129,14 @@ static COLD void note(struct request *request, uint64_t locks)
         return;
     struct node *node = &nodes[request->node - 1];
     if (!(atomic_load(&node->requested) & MANY_ORDERS) && !order_is_known(locks, thread->serial)) {
-        bool kept = is_kept(node, slot_of(locks), thread, locks);
+        struct order *order = slot_of(locks);
+        bool again = is_told_again(order, thread, locks);
+        bool kept = again || is_kept(node, order, thread, locks);
         if (kept && !thread->has_orders)
             begin_life(thread);
         if (!kept)
             atomic_fetch_or(&node->requested, MANY_ORDERS);
-        write_order(request, !kept);
+        write_order(request, !kept ? ORDER_NOT_KEPT : again ? ORDER_AGAIN : ORDER_NEW);
     }
     recorder_leaves();
 }

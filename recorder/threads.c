@@ -19,7 +19,7 @@ enum { BEGINNINGS = 1024 };
 
 static struct beginning {
     _Atomic bool taken;
-    uint32_t place, maker, at;
+    uint32_t place, maker, at, grand, maker_at;
     union {
         void *(*posix)(void *);
         thrd_start_t c11;
@@ -43,6 +43,8 @@ static struct beginning begun(struct beginning *given)
     self.made = beginning.place;
     self.maker = beginning.maker;
     self.made_at = beginning.at;
+    self.grand = beginning.grand;
+    self.maker_at = beginning.maker_at;
     errors_of_thread();
     return beginning;
 }
@@ -72,8 +74,12 @@ static struct beginning *taken_by(struct caller caller, void *argument)
     if (found) {
         found->place = place_of(site_or(makes_at, caller));
         found->maker = (uint32_t)syscall(SYS_gettid);
+        found->grand = self.maker;
+        found->maker_at = self.made_at;
         found->at = atomic_fetch_add(&threads_made_and_joined, 1);
         found->argument = argument;
+        if (self.serial >> SERIAL_BITS < ORDER_TELLINGS - 1)
+            self.serial += 1u << SERIAL_BITS;
     }
     makes_at = 0;
     goes_outside(&self);

@@ -447,7 +447,7 @@ static void put_lock(int stream, struct thread *thread, struct lock *lock, uint8
     put_text(stream, how);
 }
 
-void write_order(struct request *request, bool many)
+void write_order(struct request *request, enum order_line line)
 {
     struct thread *thread = request->thread;
     uint32_t first = thread->count < ORDER_LONGEST ? 0 : thread->count - ORDER_LONGEST + 1;
@@ -457,31 +457,40 @@ void write_order(struct request *request, bool many)
         for (uint32_t i = first; i < thread->count; i++)
             lock_number_for_order(stream, thread, thread->held[i].lock);
         lock_number_for_order(stream, thread, request->lock);
-        put_text(stream, many ? WORD_MANY : WORD_ORDER);
+        put_text(stream, line == ORDER_NOT_KEPT ? WORD_MANY : WORD_ORDER);
         put_number(stream, thread->seat[stream]);
-        if (!many) {
+        if (line != ORDER_NOT_KEPT) {
             put_number(stream, (uint64_t)syscall(SYS_gettid));
             put_number(stream, atomic_load(&threads_made_and_joined));
         }
         for (uint32_t i = first; i < thread->count; i++)
             put_lock(stream, thread, thread->held[i].lock, thread->held[i].mode, thread->held[i].tried ? "t" : "");
-        put_lock(stream, thread, request->lock, request->mode, request->timed ? "l\n" : "\n");
+        put_lock(stream, thread, request->lock, request->mode, request->timed ? "l" : "");
+        put_text(stream, line == ORDER_AGAIN ? "r\n" : "\n");
         stream_append(stream, false);
         seat_given_back(stream, thread);
     }
 }
 
+static void put_life(int stream, uint64_t thread, uint32_t maker, uint32_t made_at)
+{
+    if (!stream_has_room(stream))
+        return;
+    put_text(stream, WORD_LIFE);
+    put_number(stream, thread);
+    put_number(stream, maker);
+    put_number(stream, made_at);
+    put_text(stream, "\n");
+    stream_append(stream, false);
+}
+
+/* The thread's, and its maker's, which may have no order of its own. */
 void write_life(struct thread *thread)
 {
     for (int stream = 0; stream < STREAMS; stream++) {
-        if (!stream_has_room(stream))
-            continue;
-        put_text(stream, WORD_LIFE);
-        put_number(stream, (uint64_t)syscall(SYS_gettid));
-        put_number(stream, thread->maker);
-        put_number(stream, thread->made_at);
-        put_text(stream, "\n");
-        stream_append(stream, false);
+        put_life(stream, (uint64_t)syscall(SYS_gettid), thread->maker, thread->made_at);
+        if (thread->grand != 0)
+            put_life(stream, thread->maker, thread->grand, thread->maker_at);
     }
 }
 

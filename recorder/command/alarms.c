@@ -95,30 +95,49 @@ static const char *gate_of(const struct search *search, const struct circle *cir
     return NULL;
 }
 
-static bool is_alike(const struct single_order *one, const struct single_order *other)
-{
-    if (one->locks != other->locks)
-        return false;
-    for (size_t i = 0; i < one->locks; i++)
-        if (one->lock[i].serial != other->lock[i].serial || one->lock[i].shared != other->lock[i].shared
-            || one->lock[i].timed != other->lock[i].timed)
-            return false;
-    return true;
-}
-
 /* Of an order that two threads have made it isn't known who else has. */
 static bool is_by_one_thread(const struct search *search, const struct single_order *order)
 {
     for (size_t i = 0; i < search->single->orders; i++)
-        if (search->single->order[i].thread != order->thread && is_alike(&search->single->order[i], order))
+        if (search->single->order[i].thread != order->thread && single_are_alike(&search->single->order[i], order))
             return false;
     return true;
 }
 
-static bool are_apart(const struct search *search, const struct single_order *one, const struct single_order *other)
+/* Whether further orders of locks of these types weren't told of. */
+static bool is_one_of_many(const struct search *search, const struct single_order *order)
 {
-    return (single_is_before(search->single, one, other) || single_is_before(search->single, other, one))
-        && is_by_one_thread(search, one) && is_by_one_thread(search, other);
+    for (size_t i = 0; i < search->single->manys; i++) {
+        const struct single_order *many = &search->single->many[i];
+        size_t alike = 0;
+        while (alike < order->locks && many->locks == order->locks && type_of(search, &order->lock[alike])
+            && is_of(search, &many->lock[alike], type_of(search, &order->lock[alike])))
+            alike++;
+        if (alike == order->locks)
+            return true;
+    }
+    return false;
+}
+
+static bool is_early(const struct search *search, const struct single_order *one, const struct single_order *other)
+{
+    return single_is_early(search->single, one, other) && !is_one_of_many(search, one);
+}
+
+static bool is_first(const struct search *search, const struct single_order *order)
+{
+    return single_is_first(search->single, order) && !is_one_of_many(search, order);
+}
+
+static enum apart apart_of(const struct search *search, const struct single_order *one, const struct single_order *other)
+{
+    if (!is_by_one_thread(search, one) || !is_by_one_thread(search, other))
+        return NOT_APART;
+    if (single_is_before(search->single, one, other) || single_is_before(search->single, other, one))
+        return APART_BY_JOIN;
+    if (is_early(search, one, other) || is_early(search, other, one))
+        return APART_BY_MAKING;
+    return is_first(search, one) && is_first(search, other) ? APART_AT_FIRST : NOT_APART;
 }
 
 /* What keeps two of the circle's orders from meeting. One thread can't wait in two of them. */
@@ -128,7 +147,8 @@ static void look_at_pair(const struct search *search, struct alarm *alarm, const
     const char *gate = gate_of(search, circle, one, other);
     if (gate)
         alarm->gate = gate;
-    alarm->apart |= are_apart(search, one, other);
+    if (alarm->apart == NOT_APART)
+        alarm->apart = apart_of(search, one, other);
     if (one->thread != other->thread)
         return;
     alarm->repeated++;
@@ -156,7 +176,7 @@ static struct alarm alarm_of_circle(const struct search *search)
 
 static int words(const struct alarm *alarm)
 {
-    return (alarm->gate != NULL) + alarm->readers + alarm->timed + alarm->apart;
+    return (alarm->gate != NULL) + alarm->readers + alarm->timed + (alarm->apart != NOT_APART);
 }
 
 static bool is_milder(const struct alarm *one, const struct alarm *other)
@@ -307,6 +327,9 @@ static void write_threads(FILE *to, const struct alarm *alarm)
 /* What keeps the orders that are closest to a deadlock from it. */
 static void write_mildness(FILE *to, const struct alarm *alarm)
 {
+    static const char *const apart[] = {[APART_BY_JOIN] = "one thread was joined before the other did so",
+                                        [APART_BY_MAKING] = "one thread did so before it made the other",
+                                        [APART_AT_FIRST] = "both were done before there was another thread"};
     if (alarm->gate)
         fprintf(to, "; gate: each time \"%s\" was held", alarm->gate);
     if (alarm->readers)
@@ -314,7 +337,7 @@ static void write_mildness(FILE *to, const struct alarm *alarm)
     if (alarm->timed)
         fputs("; timed: one was asked for with a time limit", to);
     if (alarm->apart)
-        fputs("; apart: one thread was joined before the other did so", to);
+        fprintf(to, "; apart: %s", apart[alarm->apart]);
 }
 
 static void write_alarm(FILE *to, const struct alarm *alarm)

@@ -28,7 +28,12 @@ struct alarm {
     const char *gate; /* a lock that two of them held besides; NULL where there is none */
     bool readers;     /* one waits for readers alone, as a reader */
     bool timed;       /* one was asked for with a time limit */
-    bool apart;       /* one thread was joined before another was made */
+    enum apart {
+        NOT_APART,
+        APART_BY_JOIN,   /* one thread was joined before another was made */
+        APART_BY_MAKING, /* one thread took its locks before it made another, and not again */
+        APART_AT_FIRST,  /* both orders were made when there was no other thread, and not again */
+    } apart;
 };
 
 struct alarm alarm_of(const struct report *report, const struct notes *notes);

@@ -18,7 +18,8 @@ static bool read_number(const char **at, const char *end, unsigned long *number)
     return *number <= UINT32_MAX && (from == end || *from == ' ');
 }
 
-static bool read_lock(const char **at, const char *end, struct single_lock *lock)
+/* `again` is set where the order isn't told of for the first time. */
+static bool read_lock(const char **at, const char *end, struct single_lock *lock, bool *again)
 {
     unsigned long number, serial;
     if (!read_number(at, end, &number) || !read_number(at, end, &serial) || end - *at < 2 || **at != ' ')
@@ -27,19 +28,21 @@ static bool read_lock(const char **at, const char *end, struct single_lock *lock
     lock->serial = (uint32_t)serial;
     const char *how = *at + 1;
     lock->shared = *how == 's';
-    for (lock->timed = false; how < end && *how != ' '; how++)
+    for (lock->timed = false; how < end && *how != ' '; how++) {
         lock->timed |= *how == 'l';
+        *again |= *how == 'r';
+    }
     *at = how;
     return true;
 }
 
 /* The locks of the line's rest: at least two. */
-static bool read_locks(struct single_order *order, const char *at, const char *end)
+static bool read_locks(struct single_order *order, const char *at, const char *end, bool *again)
 {
     struct single_lock *lock = NULL;
     size_t room = 0;
     order->locks = 0;
-    for (struct single_lock next; at < end && read_lock(&at, end, &next);)
+    for (struct single_lock next; at < end && read_lock(&at, end, &next, again);)
         ADD(lock, order->locks, room) = next;
     order->lock = lock;
     if (at == end && order->locks > 1)
@@ -61,18 +64,23 @@ static void read_order(struct single *single, const char *at, const char *end)
 {
     struct single_order order;
     unsigned long seat, thread;
+    bool again = false;
     if (!read_number(&at, end, &seat) || !read_number(&at, end, &thread) || !read_number(&at, end, &order.at)
-        || !read_locks(&order, at, end))
+        || !read_locks(&order, at, end, &again))
         return;
     order.thread = (long)thread;
-    ADD(single->order, single->orders, single->order_room) = order;
+    if (again)
+        ADD(single->again, single->agains, single->again_room) = order;
+    else
+        ADD(single->order, single->orders, single->order_room) = order;
 }
 
 static void read_many(struct single *single, const char *at, const char *end)
 {
     struct single_order order = {.thread = 0};
     unsigned long seat;
-    if (read_number(&at, end, &seat) && read_locks(&order, at, end))
+    bool again = false;
+    if (read_number(&at, end, &seat) && read_locks(&order, at, end, &again))
         ADD(single->many, single->manys, single->many_room) = order;
 }
 
@@ -102,9 +110,12 @@ void single_end(struct single *single)
 {
     for (size_t i = 0; i < single->orders; i++)
         free((void *)single->order[i].lock);
+    for (size_t i = 0; i < single->agains; i++)
+        free((void *)single->again[i].lock);
     for (size_t i = 0; i < single->manys; i++)
         free((void *)single->many[i].lock);
     free(single->order);
+    free(single->again);
     free(single->many);
     free(single->life);
     free(single->join);
@@ -135,4 +146,45 @@ bool single_is_before(const struct single *single, const struct single_order *on
         }
     }
     return false;
+}
+
+bool single_are_alike(const struct single_order *one, const struct single_order *other)
+{
+    if (one->locks != other->locks)
+        return false;
+    for (size_t i = 0; i < one->locks; i++)
+        if (one->lock[i].serial != other->lock[i].serial || one->lock[i].shared != other->lock[i].shared
+            || one->lock[i].timed != other->lock[i].timed)
+            return false;
+    return true;
+}
+
+/* When the order's thread took its locks so after it had last made a thread. */
+static unsigned long last_told(const struct single *single, const struct single_order *order)
+{
+    unsigned long last = order->at;
+    for (size_t i = 0; i < single->agains; i++)
+        if (single->again[i].thread == order->thread && single->again[i].at > last
+            && single_are_alike(&single->again[i], order))
+            last = single->again[i].at;
+    return last;
+}
+
+bool single_is_early(const struct single *single, const struct single_order *one, const struct single_order *other)
+{
+    unsigned long last = last_told(single, one);
+    if (single->lost > 0 || last >= ORDER_TELLINGS - 1)
+        return false;
+    size_t steps = 0;
+    for (const struct single_life *life = life_of(single, other->thread); life && steps <= single->lives; steps++) {
+        if (life->maker == one->thread && life->maker != 0)
+            return last <= life->made_at;
+        life = life_of(single, life->maker);
+    }
+    return false;
+}
+
+bool single_is_first(const struct single *single, const struct single_order *order)
+{
+    return single->lost == 0 && last_told(single, order) == 0;
 }

@@ -36,6 +36,9 @@ struct single_join {
 struct single {
     struct single_order *order;
     size_t orders, order_room;
+    struct single_order *again; /* told of again by the thread that has told of them, after it has made another one */
+    size_t agains, again_room;
+    unsigned long lost;         /* calls for which the file had no room */
     struct single_life *life;
     size_t lives, life_room;
     struct single_join *join;
@@ -53,5 +56,17 @@ void single_end(struct single *single);
  * that joined; or by the other's thread itself, before it first did so.
  */
 bool single_is_before(const struct single *single, const struct single_order *one, const struct single_order *other);
+
+/* Whether both are orders of the same locks, in the same modes. */
+bool single_are_alike(const struct single_order *one, const struct single_order *other);
+
+/*
+ * Whether the thread of the one order has made the other's, or one that made that in turn, and never took its locks so again
+ * after that. It isn't known of a thread that had made many by then, or where calls weren't recorded.
+ */
+bool single_is_early(const struct single *single, const struct single_order *one, const struct single_order *other);
+
+/* Whether its thread made the order before there was any other thread, and never after that. */
+bool single_is_first(const struct single *single, const struct single_order *order);
 
 #endif

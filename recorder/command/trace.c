@@ -354,6 +354,8 @@ bool trace_write(const struct making *making)
     writing->making = making;
     writing->trace = making->trace;
     writing->notes = making->notes;
+    if (making->notes)
+        stream_count(making->stream, "log", &making->notes->single.lost);
     writing->has_spots = making->notes && (making->frames > 1 || making->is_learnt);
     write_header(writing);
     if (writing->notes)

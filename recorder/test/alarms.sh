@@ -19,11 +19,15 @@ if wanted alarms; then
     compile single
     alarm locks 'both orders, the same locks, threads N and M'
     alarm types 'one order only for any two locks: types alone'
-    alarm one 'both orders, the same locks, thread N alone'
+    alarm one 'both orders, the same locks, thread N alone; apart: both were done before there was another thread'
+    alarm alone 'both orders, the same locks, thread N alone'
+    alarm anew 'both orders, the same locks, thread N alone'
     alarm gate 'both orders, the same locks, threads N and M; gate: each time "single.c:40" was held'
     alarm timed 'both orders, the same locks, threads N and M; timed: one was asked for with a time limit'
     alarm readers 'both orders, the same locks, threads N and M; readers: one waits for readers as a reader'
     alarm apart 'both orders, the same locks, threads N and M; apart: one thread was joined before the other did so'
+    alarm early 'both orders, the same locks, threads N and M; apart: one thread did so before it made the other'
+    alarm later 'both orders, the same locks, threads N and M'
     alarm many 'not known, there were more orders of such locks than are kept'
     alarm three 'all orders of the circle, the same locks, threads N and M'
     alarm through 'all orders of the circle, the same locks, threads N and M'
@@ -37,11 +41,15 @@ if wanted alarms; then
     counts 9 locks threads
     counts 9 one locks
     counts 0 one threads
+    counts 0 one locks,apart
+    counts 9 anew locks,apart
     counts 9 gate all
     counts 0 gate locks,gate
     counts 0 timed all,timed
     counts 0 readers threads,readers
     counts 0 apart threads,apart
+    counts 0 early threads,apart
+    counts 9 later threads,apart
     counts 9 many threads
     counts 9 through threads,timed
     counts 9 twice locks
@@ -66,7 +74,7 @@ if wanted alarms; then
     exec 8>&-
     wait $!
     [ $before -eq 0 ] &&
-        grep -q '^record: by now, of "single.c:26" and "single.c:26/2" @ single.c:57: single locks: both orders, ' recorded.err
+        grep -q '^record: by now, of "single.c:26" and "single.c:26/2" @ single.c:56: single locks: both orders, ' recorded.err
     tell alarms "what comes to be known of a report that was told" $?
     "$record" --alarms sometimes -- ./single locks 2>recorded.err
     [ $? -eq 2 ] && grep -q '^record: --alarms takes ' recorded.err

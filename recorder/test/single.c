@@ -48,9 +48,8 @@ static void wait_for_all(void)
         pthread_barrier_wait(&done);
 }
 
-static void *take_both(void *argument)
+static void take(struct both *both)
 {
-    struct both *both = argument;
     if (both->gate)
         pthread_mutex_lock(both->gate);
     pthread_mutex_lock(both->first);
@@ -59,6 +58,11 @@ static void *take_both(void *argument)
     pthread_mutex_unlock(both->first);
     if (both->gate)
         pthread_mutex_unlock(both->gate);
+}
+
+static void *take_both(void *argument)
+{
+    take(argument);
     wait_for_all();
     return NULL;
 }
@@ -166,6 +170,20 @@ static void try_row(void *(*take)(void *), int under)
     pthread_join(other, NULL);
 }
 
+/* This thread takes its locks before it makes one that takes them the other way, or once more after that. */
+static void try_early(struct both *both, struct both *back, int later)
+{
+    pthread_t thread;
+    pthread_barrier_init(&done, NULL, 2);
+    take(both);
+    pthread_create(&thread, NULL, take_both, back);
+    sem_wait(&took);
+    if (later)
+        take(both);
+    wait_for_all();
+    pthread_join(thread, NULL);
+}
+
 static void try_readers(void)
 {
     static pthread_rwlock_t table = PTHREAD_RWLOCK_INITIALIZER, index = PTHREAD_RWLOCK_INITIALIZER;
@@ -183,9 +201,16 @@ int main(int count, char **words)
         run_two(take_both, take_both, there, back);
     if (strcmp(how, "types") == 0)
         run_two(take_both, take_both, there, elsewhere);
-    if (strcmp(how, "one") == 0) {
-        take_both(&there);
-        take_both(&back);
+    if (strcmp(how, "one") == 0 || strcmp(how, "anew") == 0) {
+        take(&there);
+        take(&back);
+    }
+    /* A thread is made that takes other locks. */
+    if (strcmp(how, "alone") == 0 || strcmp(how, "anew") == 0) {
+        alone = 1;
+        run((void *(*[])(void *)){take_both}, (struct both[]){elsewhere}, 1);
+        take(&there);
+        take(&back);
     }
     if (strcmp(how, "gate") == 0) {
         there.gate = back.gate = bank();
@@ -205,6 +230,8 @@ int main(int count, char **words)
         try_row(take_three, 1);
     if (strcmp(how, "twice") == 0)
         try_row(take_both_of_two, 0);
+    if (strcmp(how, "early") == 0 || strcmp(how, "later") == 0)
+        try_early(&there, &back, how[0] == 'l');
     if (strcmp(how, "twins") == 0)
         run_two(take_both, take_both, (struct both){a, other, NULL}, (struct both){other, a, NULL});
     /* The second order comes when it is asked for. */
