@@ -1,0 +1,120 @@
+#include <stdio.h>
+#include <string.h>
+
+#include "alarms.h"
+#include "memory.h"
+
+/* The threads of the orders, each once. */
+static void write_threads(FILE *to, const struct alarm *alarm)
+{
+    long thread[sizeof alarm->order / sizeof *alarm->order];
+    size_t count = 0;
+    for (size_t i = alarm->orders; i-- > 0;) {
+        size_t at = 0;
+        while (at < count && thread[at] != alarm->order[i]->thread)
+            at++;
+        if (at == count)
+            thread[count++] = alarm->order[i]->thread;
+    }
+    if (count == 1) {
+        fprintf(to, "thread %ld alone", thread[0]);
+        return;
+    }
+    for (size_t i = 0; i < count; i++)
+        fprintf(to, "%s%ld", i == 0 ? "threads " : i + 1 < count ? ", " : " and ", thread[i]);
+    if (alarm->twice)
+        fprintf(to, ", of which %ld took two orders", alarm->twice);
+}
+
+/* What keeps the orders that are closest to a deadlock from it. */
+static void write_mildness(FILE *to, const struct alarm *alarm)
+{
+    static const char *const apart[] = {[APART_BY_JOIN] = "one thread was joined before the other did so",
+                                        [APART_BY_MAKING] = "one thread did so before it made the other",
+                                        [APART_AT_FIRST] = "both were done before there was another thread"};
+    if (alarm->gate)
+        fprintf(to, "; gate: each time \"%s\" was held", alarm->gate);
+    if (alarm->readers)
+        fputs("; readers: one waits for readers as a reader", to);
+    if (alarm->timed)
+        fputs("; timed: one was asked for with a time limit", to);
+    if (alarm->apart)
+        fprintf(to, "; apart: %s", apart[alarm->apart]);
+}
+
+static void write_alarm(FILE *to, const struct alarm *alarm)
+{
+    switch (alarm->grade) {
+    case GRADE_NONE: return;
+    case GRADE_UNKNOWN:
+        fputs("single locks: not known, there were more orders of such locks than are kept", to);
+        return;
+    case GRADE_TYPES: fputs("single locks: one order only for any two locks: types alone", to); return;
+    case GRADE_ONE_THREAD:
+    case GRADE_THREADS:
+        fprintf(to, "single locks: %s, the same locks, ", alarm->steps > 2 ? "all orders of the circle" : "both orders");
+        write_threads(to, alarm);
+        break;
+    }
+    write_mildness(to, alarm);
+}
+
+char *alarm_text(const struct alarm *alarm)
+{
+    char *text = NULL;
+    size_t length = 0;
+    FILE *to = open_memstream(&text, &length);
+    if (!to)
+        return copy("");
+    write_alarm(to, alarm);
+    fclose(to);
+    return text;
+}
+
+static bool is_word(const char *at, size_t length, const char *word)
+{
+    return length == strlen(word) && memcmp(at, word, length) == 0;
+}
+
+static bool take_word(const char *at, size_t length, struct alarms_wanted *wanted)
+{
+    if (is_word(at, length, "all"))
+        wanted->least = wanted->least_of_duplicates = GRADE_NONE;
+    else if (is_word(at, length, "locks"))
+        wanted->least = wanted->least_of_duplicates = GRADE_ONE_THREAD;
+    else if (is_word(at, length, "threads"))
+        wanted->least = wanted->least_of_duplicates = GRADE_THREADS;
+    else if (is_word(at, length, "gate"))
+        wanted->not_gated = true;
+    else if (is_word(at, length, "readers"))
+        wanted->not_readers = true;
+    else if (is_word(at, length, "timed"))
+        wanted->not_timed = true;
+    else if (is_word(at, length, "apart"))
+        wanted->not_apart = true;
+    else
+        return false;
+    return true;
+}
+
+bool alarms_words(const char *words, struct alarms_wanted *wanted)
+{
+    for (;;) {
+        size_t length = strcspn(words, ",");
+        if (!take_word(words, length, wanted))
+            return false;
+        if (!words[length])
+            return true;
+        words += length + 1;
+    }
+}
+
+/* What isn't known counts. */
+bool alarm_counts(const struct alarms_wanted *wanted, const struct report *report, const struct alarm *alarm)
+{
+    enum grade least = report->kind == REPORT_DUPLICATE ? wanted->least_of_duplicates : wanted->least;
+    if (alarm->grade <= GRADE_UNKNOWN)
+        return true;
+    return alarm->grade >= least && !(wanted->not_gated && alarm->gate) && !(wanted->not_readers && alarm->readers)
+        && !(wanted->not_timed && alarm->timed) && !(wanted->not_apart && alarm->apart);
+}
