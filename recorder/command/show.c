@@ -31,6 +31,7 @@ static const char empty_trace[] = "witness-trace 1 seats 1 types 1 locks 1 chunk
 static void prepare(void)
 {
     struct rlimit limit;
+    struct sigaction children;
     int file = open("/dev/null", O_RDWR);
     while (file >= 0 && file <= STDERR_FILENO)
         file = dup(file);
@@ -42,7 +43,9 @@ static void prepare(void)
     }
     signal(SIGXFSZ, SIG_IGN);
     signal(SIGPIPE, SIG_IGN);
-    signal(SIGCHLD, SIG_DFL);
+    /* Where it is as it should be it isn't set: that would take a signal away that waits for `launch`. */
+    if (sigaction(SIGCHLD, NULL, &children) == 0 && children.sa_handler != SIG_DFL)
+        signal(SIGCHLD, SIG_DFL);
 }
 
 /*
