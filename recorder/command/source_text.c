@@ -58,47 +58,66 @@ const char *after_bracket(const char *at, const char *end)
     return NULL;
 }
 
+static const char *without_space(const char *from, const char *end)
+{
+    while (end > from && isspace((unsigned char)end[-1]))
+        end--;
+    return end;
+}
+
+static const char *before_word(const char *from, const char *end)
+{
+    while (end > from && is_word_byte(end[-1]))
+        end--;
+    return end;
+}
+
+/* Where the bracket opens that closes before `end`. NULL where it doesn't. */
+static const char *before_bracket(const char *from, const char *end)
+{
+    unsigned open = 0;
+    do {
+        end--;
+        open += *end == ']' || *end == ')';
+        open -= *end == '[' || *end == '(';
+    } while (end > from && open > 0);
+    return open == 0 ? end : NULL;
+}
+
+/* How many bytes the operator between two names has that ends before `end`. 0 where there is none. */
+static size_t joint(const char *from, const char *end)
+{
+    if (end[-1] == '.')
+        return 1;
+    return end - from >= 2 && (memcmp(end - 2, "->", 2) == 0 || memcmp(end - 2, "::", 2) == 0) ? 2 : 0;
+}
+
 /* Where the postfix expression begins that ends before `end`: names, brackets, `.`, `->` and `::`. */
 const char *path_begin(const char *from, const char *end)
 {
     const char *at = end;
     bool wants_name = true;
-    while (at > from) {
-        const char *before = at;
-        while (before > from && isspace((unsigned char)before[-1]))
-            before--;
+    for (;;) {
+        const char *before = without_space(from, at);
         if (before == from)
-            break;
+            return at;
         if (wants_name && is_word_byte(before[-1])) {
-            while (before > from && is_word_byte(before[-1]))
-                before--;
+            before = before_word(from, before);
             wants_name = false;
         } else if (wants_name && (before[-1] == ']' || before[-1] == ')')) {
-            unsigned open = 0;
-            do {
-                before--;
-                open += *before == ']' || *before == ')';
-                open -= *before == '[' || *before == '(';
-            } while (before > from && open > 0);
-            if (open > 0)
-                break;
-            const char *name = before;
-            while (name > from && isspace((unsigned char)name[-1]))
-                name--;
+            before = before_bracket(from, before);
+            if (!before)
+                return at;
+            const char *name = without_space(from, before);
             wants_name = name > from && (is_word_byte(name[-1]) || name[-1] == ']' || name[-1] == ')');
-        } else if (!wants_name && before[-1] == '.') {
-            before--;
-            wants_name = true;
-        } else if (!wants_name && before - from >= 2 &&
-            ((before[-1] == '>' && before[-2] == '-') || (before[-1] == ':' && before[-2] == ':'))) {
-            before -= 2;
+        } else if (!wants_name && joint(from, before) > 0) {
+            before -= joint(from, before);
             wants_name = true;
         } else {
-            break;
+            return at;
         }
         at = before;
     }
-    return at;
 }
 
 bool has_part(struct span word, const char *part)
