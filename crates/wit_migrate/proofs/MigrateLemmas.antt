@@ -1,7 +1,7 @@
 -- What a migration writes of a line, and how it ends.
 use Rattle.std.proofs.Common.{◌≡◌, ℕ, ◌+◌, ◌-◌, ◌^◌, ◌<◌, ◌≤◌, true, false, ◌||◌, List, [], ◌∷◌}
 use Rattle.std.proofs.Common.{◌++◌, length, take, get_or, None, Some, Ok, Err, refl, sym, ap, ap₂}
-use Rattle.std.proofs.Common.{◌∙◌, subst, append_assoc}
+use Rattle.std.proofs.Common.{◌∙◌, subst, append_assoc, arith, Result, IfOk, OnOk}
 use Rattle.std.specs.Global.{Vec}
 use Rattle.std.proofs.lemmas.Bool.{le-ltb}
 use Rattle.std.proofs.lemmas.List.{take-map, take_more}
@@ -30,7 +30,8 @@ use Rattle.wit_model.specs.Trace.Reading.{line_of}
 use Rattle.wit_model.specs.World.Scenes.{RawLock}
 use Rattle.wit_grammar.specs.Lines.{IsSpelled}
 use Rattle.wit_stream.specs.Machine.{Follows}
-use Rattle.wit_migrate.specs.Migrates.{IsMigrated, EndsWith, GoesOver, IsRefusedAt, Writes}
+use Rattle.wit_migrate.specs.Migrates.{IsMigrated, EndsWith, GoesOver, HasMoved, IsRefusedAt}
+use Rattle.wit_migrate.specs.Migrates.{Writes}
 use Rattle.wit_migrate.specs.Migrates.{kept_bytes, migrated, moved_to}
 use Rattle.wit_trace.specs.Replays.{IsVerifierOf, total}
 use Rattle.wit_migrate.specs.declared.migrating.Migrating.{Migrating}
@@ -244,3 +245,17 @@ ends-follow old new n line text summary written (step.Ends found) ends is = λ l
     subst (λ t. IsMigrated (moving_from (moved_to old) n (line ∷ lines) tail) t found) (sym ends.0)
     (subst (λ x. IsMigrated (moving_from (moved_to old) n (line ∷ lines) tail) text x) (sym ends.1)
     (is lines tail))
+
+-- it has moved its last line then
+pub ended-moved : {E : Type 0} (old new : Migrating) (n : ℕ) (line text : List ℕ)
+    (summary : Summary) (written : List ℕ) (answer : Result machine.Step E)
+    → IfOk answer (EndsWith text summary written) → OnOk answer (moved_to new ≡ Unmoved)
+    → ((lines : List (List ℕ)) (tail : List ℕ)
+    → IsMigrated (moving_from (moved_to old) n (line ∷ lines) tail) text summary)
+    → IfOk answer (HasMoved old n line new written)
+ended-moved old new n line text summary written (Err e) ends over is = tt
+ended-moved old new n line text summary written (Ok s) ends over is = (
+  ends-follow old new n line text summary written s ends is,
+  rw over (omega arith),
+  rw over (omega arith),
+)

@@ -1,6 +1,6 @@
 -- What a migration of a trace writes and sums up.
 use Rattle.std.specs.Prelude.{◌≡◌, ℕ, ◌+◌, ◌<◌, ◌≤◌, Bool, true, false, List, [], ◌∷◌, map, sum_by}
-use Rattle.std.specs.Prelude.{length, Option, None, Some, Result, Ok, Err, IfOk, refl}
+use Rattle.std.specs.Prelude.{length, Option, None, Some, Result, Ok, Err, refl}
 use Rattle.std.specs.Prelude.{if◌then◌else◌}
 use Rattle.std.specs.Global.{Vec}
 use Rattle.wit_model.specs.declared.calls.Call.{Call}
@@ -133,12 +133,11 @@ MayMove m number line text =
 
 -- a line is moved: this text is written, and what follows; it counts for one report at most, and
 -- weighs one at most
-abbrev pub HasMoved : {E : Type 0} → Migrating → ℕ → List ℕ → Migrating → List ℕ → Result Step E
-    → Type 0
-HasMoved old number line new text result =
-    IfOk result (Follows migrated old new number line text)
-    × IfOk result (λ s. moving_reports (moved_to new) ≤ moving_reports (moved_to old) + 1)
-    × IfOk result (λ s. weighed (moved_to new) ≤ weighed (moved_to old) + 1)
+abbrev pub HasMoved : Migrating → ℕ → List ℕ → Migrating → List ℕ → Step → Type 0
+HasMoved old number line new text s =
+    Follows migrated old new number line text s
+    × (moving_reports (moved_to new) ≤ moving_reports (moved_to old) + 1)
+    × (weighed (moved_to new) ≤ weighed (moved_to old) + 1)
 
 -- the migration ends with this text and this summary
 abbrev pub EndsWith : List ℕ → Summary → List ℕ → Step → Type 0

@@ -3,7 +3,6 @@
 
 mod behind;
 mod endings;
-mod frequent_lines;
 mod headers;
 mod migrating;
 mod preludes;

@@ -20,12 +20,11 @@ use crate::preludes::{self, Reached};
 use crate::texts::join;
 use std::alloc::{AllocError, Global};
 use std::io::{BufRead, Write};
-use wit_grammar::{
-    Begun, LineError, begin_line, behind_check, behind_lock, behind_unlock, finish_line,
-};
-use wit_model::{Cause, Line};
+use std::mem;
+use wit_grammar::{Begun, LineError, begin_line, finish_line};
+use wit_model::{Cause, Line, LockLine};
 use wit_stream::{Failures, Machine, Pace, Ports, ReplayError, Step, Summary, run};
-use wit_trace::Prelude;
+use wit_trace::{LineReader, Prelude, read_line};
 
 /// Reads a trace of the first version, and writes it as one of the second: its own lines, and
 /// between them the steps of the locks themselves that its calls need. A lock is taken before it is
@@ -167,21 +166,79 @@ impl Migrating {
             Migrating::Moved(behind) => behind.enter(alloc, line, bytes),
         }
     }
+}
 
-    /// A line of any kind.
+impl Migrating {
+    // A line before the prelude is over, or that ends it. By itself, so that no other pays for it.
     #[inline(never)]
-    pub fn any_line(
+    fn opening_line(
         &mut self,
         alloc: Global,
         number: u64,
         bytes: &[u8],
-        begun: Option<Begun>,
         text: &mut Vec<u8>,
     ) -> Result<Step, AllocError>
-        requires ready { MayMove self.old number bytes.now text.old.items }
-        requires begun { Begins begun (line_of bytes.now) }
-        ensures { HasMoved self.old number bytes.now self.new text.new.items result }
+        requires { MayMove self.old number bytes.now text.old.items }
+        ensures { IfOk result (HasMoved self.old number bytes.now self.new text.new.items) }
     {
+        self.read_any(alloc, (), number, bytes, begin_line(bytes), text)
+    }
+}
+
+impl LineReader for Migrating {
+    // There is one way to write lines.
+    type View = ();
+
+    ghost may = { λ view m number line text. MayMove m number line text };
+
+    ghost has = { λ view old number line new text step. HasMoved old number line new text step };
+
+    #[inline(always)]
+    fn recent_file(&self) -> Option<&str> {
+        match self {
+            Migrating::Moved(behind) => behind.recent_file(),
+            Migrating::Unmoved | Migrating::Keeping { .. } => None,
+        }
+    }
+
+    // It makes its call at once once the prelude is over.
+    #[inline(always)]
+    fn read_on_lock(
+        &mut self,
+        alloc: Global,
+        _view: (),
+        number: u64,
+        bytes: &[u8],
+        line: LockLine<&str>,
+        text: &mut Vec<u8>,
+    ) -> Result<Step, AllocError> {
+        if let Migrating::Moved(behind) = self {
+            let found = behind.summary();
+            let room = mem::replace(text, Vec::new(alloc));
+            return match behind.enter_on_lock(alloc, room, line, bytes) {
+                Ok(told) => {
+                    *text = told;
+                    Ok(Step::Goes)
+                }
+                Err(LineError::Bad(cause)) => {
+                    self.ended_step(alloc, Vec::new(alloc), found, number, cause, text)
+                }
+                Err(LineError::Memory) => Err(AllocError),
+            };
+        }
+        self.read_any(alloc, (), number, bytes, begin_line(bytes), text)
+    }
+
+    #[inline(never)]
+    fn read_any(
+        &mut self,
+        alloc: Global,
+        _view: (),
+        number: u64,
+        bytes: &[u8],
+        begun: Option<Begun<'_>>,
+        text: &mut Vec<u8>,
+    ) -> Result<Step, AllocError> {
         let reached = self.reach(alloc, number, bytes)?;
         let found = self.found();
         if let Some((number, cause)) = reached.refused {
@@ -222,18 +279,10 @@ impl Machine for Migrating {
         bytes: &[u8],
         text: &mut Vec<u8>,
     ) -> Result<Step, AllocError> {
-        if matches!(self, Migrating::Moved(_)) {
-            if let Some(rest) = behind_lock(bytes) {
-                return self.note_line(alloc, number, bytes, rest, text);
-            }
-            if let Some(rest) = behind_unlock(bytes) {
-                return self.unlock_line(alloc, number, bytes, rest, text);
-            }
-            if let Some(rest) = behind_check(bytes) {
-                return self.check_line(alloc, number, bytes, rest, text);
-            }
+        if !matches!(self, Migrating::Moved(_)) {
+            return self.opening_line(alloc, number, bytes, text);
         }
-        self.other_line(alloc, number, bytes, begin_line(bytes), text)
+        read_line(self, alloc, (), number, bytes, text)
     }
 
     fn broken(

@@ -1,5 +1,6 @@
 pub mod CallLemmas
 pub mod CountLemmas
+pub mod DrivingLemmas
 pub mod ListedTypes
 pub mod ReplayLemmas
 pub mod ReportLemmas

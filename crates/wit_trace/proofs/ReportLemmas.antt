@@ -1,22 +1,19 @@
 -- A line tells of one report at most.
 use Rattle.std.proofs.Common.{◌≡◌, ℕ, ◌+◌, ◌≤◌, Bool, true, false, cond, ltb, length, List, []}
-use Rattle.std.proofs.Common.{Option, None, Some, Result, Ok, Err, refl, subst, arith}
-use Rattle.wit_model.specs.declared.calls.Reply.{Reply}
+use Rattle.std.proofs.Common.{Option, None, Some, Result, Ok, Err, subst, arith}
 use Rattle.wit_model.specs.declared.lines.Cause.{Cause}
 use Rattle.wit_model.specs.declared.lines.Cause.TheVariants as why
 use Rattle.wit_model.specs.declared.lines.Line.{Line}
 use Rattle.wit_model.specs.declared.lines.Line.TheVariants.{Header, Profile, Order, Bless}
 use Rattle.wit_model.specs.Rules.Sizes.{Sizes, sizes_of, are_within_limits}
 use Rattle.wit_model.specs.Trace.Reading.{line_of}
-use Rattle.wit_model.specs.Rules.History.{reports_of}
-use Rattle.wit_model.specs.Rules.State.{Story}
 use Rattle.wit_model.specs.Trace.Output as output
 use Rattle.wit_model.specs.declared.lines.Version.{Version}
 use Rattle.wit_fields.specs.declared.errors.LineError.{LineError}
 use Rattle.wit_fields.specs.declared.errors.LineError.TheVariants.{Bad, Memory}
 use Rattle.wit_model.specs.declared.lines.View.{View}
 use Rattle.wit_stream.specs.declared.machine.Step.{Step}
-use Rattle.wit_trace.specs.Replays.{Calls, EndsFor, FailsFor, GoesAsDue, reports_told}
+use Rattle.wit_trace.specs.Replays.{EndsFor, GoesAsDue, reports_told}
 use Rattle.std.specs.Global.{Vec}
 use Rattle.wit_trace.proofs.CountLemmas.{keeps_reports, CountsOne, calls_one, calls_in_one}
 
@@ -83,49 +80,3 @@ module _ (p q : output.Progress) (n : ℕ) (bytes : List ℕ) (r : Result (Vec �
       → EndsFor view q n e text s → reports_told q ≤ reports_told p + 1
   ended_one view Memory text s is ends = elim ends [ ]
   ended_one view (Bad cause) text s is ends = bad_one cause is
-
-abbrev CallsOn : Story → Story → ℕ → Result Reply LineError → Type 0
-CallsOn old new m (Ok reply) = reports_of new.history + m ≤ reports_of old.history + m + 1
-CallsOn old new m (Err Memory) = Unit {0}
-CallsOn old new m (Err (Bad cause)) = reports_of new.history + m ≤ reports_of old.history + m + 1
-
-calls_on : (due : output.Outcome) (old new : Story) (m : ℕ) (r : Result Reply LineError)
-    → CountsOne (reports_of old.history + m) due
-    → ((reply : Reply) → r ≡ Ok reply
-    → due ≡ output.Goes (output.Reading new m) (output.reply_text new reply))
-    → ((e : LineError) → r ≡ Err e
-    → FailsFor due (output.Reading old m) (output.Reading new m) e) → CallsOn old new m r
-calls_on due old new m (Ok reply) one goes fails =
-    subst (CountsOne (reports_of old.history + m)) (goes reply refl) one
-calls_on due old new m (Err Memory) one goes fails = tt
-calls_on (output.Goes q text) old new m (Err (Bad cause)) one goes fails =
-    elim (fails (Bad cause) refl) [ ]
-calls_on (output.Bad why) old new m (Err (Bad cause)) one goes fails = let e =
-    keeps_reports (output.Reading old m) (output.Reading new m) (fails (Bad cause) refl).1 in
-    omega (arith, e)
-
-module _ (old new : Story) (m : ℕ) (line : Line) (r : Result Reply LineError)
-    (calls : Calls (λ m. output.calls old m (output.call_of line)) old new r) where
-  one_call : CallsOn old new m r
-  one_call =
-      calls_on (output.calls old m (output.call_of line)) old new m r
-      (calls_one old m (output.call_of line))
-      (λ reply is. subst (Calls (λ m. output.calls old m (output.call_of line)) old new) is calls m)
-      (λ e is. subst (Calls (λ m. output.calls old m (output.call_of line)) old new) is calls m)
-
-  -- a line on a lock whose call is made
-  pub made_one : (reply : Reply) → r ≡ Ok reply
-      → reports_of new.history + m ≤ reports_of old.history + m + 1
-  made_one reply is = subst (CallsOn old new m) is one_call
-
-  -- or refused
-  pub refused_one : (cause : Cause) → r ≡ Err (Bad cause)
-      → reports_of new.history + m ≤ reports_of old.history + m + 1
-  refused_one cause is = subst (CallsOn old new m) is one_call
-
-  -- what ended then
-  pub call_ended_one : (view : View) (n : ℕ) (e : LineError) (text : List ℕ) (s : Step) → r ≡ Err e
-      → EndsFor view (output.Reading new m) n e text s
-      → reports_of new.history + m ≤ reports_of old.history + m + 1
-  call_ended_one view n Memory text s is ends = elim ends [ ]
-  call_ended_one view n (Bad cause) text s is ends = refused_one cause is

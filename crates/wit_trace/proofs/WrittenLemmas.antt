@@ -3,22 +3,17 @@ use Rattle.std.proofs.Common.{◌≡◌, ℕ, ◌+◌, ◌≤◌, Bool, List, []
 use Rattle.std.proofs.Common.{Err, IfOk, refl, sym, ap, ap₂, append_assoc, subst, ◌∙◌, false}
 use Rattle.std.specs.Global.{Vec}
 use Rattle.std.proofs.lemmas.Bool.{le-ltb}
-use Rattle.wit_model.specs.declared.calls.Reply.{Reply}
-use Rattle.wit_model.specs.declared.lines.Line.{Line}
 use Rattle.wit_model.specs.declared.lines.Cause.{Cause}
-use Rattle.wit_model.specs.Rules.State.{Story}
 use Rattle.wit_model.specs.Trace.Output as output
 use Rattle.wit_model.specs.Trace.Reading.{line_of}
 use Rattle.wit_fields.specs.declared.errors.LineError.{LineError}
 use Rattle.wit_fields.specs.declared.errors.LineError.TheVariants.{Bad, Memory}
 use Rattle.wit_stream.specs.Machine.{Follows}
-use Rattle.wit_trace.specs.Replays.{Calls, EndsFor, GoesOnWith, GoesWith, IsBadFor, allowed_at}
-use Rattle.wit_trace.specs.Replays.{GoesAsDue, KeepsTotal, StandsAsDue, IsWritten, progress_of}
+use Rattle.wit_trace.specs.Replays.{EndsFor, GoesOnWith, IsBadFor, allowed_from}
+use Rattle.wit_trace.specs.Replays.{GoesAsDue, KeepsTotal, StandsAsDue, IsWritten}
 use Rattle.wit_trace.specs.Replays.{total}
 use Rattle.wit_model.specs.declared.lines.View.{View}
 use Rattle.wit_model.specs.declared.lines.View.TheVariants.{Reports, Graph, Locks, Circle}
-use Rattle.wit_trace.specs.declared.replaying.Progress.{Progress}
-use Rattle.wit_trace.specs.declared.replaying.Progress.TheVariants.{Reading}
 use Rattle.wit_stream.specs.declared.machine.Step.{Step}
 use Rattle.wit_stream.specs.declared.machine.Step.TheVariants as step
 use Rattle.wit_stream.specs.declared.summary.Summary.{Summary}
@@ -132,54 +127,16 @@ bad_after view (output.Bad why) p q n cause next text summary bad ends =
     ends.is_shown.ends.1
 
 -- what becomes of a line that is bad
-pub line_ends : (view : View) (m q : Progress) (p : output.Progress) (n : ℕ) (line : List ℕ)
+pub line_ends : (view : View) (from p q : output.Progress) (n : ℕ) (line : List ℕ)
     (r : Result (Vec ℕ) LineError) (e : LineError) (text : List ℕ) (s : Step)
-    → output.reached (progress_of m) n line ≡ Ok p
-    → GoesAsDue (output.outcome p n line) p (progress_of q) r
-    → r ≡ Err e → EndsFor view (progress_of q) n e text s
-    → Follows (allowed_at view) m q n line text s
-line_ends view m q p n line r Memory text s stands passes is ends = elim ends [ ]
-line_ends view m q p n line r (Bad cause) text step.Goes stands passes is ends = elim ends [ ]
-line_ends view m q p n line r (Bad cause) text (step.Ends summary) stands passes is ends =
+    → output.reached from n line ≡ Ok p → GoesAsDue (output.outcome p n line) p q r
+    → r ≡ Err e → EndsFor view q n e text s → Follows (allowed_from view) from q n line text s
+line_ends view from p q n line r Memory text s stands passes is ends = elim ends [ ]
+line_ends view from p q n line r (Bad cause) text step.Goes stands passes is ends = elim ends [ ]
+line_ends view from p q n line r (Bad cause) text (step.Ends summary) stands passes is ends =
     λ lines tail.
-    rw stands (bad_after view (output.outcome p n line) p (progress_of q) n cause _ text
-    summary (subst (GoesAsDue (output.outcome p n line) p (progress_of q)) is passes) ends)
-
-module _ (view : View) (s new : Story) (m n : ℕ) (bytes : List ℕ) (line : Line)
-    (r : Result Reply LineError) (short : length bytes ≤ 4096) (reads : line_of bytes ≡ Some line)
-    (calls : Calls (λ m. output.calls s m (output.call_of line)) s new r) where
-  makes_call : output.outcome (output.Reading s m) n bytes ≡ output.calls s m (output.call_of line)
-  makes_call = rw (le-ltb 4096 (length bytes) short, reads) refl
-
-  -- what becomes of a line whose call is made
-  pub call_goes : (reply : Reply) (text : List ℕ) → r ≡ Ok reply
-      → text ≡ output.shown_by view (output.reply_text new reply)
-      → (lines : List (List ℕ)) (tail more : List ℕ) (summary : Summary)
-      → allowed_at view (Reading new m) (n + 1) lines tail more summary
-      → allowed_at view (Reading s m) n (bytes ∷ lines) tail (text ++ more) summary
-  call_goes reply text is shows lines tail more summary written =
-      let due : output.outcome (output.Reading s m) n bytes
-      ≡ output.Goes (output.Reading new m) (output.reply_text new reply) =
-      makes_call ∙ subst (Calls (λ m. output.calls s m (output.call_of line)) s new) is calls m
-      in
-      told_after view (output.outcome (output.Reading s m) n bytes) (output.Reading s m)
-      (output.Reading new m) n (output.reply_text new reply) text _ more summary
-      (rw due (refl, refl)) shows written
-
-  pub call_goes_on : (reply : Reply) (text : List ℕ) (t : Step) → r ≡ Ok reply
-      → GoesWith (output.shown_by view (output.reply_text new reply)) text t
-      → Follows (allowed_at view) (Reading s m) (Reading new m) n bytes text t
-  call_goes_on reply text step.Goes is goes = call_goes reply text is goes
-  call_goes_on reply text (step.Ends summary) is goes = elim goes [ ]
-
-  -- what becomes of a line whose call is refused
-  pub call_ends : (e : LineError) (text : List ℕ) (t : Step) → r ≡ Err e
-      → EndsFor view (output.Reading new m) n e text t
-      → Follows (allowed_at view) (Reading s m) (Reading new m) n bytes text t
-  call_ends e text t is ends =
-      line_ends view (Reading s m) (Reading new m) (output.Reading s m) n bytes (Err e) e text t
-      refl (rw makes_call (subst (Calls (λ m. output.calls s m (output.call_of line)) s new) is
-      calls m)) refl ends
+    rw stands (bad_after view (output.outcome p n line) p q n cause _ text
+    summary (subst (GoesAsDue (output.outcome p n line) p q) is passes) ends)
 
 -- the text and the summary at a list that is refused
 refused_at : (view : View) (due : Result output.Progress output.BadLine) (p q : output.Progress)
@@ -201,16 +158,14 @@ refused view p q n line list text summary is keeps texts sums circle lines tail 
     refused_at view (output.reached p n line) p q list _ text summary is keeps texts sums circle
 
 -- the step that ends the reading then
-pub refused_step : (view : View) (m q : Progress) (n : ℕ) (line : List ℕ) (list : output.BadLine)
-    (text : List ℕ) (s : Step)
-    → StandsAsDue (output.reached (progress_of m) n line) (progress_of m) (progress_of q)
-    (Some list) → EndsFor view (progress_of q) list.0 (Bad list.1) text s
-    → Follows (allowed_at view) m q n line text s
-refused_step view m q n line list text step.Goes reaches ends = elim ends [ ]
-refused_step view m q n line list text (step.Ends summary) reaches ends =
-    refused view (progress_of m) (progress_of q) n line list text summary reaches.0 reaches.1
-    (written_bad view (progress_of q) list text summary ends) ends.summed
-    ends.is_shown.ends.1
+pub refused_step : (view : View) (p q : output.Progress) (n : ℕ) (line : List ℕ)
+    (list : output.BadLine) (text : List ℕ) (s : Step)
+    → StandsAsDue (output.reached p n line) p q (Some list)
+    → EndsFor view q list.0 (Bad list.1) text s → Follows (allowed_from view) p q n line text s
+refused_step view p q n line list text step.Goes reaches ends = elim ends [ ]
+refused_step view p q n line list text (step.Ends summary) reaches ends =
+    refused view p q n line list text summary reaches.0 reaches.1
+    (written_bad view q list text summary ends) ends.summed ends.is_shown.ends.1
 
 -- or at the end of the input
 pub refused_at_end : (view : View) (p q : output.Progress) (n : ℕ) (tail : List ℕ)

@@ -1,3 +1,4 @@
+pub mod Driven
 pub mod LineCalls
 pub mod Outputs
 pub mod Replays

@@ -1,8 +1,7 @@
 -- What a replay of a trace writes and sums up.
 use Rattle.std.specs.Prelude.{Bool, not, ◌||◌, ℕ, ◌+◌, ◌<◌, ◌≤◌, ◌≡◌, List, [], length, Option}
-use Rattle.std.specs.Prelude.{None, Some, Result, Ok, Err, IfOk, false, unwrap_or}
+use Rattle.std.specs.Prelude.{None, Some, Result, Ok, Err, false, unwrap_or}
 use Rattle.std.specs.Global.{Vec}
-use Rattle.wit_model.specs.declared.calls.Reply.{Reply}
 use Rattle.wit_model.specs.declared.lines.Cause.{Cause}
 use Rattle.wit_model.specs.declared.lines.View.{View}
 use Rattle.wit_model.specs.declared.faults.Fault.{Fault}
@@ -37,8 +36,8 @@ prelude_of p = record {
 abbrev pub progress_of : Progress → output.Progress
 progress_of Unstarted = output.Unstarted
 progress_of (Opening prelude) = output.Opening (prelude_of prelude)
-progress_of (Reading story remarks) = output.Reading story remarks
-progress_of (Stepping scene remarks) = output.Stepping scene remarks
+progress_of (Reading d) = output.Reading d.driven d.remarks
+progress_of (Stepping d) = output.Stepping d.driven d.remarks
 
 abbrev pub progress : Replaying → output.Progress
 progress m = progress_of m.progress
@@ -96,23 +95,10 @@ abbrev pub GoesAsDue : output.Outcome → output.Progress → output.Progress
 GoesAsDue due old new (Ok told) = GoesOnWith due new told.items
 GoesAsDue due old new (Err e) = FailsFor due old new e
 
--- the reply to a line's call leads to what should become of the line, however many failed
--- assertions and warnings were told before
-abbrev pub Calls : (ℕ → output.Outcome) → Story → Story → Result Reply LineError → Type 0
-Calls due old new (Ok reply) =
-    (n : ℕ) → due n ≡ output.Goes (output.Reading new n) (output.reply_text new reply)
-Calls due old new (Err e) =
-    (n : ℕ) → FailsFor (due n) (output.Reading old n) (output.Reading new n) e
-
 -- what is told of a line whose call isn't logged: it counts where it says something
 abbrev pub Remarks : Story → (ℕ → output.Outcome) → Result (Vec ℕ) LineError → Type 0
 Remarks s due (Ok text) = (n : ℕ) → due n ≡ output.remarks s n text.items
 Remarks s due (Err e) = (n : ℕ) → FailsFor (due n) (output.Reading s n) (output.Reading s n) e
-
--- this text is told, and the reading goes on
-abbrev pub GoesWith : List ℕ → List ℕ → Step → Type 0
-GoesWith told text step.Goes = text ≡ told
-GoesWith told text (step.Ends summary) = ⊥
 
 -- the reading ends at a bad line, with its text and this summary; not for want of memory
 abbrev pub EndsFor : View → output.Progress → ℕ → LineError → List ℕ → Step → Type 0
@@ -121,29 +107,26 @@ EndsFor view p number (Bad cause) text step.Goes = ⊥
 EndsFor view p number (Bad cause) text (step.Ends summary) =
     IsWritten view (output.ends_bad p (number, cause)) text summary
 
--- what a replay that is so far may write and sum up
-abbrev pub allowed_at : View → Progress → ℕ → List (List ℕ) → List ℕ → List ℕ → Summary → Type 0
-allowed_at view p number lines tail text summary =
-    IsWritten view (output.course_from (progress_of p) number lines tail) text summary
+-- what may be written and summed up from there on
+abbrev pub allowed_from : View → output.Progress → ℕ → List (List ℕ) → List ℕ → List ℕ → Summary
+    → Type 0
+allowed_from view p number lines tail text summary =
+    IsWritten view (output.course_from p number lines tail) text summary
 
 -- what a replay in progress may
 abbrev pub allowed : View → Replaying → ℕ → List (List ℕ) → List ℕ → List ℕ → Summary → Type 0
-allowed view m = allowed_at view m.progress
+allowed view m = allowed_from view (progress m)
 
 -- a line may be read: fewer reports were told than its number, it isn't too long, and nothing is
 -- told of it yet
-abbrev pub MayRead : Replaying → ℕ → List ℕ → List ℕ → Type 0
-MayRead m number line text =
-    (reports_told (progress m) < number) × (length line ≤ LONGEST) × (text ≡ [])
+abbrev pub MayReadAt : output.Progress → ℕ → List ℕ → List ℕ → Type 0
+MayReadAt p number line text =
+    (reports_told p < number) × (length line ≤ LONGEST) × (text ≡ [])
 
--- a line is read: the view stays, this text and what follows are allowed, and it counts for one
--- report at most
-abbrev pub HasRead : {E : Type 0} → Replaying → ℕ → List ℕ → Replaying → List ℕ → Result Step E
-    → Type 0
-HasRead old number line new text result =
-    (new.view ≡ old.view)
-    × IfOk result (Follows (allowed old.view) old new number line text)
-    × IfOk result (λ s. reports_told (progress new) ≤ reports_told (progress old) + 1)
+-- a line is read: this text and what follows are allowed, and it counts for one report at most
+abbrev pub IsRead : View → output.Progress → ℕ → List ℕ → output.Progress → List ℕ → Step → Type 0
+IsRead view p number line q text s =
+    Follows (allowed_from view) p q number line text s × (reports_told q ≤ reports_told p + 1)
 
 -- the verifier was made, or a list refused, as it should be
 abbrev pub Opens : Result output.Progress output.BadLine → Result Progress (ℕ × Cause) → Type 0

@@ -1,37 +1,34 @@
 //! The replay of a trace by the verifier.
 
 ghost use Rattle.std.specs.Prelude.{◌≡◌, ◌⊎◌, ◌<◌, ℕ, IsTrue, IfOk, OnErr};
-ghost use Rattle.wit_model.specs.Trace.Reading.{line_of};
 ghost use Rattle.wit_model.specs.Trace.Output.{Unstarted};
-ghost use Rattle.wit_grammar.specs.Lines.{Begins};
 ghost use Rattle.wit_trace.specs.Outputs.{some_output};
-ghost use Rattle.wit_trace.specs.Replays.{allowed, progress, reports_told, MayRead, HasRead};
+ghost use Rattle.wit_trace.specs.Replays.{allowed, progress, reports_told, IsRead, MayReadAt};
 ghost use Rattle.wit_trace.specs.Replays.{ShowsTrace, ShowsFrom};
 ghost use Rattle.wit_stream.specs.Stream.{IsSpent, ReadsToEnd, WritesFront, WritesLines};
 ghost use Rattle.wit_stream.specs.Stream.{WritesOutput};
 
 mod bad_lines;
 pub mod calls;
+mod driven;
+mod driving;
 mod endings;
 mod entering;
-mod frequent_lines;
-mod frequent_steps;
+pub mod frequent_lines;
 pub mod line_calls;
 pub mod prelude;
 mod reaching;
 mod views;
-mod world_lines;
 
 pub use bad_lines::bad_text;
+use driving::Driving;
+use frequent_lines::{read_line, read_step_line};
 use prelude::Prelude;
 use std::alloc::{AllocError, Global};
 use std::io::{BufRead, Write};
-use views::{last_text, last_world_text, show};
+use views::show;
 use wit_core::Verifier;
-use wit_grammar::{
-    Begun, LineError, begin_line, behind_check, behind_free, behind_lock, behind_take,
-    behind_unlock,
-};
+use wit_grammar::{LineError, begin_line};
 use wit_model::{Cause, View};
 use wit_stream::{Failures, Machine, Pace, Ports, ReplayError, Step, Summary, run};
 use wit_world::World;
@@ -122,39 +119,32 @@ pub(crate) enum Progress {
     /// The prelude goes on.
     Opening(Prelude),
     /// The prelude is over.
-    Reading {
-        verifier: Verifier,
-        /// Failed assertions and warnings: no log holds them.
-        remarks: u64,
-    },
+    Reading(Driving<Verifier>),
     /// The prelude of a trace of the second version is over.
-    Stepping {
-        world: World,
-        remarks: u64,
-    },
+    Stepping(Driving<World>),
 }
 
 impl Replaying {
-    // A line of any kind, in its place; by itself, so that a call on a lock doesn't pay for it.
+    // A line before the prelude is over, or that ends it. By itself, so that no other pays for it.
     #[inline(never)]
-    fn any_line(
+    fn opening_line(
         &mut self,
         alloc: Global,
         number: u64,
         bytes: &[u8],
-        begun: Option<Begun>,
         text: &mut Vec<u8>,
     ) -> Result<Step, AllocError>
-        requires ready { MayRead self.old number bytes.now text.old.items }
-        requires begun { Begins begun (line_of bytes.now) }
-        ensures { HasRead self.old number bytes.now self.new text.new.items result }
+        requires { MayReadAt (progress self.old) number bytes.now text.old.items }
+        ensures view { self.new.view ≡ self.old.view }
+        ensures read { IfOk result (IsRead self.old.view (progress self.old) number bytes.now
+            (progress self.new) text.new.items) }
     {
         if let Some((number, cause)) = self.progress.reach(alloc, number, bytes)? {
             return self
                 .progress
                 .ended_step(alloc, number, LineError::Bad(cause), text);
         }
-        match self.progress.read(alloc, number, begun) {
+        match self.progress.read(alloc, number, begin_line(bytes)) {
             Ok(told) => {
                 show(alloc, self.view, told, text);
                 Ok(Step::Goes)
@@ -180,34 +170,14 @@ impl Machine for Replaying {
         bytes: &[u8],
         text: &mut Vec<u8>,
     ) -> Result<Step, AllocError> {
-        if matches!(self.progress, Progress::Reading { .. }) {
-            if let Some(rest) = behind_lock(bytes) {
-                return self.note_line(alloc, number, bytes, rest, text);
-            }
-            if let Some(rest) = behind_unlock(bytes) {
-                return self.unlock_line(alloc, number, bytes, rest, text);
-            }
-            if let Some(rest) = behind_check(bytes) {
-                return self.check_line(alloc, number, bytes, rest, text);
-            }
-            return self.other_line(alloc, number, bytes, begin_line(bytes), text);
+        let view = self.view;
+        if let Progress::Reading(driving) = &mut self.progress {
+            return read_line(driving, alloc, view, number, bytes, text);
         }
-        if let Some(rest) = behind_take(bytes) {
-            return self.take_line(alloc, number, bytes, rest, text);
+        if let Progress::Stepping(driving) = &mut self.progress {
+            return read_step_line(driving, alloc, view, number, bytes, text);
         }
-        if let Some(rest) = behind_free(bytes) {
-            return self.free_line(alloc, number, bytes, rest, text);
-        }
-        if let Some(rest) = behind_lock(bytes) {
-            return self.world_note_line(alloc, number, bytes, rest, text);
-        }
-        if let Some(rest) = behind_unlock(bytes) {
-            return self.world_unlock_line(alloc, number, bytes, rest, text);
-        }
-        if let Some(rest) = behind_check(bytes) {
-            return self.world_check_line(alloc, number, bytes, rest, text);
-        }
-        self.other_world_line(alloc, number, bytes, begin_line(bytes), text)
+        self.opening_line(alloc, number, bytes, text)
     }
 
     fn broken(
@@ -228,21 +198,9 @@ impl Machine for Replaying {
         if let Some((number, cause)) = self.progress.reach(alloc, number, b"")? {
             return self.progress.ended(alloc, number, cause);
         }
-        let view = self.view;
-        // A last text fails for want of memory alone.
         match &self.progress {
-            Progress::Reading { verifier, .. } => {
-                let Ok((text, circle)) = last_text(alloc, view, verifier) else {
-                    return Err(AllocError);
-                };
-                Ok((text, self.progress.summary(circle, None)))
-            }
-            Progress::Stepping { world, .. } => {
-                let Ok((text, circle)) = last_world_text(alloc, view, world) else {
-                    return Err(AllocError);
-                };
-                Ok((text, self.progress.summary(circle, None)))
-            }
+            Progress::Reading(driving) => driving.ended(alloc, self.view),
+            Progress::Stepping(driving) => driving.ended(alloc, self.view),
             Progress::Unstarted | Progress::Opening(_) => {
                 self.progress.ended(alloc, number, Cause::Cut)
             }

@@ -7,9 +7,7 @@ ghost use Rattle.wit_grammar.specs.Lines.{Begins};
 ghost use Rattle.wit_trace.specs.Replays.{progress_of, reports_told, GoesAsDue};
 
 use crate::replaying::Progress;
-use crate::replaying::calls::enter_line;
 use crate::replaying::prelude::{add_line, new_prelude};
-use crate::replaying::world_lines::enter_world_line;
 use std::alloc::Global;
 use wit_grammar::{Begun, LineError, finish_line};
 use wit_model::{Cause, Limits, Line};
@@ -42,8 +40,8 @@ impl Progress {
         match self {
             Progress::Unstarted => self.start(alloc, line),
             Progress::Opening(prelude) => add_line(alloc, prelude, number, line),
-            Progress::Reading { verifier, remarks } => enter_line(alloc, verifier, remarks, line),
-            Progress::Stepping { world, remarks } => enter_world_line(alloc, world, remarks, line),
+            Progress::Reading(driving) => driving.enter(alloc, line),
+            Progress::Stepping(driving) => driving.enter(alloc, line),
         }
     }
 

@@ -11,6 +11,7 @@ ghost use Rattle.wit_model.specs.Rules.State.{fresh};
 ghost use Rattle.wit_trace.specs.Replays.{IsVerifierOf, Opens, GoesAsDue, prelude_of, progress_of};
 
 use crate::replaying::Progress;
+use crate::replaying::driving::Driving;
 use std::alloc::{AllocError, Global};
 use wit_core::{StartError, Verifier};
 use wit_grammar::LineError;
@@ -196,12 +197,9 @@ fn begin(alloc: Global, version: Version, verifier: Verifier) -> Result<Progress
     ensures { IfOk result (λ m. progress_of m ≡ begun version verifier.start) }
 {
     match version {
-        Version::One => Ok(Progress::Reading {
-            verifier,
-            remarks: 0,
-        }),
+        Version::One => Ok(Progress::Reading(Driving::new(verifier))),
         Version::Two => match World::new(alloc, verifier) {
-            Ok(world) => Ok(Progress::Stepping { world, remarks: 0 }),
+            Ok(world) => Ok(Progress::Stepping(Driving::new(world))),
             Err(_) => Err(AllocError),
         },
     }
