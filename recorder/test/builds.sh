@@ -217,7 +217,7 @@ if wanted builds; then
                 names='builder lock'
             fi
             rm -f begun && echo "${each% *}" >slow && : >made
-            CC="$work/compiler" $taking setsid -w small/build >built.out 2>built.err
+            RECORD_SANITIZE= CC="$work/compiler" $taking setsid -w small/build >built.out 2>built.err
             status=$?
             ended_with "${each#* }" && echo $when | diff - made && is_left tmp '' &&
                 { [ $when = builder ] || is_left small/out $names; } && [ -z "$(find small -name '.builder*')" ]
@@ -227,14 +227,14 @@ if wanted builds; then
     done
     # To the builder alone, which ends what it began; and where signals were ignored from the start.
     plant_small small && built small/build && rm -f small/out/record* begun && : >slow
-    CC="$work/compiler" $taking small/build >built.out 2>built.err &
+    RECORD_SANITIZE= CC="$work/compiler" $taking small/build >built.out 2>built.err &
     within [ -e begun ] && kill -TERM $!
     wait $!
     status=$?
     ended_with 143 && is_left small/out builder lock
     tell builds "TERM to the builder alone" $?
     rm -f begun
-    CC="$work/compiler" sh -c 'trap "" HUP; exec small/build' >built.out 2>built.err &
+    RECORD_SANITIZE= CC="$work/compiler" sh -c 'trap "" HUP; exec small/build' >built.out 2>built.err &
     within [ -e begun ] && kill -HUP $!
     wait $!
     status=$?
@@ -246,7 +246,7 @@ fi
 if wanted builds; then
     plant_small small && : >made && : >slow
     for each in first second; do
-        CC="$work/compiler" small/build >"$each.out" 2>"$each.err" &
+        RECORD_SANITIZE= CC="$work/compiler" small/build >"$each.out" 2>"$each.err" &
     done
     wait
     rm slow
