@@ -1,0 +1,35 @@
+/*
+ * What stands built: whether nobody else can have written it, and whether no source is newer.
+ */
+#ifndef BUILDER_STANDING_H
+#define BUILDER_STANDING_H
+
+#include <stdbool.h>
+#include <sys/types.h>
+
+/* The recorder's sources, who wrote them, and the names of the files that are to stand built; NULL after the last. */
+struct sources {
+    const char *folder;
+    uid_t author;
+    const char *const *parts;
+};
+
+/* Whether it is there, and nobody can have written to it but root, this user, and the author. A link isn't safe. */
+bool is_safe(const struct sources *sources, const char *path);
+
+/*
+ * Whether the file is safe and no source of it is newer: none of the folder itself where it is a library, else none of its
+ * command/ and no format.h; and none of its builder/, which says how they are compiled.
+ */
+bool is_current(const struct sources *sources, const char *file);
+
+/* Whether the folder is safe and each part in it is current. */
+bool is_built(const struct sources *sources, const char *folder);
+
+/* Whether that is what a program loads, and not one that is run. */
+bool is_library(const char *file);
+
+/* Whether the name is that of a source in C. */
+bool is_source(const char *name);
+
+#endif
