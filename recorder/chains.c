@@ -284,7 +284,10 @@ static inline void add_held(struct request *request)
         thread->unseen++;
         return;
     }
-    struct held *held = held_filled(thread, request->lock, request->place, request->node, request->mode);
+    struct held *held = &thread->held[thread->count];
+    held_fill(held, thread->count != 0, request->lock, request->place, request->node,
+        locks_with(locks_held(thread), request->lock, request->mode), request->mode);
+    held->lost = atomic_load_explicit(&request->lock->lost, memory_order_relaxed);
     held->tried = request->tried;
     if (request->tried && thread->count != 0)
         held->after_try = 1;
