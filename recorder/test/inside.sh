@@ -124,8 +124,10 @@ fi
 # A call that counts as left, and goes on.
 if wanted switched; then
     compile switched
-    timeout -s KILL 100 "$record" -- ./switched 2>&1 | sed 's/process [0-9]*/process N/' | diff "$here/switched.want" -
-    tell switched "a handler that changes to another stack and back" $?
+    for stream in '' --full; do
+        timeout -s KILL 100 "$record" $stream -- ./switched 2>&1 | sed 's/process [0-9]*/process N/' | diff "$here/switched.want" -
+        tell switched "a handler that changes to another stack and back $stream" $?
+    done
 fi
 
 # The duty of the condensed stream: each request behind held locks is written, or one like it was.
