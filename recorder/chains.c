@@ -284,7 +284,10 @@ static inline void add_held(struct request *request)
         thread->unseen++;
         return;
     }
-    struct held *held = held_filled(thread, request->lock, request->place, request->node, request->mode);
+    struct held *held = &thread->held[thread->count];
+    held_fill(held, thread->count != 0, request->lock, request->place, request->node,
+        locks_with(locks_held(thread), request->lock, request->mode), request->mode);
+    held->lost = atomic_load_explicit(&request->lock->lost, memory_order_relaxed);
     held->tried = request->tried;
     if (request->tried && thread->count != 0)
         held->after_try = 1;
@@ -294,9 +297,25 @@ static inline void add_held(struct request *request)
     thread->count++;
 }
 
+/*
+ * A call that was taken for one that was left goes on after all, though what it asked for was given up. What it gets is
+ * held as after a try.
+ */
+COLD static void take_as_tried(struct request *request)
+{
+    for (int stream = 0; stream < STREAMS; stream++) {
+        if ((request->pending >> stream & 1) && request->thread->asked[stream] != request->number[stream]) {
+            request->pending &= (uint8_t)~(1u << stream);
+            request->tried = true;
+        }
+    }
+}
+
 static __attribute__((noinline)) void ends(struct request *request, bool got)
 {
     struct thread *thread = request->thread;
+    if (UNLIKELY(request->pending))
+        take_as_tried(request);
     if (UNLIKELY(request->again != NULL) && got && request->again_refused) {
         /* The lock was given up by another thread while this one waited. */
         drop_lost(thread);

@@ -18,7 +18,7 @@ enum { REQUESTED = 1, HALF_REQUESTED = 2, MANY_ORDERS = 4 };
 /* The chain that no node stands for, since the tree is full. What is asked for behind it is always new. */
 #define NODE_UNKNOWN UINT32_MAX
 
-extern struct node *nodes;
+extern __attribute__((visibility("hidden"))) struct node *nodes;
 
 static inline uint64_t node_key(uint32_t parent, uint32_t type)
 {
@@ -74,9 +74,9 @@ struct order {
     _Atomic uint64_t locks;
     _Atomic uint32_t thread;
 };
-enum { ORDERS = 1 << 16, ORDER_TRIES = 4, THREADS = UINT32_MAX };
+enum { ORDERS = 1 << 16, ORDER_TRIES = 4, ORDERS_ROOM = ORDERS + ORDER_TRIES - 1, THREADS = UINT32_MAX };
 
-extern struct order *single_orders;
+extern __attribute__((visibility("hidden"))) struct order *single_orders;
 
 /* What stands for a chain and a lock of that mode after it. */
 static inline uint64_t locks_with(uint64_t chain, const struct lock *lock, enum mode mode)
@@ -85,39 +85,40 @@ static inline uint64_t locks_with(uint64_t chain, const struct lock *lock, enum 
     return mixed ^ mixed >> 32;
 }
 
+/* What stands for the chain of all that the thread holds. */
 static inline uint64_t locks_held(const struct thread *thread)
 {
     return thread->count ? thread->held[thread->count - 1].locks : 0;
 }
 
+/* The first of the ORDER_TRIES slots that the order may stand in. */
+static inline struct order *order_first(uint64_t locks)
+{
+    return &single_orders[locks >> 48];
+}
+
 static inline bool order_is_known(uint64_t locks, uint32_t thread)
 {
-    for (uint32_t tries = 0, slot = (uint32_t)(locks >> 48); tries < ORDER_TRIES; tries++, slot = (slot + 1) % ORDERS) {
-        if (LIKELY(atomic_load_explicit(&single_orders[slot].locks, memory_order_relaxed) == locks)) {
-            uint32_t known = atomic_load_explicit(&single_orders[slot].thread, memory_order_relaxed);
+    const struct order *order = order_first(locks);
+    for (const struct order *end = order + ORDER_TRIES; order < end; order++) {
+        if (LIKELY(atomic_load_explicit(&order->locks, memory_order_relaxed) == locks)) {
+            uint32_t known = atomic_load_explicit(&order->thread, memory_order_relaxed);
             return LIKELY(known == thread || known == THREADS);
         }
     }
     return false;
 }
 
-/* The place behind the chain, for which there is room, with the lock in it; the chain isn't longer yet. */
-static inline struct held *held_filled(struct thread *thread, struct lock *lock, uint32_t place, uint32_t node,
-    enum mode mode)
+/* Puts the lock there, as acquired once; `lost` is left. Nested: the one before it in its chain stands before it. */
+static inline void held_fill(struct held *held, bool nested, struct lock *lock, uint32_t place, uint32_t node,
+    uint64_t locks, enum mode mode)
 {
-    struct held *held = &thread->held[thread->count];
-    held->locks = locks_with(locks_held(thread), lock, mode);
     held->lock = lock;
-    held->lost = atomic_load_explicit(&lock->lost, memory_order_relaxed);
+    held->locks = locks;
     held->type = lock->type->number;
     held->place = place;
     held->node = node;
-    held->count = 1;
-    held->mode = mode & 0x1f;
-    held->tried = held->before_fork = held->written = 0;
-    held->after_try = thread->count != 0 && held[-1].after_try;
-    held->stack = 0;
-    return held;
+    held->how = HOW_ONCE(mode) | (nested ? held[-1].how & HOW_AFTER_TRY : 0);
 }
 
 /*
@@ -143,58 +144,82 @@ static inline void goes_outside(struct thread *thread)
 /* The quick way has no call in it. */
 #define QUICK static inline __attribute__((always_inline))
 
+/* A request that takes the quick way. */
 struct quick {
     struct thread *thread;
-    struct lock *lock;
-    uint32_t place;
-    uint32_t node;
+    struct held *held; /* the place after the chain, with the lock in it; the chain isn't longer yet */
+    bool nested;       /* the thread holds locks */
 };
 
-/* Whether the chain and the type were asked for so, and these very locks, or so many that no more are kept. */
-QUICK bool quick_order_is_known(const struct quick *quick, enum mode mode)
+/* Whether one of the locks before that place is the lock. */
+QUICK bool quick_is_held(const struct thread *thread, const struct held *held, const struct lock *lock)
 {
-    uint32_t requested = atomic_load_explicit(&nodes[quick->node - 1].requested, memory_order_acquire);
-    return LIKELY(requested & REQUESTED)
-        && ((requested & MANY_ORDERS)
-            || LIKELY(order_is_known(locks_with(locks_held(quick->thread), quick->lock, mode), quick->thread->serial)));
-}
-
-QUICK bool quick_is_known(struct quick *quick, const void *address, enum mode mode, struct caller caller)
-{
-    struct thread *thread = quick->thread;
-    quick->lock = lock_at(address);
-    quick->place = place_at_pc(caller.pc);
-    if (UNLIKELY(!quick->lock || !quick->place || thread->count == thread->room))
-        return false;
-    if (UNLIKELY(detour_at(quick->place)) && !(quick->place = place_passed(caller)))
-        return false;
-    if (thread->count == 0) {
-        quick->node = atomic_load_explicit(&quick->lock->type->root, memory_order_relaxed);
-        return true;
-    }
-    uint32_t parent = thread->held[thread->count - 1].node;
-    if (UNLIKELY(parent == 0 || held_of(thread, quick->lock)))
-        return false;
-    quick->node = node_of(parent, quick->lock->type->number);
-    return LIKELY(quick->node != 0) && LIKELY(quick->node != NODE_UNKNOWN) && LIKELY(quick_order_is_known(quick, mode));
-}
-
-/* False where the call takes the long way. Else the thread is inside the recorder until the request ends. */
-QUICK bool quick_begins(struct quick *quick, const void *address, enum mode mode, struct caller caller)
-{
-    quick->thread = &self;
-    if (UNLIKELY(takes_long_way()) || !goes_inside(quick->thread, caller.stack))
-        return false;
-    if (LIKELY(quick_is_known(quick, address, mode, caller)))
-        return true;
-    goes_outside(quick->thread);
+    while (held-- != thread->held)
+        if (UNLIKELY(held->lock == lock))
+            return true;
     return false;
 }
 
-static inline void quick_got(struct quick *quick, enum mode mode)
+/* The node of a request by a thread that holds locks; 0 where the request may tell something new. */
+QUICK uint32_t quick_node(const struct thread *thread, const struct held *held, const struct lock *lock, uint64_t locks)
 {
-    held_filled(quick->thread, quick->lock, quick->place, quick->node, mode);
-    quick->thread->count++;
+    uint32_t parent = held[-1].node;
+    if (UNLIKELY(parent == 0 || parent == NODE_UNKNOWN || quick_is_held(thread, held, lock)))
+        return 0;
+    uint32_t node = node_of(parent, lock->type->number);
+    if (UNLIKELY(node == 0))
+        return 0;
+    uint32_t requested = atomic_load_explicit(&nodes[node - 1].requested, memory_order_acquire);
+    /* These very locks were asked for so, or so many that no more are kept. */
+    return LIKELY(requested & REQUESTED)
+            && ((requested & MANY_ORDERS) || LIKELY(order_is_known(locks, thread->serial)))
+        ? node
+        : 0;
+}
+
+/* False where the call takes the long way. Else the thread is inside the recorder until the request ends. */
+QUICK bool quick_begins(struct quick *quick, uintptr_t stack)
+{
+    quick->thread = &self;
+    return LIKELY(!takes_long_way()) && LIKELY(goes_inside(quick->thread, stack));
+}
+
+/* Whether a request from that place tells nothing new. Then its lock is put after the chain. */
+QUICK bool quick_is_known(struct quick *quick, const void *address, enum mode mode, uint32_t place)
+{
+    struct thread *thread = quick->thread;
+    struct lock *lock = lock_at(address);
+    if (UNLIKELY(!lock))
+        return false;
+    uint32_t count = thread->count, node;
+    if (UNLIKELY(count == thread->room))
+        return false;
+    struct held *held = quick->held = &thread->held[count];
+    quick->nested = count != 0;
+    uint64_t locks = locks_with(quick->nested ? held[-1].locks : 0, lock, mode);
+    if (!quick->nested)
+        node = atomic_load_explicit(&lock->type->root, memory_order_relaxed);
+    else if (UNLIKELY(!(node = quick_node(thread, held, lock, locks))))
+        return false;
+    held_fill(held, quick->nested, lock, place, node, locks, mode);
+    return true;
+}
+
+/*
+ * The call has returned. False where the thread isn't inside by it any more: a handler of signals has changed to another
+ * stack meanwhile, and a call from there has taken this one for one that was left. Then the place after the chain isn't
+ * its own.
+ */
+QUICK bool quick_ends(const struct quick *quick, bool got, uintptr_t stack)
+{
+    if (UNLIKELY(quick->thread->state != stack))
+        return false;
+    if (LIKELY(got)) {
+        quick->held->lost = atomic_load_explicit(&quick->held->lock->lost, memory_order_relaxed);
+        quick->thread->count++;
+    }
+    goes_outside(quick->thread);
+    return true;
 }
 
 /* Releases what was acquired last, once, and isn't written. False where that isn't so. */

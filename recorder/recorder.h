@@ -46,6 +46,9 @@
 #include <threads.h>
 #include <time.h>
 
+/* What the files share is seen in this object alone. So it is reached without a look into a table of addresses. */
+#pragma GCC visibility push(hidden)
+
 #define LIKELY(condition) __builtin_expect(!!(condition), 1)
 #define UNLIKELY(condition) __builtin_expect(!!(condition), 0)
 #define COLD __attribute__((cold, noinline))
@@ -158,17 +161,26 @@ struct lock {
 struct held {
     struct lock *lock;
     uint64_t locks;   /* stands for the single locks of the chain up to this one, and their modes */
-    uint32_t lost;    /* the lock's count when it was acquired */
     uint32_t type;
+    uint32_t lost;    /* the lock's count when it was acquired */
+    union {
+        struct {
+            uint32_t count; /* acquisitions not yet released */
+            uint8_t mode : 5, tried : 1;
+            uint8_t after_try : 1;   /* an order between what is held up to it may not be known */
+            uint8_t before_fork : 1; /* it was acquired by the parent process */
+            uint8_t written;  /* a bit for each stream */
+            uint16_t stack;   /* of the acquisition; 0 where it has none */
+        };
+        uint64_t how; /* all of these: they are read at once, and what was written in parts can't be without a wait */
+    };
     uint32_t place;
-    uint32_t node;    /* of the chain up to this lock; 0 where it wasn't looked for */
-    uint32_t count;   /* acquisitions not yet released */
-    uint8_t mode : 5, tried : 1, after_try : 1; /* after_try: an order between what is held up to it may not be known */
-    uint8_t before_fork : 1;                    /* it was acquired by the parent process */
-    uint8_t written;  /* a bit for each stream */
-    uint16_t stack;   /* of the acquisition; 0 where it has none */
     uint32_t number[STREAMS];
+    uint32_t node;    /* of the chain up to this lock; 0 where it wasn't looked for */
 };
+/* What `how` is of a lock that was acquired once, in that mode, and isn't written; and its bit `after_try`. */
+#define HOW_ONCE(mode) ((uint64_t)(mode) << 32 | 1)
+#define HOW_AFTER_TRY ((uint64_t)1 << 38)
 
 /*
  * Whether the thread is inside the recorder: then its state is the stack pointer of the interposed call's caller, by
@@ -593,5 +605,7 @@ void status_started(pid_t process, const char *program);
 void status_object(const char *path);
 void count_digits(char *digits);
 void count_failure(enum failure what);
+
+#pragma GCC visibility pop
 
 #endif

@@ -40,14 +40,14 @@ static _Atomic uint32_t lives_kept;
 
 bool singles_made(void)
 {
-    single_orders = table(ORDERS * sizeof *single_orders);
+    single_orders = table(ORDERS_ROOM * sizeof *single_orders);
     return single_orders != NULL;
 }
 
 /* The child's streams have none of them yet. */
 void singles_forked(void)
 {
-    madvise(single_orders, ORDERS * sizeof *single_orders, MADV_DONTNEED);
+    madvise(single_orders, ORDERS_ROOM * sizeof *single_orders, MADV_DONTNEED);
     for (uint32_t i = 0; i < LIVES; i++)
         lives[i].thread = 0;
     atomic_store(&lives_kept, 0);
@@ -58,10 +58,11 @@ void singles_forked(void)
 /* The order's slot, or a free one for it; NULL where there is none near. */
 static struct order *slot_of(uint64_t locks)
 {
-    for (uint32_t tries = 0, slot = (uint32_t)(locks >> 48); tries < ORDER_TRIES; tries++, slot = (slot + 1) % ORDERS) {
-        uint64_t found = atomic_load_explicit(&single_orders[slot].locks, memory_order_relaxed);
+    struct order *order = order_first(locks);
+    for (struct order *end = order + ORDER_TRIES; order < end; order++) {
+        uint64_t found = atomic_load_explicit(&order->locks, memory_order_relaxed);
         if (found == locks || found == 0)
-            return &single_orders[slot];
+            return order;
     }
     return NULL;
 }

@@ -24,7 +24,7 @@ struct way {
 
 static inline bool is_got(int answer)
 {
-    return answer == 0 || answer == EOWNERDEAD;
+    return LIKELY(answer == 0) || answer == EOWNERDEAD;
 }
 
 static inline struct timespec a_second_from_now(void)
@@ -45,8 +45,11 @@ COLD static int wait_patiently(struct request *request, const struct way *way, v
     return way->lock(address);
 }
 
-static __attribute__((noinline)) int acquire_slowly(const struct way *way, void *address, struct caller caller)
+/* The caller comes in three words, which stand in registers. */
+static __attribute__((noinline)) int acquire_slowly(const struct way *way, void *address, uintptr_t pc, uintptr_t stack,
+    uintptr_t base)
 {
+    struct caller caller = {pc, stack, base};
     struct request request;
     if (UNLIKELY(!request_begins(&request, address, way->class, way->mode, caller, ASKS)))
         return way->lock(address);
@@ -57,23 +60,77 @@ static __attribute__((noinline)) int acquire_slowly(const struct way *way, void 
     return answer;
 }
 
+/*
+ * The request took the quick way and isn't over: the lock wasn't free when it was tried, or the recorder has taken the call
+ * for one that was left (quick_ends). Then what it got is held as after a try.
+ */
+static COLD int acquire_on(const struct way *way, void *address, uintptr_t pc, uintptr_t stack, uintptr_t base,
+    int answer)
+{
+    struct caller caller = {pc, stack, base};
+    struct request request;
+    if (answer == EBUSY)
+        return acquire_slowly(way, address, pc, stack, base);
+    if (is_got(answer) && request_begins(&request, address, way->class, way->mode, caller, TRIES))
+        request_ends(&request, true);
+    return answer;
+}
+
+/* Makes the real call. False where the request isn't over then. */
+QUICK bool quick_call(const struct way *way, void *address, const struct quick *quick, uintptr_t stack, int *answer)
+{
+    if (!quick->nested) {
+        *answer = way->lock(address);
+        return LIKELY(quick_ends(quick, is_got(*answer), stack));
+    }
+    *answer = way->try(address);
+    return LIKELY(quick_ends(quick, is_got(*answer), stack)) && LIKELY(*answer != EBUSY);
+}
+
+/* The thread is inside already. The call comes from a place that isn't told, or not alone: its callers are looked at. */
+static __attribute__((noinline)) int acquire_from_afar(const struct way *way, void *address, uintptr_t pc,
+    uintptr_t stack, uintptr_t base)
+{
+    struct quick quick = {.thread = &self};
+    uint32_t place = place_passed((struct caller){pc, stack, base});
+    if (UNLIKELY(!place || !quick_is_known(&quick, address, way->mode, place))) {
+        goes_outside(quick.thread);
+        return acquire_slowly(way, address, pc, stack, base);
+    }
+    int answer;
+    return LIKELY(quick_call(way, address, &quick, stack, &answer)) ? answer
+                                                                   : acquire_on(way, address, pc, stack, base, answer);
+}
+
 QUICK int acquire(const struct way *way, void *address, struct caller caller)
 {
     struct quick quick;
-    if (UNLIKELY(!quick_begins(&quick, address, way->mode, caller)))
-        return is_asleep() ? way->lock(address) : acquire_slowly(way, address, caller);
-    bool nested = quick.thread->count != 0;
-    int answer = nested ? way->try(address) : way->lock(address);
-    if (LIKELY(is_got(answer)))
-        quick_got(&quick, way->mode);
-    goes_outside(quick.thread);
-    return UNLIKELY(nested && answer == EBUSY) ? acquire_slowly(way, address, caller) : answer;
+    if (UNLIKELY(!quick_begins(&quick, caller.stack)))
+        return is_asleep() ? way->lock(address) : acquire_slowly(way, address, caller.pc, caller.stack, caller.base);
+    uint32_t place = place_at_pc(caller.pc);
+    if (UNLIKELY(place && detour_at(place)))
+        return acquire_from_afar(way, address, caller.pc, caller.stack, caller.base);
+    if (UNLIKELY(!place || !quick_is_known(&quick, address, way->mode, place))) {
+        goes_outside(quick.thread);
+        return acquire_slowly(way, address, caller.pc, caller.stack, caller.base);
+    }
+    int answer;
+    if (LIKELY(quick_call(way, address, &quick, HERE, &answer)))
+        return answer;
+    /* The caller is read anew, so that it needn't be kept during the real call. */
+    struct caller again = CALLER;
+    return acquire_on(way, address, again.pc, again.stack, again.base, answer);
+}
+
+static __attribute__((noinline)) void release_slowly(const void *address, uintptr_t pc, uintptr_t stack, uintptr_t base)
+{
+    release_begins(address, (struct caller){pc, stack, base});
 }
 
 QUICK void release(const void *address, struct caller caller)
 {
     if (UNLIKELY(!quick_released(address, caller.stack)) && !is_asleep())
-        release_begins(address, caller);
+        release_slowly(address, caller.pc, caller.stack, caller.base);
 }
 
 static inline int acquire_at_once(const struct way *way, void *address, struct caller caller)

@@ -121,6 +121,15 @@ if wanted jump; then
     done
 fi
 
+# A call that counts as left, and goes on.
+if wanted switched; then
+    compile switched
+    for stream in '' --full; do
+        timeout -s KILL 100 "$record" $stream -- ./switched 2>&1 | sed 's/process [0-9]*/process N/' | diff "$here/switched.want" -
+        tell switched "a handler that changes to another stack and back $stream" $?
+    done
+fi
+
 # The duty of the condensed stream: each request behind held locks is written, or one like it was.
 if wanted duty; then
     compile condhang
