@@ -2,7 +2,8 @@
  * A deadlock that happens, told while it hangs (WITNESS_ON_DEADLOCK). There is no thread of the library's own for that:
  * the one whose request closes the circle waits for a second by a call with a time limit, and then looks again. A
  * request of a known order is written when it has waited for a second, and is looked at then. So each of the circle has
- * waited for a second, and the last one tells. It goes by the verifier's circle.
+ * waited for a second, or waits for a condition (recorder/waiters.c), and the last one tells. It goes by the verifier's
+ * circle.
  */
 #include "judge.h"
 #include "judged.h"
@@ -11,7 +12,6 @@
 
 #include <stdlib.h>
 #include <string.h>
-#include <sys/syscall.h>
 #include <unistd.h>
 
 enum { CIRCLE_ROOM = 1 << 16 };
@@ -46,10 +46,10 @@ bool judge_watches_waits(void)
     return action != UNWATCHED;
 }
 
-void deadlock_asked(uint32_t seat, uint32_t place)
+void deadlock_asked(const struct thread *thread, uint32_t place)
 {
     if (action != UNWATCHED)
-        asked[seat] = (struct asked){syscall(SYS_gettid), place};
+        asked[thread->seat[judged_stream()]] = (struct asked){thread_number(thread), place};
 }
 
 /* The seats of a circle that the thread's own seat is in; 0 where it is in none. */
