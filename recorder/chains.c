@@ -196,6 +196,8 @@ static void consider(struct request *request)
         request->patient = true;
     if (request->node && request->thread->count != 0)
         order_noted(request);
+    /* All of the request is written: the process may end here. */
+    judge_tells(request->caller);
 }
 
 static __attribute__((noinline)) bool begins(struct request *request, const void *address, enum class class,
@@ -263,6 +265,7 @@ static void waits_aside(void *argument)
         write_waits_for_itself(request);
     else if (!request->again && (streams_have_files() || judge_watches_waits()))
         write_request(request);
+    judge_tells(request->caller);
     judge_waits(request);
 }
 

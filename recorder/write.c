@@ -285,7 +285,6 @@ COLD void write_request(struct request *request)
     if (judge_sees_circle(request))
         request->patient = true;
     recorder_leaves();
-    judge_tells(request->caller);
 }
 
 COLD void write_request_of(struct request *request)
@@ -427,7 +426,6 @@ COLD void write_waits_for_itself(struct request *request)
         seat_given_back(stream, thread);
     }
     recorder_leaves();
-    judge_tells(request->caller);
 }
 
 /* `foreign SEAT LOCK PLACE`: the thread releases what it doesn't hold. One line for each place; all are counted. */
