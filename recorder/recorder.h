@@ -196,7 +196,7 @@ struct thread {
     uint32_t made_at; /* how many threads had been made and joined before */
     uint32_t grand, maker_at; /* the same of its maker: who made that one, and when */
     bool has_orders;  /* that stand in a stream */
-    struct waiter *waiter; /* where it waits for a condition; NULL else (waiters.c) */
+    struct waiter *waiter, *last_waiter; /* where it waits for a condition, NULL else; and where it did last (waiters.c) */
 };
 
 /* A request from its check to its end. */

@@ -20,12 +20,15 @@
 /* Further threads are passed over: no trace has seats for more. */
 enum { WAITERS = SEATS };
 
+/* A record is taken and given back without the mutex, unless somebody looks at it, or has written its request. */
+enum { FREE, BEGINS, WAITS, LOOKED_AT, WRITTEN };
+
 /* Nothing of this is in the thread's own stack, from which a handler of signals may jump. */
 struct waiter {
-    struct thread *thread;  /* NULL where the record is free */
+    _Atomic int state;
+    struct thread *thread;
     struct request request; /* for the mutex */
     uintptr_t mutex;
-    bool is_written;
     long number;
     char name[THREAD_NAME_ROOM];
 };
@@ -33,40 +36,61 @@ struct waiter {
 static struct waiter waiters[WAITERS];
 static _Atomic uint32_t unwritten;
 
+static bool turns(struct waiter *waiter, int from, int to)
+{
+    return atomic_load_explicit(&waiter->state, memory_order_relaxed) == from
+        && atomic_compare_exchange_strong(&waiter->state, &from, to);
+}
+
+/* A free record, if possible the one that the thread had last: who it is stands there. NULL where there is none. */
+static struct waiter *waiter_taken(void)
+{
+    struct waiter *waiter = self.last_waiter;
+    if (!waiter || !turns(waiter, FREE, BEGINS)) {
+        waiter = waiters;
+        while (!turns(waiter, FREE, BEGINS))
+            if (++waiter == waiters + WAITERS)
+                return NULL;
+    }
+    if (waiter != self.last_waiter || waiter->thread != &self) {
+        waiter->thread = &self;
+        waiter->number = thread_number(&self);
+        thread_name(&self, waiter->name);
+    }
+    return waiter;
+}
+
 void waiter_begins(const struct request *request, const void *mutex)
 {
-    struct waiter *waiter = waiters;
-    if (!(streams_have_files() || judge_watches_waits()) || !recorder_enters())
+    struct waiter *waiter = streams_have_files() || judge_watches_waits() ? waiter_taken() : NULL;
+    if (!waiter)
         return;
-    while (waiter < waiters + WAITERS && waiter->thread)
-        waiter++;
-    if (waiter < waiters + WAITERS) {
-        *waiter = (struct waiter){&self, *request, (uintptr_t)mutex, false, thread_number(&self), ""};
-        thread_name(&self, waiter->name);
-        self.waiter = waiter;
-        atomic_fetch_add(&unwritten, 1);
-    }
-    recorder_leaves();
+    waiter->request = *request;
+    waiter->mutex = (uintptr_t)mutex;
+    self.waiter = self.last_waiter = waiter;
+    atomic_fetch_add(&unwritten, 1);
+    atomic_store(&waiter->state, WAITS);
 }
 
 void waiter_forgotten(struct thread *thread)
 {
-    struct waiter *waiter = thread->waiter;
-    if (!waiter)
-        return;
-    if (!waiter->is_written)
+    if (thread->waiter && atomic_exchange(&thread->waiter->state, FREE) == WAITS)
         atomic_fetch_sub(&unwritten, 1);
-    waiter->thread = NULL;
     thread->waiter = NULL;
 }
 
 void waiter_ends(struct request *request)
 {
-    if (!self.waiter || !recorder_enters())
+    if (!self.waiter)
         return;
-    *request = self.waiter->request;
-    waiter_forgotten(&self);
-    recorder_leaves();
+    if (turns(self.waiter, WAITS, FREE)) {
+        atomic_fetch_sub(&unwritten, 1);
+        self.waiter = NULL;
+    } else if (recorder_enters()) {
+        *request = self.waiter->request;
+        waiter_forgotten(&self);
+        recorder_leaves();
+    }
 }
 
 long thread_number(const struct thread *thread)
@@ -99,7 +123,7 @@ static bool is_waited_for(int stream, const struct thread *thread)
 /* A thread that has left its wait by a jump may have ended since. */
 static bool is_there(const struct waiter *waiter)
 {
-    return waiter->thread && !waiter->is_written && atomic_load(&waiter->request.lock->address) == waiter->mutex
+    return atomic_load(&waiter->request.lock->address) == waiter->mutex
         && syscall(SYS_tgkill, getpid(), waiter->number, 0) == 0;
 }
 
@@ -118,12 +142,15 @@ COLD static void write_waiters(void)
 {
     for (uint32_t i = 0; i < WAITERS;) {
         struct waiter *waiter = &waiters[i++];
-        if (!is_to_be_written(waiter))
+        if (!turns(waiter, WAITS, LOOKED_AT))
             continue;
-        write_request_of(&waiter->request);
-        waiter->is_written = true;
-        atomic_fetch_sub(&unwritten, 1);
-        i = 0;
+        bool is_due = is_to_be_written(waiter);
+        if (is_due) {
+            write_request_of(&waiter->request);
+            atomic_fetch_sub(&unwritten, 1);
+            i = 0;
+        }
+        atomic_store(&waiter->state, is_due ? WRITTEN : WAITS);
     }
 }
 
@@ -137,8 +164,8 @@ void waiters_written(void)
 void waiters_forked(void)
 {
     for (uint32_t i = 0; i < WAITERS; i++)
-        if (waiters[i].thread)
-            waiters[i].thread = NULL;
+        if (atomic_load(&waiters[i].state) != FREE)
+            atomic_store(&waiters[i].state, FREE);
     atomic_store(&unwritten, 0);
-    self.waiter = NULL;
+    self.waiter = self.last_waiter = NULL;
 }
