@@ -188,6 +188,7 @@ struct thread {
     uint32_t last_seat[STREAMS];
     uint32_t written[STREAMS];   /* locks in the chain, and requests, that stand in the stream */
     uint32_t asked[STREAMS];     /* the number of the lock whose request is pending there, 0 for none */
+    bool asks_for_a_time;        /* the request that was written last ends by itself */
     struct held few[HELD_FEW];
     bool is_aside; /* on a stack of the recorder's own */
     uint32_t serial; /* no other thread of this process has it; above SERIAL_BITS, how many threads it has made, 7 at most */

@@ -260,6 +260,7 @@ static void put_request(struct request *request)
 {
     struct thread *thread = request->thread;
     bool nested = thread->count != 0;
+    thread->asks_for_a_time = request->timed;
     request->node = node_made(request->parent, request->lock->type->number);
     if (writes[CONDENSED] && !(request->pending & bit(CONDENSED))) {
         if (nested && (request->patient || !node_is_requested(request->node)))

@@ -38,6 +38,9 @@ END
     tell deadlock "a thread that waits for itself" $?
     hangs short exit=3 && [ "$(cat out)" = ended ] && ! grep -q '^circle:$' err
     tell deadlock "a wait that ends within a second" $?
+    hangs long exit=3 && [ "$(cat out)" = ended ] && [ "$(grep -c '^circle:$' err)" -eq 1 ] &&
+        told <err | grep -q '^seat [12], thread [0-9]*, waits with a time limit @ hangs(commit):0 and holds:$'
+    tell deadlock "a circle that ends by itself is told, and the program goes on" $?
     hangs new "" 3
     [ $? -eq 137 ] && ! grep -q '^circle:$' err
     tell deadlock "nothing where it isn't asked for" $?
