@@ -1,15 +1,16 @@
-# make                       proves and builds the program, 25 minutes on four processors, and builds the recorder
+# make                       proves and builds the program, 25 minutes on four processors, and libwitness, three more; and
+#                            builds the recorder
 # make check                 the gate: every proof and every test, an hour on four processors
 # make install PREFIX=..     puts all under a folder, from where it works without this one
 # make dist VERSION=..       makes a tar of that, which needs neither Rattle nor a compiler
-# The last two prove and build first, where that wasn't done. libwitness is built where its verifier stands built; else a
+# The last two prove and build the program first, where that wasn't done, and take libwitness where it stands built; else a
 # line says how that is.
 PREFIX = /usr/local
 VERSION = 0
 
 all:
-	@[ ! -x libwitness/build ] || libwitness/build || [ $$? -eq 3 ]
 	@tools/build
+	@[ ! -x libwitness/build ] || libwitness/build --prove || [ $$? -eq 3 ]
 	@[ ! -x recorder/build ] || recorder/build >/dev/null
 
 check:

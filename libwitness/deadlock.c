@@ -2,7 +2,8 @@
  * A deadlock that happens, told while it hangs (WITNESS_ON_DEADLOCK). There is no thread of the library's own for that:
  * the one whose request closes the circle waits for a second by a call with a time limit, and then looks again. A
  * request of a known order is written when it has waited for a second, and is looked at then. So each of the circle has
- * waited for a second, and the last one tells. It goes by the verifier's circle.
+ * waited for a second, or waits for a condition (recorder/waiters.c), and the last one tells. It goes by the verifier's
+ * circle.
  */
 #include "judge.h"
 #include "judged.h"
@@ -11,7 +12,6 @@
 
 #include <stdlib.h>
 #include <string.h>
-#include <sys/syscall.h>
 #include <unistd.h>
 
 enum { CIRCLE_ROOM = 1 << 16 };
@@ -19,11 +19,15 @@ enum { CIRCLE_ROOM = 1 << 16 };
 static enum { UNWATCHED, TELLS, KILLS, EXITS } action;
 static int exit_status;
 
-/* Who asked last in each seat, and where. */
+/* Who asked last in each seat, and where; and whether the request ends by itself. */
 static struct asked {
     long thread;
     uint32_t place;
+    bool for_a_time;
 } asked[SEATS + 1];
+
+/* Whether the circle that this thread tells ends by itself. */
+static __thread bool may_end __attribute__((tls_model("initial-exec")));
 
 void deadlock_begins(void)
 {
@@ -46,10 +50,10 @@ bool judge_watches_waits(void)
     return action != UNWATCHED;
 }
 
-void deadlock_asked(uint32_t seat, uint32_t place)
+void deadlock_asked(const struct thread *thread, uint32_t place)
 {
     if (action != UNWATCHED)
-        asked[seat] = (struct asked){syscall(SYS_gettid), place};
+        asked[thread->seat[judged_stream()]] = (struct asked){thread_number(thread), place, thread->asks_for_a_time};
 }
 
 /* The seats of a circle that the thread's own seat is in; 0 where it is in none. */
@@ -73,8 +77,8 @@ static size_t put_waits(char *to, size_t room, struct wit_place *place, uint16_t
 {
     char at[FILE_ROOM];
     name_file(at, asked[seat].place);
-    int length = snprintf(to, room, "seat %u, thread %ld, waits @ %s:%u and holds:\n", seat, asked[seat].thread, at,
-        place_line(asked[seat].place));
+    int length = snprintf(to, room, "seat %u, thread %ld, waits%s @ %s:%u and holds:\n", seat, asked[seat].thread,
+        asked[seat].for_a_time ? " with a time limit" : "", at, place_line(asked[seat].place));
     if (length < 0 || (size_t)length >= room)
         return 0;
     int64_t held = wit_locks_text(place, seat, to + length, room - (size_t)length);
@@ -89,8 +93,11 @@ static void keep_circle(const uint16_t *seats, int64_t count)
     int64_t length = wit_circle_text(place, text, sizeof text);
     if (length < 0 || (size_t)length > sizeof text)
         return;
-    for (int64_t i = 0; i < count; i++)
+    may_end = false;
+    for (int64_t i = 0; i < count; i++) {
         length += (int64_t)put_waits(text + length, sizeof text - (size_t)length, place, seats[i]);
+        may_end |= asked[seats[i]].for_a_time;
+    }
     char *kept = report_kept(WITNESS_DEADLOCK, (size_t)length);
     if (kept)
         memcpy(kept, text, (size_t)length);
@@ -102,6 +109,7 @@ static void keep_itself(const struct request *request)
     name_any(name, of, request->lock, judged_stream());
     int length = snprintf(text, sizeof text, "circle:\n a thread waits for \"%s\" that it holds itself\n", name);
     char *kept = report_kept(WITNESS_DEADLOCK, (size_t)length);
+    may_end = false;
     if (kept)
         memcpy(kept, text, (size_t)length);
 }
@@ -122,6 +130,8 @@ void judge_waits(const struct request *request)
 
 void deadlock_acts(void)
 {
+    if (may_end)
+        return;
     if (action == KILLS)
         kill(getpid(), SIGKILL);
     if (action == EXITS)

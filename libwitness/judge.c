@@ -196,7 +196,7 @@ void judge_asked(int stream, const struct thread *thread, uint32_t lock, uint8_t
     uint16_t file = is_judged(stream) ? file_of(at) : 0;
     if (!file)
         return;
-    deadlock_asked(thread->seat[stream], at);
+    deadlock_asked(thread, at);
     took(wit_check(&place, (uint16_t)thread->seat[stream], lock, mode == EXCLUSIVE, WIT_OP_NEWORDER, file,
         place_line(at)));
 }

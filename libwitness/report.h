@@ -20,9 +20,9 @@ void reports_forked(void);
 /* The status of exit=N, up to 255; -1 of another word. */
 int status_in(const char *word);
 
-/* A deadlock that happens (deadlock.c): what is to be done then; a request in a seat, under the mutex; it was told. */
+/* A deadlock that happens (deadlock.c): what is to be done then; a thread's request, under the mutex; it was told. */
 void deadlock_begins(void);
-void deadlock_asked(uint32_t seat, uint32_t place);
+void deadlock_asked(const struct thread *thread, uint32_t place);
 void deadlock_acts(void);
 
 /* Tells lines, on standard error or where WITNESS_LOG says. No mutex is held. */

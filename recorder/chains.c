@@ -196,6 +196,8 @@ static void consider(struct request *request)
         request->patient = true;
     if (request->node && request->thread->count != 0)
         order_noted(request);
+    /* All of the request is written: the process may end here. */
+    judge_tells(request->caller);
 }
 
 static __attribute__((noinline)) bool begins(struct request *request, const void *address, enum class class,
@@ -263,6 +265,7 @@ static void waits_aside(void *argument)
         write_waits_for_itself(request);
     else if (!request->again && (streams_have_files() || judge_watches_waits()))
         write_request(request);
+    judge_tells(request->caller);
     judge_waits(request);
 }
 
@@ -444,20 +447,23 @@ bool wait_begins(struct request *request, const void *address, bool asks_again, 
         if (request->pending)
             write_given_up(request);
         request->patient = false;
+        waiter_begins(request, address);
     }
     return true;
 }
 
 /*
- * The wait is over and the thread has the mutex again, so its request is written only now. Where the call was refused,
- * the mutex was never given up: it wasn't asked for, and is put back as after a try.
+ * The wait is over and the thread has the mutex again. Unless another thread has written its request (waiters.c), that is
+ * written only now. Where the call was refused, the mutex was never given up: it wasn't asked for, and is put back as after
+ * a try.
  */
 void wait_ends(struct request *request, int answer)
 {
     struct thread *thread = request->thread;
+    waiter_ends(request);
     request->again = held_of(thread, request->lock);
-    request->tried = !(answer == 0 || answer == ETIMEDOUT || answer == EOWNERDEAD);
-    if (!request->tried && (thread->count != 0 || writes_all))
+    request->tried = !(request->pending || answer == 0 || answer == ETIMEDOUT || answer == EOWNERDEAD);
+    if (!request->pending && !request->tried && (thread->count != 0 || writes_all))
         consider(request);
     request_ends(request, answer != ENOTRECOVERABLE);
 }

@@ -13,6 +13,7 @@
  *   asked.c     which mutexes are held, where `record --show` asks
  *   start.c     the real functions behind them, the start, fork
  *   chains.c    what each thread holds, and the tree of chains of types; quick.h, where nothing is to be written
+ *   waiters.c   threads that wait for a condition while they hold locks
  *   locks.c     the locks at their addresses, and their types
  *   aside.c     a stack of the recorder's own, for handlers that have a small one
  *   places.c    the callers of a call; objects.c finds their object and name; sites.c, places by name
@@ -199,6 +200,7 @@ struct thread {
     uint32_t last_seat[STREAMS];
     uint32_t written[STREAMS];   /* locks in the chain, and requests, that stand in the stream */
     uint32_t asked[STREAMS];     /* the number of the lock whose request is pending there, 0 for none */
+    bool asks_for_a_time;        /* the request that was written last ends by itself */
     struct held few[HELD_FEW];
     bool is_aside; /* on a stack of the recorder's own */
     uint32_t serial; /* no other thread of this process has it; above SERIAL_BITS, how many threads it has made, 7 at most */
@@ -207,6 +209,7 @@ struct thread {
     uint32_t made_at; /* how many threads had been made and joined before */
     uint32_t grand, maker_at; /* the same of its maker: who made that one, and when */
     bool has_orders;  /* that stand in a stream */
+    struct waiter *waiter, *last_waiter; /* where it waits for a condition, NULL else; and where it did last (waiters.c) */
 };
 
 /* A request from its check to its end. */
@@ -376,6 +379,19 @@ void wait_ends(struct request *request, int answer);
 void node_set_requested(uint32_t node, bool whole); /* whole: the stream has all of the chain */
 uint32_t node_made(uint32_t parent, uint32_t type);
 void chains_forked(void);
+
+/* waiters.c */
+enum { THREAD_NAME_ROOM = 17 };
+/* This thread is about to wait for a condition, and holds locks; the wait is over; or it was left (under the mutex). */
+void waiter_begins(const struct request *request, const void *mutex);
+void waiter_ends(struct request *request); /* which may be pending now */
+void waiter_forgotten(struct thread *thread);
+/* A request was written: so are those of the threads that it waits for, if they wait for a condition. Under the mutex. */
+void waiters_written(void);
+/* Of this thread, or of one that waits so: its number as the kernel counts threads, and its name. */
+long thread_number(const struct thread *thread);
+void thread_name(const struct thread *thread, char name[THREAD_NAME_ROOM]);
+void waiters_forked(void);
 
 /* locks.c */
 /* The bit by which the handle of a lock that may move is told from an address (annotations.c). */
@@ -547,6 +563,8 @@ uint32_t lock_number_for_order(int stream, struct thread *thread, struct lock *l
 bool type_fits(int stream, struct type *type);
 void number_stands(int stream, uint32_t number);
 void number_stands_no_more(int stream, uint32_t number);
+/* Whether the stream has the lock held or asked for, but for an own acquisition. */
+bool number_has_others(int stream, struct lock *lock, uint32_t own);
 uint32_t place_number(int stream, uint32_t place);
 uint32_t *mark(struct marks *marks, int stream);
 void seats_forked(void);
@@ -558,6 +576,7 @@ void pairs_forked(void);
 
 /* write.c */
 void write_request(struct request *request);
+void write_request_of(struct request *request); /* of a thread that waits for a condition; under the mutex */
 void write_acquired(struct request *request, struct held *held);
 void write_again(struct request *request, struct held *held);
 void write_given_up(struct request *request);

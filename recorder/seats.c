@@ -128,6 +128,12 @@ void number_stands_no_more(int stream, uint32_t number)
     holders[stream][number]--;
 }
 
+bool number_has_others(int stream, struct lock *lock, uint32_t own)
+{
+    uint32_t number = *mark(&lock->marks, stream);
+    return number != 0 && number != NUMBER_NONE && holders[stream][number] > own;
+}
+
 /* The number of the place, which stands in the stream from then on. */
 uint32_t place_number(int stream, uint32_t place)
 {

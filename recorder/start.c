@@ -350,6 +350,7 @@ static void fork_ends_in_child(void)
     streams_forked();
     locks_forked();
     chains_forked();
+    waiters_forked();
     singles_forked();
     threads_forked();
     judge_forked();

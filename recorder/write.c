@@ -27,7 +27,8 @@
  *     those orders. So a lock that was acquired behind a try is written as a try, which isn't judged, unless its type was
  *     asked for behind that chain before.
  *   - A wait for a condition releases its mutex and asks for it again. That may never come to its end, so the request is
- *     written when the wait begins, and as given up: the thread waits for the condition first.
+ *     written when the wait begins, and as given up. While it waits, another thread may write its request as pending
+ *     (waiters.c). The wait can't end without the mutex, and nothing else of the thread stands in between.
  *   - Where the tree of chains has no room left, it isn't known what was asked for behind a chain. Then a request is left out
  *     that tells of no new pair, and whose order with the type taken last was asked for directly (pairs.c). So it passes.
  *   - A trace has a limit of locks. A chain with a lock that has no number there is written without it, once. It counts
@@ -42,7 +43,6 @@
 #include "judge.h"
 
 #include <string.h>
-#include <sys/prctl.h>
 #include <sys/syscall.h>
 #include <unistd.h>
 
@@ -51,12 +51,13 @@
 
 /*
  * `thread SEAT NAME PLACE NUMBER`: its name, `-` where it has its program's; where it was made, 0 where that isn't known;
- * and its number as the kernel counts threads. It is the thread that writes.
+ * and its number as the kernel counts threads.
  */
 void write_thread(int stream, const struct thread *thread)
 {
-    char name[17] = "";
-    if (prctl(PR_GET_NAME, name) != 0 || strncmp(name, program_name, 15) == 0)
+    char name[THREAD_NAME_ROOM];
+    thread_name(thread, name);
+    if (strncmp(name, program_name, 15) == 0)
         name[0] = '\0';
     for (char *at = name; *at; at++)
         if (*at <= ' ' || *at > '~' || *at == '&' || *at == '\\')
@@ -66,7 +67,7 @@ void write_thread(int stream, const struct thread *thread)
     put_number(stream, thread->seat[stream]);
     put_name(stream, name);
     put_number(stream, made);
-    put_number(stream, (uint64_t)syscall(SYS_gettid));
+    put_number(stream, (uint64_t)thread_number(thread));
     put_text(stream, "\n");
     stream_append(stream, false);
 }
@@ -254,13 +255,12 @@ static void write_condensed(struct request *request)
         write_thread(CONDENSED, thread);
 }
 
-/* Before the real call. The condensed stream has it where it is new, or waits for long. */
-COLD void write_request(struct request *request)
+/* The condensed stream has it where it is new, or waits for long. */
+static void put_request(struct request *request)
 {
     struct thread *thread = request->thread;
-    if (!recorder_enters())
-        return;
     bool nested = thread->count != 0;
+    thread->asks_for_a_time = request->timed;
     request->node = node_made(request->parent, request->lock->type->number);
     if (writes[CONDENSED] && !(request->pending & bit(CONDENSED))) {
         if (nested && (request->patient || !node_is_requested(request->node)))
@@ -273,11 +273,26 @@ COLD void write_request(struct request *request)
         if (!writes[CONDENSED])
             node_set_requested(request->node, true);
     }
+}
+
+/* Before the real call. */
+COLD void write_request(struct request *request)
+{
+    if (!recorder_enters())
+        return;
+    put_request(request);
+    waiters_written();
     /* It waits for a second by a call with a time limit, so that it can be looked at once more. */
     if (judge_sees_circle(request))
         request->patient = true;
     recorder_leaves();
-    judge_tells(request->caller);
+}
+
+COLD void write_request_of(struct request *request)
+{
+    request->patient = true;
+    put_request(request);
+    request->patient = false;
 }
 
 /* Before the real call, where the thread holds the lock already: the full stream alone has it. */
@@ -365,6 +380,7 @@ COLD void write_left(struct thread *thread)
     if (!recorder_enters())
         return;
     count_failure(FAILED_JUMPED);
+    waiter_forgotten(thread);
     give_up(thread);
     recorder_leaves();
 }
@@ -411,7 +427,6 @@ COLD void write_waits_for_itself(struct request *request)
         seat_given_back(stream, thread);
     }
     recorder_leaves();
-    judge_tells(request->caller);
 }
 
 /* `foreign SEAT LOCK PLACE`: the thread releases what it doesn't hold. One line for each place; all are counted. */

@@ -38,9 +38,25 @@ END
     tell deadlock "a thread that waits for itself" $?
     hangs short exit=3 && [ "$(cat out)" = ended ] && ! grep -q '^circle:$' err
     tell deadlock "a wait that ends within a second" $?
+    hangs long exit=3 && [ "$(cat out)" = ended ] && [ "$(grep -c '^circle:$' err)" -eq 1 ] &&
+        told <err | grep -q '^seat [12], thread [0-9]*, waits with a time limit @ hangs(commit):0 and holds:$'
+    tell deadlock "a circle that ends by itself is told, and the program goes on" $?
     hangs new "" 3
     [ $? -eq 137 ] && ! grep -q '^circle:$' err
     tell deadlock "nothing where it isn't asked for" $?
+    # A wait for a condition ends with its mutex alone: it counts as a wait for that.
+    compile conditions $linked
+    for word in signalled unsignalled timed known two; do
+        WITNESS=1 WITNESS_ON_DEADLOCK=exit=3 timeout -s KILL 100 ./conditions $word >out 2>err
+        [ $? -eq 3 ] && [ "$(grep -c '^circle:$' err)" -eq 1 ] && grep -q '^ seat [1-3] waits for "inner" held by seat [1-3]$' err &&
+            told <err | grep -A 1 '^seat [1-3], thread [0-9]*, waits @ conditions(keep):0 and holds:$' |
+            grep -q '^exclusive sleep mutex "outer" (outer) r = 0 @ conditions(keep):0$'
+        tell deadlock "a circle with a wait for a condition: $word" $?
+    done
+    WITNESS=1 WITNESS_ON_DEADLOCK=exit=3 timeout -s KILL 100 ./conditions ends >out 2>err && [ "$(cat out)" = ended ] && [ ! -s err ]
+    tell deadlock "a wait for a condition that comes late, while threads wait for what its thread holds" $?
+    WITNESS=1 WITNESS_ON_DEADLOCK=exit=3 timeout -s KILL 100 ./conditions left >out 2>err && [ "$(cat out)" = ended ] && [ ! -s err ]
+    tell deadlock "a wait for a condition that is left by a jump" $?
     hangs short exut=3 && grep -q '^witness: WITNESS_ON_DEADLOCK is tell, kill or exit=N up to 255, not exut=3: ' err
     tell deadlock "a wrong word" $?
 fi

@@ -12,6 +12,9 @@ elif wanted record; then
             grep -q '^ 2nd "pool" (pool, sleep mutex) @ reversal.c:19$' err && grep -q '^record: 1 report, ' err
         tell record "--on-report ${way%:*}" $?
     done
+    $record --frames 2 --on-report exit=5 -- ./reversal 2>err
+    grep -q '^single locks: both orders, the same locks, threads [0-9]* and [0-9]*; apart: ' err
+    tell record "the single locks of a report that ends it" $?
     $record --on-report tell -- ./reversal 2>err && diff "$top/recorder/test/reversal.want" err
     tell record "--on-report tell" $?
     $record --on-report none -- ./reversal 2>err

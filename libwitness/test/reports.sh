@@ -37,6 +37,13 @@ after" ]
     tell acts "goes on after that" $?
 fi
 
+if wanted acts; then
+    compile condhang $linked
+    WITNESS=1 WITNESS_ON_REPORT=exit=3 timeout 100 ./condhang 2>err
+    [ $? -eq 3 ] && told <err | grep -q '^ 2nd "inner" (inner, sleep mutex) @ condhang(main):0$'
+    tell acts "before a wait for a condition" $?
+fi
+
 # The text goes to standard error, as long as that is what it was, or to a file.
 if wanted tells; then
     compile closes $linked

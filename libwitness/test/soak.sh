@@ -32,6 +32,10 @@ if wanted sanitized; then
     compile hangs $by_sanitized && WITNESS=1 WITNESS_ON_DEADLOCK=exit=3 timeout 100 ./hangs new >out 2>err
     [ $? -eq 3 ] && grep -q '^circle:$' err
     tell sanitized "a deadlock" $?
+    compile conditions $by_sanitized && WITNESS=1 WITNESS_ON_DEADLOCK=exit=3 timeout 100 ./conditions two >out 2>err
+    [ $? -eq 3 ] && grep -q '^circle:$' err && WITNESS=1 WITNESS_ON_DEADLOCK=exit=3 timeout 100 ./conditions left >out 2>err &&
+        [ "$(cat out)" = ended ]
+    tell sanitized "waits for a condition" $?
     compile soak $by_sanitized && ./soak 2 >out 2>err
     [ $? -le 1 ] && grep -q ' 10 planted reports, 0 others,' out
     tell sanitized "threads at random: $(tail -n 1 out)" $?

@@ -87,6 +87,24 @@ END
     tell names "every call in C++, without the library and with it" $?
 fi
 
+# The verifier is proved first where that is asked for: here by a stand-in for rt.
+if wanted prove; then
+    mkdir -p proving/crates/wit_c/src bin && cp -R "$top/libwitness" "$top/recorder" proving && rm -rf proving/libwitness/out
+    printf '#!/bin/sh\necho "$@" >>"%s"\n[ -f out/libwit_c.a ] || cp "%s" out\n' "$work/asked" \
+        "${WIT_C:-$top/crates/wit_c/out/libwit_c.a}" >bin/rt && chmod +x bin/rt
+    prove() { PATH="$work/bin:$PATH" env -u WIT_C proving/libwitness/build --prove 2>err; }
+    prove && [ "$(cat asked)" = lib ] && [ -f proving/libwitness/out/libwitness.so.1 ]
+    tell prove "the verifier is proved and built first" $?
+    prove && [ "$(cat asked)" = lib ] && [ ! -s err ]
+    tell prove "and not once more" $?
+    touch proving/crates/wit_c/src/lib.rt && prove && prove && [ "$(wc -l <asked)" -eq 2 ]
+    tell prove "once more where a source of it is newer" $?
+    printf '#!/bin/sh\necho the goal is open\nexit 1\n' >bin/rt && touch proving/crates/wit_c/src/lib.rt && prove
+    [ $? -eq 1 ] && [ "$(sed -n 1p err)" = "libwitness: proving and building its verifier: three minutes on four processors" ] &&
+        grep -qx 'the goal is open' err
+    tell prove "what the prover says where it fails" $?
+fi
+
 # Installed, where it stands alone.
 if wanted install; then
     WIT_C=$work/none "$top/libwitness/install" "$work/a place" 2>err

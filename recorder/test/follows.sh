@@ -112,4 +112,23 @@ if wanted hangs; then
     timeout 300 "$record" --on-deadlock exit=7 -- ./patient >recorded.out 2>recorded.err
     [ $? -eq 0 ] && grep -q '^both went on$' recorded.out
     tell hangs "a circle of which one gives up is left alone" $?
+    # A wait for a condition ends with its mutex alone: it counts as a wait for that.
+    compile conditions
+    for stream in "" --full; do
+        for word in signalled unsignalled timed known two; do
+            timeout 300 "$record" $stream --on-deadlock exit=7 -- ./conditions $word >recorded.out 2>recorded.err
+            [ $? -eq 7 ] && [ "$(grep -c '^circle:$' recorded.err)" -eq 1 ] && ! grep -q '^line ' recorded.err &&
+                grep -q '^ seat [1-3] .* waits for "inner" held by seat [1-3] @ conditions.c:7[24]$' recorded.err &&
+                grep -q '^ seat [1-3] holds "outer" @ conditions.c:62$' recorded.err
+            tell hangs "a circle with a wait for a condition: $word $stream" $?
+        done
+        timeout 300 "$record" $stream --on-deadlock exit=7 -- ./conditions ends >recorded.out 2>recorded.err
+        [ $? -eq 0 ] && [ "$(cat recorded.out)" = ended ] &&
+            printf '%s\n' "$clean" 'record: nothing to report' | diff - recorded.err
+        tell hangs "a wait for a condition that comes late, while threads wait for what its thread holds $stream" $?
+        timeout 300 "$record" $stream --on-deadlock exit=7 -- ./conditions left >recorded.out 2>recorded.err
+        [ $? -eq 0 ] && [ "$(cat recorded.out)" = ended ] && ! grep -q '^circle:$' recorded.err &&
+            [ "$(tail -n 1 recorded.err)" = 'record: nothing in what was recorded' ]
+        tell hangs "a wait for a condition that is left by a jump $stream" $?
+    done
 fi

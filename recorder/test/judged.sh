@@ -9,11 +9,11 @@ is_accepted() {
 }
 
 if wanted judged; then
-    for line in again anew atomics between c11 cancel condition contend crowd cycle deadlock \
-        "dropped 2" ending forking forks "full 20000 reversal" futex guards handover helper \
-        inlined "jump 0" "jump 1" "jump 2" kinds late long named orphans "pairs 4 2 1000" \
-        philosophers recursive reused reversal rwlock signals started threads tryfirst trysecond \
-        trythen varying varyings with; do
+    for line in again anew atomics between c11 cancel condhang condition "conditions ends" contend \
+        crowd cycle deadlock "dropped 2" ending forking forks "full 20000 reversal" futex guards \
+        handover helper inlined "jump 0" "jump 1" "jump 2" keepers kinds late long named orphans \
+        "pairs 4 2 1000" philosophers recursive reused reversal rwlock signals started threads \
+        tryfirst trysecond trythen varying varyings with; do
         compile ${line%% *}
         recorded_by "$record" --full --judge -- timeout -s KILL "$(limit_of $line)" ./$line
         is_accepted

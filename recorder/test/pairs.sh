@@ -22,7 +22,7 @@ if wanted tells; then
     "$record" -- true 2>/dev/null
     object=$recorder/out/recorder.so
     for line in anew between c11 cancel condition contend crew cycle deadlock "dropped 2" "ending 0" forking forks futex guards \
-        handover helper inlined "jump 0" kinds late madeup condhang long named odd "pairs 4 2 1000" philosophers recursive \
+        handover helper inlined "jump 0" keepers kinds late madeup condhang long named odd "pairs 4 2 1000" philosophers recursive \
         reused reversal rwlock signals started threads tryfirst trysecond trythen varying varyings with; do
         [ -f "$here/${line%% *}.c" ] || [ -f "$here/${line%% *}.cc" ] || continue
         compile ${line%% *}
