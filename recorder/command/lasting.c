@@ -73,16 +73,17 @@ static void name_lambda(char *function)
 /* The step's function, and how many lines the step is below its first one: a text of one's own. */
 static char *function_in(const struct making_name *name, const struct step *step, long *lines)
 {
-    char *other = function_name_at(name->declared, step, lines);
-    char *function = other ? other : copy(step->function ? bare_function(step->function) : "?");
+    const struct function_in_source *known = function_at_step(name->declared, step);
+    char *function = copy(known->name ? known->name : step->function ? bare_function(step->function) : "?");
+    *lines = known->lines;
     name_lambda(function);
     return function;
 }
 
 /* What tells a line from those before it in its function that look like it, as `#2`: a text of one's own. */
-static char *number_alike(unsigned before)
+static char *number_alike(size_t before)
 {
-    return before > 0 ? say_text("#%u", before + 1) : copy("");
+    return before > 0 ? say_text("#%zu", before + 1) : copy("");
 }
 
 /*
