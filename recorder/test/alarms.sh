@@ -90,7 +90,7 @@ misused() {
     tell misuse "$1" $?
 }
 
-if wanted misuse; then
+if wanted misuse && has_libdw misuse; then
     compile misuse
     misused ends 'a thread ended that held a lock, taken here: "journal" @ misuse.c:21'
     misused exits 'a thread ended that held a lock, taken here: "table" @ misuse.c:27'
@@ -125,7 +125,7 @@ if wanted stripes; then
 fi
 
 # What is told while the program runs may have other types in the end.
-if wanted later; then
+if wanted later && has_libdw later; then
     compile later
     "$record" -- ./later 2>recorded.err >recorded.out
     grep -q '^ "front" -> "back" @ later.c:17$' recorded.err && grep -qF '"table[1]"' recorded.err

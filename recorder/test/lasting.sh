@@ -16,13 +16,6 @@ told_names() {
         sed 's,/[0-9]*$,,; s/^\(made\|table\)\[[0-9]*\]$/\1[]/' | LC_ALL=C sort -u
 }
 
-# has_libdw NAME: whether members are known. That the test is left out is told.
-has_libdw() {
-    echo 'int main(void) { return 0; }' | "${CC:-cc}" -x c -o probe - -l:libdw.so.1 2>/dev/null && return 0
-    echo "left out  $1: libdw isn't there"
-    return 1
-}
-
 if wanted lasting && has_libdw lasting; then
     "$record" -- true 2>/dev/null
     compile_resolved
