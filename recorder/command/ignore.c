@@ -176,11 +176,11 @@ static char *without_numbers(const char *name)
 static void call_type(struct called *called, struct peace *peace, const struct ignore *ignore, struct notes *notes,
     const struct named_type *type, bool is_first)
 {
-    char *plain = is_first ? without_numbers(type->lasting.name) : NULL, cut[TRACE_NAME_MOST + 1];
-    const char *bare = plain ? plain + (type->lasting.bare - type->lasting.name) : NULL;
-    const char *word[] = {type->alone, type->functions, is_first ? type->name : NULL, is_first ? type->by_lines : NULL, is_first ? cut : NULL,
-        type->lasting.name, type->lasting.bare, plain, bare};
-    size_t words = sizeof word / sizeof *word;
+    char *plain = is_first ? without_numbers(type->lasting.name) : copy(""), cut[TRACE_NAME_MOST + 1];
+    const char *bare = is_first ? plain + (type->lasting.bare - type->lasting.name) : plain;
+    const char *word[] = {type->alone, type->functions, type->name, type->by_lines, cut, type->lasting.name,
+        type->lasting.bare, plain, bare};
+    size_t words = is_first ? sizeof word / sizeof *word : 2;
     trace_name(cut, type->name);
     for (size_t i = 0; i < words; i++) {
         bool is_new = word[i] != NULL;

@@ -193,7 +193,8 @@ static void put_init(struct writing *writing, const struct line *line)
     struct named_type *type = &nameless;
     if (field_number(line, 4, TYPE_MOST - 1, &number) && number > 0 && number < types->count)
         type = &types->type[types->type[number].first];
-    if (type->merged > 1)
+    /* Further types may come to be the member's: its locks are counted as they come from the first one on. */
+    if (type->merged > 1 || type->is_member)
         own = (uint32_t)++type->made;
     else if (!field_number(line, 5, UINT32_MAX - 1, &own))
         writing->is_odd = true;

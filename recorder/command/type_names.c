@@ -15,7 +15,7 @@
 struct giving {
     const struct declared *declared;
     struct types *types;
-    const char **wanted;  /* by types; NULL of one that isn't a first one, or has its name */
+    const char **wanted; /* by types; NULL of one that isn't a first one */
     struct map taken;
 };
 
@@ -260,8 +260,7 @@ const char *variable_lock_in(
         return type->name;
     int object = (int)(type->lasting.bare - type->lasting.name);
     bool has_object = object > 0 && strncmp(type->name, type->lasting.name, (size_t)object) == 0;
-    object = has_object ? object : 0;
-    return texts_say(declared->texts, "%.*s%s", object, type->lasting.name, own);
+    return has_object ? texts_say(declared->texts, "%.*s%s", object, type->lasting.name, own) : own;
 }
 
 const char *numbered_lock_in(const struct declared *declared, const struct named_type *type, uint32_t number)

@@ -289,4 +289,54 @@ ANY
     echo | "$record" --quiet -- ./stays 2>recorded.err
     sed 's/"lock"/"stays:lock"/g; s/(lock,/(stays:lock,/' second.want | diff - recorded.err
     tell stays "names of two objects" $?
+    cat >merges.cc <<'ANY'
+#include <cstdio>
+#include <mutex>
+struct Account {
+    std::mutex mutex;
+};
+static std::mutex audit;
+static void deposit(Account &account)
+{
+    std::lock_guard<std::mutex> outer(account.mutex);
+    std::lock_guard<std::mutex> inner(audit);
+}
+static void report(Account &account)
+{
+    std::lock_guard<std::mutex> outer(audit);
+    std::lock_guard<std::mutex> inner(account.mutex);
+}
+static void check(Account &account)
+{
+    std::lock_guard<std::mutex> guard(account.mutex);
+}
+int main()
+{
+    Account *accounts = new Account[8];
+    for (int i = 0; i < 5; i++)
+        check(accounts[i]);
+    report(accounts[4]);
+    deposit(accounts[4]);
+    std::getchar();
+    report(accounts[6]);
+    return 0;
+}
+ANY
+    g++ -g -pthread -o merges merges.cc && rm -f held-open && mkfifo held-open
+    "$record" -- ./merges 2>recorded.err <held-open &
+    exec 8>held-open
+    within grep -q '^ "audit" -> "Account::mutex"' recorded.err
+    live=$?
+    echo >&8
+    exec 8>&-
+    wait $!
+    [ $live -eq 0 ] && diff - recorded.err <<'ANY'
+lock order reversal:
+ 1st "Account::mutex" (Account::mutex, sleep mutex) @ merges.cc:9
+ 2nd "audit" (audit, sleep mutex) @ merges.cc:10
+established order:
+ "audit" -> "Account::mutex" @ merges.cc:15
+record: 1 report, 0 circles, 1 process
+ANY
+    tell stays "a member's lock, when further first uses are one type with the first" $?
 fi
