@@ -4,6 +4,7 @@
 #include "lock_names.h"
 #include "memory.h"
 #include "names.h"
+#include "sites.h"
 #include "steps.h"
 #include "texts.h"
 
@@ -110,24 +111,33 @@ static const char *with_functions(const struct giving *giving, uint32_t number)
     return texts_say(giving->declared->texts, "%s<%s", giving->wanted[number], lasting_functions(giving->declared, type));
 }
 
-/* With the file of the function that asked for the lock, or made it; that of a member may be another one in each run. */
+/* FILE:LINE where the type's locks are made or first asked for: a text of one's own; NULL where that isn't known. */
+static char *first_site(const struct giving *giving, uint32_t number)
+{
+    const struct type *type = declared_type(giving, number);
+    struct steps steps;
+    if (type->label)
+        return type->count > 0 ? source_of(giving->declared, place_of(giving->declared, type->place[0])) : NULL;
+    steps_begin(&steps, giving->declared, type);
+    char *site = steps.count > 0 && steps.step[0].site ? copy(steps.step[0].site) : NULL;
+    steps_end(&steps);
+    return site;
+}
+
+/* With the file of that; of a member it may be another one in each run. */
 static const char *with_file(const struct giving *giving, uint32_t number)
 {
-    struct steps steps;
     const char *wanted = giving->wanted[number];
-    if (giving->types->type[number].is_member)
-        return wanted;
-    steps_begin(&steps, giving->declared, declared_type(giving, number));
-    const char *site = steps.count > 0 ? steps.step[0].site : NULL, *colon = site ? strrchr(site, ':') : NULL;
+    char *site = giving->types->type[number].is_member ? NULL : first_site(giving, number);
+    char *colon = site ? strrchr(site, ':') : NULL;
     if (colon) {
-        char *file = copy_bytes(site, (size_t)(colon - site));
-        char *name = say_text("%s (%s)", wanted, base_of(file));
+        *colon = '\0';
+        char *name = say_text("%s (%s)", wanted, base_of(site));
         clean_name(name);
         wanted = texts_copy(giving->declared->texts, name, strlen(name));
         free(name);
-        free(file);
     }
-    steps_end(&steps);
+    free(site);
     return wanted;
 }
 
@@ -141,7 +151,7 @@ static int by_name_and_source(const void *left, const void *right)
 {
     const struct claimant *one = left, *other = right;
     int order = strcmp(one->wanted, other->wanted);
-    order = order ? order : strcmp(one->source, other->source);
+    order = order ? order : strverscmp(one->source, other->source);
     return order ? order : (one->number > other->number) - (one->number < other->number);
 }
 

@@ -176,6 +176,42 @@ ANY
         "${CC:-cc}" -g -pthread -o pools pools.c one.o other.o && told_names ./pools >pools.names
     printf 'fresh(mutex)<make() (%s.c)\n' heap pool | diff - pools.names
     tell alike "functions of one name in two files" $?
+    cat >labels.c <<'ANY'
+#define WITNESS_BY_NAME
+#include "witness.h"
+static void take(const void *lock, unsigned line)
+{
+    witness_asked_at(lock, WITNESS_MUTEX, "use.py", line, "use");
+    witness_acquired(lock);
+}
+static void either(const void *one, const void *other, unsigned line)
+{
+    for (unsigned i = 0; i < 4; i += 2) {
+        take(i ? other : one, line + i);
+        take(i ? one : other, line + i + 1);
+        witness_released(one);
+        witness_released(other);
+    }
+}
+int main(void)
+{
+    static const char *const made[][2] = {{"one/bank.py", "Account.lock"}, {"two/shop.py", "Account.lock"}, {"c.py", "Log.lock"},
+        {"c.py", "Log.lock"}, {"b.rs", "Mutex (b.rs:9)"}, {"b.rs", "Mutex (b.rs:10)"}};
+    const void *lock[6];
+    for (unsigned i = 0; i < 6; i++) {
+        lock[i] = witness_handle();
+        witness_made_at(lock[i], WITNESS_MUTEX, made[i][0], 7 + i, "make", made[i][1]);
+    }
+    for (unsigned i = 0; i < 6; i += 2)
+        either(lock[i], lock[i + 1], 10 * i);
+    return 0;
+}
+ANY
+    "${CC:-cc}" -g -I"$recorder" -o labels labels.c && told_names ./labels >labels.names
+    printf '%s\n' 'Account.lock (bank.py)' 'Account.lock (shop.py)' Log.lock 'Log.lock#2' 'Mutex (b.rs:10)' 'Mutex (b.rs:9)' | diff - labels.names
+    tell alike "what the program names alike" $?
+    sed -n 's/^ "\(Log[^"]*\)" -> .*/\1/p' recorded.err | grep -qx Log.lock
+    tell alike "numbers by the sequence of lines" $?
 fi
 
 # Names of any length are told whole. A trace, which has room for 63 bytes, keeps them apart.
