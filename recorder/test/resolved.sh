@@ -134,10 +134,9 @@ fi
 # The library's functions between a thread's beginning and its function don't name a type, whatever was inlined.
 if wanted bank; then
     compile_resolved
-    printf 'init 1 mtx - "bank.cc:%s"\n' 11 12 >wanted.inits
+    printf 'bank.cc:%s\n' 11 12 >wanted.types
     for level in -O0 -O1 -O2; do
-        compile bank $level && record_stream 1 ./bank && ./resolved 1 stream >bank.trace &&
-            grep '^init' bank.trace | diff wanted.inits -
+        compile bank $level && record_stream 1 ./bank && ./resolved types stream | cut -f 3 | diff wanted.types -
         tell bank "types by the user's functions alone ($level)" $?
     done
 fi
