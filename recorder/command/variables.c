@@ -23,11 +23,12 @@ static void append(struct part *part, const char *more)
     part->name = longer;
 }
 
-/* Whether the type is a lock, or another one of a library's, whose own parts say nothing. */
+/* Whether the type is a lock, or another one of a library's or of witness.hpp, whose own parts say nothing. */
 static bool is_of_system(const struct plain_type *type)
 {
     const char *file = entry_file(&type->entry);
-    return file && (strncmp(file, "/usr/include/", 13) == 0 || strncmp(file, "/usr/lib/", 9) == 0 || is_of_library("", file));
+    return file && (strncmp(file, "/usr/include/", 13) == 0 || strncmp(file, "/usr/lib/", 9) == 0 || is_of_library("", file) ||
+        strcmp(base_of(file), "witness.hpp") == 0);
 }
 
 static bool select_element(struct part *part, const struct entry *array, uint64_t few, bool is_any)
