@@ -35,7 +35,7 @@ const char *variable_lock_in(
     const struct declared *declared, const struct named_type *type, const struct variable *variable);
 const char *numbered_lock_in(const struct declared *declared, const struct named_type *type, uint32_t number);
 
-/* The name as a trace may have it, of at most 63 bytes: a longer one is cut, and has a number after `~` that is made of all of it. */
+/* As a trace may have the name: a longer one is cut, and has a number after `~` that is made of all of it. */
 enum { TRACE_NAME_MOST = 63 };
 void trace_name(char cut[TRACE_NAME_MOST + 1], const char *name);
 
