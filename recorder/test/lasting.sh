@@ -262,8 +262,8 @@ ANY
     printf '"%sfirst" "%ssecond"\n' $name $name >list
     "$record" --ignore list -- ./whole 2>&1 | tail -n 1 | grep -qx 'record: nothing to report: list silences 1 report'
     tell whole "in the ignore file" $?
-    "$record" --learn ORDERS.whole -- ./whole 2>recorded.err
-    grep -qF "mtx \"whole:${name}first\" > mtx \"whole:${name}second\"" ORDERS.whole
+    "$record" --learn whole.orders -- ./whole 2>recorded.err
+    grep -qF "mtx \"whole:${name}first\" > mtx \"whole:${name}second\"" whole.orders
     tell whole "in a file of orders" $?
 fi
 
