@@ -30,9 +30,9 @@ if wanted ways; then
     tell ways "the calls without the library" $?
     compile futex $linked && WITNESS=1 ./futex 2>err >out && grep -q '^lock order reversal:$' err
     tell ways "locks of the program's own, that witness.h tells of" $?
-    # As the recorder names them (recorder/test/byname.c): a reversal by name, and one with places of the code.
+    # As the recorder names them (recorder/test/byname.c), but with the line of a type: a reversal by name, and one with places of the code.
     compile byname $linked && WITNESS=1 ./byname 2>err >out
-    head -n 5 "$top/recorder/test/byname.want" >byname.want && head -n 5 err | diff byname.want - &&
+    head -n 5 "$top/recorder/test/byname.want" | sed 's/(log\.rs)/(log.rs:8)/g' >byname.want && head -n 5 err | diff byname.want - &&
         grep -q '^ a_100%?bank\.py:21(audit)$' err && grep -q '^ 2nd "journal" (journal, sleep mutex) @ byname\.c:62$' err &&
         grep -q '^ 1st "plain" (plain, sleep mutex) @ byname+0x[0-9a-f]*(main):0$' err
     tell ways "places and types by name" $?

@@ -78,3 +78,12 @@ char *call_word(const char *text, const char *function)
         leave_indices_out(word);
     return word;
 }
+
+bool has_call(const char *text, const char *function)
+{
+    char *line = copy_bytes(text, strcspn(text, "\n"));
+    blank_out(line);
+    bool is_called = call_of(line, function) != NULL;
+    free(line);
+    return is_called;
+}

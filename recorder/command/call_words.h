@@ -12,6 +12,9 @@
  */
 char *call_word(const char *text, const char *function);
 
+/* Whether the text's first line calls the function. */
+bool has_call(const char *text, const char *function);
+
 /* Whether the function that begins with the text lets a lock go again, as far as its words say. */
 bool lets_go(const char *text);
 

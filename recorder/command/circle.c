@@ -35,12 +35,12 @@ static const struct event *thread_of(const struct notes *notes, unsigned seat, s
 
 /* A line of the last report, of a seat and a lock. The heading is let go. */
 static struct report_line *add_line(
-    struct scene *scene, enum line_kind kind, unsigned seat, struct piece lock, char *heading, struct piece place)
+    struct scene *scene, enum line_kind kind, unsigned seat, const char *lock, char *heading, struct piece place)
 {
     char *at = copy_bytes(place.at ? place.at : "", (size_t)place.length);
     struct report_line *line = reports_add_line(&scene->process->reports, kind, heading, at);
     line->seat = seat;
-    line->name = copy_bytes(lock.at, (size_t)lock.length);
+    line->name = copy(lock);
     free(at);
     free(heading);
     return line;
@@ -62,8 +62,8 @@ static void add_held(struct scene *scene, unsigned seat, const struct event *thr
     for (size_t i = 0; i < held->count; i++) {
         if (!is_first(held, i))
             continue;
-        struct piece lock = trace_lock(&scene->trace, held->held[i].lock)->name;
-        char *heading = say_text(" seat %u%s holds \"%.*s\"", seat, name, lock.length, lock.at);
+        const char *lock = notes_lock(&scene->process->notes, held->held[i].lock)->name;
+        char *heading = say_text(" seat %u%s holds \"%s\"", seat, name, lock);
         add_line(scene, LINE_HOLDS, seat, lock, heading, held->held[i].place);
     }
     free(name);
@@ -81,9 +81,10 @@ static void add_wait(struct scene *scene, const char *told)
     const struct event *thread = thread_of(notes, seat, notes->events);
     char *label = thread_label(thread), *name = thread_name(thread_of(notes, next, notes->events));
     char *heading = say_text(" seat %u%s%s%s", seat, label, told + length, name);
-    struct piece lock = {open + 1, (int)(close - open - 1)};
+    char *lock = copy_bytes(open + 1, (size_t)(close - open - 1));
     add_line(scene, LINE_WAITS, seat, lock, heading, scene->holdings.seat[seat].asked_at)->next = next;
     add_held(scene, seat, thread);
+    free(lock);
     free(label);
     free(name);
 }
@@ -103,8 +104,11 @@ static void add_circle(struct scene *scene)
     char *line = strtok_r(told, "\n", &rest);
     if (line && strcmp(line, head) == 0) {
         reports_add(&process->reports, REPORT_CIRCLE, head);
-        while ((line = strtok_r(NULL, "\n", &rest)) != NULL)
-            add_wait(scene, line);
+        while ((line = strtok_r(NULL, "\n", &rest)) != NULL) {
+            char *whole = notes_whole(&process->notes, line, strlen(line));
+            add_wait(scene, whole);
+            free(whole);
+        }
     }
     free(told);
 }
@@ -116,12 +120,12 @@ static void add_again(struct scene *scene, size_t number)
     const struct event *again = &notes->event[number];
     const struct event *thread = thread_of(notes, again->seat, number);
     const char *site = again->site ? again->site : "?:0";
-    struct piece lock = trace_lock(&scene->trace, again->lock)->name;
+    const char *lock = notes_lock(notes, again->lock)->name;
     if (again->seat > SEATS_MOST)
         return;
     char *label = thread_label(thread);
     reports_add(&scene->process->reports, REPORT_SELF, "a thread waited for a lock that it held itself:");
-    char *heading = say_text(" seat %u%s waited for \"%.*s\"", again->seat, label, lock.length, lock.at);
+    char *heading = say_text(" seat %u%s waited for \"%s\"", again->seat, label, lock);
     add_line(scene, LINE_WAITS, again->seat, lock, heading, (struct piece){site, (int)strlen(site)});
     add_held(scene, again->seat, thread);
     free(label);

@@ -77,7 +77,14 @@ char *entry_whole_name(const struct entry *entry, const char *own);
 bool debug_info_unit(struct debug_info *info, uint64_t address, struct entry *unit);
 /* The functions of a unit that have code: a list that ends with the debug information. */
 const struct entry *debug_info_functions(struct debug_info *info, const struct entry *unit, size_t *count);
-/* The variable that stands at the address, and in it the address may be. */
-bool debug_info_variable(struct debug_info *info, uint64_t address, struct entry *variable, uint64_t *begin);
+/* A variable that is always at the same address. */
+struct fixed_variable {
+    uint64_t address, size;
+    struct entry entry;
+    char *name; /* with those of what is around it; NULL where it has none, or wasn't asked for yet */
+};
+
+/* That which has the address; NULL where there is none. It ends with the debug information. */
+const struct fixed_variable *debug_info_variable(struct debug_info *info, uint64_t address);
 
 #endif

@@ -9,17 +9,11 @@
 #include <string.h>
 #include <unistd.h>
 
-/* A variable that is always at the same address. */
-struct fixed {
-    uint64_t address, size;
-    struct entry entry;
-};
-
 struct unit {
     struct entry entry;
     struct entry *function;
     size_t functions, room;
-    struct fixed *fixed;
+    struct fixed_variable *fixed;
     size_t fixeds, fixed_room;
     bool is_read;
 };
@@ -29,6 +23,7 @@ struct debug_info {
     int file;
     struct unit *unit;
     size_t units, unit_room;
+    struct fixed_variable *last; /* that was asked for: many locks stand in one variable */
 };
 
 static bool open_at(struct debug_info *info, const char *path)
@@ -76,6 +71,8 @@ struct debug_info *debug_info_open(const char *path, const char *build_id)
 
 static void unit_end(struct unit *unit)
 {
+    for (size_t i = 0; i < unit->fixeds; i++)
+        free(unit->fixed[i].name);
     free(unit->function);
     free(unit->fixed);
 }
@@ -112,7 +109,7 @@ static bool may_have_functions(enum entry_kind kind)
 
 static void add_fixed(struct unit *unit, const struct entry *variable)
 {
-    struct fixed fixed = {.entry = *variable};
+    struct fixed_variable fixed = {.entry = *variable};
     struct entry type;
     if (!entry_address(variable, &fixed.address) || !entry_type(variable, &type))
         return;
@@ -157,19 +154,35 @@ const struct entry *debug_info_functions(struct debug_info *info, const struct e
     return NULL;
 }
 
-bool debug_info_variable(struct debug_info *info, uint64_t address, struct entry *variable, uint64_t *begin)
+static bool has_address(const struct fixed_variable *fixed, uint64_t address)
 {
+    return address >= fixed->address && address - fixed->address < fixed->size;
+}
+
+/* It takes long to find what is around an entry. */
+static void find_name(struct fixed_variable *fixed)
+{
+    struct entry origin;
+    const char *name = entry_name(&fixed->entry);
+    if (name)
+        fixed->name = entry_whole_name(entry_origin(&fixed->entry, &origin) ? &origin : &fixed->entry, name);
+}
+
+const struct fixed_variable *debug_info_variable(struct debug_info *info, uint64_t address)
+{
+    if (info->last && has_address(info->last, address))
+        return info->last;
     for (size_t i = 0; i < info->units; i++) {
         struct unit *unit = &info->unit[i];
         read_unit(unit);
         for (size_t j = 0; j < unit->fixeds; j++) {
-            const struct fixed *fixed = &unit->fixed[j];
-            if (address < fixed->address || address - fixed->address >= fixed->size)
+            struct fixed_variable *fixed = &unit->fixed[j];
+            if (!has_address(fixed, address))
                 continue;
-            *variable = fixed->entry;
-            *begin = fixed->address;
-            return true;
+            if (!fixed->name)
+                find_name(fixed);
+            return info->last = fixed;
         }
     }
-    return false;
+    return NULL;
 }

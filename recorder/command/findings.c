@@ -52,16 +52,27 @@ static char *without_numbers(const char *name)
     return plain;
 }
 
-/* Where a type has a name by functions, that is mixed in. */
+/* Where a type has a name by functions, that is mixed in. Those of a member may be others in each run. */
 static uint64_t mix_type(uint64_t hash, const struct notes *notes, const char *type)
 {
     const struct alias *alias = notes_alias(notes, type);
+    if (alias && alias->is_member)
+        return mix(hash, alias->lasting.bare);
     if (alias && alias->functions)
         return mix(hash, alias->functions);
-    char *plain = without_numbers(type);
+    char *plain = without_numbers(alias ? alias->by_lines : type);
     hash = mix(hash, plain);
     free(plain);
     return hash;
+}
+
+/* A lock that has another name than its type has a number in it, or is one of several in a variable. */
+static uint64_t mix_lock(uint64_t hash, const struct notes *notes, const char *name)
+{
+    for (size_t i = 0; i < notes->locks; i++)
+        if (strcmp(notes->lock[i].name, name) == 0)
+            return mix_type(hash, notes, notes->lock[i].type);
+    return mix_type(hash, notes, name);
 }
 
 /* What the line gives to a fingerprint, 0 where that is nothing: its lock and the innermost function. */
@@ -77,7 +88,7 @@ static uint64_t hash_line(const struct report *report, const struct report_line 
         return mix(mix_type(begin, notes, line->type), function);
     if (line->kind == LINE_WAITS || line->kind == LINE_HOLDS)
         return mix(
-            mix_type(mix(begin, line->kind == LINE_WAITS ? "waits" : "holds"), notes, line->name ? line->name : ""),
+            mix_lock(mix(begin, line->kind == LINE_WAITS ? "waits" : "holds"), notes, line->name ? line->name : ""),
             function);
     return 0;
 }

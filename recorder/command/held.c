@@ -45,7 +45,7 @@ static void read_lock(struct scene *scene, unsigned seat, const char *line)
     const char *open = strchr(line, '"'), *close = open ? strchr(open + 1, '"') : NULL, *last = strrchr(line, ' ');
     if (!close || !last)
         return;
-    char *name = copy_bytes(open + 1, (size_t)(close - open - 1));
+    char *name = notes_whole(&scene->process->notes, open + 1, (size_t)(close - open - 1));
     char *what = say_text("holds \"%s\"%s", name, *line == 's' ? " (shared)" : "");
     ADD(scene->name, scene->names, scene->room) = name;
     add(scene, seat, what, last + 1);
@@ -85,8 +85,7 @@ static void read_requests(struct scene *scene)
             const struct seat *asks = &holdings->seat[seat];
             if (!asks->asked)
                 continue;
-            struct piece lock = trace_lock(&trace, asks->asked)->name;
-            char *what = say_text("waits for \"%.*s\"", lock.length, lock.at);
+            char *what = say_text("waits for \"%s\"", notes_lock(&scene->process->notes, asks->asked)->name);
             char *place = copy_bytes(asks->asked_at.at, (size_t)asks->asked_at.length);
             add(scene, seat, what, place);
             free(what);

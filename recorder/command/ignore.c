@@ -2,6 +2,7 @@
 
 #include "memory.h"
 #include "texts.h"
+#include "type_names.h"
 
 #include <stdio.h>
 #include <stdlib.h>
@@ -134,34 +135,64 @@ static const char *noted(struct notes *notes, const char *text)
     return text ? texts_copy(notes->texts, text, strlen(text)) : NULL;
 }
 
-static void note_alias(struct notes *notes, const struct named_type *type, const struct lasting *lasting)
+static void note_alias(struct notes *notes, const struct named_type *type)
 {
     if (!notes)
         return;
-    struct lasting kept = *lasting;
-    kept.name = noted(notes, lasting->name);
-    kept.bare = kept.name + (lasting->bare - lasting->name);
-    kept.build_id = noted(notes, lasting->build_id);
-    bool has_functions = type->functions && strcmp(type->functions, type->name) != 0;
-    ADD(notes->alias, notes->aliases, notes->alias_room) =
-        (struct alias){noted(notes, type->name), has_functions ? noted(notes, type->functions) : NULL, kept};
+    struct lasting kept = type->lasting;
+    kept.name = noted(notes, kept.name);
+    kept.bare = kept.name + (type->lasting.bare - type->lasting.name);
+    kept.build_id = noted(notes, kept.build_id);
+    bool has_functions = type->functions && strcmp(type->functions, type->by_lines) != 0;
+    ADD(notes->alias, notes->aliases, notes->alias_room) = (struct alias){
+        .type = noted(notes, type->name),
+        .by_lines = noted(notes, type->by_lines),
+        .functions = has_functions ? noted(notes, type->functions) : NULL,
+        .source = noted(notes, type->source),
+        .is_member = type->is_member,
+        .lasting = kept,
+    };
+}
+
+/* The name without the numbers of calls that look alike: a text of one's own. */
+static char *without_numbers(const char *name)
+{
+    char *plain = copy(name), *to = plain;
+    for (const char *from = name; *from;) {
+        size_t digits = *from == '#' ? strspn(from + 1, "0123456789") : 0;
+        if (digits > 0 && from[1 + digits] == ')')
+            from += 1 + digits;
+        else
+            *to++ = *from++;
+    }
+    *to = '\0';
+    return plain;
 }
 
 /*
- * All that the user may call the type: its name, and the functions of its places. Of types that are one each has its own,
- * and all stand for the first of them.
+ * All that the user may call the type: its name, that by lines, those that last, and the functions of its places. Of types
+ * that are one each has its own functions and lines, and all stand for the first of them.
  */
 static void call_type(struct called *called, struct peace *peace, const struct ignore *ignore, struct notes *notes,
-    const struct named_type *type)
+    const struct named_type *type, bool is_first)
 {
-    if (type->alone)
-        call(called, peace, ignore, notes, type->alone, type->name);
-    if (type->functions && strcmp(type->functions, type->name) != 0)
-        call(called, peace, ignore, notes, type->functions, type->name);
+    char *plain = is_first ? without_numbers(type->lasting.name) : copy(""), cut[TRACE_NAME_MOST + 1];
+    const char *bare = is_first ? plain + (type->lasting.bare - type->lasting.name) : plain;
+    const char *word[] = {type->alone, type->functions, type->name, type->by_lines, cut, type->lasting.name,
+        type->lasting.bare, plain, bare};
+    size_t words = is_first ? sizeof word / sizeof *word : 2;
+    trace_name(cut, type->name);
+    for (size_t i = 0; i < words; i++) {
+        bool is_new = word[i] != NULL;
+        for (size_t j = 0; is_new && j < i; j++)
+            is_new = !word[j] || strcmp(word[j], word[i]) != 0;
+        if (is_new)
+            call(called, peace, ignore, notes, word[i], type->name);
+    }
+    free(plain);
 }
 
-void peace_begin(struct peace *peace, const struct ignore *ignore, const struct declared *declared,
-    const struct types *types, struct notes *notes)
+void peace_begin(struct peace *peace, const struct ignore *ignore, const struct types *types, struct notes *notes)
 {
     static const struct ignore nothing;
     struct called called = {0};
@@ -173,16 +204,10 @@ void peace_begin(struct peace *peace, const struct ignore *ignore, const struct 
         ignore = &nothing;
     for (uint32_t number = 1; number < types->count; number++) {
         const struct named_type *type = &types->type[number];
-        call_type(&called, peace, ignore, notes, type);
-        if (type->first != number)
-            continue;
-        struct lasting lasting = lasting_of(declared, types, number);
-        call(&called, peace, ignore, notes, type->name, type->name);
-        if (strcmp(lasting.name, type->name) != 0)
-            call(&called, peace, ignore, notes, lasting.name, type->name);
-        if (strcmp(lasting.bare, type->name) != 0)
-            call(&called, peace, ignore, notes, lasting.bare, type->name);
-        note_alias(notes, type, &lasting);
+        bool is_first = type->first == number;
+        call_type(&called, peace, ignore, notes, type, is_first);
+        if (is_first)
+            note_alias(notes, type);
     }
     for (size_t i = 0; i < ignore->pairs; i++)
         bless(peace, &called, &blessed, &ignore->pair[i], notes);

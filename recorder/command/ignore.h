@@ -40,8 +40,7 @@ struct peace {
 };
 
 /* Notes which lines name types of the trace, and what types are called besides. Without `ignore` nothing is ignored. */
-void peace_begin(struct peace *peace, const struct ignore *ignore, const struct declared *declared,
-    const struct types *types, struct notes *notes);
+void peace_begin(struct peace *peace, const struct ignore *ignore, const struct types *types, struct notes *notes);
 void peace_end(struct peace *peace);
 
 #endif

@@ -1,6 +1,8 @@
 #include "lasting.h"
 
+#include "alike.h"
 #include "declared.h"
+#include "lasting_variables.h"
 #include "lock_names.h"
 #include "memory.h"
 #include "names.h"
@@ -8,7 +10,6 @@
 #include "steps.h"
 #include "texts.h"
 #include "types.h"
-#include "variables.h"
 
 #include <stdlib.h>
 #include <string.h>
@@ -30,16 +31,10 @@ static void say(struct making_name *name, const char *more)
     name->text = longer;
 }
 
-static struct binary *binary_of(const struct declared *declared, uint32_t object)
-{
-    const char *path = object_of(declared, object)->path;
-    return path ? symbols_binary(declared->symbols, path) : NULL;
-}
-
 /* The name by which others ask for the object; else the one that was executed, or its file's. */
 static const char *lasting_object(const struct declared *declared, uint32_t object)
 {
-    struct binary *binary = binary_of(declared, object);
+    struct binary *binary = binary_of_object(declared, object);
     const char *soname = binary ? binary_file(binary)->soname : NULL;
     return soname ? soname : object_name(declared, object);
 }
@@ -78,10 +73,17 @@ static void name_lambda(char *function)
 /* The step's function, and how many lines the step is below its first one: a text of one's own. */
 static char *function_in(const struct making_name *name, const struct step *step, long *lines)
 {
-    char *other = function_name_at(name->declared, step, lines);
-    char *function = other ? other : copy(step->function ? bare_function(step->function) : "?");
+    const struct function_in_source *known = function_at_step(name->declared, step);
+    char *function = copy(known->name ? known->name : step->function ? bare_function(step->function) : "?");
+    *lines = known->lines;
     name_lambda(function);
     return function;
+}
+
+/* What tells a line from those before it in its function that look like it, as `#2`: a text of one's own. */
+static char *number_alike(size_t before)
+{
+    return before > 0 ? say_text("#%zu", before + 1) : copy("");
 }
 
 /*
@@ -95,7 +97,9 @@ static char *innermost(struct making_name *name, const struct step *step)
     long lines;
     char *function = function_in(name, step, &lines), *said;
     if (word) {
-        said = say_text("%s(%s)", function, word);
+        char *number = number_alike(locks_alike_before(name->declared, step, lock));
+        said = say_text("%s(%s%s)", function, word, number);
+        free(number);
     } else if (step->site && step->place->kind != PLACE_CALL) {
         said = say_text("%s()", function);
     } else if (lines >= 0) {
@@ -119,10 +123,12 @@ static char *caller(const struct making_name *name, const struct step *step, con
         return copy(lasting_object(name->declared, place->object));
     char *callee = function_in(name, called, &lines), *function = function_in(name, step, &lines);
     char *word = call_name_at(name->declared, step, callee);
+    char *number = number_alike(calls_alike_before(name->declared, step, callee, word));
     if (!word && lines >= 0 && !has_text_at(name->declared, step))
         word = say_text("+%ld", lines);
-    char *said = say_text("%s(%s)", function, word ? word : "");
+    char *said = say_text("%s(%s%s)", function, word ? word : "", number);
     free(callee);
+    free(number);
     free(function);
     free(word);
     return said;
@@ -159,53 +165,15 @@ static bool is_of_variable(const char *expression, const char *variable)
     return strncmp(expression, last, length) == 0 && (expression[length] == '\0' || strchr(".[", expression[length]));
 }
 
-/* Without the number that a compiler puts after a dot to a variable that is a function's own. */
-static size_t length_without_number(const char *symbol)
-{
-    size_t length = strlen(symbol), digits = 0;
-    while (digits < length && symbol[length - digits - 1] >= '0' && symbol[length - digits - 1] <= '9')
-        digits++;
-    return digits > 0 && digits < length && symbol[length - digits - 1] == '.' ? length - digits - 1 : length;
-}
-
-/*
- * The variable, as its symbol says it in C++, and else debug information: clang's lacks the function of some that are a
- * function's own, which its symbol has (`function.variable`).
- */
-static void say_variable_name(struct making_name *name, const char *by_debug)
-{
-    const char *symbol = name->type->variable.name;
-    const char *said = symbol ? symbols_name(name->declared->symbols, symbol) : by_debug;
-    if (symbol && strcmp(said, symbol) == 0 && strncmp(by_debug, "?::", 3) != 0)
-        said = by_debug;
-    size_t length = symbol && said == symbol ? length_without_number(said) : strlen(said);
-    char *kept = copy_bytes(said, length), *dot = said == symbol ? strchr(kept, '.') : NULL;
-    if (dot) {
-        *dot = '\0';
-        char *parted = say_text("%s::%s", kept, dot + 1);
-        free(kept);
-        kept = parted;
-    }
-    say(name, kept);
-    free(kept);
-}
-
 /* As debug information has it. False where there is none, or the variable is many locks of one type in this run. */
 static bool say_part(struct making_name *name, bool is_array)
 {
     enum { FEW_ELEMENTS = 16 };
-    const struct variable *variable = &name->type->variable;
-    struct binary *binary = binary_of(name->declared, variable->object);
-    struct debug_info *info = binary ? binary_debug(binary) : NULL;
-    struct part_of_variable part = {0};
-    if (info)
-        part = part_of_variable(info, variable->offset, FEW_ELEMENTS, is_array || name->steps.count > 0);
-    bool is_said = part.variable && (!is_array || strchr(part.path, '['));
-    if (is_said) {
-        say_variable_name(name, part.variable);
-        say(name, part.path);
-    }
-    part_of_variable_end(&part);
+    char *part = variable_part(name->declared, &name->type->variable, FEW_ELEMENTS, is_array || name->steps.count > 0);
+    bool is_said = part && (!is_array || strchr(part, '['));
+    if (is_said)
+        say(name, part);
+    free(part);
     return is_said;
 }
 
@@ -280,7 +248,7 @@ static const char *build_ids(const struct making_name *name)
             is_seen |= seen[j] == object;
         if (is_seen)
             continue;
-        struct binary *binary = binary_of(declared, object);
+        struct binary *binary = binary_of_object(declared, object);
         const char *id = binary ? binary_file(binary)->build_id : NULL;
         char *more = say_text("%s%s%s", ids, count ? "+" : "", id ? id : "-");
         free(ids);
@@ -307,6 +275,18 @@ static void begin_steps(struct making_name *name)
     for (size_t i = 1; i < steps->count; i++)
         if (is_of_c_library(name->declared, &steps->step[i]))
             steps->count = i;
+}
+
+const char *lasting_functions(const struct declared *declared, const struct type *type)
+{
+    struct making_name name = {.declared = declared, .type = type, .text = copy(""), .lasts = true};
+    begin_steps(&name);
+    say_steps(&name);
+    clean_name(name.text);
+    const char *kept = texts_copy(declared->texts, name.text, strlen(name.text));
+    steps_end(&name.steps);
+    free(name.text);
+    return kept;
 }
 
 struct lasting lasting_of(const struct declared *declared, const struct types *types, uint32_t number)

@@ -9,6 +9,7 @@
 #include <stdint.h>
 
 struct declared;
+struct type;
 struct types;
 
 struct lasting {
@@ -17,6 +18,9 @@ struct lasting {
     bool lasts;           /* else it holds under that build of its objects alone */
     const char *build_id; /* where it doesn't last: theirs, parted by `+`, with `-` for one that isn't known. Else NULL */
 };
+
+/* The functions that made the type's locks, as they stand in names: it ends with `declared`. */
+const char *lasting_functions(const struct declared *declared, const struct type *type);
 
 /* That of the stream's type of that number. Its texts end with those of `declared`. */
 struct lasting lasting_of(const struct declared *declared, const struct types *types, uint32_t number);

@@ -81,7 +81,7 @@ static void type_locks(struct taking *taking)
 /* `bless "TYPE" "TYPE"`. */
 static void read_bless(struct taking *taking, struct piece text)
 {
-    char *line = copy_bytes(text.at, (size_t)text.length);
+    char *line = notes_whole(&taking->process->notes, text.at, (size_t)text.length);
     char *middle = strncmp(line, "bless \"", 7) == 0 ? strstr(line, "\" \"") : NULL, *end = strrchr(line, '"');
     if (middle && end > middle + 2) {
         *middle = *end = '\0';

@@ -1,5 +1,6 @@
 #include "lock_names.h"
 
+#include "alike.h"
 #include "call_words.h"
 #include "declared.h"
 #include "locked.h"
@@ -19,12 +20,17 @@ struct lock_names {
     struct map by_step; /* numbers in the list, from 1 on */
     const struct lock_name_in_source **name;
     size_t names, room;
+    struct map functions_by_step; /* numbers in the list, from 1 on */
+    const struct function_in_source **function;
+    size_t functions, function_room;
+    struct alike *alike;
     struct texts *texts;
 };
 
 struct lock_names *lock_names_new(void)
 {
     struct lock_names *names = take(sizeof *names);
+    names->alike = alike_new();
     names->texts = texts_new();
     return names;
 }
@@ -32,7 +38,10 @@ struct lock_names *lock_names_new(void)
 void lock_names_end(struct lock_names *names)
 {
     free(names->name);
+    free(names->function);
     map_end(&names->by_step);
+    map_end(&names->functions_by_step);
+    alike_end(names->alike);
     texts_end(names->texts);
     free(names);
 }
@@ -145,6 +154,11 @@ static const struct lock_name_in_source *find(struct lock_names *names, const st
     return name;
 }
 
+struct alike *lock_names_alike(const struct lock_names *names)
+{
+    return names->alike;
+}
+
 bool has_text_at(const struct declared *declared, const struct step *step)
 {
     return text_at(declared, step) != NULL;
@@ -156,30 +170,52 @@ char *call_name_at(const struct declared *declared, const struct step *step, con
     return text && function ? call_word(text, function) : NULL;
 }
 
-char *function_name_at(const struct declared *declared, const struct step *step, long *lines)
+static void find_function(struct lock_names *names, const struct declared *declared, const struct step *step,
+    struct function_in_source *function)
 {
     struct binary *binary = object_of(declared, step->place->object)->binary;
     struct debug_info *info = binary && step->place->kind == PLACE_CALL && step->site ? binary_debug(binary) : NULL;
     struct spot_of_code spot;
-    *lines = -1;
+    long first;
+    function->lines = -1;
     if (!info)
-        return NULL;
-    char *file = spot_at(step, &spot), *name = function_at(info, &spot, lines);
-    *lines = name ? spot.line - *lines : -1;
+        return;
+    char *file = spot_at(step, &spot), *name = function_at(info, &spot, &first);
+    function->lines = name ? spot.line - first : -1;
     free(file);
     bool is_bare = step->function && strcmp(step->function, "operator()") == 0;
     if (name && (!step->function || is_bare || !is_name_of_function(step->function, name)))
-        return name;
+        function->name = kept(names, name);
     free(name);
-    return NULL;
+}
+
+/* What tells the step from others: a text of one's own. */
+static char *key_of(const struct declared *declared, const struct step *step)
+{
+    const char *path = object_of(declared, step->place->object)->path;
+    return say_text("%s+%llx %zu %s", path ? path : "", (unsigned long long)step->place->offset, step->frame,
+        step->site ? step->site : "");
+}
+
+const struct function_in_source *function_at_step(const struct declared *declared, const struct step *step)
+{
+    struct lock_names *names = symbols_lock_names(declared->symbols);
+    char *key = key_of(declared, step);
+    size_t *number = map_add_text(&names->functions_by_step, key);
+    if (*number == 0) {
+        struct function_in_source *found = texts_room(names->texts, sizeof *found);
+        find_function(names, declared, step, found);
+        ADD(names->function, names->functions, names->function_room) = found;
+        *number = names->functions;
+    }
+    free(key);
+    return names->function[*number - 1];
 }
 
 const struct lock_name_in_source *lock_name_at(const struct declared *declared, const struct step *step)
 {
     struct lock_names *names = symbols_lock_names(declared->symbols);
-    const char *path = object_of(declared, step->place->object)->path;
-    char *key = say_text("%s+%llx %zu %s", path ? path : "", (unsigned long long)step->place->offset, step->frame,
-        step->site ? step->site : "");
+    char *key = key_of(declared, step);
     size_t *number = map_add_text(&names->by_step, key);
     if (*number == 0) {
         const struct lock_name_in_source *found = find(names, declared, step);

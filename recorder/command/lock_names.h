@@ -7,6 +7,7 @@
 #include <stdbool.h>
 #include <stdint.h>
 
+struct alike;
 struct declared;
 struct step;
 struct lock_names;
@@ -23,6 +24,9 @@ struct lock_name_in_source {
 struct lock_names *lock_names_new(void);
 void lock_names_end(struct lock_names *names);
 
+/* What is known of lines that look alike (alike.h). */
+struct alike *lock_names_alike(const struct lock_names *names);
+
 /*
  * What tells the step's call of that function from others in its own function: a text of one's own, NULL where nothing does.
  */
@@ -31,11 +35,14 @@ char *call_name_at(const struct declared *declared, const struct step *step, con
 /* Whether the text of the step's line is known. */
 bool has_text_at(const struct declared *declared, const struct step *step);
 
-/*
- * The name of the step's function by debug information where symbol tools tell another one's: a text of one's own, else NULL.
- * *lines becomes how many lines the step is below the one that declares it; negative where that isn't known.
- */
-char *function_name_at(const struct declared *declared, const struct step *step, long *lines);
+/* The step's function in the source. */
+struct function_in_source {
+    const char *name; /* by debug information where symbol tools tell another one's, else NULL */
+    long lines;       /* how many lines the step is below the one that declares it; negative where that isn't known */
+};
+
+/* That of the step. Never NULL; it is looked for once, and ends with the symbols. */
+const struct function_in_source *function_at_step(const struct declared *declared, const struct step *step);
 
 /* That of the step. Never NULL; it is looked for once, and ends with the symbols. */
 const struct lock_name_in_source *lock_name_at(const struct declared *declared, const struct step *step);

@@ -1,7 +1,10 @@
 #include "notes.h"
 
+#include "memory.h"
 #include "texts.h"
+#include "type_names.h"
 
+#include <stdio.h>
 #include <stdlib.h>
 #include <string.h>
 
@@ -14,9 +17,56 @@ void notes_end(struct notes *notes)
     free(notes->matched);
     free(notes->blind);
     free(notes->lock);
+    map_end(&notes->cut);
+    free(notes->whole);
     single_end(&notes->single);
     texts_end(notes->texts);
     *notes = (struct notes){0};
+}
+
+void notes_tell_cut(struct notes *notes, const char *cut, const char *name)
+{
+    size_t *number = map_add_text(&notes->cut, cut);
+    if (*number != 0)
+        return;
+    ADD(notes->whole, notes->wholes, notes->whole_room) = texts_copy(notes->texts, name, strlen(name));
+    *number = notes->wholes;
+}
+
+/* The whole name of which a cut one ends before `end`; NULL where none does. */
+static const char *whole_before(const struct notes *notes, const char *text, const char *end)
+{
+    size_t number = end - text >= TRACE_NAME_MOST ? map_find(&notes->cut, end - TRACE_NAME_MOST, TRACE_NAME_MOST) : 0;
+    return number ? notes->whole[number - 1] : NULL;
+}
+
+char *notes_whole(const struct notes *notes, const char *text, size_t length)
+{
+    char *told = NULL;
+    size_t told_length = 0;
+    FILE *to = notes->wholes > 0 ? open_memstream(&told, &told_length) : NULL;
+    if (!to)
+        return copy_bytes(text, length);
+    const char *from = text, *end = text + length;
+    /* A number of eight digits follows the sign at which a name is cut. */
+    for (const char *at = text; (at = memchr(at, '~', (size_t)(end - at))) != NULL; at++) {
+        const char *after = end - at > 8 ? at + 9 : end;
+        const char *whole = whole_before(notes, from, after);
+        if (!whole)
+            continue;
+        fwrite(from, 1, (size_t)(after - TRACE_NAME_MOST - from), to);
+        fputs(whole, to);
+        from = after;
+    }
+    fwrite(from, 1, (size_t)(end - from), to);
+    fclose(to);
+    return told;
+}
+
+const struct lock_name *notes_lock(const struct notes *notes, unsigned number)
+{
+    static const struct lock_name none = {"", "", ""};
+    return number > 0 && number <= notes->locks ? &notes->lock[number - 1] : &none;
 }
 
 const struct alias *notes_alias(const struct notes *notes, const char *type)

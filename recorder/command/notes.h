@@ -8,6 +8,7 @@
 #include <stdint.h>
 
 #include "lasting.h"
+#include "map.h"
 #include "single.h"
 
 /* A function and its FILE:LINE, of a stack. */
@@ -48,10 +49,13 @@ struct event {
     const char *site;    /* where; NULL where that isn't known */
 };
 
-/* What a type is called besides. No lines are in it. */
+/* What a type is called besides. */
 struct alias {
-    const char *type;       /* its name in the trace */
-    const char *functions;  /* the functions of its places; NULL where its name is that of a variable */
+    const char *type;      /* as it is told */
+    const char *by_lines;  /* by variables and source lines */
+    const char *functions; /* the functions of its places; NULL where its name is that of a variable */
+    const char *source;    /* where it comes from: another type comes from elsewhere */
+    bool is_member;        /* it is all locks of a member: its places may be others in each run */
     struct lasting lasting;
 };
 
@@ -76,6 +80,9 @@ struct notes {
     size_t blinds, blind_room;
     struct lock_name *lock; /* lock[N - 1] is that of number N */
     size_t locks, lock_room;
+    struct map cut;         /* names that are too long for a trace, as it has them: numbers in the list, from 1 on */
+    const char **whole;
+    size_t wholes, whole_room;
     struct single single;   /* the orders of single locks */
     unsigned long pending;  /* requests that never ended */
     void *texts;            /* what the texts stand in */
@@ -83,7 +90,14 @@ struct notes {
 
 void notes_end(struct notes *notes);
 
-/* What the type of that name in the trace is called besides; NULL where there is no such type. */
+/* The name stands in the trace as that cut one. */
+void notes_tell_cut(struct notes *notes, const char *cut, const char *name);
+/* The text with whole names where it has cut ones: a text of one's own. */
+char *notes_whole(const struct notes *notes, const char *text, size_t length);
+/* The lock of that number in the trace; one without names where there is none. */
+const struct lock_name *notes_lock(const struct notes *notes, unsigned number);
+
+/* What the type of that name is called besides; NULL where there is no such type. */
 const struct alias *notes_alias(const struct notes *notes, const char *type);
 /* The site of a place as it stands in a trace: of `@:NUMBER` the spot's, else the place itself. */
 const char *notes_site(const struct notes *notes, const char *place);

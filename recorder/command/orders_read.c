@@ -12,7 +12,7 @@
 struct reading {
     struct process *process;
     struct trace trace;
-    struct piece type[TYPES_MOST + 1];
+    const char *type[TYPES_MOST + 1];
     size_t types;
     unsigned *type_of; /* type_of[LOCK - 1] */
     size_t typed, room;
@@ -20,10 +20,10 @@ struct reading {
 };
 
 /* The type's number; 0 where it isn't there. */
-static unsigned find_type(const struct reading *reading, const char *at, size_t length)
+static unsigned find_type(const struct reading *reading, const char *type)
 {
     for (unsigned i = 1; i <= reading->types; i++)
-        if ((size_t)reading->type[i].length == length && memcmp(reading->type[i].at, at, length) == 0)
+        if (strcmp(reading->type[i], type) == 0)
             return i;
     return 0;
 }
@@ -32,8 +32,8 @@ static unsigned find_type(const struct reading *reading, const char *at, size_t 
 static void type_locks(struct reading *reading)
 {
     while (reading->typed < reading->trace.locks) {
-        struct piece type = reading->trace.lock[reading->typed].type;
-        unsigned number = find_type(reading, type.at, (size_t)type.length);
+        const char *type = notes_lock(&reading->process->notes, (unsigned)reading->typed + 1)->type;
+        unsigned number = find_type(reading, type);
         if (number == 0 && reading->types < TYPES_MOST) {
             number = (unsigned)++reading->types;
             reading->type[number] = type;
@@ -83,7 +83,7 @@ static bool is_broken(const struct reports *reports, const char *from, const cha
 static void add_order(struct order_list *orders, const struct reading *reading, char *from, char *into,
                       bool is_reversal)
 {
-    unsigned first = find_type(reading, from, strlen(from)), second = find_type(reading, into, strlen(into));
+    unsigned first = find_type(reading, from), second = find_type(reading, into);
     struct piece at = first && second ? reading->place[first][second] : (struct piece){NULL, 0};
     char *place = at.at ? copy_bytes(at.at, (size_t)at.length) : NULL;
     ADD(orders->order, orders->count, orders->room) = (struct order){
@@ -100,12 +100,13 @@ static void add_order(struct order_list *orders, const struct reading *reading, 
 static void add_adopted(struct order_list *orders, const struct reading *reading, char *told)
 {
     char *rest;
+    const struct notes *notes = &reading->process->notes;
     for (char *line = strtok_r(told, "\n", &rest); line; line = strtok_r(NULL, "\n", &rest)) {
         char *comma = strstr(line, "\",\""), *end = strrchr(line, '"');
         if (*line != '"' || !comma || end < comma + 3)
             continue;
-        add_order(orders, reading, copy_bytes(line + 1, (size_t)(comma - line - 1)),
-                  copy_bytes(comma + 3, (size_t)(end - comma - 3)), false);
+        add_order(orders, reading, notes_whole(notes, line + 1, (size_t)(comma - line - 1)),
+                  notes_whole(notes, comma + 3, (size_t)(end - comma - 3)), false);
     }
 }
 

@@ -191,7 +191,7 @@ void reports_read(struct reports *reports, const char *told, size_t length)
     const char *end = told + length;
     while (told < end) {
         const char *after = memchr(told, '\n', (size_t)(end - told));
-        char *text = copy_bytes(told, (size_t)((after ? after : end) - told));
+        char *text = notes_whole(reports->notes, told, (size_t)((after ? after : end) - told));
         read_line(reports, text);
         free(text);
         told = after ? after + 1 : end;

@@ -7,6 +7,7 @@
 #include "symbols.h"
 #include "texts.h"
 #include "trace.h"
+#include "type_names.h"
 #include "types.h"
 
 #include <stdlib.h>
@@ -15,6 +16,7 @@ struct resolver {
     const struct settings *settings;
     struct symbols *symbols;
     struct ignore ignore;
+    struct told_names *told;
 };
 
 struct resolver *resolver_new(const struct settings *settings)
@@ -22,6 +24,7 @@ struct resolver *resolver_new(const struct settings *settings)
     struct resolver *resolver = take(sizeof *resolver);
     resolver->settings = settings;
     resolver->symbols = symbols_new(settings->skip);
+    resolver->told = told_names_new();
     if (settings->ignore && *settings->ignore)
         ignore_read(&resolver->ignore, settings->ignore);
     return resolver;
@@ -32,6 +35,7 @@ void resolver_end(struct resolver *resolver)
     if (!resolver)
         return;
     symbols_end(resolver->symbols);
+    told_names_end(resolver->told);
     ignore_end(&resolver->ignore);
     free(resolver);
 }
@@ -39,6 +43,11 @@ void resolver_end(struct resolver *resolver)
 void resolver_rests(struct resolver *resolver)
 {
     symbols_rest(resolver->symbols);
+}
+
+void resolver_keeps(struct resolver *resolver, const struct stream *stream, const struct alias *alias)
+{
+    told_names_add(resolver->told, stream->path, alias->source, alias->type);
 }
 
 bool resolve(struct resolver *resolver, const struct stream *stream, bool silence, FILE *trace, struct notes *notes)
@@ -55,7 +64,8 @@ bool resolve(struct resolver *resolver, const struct stream *stream, bool silenc
     declared_read(&declared, stream, resolver->symbols, settings->progress);
     sites_begin(&sites, &declared, settings->directory, notes ? notes->texts : declared.texts);
     types_begin(&types, &declared);
-    peace_begin(&peace, silence ? &resolver->ignore : NULL, &declared, &types, notes);
+    type_names_give(&types, &declared, resolver->told, stream->path);
+    peace_begin(&peace, silence ? &resolver->ignore : NULL, &types, notes);
     struct making making = {
         .stream = stream,
         .declared = &declared,

@@ -20,8 +20,8 @@ void resolver_end(struct resolver *resolver);
 /* The symbol tools end; what they answered is kept, and they are started again where more is to be known. */
 void resolver_rests(struct resolver *resolver);
 
-/* The symbol tools end; what they answered is kept, and they are started again where more is to be known. */
-void resolver_rests(struct resolver *resolver);
+/* The type of the stream was told of by its name, which it keeps. */
+void resolver_keeps(struct resolver *resolver, const struct stream *stream, const struct alias *alias);
 
 /*
  * Writes the stream's trace, and the notes, which are the caller's to end in any case. Where they are NULL none are made, and

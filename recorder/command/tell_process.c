@@ -47,6 +47,23 @@ static void tell_failure(struct process *process)
     }
 }
 
+static void keep_name(struct process *process, const char *type)
+{
+    const struct alias *alias = type ? notes_alias(&process->notes, type) : NULL;
+    if (alias)
+        resolver_keeps(process->run->resolver, &process->stream, alias);
+}
+
+/* The report was told while the program ran, with that said of its single locks: it is told by these names at the end, too. */
+static void keep_told(struct process *process, const struct report *report, char *alarm)
+{
+    follow_keeps(process->run, process->recording->name, report_lines(report), alarm);
+    for (size_t i = 0; i < report->lines; i++) {
+        keep_name(process, report->line[i].type);
+        keep_name(process, report->line[i].other);
+    }
+}
+
 /* The report, with what is to stand below it. */
 static void write_report(struct process *process, const struct report *report, FILE *to)
 {
@@ -57,7 +74,7 @@ static void write_report(struct process *process, const struct report *report, F
     if (run->settings.frames > 1 && *text)
         fprintf(to, "%s\n", text);
     if (process->is_followed)
-        follow_keeps(run, process->recording->name, report_lines(report), text);
+        keep_told(process, report, text);
     else
         free(text);
 }
@@ -107,7 +124,7 @@ static void write_if_new(struct process *process, const struct report *report, F
     if (!equal_was_told(run, report, process->recording->process))
         write_report(process, report, to);
     else if (process->is_followed)
-        follow_keeps(run, process->recording->name, report_lines(report), copy(""));
+        keep_told(process, report, copy(""));
 }
 
 /* So many of the process's reports, but for those that were told. */

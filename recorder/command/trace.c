@@ -7,6 +7,7 @@
 #include "names.h"
 #include "progress.h"
 #include "texts.h"
+#include "type_names.h"
 
 #include <stdlib.h>
 #include <string.h>
@@ -43,6 +44,16 @@ static size_t at_least_one(size_t count)
     return count ? count : 1;
 }
 
+/* The name, in quotes, as a trace has room for it; what it stands for is noted. */
+static void put_name(struct writing *writing, const char *before, const char *name)
+{
+    char cut[TRACE_NAME_MOST + 1];
+    trace_name(cut, name);
+    fprintf(writing->trace, "%s\"%s\"", before, cut);
+    if (writing->notes && strlen(name) > TRACE_NAME_MOST)
+        notes_tell_cut(writing->notes, cut, name);
+}
+
 static void write_header(struct writing *writing)
 {
     const struct making *making = writing->making;
@@ -53,8 +64,11 @@ static void write_header(struct writing *writing)
         at_least_one(chunks > CHUNKS_MOST ? CHUNKS_MOST : chunks));
     if (making->all_held)
         fputs("profile all\n", writing->trace);
-    for (size_t i = 0; i < making->peace->pairs; i++)
-        fprintf(writing->trace, "bless \"%s\" \"%s\"\n", making->peace->pair[i].first, making->peace->pair[i].second);
+    for (size_t i = 0; i < making->peace->pairs; i++) {
+        put_name(writing, "bless ", making->peace->pair[i].first);
+        put_name(writing, " ", making->peace->pair[i].second);
+        putc('\n', writing->trace);
+    }
 }
 
 /* What is noted of the whole. */
@@ -149,21 +163,15 @@ static void put_try(struct writing *writing, const struct line *line)
     put_placed(writing, line, 4);
 }
 
-/* Its variable's name, where that isn't the type's; or with its number among those of the type. */
+/* A lock's name: by its variable, or with its number among those of the type. */
 static const char *lock_name(struct writing *writing, const struct line *line, const struct named_type *type,
     uint32_t number)
 {
     const struct declared *declared = writing->making->declared;
     struct variable variable;
-    char tail[16];
-    if (line->count > 6 && read_variable(declared, line, 6, &variable)) {
-        const char *own = variable_name(declared, &variable);
-        return type->variable && strcmp(own, type->variable) == 0 ? type->name : cut_name(declared->texts, own, "");
-    }
-    if (number <= 1)
-        return type->name;
-    snprintf(tail, sizeof tail, "/%u", number);
-    return cut_name(declared->texts, type->name, tail);
+    if (line->count > 6 && read_variable(declared, line, 6, &variable))
+        return variable_lock_in(declared, type, &variable);
+    return numbered_lock_in(declared, type, number);
 }
 
 static void keep_lock(struct notes *notes, const char *name, const char *type, struct field class)
@@ -185,7 +193,8 @@ static void put_init(struct writing *writing, const struct line *line)
     struct named_type *type = &nameless;
     if (field_number(line, 4, TYPE_MOST - 1, &number) && number > 0 && number < types->count)
         type = &types->type[types->type[number].first];
-    if (type->merged > 1)
+    /* Further types may come to be the member's: its locks are counted as they come from the first one on. */
+    if (type->merged > 1 || type->is_member)
         own = (uint32_t)++type->made;
     else if (!field_number(line, 5, UINT32_MAX - 1, &own))
         writing->is_odd = true;
@@ -201,9 +210,9 @@ static void put_init(struct writing *writing, const struct line *line)
     put_bytes(writing->trace, line->at, (size_t)(flags.at - line->at));
     if (!in_peace || !field_is(line, 3, "-"))
         put_bytes(writing->trace, flags.at, flags.length);
-    fprintf(writing->trace, "%s \"%s\"", in_peace ? "d" : "", name);
+    put_name(writing, in_peace ? "d " : " ", name);
     if (strcmp(name, type->name) != 0)
-        fprintf(writing->trace, " \"%s\"", type->name);
+        put_name(writing, " ", type->name);
     putc_unlocked('\n', writing->trace);
 }
 

@@ -55,7 +55,8 @@ static const char *bytes_of(const struct text *text)
     return text->bytes ? text->bytes : "";
 }
 
-const char *cut_name(struct texts *texts, const char *text, const char *tail)
+/* The text as a name of at most 63 bytes, of which the tail isn't cut. */
+static const char *cut_name(struct texts *texts, const char *text, const char *tail)
 {
     size_t kept = strlen(tail) < NAME_MOST ? NAME_MOST - strlen(tail) : 0;
     return texts_say(texts, "%.*s%.*s", (int)kept, text, NAME_MOST, tail);
@@ -136,7 +137,6 @@ static void read_variable_type(struct namer *namer, uint32_t number)
     char *identity = say_text(" %s %" PRId64, path ? path : "",
         (int64_t)(variable->offset - (type->count > 0 ? variable->within : 0)));
     const char *name = variable_name(namer->declared, variable);
-    namer->types->type[number].variable = name;
     add(&naming->source, identity);
     add(&naming->plain, name);
     free(identity);
@@ -245,6 +245,8 @@ static void find_first(struct namer *namer)
         }
         type[number].first = (uint32_t)*found;
         type[*found].merged++;
+        const struct text *source = &namer->naming[number].source;
+        type[number].source = texts_copy(namer->declared->texts, bytes_of(source), source->length);
     }
     map_end(&first);
 }
@@ -323,7 +325,7 @@ static void name_claimants(struct namer *namer, uint32_t from)
             ADD(claimant, claimants, room) = (struct claimant){bytes_of(&namer->naming[number].source), number};
     qsort(claimant, claimants, sizeof *claimant, by_source);
     for (size_t i = 0; i < claimants; i++)
-        namer->types->type[claimant[i].number].name = single(namer, name);
+        namer->types->type[claimant[i].number].by_lines = single(namer, name);
     free(claimant);
 }
 
@@ -337,9 +339,9 @@ static void give_names(struct namer *namer)
     map_end(&claims);
     for (uint32_t number = 1; number < namer->types->count; number++) {
         const struct text *functions = &namer->naming[number].functions;
-        if (is_first(namer, number) && !type[number].name)
+        if (is_first(namer, number) && !type[number].by_lines)
             name_claimants(namer, number);
-        type[number].name = type[type[number].first].name;
+        type[number].by_lines = type[type[number].first].by_lines;
         const char *alone = cut_name(namer->declared->texts, bytes_of(&namer->naming[number].plain), "");
         type[number].alone = is_first(namer, number) || map_has_text(&namer->taken, alone) ? NULL : alone;
         if (functions->bytes)

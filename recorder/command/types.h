@@ -9,14 +9,19 @@
 #include <stdint.h>
 
 #include "declared.h"
+#include "lasting.h"
 
 /* A stream's type. Those that come from the same source are one: the first of them, whose names they have. */
 struct named_type {
     uint32_t first;
-    const char *name;      /* at most 63 bytes; no other type has it */
+    const char *name;      /* as it is told, of any length (type_names.h); no other type has it */
+    const char *lock;      /* that of a lock in the type's own variable, without its object; NULL where it has none */
+    bool lock_has_name;    /* such a lock has the type's name */
+    const char *by_lines;  /* by variables and source lines: at most 63 bytes; no other type has it */
+    const char *source;    /* where it comes from: another type comes from elsewhere */
+    struct lasting lasting;
     const char *alone;     /* what it would be called if it weren't one with the first; NULL where that is a type's name */
     const char *functions; /* the functions of its places; NULL where its name is that of a variable */
-    const char *variable;  /* the type's own variable; NULL where it has none */
     bool is_array;         /* it is all locks of a variable that has many */
     bool is_member;        /* it is all locks of a member that no call has made */
     size_t merged;         /* of a first one: how many types it is */
@@ -29,10 +34,8 @@ struct types {
     size_t different;
 };
 
+/* All but what they are told by. */
 void types_begin(struct types *types, const struct declared *declared);
 void types_end(struct types *types);
-
-/* The text as a name of at most 63 bytes, of which the tail isn't cut. */
-const char *cut_name(struct texts *texts, const char *text, const char *tail);
 
 #endif

@@ -23,11 +23,12 @@ static void append(struct part *part, const char *more)
     part->name = longer;
 }
 
-/* Whether the type is a lock, or another one of a library's, whose own parts say nothing. */
+/* Whether the type is a lock, or another one of a library's or of witness.hpp, whose own parts say nothing. */
 static bool is_of_system(const struct plain_type *type)
 {
     const char *file = entry_file(&type->entry);
-    return file && (strncmp(file, "/usr/include/", 13) == 0 || strncmp(file, "/usr/lib/", 9) == 0 || is_of_library("", file));
+    return file && (strncmp(file, "/usr/include/", 13) == 0 || strncmp(file, "/usr/lib/", 9) == 0 || is_of_library("", file) ||
+        strcmp(base_of(file), "witness.hpp") == 0);
 }
 
 static bool select_element(struct part *part, const struct entry *array, uint64_t few, bool is_any)
@@ -86,18 +87,14 @@ static bool select_part(struct part *part, uint64_t few, bool is_any)
 struct part_of_variable part_of_variable(struct debug_info *info, uint64_t address, uint64_t few, bool is_any_element)
 {
     struct part_of_variable found = {0};
-    struct entry variable, origin;
     struct part part = {0};
-    uint64_t begin;
-    if (!debug_info_variable(info, address, &variable, &begin))
+    const struct fixed_variable *variable = debug_info_variable(info, address);
+    if (!variable || !variable->name || !entry_type(&variable->entry, &part.type))
         return found;
-    const char *name = entry_name(&variable);
-    part.offset = address - begin;
-    if (!name || !entry_type(&variable, &part.type))
-        return found;
+    part.offset = address - variable->address;
     part.name = copy("");
     if (select_part(&part, few, is_any_element)) {
-        found.variable = entry_whole_name(entry_origin(&variable, &origin) ? &origin : &variable, name);
+        found.variable = copy(variable->name);
         found.path = part.name;
     } else {
         free(part.name);

@@ -22,7 +22,7 @@ if wanted alarms; then
     alarm one 'both orders, the same locks, thread N alone; apart: both were done before there was another thread'
     alarm alone 'both orders, the same locks, thread N alone'
     alarm anew 'both orders, the same locks, thread N alone'
-    alarm gate 'both orders, the same locks, threads N and M; gate: each time "single.c:40" was held'
+    alarm gate 'both orders, the same locks, threads N and M; gate: each time "bank(mutex)" was held'
     alarm timed 'both orders, the same locks, threads N and M; timed: one was asked for with a time limit'
     alarm readers 'both orders, the same locks, threads N and M; readers: one waits for readers as a reader'
     alarm apart 'both orders, the same locks, threads N and M; apart: one thread was joined before the other did so'
@@ -31,7 +31,7 @@ if wanted alarms; then
     alarm many 'not known, there were more orders of such locks than are kept'
     alarm three 'all orders of the circle, the same locks, threads N and M'
     alarm through 'all orders of the circle, the same locks, threads N and M'
-    alarm inner 'all orders of the circle, the same locks, threads N and M; gate: each time "single.c:33/3" was held'
+    alarm inner 'all orders of the circle, the same locks, threads N and M; gate: each time "branch(mutex)/3" was held'
     alarm twice 'all orders of the circle, the same locks, threads N and M, of which N took two orders'
     alarm twins 'both orders, the same locks, threads N and M'
     alarm row 'one order only for any two locks: types alone'
@@ -74,7 +74,7 @@ if wanted alarms; then
     exec 8>&-
     wait $!
     [ $before -eq 0 ] &&
-        grep -q '^record: by now, of "single.c:26" and "single.c:26/2" @ single.c:56: single locks: both orders, ' recorded.err
+        grep -q '^record: by now, of "account(mutex)" and "account(mutex)/2" @ single.c:56: single locks: both orders, ' recorded.err
     tell alarms "what comes to be known of a report that was told" $?
     "$record" --alarms sometimes -- ./single locks 2>recorded.err
     [ $? -eq 2 ] && grep -q '^record: --alarms takes ' recorded.err
@@ -90,13 +90,13 @@ misused() {
     tell misuse "$1" $?
 }
 
-if wanted misuse; then
+if wanted misuse && has_libdw misuse; then
     compile misuse
     misused ends 'a thread ended that held a lock, taken here: "journal" @ misuse.c:21'
     misused exits 'a thread ended that held a lock, taken here: "table" @ misuse.c:27'
-    misused destroys 'a lock was destroyed while it was held: "misuse.c:60<misuse.c:135" @ misuse.c:136'
-    misused frees 'the memory of a lock was freed while it was held, taken here: "misuse.c:60<misuse.c:140" @ misuse.c:61'
-    misused remakes 'a lock was made anew while it was held: "misuse.c:60<misuse.c:142" @ misuse.c:142'
+    misused destroys 'a lock was destroyed while it was held: "made(mutex)<main(mutex)" @ misuse.c:136'
+    misused frees 'the memory of a lock was freed while it was held, taken here: "made(mutex)<main()" @ misuse.c:61'
+    misused remakes 'a lock was made anew while it was held: "made(mutex)<main(#2)" @ misuse.c:142'
     misused waits 'a condition was waited for without its mutex: "queue" @ misuse.c:70'
     "$record" --error-exitcode 9 -- ./misuse right 2>recorded.err && ! grep -q error recorded.err &&
         [ "$(tail -n 1 recorded.err)" = "record: nothing to report: no thread asked for a lock while it held another" ]
@@ -125,9 +125,9 @@ if wanted stripes; then
 fi
 
 # What is told while the program runs may have other types in the end.
-if wanted later; then
+if wanted later && has_libdw later; then
     compile later
     "$record" -- ./later 2>recorded.err >recorded.out
-    grep -q '^ "front" -> "back" @ later.c:17$' recorded.err && grep -q '"table+0x28"' recorded.err
+    grep -q '^ "front" -> "back" @ later.c:17$' recorded.err && grep -qF '"table[1]"' recorded.err
     tell later "a report that follows those whose types have changed" $?
 fi

@@ -141,10 +141,12 @@ if wanted duty; then
     "$record" -o kept -- ./madeup 2>/dev/null
     [ "$(grep -c '^check' kept)" -eq 6 ] && ! grep '^try' kept
     tell duty "no try that wasn't" $?
-    compile unnumbered
-    echo '"shelves"' >list
-    "$record" --ignore list -- ./unnumbered 2>&1 | grep -v 'not recorded: 5 locks' | diff "$here/unnumbered.want" -
-    tell duty "a chain with a lock that has no number" $?
+    if has_libdw duty; then
+        compile unnumbered
+        echo '"shelves[]"' >list
+        "$record" --ignore list -- ./unnumbered 2>&1 | grep -v 'not recorded: 5 locks' | diff "$here/unnumbered.want" -
+        tell duty "a chain with a lock that has no number" $?
+    fi
 fi
 
 # The functions of the C++ library that have one of the program's in them say its lines, whatever the compiler inlined.

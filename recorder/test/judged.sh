@@ -31,7 +31,7 @@ if wanted judged; then
     # A mutex whose holder has ended is still that one's in the trace, and another thread gets it.
     compile odd
     recorded_by "$record" --full --judge -- ./odd
-    said 0 'odd: judged: line [0-9]*: F35 RawNotFree: .* gets "odd.c:43<odd.c:79", .* @ odd.c:46$'
+    said 0 'odd: judged: line [0-9]*: F35 RawNotFree: .* gets "robust(mutex)<main()", .* @ odd.c:46$'
     tell judged "odd, whose robust mutex is got when its holder has ended, is refused there" $?
     drop_kept
     for program in between reversal recursive; do

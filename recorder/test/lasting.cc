@@ -1,6 +1,7 @@
 /*
- * lasting SEED: locks of many kinds, first used in an order that the seed decides. What they are called is the same for each
- * order, however the program is compiled, and where its lines stand.
+ * lasting SEED [back]: locks of many kinds, first used in an order that the seed decides. What they are called is the same for
+ * each order, however the program is compiled, and where its lines stand. With `back` each is then held where the one is asked
+ * for under which it was taken before.
  */
 #include <pthread.h>
 
@@ -14,6 +15,16 @@
 #include <shared_mutex>
 #include <vector>
 
+static std::mutex table[100], all;
+static bool is_back;
+
+static void inside()
+{
+    if (!is_back)
+        return;
+    std::lock_guard<std::mutex> guard(all);
+}
+
 namespace bank
 {
 class Account {
@@ -26,6 +37,7 @@ public:
     {
         std::lock_guard<std::mutex> guard(mutex);
         balance += amount;
+        inside();
     }
 };
 
@@ -36,6 +48,7 @@ template <class Value> struct Channel {
     Value take()
     {
         std::unique_lock<std::mutex> guard(this->mutex);
+        inside();
         return value;
     }
 };
@@ -58,30 +71,34 @@ struct Server {
 };
 
 static Server server = {PTHREAD_MUTEX_INITIALIZER, PTHREAD_MUTEX_INITIALIZER, {}};
-static std::mutex table[100], all;
 static pthread_mutex_t made[8];
 static std::unique_ptr<Audit> journal;
 
 static void transfer(bank::Account &from, bank::Account &to)
 {
     std::scoped_lock both(from.mutex, to.mutex);
+    inside();
 }
 
 static void check(std::vector<std::unique_ptr<bank::Account>> &accounts, size_t number)
 {
     accounts[number]->mutex.lock();
+    inside();
     accounts.at(number)->mutex.unlock();
 }
 
 static void write_line(Audit *audit)
 {
     std::lock_guard<std::shared_mutex> outer(audit->readers);
+    inside();
     std::lock_guard<std::mutex> inner(audit->lines);
+    inside();
 }
 
 static void write_journal()
 {
     std::lock_guard<std::mutex> guard(journal->lines);
+    inside();
 }
 
 static Cache *make_cache()
@@ -95,7 +112,9 @@ static Cache *make_cache()
 static void use_cache(Cache *cache)
 {
     pthread_mutex_lock(&cache->lock);
+    inside();
     pthread_rwlock_rdlock(&cache->readers);
+    inside();
     pthread_rwlock_unlock(&cache->readers);
     pthread_mutex_unlock(&cache->lock);
 }
@@ -104,6 +123,7 @@ static void own_lock()
 {
     static std::mutex own;
     std::lock_guard<std::mutex> guard(own);
+    inside();
 }
 
 static void shuffle(std::vector<std::function<void()>> &steps, uint64_t seed)
@@ -114,7 +134,7 @@ static void shuffle(std::vector<std::function<void()>> &steps, uint64_t seed)
     }
 }
 
-int main(int, char **words)
+int main(int count, char **words)
 {
     std::vector<std::unique_ptr<bank::Account>> accounts;
     for (int i = 0; i < 4; i++)
@@ -136,22 +156,26 @@ int main(int, char **words)
         [&] { names->take(); },
         [&] { write_line(audit.get()); },
         [&] { write_line(&audits[1]); },
-        [&] { std::lock_guard<std::mutex> guard(audits[2].lines); },
+        [&] { std::lock_guard<std::mutex> guard(audits[2].lines); inside(); },
         [&] { write_journal(); },
         [&] { use_cache(pages); },
         [&] { use_cache(files); },
         [&] { own_lock(); },
-        [&] { pthread_mutex_lock(&server.accept), pthread_mutex_unlock(&server.accept); },
-        [&] { pthread_mutex_lock(&server.close), pthread_mutex_unlock(&server.close); },
-        [&] { std::lock_guard<std::mutex> guard(server.few[1]); },
+        [&] { pthread_mutex_lock(&server.accept), inside(), pthread_mutex_unlock(&server.accept); },
+        [&] { pthread_mutex_lock(&server.close), inside(), pthread_mutex_unlock(&server.close); },
+        [&] { std::lock_guard<std::mutex> guard(server.few[1]); inside(); },
     };
     for (int i = 0; i < 30; i++)
-        steps.push_back([i] { std::lock_guard<std::mutex> guard(table[3 * i]); });
+        steps.push_back([i] { std::lock_guard<std::mutex> guard(table[3 * i]); inside(); });
     for (pthread_mutex_t &each : made)
-        steps.push_back([&each] { pthread_mutex_lock(&each), pthread_mutex_unlock(&each); });
+        steps.push_back([&each] { pthread_mutex_lock(&each), inside(), pthread_mutex_unlock(&each); });
     shuffle(steps, std::strtoull(words[1], nullptr, 10));
     for (auto &step : steps) {
         std::lock_guard<std::mutex> guard(all);
         step();
     }
+    is_back = count > 2;
+    for (auto &step : steps)
+        if (is_back)
+            step();
 }

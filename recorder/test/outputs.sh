@@ -9,7 +9,7 @@ build_driver() {
     folder=$2
     shift 2
     sources=
-    for module in alarms alarm_words describe escape findings html html_card html_parts json layout layout_rows memory notes objects orders page \
+    for module in alarms alarm_words describe escape findings html html_card html_parts json layout layout_rows map memory notes objects orders page \
         picture place report sarif sarif_place sarif_result single texts thread_label; do
         sources="$sources $recorder/command/$module.c"
     done

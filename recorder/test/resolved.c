@@ -1,7 +1,7 @@
 /*
  * resolved FRAMES FILE..: prints the traces of recorder's files, of which one resolver makes them, with their notes where
  * there are frames. With `types` for FRAMES it prints the types alone: each one's lasting name, its build-id where it
- * doesn't last, and after a tab its name in the trace. The status is 4 where a file is none, or has what no recorder writes.
+ * doesn't last, and after tabs the name by which it is told, and that by lines. The status is 4 where a file is none, or has what no recorder writes.
  */
 #include <stdio.h>
 #include <stdlib.h>
@@ -26,8 +26,8 @@ static void print_types(const struct notes *notes)
 {
     for (size_t i = 0; i < notes->aliases; i++) {
         const struct lasting *lasting = &notes->alias[i].lasting;
-        printf("%s%s%s\t%s\n", lasting->name, lasting->lasts ? "" : " of ", lasting->lasts ? "" : lasting->build_id,
-            notes->alias[i].type);
+        printf("%s%s%s\t%s\t%s\n", lasting->name, lasting->lasts ? "" : " of ", lasting->lasts ? "" : lasting->build_id,
+            notes->alias[i].type, notes->alias[i].by_lines);
     }
 }
 

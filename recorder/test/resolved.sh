@@ -5,7 +5,7 @@ compile_resolved() {
     "${CC:-cc}" -std=c11 -D_GNU_SOURCE -g -O1 -fsanitize=address,undefined -fno-sanitize-recover=undefined \
         -Wall -Wextra -Werror -I"$recorder/command" -o resolved "$here/resolved.c" \
         $(for part in memory texts map line names tool symbols stream notes declared sites frames types ignore trace single \
-            progress place object_file source_lines source_text locked call_words \
+            progress place object_file source_lines source_text locked call_words alike lasting_variables type_names \
             libdw debug_info debug_units debug_types scopes values members variables lock_names steps lasting resolve; do echo "$recorder/command/$part.c"; done) -ldl
 }
 export ASAN_OPTIONS=exitcode=99 UBSAN_OPTIONS=exitcode=99
@@ -134,10 +134,9 @@ fi
 # The library's functions between a thread's beginning and its function don't name a type, whatever was inlined.
 if wanted bank; then
     compile_resolved
-    printf 'init 1 mtx - "bank.cc:%s"\n' 11 12 >wanted.inits
+    printf 'bank.cc:%s\n' 11 12 >wanted.types
     for level in -O0 -O1 -O2; do
-        compile bank $level && record_stream 1 ./bank && ./resolved 1 stream >bank.trace &&
-            grep '^init' bank.trace | diff wanted.inits -
+        compile bank $level && record_stream 1 ./bank && ./resolved types stream | cut -f 3 | diff wanted.types -
         tell bank "types by the user's functions alone ($level)" $?
     done
 fi

@@ -59,7 +59,7 @@ def findings(path):
          [("pool", "journal", "reversal.c:10", "writer")])
     want("silence", first["silence"], '"journal" "pool"')
     want("silence by functions", double["silence"], '"make()<main()"')
-    want("the second lock", double["asked"]["lock"], "kinds.c:8<kinds.c:24/2")
+    want("the second lock", double["asked"]["lock"], "make(mutex)<main(page[])/2")
     want("three locks", [each["lock"] for each in third["held"]] + [third["asked"]["lock"]], ["disk", "inode", "disk/2"])
     want("a place without a line", [third["established"][1][name] for name in ("site", "file", "line")],
          ["libx.so+0x1a2f(flush):0", None, None])

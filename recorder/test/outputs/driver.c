@@ -125,7 +125,8 @@ static bool read_of_process(const char *word, char **field, size_t fields)
         ADD(notes->spot, notes->spots, notes->spot_room) =
             (struct spot){.site = known(field[0]), .frames = (uint32_t)atoi(field[1]), .thread = atol(field[2])};
     else if (!strcmp(word, "alias"))
-        ADD(notes->alias, notes->aliases, notes->alias_room) = (struct alias){.type = copy(field[0]), .functions = copy(field[1])};
+        ADD(notes->alias, notes->aliases, notes->alias_room) =
+            (struct alias){.type = copy(field[0]), .by_lines = copy(field[0]), .functions = copy(field[1])};
     else if (!strcmp(word, "told") || !strcmp(word, "silenced"))
         tell_line(*word == 's', field[0]);
     else if (!strcmp(word, "waits"))
