@@ -29,7 +29,8 @@ struct types {
     size_t different;
 };
 
-void types_begin(struct types *types, const struct declared *declared);
+/* Of a type whose member is known what is declared of its blocks is left out. */
+void types_begin(struct types *types, struct declared *declared);
 void types_end(struct types *types);
 
 /* The text as a name of at most 63 bytes, of which the tail isn't cut. */
