@@ -6,6 +6,7 @@
 # processor time of node under work, and how long a recorder's file takes to become a trace. Of RUNS runs (5) the least
 # counts; the ways take turns, so that all meet the same machine. RECORDER names another recorder's folder, to compare.
 set -eu
+blocks=
 here=$(dirname "$(readlink -f "$0")")
 recorder=${RECORDER:-$here/../recorder}
 folder=$(mktemp -d)
@@ -21,7 +22,8 @@ recorded() {
     shift
     rm -rf "$folder/records"
     mkdir "$folder/records"
-    env RECORDER_DIRECTORY="$folder/records" RECORDER_STREAMS="$streams" LD_PRELOAD="$recorder/out/recorder.so" "$@"
+    env RECORDER_DIRECTORY="$folder/records" RECORDER_STREAMS="$streams" ${blocks:+RECORDER_BLOCKS=1} \
+        LD_PRELOAD="${blocks:+$recorder/out/blocks.so:}$recorder/out/recorder.so" "$@"
 }
 
 once() {
@@ -109,6 +111,11 @@ one_node() {
 
 for bytes in 100 10000 100000 1000000 10000000; do
     compared "nanoseconds to take and free $bytes bytes" one_free "$bytes" 20000
+done
+for bytes in 24 100 10000; do
+    blocks=1
+    compared "nanoseconds to take and free $bytes bytes with --blocks" one_free "$bytes" 20000
+    blocks=
 done
 if command -v node >/dev/null; then
     compared "seconds of node" one_node

@@ -230,6 +230,8 @@ static void put_type(char to[NAME_ROOM], const struct type *type)
             add(to, NAME_ROOM, "<");
         add_caller(to, NAME_ROOM, told_place(type->places[i]));
     }
+    if (type->part > 1)
+        add_offset(to, NAME_ROOM, type->part - 1);
     clean(to, ' ');
     if (*to == '\0')
         add(to, NAME_ROOM, "?");

@@ -7,7 +7,7 @@
 #define RECORDER_FORMAT_H
 
 /* The first line of a stream is `asked 0 version N missed`, then the names of the counts, each with its count. */
-#define FORMAT_VERSION 2
+#define FORMAT_VERSION 3
 #define WORD_ASKED "asked"
 #define WORD_VERSION "version"
 #define WORD_MISSED "missed"
@@ -32,6 +32,8 @@ enum { ASKED_AT = 6, ASKED_NOT = '0', ASKED_NOW = '1', ASKED_ALWAYS = '3' };
 #define WORD_VARIABLE "variable"
 #define WORD_MADE "made"
 #define WORD_MET "met"
+#define WORD_PART "part"
+#define WORD_CROWDED "crowded"
 #define WORD_NAMED "named"
 #define WORD_INIT "init"
 #define WORD_THREAD "thread"
@@ -72,7 +74,10 @@ enum { ASKED_AT = 6, ASKED_NOT = '0', ASKED_NOW = '1', ASKED_ALWAYS = '3' };
 #define WORD_LIFE "life"
 #define WORD_JOINED "joined"
 
-/* The counts of a stream: calls that it lacks, and two of which it has a line for each place alone. */
+/*
+ * The counts of a stream: calls that it lacks; two of which it has a line for each place alone; and locks in blocks of
+ * memory that aren't known.
+ */
 #define EACH_MISSED(EACH)                                                                                              \
     EACH(MISSED_SEATS, "seats")                                                                                        \
     EACH(MISSED_TYPES, "types")                                                                                        \
@@ -80,7 +85,8 @@ enum { ASKED_AT = 6, ASKED_NOT = '0', ASKED_NOW = '1', ASKED_ALWAYS = '3' };
     EACH(MISSED_HELD, "held")                                                                                          \
     EACH(MISSED_LOG, "log")                                                                                            \
     EACH(MISSED_RELEASES, "releases")                                                                                  \
-    EACH(MISSED_AGAIN, "again")
+    EACH(MISSED_AGAIN, "again")                                                                                        \
+    EACH(MISSED_BLOCKS, "blocks")
 
 /*
  * The counts of a process, in the status. What failed outside the streams: lines for which the file couldn't be opened,
@@ -111,6 +117,9 @@ enum { ASKED_AT = 6, ASKED_NOT = '0', ASKED_NOW = '1', ASKED_ALWAYS = '3' };
 #define STATUS_MORE_OBJECTS "?"
 enum { STATUS_BYTES = 1 << 20, STATUS_DIGITS = 7 };
 
+/* Of the locks of one call, or of one allocation, so many offsets in blocks are types of their own (docs/RECORDER.md). */
+enum { OFFSETS_MOST = 16 };
+
 /*
  * Functions whose only work is to lock, by the ends of their last word in small letters, and those that only seem so. The
  * recorder passes such callers over, and `record` those that were inlined.
@@ -120,6 +129,8 @@ enum { STATUS_BYTES = 1 << 20, STATUS_DIGITS = 7 };
         "lock_init", "mutexinit", "lockinit", "mutex_create", "mutex_new", "mutex_alloc", "cond_wait", "condwait",     \
         "cond_timedwait"
 #define NO_WRAPPER_ENDS "unlock", "clock", "block"
+/* Functions that take memory for others, by the ends of their last word. */
+#define TAKER_ENDS "malloc", "calloc", "realloc", "zalloc", "malloc0", "memalign"
 /* Of the C++ library's. */
 #define LIBRARY_WRAPPERS "__gthread_", "__glibcxx_rwlock"
 

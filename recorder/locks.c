@@ -6,7 +6,7 @@
  * stands in an object, else the callers of its first use. Records are found by their address without the mutex: they
  * are chained by pieces of memory, so that a freed block finds the locks that were in it.
  */
-#include "recorder.h"
+#include "quick.h"
 
 #include <malloc.h>
 #include <string.h>
@@ -118,19 +118,66 @@ static inline uintptr_t pass_over(uintptr_t at, uintptr_t end)
     return at;
 }
 
-static struct type *type_of(const struct type *wanted)
+/* The type that it would be if nothing were known of its block. */
+static struct type without_part(const struct type *wanted)
+{
+    struct type type = *wanted;
+    type.part = 0;
+    if (wanted->met)
+        memcpy(type.places, wanted->uses, sizeof type.places);
+    memset(type.uses, 0, sizeof type.uses);
+    return type;
+}
+
+/* Both come from one place: they are of one type, but for the offset in a block. */
+static bool are_kin(const struct type *type, const struct type *wanted)
+{
+    return type->anchor == wanted->anchor && type->class == wanted->class && type->object == wanted->object
+        && type->label == wanted->label && type->met == wanted->met && !type->part == !wanted->part
+        && memcmp(type->places, wanted->places, sizeof type->places) == 0;
+}
+
+/* Its kin are as many as may be told by their offsets: from here on none is, nor was. */
+static COLD void crowd(struct type *kin, const struct type *wanted)
+{
+    for (; kin; kin = kin->next) {
+        if (!are_kin(kin, wanted) || kin->crowded)
+            continue;
+        kin->crowded = true;
+        write_crowded(kin);
+    }
+}
+
+/* Kin is in one bucket. */
+static struct type **type_bucket(const struct type *wanted)
 {
     uint64_t hash = (wanted->anchor + wanted->class) ^ (uintptr_t)wanted->label;
     for (uint32_t i = 0; i < DEPTH_MOST; i++)
         hash = (hash ^ wanted->places[i]) * 0x9e3779b97f4a7c15u;
-    struct type **bucket = &type_buckets[(hash >> 40) % TYPE_BUCKETS];
-    for (struct type *type = *bucket; type; type = type->next)
-        if (type->anchor == wanted->anchor && type->class == wanted->class && type->object == wanted->object
-            && type->label == wanted->label && type->met == wanted->met && memcmp(type->places, wanted->places, sizeof type->places) == 0)
-            return type;
+    return &type_buckets[(hash >> 40) % TYPE_BUCKETS];
+}
+
+static struct type *type_of(const struct type *wanted)
+{
+    struct type **bucket = type_bucket(wanted), *type = *bucket;
+    uint32_t kin = 0;
+    for (; type; type = type->next) {
+        if (!are_kin(type, wanted))
+            continue;
+        if (type->part == wanted->part)
+            break;
+        kin++;
+    }
+    if (type && !type->crowded)
+        return type;
+    if (type || kin == OFFSETS_MOST) {
+        crowd(*bucket, wanted);
+        struct type plain = without_part(wanted);
+        return type_of(&plain);
+    }
     if (types_met == TYPES_MET)
         return NULL;
-    struct type *type = &types[++types_met];
+    type = &types[++types_met];
     memcpy(type, wanted, sizeof *type);
     type->number = types_met;
     type->next = *bucket;
@@ -216,7 +263,7 @@ static void forget(struct lock *lock, bool nobody_holds)
 }
 
 /* How many locks there ever were. */
-static uint32_t serials;
+static _Atomic uint32_t serials;
 
 static void read_kind(struct lock *lock, const void *address, enum class class)
 {
@@ -289,6 +336,23 @@ static uintptr_t anchor_of_met(uint32_t object, uintptr_t address)
     return counted(arrays, from, object) <= FEW_LOCKS ? address : from;
 }
 
+/*
+ * In a block of memory the lock's offset is part of its type. Of a lock that no call makes it isn't the place of its first
+ * use that counts then, but the one that took the block.
+ */
+static void look_for_block(struct type *wanted)
+{
+    uint32_t takers[DEPTH_MOST];
+    uint64_t offset;
+    if (!block_around(wanted->address, &offset, takers) || (wanted->met && takers[0] == 0))
+        return;
+    wanted->part = offset + 1;
+    if (!wanted->met)
+        return;
+    memcpy(wanted->uses, wanted->places, sizeof wanted->uses);
+    memcpy(wanted->places, takers, sizeof wanted->places);
+}
+
 /* A lock at its first use: its record, or NULL where it can't be recorded. */
 COLD struct lock *lock_met(const void *address, enum class class, struct caller caller)
 {
@@ -305,6 +369,8 @@ COLD struct lock *lock_met(const void *address, enum class class, struct caller 
             wanted.anchor = anchor_of_met(wanted.object, (uintptr_t)address);
         else
             memcpy(wanted.places, places, sizeof places);
+        if (!wanted.object)
+            look_for_block(&wanted);
         lock = add(address, &wanted);
     }
     recorder_leaves();
@@ -347,6 +413,8 @@ void lock_made_as(const void *address, enum class class, struct caller caller, c
         if (!wanted.label) {
             wanted.object = object_of((uintptr_t)address, false);
             wanted.anchor = anchor_of((uintptr_t)address);
+            if (!wanted.object)
+                look_for_block(&wanted);
         }
         add(address, &wanted);
         recorder_leaves();
@@ -415,6 +483,31 @@ void locks_freed(const void *block)
         recorder_leaves();
     }
     self.state = OPEN;
+}
+
+uint32_t lock_youngest(void)
+{
+    return atomic_load_explicit(&serials, memory_order_relaxed);
+}
+
+/* What was there stands elsewhere by now, and there may be locks of others. */
+void locks_left(uintptr_t from, uintptr_t to, uint32_t youngest)
+{
+    if (pass_over(from, to) >= to || !goes_far_inside(HERE))
+        return;
+    if (recorder_enters()) {
+        for (uintptr_t at = from; (at = pass_over(at, to)) < to; at = (at / LOCK_PIECE + 1) * LOCK_PIECE) {
+            struct lock *next, *lock = atomic_load(lock_bucket(at));
+            for (; lock; lock = next) {
+                uintptr_t address = atomic_load(&lock->address);
+                next = atomic_load(&lock->next);
+                if (address >= from && address < to && lock->serial - 1 < youngest)
+                    forget(lock, false);
+            }
+        }
+        recorder_leaves();
+    }
+    goes_outside(&self);
 }
 
 /* The object is no longer mapped, and its locks are gone with it. Nothing is read at their addresses. */

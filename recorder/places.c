@@ -20,7 +20,7 @@
 #include <sys/auxv.h>
 #include <unwind.h>
 
-enum { FRAMES = 24, WRAPPER_BYTES = 256, WORD_MOST = 64, LIBRARY_MOST = 8 };
+enum { FRAMES = 24, WRAPPER_BYTES = 256, WORD_MOST = 64, LIBRARY_MOST = 8, LEFT_MOST = 4096 };
 
 /* The stack pointer and the frame pointer are those that the function has once the call has returned. */
 struct frame {
@@ -174,6 +174,20 @@ static bool is_of_rust(const char *name)
     return false;
 }
 
+/* Whether the function does little else than take memory for its caller: operator new, xmalloc. */
+static bool is_taker(const char *name, uint64_t size)
+{
+    static const char *const ends[] = {TAKER_ENDS};
+    char word[WORD_MOST];
+    if (strncmp(name, "_Znw", 4) == 0 || strncmp(name, "_Zna", 4) == 0)
+        return true;
+    last_word(name, word);
+    for (size_t i = 0; size <= WRAPPER_BYTES && i < sizeof ends / sizeof *ends; i++)
+        if (ends_with(word, ends[i]))
+            return true;
+    return false;
+}
+
 static uint8_t detour_of(const char *name, uint64_t size)
 {
     const char *rest;
@@ -188,12 +202,29 @@ static uint8_t detour_of(const char *name, uint64_t size)
     return is_wrapper(name, size) ? DETOUR_WRAPPER : DETOUR_NONE;
 }
 
-static void add(uintptr_t pc, int32_t step)
+/* What its object knows of the place, and what that says of the call. */
+static void look_up(struct place *place, uintptr_t pc)
+{
+    uintptr_t from;
+    uint64_t size = 0;
+    place->offset = object_offset(place->object, pc);
+    place->name = object_symbol(place->object, pc - 1, true, &from, &size);
+    if (!*place->name)
+        return;
+    place->within = pc - from;
+    place->takes_memory = is_taker(place->name, size);
+    uint8_t detour = detour_of(place->name, size);
+    if (detour != DETOUR_NONE)
+        place->detour = detour;
+}
+
+static void add(uintptr_t pc, int32_t step, bool leaves_base)
 {
     uint32_t number = place_at_pc(pc);
     if (number) {
         if (place_at(number)->step != step)
             place_at(number)->step = STEP_VARIES;
+        place_at(number)->leaves_base |= leaves_base;
         return;
     }
     if (places_met >= PLACES / 4 * 3)
@@ -208,22 +239,13 @@ static void add(uintptr_t pc, int32_t step)
         slot = (slot + 1) % PLACES;
     }
     struct place *place = &places[slot];
-    uintptr_t from;
-    uint64_t size = 0;
     place->step = step;
+    place->leaves_base = leaves_base;
     place->name = "";
     place->detour = frames_shown > 1 ? DETOUR_STACKS : DETOUR_NONE;
     place->object = (uint16_t)object;
-    if (place->object) {
-        place->offset = object_offset(place->object, pc);
-        place->name = object_symbol(place->object, pc - 1, true, &from, &size);
-        if (*place->name) {
-            place->within = pc - from;
-            uint8_t detour = detour_of(place->name, size);
-            if (detour != DETOUR_NONE)
-                place->detour = detour;
-        }
-    }
+    if (place->object)
+        look_up(place, pc);
     places_met++;
     atomic_store_explicit(&place->pc, pc, memory_order_release);
 }
@@ -329,6 +351,20 @@ static int32_t step_between(const struct frame *frame, const struct frame *next)
     return frame->base >= frame->stack && frame->base < next->stack ? STEP_VARIES : (int32_t)distance;
 }
 
+/*
+ * Whether the function has left its caller's frame pointer where it was, up to that call: it is the same, and stands in no
+ * word of the function's frame, where it would have been saved. At that address it is always so.
+ */
+static bool leaves_base(const struct frame *frame, const struct frame *next)
+{
+    if (!frame->has_base || frame->base != next->base || next->stack - frame->stack > LEFT_MOST)
+        return false;
+    for (uintptr_t at = frame->stack; at < next->stack; at += sizeof at)
+        if (word_at(at) == frame->base)
+            return false;
+    return true;
+}
+
 /* All callers by the unwinder; what is new in them is learnt. */
 COLD static void unwind(struct caller caller, struct stack *stack)
 {
@@ -344,22 +380,25 @@ COLD static void unwind(struct caller caller, struct stack *stack)
     if (blind && !is_complete(stack))
         object_ends_stacks(object_of(last - 1, true));
     for (uint32_t i = 0; i + 1 < stack->count; i++)
-        add(stack->frames[i].pc, step_between(&stack->frames[i], &stack->frames[i + 1]));
+        add(stack->frames[i].pc, step_between(&stack->frames[i], &stack->frames[i + 1]),
+            leaves_base(&stack->frames[i], &stack->frames[i + 1]));
     if (stack->count < FRAMES)
-        add(stack->frames[stack->count - 1].pc, STEP_LAST);
+        add(stack->frames[stack->count - 1].pc, STEP_LAST, false);
     recorder_leaves();
 }
 
 /* Goes to the frame's own caller. False where the unwinder has to be asked. */
-static bool climb(struct frame *frame, int32_t step)
+static inline bool climb(struct frame *frame, const struct place *place)
 {
+    int32_t step = place->step;
     if (step == STEP_VARIES || (step == STEP_FRAME && !frame->has_base))
         return false;
     frame->stack = step == STEP_FRAME ? frame->base + 2 * sizeof(uintptr_t) : frame->stack + (uintptr_t)step;
     frame->pc = return_address(frame->stack);
-    frame->has_base = step == STEP_FRAME;
-    if (frame->has_base)
+    if (step == STEP_FRAME)
         frame->base = saved_base(frame->stack);
+    else
+        frame->has_base = frame->has_base && place->leaves_base;
     return true;
 }
 
@@ -439,7 +478,7 @@ static bool follow(struct caller caller, struct search *search)
             return false;
         if (search->count == search->wanted || place->step == STEP_LAST)
             return true;
-        if (!climb(&frame, place->step))
+        if (!climb(&frame, place))
             return false;
     }
     return true;
@@ -488,6 +527,34 @@ uint32_t callers(struct caller caller, uint32_t wanted, uint32_t *found)
     if (search.count == 0)
         found[search.count++] = search.libraries ? search.library[0] : place_at_pc(caller.pc);
     return search.count;
+}
+
+bool takers_known(uintptr_t pc, uintptr_t stack, uintptr_t base, uint32_t wanted, uint32_t *found)
+{
+    struct frame frame = {pc, stack, base, true};
+    uint32_t count = 0;
+    for (uint32_t frames = 0; frames < FRAMES - 1 && count < wanted; frames++) {
+        uint32_t number = place_at_pc(frame.pc);
+        if (!number)
+            return false;
+        const struct place *place = place_at(number);
+        if (!place->takes_memory && !is_wrapper_at(number))
+            found[count++] = number;
+        if (place->step == STEP_LAST || !climb(&frame, place))
+            break;
+    }
+    if (count == 0)
+        found[0] = place_at_pc(pc);
+    return true;
+}
+
+bool takers_learnt(struct caller caller, uint32_t wanted, uint32_t *found)
+{
+    struct stack stack;
+    if (places_met >= PLACES / 2)
+        return false;
+    unwind(caller, &stack);
+    return takers_known(caller.pc, caller.stack, caller.base, wanted, found);
 }
 
 uint32_t first_caller(struct caller caller)

@@ -15,6 +15,7 @@
  *   chains.c    what each thread holds, and the tree of chains of types; quick.h, where nothing is to be written
  *   waiters.c   threads that wait for a condition while they hold locks
  *   locks.c     the locks at their addresses, and their types
+ *   blocks.c    the blocks of memory that they are in, where that is asked for; malloc/, its interposed calls
  *   aside.c     a stack of the recorder's own, for handlers that have a small one
  *   places.c    the callers of a call; objects.c finds their object and name; sites.c, places by name
  *   stacks.c    the callers of what is written
@@ -99,6 +100,8 @@ struct place {
     int32_t step;      /* from the caller's stack pointer to that of its own caller; or one of the three below */
     uint16_t object;   /* the number of the object, 0 where there is none */
     _Atomic uint8_t detour; /* why a call from here takes longer; 0 of most places */
+    bool takes_memory : 1;  /* the function takes memory for others */
+    bool leaves_base : 1;   /* up to here the function leaves its caller's frame pointer where it was */
     uint64_t offset;   /* the address as the object's file counts it */
     const char *name;  /* of the function, or empty */
     uint64_t within;   /* the address as the function counts it */
@@ -125,7 +128,10 @@ struct type {
     const char *label; /* the name that the program gives it, a word of sites.c; NULL of most types */
     bool met;          /* no call has made its locks: the places are those of a first use */
     uintptr_t address; /* of the first lock of the type */
+    uint64_t part;     /* one more than the locks' offset in their blocks; 0 where that doesn't count */
     uint32_t places[DEPTH_MOST];
+    uint32_t uses[DEPTH_MOST]; /* of a first use, where `places` are those that take the block; else 0 */
+    bool crowded;      /* there were too many such offsets: the type counts as one without them */
     struct type *next; /* in its bucket */
     _Atomic uint32_t root; /* the node of a chain of this type alone; 0 where it wasn't looked for */
     struct marks marks;
@@ -426,8 +432,19 @@ void lock_gone(const void *address);
 void locks_freed(const void *block);
 void library_closed(void);
 void lock_given_up(struct lock *lock);
+/* The serial number of the youngest lock; and those up to that one which were there are gone. Nothing is read there. */
+uint32_t lock_youngest(void);
+void locks_left(uintptr_t from, uintptr_t to, uint32_t youngest);
 /* The first held mutex whose record has that number or a higher one; *at becomes its number. Under the mutex. */
 struct lock *lock_held_from(uint32_t *at, int32_t *holder);
+
+/* blocks.c */
+bool blocks_made(void); /* true where blocks aren't asked for, too */
+/*
+ * Whether the block is known that the address is in: how far it is in it, and the callers that have taken it, 0 where they
+ * aren't known. Under the mutex.
+ */
+bool block_around(uintptr_t address, uint64_t *offset, uint32_t takers[DEPTH_MOST]);
 
 /* places.c */
 bool places_made(void);
@@ -478,6 +495,13 @@ static inline uint32_t place_of(struct caller caller)
 
 uint32_t places_of(struct caller caller, uint32_t places[DEPTH_MOST]);
 uint32_t callers(struct caller caller, uint32_t wanted, uint32_t *found);
+/*
+ * As callers, of a call that takes memory: functions that take it for others are passed over, and so are the library's. No
+ * more are found than are found quickly. False where one isn't known; takers_learnt asks the unwinder for it, as long as
+ * places have much room.
+ */
+bool takers_known(uintptr_t pc, uintptr_t stack, uintptr_t base, uint32_t wanted, uint32_t *found);
+bool takers_learnt(struct caller caller, uint32_t wanted, uint32_t *found);
 bool call_goes_on(uintptr_t stack);
 void places_closed(uintptr_t from, uintptr_t to);
 /* The place of that name, under that address; 0 where there is no room. Under the mutex. */
@@ -593,6 +617,7 @@ bool stream_has_room(int stream);
 void write_thread(int stream, const struct thread *thread);
 void write_place(int stream, uint32_t place);
 void write_type(int stream, struct type *type);
+void write_crowded(struct type *type); /* under the mutex, between lines */
 void write_init(int stream, struct thread *thread, struct lock *lock);
 
 /* stream.c */

@@ -167,7 +167,7 @@ static bool has_room(void)
 static bool tables_made(void)
 {
     if (!has_room() || !locks_made() || !places_made() || !sites_made() || !stacks_made() || !chains_made()
-        || !singles_made())
+        || !singles_made() || !blocks_made())
         return false;
     alive = table(4096);
     return alive != NULL;

@@ -648,19 +648,60 @@ static void put_variable(int stream, uint32_t object, uintptr_t address)
     put_name(stream, object_symbol_file(object, address));
 }
 
+/* `crowded NUMBER`: the type of that number counts as one without an offset. */
+static void put_crowded(int stream, struct type *type)
+{
+    put_text(stream, WORD_CROWDED);
+    put_number(stream, *mark(&type->marks, stream));
+    put_text(stream, "\n");
+    stream_append(stream, false);
+}
+
+/* Where it stands in a stream; else that comes with the type. */
+void write_crowded(struct type *type)
+{
+    for (int stream = 0; stream < STREAMS; stream++)
+        if (*mark(&type->marks, stream) != 0 && type_fits(stream, type) && stream_has_room(stream))
+            put_crowded(stream, type);
+}
+
+static uint32_t places_in(const uint32_t places[DEPTH_MOST])
+{
+    uint32_t count = 0;
+    while (count < DEPTH_MOST && places[count])
+        count++;
+    return count;
+}
+
+/* ` part OFFSET COUNT`, and so many places of a first use. */
+static void put_part(int stream, const struct type *type)
+{
+    uint32_t uses = places_in(type->uses);
+    put_text(stream, " " WORD_PART);
+    put_hexadecimal(stream, type->part - 1);
+    put_number(stream, uses);
+    for (uint32_t i = 0; i < uses; i++)
+        put_number(stream, type->uses[i]);
+}
+
 /*
- * `type NUMBER variable` and the variable of its first lock, `type NUMBER named NAME`, or `type NUMBER made`; then the
- * places that it comes from.
+ * `type NUMBER variable` and the variable of its first lock, `type NUMBER named NAME`, `type NUMBER part` and what is told of
+ * its block, `type NUMBER met` or `type NUMBER made`; then the places that it comes from.
  */
 void write_type(int stream, struct type *type)
 {
     uint32_t object = type->object;
     write_object(stream, object);
-    for (uint32_t i = 0; i < DEPTH_MOST; i++)
+    for (uint32_t i = 0; i < DEPTH_MOST; i++) {
         place_number(stream, type->places[i]);
+        place_number(stream, type->uses[i]);
+    }
     put_text(stream, WORD_TYPE);
     put_number(stream, *mark(&type->marks, stream));
-    put_text(stream, type->label ? " " WORD_NAMED : object ? " " WORD_VARIABLE : type->met ? " " WORD_MET : " " WORD_MADE);
+    if (type->part)
+        put_part(stream, type);
+    else
+        put_text(stream, type->label ? " " WORD_NAMED : object ? " " WORD_VARIABLE : type->met ? " " WORD_MET : " " WORD_MADE);
     if (type->label)
         put_word(stream, type->label);
     if (object)
@@ -669,6 +710,8 @@ void write_type(int stream, struct type *type)
         put_number(stream, type->places[i]);
     put_text(stream, "\n");
     stream_append(stream, false);
+    if (type->crowded)
+        put_crowded(stream, type);
 }
 
 /* `init SEAT CLASS FLAGS TYPE`, its name's number among those of its type, and the variable that it stands in. */

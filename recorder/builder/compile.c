@@ -19,6 +19,8 @@ extern char **environ;
 /* -static-libgcc: the unwinder is part of the object, and the program gets no further library. */
 static const char *const for_library[] = {"-std=c11", "-D_GNU_SOURCE", "-O2", "-g", "-fPIC", "-shared", "-fexceptions",
     "-fvisibility=hidden", "-Wall", "-Wextra", "-pthread", "-static-libgcc", NULL};
+/* -z now: nothing is looked for in the middle of a call that takes memory. */
+static const char *const for_memory[] = {"-fno-builtin", "-Wl,-z,now", NULL};
 static const char *const for_command[] = {"-std=c11", "-D_GNU_SOURCE", "-O2", "-g", "-Wall", "-Wextra", NULL};
 static const char *const for_sanitized[] = {"-O1", "-fsanitize=address,undefined", "-fno-sanitize-recover=all",
     "-fno-omit-frame-pointer", "-fno-optimize-sibling-calls", NULL};
@@ -101,11 +103,13 @@ static struct words words_for(const struct sources *sources, const char *part, c
 {
     const char *compiler = getenv("CC");
     struct words words = {NULL, 0};
-    char *folder = say("%s%s", sources->folder, is_library(part) ? "" : "/command");
+    char *folder = say("%s%s", sources->folder, sources_of(part));
     add(&words, say("%s", compiler && *compiler ? compiler : "cc"));
     add_all(&words, is_library(part) ? for_library : for_command);
     if (is_sanitized(part))
         add_all(&words, for_sanitized);
+    if (is_library(part) && *sources_of(part))
+        add_all(&words, for_memory);
     /* The command's own folder has files that aren't in C, too. */
     if (!is_library(part))
         add(&words, say("-I%s", folder));

@@ -1,6 +1,6 @@
 /*
- * builder ONCE FOLDER [WORD]: builds the command `record`, and the recorder that programs load, from the sources in FOLDER,
- * where they don't stand built or a source is newer. It prints the folder in which they stand: beside their sources, else in
+ * builder ONCE FOLDER [WORD]: builds the command `record`, the recorder that programs load, and what they load before it for
+ * --blocks, from the sources in FOLDER, where they don't stand built or a source is newer. It prints the folder in which they stand: beside their sources, else in
  * the user's cache, else in a folder for this run, which has a file `once`.
  *
  * Where the word is --help, --show, --trace or --clean, no program will load the recorder, and the command alone is looked at.
@@ -95,7 +95,7 @@ int main(int count, char **words)
     catch_signals();
     umask(022);
     const char *sanitize = getenv("RECORD_SANITIZE");
-    const char *parts[] = {sanitize && *sanitize ? "record.sanitized" : "record", "recorder.so", NULL};
+    const char *parts[] = {sanitize && *sanitize ? "record.sanitized" : "record", "recorder.so", "blocks.so", NULL};
     if (count > 3 && looks_only(words[3]))
         parts[1] = NULL;
     struct sources sources = {.folder = folder, .author = author_of(folder), .parts = parts};

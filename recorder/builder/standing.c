@@ -20,6 +20,11 @@ bool is_library(const char *file)
     return ends_in(file, ".so");
 }
 
+const char *sources_of(const char *file)
+{
+    return ends_in(file, "blocks.so") ? "/malloc" : is_library(file) ? "" : "/command";
+}
+
 bool is_source(const char *name)
 {
     return ends_in(name, ".c");
@@ -75,14 +80,12 @@ bool is_current(const struct sources *sources, const char *file)
     struct stat found;
     if (!is_safe(sources, file) || lstat(file, &found) != 0 || !S_ISREG(found.st_mode))
         return false;
-    char *command = say("%s/command", sources->folder), *builder = say("%s/builder", sources->folder);
-    bool is = !has_later(builder, true, &found);
-    if (is_library(file))
-        is = is && !has_later(sources->folder, false, &found);
-    else
-        is = is && !has_later(command, true, &found) && !is_later_in(sources->folder, "format.h", true, &found);
+    char *own = say("%s%s", sources->folder, sources_of(file)), *builder = say("%s/builder", sources->folder);
+    bool is = !has_later(builder, true, &found) && !has_later(own, !is_library(file), &found);
+    if (!is_library(file))
+        is = is && !is_later_in(sources->folder, "format.h", true, &found);
     free(builder);
-    free(command);
+    free(own);
     return is;
 }
 

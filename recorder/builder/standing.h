@@ -18,8 +18,9 @@ struct sources {
 bool is_safe(const struct sources *sources, const char *path);
 
 /*
- * Whether the file is safe and no source of it is newer: none of the folder itself where it is a library, else none of its
- * command/ and no format.h; and none of its builder/, which says how they are compiled.
+ * Whether the file is safe and no source of it is newer: none of the folder itself where it is the recorder, none of malloc/
+ * where it is what comes before that, else none of command/ and no format.h; and none of builder/, which says how they are
+ * compiled.
  */
 bool is_current(const struct sources *sources, const char *file);
 
@@ -28,6 +29,9 @@ bool is_built(const struct sources *sources, const char *folder);
 
 /* Whether that is what a program loads, and not one that is run. */
 bool is_library(const char *file);
+
+/* Where in the sources' folder those of the file are: empty, or a name after a slash. */
+const char *sources_of(const char *file);
 
 /* Whether the name is that of a source in C. */
 bool is_source(const char *name);

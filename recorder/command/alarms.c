@@ -121,20 +121,28 @@ static bool is_early(const struct search *search, const struct single_order *one
     return single_is_early(search->single, one, other) && !is_one_of_many(search, one);
 }
 
+/* What was made before there was another thread, and never again, can meet nothing that others do: whoever they are. */
 static bool is_first(const struct search *search, const struct single_order *order)
 {
-    return single_is_first(search->single, order) && !is_one_of_many(search, order);
+    return single_is_first(search->single, order) && is_by_one_thread(search, order) && !is_one_of_many(search, order);
+}
+
+static enum apart apart_at_first(const struct search *search, const struct single_order *one,
+    const struct single_order *other)
+{
+    bool is = is_first(search, one), is_other = is_first(search, other);
+    return is && is_other ? APART_AT_FIRST : is || is_other ? APART_ONE_AT_FIRST : NOT_APART;
 }
 
 static enum apart apart_of(const struct search *search, const struct single_order *one, const struct single_order *other)
 {
     if (!is_by_one_thread(search, one) || !is_by_one_thread(search, other))
-        return NOT_APART;
+        return apart_at_first(search, one, other);
     if (single_is_before(search->single, one, other) || single_is_before(search->single, other, one))
         return APART_BY_JOIN;
     if (is_early(search, one, other) || is_early(search, other, one))
         return APART_BY_MAKING;
-    return is_first(search, one) && is_first(search, other) ? APART_AT_FIRST : NOT_APART;
+    return apart_at_first(search, one, other);
 }
 
 /* What keeps two of the circle's orders from meeting. One thread can't wait in two of them. */

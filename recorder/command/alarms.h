@@ -33,6 +33,7 @@ struct alarm {
         APART_BY_JOIN,   /* one thread was joined before another was made */
         APART_BY_MAKING, /* one thread took its locks before it made another, and not again */
         APART_AT_FIRST,  /* both orders were made when there was no other thread, and not again */
+        APART_ONE_AT_FIRST, /* one of them was, whoever made the other */
     } apart;
 };
 

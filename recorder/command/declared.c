@@ -207,6 +207,34 @@ static struct type *type_at(struct declared *declared, uint32_t number)
     return &declared->type[number];
 }
 
+void leave_offset_out(struct type *type)
+{
+    if (type->uses > 0) {
+        type->place = type->use;
+        type->count = type->uses;
+    }
+    type->has_offset = false;
+    type->uses = 0;
+}
+
+/* `part OFFSET COUNT`, so many places of a first use, and those of the call that makes the locks, or takes their blocks. */
+static void read_part(struct declared *declared, const struct line *line, struct type *type)
+{
+    uint32_t uses;
+    const uint32_t *places;
+    size_t count = read_places(declared, line, 5, &places);
+    if (!field_hexadecimal(line, 3, &type->offset) || !field_number(line, 4, FIELDS_MOST, &uses) || uses > count) {
+        declared->is_odd = true;
+        return;
+    }
+    type->has_offset = true;
+    type->is_met = uses > 0;
+    type->use = places;
+    type->uses = uses;
+    type->place = places + uses;
+    type->count = count - uses;
+}
+
 static void read_type(struct declared *declared, const struct line *line)
 {
     uint32_t number;
@@ -223,11 +251,26 @@ static void read_type(struct declared *declared, const struct line *line)
     type->variable = variable;
     type->is_met = field_is(line, 2, WORD_MET);
     type->label = has_label ? word_at(declared, line, 3) : NULL;
-    type->count = read_places(declared, line, has_variable ? 8 : has_label ? 4 : 3, &type->place);
+    leave_offset_out(type);
+    if (field_is(line, 2, WORD_PART))
+        read_part(declared, line, type);
+    else
+        type->count = read_places(declared, line, has_variable ? 8 : has_label ? 4 : 3, &type->place);
     if (!has_label && type->count > declared->deepest)
         declared->deepest = type->count;
+    if (type->uses > declared->deepest)
+        declared->deepest = type->uses;
     if (has_variable && variable.name)
         symbols_want(declared->symbols, variable.name);
+}
+
+static void read_crowded(struct declared *declared, const struct line *line)
+{
+    uint32_t number;
+    if (field_number(line, 1, TYPE_MOST - 1, &number) && number < declared->types)
+        leave_offset_out(&declared->type[number]);
+    else
+        declared->is_odd = true;
 }
 
 static bool read_seat(struct declared *declared, const struct line *line, uint32_t *seat)
@@ -306,6 +349,7 @@ static const struct {
     {WORD_SITE, read_site},
     {WORD_STACK, read_stack},
     {WORD_TYPE, read_type},
+    {WORD_CROWDED, read_crowded},
     {WORD_FOREIGN, read_foreign},
 };
 

@@ -62,6 +62,10 @@ struct type {
     const char *class; /* of its first lock; NULL where there is none */
     const uint32_t *place;
     size_t count;
+    bool has_offset; /* its locks stand at that offset in their blocks of memory */
+    uint64_t offset;
+    const uint32_t *use; /* of one that no call has made the places of a first use; those above take its blocks */
+    size_t uses;
 };
 
 struct declared {
@@ -85,6 +89,8 @@ struct declared {
 void declared_read(struct declared *declared, const struct stream *stream, struct symbols *symbols, bool progress);
 void declared_end(struct declared *declared);
 
+/* The type becomes the one that it would be if nothing were known of its blocks. */
+void leave_offset_out(struct type *type);
 /* OBJECT OFFSET NAME WITHIN FILE, from that field on. False where the line has none. */
 bool read_variable(const struct declared *declared, const struct line *line, unsigned field, struct variable *variable);
 /* What the object is called; an empty name of none. */

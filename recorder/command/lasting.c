@@ -11,6 +11,7 @@
 #include "texts.h"
 #include "types.h"
 
+#include <inttypes.h>
 #include <stdlib.h>
 #include <string.h>
 
@@ -307,6 +308,11 @@ struct lasting lasting_of(const struct declared *declared, const struct types *t
             say(&name, lock_name_at(declared, name.steps.step)->member);
         else
             say_steps(&name);
+        if (name.type->has_offset && name.type->offset != 0) {
+            char *offset = say_text("+0x%" PRIx64, name.type->offset);
+            say(&name, offset);
+            free(offset);
+        }
     } else {
         say(&name, "?");
         name.lasts = false;

@@ -80,6 +80,11 @@ static int run(struct options *options, const char *built, const char *work)
     } else if (!misfit.unloadable) {
         preload = say_text("%s/recorder.so", built);
     }
+    if (options->blocks && preload) {
+        char *recorder = preload;
+        preload = say_text("%s/blocks.so:%s", built, recorder);
+        free(recorder);
+    }
     if (options->gdb)
         words = inside_debugger(options->here, preload ? preload : "", words);
     struct run *telling = show_begins(settings, work, records);

@@ -62,6 +62,12 @@ static void take_semaphores(struct options *options, const char *word)
     options->semaphores = true;
 }
 
+static void take_blocks(struct options *options, const char *word)
+{
+    (void)word;
+    options->blocks = true;
+}
+
 static void take_skip(struct options *options, const char *word)
 {
     static const char letters[] = "ABCDEFGHIJKLMNOPQRSTUVWXYZabcdefghijklmnopqrstuvwxyz0123456789_*?";
@@ -240,6 +246,7 @@ static const struct option {
     {"--depth", true, take_depth},
     {"--frames", true, take_frames},
     {"--semaphores", false, take_semaphores},
+    {"--blocks", false, take_blocks},
     {"--held-callers", false, take_held},
     {"--skip", true, take_skip},
     {"--ignore", true, take_ignore},

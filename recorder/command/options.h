@@ -18,7 +18,7 @@ struct options {
     const char *on_report; /* --on-report: what libwitness does at a report; NULL where it isn't wanted */
     bool gdb;           /* --gdb: the program runs in gdb, which stands where a report's lock is asked for */
     int depth;
-    bool full, held, semaphores;
+    bool full, held, semaphores, blocks;
 };
 
 /* Reads the words, of which the last is followed by NULL. Those that can't be meant are refused, and nothing is run. */

@@ -233,8 +233,11 @@ void prepare_environment(const struct options *options, const char *records)
     setenv("RECORDER_SKIP", options->settings.skip ? options->settings.skip : "", 1);
     unsetenv("RECORDER_HELD");
     unsetenv("RECORDER_SEMAPHORES");
+    unsetenv("RECORDER_BLOCKS");
     if (options->held)
         setenv("RECORDER_HELD", "1", 1);
     if (options->semaphores)
         setenv("RECORDER_SEMAPHORES", "1", 1);
+    if (options->blocks)
+        setenv("RECORDER_BLOCKS", "1", 1);
 }

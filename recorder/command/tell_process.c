@@ -217,6 +217,15 @@ static void tell_releases(struct process *process)
     }
 }
 
+/* Of --blocks: the locks whose block isn't known. They have other types, and nothing is missing. */
+static void tell_blocks(struct process *process)
+{
+    unsigned long blocks;
+    if (stream_count(&process->stream, "blocks", &blocks) && blocks > 0)
+        say(&process->run->output, "%s: --blocks: of %lu locks the block of memory isn't known; they are told as without it",
+            process->name, blocks);
+}
+
 /* What the replay doesn't tell: what was left out, and releases by other threads. */
 static void tell_missed(struct process *process)
 {
@@ -229,6 +238,7 @@ static void tell_missed(struct process *process)
     }
     free(missed);
     free(line);
+    tell_blocks(process);
     tell_waits(process);
     tell_releases(process);
     tell_errors(process);

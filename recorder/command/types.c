@@ -183,6 +183,34 @@ static bool has_member(const struct namer *namer, const struct type *type, const
     return lock->identity && !lock->is_kept && lock->size >= bytes && lock->size < 2 * bytes;
 }
 
+/* The offset in their blocks that parts the locks of one call, or of one allocation. */
+static void add_offset(struct namer *namer, uint32_t number)
+{
+    const struct type *type = &namer->declared->type[number];
+    struct naming *naming = &namer->naming[number];
+    char offset[24];
+    snprintf(offset, sizeof offset, "+0x%" PRIx64, type->offset);
+    add(&naming->source, type->is_met ? " taken " : " made ");
+    add(&naming->source, offset);
+    if (type->offset != 0)
+        add(&naming->plain, offset);
+}
+
+/* Where the first use of locks that no call has made names their member, what took their blocks doesn't count. */
+static void settle_offsets(struct declared *declared)
+{
+    const struct namer namer = {.declared = declared};
+    for (size_t number = 1; number < declared->types; number++) {
+        struct type *type = &declared->type[number];
+        struct type used = {.class = type->class, .place = type->use, .count = type->uses};
+        struct steps steps;
+        steps_begin(&steps, declared, &used);
+        if (steps.count > 0 && has_member(&namer, &used, &steps.step[0]))
+            leave_offset_out(type);
+        steps_end(&steps);
+    }
+}
+
 /*
  * Locks in memory that no call has made have the place of their first use, whichever that is. Where its line names the
  * member of a class, the locks of that member are one type, wherever they are first used.
@@ -219,7 +247,9 @@ static void read_type(struct namer *namer, uint32_t number)
         read_label(namer, number);
     if (!type->label)
         read_steps(namer, number);
-    if (type->is_met)
+    if (type->has_offset)
+        add_offset(namer, number);
+    else if (type->is_met)
         read_member(namer, number);
     if (naming->plain.length == 0)
         add(&naming->plain, "?");
@@ -351,9 +381,10 @@ static void give_names(struct namer *namer)
     map_end(&namer->variables);
 }
 
-void types_begin(struct types *types, const struct declared *declared)
+void types_begin(struct types *types, struct declared *declared)
 {
     struct namer namer = {.declared = declared, .types = types};
+    settle_offsets(declared);
     *types = (struct types){.count = declared->types};
     types->type = take(types->count * sizeof *types->type);
     namer.naming = take(types->count * sizeof *namer.naming);

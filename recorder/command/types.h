@@ -34,8 +34,8 @@ struct types {
     size_t different;
 };
 
-/* All but what they are told by. */
-void types_begin(struct types *types, const struct declared *declared);
+/* All but what they are told by. Of a type whose member is known what is declared of its blocks is left out. */
+void types_begin(struct types *types, struct declared *declared);
 void types_end(struct types *types);
 
 #endif

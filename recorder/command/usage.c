@@ -20,6 +20,7 @@ static const char text[] =
     "  --depth N      so many callers of a lock's initialisation name its type: 1 to 4, else 2\n"
     "  --frames N     a stack has at most so many frames: 1 to 16, else RECORD_FRAMES or 8; 1 shows neither stacks nor threads\n"
     "  --semaphores   those made with 1 that their waiters post are locks, too\n"
+    "  --blocks       locks in memory from malloc are told by their offsets in their blocks; each malloc and free takes longer\n"
     "  --held-callers stacks of all that was held, not of the first at each place; each lock takes longer\n"
     "  --skip PATTERN functions of that name (* and ? as in names of files) count as part of the lock's own call\n"
     "  --ignore FILE  lines \"TYPE\": its duplicates are all right; lines \"TYPE\" \"TYPE\": either order is all right\n"

@@ -28,6 +28,8 @@ if wanted alarms; then
     alarm apart 'both orders, the same locks, threads N and M; apart: one thread was joined before the other did so'
     alarm early 'both orders, the same locks, threads N and M; apart: one thread did so before it made the other'
     alarm later 'both orders, the same locks, threads N and M'
+    alarm begun 'both orders, the same locks, threads N and M; apart: one was done before there was another thread'
+    alarm by-two 'both orders, the same locks, threads N and M'
     alarm many 'not known, there were more orders of such locks than are kept'
     alarm three 'all orders of the circle, the same locks, threads N and M'
     alarm through 'all orders of the circle, the same locks, threads N and M'

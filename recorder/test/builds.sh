@@ -3,9 +3,10 @@
 
 # plant_small TO: the scripts and the builder as they are, and small sources. All is older than what will be built, and nothing is.
 plant_small() {
-    rm -rf "$1" cache && mkdir -p "$1/command/below" && cp -R "$recorder/build" "$recorder/record" "$recorder/orders" "$recorder/builder" "$1"
+    rm -rf "$1" cache && mkdir -p "$1/command/below" "$1/malloc" && cp -R "$recorder/build" "$recorder/record" "$recorder/orders" "$recorder/builder" "$1"
     : >"$1/command/page.css" && : >"$1/command/below/note" && : >"$1/format.h" && : >"$1/recorder.h"
     printf '%s\n' '#include "recorder.h"' 'int is_recorder(void) { return 1; }' >"$1/start.c"
+    echo 'int has_hooks(void) { return 1; }' >"$1/malloc/hooks.c"
     printf '%s\n' '#include <stdio.h>' '#include "../format.h"' '__asm__(".incbin \"page.css\"");' \
         'int main(int count, char **words) { return count > 2 && printf("%s in %s\n", words[2], words[1]) < 0; }' >"$1/command/main.c"
     find "$1" -exec touch -d '2 seconds ago' {} +
@@ -79,7 +80,7 @@ if wanted builds; then
     export TMPDIR="$work/tmp"
     plant_small small
     built small/build
-    made_are "$work/small/out" builder record recorder.so && is_left small/out builder lock record recorder.so && is_left tmp ''
+    made_are "$work/small/out" builder record recorder.so blocks.so && is_left small/out builder lock record recorder.so blocks.so && is_left tmp ''
     tell builds "beside the sources" $?
     built small/build
     made_are "$work/small/out"
@@ -90,8 +91,8 @@ if wanted builds; then
     built small/orders one
     [ "$status" -eq 0 ] && echo "--orders in $work/small" | diff - built.out && [ ! -s made ]
     tell builds "the command by its other name" $?
-    for line in 'start.c recorder.so' 'recorder.h recorder.so' 'command/main.c record' 'command/page.css record' 'command/below/note record' \
-        'format.h record recorder.so' 'build ' 'builder/place.h builder record recorder.so' 'builder/anew builder record recorder.so'; do
+    for line in 'start.c recorder.so' 'malloc/hooks.c blocks.so' 'recorder.h recorder.so' 'command/main.c record' 'command/page.css record' 'command/below/note record' \
+        'format.h record recorder.so' 'build ' 'builder/place.h builder record recorder.so blocks.so' 'builder/anew builder record recorder.so blocks.so'; do
         plant_small small && built small/build
         later "small/${line%% *}"
         built small/build
@@ -105,7 +106,7 @@ if wanted builds; then
         tell builds "the command alone for $word" $?
     done
     built small/build --full
-    made_are "$work/small/out" recorder.so
+    made_are "$work/small/out" recorder.so blocks.so
     tell builds "the rest with the next run" $?
     sanitize=1
     built small/build
@@ -126,13 +127,13 @@ if wanted builds; then
     : >refuses
     built small/build
     sed -i '/^refused$/d' built.err
-    refused_as "the recorder wasn't built" && is_left small/out builder lock record
+    refused_as "the recorder wasn't built" && is_left small/out blocks.so builder lock record
     tell builds "a compiler that makes nothing of the rest" $?
     plant_small small
     built small/build
     sed -i '/^refused$/d' built.err
     refused_as "the recorder wasn't built" && is_left tmp '' && is_left small build builder command command/below command/below/note \
-        command/main.c command/page.css format.h orders record recorder.h start.c $(cd small && echo builder/*)
+        command/main.c command/page.css format.h malloc malloc/hooks.c orders record recorder.h start.c $(cd small && echo builder/*)
     tell builds "a compiler that makes nothing of the builder" $?
     rm refuses
     # A folder that leaves no other than one for this run.
@@ -140,7 +141,7 @@ if wanted builds; then
     plant_small "$odd"
     built env XDG_CACHE_HOME= HOME= "$odd/build"
     once=$(cat built.out)
-    made_are "$once" builder record recorder.so && is_left "$once" lock once record recorder.so && [ "$(dirname "$once")" = "$work/tmp" ] && [ ! -e "$odd/out" ]
+    made_are "$once" builder record recorder.so blocks.so && is_left "$once" lock once record recorder.so blocks.so && [ "$(dirname "$once")" = "$work/tmp" ] && [ ! -e "$odd/out" ]
     tell builds "in a folder for this run" $?
     rm -rf "$once"
     : >refuses
@@ -159,19 +160,19 @@ record: others can write to: let XDG_CACHE_HOME name a good one" && is_left "$od
     # In the cache, under a name that the script knows, too.
     cache=$work/cache/lanyardyuzu-recorder/$(printf '%s' "$odd" | cksum | tr ' ' -)
     built "$odd/build"
-    made_are "$cache" builder record recorder.so && is_left "$cache" builder lock record recorder.so
+    made_are "$cache" builder record recorder.so blocks.so && is_left "$cache" builder lock record recorder.so blocks.so
     tell builds "in the user's cache" $?
     built "$odd/build"
     made_are "$cache"
     tell builds "nothing that stands in the cache, and no builder" $?
     built env XDG_CACHE_HOME= HOME="$work/home" "$odd/build"
-    made_are "$work/home/.cache/${cache#"$work/cache/"}" builder record recorder.so
+    made_are "$work/home/.cache/${cache#"$work/cache/"}" builder record recorder.so blocks.so
     tell builds "in the cache of the user's home" $?
     # What stands beside the sources, whose name won't do.
     cp -Rp "$cache" "$odd/out" && rm -rf "$work/cache"
     built "$odd/build"
     made_are "$cache" && cmp "$odd/out/record" "$cache/record" && cmp "$odd/out/recorder.so" "$cache/recorder.so" && [ -x "$cache/record" ] &&
-        is_left "$cache" lock record recorder.so
+        is_left "$cache" lock record recorder.so blocks.so
     tell builds "a copy of what stands beside its sources" $?
     rm -rf "$odd" cache home
 fi
@@ -186,11 +187,11 @@ theirs() {
 # What others could have written is neither run nor loaded.
 if wanted builds; then
     for way in 'out/builder o+w' 'out/builder g+w' 'out/builder owner' 'out/builder link' 'out/record o+w' 'out/record owner' 'out/record link' \
-        'out/recorder.so g+w' 'out/recorder.so owner' 'out o+w' 'out g+w' 'out link'; do
+        'out/recorder.so g+w' 'out/recorder.so owner' 'out/blocks.so o+w' 'out o+w' 'out g+w' 'out link'; do
         plant_small small && built small/build
         file=small/${way% *}
         case $way in
-        'out '*) theirs small/out/builder small/out/record small/out/recorder.so ;;
+        'out '*) theirs small/out/builder small/out/record small/out/recorder.so small/out/blocks.so ;;
         *owner) theirs "$file" ;;
         *) printf '#!/bin/sh\necho theirs\n' >"$file" ;;
         esac
@@ -213,7 +214,7 @@ if wanted builds; then
             plant_small small
             names=lock
             if [ $when = record ]; then
-                built small/build && rm small/out/record*
+                built small/build && rm small/out/record* small/out/blocks.so
                 names='builder lock'
             fi
             rm -f begun && echo "${each% *}" >slow && : >made
@@ -226,7 +227,7 @@ if wanted builds; then
         done
     done
     # To the builder alone, which ends what it began; and where signals were ignored from the start.
-    plant_small small && built small/build && rm -f small/out/record* begun && : >slow
+    plant_small small && built small/build && rm -f small/out/record* small/out/blocks.so begun && : >slow
     RECORD_SANITIZE= CC="$work/compiler" $taking small/build >built.out 2>built.err &
     within [ -e begun ] && kill -TERM $!
     wait $!
@@ -238,7 +239,7 @@ if wanted builds; then
     within [ -e begun ] && kill -HUP $!
     wait $!
     status=$?
-    rm slow && : >made && made_are "$work/small/out" && is_left small/out builder lock record recorder.so
+    rm slow && : >made && made_are "$work/small/out" && is_left small/out builder lock record recorder.so blocks.so
     tell builds "HUP where it was ignored from the start" $?
 fi
 
@@ -252,7 +253,7 @@ if wanted builds; then
     rm slow
     cat first.out second.out | sort -u >built.out && cat first.err second.err >built.err && status=0
     sort made >made.sorted && mv made.sorted made
-    made_are "$work/small/out" builder builder record recorder.so && is_left small/out builder lock record recorder.so
+    made_are "$work/small/out" blocks.so builder builder record recorder.so && is_left small/out builder lock record recorder.so blocks.so
     tell builds "two at once" $?
 fi
 
@@ -263,14 +264,14 @@ if wanted builds; then
         chmod go+x . && chmod 1777 tmp && plant_small small && mkdir -m 777 cache
         cache=$work/cache/lanyardyuzu-recorder/$(printf '%s' "$work/small" | cksum | tr ' ' -)
         built $user small/build
-        made_are "$cache" builder record recorder.so && is_left "$cache" builder lock record recorder.so
+        made_are "$cache" builder record recorder.so blocks.so && is_left "$cache" builder lock record recorder.so blocks.so
         tell builds "another user's sources in this user's cache" $?
         built $user small/build
         made_are "$cache"
         tell builds "nothing that stands there, and no builder" $?
         later small/builder/main.c
         built $user small/build
-        made_are "$cache" builder record recorder.so
+        made_are "$cache" builder record recorder.so blocks.so
         tell builds "all anew where the builder's sources are newer" $?
         # What the other user has built is taken, but for a builder that is older than its sources: that one is kept in the cache.
         plant_small small && built small/build && rm -rf cache && mkdir -m 777 cache

@@ -184,6 +184,14 @@ static void try_early(struct both *both, struct both *back, int later)
     pthread_join(thread, NULL);
 }
 
+/* This thread takes its locks before it makes three that take them the other way, or of which one takes them so, too. */
+static void try_begun(struct both *both, struct both *back, int again)
+{
+    take(both);
+    alone = 1;
+    run((void *(*[])(void *)){take_both, take_both, take_both}, (struct both[]){*back, *back, again ? *both : *back}, 3);
+}
+
 static void try_readers(void)
 {
     static pthread_rwlock_t table = PTHREAD_RWLOCK_INITIALIZER, index = PTHREAD_RWLOCK_INITIALIZER;
@@ -232,6 +240,8 @@ int main(int count, char **words)
         try_row(take_both_of_two, 0);
     if (strcmp(how, "early") == 0 || strcmp(how, "later") == 0)
         try_early(&there, &back, how[0] == 'l');
+    if (strcmp(how, "begun") == 0 || strcmp(how, "by-two") == 0)
+        try_begun(&there, &back, how[1] == 'y');
     if (strcmp(how, "twins") == 0)
         run_two(take_both, take_both, (struct both){a, other, NULL}, (struct both){other, a, NULL});
     /* The second order comes when it is asked for. */
