@@ -6,8 +6,8 @@
  *   WRITE_FAILS=N    the Nth write to the standard output fails
  *   WRITE_NOTHING=N  the Nth write to the standard output takes no byte
  *   ONE_BYTE=1       a read of the standard input gives one byte, and a write to the standard output takes one
- *   COUNTS=FILE      as the program ends, the file gets how many growths, reads and writes there were, and the most bytes of memory
- *                    that were in use at once
+ *   COUNTS=FILE      as the program ends, the file gets how many growths, reads and writes there were, the most bytes of memory
+ *                    that were in use at once, and how many threads were started
  * What is asked for before the program begins isn't counted.
  *
  * cc -O2 -shared -fPIC -o failing.so failing.c -ldl
@@ -17,6 +17,7 @@
 #include <errno.h>
 #include <fcntl.h>
 #include <malloc.h>
+#include <pthread.h>
 #include <stdatomic.h>
 #include <stddef.h>
 #include <stdint.h>
@@ -32,7 +33,8 @@ static void *(*real_realloc)(void *, size_t);
 static void *(*real_aligned)(size_t, size_t);
 static ssize_t (*real_read)(int, void *, size_t);
 static ssize_t (*real_write)(int, const void *, size_t);
-static atomic_ulong asked, reads, writes;
+static int (*real_thread)(pthread_t *, const pthread_attr_t *, void *(*)(void *), void *);
+static atomic_ulong asked, reads, writes, threads;
 static atomic_long used, most;
 static unsigned long refused, failing_read, failing_write, empty_write, one_byte;
 static int counts;
@@ -63,6 +65,7 @@ static void find(void)
     real_aligned = dlsym(RTLD_NEXT, "aligned_alloc");
     real_read = dlsym(RTLD_NEXT, "read");
     real_write = dlsym(RTLD_NEXT, "write");
+    real_thread = dlsym(RTLD_NEXT, "pthread_create");
 }
 
 /* Whether this growth is the one to refuse. */
@@ -97,8 +100,8 @@ __attribute__((destructor)) static void end(void)
     counts = 0;
     if (name == NULL || (file = open(name, O_WRONLY | O_CREAT | O_TRUNC, 0666)) < 0)
         return;
-    int length = snprintf(text, sizeof text, "%lu %lu %lu %ld\n", (unsigned long)asked, (unsigned long)reads,
-                          (unsigned long)writes, (long)most);
+    int length = snprintf(text, sizeof text, "%lu %lu %lu %ld %lu\n", (unsigned long)asked, (unsigned long)reads,
+                          (unsigned long)writes, (long)most, (unsigned long)threads);
     if (real_write(file, text, (size_t)length) != length)
         syscall(SYS_exit_group, 99);
     close(file);
@@ -110,6 +113,15 @@ void _exit(int status)
     end();
     for (;;)
         syscall(SYS_exit_group, status);
+}
+
+int pthread_create(pthread_t *thread, const pthread_attr_t *how, void *(*begin)(void *), void *with)
+{
+    if (real_write == NULL)
+        find();
+    if (counts)
+        atomic_fetch_add(&threads, 1);
+    return real_thread(thread, how, begin, with);
 }
 
 ssize_t read(int file, void *to, size_t size)

@@ -6,7 +6,7 @@ ghost use Rattle.atomic_table.specs.Seated.{TableId};
 use crate::gate::Gate;
 use crate::met::Met;
 use crate::ticket::Ticket;
-use crate::word::Word;
+use crate::word::{Turn, Word};
 use std::alloc::Global;
 use std::marker::Model;
 use std::sync::{Condvar, Mutex, Wait};
@@ -21,7 +21,7 @@ use wit_seats::{Room, Seat};
 pub struct CondGate {
     word: Word,
     // Each step on the word is taken while this is held.
-    turn: Mutex<()>,
+    turn: Mutex<Turn>,
     freed: Condvar,
 }
 
@@ -44,9 +44,10 @@ impl CondGate {
     pub fn new(alloc: Global) -> Result<CondGate, Fault>
         ensures { IfErr result (λ fault. fault ≡ OutOfMemory) }
     {
+        let (word, turn) = Word::new(alloc)?;
         Ok(CondGate {
-            word: Word::new(alloc)?,
-            turn: Mutex::new(()),
+            word,
+            turn: Mutex::new(turn),
             freed: Condvar::new(),
         })
     }

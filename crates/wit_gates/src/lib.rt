@@ -18,7 +18,7 @@ pub use met::Met;
 pub use rule::Counts;
 pub use spin_gate::SpinGate;
 pub use ticket::Ticket;
-pub use word::Word;
+pub use word::{Turn, Word};
 
 #[cfg(test)]
 mod tests;

@@ -6,7 +6,7 @@ ghost use Rattle.atomic_table.specs.Seated.{TableId};
 use crate::gate::Gate;
 use crate::met::Met;
 use crate::ticket::Ticket;
-use crate::word::Word;
+use crate::word::{Turn, Word};
 use crossbeam_utils::Backoff;
 use std::alloc::Global;
 use std::marker::Model;
@@ -23,7 +23,7 @@ use wit_seats::{Room, Seat};
 pub struct SpinGate {
     word: Word,
     // Each step on the word is taken while this is held.
-    turn: Mutex<()>,
+    turn: Mutex<Turn>,
 }
 
 impl Model for SpinGate {
@@ -45,9 +45,10 @@ impl SpinGate {
     pub fn new(alloc: Global) -> Result<SpinGate, Fault>
         ensures { IfErr result (λ fault. fault ≡ OutOfMemory) }
     {
+        let (word, turn) = Word::new(alloc)?;
         Ok(SpinGate {
-            word: Word::new(alloc)?,
-            turn: Mutex::new(()),
+            word,
+            turn: Mutex::new(turn),
         })
     }
 

@@ -5,7 +5,7 @@ ghost use Rattle.std.specs.Prelude.{◌≡◌};
 ghost use Rattle.wit_model.specs.declared.locks.Mode.TheVariants.{Shared, Exclusive};
 ghost use Rattle.wit_gates.specs.Tickets.{pass};
 
-use crate::{CondGate, Gate, SpinGate, Ticket, Word};
+use crate::{CondGate, Gate, SpinGate, Ticket, Turn, Word};
 use std::process::Abort;
 use std::rt::Clock;
 use std::sync::atomic::{AtomicBool, AtomicU64, Ordering};
@@ -76,7 +76,7 @@ fn gates_let_in_whom_they_should(rt: HostRuntime) -> Result<(), Fail> {
 }
 
 /// A share of a word.
-fn share_of<R: Wait + Abort>(rt: &R, word: &Word, turn: &MutexGuard<'_, ()>) -> Ticket
+fn share_of<R: Wait + Abort>(rt: &R, word: &Word, turn: &MutexGuard<'_, Turn>) -> Ticket
     ensures { result ≡ pass word.now Shared }
 {
     match word.try_share(rt, turn) {
@@ -86,7 +86,7 @@ fn share_of<R: Wait + Abort>(rt: &R, word: &Word, turn: &MutexGuard<'_, ()>) -> 
 }
 
 /// The exclusive hold of a word.
-fn hold_of<R: Wait + Abort>(rt: &R, word: &Word, turn: &MutexGuard<'_, ()>) -> Ticket
+fn hold_of<R: Wait + Abort>(rt: &R, word: &Word, turn: &MutexGuard<'_, Turn>) -> Ticket
     ensures { result ≡ pass word.now Exclusive }
 {
     match word.try_exclusive(turn) {
@@ -97,9 +97,9 @@ fn hold_of<R: Wait + Abort>(rt: &R, word: &Word, turn: &MutexGuard<'_, ()>) -> T
 
 #[test]
 fn words_tell_what_is_out(rt: HostRuntime) -> Result<(), Fail> {
-    let turns = Mutex::new(());
+    let (word, turn) = Word::new(rt.alloc())?;
+    let turns = Mutex::new(turn);
     let turn = turns.lock(&rt);
-    let word = Word::new(rt.alloc())?;
     assert!(rt; word.is_free() && !word.is_exclusive() && !word.is_full());
     let alone = hold_of(&rt, &word, &turn);
     assert!(rt; !word.is_free() && word.is_exclusive() && !word.is_full());
@@ -107,6 +107,9 @@ fn words_tell_what_is_out(rt: HostRuntime) -> Result<(), Fail> {
     let other = share_of(&rt, &word, &turn);
     let (one, other) = word.pair(one, other);
     assert!(rt; !word.is_free() && !word.is_exclusive() && !word.is_full());
+    let third = share_of(&rt, &word, &turn);
+    assert!(rt; !word.is_free() && !word.is_exclusive() && !word.is_full());
+    word.free(&turn, Mode::Shared, third);
     word.free(&turn, Mode::Shared, one);
     other.abandon();
     assert_eq!(rt;
@@ -114,8 +117,9 @@ fn words_tell_what_is_out(rt: HostRuntime) -> Result<(), Fail> {
         1,
         "an abandoned ticket counts as still out"
     );
-    let word = Word::new(rt.alloc())?;
-    let alone = hold_of(&rt, &word, &turn);
+    let (word, turn) = Word::new(rt.alloc())?;
+    let turns = Mutex::new(turn);
+    let alone = hold_of(&rt, &word, &turns.lock(&rt));
     assert_eq!(rt; word.into_word_with(alone), 4_294_967_295);
     Ok(())
 }
@@ -146,6 +150,56 @@ fn three_and_eight_share(rt: HostRuntime) -> Result<(), Fail> {
     let spinning = SpinGate::new(rt.alloc()).ok().expect(&rt, "memory");
     is_shared_by(&rt, &spinning, 3);
     is_shared_by(&rt, &spinning, 8);
+    Ok(())
+}
+
+/// Has so many shares more, lets another thread ask once it has all of them, and waits until that is
+/// in. False where it doesn't come in, or a share isn't had.
+fn waits_beside<G: Gate, R: Wait + Clock>(
+    rt: &R,
+    gate: &G,
+    count: u32,
+    asks: &AtomicU64,
+    inside: &AtomicU64,
+) -> bool {
+    if count == 0 {
+        asks.store(1, Ordering::SeqCst);
+        return comes_about(rt, inside, 1);
+    }
+    match gate.try_acquire(rt, Mode::Shared) {
+        Ok(share) => {
+            let came = waits_beside(rt, gate, count - 1, asks, inside);
+            gate.release(rt, Mode::Shared, share);
+            came
+        }
+        Err(_met) => false,
+    }
+}
+
+/// Who would wait for a writer comes in beside so many readers.
+fn comes_in_beside<G: Gate + Visited + Sync, R: Threads + Wait + Clock + Abort + Sync>(
+    rt: &R,
+    gate: &G,
+    count: u32,
+) {
+    let (asks, inside) = (AtomicU64::new(0), AtomicU64::new(0));
+    let (asks, inside) = (&asks, &inside);
+    let (shared, came) = join(
+        rt,
+        || comes_about(rt, asks, 1) && gate.meet(rt, inside, 1),
+        || waits_beside(rt, gate, count, asks, inside),
+    );
+    assert!(rt; shared && came, "refused beside shares");
+}
+
+#[test]
+fn who_waits_comes_in_beside_shares(rt: HostRuntime) -> Result<(), Fail> {
+    let sleeping = CondGate::new(rt.alloc()).ok().expect(&rt, "memory");
+    comes_in_beside(&rt, &sleeping, 3);
+    comes_in_beside(&rt, &sleeping, 8);
+    let spinning = SpinGate::new(rt.alloc()).ok().expect(&rt, "memory");
+    comes_in_beside(&rt, &spinning, 3);
+    comes_in_beside(&rt, &spinning, 8);
     Ok(())
 }
 
@@ -280,8 +334,8 @@ fn threads_take_turns(rt: HostRuntime) -> Result<(), Fail> {
     Ok(())
 }
 
-/// Has a gate alone, lets another thread ask for a share, and downgrades: whether that lets the
-/// other one in, which wasn't before.
+/// Has a gate alone, lets other threads ask for shares, and downgrades: whether that lets three
+/// others in, of which none was before.
 fn downgrades<G: Gate, R: Wait + Clock>(
     rt: &R,
     gate: &G,
@@ -294,7 +348,7 @@ fn downgrades<G: Gate, R: Wait + Clock>(
             thread::sleep(rt, Duration::from_millis(50));
             let early = inside.load(Ordering::SeqCst);
             let share = gate.downgrade(rt, alone);
-            let woken = comes_about(rt, inside, 1);
+            let woken = comes_about(rt, inside, 3);
             gate.release(rt, Mode::Shared, share);
             woken && early == 0
         }
@@ -302,19 +356,31 @@ fn downgrades<G: Gate, R: Wait + Clock>(
     }
 }
 
-/// A reader waits for a writer, which then shares with it.
+/// Three readers wait for a writer, which then shares with them.
 fn downgrade_lets_in<G: Gate + Visited + Sync, R: Threads + Wait + Clock + Abort + Sync>(
     rt: &R,
     gate: &G,
 ) {
     let (asks, inside) = (AtomicU64::new(0), AtomicU64::new(0));
     let (asks, inside) = (&asks, &inside);
-    let (shared, woken) = join(
+    let ((a, b), (c, woken)) = join(
         rt,
-        || comes_about(rt, asks, 1) && gate.meet(rt, inside, 1),
-        || downgrades(rt, gate, asks, inside),
+        || join(
+            rt,
+            || meets(rt, gate, asks, inside),
+            || meets(rt, gate, asks, inside),
+        ),
+        || join(
+            rt,
+            || meets(rt, gate, asks, inside),
+            || downgrades(rt, gate, asks, inside),
+        ),
     );
-    assert!(rt; shared && woken);
+    assert!(rt;
+        woken,
+        "a share beside who is alone, or three that wait don't all come in"
+    );
+    assert!(rt; a && b && c, "three that wait don't meet");
 }
 
 #[test]

@@ -26,12 +26,17 @@ const EXCLUSIVE: u64 = 4_294_967_295;
 /// share it, which is up to 4,294,967,294.
 ///
 /// The tickets that are out add up to it at every moment. It is changed through a `&`, by single
-/// steps. Each takes what shows that a mutex is held, which the gate has for its turns: so no step
-/// comes between what a waiter looks at and its sleep. Contracts see which word it is.
+/// steps. Each takes the guard of a mutex round a [`Turn`]: so no step comes between what a waiter
+/// looks at and its sleep. Contracts see which word it is.
 #[derive(Drop)]
 pub struct Word {
     table: Table<(), Claim, (), Counts, Global>,
 }
+
+/// The turn to take steps on a word. With each word one is made, and there are no others: a gate has
+/// it under a mutex, and can take steps under no other mutex.
+#[derive(Drop)]
+pub struct Turn(());
 
 impl Model for Word {
     ghost Value = { TableId };
@@ -47,13 +52,13 @@ impl Word {
     ghost use Rattle.wit_model.specs.Gates.{exclusive_word, most_shares};
     ghost use Rattle.wit_gates.specs.Tickets.{IsBarred, IsCrowded, pass};
 
-    /// The word of a gate that nobody has.
+    /// The word of a gate that nobody has, and its turn.
     ///
     /// # Errors
     /// Want of memory alone.
-    pub fn new(alloc: Global) -> Result<Word, AllocError> {
+    pub fn new(alloc: Global) -> Result<(Word, Turn), AllocError> {
         let (table, _seat) = Table::of_words(alloc, &[0], &())?;
-        Ok(Word { table })
+        Ok((Word { table }, Turn(())))
     }
 
     /// Whether nobody has the gate just now.
@@ -73,7 +78,7 @@ impl Word {
 
     /// A share, where nobody has the gate alone and one more can share it. Else the word as it was
     /// met, which lets nobody in so.
-    pub fn try_share<R: Wait>(&self, rt: &R, _turn: &MutexGuard<'_, ()>) -> Result<Ticket, Met>
+    pub fn try_share<R: Wait>(&self, rt: &R, _turn: &MutexGuard<'_, Turn>) -> Result<Ticket, Met>
         ensures { MatchResult result (λ t. t ≡ pass self.now Shared) (IsBarred self.now Shared) }
     {
         let shared = &self.table.shared;
@@ -92,7 +97,7 @@ impl Word {
     }
 
     /// The exclusive hold, where nobody has the gate. Else the word as it was met.
-    pub fn try_exclusive(&self, _turn: &MutexGuard<'_, ()>) -> Result<Ticket, Met>
+    pub fn try_exclusive(&self, _turn: &MutexGuard<'_, Turn>) -> Result<Ticket, Met>
         ensures { MatchResult result (λ t. t ≡ pass self.now Exclusive)
             (IsBarred self.now Exclusive) }
     {
@@ -106,7 +111,7 @@ impl Word {
     }
 
     /// Takes a ticket back. It never fails.
-    pub fn free(&self, _turn: &MutexGuard<'_, ()>, mode: Mode, ticket: Ticket)
+    pub fn free(&self, _turn: &MutexGuard<'_, Turn>, mode: Mode, ticket: Ticket)
         requires { ticket ≡ pass self.now mode }
     {
         let Ticket { mut seat } = ticket;
@@ -122,7 +127,7 @@ impl Word {
     /// the word as it was met.
     pub fn try_upgrade(
         &self,
-        _turn: &MutexGuard<'_, ()>,
+        _turn: &MutexGuard<'_, Turn>,
         ticket: Ticket,
     ) -> Result<Ticket, (Ticket, Met)>
         requires { ticket ≡ pass self.now Shared }
@@ -140,7 +145,7 @@ impl Word {
     }
 
     /// A share for the exclusive hold. It never fails.
-    pub fn downgrade(&self, _turn: &MutexGuard<'_, ()>, ticket: Ticket) -> Ticket
+    pub fn downgrade(&self, _turn: &MutexGuard<'_, Turn>, ticket: Ticket) -> Ticket
         requires { ticket ≡ pass self.now Exclusive }
         ensures { result ≡ pass self.now Shared }
     {

@@ -44,12 +44,12 @@ abbrev pub Acquires : Start → Request → Option Reply → Reply → Known →
 Acquires start q None noted v w = ⊥
 Acquires start q (Some asked) noted v w = EntersBoth start (Check q) asked (Note q.lock) noted v w
 
--- none: the check was refused, which left nothing; or the gate refused, and the request was given
--- up
-abbrev pub FailsToAcquire : Start → Request → Fault → Known → Known → Type 0
-FailsToAcquire start q fault v w =
+-- none: the check was refused, which left nothing; or the gate was met so that it refuses, and the
+-- request was given up
+abbrev pub FailsToAcquire : Start → Request → Type 0 → Fault → Known → Known → Type 0
+FailsToAcquire start q shut fault v w =
     Leaves AnswersOrFails start (Check q) (Err fault) v w
-    ⊎ ((fault ≡ GateRefused) × (asked : Reply)
+    ⊎ ((fault ≡ GateRefused) × shut × (asked : Reply)
     × EntersBoth start (Check q) asked (GiveUp q.lock) Done v w)
 
 -- no further acquisition: the check was refused, or the lock was acquired as often as it can be

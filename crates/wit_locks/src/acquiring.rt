@@ -30,8 +30,8 @@ impl<J: Room, G: Gate, K: Kind> Lock<J, G, K> {
         ensures calls { IfOk result (λ h. Acquires J.start
             (first_request self.now.number mode site) h.hold.asked h.hold.noted seat.old seat.new) }
         ensures failed { IfErr result
-            (λ fault. FailsToAcquire J.start (first_request self.now.number mode site) fault
-            seat.old seat.new) }
+            (λ fault. FailsToAcquire J.start (first_request self.now.number mode site)
+            ((met : G.Met) × G.refuses self.now.gate mode met) fault seat.old seat.new) }
         ensures held { IfOk result (λ h. G.admits self.now.gate mode h.ticket
             × (h.hold.lock ≡ self.now.number) × (h.hold.seat.0 ≡ seat.old.seat)
             × (h.hold.mode ≡ mode) × (h.hold.depth ≡ 0)) }
@@ -69,7 +69,8 @@ impl<J: Room, G: Gate, K: Kind> Lock<J, G, K> {
         mode: Mode,
         site: Site,
     ) -> Result<Option<Held<G>>, Fault>
-        ensures calls { IfOk result (λ o. MatchOption o (seat.new ≡ seat.old)
+        ensures calls { IfOk result (λ o. MatchOption o
+            ((seat.new ≡ seat.old) × (met : G.Met) × G.bars self.now.gate mode met)
             (λ h. Enters AnswersOrFails J.start (NoteTry self.now.number mode site) h.hold.noted
             seat.old seat.new)) }
         ensures failed { IfErr result

@@ -95,7 +95,8 @@ impl<J: Room, T, G: Gate, K: Kind> Guarded<J, T, G, K> {
         ensures done { IfOk result (λ out. (before : T) × (after : T)
             × W.done task before after out) }
         ensures task { (w : W) → (fault : Fault) → result ≡ Err (NotAcquired w fault) → (w ≡ task)
-            × FailsToAcquire J.start (first_request self.now.lock.number Exclusive site) fault
+            × FailsToAcquire J.start (first_request self.now.lock.number Exclusive site)
+            ((met : G.Met) × G.refuses self.now.lock.gate Exclusive met) fault
             seat.old seat.new }
         ensures refused { (out : W.Out) → (held : Held G G.Ticket G.Met) → (fault : Fault)
             → result ≡ Err (NotReleased out held fault)

@@ -22,7 +22,7 @@ impl<J: Room, G: Gate, C: MutexClass> Lock<J, G, Mutex<C>> {
     ///
     /// # Errors
     /// Those of `Shared::check`, for which the gate isn't entered. `GateRefused` where the gate
-    /// lets nobody in: the request is then given up.
+    /// refuses: the request is then given up.
     pub fn lock<R: Wait>(
         &self,
         rt: &R,
@@ -34,8 +34,8 @@ impl<J: Room, G: Gate, C: MutexClass> Lock<J, G, Mutex<C>> {
             (first_request self.now.number Exclusive site) h.hold.asked h.hold.noted
             seat.old seat.new) }
         ensures failed { IfErr result
-            (λ fault. FailsToAcquire J.start (first_request self.now.number Exclusive site) fault
-            seat.old seat.new) }
+            (λ fault. FailsToAcquire J.start (first_request self.now.number Exclusive site)
+            ((met : G.Met) × G.refuses self.now.gate Exclusive met) fault seat.old seat.new) }
         ensures held { IfOk result (λ h. G.admits self.now.gate Exclusive h.ticket
             × (h.hold.lock ≡ self.now.number) × (h.hold.seat.0 ≡ seat.old.seat)
             × (h.hold.mode ≡ Exclusive) × (h.hold.depth ≡ 0)) }
@@ -44,8 +44,8 @@ impl<J: Room, G: Gate, C: MutexClass> Lock<J, G, Mutex<C>> {
         self.acquire(rt, shared, seat, Mode::Exclusive, site)
     }
 
-    /// Acquires the lock if that needs no waiting: None where the gate lets nobody in just now, of
-    /// which the verifier isn't told. No order is checked.
+    /// Acquires the lock if that needs no waiting: None where the gate, as it was met, lets nobody
+    /// in, of which the verifier isn't told. No order is checked.
     ///
     /// # Errors
     /// Those of `Shared::note_try`; the gate is left again.
@@ -56,7 +56,8 @@ impl<J: Room, G: Gate, C: MutexClass> Lock<J, G, Mutex<C>> {
         seat: &mut Seat<J>,
         site: Site,
     ) -> Result<Option<Held<G>>, Fault>
-        ensures calls { IfOk result (λ o. MatchOption o (seat.new ≡ seat.old)
+        ensures calls { IfOk result (λ o. MatchOption o
+            ((seat.new ≡ seat.old) × (met : G.Met) × G.bars self.now.gate Exclusive met)
             (λ h. Enters AnswersOrFails J.start (NoteTry self.now.number Exclusive site)
             h.hold.noted seat.old seat.new)) }
         ensures failed { IfErr result

@@ -21,7 +21,7 @@ impl<J: Room, G: Gate, C: ShareableClass> Lock<J, G, Shareable<C>> {
     ///
     /// # Errors
     /// Those of `Shared::check`, for which the gate isn't entered. `GateRefused` where the gate
-    /// lets nobody in: the request is then given up.
+    /// refuses: the request is then given up.
     pub fn lock<R: Wait>(
         &self,
         rt: &R,
@@ -33,8 +33,8 @@ impl<J: Room, G: Gate, C: ShareableClass> Lock<J, G, Shareable<C>> {
         ensures calls { IfOk result (λ h. Acquires J.start
             (first_request self.now.number mode site) h.hold.asked h.hold.noted seat.old seat.new) }
         ensures failed { IfErr result
-            (λ fault. FailsToAcquire J.start (first_request self.now.number mode site) fault
-            seat.old seat.new) }
+            (λ fault. FailsToAcquire J.start (first_request self.now.number mode site)
+            ((met : G.Met) × G.refuses self.now.gate mode met) fault seat.old seat.new) }
         ensures held { IfOk result (λ h. G.admits self.now.gate mode h.ticket
             × (h.hold.lock ≡ self.now.number) × (h.hold.seat.0 ≡ seat.old.seat)
             × (h.hold.mode ≡ mode) × (h.hold.depth ≡ 0)) }
@@ -43,8 +43,8 @@ impl<J: Room, G: Gate, C: ShareableClass> Lock<J, G, Shareable<C>> {
         self.acquire(rt, shared, seat, mode, site)
     }
 
-    /// Acquires the lock in a mode if that needs no waiting: None where the gate lets nobody in
-    /// just now, of which the verifier isn't told. No order is checked.
+    /// Acquires the lock in a mode if that needs no waiting: None where the gate, as it was met,
+    /// lets nobody in, of which the verifier isn't told. No order is checked.
     ///
     /// # Errors
     /// Those of `Shared::note_try`; the gate is left again.
@@ -56,7 +56,8 @@ impl<J: Room, G: Gate, C: ShareableClass> Lock<J, G, Shareable<C>> {
         mode: Mode,
         site: Site,
     ) -> Result<Option<Held<G>>, Fault>
-        ensures calls { IfOk result (λ o. MatchOption o (seat.new ≡ seat.old)
+        ensures calls { IfOk result (λ o. MatchOption o
+            ((seat.new ≡ seat.old) × (met : G.Met) × G.bars self.now.gate mode met)
             (λ h. Enters AnswersOrFails J.start (NoteTry self.now.number mode site) h.hold.noted
             seat.old seat.new)) }
         ensures failed { IfErr result

@@ -38,7 +38,8 @@ impl<J: Room, G: Gate, K: Kind> Lock<J, G, K> {
         ensures failed { IfErr result
             (λ e. Leaves AnswersOrFails J.start (Upgrade self.now.number)
             (Err e.1) seat.old seat.new
-            ⊎ ((e.1 ≡ GateRefused) × (held.hold.mode ≡ AsShared) × (seat.new ≡ seat.old))) }
+            ⊎ ((e.1 ≡ GateRefused) × (held.hold.mode ≡ AsShared) × (seat.new ≡ seat.old)
+            × (met : G.Met) × G.crowds self.now.gate met)) }
         ensures held { IfOk result (λ h. G.admits self.now.gate Exclusive h.ticket
             × (h.hold ≡ record held.hold { mode = Exclusive })) }
         ensures back { IfErr result (λ e. G.admits self.now.gate held.hold.mode e.0.ticket
@@ -71,7 +72,8 @@ impl<J: Room, G: Gate, K: Kind> Lock<J, G, K> {
         ensures failed { IfErr result
             (λ e. Leaves AnswersOrFails J.start (Upgrade self.now.number)
             (Err e.1) seat.old seat.new
-            ⊎ ((e.1 ≡ GateRefused) × (seat.new ≡ seat.old))) }
+            ⊎ ((e.1 ≡ GateRefused) × (seat.new ≡ seat.old)
+            × (met : G.Met) × G.crowds self.now.gate met)) }
         ensures held { IfOk result (λ h. G.admits self.now.gate Exclusive h.ticket
             × (h.hold ≡ record held.hold { mode = Exclusive })) }
         ensures back { IfErr result (λ e. G.admits self.now.gate AsShared e.0.ticket

@@ -1,5 +1,7 @@
 //! What the demonstration shows.
 
+use std::io;
+use std::io::Write;
 use std::test::Fail;
 use wit_demo::demo;
 use wit_model::View;
@@ -21,5 +23,39 @@ fn the_demonstration(rt: HostRuntime) -> Result<(), Fail> {
     let outcome = demo(&rt, rt.alloc(), &mut output);
     assert_eq!(rt; output.as_slice(), SHOWN.as_bytes());
     assert_eq!(rt; status_of(View::Reports, &outcome), REPORTED);
+    Ok(())
+}
+
+/// Shows what is written only once it is flushed.
+#[derive(Drop)]
+struct Kept {
+    written: Vec<u8>,
+    seen: usize,
+}
+
+impl Write for Kept {
+    fn write(&mut self, buf: &[u8]) -> io::Result<usize> {
+        if self.written.extend_from_slice(buf).is_err() {
+            return Ok(0);
+        }
+        Ok(buf.len())
+    }
+
+    fn flush(&mut self) -> io::Result<()> {
+        self.seen = self.written.len();
+        Ok(())
+    }
+}
+
+#[test]
+fn the_demonstration_is_flushed(rt: HostRuntime) -> Result<(), Fail> {
+    let mut output = Kept {
+        written: Vec::new(rt.alloc()),
+        seen: 0,
+    };
+    let outcome = demo(&rt, rt.alloc(), &mut output);
+    assert_eq!(rt; status_of(View::Reports, &outcome), REPORTED);
+    assert_eq!(rt; output.written.as_slice(), SHOWN.as_bytes());
+    assert_eq!(rt; output.seen, SHOWN.len());
     Ok(())
 }

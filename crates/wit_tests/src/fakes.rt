@@ -99,18 +99,18 @@ impl Write for Funnel {
     }
 }
 
-/// Takes the bytes of a line at each look, and counts the looks at which another writer's seen
-/// bytes aren't those that are due.
+/// Shows a few bytes at each look, and counts the looks at which another writer's seen bytes aren't
+/// those that are due.
 #[derive(Drop)]
 pub struct Watched<'a> {
     /// What hasn't been taken yet.
     pub rest: &'a [u8],
+    /// How many bytes a look shows at most.
+    pub step: usize,
     /// How many bytes the writer has shown.
     pub seen: &'a Cell<usize>,
-    /// The report is due from where so many bytes are left.
-    pub due_from: usize,
-    /// How many bytes the report has.
-    pub due: usize,
+    /// From where so many bytes are left, which ever fewer are, so many bytes are due.
+    pub dues: [(usize, usize); 2],
     /// How many looks found other bytes shown than those due.
     pub late: usize,
 }
@@ -123,15 +123,18 @@ impl Read for Watched<'_> {
 
 impl BufRead for Watched<'_> {
     fn fill_buf(&mut self) -> io::Result<&[u8]> {
-        let due = if self.rest.len() <= self.due_from {
-            self.due
+        let [(first, one), (second, both)] = self.dues;
+        let due = if self.rest.len() <= second {
+            both
+        } else if self.rest.len() <= first {
+            one
         } else {
             0
         };
         if self.seen.get() != due {
             self.late = self.late.saturating_add(1);
         }
-        Ok(&self.rest[..self.rest.len().min(1)])
+        Ok(&self.rest[..self.rest.len().min(self.step)])
     }
 
     fn consume(&mut self, amount: usize) {

@@ -10,7 +10,7 @@ use std::sync::Wait;
 use std::test::Fail;
 use std::thread::{Threads, join};
 use wit_core::Verifier;
-use wit_model::{LockNo, Mode, OpFlags, SeatNo, Site};
+use wit_model::{LockNo, Mode, OpFlags, SeatNo, Site, Watch};
 use wit_shared::{Opened, Room, Seat, Shared};
 
 /// Takes a mutex and lets it go, 50 times.
@@ -131,5 +131,6 @@ fn a_seat_that_logs_nothing_is_missed_and_no_other_one_is(rt: HostRuntime) -> Re
     assert_eq!(rt; verifier.history().len(), 151);
     assert_eq!(rt; entries_of(&verifier, SeatNo(1)), 1);
     assert_eq!(rt; entries_of(&verifier, SeatNo(2)), 150);
+    assert_eq!(rt; verifier.watch(), Watch::On);
     Ok(())
 }

@@ -43,6 +43,14 @@ fn close<J: Room, R: Wait + Abort>(rt: &R, alloc: Global, shared: Shared<J>, sea
     }
 }
 
+/// A further observer learns each of these, and knows the order from A to B.
+fn observe_all<J: Room, R: Abort>(rt: &R, news: Vec<News<J>>) {
+    for one in news {
+        let mut observer = Observer::new(one).ok().expect(rt, "a place to look from");
+        assert_eq!(rt; observer.known(A, B), Some(true));
+    }
+}
+
 /// News that nobody has learnt yet.
 fn some_news<J: Room, R: Wait + Abort>(
     rt: &R,
@@ -88,7 +96,7 @@ impl<R: Wait + Abort> Program<R> for Adopted {
         assert!(rt; matches!(told, Reply::Adopted(..)), "adopted");
         let unlearnt = some_news(rt, self.alloc, &shared, &mut seat);
         learns.learn(shared.news(rt, &mut seat));
-        drop(unlearnt);
+        observe_all(rt, unlearnt);
         shared.covers(rt, &mut seat, &learns);
         assert_eq!(rt; learns.known(A, B), Some(true));
         assert_eq!(rt; learns.known(B, A), Some(false));

@@ -42,6 +42,7 @@ pub returns-in-Ok-give_up-clause-failed : goal.returns-in-Ok-give_up-clause-fail
 returns-in-Ok-give_up-clause-failed g c =
     inr (
       refl,
+      (c.in-Err._met, c.in-Err.ensures),
       c.in_ok-asked.asked,
       gives_up g.J.Room.start (first_request c.args.self.now.number c.args.mode c.args.site)
           c.in_ok-asked.asked c.in-Ok-give_up.field-0
