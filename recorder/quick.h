@@ -154,8 +154,8 @@ struct quick {
 /* Whether one of the locks before that place is the lock. */
 QUICK bool quick_is_held(const struct thread *thread, const struct held *held, const struct lock *lock)
 {
-    while (held-- != thread->held)
-        if (UNLIKELY(held->lock == lock))
+    while (held != thread->held)
+        if (UNLIKELY((--held)->lock == lock))
             return true;
     return false;
 }

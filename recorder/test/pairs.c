@@ -10,13 +10,14 @@
 enum { DEEPEST = 8, MOST = 64 };
 
 static int depth, rounds;
-static pthread_barrier_t begin, end;
+static pthread_barrier_t ready, begin, end;
 
 static void *run(void *unused)
 {
     pthread_mutex_t *locks = aligned_alloc(64, DEEPEST * 64);
     for (int i = 0; i < depth; i++)
         pthread_mutex_init(&locks[i], NULL);
+    pthread_barrier_wait(&ready);
     pthread_barrier_wait(&begin);
     for (int round = 0; round < rounds; round++) {
         for (int i = 0; i < depth; i++)
@@ -38,6 +39,7 @@ int main(int count, char **words)
     rounds = atoi(words[3]);
     if (depth < 1 || depth > DEEPEST)
         return 2;
+    pthread_barrier_init(&ready, NULL, (unsigned)threads + 1);
     pthread_barrier_init(&begin, NULL, (unsigned)threads + 1);
     pthread_barrier_init(&end, NULL, (unsigned)threads + 1);
     for (int i = 0; i < threads; i++) {
@@ -45,8 +47,10 @@ int main(int count, char **words)
         if (pthread_create(&thread, NULL, run, NULL) != 0)
             return 1;
     }
-    pthread_barrier_wait(&begin);
+    pthread_barrier_wait(&ready);
+    /* Before they may begin: a thread that is woken late would read the clock when they are done. */
     clock_gettime(CLOCK_PROCESS_CPUTIME_ID, &from);
+    pthread_barrier_wait(&begin);
     pthread_barrier_wait(&end);
     clock_gettime(CLOCK_PROCESS_CPUTIME_ID, &to);
     double seconds = (double)(to.tv_sec - from.tv_sec) + (double)(to.tv_nsec - from.tv_nsec) / 1e9;
