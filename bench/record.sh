@@ -2,9 +2,10 @@
 # Measures what the recorder costs: the nanoseconds of processor time that a pair of lock and unlock takes in a loop
 # that does nothing else, and its ratio to the plain loop. The loop runs plain, recorded, recorded with --held-callers
 # and with --full; with libwitness, awake and asleep, where its verifier stands built; under helgrind and drd where
-# valgrind is installed; and built by the compiler for ThreadSanitizer where that can be linked. Then it measures what taking and freeing a block costs while a mutex stands in the heap, the
-# processor time of node under work, and how long a recorder's file takes to become a trace. Of RUNS runs (5) the least
-# counts; the ways take turns, so that all meet the same machine. RECORDER names another recorder's folder, to compare.
+# valgrind is installed; and built by the compiler for ThreadSanitizer where that can be linked. Then it measures what a
+# start of a program takes, what taking and freeing a block costs while a mutex stands in the heap, the processor time of
+# node under work, and how long a recorder's file takes to become a trace. Of RUNS runs (5) the least counts; the ways take
+# turns, so that all meet the same machine. RECORDER names another recorder's folder, to compare.
 set -eu
 blocks=
 here=$(dirname "$(readlink -f "$0")")
@@ -13,6 +14,7 @@ folder=$(mktemp -d)
 trap 'rm -rf "$folder"' EXIT
 cc -O2 -pthread -o "$folder/pairs" "$here/../recorder/test/pairs.c"
 cc -O2 -pthread -o "$folder/frees" "$here/frees.c"
+cc -O2 -o "$folder/starts" "$here/starts.c"
 # This builds the recorder where it isn't there; no trace is replayed here.
 WITNESS=true "$recorder/record" -- true 2>/dev/null
 
@@ -70,6 +72,21 @@ for shape in "1 1" "2 1" "1 4" "2 4"; do
             '{ printf "%s %.1f (%.1f)", way, $1, $1 / plain }')"
     done
     echo "$line"
+done
+
+# A program whose thread takes two locks and ends.
+rm -rf "$folder/records"
+mkdir "$folder/records"
+for way in $ways; do
+    library=
+    case $way in
+    recorded) library="RECORDER_DIRECTORY=$folder/records LD_PRELOAD=$recorder/out/recorder.so" ;;
+    watched) library="WITNESS=1 WITNESS_LOG=$folder/log LD_PRELOAD=$folder/libwitness/libwitness.so" ;;
+    asleep) library="LD_PRELOAD=$folder/libwitness/libwitness.so" ;;
+    plain) ;;
+    *) continue ;;
+    esac
+    echo "a start, $way: $("$folder/starts" 200 $library "$folder/pairs" 2 1 1)"
 done
 
 # seconds COMMAND..: the processor time that it takes with its children.
