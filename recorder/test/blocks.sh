@@ -73,7 +73,7 @@ if wanted fewblocks; then
     compile blocks
     few/record --blocks -- ./blocks lost 2>recorded.err
     grep -q '^record: blocks: --blocks: of [1-9][0-9]* locks the block of memory isn.t known; they are told as without it$' recorded.err &&
-        grep -q '^acquiring duplicate lock of same type: "blocks.c:46<blocks.c:[0-9]*"$' recorded.err
+        grep -q '^acquiring duplicate lock of same type: "made(all\[\])<lost(pages\[\])"$' recorded.err
     tell fewblocks "locks whose blocks had no room" $?
     "$record" --blocks -- ./blocks lost 2>&1 | diff "$here/blocks.none.want" -
     tell fewblocks "a large table" $?
