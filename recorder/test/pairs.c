@@ -10,28 +10,38 @@
 enum { DEEPEST = 8, MOST = 64 };
 
 static int depth, rounds;
-static pthread_barrier_t ready, begin, end;
+static pthread_barrier_t begin, end;
 
-static void *run(void *unused)
+/* The nanoseconds that this thread has had. The clock of the process lacks what other threads have had since a tick. */
+static double nanoseconds(void)
+{
+    struct timespec time;
+    clock_gettime(CLOCK_THREAD_CPUTIME_ID, &time);
+    return (double)time.tv_sec * 1e9 + (double)time.tv_nsec;
+}
+
+static void *run(void *took)
 {
     pthread_mutex_t *locks = aligned_alloc(64, DEEPEST * 64);
     for (int i = 0; i < depth; i++)
         pthread_mutex_init(&locks[i], NULL);
-    pthread_barrier_wait(&ready);
     pthread_barrier_wait(&begin);
+    double from = nanoseconds();
     for (int round = 0; round < rounds; round++) {
         for (int i = 0; i < depth; i++)
             pthread_mutex_lock(&locks[i]);
         for (int i = depth; i-- > 0;)
             pthread_mutex_unlock(&locks[i]);
     }
+    *(double *)took = nanoseconds() - from;
     pthread_barrier_wait(&end);
-    return unused;
+    return NULL;
 }
 
 int main(int count, char **words)
 {
-    struct timespec from, to;
+    static double took[MOST];
+    double all = 0;
     int threads = count == 4 ? atoi(words[2]) : 0;
     if (threads < 1 || threads > MOST)
         return 2;
@@ -39,21 +49,17 @@ int main(int count, char **words)
     rounds = atoi(words[3]);
     if (depth < 1 || depth > DEEPEST)
         return 2;
-    pthread_barrier_init(&ready, NULL, (unsigned)threads + 1);
     pthread_barrier_init(&begin, NULL, (unsigned)threads + 1);
     pthread_barrier_init(&end, NULL, (unsigned)threads + 1);
     for (int i = 0; i < threads; i++) {
         pthread_t thread;
-        if (pthread_create(&thread, NULL, run, NULL) != 0)
+        if (pthread_create(&thread, NULL, run, &took[i]) != 0)
             return 1;
     }
-    pthread_barrier_wait(&ready);
-    /* Before they may begin: a thread that is woken late would read the clock when they are done. */
-    clock_gettime(CLOCK_PROCESS_CPUTIME_ID, &from);
     pthread_barrier_wait(&begin);
     pthread_barrier_wait(&end);
-    clock_gettime(CLOCK_PROCESS_CPUTIME_ID, &to);
-    double seconds = (double)(to.tv_sec - from.tv_sec) + (double)(to.tv_nsec - from.tv_nsec) / 1e9;
-    printf("%.1f\n", seconds * 1e9 / rounds / depth / threads);
+    for (int i = 0; i < threads; i++)
+        all += took[i];
+    printf("%.1f\n", all / rounds / depth / threads);
     return 0;
 }
