@@ -1,5 +1,5 @@
 use Rattle.std.proofs.Common.{vec_len}
-use Rattle.wit_soak.proofs.threads.let_all_go.Given as goal
+use Rattle.try_soak.proofs.threads.dismiss.Given as goal
 
 abbrev pub decreases-loop-worker : goal.decreases-loop-worker
 decreases-loop-worker g l = vec_len l.workers

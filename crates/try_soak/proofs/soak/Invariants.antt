@@ -1,4 +1,4 @@
-use Rattle.wit_soak.proofs.soak.Given as goal
+use Rattle.try_soak.proofs.soak.Given as goal
 
 abbrev pub ghosts-run-J-Naming : goal.ghosts-run-J-Naming
 ghosts-run-J-Naming g a = record { list = a.opened.list }

@@ -1,4 +1,4 @@
-use Rattle.wit_soak.proofs.rounds.+nest.Given as goal
+use Rattle.try_soak.proofs.rounds.+nest.Given as goal
 
 -- how many more locks are taken behind it
 abbrev pub decreases-nest : goal.decreases-nest
