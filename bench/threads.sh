@@ -44,7 +44,7 @@ use wit_core::Verifier;
 use wit_gates::{CondGate, Gate, SpinGate, Ticket};
 use wit_locks::{Mtx, abandon};
 use wit_model::{Class, FileNo, Limits, LockFlags, LockNo, Mode, OpFlags, SeatNo, Site, TypeNo};
-use wit_shared::{Observer, Opened, Room, Seat, Shared};
+use wit_shared::{Observer, OpenedVerifier, Room, Seat, Shared};
 
 const TURNS: u32 = 83_333; // Of each of four threads: a turn is three calls.
 const CLASS: Class = Class::SleepMutex;
@@ -169,7 +169,7 @@ fn run<
     G: Gate<Ticket = Ticket> + Drop + Send + Sync,
 >(
     rt: &R,
-    opened: Opened,
+    opened: OpenedVerifier,
     bench: Bench<G>,
 ) -> Option<()>
     requires { (opened.story.start ≡ J.start) × (opened.table ≡ J.table) × (opened.list ≡ J.list) }
@@ -193,7 +193,7 @@ fn begin<R: Threads + Wait + Clock + Print + Sync, G: Gate<Ticket = Ticket> + Dr
     rt: &R,
     bench: Bench<G>,
 ) -> Option<()> {
-    let opened = Opened::new(bench.alloc, verifier(bench.alloc)?).ok()?;
+    let opened = OpenedVerifier::new(bench.alloc, verifier(bench.alloc)?).ok()?;
     run::<Brand, R, G>(rt, opened, bench)
 }
 

@@ -35,7 +35,7 @@ use std::sync::Wait;
 use std::thread::Threads;
 use wit_core::Verifier;
 use wit_model::{Fault, Limits};
-use wit_shared::{Opened, Reason};
+use wit_shared::{OpenedVerifier, Reason};
 
 /// How many types, locks, chunks and entries there may be.
 pub(crate) const TYPES: u32 = 64;
@@ -68,7 +68,7 @@ fn soak<R: Threads + Wait + Sync>(rt: &R, alloc: Global, plan: Plan) -> Result<S
         Ok(verifier) => verifier,
         Err(refused) => return Err(refused.fault),
     };
-    match Opened::new(alloc, verifier) {
+    match OpenedVerifier::new(alloc, verifier) {
         Ok(opened) => run::<Brand, R>(rt, alloc, opened, plan),
         Err(refused) => Err(match refused.reason {
             Reason::HasEntries => Fault::UnknownSeat,

@@ -13,7 +13,7 @@ use std::sync::Wait;
 use std::thread::{self, Threads};
 use wit_core::Verifier;
 use wit_model::{Fault, FileNo, SeatNo};
-use wit_shared::{Observer, Opened, Room, Seat, Shared, Unclosed, abandon_all};
+use wit_shared::{Observer, OpenedVerifier, Room, Seat, Shared, Unclosed, abandon_all};
 
 // How often an observer looks, at most.
 const LOOKS: u32 = 1_000_000;
@@ -47,7 +47,7 @@ pub(crate) struct Soaked {
 pub(crate) fn run<J: Room + Send + Sync + 'static, R: Threads + Wait + Sync>(
     rt: &R,
     alloc: Global,
-    opened: Opened,
+    opened: OpenedVerifier,
     plan: Plan,
 ) -> Result<Soaked, Fault>
     requires name { (opened.story.start ≡ J.start) × (opened.table ≡ J.table)

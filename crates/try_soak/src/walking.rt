@@ -14,7 +14,7 @@ use wit_shared::{Look, Room};
 
 /// A call that the log keeps, but for the making of a lock.
 #[derive(Clone, Copy)]
-enum Step {
+enum LoggedCall {
     Define(LockNo, LockNo),
     Check(LockNo, Mode, Site),
     Note(LockNo),
@@ -60,25 +60,25 @@ pub(crate) fn walk<J: Room, R: Wait>(place: &Place<J, R>, worker: &mut Worker<J>
         return;
     };
     let taking = [
-        Step::Define(outer, inner),
-        Step::Check(outer, Mode::Shared, site),
-        Step::Note(outer),
-        Step::Upgrade(outer),
-        Step::Forbid(outer),
+        LoggedCall::Define(outer, inner),
+        LoggedCall::Check(outer, Mode::Shared, site),
+        LoggedCall::Note(outer),
+        LoggedCall::Upgrade(outer),
+        LoggedCall::Forbid(outer),
     ];
     go(place, worker, &taking);
     ask(place, worker, outer);
     ask_of_orders(place, worker, outer, inner);
     let leaving = [
-        Step::Allow(outer),
-        Step::Downgrade(outer),
-        Step::Check(inner, Mode::Exclusive, site),
-        Step::GiveUp(inner),
-        Step::Try(inner, Mode::Exclusive, site),
-        Step::Unlock(inner, Mode::Exclusive),
-        Step::Unlock(outer, Mode::Shared),
-        Step::Destroy(inner),
-        Step::Destroy(outer),
+        LoggedCall::Allow(outer),
+        LoggedCall::Downgrade(outer),
+        LoggedCall::Check(inner, Mode::Exclusive, site),
+        LoggedCall::GiveUp(inner),
+        LoggedCall::Try(inner, Mode::Exclusive, site),
+        LoggedCall::Unlock(inner, Mode::Exclusive),
+        LoggedCall::Unlock(outer, Mode::Shared),
+        LoggedCall::Destroy(inner),
+        LoggedCall::Destroy(outer),
     ];
     go(place, worker, &leaving);
 }
@@ -88,7 +88,7 @@ pub(crate) fn turn<J: Room, R: Wait>(place: &Place<J, R>, worker: &mut Worker<J>
     go(
         place,
         worker,
-        &[Step::Turn(Watch::Quiet), Step::Turn(Watch::On)],
+        &[LoggedCall::Turn(Watch::Quiet), LoggedCall::Turn(Watch::On)],
     );
 }
 
@@ -112,7 +112,7 @@ fn lock_named<J: Room, R: Wait>(
 }
 
 // Makes these calls, one after the other.
-fn go<J: Room, R: Wait>(place: &Place<J, R>, worker: &mut Worker<J>, steps: &[Step]) {
+fn go<J: Room, R: Wait>(place: &Place<J, R>, worker: &mut Worker<J>, steps: &[LoggedCall]) {
     for step in steps {
         if let Err(fault) = make(place, worker, *step) {
             worker.tally.refuse(fault);
@@ -125,32 +125,32 @@ fn go<J: Room, R: Wait>(place: &Place<J, R>, worker: &mut Worker<J>, steps: &[St
 fn make<J: Room, R: Wait>(
     place: &Place<J, R>,
     worker: &mut Worker<J>,
-    step: Step,
+    step: LoggedCall,
 ) -> Result<Reply, Fault> {
     let (rt, shared) = (place.rt, place.shared);
     let seat = &mut worker.seat;
     let ops = OpFlags::NEWORDER | OpFlags::FRESH;
     let answer = match step {
-        Step::Define(first, second) => shared.define_order(rt, seat, first, second),
-        Step::Check(lock, mode, site) => shared.check(rt, seat, lock, mode, ops, site),
-        Step::Note(lock) => shared.note(rt, seat, lock),
-        Step::Try(lock, mode, site) => shared.note_try(rt, seat, lock, mode, site),
-        Step::GiveUp(lock) => shared.give_up(rt, seat, lock),
-        Step::Unlock(lock, mode) => shared.unlock(rt, seat, lock, mode),
-        Step::Upgrade(lock) => shared.upgrade(rt, seat, lock),
-        Step::Downgrade(lock) => shared.downgrade(rt, seat, lock),
-        Step::Forbid(lock) => shared.norelease(rt, seat, lock),
-        Step::Allow(lock) => shared.releaseok(rt, seat, lock),
-        Step::Destroy(lock) => shared.destroy(rt, seat, lock),
-        Step::Turn(watch) => shared.set_watch(rt, seat, watch),
+        LoggedCall::Define(first, second) => shared.define_order(rt, seat, first, second),
+        LoggedCall::Check(lock, mode, site) => shared.check(rt, seat, lock, mode, ops, site),
+        LoggedCall::Note(lock) => shared.note(rt, seat, lock),
+        LoggedCall::Try(lock, mode, site) => shared.note_try(rt, seat, lock, mode, site),
+        LoggedCall::GiveUp(lock) => shared.give_up(rt, seat, lock),
+        LoggedCall::Unlock(lock, mode) => shared.unlock(rt, seat, lock, mode),
+        LoggedCall::Upgrade(lock) => shared.upgrade(rt, seat, lock),
+        LoggedCall::Downgrade(lock) => shared.downgrade(rt, seat, lock),
+        LoggedCall::Forbid(lock) => shared.norelease(rt, seat, lock),
+        LoggedCall::Allow(lock) => shared.releaseok(rt, seat, lock),
+        LoggedCall::Destroy(lock) => shared.destroy(rt, seat, lock),
+        LoggedCall::Turn(watch) => shared.set_watch(rt, seat, watch),
     };
     if answer.is_ok() {
         match step {
-            Step::Check(lock, ..) => worker.tally.add(Made::Check, lock),
-            Step::Note(lock) => worker.tally.add(Made::Note, lock),
-            Step::Try(lock, ..) => worker.tally.add(Made::Try, lock),
-            Step::GiveUp(lock) => worker.tally.add(Made::GiveUp, lock),
-            Step::Unlock(lock, _) => worker.tally.add(Made::Unlock, lock),
+            LoggedCall::Check(lock, ..) => worker.tally.add(Made::Check, lock),
+            LoggedCall::Note(lock) => worker.tally.add(Made::Note, lock),
+            LoggedCall::Try(lock, ..) => worker.tally.add(Made::Try, lock),
+            LoggedCall::GiveUp(lock) => worker.tally.add(Made::GiveUp, lock),
+            LoggedCall::Unlock(lock, _) => worker.tally.add(Made::Unlock, lock),
             _ => {}
         }
     }

@@ -5,12 +5,12 @@ use Rattle.std.proofs.lemmas.List.{append-nil}
 use mathlib.Core.List.{IsPrefix}
 use Rattle.std.proofs.lemmas.Bool.Decides.{nat_tests}
 use Rattle.logbook.specs.Pages.{Cell, cell}
-use Rattle.wit_adoptions.specs.declared.link.Link.{Link}
+use Rattle.wit_adoptions.specs.declared.link.ListLink.{ListLink}
 use Rattle.wit_adoptions.specs.Links.{orders_since, end_behind, AreUsedUp}
 
 -- ---- a longer book
 
-orders_more_by : (b : Bool) (end : ℕ) (l : Link) (links more : List Link)
+orders_more_by : (b : Bool) (end : ℕ) (l : ListLink) (links more : List ListLink)
     → orders_since l.next (links ++ more) ≡ orders_since l.next links
     ++ orders_since (end_behind l.next links) more
     → orders_since end (links ++ more) ≡ orders_since end links
@@ -26,7 +26,7 @@ orders_more_by true end l links more p q =
 orders_more_by false end l links more p q = q
 
 -- what is behind an end in a longer book is what was, and then what is behind the later end
-pub orders_more : (end : ℕ) (links more : List Link)
+pub orders_more : (end : ℕ) (links more : List ListLink)
     → orders_since end (links ++ more) ≡ orders_since end links
     ++ orders_since (end_behind end links) more
 orders_more end [] more = refl
@@ -34,7 +34,7 @@ orders_more end (l ∷ links) more =
     orders_more_by (l.end == end) end l links more (orders_more l.next links more)
     (orders_more end links more)
 
-end_more_by : (b : Bool) (end : ℕ) (l : Link) (links more : List Link)
+end_more_by : (b : Bool) (end : ℕ) (l : ListLink) (links more : List ListLink)
     → end_behind l.next (links ++ more) ≡ end_behind (end_behind l.next links) more
     → end_behind end (links ++ more) ≡ end_behind (end_behind end links) more
     → (if b then end_behind l.next (links ++ more) else end_behind end (links ++ more))
@@ -43,7 +43,7 @@ end_more_by true end l links more p q = p
 end_more_by false end l links more p q = q
 
 -- and so is the end
-pub end_more : (end : ℕ) (links more : List Link)
+pub end_more : (end : ℕ) (links more : List ListLink)
     → end_behind end (links ++ more) ≡ end_behind (end_behind end links) more
 end_more end [] more = refl
 end_more end (l ∷ links) more =
@@ -51,7 +51,7 @@ end_more end (l ∷ links) more =
     (end_more end links more)
 
 -- what is behind an end in a beginning of a book is a beginning of what is behind it in the book
-pub orders_begin : (end : ℕ) (links book : List Link) → IsPrefix links book
+pub orders_begin : (end : ℕ) (links book : List ListLink) → IsPrefix links book
     → IsPrefix (orders_since end links) (orders_since end book)
 orders_begin end links book begins = (
   orders_since (end_behind end links) begins.0,
@@ -61,7 +61,7 @@ orders_begin end links book begins = (
 
 -- ---- an end whose pen was not used up
 
-nothing_by : (cells : List Cell) (end : ℕ) (l : Link)
+nothing_by : (cells : List Cell) (end : ℕ) (l : ListLink)
     → (cell cells end).1 ≡ false → (cell cells l.end).1 ≡ true → (b : Bool)
     → (l.end == end) ≡ b → b ≡ false
 nothing_by cells end l away used false is = refl
@@ -70,7 +70,7 @@ nothing_by cells end l away used true is =
     absurd (cc (used, away, ap (λ k. (cell cells k).1) same))
 
 -- nothing is behind it
-pub nothing_behind : (cells : List Cell) (end : ℕ) (links : List Link)
+pub nothing_behind : (cells : List Cell) (end : ℕ) (links : List ListLink)
     → (cell cells end).1 ≡ false → AreUsedUp cells links
     → (orders_since end links ≡ []) × (end_behind end links ≡ end)
 nothing_behind cells end [] away used = (refl, refl)
@@ -79,18 +79,18 @@ nothing_behind cells end (l ∷ links) away used =
     rw other (nothing_behind cells end links away used.1)
 
 -- of a longer book the links that came later are used up too
-pub used_later : (cells : List Cell) (links more : List Link) → AreUsedUp cells (links ++ more)
+pub used_later : (cells : List Cell) (links more : List ListLink) → AreUsedUp cells (links ++ more)
     → AreUsedUp cells more
 used_later cells [] more used = used
 used_later cells (l ∷ links) more used = used_later cells links more used.1
 
-pub used_with : (cells : List Cell) (links more : List Link) → AreUsedUp cells links
+pub used_with : (cells : List Cell) (links more : List ListLink) → AreUsedUp cells links
     → AreUsedUp cells more → AreUsedUp cells (links ++ more)
 used_with cells [] more used late = late
 used_with cells (l ∷ links) more used late = (used.0, used_with cells links more used.1 late)
 
 -- so a list with this end has only what was seen of it
-pub all_seen : (cells : List Cell) (start end : ℕ) (links book : List Link)
+pub all_seen : (cells : List Cell) (start end : ℕ) (links book : List ListLink)
     → (cell cells end).1 ≡ false → AreUsedUp cells book → IsPrefix links book
     → end_behind start links ≡ end
     → (orders_since start book ≡ orders_since start links) × (end_behind start book ≡ end)

@@ -7,16 +7,16 @@ use Rattle.std.proofs.lemmas.Bool.Decides.{nat_tests}
 use mathlib.Core.List.{IsPrefix}
 use prog.Atomic.{either}
 use Rattle.logbook.specs.Pages.{Cell, cell, Nib, keeps, gives, adds, no_nib, may_write, step, Moves}
-use Rattle.wit_adoptions.specs.declared.link.Link.{Link}
+use Rattle.wit_adoptions.specs.declared.link.ListLink.{ListLink}
 use Rattle.wit_adoptions.specs.Links.{orders_since, end_behind, IsUsedUp, AreUsedUp, IsKept}
 use Rattle.wit_adoptions.specs.Steps.{Ends, Covers, Adds}
 use Rattle.wit_adoptions.proofs.Ends.{orders_more, end_more, all_seen, used_with}
 use Rattle.wit_adoptions.proofs.Fronts.{begins_through}
 
-abbrev pub shown : List Link → List Link
+abbrev pub shown : List ListLink → List ListLink
 shown links = []
 
-abbrev pub moved : List Link → List Link → ℕ → Type 0
+abbrev pub moved : List ListLink → List ListLink → ℕ → Type 0
 moved before after answer = Unit {0}
 
 -- the word stays as it is
@@ -55,14 +55,14 @@ length_set (d ∷ cells) zero c = refl
 length_set (d ∷ cells) (suc i) c = ap suc (length_set cells i c)
 
 -- whatever stays at home
-used_still : (cells later : List Cell) (links : List Link)
+used_still : (cells later : List Cell) (links : List ListLink)
     → ((k : ℕ) → IsUsedUp cells k → IsUsedUp later k)
     → AreUsedUp cells links → AreUsedUp later links
 used_still cells later [] home used = used
 used_still cells later (l ∷ links) home used =
     (home l.end used.0, used_still cells later links home used.1)
 
-kept_still : (cells later : List Cell) (links : List Link)
+kept_still : (cells later : List Cell) (links : List ListLink)
     → ((k : ℕ) → IsUsedUp cells k → IsUsedUp later k)
     → IsKept cells links → IsKept later (links ++ [])
 kept_still cells later links home kept =
@@ -75,7 +75,7 @@ kept_still cells later links home kept =
 -- ---- lists
 
 -- with a link at its end a list has the link's orders more
-added : (start : ℕ) (ask : Link) (seen links : List Link)
+added : (start : ℕ) (ask : ListLink) (seen links : List ListLink)
     → (orders_since start links ≡ orders_since start seen) × (end_behind start links ≡ ask.end)
     → (orders_since start (links ++ ask ∷ []) ≡ orders_since start seen ++ ask.orders)
     × (end_behind start (links ++ ask ∷ []) ≡ ask.next)
@@ -90,7 +90,7 @@ added start ask seen links all =
 -- ---- steps
 
 -- an end is made, and nothing is added
-pub ends_moves : (seen : List Link) (ask : Link)
+pub ends_moves : (seen : List ListLink) (ask : ListLink)
     → Moves IsKept shown moved 0 (seen, (no_nib, None)) still
     (Ends (step 0 0 0 ask) (seen, (no_nib, None)))
 ends_moves seen ask cells links kept begins away =
@@ -114,7 +114,7 @@ ends_moves seen ask cells links kept begins away =
     )
 
 -- what the pen's list is, is found
-pub covers_moves : (seen : List Link) (ask : Link) (pen : Nib) → pen.right ≡ may_write
+pub covers_moves : (seen : List ListLink) (ask : ListLink) (pen : Nib) → pen.right ≡ may_write
     → Moves IsKept shown moved 0 (seen, (pen, None)) still
     (Covers (step 0 0 0 ask) (seen, (pen, None)))
 covers_moves seen ask pen right cells links kept begins away =
@@ -142,7 +142,7 @@ covers_moves seen ask pen right cells links kept begins away =
     )
 
 -- the link is added, and its pen used up
-pub adds_moves : (seen : List Link) (ask : Link) (pen : Nib) → pen.right ≡ may_write
+pub adds_moves : (seen : List ListLink) (ask : ListLink) (pen : Nib) → pen.right ≡ may_write
     → pen.key ≡ ask.end
     → Moves IsKept shown moved 0 (seen, (pen, None)) still
     (Adds (step 0 0 0 ask) (seen, (pen, None)))

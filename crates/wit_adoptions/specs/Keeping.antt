@@ -2,7 +2,7 @@
 use Rattle.std.specs.Prelude.{◌≡◌, true, List, []}
 use Rattle.logbook.specs.Pages.{Book, Named, may_write}
 use Rattle.logbook.specs.declared.tokens.Pen.{Pen}
-use Rattle.wit_adoptions.specs.declared.link.Link.{Link}
+use Rattle.wit_adoptions.specs.declared.link.ListLink.{ListLink}
 use Rattle.wit_adoptions.specs.Links.{end_behind}
 use Rattle.wit_adoptions.specs.Naming.{Name, Sheet, IsOf, name, sheet}
 
@@ -23,6 +23,6 @@ IsKeeping name head s pen =
     × (end_behind name.start s.links ≡ pen.nib.key)
 
 -- nothing was seen of the book, and the list begins with the pen's end
-abbrev pub IsNewKeeper : Named → Book → List Link → Pen → Type 0
-IsNewKeeper head book links pen =
+abbrev pub IsNewListKeeper : Named → Book → List ListLink → Pen → Type 0
+IsNewListKeeper head book links pen =
     (links ≡ []) × IsKeeping (name book pen.nib.key) head (sheet book links 0) pen

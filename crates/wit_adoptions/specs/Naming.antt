@@ -2,7 +2,7 @@
 use Rattle.std.specs.Prelude.{ℕ, ◌≡◌, List, length}
 use Rattle.logbook.specs.Pages.{Book}
 use Rattle.wit_model.specs.declared.calls.Adoption.{Adoption}
-use Rattle.wit_adoptions.specs.declared.link.Link.{Link}
+use Rattle.wit_adoptions.specs.declared.link.ListLink.{ListLink}
 use Rattle.wit_adoptions.specs.Links.{orders_since}
 
 -- which list of adopted orders it is: the book that it stands in, and its first end there
@@ -13,13 +13,13 @@ pub record Name : Type 0 where
 -- what was seen of a book, and a count
 pub record Sheet : Type 0 where
   pub book : Book
-  pub links : List Link
+  pub links : List ListLink
   pub count : ℕ
 
 abbrev pub name : Book → ℕ → Name
 name book start = record { book = book; start = start }
 
-abbrev pub sheet : Book → List Link → ℕ → Sheet
+abbrev pub sheet : Book → List ListLink → ℕ → Sheet
 sheet book links count = record { book = book; links = links; count = count }
 
 -- the orders of the list with this name that stand on the sheet, oldest first

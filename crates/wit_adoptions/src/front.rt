@@ -5,7 +5,7 @@ ghost use Rattle.wit_adoptions.specs.Fronts.{Compares};
 ghost use Rattle.wit_adoptions.specs.Naming.{IsOf, orders_on};
 
 use crate::law::Law;
-use crate::link::Link;
+use crate::link::ListLink;
 use crate::naming::Naming;
 use crate::page::Page;
 use logbook::Seen;
@@ -17,7 +17,7 @@ use std::marker::{Model, PhantomData};
 #[derive(Drop)]
 pub struct Front<J: Naming> {
     pub(crate) count: u64,
-    pub(crate) seen: Seen<Link, u64, Law>,
+    pub(crate) seen: Seen<ListLink, u64, Law>,
     of: PhantomData<J>,
 }
 

@@ -6,64 +6,65 @@ ghost use Rattle.wit_adoptions.specs.Keeping.{IsUnused, head_of};
 
 use crate::front::Front;
 use crate::law::{Adding, Covering, Ending, Growth, Law, Nothing};
-use crate::link::Link;
+use crate::link::ListLink;
 use crate::naming::Naming;
 use crate::page::Page;
 use logbook::{Offer, Pen, Seen, Start, Word};
 use std::marker::{Model, PhantomData};
 use wit_model::Adoption;
 
-// What the word holds at which steps are taken, before and after each.
+// What the word holds at which steps are taken, before and after each. So each `compare_exchange`
+// here is a ghost step: it changes nothing that runs, and what proofs know of the book goes on.
 const STILL: u64 = 0;
 
 // A pen for an end that is new in the book.
-fn new_end(head: &Word<Link, u64, Law>, seen: &Seen<Link, u64, Law>) -> Pen
+fn new_end(head: &Word<ListLink, u64, Law>, seen: &Seen<ListLink, u64, Law>) -> Pen
     requires { head.now ≡ head_of seen.now.book }
     ensures { IsUnused seen.now.book result }
 {
     let mut now = seen.again();
-    let mut offer: Offer<Link, u64, Law, Nothing> = now.plain::<Nothing, (), Covering>(&());
+    let mut offer: Offer<ListLink, u64, Law, Nothing> = now.plain::<Nothing, (), Covering>(&());
     let mut pen = now.no_pen();
     let _ = head.compare_exchange::<Ending, Nothing>(STILL, STILL, &mut now, &mut offer, &mut pen);
-    let _word: Word<Link, u64, Law> = Word::tracked(STILL, &mut pen);
+    let _word: Word<ListLink, u64, Law> = Word::tracked(STILL, &mut pen);
     pen
 }
 
 /// A new list, as yet with no name. Contracts see it as the name that it is to have.
 #[derive(Drop)]
-pub struct Opened {
-    head: Word<Link, u64, Law>,
-    seen: Seen<Link, u64, Law>,
+pub struct OpenedList {
+    head: Word<ListLink, u64, Law>,
+    seen: Seen<ListLink, u64, Law>,
     pen: Pen,
 }
 
-impl Model for Opened {
-    ghost use Rattle.wit_adoptions.specs.Keeping.{IsNewKeeper};
+impl Model for OpenedList {
+    ghost use Rattle.wit_adoptions.specs.Keeping.{IsNewListKeeper};
     ghost use Rattle.wit_adoptions.specs.Naming.{Name, name};
 
     ghost Value = { Name };
 
     ghost view = { λ o. name o.seen.book o.pen.nib.key };
 
-    ghost invariant = { λ o. IsNewKeeper o.head o.seen.book o.seen.log o.pen };
+    ghost invariant = { λ o. IsNewListKeeper o.head o.seen.book o.seen.log o.pen };
 }
 
-impl Opened {
+impl OpenedList {
     /// A list with no orders. It takes no memory.
-    pub fn new() -> Opened {
+    pub fn new() -> OpenedList {
         let (seen, mut first, _second) = Seen::open(Start::alone(), STILL, STILL);
         let head = Word::tracked(STILL, &mut first);
         let pen = new_end(&head, &seen);
-        Opened { head, seen, pen }
+        OpenedList { head, seen, pen }
     }
 
     /// The list's adder, under the name that the list is to have.
-    pub fn named<J: Naming>(self) -> Keeper<J>
+    pub fn named<J: Naming>(self) -> ListKeeper<J>
         requires { self ≡ J.list }
         ensures { result ≡ [] }
     {
-        let Opened { head, seen, pen } = self;
-        Keeper {
+        let OpenedList { head, seen, pen } = self;
+        ListKeeper {
             count: 0,
             head,
             seen,
@@ -76,16 +77,16 @@ impl Opened {
 /// The one adder of a list of adopted orders. Contracts see it as the whole list, oldest order
 /// first. No call copies it, and none takes memory.
 #[derive(Drop)]
-pub struct Keeper<J: Naming> {
+pub struct ListKeeper<J: Naming> {
     count: u64,
-    head: Word<Link, u64, Law>,
-    seen: Seen<Link, u64, Law>,
+    head: Word<ListLink, u64, Law>,
+    seen: Seen<ListLink, u64, Law>,
     // The list's end.
     pen: Pen,
     of: PhantomData<J>,
 }
 
-impl<J: Naming> Model for Keeper<J> {
+impl<J: Naming> Model for ListKeeper<J> {
     ghost use Rattle.std.specs.Prelude.{List};
     ghost use Rattle.wit_model.specs.declared.calls.Adoption.{Adoption};
     ghost use Rattle.wit_adoptions.specs.Keeping.{IsKeeping};
@@ -98,7 +99,7 @@ impl<J: Naming> Model for Keeper<J> {
     ghost invariant = { λ k. IsKeeping J.list k.head (sheet k.seen.book k.seen.log k.count) k.pen };
 }
 
-impl<J: Naming> Keeper<J> {
+impl<J: Naming> ListKeeper<J> {
     /// How many orders the list has.
     pub fn len(&self) -> u64
         ensures { result ≡ length self.now }
@@ -122,7 +123,7 @@ impl<J: Naming> Keeper<J> {
         ensures { self.new ≡ self.old ++ orders.now }
     {
         let next = new_end(&self.head, &self.seen);
-        let mut offer: Offer<Link, u64, Law, Nothing> = self
+        let mut offer: Offer<ListLink, u64, Law, Nothing> = self
             .seen
             .plain::<Nothing, Growth<'_>, Adding>(&Growth {
                 end: &self.pen,
@@ -149,7 +150,9 @@ impl<J: Naming> Keeper<J> {
     {
         let mut both = self.seen.again();
         both.learn(&front.seen);
-        let mut offer: Offer<Link, u64, Law, Nothing> = both.plain::<Nothing, (), Covering>(&());
+        let mut offer: Offer<ListLink, u64, Law, Nothing> = both.plain::<Nothing, (), Covering>(
+            &(),
+        );
         let _ = self
             .head
             .compare_exchange::<Covering, Nothing>(

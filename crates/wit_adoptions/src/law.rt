@@ -1,13 +1,13 @@
 //! The rule of a book of adopted orders, and the steps under it.
 
-use crate::link::Link;
+use crate::link::ListLink;
 use logbook::{Gain, Pen, Plain, Play, Rule};
 use wit_model::Adoption;
 
 /// The rule: behind an end is added once, by whoever has its pen.
 pub struct Law;
 
-impl Rule<Link, u64> for Law {
+impl Rule<ListLink, u64> for Law {
     ghost use Rattle.std.specs.Prelude.{[]};
     ghost use base.Fml.{ftrue};
     ghost use Rattle.wit_adoptions.specs.Links.{IsKept};
@@ -28,7 +28,7 @@ impl Rule<Link, u64> for Law {
 /// Steps trade nothing.
 pub struct Nothing;
 
-impl Gain<Link, u64> for Nothing {
+impl Gain<ListLink, u64> for Nothing {
     ghost use base.Fml.{ftrue};
 
     ghost after = { λ names about answer. ftrue };
@@ -37,7 +37,7 @@ impl Gain<Link, u64> for Nothing {
 /// Makes an end.
 pub struct Ending;
 
-impl Play<Link, u64> for Ending {
+impl Play<ListLink, u64> for Ending {
     ghost use Rattle.wit_adoptions.specs.Steps.{Ends};
 
     ghost then = { Ends };
@@ -46,7 +46,7 @@ impl Play<Link, u64> for Ending {
 /// Adds behind the pen's end.
 pub struct Adding;
 
-impl Play<Link, u64> for Adding {
+impl Play<ListLink, u64> for Adding {
     ghost use Rattle.wit_adoptions.specs.Steps.{Adds};
 
     ghost then = { Adds };
@@ -55,7 +55,7 @@ impl Play<Link, u64> for Adding {
 /// Looks whether anything was added behind the pen's end.
 pub struct Covering;
 
-impl Play<Link, u64> for Covering {
+impl Play<ListLink, u64> for Covering {
     ghost use Rattle.wit_adoptions.specs.Steps.{Covers};
 
     ghost then = { Covers };
@@ -70,7 +70,7 @@ pub struct Growth<'a> {
 }
 
 /// What a step asks for: the link.
-impl<'a> Plain<Growth<'a>, Link, u64> for Adding {
+impl<'a> Plain<Growth<'a>, ListLink, u64> for Adding {
     ghost use Rattle.std.specs.Prelude.{None};
     ghost use Rattle.wit_adoptions.specs.Links.{link};
 
@@ -80,7 +80,7 @@ impl<'a> Plain<Growth<'a>, Link, u64> for Adding {
 }
 
 /// A step that adds nothing asks for nothing.
-impl Plain<(), Link, u64> for Covering {
+impl Plain<(), ListLink, u64> for Covering {
     ghost use Rattle.std.specs.Prelude.{None, []};
     ghost use Rattle.wit_adoptions.specs.Links.{link};
 

@@ -11,11 +11,11 @@ mod page;
 mod program;
 
 pub use front::Front;
-pub use keeper::{Keeper, Opened};
+pub use keeper::{ListKeeper, OpenedList};
 #[doc(hidden)]
 pub use law::Law;
 #[doc(hidden)]
-pub use link::Link;
+pub use link::ListLink;
 pub use naming::Naming;
 pub use page::Page;
 pub use program::{Program, keep};

@@ -4,7 +4,7 @@ use std::collections::LinkedList;
 use wit_model::Adoption;
 
 /// Some orders, added behind one end of a list, which then has another end. No value of it is made.
-pub struct Link {
+pub struct ListLink {
     /// The end behind which they were added.
     pub end: u64,
     /// The end since.

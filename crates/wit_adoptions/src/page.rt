@@ -3,7 +3,7 @@
 ghost use Rattle.std.specs.Prelude.{◌≡◌};
 
 use crate::law::Law;
-use crate::link::Link;
+use crate::link::ListLink;
 use logbook::Seen;
 use std::marker::Model;
 
@@ -13,7 +13,7 @@ use std::marker::Model;
 #[derive(Drop)]
 pub struct Page {
     pub(crate) count: u64,
-    pub(crate) seen: Seen<Link, u64, Law>,
+    pub(crate) seen: Seen<ListLink, u64, Law>,
 }
 
 impl Model for Page {

@@ -2,7 +2,7 @@
 
 ghost use Rattle.std.specs.Prelude.{◌≡◌, []};
 
-use crate::keeper::{Keeper, Opened};
+use crate::keeper::{ListKeeper, OpenedList};
 use crate::naming::Naming;
 use std::marker::Brand;
 
@@ -17,7 +17,7 @@ pub trait Program {
     ghost done: { Self → Self.Out → Type 0 };
 
     /// Runs the program on a list with no orders.
-    fn run<J: Naming + Send + Sync>(self, keeper: Keeper<J>) -> Self::Out
+    fn run<J: Naming + Send + Sync>(self, keeper: ListKeeper<J>) -> Self::Out
         requires { keeper ≡ [] }
         ensures { done self result };
 }
@@ -26,10 +26,10 @@ pub trait Program {
 pub fn keep<S: Program>(program: S) -> S::Out
     ensures { S.done program result }
 {
-    keep_as::<Brand, S>(Opened::new(), program)
+    keep_as::<Brand, S>(OpenedList::new(), program)
 }
 
-fn keep_as<J: Naming + Send + Sync, S: Program>(opened: Opened, program: S) -> S::Out
+fn keep_as<J: Naming + Send + Sync, S: Program>(opened: OpenedList, program: S) -> S::Out
     requires { opened ≡ J.list }
     ensures { S.done program result }
 {

@@ -1,6 +1,6 @@
 //! A list that is added to, and beginnings of it.
 
-use crate::{Front, Keeper, Naming, Program, keep};
+use crate::{Front, ListKeeper, Naming, Program, keep};
 use std::cmp::Ordering;
 use std::test::Fail;
 use wit_model::{Adoption, Origin, TypeNo};
@@ -14,7 +14,7 @@ fn order(parent: u16, child: u16) -> Adoption {
 }
 
 /// Adds to a list that isn't long.
-fn grow<J: Naming>(keeper: &mut Keeper<J>, orders: &[Adoption]) {
+fn grow<J: Naming>(keeper: &mut ListKeeper<J>, orders: &[Adoption]) {
     if keeper.len() < 1000 && orders.len() < 1000 {
         keeper.add(orders);
     }
@@ -33,7 +33,7 @@ impl Program for Calls {
 
     ghost done = { λ program out. Unit {0} };
 
-    fn run<J: Naming + Send + Sync>(self, mut keeper: Keeper<J>) -> Result<(), Fail> {
+    fn run<J: Naming + Send + Sync>(self, mut keeper: ListKeeper<J>) -> Result<(), Fail> {
         let none = keeper.front();
         grow(&mut keeper, &[order(1, 2), order(2, 3)]);
         let two = keeper.front();

@@ -12,7 +12,7 @@ use std::sync::Wait;
 use std::thread::Threads;
 use wit_core::Verifier;
 use wit_model::{Cause, Fault, Limits};
-use wit_shared::{Opened, Reason};
+use wit_shared::{OpenedVerifier, Reason};
 use wit_stream::{ReplayError, Summary};
 
 /// Shows what the verifier does for threads: four of them take a mutex `A` and then a mutex `B` a
@@ -56,7 +56,7 @@ fn show<R: Threads + Wait + Sync>(rt: &R, alloc: Global) -> Result<Verifier, Fau
         Ok(verifier) => verifier,
         Err(refused) => return Err(refused.fault),
     };
-    match Opened::new(alloc, verifier) {
+    match OpenedVerifier::new(alloc, verifier) {
         Ok(opened) => run::<Brand, R>(rt, alloc, opened),
         Err(refused) => Err(match refused.reason {
             Reason::HasEntries => unreachable!(),

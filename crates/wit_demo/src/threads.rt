@@ -11,7 +11,7 @@ use wit_core::Verifier;
 use wit_gates::CondGate;
 use wit_locks::Mtx;
 use wit_model::{Fault, LockFlags};
-use wit_shared::{Opened, Room, Seat, Shared, abandon_all};
+use wit_shared::{OpenedVerifier, Room, Seat, Shared, abandon_all};
 
 /// Runs the demonstration, and gives the verifier back. Where a thread can't be started its work is
 /// done in this one.
@@ -21,7 +21,7 @@ use wit_shared::{Opened, Room, Seat, Shared, abandon_all};
 pub(crate) fn run<J: Room + Send + Sync, R: Threads + Wait + Sync>(
     rt: &R,
     alloc: Global,
-    opened: Opened,
+    opened: OpenedVerifier,
 ) -> Result<Verifier, Fault>
     requires { (opened.story.start ≡ J.start) × (opened.table ≡ J.table) × (opened.list ≡ J.list) }
     ensures { IfOk result (λ v. v.start ≡ J.start) }

@@ -6,21 +6,21 @@ use Rattle.wit_model.specs.declared.calls.Reply.{Reply}
 use Rattle.wit_model.specs.declared.calls.Request.{Request}
 use Rattle.wit_model.specs.Rules.State.{Start}
 use Rattle.wit_model.specs.Rules.Step.{Answers}
-use Rattle.wit_seats.specs.declared.views.Known.{Known}
+use Rattle.wit_seats.specs.declared.views.SeatKnowledge.{SeatKnowledge}
 use Rattle.wit_shared.specs.Own.{Leaves}
 use Rattle.wit_locks.specs.Locking.{Acquires, IsMade}
 
 -- a lock was acquired by this request, and released right after it
-pub record Visits (start : Start) (q : Request) (v w : Known) : Type 0 where
-  pub inside : Known
+pub record Visits (start : Start) (q : Request) (v w : SeatKnowledge) : Type 0 where
+  pub inside : SeatKnowledge
   pub asked : Option Reply
   pub noted : Reply
   pub acquired : Acquires start q asked noted v inside
   pub released : IsMade Answers start (Unlock q.lock q.mode) inside w
 
 -- it was acquired, and its release was refused with this fault
-pub record Stays (start : Start) (q : Request) (fault : Fault) (v w : Known) : Type 0 where
-  pub inside : Known
+pub record Stays (start : Start) (q : Request) (fault : Fault) (v w : SeatKnowledge) : Type 0 where
+  pub inside : SeatKnowledge
   pub asked : Option Reply
   pub noted : Reply
   pub acquired : Acquires start q asked noted v inside

@@ -12,7 +12,7 @@ use Rattle.wit_model.specs.declared.calls.Reply.TheVariants.{Done}
 use Rattle.wit_model.specs.declared.calls.Request.{Request}
 use Rattle.wit_model.specs.Rules.State.{Start, Story}
 use Rattle.wit_model.specs.Rules.Step.{Answers, AnswersOrFails, is_logged}
-use Rattle.wit_seats.specs.declared.views.Known.{Known}
+use Rattle.wit_seats.specs.declared.views.SeatKnowledge.{SeatKnowledge}
 use Rattle.wit_shared.specs.Own.{Leaves}
 
 -- a lock that isn't held is asked for: an order may be learnt, and the holder isn't to have it
@@ -28,37 +28,39 @@ next_request lock mode site =
 -- a call was accepted and logged: of the seat's own entries its entry is the latest, and the others
 -- are as before
 abbrev pub Enters : (Story → ℕ → Call → Result Reply Fault → Story → Type 0) → Start → Call → Reply
-    → Known → Known → Type 0
+    → SeatKnowledge → SeatKnowledge → Type 0
 Enters rules start call reply v w =
     (is_logged reply ≡ true) × Leaves rules start call (Ok reply) v w
 
 -- two calls were, the second right behind the first
 pub record EntersBoth (start : Start) (first : Call) (one : Reply) (second : Call) (other : Reply)
-    (v w : Known) : Type 0 where
-  pub between : Known
+    (v w : SeatKnowledge) : Type 0 where
+  pub between : SeatKnowledge
   pub earlier : Enters AnswersOrFails start first one v between
   pub later : Enters Answers start second other between w
 
 -- an acquisition: the check, and the note
-abbrev pub Acquires : Start → Request → Option Reply → Reply → Known → Known → Type 0
+abbrev pub Acquires : Start → Request → Option Reply → Reply → SeatKnowledge → SeatKnowledge
+    → Type 0
 Acquires start q None noted v w = ⊥
 Acquires start q (Some asked) noted v w = EntersBoth start (Check q) asked (Note q.lock) noted v w
 
 -- none: the check was refused, which left nothing; or the gate was met so that it refuses, and the
 -- request was given up
-abbrev pub FailsToAcquire : Start → Request → Type 0 → Fault → Known → Known → Type 0
+abbrev pub FailsToAcquire : Start → Request → Type 0 → Fault → SeatKnowledge → SeatKnowledge
+    → Type 0
 FailsToAcquire start q shut fault v w =
     Leaves AnswersOrFails start (Check q) (Err fault) v w
     ⊎ ((fault ≡ GateRefused) × shut × (asked : Reply)
     × EntersBoth start (Check q) asked (GiveUp q.lock) Done v w)
 
 -- no further acquisition: the check was refused, or the lock was acquired as often as it can be
-abbrev pub FailsToRecurse : Start → Request → ℕ → Fault → Known → Known → Type 0
+abbrev pub FailsToRecurse : Start → Request → ℕ → Fault → SeatKnowledge → SeatKnowledge → Type 0
 FailsToRecurse start q depth fault v w =
     Leaves AnswersOrFails start (Check q) (Err fault) v w
     ⊎ ((fault ≡ RecursionTooDeep) × (65535 ≤ depth) × (w ≡ v))
 
 -- a call was accepted, and may have been passed over
-abbrev pub IsMade : (Story → ℕ → Call → Result Reply Fault → Story → Type 0) → Start → Call → Known
-    → Known → Type 0
+abbrev pub IsMade : (Story → ℕ → Call → Result Reply Fault → Story → Type 0) → Start → Call
+    → SeatKnowledge → SeatKnowledge → Type 0
 IsMade rules start call v w = (reply : Reply) × Leaves rules start call (Ok reply) v w

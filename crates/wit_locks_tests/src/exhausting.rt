@@ -14,7 +14,7 @@ use wit_core::Verifier;
 use wit_gates::CondGate;
 use wit_locks::Mtx;
 use wit_model::{Limits, Reply, Site, Watch};
-use wit_shared::{Opened, Room, Seat, Shared};
+use wit_shared::{OpenedVerifier, Room, Seat, Shared};
 
 /// Five mutexes, whose holder has all instances there are.
 struct Five<J: Room> {
@@ -112,7 +112,7 @@ fn exhaust<R: Wait + Abort, J: Room>(
 fn run_out<J: Room + Send + Sync, R: Threads + Wait + Abort + Sync>(
     rt: &R,
     alloc: Global,
-    opened: Opened,
+    opened: OpenedVerifier,
 ) -> Verifier
     requires { (opened.story.start ≡ J.start) × (opened.table ≡ J.table) × (opened.list ≡ J.list) }
 {

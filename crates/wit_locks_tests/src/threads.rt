@@ -15,7 +15,7 @@ use std::thread::{self, Threads, join};
 use wit_gates::{CondGate, Gate, Met};
 use wit_locks::Mtx;
 use wit_model::{Fault, Mode, Site};
-use wit_shared::{Opened, Room, Seat, Shared};
+use wit_shared::{OpenedVerifier, Room, Seat, Shared};
 
 // How often a thread looks whether the other one has got on.
 const LOOKS: u32 = 1_000_000;
@@ -133,7 +133,7 @@ fn take_meanwhile<J: Room, R: Wait + Abort>(
 fn wait_for_one_another<J: Room + Send + Sync, R: Threads + Wait + Abort + Sync>(
     rt: &R,
     alloc: Global,
-    opened: Opened,
+    opened: OpenedVerifier,
     signals: &Signals,
 ) -> Result<bool, Fault>
     requires { (opened.story.start ≡ J.start) × (opened.table ≡ J.table) × (opened.list ≡ J.list) }

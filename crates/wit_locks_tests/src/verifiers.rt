@@ -11,7 +11,7 @@ use wit_core::Verifier;
 use wit_gates::Gate;
 use wit_locks::Mtx;
 use wit_model::{Limits, LockFlags, Site};
-use wit_shared::{Opened, Program, Room, Seat, Shared, share};
+use wit_shared::{OpenedVerifier, Program, Room, Seat, Shared, share};
 
 /// Limits for a few seats and locks, and for a log of so many entries.
 fn limits<R: Abort>(rt: &R, seats: u32, log: u32) -> Limits {
@@ -122,18 +122,20 @@ pub(crate) fn pair_of<R: Abort, J: Room>(
 }
 
 /// A verifier that is about to be shared.
-pub(crate) fn opened<R: Abort>(rt: &R, alloc: Global, seats: u32, log: u32) -> Opened {
+pub(crate) fn opened<R: Abort>(rt: &R, alloc: Global, seats: u32, log: u32) -> OpenedVerifier {
     opened_within(rt, alloc, limits(rt, seats, log))
 }
 
 /// One of these limits.
-pub(crate) fn opened_within<R: Abort>(rt: &R, alloc: Global, limits: Limits) -> Opened {
+pub(crate) fn opened_within<R: Abort>(rt: &R, alloc: Global, limits: Limits) -> OpenedVerifier {
     let verifier = verifier_within(rt, alloc, limits);
-    Opened::new(alloc, verifier).ok().expect(rt, "memory")
+    OpenedVerifier::new(alloc, verifier)
+        .ok()
+        .expect(rt, "memory")
 }
 
 /// The shared verifier, which nobody observes.
-pub(crate) fn named<R: Wait + Abort, J: Room>(rt: &R, opened: Opened) -> Shared<J>
+pub(crate) fn named<R: Wait + Abort, J: Room>(rt: &R, opened: OpenedVerifier) -> Shared<J>
     requires { (opened.story.start ≡ J.start) × (opened.table ≡ J.table) × (opened.list ≡ J.list) }
 {
     match opened.named::<J, R>(rt, 0) {

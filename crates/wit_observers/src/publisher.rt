@@ -18,7 +18,7 @@ use left_right::writer::Writer;
 use std::alloc::{AllocError, Global};
 use std::marker::Model;
 use std::sync::Wait;
-use wit_adoptions::{Front, Keeper, Naming, Page};
+use wit_adoptions::{Front, ListKeeper, Naming, Page};
 use wit_model::Adoption;
 
 // What is shown while there are no orders.
@@ -76,7 +76,7 @@ fn show_change<J: Naming, R: Wait>(
 }
 
 // What adds these orders to those of a list.
-fn change<J: Naming>(keeper: &Keeper<J>, orders: Vec<Adoption>) -> Change
+fn change<J: Naming>(keeper: &ListKeeper<J>, orders: Vec<Adoption>) -> Change
     requires room { length keeper.now + length orders.items < 2 ^ 32 }
     ensures orders { result.orders ≡ orders }
     ensures before { result.before ≡ length keeper.now }
@@ -109,7 +109,7 @@ fn free_place<J: Naming>(writer: &mut Showing<J>) -> Option<Place<J>>
 /// oldest first, and the number of types.
 pub struct Publisher<J: Naming> {
     alloc: Global,
-    keeper: Keeper<J>,
+    keeper: ListKeeper<J>,
     writer: Showing<J>,
 }
 
@@ -138,7 +138,7 @@ impl<J: Naming> Publisher<J> {
     pub fn new<R: Wait>(
         rt: &R,
         alloc: Global,
-        keeper: Keeper<J>,
+        keeper: ListKeeper<J>,
         size: u16,
         readers: usize,
     ) -> Result<Publisher<J>, AllocError>
@@ -161,7 +161,7 @@ impl<J: Naming> Publisher<J> {
     // One that has shown nothing.
     fn blank(
         alloc: Global,
-        keeper: Keeper<J>,
+        keeper: ListKeeper<J>,
         size: u16,
         readers: usize,
     ) -> Result<Publisher<J>, AllocError>

@@ -6,8 +6,8 @@ use mathlib.Core.Option.{some, some-injective, some-ne-none}
 use lib.ListN.{get_elem?}
 use Rattle.atomic_table.proofs.Lists.{at_set}
 use Rattle.wit_seats.specs.declared.views.Journal.{Journal}
-use Rattle.wit_seats.specs.declared.views.Known.{Known}
-use Rattle.wit_seats.specs.declared.views.View.{View}
+use Rattle.wit_seats.specs.declared.views.SeatKnowledge.{SeatKnowledge}
+use Rattle.wit_seats.specs.declared.views.CardView.{CardView}
 use Rattle.wit_seats.specs.Rule.{Keeps, Sits, Fits}
 
 module _ {X : Type 0} where
@@ -40,29 +40,29 @@ module _ {X : Type 0} where
   each_some (Some x) P Q f h = f x h
 
 -- where the seats' cards are, once this card's seat is on the card p
-pub moved : (ℕ → ℕ) → Option Known → ℕ → ℕ → ℕ
+pub moved : (ℕ → ℕ) → Option SeatKnowledge → ℕ → ℕ → ℕ
 moved place None p t = place t
 moved place (Some k) p t = cond (eqb t k.seat) p (place t)
 
-pub moved_here : (place : ℕ → ℕ) (k : Known) (p : ℕ) → moved place (Some k) p k.seat ≡ p
+pub moved_here : (place : ℕ → ℕ) (k : SeatKnowledge) (p : ℕ) → moved place (Some k) p k.seat ≡ p
 unfolding moved
 moved_here place k p = ap (λ b. cond b p (place k.seat)) (eq-eqb k.seat k.seat refl)
 
-pub moved_else : (place : ℕ → ℕ) (k : Known) (p t : ℕ) → t ≢ k.seat
+pub moved_else : (place : ℕ → ℕ) (k : SeatKnowledge) (p t : ℕ) → t ≢ k.seat
     → moved place (Some k) p t ≡ place t
 unfolding moved
 moved_else place k p t n = ap (λ b. cond b p (place t)) (ne_eqb t k.seat n)
 
 module _ (place : ℕ → ℕ) (log : Journal) where
   -- the seat of a card that is moved
-  pub sits_moved : (o : Option Known) (from to : ℕ) → IfSome o (Sits place log from)
+  pub sits_moved : (o : Option SeatKnowledge) (from to : ℕ) → IfSome o (Sits place log from)
       → IfSome o (Sits (moved place o to) log to)
   sits_moved None from to h = tt
   sits_moved (Some k) from to h = record { card = moved_here place k to; known = h.known }
 
   -- the seats of the other cards
-  pub sits_else : (o : Option Known) (from to j : ℕ) → IfSome o (Sits place log from) → j ≢ from
-      → (u : Known) → Sits place log j u → Sits (moved place o to) log j u
+  pub sits_else : (o : Option SeatKnowledge) (from to j : ℕ) → IfSome o (Sits place log from) → j ≢ from
+      → (u : SeatKnowledge) → Sits place log j u → Sits (moved place o to) log j u
   unfolding moved
   sits_else None from to j h n u s = s
   sits_else (Some k) from to j h n u s = record {
@@ -70,9 +70,9 @@ module _ (place : ℕ → ℕ) (log : Journal) where
     known = s.known;
   }
 
-  pub fits_else : (keeper : ℕ) (o : Option Known) (from to j : ℕ)
+  pub fits_else : (keeper : ℕ) (o : Option SeatKnowledge) (from to j : ℕ)
       → IfSome o (Sits place log from) → j ≢ from
-      → (u : View) → Fits keeper place log j u → Fits keeper (moved place o to) log j u
+      → (u : CardView) → Fits keeper place log j u → Fits keeper (moved place o to) log j u
   fits_else keeper o from to j h n u f = record {
     keeps = f.keeps;
     sits =

@@ -9,36 +9,37 @@ use Rattle.wit_model.specs.Rules.History.{own_entries}
 use Rattle.wit_model.specs.Rules.State.{Start, Story}
 use Rattle.wit_model.specs.Rules.Step.{IsLegal}
 use Rattle.wit_seats.specs.declared.views.Journal.{Journal}
-use Rattle.wit_seats.specs.declared.views.Known.{Known}
-use Rattle.wit_seats.specs.declared.views.View.{View}
-use Rattle.wit_seats.specs.Seats.{AreFiles, IsKnown, IsSeatOf, Grows, Entered, caught_up}
+use Rattle.wit_seats.specs.declared.views.SeatKnowledge.{SeatKnowledge}
+use Rattle.wit_seats.specs.declared.views.CardView.{CardView}
+use Rattle.wit_seats.specs.Seats.{AreFiles, IsKnowledge, IsSeatOf, Grows, Entered, caught_up}
 use Rattle.wit_seats.specs.Rule.{shows, journal, without, alone, with_guest, newcomer, Followed}
-use Rattle.wit_seats.specs.Shown.{log_in, known_in}
+use Rattle.wit_seats.specs.Shown.{log_in, knowledge_in}
 use Rattle.wit_seats.proofs.Files.{files_more, files_both}
 
 -- the card of the log and the seat's are put together and follow a step
-pub together : (after : Story) (given : List (FileNo × List ℕ)) (j : Journal) (k : Known)
-    (log seat taken both left : View)
+pub together : (after : Story) (given : List (FileNo × List ℕ)) (j : Journal) (k : SeatKnowledge)
+    (log seat taken both left : CardView)
     → log ≡ shows (Some j) None → seat ≡ shows None (Some k) → taken ≡ alone seat
     → both ≡ with_guest log taken → Followed after given both left
     → (left ≡ shows (Some (journal after.history after.files j.handed))
     (Some (caught_up after given k))) × IsSeatOf j k
 together after given j k log seat taken both left is_log is_seat is_taken is_both f =
     let one : both ≡ shows (Some j) (Some k) =
-    is_both ∙ ap (λ (v : View × View). with_guest v.0 v.1)
+    is_both ∙ ap (λ (v : CardView × CardView). with_guest v.0 v.1)
     (λ i. (is_log i, (is_taken ∙ ap alone is_seat) i)) in
-    let g = subst (λ (v : View). Followed after given v left) one f in
+    let g = subst (λ (v : CardView). Followed after given v left) one f in
     (g.now, g.learnt)
 
-pub of_seat : (v : View) (k : Known) → v ≡ shows None (Some k)
-    → (v ≡ shows None (Some (known_in v))) × (known_in v ≡ k)
-of_seat v k e = (e ∙ ap (λ (x : Known). shows None (Some x)) (sym (ap known_in e)), ap known_in e)
+pub of_seat : (v : CardView) (k : SeatKnowledge) → v ≡ shows None (Some k)
+    → (v ≡ shows None (Some (knowledge_in v))) × (knowledge_in v ≡ k)
+of_seat v k e =
+    (e ∙ ap (λ (x : SeatKnowledge). shows None (Some x)) (sym (ap knowledge_in e)), ap knowledge_in e)
 
 -- a seat that has caught up
 pub known_after : (start : Start) (after : Story) (given : List (FileNo × List ℕ)) (j : Journal)
-    (k : Known) → Grows j k.seat after → AreFiles after.files given
+    (k : SeatKnowledge) → Grows j k.seat after → AreFiles after.files given
     → IsLegal start after.files after.history → IsSeatOf j k
-    → IsKnown start (caught_up after given k)
+    → IsKnowledge start (caught_up after given k)
 known_after start after given j k grows named legal f = record {
   legal = (
     after.files,
@@ -52,11 +53,11 @@ known_after start after given j k grows named legal f = record {
 
 -- one that is handed out
 pub known_newcomer : (start : Start) (j : Journal) → IsLegal start j.files j.entries
-    → own_entries (newcomer j).seat j.entries ≡ [] → IsKnown start (newcomer j)
+    → own_entries (newcomer j).seat j.entries ≡ [] → IsKnowledge start (newcomer j)
 known_newcomer start j legal none = record { legal = (j.files, legal, tt); own = none }
 
 -- others alone made entries since a seat looked
-pub others_alone : (start : Start) (j : Journal) (k : Known) → IsKnown start k → (f : IsSeatOf j k)
+pub others_alone : (start : Start) (j : Journal) (k : SeatKnowledge) → IsKnowledge start k → (f : IsSeatOf j k)
     → own_entries k.seat f.seen.0 ≡ []
 others_alone start j k known f =
     let later = f.seen.0 in
@@ -66,7 +67,7 @@ others_alone start j k known f =
     ∙ sym known.own)
 
 pub enters : (start : Start) (given : List (FileNo × List ℕ)) (j : Journal) (after : Story)
-    (k w : Known) → IsKnown start k → IsSeatOf j k
+    (k w : SeatKnowledge) → IsKnowledge start k → IsSeatOf j k
     → IsLegal start after.files after.history → w ≡ caught_up after given k
     → Entered start given j.entries j.files after k w
 enters start given j after k w known f legal now = record {

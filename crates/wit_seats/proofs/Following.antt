@@ -11,8 +11,8 @@ use Rattle.wit_model.specs.declared.locks.FileNo.{FileNo}
 use Rattle.wit_model.specs.Rules.History.{own_entries}
 use Rattle.wit_model.specs.Rules.State.{Story}
 use Rattle.wit_seats.specs.declared.views.Journal.{Journal}
-use Rattle.wit_seats.specs.declared.views.Known.{Known}
-use Rattle.wit_seats.specs.declared.views.View.{View}
+use Rattle.wit_seats.specs.declared.views.SeatKnowledge.{SeatKnowledge}
+use Rattle.wit_seats.specs.declared.views.CardView.{CardView}
 use Rattle.wit_seats.specs.Seats.{AreFiles, IsSeatOf, caught_up}
 use Rattle.wit_seats.specs.Rule.{shows, journal, IsOutside, Keeps, Sits, Fits, Kept, seat_after}
 use Rattle.wit_seats.specs.Rule.{MayBecome, MayFollow, Followed}
@@ -20,7 +20,7 @@ use Rattle.wit_seats.proofs.Files.{files_more, files_both}
 use Rattle.wit_seats.proofs.Cards.{all_set, each_some}
 
 -- a seat of another card, or of none, whose entries aren't among the added ones
-later_of : (log : Journal) (after : Story) (added : List Entry) (more : List (List ℕ)) (k : Known)
+later_of : (log : Journal) (after : Story) (added : List Entry) (more : List (List ℕ)) (k : SeatKnowledge)
     → after.history ≡ added ++ log.entries → after.files ≡ log.files ++ more
     → own_entries k.seat added ≡ [] → IsSeatOf log k
     → IsSeatOf (journal after.history after.files log.handed) k
@@ -41,7 +41,7 @@ later_of log after added more k grows longer none f = record {
 
 -- the seat that made the step
 mine_of : (log : Journal) (after : Story) (more : List (List ℕ)) (given : List (FileNo × List ℕ))
-    (k : Known) → after.files ≡ log.files ++ more → AreFiles after.files given
+    (k : SeatKnowledge) → after.files ≡ log.files ++ more → AreFiles after.files given
     → IsSeatOf log k → IsSeatOf (journal after.history after.files log.handed)
     (caught_up after given k)
 mine_of log after more given k longer named f = record {
@@ -55,7 +55,7 @@ mine_of log after more given k longer named f = record {
 }
 
 mine_sits : (place : ℕ → ℕ) (log : Journal) (after : Story) (more : List (List ℕ))
-    (given : List (FileNo × List ℕ)) (id : ℕ) (o : Option Known) → after.files ≡ log.files ++ more
+    (given : List (FileNo × List ℕ)) (id : ℕ) (o : Option SeatKnowledge) → after.files ≡ log.files ++ more
     → AreFiles after.files given
     → IfSome o (Sits place log id)
     → IfSome (seat_after after given o)
@@ -65,22 +65,22 @@ mine_sits place log after more given id (Some k) longer named s =
     record { card = s.card; known = mine_of log after more given k longer named s.known }
 
 -- the seats of other cards are others
-other_seat : (place : ℕ → ℕ) (log : Journal) (id m : ℕ) (o : Option Known) (k : Known)
+other_seat : (place : ℕ → ℕ) (log : Journal) (id m : ℕ) (o : Option SeatKnowledge) (k : SeatKnowledge)
     → IfSome o (Sits place log id) → m ≢ id → Sits place log m k
-    → IfSome o (λ (x : Known). k.seat ≢ x.seat)
+    → IfSome o (λ (x : SeatKnowledge). k.seat ≢ x.seat)
 other_seat place log id m o k mine n s =
-    each_some o (Sits place log id) (λ (x : Known). k.seat ≢ x.seat)
+    each_some o (Sits place log id) (λ (x : SeatKnowledge). k.seat ≢ x.seat)
     (λ x f e. n (sym s.card ∙ ap place e ∙ f.card)) mine
 
-no_seat : (place : ℕ → ℕ) (log : Journal) (id t : ℕ) (o : Option Known)
-    → IfSome o (Sits place log id) → IsOutside log.handed t → IfSome o (λ (x : Known). t ≢ x.seat)
-no_seat place log id t o mine out = each_some o (Sits place log id) (λ (x : Known). t ≢ x.seat)
+no_seat : (place : ℕ → ℕ) (log : Journal) (id t : ℕ) (o : Option SeatKnowledge)
+    → IfSome o (Sits place log id) → IsOutside log.handed t → IfSome o (λ (x : SeatKnowledge). t ≢ x.seat)
+no_seat place log id t o mine out = each_some o (Sits place log id) (λ (x : SeatKnowledge). t ≢ x.seat)
     (λ x f e. let low : 0 < x.seat = f.known.number.0 in
     let high : x.seat ≤ log.handed = f.known.number.1 in
     ⊎_elim (λ (z : t ≡ 0). omega arith) (λ (l : log.handed < t). omega arith) out) mine
 
-goes_on : (after : Story) (given : List (FileNo × List ℕ)) (id : ℕ) (j : Journal) (k : Option Known)
-    (s : State (Unit {0}) View) → MayBecome after k j → AreFiles after.files given
+goes_on : (after : Story) (given : List (FileNo × List ℕ)) (id : ℕ) (j : Journal) (k : Option SeatKnowledge)
+    (s : State (Unit {0}) CardView) → MayBecome after k j → AreFiles after.files given
     → (h : Kept s.views) → j ≡ h.log → get_elem? s.views id ≡ some (shows (Some j) k)
     → Kept (set s.views id (shows (Some (journal after.history after.files j.handed))
     (seat_after after given k)))
@@ -125,8 +125,8 @@ goes_on after given id j k s may named h is at =
           });
     }
 
-learns : (after : Story) (given : List (FileNo × List ℕ)) (id : ℕ) (j : Journal) (k : Option Known)
-    (views : List View) → (h : Kept views) → j ≡ h.log → IfSome k (Sits h.place h.log id)
+learns : (after : Story) (given : List (FileNo × List ℕ)) (id : ℕ) (j : Journal) (k : Option SeatKnowledge)
+    (views : List CardView) → (h : Kept views) → j ≡ h.log → IfSome k (Sits h.place h.log id)
     → Followed after given (shows (Some j) k)
     (shows (Some (journal after.history after.files j.handed)) (seat_after after given k))
 learns after given id j k views h is sits = record {
@@ -140,9 +140,9 @@ learns after given id j k views h is sits = record {
 }
 
 follows_by : (after : Story) (given : List (FileNo × List ℕ)) (slots id word : ℕ)
-    (j : Option Journal) (k : Option Known) (c : List (ℕ × Unit {0}))
+    (j : Option Journal) (k : Option SeatKnowledge) (c : List (ℕ × Unit {0}))
     → MayFollow after given (shows j k)
-    → Allows {S = Unit {0}} {V = View} (λ s. Kept s.views) slots id (shows j k, c) word (λ n. n)
+    → Allows {S = Unit {0}} {V = CardView} (λ s. Kept s.views) slots id (shows j k, c) word (λ n. n)
     (λ n w. Followed after given (shows j k) w.0)
 follows_by after given slots id word None k c may s h long at fits = absurd may.log
 follows_by after given slots id word (Some j) k c may s h long at fits =
@@ -155,8 +155,8 @@ follows_by after given slots id word (Some j) k c may s h long at fits =
     )
 
 pub follows : (after : Story) (given : List (FileNo × List ℕ)) (slots id word : ℕ)
-    (me : Me (Unit {0}) View) → MayFollow after given me.0
-    → Allows {S = Unit {0}} {V = View} (λ s. Kept s.views) slots id me word (λ n. n)
+    (me : Me (Unit {0}) CardView) → MayFollow after given me.0
+    → Allows {S = Unit {0}} {V = CardView} (λ s. Kept s.views) slots id me word (λ n. n)
     (λ n w. Followed after given me.0 w.0)
 follows after given slots id word me may =
     follows_by after given slots id word me.0.journal me.0.holder me.1 may

@@ -7,8 +7,8 @@ use Rattle.atomic_table.specs.Table.{Splits, Joins, keeps}
 use Rattle.atomic_table.proofs.Lists.{at_set}
 use Rattle.wit_model.specs.Rules.History.{own_entries}
 use Rattle.wit_seats.specs.declared.views.Journal.{Journal}
-use Rattle.wit_seats.specs.declared.views.Known.{Known}
-use Rattle.wit_seats.specs.declared.views.View.{View}
+use Rattle.wit_seats.specs.declared.views.SeatKnowledge.{SeatKnowledge}
+use Rattle.wit_seats.specs.declared.views.CardView.{CardView}
 use Rattle.wit_seats.specs.Seats.{IsSeatOf}
 use Rattle.wit_seats.specs.Rule.{shows, journal, without, alone, with_guest, newcomer, with_next}
 use Rattle.wit_seats.specs.Rule.{handed_out, Keeps, Sits, Fits, Kept}
@@ -29,7 +29,7 @@ begins = record {
       });
 }
 
-pub gives : (id : ℕ) (v : View)
+pub gives : (id : ℕ) (v : CardView)
     → Splits {S = Unit {0}} (λ s. Kept s.views) id v (without v) (alone v)
 gives id v s h at =
     let views = set s.views id (without v) in
@@ -48,7 +48,7 @@ gives id v s h at =
           (record { keeps = tt; sits = sits_moved h.place h.log v.holder id to mine.sits });
     }
 
-pub takes_in : (id : ℕ) (v : View) (other : ℕ) (w : View)
+pub takes_in : (id : ℕ) (v : CardView) (other : ℕ) (w : CardView)
     → Joins {S = Unit {0}} (λ s. Kept s.views) id v other w (with_guest v w) (shows None None)
 takes_in id v other w s h at apart there =
     let both = with_guest v w in
@@ -80,13 +80,13 @@ takes_in id v other w s h at apart there =
 grown : Journal → Journal
 grown j = record j { handed = j.handed + 1 }
 
-wider : (log : Journal) (k : Known) → IsSeatOf log k → IsSeatOf (grown log) k
+wider : (log : Journal) (k : SeatKnowledge) → IsSeatOf log k → IsSeatOf (grown log) k
 unfolding grown
 wider log k f =
     record { number = (f.number.0, omega arith); own = f.own; seen = f.seen; files = f.files }
 
 -- one that is out is not the next one
-sits_wider : (place : ℕ → ℕ) (log : Journal) (to j : ℕ) (k : Known) → Sits place log j k
+sits_wider : (place : ℕ → ℕ) (log : Journal) (to j : ℕ) (k : SeatKnowledge) → Sits place log j k
     → Sits (moved place (Some (newcomer log)) to) (grown log) j k
 sits_wider place log to j k s =
     let below : k.seat ≤ log.handed = s.known.number.1 in
@@ -103,7 +103,7 @@ fresh_sits place log to none = record {
   known = record { number = (omega arith, omega arith); own = none; seen = ([], refl); files = tt };
 }
 
-hands_to : (id : ℕ) (j : Journal) (k : Option Known)
+hands_to : (id : ℕ) (j : Journal) (k : Option SeatKnowledge)
     → Splits {S = Unit {0}} (λ s. Kept s.views) id (shows (Some j) k) (shows (Some (grown j)) k)
     (shows None (Some (newcomer j)))
 unfolding grown
@@ -144,7 +144,7 @@ hands_to id j k s h at =
           });
     }
 
-hands_none : (id : ℕ) (k : Option Known)
+hands_none : (id : ℕ) (k : Option SeatKnowledge)
     → Splits {S = Unit {0}} (λ s. Kept s.views) id (shows None k) (shows None k) (shows None None)
 hands_none id k s h at = record {
   keeper = h.keeper;
@@ -157,14 +157,14 @@ hands_none id k s h at = record {
       (record { keeps = tt; sits = tt });
 }
 
-hands_by : (id : ℕ) (j : Option Journal) (k : Option Known)
+hands_by : (id : ℕ) (j : Option Journal) (k : Option SeatKnowledge)
     → Splits {S = Unit {0}} (λ s. Kept s.views) id (shows j k) (with_next (shows j k))
     (handed_out (shows j k))
 unfolding grown
 hands_by id None k = hands_none id k
 hands_by id (Some j) k = hands_to id j k
 
-pub hands : (id : ℕ) (v : View)
+pub hands : (id : ℕ) (v : CardView)
     → Splits {S = Unit {0}} (λ s. Kept s.views) id v (with_next v) (handed_out v)
 hands id v = hands_by id v.journal v.holder
 

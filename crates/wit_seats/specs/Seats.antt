@@ -9,7 +9,7 @@ use Rattle.wit_model.specs.Rules.Numbers.{with_number}
 use Rattle.wit_model.specs.Rules.State.{Start, Story}
 use Rattle.wit_model.specs.Rules.Step.{IsLegal}
 use Rattle.wit_seats.specs.declared.views.Journal.{Journal}
-use Rattle.wit_seats.specs.declared.views.Known.{Known}
+use Rattle.wit_seats.specs.declared.views.SeatKnowledge.{SeatKnowledge}
 
 -- each of these stands among the files, under its number
 abbrev pub AreFiles : List (List ℕ) → List (FileNo × List ℕ) → Type 0
@@ -18,13 +18,13 @@ AreFiles files (g ∷ gs) = (with_number files g.0.0 ≡ Some g.1) × AreFiles f
 
 -- what is true of a seat by itself: it has seen a legal history, whose entries of this seat are its
 -- own
-pub record IsKnown (start : Start) (k : Known) : Type 0 where
+pub record IsKnowledge (start : Start) (k : SeatKnowledge) : Type 0 where
   pub legal : (files : List (List ℕ)) × IsLegal start files k.seen × AreFiles files k.given
   pub own : own_entries k.seat k.seen ≡ k.own
 
 -- how a seat stands to the log: its own entries are those of the log, which began with what it has
 -- seen
-pub record IsSeatOf (j : Journal) (k : Known) : Type 0 where
+pub record IsSeatOf (j : Journal) (k : SeatKnowledge) : Type 0 where
   pub number : (0 < k.seat) × (k.seat ≤ j.handed)
   pub own : own_entries k.seat j.entries ≡ k.own
   pub seen : IsBeginning k.seen j.entries
@@ -37,7 +37,7 @@ pub record Grows (j : Journal) (seat : ℕ) (after : Story) : Type 0 where
   pub files : (more : List (List ℕ)) × (after.files ≡ j.files ++ more)
 
 -- the seat once it has seen all, and was given these files
-abbrev pub caught_up : Story → List (FileNo × List ℕ) → Known → Known
+abbrev pub caught_up : Story → List (FileNo × List ℕ) → SeatKnowledge → SeatKnowledge
 caught_up after given k =
     record {
       seat = k.seat;
@@ -49,7 +49,7 @@ caught_up after given k =
 -- a seat met a log, and has seen what became of it: since it last looked only others had made
 -- entries
 pub record Entered (start : Start) (given : List (FileNo × List ℕ)) (history : List Entry)
-    (named : List (List ℕ)) (after : Story) (v w : Known) : Type 0 where
+    (named : List (List ℕ)) (after : Story) (v w : SeatKnowledge) : Type 0 where
   pub others : (between : List Entry) × (history ≡ between ++ v.seen)
       × (own_entries v.seat between ≡ [])
   pub own : own_entries v.seat history ≡ v.own
@@ -61,7 +61,7 @@ pub record Entered (start : Start) (given : List (FileNo × List ℕ)) (history 
 -- entries since the seat last looked, and none of them is its own; from there the call did what it
 -- means; the seat has seen all of that
 pub record Told (start : Start) (given : List (FileNo × List ℕ)) (means : Story → Story
-    → Type 0) (v w : Known) : Type 0 where
+    → Type 0) (v w : SeatKnowledge) : Type 0 where
   pub before : Story
   pub after : Story
   pub began : before.start ≡ start

@@ -7,8 +7,8 @@ ghost use Rattle.wit_seats.specs.Rule.{shows, without, alone, with_guest, with_n
 ghost use Rattle.wit_seats.specs.Rule.{journal, newcomer, IsOutside, MayFollow, Followed};
 ghost use Rattle.wit_seats.specs.Seats.{AreFiles, Grows, Entered};
 
-use crate::room::{Room, Step};
-use crate::rule::{Card, Follows, Hands, Ledger, Parts};
+use crate::room::{Room, VerifierStep};
+use crate::rule::{Follows, Hands, Ledger, LedgerCard, Parts};
 use crate::seat::Seat;
 use std::alloc::{AllocError, Global};
 use std::marker::{Model, PhantomData};
@@ -16,12 +16,12 @@ use wit_model::SeatNo;
 
 /// A log that no type names yet: it has no entry and no file, and no seat is out. Clauses see what
 /// no other log's table shares with its own.
-pub struct Opened {
+pub struct OpenedLog {
     ledger: Ledger,
-    card: Card,
+    card: LedgerCard,
 }
 
-impl Model for Opened {
+impl Model for OpenedLog {
     ghost use Rattle.std.specs.Prelude.{◌≡◌, [], None, Some};
     ghost use Rattle.atomic_table.specs.Seated.{TableId};
     ghost use Rattle.wit_seats.specs.Rule.{shows, journal};
@@ -35,22 +35,22 @@ impl Model for Opened {
         × (o.card.me.0 ≡ shows (Some (journal [] [] 0)) None) };
 }
 
-impl Drop for Opened {
+impl Drop for OpenedLog {
     fn drop(self) {
-        let Opened { ledger: _, card: _ } = self;
+        let OpenedLog { ledger: _, card: _ } = self;
     }
 }
 
 /// The keeper of a log, which lies beside the verifier whose log it is. Clauses see it as the log's
 /// entries, newest first, its files, and how many seats it handed out. At run time it is an empty
 /// table.
-pub struct Keeper<J: Room> {
+pub struct LogKeeper<J: Room> {
     ledger: Ledger,
-    card: Card,
+    card: LedgerCard,
     room: PhantomData<J>,
 }
 
-impl<J: Room> Model for Keeper<J> {
+impl<J: Room> Model for LogKeeper<J> {
     ghost use Rattle.std.specs.Prelude.{◌≡◌, ◌<◌, None, Some};
     ghost use Rattle.wit_seats.specs.declared.views.Journal.{Journal};
 
@@ -66,9 +66,9 @@ impl<J: Room> Model for Keeper<J> {
         × (k.card.me.0 ≡ shows (Some (log_in k.card.me.0)) None) };
 }
 
-impl<J: Room> Drop for Keeper<J> {
+impl<J: Room> Drop for LogKeeper<J> {
     fn drop(self) {
-        let Keeper {
+        let LogKeeper {
             ledger: _,
             card: _,
             room: _,
@@ -76,23 +76,23 @@ impl<J: Room> Drop for Keeper<J> {
     }
 }
 
-impl Opened {
+impl OpenedLog {
     /// A new log.
     ///
     /// # Errors
     /// Want of memory alone.
-    pub fn new(alloc: Global) -> Result<Opened, AllocError> {
+    pub fn new(alloc: Global) -> Result<OpenedLog, AllocError> {
         let (ledger, card) = Ledger::of_words(alloc, &[0], &())?;
-        Ok(Opened { ledger, card })
+        Ok(OpenedLog { ledger, card })
     }
 
     /// The keeper of the log, under a name.
-    pub fn named<J: Room>(self) -> Keeper<J>
+    pub fn named<J: Room>(self) -> LogKeeper<J>
         requires { self ≡ J.table }
         ensures { result ≡ journal [] [] 0 }
     {
-        let Opened { ledger, card } = self;
-        Keeper {
+        let OpenedLog { ledger, card } = self;
+        LogKeeper {
             ledger,
             card,
             room: PhantomData,
@@ -101,7 +101,7 @@ impl Opened {
 }
 
 // Takes the seat off a card.
-fn take_off(ledger: &Ledger, card: &mut Card) -> Card
+fn take_off(ledger: &Ledger, card: &mut LedgerCard) -> LedgerCard
     requires { (card.old.table_id ≡ ledger.now.shared.table_id)
         × (0 < ledger.now.shared.table_id.words) }
     ensures card { (card.new.table_id ≡ card.old.table_id)
@@ -113,7 +113,7 @@ fn take_off(ledger: &Ledger, card: &mut Card) -> Card
 }
 
 // Puts a seat to a card.
-fn put_to(ledger: &Ledger, card: &mut Card, seat: Card)
+fn put_to(ledger: &Ledger, card: &mut LedgerCard, seat: LedgerCard)
     requires { (card.old.table_id ≡ ledger.now.shared.table_id)
         × (seat.table_id ≡ ledger.now.shared.table_id)
         × (seat.me.1 ≡ []) × (0 < ledger.now.shared.table_id.words) }
@@ -124,7 +124,7 @@ fn put_to(ledger: &Ledger, card: &mut Card, seat: Card)
 }
 
 // Cuts a new seat off the log's card.
-fn hand_off(ledger: &Ledger, card: &mut Card) -> Card
+fn hand_off(ledger: &Ledger, card: &mut LedgerCard) -> LedgerCard
     requires { (card.old.table_id ≡ ledger.now.shared.table_id)
         × (0 < ledger.now.shared.table_id.words) }
     ensures card { (card.new.table_id ≡ card.old.table_id)
@@ -136,7 +136,7 @@ fn hand_off(ledger: &Ledger, card: &mut Card) -> Card
 }
 
 // The log, and the seat that is put to its card, follow a step.
-fn follow<E: Step>(ledger: &Ledger, card: &mut Card)
+fn follow<E: VerifierStep>(ledger: &Ledger, card: &mut LedgerCard)
     requires table { (card.old.table_id ≡ ledger.now.shared.table_id)
         × (0 < ledger.now.shared.table_id.words) }
     requires step { MayFollow E.after E.given card.old.me.0 }
@@ -146,7 +146,7 @@ fn follow<E: Step>(ledger: &Ledger, card: &mut Card)
     let _ = ledger.shared.load::<Follows<E>>(card, 0);
 }
 
-impl<J: Room> Keeper<J> {
+impl<J: Room> LogKeeper<J> {
     /// Hands out the next seat, whose number is given. It has made no entry and has seen the log.
     pub fn hand_out(&mut self, number: SeatNo) -> Seat<J>
         requires number { number.0 ≡ self.old.handed + 1 }
@@ -164,7 +164,7 @@ impl<J: Room> Keeper<J> {
     }
 
     /// Follows what named files and logged nothing. Nobody who has no seat here has entries.
-    pub fn follow_as<E: Step>(&mut self)
+    pub fn follow_as<E: VerifierStep>(&mut self)
         requires same { E.after.history ≡ self.old.entries }
         requires longer { (more : List (List ℕ)) × (E.after.files ≡ self.old.files ++ more) }
         requires none { E.given ≡ [] }
@@ -178,7 +178,7 @@ impl<J: Room> Keeper<J> {
     /// Follows a seat's step, which logged entries of this seat alone, and gave it files that are
     /// among those named: the seat has then seen all of it, and what others did since it last
     /// looked.
-    pub fn enter_as<E: Step>(&mut self, seat: &mut Seat<J>)
+    pub fn enter_as<E: VerifierStep>(&mut self, seat: &mut Seat<J>)
         requires grows { Grows self.old seat.old.seat E.after }
         requires named { AreFiles E.after.files E.given }
         requires legal { IsLegal J.start E.after.files E.after.history }

@@ -8,7 +8,7 @@ mod rule;
 mod seat;
 mod views;
 
-pub use keeper::{Keeper, Opened};
-pub use room::{Room, Step};
+pub use keeper::{LogKeeper, OpenedLog};
+pub use room::{Room, VerifierStep};
 pub use seat::{Seat, abandon_all};
-pub use views::{Journal, Known};
+pub use views::{Journal, SeatKnowledge};

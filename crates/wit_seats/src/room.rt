@@ -26,7 +26,7 @@ impl Room for Brand {
 }
 
 /// A step of a verifier: what it left, and the files that its seat was given by it.
-pub trait Step {
+pub trait VerifierStep {
     // The verifier after it.
     ghost after: { Story };
 
@@ -34,7 +34,7 @@ pub trait Step {
     ghost given: { List (FileNo × List ℕ) };
 }
 
-impl Step for Brand {
+impl VerifierStep for Brand {
     ghost after = { no_story };
 
     ghost given = { [] };

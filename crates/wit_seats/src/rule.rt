@@ -2,16 +2,16 @@
 
 ghost use Rattle.std.specs.Prelude.{◌≡◌};
 
-use crate::room::Step;
-use crate::views::View;
-use atomic_table::{Join, Play, Seat, Split, Table, TableRule};
+use crate::room::VerifierStep;
+use crate::views::CardView;
+use atomic_table::{Join, Play, Split, Table, TableRule};
 use std::alloc::Global;
 use std::marker::PhantomData;
 
 /// The table's rule. Its words say nothing: what it keeps is what its cards stand for.
 pub struct Rule;
 
-impl TableRule<(), View, ()> for Rule {
+impl TableRule<(), CardView, ()> for Rule {
     ghost use Rattle.std.specs.Prelude.{[], None, Some};
     ghost use Rattle.wit_seats.specs.Rule.{Kept, shows, journal};
 
@@ -23,7 +23,7 @@ impl TableRule<(), View, ()> for Rule {
 /// A seat is taken off a card, or put to one.
 pub struct Parts;
 
-impl Split<View> for Parts {
+impl Split<CardView> for Parts {
     ghost use Rattle.wit_seats.specs.Rule.{without, alone};
 
     ghost left = { without };
@@ -31,7 +31,7 @@ impl Split<View> for Parts {
     ghost right = { alone };
 }
 
-impl Join<View> for Parts {
+impl Join<CardView> for Parts {
     ghost use Rattle.std.specs.Prelude.{None};
     ghost use Rattle.wit_seats.specs.Rule.{with_guest, shows};
 
@@ -43,7 +43,7 @@ impl Join<View> for Parts {
 /// The next seat is handed out.
 pub struct Hands;
 
-impl Split<View> for Hands {
+impl Split<CardView> for Hands {
     ghost use Rattle.wit_seats.specs.Rule.{with_next, handed_out};
 
     ghost left = { with_next };
@@ -56,14 +56,14 @@ pub struct Follows<E> {
     step: PhantomData<E>,
 }
 
-impl<E: Step> Play<(), View> for Follows<E> {
+impl<E: VerifierStep> Play<(), CardView> for Follows<E> {
     ghost use Rattle.wit_seats.specs.Rule.{Plays};
 
     ghost then = { Plays E.after E.given };
 }
 
 /// The table behind a log.
-pub type Ledger = Table<(), View, (), Rule, Global>;
+pub type Ledger = Table<(), CardView, (), Rule, Global>;
 
-/// A card of the table. It has no bytes.
-pub type Card = Seat<(), View>;
+/// A card of the ledger: the kit calls it a seat of its table. It has no bytes.
+pub type LedgerCard = atomic_table::Seat<(), CardView>;

@@ -1,10 +1,10 @@
 //! The token of a seat.
 
 ghost use Rattle.std.specs.Prelude.{◌≡◌};
-ghost use Rattle.wit_seats.specs.Seats.{IsKnown};
+ghost use Rattle.wit_seats.specs.Seats.{IsKnowledge};
 
 use crate::room::Room;
-use crate::rule::Card;
+use crate::rule::LedgerCard;
 use std::marker::{Model, PhantomData};
 use wit_model::SeatNo;
 
@@ -17,25 +17,26 @@ use wit_model::SeatNo;
 /// can have a seat for a moment, log by it, and let it go.
 pub struct Seat<J: Room> {
     pub(crate) number: SeatNo,
-    pub(crate) card: Card,
+    pub(crate) card: LedgerCard,
     pub(crate) room: PhantomData<J>,
 }
 
 impl<J: Room> Model for Seat<J> {
     ghost use Rattle.std.specs.Prelude.{◌≡◌, None, Some};
-    ghost use Rattle.wit_seats.specs.declared.views.Known.{Known};
+    ghost use Rattle.wit_seats.specs.declared.views.SeatKnowledge.{SeatKnowledge};
 
-    ghost Value = { Known };
+    ghost Value = { SeatKnowledge };
 
     ghost use Rattle.wit_seats.specs.Rule.{shows};
-    ghost use Rattle.wit_seats.specs.Seats.{IsKnown};
-    ghost use Rattle.wit_seats.specs.Shown.{known_in};
+    ghost use Rattle.wit_seats.specs.Seats.{IsKnowledge};
+    ghost use Rattle.wit_seats.specs.Shown.{knowledge_in};
 
-    ghost view = { λ s. known_in s.card.me.0 };
+    ghost view = { λ s. knowledge_in s.card.me.0 };
 
     ghost invariant = { λ s. (s.card.table_id ≡ J.table)
-        × (s.card.me.0 ≡ shows None (Some (known_in s.card.me.0)))
-        × ((known_in s.card.me.0).seat ≡ s.number.0) × IsKnown J.start (known_in s.card.me.0) };
+        × (s.card.me.0 ≡ shows None (Some (knowledge_in s.card.me.0)))
+        × ((knowledge_in s.card.me.0).seat ≡ s.number.0)
+        × IsKnowledge J.start (knowledge_in s.card.me.0) };
 }
 
 impl<J: Room> Seat<J> {

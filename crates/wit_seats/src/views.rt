@@ -16,7 +16,7 @@ pub struct Journal {
 
 /// What a seat knows: its own entries and how the log began when it last looked, both newest first,
 /// and the files that it was given, newest first. No value of it is made.
-pub struct Known {
+pub struct SeatKnowledge {
     /// Its number.
     pub seat: u64,
     /// Its own entries, newest first.
@@ -29,7 +29,7 @@ pub struct Known {
 
 /// What a card of the table stands for: the log, or a seat, or both while a seat's call is under
 /// way.
-pub struct View {
+pub struct CardView {
     pub journal: Option<Journal>,
-    pub holder: Option<Known>,
+    pub holder: Option<SeatKnowledge>,
 }

@@ -9,7 +9,7 @@ use Rattle.wit_model.specs.declared.calls.Entry.{Entry}
 use Rattle.wit_model.specs.Rules.History.{own_entries}
 use Rattle.wit_model.specs.Rules.Orders.{adopted, is_adoption_of, is_direct, orders_from}
 use Rattle.wit_model.specs.Rules.State.{Start, Story, orders_of}
-use Rattle.wit_seats.specs.declared.views.Known.{Known}
+use Rattle.wit_seats.specs.declared.views.SeatKnowledge.{SeatKnowledge}
 use Rattle.wit_seats.specs.Seats.{Told}
 use Rattle.wit_shared.specs.Publishing.{adoptions, orders_named, IsNamedIn}
 
@@ -64,11 +64,11 @@ names_own start t own h is a b named =
     (own_among a b t (orders_from (orders_of start []) []) h
     (subst (λ es. is_direct (orders_named es) a b ≡ true) (sym is) named))
 
-pub news_name_own : (start : Start) (means : Story → Story → Type 0) (v w : Known)
+pub news_name_own : (start : Start) (means : Story → Story → Type 0) (v w : SeatKnowledge)
     (news : List Adoption) → Told start [] means v w
     → news ≡ adoptions start w.seen → IsNamedIn w.own news
 news_name_own start means v w news told is =
     let own : own_entries v.seat w.seen ≡ w.own =
-    ap (λ (k : Known). own_entries v.seat k.seen) told.entered.now
-    ∙ sym (ap (λ (k : Known). k.own) told.entered.now) in
+    ap (λ (k : SeatKnowledge). own_entries v.seat k.seen) told.entered.now
+    ∙ sym (ap (λ (k : SeatKnowledge). k.own) told.entered.now) in
     subst (λ os. IsNamedIn w.own os) (sym is) (names_own start v.seat w.own w.seen own)

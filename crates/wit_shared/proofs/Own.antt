@@ -24,7 +24,7 @@ use Rattle.wit_model.proofs.Histories.Accepted.{asked-lock}
 use Rattle.wit_model.proofs.Histories.Asked.{note_pending, give_up_pending}
 use Rattle.wit_model.proofs.Histories.KnownFiles.{check_known, try_known}
 use Rattle.wit_model.proofs.Numbered.{with_number-none}
-use Rattle.wit_seats.specs.declared.views.Known.{Known}
+use Rattle.wit_seats.specs.declared.views.SeatKnowledge.{SeatKnowledge}
 use Rattle.wit_seats.specs.Seats.{AreFiles, Told}
 use Rattle.wit_shared.specs.Own.{AsksFor, HasFile, Leaves, entries_left, entry}
 
@@ -58,24 +58,24 @@ own_left s t call (Err fault) new own did is =
 module _ (rules : Story → ℕ → Call → Result Reply Fault → Story → Type 0)
     (are : (s : Story) (t : ℕ) (call : Call) (result : Result Reply Fault) (new : Story)
     → rules s t call result new → AnswersOrFails s t call result new) where
-  leaves_by : (start : Start) (call : Call) (result : Result Reply Fault) (v w : Known)
+  leaves_by : (start : Start) (call : Call) (result : Result Reply Fault) (v w : SeatKnowledge)
       → Told start [] (λ s new. rules s v.seat call result new) v w
       → Leaves rules start call result v w
   leaves_by start call result v w told = record {
     told = told;
-    own = ap (λ (k : Known). k.own) told.entered.now
+    own = ap (λ (k : SeatKnowledge). k.own) told.entered.now
         ∙ own_left told.before v.seat call result told.after v.own
         (are told.before v.seat call result told.after told.did) told.entered.own;
-    seat = ap (λ (k : Known). k.seat) told.entered.now;
-    given = ap (λ (k : Known). k.given) told.entered.now;
+    seat = ap (λ (k : SeatKnowledge). k.seat) told.entered.now;
+    given = ap (λ (k : SeatKnowledge). k.given) told.entered.now;
   }
 
-pub leaves : (start : Start) (call : Call) (result : Result Reply Fault) (v w : Known)
+pub leaves : (start : Start) (call : Call) (result : Result Reply Fault) (v w : SeatKnowledge)
     → Told start [] (λ s new. Answers s v.seat call result new) v w
     → Leaves Answers start call result v w
 leaves start call result v w told = leaves_by Answers may_fail start call result v w told
 
-pub leaves_or_fails : (start : Start) (call : Call) (result : Result Reply Fault) (v w : Known)
+pub leaves_or_fails : (start : Start) (call : Call) (result : Result Reply Fault) (v w : SeatKnowledge)
     → Told start [] (λ s new. AnswersOrFails s v.seat call result new) v w
     → Leaves AnswersOrFails start call result v w
 leaves_or_fails start call result v w told =
@@ -98,7 +98,7 @@ pending_own t (e ∷ h) = go (eqb e.seat.0 t) refl (pending_own t h)
     go false is same = same
 
 -- a seat asks for the lock that it checked last
-pub asks_now : (w : Known) (q : Request) (reply : Reply) (before : List Entry)
+pub asks_now : (w : SeatKnowledge) (q : Request) (reply : Reply) (before : List Entry)
     → w.own ≡ entry w.seat (Check q) reply ∷ before → AsksFor w q.lock
 asks_now w q reply before is =
     ap (λ own. is_for q.lock.0 (pending w.seat own)) is
@@ -127,7 +127,7 @@ module _ (s : Story) (t : ℕ) (lock : LockNo) (own : List Entry)
       refl)
 
 -- what isn't refused is answered
-answered : (start : Start) (call : Call) (result : Result Reply Fault) (v w : Known)
+answered : (start : Start) (call : Call) (result : Result Reply Fault) (v w : SeatKnowledge)
     → Told start [] (λ s new. Answers s v.seat call result new) v w
     → ((s : Story) → IsLegal s.start s.files s.history → own_entries v.seat s.history ≡ v.own
     → IsOk (answer_of s v.seat call)) → IsOk result
@@ -141,14 +141,14 @@ answered start call (Err fault) v w told ok =
     let is : IsOk (answer_of told.before v.seat call) = ok told.before was told.entered.own in
     subst IsOk told.did.0 is
 
-pub note_asked : (start : Start) (lock : LockNo) (result : Result Reply Fault) (v w : Known)
+pub note_asked : (start : Start) (lock : LockNo) (result : Result Reply Fault) (v w : SeatKnowledge)
     → Told start [] (λ s new. Answers s v.seat (Note lock) result new) v w
     → AsksFor v lock → IsOk result
 note_asked start lock result v w told asks =
     answered start (Note lock) result v w told
     (λ s legal is. noted s v.seat lock v.own legal is asks)
 
-pub give_up_asked : (start : Start) (lock : LockNo) (result : Result Reply Fault) (v w : Known)
+pub give_up_asked : (start : Start) (lock : LockNo) (result : Result Reply Fault) (v w : SeatKnowledge)
     → Told start [] (λ s new. Answers s v.seat (GiveUp lock) result new) v w
     → AsksFor v lock → IsOk result
 give_up_asked start lock result v w told asks =
@@ -182,7 +182,7 @@ refused_so s t call (Err fault) new did is =
     ⊎_elim (λ e. e ∙ is) (λ want. let same : ◌≡◌ {A = Result Reply Fault} (Err OutOfMemory)
     (Err UnknownFile) = ap Err (sym want.0) ∙ is in cc) did.0
 
-pub check_finds : (start : Start) (q : Request) (result : Result Reply Fault) (v w : Known)
+pub check_finds : (start : Start) (q : Request) (result : Result Reply Fault) (v w : SeatKnowledge)
     → Told start [] (λ s new. AnswersOrFails s v.seat (Check q) result new) v w
     → HasFile v.given q.site.file → result ≡ Err UnknownFile → ⊥
 check_finds start q result v w told has is =
@@ -191,7 +191,7 @@ check_finds start q result v w told has is =
     (refused_so told.before v.seat (Check q) result told.after told.did is)
 
 pub try_finds : (start : Start) (lock : LockNo) (mode : Mode) (site : Site)
-    (result : Result Reply Fault) (v w : Known)
+    (result : Result Reply Fault) (v w : SeatKnowledge)
     → Told start [] (λ s new. AnswersOrFails s v.seat (NoteTry lock mode site) result new) v w
     → HasFile v.given site.file → result ≡ Err UnknownFile → ⊥
 try_finds start lock mode site result v w told has is =

@@ -11,7 +11,7 @@ use Rattle.wit_model.specs.Rules.History.{own_entries}
 use Rattle.wit_model.specs.Rules.State.{Start, Story}
 use Rattle.wit_model.specs.Rules.Step.{Answers, AnswersOrFails, is_logged, logged, grown}
 use Rattle.wit_seats.specs.declared.views.Journal.{Journal}
-use Rattle.wit_seats.specs.declared.views.Known.{Known}
+use Rattle.wit_seats.specs.declared.views.SeatKnowledge.{SeatKnowledge}
 use Rattle.wit_seats.specs.Rule.{journal}
 use Rattle.wit_seats.specs.Seats.{Grows, Entered, Told}
 use Rattle.wit_model.specs.declared.faults.Fault.TheVariants.{BadName, FilesFull}
@@ -99,7 +99,7 @@ may_follow keeper old new handed t is g =
 
 -- what it then tells the seat
 pub tells : (start : Start) (given : List (FileNo × List ℕ)) (means : Story → Story
-    → Type 0) (keeper : Journal) (old new : Story) (handed : ℕ) (v w : Known)
+    → Type 0) (keeper : Journal) (old new : Story) (handed : ℕ) (v w : SeatKnowledge)
     → old.start ≡ start → keeper ≡ journal old.history old.files handed
     → Entered start given keeper.entries keeper.files new v w → means old new
     → Told start given means v w
@@ -113,7 +113,7 @@ tells start given means keeper old new handed v w began is e did = record {
 
 -- the seat is told of the verifier that was prepared
 pub tells_made : (start : Start) (keeper : Journal) (old new : Story) (handed : ℕ) (call : Call)
-    (result : Result Reply Fault) (v w : Known)
+    (result : Result Reply Fault) (v w : SeatKnowledge)
     → old.start ≡ start → keeper ≡ journal old.history old.files handed
     → Entered start [] keeper.entries keeper.files new v w
     → Makes old v.seat call result new

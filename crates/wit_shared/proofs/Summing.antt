@@ -6,12 +6,12 @@ use Rattle.std.proofs.lemmas.Bool.{false≢true, cases_Bool, ltb-true, ltb-false
 use Rattle.wit_model.specs.declared.calls.Entry.{Entry}
 use Rattle.wit_model.specs.Rules.History.{own_entries}
 use Rattle.wit_model.specs.Rules.State.{Start, Story}
-use Rattle.wit_seats.specs.declared.views.Known.{Known}
+use Rattle.wit_seats.specs.declared.views.SeatKnowledge.{SeatKnowledge}
 use Rattle.wit_shared.specs.Closing.{has_seat, entries_of_seat, logged_to, LogAddsUp, AreLeft}
 use Rattle.wit_shared.specs.Closing.{IsClosed, IsLeft}
 
 -- a seat's list is what the log has of it
-own_of : (v : Story) (n : ℕ) (k : Known) (ks : List Known) → IsLeft v k
+own_of : (v : Story) (n : ℕ) (k : SeatKnowledge) (ks : List SeatKnowledge) → IsLeft v k
     → (has_seat n (k ∷ ks) ≡ false → own_entries n v.history ≡ [])
     → ((has_seat n ks ≡ false → own_entries n v.history ≡ [])
     → own_entries n v.history ≡ entries_of_seat n ks)
@@ -20,7 +20,7 @@ own_of v n k ks left none rest true is =
     ap (λ m. own_entries m v.history) (sym (eqb-true k.seat n is)) ∙ left.own
 own_of v n k ks left none rest false is = rest (λ not. none (ap (λ b. b || has_seat n ks) is ∙ not))
 
-own_listed : (v : Story) (n : ℕ) (seats : List Known) → AreLeft v seats
+own_listed : (v : Story) (n : ℕ) (seats : List SeatKnowledge) → AreLeft v seats
     → (has_seat n seats ≡ false → own_entries n v.history ≡ [])
     → own_entries n v.history ≡ entries_of_seat n seats
 own_listed v n [] left none = none refl
@@ -90,7 +90,7 @@ counted n (e ∷ h) above =
           omega (arith, rest, one)
     ]
 
-listed : (n : ℕ) (h : List Entry) (seats : List Known)
+listed : (n : ℕ) (h : List Entry) (seats : List SeatKnowledge)
     → ((m : ℕ) → own_entries m h ≡ entries_of_seat m seats) → count n h ≡ logged_to n seats
 listed zero h seats is = ap length (is zero)
 listed (suc n) h seats is =
@@ -98,7 +98,7 @@ listed (suc n) h seats is =
     let rest = listed n h seats is in
     omega (arith, one, rest)
 
-pub adds_up : (start : Start) (v : Story) (seats : List Known) → IsClosed start v seats
+pub adds_up : (start : Start) (v : Story) (seats : List SeatKnowledge) → IsClosed start v seats
     → LogAddsUp v.history seats
 adds_up start v seats closed n nobody =
     counted n v.history (λ m high. closed.others m (nobody m high))

@@ -11,7 +11,7 @@ use Rattle.wit_model.specs.Rules.History.{pending}
 use Rattle.wit_model.specs.Rules.Questions.{is_for}
 use Rattle.wit_model.specs.Rules.State.{Start, Story}
 use Rattle.wit_model.specs.Rules.Step.{is_logged}
-use Rattle.wit_seats.specs.declared.views.Known.{Known}
+use Rattle.wit_seats.specs.declared.views.SeatKnowledge.{SeatKnowledge}
 use Rattle.wit_seats.specs.Seats.{Told}
 
 abbrev pub entry : ℕ → Call → Reply → Entry
@@ -26,14 +26,14 @@ entries_left t call (Err fault) = []
 -- what a logged call leaves of its seat, where the verifier's own call is answered by these rules:
 -- what it was told, and among its own entries that of the call alone
 pub record Leaves (rules : Story → ℕ → Call → Result Reply Fault → Story → Type 0) (start : Start)
-    (call : Call) (result : Result Reply Fault) (v w : Known) : Type 0 where
+    (call : Call) (result : Result Reply Fault) (v w : SeatKnowledge) : Type 0 where
   pub told : Told start [] (λ s new. rules s v.seat call result new) v w
   pub own : w.own ≡ entries_left v.seat call result ++ v.own
   pub seat : w.seat ≡ v.seat
   pub given : w.given ≡ v.given
 
 -- a seat that asks for this lock, as its own entries show
-abbrev pub AsksFor : Known → LockNo → Type 0
+abbrev pub AsksFor : SeatKnowledge → LockNo → Type 0
 AsksFor k lock = is_for lock.0 (pending k.seat k.own) ≡ true
 
 -- the seat was given this file

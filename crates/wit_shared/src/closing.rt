@@ -12,7 +12,7 @@ use std::marker::Model;
 use std::sync::Wait;
 use wit_core::Verifier;
 use wit_model::SeatNo;
-use wit_seats::{Keeper, Room, Seat, abandon_all};
+use wit_seats::{LogKeeper, Room, Seat, abandon_all};
 
 /// A shared verifier that wasn't closed, with the seats that were given back, all as they were.
 /// Clauses see the seats, how many were handed out, and the least number of one that is missing. It
@@ -147,7 +147,7 @@ fn has_seat<J: Room>(seats: &[Seat<J>], number: SeatNo) -> bool
 }
 
 // Settles each seat.
-fn settle_all<J: Room>(keeper: &mut Keeper<J>, verifier: &Verifier, mut seats: Vec<Seat<J>>)
+fn settle_all<J: Room>(keeper: &mut LogKeeper<J>, verifier: &Verifier, mut seats: Vec<Seat<J>>)
     requires start { verifier.now.start ≡ J.start }
     requires same { keeper.old ≡ journal verifier.now.history verifier.now.files keeper.old.handed }
     ensures kept { keeper.new ≡ keeper.old }
@@ -160,7 +160,7 @@ fn settle_all<J: Room>(keeper: &mut Keeper<J>, verifier: &Verifier, mut seats: V
 }
 
 // A seat sees what became of the log, and is spent.
-fn settle<J: Room>(keeper: &mut Keeper<J>, verifier: &Verifier, mut seat: Seat<J>)
+fn settle<J: Room>(keeper: &mut LogKeeper<J>, verifier: &Verifier, mut seat: Seat<J>)
     requires start { verifier.now.start ≡ J.start }
     requires same { keeper.old ≡ journal verifier.now.history verifier.now.files keeper.old.handed }
     ensures kept { keeper.new ≡ keeper.old }

@@ -28,7 +28,7 @@ use wit_model::{
     WarnFlags,
 };
 use wit_observers::{News, Observer, Publisher};
-use wit_seats::{Keeper, Room, Seat};
+use wit_seats::{LogKeeper, Room, Seat};
 
 /// A verifier whose log is legal behind the start given, with the keeper that knows it as it is,
 /// and all its adopted orders published. It can't be let go of, but is closed or abandoned.
@@ -36,7 +36,7 @@ pub struct Desk<J: Room> {
     pub(crate) alloc: Global,
     pub(crate) verifier: Verifier,
     pub(crate) handed: u16,
-    pub(crate) keeper: Keeper<J>,
+    pub(crate) keeper: LogKeeper<J>,
     pub(crate) publisher: Publisher<J>,
 }
 
@@ -58,7 +58,7 @@ impl<J: Room> Model for Desk<J> {
 
 impl<J: Room> Desk<J> {
     // The verifier, the keeper that knows its log, and the publisher.
-    pub(crate) fn into_parts(self) -> (Verifier, Keeper<J>, Publisher<J>)
+    pub(crate) fn into_parts(self) -> (Verifier, LogKeeper<J>, Publisher<J>)
         ensures verifier { result.0 ≡ self.story }
         ensures start { result.0.start ≡ J.start }
         ensures keeper { result.1 ≡ journal self.story.history self.story.files self.handed }

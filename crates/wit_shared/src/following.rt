@@ -8,10 +8,14 @@ ghost use Rattle.wit_seats.specs.Seats.{AreFiles, Grows, Entered};
 use std::marker::Brand;
 use wit_core::Verifier;
 use wit_model::FileNo;
-use wit_seats::{Keeper, Room, Seat, Step};
+use wit_seats::{LogKeeper, Room, Seat, VerifierStep};
 
 // Follows any step that left this verifier.
-fn follow_as<J: Room, E: Step>(keeper: &mut Keeper<J>, verifier: &Verifier, seat: &mut Seat<J>)
+fn follow_as<J: Room, E: VerifierStep>(
+    keeper: &mut LogKeeper<J>,
+    verifier: &Verifier,
+    seat: &mut Seat<J>,
+)
     requires after { E.after ≡ verifier.now }
     requires start { verifier.now.start ≡ J.start }
     requires grows { Grows keeper.old seat.old.seat verifier.now }
@@ -26,7 +30,7 @@ fn follow_as<J: Room, E: Step>(keeper: &mut Keeper<J>, verifier: &Verifier, seat
 }
 
 // Follows a call that gave its seat no file.
-pub(crate) fn follow<J: Room>(keeper: &mut Keeper<J>, verifier: &Verifier, seat: &mut Seat<J>)
+pub(crate) fn follow<J: Room>(keeper: &mut LogKeeper<J>, verifier: &Verifier, seat: &mut Seat<J>)
     requires start { verifier.now.start ≡ J.start }
     requires grows { Grows keeper.old seat.old.seat verifier.now }
     ensures kept { keeper.new ≡ journal verifier.now.history verifier.now.files keeper.old.handed }
@@ -37,8 +41,8 @@ pub(crate) fn follow<J: Room>(keeper: &mut Keeper<J>, verifier: &Verifier, seat:
 }
 
 // Follows any step that left this verifier and gave its seat this file.
-fn follow_file_as<J: Room, E: Step>(
-    keeper: &mut Keeper<J>,
+fn follow_file_as<J: Room, E: VerifierStep>(
+    keeper: &mut LogKeeper<J>,
     verifier: &Verifier,
     seat: &mut Seat<J>,
     file: FileNo,
@@ -59,7 +63,7 @@ fn follow_file_as<J: Room, E: Step>(
 
 // Follows a call that gave its seat a file.
 pub(crate) fn follow_file<J: Room>(
-    keeper: &mut Keeper<J>,
+    keeper: &mut LogKeeper<J>,
     verifier: &Verifier,
     seat: &mut Seat<J>,
     file: FileNo,
@@ -76,7 +80,7 @@ pub(crate) fn follow_file<J: Room>(
 }
 
 // Follows any step that left this verifier and made no entry.
-fn look_as<J: Room, E: Step>(keeper: &mut Keeper<J>, verifier: &Verifier)
+fn look_as<J: Room, E: VerifierStep>(keeper: &mut LogKeeper<J>, verifier: &Verifier)
     requires after { E.after ≡ verifier.now }
     requires none { E.given ≡ [] }
     requires same { verifier.now.history ≡ keeper.old.entries }
@@ -91,7 +95,7 @@ fn look_as<J: Room, E: Step>(keeper: &mut Keeper<J>, verifier: &Verifier)
 
 // Looks at a verifier that has logged nothing since, and learns that nobody has entries who has no
 // seat here.
-pub(crate) fn look<J: Room>(keeper: &mut Keeper<J>, verifier: &Verifier)
+pub(crate) fn look<J: Room>(keeper: &mut LogKeeper<J>, verifier: &Verifier)
     requires same { verifier.now.history ≡ keeper.old.entries }
     requires longer { (more : List (List ℕ)) × (verifier.now.files ≡ keeper.old.files ++ more) }
     ensures kept { keeper.new ≡ journal verifier.now.history verifier.now.files keeper.old.handed }

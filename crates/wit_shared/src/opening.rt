@@ -20,14 +20,14 @@ const NEWS: usize = 64;
 
 /// A verifier that is about to be shared, and that no type names yet. Clauses see the verifier,
 /// which has logged nothing, and the names of what no other one shares with it.
-pub struct Opened {
+pub struct OpenedVerifier {
     alloc: Global,
     verifier: Verifier,
-    log: wit_seats::Opened,
-    list: wit_adoptions::Opened,
+    log: wit_seats::OpenedLog,
+    list: wit_adoptions::OpenedList,
 }
 
-impl Model for Opened {
+impl Model for OpenedVerifier {
     ghost use Rattle.std.specs.Prelude.{◌≡◌, []};
     ghost use Rattle.wit_shared.specs.Opening.{Unnamed};
 
@@ -60,7 +60,7 @@ pub struct Unopened {
 fn publisher_of<J: Room, R: Wait>(
     rt: &R,
     alloc: Global,
-    list: wit_adoptions::Opened,
+    list: wit_adoptions::OpenedList,
     verifier: &Verifier,
     readers: usize,
 ) -> Result<Publisher<J>, AllocError>
@@ -103,12 +103,12 @@ fn observers_of<J: Room>(
     Ok(observers)
 }
 
-impl Opened {
+impl OpenedVerifier {
     /// Opens a verifier that has logged nothing.
     ///
     /// # Errors
     /// `HasEntries` where it has, else `OutOfMemory`; the verifier comes back.
-    pub fn new(alloc: Global, verifier: Verifier) -> Result<Opened, Unopened>
+    pub fn new(alloc: Global, verifier: Verifier) -> Result<OpenedVerifier, Unopened>
         ensures ok { IfOk result (λ o. (o.story ≡ verifier) × (verifier.history ≡ [])) }
         ensures err { IfErr result (λ u. (u.verifier ≡ verifier)
             × (u.reason ≡ why_refused verifier.history)) }
@@ -119,12 +119,12 @@ impl Opened {
                 reason: Reason::HasEntries,
             });
         }
-        match wit_seats::Opened::new(alloc) {
-            Ok(log) => Ok(Opened {
+        match wit_seats::OpenedLog::new(alloc) {
+            Ok(log) => Ok(OpenedVerifier {
                 alloc,
                 verifier,
                 log,
-                list: wit_adoptions::Opened::new(),
+                list: wit_adoptions::OpenedList::new(),
             }),
             Err(_) => Err(Unopened {
                 verifier,
@@ -149,7 +149,7 @@ impl Opened {
         ensures ok { IfOk result (λ s. s.1.items ≡ replicate observers (adoptions J.start [])) }
         ensures err { IfErr result (λ u. (u.verifier ≡ self.story) × (u.reason ≡ OutOfMemory)) }
     {
-        let Opened {
+        let OpenedVerifier {
             alloc,
             verifier,
             log,
@@ -184,7 +184,7 @@ fn unnamed(verifier: Verifier) -> Unopened
 fn shared<J: Room>(
     alloc: Global,
     verifier: Verifier,
-    log: wit_seats::Opened,
+    log: wit_seats::OpenedLog,
     publisher: Publisher<J>,
 ) -> Shared<J>
     requires none { verifier.history ≡ [] }

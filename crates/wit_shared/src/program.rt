@@ -6,7 +6,7 @@ ghost use Rattle.wit_shared.specs.declared.opening.Reason.TheVariants.{OutOfMemo
 ghost use Rattle.wit_shared.specs.Opening.{why_refused};
 ghost use Rattle.wit_shared.specs.Publishing.{adoptions};
 
-use crate::opening::{Opened, Reason, Unopened};
+use crate::opening::{OpenedVerifier, Reason, Unopened};
 use crate::shared::Shared;
 use std::alloc::Global;
 use std::marker::Brand;
@@ -54,7 +54,7 @@ pub trait Program<R> {
 // Runs a program with a verifier that this type names.
 fn run_as<J: Room + Send + Sync, R: Wait, S: Program<R>>(
     rt: &R,
-    opened: Opened,
+    opened: OpenedVerifier,
     observers: u16,
     program: S,
 ) -> Result<S::Out, Refused<S>>
@@ -94,7 +94,7 @@ pub fn share<R: Wait, S: Program<R>>(
     ensures err { IfErr result (λ r. (r.verifier ≡ verifier) × (r.program ≡ program)
         × (r.reason ≡ why_refused verifier.history)) }
 {
-    match Opened::new(alloc, verifier) {
+    match OpenedVerifier::new(alloc, verifier) {
         Ok(opened) => run_as::<Brand, R, S>(rt, opened, observers, program),
         Err(Unopened { verifier, reason }) => Err(Refused {
             verifier,

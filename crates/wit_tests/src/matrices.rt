@@ -2,7 +2,7 @@
 
 ghost use Rattle.wit_model.specs.Rules.Numbers.{IsNumber};
 
-use Step::{Adopt, Cell, Find, NoPath, Path};
+use MatrixStep::{Adopt, Cell, Find, NoPath, Path};
 use std::alloc::Global;
 use std::test::Fail;
 use wit_matrix::Matrix;
@@ -10,7 +10,7 @@ use wit_model::{Fault, TypeNo};
 
 /// What is done to a matrix, or what it is to say.
 #[derive(Clone, Copy)]
-enum Step {
+enum MatrixStep {
     Adopt(u16, u16),
     Find(u16, u16),
     /// A cell, read from the first type to the second.
@@ -24,7 +24,7 @@ enum Step {
 const WAY: [TypeNo; 4] = [TypeNo(1), TypeNo(2), TypeNo(3), TypeNo(4)];
 
 /// Four types in a chain of orders, one order that goes past a type, and reversals.
-const CHAIN: [Step; 32] = [
+const CHAIN: [MatrixStep; 32] = [
     Adopt(1, 2),
     Adopt(3, 4),
     Adopt(2, 3),
@@ -60,7 +60,7 @@ const CHAIN: [Step; 32] = [
 ];
 
 /// Orders by which a row's first word leads to its last.
-const LAST_WORD: [Step; 4] = [
+const LAST_WORD: [MatrixStep; 4] = [
     Adopt(64, 65),
     Adopt(63, 64),
     Cell(63, 65, 0x02),
@@ -68,7 +68,7 @@ const LAST_WORD: [Step; 4] = [
 ];
 
 /// Orders from the first of 1,023 types to the last.
-const GREATEST: [Step; 4] = [
+const GREATEST: [MatrixStep; 4] = [
     Adopt(1022, 1023),
     Adopt(1, 1022),
     Cell(1, 1023, 0x02),
@@ -119,7 +119,7 @@ fn path(matrix: &Matrix, a: u16, b: u16) -> Result<Option<Vec<TypeNo>>, Fault> {
 }
 
 /// Takes one step; whether it could be taken, and the matrix says so.
-fn take(matrix: &mut Matrix, step: Step) -> Result<bool, Fault> {
+fn take(matrix: &mut Matrix, step: MatrixStep) -> Result<bool, Fault> {
     match step {
         Adopt(a, b) => Ok(adopt(matrix, a, b)),
         Find(a, b) => Ok(find(matrix, a, b)),
@@ -133,7 +133,7 @@ fn take(matrix: &mut Matrix, step: Step) -> Result<bool, Fault> {
 }
 
 /// Takes the steps in a new matrix; which of them is the first that fails.
-fn first_failure(alloc: Global, size: u16, steps: &[Step]) -> Result<Option<usize>, Fault> {
+fn first_failure(alloc: Global, size: u16, steps: &[MatrixStep]) -> Result<Option<usize>, Fault> {
     if size < 1 || size > 1023 {
         return Ok(Some(0));
     }

@@ -41,7 +41,7 @@ pub fn replayed<R: BufRead, W: Write>(
 
 /// How a replay ended, and the evidence that it left of a failure.
 #[derive(Drop)]
-pub struct Ended {
+pub struct ReplayEnd {
     pub outcome: Result<Summary, ReplayError>,
     /// Whether there is evidence that the reader failed.
     pub read_failed: bool,
@@ -49,7 +49,7 @@ pub struct Ended {
     pub write_failed: bool,
 }
 
-impl Ended {
+impl ReplayEnd {
     /// Whether it ended well, or at a bad line, and blames neither end.
     pub fn is_sound(&self) -> bool {
         self.outcome.is_ok() && !self.read_failed && !self.write_failed
@@ -72,10 +72,10 @@ pub fn replayed_through<R: BufRead, W: Write>(
     input: &mut R,
     output: &mut W,
     view: View,
-) -> Ended {
+) -> ReplayEnd {
     let mut ports = Failures::new();
     let outcome = replay_through(alloc, &mut ports, input, output, view);
-    Ended {
+    ReplayEnd {
         outcome,
         read_failed: ports.has_read_failed(),
         write_failed: ports.has_write_failed(),

@@ -11,7 +11,7 @@ use std::test::Fail;
 use std::thread::{Threads, join};
 use wit_core::Verifier;
 use wit_model::{LockNo, Mode, OpFlags, SeatNo, Site, Watch};
-use wit_shared::{Opened, Room, Seat, Shared};
+use wit_shared::{OpenedVerifier, Room, Seat, Shared};
 
 /// Takes a mutex and lets it go, 50 times.
 fn take_50_times<J: Room, R: Wait + Abort>(
@@ -72,7 +72,7 @@ fn close_twice<J: Room, R: Wait + Abort>(
 fn run<J: Room + Send + Sync, R: Threads + Wait + Abort + Sync>(
     rt: &R,
     alloc: Global,
-    opened: Opened,
+    opened: OpenedVerifier,
 ) -> Verifier
     requires { (opened.story.start ≡ J.start) × (opened.table ≡ J.table) × (opened.list ≡ J.list) }
 {
@@ -108,7 +108,7 @@ fn two_threads_log_and_all_seats_come_back(rt: HostRuntime) -> Result<(), Fail> 
 }
 
 /// One of three seats logs nothing. The verifier could have more.
-fn leave_seats<J: Room, R: Wait + Abort>(rt: &R, alloc: Global, opened: Opened) -> Verifier
+fn leave_seats<J: Room, R: Wait + Abort>(rt: &R, alloc: Global, opened: OpenedVerifier) -> Verifier
     requires { (opened.story.start ≡ J.start) × (opened.table ≡ J.table) × (opened.list ≡ J.list) }
 {
     let (shared, _observers) = match opened.named::<J, R>(rt, 0) {

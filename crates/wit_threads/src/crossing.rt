@@ -9,7 +9,7 @@ use std::sync::Wait;
 use std::test::Fail;
 use std::thread::{Threads, join};
 use wit_model::{LockNo, Reply, TypeNo};
-use wit_shared::{News, Observer, Opened, Room, Seat, Shared};
+use wit_shared::{News, Observer, OpenedVerifier, Room, Seat, Shared};
 
 /// Defines the order from one mutex to another, and has news of it.
 fn adopt<J: Room, R: Wait + Abort>(
@@ -46,7 +46,7 @@ fn learn_and_ask<J: Room>(mut observer: Observer<J>, news: News<J>) -> Answers {
 /// One thread adopts, two others ask: an observer that learns the news, and one that looks.
 fn cross<J: Room + Send + Sync, R: Threads + Wait + Abort + Sync>(
     rt: &R,
-    opened: Opened,
+    opened: OpenedVerifier,
 ) -> (Answers, Answers)
     requires { (opened.story.start ≡ J.start) × (opened.table ≡ J.table) × (opened.list ≡ J.list) }
 {

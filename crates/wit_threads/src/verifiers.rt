@@ -6,15 +6,15 @@ use std::process::Abort;
 use std::sync::Wait;
 use wit_core::Verifier;
 use wit_model::{Class, Limits, LockFlags, LockNo, SeatNo};
-use wit_shared::{Opened, Room, Seat, Shared};
+use wit_shared::{OpenedVerifier, Room, Seat, Shared};
 
 /// A verifier that is about to be shared by this many seats.
-pub(crate) fn opened<R: Abort>(rt: &R, alloc: Global, seats: u32) -> Opened {
+pub(crate) fn opened<R: Abort>(rt: &R, alloc: Global, seats: u32) -> OpenedVerifier {
     let limits = Limits::new(seats, 16, 64, 64, 4096).expect(rt, "limits");
     let verifier = Verifier::new(alloc, limits, Vec::new(alloc), Vec::new(alloc))
         .ok()
         .expect(rt, "memory for a verifier");
-    Opened::new(alloc, verifier)
+    OpenedVerifier::new(alloc, verifier)
         .ok()
         .expect(rt, "memory for what its seats know")
 }

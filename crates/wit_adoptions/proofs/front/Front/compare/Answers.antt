@@ -1,7 +1,7 @@
 use Rattle.std.proofs.Common.{ap, subst, List}
 use Rattle.std.specs.Cmp.{ranked}
 use mathlib.Core.List.{IsPrefix}
-use Rattle.wit_adoptions.specs.declared.link.Link.{Link}
+use Rattle.wit_adoptions.specs.declared.link.ListLink.{ListLink}
 use Rattle.wit_adoptions.proofs.Ends.{orders_begin}
 use Rattle.wit_adoptions.proofs.Fronts.{compared}
 use Rattle.wit_adoptions.specs.Links.{orders_since}
@@ -14,7 +14,7 @@ returns g c =
     let two = c.other.inside in
     let both = c.learn.new.self.log in
     let first : IsPrefix one.seen.log both =
-    subst (λ (l : List Link). IsPrefix l both) (ap (λ s. s.log) c.again-both.ensures)
+    subst (λ (l : List ListLink). IsPrefix l both) (ap (λ s. s.log) c.again-both.ensures)
     c.learn.ensures.2 in
     rw (← c.self.view_is, ← c.other.view_is)
     (compared (orders_since start one.seen.log) (orders_since start two.seen.log)

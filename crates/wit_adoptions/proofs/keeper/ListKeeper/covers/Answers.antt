@@ -1,12 +1,12 @@
 use Rattle.std.proofs.Common.{sym, ◌∙◌, ap, subst, List}
 use mathlib.Core.List.{IsPrefix}
 use Rattle.wit_model.specs.declared.calls.Adoption.{Adoption}
-use Rattle.wit_adoptions.specs.declared.link.Link.{Link}
+use Rattle.wit_adoptions.specs.declared.link.ListLink.{ListLink}
 use Rattle.wit_adoptions.specs.Links.{orders_since}
 use Rattle.wit_adoptions.proofs.Ends.{orders_begin}
 use Rattle.wit_adoptions.proofs.Fronts.{begins_through}
 use Rattle.wit_adoptions.proofs.Steps.{covers_moves}
-use Rattle.wit_adoptions.proofs.keeper.Keeper.covers.Goals as goal
+use Rattle.wit_adoptions.proofs.keeper.ListKeeper.covers.Goals as goal
 
 pub compare_exchange-requires : goal.compare_exchange-requires
 compare_exchange-requires g c =
@@ -32,7 +32,7 @@ returns-clause-begins g c =
     let both = c.learn.new.self.log in
     let book = c.compare_exchange.new.seen.log in
     let seen : IsPrefix own both =
-    subst (λ (l : List Link). IsPrefix l both) (ap (λ s. s.log) c.again-both.ensures)
+    subst (λ (l : List ListLink). IsPrefix l both) (ap (λ s. s.log) c.again-both.ensures)
     c.learn.ensures.2 in
     let all = c.compare_exchange.ensures.7.1 start own seen c.self.invariant.3 in
     let begins =

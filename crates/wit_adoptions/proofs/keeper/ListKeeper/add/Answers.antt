@@ -1,6 +1,6 @@
 use Rattle.std.proofs.Common.{sym, ◌∙◌, ap}
 use Rattle.wit_adoptions.proofs.Steps.{adds_moves}
-use Rattle.wit_adoptions.proofs.keeper.Keeper.add.Goals as goal
+use Rattle.wit_adoptions.proofs.keeper.ListKeeper.add.Goals as goal
 
 pub compare_exchange-requires : goal.compare_exchange-requires
 compare_exchange-requires g c =
