@@ -112,12 +112,12 @@ fn lock_named<J: Room, R: Wait>(
 }
 
 // Makes these calls, one after the other.
-fn go<J: Room, R: Wait>(place: &Place<J, R>, worker: &mut Worker<J>, steps: &[LoggedCall]) {
-    for step in steps {
-        if let Err(fault) = make(place, worker, *step) {
+fn go<J: Room, R: Wait>(place: &Place<J, R>, worker: &mut Worker<J>, calls: &[LoggedCall]) {
+    for call in calls {
+        if let Err(fault) = make(place, worker, *call) {
             worker.tally.refuse(fault);
             // There was no memory for it; now there is.
-            let _answer = make(place, worker, *step);
+            let _answer = make(place, worker, *call);
         }
     }
 }
@@ -125,12 +125,12 @@ fn go<J: Room, R: Wait>(place: &Place<J, R>, worker: &mut Worker<J>, steps: &[Lo
 fn make<J: Room, R: Wait>(
     place: &Place<J, R>,
     worker: &mut Worker<J>,
-    step: LoggedCall,
+    call: LoggedCall,
 ) -> Result<Reply, Fault> {
     let (rt, shared) = (place.rt, place.shared);
     let seat = &mut worker.seat;
     let ops = OpFlags::NEWORDER | OpFlags::FRESH;
-    let answer = match step {
+    let answer = match call {
         LoggedCall::Define(first, second) => shared.define_order(rt, seat, first, second),
         LoggedCall::Check(lock, mode, site) => shared.check(rt, seat, lock, mode, ops, site),
         LoggedCall::Note(lock) => shared.note(rt, seat, lock),
@@ -145,7 +145,7 @@ fn make<J: Room, R: Wait>(
         LoggedCall::Turn(watch) => shared.set_watch(rt, seat, watch),
     };
     if answer.is_ok() {
-        match step {
+        match call {
             LoggedCall::Check(lock, ..) => worker.tally.add(Made::Check, lock),
             LoggedCall::Note(lock) => worker.tally.add(Made::Note, lock),
             LoggedCall::Try(lock, ..) => worker.tally.add(Made::Try, lock),

@@ -111,7 +111,7 @@ pub extern "C" fn wit_watch(alloc: Global, place: &mut Place) -> i64
 /// The number of a lock's type, or 0: `Verifier::type_of`.
 #[unsafe(no_mangle)]
 pub extern "C" fn wit_type_of(alloc: Global, place: &mut Place, lock: u32) -> i64
-    ensures { Asks (λ s n. n ≡ optional_number (option_map (λ (t : TypeNo). t.0)
+    ensures { Asks (λ s n. n ≡ optional_number (option_map (λ (type_no : TypeNo). type_no.0)
         (lock_type (typed_locks s.start s.history) lock)))
         place.old.handle.value result place.new.handle.value }
 {

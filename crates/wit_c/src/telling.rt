@@ -166,13 +166,13 @@ impl Judge {
 }
 
 fn seat_numbers(alloc: Global, seats: &[SeatNo]) -> Result<Vec<u16>, AllocError>
-    ensures { IfOk result (λ numbers. numbers.items ≡ map (λ (t : SeatNo). t.0) seats.now) }
+    ensures { IfOk result (λ numbers. numbers.items ≡ map (λ (seat : SeatNo). seat.0) seats.now) }
 {
     seats.iter().map(|seat| seat.0).collect(alloc)
 }
 
 fn type_numbers(alloc: Global, types: &[TypeNo]) -> Result<Vec<u16>, AllocError>
-    ensures { IfOk result (λ numbers. numbers.items ≡ map (λ (t : TypeNo). t.0) types.now) }
+    ensures { IfOk result (λ numbers. numbers.items ≡ map (λ (type_no : TypeNo). type_no.0) types.now) }
 {
     types.iter().map(|number| number.0).collect(alloc)
 }

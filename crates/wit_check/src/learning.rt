@@ -3,6 +3,7 @@
 ghost use Rattle.std.specs.Prelude.{◌≡◌, ◌≤◌, ◌==◌, true, List, length, IfOk, OnOk};
 ghost use Rattle.std.specs.List.{list_any};
 ghost use Rattle.wit_model.specs.declared.locks.TypeNo.{TypeNo};
+ghost use Rattle.wit_model.specs.declared.sizes.TheConstants.Limits.{MOST_SEATS};
 ghost use Rattle.wit_model.specs.Rules.Numbers.{IsNumber, IsGiven};
 ghost use Rattle.wit_model.specs.Rules.Chunks.{IsList, chain_of, list_of};
 ghost use Rattle.wit_model.specs.Rules.Verdict.{chain_asked, is_new, orders_behind};
@@ -35,7 +36,7 @@ pub fn new_orders<L: Lists>(
     chains: Chains<L>,
     request: TypedRequest,
 ) -> Result<NewOrders, AllocError>
-    requires seat { IsNumber 256 chains.seat.0 }
+    requires seat { IsNumber MOST_SEATS chains.seat.0 }
     requires lists { IsList (L.chunks chains.lists.now) (list_of true chains.seat.0) }
     requires sleep { IsJudgeable chains.lock_types.now
         (sleep_chain (L.chunks chains.lists.now) chains.seat.0) }
@@ -129,7 +130,7 @@ fn is_new(basis: &Basis, request: TypedRequest, before: &[(TypeNo, TypeNo)], hel
 
 // Whether one of these orders is behind a type.
 fn is_among(parent: TypeNo, orders: &[(TypeNo, TypeNo)]) -> bool
-    ensures { result ≡ list_any (λ (o : TypeNo × TypeNo). o.0.0 == parent.0) orders.now }
+    ensures { result ≡ list_any (λ (order : TypeNo × TypeNo). order.0.0 == parent.0) orders.now }
 {
     orders.iter().any(|order| order.0.0 == parent.0)
 }

@@ -4,6 +4,7 @@ ghost use Rattle.std.specs.Prelude.{◌≡◌, ◌≤◌, true, List, length, No
 ghost use Rattle.std.specs.List.{last_or};
 ghost use Rattle.wit_model.specs.declared.locks.TypeNo.{TypeNo};
 ghost use Rattle.wit_model.specs.declared.profiles.Profile.TheVariants.{Plain};
+ghost use Rattle.wit_model.specs.declared.sizes.TheConstants.Limits.{MOST_SEATS};
 ghost use Rattle.wit_model.specs.Rules.Numbers.{IsNumber, IsGiven};
 ghost use Rattle.wit_model.specs.Rules.Chunks.{IsList, chain_of, list_of};
 ghost use Rattle.wit_model.specs.Rules.Verdict.{chain_asked, decided, ruling};
@@ -44,7 +45,7 @@ pub fn verdict<L: Lists>(
     request: TypedRequest,
     profile: Profile,
 ) -> Verdict
-    requires seat { IsNumber 256 chains.seat.0 }
+    requires seat { IsNumber MOST_SEATS chains.seat.0 }
     requires lists { IsList (L.chunks chains.lists.now) (list_of true chains.seat.0) }
     requires sleep { IsJudgeable chains.lock_types.now
         (sleep_chain (L.chunks chains.lists.now) chains.seat.0) }
@@ -80,7 +81,7 @@ pub fn verdict<L: Lists>(
 
 // Whether the seat holds a spin lock.
 fn holds_spin<L: Lists>(lists: &L, seat: SeatNo) -> bool
-    requires seat { IsNumber 256 seat.0 }
+    requires seat { IsNumber MOST_SEATS seat.0 }
     requires lists { IsList (L.chunks lists.now) (list_of true seat.0) }
     ensures { result ≡ is_some (last_or None (spin_chain (L.chunks lists.now) seat.0)) }
 {

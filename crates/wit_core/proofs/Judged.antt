@@ -40,6 +40,7 @@ use Rattle.wit_model.specs.declared.calls.Reply.TheVariants as reply
 use Rattle.wit_model.specs.declared.calls.Adoption.{Adoption}
 use Rattle.wit_model.specs.declared.faults.Fault.{Fault}
 use Rattle.wit_model.specs.declared.faults.Fault.TheVariants.{KindMismatch, SameType, WrongOrder}
+use Rattle.wit_model.specs.declared.sizes.TheConstants.Limits.{MOST_SEATS}
 use Rattle.wit_check.specs.Bases.{basis, AreTypes}
 use Rattle.wit_check.specs.Answers.{new_orders}
 use Rattle.wit_check.specs.Held.{sleep_chain, spin_chain, IsJudgeable}
@@ -145,7 +146,7 @@ module _ {v : Inside} {s : Story} (this : IsSeenAs v s) where
     given : IsGiven v.seats.seats t
     given = seat-given this t is
 
-    pub seat-within : IsNumber 256 t
+    pub seat-within : IsNumber MOST_SEATS t
     seat-within = (given.0, omega (arith, given.1, holds.few))
 
     pub list-within : IsList c (2 * t)

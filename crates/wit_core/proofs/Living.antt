@@ -9,6 +9,7 @@ use Rattle.std.proofs.lemmas.List.{get_or_at}
 use Rattle.std.proofs.lemmas.List.Sums.{sum_by-cons}
 use Rattle.wit_model.specs.declared.locks.Class.{Class}
 use Rattle.wit_model.specs.declared.locks.Lock.{Lock}
+use Rattle.wit_model.specs.declared.sizes.TheConstants.Limits.{MOST_LOCKS}
 use Rattle.wit_model.specs.Rules.Locks.{lock_at, unknown_lock, is_destroyed}
 use Rattle.wit_model.specs.Rules.Numbers.{IsGiven}
 use Rattle.wit_model.specs.Rules.State.{is_live_of, live_among}
@@ -113,7 +114,7 @@ counted-enrolled names enrolled name class locks flags is counts t =
 -- there is room for one more
 pub room-enrolled : (names enrolled : Names) (name : List ℕ) (class : Class) (m : ℕ)
     (locks : List Lock) (flags : List Bool) → enrolled ≡ with_type names name class
-    → Counts names locks flags → length locks < 65536 → live_of enrolled m < 65536
+    → Counts names locks flags → length locks < MOST_LOCKS → live_of enrolled m < MOST_LOCKS
 room-enrolled names enrolled name class m locks flags is counts few =
     let same = counted-enrolled names enrolled name class locks flags is counts m in
     let le = count-few locks flags m in

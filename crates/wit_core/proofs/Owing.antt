@@ -1,11 +1,12 @@
 -- How much the log owes for one held lock.
-use Rattle.std.proofs.Common.{◌≡◌, ℕ, zero, suc, ◌+◌, ◌-◌, ◌≤◌, Bool, true, false, not, ◌&&◌, cond}
+use Rattle.std.proofs.Common.{◌≡◌, ℕ, zero, suc, ◌+◌, ◌-◌, ◌≤◌, ◌<◌, Bool, true, false, not, ◌&&◌, cond}
 use Rattle.std.proofs.Common.{nat_lt, List, [], ◌∷◌, Option, None, Some, find, sum_by, unwrap_or}
 use Rattle.std.proofs.Common.{refl, ap, arith}
 use Rattle.std.specs.List.{slice_get}
 use Rattle.std.proofs.lemmas.Bool.{eqb-true, false≢true}
 use Rattle.std.proofs.lemmas.List.Sums.{sum_by-cons}
 use Rattle.wit_model.specs.declared.locks.Instance.{Instance}
+use Rattle.wit_model.specs.declared.sizes.TheConstants.Limits.{MOST_ACQUISITIONS, DEEPEST}
 use Rattle.wit_model.specs.Rules.History.{is_off}
 use Rattle.wit_model.specs.Rules.Locks.{lock_at}
 use Rattle.wit_model.specs.Rules.State.{Story, State, Seat, state_of, seat_at, no_seat, chain_in}
@@ -49,17 +50,17 @@ chain-sum : (spin : Bool) (seat : Seat) → recorded_in (chain_in spin seat) ≤
 chain-sum true seat = omega arith
 chain-sum false seat = omega arith
 
--- a lock at its greatest depth is owed 65,536 releases
-deep-owed : (s : State) (t l : ℕ) → is_deepest (held_by s t l) ≡ true → 65536 ≤ owed s
+-- a lock at its greatest depth is owed as many releases as may be
+deep-owed : (s : State) (t l : ℕ) → is_deepest (held_by s t l) ≡ true → MOST_ACQUISITIONS ≤ owed s
 deep-owed s t l deep = by (held_by s t l) refl deep
   where
     spin : Bool
     spin = is_spin (lock_at s.known.locks l).made.class
 
-    by : (o : Option Instance) → held_by s t l ≡ o → is_deepest o ≡ true → 65536 ≤ owed s
+    by : (o : Option Instance) → held_by s t l ≡ o → is_deepest o ≡ true → MOST_ACQUISITIONS ≤ owed s
     by None is at = absurd (false≢true at)
     by (Some i) is at =
-        let count = eqb-true i.count 65535 at in
+        let count = eqb-true i.count DEEPEST at in
         let one =
         found-sum (λ (j : Instance). j.count + 1) (is_of l)
         (chain_in spin (seat_at s t)) i is in
@@ -67,7 +68,7 @@ deep-owed s t l deep = by (held_by s t l) refl deep
 
 -- where the log owes fewer, none is
 module _ {v : Inside} {s : Story} (this : IsSeenAs v s) (t l owes : ℕ) (is : owes ≡ v.log.owed)
-    (few : owes ≤ 65535) where
+    (few : owes < MOST_ACQUISITIONS) where
   pub not-deep : false ≡ is_too_deep (state_of s) t l
   not-deep = by (is_deepest (held_by (state_of s) t l)) refl
     where

@@ -9,6 +9,7 @@ use Rattle.std.proofs.lemmas.Option.{slice_get-get_or, slice_get_past}
 use Rattle.std.proofs.lemmas.List.{length-replicate, get_or_default}
 use Rattle.wit_model.specs.declared.locks.Instance.{Instance}
 use Rattle.wit_model.specs.declared.calls.Request.{Request}
+use Rattle.wit_model.specs.declared.sizes.TheConstants.Limits.{MOST_SEATS}
 use Rattle.wit_model.specs.Rules.Chunks.{Chunks, IsList, IsNew, groups_of, chain_of, set_groups}
 use Rattle.wit_model.specs.Rules.Chunks.{list_of}
 use Rattle.wit_model.specs.Rules.Groups.{flat, opens}
@@ -54,7 +55,7 @@ module _ (o : Inside) (r : Seating) (seen : seating_in o ≡ r) where
     pub within-row : t - 1 < length o.requests.items
     within-row = let g = given-in in omega (arith, g.0, g.1, seats-count o.lists o.requests.items)
 
-    pub number-now : (0 < t) × (t ≤ 256)
+    pub number-now : (0 < t) × (t ≤ MOST_SEATS)
     number-now = let g =
         given-in in (g.0, omega (arith, g.1, seats-count o.lists o.requests.items, k.few))
 

@@ -1,5 +1,6 @@
 -- What is known as its callers see it.
 use Rattle.std.specs.Prelude.{ℕ, ◌≡◌, length}
+use Rattle.wit_model.specs.declared.sizes.TheConstants.Limits.{MOST_FILES}
 use Rattle.wit_table.specs.Known.{live_of}
 use Rattle.wit_core.specs.Known.{Facts}
 use Rattle.wit_core.specs.Live.{live_count}
@@ -28,6 +29,6 @@ AreCounted k = (t : ℕ) → live_of k.names t ≡ live_count k.locks.locks k.li
 -- is live or not, which the counts of live locks know
 pub record IsSized (k : Inside) : Type 0 where
   pub orders : k.orders.size ≡ k.names.most_types
-  pub files : k.names.most_files ≡ 65535
+  pub files : k.names.most_files ≡ MOST_FILES
   pub live : length k.live.items ≡ length k.locks.locks
   pub counts : AreCounted k

@@ -4,6 +4,7 @@ use Rattle.std.specs.Prelude.{get_or, ◌-◌, find, IfSome}
 use Rattle.std.specs.List.{range_with_len}
 use Rattle.wit_model.specs.declared.locks.LockNo.{LockNo}
 use Rattle.wit_model.specs.declared.calls.Request.{Request}
+use Rattle.wit_model.specs.declared.sizes.TheConstants.Limits.{MOST_SEATS}
 use Rattle.wit_model.specs.Rules.Chunks.{Chunks, IsPlaced, groups_of, chain_of, list_of}
 use Rattle.wit_model.specs.Rules.Verdict.{is_of}
 use Rattle.wit_core.specs.Seats.{Holdings, Seating}
@@ -29,7 +30,7 @@ IsUnheld c x = find (is_of x.1.0) (chain_of c x.0) ≡ None
 
 -- each seat has its two lists, each chunk stands once, and what is known not to be held isn't
 pub record AreSeated (s : Inside) : Type 0 where
-  pub few : length s.requests.items ≤ 256
+  pub few : length s.requests.items ≤ MOST_SEATS
   pub lists : length s.lists.groups ≡ 2 * length s.requests.items
   pub placed : IsPlaced s.lists
   pub unheld : IfSome s.unheld (IsUnheld s.lists)

@@ -5,6 +5,7 @@ use Rattle.std.specs.Prelude.{None, is_some, length, find, replicate, unwrap_or,
 use Rattle.std.specs.Prelude.{sum_by, if◌then◌else◌}
 use Rattle.wit_model.specs.declared.locks.Instance.{Instance}
 use Rattle.wit_model.specs.declared.calls.Request.{Request}
+use Rattle.wit_model.specs.declared.sizes.TheConstants.Limits.{MOST_SEATS}
 use Rattle.wit_model.specs.Rules.Chunks.{Chunks, IsPlaced, groups_of, list_of}
 use Rattle.wit_model.specs.Rules.Groups.{flat, opens}
 use Rattle.wit_model.specs.Rules.Numbers.{with_number, IsGiven}
@@ -87,7 +88,7 @@ after_acquired t spin i seating = if has_no_room seating t spin i.lock.0 then se
 
 -- the lists of these chunks hold what the seats hold, 256 at most, and each chunk stands once
 pub record HoldFor (seating : Seating) (c : Chunks) : Type 0 where
-  pub few : length seating.seats ≤ 256
+  pub few : length seating.seats ≤ MOST_SEATS
   pub groups : (t : ℕ) (spin : Bool) → IsGiven seating.seats t
       → groups_of c (list_of spin t) ≡ groups_held spin (seat_in seating t)
   pub lists : length c.groups ≡ 2 * length seating.seats

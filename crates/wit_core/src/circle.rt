@@ -3,6 +3,7 @@
 
 ghost use Rattle.std.specs.Prelude.{◌≡◌, ◌<◌, ◌≤◌, true, [], None, length, IfOk, IfErr, OnOk};
 ghost use Rattle.wit_model.specs.declared.faults.Fault.TheVariants.{OutOfMemory};
+ghost use Rattle.wit_model.specs.declared.sizes.TheConstants.Limits.{MOST_SEATS};
 ghost use Rattle.wit_model.specs.Rules.Circles.{waits_for, Waits, TellsCircle, circle_numbers};
 ghost use Rattle.wit_model.specs.Rules.Clean.{is_clean};
 ghost use Rattle.wit_model.specs.Rules.Numbers.{IsNumber};
@@ -90,7 +91,7 @@ impl Verifier {
 /// Want of memory alone.
 pub fn circle_in(alloc: Global, rows: &[Vec<bool>]) -> Result<Option<Vec<SeatNo>>, AllocError>
     requires table { IsTable (table_of rows.now) }
-    requires few { length rows.now ≤ 256 }
+    requires few { length rows.now ≤ MOST_SEATS }
     ensures { IfOk result (λ c. TellsCircle (Says (table_of rows.now)) (circle_numbers c)) }
 {
     for place in 0..rows.len() as u16 {
@@ -127,7 +128,7 @@ fn circle_from(
     first: SeatNo,
 ) -> Result<Option<Vec<SeatNo>>, AllocError>
     requires table { IsTable (table_of rows.now) }
-    requires few { length rows.now ≤ 256 }
+    requires few { length rows.now ≤ MOST_SEATS }
     requires first { IsNumber (length rows.now) first.0 }
     ensures { IfOk result (IsCircleFrom (table_of rows.now) first.0) }
 {
@@ -186,7 +187,7 @@ fn reach(
     place: usize,
 ) -> Result<(), AllocError>
     requires table { IsTable (table_of rows.now) }
-    requires few { length rows.now ≤ 256 }
+    requires few { length rows.now ≤ MOST_SEATS }
     requires search { IsSearch (table_of rows.now) first.0 reached.old.items seen.old }
     requires place { place < length reached.old.items }
     ensures { OnOk result (Reaches (table_of rows.now) first.0 place

@@ -55,7 +55,7 @@ impl Known {
     /// `OutOfMemory` alone.
     pub fn new(alloc: Global, types: u32) -> Result<Known, Fault>
         requires positive { 0 < types }
-        requires within { types ≤ 1023 }
+        requires within { types ≤ Limits.MOST_TYPES }
         ensures ok { IfOk result (λ k. k
             ≡ record {
               known = nothing_known;
@@ -92,7 +92,7 @@ impl Known {
 
     /// The type of each lock, in the order of the locks' numbers.
     pub fn lock_types(&self) -> &[TypeNo]
-        ensures { result.now ≡ map (λ (l : Lock). l.type_no) self.now.known.locks }
+        ensures { result.now ≡ map (λ (lock : Lock). lock.type_no) self.now.known.locks }
     {
         self.locks.types()
     }
@@ -134,10 +134,10 @@ impl Known {
     /// # Errors
     /// In this order: `BadName`, `FilesFull`, `OutOfMemory`; the files are then as before.
     pub fn file(&mut self, name: &str) -> Result<FileNo, Fault>
-        ensures ok { IfOk result (λ f. file_answer name.now 65535 self.old.files ≡ Ok f.0) }
+        ensures ok { IfOk result (λ f. file_answer name.now Limits.MOST_FILES self.old.files ≡ Ok f.0) }
         ensures entered { OnOk result
             (self.new ≡ record self.old { files = files_after name.now self.old.files }) }
-        ensures err { IfErr result (IsRefusal (file_answer name.now 65535 self.old.files)) }
+        ensures err { IfErr result (IsRefusal (file_answer name.now Limits.MOST_FILES self.old.files)) }
         ensures absent { IfErr result (λ e. e ≡ OutOfMemory
             → is_known_file name.now self.old.files ≡ false) }
         ensures unchanged { OnErr result (self.new ≡ self.old) }
@@ -204,7 +204,7 @@ impl Known {
     /// `OutOfMemory` alone; nothing is entered then.
     pub fn add_lock(&mut self, made: NewLock) -> Result<(), Fault>
         requires admitted { IsAdmitted self.old made }
-        requires few { length self.old.known.locks < 65536 }
+        requires few { length self.old.known.locks < Limits.MOST_LOCKS }
         ensures ok { OnOk result (self.new
             ≡ record self.old {
               known = with_lock self.old.known made;

@@ -15,7 +15,8 @@ use wit_table::Table;
 
 /// Whether an entry has a name that is none.
 pub(crate) fn has_bad_name(list: &[(Class, String)]) -> bool
-    ensures { result ≡ list_any (λ (e : Class × List ℕ). not (is_name e.1)) (listed list.now) }
+    ensures { result ≡ list_any (λ (each : Class × List ℕ). not (is_name each.1))
+        (listed list.now) }
 {
     list.iter().any(|e| !Name::accepts(&e.1))
 }
@@ -36,15 +37,16 @@ fn is_misclassed(names: &Table, list: &[(Class, String)], entry: &(Class, String
 
 /// Whether a list has this name with another class.
 fn is_listed_otherwise(list: &[(Class, String)], name: &str, class: Class) -> bool
-    ensures { result ≡ list_any (λ (e : Class × List ℕ). bytes_eq e.1 name.now
-        && not (is_same_class e.0 class)) (listed list.now) }
+    ensures { result ≡ list_any (λ (each : Class × List ℕ). bytes_eq each.1 name.now
+        && not (is_same_class each.0 class)) (listed list.now) }
 {
     list.iter().any(|e| e.1.as_str() == name && e.0 != class)
 }
 
 /// Whether a list has this name.
 fn is_listed(list: &[(Class, String)], name: &str) -> bool
-    ensures { result ≡ list_any (λ (e : Class × List ℕ). bytes_eq e.1 name.now) (listed list.now) }
+    ensures { result ≡ list_any (λ (each : Class × List ℕ). bytes_eq each.1 name.now)
+        (listed list.now) }
 {
     list.iter().any(|e| e.1.as_str() == name)
 }
@@ -65,7 +67,7 @@ pub(crate) fn types_with(names: &Table, list: &[(Class, String)]) -> usize
 /// Whether no type and none of these entries has an entry's name.
 fn is_new(names: &Table, earlier: &[(Class, String)], entry: &(Class, String)) -> bool
     ensures { result ≡ not (is_enrolled (string_bytes entry.now.1) names.now.types
-        || list_any (λ (e : Class × List ℕ). bytes_eq e.1 (string_bytes entry.now.1))
+        || list_any (λ (each : Class × List ℕ). bytes_eq each.1 (string_bytes entry.now.1))
         (listed earlier.now)) }
 {
     !(is_enrolled(names, &entry.1) || is_listed(earlier, &entry.1))
@@ -79,13 +81,14 @@ pub(crate) fn has_both_kinds(list: &[(Class, String)]) -> bool
 }
 
 fn has_spin(list: &[(Class, String)]) -> bool
-    ensures { result ≡ list_any (λ (e : Class × List ℕ). is_spin e.0) (listed list.now) }
+    ensures { result ≡ list_any (λ (each : Class × List ℕ). is_spin each.0) (listed list.now) }
 {
     list.iter().any(|e| e.0.is_spin())
 }
 
 fn has_sleep(list: &[(Class, String)]) -> bool
-    ensures { result ≡ list_any (λ (e : Class × List ℕ). not (is_spin e.0)) (listed list.now) }
+    ensures { result ≡ list_any (λ (each : Class × List ℕ). not (is_spin each.0))
+        (listed list.now) }
 {
     list.iter().any(|e| !e.0.is_spin())
 }

@@ -52,7 +52,7 @@ impl Locks {
 
     /// The type of each, in the order of their numbers.
     pub fn types(&self) -> &[TypeNo]
-        ensures { result.now ≡ map (λ (l : Lock). l.type_no) self.now.locks }
+        ensures { result.now ≡ map (λ (lock : Lock). lock.type_no) self.now.locks }
     {
         &self.types
     }
@@ -60,7 +60,7 @@ impl Locks {
     /// The type of a lock; `None` for one that was never made.
     pub fn type_with(&self, lock: LockNo) -> Option<TypeNo>
         ensures { result
-            ≡ option_map (λ (l : Lock). l.type_no) (with_number self.now.locks lock.0) }
+            ≡ option_map (λ (found : Lock). found.type_no) (with_number self.now.locks lock.0) }
     {
         with_number(&self.types, lock).copied()
     }
@@ -68,7 +68,7 @@ impl Locks {
     /// What a lock was made as; `None` for one that was never made.
     pub fn made_as(&self, lock: LockNo) -> Option<&NewLock>
         ensures { option_copied result
-            ≡ option_map (λ (l : Lock). l.made) (with_number self.now.locks lock.0) }
+            ≡ option_map (λ (found : Lock). found.made) (with_number self.now.locks lock.0) }
     {
         with_number(&self.made, lock)
     }

@@ -2,6 +2,7 @@
 
 ghost use Rattle.std.specs.Prelude.{◌≡◌, ◌<◌, ◌≤◌, ◌+◌, ◌-◌, [], ◌∷◌, length, nat_le, reverse};
 ghost use Rattle.std.specs.Prelude.{OnOk};
+ghost use Rattle.wit_model.specs.declared.sizes.TheConstants.Limits.{MOST_ENTRIES};
 ghost use Rattle.wit_model.specs.Rules.History.{is_report, reports_of};
 ghost use Rattle.wit_model.specs.Rules.Step.{is_logged};
 
@@ -35,7 +36,7 @@ impl Model for Log {
 impl Log {
     /// An empty log for up to this many entries (up to 16,777,216).
     pub fn new(alloc: Global, limit: u32) -> Log
-        requires { limit ≤ 16777216 }
+        requires { limit ≤ MOST_ENTRIES }
         ensures { result ≡ record { limit = limit; history = []; owed = 0; spare = result.spare } }
     {
         Log {

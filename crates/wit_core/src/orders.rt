@@ -3,6 +3,7 @@
 ghost use Rattle.std.specs.Prelude.{◌≡◌, ◌<◌, ◌≤◌, ◌+◌, ◌&&◌, ◌∷◌, ◌++◌, ℕ, true, [], IfSome, OnOk};
 ghost use Rattle.std.specs.Prelude.{IfOk, IfErr, length, map, reverse};
 ghost use Rattle.wit_model.specs.declared.faults.Fault.TheVariants.{OutOfMemory};
+ghost use Rattle.wit_model.specs.declared.sizes.TheConstants.Limits.{MOST_TYPES};
 ghost use Rattle.wit_model.specs.Rules.Orders.{is_direct, is_before, found_once};
 ghost use Rattle.wit_model.specs.Rules.Orders.{origin_of, cell, taught_at};
 ghost use Rattle.wit_model.specs.Rules.Numbers.{IsNumber, is_number};
@@ -47,7 +48,7 @@ impl Orders {
     /// `OutOfMemory` alone.
     pub fn new(alloc: Global, types: u32) -> Result<Orders, Fault>
         requires positive { 0 < types }
-        requires within { types ≤ 1023 }
+        requires within { types ≤ MOST_TYPES }
         ensures ok { IfOk result (λ o. o
             ≡ record { size = types; orders = []; found = []; spare = o.spare }) }
         ensures err { IfErr result (λ e. e ≡ OutOfMemory) }

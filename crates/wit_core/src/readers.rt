@@ -5,6 +5,7 @@ ghost use Rattle.std.specs.Option.{option_copied, option_map};
 ghost use Rattle.wit_model.specs.declared.calls.Request.{Request};
 ghost use Rattle.wit_model.specs.declared.locks.Instance.{Instance};
 ghost use Rattle.wit_model.specs.declared.faults.Fault.TheVariants.{OutOfMemory};
+ghost use Rattle.wit_model.specs.declared.sizes.TheConstants.Limits.{MOST_TYPES, MOST_SEATS};
 ghost use Rattle.wit_model.specs.Rules.Numbers.{with_number, IsNumber};
 ghost use Rattle.wit_model.specs.Rules.Orders.{Before, is_direct, origin_of};
 ghost use Rattle.wit_model.specs.Rules.State.{state_of, seat_at, chain_in, free, is_live, known_of};
@@ -26,7 +27,7 @@ impl Verifier {
     /// How many seats there are.
     pub fn seats(&self) -> u16
         ensures value { result ≡ self.now.start.sizes.seats }
-        ensures within { IsNumber 256 result }
+        ensures within { IsNumber MOST_SEATS result }
     {
         self.limits.seats() as u16
     }
@@ -34,7 +35,7 @@ impl Verifier {
     /// How many types there can be: the limit that it was made with.
     pub fn most_types(&self) -> u16
         ensures value { result ≡ self.now.start.sizes.types }
-        ensures within { IsNumber 1023 result }
+        ensures within { IsNumber MOST_TYPES result }
     {
         self.limits.types() as u16
     }
@@ -42,7 +43,7 @@ impl Verifier {
     /// The lock that a seat has asked for, and the mode: from its accepted `check` to its `note` or
     /// `give_up`.
     pub fn pending(&self, seat: SeatNo) -> Option<(LockNo, Mode)>
-        ensures { result ≡ option_map (λ (q : Request). (q.lock, q.mode))
+        ensures { result ≡ option_map (λ (request : Request). (request.lock, request.mode))
             (seat_at (state_of self.now) seat.0).pending }
     {
         let request = self.request(seat)?;
@@ -52,7 +53,7 @@ impl Verifier {
     /// How many times a seat has acquired again a lock that it holds, by what is recorded; `None`
     /// where it doesn't hold the lock.
     pub fn recorded(&self, seat: SeatNo, lock: LockNo) -> Option<u16>
-        ensures { result ≡ option_map (λ (i : Instance). i.count)
+        ensures { result ≡ option_map (λ (held : Instance). held.count)
             (held_by (state_of self.now) seat.0 lock.0) }
     {
         if !self.is_seat(seat) {
@@ -155,7 +156,7 @@ impl Verifier {
     /// How many types are known.
     pub fn types(&self) -> usize
         ensures value { result ≡ length (types_of self.now.start self.now.history) }
-        ensures few { result ≤ 1023 }
+        ensures few { result ≤ MOST_TYPES }
     {
         self.known.names().len()
     }

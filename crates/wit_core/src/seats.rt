@@ -3,6 +3,7 @@
 ghost use Rattle.std.specs.Prelude.{◌≡◌, ◌≢◌, true, false, not, find, is_some, slice_get};
 ghost use Rattle.std.specs.Prelude.{replicate, Ok, IfOk, IfErr, None, Some};
 ghost use Rattle.wit_model.specs.declared.faults.Fault.TheVariants.{OutOfMemory};
+ghost use Rattle.wit_model.specs.declared.sizes.TheConstants.Limits.{MOST_CHUNKS, MOST_SEATS};
 ghost use Rattle.wit_model.specs.Rules.Chunks.{IsList, IsPlaced, chain_of};
 ghost use Rattle.wit_model.specs.Rules.Numbers.{is_given, IsGiven, IsNumber};
 ghost use Rattle.wit_model.specs.Rules.Assertions.{assertion};
@@ -59,8 +60,8 @@ impl Seats {
     /// # Errors
     /// `OutOfMemory` alone.
     pub fn new(alloc: Global, seats: u32, chunks: u32) -> Result<Seats, Fault>
-        requires seats { IsNumber 256 seats }
-        requires chunks { IsNumber 65536 chunks }
+        requires seats { IsNumber MOST_SEATS seats }
+        requires chunks { IsNumber MOST_CHUNKS chunks }
         ensures ok { IfOk result (λ s. s ≡ idle_seating seats chunks) }
         ensures err { IfErr result (λ e. e ≡ OutOfMemory) }
     {
@@ -152,7 +153,8 @@ impl Seats {
 
     /// Whether some seat holds a lock or asks for it.
     pub fn is_used(&self, lock: LockNo) -> bool
-        ensures { result ≡ list_any (λ (s : Holdings). uses lock.0 (seat_view s)) self.now.seats }
+        ensures { result ≡ list_any (λ (holdings : Holdings). uses lock.0 (seat_view holdings))
+            self.now.seats }
     {
         for place in 0..self.requests.len() {
             let seat = SeatNo(place as u16 + 1);

@@ -161,9 +161,9 @@ impl Known {
 
     // Whether the type of one of these entries is that of another or before it.
     fn is_behind(&self, first: &(Class, String), list: &[(Class, String)]) -> bool
-        ensures { result ≡ list_any (λ (e : Class × List ℕ).
+        ensures { result ≡ list_any (λ (each : Class × List ℕ).
             is_back self.now.known.types self.now.known.orders
-            (string_bytes first.now.1) e.1) (listed list.now) }
+            (string_bytes first.now.1) each.1) (listed list.now) }
     {
         for entry in list {
             if self.is_back(first, entry) {

@@ -11,7 +11,7 @@ use Rattle.atomic_table.specs.Table.{State, Act, keeps, Valid, stepped, carried_
 use Rattle.atomic_table.specs.Table.{Enters, Joins, Splits}
 use Rattle.wit_model.specs.declared.locks.Mode.{Mode}
 use Rattle.wit_model.specs.declared.locks.Mode.TheVariants.{Shared, Exclusive}
-use Rattle.wit_model.specs.Gates.{AddsUp}
+use Rattle.wit_model.specs.Gates.{most_shares, exclusive_word, AddsUp}
 use Rattle.wit_model.proofs.Gates.{adds_up, from_sum}
 use Rattle.wit_gates.specs.declared.claim.Claim.{Claim}
 use Rattle.wit_gates.specs.Claims.{claim, nothing, unmatched, share_met, claim_of, mode_of}
@@ -226,11 +226,11 @@ tells id met me is =
     (tells_at id met)
 
 -- one more shares
-pub one_more : (met n : ℕ) → n < 4294967294 → Turns (unmatched met) (claim 1 0) n (n + 1)
+pub one_more : (met n : ℕ) → n < most_shares → Turns (unmatched met) (claim 1 0) n (n + 1)
 one_more met n few s e s' e' p q l m sum = omega arith
 
 -- of nobody's gate one has all
-pub takes_all : (met : ℕ) → Turns (unmatched met) (claim 0 1) 0 4294967295
+pub takes_all : (met : ℕ) → Turns (unmatched met) (claim 0 1) 0 exclusive_word
 takes_all met s e s' e' p q l m sum = omega arith
 
 -- one shares no more
@@ -243,7 +243,7 @@ pub gives_all : (n : ℕ) → Turns (claim 0 1) nothing n 0
 gives_all n s e s' e' p q l m sum = omega arith
 
 -- the only one that shares has all
-pub goes_up : Turns (claim 1 0) (claim 0 1) 1 4294967295
+pub goes_up : Turns (claim 1 0) (claim 0 1) 1 exclusive_word
 goes_up s e s' e' p q l m sum = omega arith
 
 -- who has all shares
@@ -294,13 +294,13 @@ read_back s words word (last, only, fits) same read =
 
 -- the word at the end
 pub ended : (s : Board) (words : List ℕ) (word : ℕ) → Rule s → s.words ≡ words
-    → get_elem? words 0 ≡ some word → word ≤ 4294967295
+    → get_elem? words 0 ≡ some word → word ≤ exclusive_word
 ended s words word rule same read = (read_back s words word rule same read).2
 
 -- the word at the end, with a claim that is still out
 pub ended_alone : (s : Board) (words : List ℕ) (word id : ℕ) (c : Claim) → Rule s → s.words ≡ words
     → get_elem? words 0 ≡ some word
-    → get_elem? s.views id ≡ some c → c ≡ claim 0 1 → word ≡ 4294967295
+    → get_elem? s.views id ≡ some c → c ≡ claim 0 1 → word ≡ exclusive_word
 ended_alone s words word id c rule same read there e =
     let sum : AddsUp word (shares_claimed s.views) (exclusives_claimed s.views) =
     read_back s words word rule same read in
@@ -311,7 +311,7 @@ ended_alone s words word id c rule same read there e =
 
 pub ended_shared : (s : Board) (words : List ℕ) (word id : ℕ) (c : Claim) → Rule s → s.words ≡ words
     → get_elem? words 0 ≡ some word
-    → get_elem? s.views id ≡ some c → c ≡ claim 1 0 → (1 ≤ word) × (word ≤ 4294967294)
+    → get_elem? s.views id ≡ some c → c ≡ claim 1 0 → (1 ≤ word) × (word ≤ most_shares)
 ended_shared s words word id c rule same read there e =
     let sum : AddsUp word (shares_claimed s.views) (exclusives_claimed s.views) =
     read_back s words word rule same read in

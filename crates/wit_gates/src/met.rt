@@ -8,8 +8,8 @@ use crate::claim::Claim;
 use atomic_table::Seat;
 use std::marker::Model;
 
-// How many can share a gate.
-const MOST_SHARES: u64 = 4_294_967_294;
+/// How many can share a gate.
+pub(crate) const MOST_SHARES: u64 = 4_294_967_294;
 
 /// What a gate gives to whom it doesn't let in: the word as a step met it. Only a step on that word
 /// gives one.

@@ -4,7 +4,7 @@ ghost use Rattle.atomic_table.specs.Seated.{TableId};
 ghost use Rattle.wit_gates.specs.Tickets.{HasOneWord};
 
 use crate::claim::Claim;
-use crate::met::Met;
+use crate::met::{MOST_SHARES, Met};
 use crate::rule::{
     Counts, Ends, Joined, Looks, Meets, Parted, Shares, Told, TriesExclusive, TriesShare,
     TriesUpgrade,
@@ -15,9 +15,6 @@ use std::alloc::{AllocError, Global};
 use std::marker::Model;
 use std::sync::{MutexGuard, Wait};
 use wit_model::Mode;
-
-// How many can share a gate.
-const MOST_SHARES: u64 = 4_294_967_294;
 
 // The word of a gate that somebody has alone.
 const EXCLUSIVE: u64 = 4_294_967_295;

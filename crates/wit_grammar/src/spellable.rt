@@ -158,7 +158,7 @@ fn is_spellable_list(types: &[(Class, Name)]) -> bool
 }
 
 fn are_named(types: &[(Class, Name)]) -> bool
-    ensures { result ≡ list_all (λ (x : Class × List ℕ). is_name x.1) types.now }
+    ensures { result ≡ list_all (λ (each : Class × List ℕ). is_name each.1) types.now }
 {
     types.iter().all(|(_, name)| Name::accepts(name.as_str()))
 }

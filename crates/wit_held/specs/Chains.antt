@@ -4,6 +4,7 @@ use Rattle.std.specs.Prelude.{Some, is_some, map, filter, find, nat_lt, if◌the
 use Rattle.wit_model.specs.declared.locks.Mode.{Mode}
 use Rattle.wit_model.specs.declared.locks.Site.{Site}
 use Rattle.wit_model.specs.declared.locks.Instance.{Instance}
+use Rattle.wit_model.specs.declared.sizes.TheConstants.Limits.{DEEPEST}
 use Rattle.wit_model.specs.Rules.Verdict.{is_of}
 use Rattle.wit_model.specs.Rules.Groups.{flat, joined, left}
 use Rattle.wit_model.specs.Rules.Chunks.{Chunks, groups_of, chain_of, set_groups, is_refused}
@@ -18,7 +19,7 @@ IsOnce l c = stands l c ≤ 1
 
 abbrev pub CanRise : Option Instance → Type 0
 CanRise None = Unit {0}
-CanRise (Some i) = i.count < 65535
+CanRise (Some i) = i.count < DEEPEST
 
 -- where the lock stands in the chain, its count can rise
 abbrev pub IsShallow : ℕ → List Instance → Type 0

@@ -3,6 +3,7 @@
 ghost use Rattle.std.specs.Prelude.{◌≡◌, ◌≤◌, [], replicate, IfOk};
 ghost use Rattle.std.specs.List.{range_with_len};
 ghost use Rattle.std.specs.Vec.{vec_capacity};
+ghost use Rattle.wit_model.specs.declared.sizes.TheConstants.Limits.{MOST_CHUNKS};
 ghost use Rattle.wit_held.specs.Rows.{contents, HaveRoomFor};
 
 use std::alloc::{AllocError, Allocator};
@@ -32,7 +33,7 @@ pub fn empty_rows<T: Drop, A: Allocator + Copy>(
 /// # Errors
 /// Want of memory alone.
 pub fn numbers_below<A: Allocator>(alloc: A, count: u32) -> Result<Vec<u16, A>, AllocError>
-    requires { count ≤ 65536 }
+    requires { count ≤ MOST_CHUNKS }
     ensures numbers { IfOk result (λ numbers. numbers.items ≡ range_with_len 0 count) }
     ensures room { IfOk result (λ numbers. count ≤ vec_capacity numbers) }
 {

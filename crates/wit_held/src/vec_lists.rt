@@ -1,7 +1,8 @@
 //! Lists in chunks on vectors.
 
-ghost use Rattle.std.specs.Prelude.{◌≡◌, ◌≤◌, length, IfOk, IfErr};
+ghost use Rattle.std.specs.Prelude.{◌≡◌, ◌≤◌, ◌*◌, length, IfOk, IfErr};
 ghost use Rattle.wit_model.specs.declared.faults.Fault.TheVariants.{OutOfMemory};
+ghost use Rattle.wit_model.specs.declared.sizes.TheConstants.Limits.{MOST_CHUNKS, MOST_SEATS};
 ghost use Rattle.wit_model.specs.Rules.Chunks.{IsNew};
 ghost use Rattle.wit_model.specs.Rules.Numbers.{IsNumber};
 
@@ -46,8 +47,8 @@ impl<A: Allocator> VecLists<A> {
     pub fn new(alloc: A, chunks: u32, lists: u16) -> Result<VecLists<A>, Fault>
     where
         A: Copy,
-        requires chunks { IsNumber 65536 chunks }
-        requires lists { IsNumber 512 lists }
+        requires chunks { IsNumber MOST_CHUNKS chunks }
+        requires lists { IsNumber (2 * MOST_SEATS) lists }
         ensures ok { IfOk result (IsNew chunks lists) }
         ensures err { IfErr result (λ e. e ≡ OutOfMemory) }
     {
@@ -64,7 +65,7 @@ impl<A: Allocator> VecLists<A> {
     fn make(alloc: A, chunks: u32, lists: u16) -> Result<VecLists<A>, AllocError>
     where
         A: Copy,
-        requires { chunks ≤ 65536 }
+        requires { chunks ≤ MOST_CHUNKS }
         ensures { IfOk result (IsNew chunks lists) }
     {
         let places = empty_rows(alloc, lists as usize, chunks as usize)?;

@@ -3,6 +3,7 @@
 ghost use Rattle.std.specs.Prelude.{◌≡◌, ◌-◌, ◌^◌, ◌<◌, true, false, List, length, filter, not};
 ghost use Rattle.std.specs.Prelude.{slice_get};
 ghost use Rattle.wit_model.specs.declared.locks.Instance.{Instance};
+ghost use Rattle.wit_model.specs.declared.sizes.TheConstants.Limits.{MOST_SEATS};
 ghost use Rattle.wit_model.specs.Rules.Numbers.{IsNumber, IsGiven};
 ghost use Rattle.wit_model.specs.Rules.Chunks.{IsList, chain_of, list_of};
 ghost use Rattle.wit_model.specs.Rules.Verdict.{Basis, type_held, is_giant, is_sleepable};
@@ -40,7 +41,7 @@ pub fn warn_count<L: Lists, T: LockTypes>(
     named: Option<LockNo>,
     flags: WarnFlags,
 ) -> usize
-    requires seat { IsNumber 256 seat.0 }
+    requires seat { IsNumber MOST_SEATS seat.0 }
     requires lists { IsList (L.chunks lists.now) (list_of true seat.0) }
     requires typed { AreTyped (T.basis types.now)
         (chain_of (L.chunks lists.now) (list_of false seat.0)) }
@@ -66,7 +67,7 @@ fn count_sleep<L: Lists, T: LockTypes>(
     requires list { IsList (L.chunks lists.now) list }
     requires typed { AreTyped (T.basis types.now) (chain_of (L.chunks lists.now) list) }
     ensures value { result ≡ length
-        (filter (λ (i : Instance). not (is_allowed (T.basis types.now) named flags i))
+        (filter (λ (held : Instance). not (is_allowed (T.basis types.now) named flags held))
         (chain_of (L.chunks lists.now) list)) }
     ensures few { result < 2 ^ 32 }
 {

@@ -10,6 +10,7 @@ use Rattle.wit_model.specs.declared.calls.Call.TheVariants.{Check, Note, GiveUp}
 use Rattle.wit_model.specs.declared.calls.Reply.{Reply}
 use Rattle.wit_model.specs.declared.calls.Reply.TheVariants.{Done}
 use Rattle.wit_model.specs.declared.calls.Request.{Request}
+use Rattle.wit_model.specs.declared.sizes.TheConstants.Limits.{DEEPEST}
 use Rattle.wit_model.specs.Rules.State.{Start, Story}
 use Rattle.wit_model.specs.Rules.Step.{Answers, AnswersOrFails, is_logged}
 use Rattle.wit_seats.specs.declared.views.SeatKnowledge.{SeatKnowledge}
@@ -58,7 +59,7 @@ FailsToAcquire start q shut fault v w =
 abbrev pub FailsToRecurse : Start → Request → ℕ → Fault → SeatKnowledge → SeatKnowledge → Type 0
 FailsToRecurse start q depth fault v w =
     Leaves AnswersOrFails start (Check q) (Err fault) v w
-    ⊎ ((fault ≡ RecursionTooDeep) × (65535 ≤ depth) × (w ≡ v))
+    ⊎ ((fault ≡ RecursionTooDeep) × (DEEPEST ≤ depth) × (w ≡ v))
 
 -- a call was accepted, and may have been passed over
 abbrev pub IsMade : (Story → ℕ → Call → Result Reply Fault → Story → Type 0) → Start → Call

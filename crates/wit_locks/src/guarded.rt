@@ -94,7 +94,8 @@ impl<J: Room, T, G: Gate, K: Kind> Guarded<J, T, G, K> {
             (first_request self.now.lock.number Exclusive site) seat.old seat.new) }
         ensures done { IfOk result (λ out. (before : T) × (after : T)
             × W.done task before after out) }
-        ensures task { (w : W) → (fault : Fault) → result ≡ Err (NotAcquired w fault) → (w ≡ task)
+        ensures task { (back : W) → (fault : Fault) → result ≡ Err (NotAcquired back fault)
+            → (back ≡ task)
             × FailsToAcquire J.start (first_request self.now.lock.number Exclusive site)
             ((met : G.Met) × G.refuses self.now.lock.gate Exclusive met) fault
             seat.old seat.new }

@@ -12,11 +12,8 @@ use crate::kinds::Kind;
 use crate::lock::Lock;
 use std::sync::Wait;
 use wit_gates::Gate;
-use wit_model::{Fault, Mode, OpFlags, Reply, Site};
+use wit_model::{Fault, Limits, Mode, OpFlags, Reply, Site};
 use wit_shared::{Room, Seat, Shared};
-
-// How often a lock can be acquired through one token, behind the first time.
-const DEEPEST: u16 = 65_535;
 
 impl<J: Room, G: Gate, K: Kind> Lock<J, G, K> {
     /// Acquires a held lock again, in the token's mode: its depth is one more. The gate has no part
@@ -50,7 +47,7 @@ impl<J: Room, G: Gate, K: Kind> Lock<J, G, K> {
         ensures back { IfErr result (λ e. e.0 ≡ held) }
         ensures seat { (seat.new.seat ≡ seat.old.seat) × (seat.new.given ≡ seat.old.given) }
     {
-        if held.hold.depth >= DEEPEST {
+        if held.hold.depth >= Limits::DEEPEST {
             return Err((held, Fault::RecursionTooDeep));
         }
         match self.acquire_again(rt, shared, seat, held.hold.mode, site) {

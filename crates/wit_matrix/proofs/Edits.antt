@@ -8,6 +8,7 @@ use Rattle.std.proofs.lemmas.List.{length-replicate}
 use Rattle.wit_model.specs.declared.locks.TypeNo.{TypeNo}
 use Rattle.wit_model.specs.declared.locks.Origin.TheVariants.{Listed}
 use Rattle.wit_model.specs.declared.calls.Adoption.{Adoption}
+use Rattle.wit_model.specs.declared.sizes.TheConstants.Limits.{MOST_TYPES}
 use Rattle.wit_model.specs.Rules.Orders.{is_adoption_of, is_direct, is_before, IsSound, is_pair_of}
 use Rattle.wit_model.specs.Rules.Orders.{is_found, found_once, adopted_once}
 use Rattle.wit_model.specs.Rules.Numbers.{IsNumber}
@@ -240,7 +241,7 @@ blank_found n words is =
 blank_square : (n : ℕ) (words : List ℕ) → words ≡ replicate (n * width n) 0 → IsSquare n words
 blank_square n words is = ap length is ∙ length-replicate (n * width n) 0
 
-pub blank_kept : (n : ℕ) (direct before after found : List ℕ) → 1 ≤ n → n ≤ 1023
+pub blank_kept : (n : ℕ) (direct before after found : List ℕ) → 1 ≤ n → n ≤ MOST_TYPES
     → direct ≡ replicate (n * width n) 0 → before ≡ replicate (n * width n) 0
     → after ≡ replicate (n * width n) 0 → found ≡ replicate (n * width n) 0
     → IsKept n direct before after found

@@ -7,6 +7,7 @@ use Rattle.std.specs.List.{range_with_len, flat_map}
 use Rattle.wit_model.specs.declared.locks.Origin.TheVariants.{Listed}
 use Rattle.wit_model.specs.declared.locks.TypeNo.{TypeNo}
 use Rattle.wit_model.specs.declared.calls.Adoption.{Adoption}
+use Rattle.wit_model.specs.declared.sizes.TheConstants.Limits.{MOST_TYPES}
 use Rattle.wit_model.specs.Rules.Orders.{IsSound, is_before, is_found}
 use Rattle.wit_model.specs.Rules.Numbers.{IsNumber}
 use Rattle.wit_matrix.specs.Relation.{Relation}
@@ -60,7 +61,7 @@ IsSquare n words = length words ≡ n * width n
 -- found in violation
 pub record IsKept (n : ℕ) (direct before after found : List ℕ) : Type 0 where
   pub positive : 1 ≤ n
-  pub within : n ≤ 1023
+  pub within : n ≤ MOST_TYPES
   pub direct_square : IsSquare n direct
   pub before_square : IsSquare n before
   pub after_square : IsSquare n after

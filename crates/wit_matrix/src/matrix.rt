@@ -5,6 +5,7 @@ ghost use Rattle.std.specs.Prelude.{IfErr, IfSome};
 ghost use Rattle.wit_model.specs.declared.locks.TypeNo.{TypeNo};
 ghost use Rattle.std.specs.Option.{option_map};
 ghost use Rattle.wit_model.specs.declared.faults.Fault.TheVariants.{OutOfMemory};
+ghost use Rattle.wit_model.specs.declared.sizes.TheConstants.Limits.{MOST_TYPES};
 ghost use Rattle.wit_model.specs.Rules.Orders.{Before, IsSound, is_before, is_direct, is_found};
 ghost use Rattle.wit_model.specs.Rules.Orders.{cell};
 ghost use Rattle.wit_model.specs.Rules.Numbers.{IsNumber};
@@ -71,7 +72,7 @@ impl Matrix {
     /// `OutOfMemory` alone.
     pub fn new(alloc: Global, n: u16) -> Result<Matrix, Fault>
         requires positive { 1 ≤ n }
-        requires within { n ≤ 1023 }
+        requires within { n ≤ MOST_TYPES }
         ensures ok { IfOk result (λ m. m ≡ record { size = n; orders = []; found = [] }) }
         ensures err { IfErr result (λ e. e ≡ OutOfMemory) }
     {
@@ -89,7 +90,7 @@ impl Matrix {
     pub fn size(&self) -> u16
         ensures value { result ≡ self.now.size }
         ensures positive { 1 ≤ result }
-        ensures within { result ≤ 1023 }
+        ensures within { result ≤ MOST_TYPES }
         ensures sound { IsSound self.now.orders }
     {
         self.size
@@ -211,9 +212,9 @@ impl Matrix {
     fn next_type(&self, from: TypeNo, to: TypeNo) -> Option<TypeNo>
         requires from { IsNumber self.now.size from.0 }
         requires to { IsNumber self.now.size to.0 }
-        ensures value { option_map (λ (t : TypeNo). t.0) result
+        ensures value { option_map (λ (type_no : TypeNo). type_no.0) result
             ≡ next_type self.now.orders self.now.size from.0 to.0 }
-        ensures number { IfSome result (λ (t : TypeNo). IsNumber self.now.size t.0) }
+        ensures number { IfSome result (λ (type_no : TypeNo). IsNumber self.now.size type_no.0) }
     {
         let mut number = 1;
         while number <= self.size {

@@ -4,6 +4,7 @@
 ghost use Rattle.std.specs.Prelude.{◌≡◌, ◌<◌, ◌*◌, ◌&&◌, ◌==◌, ◌+◌, ◌/◌, ◌%◌, ◌^◌, ◌≤◌, not, false};
 ghost use Rattle.std.specs.Prelude.{IfOk, IfErr, replicate};
 ghost use Rattle.wit_model.specs.declared.faults.Fault.TheVariants.{OutOfMemory};
+ghost use Rattle.wit_model.specs.declared.sizes.TheConstants.Limits.{MOST_TYPES};
 ghost use Rattle.wit_matrix.specs.Squares.{width, word_place, has, IsSquare, AddsWhere, AreMirrors};
 ghost use Rattle.wit_matrix.specs.Squares.{IsTransitive, HasNone, ReachesNone, is_at, reaches};
 ghost use Rattle.wit_matrix.specs.Squares.{joins_row, joins, links};
@@ -169,7 +170,7 @@ fn next_row(mirror: &[u64], n: u16, first: TypeNo, from: u16) -> u16
 fn join_rows(words: &mut [u64], mirror: &[u64], n: u16, first: TypeNo, source: TypeNo)
     requires square { IsSquare n words.old }
     requires mirror_square { IsSquare n mirror.now }
-    requires types { n ≤ 1023 }
+    requires types { n ≤ MOST_TYPES }
     requires first { IsNumber n first.0 }
     requires source { IsNumber n source.0 }
     requires apart { reaches n mirror.now first.0 source.0 ≡ false }
@@ -195,7 +196,7 @@ fn join_rows(words: &mut [u64], mirror: &[u64], n: u16, first: TypeNo, source: T
 pub fn link(before: &mut [u64], after: &mut [u64], n: u16, parent: TypeNo, child: TypeNo)
     requires square { IsSquare n before.old }
     requires mirror_square { IsSquare n after.old }
-    requires types { n ≤ 1023 }
+    requires types { n ≤ MOST_TYPES }
     requires parent { IsNumber n parent.0 }
     requires child { IsNumber n child.0 }
     requires apart { parent.0 ≡ child.0 → ⊥ }

@@ -4,6 +4,7 @@ ghost use Rattle.std.specs.Prelude.{◌≡◌, ◌<◌, ◌+◌, ◌-◌, ◌^�
 ghost use Rattle.std.specs.Prelude.{None, find, position, reverse, take, slice_get, IfSome};
 ghost use Rattle.std.specs.List.{slice_index_or};
 ghost use Rattle.wit_model.specs.declared.locks.Instance.{Instance};
+ghost use Rattle.wit_model.specs.declared.sizes.TheConstants.Limits.{MOST_SEATS};
 ghost use Rattle.wit_model.specs.Rules.Numbers.{IsNumber};
 ghost use Rattle.wit_model.specs.Rules.Verdict.{is_of};
 ghost use Rattle.wit_model.specs.Rules.Groups.{flat, replaced_at, removed_at, replaced_in};
@@ -20,7 +21,7 @@ pub const CHUNK: usize = 5;
 /// The list of the locks of one kind that a seat holds: of seat s, the list 2s - 1 has those of the
 /// sleep kind, and 2s those of the spin kind.
 pub fn list_of(seat: SeatNo, spin: bool) -> u16
-    requires { IsNumber 256 seat.0 }
+    requires { IsNumber MOST_SEATS seat.0 }
     ensures { result ≡ list_of spin seat.0 }
 {
     let last = 2 * seat.0;

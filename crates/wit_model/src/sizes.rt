@@ -56,6 +56,9 @@ impl Limits {
     /// How often a seat may have acquired a lock: always so often.
     pub const MOST_ACQUISITIONS: u32 = 65_536;
 
+    /// The greatest recursion count: how often it may have acquired the lock again.
+    pub const DEEPEST: u16 = 65_535;
+
     /// Limits with these numbers: `None` exactly where one is 0 or over its greatest value, which
     /// is 256 seats, 1,023 types, 65,536 locks, 65,536 chunks and 16,777,216 log entries.
     pub fn new(seats: u32, types: u32, locks: u32, chunks: u32, log: u32) -> Option<Limits>
@@ -85,7 +88,7 @@ impl Limits {
     pub fn seats(&self) -> u32
         ensures value { result ≡ self.now.seats }
         ensures positive { 0 < result }
-        ensures within { result ≤ 256 }
+        ensures within { result ≤ Limits.MOST_SEATS }
     {
         self.seats
     }
@@ -94,7 +97,7 @@ impl Limits {
     pub fn types(&self) -> u32
         ensures value { result ≡ self.now.types }
         ensures positive { 0 < result }
-        ensures within { result ≤ 1023 }
+        ensures within { result ≤ Limits.MOST_TYPES }
     {
         self.types
     }
@@ -102,7 +105,7 @@ impl Limits {
     /// How many locks, over the verifier's whole life.
     pub fn locks(&self) -> u32
         ensures value { result ≡ self.now.locks }
-        ensures within { result ≤ 65536 }
+        ensures within { result ≤ Limits.MOST_LOCKS }
     {
         self.locks
     }
@@ -111,7 +114,7 @@ impl Limits {
     pub fn chunks(&self) -> u32
         ensures value { result ≡ self.now.chunks }
         ensures positive { 0 < result }
-        ensures within { result ≤ 65536 }
+        ensures within { result ≤ Limits.MOST_CHUNKS }
     {
         self.chunks
     }
@@ -119,7 +122,7 @@ impl Limits {
     /// How many entries of the log.
     pub fn log(&self) -> u32
         ensures value { result ≡ self.now.log }
-        ensures within { result ≤ 16777216 }
+        ensures within { result ≤ Limits.MOST_ENTRIES }
     {
         self.log
     }

@@ -8,6 +8,7 @@ use Rattle.std.proofs.lemmas.Bool.{cases_eq, cond-false, le-ltb}
 use Rattle.std.proofs.lemmas.List.{length-set, length-replicate}
 use denote.RawPtr.{Ptr}
 use Rattle.wit_model.specs.declared.locks.Instance.{Instance}
+use Rattle.wit_model.specs.declared.sizes.TheConstants.Limits.{MOST_CHUNKS}
 use Rattle.wit_model.specs.Rules.Chunks.{times}
 use Rattle.wit_model.proofs.Rows.Emptiness.{range-more, fresh-settled}
 use Rattle.wit_pool.specs.declared.chunk.Next.{Next}
@@ -36,7 +37,7 @@ first-none at cs n e = record {
 }
 
 -- the numbers below k are other ones
-none-here : (k q : ℕ) → k ≤ 65536 → 1 ≤ times q (range_with_len 0 k) → q ≡ k → ⊥
+none-here : (k q : ℕ) → k ≤ MOST_CHUNKS → 1 ≤ times q (range_with_len 0 k) → q ≡ k → ⊥
 none-here k q few some e =
     let none : times k (range_with_len 0 k) ≡ 0 =
     (fresh-settled k 0 few).placed.once k
@@ -47,7 +48,7 @@ none-here k q few some e =
 
 pub first-more : (at : Ptr) (cs : List (Option Chunk)) (n : ℕ) (h : Option Next) (k : ℕ)
     (l : Next) (x : Chunk)
-    → AreFirst at cs n h k → k < n → n ≤ 65536 → Leads at l → l.place ≡ k
+    → AreFirst at cs n h k → k < n → n ≤ MOST_CHUNKS → Leads at l → l.place ≡ k
     → content (Some x) ≡ [] → x.next ≡ h
     → AreFirst at (set cs l.place (Some x)) n (Some l) (k + 1)
 first-more at cs n h k l x old lt few leads is_k none to =

@@ -5,6 +5,7 @@ use Rattle.std.proofs.lemmas.List.{length-map, length-append, get_or-map}
 use Rattle.std.proofs.lemmas.Option.{slice_get_within, slice_get_past, get_or_from_slice_get}
 use Rattle.wit_model.specs.declared.locks.Instance.{Instance}
 use Rattle.wit_model.specs.declared.chunks.Spot.{Spot}
+use Rattle.wit_model.specs.declared.sizes.TheConstants.Limits.{MOST_CHUNKS}
 use Rattle.wit_model.specs.Rules.Groups.{flat, replaced_in}
 use Rattle.wit_model.specs.Rules.Chunks.{Chunks, IsList, IsSpot, IsPlaced, StandsIn, groups_of}
 use Rattle.wit_model.specs.Rules.Chunks.{group_of, set_groups}
@@ -36,7 +37,7 @@ module _ {A : Type 0} (v : Inside A) (shows : Chunks) (is : chunks_in v ≡ show
   pub count-free : length (free_of v) ≡ v.free.count
   count-free = length-places v.cells.at v.cells.slots v.free.count v.free.head kept.spare
 
-  pub few-free : v.free.count ≤ 65536
+  pub few-free : v.free.count ≤ MOST_CHUNKS
   few-free = omega (arith, count-free, kept.settled.placed.all, kept.settled.few)
 
   -- an instance of the block
@@ -82,7 +83,7 @@ module _ {A : Type 0} (v : Inside A) (shows : Chunks) (is : chunks_in v ≡ show
         subst (λ gs. length (flat gs) < 2 ^ 32) (sym groups-are)
         (chain-fits (rows_of v) (lists_of v) (free_of v) (list - 1) kept.settled)
 
-    pub few : (d : Chain) → (get_or v.chains.items (list - 1) d).count ≤ 65536
+    pub few : (d : Chain) → (get_or v.chains.items (list - 1) d).count ≤ MOST_CHUNKS
     few d =
         omega (
           arith,

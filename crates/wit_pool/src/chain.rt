@@ -3,6 +3,7 @@
 ghost use Rattle.std.specs.Prelude.{◌≡◌, ℕ, ◌+◌, ◌-◌, ◌<◌, ◌≤◌, [], None, Some, IfSome};
 ghost use Rattle.std.specs.Prelude.{length, replicate};
 ghost use Rattle.std.specs.List.{range_with_len};
+ghost use Rattle.wit_model.specs.declared.sizes.TheConstants.Limits.{MOST_CHUNKS};
 ghost use Rattle.wit_pool.specs.Chunks.{IsAt, IsLed, HasChunkAt, chunk_at, content, next_of};
 ghost use Rattle.wit_pool.specs.Chunks.{rows_in};
 ghost use Rattle.wit_pool.specs.Chains.{IsLinked, IsFreed, Passes, chain_chunks};
@@ -23,7 +24,7 @@ pub struct Chain {
 pub fn link_all(cells: &mut Cells<Chunk>, first: Link<Chunk>, count: usize) -> Chain
     requires first { first.ptr ≡ cells.old.at }
     requires size { length cells.old.slots ≡ count }
-    requires few { count ≤ 65536 }
+    requires few { count ≤ MOST_CHUNKS }
     requires empty { cells.old.slots ≡ replicate count None }
     ensures at { cells.new.at ≡ cells.old.at }
     ensures rows { rows_in cells.new.slots ≡ replicate count [] }
@@ -64,7 +65,7 @@ pub fn open_chunk(cells: &Cells<Chunk>, chain: Chain) -> Option<Next>
 /// The first free chunk becomes the newest of a list: that list, and the free ones.
 pub fn take_free(cells: &mut Cells<Chunk>, at: Next, chain: Chain, free: Chain) -> (Chain, Chain)
     requires there { IsAt cells.old.at cells.old.slots at }
-    requires few { chain.count ≤ 65536 }
+    requires few { chain.count ≤ MOST_CHUNKS }
     requires some { 1 ≤ free.count }
     ensures at { cells.new.at ≡ cells.old.at }
     ensures slots { IsLed cells.old.slots cells.new.slots at.place chain.head }
@@ -96,7 +97,7 @@ pub fn free_chunk(
     requires there { IsAt cells.old.at cells.old.slots at }
     requires newer { IfSome newer (IsAt cells.old.at cells.old.slots) }
     requires some { 1 ≤ chain.count }
-    requires few { free.count ≤ 65536 }
+    requires few { free.count ≤ MOST_CHUNKS }
     ensures at { cells.new.at ≡ cells.old.at }
     ensures slots { IsFreed cells.old.slots cells.new.slots at.place newer chain.head free.head
         result.0.head }
@@ -128,7 +129,8 @@ fn pass(
     requires { IfSome newer (IsAt cells.old.at cells.old.slots) }
     ensures at { cells.new.at ≡ cells.old.at }
     ensures slots { Passes cells.old.slots cells.new.slots newer next head result }
-    ensures there { (p : ℕ) → HasChunkAt cells.old.slots p → HasChunkAt cells.new.slots p }
+    ensures there { (place : ℕ) → HasChunkAt cells.old.slots place
+        → HasChunkAt cells.new.slots place }
 {
     match newer {
         Some(newer) => {

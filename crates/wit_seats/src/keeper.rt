@@ -169,8 +169,8 @@ impl<J: Room> LogKeeper<J> {
         requires longer { (more : List (List ℕ)) × (E.after.files ≡ self.old.files ++ more) }
         requires none { E.given ≡ [] }
         ensures kept { self.new ≡ journal E.after.history E.after.files self.old.handed }
-        ensures outside { (t : ℕ) → IsOutside self.old.handed t
-            → own_entries t self.old.entries ≡ [] }
+        ensures outside { (number : ℕ) → IsOutside self.old.handed number
+            → own_entries number self.old.entries ≡ [] }
     {
         follow::<E>(&self.ledger, &mut self.card);
     }

@@ -10,6 +10,7 @@ use Rattle.std.proofs.lemmas.List.{length-map, length-reverse, reverse-append}
 use Rattle.std.proofs.lemmas.List.Folds.{list_all-append, list_any-append}
 use Rattle.std.proofs.lemmas.Map.Steps.{length-le_from_distinct_below}
 use Rattle.wit_model.specs.declared.calls.Adoption.{Adoption}
+use Rattle.wit_model.specs.declared.sizes.TheConstants.Limits.{MOST_TYPES}
 use Rattle.wit_model.specs.Rules.Numbers.{IsNumber, is_number}
 use Rattle.wit_model.specs.Rules.Orders.{AreDistinct, is_adoption_of, is_direct}
 use Rattle.wit_matrix.specs.Relation.{OrdersAmong}
@@ -104,11 +105,11 @@ module _ (n : ℕ) (more os : List Adoption) (among : OrdersAmong n (more ++ os)
       (λ a b is. among a b (list_any-append (is_adoption_of a b) more os
       ∙ or_left (is_direct more a b) (is_direct os a b) is)))
 
-  pub room_more : n ≤ 1023 → AreDistinct (more ++ os)
+  pub room_more : n ≤ MOST_TYPES → AreDistinct (more ++ os)
       → length (reverse os) + length (reverse more) < 2 ^ 32
   room_more most distinct =
       let all = few n (more ++ os) (all_among n (more ++ os) among) distinct in
-      let square : n * n ≤ 1023 * 1023 = mul-le-mul most most in
+      let square : n * n ≤ MOST_TYPES * MOST_TYPES = mul-le-mul most most in
       let one = length-reverse os in
       let two = length-reverse more in
       let both = length-append more os in
@@ -120,9 +121,9 @@ module _ (n : ℕ) (os : List Adoption) (among : OrdersAmong n os) where
   pub fit_all : all_fit n (reverse os) ≡ true
   fit_all = all_reversed n os (all_among n os among)
 
-  pub room_all : n ≤ 1023 → AreDistinct os → length (reverse os) < 2 ^ 32
+  pub room_all : n ≤ MOST_TYPES → AreDistinct os → length (reverse os) < 2 ^ 32
   room_all most distinct =
       let all = few n os (all_among n os among) distinct in
-      let square : n * n ≤ 1023 * 1023 = mul-le-mul most most in
+      let square : n * n ≤ MOST_TYPES * MOST_TYPES = mul-le-mul most most in
       let one = length-reverse os in
       omega (arith, all, square, one)

@@ -15,6 +15,7 @@ use Rattle.wit_seats.specs.declared.views.SeatKnowledge.{SeatKnowledge}
 use Rattle.wit_seats.specs.Rule.{journal}
 use Rattle.wit_seats.specs.Seats.{Grows, Entered, Told}
 use Rattle.wit_model.specs.declared.faults.Fault.TheVariants.{BadName, FilesFull}
+use Rattle.wit_model.specs.declared.sizes.TheConstants.Limits.{MOST_FILES}
 use Rattle.wit_model.specs.Rules.Files.{file_number}
 use Rattle.wit_model.specs.Rules.Names.{is_file_name}
 use Rattle.wit_model.specs.Rules.Numbers.{with_number}
@@ -136,7 +137,7 @@ pub named_there : (name : List ℕ) (old : Story) (f : FileNo) (new : Story)
 named_there name old f new h =
     let number =
     given_number (not (is_file_name name)) (not (is_known_file name old.files)
-    && nat_le 65535 (length old.files)) (file_number name old.files) f.0 h.0 in (
+    && nat_le MOST_FILES (length old.files)) (file_number name old.files) f.0 h.0 in (
       ap (λ (s : Story). with_number s.files f.0) h.1
           ∙ ap (λ n. with_number (files_after name old.files) n) (sym number)
           ∙ file-there name old.files,

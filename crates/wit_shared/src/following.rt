@@ -86,8 +86,8 @@ fn look_as<J: Room, E: VerifierStep>(keeper: &mut LogKeeper<J>, verifier: &Verif
     requires same { verifier.now.history ≡ keeper.old.entries }
     requires longer { (more : List (List ℕ)) × (verifier.now.files ≡ keeper.old.files ++ more) }
     ensures kept { keeper.new ≡ journal verifier.now.history verifier.now.files keeper.old.handed }
-    ensures outside { (t : ℕ) → IsOutside keeper.old.handed t
-        → own_entries t keeper.old.entries ≡ [] }
+    ensures outside { (number : ℕ) → IsOutside keeper.old.handed number
+        → own_entries number keeper.old.entries ≡ [] }
 {
     let _verifier = verifier;
     keeper.follow_as::<E>();
@@ -99,8 +99,8 @@ pub(crate) fn look<J: Room>(keeper: &mut LogKeeper<J>, verifier: &Verifier)
     requires same { verifier.now.history ≡ keeper.old.entries }
     requires longer { (more : List (List ℕ)) × (verifier.now.files ≡ keeper.old.files ++ more) }
     ensures kept { keeper.new ≡ journal verifier.now.history verifier.now.files keeper.old.handed }
-    ensures outside { (t : ℕ) → IsOutside keeper.old.handed t
-        → own_entries t keeper.old.entries ≡ [] }
+    ensures outside { (number : ℕ) → IsOutside keeper.old.handed number
+        → own_entries number keeper.old.entries ≡ [] }
 {
     look_as::<J, Brand>(keeper, verifier);
 }

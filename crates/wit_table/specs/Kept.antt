@@ -2,6 +2,7 @@
 use Rattle.std.specs.Prelude.{ℕ, ◌≤◌, ◌≡◌, true, List, length}
 use Rattle.std.specs.List.{All}
 use Rattle.wit_model.specs.declared.locks.LockType.{LockType}
+use Rattle.wit_model.specs.declared.sizes.TheConstants.Limits.{MOST_TYPES, MOST_LOCKS, MOST_FILES}
 use Rattle.wit_model.specs.Rules.Names.{is_name, is_file_name}
 use Rattle.wit_table.specs.declared.table.Table.TheInside.{Inside}
 use Rattle.wit_table.specs.Known.{Names}
@@ -21,11 +22,11 @@ names_in t = record {
 -- locks ever made
 pub record AreKept (n : Names) : Type 0 where
   pub types : length n.types ≤ n.most_types
-  pub most_types : n.most_types ≤ 1023
+  pub most_types : n.most_types ≤ MOST_TYPES
   pub names : All (λ (t : LockType). is_name t.name ≡ true) n.types
-  pub live : All (λ (count : ℕ). count ≤ 65536) n.live
+  pub live : All (λ (count : ℕ). count ≤ MOST_LOCKS) n.live
   pub files : length n.files ≤ n.most_files
-  pub most_files : n.most_files ≤ 65535
+  pub most_files : n.most_files ≤ MOST_FILES
   pub file_names : All (λ (f : List ℕ). is_file_name f ≡ true) n.files
 
 abbrev pub IsKept : Inside → Type 0

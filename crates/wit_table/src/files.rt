@@ -9,6 +9,7 @@ ghost use Rattle.wit_model.specs.Rules.Names.{is_file_name};
 ghost use Rattle.wit_model.specs.Rules.Files.{is_known_file, file_number, files_after, file_answer};
 ghost use Rattle.wit_model.specs.Rules.Numbers.{with_number, IsGiven};
 ghost use Rattle.wit_model.specs.declared.faults.Fault.TheVariants.{OutOfMemory};
+ghost use Rattle.wit_model.specs.declared.sizes.TheConstants.Limits.{MOST_FILES};
 ghost use Rattle.wit_model.specs.Rules.Refusals.{IsRefusal};
 ghost use Rattle.wit_table.specs.Known.{with_file, HasFile};
 ghost use Rattle.wit_table.specs.Rows.{texts};
@@ -24,7 +25,7 @@ impl Table {
         ensures files { result ≡ length self.now.files }
         ensures distinct { IsDistinct bytes_eq self.now.files }
         ensures most { result ≤ self.now.most_files }
-        ensures few { self.now.most_files ≤ 65535 }
+        ensures few { self.now.most_files ≤ MOST_FILES }
     {
         self.files.len()
     }
@@ -108,8 +109,8 @@ fn file_in(
     name: &str,
 ) -> Result<FileNo, Fault>
     requires few { length (texts files.old.keys) ≤ most }
-    requires most { most ≤ 65535 }
-    requires names { All (λ (f : List ℕ). is_file_name f ≡ true) (texts files.old.keys) }
+    requires most { most ≤ MOST_FILES }
+    requires names { All (λ (file : List ℕ). is_file_name file ≡ true) (texts files.old.keys) }
     ensures ok { IfOk result (λ f. file_answer name.now most (texts files.old.keys) ≡ Ok f.0) }
     ensures number { IfOk result (λ f. f.0 ≡ file_number name.now (texts files.old.keys)) }
     ensures given { IfOk result (λ f. IsGiven (texts files.new.keys) f.0) }
@@ -139,7 +140,7 @@ fn file_in(
 
 // The place of the file with this name.
 fn place_of(files: &IndexSet<String>, name: &str) -> Option<usize>
-    requires { All (λ (f : List ℕ). is_file_name f ≡ true) (texts files.now.keys) }
+    requires { All (λ (file : List ℕ). is_file_name file ≡ true) (texts files.now.keys) }
     ensures number { IfSome result (λ i. i + 1 ≡ file_number name.now (texts files.now.keys)) }
     ensures found { is_some result ≡ is_known_file name.now (texts files.now.keys) }
     ensures within { IfSome result (λ i. i < length (texts files.now.keys)) }

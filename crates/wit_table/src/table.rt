@@ -5,6 +5,7 @@ ghost use Rattle.std.specs.Prelude.{is_some, IfSome, IfOk, IfErr, OnOk, OnErr, S
 ghost use Rattle.std.specs.List.{IsDistinct};
 ghost use Rattle.std.specs.Str.{bytes_eq};
 ghost use Rattle.wit_model.specs.declared.faults.Fault.TheVariants.{OutOfMemory};
+ghost use Rattle.wit_model.specs.declared.sizes.TheConstants.Limits.{MOST_TYPES, MOST_FILES, MOST_LOCKS};
 ghost use Rattle.wit_model.specs.Rules.Names.{is_name};
 ghost use Rattle.wit_model.specs.Rules.Numbers.{IsGiven, IsNumber};
 ghost use Rattle.wit_model.specs.Rules.Types.{is_enrolled, is_otherwise, type_number};
@@ -58,8 +59,8 @@ impl Table {
     /// # Errors
     /// `OutOfMemory` alone.
     pub fn new(alloc: Global, types: u32, files: u32) -> Result<Table, Fault>
-        requires types { IsNumber 1023 types }
-        requires files { IsNumber 65535 files }
+        requires types { IsNumber MOST_TYPES types }
+        requires files { IsNumber MOST_FILES files }
         ensures ok { IfOk result (λ t. t ≡ no_names types files) }
         ensures err { IfErr result (λ e. e ≡ OutOfMemory) }
     {
@@ -148,7 +149,7 @@ impl Table {
         ensures live { result ≡ length self.now.live }
         ensures distinct { IsDistinct bytes_eq (type_names self.now.types) }
         ensures most { result ≤ self.now.most_types }
-        ensures few { self.now.most_types ≤ 1023 }
+        ensures few { self.now.most_types ≤ MOST_TYPES }
     {
         self.types.len()
     }
@@ -177,7 +178,7 @@ impl Table {
     pub fn live(&self, number: TypeNo) -> u32
         requires { IsGiven self.now.types number.0 }
         ensures count { result ≡ live_of self.now number.0 }
-        ensures most { result ≤ 65536 }
+        ensures most { result ≤ MOST_LOCKS }
     {
         live_at(&self.types, number.0 as usize - 1)
     }
@@ -185,7 +186,7 @@ impl Table {
     /// Counts one more live lock of a type, which has fewer than 65,536.
     pub fn retain(&mut self, number: TypeNo)
         requires given { IsGiven self.old.types number.0 }
-        requires room { live_of self.old number.0 < 65536 }
+        requires room { live_of self.old number.0 < MOST_LOCKS }
         ensures { self.new ≡ with_live self.old number.0 (live_of self.old number.0 + 1) }
     {
         let place = number.0 as usize - 1;

@@ -7,6 +7,7 @@ ghost use Rattle.wit_model.specs.Rules.Names.{is_name};
 ghost use Rattle.wit_model.specs.Rules.Types.{is_enrolled, is_otherwise, type_number, enrolled};
 ghost use Rattle.wit_model.specs.Rules.Numbers.{IsGiven};
 ghost use Rattle.wit_model.specs.declared.faults.Fault.TheVariants.{OutOfMemory};
+ghost use Rattle.wit_model.specs.declared.sizes.TheConstants.Limits.{MOST_TYPES};
 ghost use Rattle.wit_model.specs.Rules.Refusals.{IsRefusal};
 ghost use Rattle.wit_table.specs.Known.{HasNameAt, HasClassAt, enroll_answer, live_after};
 ghost use Rattle.wit_table.specs.Rows.{types_in, live_in};
@@ -37,7 +38,7 @@ pub fn enroll_in(
     class: Class,
 ) -> Result<TypeNo, Fault>
     requires few { length (types_in types.old.entries) ≤ most }
-    requires most { most ≤ 1023 }
+    requires most { most ≤ MOST_TYPES }
     requires good { is_name name.now ≡ true }
     ensures ok { IfOk result (λ t. enroll_answer name.now class most (types_in types.old.entries)
         ≡ Ok t.0) }

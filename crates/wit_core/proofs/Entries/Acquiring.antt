@@ -11,6 +11,7 @@ use Rattle.wit_model.specs.declared.calls.Call.{Call}
 use Rattle.wit_model.specs.declared.calls.Call.TheVariants.{Note, NoteTry}
 use Rattle.wit_model.specs.declared.calls.Reply.{Reply}
 use Rattle.wit_model.specs.declared.calls.Reply.TheVariants as reply
+use Rattle.wit_model.specs.declared.sizes.TheConstants.Limits.{DEEPEST}
 use Rattle.wit_model.specs.Rules.Numbers.{IsGiven}
 use Rattle.wit_model.specs.Rules.Types.{is_spin}
 use Rattle.wit_model.specs.Rules.Locks.{lock_at}
@@ -43,7 +44,7 @@ use Rattle.wit_core.proofs.Entries.Accepting.{accepted, kind-now, known-now, lef
 use Rattle.wit_core.proofs.Entries.Accepting.{room_left, sane_next, seats-now, wants, watch-now}
 use Rattle.wit_core.proofs.Entries.Accepting.{within}
 
-can_rise : (o : Option Instance) → ((i : Instance) → o ≡ Some i → i.count + 1 ≤ 65535) → CanRise o
+can_rise : (o : Option Instance) → ((i : Instance) → o ≡ Some i → i.count + 1 ≤ DEEPEST) → CanRise o
 can_rise None bound = tt
 can_rise (Some i) bound = let few = bound i refl in omega (arith, few)
 

@@ -6,6 +6,7 @@ use Rattle.wit_model.specs.declared.faults.Fault.{Fault}
 use Rattle.wit_model.specs.declared.faults.Fault.TheVariants.{OutOfMemory}
 use Rattle.wit_model.specs.declared.locks.FileNo.{FileNo}
 use Rattle.wit_model.specs.declared.calls.Entry.{Entry}
+use Rattle.wit_model.specs.declared.sizes.TheConstants.Limits.{MOST_FILES}
 use Rattle.wit_model.specs.Rules.Refusals.{IsRefusal}
 use Rattle.wit_model.specs.Rules.Files.{is_known_file, file_answer, files_after, NamesFile}
 use Rattle.wit_model.specs.Rules.State.{Start, State}
@@ -23,9 +24,9 @@ with_known v new = record v { known = new }
 
 -- the story of a naming
 pub file_named : (v : Inside) (name : List ℕ) (r : Result FileNo Fault) (new : Facts)
-    → IfOk r (λ f. file_answer name 65535 v.known.files ≡ Ok f.0)
+    → IfOk r (λ f. file_answer name MOST_FILES v.known.files ≡ Ok f.0)
     → OnOk r (new ≡ record v.known { files = files_after name v.known.files })
-    → IfErr r (IsRefusal (file_answer name 65535 v.known.files))
+    → IfErr r (IsRefusal (file_answer name MOST_FILES v.known.files))
     → IfErr r (λ e. e ≡ OutOfMemory → is_known_file name v.known.files ≡ false)
     → OnErr r (new ≡ v.known)
     → NamesFile (story_in v) name r (story_in (with_known v new))

@@ -15,6 +15,7 @@ use Rattle.wit_model.specs.declared.calls.Call.TheVariants.{Upgrade}
 use Rattle.wit_model.specs.declared.calls.Reply.{Reply}
 use Rattle.wit_model.specs.declared.calls.Reply.TheVariants.{Recorded, Unlocked}
 use Rattle.wit_model.specs.declared.calls.Entry.{Entry}
+use Rattle.wit_model.specs.declared.sizes.TheConstants.Limits.{MOST_ACQUISITIONS, DEEPEST}
 use Rattle.wit_model.specs.Rules.History.{Nothing, Records, Releases, act, num, is_held, instance}
 use Rattle.wit_model.specs.Rules.History.{pending, pending_after, is_off, watch_of}
 use Rattle.wit_model.specs.Rules.State.{Start, state_of, is_seat}
@@ -32,12 +33,12 @@ use Rattle.wit_model.proofs.Histories.Accepted.{TryAccepted, try_accepted}
 use Rattle.wit_model.proofs.Histories.Legal.{pending-state, held_by-state, sane_legal}
 use Rattle.wit_model.proofs.Histories.Legal.{watched-before}
 
--- no lock is acquired more than 65,536 times, and one that is asked for at most 65,535 times where
--- its acquisition is recorded
+-- no lock is acquired more often than may be, and one that is asked for less often where its
+-- acquisition is recorded
 pub record IsShallow (t : ℕ) (h : List Entry) : Type 0 where
-  pub bound : (l : ℕ) → num t l h ≤ 65536
+  pub bound : (l : ℕ) → num t l h ≤ MOST_ACQUISITIONS
   pub asked : (q : Request) → pending t h ≡ Some q → is_off (watch_of h) ≡ false
-      → num t q.lock.0 h ≤ 65535
+      → num t q.lock.0 h ≤ DEEPEST
 
 -- an entry of another seat
 shallow-other : (start : Start) (files : List (List ℕ)) (t : ℕ) (x : Entry) (h : List Entry)
@@ -60,9 +61,9 @@ own_pending : (t : ℕ) (c : Call) (r : Reply) (h : List Entry)
 own_pending t c r h = rw (eq-eqb t t refl) refl
 
 count-below : (b : Bool) (n : ℕ) (i : Instance) → i.count ≡ n - 1 → is_deepest (if_some b i) ≡ false
-    → n ≤ 65536 → (b ≡ false → n ≡ 0) → n ≤ 65535
+    → n ≤ MOST_ACQUISITIONS → (b ≡ false → n ≡ 0) → n ≤ DEEPEST
 count-below true n i is not_deepest le free = let apart =
-    eqb-false i.count 65535 not_deepest in omega (arith, apart)
+    eqb-false i.count DEEPEST not_deepest in omega (arith, apart)
 count-below false n i is not_deepest le free = let none = free refl in omega arith
 
 -- where watch isn't Off, the test is that of the count
@@ -74,7 +75,7 @@ not_deep false deep is some = is
 shallow-num : (start : Start) (files : List (List ℕ)) (h : List Entry) (t l : ℕ) → IsSane h
     → IsShallow t h → is_seat (state_of (story_after start files h)) t ≡ true
     → is_too_deep (state_of (story_after start files h)) t l ≡ false → is_off (watch_of h) ≡ false
-    → num t l h ≤ 65535
+    → num t l h ≤ DEEPEST
 shallow-num start files h t l sane shallow seat few some =
     count-below (is_held t l h) (num t l h) (instance t h l) refl
     (ap is_deepest (sym (held_by-state start files h t l seat sane))
@@ -92,7 +93,7 @@ module _ (start : Start) (files : List (List ℕ)) (h : List Entry) (t : ℕ) (c
   -- an entry of the seat's own that leaves its acquisitions
   shallow-quiet : is_even (act c r) ≡ true
       → ((q : Request) → pending_after c (pending t h) ≡ Some q → is_off (watch_of h) ≡ false
-      → num t q.lock.0 h ≤ 65535)
+      → num t q.lock.0 h ≤ DEEPEST)
       → IsShallow t (entry t c r ∷ h)
   shallow-quiet quiet few =
       let same =
@@ -120,7 +121,7 @@ module _ (start : Start) (files : List (List ℕ)) (h : List Entry) (t : ℕ) (c
       absurd (let no : ◌≡◌ {A = Option Request} None (Some q) = sym none ∙ is in cc))
 
   -- one that records an acquisition
-  shallow-more : (l : ℕ) → act c r ≡ Records l → num t l h ≤ 65535
+  shallow-more : (l : ℕ) → act c r ≡ Records l → num t l h ≤ DEEPEST
       → pending_after c (pending t h) ≡ None → IsShallow t (entry t c r ∷ h)
   shallow-more l acts few none =
       let step =
@@ -128,7 +129,7 @@ module _ (start : Start) (files : List (List ℕ)) (h : List Entry) (t : ℕ) (c
       record {
         bound = λ m. elim (eqb_tells l m) [
           | inl e ↦ (let s : num t m (entry t c r ∷ h) ≡ num t m h + 1 = step m ∙ rw e.0 refl in
-              let b : num t m h ≤ 65535 = subst (λ k. num t k h ≤ 65535) e.1 few in omega arith)
+              let b : num t m h ≤ DEEPEST = subst (λ k. num t k h ≤ DEEPEST) e.1 few in omega arith)
           | inr e ↦ (let s : num t m (entry t c r ∷ h) ≡ num t m h = step m ∙ rw e.0 refl in
               let b = shallow.bound m in omega arith)
         ];
@@ -162,12 +163,12 @@ module _ (start : Start) (files : List (List ℕ)) (h : List Entry) (t : ℕ) (c
 note-few : (start : Start) (files : List (List ℕ)) (h : List Entry) (t l : ℕ) (r : Reply)
     → IsShallow t h
     → NoteAccepted (state_of (story_after start files h)) t l r → is_off (watch_of h) ≡ false
-    → num t l h ≤ 65535
+    → num t l h ≤ DEEPEST
 note-few start files h t l r shallow a some =
     let p =
     asked-lock l (pending t h) (ap (λ o. is_for l o)
     (sym (pending-state start files h t a.seat)) ∙ a.asked) in
-    subst (λ k. num t k h ≤ 65535) p.2 (shallow.asked p.0 p.1 some)
+    subst (λ k. num t k h ≤ DEEPEST) p.2 (shallow.asked p.0 p.1 some)
 
 -- an entry of the seat's own
 shallow-own : (start : Start) (files : List (List ℕ)) (h : List Entry) (t : ℕ) (c : Call)
@@ -177,7 +178,7 @@ shallow-own : (start : Start) (files : List (List ℕ)) (h : List Entry) (t : �
 shallow-own start files h t (Check p) r sane ok shallow =
     let a = check_accepted (state_of (story_after start files h)) t p r ok in
     shallow-quiet start files h t (Check p) r sane ok shallow refl
-    (λ q is some. subst (λ (k : Request). num t k.lock.0 h ≤ 65535) (same-request p q is)
+    (λ q is some. subst (λ (k : Request). num t k.lock.0 h ≤ DEEPEST) (same-request p q is)
     (shallow-num start files h t p.lock.0 sane shallow a.seat a.shallow some))
 shallow-own start files h t (Note l) Recorded sane ok shallow =
     let a = note_accepted (state_of (story_after start files h)) t l.0 Recorded ok in
@@ -236,8 +237,8 @@ some-is false i j e = (cc)
 -- and so does one more, where the lock is acquired at most 65,535 times
 one_more : (start : Start) (files : List (List ℕ)) (h : List Entry) (t l : ℕ) (i : Instance)
     → IsSane h → is_seat (state_of (story_after start files h)) t ≡ true
-    → num t l h ≤ 65535 → held_by (state_of (story_after start files h)) t l ≡ Some i
-    → i.count + 1 ≤ 65535
+    → num t l h ≤ DEEPEST → held_by (state_of (story_after start files h)) t l ≡ Some i
+    → i.count + 1 ≤ DEEPEST
 one_more start files h t l i sane seat few is =
     let same =
     some-is (is_held t l h) (instance t h l) i
@@ -250,7 +251,7 @@ one_more start files h t l i sane seat few is =
 pub note-count : (start : Start) (files : List (List ℕ)) (h : List Entry) (t l : ℕ) (r : Reply)
     (i : Instance) → IsLegal start files h
     → NoteAccepted (state_of (story_after start files h)) t l r → is_off (watch_of h) ≡ false
-    → held_by (state_of (story_after start files h)) t l ≡ Some i → i.count + 1 ≤ 65535
+    → held_by (state_of (story_after start files h)) t l ≡ Some i → i.count + 1 ≤ DEEPEST
 note-count start files h t l r i legal a some is =
     one_more start files h t l i (sane_legal start files h legal) a.seat
     (note-few start files h t l r (shallow_legal start files h t legal) a some) is
@@ -259,7 +260,7 @@ note-count start files h t l r i legal a some is =
 pub try-count : (start : Start) (files : List (List ℕ)) (h : List Entry) (t l : ℕ) (m : Mode)
     (site : Site) (r : Reply) (i : Instance) → IsLegal start files h
     → TryAccepted (state_of (story_after start files h)) t l m site r → is_off (watch_of h) ≡ false
-    → held_by (state_of (story_after start files h)) t l ≡ Some i → i.count + 1 ≤ 65535
+    → held_by (state_of (story_after start files h)) t l ≡ Some i → i.count + 1 ≤ DEEPEST
 try-count start files h t l m site r i legal a some is =
     let sane = sane_legal start files h legal in
     one_more start files h t l i sane a.seat

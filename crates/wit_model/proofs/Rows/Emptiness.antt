@@ -9,6 +9,7 @@ use Rattle.std.proofs.lemmas.List.{map-id, length-replicate}
 use Rattle.std.proofs.lemmas.List.Elements.{All-replicate, All-map}
 use Rattle.std.proofs.lemmas.List.FromFn.{length-range_with_len, map-range_with_len_more}
 use Rattle.wit_model.specs.declared.locks.Instance.{Instance}
+use Rattle.wit_model.specs.declared.sizes.TheConstants.Limits.{MOST_CHUNKS}
 use Rattle.wit_model.specs.Rules.Groups.{flat, AreTidy}
 use Rattle.wit_model.specs.Rules.Chunks.{times, IsNew}
 use Rattle.wit_model.specs.Rules.Rows.{row, groups_at, shown_chunks, AreSettled}
@@ -75,7 +76,7 @@ groups-empty rows zero = refl
 groups-empty rows (suc n) = ap (λ gs. [] ∷ gs) (groups-empty rows n)
 
 -- nothing is held, and each chunk is free
-pub fresh-settled : (size lists : ℕ) → size ≤ 65536
+pub fresh-settled : (size lists : ℕ) → size ≤ MOST_CHUNKS
     → AreSettled (replicate size []) (replicate lists []) (range_with_len 0 size)
 fresh-settled size lists few =
     let len : length (replicate size []) ≡ size = length-replicate {A = List Instance} size [] in
@@ -97,7 +98,7 @@ fresh-settled size lists few =
 
 -- and so callers see it
 pub fresh-shown : (size lists : ℕ) (rows : List (List Instance)) (places : List (List ℕ))
-    (unused : List ℕ) → size ≤ 65536
+    (unused : List ℕ) → size ≤ MOST_CHUNKS
     → rows ≡ replicate size [] → places ≡ replicate lists [] → unused ≡ range_with_len 0 size
     → AreSettled rows places unused × IsNew size lists (shown_chunks rows places unused)
 fresh-shown size lists rows places unused few r p u =

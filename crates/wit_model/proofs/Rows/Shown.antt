@@ -10,6 +10,7 @@ use Rattle.std.proofs.lemmas.List.Elements.{All-set}
 use Rattle.std.proofs.lemmas.List.Concat.{flat_map-append}
 use Rattle.std.proofs.lemmas.List.Sums.{sum_by-cons}
 use Rattle.wit_model.specs.declared.locks.Instance.{Instance}
+use Rattle.wit_model.specs.declared.sizes.TheConstants.Limits.{MOST_CHUNKS}
 use Rattle.wit_model.specs.Rules.Groups.{flat, joined, AreTidy}
 use Rattle.wit_model.specs.Rules.Chunks.{Chunks, IsList, IsPlaced, groups_of, set_groups}
 use Rattle.wit_model.specs.Rules.Chunks.{is_refused, pushed}
@@ -105,7 +106,7 @@ pub chain-fits : (rows : List (List Instance)) (lists : List (List ℕ)) (unused
     → AreSettled rows lists unused
     → length (flat (groups_at rows (get_or lists l []))) < 2 ^ 32
 chain-fits rows lists unused l settled =
-    let few : length (get_or lists l []) ≤ 65536 =
+    let few : length (get_or lists l []) ≤ MOST_CHUNKS =
     omega (arith, list-short lists l, settled.placed.all, settled.few) in
     let most : length (flat (groups_at rows (get_or lists l []))) ≤ 327680 =
     omega (arith, flat-short rows settled.short (get_or lists l []), few) in

@@ -6,6 +6,7 @@ use Rattle.std.specs.Str.{bytes_eq}
 use Rattle.wit_model.specs.declared.faults.Fault.{Fault}
 use Rattle.wit_model.specs.declared.faults.Fault.TheVariants.{BadName, FilesFull, OutOfMemory}
 use Rattle.wit_model.specs.declared.locks.FileNo.{FileNo}
+use Rattle.wit_model.specs.declared.sizes.TheConstants.Limits.{MOST_FILES}
 use Rattle.wit_model.specs.Rules.Names.{is_file_name}
 use Rattle.wit_model.specs.Rules.Refusals.{IsRefusal}
 use Rattle.wit_model.specs.Rules.State.{Story}
@@ -30,9 +31,9 @@ file_answer name most files =
 abbrev pub files_after : List ℕ → List (List ℕ) → List (List ℕ)
 files_after name files = if is_known_file name files then files else files ++ name ∷ []
 
--- a verifier names at most 65,535 files
+-- a verifier names so many files at most
 abbrev pub naming_answer : Story → List ℕ → Result ℕ Fault
-naming_answer story name = file_answer name 65535 story.files
+naming_answer story name = file_answer name MOST_FILES story.files
 
 -- naming a file adds it where it is new and changes nothing else; a refusal changes nothing, and a
 -- known file isn't refused for want of memory

@@ -4,6 +4,7 @@ use Rattle.std.specs.Prelude.{if◌then◌else◌}
 use Rattle.std.specs.List.{All, concat, slice_index_or}
 use Rattle.wit_model.specs.declared.chunks.TheConstants.{CHUNK}
 use Rattle.wit_model.specs.declared.locks.Instance.{Instance}
+use Rattle.wit_model.specs.declared.sizes.TheConstants.Limits.{MOST_CHUNKS}
 use Rattle.wit_model.specs.Rules.Groups.{flat, AreTidy}
 use Rattle.wit_model.specs.Rules.Chunks.{Chunks, times}
 
@@ -39,7 +40,7 @@ shown_chunks rows lists unused =
 pub record AreSettled (rows : List (List Instance)) (lists : List (List ℕ))
     (unused : List ℕ) : Type 0 where
   pub placed : ArePlaced (length rows) lists unused
-  pub few : length rows ≤ 65536
+  pub few : length rows ≤ MOST_CHUNKS
   pub short : All (λ (g : List Instance). length g ≤ CHUNK) rows
   pub empty : flat (groups_at rows unused) ≡ []
   pub tidy : All AreTidy (map (groups_at rows) lists)

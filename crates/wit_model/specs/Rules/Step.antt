@@ -26,6 +26,7 @@ use Rattle.wit_model.specs.declared.calls.Reply.{Reply}
 use Rattle.wit_model.specs.declared.calls.Reply.TheVariants.{Made, Done, Recorded, Exhausted}
 use Rattle.wit_model.specs.declared.calls.Reply.TheVariants.{Unrecorded, Unlocked, Ignored}
 use Rattle.wit_model.specs.declared.calls.Entry.{Entry}
+use Rattle.wit_model.specs.declared.sizes.TheConstants.Limits.{DEEPEST}
 use Rattle.wit_model.specs.Rules.Names.{is_name}
 use Rattle.wit_model.specs.Rules.Numbers.{is_number}
 use Rattle.wit_model.specs.Rules.Types.{type_name_of, is_enrolled, is_otherwise, is_shareable}
@@ -65,7 +66,7 @@ step_init s t lock =
 -- whether the recursion count has its greatest value
 abbrev pub is_deepest : Option Instance → Bool
 is_deepest None = false
-is_deepest (Some i) = i.count == 65535
+is_deepest (Some i) = i.count == DEEPEST
 
 -- whether one more acquisition of the lock would be recorded and is one too many
 abbrev pub is_too_deep : State → ℕ → ℕ → Bool

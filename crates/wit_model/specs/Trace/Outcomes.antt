@@ -17,6 +17,7 @@ use Rattle.wit_model.specs.declared.locks.Instance.{Instance}
 use Rattle.wit_model.specs.declared.assertions.AssertAnswer.{AssertAnswer}
 use Rattle.wit_model.specs.declared.calls.Call.{Call}
 use Rattle.wit_model.specs.declared.calls.Reply.{Reply}
+use Rattle.wit_model.specs.declared.sizes.TheConstants.Limits.{MOST_ENTRIES}
 use Rattle.wit_model.specs.Rules.Files.{naming_answer, files_after}
 use Rattle.wit_model.specs.Trace.Reading.{line_of}
 use Rattle.wit_model.specs.Rules.Sizes.{Sizes, sizes_of, are_within_limits}
@@ -131,7 +132,7 @@ longest_line = 4096
 
 -- the log's limit in a replay
 abbrev pub log_limit : ℕ
-log_limit = 16777216
+log_limit = MOST_ENTRIES
 
 -- a text that says something is one report
 abbrev pub said : List ℕ → ℕ

@@ -11,12 +11,13 @@ use Rattle.wit_model.specs.declared.calls.Call.TheVariants.{Init, Check, Note, U
 use Rattle.wit_model.specs.declared.calls.Reply.{Reply}
 use Rattle.wit_model.specs.declared.calls.Reply.TheVariants.{Made, Pass, Adopted, Known, Reversal}
 use Rattle.wit_model.specs.declared.calls.Reply.TheVariants.{Recorded, Unlocked}
+use Rattle.wit_model.specs.declared.sizes.TheConstants.Limits.{MOST_ENTRIES}
 use Rattle.wit_model.specs.Rules.State.{Start}
 use Rattle.wit_model.specs.World.Deeds.{Deed, Logged, Take, Free}
 
 abbrev pub small : Start
 small = record {
-  sizes = record { seats = 2; types = 8; locks = 16; chunks = 4; log = 16777216 };
+  sizes = record { seats = 2; types = 8; locks = 16; chunks = 4; log = MOST_ENTRIES };
   profile = Plain;
   lists = [];
   blessed = [];

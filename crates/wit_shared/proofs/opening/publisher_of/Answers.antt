@@ -1,6 +1,7 @@
 use Rattle.std.proofs.Common.{◌≡◌, ◌+◌, ◌<◌, ◌≤◌, ◌^◌, true, [], length, reverse, ap, sym, ◌∙◌}
 use Rattle.std.proofs.Common.{subst, arith}
 use Rattle.std.proofs.lemmas.List.{reverse-reverse}
+use Rattle.wit_model.specs.declared.sizes.TheConstants.Limits.{MOST_TYPES}
 use Rattle.wit_model.specs.Rules.State.{orders_of}
 use Rattle.wit_observers.specs.Numbers.{all_fit}
 use Rattle.wit_observers.specs.Shown.{Published}
@@ -12,8 +13,8 @@ publish-requires-clause-room g c =
     let v = c.args.verifier.now in
     let orders = orders_of v.start v.history in
     let is = sym (reverse-reverse c.orders.result.now) ∙ ap reverse c.orders.ensures.orders in
-    let most : v.start.sizes.types ≤ 1023 =
-    subst (λ n. n ≤ 1023) c.most_types-size.ensures.value c.most_types-size.ensures.within.1 in
+    let most : v.start.sizes.types ≤ MOST_TYPES =
+    subst (λ n. n ≤ MOST_TYPES) c.most_types-size.ensures.value c.most_types-size.ensures.within.1 in
     let room =
     room_all v.start.sizes.types orders c.orders.ensures.among most c.orders.ensures.distinct in
     subst (λ (p : Published). length p.orders + length c.orders.result.now < 2 ^ 32)

@@ -1,5 +1,6 @@
 use Rattle.std.proofs.Common.{◌≡◌, ◌+◌, ◌<◌, ◌≤◌, ◌^◌, true, List, length, reverse, sym, ◌∙◌, subst}
 use Rattle.wit_model.specs.declared.calls.Adoption.{Adoption}
+use Rattle.wit_model.specs.declared.sizes.TheConstants.Limits.{MOST_TYPES}
 use Rattle.wit_model.specs.Rules.Orders.{adopted}
 use Rattle.wit_model.specs.Rules.State.{orders_of}
 use Rattle.wit_observers.specs.Numbers.{all_fit}
@@ -11,8 +12,8 @@ pub publish-requires-clause-room : goal.publish-requires-clause-room
 publish-requires-clause-room g c =
     let v = c.args.verifier.now in
     let more = adopted c.args.call.now c.in_ok-reply.reply in
-    let most : v.start.sizes.types ≤ 1023 =
-    subst (λ n. n ≤ 1023) c.most_types-most.ensures.value c.most_types-most.ensures.within.1 in
+    let most : v.start.sizes.types ≤ MOST_TYPES =
+    subst (λ n. n ≤ MOST_TYPES) c.most_types-most.ensures.value c.most_types-most.ensures.within.1 in
     subst (λ (p : Published). length p.orders + length c.deref.result.now < 2 ^ 32)
     (sym c.requires.published)
     (subst (λ (os : List Adoption). length (reverse (orders_of v.start v.history))

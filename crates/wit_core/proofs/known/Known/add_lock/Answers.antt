@@ -1,6 +1,7 @@
 use Rattle.std.proofs.Common.{ap, ap₂, sym, subst, length, ◌≡◌, ◌<◌, ◌∷◌, [], ◌++◌, ◌+◌, refl}
 use Rattle.std.proofs.Common.{◌∙◌, true, length-append}
 use Rattle.wit_model.specs.declared.locks.Lock.{Lock}
+use Rattle.wit_model.specs.declared.sizes.TheConstants.Limits.{MOST_LOCKS}
 use Rattle.wit_table.specs.Known.{Names}
 use Rattle.wit_core.specs.Known.{Facts}
 use Rattle.wit_core.specs.Live.{live_count}
@@ -13,7 +14,7 @@ retain-requires-clause-room c =
     room-enrolled c.self.inside.names c.enroll_name.new.self _ _ c.in_ok-type_no.type_no.0
     c.self.inside.locks.locks c.self.inside.live.items
     c.in_ok-type_no.ensures.enrolled c.self.invariant.counts
-    (subst (λ (f : Facts). length f.known.locks < 65536) (sym c.self.view_is) c.requires.few)
+    (subst (λ (f : Facts). length f.known.locks < MOST_LOCKS) (sym c.self.view_is) c.requires.few)
 
 pub invariant_of-self-2 : goal.invariant_of-self-2
 invariant_of-self-2 c =

@@ -1,4 +1,5 @@
 use Rattle.std.proofs.Common.{length, ap, ap₂, sym, ◌∙◌}
+use Rattle.wit_model.specs.declared.sizes.TheConstants.Limits.{MOST_FILES}
 use Rattle.wit_table.specs.Known.{Names, live_of}
 use Rattle.wit_core.specs.Ordering.{Ordering}
 use Rattle.wit_core.specs.Live.{live_count}
@@ -15,7 +16,7 @@ invariant_of-result c = record {
   live =
       ap length c.new-3.ensures.items
       ∙ sym (ap (λ (m : MadeLocks). length m.locks) c.new-2.ensures);
-  counts = λ t. ap (λ n. live_of n t) c.in_ok-new.ensures.ok ∙ none-counted c.args.types 65535 t
+  counts = λ t. ap (λ n. live_of n t) c.in_ok-new.ensures.ok ∙ none-counted c.args.types MOST_FILES t
       ∙ ap₂ (λ (m : MadeLocks) bs. live_count m.locks bs t) (sym c.new-2.ensures)
       (sym c.new-3.ensures.items);
 }

@@ -1,4 +1,5 @@
 use Rattle.std.proofs.Common.{rules}
+use Rattle.wit_model.specs.Gates.{exclusive_word}
 use Rattle.wit_gates.specs.Claims.{claim, unmatched}
 use Rattle.wit_gates.proofs.Steps.{enters, tries, idles, takes_all}
 use Rattle.wit_gates.proofs.word.Word.try_exclusive.Goals as goal
@@ -12,7 +13,7 @@ compare_exchange-found-requires c =
     let met = c.load_new_seat-seat.result.0 in (
       search rules,
       search rules,
-      tries c.self.inside.table.shared.table_id.slots seat.id 0 4294967295 seat.me
+      tries c.self.inside.table.shared.table_id.slots seat.id 0 exclusive_word seat.me
           (unmatched met) (claim 0 1) unmatched c.load_new_seat-seat.ensures.2 (takes_all met)
           (idles met),
     )

@@ -1,5 +1,6 @@
 use Rattle.std.proofs.Common.{◌∙◌, ap, rules}
 use Rattle.wit_model.specs.declared.locks.Mode.TheVariants.{Shared}
+use Rattle.wit_model.specs.Gates.{exclusive_word}
 use Rattle.wit_gates.specs.Tickets.{Pass}
 use Rattle.wit_gates.specs.Claims.{claim, share_met}
 use Rattle.wit_gates.proofs.Steps.{tries, tells, stands, goes_up, keeps_share}
@@ -10,7 +11,7 @@ compare_exchange-found-requires c =
     let seat = c.ticket.inside.seat in (
       search rules,
       search rules,
-      tries c.self.inside.table.shared.table_id.slots seat.id 1 4294967295 seat.me
+      tries c.self.inside.table.shared.table_id.slots seat.id 1 exclusive_word seat.me
           (claim 1 0) (claim 0 1) share_met
           (stands seat.me Shared c.ticket.invariant
           (ap (λ (p : Pass). p.mode) (c.ticket.view_is ∙ c.requires))) goes_up keeps_share,
