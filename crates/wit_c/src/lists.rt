@@ -2,7 +2,7 @@
 
 ghost use Rattle.std.specs.Prelude.{◌≡◌, map, IfOk};
 ghost use Rattle.std.specs.List.{list_all};
-ghost use Rattle.wit_core.specs.Listed.{entry_of, listed, all_listed, pair_of, pairs_of};
+ghost use Rattle.wit_known.specs.Listed.{entry_of, listed, all_listed, pair_of, pairs_of};
 ghost use Rattle.wit_c.specs.Starts.{have_classes, has_class, type_in, lists_in, pair_in};
 
 use crate::numbers::class_in;

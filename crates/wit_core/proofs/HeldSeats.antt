@@ -28,8 +28,8 @@ use Rattle.wit_held.specs.Chains.{is_other, change_lock, recursed, fewer, record
 use Rattle.wit_held.specs.Chains.{forgotten, forgotten_by}
 use Rattle.wit_held.specs.Chains as held
 use Rattle.wit_core.specs.Acquiring.{taken}
-use Rattle.wit_core.specs.Held.{numbers, seat_view}
-use Rattle.wit_core.specs.Seats.{Holdings, asking, having_acquired, having_released, chunks_held}
+use Rattle.wit_waiting.specs.Seats.{numbers, seat_view}
+use Rattle.wit_waiting.specs.Seats.{Holdings, asking, having_acquired, having_released, chunks_held}
 
 abbrev number : Instance → ℕ
 number i = i.lock.0

@@ -16,9 +16,10 @@ use Rattle.wit_model.proofs.Chains.Regrouping.{groups-chain}
 use Rattle.wit_model.proofs.Chains.Seats.{get_or-seats_of}
 use Rattle.wit_model.proofs.Histories.Legal.{sane_legal}
 use Rattle.wit_core.specs.declared.verifier.Verifier.TheInside.{Inside}
-use Rattle.wit_core.specs.Held.{numbers, seat_view, HoldAll}
+use Rattle.wit_waiting.specs.Seats.{numbers, seat_view}
+use Rattle.wit_core.specs.Held.{HoldAll}
 use Rattle.wit_core.specs.Kept.{IsTied, start_in, history_in}
-use Rattle.wit_core.specs.Seats.{Holdings, seat_in, groups_held, HoldFor}
+use Rattle.wit_waiting.specs.Seats.{Holdings, seat_in, groups_held, HoldFor}
 use Rattle.wit_core.proofs.Now.{view-is}
 use Rattle.wit_model.proofs.Numbered.{with_number-or}
 use Rattle.wit_core.proofs.Seen.{IsSeenAs}

@@ -46,7 +46,7 @@ use Rattle.wit_check.specs.Answers.{new_orders}
 use Rattle.wit_check.specs.Held.{sleep_chain, spin_chain, IsJudgeable}
 use Rattle.wit_core.specs.declared.verifier.Verifier.TheInside.{Inside}
 use Rattle.wit_core.specs.Kept.{start_in, history_in, story_in, known_in}
-use Rattle.wit_core.specs.Seats.{seat_in, locks_in, HoldFor}
+use Rattle.wit_waiting.specs.Seats.{seat_in, locks_in, HoldFor}
 use Rattle.wit_core.specs.Verdict.{orders_taught}
 use Rattle.wit_core.proofs.Apt.{known-is}
 use Rattle.wit_core.proofs.HeldSeats.{stands-filter}

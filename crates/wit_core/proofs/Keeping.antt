@@ -20,14 +20,14 @@ use Rattle.wit_model.specs.Rules.Start.{start_fault}
 use Rattle.wit_model.specs.Rules.Orders.{AreDistinct, IsSound, is_found}
 use Rattle.wit_matrix.specs.Relation.{OrdersAmong, HasSameFound}
 use Rattle.wit_core.specs.declared.verifier.Verifier.TheInside.{Inside}
-use Rattle.wit_core.specs.Known.{Facts}
-use Rattle.wit_core.specs.Held.{seat_view}
-use Rattle.wit_core.specs.Seats.{Seating}
+use Rattle.wit_known.specs.Known.{Facts}
+use Rattle.wit_waiting.specs.Seats.{seat_view}
+use Rattle.wit_waiting.specs.Seats.{Seating}
 use Rattle.wit_core.proofs.Steps.{state, same_state}
 use Rattle.wit_core.specs.Journal.{Journal}
 use Rattle.wit_core.specs.Kept.{IsTied, start_in, history_in, story_in, known_in, state_in}
 use Rattle.wit_model.specs.Rules.Locks.{destroyed_of}
-use Rattle.wit_core.specs.Live.{live_flags}
+use Rattle.wit_known.specs.Live.{live_flags}
 
 -- types are within their limit
 pub types_few : (v : Inside) → IsTied v → length v.known.known.types ≤ v.limits.types

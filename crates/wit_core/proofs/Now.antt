@@ -25,15 +25,15 @@ use Rattle.wit_core.specs.declared.verifier.Verifier.TheInside.{Inside}
 use Rattle.wit_core.specs.declared.acquiring.Acquisition.TheVariants.{Recorded, Exhausted}
 use Rattle.wit_core.specs.declared.acquiring.Acquisition.TheVariants.{Unrecorded}
 use Rattle.wit_core.specs.Acquiring.{acquisition, reply_to}
-use Rattle.wit_core.specs.Held.{numbers, seat_view}
+use Rattle.wit_waiting.specs.Seats.{numbers, seat_view}
 use Rattle.wit_core.specs.Kept.{start_in, history_in, state_in}
-use Rattle.wit_core.specs.Seats.{Holdings, Seating, no_holdings, seat_in, locks_in, free_in}
-use Rattle.wit_core.specs.Seats.{has_no_room}
-use Rattle.wit_core.specs.Seats as seats
+use Rattle.wit_waiting.specs.Seats.{Holdings, Seating, no_holdings, seat_in, locks_in, free_in}
+use Rattle.wit_waiting.specs.Seats.{has_no_room}
+use Rattle.wit_waiting.specs.Seats as seats
 use Rattle.wit_core.proofs.HeldSeats.{opens-numbers, chunks-viewed, stands-filter}
-use Rattle.wit_core.proofs.Living.{count-told}
-use Rattle.wit_core.proofs.LiveFlags.{flag-is}
-use Rattle.wit_core.specs.Live.{is_flagged, live_count, live_told}
+use Rattle.wit_known.proofs.Living.{count-told}
+use Rattle.wit_known.proofs.LiveFlags.{flag-is}
+use Rattle.wit_known.specs.Live.{is_flagged, live_count, live_told}
 use Rattle.wit_core.proofs.Seen.{IsSeenAs}
 
 -- a row's seats as the rules see them

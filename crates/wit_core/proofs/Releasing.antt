@@ -13,7 +13,7 @@ use Rattle.wit_model.specs.Rules.Verdict.{is_of}
 use Rattle.wit_held.specs.Releases.{release_reply}
 use Rattle.wit_core.specs.declared.verifier.Verifier.TheInside.{Inside}
 use Rattle.wit_core.specs.Replies.{Admits}
-use Rattle.wit_core.specs.Seats.{seat_in, locks_in}
+use Rattle.wit_waiting.specs.Seats.{seat_in, locks_in}
 use Rattle.wit_core.proofs.Now.{chain-now}
 use Rattle.wit_core.proofs.Seen.{IsSeenAs}
 

@@ -31,9 +31,9 @@ use Rattle.wit_model.proofs.Chains.Seats.{seat_after-try, seat_after-unlock, sea
 use Rattle.wit_model.proofs.Chains.Seats.{get_or-seats_of}
 use Rattle.wit_model.proofs.Orders.Types.{typed-same}
 use Rattle.wit_core.specs.Acquiring.{taken}
-use Rattle.wit_core.specs.Held.{seat_view}
-use Rattle.wit_core.specs.Seats.{Holdings, Seating, no_holdings, with_seat, asking, having_acquired}
-use Rattle.wit_core.specs.Seats.{having_released}
+use Rattle.wit_waiting.specs.Seats.{seat_view}
+use Rattle.wit_waiting.specs.Seats.{Holdings, Seating, no_holdings, with_seat, asking, having_acquired}
+use Rattle.wit_waiting.specs.Seats.{having_released}
 use Rattle.wit_core.proofs.HeldSeats.{acquired-view, released-view}
 
 -- a state by its parts

@@ -32,9 +32,9 @@ use Rattle.wit_model.proofs.Orders.Orderly.{parents-known}
 use Rattle.wit_model.proofs.Orders.Sound.{taught-all}
 use Rattle.wit_matrix.specs.Relation.{HasSameFound}
 use Rattle.wit_core.specs.declared.verifier.Verifier.TheInside.{Inside}
-use Rattle.wit_core.specs.Following.{CanFollow, CanAllFollow}
-use Rattle.wit_core.specs.Known.{IsApt}
-use Rattle.wit_core.specs.Defining.{IsDefined}
+use Rattle.wit_known.specs.Following.{CanFollow, CanAllFollow}
+use Rattle.wit_known.specs.Known.{IsApt}
+use Rattle.wit_known.specs.Defining.{IsDefined}
 use Rattle.wit_model.specs.declared.locks.LockNo.{LockNo}
 use Rattle.wit_core.specs.Kept.{IsTied, start_in, history_in, story_in}
 use Rattle.wit_core.proofs.Apt.{known-is, number}

@@ -28,12 +28,13 @@ use Rattle.wit_model.proofs.Histories.Legal.{plain-even, plain-keeps}
 use Rattle.wit_held.specs.Chains.{in_mode}
 use Rattle.wit_held.specs.Marks.{marked}
 use Rattle.wit_core.specs.declared.verifier.Verifier.TheInside.{Inside}
-use Rattle.wit_core.specs.Held.{numbers, seat_view}
+use Rattle.wit_waiting.specs.Seats.{numbers, seat_view}
 use Rattle.wit_core.specs.Journal.{Journal}
 use Rattle.wit_core.specs.Kept.{start_in, history_in, story_in, known_in}
-use Rattle.wit_core.specs.Live.{live_flags}
-use Rattle.wit_core.specs.Seats.{Holdings, with_seat}
-use Rattle.wit_core.specs.Turning.{changed, turn_call, mark_call}
+use Rattle.wit_known.specs.Live.{live_flags}
+use Rattle.wit_waiting.specs.Seats.{Holdings, with_seat}
+use Rattle.wit_waiting.specs.Seats.{changed}
+use Rattle.wit_core.specs.Turning.{turn_call, mark_call}
 use Rattle.wit_core.proofs.Entries.Accepting.{accepted, sane_next, within, owed_now, known-now}
 use Rattle.wit_core.proofs.Entries.Accepting.{seats-now, watch-now, left-by, kind-now, room_left}
 use Rattle.wit_core.proofs.HeldSeats.{flat-changed, numbers-changed, seat}

@@ -29,7 +29,7 @@ use Rattle.wit_model.proofs.Orders.TypedLocks.{spin_at}
 use Rattle.wit_model.proofs.VerdictLaws.Classes.{type-kind}
 use Rattle.wit_core.specs.declared.verifier.Verifier.TheInside.{Inside}
 use Rattle.wit_core.specs.Kept.{start_in, history_in}
-use Rattle.wit_core.specs.Seats.{seat_in, locks_in}
+use Rattle.wit_waiting.specs.Seats.{seat_in, locks_in}
 use Rattle.wit_core.specs.Verdict.{tells_new}
 use Rattle.wit_core.proofs.Now.{locks-told}
 use Rattle.wit_core.proofs.Seen.{IsSeenAs}

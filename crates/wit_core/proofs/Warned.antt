@@ -25,7 +25,7 @@ use Rattle.wit_check.specs.Bases.{basis}
 use Rattle.wit_check.specs.Held.{sleep_chain, spin_chain}
 use Rattle.wit_core.specs.declared.verifier.Verifier.TheInside.{Inside}
 use Rattle.wit_core.specs.Kept.{known_in}
-use Rattle.wit_core.specs.Seats.{HoldFor}
+use Rattle.wit_waiting.specs.Seats.{HoldFor}
 use Rattle.wit_core.proofs.Judged.{chain-of-list}
 use Rattle.wit_core.proofs.Now.{now, view-is}
 use Rattle.wit_core.proofs.Seen.{IsSeenAs}

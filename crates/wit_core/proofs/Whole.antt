@@ -12,9 +12,9 @@ use Rattle.wit_core.specs.declared.verifier.Verifier.TheInside.{Inside}
 use Rattle.wit_core.specs.Journal.{Journal}
 use Rattle.wit_core.specs.declared.ready.Ready.{Ready}
 use Rattle.wit_core.specs.Kept.{IsReady, IsTied, IsKept, story_in, start_in, history_in}
-use Rattle.wit_core.specs.Known.{Facts, IsRoomFor}
+use Rattle.wit_known.specs.Known.{Facts, IsRoomFor}
 use Rattle.wit_core.specs.Plans.{planned_call, entries_for}
-use Rattle.wit_core.specs.Seats.{Seating}
+use Rattle.wit_waiting.specs.Seats.{Seating}
 use Rattle.wit_core.proofs.Apart.{apart_kept}
 use Rattle.wit_core.proofs.Apt.{known-is}
 use Rattle.wit_core.proofs.Holding.{chain-held, holds-all}

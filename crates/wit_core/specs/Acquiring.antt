@@ -12,7 +12,7 @@ use Rattle.wit_model.specs.Rules.History.{is_off}
 use Rattle.wit_core.specs.declared.acquiring.Acquisition.{Acquisition}
 use Rattle.wit_core.specs.declared.acquiring.Acquisition.TheVariants.{Recorded, Exhausted}
 use Rattle.wit_core.specs.declared.acquiring.Acquisition.TheVariants.{Unrecorded}
-use Rattle.wit_core.specs.Seats.{Seating, with_seat, having_acquired, has_no_room}
+use Rattle.wit_waiting.specs.Seats.{Seating, with_seat, having_acquired, has_no_room}
 
 abbrev pub reply_to : Acquisition → Reply
 reply_to Recorded = reply.Recorded

@@ -1,26 +1,9 @@
 -- What a verifier's seats hold, by its history.
-use Rattle.std.specs.Prelude.{ℕ, ◌*◌, ◌≡◌, Bool, List, map, length}
-use Rattle.wit_model.specs.declared.locks.Instance.{Instance}
+use Rattle.std.specs.Prelude.{ℕ, ◌*◌, ◌≡◌, Bool, length}
 use Rattle.wit_model.specs.Rules.Chunks.{Chunks, IsPlaced, groups_of, list_of}
-use Rattle.wit_model.specs.Rules.Groups.{flat}
 use Rattle.wit_model.specs.Rules.Numbers.{IsNumber}
 use Rattle.wit_model.specs.Rules.SeatGroups.{held_groups}
 use Rattle.wit_model.specs.Rules.State.{Story}
-use Rattle.wit_model.specs.Rules.State as model
-use Rattle.wit_core.specs.Seats.{Holdings}
-
-abbrev pub numbers : List (List Instance) → List (List ℕ)
-numbers gs = map (map (λ (i : Instance). i.lock.0)) gs
-
--- a seat as the rules see it: its locks, the groups by their numbers, and its request
-abbrev pub seat_view : Holdings → model.Seat
-seat_view s = record {
-  sleep = flat s.sleep;
-  spin = flat s.spin;
-  sleep_groups = numbers s.sleep;
-  spin_groups = numbers s.spin;
-  pending = s.pending;
-}
 
 -- the chunks are the start's, each seat's lists hold its locks in their groups as the history has
 -- them, and each chunk stands once

@@ -13,14 +13,15 @@ use Rattle.wit_model.specs.Rules.Start.{start_fault}
 use Rattle.wit_model.specs.Rules.Step.{answer_of, is_logged, IsLegal}
 use Rattle.wit_model.specs.Rules.Locks.{destroyed_of}
 use Rattle.wit_matrix.specs.Relation.{HasSameFound}
-use Rattle.wit_core.specs.Live.{live_flags}
+use Rattle.wit_known.specs.Live.{live_flags}
 use Rattle.wit_core.specs.declared.ready.Ready.{Ready}
 use Rattle.wit_core.specs.declared.verifier.Verifier.TheInside.{Inside}
-use Rattle.wit_core.specs.Held.{seat_view, HoldAll}
-use Rattle.wit_core.specs.Known.{IsRoomFor}
-use Rattle.wit_core.specs.Listed.{all_listed}
+use Rattle.wit_waiting.specs.Seats.{seat_view}
+use Rattle.wit_core.specs.Held.{HoldAll}
+use Rattle.wit_known.specs.Known.{IsRoomFor}
+use Rattle.wit_known.specs.Listed.{all_listed}
 use Rattle.wit_core.specs.Plans.{planned_call, planned, entries_for}
-use Rattle.wit_core.specs.Seats.{seat_in, locks_in, HoldFor}
+use Rattle.wit_waiting.specs.Seats.{seat_in, locks_in, HoldFor}
 
 abbrev pub start_in : Inside → Start
 start_in v =

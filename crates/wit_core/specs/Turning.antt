@@ -1,5 +1,5 @@
--- Calls that change how a lock is held, and the seat that they leave.
-use Rattle.std.specs.Prelude.{ℕ, Bool, true, false, Option, Result}
+-- Calls that change how a lock is held.
+use Rattle.std.specs.Prelude.{Bool, true, false, Option, Result}
 use Rattle.wit_model.specs.declared.faults.Fault.{Fault}
 use Rattle.wit_model.specs.declared.locks.Instance.{Instance}
 use Rattle.wit_model.specs.declared.locks.LockNo.{LockNo}
@@ -11,12 +11,6 @@ use Rattle.wit_model.specs.declared.calls.Call.TheVariants.{Upgrade, Downgrade, 
 use Rattle.wit_model.specs.declared.calls.Call.TheVariants.{ReleaseOk}
 use Rattle.wit_model.specs.declared.calls.Reply.{Reply}
 use Rattle.wit_model.specs.Rules.Turning.{upgraded, downgraded}
-use Rattle.wit_held.specs.Chains.{change_lock}
-use Rattle.wit_core.specs.Seats.{Holdings, in_groups}
-
--- a seat of which one held lock of this kind is changed
-abbrev pub changed : Bool → ℕ → (Instance → Instance) → Holdings → Holdings
-changed spin l change s = in_groups spin (change_lock l change) s
 
 -- the call that turns a lock to this mode
 abbrev pub turn_call : Mode → LockNo → Call

@@ -4,12 +4,12 @@ ghost use Rattle.std.specs.Prelude.{◌≡◌, false};
 ghost use Rattle.wit_model.specs.Rules.Numbers.{IsGiven};
 ghost use Rattle.wit_held.specs.Chains.{IsOnce, IsShallow};
 ghost use Rattle.wit_model.specs.Rules.History.{is_off};
-ghost use Rattle.wit_core.specs.Seats.{seat_in, locks_in};
+ghost use Rattle.wit_waiting.specs.Seats.{seat_in, locks_in};
 ghost use Rattle.wit_core.specs.Acquiring.{reply_to, owed_after, acquisition, watch_then};
 ghost use Rattle.wit_core.specs.Acquiring.{seating_then};
 
-use crate::seats::Seats;
 use wit_model::{Instance, Reply, SeatNo, Watch};
+use wit_waiting::Seats;
 
 /// What becomes of an acquisition.
 #[derive(Clone, Copy, Debug)]

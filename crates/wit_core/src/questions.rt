@@ -11,8 +11,8 @@ ghost use Rattle.wit_model.specs.Rules.Destroying.{is_used};
 ghost use Rattle.wit_model.specs.Rules.Types.{is_otherwise, is_enrolled};
 ghost use Rattle.wit_core.specs.Replies.{Admits, Refuses};
 
-use crate::names::is_enrolled;
 use crate::verifier::Verifier;
+use wit_known::is_enrolled;
 use wit_model::{Class, Fault, FileNo, Instance, Limits, LockNo, Mode, Request, SeatNo, Site};
 
 impl Verifier {

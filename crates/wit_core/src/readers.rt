@@ -14,13 +14,13 @@ ghost use Rattle.wit_model.specs.Rules.Step.{held_by};
 ghost use Rattle.wit_model.specs.Trace.Paths.{path, path_numbers};
 ghost use Rattle.wit_matrix.specs.Relation.{LeadsBy};
 ghost use Rattle.wit_core.specs.Held.{HoldAll};
-ghost use Rattle.wit_core.specs.Live.{live_told};
+ghost use Rattle.wit_known.specs.Live.{live_told};
 ghost use Rattle.wit_core.specs.Numbered.{lock_name, lock_type, type_name, type_class, relation};
 
-use crate::names::is_type;
-use crate::seats::Chunked;
 use crate::verifier::Verifier;
+use wit_known::is_type;
 use wit_model::{Class, Fault, FileNo, Instance, LockNo, Mode, Origin, SeatNo, TypeNo};
+use wit_waiting::Chunked;
 
 // What the seats hold; `None` for a seat that there is not.
 impl Verifier {

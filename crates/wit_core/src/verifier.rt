@@ -11,16 +11,15 @@ ghost use Rattle.wit_model.specs.Rules.Start.{start_fault, IsRefused};
 ghost use Rattle.wit_model.specs.Rules.State.{fresh, orders_of};
 ghost use Rattle.wit_model.specs.Rules.Step.{IsLegal};
 ghost use Rattle.wit_matrix.specs.Relation.{OrdersAmong};
-ghost use Rattle.wit_core.specs.Fresh.{start_of};
+ghost use Rattle.wit_known.specs.Fresh.{start_of};
 
-use crate::known::Known;
 use crate::log::Log;
 use crate::ready::Ready;
-use crate::seats::Seats;
-use crate::static_lists::StartError;
 use std::alloc::Global;
 use std::marker::Model;
+use wit_known::{Known, StartError};
 use wit_model::{Adoption, Class, Entry, Fault, FileNo, Limits, Profile, Watch};
+use wit_waiting::Seats;
 
 /// A verifier of lock orders, as witness(4) describes it: it is told of each acquisition and
 /// release, keeps what each seat holds, learns the orders in which types of locks are acquired, and

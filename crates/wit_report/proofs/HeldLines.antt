@@ -27,7 +27,7 @@ use Rattle.wit_model.proofs.Numbered.{with_number-none}
 use Rattle.wit_model.proofs.Histories.Legal.{sane_legal, seat_at-state}
 use Rattle.wit_core.specs.Held.{HoldAll}
 use Rattle.wit_model.proofs.Walking.{IsNext, newer_than, one-more}
-use Rattle.wit_core.proofs.Waits.{seat-number}
+use Rattle.wit_waiting.proofs.Waits.{seat-number}
 
 -- ---- newest first
 

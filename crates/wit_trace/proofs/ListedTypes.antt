@@ -3,7 +3,7 @@ use Rattle.std.proofs.Common.{◌≡◌, ℕ, List, [], ◌∷◌, ◌++◌, ref
 use Rattle.std.specs.Prelude.{String, string_bytes}
 use Rattle.std.specs.Global.{Global}
 use Rattle.wit_model.specs.declared.locks.Class.{Class}
-use Rattle.wit_core.specs.Listed.{entry_of, listed}
+use Rattle.wit_known.specs.Listed.{entry_of, listed}
 
 listed-push : (items : List (Class × String Global)) (x : Class × String Global)
     (rest : List (Class × List ℕ)) → listed (items ++ x ∷ []) ++ rest

@@ -9,7 +9,7 @@ use Rattle.wit_model.specs.declared.lines.Cause.TheVariants as why
 use Rattle.wit_model.specs.Rules.Numbers.{with_number}
 use Rattle.wit_model.specs.Rules.State.{Story, fresh}
 use Rattle.wit_model.specs.Trace.Output as output
-use Rattle.wit_core.specs.Fresh.{start_of}
+use Rattle.wit_known.specs.Fresh.{start_of}
 use Rattle.wit_fields.specs.declared.errors.LineError.{LineError}
 use Rattle.wit_fields.specs.declared.errors.LineError.TheVariants.{Bad, Memory}
 use Rattle.wit_grammar.specs.declared.parse.TheConstants.{LONGEST}

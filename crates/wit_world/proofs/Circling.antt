@@ -12,9 +12,9 @@ use Rattle.wit_model.specs.World.Shown.{waits_in, WaitsIn}
 use Rattle.wit_model.proofs.Numbered.{with_number-none}
 use Rattle.wit_model.proofs.World.Circled.{circle-through, waits-world}
 use Rattle.wit_model.proofs.World.Exclusion.{has_seat}
-use Rattle.wit_core.specs.Searching.{all_waiting, table_of, Says, IsTable}
-use Rattle.wit_core.proofs.WaitTables.{rows-many}
-use Rattle.wit_core.proofs.Waits.{count-rows, is_table, says-is, says_true}
+use Rattle.wit_waiting.specs.Searching.{all_waiting, table_of, Says, IsTable}
+use Rattle.wit_waiting.proofs.WaitTables.{rows-many}
+use Rattle.wit_waiting.proofs.Waits.{count-rows, is_table, says-is, says_true}
 use Rattle.wit_world.specs.Kept.{IsKept}
 
 module _ (s : Scene) (k : IsKept s) where

@@ -5,7 +5,7 @@ ghost use Rattle.wit_model.specs.declared.faults.Fault.TheVariants.{OutOfMemory}
 ghost use Rattle.wit_model.specs.Rules.Circles.{TellsCircle, circle_numbers};
 ghost use Rattle.wit_model.specs.Rules.Numbers.{IsNumber};
 ghost use Rattle.wit_model.specs.World.Shown.{waits_in, WaitsIn};
-ghost use Rattle.wit_core.specs.Searching.{waiting, all_waiting, table_of};
+ghost use Rattle.wit_waiting.specs.Searching.{waiting, all_waiting, table_of};
 
 use crate::stages::Stage;
 use crate::world::World;

@@ -19,15 +19,15 @@ use Rattle.wit_model.proofs.Chains.Owed.{owed_to}
 use Rattle.wit_model.proofs.Histories.Legal.{seat_accepted, sane_more, pending-state}
 use Rattle.wit_model.proofs.Orders.TypedLocks.{spin_at}
 use Rattle.wit_core.specs.declared.verifier.Verifier.TheInside.{Inside}
-use Rattle.wit_core.specs.Held.{seat_view}
+use Rattle.wit_waiting.specs.Seats.{seat_view}
 use Rattle.wit_core.specs.Journal.{Journal}
 use Rattle.wit_core.specs.Kept.{start_in, history_in, story_in, known_in}
-use Rattle.wit_core.specs.Seats.{Seating}
+use Rattle.wit_waiting.specs.Seats.{Seating}
 use Rattle.wit_core.proofs.Keeping.{seat_in_range, Leaves}
 use Rattle.wit_core.proofs.Now.{seat-given}
 use Rattle.wit_core.proofs.Seen.{IsSeenAs}
 use Rattle.wit_core.proofs.Steps.{same_state}
-use Rattle.wit_core.specs.Live.{live_flags}
+use Rattle.wit_known.specs.Live.{live_flags}
 
 -- a lock's kind, by the locks and by the history
 spin_same : (v : Inside) (l : ℕ) (spin : Bool)

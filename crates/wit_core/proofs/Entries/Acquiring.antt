@@ -30,11 +30,11 @@ use Rattle.wit_core.specs.declared.acquiring.Acquisition.TheVariants.{Recorded, 
 use Rattle.wit_core.specs.declared.acquiring.Acquisition.TheVariants.{Unrecorded}
 use Rattle.wit_core.specs.Acquiring.{reply_to, owed_after, acquisition, watch_then, seating_then}
 use Rattle.wit_core.specs.Acquiring.{taken}
-use Rattle.wit_core.specs.Held.{seat_view}
+use Rattle.wit_waiting.specs.Seats.{seat_view}
 use Rattle.wit_core.specs.Journal.{Journal}
 use Rattle.wit_core.specs.Kept.{start_in, history_in, story_in, known_in}
-use Rattle.wit_core.specs.Seats.{Seating, no_holdings, seat_in, locks_in, with_seat, asking}
-use Rattle.wit_core.specs.Seats.{having_acquired}
+use Rattle.wit_waiting.specs.Seats.{Seating, no_holdings, seat_in, locks_in, with_seat, asking}
+use Rattle.wit_waiting.specs.Seats.{having_acquired}
 use Rattle.wit_core.proofs.Keeping.{Leaves}
 use Rattle.wit_core.proofs.Now.{chain-now, once-now, acquisition-told}
 use Rattle.wit_core.proofs.Seen.{IsSeenAs}

@@ -18,20 +18,20 @@ use Rattle.wit_model.specs.Rules.Step.{IsLegal}
 use Rattle.wit_model.proofs.Chains.Regrouping.{seat_groups-nil}
 use Rattle.wit_model.proofs.Chains.Owed.{owed_to-nil}
 use Rattle.wit_core.specs.declared.verifier.Verifier.TheInside.{Inside}
-use Rattle.wit_core.specs.Fresh.{start_of}
-use Rattle.wit_core.specs.Held.{seat_view}
+use Rattle.wit_known.specs.Fresh.{start_of}
+use Rattle.wit_waiting.specs.Seats.{seat_view}
 use Rattle.wit_core.specs.Journal.{Journal}
 use Rattle.wit_core.specs.Plans.{planned}
 use Rattle.wit_core.specs.declared.ready.Ready.{Ready}
 use Rattle.wit_core.specs.Kept.{IsReady, IsTied, start_in, history_in, story_in, known_in}
 use Rattle.wit_core.specs.Kept.{state_in}
-use Rattle.wit_core.specs.Known.{nothing_known}
-use Rattle.wit_core.specs.Listed.{all_listed, pairs_of, lists_entered}
-use Rattle.wit_core.specs.Seats.{Seating, no_holdings, idle_seating}
-use Rattle.wit_core.proofs.Entering.{IsBegun}
+use Rattle.wit_known.specs.Known.{nothing_known}
+use Rattle.wit_known.specs.Listed.{all_listed, pairs_of, lists_entered}
+use Rattle.wit_waiting.specs.Seats.{Seating, no_holdings, idle_seating}
+use Rattle.wit_known.proofs.Entering.{IsBegun}
 use Rattle.wit_core.proofs.Keeping.{same_story}
 use Rattle.wit_core.proofs.Steps.{same_state}
-use Rattle.wit_core.specs.Live.{live_flags}
+use Rattle.wit_known.specs.Live.{live_flags}
 
 -- seats that hold nothing are those of no history
 seats-idle : (a n : ℕ) → map seat_view (replicate n no_holdings)

@@ -18,8 +18,8 @@ use Rattle.wit_model.proofs.Histories.Legal.{pending-state}
 use Rattle.wit_core.specs.declared.verifier.Verifier.TheInside.{Inside}
 use Rattle.wit_core.specs.Journal.{Journal}
 use Rattle.wit_core.specs.Kept.{start_in, history_in, story_in, known_in}
-use Rattle.wit_core.specs.Known.{learnt}
-use Rattle.wit_core.specs.Seats.{with_seat, asking}
+use Rattle.wit_known.specs.Known.{learnt}
+use Rattle.wit_waiting.specs.Seats.{with_seat, asking}
 use Rattle.wit_core.proofs.Keeping.{Leaves}
 use Rattle.wit_core.proofs.Seen.{IsSeenAs}
 use Rattle.wit_core.proofs.Steps.{same_locks, seats-quiet}

@@ -8,7 +8,7 @@ use Rattle.wit_model.specs.Rules.State.{Story, Known, known_of, typed_locks}
 use Rattle.wit_model.specs.Rules.Step.{answer_of}
 use Rattle.wit_model.proofs.Chains.Owed.{owed-same}
 use Rattle.wit_core.specs.declared.verifier.Verifier.TheInside.{Inside}
-use Rattle.wit_core.specs.Defining.{with_defined, IsDefined}
+use Rattle.wit_known.specs.Defining.{with_defined, IsDefined}
 use Rattle.wit_core.specs.Kept.{start_in, history_in, known_in}
 use Rattle.wit_core.proofs.Keeping.{Leaves}
 use Rattle.wit_core.proofs.Seen.{IsSeenAs}

@@ -15,8 +15,8 @@ use Rattle.wit_core.proofs.Keeping.{Leaves}
 use Rattle.wit_core.proofs.Now.{live-now}
 use Rattle.wit_core.proofs.Seen.{IsSeenAs}
 use Rattle.wit_core.proofs.Steps.{known-same, seats-same}
-use Rattle.wit_core.proofs.LiveFlags.{flag-within, flags-destroyed, length-flags}
-use Rattle.wit_core.specs.Live.{is_flagged}
+use Rattle.wit_known.proofs.LiveFlags.{flag-within, flags-destroyed, length-flags}
+use Rattle.wit_known.specs.Live.{is_flagged}
 use Rattle.wit_core.proofs.Judged.{asked-given}
 use Rattle.wit_model.proofs.Numbered.{with_changed-at}
 use Rattle.wit_core.proofs.Entries.Accepting.{known-now, left-by, owed_now, sane_next, seats-now}

@@ -18,11 +18,11 @@ use Rattle.wit_table.specs.Known.{enroll_answer}
 use Rattle.wit_core.specs.declared.verifier.Verifier.TheInside.{Inside}
 use Rattle.wit_core.specs.Journal.{Journal}
 use Rattle.wit_core.specs.Kept.{start_in, history_in, story_in, known_in}
-use Rattle.wit_core.specs.Known.{with_lock, IsAdmitted}
+use Rattle.wit_known.specs.Known.{with_lock, IsAdmitted}
 use Rattle.wit_core.proofs.Keeping.{Leaves}
 use Rattle.wit_core.proofs.Seen.{IsSeenAs}
 use Rattle.wit_core.proofs.Steps.{seats-same}
-use Rattle.wit_core.proofs.LiveFlags.{flags-made}
+use Rattle.wit_known.proofs.LiveFlags.{flags-made}
 use Rattle.wit_model.proofs.Histories.Live.{next-undestroyed}
 use Rattle.wit_core.proofs.Entries.Accepting.{accepted, known-now, left-by, owed_now, room_left}
 use Rattle.wit_core.proofs.Entries.Accepting.{sane_next, seats-now, watch-now, within}

@@ -16,7 +16,7 @@ use Rattle.wit_core.specs.declared.verifier.Verifier.TheInside.{Inside}
 use Rattle.wit_core.specs.Plans.{planned_call}
 use Rattle.wit_core.specs.declared.ready.Ready.{Ready}
 use Rattle.wit_core.specs.Kept.{IsReady, IsTied, start_in, history_in, story_in}
-use Rattle.wit_core.specs.Known.{Facts}
+use Rattle.wit_known.specs.Known.{Facts}
 
 -- a verifier that knows this
 abbrev pub with_known : Inside → Facts → Inside

@@ -14,7 +14,7 @@ use Rattle.wit_model.proofs.Histories.Accepted.{unlock_accepted}
 use Rattle.wit_model.proofs.Histories.Legal.{unlock-held}
 use Rattle.wit_core.specs.declared.verifier.Verifier.TheInside.{Inside}
 use Rattle.wit_core.specs.Kept.{start_in, history_in, story_in, known_in}
-use Rattle.wit_core.specs.Seats.{with_seat, having_released}
+use Rattle.wit_waiting.specs.Seats.{with_seat, having_released}
 use Rattle.wit_core.proofs.Keeping.{Leaves}
 use Rattle.wit_core.proofs.Seen.{IsSeenAs}
 use Rattle.wit_core.proofs.Steps.{known-same, seats-unlock}

@@ -2,11 +2,11 @@
 
 ghost use Rattle.std.specs.Prelude.{◌≡◌, ◌||◌, None, unwrap_or, IfOk, IfErr, OnOk};
 ghost use Rattle.wit_model.specs.Rules.Numbers.{with_number};
-ghost use Rattle.wit_core.specs.Listed.{listed};
+ghost use Rattle.wit_known.specs.Listed.{listed};
 ghost use Rattle.wit_model.specs.Trace.Output.{Opening, begun, empty_prelude, entered, is_prelude};
 ghost use Rattle.wit_model.specs.Trace.Output.{is_profile, opened, with_list, with_pair};
 ghost use Rattle.wit_model.specs.Rules.Start.{start_fault, IsRefused};
-ghost use Rattle.wit_core.specs.Fresh.{start_of};
+ghost use Rattle.wit_known.specs.Fresh.{start_of};
 ghost use Rattle.wit_model.specs.Rules.State.{fresh};
 ghost use Rattle.wit_trace.specs.Replays.{IsVerifierOf, Opens, GoesAsDue, prelude_of, progress_of};
 

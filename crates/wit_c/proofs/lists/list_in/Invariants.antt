@@ -1,5 +1,5 @@
 use Rattle.std.proofs.Common.{◌≡◌, map, take}
-use Rattle.wit_core.specs.Listed.{listed}
+use Rattle.wit_known.specs.Listed.{listed}
 use Rattle.wit_c.specs.Starts.{type_in}
 use Rattle.wit_c.proofs.lists.list_in.Given as goal
 

@@ -1,5 +1,5 @@
 use Rattle.std.proofs.Common.{◌≡◌, take}
-use Rattle.wit_core.specs.Listed.{all_listed}
+use Rattle.wit_known.specs.Listed.{all_listed}
 use Rattle.wit_c.specs.Starts.{lists_in}
 use Rattle.wit_c.proofs.lists.lists_in.Given as goal
 

@@ -1,5 +1,5 @@
 use Rattle.std.proofs.Common.{◌≡◌, map, take}
-use Rattle.wit_core.specs.Listed.{pairs_of}
+use Rattle.wit_known.specs.Listed.{pairs_of}
 use Rattle.wit_c.specs.Starts.{pair_in}
 use Rattle.wit_c.proofs.lists.pairs_in.Given as goal
 

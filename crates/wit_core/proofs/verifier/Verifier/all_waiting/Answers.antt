@@ -1,6 +1,6 @@
 use Rattle.wit_model.specs.Rules.Circles.{waits_for}
 use Rattle.wit_model.specs.Rules.State.{state_of}
-use Rattle.wit_core.proofs.Waits.{rows_more}
+use Rattle.wit_waiting.proofs.Waits.{rows_more}
 use Rattle.wit_core.proofs.verifier.Verifier.all_waiting.Goals as goal
 
 pub loop-place-preserved : goal.loop-place-preserved

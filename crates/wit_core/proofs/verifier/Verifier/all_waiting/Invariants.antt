@@ -2,7 +2,7 @@ use Rattle.std.proofs.Common.{◌≡◌, map}
 use Rattle.std.specs.List.{range_with_len}
 use Rattle.wit_model.specs.Rules.Circles.{waits_for}
 use Rattle.wit_model.specs.Rules.State.{state_of}
-use Rattle.wit_core.specs.Searching.{waiting, table_of}
+use Rattle.wit_waiting.specs.Searching.{waiting, table_of}
 use Rattle.wit_core.proofs.verifier.Verifier.all_waiting.Given as goal
 
 abbrev pub invariant-loop-place : goal.invariant-loop-place

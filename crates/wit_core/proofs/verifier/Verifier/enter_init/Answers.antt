@@ -1,7 +1,7 @@
 use Rattle.std.proofs.Common.{◌∷◌, ◌++◌, [], true, refl, ap, sym, subst, arith, ◌∙◌}
 use Rattle.wit_model.specs.declared.calls.Call.TheVariants.{Init}
 use Rattle.wit_model.specs.declared.calls.NewLock.{NewLock}
-use Rattle.wit_core.specs.Known.{Facts, with_lock, IsAdmitted}
+use Rattle.wit_known.specs.Known.{Facts, with_lock, IsAdmitted}
 use Rattle.wit_model.specs.declared.calls.Reply.TheVariants.{Made}
 use Rattle.wit_core.proofs.Keeping.{kept_entered, log_after}
 use Rattle.wit_core.proofs.Entries.Accepting.{accepted}

@@ -3,7 +3,7 @@ use Rattle.wit_model.specs.Rules.Numbers.{IsGiven}
 use Rattle.wit_model.specs.Rules.Types.{is_spin}
 use Rattle.wit_model.specs.declared.calls.Call.TheVariants.{Note}
 use Rattle.wit_core.specs.Acquiring.{reply_to}
-use Rattle.wit_core.specs.Seats.{Seating, with_seat, asking}
+use Rattle.wit_waiting.specs.Seats.{Seating, with_seat, asking}
 use Rattle.wit_core.proofs.Keeping.{kept_entered, noted_log}
 use Rattle.wit_core.proofs.Entries.Accepting.{accepted, given}
 use Rattle.wit_core.proofs.Entries.Acquiring.{given-then, reply-logged, reply-told, acquire_once}

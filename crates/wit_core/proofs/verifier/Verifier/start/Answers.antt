@@ -1,9 +1,9 @@
 use Rattle.std.proofs.Common.{◌≡◌, [], refl, ap₂, subst, ◌∙◌}
-use Rattle.wit_core.specs.Fresh.{start_of}
-use Rattle.wit_core.specs.Seats.{idle_seating}
+use Rattle.wit_known.specs.Fresh.{start_of}
+use Rattle.wit_waiting.specs.Seats.{idle_seating}
 use Rattle.std.proofs.lemmas.Result.{err_from_is_err_and}
-use Rattle.wit_core.proofs.Entering.{start-unmade, lists-refused, pairs-refused, all-accepted}
-use Rattle.wit_core.proofs.Entering.{is-begun}
+use Rattle.wit_known.proofs.Entering.{start-unmade, lists-refused, pairs-refused, all-accepted}
+use Rattle.wit_known.proofs.Entering.{is-begun}
 use Rattle.wit_core.proofs.Entries.Beginning.{kept_begun}
 use Rattle.wit_core.proofs.Whole.{kept}
 use Rattle.wit_core.proofs.verifier.Verifier.start.Goals as goal

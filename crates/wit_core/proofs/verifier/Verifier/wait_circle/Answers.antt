@@ -2,7 +2,7 @@ use Rattle.std.proofs.Common.{arith}
 use Rattle.wit_model.specs.Rules.Circles.{circle_numbers}
 use Rattle.wit_model.specs.Rules.Clean.{CleanMeansNoCircle}
 use Rattle.wit_core.proofs.Apart.{apart_kept}
-use Rattle.wit_core.proofs.Waits.{rows_table, rows-count, told_of_state, none_told}
+use Rattle.wit_waiting.proofs.Waits.{rows_table, rows-count, told_of_state, none_told}
 use Rattle.wit_core.proofs.verifier.Verifier.wait_circle.Goals as goal
 
 pub circle_in-requires-clause-table : goal.circle_in-requires-clause-table

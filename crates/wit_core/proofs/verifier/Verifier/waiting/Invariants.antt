@@ -1,7 +1,7 @@
 use Rattle.std.proofs.Common.{◌≡◌}
 use Rattle.wit_model.specs.Rules.Circles.{waits_for}
 use Rattle.wit_model.specs.Rules.State.{state_of}
-use Rattle.wit_core.specs.Searching.{waiting}
+use Rattle.wit_waiting.specs.Searching.{waiting}
 use Rattle.wit_core.proofs.verifier.Verifier.waiting.Given as goal
 
 abbrev pub invariant-loop-place : goal.invariant-loop-place

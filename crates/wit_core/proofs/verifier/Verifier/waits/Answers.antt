@@ -1,4 +1,4 @@
-use Rattle.wit_core.proofs.Waits.{seat-number}
+use Rattle.wit_waiting.proofs.Waits.{seat-number}
 use Rattle.wit_core.proofs.verifier.Verifier.waits.Goals as goal
 
 pub held-requires-2 : goal.held-requires-2

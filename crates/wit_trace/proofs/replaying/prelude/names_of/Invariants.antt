@@ -1,5 +1,5 @@
 use Rattle.std.proofs.Common.{◌≡◌, ◌++◌}
-use Rattle.wit_core.specs.Listed.{listed}
+use Rattle.wit_known.specs.Listed.{listed}
 use Rattle.wit_trace.proofs.replaying.prelude.names_of.Given as goal
 
 -- the types so far, and those that are left

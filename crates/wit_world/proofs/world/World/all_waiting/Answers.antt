@@ -1,5 +1,5 @@
 use Rattle.wit_model.specs.World.Shown.{waits_in}
-use Rattle.wit_core.proofs.Waits.{rows_more}
+use Rattle.wit_waiting.proofs.Waits.{rows_more}
 use Rattle.wit_world.proofs.world.World.all_waiting.Goals as goal
 
 pub loop-place-preserved : goal.loop-place-preserved

@@ -1,7 +1,7 @@
 use Rattle.std.proofs.Common.{◌≡◌, map}
 use Rattle.std.specs.List.{range_with_len}
 use Rattle.wit_model.specs.World.Shown.{waits_in}
-use Rattle.wit_core.specs.Searching.{waiting, table_of}
+use Rattle.wit_waiting.specs.Searching.{waiting, table_of}
 use Rattle.wit_world.proofs.world.World.all_waiting.Given as goal
 
 abbrev pub invariant-loop-place : goal.invariant-loop-place

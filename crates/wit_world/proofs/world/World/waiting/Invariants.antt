@@ -1,6 +1,6 @@
 use Rattle.std.proofs.Common.{◌≡◌}
 use Rattle.wit_model.specs.World.Shown.{waits_in}
-use Rattle.wit_core.specs.Searching.{waiting}
+use Rattle.wit_waiting.specs.Searching.{waiting}
 use Rattle.wit_world.proofs.world.World.waiting.Given as goal
 
 abbrev pub invariant-loop-place : goal.invariant-loop-place

@@ -1,4 +1,4 @@
-use Rattle.wit_core.proofs.Waits.{seat-number}
+use Rattle.wit_waiting.proofs.Waits.{seat-number}
 use Rattle.wit_world.proofs.world.World.waits.Goals as goal
 
 pub stage-requires : goal.stage-requires

@@ -1,5 +1,0 @@
-use Rattle.wit_core.proofs.SeatRows.{holds-now}
-use Rattle.wit_core.proofs.seats.Seats.lists.Goals as goal
-
-pub returns : goal.returns
-returns c = holds-now c.self.inside c.args.self.now c.self.view_is c.self.invariant

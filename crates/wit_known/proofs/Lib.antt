@@ -1,0 +1,10 @@
+pub mod Enrolling
+pub mod Entering
+pub mod Following
+pub mod Going
+pub mod Listing
+pub mod LiveFlags
+pub mod Living
+pub mod Relating
+pub mod Turns
+pub mod TypedLocks

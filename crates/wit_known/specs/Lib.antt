@@ -1,0 +1,11 @@
+pub mod Defining
+pub mod Following
+pub mod Fresh
+pub mod Known
+pub mod Listed
+pub mod Live
+pub mod MadeLocks
+pub mod Ordering
+pub mod Related
+pub mod Remembered
+pub mod TypedLocks
