@@ -1,4 +1,5 @@
 pub mod Acquiring
+pub mod Attempts
 pub mod Defining
 pub mod Following
 pub mod Fresh

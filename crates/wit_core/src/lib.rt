@@ -18,6 +18,7 @@ mod seats;
 mod static_lists;
 mod verifier;
 
+pub use calls::Attempt;
 pub use circle::circle_in;
 pub use static_lists::StartError;
 pub use verifier::Verifier;
