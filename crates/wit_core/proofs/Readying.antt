@@ -19,6 +19,9 @@ use Rattle.wit_model.proofs.Orders.Once.{distinct_legal}
 use Rattle.wit_matrix.specs.Relation.{OrdersAmong}
 use Rattle.wit_core.specs.declared.ready.Ready.{Ready}
 use Rattle.wit_core.specs.declared.verifier.Verifier.TheInside.{Inside}
+use Rattle.wit_core.specs.declared.calls.attempt.Attempt.{Attempt}
+use Rattle.wit_core.specs.declared.calls.attempt.Attempt.TheVariants.{Made, Teaches}
+use Rattle.wit_core.specs.Attempts.{Attempts, told}
 use Rattle.wit_core.specs.Kept.{IsReady}
 use Rattle.wit_core.specs.Plans.{planned_call, planned}
 use Rattle.wit_core.proofs.Keeping.{orders_within}
@@ -53,28 +56,46 @@ no_more _ = refl
 -- teaches
 teaches : (P : List Adoption → Type 0) (s : Story) → IsLegal s.start s.files s.history
     → ((h : List Entry) → IsLegal s.start s.files h → P (orders_of s.start h))
-    → (t : ℕ) (call : Call) (r : Result Reply Fault) (new : Story) → Prepares s t call r new
-    → IfOk r (λ reply. P (adopted call reply ++ orders_of s.start s.history))
-teaches P s legal all t call (Err fault) new told = tt
-teaches P s legal all t call (Ok reply) new told = go reply told.0
-  where
-    go : (r : Reply) → answer_of s t call ≡ Ok r → P (adopted call r ++ orders_of s.start s.history)
-    go Ignored ok =
-        subst (λ os. P (os ++ orders_of s.start s.history)) (sym (no_more call))
-        (all s.history legal)
-    go r ok = all (entry t call r ∷ s.history) (ok, refl, legal)
+    → (t : ℕ) (call : Call) (r : Reply) → answer_of s t call ≡ Ok r
+    → P (adopted call r ++ orders_of s.start s.history)
+teaches P s legal all t call Ignored ok =
+    subst (λ os. P (os ++ orders_of s.start s.history)) (sym (no_more call)) (all s.history legal)
+teaches P s legal all t call r ok = all (entry t call r ∷ s.history) (ok, refl, legal)
 
 module _ (s : Story) (started : start_fault s.start ≡ None)
-    (legal : IsLegal s.start s.files s.history) (t : ℕ) (call : Call)
-    (r : Result Reply Fault) (new : Story)
-    (told : Prepares s t call r new) where
-  pub teaches_among : IfOk r (λ reply. OrdersAmong s.start.sizes.types
-      (adopted call reply ++ orders_of s.start s.history))
-  teaches_among =
+    (legal : IsLegal s.start s.files s.history) (t : ℕ) (call : Call) where
+  among : (reply : Reply) → answer_of s t call ≡ Ok reply
+      → OrdersAmong s.start.sizes.types (adopted call reply ++ orders_of s.start s.history)
+  among =
       teaches (OrdersAmong s.start.sizes.types) s legal
-      (λ h is. orders_within s.start s.files h started is) t call r new told
+      (λ h is. orders_within s.start s.files h started is) t call
 
-  pub teaches_distinct : IfOk r
-      (λ reply. AreDistinct (adopted call reply ++ orders_of s.start s.history))
-  teaches_distinct =
-      teaches AreDistinct s legal (λ h is. distinct_legal s.start s.files h is) t call r new told
+  distinct : (reply : Reply) → answer_of s t call ≡ Ok reply
+      → AreDistinct (adopted call reply ++ orders_of s.start s.history)
+  distinct = teaches AreDistinct s legal (λ h is. distinct_legal s.start s.files h is) t call
+
+  module _ (new : Story) where
+    pub teaches_among : (r : Result Reply Fault) → Prepares s t call r new
+        → IfOk r (λ reply. OrdersAmong s.start.sizes.types
+        (adopted call reply ++ orders_of s.start s.history))
+    teaches_among (Ok reply) told = among reply told.0
+    teaches_among (Err fault) told = tt
+
+    pub teaches_distinct : (r : Result Reply Fault) → Prepares s t call r new
+        → IfOk r (λ reply. AreDistinct (adopted call reply ++ orders_of s.start s.history))
+    teaches_distinct (Ok reply) told = distinct reply told.0
+    teaches_distinct (Err fault) told = tt
+
+    pub attempted_among : (r : Result Attempt Fault) → Attempts s t call r new
+        → IfOk r (λ attempt. OrdersAmong s.start.sizes.types
+        (adopted call (told attempt) ++ orders_of s.start s.history))
+    attempted_among (Ok (Made reply)) did = among reply did.1.0
+    attempted_among (Ok (Teaches again reply)) did = among reply did.3.0
+    attempted_among (Err fault) did = tt
+
+    pub attempted_distinct : (r : Result Attempt Fault) → Attempts s t call r new
+        → IfOk r (λ attempt. AreDistinct
+        (adopted call (told attempt) ++ orders_of s.start s.history))
+    attempted_distinct (Ok (Made reply)) did = distinct reply did.1.0
+    attempted_distinct (Ok (Teaches again reply)) did = distinct reply did.3.0
+    attempted_distinct (Err fault) did = tt

@@ -1,4 +1,5 @@
 pub mod Acquiring
+pub mod Attempts
 pub mod Held
 pub mod Journal
 pub mod Kept

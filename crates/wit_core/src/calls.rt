@@ -3,6 +3,7 @@
 //! entry comes last.
 
 mod assert_lock;
+mod attempt;
 mod call;
 mod check;
 mod define_order;
@@ -17,3 +18,5 @@ mod set_watch;
 mod turn;
 mod unlock;
 mod warn;
+
+pub use attempt::Attempt;

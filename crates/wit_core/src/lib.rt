@@ -11,6 +11,7 @@ mod readers;
 mod ready;
 mod verifier;
 
+pub use calls::Attempt;
 pub use verifier::Verifier;
 pub use wit_known::StartError;
 pub use wit_waiting::circle_in;

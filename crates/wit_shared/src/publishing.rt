@@ -1,17 +1,17 @@
 //! What a call teaches is published before the call is made.
 
-ghost use Rattle.std.specs.Prelude.{◌≡◌, ◌⊎◌, ◌++◌, [], ◌∷◌, true, false, Err, IfOk, IfErr, map};
-ghost use Rattle.std.specs.Prelude.{reverse};
-ghost use Rattle.wit_model.specs.declared.calls.Reply.{Reply};
-ghost use Rattle.wit_model.specs.Rules.Orders.{adopted, taught_at};
+ghost use Rattle.std.specs.Prelude.{◌≡◌, ◌≢◌, ◌++◌, [], ◌∷◌, Ok, IfOk, OnOk, OnErr, map, reverse};
+ghost use Rattle.wit_model.specs.Rules.Orders.{AreDistinct, adopted, taught_at};
 ghost use Rattle.wit_model.specs.Rules.Preparing.{IsPreparable, IsPrepared};
-ghost use Rattle.wit_model.specs.Rules.Step.{AnswersOrFails, answer_of, is_logged};
-ghost use Rattle.wit_shared.specs.Publishing.{published, adopts, IsSame, Makes};
+ghost use Rattle.wit_model.specs.Rules.State.{orders_of};
+ghost use Rattle.wit_model.specs.Rules.Step.{AnswersOrFails, answer_of};
+ghost use Rattle.wit_matrix.specs.Relation.{OrdersAmong};
+ghost use Rattle.wit_shared.specs.Publishing.{published, Makes};
 
 use std::alloc::{AllocError, Global};
 use std::sync::Wait;
 use wit_adoptions::Naming;
-use wit_core::Verifier;
+use wit_core::{Attempt, Verifier};
 use wit_model::{Adoption, Call, Fault, Origin, Reply, SeatNo, Site, TypeNo};
 use wit_observers::Publisher;
 
@@ -54,8 +54,7 @@ fn orders(
 
 // The orders that a call with this reply teaches, oldest first.
 fn taught(alloc: Global, call: &Call, reply: &Reply) -> Result<Vec<Adoption>, AllocError>
-    ensures ok { IfOk result (λ v. v.items ≡ reverse (adopted call.now reply.now)) }
-    ensures err { IfErr result (λ _. is_logged reply.now ≡ true) }
+    ensures { IfOk result (λ v. v.items ≡ reverse (adopted call.now reply.now)) }
 {
     match call {
         Call::Check(request) => match reply {
@@ -73,47 +72,59 @@ fn taught(alloc: Global, call: &Call, reply: &Reply) -> Result<Vec<Adoption>, Al
     }
 }
 
-// Whether a call may teach orders. No other call does.
-fn may_teach(call: &Call) -> bool
-    ensures yes { result ≡ true → IsPreparable call.now }
-    ensures no { result ≡ false → (reply : Reply) → adopted call.now reply ≡ [] }
+// Publishes the orders that a call with this reply teaches, which is prepared.
+//
+// Errors: want of memory alone; then nothing has changed.
+fn announce<J: Naming, R: Wait>(
+    rt: &R,
+    alloc: Global,
+    verifier: &Verifier,
+    publisher: &mut Publisher<J>,
+    call: &Call,
+    reply: &Reply,
+) -> Result<(), AllocError>
+    requires published { publisher.old ≡ published verifier.now }
+    requires among { OrdersAmong verifier.now.start.sizes.types
+        (adopted call.now reply.now ++ orders_of verifier.now.start verifier.now.history) }
+    requires distinct { AreDistinct
+        (adopted call.now reply.now ++ orders_of verifier.now.start verifier.now.history) }
+    ensures more { OnOk result (publisher.new ≡ record publisher.old {
+      orders = publisher.old.orders ++ reverse (adopted call.now reply.now);
+    }) }
+    ensures kept { OnErr result (publisher.new ≡ publisher.old) }
 {
-    matches!(call, Call::Check(_) | Call::DefineOrder(..))
+    // Called for its clause that there can't be too many orders.
+    let _most = verifier.most_types();
+    let orders = taught(alloc, call, reply)?;
+    publisher.publish(rt, &orders)
 }
 
-// Publishes the orders that a call will teach, which is then prepared.
+// Publishes the orders that a call with this reply teaches, which is prepared; then makes it.
 //
-// Errors: those of the call, which then isn't made.
-fn announce<J: Naming, R: Wait>(
+// Errors: want of memory alone, before anything has changed.
+fn teach<J: Naming, R: Wait>(
     rt: &R,
     alloc: Global,
     verifier: &mut Verifier,
     publisher: &mut Publisher<J>,
     seat: SeatNo,
-    call: &Call,
-) -> Result<(), Fault>
-    requires may { IsPreparable call.now }
+    call: Call,
+    reply: &Reply,
+) -> Result<Reply, Fault>
     requires published { publisher.old ≡ published verifier.old }
-    ensures same { IsSame verifier.old verifier.new }
-    ensures more { IfOk result (λ _. publisher.new ≡ record publisher.old {
-      orders =
-          publisher.old.orders ++ reverse
-          (adopts call.now (answer_of verifier.new seat.0 call.now));
-    }) }
-    ensures sure { IfOk result (λ _. (adopts call.now (answer_of verifier.new seat.0 call.now) ≡ [])
-        ⊎ IsPrepared verifier.new seat.0 call.now) }
-    ensures kept { IfErr result (λ _. publisher.new ≡ publisher.old) }
-    ensures err { IfErr result (λ fault. AnswersOrFails verifier.new seat.0 call.now
-        (Err fault) verifier.new) }
+    requires teaches { adopted call reply.now ≢ [] }
+    requires may { IsPreparable call }
+    requires prepared { IsPrepared verifier.old seat.0 call }
+    requires answer { answer_of verifier.old seat.0 call ≡ Ok reply.now }
+    requires among { OrdersAmong verifier.old.start.sizes.types
+        (adopted call reply.now ++ orders_of verifier.old.start verifier.old.history) }
+    requires distinct { AreDistinct
+        (adopted call reply.now ++ orders_of verifier.old.start verifier.old.history) }
+    ensures published { publisher.new ≡ published verifier.new }
+    ensures made { AnswersOrFails verifier.old seat.0 call result verifier.new }
 {
-    // Called for its clause that there can't be too many orders.
-    let _most = verifier.most_types();
-    let reply = verifier.prepare(seat, call)?;
-    let orders = taught(alloc, call, &reply)?;
-    if !orders.is_empty() {
-        publisher.publish(rt, &orders)?;
-    }
-    Ok(())
+    announce(rt, alloc, verifier, publisher, &call, reply)?;
+    verifier.call(seat, call)
 }
 
 /// Makes a logged call, whichever it is. Where it adopts orders, they are published first. So it is
@@ -130,10 +141,11 @@ pub(crate) fn make<J: Naming, R: Wait>(
     ensures published { publisher.new ≡ published verifier.new }
     ensures made { Makes verifier.old seat.0 call result verifier.new }
 {
-    if may_teach(&call) {
-        if let Err(fault) = announce(rt, alloc, verifier, publisher, seat, &call) {
-            return Err(fault);
+    match verifier.attempt(seat, call) {
+        Ok(Attempt::Made(reply)) => Ok(reply),
+        Ok(Attempt::Teaches(call, reply)) => {
+            teach(rt, alloc, verifier, publisher, seat, call, &reply)
         }
+        Err(fault) => Err(fault),
     }
-    verifier.call(seat, call)
 }

@@ -4,7 +4,7 @@ ghost use Rattle.wit_model.specs.Rules.Preparing.{IsPreparable};
 
 use std::alloc::Global;
 use std::test::Fail;
-use wit_core::Verifier;
+use wit_core::{Attempt, Verifier};
 use wit_model::{
     Call, Class, Fault, FileNo, Limits, LockFlags, LockNo, Mode, OpFlags, Reply, Request, SeatNo,
     Site, TypeNo, Watch,
@@ -99,6 +99,28 @@ fn prepared_definition(rt: HostRuntime) -> Result<(), Fail> {
     verifier.set_watch(SeatNo(1), Watch::Off)?;
     assert!(rt; matches!(verifier.prepare(SeatNo(2), &call)?, Reply::Ignored));
     assert_eq!(rt; sizes(&verifier), (7, 1));
+    Ok(())
+}
+
+// What teaches an order is prepared, and what teaches none is made at once.
+#[test]
+fn attempted(rt: HostRuntime) -> Result<(), Fail> {
+    let mut verifier = holding_one(rt.alloc())?;
+    let Attempt::Teaches(call, told) = verifier.attempt(SeatNo(1), asking(2))? else {
+        return Err(Fail::from("made at once"));
+    };
+    assert_eq!(rt; adopted(told), Some((TypeNo(1), TypeNo(2))));
+    assert_eq!(rt; sizes(&verifier), (5, 0));
+    assert_eq!(rt; adopted(verifier.call(SeatNo(1), call)?), Some((TypeNo(1), TypeNo(2))));
+    assert_eq!(rt; sizes(&verifier), (6, 1));
+    let known = verifier.attempt(SeatNo(2), Call::DefineOrder(LockNo(1), LockNo(2)))?;
+    assert!(rt; matches!(known, Attempt::Made(Reply::Known)));
+    let noted = verifier.attempt(SeatNo(1), Call::Note(LockNo(2)))?;
+    assert!(rt; matches!(noted, Attempt::Made(Reply::Recorded)));
+    verifier.unlock(SeatNo(1), LockNo(2), Mode::Exclusive)?;
+    let again = verifier.attempt(SeatNo(1), asking(2))?;
+    assert!(rt; matches!(again, Attempt::Made(Reply::Pass)));
+    assert_eq!(rt; sizes(&verifier), (10, 1));
     Ok(())
 }
 

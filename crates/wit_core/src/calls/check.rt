@@ -1,10 +1,13 @@
 //! `check`: a seat asks for a lock.
 
-ghost use Rattle.std.specs.Prelude.{◌≡◌, true, IsOk, IfOk, IfErr, IfSome, OnOk, Ok, Err};
+ghost use Rattle.std.specs.Prelude.{◌≡◌, ◌≢◌, [], true, false, IsOk, IfOk, IfErr, IfSome, OnOk};
+ghost use Rattle.std.specs.Prelude.{Ok, Err};
 ghost use Rattle.wit_model.specs.declared.calls.Reply.TheVariants.{Pass};
 ghost use Rattle.wit_model.specs.declared.calls.Call.TheVariants.{Check};
 ghost use Rattle.wit_model.specs.declared.faults.Fault.TheVariants.{OutOfMemory};
+ghost use Rattle.wit_model.specs.declared.calls.Request.{Request};
 ghost use Rattle.wit_model.specs.Rules.Locks.{lock_at};
+ghost use Rattle.wit_model.specs.Rules.Orders.{adopted};
 ghost use Rattle.wit_model.specs.Rules.Preparing.{IsPrepared, Prepares};
 ghost use Rattle.wit_model.specs.Rules.Refusals.{IsRefusal};
 ghost use Rattle.wit_model.specs.Rules.State.{state_of, seat_at, is_seat, is_live};
@@ -13,8 +16,10 @@ ghost use Rattle.wit_model.specs.Rules.Step.{logged};
 ghost use Rattle.wit_model.specs.Rules.Types.{is_spin};
 ghost use Rattle.wit_model.specs.Rules.Verdict.{typed_request, verdict};
 ghost use Rattle.wit_check.specs.Answers.{answer_by};
+ghost use Rattle.wit_core.specs.Attempts.{Attempts};
 ghost use Rattle.wit_core.specs.Verdict.{orders_taught, tells_new, IsToldBy};
 
+use crate::calls::attempt::Attempt;
 use crate::ready::{Plan, Ready, let_go};
 use crate::verifier::Verifier;
 use bitflags::Flags;
@@ -27,6 +32,18 @@ use wit_model::{
 
 // So many locks of each seat, on average, are few.
 const FEW_LOCKS: u32 = 16;
+
+// Whether a check that is answered so teaches orders.
+fn teaches(reply: &Reply) -> bool
+    ensures yes { (q : Request) → result ≡ true → adopted (Check q) reply.now ≢ [] }
+    ensures no { (q : Request) → result ≡ false → adopted (Check q) reply.now ≡ [] }
+{
+    match reply {
+        Reply::Adopted(..) => true,
+        Reply::AdoptedAll(list) => !list.get().pairs().is_empty(),
+        _ => false,
+    }
+}
 
 impl Verifier {
     /// Asks whether a lock may be acquired here: WITNESS's `checkorder`. Its request is then
@@ -84,6 +101,25 @@ impl Verifier {
             let _reply = self.ready_verdict(seat, request, verdict)?;
         }
         Ok(self.enter_check(seat, request))
+    }
+
+    // Checks a request that teaches no orders, and prepares one that does.
+    pub(crate) fn attempt_check(
+        &mut self,
+        seat: SeatNo,
+        request: Request,
+    ) -> Result<Attempt, Fault>
+        ensures { Attempts self.old seat.0 (Check request) result self.new }
+    {
+        let verdict = self.judge(seat, request)?;
+        if let Verdict::Pass = verdict {
+            return Ok(Attempt::Made(self.pass(seat, request)?));
+        }
+        let reply = self.ready_verdict(seat, request, verdict)?;
+        if teaches(&reply) {
+            return Ok(Attempt::Teaches(Call::Check(request), reply));
+        }
+        Ok(Attempt::Made(self.enter_check(seat, request)))
     }
 
     // Prepares a request.

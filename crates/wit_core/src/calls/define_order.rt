@@ -6,7 +6,9 @@ ghost use Rattle.wit_model.specs.Rules.Defining.{define};
 ghost use Rattle.wit_model.specs.Rules.Preparing.{IsPrepared, Prepares};
 ghost use Rattle.wit_model.specs.Rules.State.{state_of, is_live};
 ghost use Rattle.wit_model.specs.Rules.Step.{AnswersOrFails, answer_of, is_logged, logged};
+ghost use Rattle.wit_core.specs.Attempts.{Attempts};
 
+use crate::calls::attempt::Attempt;
 use crate::defining::defined;
 use crate::log::is_logged;
 use crate::ready::{Plan, Ready};
@@ -40,6 +42,25 @@ impl Verifier {
             }
         }
         Ok(self.enter_define(seat, first, second))
+    }
+
+    // Defines an order that is known, and prepares one that is not.
+    pub(crate) fn attempt_define(
+        &mut self,
+        seat: SeatNo,
+        first: LockNo,
+        second: LockNo,
+    ) -> Result<Attempt, Fault>
+        ensures { Attempts self.old seat.0 (DefineOrder first second) result self.new }
+    {
+        let reply = self.ready_define(seat, first, second)?;
+        if let Reply::Adopted(..) = &reply {
+            return Ok(Attempt::Teaches(Call::DefineOrder(first, second), reply));
+        }
+        if !is_logged(&reply) {
+            return Ok(Attempt::Made(reply));
+        }
+        Ok(Attempt::Made(self.enter_define(seat, first, second)))
     }
 
     // Prepares a definition.
