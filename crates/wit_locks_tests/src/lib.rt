@@ -11,6 +11,8 @@ mod fakes;
 #[cfg(test)]
 mod guarding;
 #[cfg(test)]
+mod refusing;
+#[cfg(test)]
 mod sharing;
 #[cfg(test)]
 mod showing;

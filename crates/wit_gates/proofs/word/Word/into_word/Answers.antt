@@ -1,4 +1,4 @@
-use Rattle.wit_gates.proofs.Steps.{ended}
+use Rattle.wit_gates.proofs.Ends.{ended}
 use Rattle.wit_gates.proofs.word.Word.into_word.Goals as goal
 
 pub returns : goal.returns

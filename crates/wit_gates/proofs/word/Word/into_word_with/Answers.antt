@@ -2,7 +2,8 @@ use Rattle.std.proofs.Common.{◌∙◌, ap}
 use Rattle.wit_model.specs.declared.locks.Mode.TheVariants.{Shared, Exclusive}
 use Rattle.wit_gates.specs.Plays.{Stand}
 use Rattle.wit_gates.specs.Tickets.{Pass}
-use Rattle.wit_gates.proofs.Steps.{ended_alone, ended_shared, stands}
+use Rattle.wit_gates.proofs.Ends.{ended_alone, ended_shared}
+use Rattle.wit_gates.proofs.Steps.{stands}
 use Rattle.wit_gates.proofs.word.Word.into_word_with.Goals as goal
 
 pub returns-clause-alone : goal.returns-clause-alone

@@ -1,4 +1,4 @@
-use Rattle.wit_gates.proofs.tests.+holds_back.Given as goal
+use Rattle.wit_gates.proofs.tests.waiting.+holds_back.Given as goal
 
 abbrev pub decreases-holds_back : goal.decreases-holds_back
 decreases-holds_back g l = l.count

@@ -1,4 +1,4 @@
-use Rattle.wit_gates.proofs.tests.+waits_beside.Given as goal
+use Rattle.wit_gates.proofs.tests.sharing.+waits_beside.Given as goal
 
 abbrev pub decreases-waits_beside : goal.decreases-waits_beside
 decreases-waits_beside g l = l.count
