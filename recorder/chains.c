@@ -127,6 +127,7 @@ static void take_out(struct thread *thread, struct held *held)
     thread->count--;
     if (UNLIKELY(at != thread->count)) {
         memmove(held, held + 1, (thread->count - at) * sizeof *held);
+        held->moved = at != 0;
         for (uint32_t i = at; i < thread->count; i++) {
             struct held *left = &thread->held[i];
             left->node = 0;
@@ -479,6 +480,7 @@ void chains_forked(void)
         struct held *held = &thread->held[i];
         held->written = 0;
         held->node = 0;
+        held->moved = 0;
         held->before_fork = 1;
     }
 }

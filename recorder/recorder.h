@@ -173,7 +173,9 @@ struct held {
     union {
         struct {
             uint32_t count; /* acquisitions not yet released */
-            uint8_t mode : 5, tried : 1;
+            uint8_t mode : 4;
+            uint8_t moved : 1;       /* what was held just before it when it was asked for was released */
+            uint8_t tried : 1;
             uint8_t after_try : 1;   /* an order between what is held up to it may not be known */
             uint8_t before_fork : 1; /* it was acquired by the parent process */
             uint8_t written;  /* a bit for each stream */
