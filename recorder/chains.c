@@ -224,6 +224,7 @@ static __attribute__((noinline)) bool begins(struct request *request, const void
     request->mode = mode;
     request->tried = asking == TRIES;
     request->timed = asking == ASKS_FOR_A_TIME;
+    request->ends_wait = false;
     request->patient = request->again_refused = false;
     request->pending = 0;
     if (!request->tried && (thread->count != 0 || writes_all))
@@ -440,6 +441,7 @@ bool wait_begins(struct request *request, const void *address, bool asks_again, 
     request->place = place_of(caller);
     request->stack = stack_of_held(request->place, caller);
     request->mode = EXCLUSIVE;
+    request->ends_wait = true;
     released(thread, held);
     /* That it asks for the mutex again is written now, since the wait may never end. */
     request->again = held_of(thread, request->lock);

@@ -232,6 +232,7 @@ struct request {
     uint32_t node;      /* of the chain with the lock; 0 where it wasn't looked for */
     uint8_t mode;
     bool tried, timed;
+    bool ends_wait;     /* for the mutex of a condition, when the wait for it ends */
     bool patient;       /* not written though it may block: to be written after a second */
     bool again_refused; /* the thread holds the lock, and it isn't one to be acquired again */
     uint8_t pending;    /* a bit for each stream */

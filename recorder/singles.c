@@ -10,7 +10,7 @@
  *
  * When something was is told by how many threads had been made and joined before. A lock is three words: its number in
  * the trace, 0 where it has none; its serial number, which no other lock has; and its mode, with a `t` where it was tried,
- * and an `l` where it is asked for with a time limit.
+ * an `l` where it is asked for with a time limit, and a `w` where it is asked for again as a wait for a condition ends.
  *
  * A chain of locks is told of when it is first asked for, and when a second thread does so. As long as one thread has
  * asked for it alone, it is told of again (`r` after the last mode) when that thread has made another one in between. All
@@ -30,6 +30,8 @@ enum { LIVES = 256 };
 
 /* What parts the orders by requests with a time limit from those without. */
 #define FOR_A_TIME 0x5bd1e9955bd1e995u
+/* And those as a wait for a condition ends. */
+#define AS_A_WAIT_ENDS 0x2545f4914f6cdd1du
 
 struct order *single_orders;
 static struct life {
@@ -147,6 +149,8 @@ void order_noted(struct request *request)
     uint64_t locks = locks_with(locks_held(request->thread), request->lock, request->mode);
     if (request->timed)
         locks ^= FOR_A_TIME;
+    if (request->ends_wait)
+        locks ^= AS_A_WAIT_ENDS;
     if (!order_is_known(locks, request->thread->serial))
         note(request, locks);
 }

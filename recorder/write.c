@@ -520,7 +520,7 @@ void write_order(struct request *request, enum order_line line)
         }
         for (uint32_t i = first; i < thread->count; i++)
             put_lock(stream, thread, thread->held[i].lock, thread->held[i].mode, thread->held[i].tried ? "t" : "");
-        put_lock(stream, thread, request->lock, request->mode, request->timed ? "l" : "");
+        put_lock(stream, thread, request->lock, request->mode, request->ends_wait ? "w" : request->timed ? "l" : "");
         put_text(stream, line == ORDER_AGAIN ? "r\n" : "\n");
         stream_append(stream, false);
         seat_given_back(stream, thread);

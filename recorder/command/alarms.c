@@ -163,6 +163,19 @@ static void look_at_pair(const struct search *search, struct alarm *alarm, const
     }
 }
 
+/*
+ * Whether each order asks for its lock again as a wait for a condition ends. Then they never wait for one another, whatever
+ * their threads are: of these waits, look at the one that began last. Its thread had the lock then that it asks for. But
+ * the next thread of the circle had begun to wait by then, and holds that lock ever since.
+ */
+static bool all_end_waits(const struct circle *circle)
+{
+    for (size_t k = 0; k < circle->orders; k++)
+        if (!asked(circle->order[k])->ends_wait)
+            return false;
+    return true;
+}
+
 static struct alarm alarm_of_circle(const struct search *search)
 {
     struct circle circle = shortest(search);
@@ -176,6 +189,8 @@ static struct alarm alarm_of_circle(const struct search *search)
         for (size_t other = 0; other < k; other++)
             look_at_pair(search, &alarm, &circle, other, k);
     }
+    if (alarm.apart == NOT_APART && all_end_waits(&circle))
+        alarm.apart = APART_BY_WAITS;
     return alarm;
 }
 
