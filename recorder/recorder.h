@@ -613,7 +613,8 @@ void write_waits_for_itself(struct request *request);
 void write_released_by_another(struct thread *thread, struct lock *lock, uint32_t place);
 void write_error(struct thread *thread, enum lock_error error, struct lock *lock, uint32_t place); /* inside */
 enum order_line { ORDER_NEW, ORDER_AGAIN, ORDER_NOT_KEPT };
-void write_order(struct request *request, enum order_line line); /* inside, as the next two */
+void write_order(struct request *request, enum order_line line); /* inside, as the next three */
+void write_no_more_orders(void);
 void write_life(struct thread *thread);
 void write_joined(uint32_t joined, uint32_t at);
 bool stream_has_room(int stream);

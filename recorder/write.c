@@ -527,6 +527,16 @@ void write_order(struct request *request, enum order_line line)
     }
 }
 
+void write_no_more_orders(void)
+{
+    for (int stream = 0; stream < STREAMS; stream++) {
+        if (!stream_has_room(stream))
+            continue;
+        put_text(stream, WORD_MANY " 0 0 0 x 0 0 x\n");
+        stream_append(stream, false);
+    }
+}
+
 static void put_life(int stream, uint64_t thread, uint32_t maker, uint32_t made_at)
 {
     if (!stream_has_room(stream))

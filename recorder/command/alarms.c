@@ -101,12 +101,23 @@ static bool is_by_one_thread(const struct search *search, const struct single_or
     return true;
 }
 
+/* Whether a lock of the order has no number in the trace, so that its type isn't known. */
+static bool is_unknown(const struct single_order *order)
+{
+    for (size_t i = 0; i < order->locks; i++)
+        if (order->lock[i].number == 0)
+            return true;
+    return false;
+}
+
 /* Whether further orders of locks of these types weren't told of. */
 static bool is_one_of_many(const struct search *search, const struct single_order *order)
 {
     for (size_t i = 0; i < search->single->manys; i++) {
         const struct single_order *many = &search->single->many[i];
         size_t alike = 0;
+        if (is_unknown(many))
+            return true;
         while (alike < order->locks && many->locks == order->locks && type_of(search, &order->lock[alike])
             && is_of(search, &many->lock[alike], type_of(search, &order->lock[alike])))
             alike++;
@@ -264,15 +275,6 @@ static void begin(struct search *search)
             go_on(search, 1);
         }
     }
-}
-
-/* Whether a lock of the order has no number in the trace, so that its type isn't known. */
-static bool is_unknown(const struct single_order *order)
-{
-    for (size_t i = 0; i < order->locks; i++)
-        if (order->lock[i].number == 0)
-            return true;
-    return false;
 }
 
 /* Whether there may be orders of such locks that aren't kept. */
