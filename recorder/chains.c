@@ -127,6 +127,7 @@ static void take_out(struct thread *thread, struct held *held)
     thread->count--;
     if (UNLIKELY(at != thread->count)) {
         memmove(held, held + 1, (thread->count - at) * sizeof *held);
+        held->moved = at != 0;
         for (uint32_t i = at; i < thread->count; i++) {
             struct held *left = &thread->held[i];
             left->node = 0;
@@ -223,6 +224,7 @@ static __attribute__((noinline)) bool begins(struct request *request, const void
     request->mode = mode;
     request->tried = asking == TRIES;
     request->timed = asking == ASKS_FOR_A_TIME;
+    request->ends_wait = false;
     request->patient = request->again_refused = false;
     request->pending = 0;
     if (!request->tried && (thread->count != 0 || writes_all))
@@ -439,6 +441,7 @@ bool wait_begins(struct request *request, const void *address, bool asks_again, 
     request->place = place_of(caller);
     request->stack = stack_of_held(request->place, caller);
     request->mode = EXCLUSIVE;
+    request->ends_wait = true;
     released(thread, held);
     /* That it asks for the mutex again is written now, since the wait may never end. */
     request->again = held_of(thread, request->lock);
@@ -479,6 +482,7 @@ void chains_forked(void)
         struct held *held = &thread->held[i];
         held->written = 0;
         held->node = 0;
+        held->moved = 0;
         held->before_fork = 1;
     }
 }

@@ -7,7 +7,7 @@
 #define RECORDER_FORMAT_H
 
 /* The first line of a stream is `asked 0 version N missed`, then the names of the counts, each with its count. */
-#define FORMAT_VERSION 3
+#define FORMAT_VERSION 4
 #define WORD_ASKED "asked"
 #define WORD_VERSION "version"
 #define WORD_MISSED "missed"
@@ -48,6 +48,12 @@ enum { ASKED_AT = 6, ASKED_NOT = '0', ASKED_NOW = '1', ASKED_ALWAYS = '3' };
 #define WORD_UNLOCK "unlock"
 #define WORD_TRY "try"
 #define WORD_GIVEUP "giveup"
+/*
+ * Of a `check`: it is a request; or it stands for one that was made when another lock was held just before, which was
+ * released since (write.c).
+ */
+#define CHECK_ASKS "n"
+#define CHECK_MOVED "m"
 
 /* What a trace has no line for. */
 #define WORD_AGAIN "again"

@@ -173,7 +173,9 @@ struct held {
     union {
         struct {
             uint32_t count; /* acquisitions not yet released */
-            uint8_t mode : 5, tried : 1;
+            uint8_t mode : 4;
+            uint8_t moved : 1;       /* what was held just before it when it was asked for was released */
+            uint8_t tried : 1;
             uint8_t after_try : 1;   /* an order between what is held up to it may not be known */
             uint8_t before_fork : 1; /* it was acquired by the parent process */
             uint8_t written;  /* a bit for each stream */
@@ -230,6 +232,7 @@ struct request {
     uint32_t node;      /* of the chain with the lock; 0 where it wasn't looked for */
     uint8_t mode;
     bool tried, timed;
+    bool ends_wait;     /* for the mutex of a condition, when the wait for it ends */
     bool patient;       /* not written though it may block: to be written after a second */
     bool again_refused; /* the thread holds the lock, and it isn't one to be acquired again */
     uint8_t pending;    /* a bit for each stream */
@@ -610,7 +613,8 @@ void write_waits_for_itself(struct request *request);
 void write_released_by_another(struct thread *thread, struct lock *lock, uint32_t place);
 void write_error(struct thread *thread, enum lock_error error, struct lock *lock, uint32_t place); /* inside */
 enum order_line { ORDER_NEW, ORDER_AGAIN, ORDER_NOT_KEPT };
-void write_order(struct request *request, enum order_line line); /* inside, as the next two */
+void write_order(struct request *request, enum order_line line); /* inside, as the next three */
+void write_no_more_orders(void);
 void write_life(struct thread *thread);
 void write_joined(uint32_t joined, uint32_t at);
 bool stream_has_room(int stream);

@@ -6,11 +6,12 @@
  *                             others, oldest first, for the first time
  *   life THREAD MAKER AT      before its first order: who made the thread, 0 where that isn't known, and when
  *   joined THREAD BY AT       it was joined by that one, and when
- *   many SEAT LOCK..          as many orders are known of locks of these types as are kept: there may be others
+ *   many SEAT LOCK..          as many orders are known of locks of these types as are kept: there may be others. With 0 for
+ *                             all numbers it stands for any locks: the tree of chains is full
  *
  * When something was is told by how many threads had been made and joined before. A lock is three words: its number in
  * the trace, 0 where it has none; its serial number, which no other lock has; and its mode, with a `t` where it was tried,
- * and an `l` where it is asked for with a time limit.
+ * an `l` where it is asked for with a time limit, and a `w` where it is asked for again as a wait for a condition ends.
  *
  * A chain of locks is told of when it is first asked for, and when a second thread does so. As long as one thread has
  * asked for it alone, it is told of again (`r` after the last mode) when that thread has made another one in between. All
@@ -30,6 +31,8 @@ enum { LIVES = 256 };
 
 /* What parts the orders by requests with a time limit from those without. */
 #define FOR_A_TIME 0x5bd1e9955bd1e995u
+/* And those as a wait for a condition ends. */
+#define AS_A_WAIT_ENDS 0x2545f4914f6cdd1du
 
 struct order *single_orders;
 static struct life {
@@ -37,6 +40,7 @@ static struct life {
     uint32_t thread; /* 0 where it isn't taken */
 } lives[LIVES];
 static _Atomic uint32_t lives_kept;
+static _Atomic bool is_over; /* no more orders are told of */
 
 bool singles_made(void)
 {
@@ -51,6 +55,7 @@ void singles_forked(void)
     for (uint32_t i = 0; i < LIVES; i++)
         lives[i].thread = 0;
     atomic_store(&lives_kept, 0);
+    atomic_store(&is_over, false);
     self.has_orders = false;
     self.maker = self.grand = 0;
 }
@@ -123,10 +128,19 @@ void order_of_joined(pthread_t joined)
     goes_outside(&self);
 }
 
+static COLD void note_end(void)
+{
+    if (atomic_load(&is_over) || !recorder_enters())
+        return;
+    if (!atomic_exchange(&is_over, true))
+        write_no_more_orders();
+    recorder_leaves();
+}
+
 static COLD void note(struct request *request, uint64_t locks)
 {
     struct thread *thread = request->thread;
-    if (request->node == NODE_UNKNOWN || !recorder_enters())
+    if (!recorder_enters())
         return;
     struct node *node = &nodes[request->node - 1];
     if (!(atomic_load(&node->requested) & MANY_ORDERS) && !order_is_known(locks, thread->serial)) {
@@ -147,6 +161,10 @@ void order_noted(struct request *request)
     uint64_t locks = locks_with(locks_held(request->thread), request->lock, request->mode);
     if (request->timed)
         locks ^= FOR_A_TIME;
-    if (!order_is_known(locks, request->thread->serial))
+    if (request->ends_wait)
+        locks ^= AS_A_WAIT_ENDS;
+    if (request->node == NODE_UNKNOWN)
+        note_end();
+    else if (!order_is_known(locks, request->thread->serial))
         note(request, locks);
 }

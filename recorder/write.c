@@ -26,6 +26,12 @@
  *     for, so it tells of no pair that the program didn't make. But behind what was tried, plain WITNESS may not know
  *     those orders. So a lock that was acquired behind a try is written as a try, which isn't judged, unless its type was
  *     asked for behind that chain before.
+ *   - The one right before it may be another than when it was asked for, since that one was released first. A request would
+ *     teach an order then that the full stream hasn't as a direct one. By a direct order a request passes in the plain
+ *     profile, whatever else is held, so a report may be lost. Such a lock is marked (write_moved). Where the stream has
+ *     a try, it comes to be one in the trace: it isn't judged, and its pairs were told of when it was asked for. Where the
+ *     stream has no try, it is a request, so that the trace may be clean. As long as nothing was reported, each lock of a
+ *     chain is before the later ones then. So a request that passes by a direct order has nothing against it.
  *   - A wait for a condition releases its mutex and asks for it again. That may never come to its end, so the request is
  *     written when the wait begins, and as given up. While it waits, another thread may write its request as pending
  *     (waiters.c). The wait can't end without the mutex, and nothing else of the thread stands in between.
@@ -36,7 +42,9 @@
  *
  * After the first report the two streams may differ: a request that was a reversal adopts nothing and is one again behind
  * the same chain, but by orders adopted since then it may be one of another pair of types. So the condensed stream may
- * lack later reports. The first report is the same but for one place: that of a recursive mutex, which is acquired again.
+ * lack later reports. The first report is the same, but for the place of a recursive mutex, which is acquired again, and
+ * for an established order without tries. That may lead directly from one type to another, where the program took a third
+ * one in between and released it first.
  */
 #include "quick.h"
 
@@ -128,25 +136,44 @@ static void put_site(int stream, uint32_t site, uint32_t stack)
         put_number(stream, stack);
 }
 
-static void write_check(
-    int stream, const struct thread *thread, uint32_t lock, uint8_t mode, uint32_t place, uint32_t stack)
+static void put_check(int stream, const struct thread *thread, uint32_t lock, uint8_t mode, const char *how,
+    uint32_t place, uint32_t stack)
 {
     uint32_t site = place_number(stream, place);
     if (stack)
         stack_stands(stream, stack);
     write_call(stream, WORD_CHECK, thread, lock);
     put_mode(stream, mode);
-    put_text(stream, " n");
+    put_text(stream, how);
     put_site(stream, site, stack);
     end_call(stream);
+}
+
+static void put_got(int stream, const struct thread *thread, uint32_t lock)
+{
+    write_call(stream, WORD_LOCK, thread, lock);
+    end_call(stream);
+}
+
+static void write_check(
+    int stream, const struct thread *thread, uint32_t lock, uint8_t mode, uint32_t place, uint32_t stack)
+{
+    put_check(stream, thread, lock, mode, " " CHECK_ASKS, place, stack);
     judge_asked(stream, thread, lock, mode, place);
 }
 
 static void write_lock(int stream, const struct thread *thread, uint32_t lock)
 {
-    write_call(stream, WORD_LOCK, thread, lock);
-    end_call(stream);
+    put_got(stream, thread, lock);
     judge_got(stream, thread, lock);
+}
+
+/* Who judges while the program runs can't know whether a try will come: it learns no order by this. */
+static void write_moved(int stream, const struct thread *thread, const struct held *held)
+{
+    put_check(stream, thread, held->number[stream], held->mode, " " CHECK_MOVED, held->place, held->stack);
+    put_got(stream, thread, held->number[stream]);
+    judge_tried(stream, thread, held->number[stream], held->mode, held->place);
 }
 
 static void write_try(int stream, const struct thread *thread, const struct held *held)
@@ -179,6 +206,24 @@ static bool is_as_tried(int stream, const struct held *held)
     return held->tried || (held->after_try && (stream == FULL || !node_is_requested(held->node)));
 }
 
+/* Whether it stands after another lock than it was asked for after, and was never asked for so. */
+static bool is_moved(int stream, const struct held *held)
+{
+    return stream == CONDENSED && held->moved && !node_is_requested(held->node);
+}
+
+static void write_held(int stream, const struct thread *thread, const struct held *held)
+{
+    if (is_as_tried(stream, held)) {
+        write_try(stream, thread, held);
+    } else if (is_moved(stream, held)) {
+        write_moved(stream, thread, held);
+    } else {
+        write_check(stream, thread, held->number[stream], held->mode, held->place, held->stack);
+        write_lock(stream, thread, held->number[stream]);
+    }
+}
+
 /* Writes what the thread holds and the stream doesn't have yet, oldest first. The thread has a seat. */
 static void write_chain(int stream, struct thread *thread)
 {
@@ -192,12 +237,7 @@ static void write_chain(int stream, struct thread *thread)
         held->number[stream] = number;
         held->written |= bit(stream);
         stands(stream, thread, number);
-        if (is_as_tried(stream, held)) {
-            write_try(stream, thread, held);
-        } else {
-            write_check(stream, thread, number, held->mode, held->place, held->stack);
-            write_lock(stream, thread, number);
-        }
+        write_held(stream, thread, held);
         for (uint32_t count = 1; stream == FULL && count < held->count; count++)
             write_once_more(stream, thread, held, held->place, held->stack);
     }
@@ -480,10 +520,20 @@ void write_order(struct request *request, enum order_line line)
         }
         for (uint32_t i = first; i < thread->count; i++)
             put_lock(stream, thread, thread->held[i].lock, thread->held[i].mode, thread->held[i].tried ? "t" : "");
-        put_lock(stream, thread, request->lock, request->mode, request->timed ? "l" : "");
+        put_lock(stream, thread, request->lock, request->mode, request->ends_wait ? "w" : request->timed ? "l" : "");
         put_text(stream, line == ORDER_AGAIN ? "r\n" : "\n");
         stream_append(stream, false);
         seat_given_back(stream, thread);
+    }
+}
+
+void write_no_more_orders(void)
+{
+    for (int stream = 0; stream < STREAMS; stream++) {
+        if (!stream_has_room(stream))
+            continue;
+        put_text(stream, WORD_MANY " 0 0 0 x 0 0 x\n");
+        stream_append(stream, false);
     }
 }
 

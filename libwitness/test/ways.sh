@@ -30,6 +30,9 @@ if wanted ways; then
     tell ways "the calls without the library" $?
     compile futex $linked && WITNESS=1 ./futex 2>err >out && grep -q '^lock order reversal:$' err
     tell ways "locks of the program's own, that witness.h tells of" $?
+    # The library doesn't know beforehand that a try will come.
+    compile moved $linked && WITNESS=1 ./moved try 2>err && [ "$(grep -c '^lock order reversal:$' err)" -eq 1 ]
+    tell ways "a report after a try, though a lock that was held between two others was released before" $?
     # As the recorder names them (recorder/test/byname.c), but with the line of a type: a reversal by name, and one with places of the code.
     compile byname $linked && WITNESS=1 ./byname 2>err >out
     head -n 5 "$top/recorder/test/byname.want" | sed 's/(log\.rs)/(log.rs:8)/g' >byname.want && head -n 5 err | diff byname.want - &&

@@ -32,7 +32,8 @@ static void write_mildness(FILE *to, const struct alarm *alarm)
     static const char *const apart[] = {[APART_BY_JOIN] = "one thread was joined before the other did so",
                                         [APART_BY_MAKING] = "one thread did so before it made the other",
                                         [APART_AT_FIRST] = "both were done before there was another thread",
-                                        [APART_ONE_AT_FIRST] = "one was done before there was another thread"};
+                                        [APART_ONE_AT_FIRST] = "one was done before there was another thread",
+                                        [APART_BY_WAITS] = "each one had its lock when its wait for a condition began"};
     if (alarm->gate)
         fprintf(to, "; gate: each time \"%s\" was held", alarm->gate);
     if (alarm->readers)

@@ -101,12 +101,23 @@ static bool is_by_one_thread(const struct search *search, const struct single_or
     return true;
 }
 
+/* Whether a lock of the order has no number in the trace, so that its type isn't known. */
+static bool is_unknown(const struct single_order *order)
+{
+    for (size_t i = 0; i < order->locks; i++)
+        if (order->lock[i].number == 0)
+            return true;
+    return false;
+}
+
 /* Whether further orders of locks of these types weren't told of. */
 static bool is_one_of_many(const struct search *search, const struct single_order *order)
 {
     for (size_t i = 0; i < search->single->manys; i++) {
         const struct single_order *many = &search->single->many[i];
         size_t alike = 0;
+        if (is_unknown(many))
+            return true;
         while (alike < order->locks && many->locks == order->locks && type_of(search, &order->lock[alike])
             && is_of(search, &many->lock[alike], type_of(search, &order->lock[alike])))
             alike++;
@@ -163,6 +174,19 @@ static void look_at_pair(const struct search *search, struct alarm *alarm, const
     }
 }
 
+/*
+ * Whether each order asks for its lock again as a wait for a condition ends. Then they never wait for one another, whatever
+ * their threads are: of these waits, look at the one that began last. Its thread had the lock then that it asks for. But
+ * the next thread of the circle had begun to wait by then, and holds that lock ever since.
+ */
+static bool all_end_waits(const struct circle *circle)
+{
+    for (size_t k = 0; k < circle->orders; k++)
+        if (!asked(circle->order[k])->ends_wait)
+            return false;
+    return true;
+}
+
 static struct alarm alarm_of_circle(const struct search *search)
 {
     struct circle circle = shortest(search);
@@ -176,6 +200,8 @@ static struct alarm alarm_of_circle(const struct search *search)
         for (size_t other = 0; other < k; other++)
             look_at_pair(search, &alarm, &circle, other, k);
     }
+    if (alarm.apart == NOT_APART && all_end_waits(&circle))
+        alarm.apart = APART_BY_WAITS;
     return alarm;
 }
 
@@ -249,15 +275,6 @@ static void begin(struct search *search)
             go_on(search, 1);
         }
     }
-}
-
-/* Whether a lock of the order has no number in the trace, so that its type isn't known. */
-static bool is_unknown(const struct single_order *order)
-{
-    for (size_t i = 0; i < order->locks; i++)
-        if (order->lock[i].number == 0)
-            return true;
-    return false;
 }
 
 /* Whether there may be orders of such locks that aren't kept. */

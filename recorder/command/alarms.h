@@ -34,6 +34,7 @@ struct alarm {
         APART_BY_MAKING, /* one thread took its locks before it made another, and not again */
         APART_AT_FIRST,  /* both orders were made when there was no other thread, and not again */
         APART_ONE_AT_FIRST, /* one of them was, whoever made the other */
+        APART_BY_WAITS, /* each asks as a wait for a condition ends, so it had its lock when that began */
     } apart;
 };
 

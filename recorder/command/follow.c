@@ -26,6 +26,7 @@ struct followed {
     size_t length;
     struct told_report *told;
     size_t tolds, told_room;
+    size_t told_at; /* the length with which the first of them was told */
     struct deadlock deadlock;
 };
 
@@ -50,7 +51,14 @@ static const struct followed *known(const struct run *run, const char *name)
 void follow_keeps(struct run *run, const char *recording, char *report, char *alarm)
 {
     struct followed *followed = followed_of(run, recording);
+    if (followed->tolds == 0)
+        followed->told_at = followed->length;
     ADD(followed->told, followed->tolds, followed->told_room) = (struct told_report){report, alarm};
+}
+
+size_t follow_told_at(const struct run *run, const char *recording)
+{
+    return known(run, recording)->told_at;
 }
 
 const char *follow_alarm(const struct run *run, const char *recording, const char *report)

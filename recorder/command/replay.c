@@ -7,6 +7,7 @@
 
 #include "clean.h"
 #include "files.h"
+#include "follow.h"
 #include "learn.h"
 #include "memory.h"
 #include "replaying.h"
@@ -77,6 +78,7 @@ void replay(struct process *process)
     struct clean *clean = take(sizeof *clean);
     struct tee tee = {&replaying, clean, !process->is_followed && wants_file(run) ? open_trace(process) : -1, false};
     replaying_begin(&replaying, &run->answers, run->settings.witness);
+    process->stream.told = follow_told_at(run, process->recording->name);
     process->resolved = resolve_to(run, &process->stream, true, &tee, &process->notes);
     process->status = replaying_end(&replaying);
     close_trace(process, &tee, process->resolved);

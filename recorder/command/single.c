@@ -28,8 +28,9 @@ static bool read_lock(const char **at, const char *end, struct single_lock *lock
     lock->serial = (uint32_t)serial;
     const char *how = *at + 1;
     lock->shared = *how == 's';
-    for (lock->timed = false; how < end && *how != ' '; how++) {
+    for (lock->timed = lock->ends_wait = false; how < end && *how != ' '; how++) {
         lock->timed |= *how == 'l';
+        lock->ends_wait |= *how == 'w';
         *again |= *how == 'r';
     }
     *at = how;
@@ -154,7 +155,7 @@ bool single_are_alike(const struct single_order *one, const struct single_order 
         return false;
     for (size_t i = 0; i < one->locks; i++)
         if (one->lock[i].serial != other->lock[i].serial || one->lock[i].shared != other->lock[i].shared
-            || one->lock[i].timed != other->lock[i].timed)
+            || one->lock[i].timed != other->lock[i].timed || one->lock[i].ends_wait != other->lock[i].ends_wait)
             return false;
     return true;
 }

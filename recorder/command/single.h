@@ -13,6 +13,7 @@
 struct single_lock {
     uint32_t number, serial;
     bool shared, timed;
+    bool ends_wait; /* it is asked for again as a wait for a condition ends */
 };
 
 /* The last lock was asked for by the thread while it held the others, oldest first. */
@@ -57,7 +58,7 @@ void single_end(struct single *single);
  */
 bool single_is_before(const struct single *single, const struct single_order *one, const struct single_order *other);
 
-/* Whether both are orders of the same locks, in the same modes. */
+/* Whether both are orders of the same locks, in the same modes, that are asked for in the same way. */
 bool single_are_alike(const struct single_order *one, const struct single_order *other);
 
 /*

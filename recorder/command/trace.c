@@ -24,6 +24,7 @@ struct writing {
     const char **lock; /* the names of locks: that of number N is lock[N - 1] */
     size_t locks, lock_room;
     uint32_t sitter[SEAT_MOST]; /* the thread that has each seat, as the kernel counts; 0 where it isn't known */
+    bool lock_is_tried; /* the next line of that word is a part of the `try` that was written */
     bool is_odd;
 };
 
@@ -131,19 +132,14 @@ static void put_spot(struct writing *writing, size_t number)
     put_bytes(writing->trace, at, (size_t)(digits + sizeof digits - at));
 }
 
-/* A call's line with its place, which is the field of that number; a stack may follow. */
-static void put_placed(struct writing *writing, const struct line *line, unsigned field)
+/* The place of a call, which is the field of that number, and its newline. A stack may follow in the stream. */
+static void put_place(struct writing *writing, const struct line *line, unsigned field)
 {
     uint32_t seat, stack = 0, place = place_in(line, field);
-    if (field >= line->count) {
-        put_line(writing, line);
-        return;
-    }
     if (line->count > field + 1 && !field_number(line, line->count - 1, STACK_MOST - 1, &stack))
         writing->is_odd = true;
     if (!field_number(line, 1, SEAT_MOST - 1, &seat))
         seat = 0;
-    put_bytes(writing->trace, line->at, (size_t)(line->field[field].at - line->at));
     if (writing->has_spots) {
         put_spot(writing, spot_number(writing, place, stack, writing->sitter[seat]));
     } else {
@@ -153,9 +149,55 @@ static void put_placed(struct writing *writing, const struct line *line, unsigne
     putc_unlocked('\n', writing->trace);
 }
 
+/* The line's fields from one to the other, as they stand there. */
+static void put_fields(struct writing *writing, const struct line *line, unsigned from, unsigned to)
+{
+    put_bytes(writing->trace, line->field[from].at, (size_t)(line->field[to].at - line->field[from].at));
+}
+
+/* A call's line with its place. */
+static void put_placed(struct writing *writing, const struct line *line, unsigned field)
+{
+    if (field >= line->count) {
+        put_line(writing, line);
+        return;
+    }
+    put_fields(writing, line, 0, field);
+    put_place(writing, line, field);
+}
+
+/*
+ * One that stands for a request at which another lock was held just before. Where locks were tried, it is written as a
+ * try, so that it teaches no direct order: recorder/write.c says why, and why not where none was tried. A try that comes
+ * after a report was told changes nothing, so that it is told in the same words in the end.
+ */
+static void put_moved(struct writing *writing, const struct line *line)
+{
+    const struct making *making = writing->making;
+    writing->lock_is_tried = making->declared->has_tries && !making->all_held;
+    if (writing->lock_is_tried) {
+        fputs(WORD_TRY " ", writing->trace);
+        put_fields(writing, line, 1, 4);
+    } else {
+        put_fields(writing, line, 0, 4);
+        fputs(CHECK_ASKS " ", writing->trace);
+    }
+    put_place(writing, line, 5);
+}
+
 static void put_check(struct writing *writing, const struct line *line)
 {
-    put_placed(writing, line, 5);
+    if (line->count > 5 && field_is(line, 4, CHECK_MOVED))
+        put_moved(writing, line);
+    else
+        put_placed(writing, line, 5);
+}
+
+static void put_lock(struct writing *writing, const struct line *line)
+{
+    if (!writing->lock_is_tried)
+        put_line(writing, line);
+    writing->lock_is_tried = false;
 }
 
 static void put_try(struct writing *writing, const struct line *line)
@@ -329,7 +371,7 @@ static const struct {
     void (*puts)(struct writing *writing, const struct line *line);
 } words[] = {
     {WORD_CHECK, put_check},
-    {WORD_LOCK, put_line},
+    {WORD_LOCK, put_lock},
     {WORD_UNLOCK, put_line},
     {WORD_TRY, put_try},
     {WORD_GIVEUP, put_line},

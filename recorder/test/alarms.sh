@@ -35,6 +35,8 @@ if wanted alarms; then
     alarm through 'all orders of the circle, the same locks, threads N and M'
     alarm inner 'all orders of the circle, the same locks, threads N and M; gate: each time "branch(mutex)/3" was held'
     alarm twice 'all orders of the circle, the same locks, threads N and M, of which N took two orders'
+    alarm waits 'both orders, the same locks, threads N and M; apart: each one had its lock when its wait for a condition began'
+    alarm woken 'both orders, the same locks, threads N and M'
     alarm twins 'both orders, the same locks, threads N and M'
     alarm row 'one order only for any two locks: types alone'
     counts 9 locks ''
@@ -56,6 +58,9 @@ if wanted alarms; then
     counts 9 through threads,timed
     counts 9 twice locks
     counts 0 twice threads
+    counts 9 waits threads
+    counts 0 waits threads,apart
+    counts 9 woken threads,apart
     counts 9 twins ''
     counts 0 row ''
     counts 9 row all

@@ -22,7 +22,7 @@ if wanted tells; then
     "$record" -- true 2>/dev/null
     object=$recorder/out/recorder.so
     for line in anew between c11 cancel condition contend crew cycle deadlock "dropped 2" "ending 0" forking forks futex guards \
-        handover helper inlined "jump 0" keepers kinds late madeup condhang long named odd "pairs 4 2 1000" philosophers recursive \
+        handover helper inlined "jump 0" keepers kinds late madeup condhang long moved "moved try" named odd "pairs 4 2 1000" philosophers recursive \
         reused reversal rwlock signals started threads tryfirst trysecond trythen varying varyings with; do
         [ -f "$here/${line%% *}.c" ] || [ -f "$here/${line%% *}.cc" ] || continue
         compile ${line%% *}
@@ -52,6 +52,23 @@ if wanted tells; then
     object=$recorder/out/recorder.so
 fi
 
+# A lock that stands after another one than it was asked for after, since that one was released first.
+if wanted moved; then
+    "$record" -- true 2>/dev/null
+    object=$recorder/out/recorder.so
+    compile moved
+    record_both ./moved try && both_agree && grep -q '^lock order reversal' full.reports
+    tell moved "with a try both streams have the report" $?
+    record_both ./moved && [ "$("$record" --clean condensed.trace) $("$record" --clean full.trace)" = "clean clean" ]
+    tell moved "without one both are clean" $?
+    record_both ./moved reversal && for stream in condensed full; do
+        "$WITNESS" replay <$stream.trace | head -n 3 >$stream.first
+    done && [ -s full.first ] && cmp condensed.first full.first
+    tell moved "without one both have the report" $?
+    [ "$("$record" -- ./moved both 2>&1 | grep -c '^lock order reversal')" -eq 1 ]
+    tell moved "a report that was told before the first try is told once" $?
+fi
+
 # A tree of chains that is full at once: the same pairs are told, a clean run has the same orders and a mixed one the same
 # first report, and what is asked for again adds nothing.
 if wanted full_tree; then
@@ -64,9 +81,12 @@ if wanted full_tree; then
     missing=
     for seed in 1 2 3 4 5 6 7 8 9 10 11 12; do
         for kind in clean mixed; do
-            rm -f condensed.first full.first
+            rm -f condensed.first full.first differ
             tells_all ./random $seed $kind && record_both ./random $seed $kind && { both_agree || [ $kind = mixed ]; } >differ &&
-                cmp condensed.first full.first || missing="$missing $kind $seed"
+                cmp condensed.first full.first && continue
+            missing="$missing $kind $seed"
+            cat differ 2>/dev/null
+            keep "full_tree-$kind-$seed"
         done
     done
     [ -z "$missing" ]
@@ -77,5 +97,9 @@ if wanted full_tree; then
     done >lines
     [ "$(wc -l <lines)" -eq 2 ] && [ "$(sort -u lines | wc -l)" -eq 1 ] || { cat lines; false; }
     tell full_tree "what is asked for again adds nothing" $?
+    # Two of its locks are taken both ways, and of one way nothing is told any more.
+    RECORD_FRAMES=8 small/record --quiet -- ./triples 2>&1 | sed -n 's/^single locks: //p' >below
+    echo 'not known, there were more orders of such locks than are kept' | diff - below
+    tell full_tree "of single locks nothing is known" $?
     object=$recorder/out/recorder.so
 fi

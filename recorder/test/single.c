@@ -192,6 +192,53 @@ static void try_begun(struct both *both, struct both *back, int again)
     run((void *(*[])(void *)){take_both, take_both, take_both}, (struct both[]){*back, *back, again ? *both : *back}, 3);
 }
 
+/* It doesn't come. */
+static void wait_for_a_moment(pthread_mutex_t *mutex)
+{
+    static pthread_cond_t never = PTHREAD_COND_INITIALIZER;
+    struct timespec soon;
+    clock_gettime(CLOCK_REALTIME, &soon);
+    soon.tv_sec += 1;
+    pthread_cond_timedwait(&never, mutex, &soon);
+}
+
+static void *take_and_wait(void *argument)
+{
+    struct both *both = argument;
+    sem_wait(&took);
+    pthread_mutex_lock(both->first);
+    pthread_mutex_lock(both->second);
+    wait_for_a_moment(both->first);
+    pthread_mutex_unlock(both->second);
+    pthread_mutex_unlock(both->first);
+    return NULL;
+}
+
+static void *take_after_wait(void *argument)
+{
+    struct both *both = argument;
+    sem_wait(&took);
+    pthread_mutex_lock(both->second);
+    pthread_mutex_lock(both->first);
+    pthread_mutex_unlock(both->first);
+    pthread_mutex_unlock(both->second);
+    return NULL;
+}
+
+/* This thread makes another one while it holds both locks, and waits for a condition with the first one. Then the other goes on. */
+static void try_waits(void *(*function)(void *), struct both *both, struct both *back)
+{
+    pthread_t thread;
+    pthread_mutex_lock(both->first);
+    pthread_mutex_lock(both->second);
+    pthread_create(&thread, NULL, function, back);
+    wait_for_a_moment(both->first);
+    pthread_mutex_unlock(both->second);
+    pthread_mutex_unlock(both->first);
+    sem_post(&took);
+    pthread_join(thread, NULL);
+}
+
 static void try_readers(void)
 {
     static pthread_rwlock_t table = PTHREAD_RWLOCK_INITIALIZER, index = PTHREAD_RWLOCK_INITIALIZER;
@@ -242,6 +289,10 @@ int main(int count, char **words)
         try_early(&there, &back, how[0] == 'l');
     if (strcmp(how, "begun") == 0 || strcmp(how, "by-two") == 0)
         try_begun(&there, &back, how[1] == 'y');
+    if (strcmp(how, "waits") == 0)
+        try_waits(take_and_wait, &there, &back);
+    if (strcmp(how, "woken") == 0)
+        try_waits(take_after_wait, &there, &back);
     if (strcmp(how, "twins") == 0)
         run_two(take_both, take_both, (struct both){a, other, NULL}, (struct both){other, a, NULL});
     /* The second order comes when it is asked for. */
