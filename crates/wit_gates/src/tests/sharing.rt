@@ -1,6 +1,7 @@
 //! Three threads and more that share a gate, and who waits beside them.
 
-use crate::tests::{Entered, comes_about, is_shut, meet, tries};
+use crate::tests::visits::{Visited, comes_about};
+use crate::tests::{is_shut, tries};
 use crate::{CondGate, Gate, SpinGate};
 use std::process::Abort;
 use std::rt::Clock;
@@ -63,7 +64,7 @@ fn waits_beside<G: Gate, R: Wait + Clock>(
 }
 
 /// Who would wait for a writer comes in beside so many readers.
-fn comes_in_beside<G: Entered + Sync, R: Threads + Wait + Clock + Abort + Sync>(
+fn comes_in_beside<G: Gate + Visited + Sync, R: Threads + Wait + Clock + Abort + Sync>(
     rt: &R,
     gate: &G,
     count: u32,
@@ -72,7 +73,7 @@ fn comes_in_beside<G: Entered + Sync, R: Threads + Wait + Clock + Abort + Sync>(
     let (asks, inside) = (&asks, &inside);
     let (shared, came) = join(
         rt,
-        || comes_about(rt, asks, 1) && meet(rt, gate, inside, 1),
+        || comes_about(rt, asks, 1) && gate.meet(rt, inside, 1),
         || waits_beside(rt, gate, count, asks, inside),
     );
     assert!(rt; shared && came, "refused beside shares");

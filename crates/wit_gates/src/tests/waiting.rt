@@ -1,7 +1,6 @@
 //! Who waits for a gate, and is woken.
 
-use crate::tests::turns::Visits;
-use crate::tests::{Entered, comes_about, meet};
+use crate::tests::visits::{Visited, Visits, comes_about};
 use crate::{CondGate, Gate, SpinGate};
 use std::process::Abort;
 use std::rt::Clock;
@@ -14,13 +13,13 @@ use std::time::Duration;
 use wit_model::Mode;
 
 /// Waits until it may ask, and meets two others.
-fn meets<G: Entered, R: Wait + Clock>(
+fn meets<G: Visited, R: Wait + Clock>(
     rt: &R,
     gate: &G,
     asks: &AtomicU64,
     inside: &AtomicU64,
 ) -> bool {
-    comes_about(rt, asks, 1) && meet(rt, gate, inside, 3)
+    comes_about(rt, asks, 1) && gate.meet(rt, inside, 3)
 }
 
 /// Has a gate alone, lets other threads ask for shares, and downgrades: whether that lets three
@@ -46,7 +45,7 @@ fn downgrades<G: Gate, R: Wait + Clock>(
 }
 
 /// Three readers wait for a writer, which then shares with them.
-fn downgrade_lets_in<G: Entered + Sync, R: Threads + Wait + Clock + Abort + Sync>(
+fn downgrade_lets_in<G: Gate + Visited + Sync, R: Threads + Wait + Clock + Abort + Sync>(
     rt: &R,
     gate: &G,
 ) {
@@ -102,7 +101,10 @@ fn leaves_alone<G: Gate, R: Wait + Clock>(
 }
 
 /// Three readers wait for a writer to leave, and are then in together.
-fn readers_wait<G: Entered + Sync, R: Threads + Wait + Clock + Abort + Sync>(rt: &R, gate: &G) {
+fn readers_wait<G: Gate + Visited + Sync, R: Threads + Wait + Clock + Abort + Sync>(
+    rt: &R,
+    gate: &G,
+) {
     let (asks, inside) = (AtomicU64::new(0), AtomicU64::new(0));
     let (asks, inside) = (&asks, &inside);
     let ((a, b), (c, kept)) = join(
@@ -157,20 +159,21 @@ fn holds_back<G: Gate, R: Wait + Clock>(
 }
 
 /// Waits until it may ask, and has the gate alone then.
-fn comes_in<G: Entered, R: Wait + Clock>(
+fn comes_in<G: Visited, R: Wait + Clock>(
     rt: &R,
     gate: &G,
     asks: &AtomicU64,
     inside: &AtomicU64,
 ) -> bool {
     let asked = comes_about(rt, asks, 1);
-    let alone = Visits::new().pay(rt, gate);
+    let visits = Visits::new();
+    let alone = gate.visit_alone(rt, &visits);
     inside.store(1, Ordering::SeqCst);
     asked && alone
 }
 
 /// A writer waits for so many readers to leave, and is then in.
-fn writer_waits<G: Entered + Sync, R: Threads + Wait + Clock + Abort + Sync>(
+fn writer_waits<G: Gate + Visited + Sync, R: Threads + Wait + Clock + Abort + Sync>(
     rt: &R,
     gate: &G,
     count: u32,
