@@ -80,7 +80,7 @@ pub fn look<L: Lists>(basis: &Basis, lists: &L, list: u16, request: TypedRequest
 }
 
 /// A lock as it is held: the newest of its instances.
-pub fn held_lock<L: Lists>(lists: &L, list: u16, lock: LockNo) -> Option<Instance>
+pub fn newest_held<L: Lists>(lists: &L, list: u16, lock: LockNo) -> Option<Instance>
     requires { IsList (L.chunks lists.now) list }
     ensures { result ≡ find (is_of lock.0) (reverse (chain_of (L.chunks lists.now) list)) }
 {

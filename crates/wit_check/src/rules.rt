@@ -19,7 +19,7 @@ use crate::answers::Verdict;
 use crate::basis::Basis;
 use crate::chains::Chains;
 use crate::duplicates::doubled;
-use crate::held::{held_lock, look};
+use crate::held::{look, newest_held};
 use crate::orders::learnt;
 use crate::reversals::reported;
 use wit_matrix::Matrix;
@@ -130,7 +130,7 @@ fn behind<L: Lists>(
     let parent = basis.type_held(last);
     let is_double = parent.0 == request.type_no.0;
     if is_double || basis.is_direct(parent, request.type_no) {
-        return match held_lock(lists, list, request.lock) {
+        return match newest_held(lists, list, request.lock) {
             Some(held) => again(request, held),
             None if is_double => doubled(basis, request, last),
             None => Verdict::Pass,

@@ -2,7 +2,6 @@
 use Rattle.std.proofs.Common.{◌||◌, ◌≡◌, ℕ, ◌+◌, ◌-◌, ◌<◌, ◌≤◌, Bool, true, false, cond, List, []}
 use Rattle.std.proofs.Common.{◌∷◌, Option, Some, None, length, get_or, drop, find, is_some, refl}
 use Rattle.std.proofs.Common.{sym, ap, ◌∙◌, arith}
-use Rattle.std.specs.Option.{option_map}
 use Rattle.std.specs.List.{list_any}
 use Rattle.std.proofs.lemmas.List.{drop_all, drop_more}
 use Rattle.wit_model.specs.declared.locks.Instance.{Instance}
@@ -42,12 +41,6 @@ module _ (l : ℕ) (s : Holdings) where
     used-asked none' c q asks for =
         for ∙ ap (is_for l) asks ∙ sym
         (rw (held-any false a is ∙ none, held-any true b is' ∙ none') refl)
-
--- a lock is held where it has a count
-pub counted-found : {X : Type 0} (f : Instance → X) (o : Option Instance)
-    → is_some (option_map f o) ≡ is_some o
-counted-found f None = refl
-counted-found f (Some i) = refl
 
 pub seat-at : (r : Seating) (i : ℕ) → seat_in r (i + 1) ≡ get_or r.seats i no_holdings
 seat-at r i =

@@ -23,7 +23,7 @@ mod turning;
 
 use std::alloc::{AllocError, Global};
 use std::marker::Model;
-use wit_held::{assert_is, held, record, record_new, recursion, release};
+use wit_held::{assert_is, held, oldest_held, record, record_new, release};
 use wit_model::chunks::{Lists, list_of};
 use wit_model::{AssertAnswer, Fault, Instance, LockAssert, LockNo, Mode, Request, SeatNo, Watch};
 use wit_pool::Pool;
@@ -148,7 +148,7 @@ impl Seats {
         requires { IsGiven self.now.seats seat.0 }
         ensures { result ≡ is_some (find (is_of lock.0) (locks_in spin (seat_in self.now seat.0))) }
     {
-        recursion(&self.lists, list_of(seat, spin), lock).is_some()
+        oldest_held(&self.lists, list_of(seat, spin), lock).is_some()
     }
 
     /// Whether some seat holds a lock or asks for it.

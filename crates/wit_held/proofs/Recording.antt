@@ -128,9 +128,3 @@ stands-short l (x ∷ []) one = by (is_of l x)
     by true = omega arith
     by false = omega arith
 stands-short l (x ∷ y ∷ c) one = absurd (omega (arith, one))
-
--- a count that isn't the greatest can rise
-pub rises : (o : Option Instance) → unwrap_or (option_map (λ (i : Instance). i.count) o) 0
-    < 65535 → CanRise o
-rises None small = tt
-rises (Some i) small = small

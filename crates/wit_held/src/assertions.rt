@@ -6,6 +6,7 @@ ghost use Rattle.wit_model.specs.Rules.Chunks.{IsList, chain_of};
 ghost use Rattle.wit_model.specs.Rules.Assertions.{is_with_count, is_assertion, asserted};
 ghost use Rattle.wit_model.specs.Rules.Assertions.{assertion};
 
+use crate::chains::oldest_held;
 use bitflags::Flags;
 use wit_model::chunks::Lists;
 use wit_model::{AssertAnswer, Instance, LockAssert, LockNo, Watch};
@@ -31,8 +32,8 @@ pub fn assert_is<L: Lists>(
     if !is_assertion(flags) {
         return AssertAnswer::Invalid;
     }
-    match lists.find(list, lock) {
-        Some(place) => asserted_held(lists.at(list, place), flags),
+    match oldest_held(lists, list, lock) {
+        Some(held) => asserted_held(held, flags),
         None => asserted_free(flags),
     }
 }

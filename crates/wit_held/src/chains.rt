@@ -2,8 +2,6 @@
 //! held, over any lists. Nothing here takes memory.
 
 ghost use Rattle.std.specs.Prelude.{◌≡◌, false, not, find};
-ghost use Rattle.std.specs.Option.{option_map};
-ghost use Rattle.wit_model.specs.declared.locks.Instance.{Instance};
 ghost use Rattle.wit_model.specs.Rules.Verdict.{is_of};
 ghost use Rattle.wit_model.specs.Rules.Chunks.{IsList, IsPlaced, chain_of};
 ghost use Rattle.wit_held.specs.Chains.{IsOnce, IsShallow, is_unrecorded, after_record, after_turn};
@@ -63,8 +61,9 @@ pub fn held<L: Lists>(lists: &L, list: u16, lock: LockNo) -> Option<Instance>
     Some(find_held(lists, list, lock)?.held)
 }
 
-// The oldest instance of a lock in a list.
-fn held_lock<L: Lists>(lists: &L, list: u16, lock: LockNo) -> Option<Instance>
+/// The oldest instance of a lock in a list that may hold it more than once; `None` where it doesn't
+/// hold it. All of the list is looked through.
+pub fn oldest_held<L: Lists>(lists: &L, list: u16, lock: LockNo) -> Option<Instance>
     requires { IsList (L.chunks lists.now) list }
     ensures { result ≡ find (is_of lock.0) (chain_of (L.chunks lists.now) list) }
 {
@@ -72,24 +71,6 @@ fn held_lock<L: Lists>(lists: &L, list: u16, lock: LockNo) -> Option<Instance>
         Some(place) => Some(lists.at(list, place)),
         None => None,
     }
-}
-
-/// How often a lock was acquired again: `None` where the list doesn't hold it.
-pub fn recursion<L: Lists>(lists: &L, list: u16, lock: LockNo) -> Option<u16>
-    requires { IsList (L.chunks lists.now) list }
-    ensures { result ≡ option_map (λ (i : Instance). i.count)
-        (find (is_of lock.0) (chain_of (L.chunks lists.now) list)) }
-{
-    Some(held_lock(lists, list, lock)?.count)
-}
-
-/// How a lock is held: `None` where the list doesn't hold it.
-pub fn mode<L: Lists>(lists: &L, list: u16, lock: LockNo) -> Option<Mode>
-    requires { IsList (L.chunks lists.now) list }
-    ensures { result ≡ option_map (λ (i : Instance). i.mode)
-        (find (is_of lock.0) (chain_of (L.chunks lists.now) list)) }
-{
-    Some(held_lock(lists, list, lock)?.mode)
 }
 
 /// Turns a lock that the list holds once at most to another mode: its count and its site stay.

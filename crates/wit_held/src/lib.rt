@@ -13,7 +13,7 @@ mod vec_lists;
 mod warnings;
 
 pub use assertions::assert_is;
-pub use chains::{held, mode, record, record_new, recursion, set_mode};
+pub use chains::{held, oldest_held, record, record_new, set_mode};
 pub use marks::{norelease, releaseok};
 pub use releases::{forget, release};
 pub use vec_lists::VecLists;

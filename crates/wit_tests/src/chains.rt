@@ -3,9 +3,9 @@
 
 use linked_list_allocator::LocalHeap;
 use std::test::Fail;
-use wit_held::{VecLists, forget, record, record_new, recursion};
+use wit_held::{VecLists, forget, oldest_held, record, record_new};
 use wit_model::chunks::Lists;
-use wit_model::{Fault, FileNo, Instance, LockNo, Mode, Site};
+use wit_model::{Fault, FileNo, Instance, Limits, LockNo, Mode, Site};
 
 /// A lock that was acquired once, at the line of its number.
 fn held(lock: u32) -> Instance {
@@ -27,9 +27,9 @@ fn acquire(lists: &mut VecLists, list: u16, taken: Instance) -> bool {
     if list == 0 || list as usize > lists.lists() || lists.len(list) > 1 {
         return false;
     }
-    match recursion(&*lists, list, taken.lock) {
+    match oldest_held(&*lists, list, taken.lock) {
         None => record_new(lists, list, taken),
-        Some(count) => count <= 65534 && record(lists, list, taken),
+        Some(held) => held.count < Limits::DEEPEST && record(lists, list, taken),
     }
 }
 

@@ -40,7 +40,7 @@ returns-in-Some g c = λ new.
     c.args.last c.args.request c.in-Some.held
     (sym (once-found c.args.basis.now c.args.request c.args.request.lock.0
     (chain_of (g.L.Lists.chunks c.args.lists.now) c.args.list) c.requires.chain.once)
-    ∙ sym c.held_lock.ensures ∙ c.in-Some.is)
+    ∙ sym c.newest_held.ensures ∙ c.in-Some.is)
 
 pub returns-in-None : goal.returns-in-None
 returns-in-None g c = λ new.
@@ -49,7 +49,7 @@ returns-in-None g c = λ new.
     c.args.last c.args.request c.requires.last
     (sym (once-found c.args.basis.now c.args.request c.args.request.lock.0
     (chain_of (g.L.Lists.chunks c.args.lists.now) c.args.list) c.requires.chain.once)
-    ∙ sym c.held_lock.ensures ∙ c.in-None.is)
+    ∙ sym c.newest_held.ensures ∙ c.in-None.is)
     (ap (λ (t : TypeNo). eqb t.0 c.args.request.type_no.0) (sym c.type_held-parent.ensures.value)
     ∙ eq-eqb c.type_held-parent.result.0 c.args.request.type_no.0 c.if-is_double-2.true)
 
@@ -59,7 +59,7 @@ returns-in-None-2 g c = λ new.
     c.args.last c.args.request c.requires.last
     (sym (once-found c.args.basis.now c.args.request c.args.request.lock.0
     (chain_of (g.L.Lists.chunks c.args.lists.now) c.args.list) c.requires.chain.once)
-    ∙ sym c.held_lock.ensures ∙ c.in-None.is)
+    ∙ sym c.newest_held.ensures ∙ c.in-None.is)
     (ap (λ (t : TypeNo). eqb t.0 c.args.request.type_no.0) (sym c.type_held-parent.ensures.value)
     ∙ ne_eqb c.type_held-parent.result.0 c.args.request.type_no.0 c.if-is_double-2.false)
     (ap (λ (t : TypeNo). is_direct c.args.basis.now.orders t.0 c.args.request.type_no.0)

@@ -3,7 +3,7 @@ use Rattle.wit_model.specs.Rules.Groups.{flat}
 use Rattle.wit_model.specs.Rules.Chunks.{upto}
 use Rattle.wit_model.specs.Rules.Verdict.{is_of}
 use Rattle.wit_model.proofs.Walking.{IsNext, newer_than}
-use Rattle.wit_check.proofs.held.held_lock.Given as goal
+use Rattle.wit_check.proofs.held.newest_held.Given as goal
 
 abbrev pub invariant-loop-spot : goal.invariant-loop-spot
 invariant-loop-spot g l =

@@ -1,6 +1,6 @@
 use Rattle.std.proofs.Common.{sym}
 use Rattle.wit_held.proofs.Recording.{some, none}
-use Rattle.wit_held.proofs.chains.held_lock.Goals as goal
+use Rattle.wit_held.proofs.chains.oldest_held.Goals as goal
 
 pub returns-in-Some : goal.returns-in-Some
 returns-in-Some g c =

@@ -4,7 +4,7 @@ use Rattle.wit_model.specs.Rules.Groups.{flat}
 use Rattle.wit_model.specs.Rules.Verdict.{is_of}
 use Rattle.wit_model.proofs.Walking.{within}
 use Rattle.wit_check.proofs.Chunks.{found-here, none-here}
-use Rattle.wit_check.proofs.held.held_lock.Goals as goal
+use Rattle.wit_check.proofs.held.newest_held.Goals as goal
 
 pub returns-then-is_some : goal.returns-then-is_some
 returns-then-is_some g c =
