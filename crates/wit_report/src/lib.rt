@@ -20,4 +20,4 @@ pub use graphs::graph;
 pub use held::{all_locks, locks_of};
 pub use reports::report_text;
 pub use type_lists::type_list;
-pub use warnings::warn_text;
+pub use warnings::{warn_text, warned_text};

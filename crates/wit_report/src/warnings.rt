@@ -36,11 +36,34 @@ pub fn warn_text(
         (warn_text (typed_locks verifier.now.start verifier.now.history) verifier.now.files
         (warned (state_of verifier.now) seat.0 named flags))) }
 {
-    let mut text = String::new(alloc);
     if verifier.warned(seat, named, flags) == 0 {
+        return Ok(String::new(alloc));
+    }
+    warned_text(alloc, verifier, seat, named, flags)
+}
+
+/// The text of a warning, as `warn_text` tells it, for who has counted the locks: it counts none
+/// beforehand, and so may want memory where the text is empty.
+///
+/// # Errors
+/// `OutOfMemory` alone.
+pub fn warned_text(
+    alloc: Global,
+    verifier: &Verifier,
+    seat: SeatNo,
+    named: Option<LockNo>,
+    flags: WarnFlags,
+) -> Result<String, Fault>
+    ensures ok { IfOk result (λ text. string_bytes text
+        ≡ warn_text (typed_locks verifier.now.start verifier.now.history) verifier.now.files
+        (warned (state_of verifier.now) seat.0 named flags)) }
+    ensures err { IfErr result (λ e. e ≡ OutOfMemory) }
+{
+    let mut text = String::new(alloc);
+    let held = warned(alloc, verifier, seat, named, flags)?;
+    if held.is_empty() {
         return Ok(text);
     }
-    let held = warned(alloc, verifier, seat, named, flags)?;
     put_number(&mut text, alloc, held.len() as u64)?;
     text.push_str(" locks held:\n")?;
     put_all(&mut text, alloc, verifier, &held)?;
@@ -80,8 +103,8 @@ fn add_counted(
     flags: WarnFlags,
 ) -> Result<(), AllocError>
     ensures { OnOk result (held.new.items ≡ held.old.items ++ filter
-        (λ (i : Instance). not (is_allowed
-        (basis_of (known_of verifier.now.start verifier.now.history)) named flags i))
+        (λ (each : Instance). not (is_allowed
+        (basis_of (known_of verifier.now.start verifier.now.history)) named flags each))
         sleep.now) }
 {
     for instance in sleep {

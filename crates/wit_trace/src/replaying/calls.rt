@@ -10,7 +10,7 @@ use std::alloc::{AllocError, Global};
 use wit_core::Verifier;
 use wit_grammar::LineError;
 use wit_model::{Fault, FileNo, LockAssert, LockNo, Reply, SeatNo, WarnFlags};
-use wit_report::{assert_text, report_text, warn_text};
+use wit_report::{assert_text, report_text, warned_text};
 
 /// The text of a reply.
 ///
@@ -97,8 +97,10 @@ pub fn warning(
 ) -> Result<Vec<u8>, LineError>
     ensures { Remarks verifier.now (λ n. calls verifier.now n (Warns seat.0 lock flags)) result }
 {
-    let _count = verifier.warn(seat, lock, flags)?;
-    Ok(warn_text(alloc, verifier, seat, lock, flags)?.into_bytes())
+    if verifier.warn(seat, lock, flags)? == 0 {
+        return Ok(Vec::new(alloc));
+    }
+    Ok(warned_text(alloc, verifier, seat, lock, flags)?.into_bytes())
 }
 
 /// The number of the file that a line names; of one that names none, no file's.
